@@ -1,0 +1,4 @@
+mod Limits
+mod Script
+mod Worked
+mod WorkedRuns

@@ -1,0 +1,73 @@
+-- Parts without a fault are within their limits.
+use Rattle.std.proofs.Common.{◌≡◌, ℕ, ◌≤◌, ◌*◌, ◌^◌, Bool, true, false, length, Option, Some, None, refl, arith, inl, inr}
+use Rattle.std.specs.Prelude.{not, ◌⊎◌, ◌&&◌, ◌||◌, ◌==◌, nat_le}
+use Rattle.std.specs.Bool.{then_some}
+use Rattle.std.specs.Option.{option_or}
+use Rattle.std.proofs.lemmas.Bool.{leb-true, eqb-true, and_parts, false≢true}
+use Rattle.hp_units.specs.declared.layouts.LayoutFault.TheVariants.{BadOrder, BadPageblocks, BadBlocks, TooManyFrames, BadCpus, BadMarks, BadOwners, BadPages, BadWords, BadLimit, BadBoot}
+use Rattle.hp_units.specs.LayoutParts.{LayoutParts, IsLayout, layout_fault, frame_fault, processor_fault, owner_fault, is_within, is_pageblock_count}
+
+-- no first answer: neither of both
+neither : {A : Type 0} (a b : Option A) → option_or a b ≡ None → (a ≡ None) × (b ≡ None)
+neither None b e = (refl, e)
+neither (Some x) b e = absurd cc
+
+-- no fault where a test fails: the test holds
+holds : {A : Type 0} (test : Bool) (fault : A) → then_some (not test) fault ≡ None → test ≡ true
+holds true fault e = refl
+holds false fault e = absurd cc
+
+first : {A : Type 0} (test : Bool) (fault : A) (rest : Option A) → option_or (then_some (not test) fault) rest ≡ None → (test ≡ true) × (rest ≡ None)
+first test fault rest e = let both = neither (then_some (not test) fault) rest e in (holds test fault both.0, both.1)
+
+within : (low high n : ℕ) → is_within low high n ≡ true → (low ≤ n) × (n ≤ high)
+within low high n e = let both = and_parts (nat_le low n) (nat_le n high) e in (leb-true low n both.0, leb-true n high both.1)
+
+-- one of two tests holds
+one_of : (a b : Bool) → (a || b) ≡ true → (a ≡ true) ⊎ (b ≡ true)
+one_of true b e = inl refl
+one_of false b e = inr e
+
+-- the exponent of a number of pageblocks
+exponent : (n : ℕ) → is_pageblock_count n ≡ true → (k : ℕ) × (k ≤ 6) × (n ≡ 2 ^ k)
+exponent n more =
+    elim (one_of (n == 1) ((n == 2) || ((n == 4) || ((n == 8) || ((n == 16) || ((n == 32) || ((n == 64) || false)))))) more) [ inl is ↦ (0, omega arith, eqb-true n 1 is) | inr more ↦ elim (one_of (n == 2) ((n == 4) || ((n == 8) || ((n == 16) || ((n == 32) || ((n == 64) || false))))) more) [ inl is ↦ (1, omega arith, eqb-true n 2 is) | inr more ↦ elim (one_of (n == 4) ((n == 8) || ((n == 16) || ((n == 32) || ((n == 64) || false)))) more) [ inl is ↦ (2, omega arith, eqb-true n 4 is) | inr more ↦ elim (one_of (n == 8) ((n == 16) || ((n == 32) || ((n == 64) || false))) more) [ inl is ↦ (3, omega arith, eqb-true n 8 is) | inr more ↦ elim (one_of (n == 16) ((n == 32) || ((n == 64) || false)) more) [ inl is ↦ (4, omega arith, eqb-true n 16 is) | inr more ↦ elim (one_of (n == 32) ((n == 64) || false) more) [ inl is ↦ (5, omega arith, eqb-true n 32 is) | inr more ↦ elim (one_of (n == 64) false more) [ inl is ↦ (6, omega arith, eqb-true n 64 is) | inr more ↦ absurd (false≢true more) ] ] ] ] ] ] ]
+
+pub within_limits : (l : LayoutParts) → layout_fault l ≡ None → IsLayout l
+within_limits l none =
+    let parts = neither (frame_fault l) (option_or (processor_fault l) (option_or (owner_fault l) None)) none in
+    let more = neither (processor_fault l) (option_or (owner_fault l) None) parts.1 in
+    let last = neither (owner_fault l) None more.1 in
+    let order = first (is_within 0 10 l.order) BadOrder _ parts.0 in
+    let pageblocks = first (is_pageblock_count l.pageblocks) BadPageblocks _ order.1 in
+    let blocks = first (is_within 1 256 l.blocks) BadBlocks _ pageblocks.1 in
+    let frames = first (nat_le (l.blocks * (l.pageblocks * 2 ^ l.order)) (2 ^ 20)) TooManyFrames _ blocks.1 in
+    let cpus = first (is_within 1 64 l.cpus) BadCpus _ more.0 in
+    let marks = first (is_within 1 l.high l.batch && nat_le l.high 1024) BadMarks _ cpus.1 in
+    let both = and_parts (is_within 1 l.high l.batch) (nat_le l.high 1024) marks.0 in
+    let owners = first (is_within 1 64 l.owners) BadOwners _ last.0 in
+    let pages = first (is_within 1 (2 ^ 16) l.pages) BadPages _ owners.1 in
+    let words = first (is_within 1 512 l.words) BadWords _ pages.1 in
+    let history = first (is_within 1 (2 ^ 24) l.history) BadLimit _ words.1 in
+    let boot = first (length l.boot == l.blocks) BadBoot _ history.1 in
+    record {
+      order = (within 0 10 l.order order.0).1;
+      pageblocks = exponent l.pageblocks pageblocks.0;
+      some_blocks = (within 1 256 l.blocks blocks.0).0;
+      blocks = (within 1 256 l.blocks blocks.0).1;
+      frames = leb-true (l.blocks * (l.pageblocks * 2 ^ l.order)) (2 ^ 20) frames.0;
+      some_cpus = (within 1 64 l.cpus cpus.0).0;
+      cpus = (within 1 64 l.cpus cpus.0).1;
+      some_batch = (within 1 l.high l.batch both.0).0;
+      batch = (within 1 l.high l.batch both.0).1;
+      high = leb-true l.high 1024 both.1;
+      some_owners = (within 1 64 l.owners owners.0).0;
+      owners = (within 1 64 l.owners owners.0).1;
+      some_pages = (within 1 (2 ^ 16) l.pages pages.0).0;
+      pages = (within 1 (2 ^ 16) l.pages pages.0).1;
+      some_words = (within 1 512 l.words words.0).0;
+      words = (within 1 512 l.words words.0).1;
+      some_history = (within 1 (2 ^ 24) l.history history.0).0;
+      history = (within 1 (2 ^ 24) l.history history.0).1;
+      boot = eqb-true (length l.boot) l.blocks boot.0;
+    }

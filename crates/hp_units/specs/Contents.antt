@@ -1,0 +1,29 @@
+-- Owners' contents by the net alone, and the frame that a record hands out.
+use Rattle.std.specs.Prelude.{ℕ, List, Option, Some, None, fold, slice_set}
+use Rattle.std.specs.Option.{option_map}
+use Rattle.hp_units.specs.Names.{Event, Map, Unmap, Write, Reply, Done, GivesFrame, Moved, Record}
+use Rattle.hp_units.specs.LayoutParts.{LayoutParts}
+use Rattle.hp_units.specs.Memory.{Memory, entry_of, with_entry}
+use Rattle.hp_units.specs.Pages.{frame_at, fresh_words}
+
+-- the contents after an event: zeros from Map, none from Unmap, one word from Write (own rule)
+abbrev pub contents_after : LayoutParts → List (List (Option (List ℕ))) → Event → List (List (Option (List ℕ)))
+contents_after l contents (Map owner page) = with_entry contents owner page (Some (fresh_words l))
+contents_after l contents (Unmap owner page) = with_entry contents owner page None
+contents_after l contents (Write owner page index value) =
+    with_entry contents owner page (option_map (λ words. slice_set words index value) (entry_of contents owner page))
+contents_after l contents event = contents
+
+-- the contents that the steps of a net make of those of the base state
+abbrev pub contents_of_net : LayoutParts → List (List (Option (List ℕ))) → List Record → List (List (Option (List ℕ)))
+contents_of_net l contents net = fold (λ c r. contents_after l c r.event) contents net
+
+-- the frame that a record hands out, given the state after it (own rule)
+abbrev pub handed_by_reply : Memory → Event → Reply → Option ℕ
+handed_by_reply after event (GivesFrame frame) = Some frame
+handed_by_reply after event (Moved from to) = Some to
+handed_by_reply after (Map owner page) Done = frame_at after.pages owner page
+handed_by_reply after event reply = None
+
+abbrev pub handed_frame : Memory → Record → Option ℕ
+handed_frame after r = handed_by_reply after r.event r.reply

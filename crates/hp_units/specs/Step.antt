@@ -1,0 +1,98 @@
+-- One step of the machine: the state after an event, and the reply.
+use Rattle.std.specs.Prelude.{ℕ, zero, suc, ◌/◌, Option, Some, None}
+use Rattle.std.specs.Option.{option_map_or}
+use Rattle.hp_units.specs.Names.{NormalZone, MovableZone, AbsentState, Auto, OfflineAuto, OnlineAuto, KernelAuto, MovableAuto, Event, KernelAlloc, KernelFree, Map, Unmap, Write, Read, Drain, Online, Begin, DrainFor, Migrate, Commit, Cancel, UndoAfter, Probe, Remove, SetAuto, Refusal, Reply, Done, GivesFrame, Word, Moved, Opened, Released, Refused}
+use Rattle.hp_units.specs.LayoutParts.{LayoutParts}
+use Rattle.hp_units.specs.Arithmetic.{block_bytes}
+use Rattle.hp_units.specs.Memory.{FreeFrames, Pages, Memory, kernel_order, with_kernel_order, offline_row}
+use Rattle.hp_units.specs.FreeAreas.{give_block}
+use Rattle.hp_units.specs.ProcessorLists.{put_one, drain_lists, page_frame}
+use Rattle.hp_units.specs.Pages.{frame_at, fresh_words, map_page, unmap_page, write_word, read_word, move_page}
+use Rattle.hp_units.specs.Rows.{zone_of, with_areas, with_block_row, online_block, begin_plan, commit_blocks, release_blocks}
+use Rattle.hp_units.specs.Refusals.{kernel_block, migration_source, migration_target, refusal_of}
+
+-- the state after an event, and the reply to it
+pub record Answered : Type 0 where
+  pub memory : Memory
+  pub reply : Reply
+
+abbrev pub done : Memory → Answered
+done s = record { memory = s; reply = Done }
+
+abbrev pub with_free : Memory → FreeFrames → Memory
+with_free s free = record s { free = free }
+
+abbrev pub with_pages : Memory → Pages → Memory
+with_pages s pages = record s { pages = pages }
+
+-- the kernel takes a block (Gorman, chapter 6; own rule)
+unfoldable pub kernel_takes : LayoutParts → Memory → (cpu order : ℕ) → Answered
+kernel_takes l s cpu order =
+    option_map_or (λ handed. record { memory = with_kernel_order (with_free s handed.free) handed.frame (Some order); reply = GivesFrame handed.frame })
+    (kernel_block l s.free cpu order) (done s)
+
+-- a block of an order comes back: a single frame by the processor's list, any other straight to the areas (Gorman, chapter 6; own rule)
+abbrev pub give_back : LayoutParts → Memory → (cpu frame order : ℕ) → Memory
+give_back l s cpu frame zero = with_free s (put_one l s.free cpu (zone_of l s frame) frame)
+give_back l s cpu frame (suc below) = with_areas s (give_block l s.free.areas (zone_of l s frame) frame (suc below))
+
+unfoldable pub kernel_gives : LayoutParts → Memory → (cpu frame : ℕ) → Answered
+kernel_gives l s cpu frame =
+    option_map_or (λ order. done (give_back l (with_kernel_order s frame None) cpu frame order)) (kernel_order s frame) (done s)
+
+-- a page is mapped, with zeros in it, and unmapped (own rule)
+unfoldable pub map_step : LayoutParts → Memory → (cpu owner page : ℕ) → Answered
+map_step l s cpu owner page =
+    option_map_or (λ handed. done (with_pages (with_free s handed.free) (map_page s.pages owner page handed.frame (fresh_words l))))
+    (page_frame l s.free cpu) (done s)
+
+unfoldable pub unmap_step : LayoutParts → Memory → (cpu owner page : ℕ) → Answered
+unmap_step l s cpu owner page =
+    option_map_or (λ frame. done (give_back l (with_pages s (unmap_page s.pages owner page)) cpu frame 0)) (frame_at s.pages owner page) (done s)
+
+-- the page at the lowest mapped frame of the operation's going blocks moves to a frame straight from the areas, and its
+-- old frame goes straight back to them (Linux, memory hotplug: migration; own rule)
+unfoldable pub migrate_step : LayoutParts → Memory → ℕ → Answered
+migrate_step l s op =
+    option_map_or (λ from. option_map_or (λ taken. record {
+      memory = with_areas (with_pages s (move_page s.pages from taken.frame)) (give_block l taken.areas (zone_of l s from) from 0);
+      reply = Moved from taken.frame;
+    })
+    (migration_target l s.free.areas) (done s)) (migration_source l s op) (done s)
+
+-- a block that is there becomes online, as the machine is set to do (Linux, memory hotplug: auto_online_blocks)
+abbrev pub auto_online : LayoutParts → Auto → Memory → ℕ → Memory
+auto_online l OfflineAuto s block = s
+auto_online l OnlineAuto s block = online_block l NormalZone s block
+auto_online l KernelAuto s block = online_block l NormalZone s block
+auto_online l MovableAuto s block = online_block l MovableZone s block
+
+-- what an event that isn't refused does (own rule)
+abbrev pub perform : LayoutParts → Memory → (serial cpu : ℕ) → Event → Answered
+perform l s serial cpu (KernelAlloc order) = kernel_takes l s cpu order
+perform l s serial cpu (KernelFree frame) = kernel_gives l s cpu frame
+perform l s serial cpu (Map owner page) = map_step l s cpu owner page
+perform l s serial cpu (Unmap owner page) = unmap_step l s cpu owner page
+perform l s serial cpu (Write owner page index value) = done (with_pages s (write_word s.pages owner page index value))
+perform l s serial cpu (Read owner page index) = record { memory = s; reply = Word (read_word s.pages owner page index) }
+perform l s serial cpu (Drain drained) = done (with_free s (drain_lists l s.free drained))
+perform l s serial cpu (Online block zone) = done (online_block l zone s block)
+perform l s serial cpu (Begin plan) = record { memory = begin_plan l s serial plan; reply = Opened serial }
+perform l s serial cpu (DrainFor op drained) = done (with_free s (drain_lists l s.free drained))
+perform l s serial cpu (Migrate op) = migrate_step l s op
+perform l s serial cpu (Commit op) = done (commit_blocks l s op)
+perform l s serial cpu (Cancel op) = record { memory = release_blocks l s op; reply = Released }
+perform l s serial cpu (UndoAfter after) = done s
+perform l s serial cpu (Probe address) =
+    done (auto_online l s.blocks.auto (with_block_row s (address / block_bytes l) offline_row) (address / block_bytes l))
+perform l s serial cpu (Remove block) = done (with_block_row s block (record offline_row { state = AbsentState }))
+perform l s serial cpu (SetAuto auto) = done (record s { blocks = record s.blocks { auto = auto } })
+
+-- a refusal leaves the state
+abbrev pub answer : LayoutParts → Memory → (serial cpu : ℕ) → Event → Option Refusal → Answered
+answer l s serial cpu event (Some refusal) = record { memory = s; reply = Refused refusal }
+answer l s serial cpu event None = perform l s serial cpu event
+
+-- one step. UndoAfter is no event of this, and a Cancel here is the release (own rule)
+unfoldable pub step : LayoutParts → Memory → (serial cpu : ℕ) → Event → Answered
+step l s serial cpu event = answer l s serial cpu event (refusal_of l s cpu event)

@@ -1,0 +1,25 @@
+//! The numbers, the layout and the events and replies of the memory machine, and the definitions
+//! that say what each step of it means.
+#![tactic(auto)]
+
+pub mod events;
+pub mod layouts;
+pub mod marks;
+pub mod numbers;
+pub mod plans;
+pub mod replies;
+pub mod rows;
+pub mod text;
+pub mod texts;
+
+pub use events::Event;
+pub use layouts::{Layout, LayoutFault, Parts, block_of, buddy, pageblock_of};
+pub use marks::{Mark, Tag, is_handled, is_step, mark_of};
+pub use numbers::{Block, Cpu, Frame, Order, Owner, Page, Pageblock, Serial};
+pub use plans::{Item, Plan, Words};
+pub use replies::{CallFault, OpEnd, Receipt, Record, Refusal, Reply};
+pub use rows::{Auto, Boot, Claim, Class, Kind, Mobility, Pool, Row, State, Wish, Zone};
+pub use text::Text;
+
+#[cfg(test)]
+mod tests;

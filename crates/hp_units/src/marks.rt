@@ -1,0 +1,59 @@
+//! What undo and Cancel have to know of a step.
+ghost use Rattle.std.specs.Prelude.{◌≡◌, ◌&&◌, not};
+ghost use Rattle.hp_units.specs.Handled.{is_handled};
+ghost use Rattle.hp_units.specs.History.{is_look, is_refused};
+ghost use Rattle.hp_units.specs.Marks.{mark_of};
+
+use crate::events::Event;
+use crate::numbers::Serial;
+use crate::replies::Reply;
+
+/// How a step counts for the operation that it may belong to (own rule).
+#[derive(Clone, Copy, Debug, PartialEq, Eq, Drop)]
+pub enum Mark {
+    /// A Begin: the step's serial is the operation's number.
+    Opens,
+    /// A drain or a migration of the operation `op`.
+    Works { op: Serial },
+    /// Any other step.
+    Other,
+}
+
+/// A step's serial and mark.
+#[derive(Clone, Copy, Debug, PartialEq, Eq, Drop)]
+pub struct Tag {
+    /// The serial of the step's record.
+    pub serial: Serial,
+    /// The mark of the step's event.
+    pub mark: Mark,
+}
+
+/// The mark of an event.
+pub fn mark_of(event: &Event) -> Mark
+    ensures { result ≡ mark_of event.now }
+{
+    match event {
+        Event::Begin { .. } => Mark::Opens,
+        Event::DrainFor { op, .. } => Mark::Works { op: *op },
+        Event::Migrate { op } => Mark::Works { op: *op },
+        _ => Mark::Other,
+    }
+}
+
+/// Whether an event that was answered so counts as a step when it is no undo and no restoring Cancel: it was not refused,
+/// and it is no Read.
+pub fn is_step(event: &Event, reply: &Reply) -> bool
+    ensures { result ≡ (not (is_refused reply.now) && not (is_look event.now)) }
+{
+    !matches!(reply, Reply::Refused(_)) && !matches!(event, Event::Read { .. })
+}
+
+/// Whether the machine answers an event so far.
+pub fn is_handled(event: &Event) -> bool
+    ensures { result ≡ is_handled event.now }
+{
+    matches!(
+        event,
+        Event::KernelAlloc { .. } | Event::KernelFree { .. } | Event::UndoAfter { .. }
+    )
+}

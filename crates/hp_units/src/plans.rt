@@ -1,0 +1,127 @@
+//! Plans, and the words of a page. A contract sees each as a list.
+ghost use Rattle.std.specs.Prelude.{◌≡◌, ◌↔◌, IfOk, IsTrue};
+
+use crate::numbers::Block;
+use crate::rows::Wish;
+use std::alloc::{AllocError, Global};
+use std::marker::Model;
+
+/// What a plan makes of one memory block.
+#[derive(Clone, Copy, Debug, PartialEq, Eq, Drop)]
+pub struct Item {
+    /// The memory block.
+    pub block: Block,
+    /// What becomes of it.
+    pub wish: Wish,
+}
+
+/// What an operation makes of memory blocks, in the order in which it is checked.
+#[derive(Debug, Drop)]
+pub struct Plan {
+    items: Vec<Item>,
+}
+
+impl Model for Plan {
+    ghost use Rattle.std.specs.Prelude.{List};
+    ghost use Rattle.hp_units.specs.declared.plans.Item.{Item};
+
+    ghost Value = { List Item };
+
+    ghost view = { λ p. p.items.items };
+}
+
+impl Plan {
+    /// The plan of these items, with no memory taken.
+    pub fn new(items: Vec<Item>) -> Self
+        ensures { result ≡ items.items }
+    {
+        Plan { items }
+    }
+
+    /// The items in order.
+    pub fn as_slice(&self) -> &[Item]
+        ensures { result.now ≡ self.now }
+    {
+        self.items.as_slice()
+    }
+
+    /// An equal plan.
+    pub fn copy(&self, alloc: Global) -> Result<Plan, AllocError>
+        ensures { IfOk result (λ plan. plan ≡ self.now) }
+    {
+        let items = Vec::from_slice(alloc, self.items.as_slice())?;
+        Ok(Plan { items })
+    }
+
+    /// Whether the plans have the same items in the same order.
+    pub fn same(&self, other: &Plan) -> bool
+        ensures { IsTrue result ↔ (self.now ≡ other.now) }
+    {
+        are_same(self.items.as_slice(), other.items.as_slice())
+    }
+}
+
+/// Whether the items are the same in the same order.
+fn are_same(items: &[Item], others: &[Item]) -> bool
+    ensures { IsTrue result ↔ (items.now ≡ others.now) }
+{
+    match (items, others) {
+        ([], []) => true,
+        ([item, items @ ..], [other, others @ ..]) => {
+            is_same(item, other) && are_same(items, others)
+        }
+        _ => false,
+    }
+}
+
+/// Whether the items are the same.
+fn is_same(item: &Item, other: &Item) -> bool
+    ensures { IsTrue result ↔ (item.now ≡ other.now) }
+{
+    item.block == other.block && item.wish == other.wish
+}
+
+/// The 8-byte words of a page.
+#[derive(Debug, Drop)]
+pub struct Words {
+    words: Vec<u64>,
+}
+
+impl Model for Words {
+    ghost use Rattle.std.specs.Prelude.{List, ℕ};
+
+    ghost Value = { List ℕ };
+
+    ghost view = { λ p. p.words.items };
+}
+
+impl Words {
+    /// The words of a vector, with no memory taken.
+    pub fn new(words: Vec<u64>) -> Self
+        ensures { result ≡ words.items }
+    {
+        Words { words }
+    }
+
+    /// The words in order.
+    pub fn as_slice(&self) -> &[u64]
+        ensures { result.now ≡ self.now }
+    {
+        self.words.as_slice()
+    }
+
+    /// Equal words.
+    pub fn copy(&self, alloc: Global) -> Result<Words, AllocError>
+        ensures { IfOk result (λ words. words ≡ self.now) }
+    {
+        let words = Vec::from_slice(alloc, self.words.as_slice())?;
+        Ok(Words { words })
+    }
+
+    /// Whether the words are the same.
+    pub fn same(&self, other: &Words) -> bool
+        ensures { IsTrue result ↔ (self.now ≡ other.now) }
+    {
+        self.words.as_slice() == other.words.as_slice()
+    }
+}

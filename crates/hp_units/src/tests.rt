@@ -1,0 +1,200 @@
+use super::*;
+use std::alloc::{AllocError, Global};
+use std::test::Fail;
+
+const BOOT: &[Boot] = &[Boot::Normal, Boot::Normal, Boot::Movable, Boot::Offline];
+
+fn small() -> Parts<'static> {
+    Parts {
+        order: 2,
+        pageblocks: 1,
+        blocks: 4,
+        cpus: 2,
+        batch: 3,
+        high: 5,
+        owners: 6,
+        pages: 8,
+        words: 7,
+        history: 1000,
+        boot: BOOT,
+    }
+}
+
+fn small_layout(alloc: Global) -> Result<Layout, AllocError> {
+    match Layout::new(alloc, &small()) {
+        Ok(layout) => Ok(layout),
+        Err(_) => Err(AllocError),
+    }
+}
+
+#[test]
+fn layout_has_its_parts(rt: HostRuntime) -> Result<(), Fail> {
+    let layout = small_layout(rt.alloc())?;
+    let layout = layout.copy(rt.alloc())?;
+    let parts = [
+        (layout.order(), 2),
+        (layout.pageblocks(), 1),
+        (layout.blocks(), 4),
+        (layout.cpus(), 2),
+        (layout.batch(), 3),
+        (layout.high(), 5),
+        (layout.owners(), 6),
+        (layout.pages(), 8),
+        (layout.words(), 7),
+        (layout.frames(), 16),
+    ];
+    for (part, wanted) in parts {
+        assert_eq!(rt; part, wanted);
+    }
+    assert_eq!(rt; layout.history(), 1000);
+    assert_eq!(rt; layout.boot(), BOOT);
+    Ok(())
+}
+
+#[test]
+fn numbers_of_frames(rt: HostRuntime) -> Result<(), Fail> {
+    let layout = small_layout(rt.alloc())?;
+    assert_eq!(rt; buddy(Frame(4), Order(1)), Frame(6));
+    assert_eq!(rt; pageblock_of(&layout, Frame(11)), Pageblock(2));
+    assert_eq!(rt; block_of(&layout, Frame(12)), Block(3));
+    Ok(())
+}
+
+#[test]
+fn first_fault_is_named(rt: HostRuntime) -> Result<(), Fail> {
+    let cases = [
+        (
+            Parts {
+                order: 11,
+                ..small()
+            },
+            LayoutFault::BadOrder,
+        ),
+        (
+            Parts {
+                pageblocks: 3,
+                ..small()
+            },
+            LayoutFault::BadPageblocks,
+        ),
+        (
+            Parts {
+                blocks: 0,
+                ..small()
+            },
+            LayoutFault::BadBlocks,
+        ),
+        (
+            Parts {
+                order: 10,
+                pageblocks: 64,
+                blocks: 256,
+                ..small()
+            },
+            LayoutFault::TooManyFrames,
+        ),
+        (
+            Parts {
+                cpus: 65,
+                ..small()
+            },
+            LayoutFault::BadCpus,
+        ),
+        (Parts { high: 2, ..small() }, LayoutFault::BadMarks),
+        (
+            Parts {
+                owners: 0,
+                ..small()
+            },
+            LayoutFault::BadOwners,
+        ),
+        (
+            Parts {
+                pages: 65537,
+                ..small()
+            },
+            LayoutFault::BadPages,
+        ),
+        (
+            Parts {
+                words: 513,
+                ..small()
+            },
+            LayoutFault::BadWords,
+        ),
+        (
+            Parts {
+                history: 0,
+                ..small()
+            },
+            LayoutFault::BadLimit,
+        ),
+        (
+            Parts {
+                blocks: 3,
+                ..small()
+            },
+            LayoutFault::BadBoot,
+        ),
+    ];
+    for (parts, fault) in cases {
+        assert_eq!(rt; Layout::new(rt.alloc(), &parts).err(), Some(fault));
+    }
+    Ok(())
+}
+
+#[test]
+fn copies_are_the_same(rt: HostRuntime) -> Result<(), Fail> {
+    let item = Item {
+        block: Block(2),
+        wish: Wish::Off,
+    };
+    let plan = Plan::new(vec![in rt.alloc(); item]?);
+    assert_eq!(rt; plan.as_slice().len(), 1);
+    let event = Event::Begin {
+        plan: plan.copy(rt.alloc())?,
+    };
+    assert!(rt; event.same(&event.copy(rt.alloc())?));
+    assert!(rt; !plan.same(&Plan::new(Vec::new(rt.alloc()))));
+    let words = Words::new(vec![in rt.alloc(); 7, 9]?);
+    assert!(rt; words.same(&words.copy(rt.alloc())?));
+    assert_eq!(rt; words.as_slice().len(), 2);
+    let text = Text::new(String::from_str(rt.alloc(), "db")?);
+    assert_eq!(rt; text.copy(rt.alloc())?.as_str(), "db");
+    Ok(())
+}
+
+#[test]
+fn marks_of_events(rt: HostRuntime) -> Result<(), Fail> {
+    let op = Serial(7);
+    assert_eq!(rt; mark_of(&Event::Migrate { op }), Mark::Works { op });
+    assert_eq!(rt; mark_of(&Event::Commit { op }), Mark::Other);
+    assert!(rt; is_step(&Event::Commit { op }, &Reply::Done));
+    assert!(rt; !is_step(&Event::Commit { op }, &Reply::Refused(Refusal::NoOp)));
+    assert!(rt; is_handled(&Event::UndoAfter { serial: op }));
+    Ok(())
+}
+
+#[test]
+fn words_are_written(rt: HostRuntime) -> Result<(), Fail> {
+    let refusal = Refusal::NotFree { frame: Frame(9) };
+    let moved = Reply::Moved {
+        from: Frame(8),
+        to: Frame(0),
+    };
+    let (class, pool, zone, auto) = (Class::IsoN, Pool::Mm, Zone::Movable, Auto::OnlineKernel);
+    let refused = Reply::Refused(refusal);
+    let text = format!(in rt.alloc(); "{refused}, {moved}, {class}, {pool}, {zone}, {auto}")?;
+    assert_eq!(rt;
+        text.as_str(),
+        "refused NotFree 9, moved 8 0, IN, MM, movable, online_kernel"
+    );
+    let (block, cpu, order, page) = (Block(1), Cpu(2), Order(3), Page(4));
+    let (pageblock, serial) = (Pageblock(5), Serial(6));
+    let (call, layout) = (CallFault::HistoryFull, LayoutFault::BadMarks);
+    let text = format!(in rt.alloc();
+        "{block}{cpu}{order}{page}{pageblock}{serial} {call} {layout}"
+    )?;
+    assert_eq!(rt; text.as_str(), "123456 HistoryFull BadMarks");
+    Ok(())
+}
