@@ -57,8 +57,8 @@ kernel frame order s = with_kernel_order s frame (Some order)
 abbrev pub page : ℕ → ℕ → ℕ → List ℕ → Memory → Memory
 page owner number frame words s = record s { pages = map_page s.pages owner number frame words }
 
-abbrev pub row : ℕ → Row → Memory → Memory
-row block r s = with_block_row s block r
+abbrev pub block_row : ℕ → Row → Memory → Memory
+block_row block r s = with_block_row s block r
 
 abbrev pub auto : Auto → Memory → Memory
 auto mode s = record s { blocks = record s.blocks { auto = mode } }

@@ -4,7 +4,7 @@ use Rattle.hp_units.specs.Names.{AbsentBoot, AlreadyMapped, BadAddress, BadOrder
 use Rattle.hp_units.specs.LayoutParts.{LayoutParts}
 use Rattle.hp_units.specs.Memory.{offline_row}
 use Rattle.hp_units.specs.Boot.{empty_memory}
-use Rattle.hp_units.proofs.Script.{everything, value_on, replies_on, sealed_value, sealed_replies, sketch, online, going, absent, on, cached, unmovable, isolated, kernel, page, row, auto}
+use Rattle.hp_units.proofs.Script.{everything, value_on, replies_on, sealed_value, sealed_replies, sketch, online, going, absent, on, cached, unmovable, isolated, kernel, page, block_row, auto}
 
 abbrev pub small : LayoutParts
 small = record { order = 2; pageblocks = 1; blocks = 4; cpus = 2; batch = 2; high = 2; owners = 2; pages = 8; words = 2; history = 1000; boot = (NormalBoot ∷ NormalBoot ∷ MovableBoot ∷ OfflineBoot ∷ []) }
@@ -19,7 +19,7 @@ abbrev pub sparse : LayoutParts
 sparse = record { order = 2; pageblocks = 1; blocks = 4; cpus = 2; batch = 2; high = 2; owners = 2; pages = 8; words = 2; history = 1000; boot = (NormalBoot ∷ NormalBoot ∷ MovableBoot ∷ AbsentBoot ∷ []) }
 
 pub booted : value_on small []
-    ≡ sketch (empty_memory small) (row 0 (online NormalZone) ∷ row 1 (online NormalZone) ∷ row 2 (online MovableZone) ∷ on Nm 2 (0 ∷ 4 ∷ []) ∷ on Mm 2 (8 ∷ []) ∷ [])
+    ≡ sketch (empty_memory small) (block_row 0 (online NormalZone) ∷ block_row 1 (online NormalZone) ∷ block_row 2 (online MovableZone) ∷ on Nm 2 (0 ∷ 4 ∷ []) ∷ on Mm 2 (8 ∷ []) ∷ [])
 unfolding everything
 booted = refl
 
@@ -29,7 +29,7 @@ unfolding everything
 page_mapped_replies = refl
 
 pub page_mapped : value_on small ((0, Map 0 0) ∷ [])
-    ≡ sketch (empty_memory small) (row 0 (online NormalZone) ∷ row 1 (online NormalZone) ∷ row 2 (online MovableZone) ∷ on Nm 2 (0 ∷ 4 ∷ []) ∷ on Mm 1 (10 ∷ []) ∷ cached 0 MmPool (9 ∷ []) ∷ page 0 0 8 (0 ∷ 0 ∷ []) ∷ [])
+    ≡ sketch (empty_memory small) (block_row 0 (online NormalZone) ∷ block_row 1 (online NormalZone) ∷ block_row 2 (online MovableZone) ∷ on Nm 2 (0 ∷ 4 ∷ []) ∷ on Mm 1 (10 ∷ []) ∷ cached 0 MmPool (9 ∷ []) ∷ page 0 0 8 (0 ∷ 0 ∷ []) ∷ [])
 unfolding everything
 page_mapped = refl
 
@@ -39,7 +39,7 @@ unfolding everything
 block_taken_replies = refl
 
 pub block_taken : value_on small ((0, KernelAlloc 1) ∷ [])
-    ≡ sketch (empty_memory small) (row 0 (online NormalZone) ∷ row 1 (online NormalZone) ∷ row 2 (online MovableZone) ∷ unmovable 0 ∷ on Nu 1 (2 ∷ []) ∷ on Nm 2 (4 ∷ []) ∷ on Mm 2 (8 ∷ []) ∷ kernel 0 1 ∷ [])
+    ≡ sketch (empty_memory small) (block_row 0 (online NormalZone) ∷ block_row 1 (online NormalZone) ∷ block_row 2 (online MovableZone) ∷ unmovable 0 ∷ on Nu 1 (2 ∷ []) ∷ on Nm 2 (4 ∷ []) ∷ on Mm 2 (8 ∷ []) ∷ kernel 0 1 ∷ [])
 unfolding everything
 block_taken = refl
 
@@ -49,7 +49,7 @@ unfolding everything
 block_freed_replies = refl
 
 pub block_freed : value_on small ((0, KernelAlloc 1) ∷ (0, KernelFree 0) ∷ [])
-    ≡ sketch (empty_memory small) (row 0 (online NormalZone) ∷ row 1 (online NormalZone) ∷ row 2 (online MovableZone) ∷ unmovable 0 ∷ on Nu 2 (0 ∷ []) ∷ on Nm 2 (4 ∷ []) ∷ on Mm 2 (8 ∷ []) ∷ [])
+    ≡ sketch (empty_memory small) (block_row 0 (online NormalZone) ∷ block_row 1 (online NormalZone) ∷ block_row 2 (online MovableZone) ∷ unmovable 0 ∷ on Nu 2 (0 ∷ []) ∷ on Nm 2 (4 ∷ []) ∷ on Mm 2 (8 ∷ []) ∷ [])
 unfolding everything
 block_freed = refl
 
@@ -59,7 +59,7 @@ unfolding everything
 both_undone_replies = refl
 
 pub both_undone : value_on small ((0, KernelAlloc 1) ∷ (0, KernelFree 0) ∷ (0, UndoAfter 0) ∷ [])
-    ≡ sketch (empty_memory small) (row 0 (online NormalZone) ∷ row 1 (online NormalZone) ∷ row 2 (online MovableZone) ∷ on Nm 2 (0 ∷ 4 ∷ []) ∷ on Mm 2 (8 ∷ []) ∷ [])
+    ≡ sketch (empty_memory small) (block_row 0 (online NormalZone) ∷ block_row 1 (online NormalZone) ∷ block_row 2 (online MovableZone) ∷ on Nm 2 (0 ∷ 4 ∷ []) ∷ on Mm 2 (8 ∷ []) ∷ [])
 unfolding everything
 both_undone = refl
 
@@ -69,7 +69,7 @@ unfolding everything
 free_undone_replies = refl
 
 pub free_undone : value_on small ((0, KernelAlloc 1) ∷ (0, KernelAlloc 1) ∷ (0, KernelAlloc 1) ∷ (0, KernelAlloc 1) ∷ (0, KernelFree 0) ∷ (0, KernelFree 4) ∷ (0, KernelFree 2) ∷ (0, UndoAfter 6) ∷ [])
-    ≡ sketch (empty_memory small) (row 0 (online NormalZone) ∷ row 1 (online NormalZone) ∷ row 2 (online MovableZone) ∷ unmovable 0 ∷ unmovable 1 ∷ on Nu 1 (4 ∷ 0 ∷ []) ∷ on Mm 2 (8 ∷ []) ∷ kernel 2 1 ∷ kernel 6 1 ∷ [])
+    ≡ sketch (empty_memory small) (block_row 0 (online NormalZone) ∷ block_row 1 (online NormalZone) ∷ block_row 2 (online MovableZone) ∷ unmovable 0 ∷ unmovable 1 ∷ on Nu 1 (4 ∷ 0 ∷ []) ∷ on Mm 2 (8 ∷ []) ∷ kernel 2 1 ∷ kernel 6 1 ∷ [])
 unfolding everything
 free_undone = refl
 
@@ -79,7 +79,7 @@ unfolding everything
 memory_exhausted_replies = refl
 
 pub memory_exhausted : value_on small ((0, KernelAlloc 3) ∷ (0, KernelAlloc 2) ∷ (0, KernelAlloc 2) ∷ (0, KernelAlloc 2) ∷ [])
-    ≡ sketch (empty_memory small) (row 0 (online NormalZone) ∷ row 1 (online NormalZone) ∷ row 2 (online MovableZone) ∷ unmovable 0 ∷ unmovable 1 ∷ on Mm 2 (8 ∷ []) ∷ kernel 0 2 ∷ kernel 4 2 ∷ [])
+    ≡ sketch (empty_memory small) (block_row 0 (online NormalZone) ∷ block_row 1 (online NormalZone) ∷ block_row 2 (online MovableZone) ∷ unmovable 0 ∷ unmovable 1 ∷ on Mm 2 (8 ∷ []) ∷ kernel 0 2 ∷ kernel 4 2 ∷ [])
 unfolding everything
 memory_exhausted = refl
 
@@ -89,7 +89,7 @@ unfolding everything
 block_going_replies = refl
 
 pub block_going : value_on small ((0, Map 0 0) ∷ (0, Begin (record { block = 2; wish = OffWish } ∷ [])) ∷ (0, Begin (record { block = 2; wish = OffWish } ∷ [])) ∷ [])
-    ≡ sketch (empty_memory small) (row 0 (online NormalZone) ∷ row 1 (online NormalZone) ∷ row 2 (online MovableZone) ∷ row 2 (going MovableZone 2) ∷ isolated 2 ∷ on Nm 2 (0 ∷ 4 ∷ []) ∷ on IsoM 1 (10 ∷ []) ∷ cached 0 MmPool (9 ∷ []) ∷ page 0 0 8 (0 ∷ 0 ∷ []) ∷ [])
+    ≡ sketch (empty_memory small) (block_row 0 (online NormalZone) ∷ block_row 1 (online NormalZone) ∷ block_row 2 (online MovableZone) ∷ block_row 2 (going MovableZone 2) ∷ isolated 2 ∷ on Nm 2 (0 ∷ 4 ∷ []) ∷ on IsoM 1 (10 ∷ []) ∷ cached 0 MmPool (9 ∷ []) ∷ page 0 0 8 (0 ∷ 0 ∷ []) ∷ [])
 unfolding everything
 block_going = refl
 
@@ -99,7 +99,7 @@ unfolding everything
 offline_done_replies = refl
 
 pub offline_done : value_on small ((0, Map 0 0) ∷ (0, Begin (record { block = 2; wish = OffWish } ∷ [])) ∷ (0, Commit 2) ∷ (0, Migrate 2) ∷ (0, Commit 2) ∷ (0, DrainFor 2 0) ∷ (0, DrainFor 2 1) ∷ (0, Commit 2) ∷ [])
-    ≡ sketch (empty_memory small) (row 0 (online NormalZone) ∷ row 1 (online NormalZone) ∷ row 2 (online MovableZone) ∷ row 2 (offline_row) ∷ on Nm 0 (1 ∷ []) ∷ on Nm 1 (2 ∷ []) ∷ on Nm 2 (4 ∷ []) ∷ page 0 0 0 (0 ∷ 0 ∷ []) ∷ [])
+    ≡ sketch (empty_memory small) (block_row 0 (online NormalZone) ∷ block_row 1 (online NormalZone) ∷ block_row 2 (online MovableZone) ∷ block_row 2 (offline_row) ∷ on Nm 0 (1 ∷ []) ∷ on Nm 1 (2 ∷ []) ∷ on Nm 2 (4 ∷ []) ∷ page 0 0 0 (0 ∷ 0 ∷ []) ∷ [])
 unfolding everything
 offline_done = refl
 
@@ -109,7 +109,7 @@ unfolding everything
 offline_ready_replies = refl
 
 pub offline_ready : value_on small ((0, Map 0 0) ∷ (0, Begin (record { block = 2; wish = OffWish } ∷ [])) ∷ (0, Commit 2) ∷ (0, Migrate 2) ∷ (0, Commit 2) ∷ (0, DrainFor 2 0) ∷ (0, DrainFor 2 1) ∷ [])
-    ≡ sketch (empty_memory small) (row 0 (online NormalZone) ∷ row 1 (online NormalZone) ∷ row 2 (online MovableZone) ∷ row 2 (going MovableZone 2) ∷ isolated 2 ∷ on Nm 0 (1 ∷ []) ∷ on Nm 1 (2 ∷ []) ∷ on Nm 2 (4 ∷ []) ∷ on IsoM 2 (8 ∷ []) ∷ page 0 0 0 (0 ∷ 0 ∷ []) ∷ [])
+    ≡ sketch (empty_memory small) (block_row 0 (online NormalZone) ∷ block_row 1 (online NormalZone) ∷ block_row 2 (online MovableZone) ∷ block_row 2 (going MovableZone 2) ∷ isolated 2 ∷ on Nm 0 (1 ∷ []) ∷ on Nm 1 (2 ∷ []) ∷ on Nm 2 (4 ∷ []) ∷ on IsoM 2 (8 ∷ []) ∷ page 0 0 0 (0 ∷ 0 ∷ []) ∷ [])
 unfolding everything
 offline_ready = refl
 
@@ -119,7 +119,7 @@ unfolding everything
 offline_restored_replies = refl
 
 pub offline_restored : value_on small ((0, Map 0 0) ∷ (0, Begin (record { block = 2; wish = OffWish } ∷ [])) ∷ (0, Commit 2) ∷ (0, Migrate 2) ∷ (0, Commit 2) ∷ (0, DrainFor 2 0) ∷ (0, DrainFor 2 1) ∷ (0, Cancel 2) ∷ [])
-    ≡ sketch (empty_memory small) (row 0 (online NormalZone) ∷ row 1 (online NormalZone) ∷ row 2 (online MovableZone) ∷ on Nm 2 (0 ∷ 4 ∷ []) ∷ on Mm 1 (10 ∷ []) ∷ cached 0 MmPool (9 ∷ []) ∷ page 0 0 8 (0 ∷ 0 ∷ []) ∷ [])
+    ≡ sketch (empty_memory small) (block_row 0 (online NormalZone) ∷ block_row 1 (online NormalZone) ∷ block_row 2 (online MovableZone) ∷ on Nm 2 (0 ∷ 4 ∷ []) ∷ on Mm 1 (10 ∷ []) ∷ cached 0 MmPool (9 ∷ []) ∷ page 0 0 8 (0 ∷ 0 ∷ []) ∷ [])
 unfolding everything
 offline_restored = refl
 
@@ -129,7 +129,7 @@ unfolding everything
 offline_released_replies = refl
 
 pub offline_released : value_on small ((0, Map 0 0) ∷ (0, Begin (record { block = 2; wish = OffWish } ∷ [])) ∷ (0, Commit 2) ∷ (0, Migrate 2) ∷ (0, Commit 2) ∷ (0, DrainFor 2 0) ∷ (0, DrainFor 2 1) ∷ (1, Write 0 0 1 5) ∷ (0, Cancel 2) ∷ [])
-    ≡ sketch (empty_memory small) (row 0 (online NormalZone) ∷ row 1 (online NormalZone) ∷ row 2 (online MovableZone) ∷ on Nm 0 (1 ∷ []) ∷ on Nm 1 (2 ∷ []) ∷ on Nm 2 (4 ∷ []) ∷ on Mm 2 (8 ∷ []) ∷ page 0 0 0 (0 ∷ 5 ∷ []) ∷ [])
+    ≡ sketch (empty_memory small) (block_row 0 (online NormalZone) ∷ block_row 1 (online NormalZone) ∷ block_row 2 (online MovableZone) ∷ on Nm 0 (1 ∷ []) ∷ on Nm 1 (2 ∷ []) ∷ on Nm 2 (4 ∷ []) ∷ on Mm 2 (8 ∷ []) ∷ page 0 0 0 (0 ∷ 5 ∷ []) ∷ [])
 unfolding everything
 offline_released = refl
 
@@ -139,7 +139,7 @@ unfolding everything
 plan_of_three_replies = refl
 
 pub plan_of_three : value_on small ((0, Map 0 0) ∷ (0, Begin (record { block = 0; wish = OffWish } ∷ record { block = 2; wish = OffWish } ∷ record { block = 3; wish = MovableWish } ∷ [])) ∷ (0, Commit 2) ∷ (0, Migrate 2) ∷ (0, Commit 2) ∷ (0, DrainFor 2 0) ∷ (0, Commit 2) ∷ [])
-    ≡ sketch (empty_memory small) (row 0 (online NormalZone) ∷ row 1 (online NormalZone) ∷ row 2 (online MovableZone) ∷ row 0 (offline_row) ∷ row 2 (offline_row) ∷ row 3 (online MovableZone) ∷ on Nm 0 (5 ∷ []) ∷ on Nm 1 (6 ∷ []) ∷ on Mm 2 (12 ∷ []) ∷ page 0 0 4 (0 ∷ 0 ∷ []) ∷ [])
+    ≡ sketch (empty_memory small) (block_row 0 (online NormalZone) ∷ block_row 1 (online NormalZone) ∷ block_row 2 (online MovableZone) ∷ block_row 0 (offline_row) ∷ block_row 2 (offline_row) ∷ block_row 3 (online MovableZone) ∷ on Nm 0 (5 ∷ []) ∷ on Nm 1 (6 ∷ []) ∷ on Mm 2 (12 ∷ []) ∷ page 0 0 4 (0 ∷ 0 ∷ []) ∷ [])
 unfolding everything
 plan_of_three = refl
 
@@ -149,7 +149,7 @@ unfolding everything
 kernel_block_stays_replies = refl
 
 pub kernel_block_stays : value_on small ((0, KernelAlloc 1) ∷ (0, Begin (record { block = 0; wish = OffWish } ∷ record { block = 2; wish = OffWish } ∷ record { block = 3; wish = MovableWish } ∷ [])) ∷ [])
-    ≡ sketch (empty_memory small) (row 0 (online NormalZone) ∷ row 1 (online NormalZone) ∷ row 2 (online MovableZone) ∷ unmovable 0 ∷ on Nu 1 (2 ∷ []) ∷ on Nm 2 (4 ∷ []) ∷ on Mm 2 (8 ∷ []) ∷ kernel 0 1 ∷ [])
+    ≡ sketch (empty_memory small) (block_row 0 (online NormalZone) ∷ block_row 1 (online NormalZone) ∷ block_row 2 (online MovableZone) ∷ unmovable 0 ∷ on Nu 1 (2 ∷ []) ∷ on Nm 2 (4 ∷ []) ∷ on Mm 2 (8 ∷ []) ∷ kernel 0 1 ∷ [])
 unfolding everything
 kernel_block_stays = refl
 
@@ -159,7 +159,7 @@ unfolding everything
 operation_undone_replies = refl
 
 pub operation_undone : value_on small ((0, Map 0 0) ∷ (0, Begin (record { block = 2; wish = OffWish } ∷ [])) ∷ (1, UndoAfter 1) ∷ (1, Begin (record { block = 2; wish = OffWish } ∷ [])) ∷ (0, Migrate 2) ∷ [])
-    ≡ sketch (empty_memory small) (row 0 (online NormalZone) ∷ row 1 (online NormalZone) ∷ row 2 (online MovableZone) ∷ row 2 (going MovableZone 4) ∷ isolated 2 ∷ on Nm 2 (0 ∷ 4 ∷ []) ∷ on IsoM 1 (10 ∷ []) ∷ cached 0 MmPool (9 ∷ []) ∷ page 0 0 8 (0 ∷ 0 ∷ []) ∷ [])
+    ≡ sketch (empty_memory small) (block_row 0 (online NormalZone) ∷ block_row 1 (online NormalZone) ∷ block_row 2 (online MovableZone) ∷ block_row 2 (going MovableZone 4) ∷ isolated 2 ∷ on Nm 2 (0 ∷ 4 ∷ []) ∷ on IsoM 1 (10 ∷ []) ∷ cached 0 MmPool (9 ∷ []) ∷ page 0 0 8 (0 ∷ 0 ∷ []) ∷ [])
 unfolding everything
 operation_undone = refl
 
@@ -169,7 +169,7 @@ unfolding everything
 one_frame_replies = refl
 
 pub one_frame : value_on tiny ((0, Map 0 0) ∷ (0, Write 0 0 0 18446744073709551615) ∷ (0, Read 0 0 0) ∷ (0, Begin (record { block = 0; wish = OffWish } ∷ [])) ∷ (0, DrainFor 4 0) ∷ (0, Migrate 4) ∷ (0, Cancel 4) ∷ (0, Unmap 0 0) ∷ (0, KernelAlloc 0) ∷ (0, Drain 0) ∷ (0, KernelAlloc 0) ∷ [])
-    ≡ sketch (empty_memory tiny) (row 0 (online NormalZone) ∷ unmovable 0 ∷ kernel 0 0 ∷ [])
+    ≡ sketch (empty_memory tiny) (block_row 0 (online NormalZone) ∷ unmovable 0 ∷ kernel 0 0 ∷ [])
 unfolding everything
 one_frame = refl
 
@@ -179,7 +179,7 @@ unfolding everything
 bad_numbers_replies = refl
 
 pub bad_numbers : value_on small ((0, Map 0 0) ∷ (0, Map 0 0) ∷ (0, Map 0 8) ∷ (0, Map 1 0) ∷ (0, Map 2 0) ∷ (0, Read 0 0 2) ∷ (0, Unmap 0 1) ∷ (0, KernelFree 16) ∷ (0, KernelFree 1) ∷ (0, Drain 2) ∷ (2, Drain 0) ∷ (0, Begin []) ∷ (0, Begin (record { block = 4; wish = OffWish } ∷ [])) ∷ (0, Begin (record { block = 1; wish = OffWish } ∷ record { block = 1; wish = OffWish } ∷ [])) ∷ (0, Begin (record { block = 3; wish = OffWish } ∷ [])) ∷ (0, Begin (record { block = 0; wish = MovableWish } ∷ [])) ∷ (0, Online 9 NormalZone) ∷ (0, Migrate 9) ∷ (0, UndoAfter 99) ∷ (0, Begin (record { block = 0; wish = OffWish } ∷ [])) ∷ (0, Migrate 20) ∷ (0, Cancel 20) ∷ [])
-    ≡ sketch (empty_memory small) (row 0 (online NormalZone) ∷ row 1 (online NormalZone) ∷ row 2 (online MovableZone) ∷ on Nm 2 (0 ∷ 4 ∷ []) ∷ on Mm 1 (10 ∷ []) ∷ page 0 0 8 (0 ∷ 0 ∷ []) ∷ page 1 0 9 (0 ∷ 0 ∷ []) ∷ [])
+    ≡ sketch (empty_memory small) (block_row 0 (online NormalZone) ∷ block_row 1 (online NormalZone) ∷ block_row 2 (online MovableZone) ∷ on Nm 2 (0 ∷ 4 ∷ []) ∷ on Mm 1 (10 ∷ []) ∷ page 0 0 8 (0 ∷ 0 ∷ []) ∷ page 1 0 9 (0 ∷ 0 ∷ []) ∷ [])
 unfolding everything
 bad_numbers = refl
 
@@ -189,7 +189,7 @@ unfolding everything
 spill_undone_replies = refl
 
 pub spill_undone : value_on small ((0, Map 0 0) ∷ (0, Map 0 1) ∷ (0, Map 0 2) ∷ (0, Unmap 0 0) ∷ (0, Unmap 0 1) ∷ (0, Unmap 0 2) ∷ (0, Drain 0) ∷ (0, UndoAfter 6) ∷ [])
-    ≡ sketch (empty_memory small) (row 0 (online NormalZone) ∷ row 1 (online NormalZone) ∷ row 2 (online MovableZone) ∷ on Nm 2 (0 ∷ 4 ∷ []) ∷ on Mm 0 (8 ∷ 11 ∷ []) ∷ cached 0 MmPool (10 ∷ 9 ∷ []) ∷ [])
+    ≡ sketch (empty_memory small) (block_row 0 (online NormalZone) ∷ block_row 1 (online NormalZone) ∷ block_row 2 (online MovableZone) ∷ on Nm 2 (0 ∷ 4 ∷ []) ∷ on Mm 0 (8 ∷ 11 ∷ []) ∷ cached 0 MmPool (10 ∷ 9 ∷ []) ∷ [])
 unfolding everything
 spill_undone = refl
 
@@ -199,7 +199,7 @@ unfolding everything
 lists_drained_replies = refl
 
 pub lists_drained : value_on small ((0, Map 0 0) ∷ (0, Map 0 1) ∷ (0, Map 0 2) ∷ (0, Unmap 0 0) ∷ (0, Unmap 0 1) ∷ (0, Unmap 0 2) ∷ (0, Drain 0) ∷ [])
-    ≡ sketch (empty_memory small) (row 0 (online NormalZone) ∷ row 1 (online NormalZone) ∷ row 2 (online MovableZone) ∷ on Nm 2 (0 ∷ 4 ∷ []) ∷ on Mm 2 (8 ∷ []) ∷ [])
+    ≡ sketch (empty_memory small) (block_row 0 (online NormalZone) ∷ block_row 1 (online NormalZone) ∷ block_row 2 (online MovableZone) ∷ on Nm 2 (0 ∷ 4 ∷ []) ∷ on Mm 2 (8 ∷ []) ∷ [])
 unfolding everything
 lists_drained = refl
 
@@ -209,7 +209,7 @@ unfolding everything
 old_words_gone_replies = refl
 
 pub old_words_gone : value_on small ((0, Map 0 0) ∷ (0, Write 0 0 0 7) ∷ (0, Begin (record { block = 2; wish = OffWish } ∷ [])) ∷ (0, Migrate 3) ∷ (1, Drain 1) ∷ (0, Cancel 3) ∷ (1, Map 1 0) ∷ (1, Read 1 0 0) ∷ (0, Read 0 0 0) ∷ [])
-    ≡ sketch (empty_memory small) (row 0 (online NormalZone) ∷ row 1 (online NormalZone) ∷ row 2 (online MovableZone) ∷ on Nm 0 (1 ∷ []) ∷ on Nm 1 (2 ∷ []) ∷ on Nm 2 (4 ∷ []) ∷ on Mm 0 (11 ∷ []) ∷ cached 0 MmPool (9 ∷ []) ∷ cached 1 MmPool (10 ∷ []) ∷ page 0 0 0 (7 ∷ 0 ∷ []) ∷ page 1 0 8 (0 ∷ 0 ∷ []) ∷ [])
+    ≡ sketch (empty_memory small) (block_row 0 (online NormalZone) ∷ block_row 1 (online NormalZone) ∷ block_row 2 (online MovableZone) ∷ on Nm 0 (1 ∷ []) ∷ on Nm 1 (2 ∷ []) ∷ on Nm 2 (4 ∷ []) ∷ on Mm 0 (11 ∷ []) ∷ cached 0 MmPool (9 ∷ []) ∷ cached 1 MmPool (10 ∷ []) ∷ page 0 0 0 (7 ∷ 0 ∷ []) ∷ page 1 0 8 (0 ∷ 0 ∷ []) ∷ [])
 unfolding everything
 old_words_gone = refl
 
@@ -219,7 +219,7 @@ unfolding everything
 refused_calls_replies = refl
 
 pub refused_calls : value_on small ((0, KernelFree 16) ∷ (0, KernelFree 1) ∷ (0, UndoAfter 99) ∷ (2, KernelAlloc 1) ∷ (0, UndoAfter 0) ∷ [])
-    ≡ sketch (empty_memory small) (row 0 (online NormalZone) ∷ row 1 (online NormalZone) ∷ row 2 (online MovableZone) ∷ on Nm 2 (0 ∷ 4 ∷ []) ∷ on Mm 2 (8 ∷ []) ∷ [])
+    ≡ sketch (empty_memory small) (block_row 0 (online NormalZone) ∷ block_row 1 (online NormalZone) ∷ block_row 2 (online MovableZone) ∷ on Nm 2 (0 ∷ 4 ∷ []) ∷ on Mm 2 (8 ∷ []) ∷ [])
 unfolding everything
 refused_calls = refl
 
@@ -229,7 +229,7 @@ unfolding everything
 online_calls_replies = refl
 
 pub online_calls : value_on small ((0, Online 3 NormalZone) ∷ (0, Online 3 MovableZone) ∷ (0, KernelAlloc 2) ∷ (0, KernelAlloc 2) ∷ (0, KernelAlloc 2) ∷ (0, UndoAfter 3) ∷ [])
-    ≡ sketch (empty_memory small) (row 0 (online NormalZone) ∷ row 1 (online NormalZone) ∷ row 2 (online MovableZone) ∷ row 3 (online NormalZone) ∷ unmovable 0 ∷ on Nm 2 (4 ∷ 12 ∷ []) ∷ on Mm 2 (8 ∷ []) ∷ kernel 0 2 ∷ [])
+    ≡ sketch (empty_memory small) (block_row 0 (online NormalZone) ∷ block_row 1 (online NormalZone) ∷ block_row 2 (online MovableZone) ∷ block_row 3 (online NormalZone) ∷ unmovable 0 ∷ on Nm 2 (4 ∷ 12 ∷ []) ∷ on Mm 2 (8 ∷ []) ∷ kernel 0 2 ∷ [])
 unfolding everything
 online_calls = refl
 
@@ -239,7 +239,7 @@ unfolding everything
 two_joins_replies = refl
 
 pub two_joins : value_on wide ((0, KernelAlloc 1) ∷ (0, KernelFree 0) ∷ [])
-    ≡ sketch (empty_memory wide) (row 0 (online NormalZone) ∷ row 1 (online NormalZone) ∷ row 2 (online MovableZone) ∷ unmovable 0 ∷ on Nu 3 (0 ∷ []) ∷ on Nm 3 (8 ∷ []) ∷ on Mm 3 (16 ∷ []) ∷ [])
+    ≡ sketch (empty_memory wide) (block_row 0 (online NormalZone) ∷ block_row 1 (online NormalZone) ∷ block_row 2 (online MovableZone) ∷ unmovable 0 ∷ on Nu 3 (0 ∷ []) ∷ on Nm 3 (8 ∷ []) ∷ on Mm 3 (16 ∷ []) ∷ [])
 unfolding everything
 two_joins = refl
 
@@ -249,7 +249,7 @@ unfolding everything
 kernel_frames_replies = refl
 
 pub kernel_frames : value_on small ((0, KernelAlloc 0) ∷ (1, KernelAlloc 0) ∷ (0, KernelFree 0) ∷ [])
-    ≡ sketch (empty_memory small) (row 0 (online NormalZone) ∷ row 1 (online NormalZone) ∷ row 2 (online MovableZone) ∷ unmovable 0 ∷ on Nu 0 (3 ∷ []) ∷ on Nm 2 (4 ∷ []) ∷ on Mm 2 (8 ∷ []) ∷ cached 0 NuPool (0 ∷ []) ∷ cached 1 NuPool (2 ∷ []) ∷ kernel 1 0 ∷ [])
+    ≡ sketch (empty_memory small) (block_row 0 (online NormalZone) ∷ block_row 1 (online NormalZone) ∷ block_row 2 (online MovableZone) ∷ unmovable 0 ∷ on Nu 0 (3 ∷ []) ∷ on Nm 2 (4 ∷ []) ∷ on Mm 2 (8 ∷ []) ∷ cached 0 NuPool (0 ∷ []) ∷ cached 1 NuPool (2 ∷ []) ∷ kernel 1 0 ∷ [])
 unfolding everything
 kernel_frames = refl
 
@@ -259,7 +259,7 @@ unfolding everything
 zeros_again_replies = refl
 
 pub zeros_again : value_on small ((0, Map 0 0) ∷ (0, Write 0 0 0 7) ∷ (0, Unmap 0 0) ∷ (0, Map 0 1) ∷ (0, Read 0 1 0) ∷ [])
-    ≡ sketch (empty_memory small) (row 0 (online NormalZone) ∷ row 1 (online NormalZone) ∷ row 2 (online MovableZone) ∷ on Nm 2 (0 ∷ 4 ∷ []) ∷ on Mm 1 (10 ∷ []) ∷ cached 0 MmPool (9 ∷ []) ∷ page 0 1 8 (0 ∷ 0 ∷ []) ∷ [])
+    ≡ sketch (empty_memory small) (block_row 0 (online NormalZone) ∷ block_row 1 (online NormalZone) ∷ block_row 2 (online MovableZone) ∷ on Nm 2 (0 ∷ 4 ∷ []) ∷ on Mm 1 (10 ∷ []) ∷ cached 0 MmPool (9 ∷ []) ∷ page 0 1 8 (0 ∷ 0 ∷ []) ∷ [])
 unfolding everything
 zeros_again = refl
 
@@ -269,7 +269,7 @@ unfolding everything
 coming_block_replies = refl
 
 pub coming_block : value_on small ((0, Begin (record { block = 3; wish = MovableWish } ∷ [])) ∷ (0, Online 3 NormalZone) ∷ (0, Begin (record { block = 3; wish = NormalWish } ∷ [])) ∷ (0, Commit 1) ∷ [])
-    ≡ sketch (empty_memory small) (row 0 (online NormalZone) ∷ row 1 (online NormalZone) ∷ row 2 (online MovableZone) ∷ row 3 (online MovableZone) ∷ on Nm 2 (0 ∷ 4 ∷ []) ∷ on Mm 2 (8 ∷ 12 ∷ []) ∷ [])
+    ≡ sketch (empty_memory small) (block_row 0 (online NormalZone) ∷ block_row 1 (online NormalZone) ∷ block_row 2 (online MovableZone) ∷ block_row 3 (online MovableZone) ∷ on Nm 2 (0 ∷ 4 ∷ []) ∷ on Mm 2 (8 ∷ 12 ∷ []) ∷ [])
 unfolding everything
 coming_block = refl
 
@@ -279,7 +279,7 @@ unfolding everything
 released_coming_replies = refl
 
 pub released_coming : value_on small ((0, Begin (record { block = 3; wish = MovableWish } ∷ [])) ∷ (0, Migrate 1) ∷ (1, Map 0 0) ∷ (0, Cancel 1) ∷ [])
-    ≡ sketch (empty_memory small) (row 0 (online NormalZone) ∷ row 1 (online NormalZone) ∷ row 2 (online MovableZone) ∷ on Nm 2 (0 ∷ 4 ∷ []) ∷ on Mm 1 (10 ∷ []) ∷ cached 1 MmPool (9 ∷ []) ∷ page 0 0 8 (0 ∷ 0 ∷ []) ∷ [])
+    ≡ sketch (empty_memory small) (block_row 0 (online NormalZone) ∷ block_row 1 (online NormalZone) ∷ block_row 2 (online MovableZone) ∷ on Nm 2 (0 ∷ 4 ∷ []) ∷ on Mm 1 (10 ∷ []) ∷ cached 1 MmPool (9 ∷ []) ∷ page 0 0 8 (0 ∷ 0 ∷ []) ∷ [])
 unfolding everything
 released_coming = refl
 
@@ -289,7 +289,7 @@ unfolding everything
 undo_inside_replies = refl
 
 pub undo_inside : value_on small ((0, Map 0 0) ∷ (0, Begin (record { block = 2; wish = OffWish } ∷ [])) ∷ (0, DrainFor 2 0) ∷ (0, Migrate 2) ∷ (1, UndoAfter 2) ∷ (0, Migrate 2) ∷ (0, Commit 2) ∷ (0, Cancel 2) ∷ [])
-    ≡ sketch (empty_memory small) (row 0 (online NormalZone) ∷ row 1 (online NormalZone) ∷ row 2 (online MovableZone) ∷ on Nm 2 (0 ∷ 4 ∷ []) ∷ on Mm 1 (10 ∷ []) ∷ cached 0 MmPool (9 ∷ []) ∷ page 0 0 8 (0 ∷ 0 ∷ []) ∷ [])
+    ≡ sketch (empty_memory small) (block_row 0 (online NormalZone) ∷ block_row 1 (online NormalZone) ∷ block_row 2 (online MovableZone) ∷ on Nm 2 (0 ∷ 4 ∷ []) ∷ on Mm 1 (10 ∷ []) ∷ cached 0 MmPool (9 ∷ []) ∷ page 0 0 8 (0 ∷ 0 ∷ []) ∷ [])
 unfolding everything
 undo_inside = refl
 
@@ -299,7 +299,7 @@ unfolding everything
 undo_commit_replies = refl
 
 pub undo_commit : value_on small ((0, Map 0 0) ∷ (0, Begin (record { block = 2; wish = OffWish } ∷ [])) ∷ (0, Commit 2) ∷ (0, Migrate 2) ∷ (0, Commit 2) ∷ (0, DrainFor 2 0) ∷ (0, DrainFor 2 1) ∷ (0, Commit 2) ∷ (1, UndoAfter 7) ∷ (0, Cancel 2) ∷ [])
-    ≡ sketch (empty_memory small) (row 0 (online NormalZone) ∷ row 1 (online NormalZone) ∷ row 2 (online MovableZone) ∷ on Nm 2 (0 ∷ 4 ∷ []) ∷ on Mm 1 (10 ∷ []) ∷ cached 0 MmPool (9 ∷ []) ∷ page 0 0 8 (0 ∷ 0 ∷ []) ∷ [])
+    ≡ sketch (empty_memory small) (block_row 0 (online NormalZone) ∷ block_row 1 (online NormalZone) ∷ block_row 2 (online MovableZone) ∷ on Nm 2 (0 ∷ 4 ∷ []) ∷ on Mm 1 (10 ∷ []) ∷ cached 0 MmPool (9 ∷ []) ∷ page 0 0 8 (0 ∷ 0 ∷ []) ∷ [])
 unfolding everything
 undo_commit = refl
 
@@ -309,7 +309,7 @@ unfolding everything
 absent_block_replies = refl
 
 pub absent_block : value_on sparse ((0, Online 3 NormalZone) ∷ (0, Begin (record { block = 3; wish = OffWish } ∷ [])) ∷ (0, Probe 192) ∷ (0, Probe 192) ∷ (0, Probe 193) ∷ (0, Probe 256) ∷ (0, Remove 3) ∷ (0, Remove 2) ∷ (0, UndoAfter 3) ∷ [])
-    ≡ sketch (empty_memory sparse) (row 0 (online NormalZone) ∷ row 1 (online NormalZone) ∷ row 2 (online MovableZone) ∷ row 3 (absent) ∷ row 3 (offline_row) ∷ on Nm 2 (0 ∷ 4 ∷ []) ∷ on Mm 2 (8 ∷ []) ∷ [])
+    ≡ sketch (empty_memory sparse) (block_row 0 (online NormalZone) ∷ block_row 1 (online NormalZone) ∷ block_row 2 (online MovableZone) ∷ block_row 3 (absent) ∷ block_row 3 (offline_row) ∷ on Nm 2 (0 ∷ 4 ∷ []) ∷ on Mm 2 (8 ∷ []) ∷ [])
 unfolding everything
 absent_block = refl
 
@@ -319,7 +319,7 @@ unfolding everything
 auto_online_replies = refl
 
 pub auto_online : value_on sparse ((0, SetAuto MovableAuto) ∷ (0, Probe 192) ∷ (0, Begin (record { block = 3; wish = OffWish } ∷ [])) ∷ (0, DrainFor 3 0) ∷ (0, DrainFor 3 1) ∷ (0, Migrate 3) ∷ (0, Commit 3) ∷ (0, Remove 3) ∷ [])
-    ≡ sketch (empty_memory sparse) (row 0 (online NormalZone) ∷ row 1 (online NormalZone) ∷ row 2 (online MovableZone) ∷ row 3 (absent) ∷ row 3 (absent) ∷ auto MovableAuto ∷ on Nm 2 (0 ∷ 4 ∷ []) ∷ on Mm 2 (8 ∷ []) ∷ [])
+    ≡ sketch (empty_memory sparse) (block_row 0 (online NormalZone) ∷ block_row 1 (online NormalZone) ∷ block_row 2 (online MovableZone) ∷ block_row 3 (absent) ∷ block_row 3 (absent) ∷ auto MovableAuto ∷ on Nm 2 (0 ∷ 4 ∷ []) ∷ on Mm 2 (8 ∷ []) ∷ [])
 unfolding everything
 auto_online = refl
 
@@ -334,7 +334,7 @@ unfolding everything
 sealed_undo_replies = refl
 
 pub sealed_undo : sealed_value small ((0, KernelAlloc 1) ∷ (0, KernelFree 0) ∷ []) ((0, UndoAfter 0) ∷ (0, UndoAfter 2) ∷ (0, KernelAlloc 1) ∷ [])
-    ≡ sketch (empty_memory small) (row 0 (online NormalZone) ∷ row 1 (online NormalZone) ∷ row 2 (online MovableZone) ∷ unmovable 0 ∷ on Nu 1 (2 ∷ []) ∷ on Nm 2 (4 ∷ []) ∷ on Mm 2 (8 ∷ []) ∷ kernel 0 1 ∷ [])
+    ≡ sketch (empty_memory small) (block_row 0 (online NormalZone) ∷ block_row 1 (online NormalZone) ∷ block_row 2 (online MovableZone) ∷ unmovable 0 ∷ on Nu 1 (2 ∷ []) ∷ on Nm 2 (4 ∷ []) ∷ on Mm 2 (8 ∷ []) ∷ kernel 0 1 ∷ [])
 unfolding everything
 sealed_undo = refl
 
@@ -344,7 +344,7 @@ unfolding everything
 sealed_cancel_replies = refl
 
 pub sealed_cancel : sealed_value small ((0, Map 0 0) ∷ (0, Begin (record { block = 2; wish = OffWish } ∷ [])) ∷ (0, Commit 2) ∷ (0, Migrate 2) ∷ (0, Commit 2) ∷ (0, DrainFor 2 0) ∷ (0, DrainFor 2 1) ∷ []) ((0, Cancel 2) ∷ [])
-    ≡ sketch (empty_memory small) (row 0 (online NormalZone) ∷ row 1 (online NormalZone) ∷ row 2 (online MovableZone) ∷ on Nm 0 (1 ∷ []) ∷ on Nm 1 (2 ∷ []) ∷ on Nm 2 (4 ∷ []) ∷ on Mm 2 (8 ∷ []) ∷ page 0 0 0 (0 ∷ 0 ∷ []) ∷ [])
+    ≡ sketch (empty_memory small) (block_row 0 (online NormalZone) ∷ block_row 1 (online NormalZone) ∷ block_row 2 (online MovableZone) ∷ on Nm 0 (1 ∷ []) ∷ on Nm 1 (2 ∷ []) ∷ on Nm 2 (4 ∷ []) ∷ on Mm 2 (8 ∷ []) ∷ page 0 0 0 (0 ∷ 0 ∷ []) ∷ [])
 unfolding everything
 sealed_cancel = refl
 
@@ -354,6 +354,6 @@ unfolding everything
 sealed_full_replies = refl
 
 pub sealed_full : sealed_value small ((0, KernelAlloc 1) ∷ (0, KernelFree 0) ∷ (0, KernelAlloc 3) ∷ []) ((0, KernelAlloc 1) ∷ (0, UndoAfter 3) ∷ [])
-    ≡ sketch (empty_memory small) (row 0 (online NormalZone) ∷ row 1 (online NormalZone) ∷ row 2 (online MovableZone) ∷ unmovable 0 ∷ on Nu 2 (0 ∷ []) ∷ on Nm 2 (4 ∷ []) ∷ on Mm 2 (8 ∷ []) ∷ [])
+    ≡ sketch (empty_memory small) (block_row 0 (online NormalZone) ∷ block_row 1 (online NormalZone) ∷ block_row 2 (online MovableZone) ∷ unmovable 0 ∷ on Nu 2 (0 ∷ []) ∷ on Nm 2 (4 ∷ []) ∷ on Mm 2 (8 ∷ []) ∷ [])
 unfolding everything
 sealed_full = refl

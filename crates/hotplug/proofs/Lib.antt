@@ -1,0 +1,4 @@
+pub mod Known
+pub mod Lines
+pub mod Served
+pub mod Texts

@@ -1,0 +1,27 @@
+-- What the program has written.
+use Rattle.std.specs.Prelude.{◌≡◌, ℕ, List, ◌++◌, Option, Ok, IfSome}
+use Rattle.std.specs.Io.KnownBytes.{Appends}
+use Rattle.hp_machine.specs.Machine.{MachineValue, booted}
+use Rattle.hp_workers.specs.Scenario.{ScenarioValue, scenario_in}
+use Rattle.hotplug.specs.declared.words.Command.{Command}
+use Rattle.hotplug.specs.declared.words.Command.TheVariants.{Serial}
+use Rattle.hotplug.specs.Serial.{serial_text, end_text, WritesLines, IsWhole}
+
+-- the bytes are a scenario, and the text is that of a run of its lines with the state behind them; where no line of it ends in
+-- `OutOfMemory`, it is the scenario's text
+pub record IsTextOf (input text : List ℕ) : Type 0 where
+  pub scenario : ScenarioValue
+  pub read : scenario_in input ≡ Ok scenario
+  pub lines : List ℕ
+  pub machine : MachineValue
+  pub run : WritesLines (booted scenario.layout) scenario.lines lines machine
+  pub end : text ≡ lines ++ end_text scenario.names machine
+  pub whole : IsWhole text → serial_text input ≡ Ok text
+
+-- the text of the bytes that were read, and nothing else
+abbrev pub WritesTextOf : (known old new : Option (List ℕ)) → Type 0
+WritesTextOf known old new = IfSome known (λ input. (text : List ℕ) × Appends old new text × IsTextOf input text)
+
+-- what a command has written
+abbrev pub Serves : Command → (known old new : Option (List ℕ)) → Type 0
+Serves Serial known old new = WritesTextOf known old new

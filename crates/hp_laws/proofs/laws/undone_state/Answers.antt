@@ -1,0 +1,6 @@
+-- An undo that is not refused keeps the steps up to its serial.
+use Rattle.hp_laws.proofs.LawProofs.{undone}
+use Rattle.hp_laws.proofs.laws.undone_state.Goals as goal
+
+pub returns : goal.returns
+returns c l base serial h r event good = undone l base serial h r event good

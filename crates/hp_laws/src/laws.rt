@@ -1,0 +1,36 @@
+//! The laws of undo and Cancel. Each is a function that does nothing; what it ensures is the law.
+ghost use Rattle.std.specs.Prelude.{◌≡◌, ℕ, ◌+◌, ◌-◌, ◌≤◌, false, List, [], ◌∷◌, ◌++◌, Some, length, take, slice_get};
+ghost use Rattle.hp_units.specs.Memory.{Memory};
+ghost use Rattle.hp_units.specs.LayoutParts.{LayoutParts};
+ghost use Rattle.hp_units.specs.History.{IsLegal, is_refused, net_of, run, steps_until, value_of};
+ghost use Rattle.hp_units.specs.declared.events.Event.TheVariants.{Begin, Cancel, UndoAfter};
+ghost use Rattle.hp_units.specs.declared.plans.Item.{Item};
+ghost use Rattle.hp_units.specs.declared.replies.Record.{Record};
+ghost use Rattle.hp_units.specs.declared.replies.Reply.TheVariants.{Restored};
+
+/// An undo that is not refused leaves the state that the steps up to its serial lead to (own rule).
+pub fn undone_state()
+    ensures { (l : LayoutParts) (base : Memory) (serial : ℕ) (h : List Record) (r : Record) → r.event ≡ UndoAfter serial
+        → is_refused r.reply ≡ false
+        → value_of l base (h ++ r ∷ []) ≡ run l base (steps_until serial (net_of h)) }
+{}
+
+/// A Cancel that restores leaves the state that was there just before its operation's Begin, whose record has the
+/// operation's number as its serial (own rule).
+pub fn restored_state()
+    ensures { (l : LayoutParts) (base : Memory) (before op : ℕ) (h : List Record) (r : Record) → IsLegal l base before (h ++ r ∷ [])
+        → r.event ≡ Cancel op
+        → r.reply ≡ Restored
+        → (b : Record) × (plan : List Item) × (slice_get h (op - before - 1) ≡ Some b) × (b.serial ≡ op) × (b.event ≡ Begin plan) × (value_of l base (h ++ r ∷ []) ≡ value_of l base (take (op - before - 1) h)) }
+{}
+
+/// Each prefix of the steps is what some undo keeps, and its state was there just before the step that comes behind it
+/// (own rule).
+pub fn earlier_states()
+    ensures prefix { (l : LayoutParts) (base : Memory) (before k : ℕ) (h : List Record) → IsLegal l base before h
+        → k ≤ length (net_of h)
+        → (serial : ℕ) × (before ≤ serial) × (serial ≤ before + length h) × (steps_until serial (net_of h) ≡ take k (net_of h)) }
+    ensures state { (l : LayoutParts) (base : Memory) (before k : ℕ) (h : List Record) (r : Record) → IsLegal l base before h
+        → slice_get (net_of h) k ≡ Some r
+        → run l base (take k (net_of h)) ≡ value_of l base (take (r.serial - before - 1) h) }
+{}

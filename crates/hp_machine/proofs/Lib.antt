@@ -1,0 +1,5 @@
+pub mod Names
+pub mod Places
+pub mod Journals
+pub mod Cuts
+pub mod Machines

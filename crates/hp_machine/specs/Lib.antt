@@ -1,0 +1,4 @@
+pub mod Entries
+pub mod Kept
+pub mod Machine
+pub mod Seen

@@ -1,0 +1,9 @@
+//! The machine: one call is one step of the definitions, with a history and a journal.
+#![tactic(auto)]
+
+mod journal;
+mod machine;
+#[cfg(test)]
+mod tests;
+
+pub use machine::Machine;

@@ -1,0 +1,81 @@
+//! Worked calls on one memory block of four frames.
+use crate::Machine;
+use hp_units::{
+    Auto, Block, Boot, CallFault, Class, Cpu, Event, Frame, Layout, Order, Owner, Page, Parts,
+    Reply, Serial, State,
+};
+use std::alloc::Global;
+use std::test::Fail;
+
+/// A machine with one block of one pageblock, online in zone Normal, and a limit of records.
+fn booted(alloc: Global, history: u64) -> Result<Machine, Fail> {
+    let parts = Parts {
+        order: 2,
+        pageblocks: 1,
+        blocks: 1,
+        cpus: 1,
+        batch: 1,
+        high: 1,
+        owners: 1,
+        pages: 1,
+        words: 1,
+        history,
+        boot: &[Boot::Normal],
+    };
+    let layout = Layout::new(alloc, &parts)?;
+    let machine = Machine::boot(alloc, &layout)?;
+    Ok(machine)
+}
+
+#[test]
+fn free_blocks_join(rt: HostRuntime) -> Result<(), Fail> {
+    let mut machine = booted(rt.alloc(), 9)?;
+    let alloc = Event::KernelAlloc { order: Order(1) };
+    let taken = machine.call(rt.alloc(), Cpu(0), &alloc)?;
+    assert_eq!(rt; taken.reply, Reply::Frame(Frame(0)));
+    assert_eq!(rt; machine.front(Class::Nu, Order(1)), Some(Frame(2)));
+    let free = Event::KernelFree { frame: Frame(0) };
+    let given = machine.call(rt.alloc(), Cpu(0), &free)?;
+    assert_eq!(rt; given.reply, Reply::Done);
+    assert_eq!(rt; machine.list_len(Class::Nu, Order(2)), 1);
+    Ok(())
+}
+
+#[test]
+fn undo_returns_a_stolen_pageblock(rt: HostRuntime) -> Result<(), Fail> {
+    let mut machine = booted(rt.alloc(), 9)?;
+    let alloc = Event::KernelAlloc { order: Order(1) };
+    let taken = machine.call(rt.alloc(), Cpu(0), &alloc)?;
+    assert_eq!(rt; taken.serial, Serial(1));
+    assert_eq!(rt; machine.journal_len(), 1);
+    let undo = Event::UndoAfter { serial: Serial(0) };
+    let undone = machine.call(rt.alloc(), Cpu(0), &undo)?;
+    assert_eq!(rt; undone.reply, Reply::Undone { count: 1 });
+    assert_eq!(rt; machine.front(Class::Nm, Order(2)), Some(Frame(0)));
+    assert_eq!(rt; machine.journal_len(), 0);
+    Ok(())
+}
+
+#[test]
+fn a_full_history_takes_no_call(rt: HostRuntime) -> Result<(), Fail> {
+    let mut machine = booted(rt.alloc(), 1)?;
+    let alloc = Event::KernelAlloc { order: Order(0) };
+    let _taken = machine.call(rt.alloc(), Cpu(0), &alloc)?;
+    let refused = machine.call(rt.alloc(), Cpu(0), &alloc);
+    assert_eq!(rt; refused.err(), Some(CallFault::HistoryFull));
+    assert_eq!(rt; machine.history().len(), 1);
+    Ok(())
+}
+
+#[test]
+fn queries_show_the_state_at_boot(rt: HostRuntime) -> Result<(), Fail> {
+    let machine = booted(rt.alloc(), 1)?;
+    let row = machine.row(Block(0)).ok_or("no row")?;
+    assert_eq!(rt; row.state, State::Online);
+    assert_eq!(rt; machine.frame_at(Owner(0), Page(0)), None);
+    assert_eq!(rt; machine.auto(), Auto::Offline);
+    assert_eq!(rt; machine.layout().frames(), 4);
+    let image = machine.image(rt.alloc())?;
+    assert_eq!(rt; image.list(Class::Nm, Order(2)).len(), 1);
+    Ok(())
+}

@@ -1,0 +1,64 @@
+-- The empty state is within its layout.
+use Rattle.std.proofs.Common.{◌≡◌, ℕ, zero, suc, ◌+◌, ◌*◌, ◌≤◌, List, [], length, get_or, replicate, true, Option, None, refl, sym, ap, subst, IfSome}
+use Rattle.std.specs.List.{AllByRecursion}
+use Rattle.std.proofs.lemmas.List.{length-replicate}
+use Rattle.hp_units.specs.LayoutParts.{LayoutParts}
+use Rattle.hp_units.specs.Arithmetic.{IsFrame, frame_count}
+use Rattle.hp_units.specs.Memory.{FreeFrames, Memory, entry_of, offline_row, pool_index}
+use Rattle.hp_units.specs.FreeAreas.{is_on}
+use Rattle.hp_units.specs.Boot.{empty_areas, empty_cached, empty_pages, empty_blocks}
+use Rattle.hp_units.specs.InLayout.{AreFreeAreasOf, AreFreeFramesOf, ArePagesOf, AreKernelBlocksOf, AreBlocksOf, IsMemoryOf}
+use Rattle.std.proofs.lemmas.Bool.{false≢true}
+
+-- every entry of copies of one value is that value
+at_replicate : {A : Type 0} (n i : ℕ) (x : A) → get_or (replicate n x) i x ≡ x
+at_replicate zero i x = refl
+at_replicate (suc n) zero x = refl
+at_replicate (suc n) (suc i) x = at_replicate n i x
+
+-- what holds of a value holds of all its copies
+all_replicate : {A : Type 0} (P : A → Type 0) (n : ℕ) (x : A) → P x → AllByRecursion P (replicate n x)
+all_replicate P zero x h = tt
+all_replicate P (suc n) x h = (h, all_replicate P n x h)
+
+-- no page of an empty table has an entry
+no_entry : {A : Type 0} (owners pages owner page : ℕ) → entry_of {A = A} (replicate owners (replicate pages None)) owner page ≡ None
+no_entry zero pages owner page = refl
+no_entry (suc owners) pages zero page = at_replicate pages page None
+no_entry (suc owners) pages (suc owner) page = no_entry owners pages owner page
+
+-- the free frames of the empty state
+free_of : (l : LayoutParts) → AreFreeAreasOf l (empty_areas l) → AreFreeFramesOf l (record { areas = empty_areas l; cached = empty_cached l })
+free_of l areas = record {
+  areas = areas;
+  lists = length-replicate (3 * l.cpus) [];
+  cached = λ cpu pool frame on. absurd (false≢true (subst (λ (xs : List ℕ). is_on frame xs ≡ true) (at_replicate (3 * l.cpus) (3 * cpu + pool_index pool) []) on));
+}
+
+-- its pages
+pages_of : (l : LayoutParts) → ArePagesOf l (empty_pages l)
+pages_of l = record {
+  owners = length-replicate l.owners (replicate l.pages None);
+  pages = all_replicate (λ (row : List (Option ℕ)). length row ≡ l.pages) l.owners (replicate l.pages None) (length-replicate l.pages None);
+  content_owners = length-replicate l.owners (replicate l.pages None);
+  content_pages = all_replicate (λ (row : List (Option (List ℕ))). length row ≡ l.pages) l.owners (replicate l.pages None) (length-replicate l.pages None);
+  mapped = λ owner page. subst (λ (o : Option ℕ). IfSome o (IsFrame l)) (sym (no_entry l.owners l.pages owner page)) tt;
+  words = λ owner page. subst (λ (o : Option (List ℕ)). IfSome o (λ words. length words ≡ l.words)) (sym (no_entry l.owners l.pages owner page)) tt;
+}
+
+-- its kernel's blocks
+kernel_of : (l : LayoutParts) → AreKernelBlocksOf l (replicate (frame_count l) None)
+kernel_of l = record {
+  frames = length-replicate (frame_count l) None;
+  orders = λ first. subst (λ (o : Option ℕ). IfSome o (λ order. order ≤ l.order)) (sym (at_replicate (frame_count l) first None)) tt;
+}
+
+-- and all of it
+pub memory_of : (l : LayoutParts) (s : Memory) → s.free ≡ record { areas = empty_areas l; cached = empty_cached l } → s.pages ≡ empty_pages l
+    → s.kernel ≡ replicate (frame_count l) None → s.blocks ≡ empty_blocks l → AreFreeAreasOf l s.free.areas → IsMemoryOf l s
+memory_of l s free pages kernel blocks areas = record {
+  free = subst (AreFreeFramesOf l) (sym free) (free_of l (subst (AreFreeAreasOf l) (ap (λ (f : FreeFrames). f.areas) free) areas));
+  pages = subst (ArePagesOf l) (sym pages) (pages_of l);
+  kernel = subst (AreKernelBlocksOf l) (sym kernel) (kernel_of l);
+  blocks = subst (AreBlocksOf l) (sym blocks) (record { rows = length-replicate l.blocks offline_row });
+}

@@ -1,0 +1,11 @@
+pub mod EmptyState
+pub mod FramesInLayout
+pub mod Gives
+pub mod HandedOut
+pub mod InLayout
+pub mod OnList
+pub mod SameLists
+pub mod Searches
+pub mod Steals
+pub mod Takes
+pub mod Walks

@@ -1,0 +1,227 @@
+//! A whole state as plain lists.
+ghost use Rattle.std.specs.Prelude.{◌≡◌, ◌≢◌, true, IfOk, MatchBool, OnErr, OnOk, option_map, slice_get};
+ghost use Rattle.hp_units.specs.Boot.{boot_memory, empty_memory};
+ghost use Rattle.hp_units.specs.Handled.{is_handled};
+ghost use Rattle.hp_units.specs.Memory.{cached_list, free_list, kernel_order};
+ghost use Rattle.hp_units.specs.Pages.{frame_at, words_at};
+ghost use Rattle.hp_units.specs.Step.{step};
+ghost use Rattle.hp_plain.specs.Image.{IsPartOf, with_part};
+
+mod adds;
+mod boots;
+mod orders;
+mod steps;
+
+use self::orders::same_orders;
+use crate::blocks::Blocks;
+use crate::frames::FreeFrames;
+use crate::pages::Pages;
+use crate::parts::Part;
+use hp_units::{
+    Auto, Block, Class, Cpu, Event, Frame, Kind, Layout, Order, Owner, Page, Pageblock, Pool,
+    Refusal, Reply, Row, Serial,
+};
+use std::alloc::{AllocError, Global};
+use std::marker::Model;
+
+/// A layout, and a whole state of it as plain lists. Its numbers are always those of the layout.
+#[derive(Drop)]
+pub struct Image {
+    layout: Layout,
+    free: FreeFrames,
+    pages: Pages,
+    kernel: Vec<Option<Order>>,
+    blocks: Blocks,
+}
+
+impl Model for Image {
+    ghost use Rattle.hp_units.specs.InLayout.{IsMemoryOf};
+    ghost use Rattle.hp_plain.specs.Image.{Pictured};
+
+    ghost Value = { Pictured };
+
+    ghost view = { λ i. record {
+      layout = i.layout;
+      memory = record { free = i.free; pages = i.pages; kernel = i.kernel.items; blocks = i.blocks };
+    } };
+
+    ghost invariant = { λ i. IsMemoryOf i.layout (record { free = i.free; pages = i.pages; kernel = i.kernel.items; blocks = i.blocks }) };
+}
+
+impl Image {
+    /// The state at boot: all blocks as the layout says, by rising number, and nothing in use
+    /// (Linux, memory hotplug: boot memory; own rule).
+    #[tactic(auto, unfolding(hp_units::specs::Boot::boot_memory))]
+    pub fn boot(alloc: Global, layout: &Layout) -> Result<Image, AllocError>
+        ensures layout { IfOk result (λ image. image.layout ≡ layout.now) }
+        ensures memory { IfOk result (λ image. image.memory ≡ boot_memory layout.now) }
+    {
+        let mut image = Image::empty(alloc, layout)?;
+        for (number, boot) in layout.boot().iter().enumerate() {
+            image.boot_block(Block(number as u32), *boot)?;
+        }
+        Ok(image)
+    }
+
+    /// The state with all blocks offline and all else empty (own rule).
+    pub fn empty(alloc: Global, layout: &Layout) -> Result<Image, AllocError>
+        ensures layout { IfOk result (λ image. image.layout ≡ layout.now) }
+        ensures memory { IfOk result (λ image. image.memory ≡ empty_memory layout.now) }
+    {
+        let free = FreeFrames::empty(alloc, layout)?;
+        let pages = Pages::empty(alloc, layout)?;
+        let kernel = vec![in alloc; None; layout.frames() as usize]?;
+        let blocks = Blocks::empty(alloc, layout)?;
+        let layout = layout.copy(alloc)?;
+        Ok(Image {
+            layout,
+            free,
+            pages,
+            kernel,
+            blocks,
+        })
+    }
+
+    /// An equal Image.
+    pub fn copy(&self, alloc: Global) -> Result<Image, AllocError>
+        ensures { IfOk result (λ image. image ≡ self.now) }
+    {
+        let layout = self.layout.copy(alloc)?;
+        let free = self.free.copy(alloc)?;
+        let pages = self.pages.copy(alloc)?;
+        let kernel = Vec::from_slice(alloc, self.kernel.as_slice())?;
+        let blocks = self.blocks.copy(alloc)?;
+        Ok(Image {
+            layout,
+            free,
+            pages,
+            kernel,
+            blocks,
+        })
+    }
+
+    /// Whether another Image has the same state.
+    pub fn same(&self, other: &Image) -> bool
+        ensures { MatchBool result (self.now.memory ≡ other.now.memory) (self.now.memory ≢ other.now.memory) }
+    {
+        self.free.same(&other.free)
+            && self.pages.same(&other.pages)
+            && same_orders(&self.kernel, &other.kernel)
+            && self.blocks.same(&other.blocks)
+    }
+
+    /// Sets one part, a list's frame at the back. After want of memory the Image is as before.
+    pub fn add(&mut self, part: Part) -> Result<(), AllocError>
+        requires { IsPartOf self.old.layout part }
+        ensures ok { OnOk result (self.new ≡ record self.old { memory = with_part self.old.memory part }) }
+        ensures err { OnErr result (self.new ≡ self.old) }
+    {
+        match part {
+            Part::Free {
+                class,
+                order,
+                frame,
+            } => self.add_free(class, order, frame),
+            Part::Cached { cpu, pool, frame } => self.add_cached(cpu, pool, frame),
+            Part::Mapped {
+                owner,
+                page,
+                frame,
+                words,
+            } => self.add_mapped(owner, page, frame, words),
+            Part::Kernel { frame, order } => self.add_kernel(frame, order),
+            Part::Kind { pageblock, kind } => self.add_kind(pageblock, kind),
+            Part::Row { block, row } => self.add_row(block, row),
+            Part::Auto { auto } => self.add_auto(auto),
+        }
+    }
+
+    /// One step of the plain machine. After want of memory the Image is as before.
+    #[tactic(auto, unfolding(hp_units::specs::Step::step, hp_units::specs::Refusals::refusal_of))]
+    pub fn step(
+        &mut self,
+        alloc: Global,
+        serial: Serial,
+        cpu: Cpu,
+        event: &Event,
+    ) -> Result<Reply, AllocError>
+        requires handled { is_handled event.now ≡ true }
+        ensures memory { OnOk result (self.new.memory ≡ (step self.old.layout self.old.memory serial cpu event.now).memory) }
+        ensures reply { IfOk result (λ reply. reply ≡ (step self.old.layout self.old.memory serial cpu event.now).reply) }
+        ensures layout { self.new.layout ≡ self.old.layout }
+        ensures err { OnErr result (self.new ≡ self.old) }
+    {
+        if cpu.0 >= self.layout.cpus() {
+            return Ok(Reply::Refused(Refusal::NoCpu));
+        }
+        match event {
+            Event::KernelAlloc { order } => self.kernel_alloc(alloc, cpu, *order),
+            Event::KernelFree { frame } => self.kernel_free(alloc, cpu, *frame),
+            Event::UndoAfter { .. } => Ok(Reply::Done),
+            _ => unreachable!(),
+        }
+    }
+
+    /// The layout.
+    pub fn layout(&self) -> &Layout
+        ensures { result.now ≡ self.now.layout }
+    {
+        &self.layout
+    }
+
+    /// The order of the kernel's block that starts at a frame; none where no such block does.
+    pub fn kernel_at(&self, frame: Frame) -> Option<Order>
+        ensures { result ≡ kernel_order self.now.memory frame }
+    {
+        self.kernel.get(frame.0 as usize).copied().flatten()
+    }
+
+    /// The kind of a pageblock; none for a pageblock that isn't in the layout.
+    pub fn kind(&self, pageblock: Pageblock) -> Option<Kind>
+        ensures { result ≡ slice_get self.now.memory.free.areas.kinds pageblock }
+    {
+        self.free.areas().kinds().get(pageblock.0 as usize).copied()
+    }
+
+    /// The row of a memory block; none for a block that isn't in the layout.
+    pub fn row(&self, block: Block) -> Option<Row>
+        ensures { result ≡ slice_get self.now.memory.blocks.rows block }
+    {
+        self.blocks.row(block)
+    }
+
+    /// What a memory block that is added becomes at once.
+    pub fn auto(&self) -> Auto
+        ensures { result ≡ self.now.memory.blocks.auto }
+    {
+        self.blocks.auto()
+    }
+
+    /// The free blocks of 2^order frames of a class, front first; none past the greatest order.
+    pub fn list(&self, class: Class, order: Order) -> &[Frame]
+        ensures { result.now ≡ free_list self.now.memory.free.areas class order }
+    {
+        self.free.areas().free_list(class, order)
+    }
+
+    /// A processor's list of a pool, front first; none for a processor that isn't in the layout.
+    pub fn cpu_list(&self, cpu: Cpu, pool: Pool) -> &[Frame]
+        ensures { result.now ≡ cached_list self.now.memory.free cpu pool }
+    {
+        self.free.cached_list(cpu, pool)
+    }
+
+    /// The frame that holds an owner's page; none where the page isn't mapped.
+    pub fn frame_at(&self, owner: Owner, page: Page) -> Option<Frame>
+        ensures { result ≡ frame_at self.now.memory.pages owner page }
+    {
+        self.pages.frame_at(owner, page)
+    }
+
+    /// The words of an owner's page; none where the page isn't mapped.
+    pub fn words(&self, owner: Owner, page: Page) -> Option<&[u64]>
+        ensures { option_map (λ words. words.now) result ≡ words_at self.now.memory.pages owner page }
+    {
+        self.pages.words_at(owner, page)
+    }
+}

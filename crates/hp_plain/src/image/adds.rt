@@ -1,0 +1,95 @@
+//! Single parts of a state are set.
+ghost use Rattle.std.specs.Prelude.{◌≡◌, OnErr, OnOk};
+ghost use Rattle.hp_plain.specs.Image.{IsPartOf, with_part};
+ghost use Rattle.hp_plain.specs.declared.parts.Part.TheVariants.{Free, Cached, Mapped, Kernel, Kind as KindOf, Row as RowOf, Auto as AutoOf};
+
+use super::Image;
+use hp_units::{
+    Auto, Block, Class, Cpu, Frame, Kind, Order, Owner, Page, Pageblock, Pool, Row, Words,
+};
+use std::alloc::AllocError;
+
+impl Image {
+    /// A free block at the back of its list.
+    pub(super) fn add_free(
+        &mut self,
+        class: Class,
+        order: Order,
+        frame: Frame,
+    ) -> Result<(), AllocError>
+        requires { IsPartOf self.old.layout (Free class order frame) }
+        ensures ok { OnOk result (self.new ≡ record self.old { memory = with_part self.old.memory (Free class order frame) }) }
+        ensures err { OnErr result (self.new ≡ self.old) }
+    {
+        self.free.add_free(&self.layout, class, order, frame)
+    }
+
+    /// A single frame at the back of a processor's list.
+    pub(super) fn add_cached(
+        &mut self,
+        cpu: Cpu,
+        pool: Pool,
+        frame: Frame,
+    ) -> Result<(), AllocError>
+        requires { IsPartOf self.old.layout (Cached cpu pool frame) }
+        ensures ok { OnOk result (self.new ≡ record self.old { memory = with_part self.old.memory (Cached cpu pool frame) }) }
+        ensures err { OnErr result (self.new ≡ self.old) }
+    {
+        self.free.add_cached(&self.layout, cpu, pool, frame)
+    }
+
+    /// An owner's page.
+    pub(super) fn add_mapped(
+        &mut self,
+        owner: Owner,
+        page: Page,
+        frame: Frame,
+        words: Words,
+    ) -> Result<(), AllocError>
+        requires { IsPartOf self.old.layout (Mapped owner page frame words) }
+        ensures ok { OnOk result (self.new ≡ record self.old { memory = with_part self.old.memory (Mapped owner page frame words) }) }
+        ensures err { OnErr result (self.new ≡ self.old) }
+    {
+        self.pages.map(owner, page, frame, words);
+        Ok(())
+    }
+
+    /// A block of the kernel.
+    pub(super) fn add_kernel(&mut self, frame: Frame, order: Order) -> Result<(), AllocError>
+        requires { IsPartOf self.old.layout (Kernel frame order) }
+        ensures ok { OnOk result (self.new ≡ record self.old { memory = with_part self.old.memory (Kernel frame order) }) }
+        ensures err { OnErr result (self.new ≡ self.old) }
+    {
+        self.kernel[frame.0 as usize] = Some(order);
+        Ok(())
+    }
+
+    /// The kind of a pageblock.
+    pub(super) fn add_kind(&mut self, pageblock: Pageblock, kind: Kind) -> Result<(), AllocError>
+        requires { IsPartOf self.old.layout (KindOf pageblock kind) }
+        ensures ok { OnOk result (self.new ≡ record self.old { memory = with_part self.old.memory (KindOf pageblock kind) }) }
+        ensures err { OnErr result (self.new ≡ self.old) }
+    {
+        self.free.set_kind(pageblock, kind);
+        Ok(())
+    }
+
+    /// The row of a memory block.
+    pub(super) fn add_row(&mut self, block: Block, row: Row) -> Result<(), AllocError>
+        requires { IsPartOf self.old.layout (RowOf block row) }
+        ensures ok { OnOk result (self.new ≡ record self.old { memory = with_part self.old.memory (RowOf block row) }) }
+        ensures err { OnErr result (self.new ≡ self.old) }
+    {
+        self.blocks.set_row(block, row);
+        Ok(())
+    }
+
+    /// What a block that is added becomes.
+    pub(super) fn add_auto(&mut self, auto: Auto) -> Result<(), AllocError>
+        ensures ok { OnOk result (self.new ≡ record self.old { memory = with_part self.old.memory (AutoOf auto) }) }
+        ensures err { OnErr result (self.new ≡ self.old) }
+    {
+        self.blocks.set_auto(auto);
+        Ok(())
+    }
+}

@@ -1,0 +1,45 @@
+//! Many lists of frames: new ones, equal ones, and whether they are the same.
+ghost use Rattle.std.specs.Prelude.{◌≡◌, ◌≢◌, [], replicate, IfOk, MatchBool};
+
+use super::FrameList;
+use std::alloc::{AllocError, Global};
+
+/// So many lists without frames.
+pub(crate) fn empty_lists(alloc: Global, count: usize) -> Result<Vec<FrameList>, AllocError>
+    ensures { IfOk result (λ lists. lists.items ≡ replicate count []) }
+{
+    let mut lists = Vec::new(alloc);
+    for _number in 0..count {
+        lists.push(FrameList::new(alloc))?;
+    }
+    Ok(lists)
+}
+
+/// Equal lists.
+pub(crate) fn copy_of_lists(
+    alloc: Global,
+    lists: &[FrameList],
+) -> Result<Vec<FrameList>, AllocError>
+    ensures { IfOk result (λ copy. copy.items ≡ lists.now) }
+{
+    let mut copy = Vec::new(alloc);
+    for list in lists {
+        copy.push(list.copy(alloc)?)?;
+    }
+    Ok(copy)
+}
+
+/// Whether the lists are the same.
+pub(crate) fn same_lists(lists: &[FrameList], others: &[FrameList]) -> bool
+    ensures { MatchBool result (lists.now ≡ others.now) (lists.now ≢ others.now) }
+{
+    if lists.len() != others.len() {
+        return false;
+    }
+    for number in 0..lists.len() {
+        if !lists[number].same(&others[number]) {
+            return false;
+        }
+    }
+    true
+}

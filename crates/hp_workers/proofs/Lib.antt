@@ -1,0 +1,11 @@
+pub mod AllHandled
+pub mod Each
+pub mod Json
+pub mod LineLaw
+pub mod LineLoop
+pub mod LinesRead
+pub mod LinesSpelled
+pub mod Parsed
+pub mod PlanItems
+pub mod Spelled
+pub mod WordsSpelled

@@ -1,0 +1,10 @@
+pub mod Form
+pub mod Gives
+pub mod Handled
+pub mod Lines
+pub mod Names
+pub mod Numbers
+pub mod Scenario
+pub mod Seen
+pub mod Spelling
+pub mod Words
