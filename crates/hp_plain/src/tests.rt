@@ -48,24 +48,26 @@ fn boot_puts_pageblocks_on_their_lists(rt: HostRuntime) -> Result<(), Fail> {
 }
 
 #[test]
-fn the_kernel_takes_a_single_frame(rt: HostRuntime) -> Result<(), Fail> {
+fn the_kernel_takes_and_gives_a_frame(rt: HostRuntime) -> Result<(), Fail> {
     let layout = small(rt.alloc())?;
     let mut image = Image::boot(rt.alloc(), &layout)?;
-    let take = Event::KernelAlloc { order: Order(0) };
-    let reply = image.step(rt.alloc(), Serial(1), Cpu(0), &take)?;
-    assert_eq!(rt; reply, Reply::Frame(Frame(0)));
-    assert_eq!(rt; image.kernel_at(Frame(0)), Some(Order(0)));
-    Ok(())
-}
-
-#[test]
-fn a_freed_frame_goes_to_the_list(rt: HostRuntime) -> Result<(), Fail> {
-    let layout = small(rt.alloc())?;
-    let mut image = Image::boot(rt.alloc(), &layout)?;
-    let take = Event::KernelAlloc { order: Order(0) };
-    let give = Event::KernelFree { frame: Frame(0) };
-    image.step(rt.alloc(), Serial(1), Cpu(0), &take)?;
-    image.step(rt.alloc(), Serial(2), Cpu(1), &give)?;
+    let cases = [
+        (
+            0,
+            Event::KernelAlloc { order: Order(0) },
+            Reply::Frame(Frame(0)),
+        ),
+        (1, Event::KernelFree { frame: Frame(0) }, Reply::Done),
+        (
+            1,
+            Event::KernelFree { frame: Frame(0) },
+            Reply::Refused(Refusal::NotKernel),
+        ),
+    ];
+    for (cpu, event, wanted) in &cases {
+        let reply = image.step(rt.alloc(), Serial(1), Cpu(*cpu), event)?;
+        assert_eq!(rt; reply, *wanted);
+    }
     assert_eq!(rt; image.cpu_list(Cpu(1), Pool::Nu), [Frame(0)].as_slice());
     Ok(())
 }
