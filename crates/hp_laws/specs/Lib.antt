@@ -1,1 +1,3 @@
--- none
+pub mod Operations
+pub mod Consequences
+pub mod Offline

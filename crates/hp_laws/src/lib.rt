@@ -1,7 +1,21 @@
-//! Laws of the definitions, over all histories: what an undo and a restoring Cancel leave, and how each earlier state is
-//! reached.
+//! Laws of the definitions, over all histories: what an undo and a restoring Cancel leave, how each earlier state is
+//! reached, that each frame stays in one place, what the pages hold, which frames are handed out, and how operations go.
 #![tactic(auto)]
 
+mod consequences;
+mod handed;
 mod laws;
+mod offline;
+mod operations;
+mod placement;
 
+pub use consequences::{
+    cached_frames_lie_in_zone, commits_need_free_frames, frames_in_use_have_zone, lists_are_short,
+};
+pub use handed::handed_frames_are_plugged;
 pub use laws::{earlier_states, restored_state, undone_state};
+pub use offline::{operations_are_numbered, undisturbed_offline_commits};
+pub use operations::{cancels_give_rows_back, commits_grant_wishes, operations_hold_their_rows};
+pub use placement::{
+    boot_is_well_placed, contents_follow_net, histories_keep_placement, steps_keep_placement,
+};

@@ -1,0 +1,214 @@
+-- The answer to a Commit, and the lowest frame that it names.
+use Rattle.std.proofs.Common.{IsSome, ◌≡◌, ℕ, zero, suc, ◌+◌, ◌*◌, ◌/◌, ◌^◌, ◌<◌, ◌≤◌, List, [], ◌∷◌, ◌++◌, length, get_or, Bool, true, false, not, cond, Option, Some, None, refl, sym, ◌∙◌, ap, subst, arith, ◌⊎◌, ◌↔◌, inl, inr, ◌||◌, eqb-true, ◌==◌}
+use Rattle.std.specs.Prelude.{filter, find, flat_map, is_none, nat_le, unwrap_or}
+use Rattle.std.specs.Bool.{then_some}
+use Rattle.std.specs.List.{list_all, list_any, range_with_len}
+use Rattle.std.specs.Option.{option_map, option_map_or}
+use Rattle.std.proofs.lemmas.Bool.{and_from, both_ways, cases_lt, false_from_ne_true, lt-leb, not-false, or_cases, or_left}
+use Rattle.std.proofs.lemmas.List.{get_or_past}
+use Rattle.std.proofs.lemmas.List.Folds.{list_any-append}
+use Rattle.std.proofs.lemmas.Nat.{div-add-mod', mul-le, pow_pos, shl-shr}
+use Rattle.std.proofs.Math.Nat.{lt-div-mul-add}
+use Rattle.hp_units.specs.declared.rows.Class.{Class}
+use Rattle.hp_units.specs.declared.rows.Class.TheVariants.{Nu, Nm, Mm, IsoN, IsoM}
+use Rattle.hp_units.specs.declared.rows.Kind.{Kind}
+use Rattle.hp_units.specs.declared.rows.Row.{Row}
+use Rattle.hp_units.specs.declared.rows.Zone.{Zone}
+use Rattle.hp_units.specs.declared.rows.Zone.TheVariants.{Normal as NormalZone}
+use Rattle.hp_units.specs.LayoutParts.{LayoutParts, IsLayout}
+use Rattle.hp_units.specs.Arithmetic.{all_blocks, ancestor, block_of, block_of_pageblock, block_size, frames_of_block, pageblock_of, pageblocks_of}
+use Rattle.hp_units.specs.Choices.{first_some}
+use Rattle.hp_units.specs.Memory.{FreeAreas, Memory, free_list, isolated_class, offline_row, row_of, usable_class}
+use Rattle.hp_units.specs.FreeAreas.{class_of_kind, is_on}
+use Rattle.hp_units.specs.Refusals.{frame_in_use, is_all_free, is_free_start, is_in_free_block, refusal_of}
+use Rattle.hp_units.specs.Rows.{blocks_of, going_blocks, is_claimed_by, is_going, is_live, zone_of_block}
+use Rattle.hp_units.specs.Step.{Answered, answer, step}
+use Rattle.hp_units.specs.Placement.{IsWellPlaced, class_at, free_places, kind_at, row_at}
+use Rattle.hp_laws.specs.Consequences.{IsFrameOf, IsGoingFor, IsFrameInUse, IsInFreeBlock, IsLowestInUse}
+use Rattle.hp_laws.proofs.Names.{Commit, Done, NoCpu, NoOp, NotFree, Refused, Reply}
+use Rattle.hp_laws.proofs.Ordered.{AreOrdered}
+use Rattle.hp_laws.proofs.Options.{found_passes}
+use Rattle.hp_laws.proofs.Geometry.{multiple, multiple_aligned}
+use Rattle.hp_laws.proofs.FrameLists.{list_places-le, on_cases, on_tail}
+use Rattle.hp_laws.proofs.Areas.{has_order, on_free}
+use Rattle.hp_laws.proofs.States.{areas_of, block_of-pageblock}
+use Rattle.hp_laws.proofs.Onlines.{quotient}
+use Rattle.hp_laws.proofs.Pageblocks.{IsInRange, on_filter, on_range}
+use Rattle.hp_laws.proofs.Isolations.{pageblock_range, some_pageblocks}
+use Rattle.hp_laws.proofs.Claims.{going_zone}
+use Rattle.hp_laws.proofs.Commits.{filter_on, list_all_on, range_on}
+use Rattle.hp_laws.proofs.ConsequencesBlocks.{on_head}
+use Rattle.hp_laws.proofs.ConsequencesCommits.{all_free-none, claimed_live, found_in_use, going_frame, going_frames, none_in_use, tested_block}
+
+-- ---- the answer to a Commit
+
+-- by the frame that is found, and whether the operation is live
+abbrev pub IsCommitReply : Option ℕ → Bool → Reply → Type 0
+IsCommitReply (Some frame) live reply = reply ≡ Refused (NotFree frame)
+IsCommitReply None true reply = reply ≡ Done
+IsCommitReply None false reply = reply ≡ Refused NoOp
+
+pub commit_reply : (l : LayoutParts) (s : Memory) (serial cpu op : ℕ) → IsLayout l → IsWellPlaced l s → cpu < l.cpus → IsCommitReply (frame_in_use l s op) (is_live s.blocks op) (step l s serial cpu (Commit op)).reply
+unfolding step refusal_of
+commit_reply l s serial cpu op layout p low =
+    by_tests (nat_le l.cpus cpu) (is_live s.blocks op) (list_all (is_all_free l s) (going_blocks l s.blocks op)) (frame_in_use l s op) (lt-leb l.cpus cpu low) (all_free-none l s op layout p)
+    (λ frame e. (let h = found_in_use l s op frame p e in claimed_live s.blocks.rows op (block_of l frame) h.going.claimed))
+  where
+    by_tests : (bad live all : Bool) (o : Option ℕ) → bad ≡ false → all ≡ is_none o → ((frame : ℕ) → o ≡ Some frame → live ≡ true)
+        → IsCommitReply o live (answer l s serial cpu (Commit op) (first_some (then_some bad NoCpu ∷ then_some (not live) NoOp ∷ then_some (not all) (NotFree (unwrap_or o 0)) ∷ []))).reply
+    by_tests true live all o e f g = cc
+    by_tests false true true None e f g = refl
+    by_tests false true false None e f g = cc
+    by_tests false false all None e f g = refl
+    by_tests false true true (Some frame) e f g = cc
+    by_tests false true false (Some frame) e f g = refl
+    by_tests false false all (Some frame) e f g = absurd (both_ways false refl (g frame refl))
+
+-- ---- the lowest frame
+
+-- the numbers of a list rise, from one on
+abbrev IsRising : ℕ → List ℕ → Type 0
+IsRising low [] = Unit {0}
+IsRising low (x ∷ xs) = (low ≤ x) × IsRising (x + 1) xs
+
+rising_low : (low more : ℕ) (xs : List ℕ) → low ≤ more → IsRising more xs → IsRising low xs
+rising_low low more [] le h = tt
+rising_low low more (x ∷ xs) le h = (omega (arith, h.0), h.1)
+
+rising_on : (low x : ℕ) (xs : List ℕ) → IsRising low xs → is_on x xs ≡ true → low ≤ x
+rising_on low x [] h on = cc
+rising_on low x (y ∷ ys) h on = elim (on_cases x y ys on) [
+  | inl same ↦ omega (arith, h.0)
+  | inr there ↦ omega (arith, h.0, rising_on (y + 1) x ys h.1 there)
+]
+
+rising_range : (from count : ℕ) → IsRising from (range_with_len from count)
+rising_range from zero = tt
+rising_range from (suc count) = (omega arith, rising_range (from + 1) count)
+
+rising_filter : (p : ℕ → Bool) (low : ℕ) (xs : List ℕ) → IsRising low xs → IsRising low (filter p xs)
+rising_filter p low [] h = tt
+rising_filter p low (x ∷ xs) h = by_test (p x) h.0 (rising_filter p (x + 1) xs h.1)
+  where
+    by_test : (b : Bool) → low ≤ x → IsRising (x + 1) (filter p xs) → IsRising low (cond b (x ∷ filter p xs) (filter p xs))
+    by_test true le rest = (le, rest)
+    by_test false le rest = rising_low low (x + 1) (filter p xs) (omega arith) rest
+
+rising_append : (low middle : ℕ) (xs ys : List ℕ) → IsRising low xs → ((x : ℕ) → is_on x xs ≡ true → x < middle) → low ≤ middle → IsRising middle ys → IsRising low (xs ++ ys)
+rising_append low middle [] ys h below le k = rising_low low middle ys le k
+rising_append low middle (x ∷ xs) ys h below le k =
+    (h.0, rising_append (x + 1) middle xs ys h.1 (λ y on. below y (on_tail y x xs on)) (omega (arith, below x (on_head x xs))) k)
+
+rising_blocks : (l : LayoutParts) (low : ℕ) (blocks : List ℕ) → IsRising low blocks → IsRising (low * block_size l) (flat_map (frames_of_block l) blocks)
+rising_blocks l low [] h = tt
+rising_blocks l low (b ∷ bs) h =
+    let size : ℕ = block_size l in
+    let le : low * size ≤ b * size = mul-le low size b size h.0 (omega arith) in
+    let next : (b + 1) * size ≡ b * size + size = grind arith in
+    rising_append (low * size) ((b + 1) * size) (frames_of_block l b) (flat_map (frames_of_block l) bs)
+    (rising_low (low * size) (b * size) (frames_of_block l b) le (rising_range (b * size) size))
+    (λ x on. omega (arith, next, (on_range x (b * size) size on).high)) (omega (arith, next)) (rising_blocks l (b + 1) bs h.1)
+
+find_lowest : (p : ℕ → Bool) (low x y : ℕ) (xs : List ℕ) → IsRising low xs → find p xs ≡ Some x → is_on y xs ≡ true → p y ≡ true → x ≤ y
+find_lowest p low x y [] h e on passes = cc
+find_lowest p low x y (z ∷ zs) h e on passes = by_test (p z) refl e (λ f there. find_lowest p (z + 1) x y zs h.1 f there passes)
+  where
+    by_test : (b : Bool) → p z ≡ b → cond b (Some z) (find p zs) ≡ Some x → (find p zs ≡ Some x → is_on y zs ≡ true → x ≤ y) → x ≤ y
+    by_test true is f later =
+        let same : z ≡ x = cc in
+        elim (on_cases y z zs on) [
+          | inl here ↦ omega arith
+          | inr there ↦ omega (arith, rising_on (z + 1) y zs h.1 there)
+        ]
+    by_test false is f later = elim (on_cases y z zs on) [
+      | inl here ↦ absurd (both_ways (p z) is (subst (λ (n : ℕ). p n ≡ true) (sym here) passes))
+      | inr there ↦ later f there
+    ]
+
+still_true : (b : Bool) → (b ≡ true → ⊥) → not b ≡ true
+still_true true h = absurd (h refl)
+still_true false h = refl
+
+-- the frame that is found is the lowest in use
+pub found_lowest : (l : LayoutParts) (s : Memory) (op frame : ℕ) → IsLayout l → IsWellPlaced l s → frame_in_use l s op ≡ Some frame → IsLowestInUse l s op frame
+found_lowest l s op frame layout p e = record {
+  here = found_in_use l s op frame p e;
+  lowest = λ other h. find_lowest (λ (f : ℕ). not (is_in_free_block l s.free.areas f)) (0 * block_size l) frame other (going_frames l s op)
+      (rising_blocks l 0 (going_blocks l s.blocks op) (rising_filter (λ (b : ℕ). is_going (row_of s.blocks b)) 0 (blocks_of l s.blocks op)
+      (rising_filter (λ (b : ℕ). is_claimed_by op (row_of s.blocks b)) 0 (all_blocks l) (rising_range 0 l.blocks)))) e
+      (going_frame l s op other layout p h.going) (still_true (is_in_free_block l s.free.areas other) (λ t. h.not_free (tested_block l s.free.areas other t)));
+}
+
+-- where a frame is in use, one is found
+pub in_use_found : (l : LayoutParts) (s : Memory) (op frame : ℕ) → IsLayout l → IsWellPlaced l s → IsFrameInUse l s op frame → (found : ℕ) × (frame_in_use l s op ≡ Some found)
+in_use_found l s op frame layout p h = by_found (frame_in_use l s op) refl
+  where
+    by_found : (o : Option ℕ) → frame_in_use l s op ≡ o → (found : ℕ) × (frame_in_use l s op ≡ Some found)
+    by_found None e = absurd (h.not_free (none_in_use l s op frame layout p e h.going))
+    by_found (Some found) e = (found, e)
+
+pub lowest_found : (l : LayoutParts) (s : Memory) (op frame : ℕ) → IsLayout l → IsWellPlaced l s → IsLowestInUse l s op frame → frame_in_use l s op ≡ Some frame
+lowest_found l s op frame layout p h =
+    let found = in_use_found l s op frame layout p h.here in
+    let least = found_lowest l s op found.0 layout p found.1 in
+    let low : found.0 ≤ frame = least.lowest frame h.here in
+    let high : frame ≤ found.0 = h.lowest found.0 least.here in
+    let same : found.0 ≡ frame = omega arith in
+    found.1 ∙ ap (λ (n : ℕ). Some n) same
+
+-- ---- which Commit is refused, and which is done
+
+reply_found : (o : Option ℕ) (live : Bool) (reply : Reply) (frame : ℕ) → IsCommitReply o live reply → reply ≡ Refused (NotFree frame) → o ≡ Some frame
+reply_found (Some found) live reply frame is e = cc
+reply_found None true reply frame is e = cc
+reply_found None false reply frame is e = cc
+
+found_reply : (o : Option ℕ) (live : Bool) (reply : Reply) (frame : ℕ) → IsCommitReply o live reply → o ≡ Some frame → reply ≡ Refused (NotFree frame)
+found_reply (Some found) live reply frame is e = cc
+found_reply None live reply frame is e = cc
+
+-- it is refused exactly where a frame is in use, and names the lowest
+pub commit_refused : (l : LayoutParts) (s : Memory) (serial cpu op frame : ℕ) → IsLayout l → IsWellPlaced l s → cpu < l.cpus
+    → ((step l s serial cpu (Commit op)).reply ≡ Refused (NotFree frame)) ↔ IsLowestInUse l s op frame
+commit_refused l s serial cpu op frame layout p low =
+    let reply : Reply = (step l s serial cpu (Commit op)).reply in
+    let is : IsCommitReply (frame_in_use l s op) (is_live s.blocks op) reply = commit_reply l s serial cpu op layout p low in (
+      λ e. found_lowest l s op frame layout p (reply_found (frame_in_use l s op) (is_live s.blocks op) reply frame is e),
+      λ h. found_reply (frame_in_use l s op) (is_live s.blocks op) reply frame is (lowest_found l s op frame layout p h),
+    )
+
+pub commit_some : (l : LayoutParts) (s : Memory) (serial cpu op : ℕ) → IsLayout l → IsWellPlaced l s → cpu < l.cpus
+    → ((frame : ℕ) × ((step l s serial cpu (Commit op)).reply ≡ Refused (NotFree frame))) ↔ ((frame : ℕ) × IsFrameInUse l s op frame)
+commit_some l s serial cpu op layout p low = (
+  λ e. (e.0, ((commit_refused l s serial cpu op e.0 layout p low).0 e.1).here),
+  λ h. (let found = in_use_found l s op h.0 layout p h.1 in (found.0, (commit_refused l s serial cpu op found.0 layout p low).1 (found_lowest l s op found.0 layout p found.1))),
+)
+
+reply_done : (o : Option ℕ) (live : Bool) (reply : Reply) → IsCommitReply o live reply → reply ≡ Done → (live ≡ true) × (o ≡ None)
+reply_done (Some found) live reply is e = absurd (no_refusal (sym is ∙ e))
+  where
+    no_refusal : Refused (NotFree found) ≡ Done → ⊥
+    no_refusal e = cc
+reply_done None true reply is e = (refl, refl)
+reply_done None false reply is e = absurd (no_refusal (sym is ∙ e))
+  where
+    no_refusal : Refused NoOp ≡ Done → ⊥
+    no_refusal e = cc
+
+done_reply : (o : Option ℕ) (live : Bool) (reply : Reply) → IsCommitReply o live reply → live ≡ true → ((frame : ℕ) → o ≡ Some frame → ⊥) → reply ≡ Done
+done_reply (Some found) live reply is e none = absurd (none found refl)
+done_reply None true reply is e none = is
+done_reply None false reply is e none = cc
+
+-- it is done exactly where the operation is live and no frame is in use
+pub commit_done : (l : LayoutParts) (s : Memory) (serial cpu op : ℕ) → IsLayout l → IsWellPlaced l s → cpu < l.cpus
+    → ((step l s serial cpu (Commit op)).reply ≡ Done) ↔ ((is_live s.blocks op ≡ true) × ((frame : ℕ) → IsFrameInUse l s op frame → ⊥))
+commit_done l s serial cpu op layout p low =
+    let reply : Reply = (step l s serial cpu (Commit op)).reply in
+    let is : IsCommitReply (frame_in_use l s op) (is_live s.blocks op) reply = commit_reply l s serial cpu op layout p low in (
+      λ e. (let done = reply_done (frame_in_use l s op) (is_live s.blocks op) reply is e in (done.0, λ frame h. (let found = in_use_found l s op frame layout p h in none_some (sym done.1 ∙ found.1)))),
+      λ h. done_reply (frame_in_use l s op) (is_live s.blocks op) reply is h.0 (λ frame e. h.1 frame (found_in_use l s op frame p e)),
+    )
+  where
+    none_some : {found : ℕ} → None ≡ Some found → ⊥
+    none_some e = cc

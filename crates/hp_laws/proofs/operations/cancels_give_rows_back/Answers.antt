@@ -1,0 +1,6 @@
+-- A restoring Cancel leads back to the state before the Begin, and a release takes each claim off again.
+use Rattle.hp_laws.proofs.OperationLaws.{given_back}
+use Rattle.hp_laws.proofs.operations.cancels_give_rows_back.Goals as goal
+
+pub returns : goal.returns
+returns c l base before h r place b plan layout p legal at is good = given_back l base before h r place b plan layout p legal at is good
