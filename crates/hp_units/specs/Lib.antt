@@ -4,7 +4,6 @@ pub mod Choices
 pub mod Contents
 pub mod Driver
 pub mod FreeAreas
-pub mod Handled
 pub mod History
 pub mod InLayout
 pub mod Isolation
@@ -12,6 +11,7 @@ pub mod LayoutParts
 pub mod Marks
 pub mod Memory
 pub mod Names
+pub mod NumberWords
 pub mod Pages
 pub mod PartsSeen
 pub mod Placement

@@ -5,6 +5,7 @@
 pub mod events;
 pub mod layouts;
 pub mod marks;
+pub mod number_words;
 pub mod numbers;
 pub mod plans;
 pub mod replies;
@@ -14,7 +15,8 @@ pub mod texts;
 
 pub use events::Event;
 pub use layouts::{Layout, LayoutFault, Parts, block_of, buddy, pageblock_of};
-pub use marks::{Mark, Tag, is_handled, is_step, mark_of};
+pub use marks::{Mark, Tag, is_step, mark_of};
+pub use number_words::{number32, number64, numbers_are_spelled};
 pub use numbers::{Block, Cpu, Frame, Order, Owner, Page, Pageblock, Serial};
 pub use plans::{Item, Plan, Words};
 pub use replies::{CallFault, OpEnd, Receipt, Record, Refusal, Reply};

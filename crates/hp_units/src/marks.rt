@@ -1,6 +1,5 @@
 //! What undo and Cancel have to know of a step.
 ghost use Rattle.std.specs.Prelude.{◌≡◌, ◌&&◌, not};
-ghost use Rattle.hp_units.specs.Handled.{is_handled};
 ghost use Rattle.hp_units.specs.History.{is_look, is_refused};
 ghost use Rattle.hp_units.specs.Marks.{mark_of};
 
@@ -46,14 +45,4 @@ pub fn is_step(event: &Event, reply: &Reply) -> bool
     ensures { result ≡ (not (is_refused reply.now) && not (is_look event.now)) }
 {
     !matches!(reply, Reply::Refused(_)) && !matches!(event, Event::Read { .. })
-}
-
-/// Whether the machine answers an event so far.
-pub fn is_handled(event: &Event) -> bool
-    ensures { result ≡ is_handled event.now }
-{
-    matches!(
-        event,
-        Event::KernelAlloc { .. } | Event::KernelFree { .. } | Event::UndoAfter { .. }
-    )
 }

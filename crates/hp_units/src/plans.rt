@@ -1,5 +1,5 @@
 //! Plans, and the words of a page. A contract sees each as a list.
-ghost use Rattle.std.specs.Prelude.{◌≡◌, ◌↔◌, IfOk, IsTrue};
+ghost use Rattle.std.specs.Prelude.{◌≡◌, ◌↔◌, ◌<◌, IfOk, IsTrue, length, slice_set};
 
 use crate::numbers::Block;
 use crate::rows::Wish;
@@ -110,6 +110,14 @@ impl Words {
         self.words.as_slice()
     }
 
+    /// Changes one word, counted from 0 and below the number of words.
+    pub fn set(&mut self, index: u32, value: u64)
+        requires { index < length self.old }
+        ensures { self.new ≡ slice_set self.old index value }
+    {
+        self.words[index as usize] = value;
+    }
+
     /// Equal words.
     pub fn copy(&self, alloc: Global) -> Result<Words, AllocError>
         ensures { IfOk result (λ words. words ≡ self.now) }
@@ -122,6 +130,6 @@ impl Words {
     pub fn same(&self, other: &Words) -> bool
         ensures { IsTrue result ↔ (self.now ≡ other.now) }
     {
-        self.words.as_slice() == other.words.as_slice()
+        self.as_slice() == other.as_slice()
     }
 }

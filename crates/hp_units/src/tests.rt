@@ -156,9 +156,10 @@ fn copies_are_the_same(rt: HostRuntime) -> Result<(), Fail> {
     };
     assert!(rt; event.same(&event.copy(rt.alloc())?));
     assert!(rt; !plan.same(&Plan::new(Vec::new(rt.alloc()))));
-    let words = Words::new(vec![in rt.alloc(); 7, 9]?);
+    let mut words = Words::new(vec![in rt.alloc(); 7, 9]?);
+    words.set(1, 8);
     assert!(rt; words.same(&words.copy(rt.alloc())?));
-    assert_eq!(rt; words.as_slice().len(), 2);
+    assert_eq!(rt; words.as_slice(), [7, 8].as_slice());
     let text = Text::new(String::from_str(rt.alloc(), "db")?);
     assert_eq!(rt; text.copy(rt.alloc())?.as_str(), "db");
     Ok(())
@@ -171,7 +172,6 @@ fn marks_of_events(rt: HostRuntime) -> Result<(), Fail> {
     assert_eq!(rt; mark_of(&Event::Commit { op }), Mark::Other);
     assert!(rt; is_step(&Event::Commit { op }, &Reply::Done));
     assert!(rt; !is_step(&Event::Commit { op }, &Reply::Refused(Refusal::NoOp)));
-    assert!(rt; is_handled(&Event::UndoAfter { serial: op }));
     Ok(())
 }
 
@@ -196,5 +196,23 @@ fn words_are_written(rt: HostRuntime) -> Result<(), Fail> {
         "{block}{cpu}{order}{page}{pageblock}{serial} {call} {layout}"
     )?;
     assert_eq!(rt; text.as_str(), "123456 HistoryFull BadMarks");
+    Ok(())
+}
+
+#[test]
+fn numbers_are_read(rt: HostRuntime) -> Result<(), Fail> {
+    let words = [
+        ("0", Some(0)),
+        ("4294967295", Some(u32::MAX)),
+        ("4294967296", None),
+        ("07", None),
+        ("+7", None),
+        ("", None),
+    ];
+    for (word, number) in words {
+        assert_eq!(rt; number32(word), number, "{word}");
+    }
+    assert_eq!(rt; number64("18446744073709551615"), Some(u64::MAX));
+    assert_eq!(rt; number64("18446744073709551616"), None);
     Ok(())
 }

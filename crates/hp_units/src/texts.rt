@@ -13,8 +13,8 @@ impl fmt::Display for Block {
     ghost output = { λ n. Some (decimal n) };
 
     fn fmt<W: fmt::Write>(&self, f: &mut fmt::Formatter<W>) -> fmt::Result {
-        let number = self.0;
-        write!(f, "{number}")
+        let block = self.0;
+        write!(f, "{block}")
     }
 }
 
@@ -24,8 +24,8 @@ impl fmt::Display for Cpu {
     ghost output = { λ n. Some (decimal n) };
 
     fn fmt<W: fmt::Write>(&self, f: &mut fmt::Formatter<W>) -> fmt::Result {
-        let number = self.0;
-        write!(f, "{number}")
+        let cpu = self.0;
+        write!(f, "{cpu}")
     }
 }
 
@@ -35,8 +35,8 @@ impl fmt::Display for Frame {
     ghost output = { λ n. Some (decimal n) };
 
     fn fmt<W: fmt::Write>(&self, f: &mut fmt::Formatter<W>) -> fmt::Result {
-        let number = self.0;
-        write!(f, "{number}")
+        let frame = self.0;
+        write!(f, "{frame}")
     }
 }
 
@@ -46,8 +46,8 @@ impl fmt::Display for Order {
     ghost output = { λ n. Some (decimal n) };
 
     fn fmt<W: fmt::Write>(&self, f: &mut fmt::Formatter<W>) -> fmt::Result {
-        let number = self.0;
-        write!(f, "{number}")
+        let order = self.0;
+        write!(f, "{order}")
     }
 }
 
@@ -57,8 +57,8 @@ impl fmt::Display for Page {
     ghost output = { λ n. Some (decimal n) };
 
     fn fmt<W: fmt::Write>(&self, f: &mut fmt::Formatter<W>) -> fmt::Result {
-        let number = self.0;
-        write!(f, "{number}")
+        let page = self.0;
+        write!(f, "{page}")
     }
 }
 
@@ -68,8 +68,8 @@ impl fmt::Display for Pageblock {
     ghost output = { λ n. Some (decimal n) };
 
     fn fmt<W: fmt::Write>(&self, f: &mut fmt::Formatter<W>) -> fmt::Result {
-        let number = self.0;
-        write!(f, "{number}")
+        let pageblock = self.0;
+        write!(f, "{pageblock}")
     }
 }
 
@@ -79,8 +79,8 @@ impl fmt::Display for Serial {
     ghost output = { λ n. Some (decimal n) };
 
     fn fmt<W: fmt::Write>(&self, f: &mut fmt::Formatter<W>) -> fmt::Result {
-        let number = self.0;
-        write!(f, "{number}")
+        let serial = self.0;
+        write!(f, "{serial}")
     }
 }
 

@@ -1,0 +1,53 @@
+-- What the calls of the layer note.
+use Rattle.std.proofs.lemmas.List.{set-set, set-get_or, length-set, get_or-set_same}
+use Rattle.std.proofs.lemmas.Option.{slice_get-get_or}
+use Rattle.hp_units.specs.Memory.{offline_row}
+use Rattle.std.proofs.Common.{◌≡◌, ℕ, ◌<◌, List, [], ◌∷◌, ◌++◌, length, Some, set, refl, ap, ◌∙◌, arith}
+use Rattle.std.specs.Prelude.{slice_get}
+use Rattle.hp_units.specs.LayoutParts.{LayoutParts}
+use Rattle.hp_units.specs.Memory.{Blocks, row_of, with_row}
+use Rattle.hp_units.specs.InLayout.{AreBlocksOf}
+use Rattle.hp_units.specs.declared.rows.Row.{Row}
+use Rattle.hp_units.specs.declared.rows.Auto.{Auto}
+use Rattle.hp_tape.specs.declared.deltas.Delta.{Delta}
+use Rattle.hp_tape.specs.declared.deltas.Delta.TheVariants.{Row as RowDelta, Auto as AutoDelta}
+use Rattle.hp_tape.specs.Tapes.{TapeValue, NotesBlocks}
+
+-- a tape by its parts
+seen_as : (was now : TapeValue) (deltas : List Delta) → now.room ≡ was.room → now.deltas ≡ was.deltas ++ deltas
+    → now ≡ record { room = was.room; deltas = was.deltas ++ deltas }
+seen_as was now deltas room noted =
+    ap (λ (r : ℕ). record now { room = r }) room ∙ ap (λ (ds : List Delta). record { room = was.room; deltas = ds }) noted
+
+-- what was set is read
+get_set : {X : Type 0} (xs : List X) (i : ℕ) (x : X) → i < length xs → slice_get (set xs i x) i ≡ Some x
+get_set xs i x lt = slice_get-get_or (set xs i x) i x (rw length-set lt) ∙ ap (λ y. Some y) (get_or-set_same xs i x x lt)
+
+-- a row was set
+pub notes-row : (l : LayoutParts) (bs : Blocks) (block : ℕ) (row : Row) (was now : TapeValue) → AreBlocksOf l bs → block < l.blocks
+    → now.room ≡ was.room → now.deltas ≡ was.deltas ++ RowDelta block (row_of bs block) row ∷ []
+    → NotesBlocks l 1 was now (with_row bs block row) bs
+notes-row l bs block row was now are lt room noted = record {
+  deltas = RowDelta block (row_of bs block) row ∷ [];
+  tape = seen_as was now _ room noted;
+  few = omega arith;
+  own = (tt, tt);
+  numbers = (lt, tt);
+  lead = record {
+    fit = (tt, get_set bs.rows block row (omega (arith, are.rows)));
+    back = ap (λ (rows : List Row). record bs { rows = rows }) (set-set bs.rows block row (row_of bs block) ∙ set-get_or bs.rows block offline_row);
+  };
+}
+
+-- what an added block becomes was set
+pub notes-auto : (l : LayoutParts) (bs : Blocks) (auto : Auto) (was now : TapeValue)
+    → now.room ≡ was.room → now.deltas ≡ was.deltas ++ AutoDelta bs.auto auto ∷ []
+    → NotesBlocks l 1 was now (record bs { auto = auto }) bs
+notes-auto l bs auto was now room noted = record {
+  deltas = AutoDelta bs.auto auto ∷ [];
+  tape = seen_as was now _ room noted;
+  few = omega arith;
+  own = (tt, tt);
+  numbers = (tt, tt);
+  lead = record { fit = (tt, refl); back = refl };
+}

@@ -1,0 +1,147 @@
+//! Rows of memory blocks.
+ghost use Rattle.std.specs.Prelude.{◌≡◌, ◌<◌, ◌≤◌, IfOk};
+ghost use Rattle.hp_units.specs.Boot.{empty_blocks};
+ghost use Rattle.hp_units.specs.InLayout.{AreBlocksOf};
+ghost use Rattle.hp_units.specs.Memory.{row_of, with_row};
+ghost use Rattle.hp_units.specs.Rows.{claimed_row, is_live};
+ghost use Rattle.hp_tape.specs.Deltas.{FitsBlocks, IsDeltaOf, blocks_undo};
+ghost use Rattle.hp_tape.specs.Tapes.{HasRoom, NotesBlocks};
+
+use hp_tape::{Delta, Tape};
+use hp_units::{Auto, Block, Claim, Layout, Row, Serial, State, Wish};
+use std::alloc::{AllocError, Global};
+use std::marker::Model;
+use std::mem::replace;
+
+/// The rows of the memory blocks of a layout, and what a block that is added becomes. No call but `new` takes memory.
+#[derive(Debug, Drop)]
+pub struct Blocks {
+    layout: Layout,
+    rows: Vec<Row>,
+    auto: Auto,
+}
+
+impl Model for Blocks {
+    ghost use Rattle.hp_units.specs.InLayout.{AreBlocksOf};
+    ghost use Rattle.hp_blocks.specs.Blocks.{BlocksValue};
+
+    ghost Value = { BlocksValue };
+
+    ghost view = { λ b. record { layout = b.layout; blocks = record { rows = b.rows.items; auto = b.auto } } };
+
+    ghost invariant = { λ b. AreBlocksOf b.layout (record { rows = b.rows.items; auto = b.auto }) };
+}
+
+impl Blocks {
+    /// The blocks of a layout, all offline, where a block that is added becomes offline (own rule).
+    pub fn new(alloc: Global, layout: &Layout) -> Result<Blocks, AllocError>
+        ensures { IfOk result (λ b. b ≡ record { layout = layout.now; blocks = empty_blocks layout.now }) }
+    {
+        let offline = Row {
+            state: State::Offline,
+            zone: None,
+            claim: None,
+        };
+        let rows = vec![in alloc; offline; layout.blocks() as usize]?;
+        Ok(Blocks {
+            layout: layout.copy(alloc)?,
+            rows,
+            auto: Auto::Offline,
+        })
+    }
+
+    /// The row of a memory block of the layout.
+    pub fn row(&self, block: Block) -> Row
+        requires { block < self.now.layout.blocks }
+        ensures row { result ≡ row_of self.now.blocks block }
+        ensures blocks { AreBlocksOf self.now.layout self.now.blocks }
+    {
+        let at = block.0 as usize;
+        self.rows[at]
+    }
+
+    /// Makes an operation hold a memory block of the layout; with wish Off the block is going (Linux guide: offlining; own rule).
+    /// One delta.
+    pub fn claim(&mut self, block: Block, op: Serial, wish: Wish, tape: &mut Tape)
+        requires block { block < self.old.layout.blocks }
+        requires room { HasRoom tape.old 1 }
+        ensures claimed { self.new.blocks ≡ with_row self.old.blocks block (claimed_row (row_of self.old.blocks block) op wish) }
+        ensures layout { self.new.layout ≡ self.old.layout }
+        ensures notes { NotesBlocks self.old.layout 1 tape.old tape.new self.new.blocks self.old.blocks }
+    {
+        let row = self.row(block);
+        self.set(block, claimed(row, op, wish), tape);
+    }
+
+    /// Gives a memory block of the layout another row. One delta.
+    pub fn set(&mut self, block: Block, row: Row, tape: &mut Tape)
+        requires block { block < self.old.layout.blocks }
+        requires room { HasRoom tape.old 1 }
+        ensures set { self.new.blocks ≡ with_row self.old.blocks block row }
+        ensures layout { self.new.layout ≡ self.old.layout }
+        ensures notes { NotesBlocks self.old.layout 1 tape.old tape.new self.new.blocks self.old.blocks }
+    {
+        let was = self.row(block);
+        let now = row; // a copy, since the row is stored too
+        tape.note(Delta::Row { block, was, now });
+        self.rows[block.0 as usize] = row;
+    }
+
+    /// Whether an operation is live: whether it holds a memory block (own rule).
+    pub fn is_live(&self, op: Serial) -> bool
+        ensures { result ≡ is_live self.now.blocks op }
+    {
+        self.rows.iter().any(|row| match row.claim {
+            Some(claim) => claim.op == op,
+            None => false,
+        })
+    }
+
+    /// What a memory block that is added becomes (Linux guide: auto_online_blocks).
+    pub fn auto(&self) -> Auto
+        ensures auto { result ≡ self.now.blocks.auto }
+        ensures blocks { AreBlocksOf self.now.layout self.now.blocks }
+    {
+        self.auto
+    }
+
+    /// Sets what a memory block that is added becomes (Linux guide: auto_online_blocks). One delta.
+    pub fn set_auto(&mut self, auto: Auto, tape: &mut Tape)
+        requires { HasRoom tape.old 1 }
+        ensures set { self.new.blocks ≡ record self.old.blocks { auto = auto } }
+        ensures layout { self.new.layout ≡ self.old.layout }
+        ensures notes { NotesBlocks self.old.layout 1 tape.old tape.new self.new.blocks self.old.blocks }
+    {
+        let was = replace(&mut self.auto, auto);
+        tape.note(Delta::Auto { was, now: auto });
+    }
+
+    /// Does the opposite of a delta of the layout that fits; one of another layer changes nothing.
+    pub fn back(&mut self, delta: Delta)
+        requires fits { FitsBlocks delta self.old.blocks }
+        requires numbers { IsDeltaOf self.old.layout delta }
+        ensures back { self.new.blocks ≡ blocks_undo delta self.old.blocks }
+        ensures layout { self.new.layout ≡ self.old.layout }
+    {
+        match &delta {
+            Delta::Row { block, was, .. } => self.rows[block.0 as usize] = *was,
+            Delta::Auto { was, .. } => self.auto = *was,
+            _ => {}
+        }
+    }
+}
+
+/// A row that an operation holds; with wish Off the block is going (own rule).
+fn claimed(row: Row, op: Serial, wish: Wish) -> Row
+    ensures { result ≡ claimed_row row op wish }
+{
+    let state = match wish {
+        Wish::Off => State::Going,
+        Wish::Normal | Wish::Movable => row.state,
+    };
+    Row {
+        state,
+        zone: row.zone,
+        claim: Some(Claim { op, wish }),
+    }
+}

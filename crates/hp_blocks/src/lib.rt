@@ -1,0 +1,9 @@
+//! The rows of memory blocks, and what an added block becomes.
+#![tactic(auto)]
+
+mod blocks;
+
+pub use blocks::Blocks;
+
+#[cfg(test)]
+mod tests;

@@ -1,0 +1,2 @@
+pub mod Buddy
+pub mod Moves

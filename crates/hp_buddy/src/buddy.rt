@@ -1,0 +1,296 @@
+//! The free areas.
+ghost use Rattle.std.specs.Prelude.{◌≡◌, ℕ, true, ◌+◌, ◌*◌, ◌/◌, ◌^◌, ◌<◌, ◌≤◌, None, Some, IfOk, IfSome, MatchOption, length, slice_get};
+ghost use Rattle.hp_units.specs.Arithmetic.{frame_count, pageblock_count, pageblock_size};
+ghost use Rattle.hp_units.specs.Boot.{empty_areas};
+ghost use Rattle.hp_units.specs.FreeAreas.{give_block, is_on, steal_block, take_block};
+ghost use Rattle.hp_units.specs.Isolation.{add_pageblock, move_pageblock, remove_pageblock};
+ghost use Rattle.hp_units.specs.LayoutParts.{IsLayout};
+ghost use Rattle.hp_units.specs.Memory.{free_list, isolated_class, kind_of, plain_kind};
+ghost use Rattle.hp_units.specs.declared.rows.Class.{Class};
+ghost use Rattle.hp_units.specs.Placement.{free_places};
+ghost use Rattle.hp_tape.specs.Bounds.{give_bound, move_bound, steal_bound, take_bound};
+ghost use Rattle.hp_tape.specs.Deltas.{FitsAreas, IsDeltaOf, areas_undo};
+ghost use Rattle.hp_tape.specs.Tapes.{HasRoom, NotesAreas};
+ghost use Rattle.hp_buddy.specs.Buddy.{AreApart, HasBlockMore, MayBeGiven, next_of, place_of};
+
+mod edits;
+mod joins;
+mod moves;
+mod searches;
+mod splits;
+
+use crate::classes::{
+    ancestor, class_numbered, class_of_kind, isolated_class, list_number, other_mobility,
+    usable_class,
+};
+use hp_links::Links;
+use hp_tape::{Delta, ListId, Tape};
+use hp_units::{Class, Frame, Kind, Layout, Mobility, Order, Pageblock, Zone};
+use std::alloc::{AllocError, Global};
+use std::marker::Model;
+
+/// The free areas of a layout. No call but `new` takes memory.
+#[derive(Drop)]
+pub struct Buddy {
+    layout: Layout,
+    links: Links,
+    kinds: Vec<Kind>,
+}
+
+impl Model for Buddy {
+    ghost use Rattle.hp_buddy.specs.Buddy.{BuddyValue, IsBuddyOf};
+
+    ghost Value = { BuddyValue };
+
+    ghost view = { λ b. record { layout = b.layout; areas = record { lists = b.links.lists; kinds = b.kinds.items } } };
+
+    ghost invariant = { λ b. IsBuddyOf b.layout b.links b.kinds.items };
+}
+
+/// The kind of a pageblock of an offline block (own rule).
+fn plain_kind() -> Kind
+    ensures { result ≡ plain_kind }
+{
+    Kind {
+        mobility: Mobility::Movable,
+        isolated: false,
+    }
+}
+
+impl Buddy {
+    /// The first frame of a pageblock of the layout.
+    fn first_frame(&self, pageblock: Pageblock) -> Frame
+        requires { pageblock < pageblock_count self.now.layout }
+        ensures { result ≡ pageblock * pageblock_size self.now.layout }
+    {
+        Frame(pageblock.0 << self.layout.order())
+    }
+
+    /// How many frames a pageblock has.
+    fn pageblock_size(&self) -> u32
+        ensures is { result ≡ pageblock_size self.now.layout }
+        ensures layout { IsLayout self.now.layout }
+    {
+        1 << self.layout.order()
+    }
+
+    /// The areas of a layout with nothing free, every pageblock movable and not isolated: by as many requests for memory
+    /// whatever the layout.
+    pub fn new(alloc: Global, layout: &Layout) -> Result<Buddy, AllocError>
+        ensures value { IfOk result (λ b. b ≡ record { layout = layout.now; areas = empty_areas layout.now }) }
+        ensures apart { IfOk result (λ b. AreApart b.layout b.areas) }
+    {
+        let layout = layout.copy(alloc)?;
+        let links = Links::new(alloc, layout.frames(), 5 * (layout.order() + 1))?;
+        let pageblocks = layout.blocks() as usize * layout.pageblocks() as usize;
+        let kinds = vec![in alloc; plain_kind(); pageblocks]?;
+        Ok(Buddy {
+            layout,
+            links,
+            kinds,
+        })
+    }
+
+    /// The kind of a pageblock of the layout.
+    pub fn kind(&self, pageblock: Pageblock) -> Kind
+        requires { pageblock < pageblock_count self.now.layout }
+        ensures { result ≡ kind_of self.now.areas pageblock }
+    {
+        self.kinds[pageblock.0 as usize]
+    }
+
+    /// How many free blocks a class has of an order of the layout.
+    pub fn len(&self, class: Class, order: Order) -> u32
+        requires { order ≤ self.now.layout.order }
+        ensures { result ≡ length (free_list self.now.areas class order) }
+    {
+        self.links.len(list_number(class, order))
+    }
+
+    /// The first free block of a class and an order of the layout.
+    pub fn front(&self, class: Class, order: Order) -> Option<Frame>
+        requires { order ≤ self.now.layout.order }
+        ensures { result ≡ slice_get (free_list self.now.areas class order) 0 }
+    {
+        self.links.front(list_number(class, order))
+    }
+
+    /// The free block behind the one that starts at a frame of the layout, on its list.
+    pub fn next(&self, frame: Frame) -> Option<Frame>
+        requires { frame < frame_count self.now.layout }
+        ensures { result ≡ next_of self.now.areas frame }
+    {
+        match self.links.list_of(frame) {
+            Some(_) => self.links.next(frame),
+            None => None,
+        }
+    }
+
+    /// The class and the order of the free block that starts at a frame of the layout.
+    pub fn place(&self, frame: Frame) -> Option<(Class, Order)>
+        requires { frame < frame_count self.now.layout }
+        ensures place { result ≡ place_of self.now.areas frame }
+        ensures on { (class : Class) (order : ℕ) → is_on frame (free_list self.now.areas class order) ≡ true → result ≡ Some (class, order) }
+        ensures free { IfSome result (λ place. is_on frame (free_list self.now.areas place.0 place.1) ≡ true) }
+        ensures in_order { IfSome result (λ place. place.1 ≤ self.now.layout.order) }
+    {
+        match self.links.list_of(frame) {
+            Some(list) => Some((class_numbered(list.0 % 5), Order(list.0 / 5))),
+            None => None,
+        }
+    }
+
+    /// Takes a block of an order of the layout: the front block of the least order at which the class has one, split down.
+    /// None if the class has none, and then nothing changes (Knuth, volume 1, section 2.5, reservation; which end is own).
+    pub fn take(&mut self, class: Class, order: Order, tape: &mut Tape) -> Option<Frame>
+        requires order { order ≤ self.old.layout.order }
+        requires apart { AreApart self.old.layout self.old.areas }
+        requires room { HasRoom tape.old (take_bound self.old.layout) }
+        ensures taken { MatchOption result (take_block self.old.layout self.old.areas class order ≡ None) (λ frame. take_block self.old.layout self.old.areas class order ≡ Some (record { areas = self.new.areas; frame = frame })) }
+        ensures none { MatchOption result ((self.new ≡ self.old) × (tape.new ≡ tape.old)) (λ _. Unit {0}) }
+        ensures layout { self.new.layout ≡ self.old.layout }
+        ensures notes { NotesAreas self.old.layout (take_bound self.old.layout) tape.old tape.new self.new.areas self.old.areas }
+        ensures apart { AreApart self.new.layout self.new.areas }
+        ensures block { IfSome result (MayBeGiven self.new.layout self.new.areas order) }
+        ensures places { IfSome result (HasBlockMore self.old.areas self.new.areas order) }
+    {
+        match self.least_order(class, order) {
+            Some(found) => self.take_front(class, class, found, order, tape),
+            None => None,
+        }
+    }
+
+    /// Takes a block of an order of the layout for a mobility of zone Normal from the other mobility: the front block of the
+    /// greatest order that has one, split down. A whole pageblock takes the mobility. None if the other mobility has none,
+    /// and then nothing changes (Gorman, chapter 6: fallback; the rule is own).
+    pub fn steal(&mut self, wanted: Mobility, order: Order, tape: &mut Tape) -> Option<Frame>
+        requires order { order ≤ self.old.layout.order }
+        requires apart { AreApart self.old.layout self.old.areas }
+        requires room { HasRoom tape.old (steal_bound self.old.layout) }
+        ensures stolen { MatchOption result (steal_block self.old.layout self.old.areas wanted order ≡ None) (λ frame. steal_block self.old.layout self.old.areas wanted order ≡ Some (record { areas = self.new.areas; frame = frame })) }
+        ensures none { MatchOption result ((self.new ≡ self.old) × (tape.new ≡ tape.old)) (λ _. Unit {0}) }
+        ensures layout { self.new.layout ≡ self.old.layout }
+        ensures notes { NotesAreas self.old.layout (steal_bound self.old.layout) tape.old tape.new self.new.areas self.old.areas }
+        ensures apart { AreApart self.new.layout self.new.areas }
+        ensures block { IfSome result (MayBeGiven self.new.layout self.new.areas order) }
+        ensures places { IfSome result (HasBlockMore self.old.areas self.new.areas order) }
+    {
+        let from = usable_class(Zone::Normal, other_mobility(wanted));
+        match self.greatest_order(from, order) {
+            Some(found) => self.steal_front(wanted, found, order, tape),
+            None => None,
+        }
+    }
+
+    /// Gives a block back: it joins with its buddies as far as they are free in the class that its pageblock shows, and goes
+    /// to the front of its list (Knuth, volume 1, section 2.5, liberation; that a pageblock isn't crossed is own).
+    pub fn give(&mut self, zone: Zone, frame: Frame, order: Order, tape: &mut Tape)
+        requires block { MayBeGiven self.old.layout self.old.areas order frame }
+        requires apart { AreApart self.old.layout self.old.areas }
+        requires room { HasRoom tape.old (give_bound self.old.layout) }
+        ensures given { self.new.areas ≡ give_block self.old.layout self.old.areas zone frame order }
+        ensures layout { self.new.layout ≡ self.old.layout }
+        ensures notes { NotesAreas self.old.layout (give_bound self.old.layout) tape.old tape.new self.new.areas self.old.areas }
+        ensures apart { AreApart self.new.layout self.new.areas }
+        ensures places { HasBlockMore self.new.areas self.old.areas order frame }
+    {
+        let class = self.class_of(zone, frame);
+        let joined = self.join_order(class, frame, order);
+        self.unlink_buddies(class, frame, order, joined, tape);
+        self.push_front(class, joined, ancestor(frame, joined), tape);
+    }
+
+    /// Isolates a pageblock of the layout, or releases it: its free blocks go, by rising number, to the back of the lists of
+    /// their new class (Linux guide, Memory Hot(Un)Plug: offlining; the order is own).
+    pub fn move_pageblock(
+        &mut self,
+        zone: Zone,
+        pageblock: Pageblock,
+        isolated: bool,
+        tape: &mut Tape,
+    )
+        requires pageblock { pageblock < pageblock_count self.old.layout }
+        requires apart { AreApart self.old.layout self.old.areas }
+        requires room { HasRoom tape.old (move_bound self.old.layout) }
+        ensures moved { self.new.areas ≡ move_pageblock self.old.layout zone isolated self.old.areas pageblock }
+        ensures layout { self.new.layout ≡ self.old.layout }
+        ensures notes { NotesAreas self.old.layout (move_bound self.old.layout) tape.old tape.new self.new.areas self.old.areas }
+        ensures apart { AreApart self.new.layout self.new.areas }
+        ensures places { (frame : ℕ) → free_places self.new.areas frame ≡ free_places self.old.areas frame }
+    {
+        let kind = self.kind(pageblock);
+        let moved = Kind {
+            mobility: kind.mobility,
+            isolated,
+        };
+        let from = class_of_kind(zone, kind);
+        let to = class_of_kind(zone, moved);
+        self.move_all(from, to, pageblock, tape);
+        self.set_kind(pageblock, moved, tape);
+    }
+
+    /// Adds a whole pageblock of the layout at the back of its zone's movable list of the greatest order (own rule).
+    pub fn add_pageblock(&mut self, zone: Zone, pageblock: Pageblock, tape: &mut Tape)
+        requires pageblock { pageblock < pageblock_count self.old.layout }
+        requires block { MayBeGiven self.old.layout self.old.areas self.old.layout.order (pageblock * pageblock_size self.old.layout) }
+        requires apart { AreApart self.old.layout self.old.areas }
+        requires room { HasRoom tape.old 1 }
+        ensures added { self.new.areas ≡ add_pageblock self.old.layout zone self.old.areas pageblock }
+        ensures layout { self.new.layout ≡ self.old.layout }
+        ensures notes { NotesAreas self.old.layout 1 tape.old tape.new self.new.areas self.old.areas }
+        ensures apart { AreApart self.new.layout self.new.areas }
+        ensures places { HasBlockMore self.new.areas self.old.areas self.old.layout.order (pageblock * pageblock_size self.old.layout) }
+    {
+        let class = usable_class(zone, Mobility::Movable);
+        let order = Order(self.layout.order());
+        let first = self.first_frame(pageblock);
+        self.push_back(class, order, first, tape);
+    }
+
+    /// Removes a pageblock of the layout that is one isolated free block; it is movable and not isolated from then on
+    /// (Linux guide, Memory Hot(Un)Plug: offlining removes the free pages from the allocator).
+    pub fn remove_pageblock(&mut self, zone: Zone, pageblock: Pageblock, tape: &mut Tape)
+        requires pageblock { pageblock < pageblock_count self.old.layout }
+        requires free { is_on (pageblock * pageblock_size self.old.layout) (free_list self.old.areas (isolated_class zone) self.old.layout.order) ≡ true }
+        requires apart { AreApart self.old.layout self.old.areas }
+        requires room { HasRoom tape.old 2 }
+        ensures removed { self.new.areas ≡ remove_pageblock self.old.layout zone self.old.areas pageblock }
+        ensures layout { self.new.layout ≡ self.old.layout }
+        ensures notes { NotesAreas self.old.layout 2 tape.old tape.new self.new.areas self.old.areas }
+        ensures apart { AreApart self.new.layout self.new.areas }
+        ensures places { HasBlockMore self.old.areas self.new.areas self.old.layout.order (pageblock * pageblock_size self.old.layout) }
+    {
+        let order = Order(self.layout.order());
+        let first = self.first_frame(pageblock);
+        self.unlink_free(isolated_class(zone), order, first, tape);
+        self.set_kind(pageblock, plain_kind(), tape);
+    }
+
+    /// Does the opposite of a delta of the layout that fits; one of another layer changes nothing.
+    pub fn back(&mut self, delta: Delta)
+        requires fits { FitsAreas delta self.old.areas }
+        requires numbers { IsDeltaOf self.old.layout delta }
+        ensures back { self.new.areas ≡ areas_undo delta self.old.areas }
+        ensures layout { self.new.layout ≡ self.old.layout }
+    {
+        match &delta {
+            Delta::Link { list, frame, .. } => {
+                if let ListId::Area { .. } = list {
+                    let _ = self.links.unlink(*frame);
+                }
+            }
+            Delta::Unlink { list, frame, after } => {
+                if let ListId::Area { class, order } = list {
+                    let number = list_number(*class, *order);
+                    self.links.relink_after(number, *frame, *after);
+                }
+            }
+            Delta::Kind {
+                pageblock: at,
+                was,
+                ..
+            } => self.kinds[at.0 as usize] = *was,
+            _ => {}
+        }
+    }
+}

@@ -1,0 +1,47 @@
+//! Blocks that come back: their buddies leave the lists.
+ghost use Rattle.std.specs.Prelude.{◌≡◌, ℕ, true, ◌-◌, ◌<◌, ◌≤◌};
+ghost use Rattle.hp_units.specs.Arithmetic.{ancestor, buddy, frame_count};
+ghost use Rattle.hp_units.specs.FreeAreas.{class_of, is_on, without_buddies};
+ghost use Rattle.hp_units.specs.LayoutParts.{IsLayout};
+ghost use Rattle.hp_units.specs.Memory.{free_list};
+ghost use Rattle.hp_tape.specs.Tapes.{HasRoom, NotesAreas};
+
+use super::Buddy;
+use crate::classes::{ancestor, class_of_kind};
+use hp_tape::Tape;
+use hp_units::{Class, Frame, Order, Zone, buddy, pageblock_of};
+
+impl Buddy {
+    /// The class that the free blocks of a frame's pageblock have, which lies in a block of the zone.
+    pub(super) fn class_of(&self, zone: Zone, frame: Frame) -> Class
+        requires { frame < frame_count self.now.layout }
+        ensures { result ≡ class_of self.now.layout self.now.areas zone frame }
+    {
+        class_of_kind(zone, self.kind(pageblock_of(&self.layout, frame)))
+    }
+
+    /// Takes the buddies of a block, which are free at each order from the first one and below the last one, off their lists.
+    pub(super) fn unlink_buddies(
+        &mut self,
+        class: Class,
+        frame: Frame,
+        first: Order,
+        last: Order,
+        tape: &mut Tape,
+    )
+        requires layout { IsLayout self.old.layout }
+        requires first { first ≤ last }
+        requires last { last ≤ self.old.layout.order }
+        requires frame { frame < frame_count self.old.layout }
+        requires free { (order : ℕ) → first ≤ order → order < last → is_on (buddy (ancestor frame order) order) (free_list self.old.areas class order) ≡ true }
+        requires room { HasRoom tape.old (last - first) }
+        ensures areas { self.new.areas ≡ without_buddies self.old.areas class frame first (last - first) }
+        ensures layout { self.new.layout ≡ self.old.layout }
+        ensures notes { NotesAreas self.old.layout (last - first) tape.old tape.new self.new.areas self.old.areas }
+    {
+        for order in first.0..last.0 {
+            let half = ancestor(frame, Order(order));
+            self.unlink_free(class, Order(order), buddy(half, Order(order)), tape);
+        }
+    }
+}

@@ -1,0 +1,67 @@
+//! Pageblocks whose free blocks change their class.
+ghost use Rattle.std.specs.Prelude.{◌≡◌, ◌+◌, ◌*◌, ◌<◌, ◌≤◌};
+ghost use Rattle.hp_units.specs.Arithmetic.{frame_count, pageblock_count, pageblock_size};
+ghost use Rattle.hp_units.specs.Isolation.{move_free, move_free_below};
+ghost use Rattle.hp_tape.specs.Tapes.{HasRoom, NotesAreas};
+ghost use Rattle.hp_buddy.specs.Buddy.{AreApart};
+ghost use Rattle.hp_buddy.specs.Moves.{free_count, free_one, move_one};
+
+use super::Buddy;
+use hp_tape::Tape;
+use hp_units::{Class, Frame, Order, Pageblock};
+
+impl Buddy {
+    /// Moves the free blocks of a pageblock from one class to another, order by order.
+    pub(super) fn move_all(&mut self, from: Class, to: Class, pageblock: Pageblock, tape: &mut Tape)
+        requires pageblock { pageblock < pageblock_count self.old.layout }
+        requires apart { AreApart self.old.layout self.old.areas }
+        requires room { HasRoom tape.old (2 * pageblock_size self.old.layout) }
+        ensures areas { self.new.areas ≡ move_free_below self.old.layout self.old.areas from to pageblock (self.old.layout.order + 1) }
+        ensures layout { self.new.layout ≡ self.old.layout }
+        ensures notes { NotesAreas self.old.layout (2 * pageblock_size self.old.layout) tape.old tape.new self.new.areas self.old.areas }
+    {
+        for order in 0..self.layout.order() + 1 {
+            self.move_order(from, to, pageblock, Order(order), tape);
+        }
+    }
+
+    /// Moves the free blocks of one order of a pageblock, by rising number.
+    fn move_order(
+        &mut self,
+        from: Class,
+        to: Class,
+        pageblock: Pageblock,
+        order: Order,
+        tape: &mut Tape,
+    )
+        requires pageblock { pageblock < pageblock_count self.old.layout }
+        requires order { order ≤ self.old.layout.order }
+        requires apart { AreApart self.old.layout self.old.areas }
+        requires room { HasRoom tape.old (2 * free_count self.old.areas from order (pageblock * pageblock_size self.old.layout) (pageblock_size self.old.layout)) }
+        ensures areas { self.new.areas ≡ move_free self.old.layout self.old.areas from to pageblock order }
+        ensures layout { self.new.layout ≡ self.old.layout }
+        ensures notes { NotesAreas self.old.layout (2 * free_count self.old.areas from order (pageblock * pageblock_size self.old.layout) (pageblock_size self.old.layout)) tape.old tape.new self.new.areas self.old.areas }
+    {
+        let first = self.first_frame(pageblock);
+        let size = self.pageblock_size();
+        for at in 0..size {
+            self.move_block(from, to, order, Frame(first.0 + at), tape);
+        }
+    }
+
+    /// Moves the free block that starts at a frame, if there is one of the class and the order.
+    fn move_block(&mut self, from: Class, to: Class, order: Order, frame: Frame, tape: &mut Tape)
+        requires order { order ≤ self.old.layout.order }
+        requires frame { frame < frame_count self.old.layout }
+        requires apart { AreApart self.old.layout self.old.areas }
+        requires room { HasRoom tape.old (2 * free_one self.old.areas from order frame) }
+        ensures areas { self.new.areas ≡ move_one self.old.areas from to order frame }
+        ensures layout { self.new.layout ≡ self.old.layout }
+        ensures notes { NotesAreas self.old.layout (2 * free_one self.old.areas from order frame) tape.old tape.new self.new.areas self.old.areas }
+    {
+        if self.is_free(from, order, frame) {
+            self.unlink_free(from, order, frame, tape);
+            self.push_back(to, order, frame, tape);
+        }
+    }
+}

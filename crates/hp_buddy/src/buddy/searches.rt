@@ -1,0 +1,65 @@
+//! The searches for an order: the least and the greatest that serve, and the one that is joined up to.
+ghost use Rattle.std.specs.Prelude.{◌≡◌, ◌+◌, ◌-◌, ◌<◌, ◌≤◌};
+ghost use Rattle.hp_units.specs.Arithmetic.{frame_count};
+ghost use Rattle.hp_units.specs.FreeAreas.{greatest_order, is_on, join_order, least_order};
+ghost use Rattle.hp_units.specs.LayoutParts.{IsLayout};
+ghost use Rattle.hp_units.specs.Memory.{free_list};
+
+use super::Buddy;
+use crate::classes::{ancestor, list_number};
+use hp_units::{Class, Frame, Order, buddy};
+
+impl Buddy {
+    /// Whether a class has a free block of an order at a frame.
+    pub(super) fn is_free(&self, class: Class, order: Order, frame: Frame) -> bool
+        requires order { order ≤ self.now.layout.order }
+        requires frame { frame < frame_count self.now.layout }
+        ensures { result ≡ is_on frame (free_list self.now.areas class order) }
+    {
+        match self.links.list_of(frame) {
+            Some(list) => list == list_number(class, order),
+            None => false,
+        }
+    }
+
+    /// The least order, from one up to the layout's, at which a class has a free block.
+    pub(super) fn least_order(&self, class: Class, first: Order) -> Option<Order>
+        ensures { result ≡ least_order self.now.areas class first (self.now.layout.order + 1 - first) }
+    {
+        for order in first.0..=self.layout.order() {
+            if self.len(class, Order(order)) > 0 {
+                return Some(Order(order));
+            }
+        }
+        None
+    }
+
+    /// The greatest order, from one up to the layout's, at which a class has a free block.
+    pub(super) fn greatest_order(&self, class: Class, first: Order) -> Option<Order>
+        ensures { result ≡ greatest_order self.now.areas class first (self.now.layout.order + 1 - first) }
+    {
+        for order in (first.0..self.layout.order() + 1).rev() {
+            if self.len(class, Order(order)) > 0 {
+                return Some(Order(order));
+            }
+        }
+        None
+    }
+
+    /// The order, from one up to the layout's, that a free block joins up to.
+    pub(super) fn join_order(&self, class: Class, frame: Frame, first: Order) -> Order
+        requires first { first ≤ self.now.layout.order }
+        requires frame { frame < frame_count self.now.layout }
+        ensures joined { result ≡ join_order self.now.areas class frame first (self.now.layout.order - first) }
+        ensures layout { IsLayout self.now.layout }
+    {
+        let last = self.layout.order();
+        for order in first.0..last {
+            let half = ancestor(frame, Order(order));
+            if !self.is_free(class, Order(order), buddy(half, Order(order))) {
+                return Order(order);
+            }
+        }
+        Order(last)
+    }
+}

@@ -1,0 +1,16 @@
+//! Numbers of lists.
+use std::marker::Model;
+
+/// A list of a table, by its number from 0.
+#[derive(Clone, Copy, Debug, PartialEq, Eq)]
+pub struct ListNumber(pub u32);
+
+impl Model for ListNumber {
+    ghost use Rattle.std.specs.Prelude.{ℕ};
+
+    ghost Value = { ℕ };
+
+    ghost view = { λ l. l.0 };
+
+    ghost inverse = { λ n. record { 0 = n } };
+}

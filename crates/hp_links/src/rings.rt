@@ -1,0 +1,177 @@
+//! The table of the rings: each list is closed to a ring by a place of its own, its head.
+
+ghost use Rattle.std.specs.Prelude.{◌≡◌, ◌<◌, ◌+◌, ◌^◌, vec_len};
+
+use crate::list_number::ListNumber;
+use hp_units::Frame;
+use std::alloc::{AllocError, Global};
+
+/// The place of a frame in the table.
+pub fn place_of(frame: Frame) -> u32
+    ensures { result ≡ frame }
+{
+    frame.0
+}
+
+/// A place in the table: a frame's, or a head's. One on no list, and the head of an empty list, is its own neighbour.
+#[derive(Clone, Copy, Debug)]
+pub struct Node {
+    pub next: u32,
+    pub prev: u32,
+    /// The list that the frame is on; none at a head.
+    pub list: Option<ListNumber>,
+}
+
+/// The frames' places, and behind them the heads.
+#[derive(Drop)]
+pub struct Rings {
+    pub frames: u32,
+    pub nodes: Vec<Node>,
+    pub lens: Vec<u32>,
+    ghost sized: { vec_len nodes ≡ frames + vec_len lens },
+    ghost numbered: { frames + vec_len lens < 2 ^ 32 },
+}
+
+impl Node {
+    ghost use Rattle.std.specs.Prelude.{◌≡◌, IfOk, map};
+    ghost use Rattle.std.specs.List.{range_with_len};
+    ghost use Rattle.hp_links.specs.Rings.{alone_at};
+
+    fn alone(place: u32) -> Self
+        ensures { result ≡ alone_at place }
+    {
+        Node::ring(place, None)
+    }
+
+    /// A ring of one place.
+    fn ring(place: u32, list: Option<ListNumber>) -> Self
+        ensures { result ≡ record { next = place; prev = place; list = list } }
+    {
+        Node {
+            next: place,
+            prev: place,
+            list,
+        }
+    }
+
+    fn all(alloc: Global, count: u32) -> Result<Vec<Self>, AllocError>
+        ensures { IfOk result (λ nodes. nodes.items ≡ map alone_at (range_with_len 0 count)) }
+    {
+        let mut nodes = Vec::with_capacity(alloc, count as usize)?;
+        for place in 0..count {
+            nodes.push_reserved(Node::ring(place, None));
+        }
+        Ok(nodes)
+    }
+}
+
+impl Rings {
+    ghost use Rattle.std.specs.Prelude.{ℕ, ◌≡◌, ◌≢◌, ◌<◌, ◌≤◌, ◌+◌, ◌-◌, ◌^◌, length, replicate, None, Some, IfOk, slice_index, slice_set, vec_len};
+    ghost use Rattle.hp_links.specs.Rings.{Inserts, Removes, IsAlone, frame_at, table};
+
+    pub fn new(alloc: Global, frames: u32, lists: u32) -> Result<Self, AllocError>
+        requires { frames + lists < 2 ^ 32 }
+        ensures frames { IfOk result (λ rings. rings.frames ≡ frames) }
+        ensures alone { IfOk result (λ rings. IsAlone (table rings.nodes.items) (frames + lists)) }
+        ensures lens { IfOk result (λ rings. rings.lens.items ≡ replicate lists 0) }
+    {
+        let nodes = Node::all(alloc, frames + lists)?;
+        let lens = vec![in alloc; 0; lists as usize]?;
+        Ok(Rings {
+            frames,
+            nodes,
+            lens,
+        })
+    }
+
+    pub fn head(&self, list: ListNumber) -> u32
+        requires { list < vec_len self.now.lens }
+        ensures { result ≡ self.now.frames + list }
+    {
+        self.frames + list.0
+    }
+
+    #[tactic(auto, unfolding(crate::specs::Rings::table))]
+    pub fn next(&self, place: u32) -> u32
+        requires { place < vec_len self.now.nodes }
+        ensures { result ≡ (table self.now.nodes.items).next place }
+    {
+        self.nodes[place as usize].next
+    }
+
+    #[tactic(auto, unfolding(crate::specs::Rings::table))]
+    pub fn prev(&self, place: u32) -> u32
+        requires { place < vec_len self.now.nodes }
+        ensures { result ≡ (table self.now.nodes.items).prev place }
+    {
+        self.nodes[place as usize].prev
+    }
+
+    #[tactic(auto, unfolding(crate::specs::Rings::table))]
+    pub fn list(&self, place: u32) -> Option<ListNumber>
+        requires { place < vec_len self.now.nodes }
+        ensures { result ≡ (table self.now.nodes.items).list place }
+    {
+        self.nodes[place as usize].list
+    }
+
+    /// The frame at a place, and none at a head.
+    pub fn frame_at(&self, place: u32) -> Option<Frame>
+        ensures { result ≡ frame_at self.now.frames place }
+    {
+        if place < self.frames {
+            Some(Frame(place))
+        } else {
+            None
+        }
+    }
+
+    pub fn len(&self, list: ListNumber) -> u32
+        requires { list < vec_len self.now.lens }
+        ensures { result ≡ slice_index self.now.lens.items list }
+    {
+        self.lens[list.0 as usize]
+    }
+
+    /// Puts a frame between two neighbours, which are one place where the list is empty.
+    pub fn insert(&mut self, list: ListNumber, before: u32, frame: u32, after: u32)
+        requires list_in { list < vec_len self.old.lens }
+        requires before_in { before < vec_len self.old.nodes }
+        requires after_in { after < vec_len self.old.nodes }
+        requires frame_in { frame < self.old.frames }
+        requires not_before { before ≢ frame }
+        requires not_after { after ≢ frame }
+        requires room { slice_index self.old.lens.items list < self.old.frames }
+        ensures links { Inserts (table self.old.nodes.items) (table self.new.nodes.items) list before frame after }
+        ensures lens { self.new.lens.items ≡ slice_set self.old.lens.items list (slice_index self.old.lens.items list + 1) }
+        ensures frames { self.new.frames ≡ self.old.frames }
+    {
+        self.nodes[before as usize].next = frame;
+        self.nodes[after as usize].prev = frame;
+        self.nodes[frame as usize] = Node {
+            next: after,
+            prev: before,
+            list: Some(list),
+        };
+        self.lens[list.0 as usize] += 1;
+    }
+
+    /// Takes a frame out from between its neighbours.
+    pub fn remove(&mut self, list: ListNumber, before: u32, frame: u32, after: u32)
+        requires list_in { list < vec_len self.old.lens }
+        requires before_in { before < vec_len self.old.nodes }
+        requires after_in { after < vec_len self.old.nodes }
+        requires frame_in { frame < self.old.frames }
+        requires not_before { before ≢ frame }
+        requires not_after { after ≢ frame }
+        requires some { 0 < slice_index self.old.lens.items list }
+        ensures links { Removes (table self.old.nodes.items) (table self.new.nodes.items) before frame after }
+        ensures lens { self.new.lens.items ≡ slice_set self.old.lens.items list (slice_index self.old.lens.items list - 1) }
+        ensures frames { self.new.frames ≡ self.old.frames }
+    {
+        self.nodes[before as usize].next = after;
+        self.nodes[after as usize].prev = before;
+        self.nodes[frame as usize] = Node::alone(frame);
+        self.lens[list.0 as usize] -= 1;
+    }
+}

@@ -1,0 +1,7 @@
+mod FrameSets
+mod PageCalls
+mod PageParts
+pub mod Places
+mod Tables
+mod Unwinding
+pub mod Views

@@ -1,0 +1,200 @@
+-- Parts of the layer's view: buffers, pages, tapes, and the view without pages.
+use Rattle.std.proofs.Common.{◌≡◌, ℕ, zero, suc, ◌<◌, ◌+◌, true, false, List, [], ◌∷◌, ◌++◌, length, get_or, set, map, replicate, Option, Some, None, refl, sym, ap, ◌∙◌, subst, inl, inr, arith}
+use Rattle.std.specs.Prelude.{IfSome, IsSome, is_some, option_map, slice_get, slice_index, unwrap_or}
+use Rattle.std.specs.List.{AllByRecursion, range_with_len}
+use Rattle.std.specs.Option.{option_and_then}
+use Rattle.std.proofs.lemmas.Bool.{cases_eq, cases_lt, eq-eqb, ne_eqb, lt-ltb, le-ltb, cond-true, cond-false}
+use Rattle.std.proofs.lemmas.List.{append_assoc, get_or-set_same, get_or-set_other, length-set, set-set, set_comm, set-get_or, set_past}
+use Rattle.std.proofs.lemmas.Option.{slice_get-get_or}
+use Rattle.hp_units.specs.LayoutParts.{LayoutParts}
+use Rattle.hp_units.specs.Arithmetic.{frame_count}
+use Rattle.hp_units.specs.Boot.{empty_pages}
+use Rattle.hp_units.specs.Memory.{entry_of}
+use Rattle.hp_units.specs.Pages.{page_at, page_from, words_at}
+use Rattle.hp_tape.specs.declared.deltas.Delta.{Delta}
+use Rattle.hp_tape.specs.Deltas.{PageFrames, buffer_of, page_frames_of}
+use Rattle.hp_tape.specs.Tapes.{TapeValue}
+use Rattle.hp_pages.specs.Pages.{AreLayerOf, ArePageFramesOf, AreSettled, PagesValue, words_of}
+use Rattle.hp_pages.specs.Places.{IsTable, TableValue, held, holders}
+use Rattle.hp_pages.proofs.Places.{IsIn, holds_some, page_from-None, page_from-Some}
+use Rattle.hp_pages.proofs.Tables.{empty_first, page_in, row_length}
+
+-- ---- parts of a view
+
+abbrev pub view_of : List (List (Option ℕ)) → List (Option (List ℕ)) → PageFrames
+view_of table buffers = record { table = table; buffers = buffers }
+
+abbrev pub value_with : LayoutParts → PageFrames → PagesValue
+value_with layout v = record { layout = layout; pages = v }
+
+abbrev pub value_of : LayoutParts → List (List (Option ℕ)) → List (Option (List ℕ)) → PagesValue
+value_of layout table buffers = value_with layout (view_of table buffers)
+
+-- two views with the same parts
+pub same_frames : (table other : List (List (Option ℕ))) (buffers others : List (Option (List ℕ))) → table ≡ other → buffers ≡ others
+    → view_of table buffers ≡ view_of other others
+same_frames table other buffers others e f =
+    ap (λ (t : List (List (Option ℕ))). view_of t buffers) e ∙ ap (λ (b : List (Option (List ℕ))). view_of other b) f
+
+-- the numbers of a layer's parts
+pub are_of : (l : LayoutParts) (t : TableValue) (buffers : List (Option (List ℕ))) → AreLayerOf l t buffers → IsTable t → ArePageFramesOf l (view_of t.rows buffers)
+are_of l t buffers layer table = record {
+  owners = layer.owners;
+  pages = subst (λ (n : ℕ). AllByRecursion (λ row. length row ≡ n) t.rows) layer.pages table.rows;
+  mapped = λ owner page. subst (λ (n : ℕ). IfSome (entry_of t.rows owner page) (λ frame. frame < n)) layer.frames (table.mapped owner page);
+  frames = layer.buffers_of;
+  words = layer.words;
+}
+
+-- a page of the layout
+pub page_of : (l : LayoutParts) (v : PageFrames) (owner page : ℕ) → ArePageFramesOf l v → owner < l.owners → page < l.pages → IsIn v.table owner page
+page_of l v owner page are in_owners in_pages = page_in l.pages v.table owner page are.pages (omega (arith, are.owners)) in_pages
+
+-- a frame with a page has a buffer of the layout's words, and one without has none
+pub some_of : {X : Type 0} (o : Option X) → is_some o ≡ true → (x : X) × (o ≡ Some x)
+some_of (Some x) e = (x, refl)
+some_of None e = cc
+
+pub none_of : {X : Type 0} (o : Option X) → is_some o ≡ false → o ≡ None
+none_of None e = refl
+none_of (Some x) e = cc
+
+pub has_buffer : (v : PageFrames) (owner page frame : ℕ) → AreSettled v → entry_of v.table owner page ≡ Some frame → IsSome (buffer_of v frame)
+has_buffer v owner page frame settled e = settled.buffers frame ∙ lt-ltb 0 _ (holds_some v.table owner page frame e)
+
+pub has_none : (v : PageFrames) (frame : ℕ) → AreSettled v → holders v.table frame ≡ 0 → buffer_of v frame ≡ None
+has_none v frame settled none = none_of (buffer_of v frame) (settled.buffers frame ∙ le-ltb 0 _ (omega (arith, none)))
+
+-- what the words of a page read
+pub read_is : (v : PageFrames) (owner page frame index : ℕ) (words : List ℕ) → entry_of v.table owner page ≡ Some frame → buffer_of v frame ≡ Some words
+    → slice_index (unwrap_or (words_of v owner page) []) index ≡ slice_index words index
+read_is v owner page frame index words mapped there =
+    ap (λ (entry : Option ℕ). slice_index (unwrap_or (option_and_then (buffer_of v) entry) []) index) mapped
+    ∙ ap (λ (b : Option (List ℕ)). slice_index (unwrap_or b []) index) there
+
+-- the first page of a frame, in a layout
+pub record IsFirstPage (l : LayoutParts) (v : PageFrames) (frame : ℕ) (page : ℕ × ℕ) : Type 0 where
+  pub entry : entry_of v.table page.0 page.1 ≡ Some frame
+  pub in_owners : page.0 < l.owners
+  pub in_pages : page.1 < l.pages
+
+pub first_page : (l : LayoutParts) (v : PageFrames) (frame : ℕ) (page : ℕ × ℕ) → ArePageFramesOf l v → page_from 0 v.table frame ≡ Some page → IsFirstPage l v frame page
+first_page l v frame page are first =
+    let is = page_from-Some 0 v.table frame page first in
+    let row_is : is.row ≡ page.0 = omega (arith, is.owner_is) in
+    let length_is = row_length l.pages v.table is.row are.pages is.in_owners in
+    record {
+      entry = subst (λ (o : ℕ). entry_of v.table o page.1 ≡ Some frame) row_is is.entry;
+      in_owners = omega (arith, row_is, is.in_owners, are.owners);
+      in_pages = omega (arith, is.in_pages, length_is);
+    }
+
+-- a tape by its parts, after one note and after two
+pub noted_one : (was now : TapeValue) (d : Delta) → now.room ≡ was.room → now.deltas ≡ was.deltas ++ d ∷ [] → now ≡ record { room = was.room; deltas = was.deltas ++ d ∷ [] }
+noted_one was now d room noted =
+    ap (λ (r : ℕ). record now { room = r }) room ∙ ap (λ (ds : List Delta). record { room = was.room; deltas = ds }) noted
+
+pub noted_two : (was mid now : TapeValue) (d e : Delta) → mid.room ≡ was.room → mid.deltas ≡ was.deltas ++ d ∷ [] → now.room ≡ mid.room → now.deltas ≡ mid.deltas ++ e ∷ []
+    → now ≡ record { room = was.room; deltas = was.deltas ++ (d ∷ e ∷ []) }
+noted_two was mid now d e mid_room mid_noted room noted =
+    ap (λ (r : ℕ). record now { room = r }) (room ∙ mid_room)
+    ∙ ap (λ (ds : List Delta). record { room = was.room; deltas = ds }) (noted ∙ (ap (λ (ds : List Delta). ds ++ e ∷ []) mid_noted ∙ append_assoc was.deltas (d ∷ []) (e ∷ [])))
+
+-- what an entry holds
+pub held_yes : (frame f : ℕ) → frame ≡ f → held f (Some frame) 1 ≡ 1
+held_yes frame f e = cond-true _ _ _ (eq-eqb frame f e)
+
+pub held_no : (frame f : ℕ) → (frame ≡ f → ⊥) → held f (Some frame) 1 ≡ 0
+held_no frame f ne = cond-false _ _ _ (ne_eqb frame f ne)
+
+-- what was set is read
+pub get_set : {X : Type 0} (xs : List X) (i : ℕ) (x : X) → i < length xs → slice_get (set xs i x) i ≡ Some x
+get_set xs i x lt = slice_get-get_or (set xs i x) i x (rw length-set lt) ∙ ap (λ y. Some y) (get_or-set_same xs i x x lt)
+
+-- which frames have a buffer once a word has changed
+pub mapped_some : (b : Option (List ℕ)) (index value : ℕ) → is_some (option_map (λ ws. set ws index value) b) ≡ is_some b
+mapped_some None index value = refl
+mapped_some (Some ws) index value = refl
+
+pub some_kept : (buffers : List (Option (List ℕ))) (frame f index value : ℕ)
+    → is_some (get_or (set buffers frame (option_map (λ ws. set ws index value) (get_or buffers frame None))) f None) ≡ is_some (get_or buffers f None)
+some_kept buffers frame f index value =
+    let new = option_map (λ ws. set ws index value) (get_or buffers frame None) in
+    elim (cases_lt frame (length buffers)) [
+      | inl within ↦ elim (cases_eq f frame) [
+        | inl same ↦ ap (λ (n : ℕ). is_some (get_or (set buffers frame new) n None)) same
+            ∙ (ap (λ (b : Option (List ℕ)). is_some b) (get_or-set_same buffers frame new None within)
+            ∙ (mapped_some (get_or buffers frame None) index value ∙ ap (λ (n : ℕ). is_some (get_or buffers n None)) (sym same)))
+        | inr other ↦ ap (λ (b : Option (List ℕ)). is_some b) (get_or-set_other buffers frame f new None other)
+      ]
+      | inr past ↦ ap (λ (bs : List (Option (List ℕ))). is_some (get_or bs f None)) (set_past buffers frame new past)
+    ]
+
+-- two places of a list after a swap
+pub swapped_a : (buffers : List (Option (List ℕ))) (a b : ℕ) (x y : Option (List ℕ)) → (a ≡ b → ⊥) → a < length buffers → get_or (set (set buffers a y) b x) a None ≡ y
+swapped_a buffers a b x y apart a_in = get_or-set_other (set buffers a y) b a x None apart ∙ get_or-set_same buffers a y None a_in
+
+pub swapped_b : (buffers : List (Option (List ℕ))) (a b : ℕ) (x y : Option (List ℕ)) → b < length buffers → get_or (set (set buffers a y) b x) b None ≡ x
+swapped_b buffers a b x y b_in = get_or-set_same (set buffers a y) b x None (omega (arith, length-set buffers a y, b_in))
+
+-- two swaps
+pub swap_twice : (buffers : List (Option (List ℕ))) (a b : ℕ) → (a ≡ b → ⊥) → a < length buffers → b < length buffers
+    → let once = set (set buffers a (get_or buffers b None)) b (get_or buffers a None) in
+    set (set once a (get_or once b None)) b (get_or once a None) ≡ buffers
+swap_twice buffers a b apart a_in b_in =
+    let x = get_or buffers a None in
+    let y = get_or buffers b None in
+    let once = set (set buffers a y) b x in
+    ap (λ (z : Option (List ℕ)). set (set once a z) b (get_or once a None)) (swapped_b buffers a b x y b_in)
+    ∙ (ap (λ (z : Option (List ℕ)). set (set once a x) b z) (swapped_a buffers a b x y apart a_in)
+    ∙ (ap (λ (bs : List (Option (List ℕ))). set bs b y)
+    (set_comm (set buffers a y) b a x x (λ e. apart (sym e))
+    ∙ ap (λ (bs : List (Option (List ℕ))). set bs b x) (set-set buffers a y x ∙ set-get_or buffers a None))
+    ∙ (set-set buffers b x y ∙ set-get_or buffers b None)))
+
+-- ---- no pages
+
+-- a list by a function that is always nothing
+pub map_none : {X : Type 0} (f : ℕ → Option X) → ((n : ℕ) → f n ≡ None) → (first count : ℕ) → map f (range_with_len first count) ≡ replicate count None
+map_none f none first zero = refl
+map_none {X = X} f none first (suc count) =
+    ap (λ (x : Option X). x ∷ map f (range_with_len (first + 1) count)) (none first) ∙ ap (λ (xs : List (Option X)). None ∷ xs) (map_none f none (first + 1) count)
+
+-- the frame view of a layout without pages
+abbrev pub no_pages : LayoutParts → PageFrames
+no_pages l = record { table = replicate l.owners (replicate l.pages None); buffers = replicate (frame_count l) None }
+
+-- it is the frame view of no pages
+pub no_pages_is : (l : LayoutParts) → page_frames_of l (empty_pages l) ≡ no_pages l
+no_pages_is l =
+    ap (λ (b : List (Option (List ℕ))). record { table = replicate l.owners (replicate l.pages None); buffers = b })
+    (map_none (λ frame. option_and_then (λ page. words_at (empty_pages l) page.0 page.1) (page_at (empty_pages l) frame))
+    (λ frame. ap (option_and_then (λ page. words_at (empty_pages l) page.0 page.1)) (empty_first l.owners l.pages frame)) 0 (frame_count l))
+
+-- no buffer
+abbrev pub no_buffer : Option (List ℕ)
+no_buffer = None
+
+-- no frame has a buffer there
+pub none_read : (count frame : ℕ) → get_or (replicate count no_buffer) frame None ≡ None
+none_read zero frame = refl
+none_read (suc count) zero = refl
+none_read (suc count) (suc frame) = none_read count frame
+
+-- and it is settled
+pub settled_no_pages : (l : LayoutParts) → AreSettled (no_pages l)
+settled_no_pages l = record {
+  once = λ frame. omega (arith, page_from-None 0 (replicate l.owners (replicate l.pages None)) frame (empty_first l.owners l.pages frame));
+  buffers = λ frame.
+      ap (λ (b : Option (List ℕ)). is_some b) (none_read (frame_count l) frame)
+      ∙ sym (le-ltb 0 _ (omega (arith, page_from-None 0 (replicate l.owners (replicate l.pages None)) frame (empty_first l.owners l.pages frame))));
+}
+
+-- the new layer
+pub new_is : (l layout : LayoutParts) (rows : List (List (Option ℕ))) (buffers : List (Option (List ℕ))) → layout ≡ l
+    → rows ≡ replicate l.owners (replicate l.pages None) → buffers ≡ replicate (frame_count l) None
+    → value_of layout rows buffers ≡ record { layout = l; pages = page_frames_of l (empty_pages l) }
+new_is l layout rows buffers layout_is rows_are buffers_are =
+    ap (λ (k : LayoutParts). value_of k rows buffers) layout_is
+    ∙ (ap (λ (v : PageFrames). value_with l v) (same_frames rows (replicate l.owners (replicate l.pages None)) buffers (replicate (frame_count l) None) rows_are buffers_are)
+    ∙ ap (λ (v : PageFrames). value_with l v) (sym (no_pages_is l)))

@@ -1,0 +1,3 @@
+pub mod FrameSets
+pub mod Pages
+pub mod Places

@@ -1,0 +1,75 @@
+-- How many pages a frame holds, and which, told by a sum.
+use Rattle.std.specs.Prelude.{◌≡◌, ℕ, ◌+◌, ◌-◌, ◌*◌, ◌^◌, ◌<◌, ◌≤◌, List, [], ◌∷◌, Option, Some, None, IfSome, length, count_by, nat_lt, slice_index, slice_set, sum_by, if◌then◌else◌}
+use Rattle.std.specs.List.{AllByRecursion}
+use Rattle.hp_units.specs.Memory.{entry_of}
+use Rattle.hp_units.specs.Pages.{holds}
+use Rattle.hp_pages.specs.FrameSets.{has}
+
+-- how many pages of a table a frame holds (own rule)
+abbrev pub holders : List (List (Option ℕ)) → ℕ → ℕ
+holders table frame = sum_by (λ row. count_by (holds frame) row) table
+
+-- ---- the place of a page: counted from 1, an owner's pages in a row (own rule)
+
+abbrev pub place_of : (pages owner page : ℕ) → ℕ
+place_of pages owner page = 1 + owner * pages + page
+
+-- the place where an entry is a frame, else nothing
+abbrev pub held : ℕ → Option ℕ → ℕ → ℕ
+held frame entry place = if holds frame entry then place else 0
+
+-- the sum of the places at which a frame is in a row, whose first entry has a place, and in a table
+abbrev pub row_sum : (place : ℕ) → List (Option ℕ) → (frame : ℕ) → ℕ
+row_sum place [] frame = 0
+row_sum place (entry ∷ row) frame = held frame entry place + row_sum (place + 1) row frame
+
+abbrev pub table_sum : (pages place : ℕ) → List (List (Option ℕ)) → (frame : ℕ) → ℕ
+table_sum pages place [] frame = 0
+table_sum pages place (row ∷ table) frame = row_sum place row frame + table_sum pages (place + pages) table frame
+
+-- ---- the sums of all frames
+
+-- a place is added to the sum of an entry's frame, and taken from it
+abbrev pub joined : List ℕ → Option ℕ → (place : ℕ) → List ℕ
+joined sums None place = sums
+joined sums (Some frame) place = slice_set sums frame (slice_index sums frame + place)
+
+abbrev pub left : List ℕ → Option ℕ → (place : ℕ) → List ℕ
+left sums None place = sums
+left sums (Some frame) place = slice_set sums frame (slice_index sums frame - place)
+
+-- a place may be added to a frame's sum, and taken from it
+pub record CanJoin (sums : List ℕ) (place frame : ℕ) : Type 0 where
+  pub frame_in : frame < length sums
+  pub fits : slice_index sums frame + place < 2 ^ 64
+
+pub record CanLeave (sums : List ℕ) (place frame : ℕ) : Type 0 where
+  pub frame_in : frame < length sums
+  pub among : place ≤ slice_index sums frame
+
+-- a bit for each frame whose sum isn't 0
+pub record AreMarked (sums words : List ℕ) : Type 0 where
+  pub small : length sums ≤ 2 ^ 20
+  pub room : length sums < 64 * length words
+  pub marked : (frame : ℕ) → frame < length sums → has words frame ≡ nat_lt 0 (slice_index sums frame)
+
+-- ---- a table of so many frames, with rows of so many pages
+
+pub record TableValue : Type 0 where
+  pub frames : ℕ
+  pub pages : ℕ
+  pub rows : List (List (Option ℕ))
+
+-- the numbers of a table
+pub record IsTable (t : TableValue) : Type 0 where
+  pub frames : t.frames ≤ 2 ^ 20
+  pub some_pages : 1 ≤ t.pages
+  pub pages : t.pages ≤ 2 ^ 16
+  pub owners : length t.rows ≤ 64
+  pub rows : AllByRecursion (λ row. length row ≡ t.pages) t.rows
+  pub mapped : (owner page : ℕ) → IfSome (entry_of t.rows owner page) (λ frame. frame < t.frames)
+
+-- the sums are those of the table
+pub record AreSumsOf (t : TableValue) (sums : List ℕ) : Type 0 where
+  pub table : IsTable t
+  pub each : (frame : ℕ) → frame < t.frames → slice_index sums frame ≡ table_sum t.pages 1 t.rows frame

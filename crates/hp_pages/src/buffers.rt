@@ -1,0 +1,93 @@
+//! The buffers of words, by frame.
+ghost use Rattle.std.specs.Prelude.{◌≡◌, ◌<◌, IfOk, IfSome, None, Some, length, option_map, replicate, slice_index_or, slice_set};
+ghost use Rattle.hp_pages.specs.Pages.{without_new};
+
+use hp_units::{Frame, Words};
+use std::alloc::{AllocError, Global};
+use std::marker::Model;
+use std::mem::replace;
+
+/// For each frame its buffer of words, if it has one.
+#[derive(Debug, Drop)]
+pub(crate) struct Buffers {
+    frames: Vec<Option<Words>>,
+}
+
+impl Model for Buffers {
+    ghost use Rattle.std.specs.Prelude.{List, ℕ, Option};
+
+    ghost Value = { List (Option (List ℕ)) };
+
+    ghost view = { λ b. b.frames.items };
+}
+
+impl Buffers {
+    /// So many frames without a buffer.
+    pub(crate) fn none(alloc: Global, count: u32) -> Result<Buffers, AllocError>
+        ensures { IfOk result (λ buffers. buffers ≡ replicate count None) }
+    {
+        let mut frames = Vec::with_capacity(alloc, count as usize)?;
+        for _frame in 0..count {
+            frames.push(None)?;
+        }
+        Ok(Buffers { frames })
+    }
+
+    /// The words of a frame, if it has a buffer.
+    pub(crate) fn words(&self, frame: Frame) -> Option<&[u64]>
+        requires { frame < length self.now }
+        ensures { option_map (λ words. words.now) result ≡ slice_index_or self.now frame None }
+    {
+        match &self.frames[frame.0 as usize] {
+            Some(words) => Some(words.as_slice()),
+            None => None,
+        }
+    }
+
+    /// Gives a frame a buffer.
+    pub(crate) fn put(&mut self, frame: Frame, words: Words)
+        requires { frame < length self.old }
+        ensures { self.new ≡ slice_set self.old frame (Some words) }
+    {
+        self.frames[frame.0 as usize] = Some(words);
+    }
+
+    /// Takes a frame's buffer away, if it has one.
+    pub(crate) fn take(&mut self, frame: Frame) -> Option<Words>
+        requires { frame < length self.old }
+        ensures taken { result ≡ slice_index_or self.old frame None }
+        ensures gone { self.new ≡ slice_set self.old frame None }
+    {
+        replace(&mut self.frames[frame.0 as usize], None)
+    }
+
+    /// Lets the frame of a page that had none before lose its buffer.
+    pub(crate) fn clear_new(&mut self, was: Option<Frame>, now: Option<Frame>)
+        requires { IfSome now (λ frame. frame < length self.old) }
+        ensures { self.new ≡ without_new was now self.old }
+    {
+        if let (None, Some(frame)) = (was, now) {
+            self.frames[frame.0 as usize] = None;
+        }
+    }
+
+    /// Lets the buffers of two frames change places; no word is copied.
+    pub(crate) fn swap(&mut self, a: Frame, b: Frame)
+        requires a { a < length self.old }
+        requires b { b < length self.old }
+        ensures { self.new ≡ slice_set (slice_set self.old a (slice_index_or self.old b None)) b (slice_index_or self.old a None) }
+    {
+        self.frames.swap(a.0 as usize, b.0 as usize);
+    }
+
+    /// Changes one word of a frame, if it has a buffer.
+    pub(crate) fn set_word(&mut self, frame: Frame, index: u32, value: u64)
+        requires frame { frame < length self.old }
+        requires index { IfSome (slice_index_or self.old frame None) (λ words. index < length words) }
+        ensures { self.new ≡ slice_set self.old frame (option_map (λ words. slice_set words index value) (slice_index_or self.old frame None)) }
+    {
+        if let Some(words) = &mut self.frames[frame.0 as usize] {
+            words.set(index, value);
+        }
+    }
+}

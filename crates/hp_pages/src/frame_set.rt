@@ -1,0 +1,85 @@
+//! A set of frames, as a bitmap that is searched by words.
+ghost use Rattle.std.specs.Prelude.{◌≡◌, ℕ, ◌*◌, ◌<◌, ◌≤◌, ◌^◌, ◌/◌, ◌+◌, ◌==◌, IfOk, length, replicate, if◌then◌else◌};
+ghost use Rattle.std.specs.Int.{bit_at};
+ghost use Rattle.hp_pages.specs.FrameSets.{FindsLowest, bit_of, has};
+
+use hp_units::Frame;
+use std::alloc::{AllocError, Global};
+use std::marker::Model;
+
+/// A set of frames: 64 frames a word, the lowest bit first.
+#[derive(Debug, Drop)]
+pub(crate) struct FrameSet {
+    words: Vec<u64>,
+}
+
+impl Model for FrameSet {
+    ghost use Rattle.std.specs.Prelude.{List, ℕ};
+
+    ghost Value = { List ℕ };
+
+    ghost view = { λ s. s.words.items };
+}
+
+impl FrameSet {
+    /// No frame of so many, at most 2^20.
+    pub(crate) fn none(alloc: Global, frames: u32) -> Result<FrameSet, AllocError>
+        requires { frames ≤ 2 ^ 20 }
+        ensures none { IfOk result (λ set. set ≡ replicate (frames / 64 + 1) 0) }
+    {
+        let words = vec![in alloc; 0; (frames / 64 + 1) as usize]?;
+        Ok(FrameSet { words })
+    }
+
+    /// Puts a frame in or takes it out.
+    pub(crate) fn set(&mut self, frame: Frame, is_in: bool)
+        requires { frame < 64 * length self.old }
+        ensures len { length self.new ≡ length self.old }
+        ensures has { (n : ℕ) → has self.new n ≡ (if n == frame then is_in else has self.old n) }
+    {
+        let at = (frame.0 / 64) as usize;
+        self.words[at] = with_bit(self.words[at], frame.0 % 64, is_in);
+    }
+
+    /// The lowest frame of the set from one frame on and before another. A step for 64 frames.
+    pub(crate) fn lowest(&self, first: u32, past: u32) -> Option<Frame>
+        requires within { past ≤ 64 * length self.now }
+        requires small { past ≤ 2 ^ 20 }
+        ensures { FindsLowest (has self.now) first past result }
+    {
+        let mut at = first;
+        while at < past {
+            if let Some(bit) = lowest_bit(self.words[(at / 64) as usize], at % 64) {
+                let found = at / 64 * 64 + bit;
+                return if found < past {
+                    Some(Frame(found))
+                } else {
+                    None
+                };
+            }
+            at = at / 64 * 64 + 64;
+        }
+        None
+    }
+}
+
+/// A word with one bit set or cleared, counted from the lowest.
+fn with_bit(word: u64, at: u32, is_in: bool) -> u64
+    requires { at < 64 }
+    ensures { (i : ℕ) → i < 64 → bit_at result i ≡ (if i == at then bit_of is_in else bit_at word i) }
+{
+    let bit = 1u64 << at;
+    if is_in { word | bit } else { word & !bit }
+}
+
+/// The lowest bit of a word that is 1, from one bit on.
+fn lowest_bit(word: u64, from: u32) -> Option<u32>
+    requires { from < 64 }
+    ensures { FindsLowest (λ i. bit_at word i == 1) from 64 result }
+{
+    let rest = word >> from;
+    if rest == 0 {
+        return None;
+    }
+    Some(from + rest.trailing_zeros())
+}

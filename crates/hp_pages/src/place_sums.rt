@@ -1,0 +1,85 @@
+//! For each frame the sum of the places of its pages.
+ghost use Rattle.std.specs.Prelude.{◌≡◌, ◌+◌, ◌<◌, ◌≤◌, ◌^◌, IfOk, IfSome, length, nat_lt, replicate, slice_index, slice_set};
+ghost use Rattle.hp_pages.specs.FrameSets.{FindsLowest};
+ghost use Rattle.hp_pages.specs.Places.{CanJoin, CanLeave, joined, left};
+
+use crate::frame_set::FrameSet;
+use hp_units::Frame;
+use std::alloc::{AllocError, Global};
+use std::marker::Model;
+
+/// For each frame the sum of the places, counted from 1, of the pages that it holds: 0 where it holds none, and the place of its
+/// page where it holds one. A sum, since the opposite of a delta may leave a frame to two pages for a while, and then to either.
+#[derive(Debug, Drop)]
+pub(crate) struct PlaceSums {
+    sums: Vec<u64>,
+    mapped: FrameSet,
+}
+
+impl Model for PlaceSums {
+    ghost use Rattle.std.specs.Prelude.{List, ℕ};
+    ghost use Rattle.hp_pages.specs.Places.{AreMarked};
+
+    ghost Value = { List ℕ };
+
+    ghost view = { λ s. s.sums.items };
+
+    ghost invariant = { λ s. AreMarked s.sums.items s.mapped };
+}
+
+impl PlaceSums {
+    /// Frames without pages, at most 2^20.
+    pub(crate) fn none(alloc: Global, frames: u32) -> Result<PlaceSums, AllocError>
+        requires { frames ≤ 2 ^ 20 }
+        ensures { IfOk result (λ sums. sums ≡ replicate frames 0) }
+    {
+        let sums = vec![in alloc; 0; frames as usize]?;
+        let mapped = FrameSet::none(alloc, frames)?;
+        Ok(PlaceSums { sums, mapped })
+    }
+
+    /// The sum of a frame.
+    pub(crate) fn at(&self, frame: Frame) -> u64
+        requires { frame < length self.now }
+        ensures { result ≡ slice_index self.now frame }
+    {
+        self.sums[frame.0 as usize]
+    }
+
+    /// Adds the place of a page that a frame gets, if it gets one.
+    pub(crate) fn join(&mut self, frame: Option<Frame>, place: u64)
+        requires { IfSome frame (CanJoin self.old place) }
+        ensures { self.new ≡ joined self.old frame place }
+    {
+        if let Some(frame) = frame {
+            self.set(frame, self.at(frame) + place);
+        }
+    }
+
+    /// Takes off the place of a page that leaves a frame, if it was at one.
+    pub(crate) fn leave(&mut self, frame: Option<Frame>, place: u64)
+        requires { IfSome frame (CanLeave self.old place) }
+        ensures { self.new ≡ left self.old frame place }
+    {
+        if let Some(frame) = frame {
+            self.set(frame, self.at(frame) - place);
+        }
+    }
+
+    /// Sets the sum of a frame.
+    fn set(&mut self, frame: Frame, sum: u64)
+        requires { frame < length self.old }
+        ensures { self.new ≡ slice_set self.old frame sum }
+    {
+        self.sums[frame.0 as usize] = sum;
+        self.mapped.set(frame, sum != 0);
+    }
+
+    /// The lowest frame with pages, from one frame on and before another. A step for 64 frames.
+    pub(crate) fn lowest(&self, first: u32, past: u32) -> Option<Frame>
+        requires { past ≤ length self.now }
+        ensures { FindsLowest (λ frame. nat_lt 0 (slice_index self.now frame)) first past result }
+    {
+        self.mapped.lowest(first, past)
+    }
+}

@@ -1,0 +1,164 @@
+//! The table of pages, both ways.
+ghost use Rattle.std.specs.Prelude.{◌≡◌, ◌+◌, ◌*◌, ◌<◌, ◌≤◌, ◌^◌, IfOk, IfSome, None, find, is_some, length, replicate, slice_index_or, slice_set};
+ghost use Rattle.hp_units.specs.Memory.{entry_of, with_entry};
+ghost use Rattle.hp_units.specs.Pages.{page_from};
+ghost use Rattle.std.specs.List.{range_with_len};
+ghost use Rattle.hp_pages.specs.Places.{IsTable, holders, place_of};
+
+use crate::place_sums::PlaceSums;
+use hp_units::{Frame, Owner, Page};
+use std::alloc::{AllocError, Global};
+use std::marker::Model;
+
+/// The frames of one owner's pages.
+#[derive(Debug, Drop)]
+struct PageRow {
+    frames: Vec<Option<Frame>>,
+}
+
+impl Model for PageRow {
+    ghost use Rattle.std.specs.Prelude.{List, ℕ, Option};
+
+    ghost Value = { List (Option ℕ) };
+
+    ghost view = { λ r. r.frames.items };
+}
+
+impl PageRow {
+    /// So many pages, none mapped.
+    fn empty(alloc: Global, pages: u32) -> Result<PageRow, AllocError>
+        ensures { IfOk result (λ row. row ≡ replicate pages None) }
+    {
+        let frames = vec![in alloc; None; pages as usize]?;
+        Ok(PageRow { frames })
+    }
+
+    /// The frame of a page, if it is mapped.
+    fn at(&self, page: Page) -> Option<Frame>
+        requires { page < length self.now }
+        ensures { result ≡ slice_index_or self.now page None }
+    {
+        self.frames[page.0 as usize]
+    }
+
+    /// Sets the frame of a page.
+    fn set(&mut self, page: Page, frame: Option<Frame>)
+        requires { page < length self.old }
+        ensures { self.new ≡ slice_set self.old page frame }
+    {
+        self.frames[page.0 as usize] = frame;
+    }
+}
+
+/// Which frame holds each page, and which page each frame holds.
+#[derive(Debug, Drop)]
+pub(crate) struct Table {
+    pages: u32,
+    rows: Vec<PageRow>,
+    sums: PlaceSums,
+}
+
+impl Model for Table {
+    ghost use Rattle.std.specs.Prelude.{length};
+    ghost use Rattle.hp_pages.specs.Places.{AreSumsOf, TableValue};
+
+    ghost Value = { TableValue };
+
+    ghost view = { λ t. record { frames = length t.sums; pages = t.pages; rows = t.rows.items } };
+
+    ghost invariant = { λ t. AreSumsOf (record { frames = length t.sums; pages = t.pages; rows = t.rows.items }) t.sums };
+}
+
+impl Table {
+    /// So many owners with so many pages, none mapped, and so many frames: at most 64, 2^16 and 2^20, and at least one page.
+    pub(crate) fn empty(
+        alloc: Global,
+        owners: u32,
+        pages: u32,
+        frames: u32,
+    ) -> Result<Table, AllocError>
+        requires owners { owners ≤ 64 }
+        requires some_pages { 1 ≤ pages }
+        requires pages { pages ≤ 2 ^ 16 }
+        requires frames { frames ≤ 2 ^ 20 }
+        ensures { IfOk result (λ t. t ≡ record { frames = frames; pages = pages; rows = replicate owners (replicate pages None) }) }
+    {
+        let rows = empty_rows(alloc, owners, pages)?;
+        let sums = PlaceSums::none(alloc, frames)?;
+        Ok(Table { pages, rows, sums })
+    }
+
+    /// The frame of a page, if it is mapped.
+    pub(crate) fn frame_at(&self, owner: Owner, page: Page) -> Option<Frame>
+        requires owner { owner < length self.now.rows }
+        requires page { page < self.now.pages }
+        ensures frame { result ≡ entry_of self.now.rows owner page }
+        ensures table { IsTable self.now }
+    {
+        self.rows[owner.0 as usize].at(page)
+    }
+
+    /// The page that a frame holds, where it holds at most one.
+    pub(crate) fn page_at(&self, frame: Frame) -> Option<(Owner, Page)>
+        requires frame { frame < self.now.frames }
+        requires once { holders self.now.rows frame ≤ 1 }
+        ensures page { result ≡ page_from 0 self.now.rows frame }
+        ensures table { IsTable self.now }
+    {
+        let sum = self.sums.at(frame);
+        if sum == 0 {
+            return None;
+        }
+        let before = sum - 1;
+        let pages = self.pages as u64;
+        Some((
+            Owner((before / pages) as u32),
+            Page((before % pages) as u32),
+        ))
+    }
+
+    /// Gives a page a frame, or none.
+    pub(crate) fn set(&mut self, owner: Owner, page: Page, now: Option<Frame>)
+        requires owner { owner < length self.old.rows }
+        requires page { page < self.old.pages }
+        requires frame { IfSome now (λ frame. frame < self.old.frames) }
+        ensures set { self.new ≡ record self.old { rows = with_entry self.old.rows owner page now } }
+        ensures was_table { IsTable self.old }
+    {
+        let entry = now; // a copy, since two calls take the entry
+        let place = self.place(owner, page);
+        let was = self.frame_at(owner, page);
+        self.sums.leave(was, place);
+        let row = &mut self.rows[owner.0 as usize];
+        row.set(page, entry);
+        self.sums.join(now, place);
+    }
+
+    /// The lowest frame with a page, of so many frames from one on. A step for 64 frames.
+    pub(crate) fn lowest(&self, first: u32, count: u32) -> Option<Frame>
+        requires { first + count ≤ self.now.frames }
+        ensures { result ≡ find (λ frame. is_some (page_from 0 self.now.rows frame)) (range_with_len first count) }
+    {
+        self.sums.lowest(first, first + count)
+    }
+
+    /// The place of a page, counted from 1.
+    fn place(&self, owner: Owner, page: Page) -> u64
+        requires owner { owner < length self.now.rows }
+        requires page { page < self.now.pages }
+        ensures { result ≡ place_of self.now.pages owner page }
+    {
+        1 + owner.0 as u64 * self.pages as u64 + page.0 as u64
+    }
+}
+
+/// So many rows of so many pages, none mapped.
+fn empty_rows(alloc: Global, owners: u32, pages: u32) -> Result<Vec<PageRow>, AllocError>
+    ensures { IfOk result (λ rows. rows.items ≡ replicate owners (replicate pages None)) }
+{
+    let mut rows = Vec::with_capacity(alloc, owners as usize)?;
+    for _owner in 0..owners {
+        rows.push(PageRow::empty(alloc, pages)?)?;
+    }
+    Ok(rows)
+}

@@ -1,0 +1,77 @@
+//! What was done to the state, so that it can be undone.
+use hp_units::{
+    Auto, Block, Class, Cpu, Frame, Kind, Order, Owner, Page, Pageblock, Pool, Row, Words,
+};
+
+/// A list of frames.
+#[derive(Clone, Copy, Debug, PartialEq, Eq, Drop)]
+pub enum ListId {
+    /// The free blocks of a class and an order.
+    Area { class: Class, order: Order },
+    /// The single frames of a pool in a processor's list.
+    Cpu { cpu: Cpu, pool: Pool },
+}
+
+/// One small change of the state, with what its opposite needs (own rule). None holds a list of frames or a state.
+#[derive(Debug, Drop)]
+pub enum Delta {
+    /// A frame was put behind another, or at the front.
+    Link {
+        list: ListId,
+        frame: Frame,
+        after: Option<Frame>,
+    },
+    /// A frame left its place behind another, or at the front.
+    Unlink {
+        list: ListId,
+        frame: Frame,
+        after: Option<Frame>,
+    },
+    /// A pageblock's mobility or its isolation changed.
+    Kind {
+        pageblock: Pageblock,
+        was: Kind,
+        now: Kind,
+    },
+    /// A kernel's block began or ended at a frame.
+    Kernel {
+        frame: Frame,
+        was: Option<Order>,
+        now: Option<Order>,
+    },
+    /// An owner's page got a frame, lost it or changed it.
+    Map {
+        owner: Owner,
+        page: Page,
+        was: Option<Frame>,
+        now: Option<Frame>,
+    },
+    /// The buffers of two frames changed places.
+    Swap {
+        a: Frame,
+        b: Frame,
+    },
+    /// One word in the buffer of a frame changed; words are counted from 0.
+    Word {
+        frame: Frame,
+        index: u32,
+        was: u64,
+        now: u64,
+    },
+    /// The buffer of a frame moved into the journal.
+    Emptied {
+        frame: Frame,
+        words: Words,
+    },
+    /// The row of a memory block changed.
+    Row {
+        block: Block,
+        was: Row,
+        now: Row,
+    },
+    /// What an added memory block becomes changed.
+    Auto {
+        was: Auto,
+        now: Auto,
+    },
+}

@@ -1,0 +1,71 @@
+//! The list of deltas that a step notes.
+ghost use Rattle.std.specs.Prelude.{◌≡◌, ◌<◌, ◌≤◌, [], ◌∷◌, ◌++◌, length, IfOk, MatchOption};
+
+use crate::deltas::Delta;
+use std::alloc::{AllocError, Global};
+use std::marker::Model;
+
+/// The deltas of a step, oldest first, and room for more: noting takes no memory.
+#[derive(Debug, Drop)]
+pub struct Tape {
+    deltas: Vec<Delta>,
+}
+
+impl Model for Tape {
+    ghost use Rattle.std.specs.Prelude.{vec_capacity};
+    ghost use Rattle.hp_tape.specs.Tapes.{TapeValue};
+
+    ghost Value = { TapeValue };
+
+    ghost view = { λ t. record { room = vec_capacity t.deltas; deltas = t.deltas.items } };
+}
+
+impl Tape {
+    /// A tape with room for `n` deltas and none noted.
+    pub fn with_room(alloc: Global, n: usize) -> Result<Tape, AllocError>
+        ensures room { IfOk result (λ tape. tape.room ≡ n) }
+        ensures none { IfOk result (λ tape. tape.deltas ≡ []) }
+    {
+        let deltas = Vec::with_capacity(alloc, n)?;
+        Ok(Tape { deltas })
+    }
+
+    /// Notes one more delta, for which there is room.
+    pub fn note(&mut self, delta: Delta)
+        requires { length self.old.deltas < self.old.room }
+        ensures room { self.new.room ≡ self.old.room }
+        ensures noted { self.new.deltas ≡ self.old.deltas ++ delta ∷ [] }
+    {
+        self.deltas.push_reserved(delta);
+    }
+
+    /// Takes the latest delta out.
+    pub fn latest(&mut self) -> Option<Delta>
+        ensures latest { MatchOption result ((self.old.deltas ≡ []) × (self.new.deltas ≡ [])) (λ delta. self.old.deltas ≡ self.new.deltas ++ delta ∷ []) }
+        ensures room { self.new.room ≡ self.old.room }
+    {
+        self.deltas.pop()
+    }
+
+    /// The deltas, oldest first.
+    pub fn as_slice(&self) -> &[Delta]
+        ensures { result.now ≡ self.now.deltas }
+    {
+        self.deltas.as_slice()
+    }
+
+    /// How many deltas are noted.
+    pub fn len(&self) -> usize
+        ensures { result ≡ length self.now.deltas }
+    {
+        self.deltas.len()
+    }
+
+    /// Gives back the room that no delta uses.
+    pub fn trim(&mut self)
+        ensures deltas { self.new.deltas ≡ self.old.deltas }
+        ensures room { self.new.room ≤ self.old.room }
+    {
+        self.deltas.shrink_to_fit();
+    }
+}
