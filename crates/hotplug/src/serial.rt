@@ -1,6 +1,5 @@
 //! The text of a scenario.
 ghost use Rattle.std.specs.Prelude.{◌≡◌, ◌++◌, true, OnOk, IfOk, IfErr, string_bytes};
-ghost use Rattle.hp_units.specs.Handled.{is_handled};
 ghost use Rattle.hp_workers.specs.Gives.{Fails};
 ghost use Rattle.hp_workers.specs.Handled.{are_handled, is_handled_work};
 ghost use Rattle.hotplug.specs.Serial.{event_text, machine_after_event, reply_line, GrowsBy, Writes, WritesLine, WritesLines, serial_text};
@@ -70,7 +69,6 @@ fn write_event(
     cpu: Cpu,
     event: &Event,
 ) -> Result<(), AllocError>
-    requires { is_handled event.now ≡ true }
     ensures { OnOk result (GrowsBy (string_bytes out.old) (string_bytes out.new) (λ text. Writes machine.old (event_text machine.old cpu event.now) (machine_after_event machine.old cpu event.now) text machine.new)) }
 {
     match machine.call(alloc, cpu, event) {

@@ -4,17 +4,20 @@ use Rattle.std.specs.Prelude.{◌&&◌, not, nat_le, unwrap_or, if◌then◌else
 use Rattle.std.proofs.lemmas.List.{take-map, map_push, length_push}
 use Rattle.std.proofs.lemmas.Bool.{or_parts, leb-false, and_cases, not-false}
 use Rattle.hp_units.specs.Memory.{Memory}
-use Rattle.hp_units.specs.LayoutParts.{LayoutParts}
+use Rattle.hp_units.specs.LayoutParts.{IsLayout, LayoutParts}
+use Rattle.hp_units.specs.Placement.{IsWellPlaced}
 use Rattle.hp_units.specs.Step.{step}
 use Rattle.hp_units.specs.Marks.{tag_of}
 use Rattle.hp_units.specs.History.{is_look, is_refused, net_of, run, value_of, reply_of, IsLegal}
 use Rattle.hp_plain.specs.Image.{Pictured}
 use Rattle.hp_laws.proofs.Net.{net-push, run-push, legal_push}
 use Rattle.hp_laws.proofs.Steps.{steps, is_look_effect}
+use Rattle.hp_laws.proofs.EventSteps.{value-placed}
+use Rattle.hp_laws.proofs.NetContents.{value-contents}
 use Rattle.hp_machine.specs.declared.journal.Entry.{Entry}
 use Rattle.hp_units.specs.declared.replies.Receipt.{Receipt}
 use Rattle.hp_machine.specs.Entries.{tags_of, images_of}
-use Rattle.hp_machine.specs.Machine.{MachineValue, IsHistory, IsCalled, is_full, last_serial, record_of}
+use Rattle.hp_machine.specs.Machine.{MachineValue, IsHistory, IsCalled, IsSound, is_full, last_serial, record_of}
 use Rattle.hp_machine.specs.Kept.{IsJournal, IsMachine, IsCut, IsStep, pictured}
 use Rattle.hp_machine.proofs.Names.{Event, Reply, Record, Tag}
 use Rattle.hp_machine.proofs.Journals.{journal_none, journal_take, journal_push, journal_back}
@@ -35,16 +38,26 @@ abbrev pub called : MachineValue → ℕ → Receipt → Memory → MachineValue
 called m cpu r state = record m { history = m.history ++ record_of cpu r ∷ []; state = state }
 
 -- a machine with no records yet
-pub new_machine : (l : LayoutParts) (before : ℕ) (base : Memory) (image : Pictured) (h : List Record) (es : List Entry) → image ≡ pictured l base → h ≡ [] → es ≡ [] → before < 2 ^ 64
+pub new_machine : (l : LayoutParts) (before : ℕ) (base : Memory) (image : Pictured) (h : List Record) (es : List Entry) → image ≡ pictured l base → h ≡ [] → es ≡ [] → before < 2 ^ 64 → IsLayout l → IsWellPlaced l base
     → IsMachine (record { layout = image.layout; before = before; base = base; history = h; state = image.memory }) (tags_of es) (images_of es)
 unfolding value_of net_of run
-new_machine l before base image h es is none empty fits =
-    rw (none, empty) (record {
-      history = record { legal = λ n r e. absurd cc; state = ap (λ (i : Pictured). i.memory) is };
-      journal = journal_none image.layout base;
+new_machine l before base image h es is none empty fits limits placed =
+    rw (none, empty, is) (record {
+      limits = limits;
+      placed = placed;
+      history = record { legal = λ n r e. absurd cc; state = refl };
+      journal = journal_none l base;
       few = omega arith;
       fits = omega arith;
     })
+
+-- what a user relies on follows from what a machine keeps
+pub sound : (m : MachineValue) (tags : List Tag) (images : List Pictured) → IsMachine m tags images → IsSound m
+sound m tags images ok = record {
+  limits = ok.limits;
+  placed = subst (λ (s : Memory). IsWellPlaced m.layout s) (sym ok.history.state) (value-placed m.layout m.base m.history ok.limits ok.placed);
+  contents = ap (λ (s : Memory). s.pages.contents) ok.history.state ∙ value-contents m.layout m.base m.before m.history ok.history.legal;
+}
 
 -- ---- going back
 
@@ -68,6 +81,8 @@ cut_machine : (m : MachineValue) (tags : List Tag) (images : List Pictured) (cpu
 cut_machine m tags images cpu keep r ok free cut serial =
     let space = room m free in
     record {
+      limits = ok.limits;
+      placed = ok.placed;
       history = record { legal = follows m cpu r serial cut.answers ok.history.legal; state = refl };
       journal = rw (cut_net m cpu keep r cut) (journal_take m.layout m.base (net_of m.history) tags images keep cut.within ok.journal);
       few = omega (arith, space.0, length_push m.history (record_of cpu r));
@@ -190,6 +205,8 @@ made_machine : (m : MachineValue) (tags : List Tag) (images : List Pictured) (cp
 made_machine m tags images cpu r tag old new made =
     let space = room m made.free in
     record {
+      limits = made.machine.limits;
+      placed = made.machine.placed;
       history = record { legal = follows m cpu r made.serial (made_reply m tags images cpu r tag old new made) made.machine.history.legal; state = refl };
       journal = rw (made_net m tags images cpu r tag old new made) (made_journal m tags images cpu r tag old new made (is_kept r));
       few = omega (arith, space.0, length_push m.history (record_of cpu r));

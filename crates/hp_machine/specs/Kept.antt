@@ -1,8 +1,9 @@
 -- What a machine keeps beside its value, and what the parts of a call are to each other.
 use Rattle.std.specs.Prelude.{ℕ, ◌≡◌, ◌+◌, ◌^◌, ◌<◌, ◌≤◌, Bool, ◌||◌, ◌&&◌, not, nat_lt, if◌then◌else◌, List, [], ◌∷◌, ◌++◌, Some, length, take, map, slice_get}
-use Rattle.hp_units.specs.LayoutParts.{LayoutParts}
+use Rattle.hp_units.specs.LayoutParts.{IsLayout, LayoutParts}
 use Rattle.hp_units.specs.Memory.{Memory}
 use Rattle.hp_units.specs.Marks.{tag_of}
+use Rattle.hp_units.specs.Placement.{IsWellPlaced}
 use Rattle.hp_units.specs.Step.{step}
 use Rattle.hp_units.specs.History.{is_look, is_refused, net_of, net_with, reply_of, run, value_of}
 use Rattle.hp_units.specs.declared.events.Event.{Event}
@@ -24,6 +25,8 @@ pub record IsJournal (l : LayoutParts) (base : Memory) (net : List Record) (tags
 
 -- what every machine keeps
 pub record IsMachine (m : MachineValue) (tags : List Tag) (images : List Pictured) : Type 0 where
+  pub limits : IsLayout m.layout
+  pub placed : IsWellPlaced m.layout m.base
   pub history : IsHistory m
   pub journal : IsJournal m.layout m.base (net_of m.history) tags images
   pub few : length m.history ≤ m.layout.history

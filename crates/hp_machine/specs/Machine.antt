@@ -1,9 +1,11 @@
 -- What a contract sees of a machine, what every machine keeps, and what a call does.
 use Rattle.std.specs.Prelude.{ℕ, ◌≡◌, ◌+◌, Bool, ◌||◌, List, [], ◌∷◌, ◌++◌, length, nat_le}
-use Rattle.hp_units.specs.LayoutParts.{LayoutParts}
+use Rattle.hp_units.specs.LayoutParts.{IsLayout, LayoutParts}
 use Rattle.hp_units.specs.Memory.{Memory}
 use Rattle.hp_units.specs.Boot.{boot_memory}
-use Rattle.hp_units.specs.History.{IsLegal, reply_of, value_of}
+use Rattle.hp_units.specs.Contents.{contents_of_net}
+use Rattle.hp_units.specs.History.{IsLegal, net_of, reply_of, value_of}
+use Rattle.hp_units.specs.Placement.{IsWellPlaced}
 use Rattle.hp_units.specs.declared.events.Event.{Event}
 use Rattle.hp_units.specs.declared.replies.Record.{Record}
 use Rattle.hp_units.specs.declared.replies.Receipt.{Receipt}
@@ -25,6 +27,13 @@ booted l = record { layout = l; before = 0; base = boot_memory l; history = []; 
 pub record IsHistory (m : MachineValue) : Type 0 where
   pub legal : IsLegal m.layout m.base m.before m.history
   pub state : m.state ≡ value_of m.layout m.base m.history
+
+-- what a user relies on in every machine: its layout is within the limits, each frame is in exactly one place, and its pages
+-- hold what Map, Unmap and Write of the steps that are not undone make of the base's pages
+pub record IsSound (m : MachineValue) : Type 0 where
+  pub limits : IsLayout m.layout
+  pub placed : IsWellPlaced m.layout m.state
+  pub contents : m.state.pages.contents ≡ contents_of_net m.layout m.base.pages.contents (net_of m.history)
 
 -- the history holds its limit, or there is no further serial
 abbrev pub is_full : MachineValue → Bool

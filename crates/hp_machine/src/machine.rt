@@ -1,6 +1,5 @@
 //! A machine with its history.
-ghost use Rattle.std.specs.Prelude.{◌≡◌, ◌↔◌, ◌+◌, ◌∷◌, ◌++◌, [], false, true, Err, Some, IfErr, IfOk, IfNone, IfSome, OnErr, IsTrue, length, min, slice_get};
-ghost use Rattle.hp_units.specs.Handled.{is_handled};
+ghost use Rattle.std.specs.Prelude.{◌≡◌, ◌↔◌, ◌+◌, ◌∷◌, ◌++◌, [], false, true, Err, Some, IfErr, IfOk, IfNone, IfSome, OnErr, IsTrue, length, slice_get};
 ghost use Rattle.hp_units.specs.History.{net_of};
 ghost use Rattle.hp_units.specs.Memory.{free_list};
 ghost use Rattle.hp_units.specs.Pages.{frame_at};
@@ -8,7 +7,7 @@ ghost use Rattle.hp_units.specs.Step.{step};
 ghost use Rattle.hp_units.specs.declared.events.Event.TheVariants.{Cancel, UndoAfter};
 ghost use Rattle.hp_units.specs.declared.replies.Reply.TheVariants.{Restored};
 ghost use Rattle.hp_machine.specs.Kept.{IsCut, IsStep, is_gone};
-ghost use Rattle.hp_machine.specs.Machine.{IsCalled, IsHistory, booted, is_full, last_serial};
+ghost use Rattle.hp_machine.specs.Machine.{IsCalled, IsHistory, IsSound, booted, is_full, last_serial};
 
 use crate::journal::{Entry, cut, keep_step, kept_len, sole_place};
 use hp_plain::Image;
@@ -63,7 +62,6 @@ impl Machine {
     /// holds its limit of records or the last serial is 2^64 - 1, and otherwise `OutOfMemory` where memory is wanting; then
     /// all is as before.
     pub fn call(&mut self, alloc: Global, cpu: Cpu, event: &Event) -> Result<Receipt, CallFault>
-        requires handled { is_handled event.now ≡ true }
         ensures full { (result ≡ Err CallFault.HistoryFull) ↔ IsTrue (is_full self.old) }
         ensures err { OnErr result (self.new ≡ self.old) }
         ensures ok { IfOk result (λ receipt. IsCalled self.old cpu event.now receipt self.new) }
@@ -84,10 +82,12 @@ impl Machine {
         self.image.layout()
     }
 
-    /// The records since the last seal, oldest first. Every machine keeps its history legal, and its state that of the history.
+    /// The records since the last seal, oldest first. Every machine keeps its history legal, its state that of the history,
+    /// each frame in exactly one place, and in its pages what the owners' steps wrote.
     pub fn history(&self) -> &[Record]
         ensures records { result.now ≡ self.now.history }
         ensures kept { IsHistory self.now }
+        ensures sound { IsSound self.now }
     {
         self.history.as_slice()
     }
@@ -107,12 +107,11 @@ impl Machine {
         self.image.list(class, order).first().copied()
     }
 
-    /// How many free blocks of 2^order frames a class has, at most 2^32 - 1; 0 past the greatest order (Gorman, chapter 6:
-    /// nr_free).
+    /// How many free blocks of 2^order frames a class has; 0 past the greatest order (Gorman, chapter 6: nr_free).
     pub fn list_len(&self, class: Class, order: Order) -> u32
-        ensures { result ≡ min (length (free_list self.now.state.free.areas class order)) 4294967295 }
+        ensures { result ≡ length (free_list self.now.state.free.areas class order) }
     {
-        self.image.list(class, order).len().min(u32::MAX as usize) as u32
+        self.image.list(class, order).len() as u32
     }
 
     /// The row of a memory block (Linux, memory hotplug: state). None past the last block.
@@ -162,7 +161,6 @@ impl Machine {
     /// Answers and records an event, for which the history has room. An undo goes back, and so does a Cancel where nothing
     /// but its operation's own work stands behind its Begin; any other event makes a step.
     fn answer(&mut self, alloc: Global, cpu: Cpu, event: &Event) -> Result<Receipt, AllocError>
-        requires handled { is_handled event.now ≡ true }
         requires free { is_full self.old ≡ false }
         ensures err { OnErr result (self.new ≡ self.old) }
         ensures ok { IfOk result (λ receipt. IsCalled self.old cpu event.now receipt self.new) }
@@ -207,7 +205,6 @@ impl Machine {
 
     /// The reply that a step of the event would get.
     fn try_step(&self, alloc: Global, cpu: Cpu, event: &Event) -> Result<Reply, AllocError>
-        requires handled { is_handled event.now ≡ true }
         requires free { is_full self.now ≡ false }
         ensures { IfOk result (λ reply. reply ≡ (step self.now.layout self.now.state (last_serial self.now + 1) cpu event.now).reply) }
     {
@@ -264,7 +261,6 @@ impl Machine {
 
     /// Makes a step of the event, and records the answer. It takes its memory before it changes anything.
     fn act(&mut self, alloc: Global, cpu: Cpu, event: &Event) -> Result<Receipt, AllocError>
-        requires handled { is_handled event.now ≡ true }
         requires free { is_full self.old ≡ false }
         requires step { IsStep self.old cpu event.now }
         ensures err { OnErr result (self.new ≡ self.old) }

@@ -14,7 +14,7 @@ use Rattle.hp_plain.specs.Names.{Zone, Movable}
 use Rattle.hp_plain.proofs.FramesInLayout.{of_back}
 
 -- numbers from one on, one number further
-range_push : (a n : ℕ) → range_with_len a (suc n) ≡ range_with_len a n ++ (a + n) ∷ []
+pub range_push : (a n : ℕ) → range_with_len a (suc n) ≡ range_with_len a n ++ (a + n) ∷ []
 range_push a zero = ap (λ (k : ℕ). k ∷ []) (omega arith)
 range_push a (suc n) = ap (λ (xs : List ℕ). a ∷ xs) (range_push (a + 1) n ∙ ap (λ (k : ℕ). range_with_len (a + 1) n ++ k ∷ []) (omega arith))
 

@@ -1,12 +1,18 @@
 -- What an event of a processor that there is answers, and does.
-use Rattle.std.specs.Prelude.{ℕ}
+use Rattle.std.specs.Prelude.{ℕ, List}
 use Rattle.hp_units.specs.declared.events.Event.{Event}
+use Rattle.hp_units.specs.declared.events.Event.TheVariants.{Begin}
+use Rattle.hp_units.specs.declared.plans.Item.{Item}
 use Rattle.hp_units.specs.Choices.{first_some}
 use Rattle.hp_units.specs.LayoutParts.{LayoutParts}
 use Rattle.hp_units.specs.Memory.{Memory}
-use Rattle.hp_units.specs.Refusals.{event_refusals}
+use Rattle.hp_units.specs.Refusals.{event_refusals, plan_refusals}
 use Rattle.hp_units.specs.Step.{Answered, answer}
 
 -- the answer to an event whose step doesn't read its serial, of a processor that is in the layout
 abbrev pub asked : LayoutParts → Memory → (cpu : ℕ) → Event → Answered
 asked l s cpu event = answer l s 0 cpu event (first_some (event_refusals l s cpu event))
+
+-- the answer to a Begin of a processor that is in the layout
+abbrev pub opened : LayoutParts → Memory → (serial : ℕ) → List Item → Answered
+opened l s serial plan = answer l s serial 0 (Begin plan) (first_some (plan_refusals l s plan))

@@ -7,12 +7,13 @@ ghost use Rattle.hp_units.specs.InLayout.{AreFreeAreasOf};
 ghost use Rattle.hp_units.specs.Memory.{class_index, free_list, kind_of, with_kind};
 ghost use Rattle.hp_plain.specs.Took.{Took};
 
+mod checks;
 mod classes;
+mod isolation;
 mod kinds;
+mod migrations;
 mod moves;
 mod searches;
-#[cfg(test)]
-mod tests;
 
 use crate::lists::FrameList;
 use crate::lists::many::{copy_of_lists, empty_lists, same_lists};

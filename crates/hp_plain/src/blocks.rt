@@ -4,6 +4,9 @@ ghost use Rattle.hp_units.specs.Boot.{empty_blocks};
 ghost use Rattle.hp_units.specs.Memory.{row_of, with_row};
 ghost use Rattle.hp_units.specs.Rows.{zone_of_block};
 
+pub(crate) mod claims;
+pub(crate) mod plans;
+
 use hp_units::{Auto, Block, Claim, Layout, Row, State, Zone};
 use std::alloc::{AllocError, Global};
 use std::marker::Model;

@@ -7,8 +7,12 @@ ghost use Rattle.hp_units.specs.InLayout.{AreFreeAreasOf, AreFreeFramesOf};
 ghost use Rattle.hp_units.specs.Isolation.{add_block};
 ghost use Rattle.hp_units.specs.Memory.{cached_list, pool_index, with_cached_list, with_kind};
 
+mod drains;
 mod gives;
+mod isolation;
 mod lists;
+mod migrations;
+mod page_frames;
 mod pools;
 mod takes;
 

@@ -1,15 +1,23 @@
 //! A whole state as plain lists.
-ghost use Rattle.std.specs.Prelude.{◌≡◌, ◌≢◌, true, IfOk, MatchBool, OnErr, OnOk, option_map, slice_get};
+ghost use Rattle.std.specs.Prelude.{◌≡◌, ◌≢◌, IfOk, MatchBool, OnErr, OnOk, option_map, slice_get};
 ghost use Rattle.hp_units.specs.Boot.{boot_memory, empty_memory};
-ghost use Rattle.hp_units.specs.Handled.{is_handled};
+ghost use Rattle.hp_units.specs.LayoutParts.{IsLayout};
 ghost use Rattle.hp_units.specs.Memory.{cached_list, free_list, kernel_order};
 ghost use Rattle.hp_units.specs.Pages.{frame_at, words_at};
 ghost use Rattle.hp_units.specs.Step.{step};
 ghost use Rattle.hp_plain.specs.Image.{IsPartOf, with_part};
 
 mod adds;
+mod begins;
 mod boots;
+mod commits;
+mod drains;
+mod migrates;
+mod onlines;
+mod operations;
 mod orders;
+mod page_steps;
+mod plans;
 mod steps;
 
 use self::orders::same_orders;
@@ -55,6 +63,7 @@ impl Image {
     pub fn boot(alloc: Global, layout: &Layout) -> Result<Image, AllocError>
         ensures layout { IfOk result (λ image. image.layout ≡ layout.now) }
         ensures memory { IfOk result (λ image. image.memory ≡ boot_memory layout.now) }
+        ensures limits { IfOk result (λ _. IsLayout layout.now) }
     {
         let mut image = Image::empty(alloc, layout)?;
         for (number, boot) in layout.boot().iter().enumerate() {
@@ -136,7 +145,8 @@ impl Image {
         }
     }
 
-    /// One step of the plain machine. After want of memory the Image is as before.
+    /// One step of the plain machine. A Cancel is the release here, and an UndoAfter does nothing
+    /// (own rule). After want of memory the Image is as before.
     #[tactic(auto, unfolding(hp_units::specs::Step::step, hp_units::specs::Refusals::refusal_of))]
     pub fn step(
         &mut self,
@@ -145,7 +155,6 @@ impl Image {
         cpu: Cpu,
         event: &Event,
     ) -> Result<Reply, AllocError>
-        requires handled { is_handled event.now ≡ true }
         ensures memory { OnOk result (self.new.memory ≡ (step self.old.layout self.old.memory serial cpu event.now).memory) }
         ensures reply { IfOk result (λ reply. reply ≡ (step self.old.layout self.old.memory serial cpu event.now).reply) }
         ensures layout { self.new.layout ≡ self.old.layout }
@@ -157,8 +166,26 @@ impl Image {
         match event {
             Event::KernelAlloc { order } => self.kernel_alloc(alloc, cpu, *order),
             Event::KernelFree { frame } => self.kernel_free(alloc, cpu, *frame),
+            Event::Map { owner, page } => self.map(alloc, cpu, *owner, *page),
+            Event::Unmap { owner, page } => self.unmap(alloc, cpu, *owner, *page),
+            Event::Write {
+                owner,
+                page,
+                index,
+                value,
+            } => self.write(alloc, *owner, *page, *index, *value),
+            Event::Read { owner, page, index } => Ok(self.read(*owner, *page, *index)),
+            Event::Drain { cpu } => self.drain(alloc, *cpu),
+            Event::Online { block, zone } => self.online(alloc, *block, *zone),
+            Event::Begin { plan } => self.begin(alloc, serial, plan),
+            Event::DrainFor { op, cpu } => self.drain_for(alloc, *op, *cpu),
+            Event::Migrate { op } => self.migrate(alloc, *op),
+            Event::Commit { op } => self.commit(alloc, *op),
+            Event::Cancel { op } => self.cancel(alloc, *op),
             Event::UndoAfter { .. } => Ok(Reply::Done),
-            _ => unreachable!(),
+            Event::Probe { address } => self.probe(alloc, *address),
+            Event::Remove { block } => Ok(self.remove(*block)),
+            Event::SetAuto { auto } => Ok(self.set_auto(*auto)),
         }
     }
 

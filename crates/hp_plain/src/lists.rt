@@ -3,6 +3,7 @@ ghost use Rattle.std.specs.Prelude.{◌≡◌, ◌≢◌, IfOk, [], ◌∷◌, �
 ghost use Rattle.hp_units.specs.FreeAreas.{without};
 
 pub(crate) mod many;
+mod moves;
 
 use hp_units::Frame;
 use std::alloc::{AllocError, Global};

@@ -3,6 +3,9 @@ ghost use Rattle.std.specs.Prelude.{◌≡◌, ◌≢◌, MatchBool, ◌<◌, []
 ghost use Rattle.hp_units.specs.Boot.{empty_pages};
 ghost use Rattle.hp_units.specs.Pages.{frame_at, map_page, words_at};
 
+mod migrations;
+mod writes;
+
 use hp_units::{Frame, Layout, Owner, Page, Words};
 use std::alloc::{AllocError, Global};
 use std::marker::Model;

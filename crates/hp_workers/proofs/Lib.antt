@@ -5,7 +5,5 @@ pub mod LineLaw
 pub mod LineLoop
 pub mod LinesRead
 pub mod LinesSpelled
-pub mod Parsed
 pub mod PlanItems
-pub mod Spelled
 pub mod WordsSpelled

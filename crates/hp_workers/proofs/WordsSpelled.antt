@@ -7,7 +7,7 @@ use Rattle.std.proofs.lemmas.Bool.{and_parts, ne_eqb, leb-true, eqb-true}
 use Rattle.std.proofs.lemmas.Fmt.{digits_decimal}
 use Rattle.hp_workers.specs.Words.{is_name, is_name_byte}
 use Rattle.hp_workers.specs.Spelling.{is_spaceless}
-use Rattle.hp_workers.proofs.Spelled.{own}
+use Rattle.hp_units.proofs.NumbersSpelled.{own}
 
 -- a byte that is not a space
 abbrev pub is_no_space : ℕ → Bool

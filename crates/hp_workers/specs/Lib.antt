@@ -3,7 +3,6 @@ pub mod Gives
 pub mod Handled
 pub mod Lines
 pub mod Names
-pub mod Numbers
 pub mod Scenario
 pub mod Seen
 pub mod Spelling

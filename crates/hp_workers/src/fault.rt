@@ -38,6 +38,6 @@ impl<T: Drop> From<AllocFailed<T>> for ScenarioFault {
     ghost from_gives = { λ _ e. e ≡ OutOfMemory };
 
     fn from(_e: AllocFailed<T>) -> ScenarioFault {
-        ScenarioFault::OutOfMemory
+        ScenarioFault::from(AllocError)
     }
 }

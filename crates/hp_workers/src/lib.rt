@@ -15,6 +15,6 @@ mod verbs;
 mod words;
 
 pub use fault::ScenarioFault;
-pub use laws::{lines_are_spelled, numbers_are_spelled};
+pub use laws::lines_are_spelled;
 pub use lines::{Line, Lines, Work};
 pub use scenario::Scenario;

@@ -2,8 +2,7 @@
 ghost use Rattle.std.specs.Prelude.{◌≡◌, map, IfOk, option_map};
 ghost use Rattle.hp_workers.specs.Lines as says;
 
-use crate::words::number32;
-use hp_units::{Block, Item, Wish};
+use hp_units::{Block, Item, Wish, number32};
 use std::alloc::{AllocError, Global};
 
 /// The items of a plan, two words each.

@@ -6,8 +6,7 @@ ghost use Rattle.hp_workers.specs.Words.{words_of};
 
 use crate::lines::Work;
 use crate::verbs::{begin, cat, echo, event_from, plan};
-use crate::words::number32;
-use hp_units::{Cpu, Event, Page};
+use hp_units::{Cpu, Event, Page, number32};
 use std::alloc::{AllocError, Global};
 
 /// An access to a page of an owner, who is named beside it.

@@ -6,8 +6,10 @@ ghost use Rattle.hp_workers.specs.Seen.{request_seen};
 use crate::lines::Work;
 use crate::plans::items_from;
 use crate::requests::{Access, Request};
-use crate::words::{is_name, number32, number64};
-use hp_units::{Block, Cpu, Event, Frame, Order, Page, Plan, Serial, Text, Zone};
+use crate::words::is_name;
+use hp_units::{
+    Block, Cpu, Event, Frame, Order, Page, Plan, Serial, Text, Zone, number32, number64,
+};
 use std::alloc::{AllocError, Global};
 
 /// The event that a verb and the words behind it ask for, where it has no list.

@@ -101,7 +101,7 @@ impl FreeFrames {
 }
 
 /// Single frames come back one after another.
-fn give_all(
+pub(super) fn give_all(
     areas: &mut Areas,
     layout: &Layout,
     zone: Zone,

@@ -77,7 +77,7 @@ impl FreeFrames {
 
     /// One frame from the front of a processor's list, which is refilled if it is empty
     /// (Gorman, chapter 6: per-cpu lists).
-    fn take_one(
+    pub(super) fn take_one(
         &mut self,
         alloc: Global,
         layout: &Layout,

@@ -28,7 +28,7 @@ impl Image {
 
     /// A block goes online in a zone (Linux, memory hotplug: onlining).
     #[tactic(auto, unfolding(hp_units::specs::Rows::online_block))]
-    fn online_block(&mut self, zone: Zone, block: Block) -> Result<(), AllocError>
+    pub(super) fn online_block(&mut self, zone: Zone, block: Block) -> Result<(), AllocError>
         requires { block < self.old.layout.blocks }
         ensures memory { OnOk result (self.new.memory ≡ online_block self.old.layout zone self.old.memory block) }
         ensures layout { self.new.layout ≡ self.old.layout }

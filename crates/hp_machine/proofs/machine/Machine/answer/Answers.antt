@@ -4,7 +4,6 @@ use Rattle.hp_machine.proofs.machine.Machine.answer.Goals as goal
 
 pub act-requires-in_default : goal.act-requires-in_default
 act-requires-in_default c = record {
-  handled = c.requires.handled;
   free = c.requires.free;
   step = acts c.args.self.now c.args.cpu c.args.event.now c.in_default.not-UndoAfter c.in_default.not-Cancel;
 }

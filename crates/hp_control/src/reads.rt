@@ -1,0 +1,134 @@
+//! What reading a control file gives.
+ghost use Rattle.std.specs.Prelude.{◌≡◌, IfOk, false, option_map};
+ghost use Rattle.hp_control.specs.Gives.{Gives, or_fault};
+ghost use Rattle.hp_control.specs.Reads as means;
+ghost use Rattle.hp_units.specs.Arithmetic.{block_bytes};
+ghost use Rattle.hp_units.specs.Texts.{auto_text};
+ghost use Rattle.std.specs.Fmt.{digits};
+
+use crate::fault::ControlFault;
+use crate::files::{BlockFile, File, file_at};
+use crate::zones::buddyinfo;
+use hp_machine::Machine;
+use hp_units::{Block, Layout, Row, State, Zone};
+use std::alloc::{AllocError, Global};
+
+/// The text of the control file at a path, relative to the directory of memory devices (Linux guide, Memory Hot(Un)Plug). Each
+/// text ends with one newline.
+///
+/// `block_size_bytes`: the bytes of a memory block in hexadecimal. `buddyinfo`: see [`buddyinfo`]. `auto_online_blocks`: what a
+/// block that is added becomes. `memoryN/state`: `online`, `offline` or `going-offline`. `memoryN/online`: `1` for an online and a
+/// going block, `0` for an offline one. `memoryN/valid_zones`: the zone of an online and a going block, `Normal Movable` of an
+/// offline one. `memoryN/removable`: `1`.
+///
+/// Errors: NoFile for another path, and for a block that is not in the layout or is absent; WriteOnly for `probe`; OutOfMemory,
+/// which may come in place of any answer.
+#[tactic(auto, unfolding(crate::specs::Reads::file_text))]
+pub fn read_file(alloc: Global, machine: &Machine, path: &str) -> Result<Vec<u8>, ControlFault>
+    ensures { Gives (λ text. text.items) result (means.file_text machine.now.layout machine.now.state path.now) }
+{
+    match file_at(path) {
+        Some(file) => text_of(alloc, machine, file),
+        None => Err(ControlFault::NoFile),
+    }
+}
+
+/// The text of a file.
+#[tactic(auto, unfolding(crate::specs::Reads::text_of))]
+fn text_of(alloc: Global, machine: &Machine, file: File) -> Result<Vec<u8>, ControlFault>
+    ensures { Gives (λ text. text.items) result (means.text_of machine.now.layout machine.now.state file) }
+{
+    match file {
+        File::BlockSizeBytes => Ok(block_size_text(alloc, machine.layout())?),
+        File::Buddyinfo => Ok(buddyinfo(alloc, machine)?),
+        File::Probe => Err(ControlFault::WriteOnly),
+        File::AutoOnlineBlocks => Ok(auto_line(alloc, machine)?),
+        File::OfBlock { block, file } => block_text(alloc, machine, block, file),
+    }
+}
+
+/// The bytes of a memory block in hexadecimal.
+fn block_size_text(alloc: Global, layout: &Layout) -> Result<Vec<u8>, AllocError>
+    ensures { IfOk result (λ text. text.items ≡ means.line (digits 16 false (block_bytes layout.now))) }
+{
+    let bytes = block_bytes(layout);
+    let text = format!(in alloc; "{bytes:x}\n")?;
+    Ok(text.into_bytes())
+}
+
+/// The bytes of a memory block.
+fn block_bytes(layout: &Layout) -> u64
+    ensures { result ≡ block_bytes layout.now }
+{
+    let frames = u64::from(layout.pageblocks()) << layout.order();
+    frames * u64::from(layout.words()) * 8
+}
+
+/// What a block that is added becomes.
+fn auto_line(alloc: Global, machine: &Machine) -> Result<Vec<u8>, AllocError>
+    ensures { IfOk result (λ text. text.items ≡ means.line (auto_text machine.now.state.blocks.auto)) }
+{
+    let auto = machine.auto();
+    let text = format!(in alloc; "{auto}\n")?;
+    Ok(text.into_bytes())
+}
+
+/// The text of a file of a memory block.
+fn block_text(
+    alloc: Global,
+    machine: &Machine,
+    block: Block,
+    file: BlockFile,
+) -> Result<Vec<u8>, ControlFault>
+    ensures { Gives (λ text. text.items) result (or_fault ControlFault.NoFile (option_map means.line (means.word_at machine.now.state.blocks.rows block file))) }
+{
+    match word_at(machine, block, file) {
+        Some(word) => Ok(line(alloc, word)?),
+        None => Err(ControlFault::NoFile),
+    }
+}
+
+/// A text with its newline.
+fn line(alloc: Global, word: &str) -> Result<Vec<u8>, AllocError>
+    ensures { IfOk result (λ text. text.items ≡ means.line word.now) }
+{
+    let text = format!(in alloc; "{word}\n")?;
+    Ok(text.into_bytes())
+}
+
+/// What a file of a memory block shows, where the block is there.
+fn word_at(machine: &Machine, block: Block, file: BlockFile) -> Option<&'static str>
+    ensures { option_map (λ word. word.now) result ≡ means.word_at machine.now.state.blocks.rows block file }
+{
+    match machine.row(block) {
+        Some(row) => block_word(file, row),
+        None => None,
+    }
+}
+
+/// What a file of a memory block shows; an absent block has no files.
+fn block_word(file: BlockFile, row: Row) -> Option<&'static str>
+    ensures { option_map (λ word. word.now) result ≡ means.block_word file row.state row.zone }
+{
+    match (file, row.state) {
+        (_, State::Absent) => None,
+        (BlockFile::State, State::Online) => Some("online"),
+        (BlockFile::State, State::Going) => Some("going-offline"),
+        (BlockFile::State, State::Offline) => Some("offline"),
+        (BlockFile::Online, State::Online | State::Going) => Some("1"),
+        (BlockFile::Online, State::Offline) => Some("0"),
+        (BlockFile::ValidZones, _) => Some(zones_word(row.zone)),
+        (BlockFile::Removable, _) => Some("1"),
+    }
+}
+
+/// The zones that a block is in or may go to, by the zone that it is in.
+fn zones_word(zone: Option<Zone>) -> &'static str
+    ensures { result.now ≡ means.zones_word zone }
+{
+    match zone {
+        Some(Zone::Normal) => "Normal",
+        Some(Zone::Movable) => "Movable",
+        None => "Normal Movable",
+    }
+}

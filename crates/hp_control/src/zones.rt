@@ -1,0 +1,69 @@
+//! The free blocks of each zone by order, as a text.
+ghost use Rattle.std.specs.Prelude.{◌≡◌, ◌+◌, ◌++◌, IfOk, OnOk, string_bytes};
+ghost use Rattle.hp_control.specs.Zones as means;
+
+use hp_machine::Machine;
+use hp_units::{Class, Order, Zone};
+use std::alloc::{AllocError, Global};
+
+/// The free blocks of each zone by order: a line for Normal and one for Movable, isolated blocks counted too and frames on
+/// processors' lists not (Linux, /proc/buddyinfo; own rule: no space ends a line). Errors: memory was refused.
+#[tactic(auto, unfolding(crate::specs::Zones::buddyinfo_text))]
+pub fn buddyinfo(alloc: Global, machine: &Machine) -> Result<Vec<u8>, AllocError>
+    ensures { IfOk result (λ text. text.items ≡ means.buddyinfo_text machine.now.layout machine.now.state.free.areas) }
+{
+    let mut text = String::new(alloc);
+    write_zone(&mut text, machine, Zone::Normal)?;
+    write_zone(&mut text, machine, Zone::Movable)?;
+    Ok(text.into_bytes())
+}
+
+/// One zone's line.
+#[tactic(auto, unfolding(crate::specs::Zones::zone_line))]
+fn write_zone(text: &mut String, machine: &Machine, zone: Zone) -> Result<(), AllocError>
+    ensures { OnOk result (string_bytes text.new ≡ string_bytes text.old ++ means.zone_line machine.now.layout machine.now.state.free.areas zone) }
+{
+    text.push_str(zone_head(zone))?;
+    write_counts(text, machine, zone)?;
+    text.push('\n')?;
+    Ok(())
+}
+
+/// The counts of the orders from 0 to the greatest.
+fn write_counts(text: &mut String, machine: &Machine, zone: Zone) -> Result<(), AllocError>
+    ensures { OnOk result (string_bytes text.new ≡ string_bytes text.old ++ means.counts_below machine.now.state.free.areas zone (machine.now.layout.order + 1)) }
+{
+    for order in 0..machine.layout().order() + 1 {
+        write_count(text, zone_count(machine, zone, Order(order)))?;
+    }
+    Ok(())
+}
+
+/// A count as it stands behind the one before it.
+#[tactic(auto, unfolding(crate::specs::Zones::count_text))]
+fn write_count(text: &mut String, count: u64) -> Result<(), AllocError>
+    ensures { OnOk result (string_bytes text.new ≡ string_bytes text.old ++ means.count_text count) }
+{
+    write!(text, " {count:>6}")
+}
+
+/// The start of a zone's line, the zone's name right-aligned in 8 places.
+fn zone_head(zone: Zone) -> &'static str
+    ensures { result.now ≡ means.zone_head zone }
+{
+    match zone {
+        Zone::Normal => "Node 0, zone   Normal",
+        Zone::Movable => "Node 0, zone  Movable",
+    }
+}
+
+/// How many free blocks of 2^order frames a zone has, isolated ones too.
+fn zone_count(machine: &Machine, zone: Zone, order: Order) -> u64
+    ensures { result ≡ means.zone_count machine.now.state.free.areas zone order }
+{
+    let count = |class| u64::from(machine.list_len(class, order));
+    match zone {
+        Zone::Normal => count(Class::Nu) + count(Class::Nm) + count(Class::IsoN),
+        Zone::Movable => count(Class::Mm) + count(Class::IsoM),
+    }
+}

@@ -1,0 +1,48 @@
+-- One step further in the checks of a commit and the search of a migration.
+use Rattle.std.proofs.Common.{◌≡◌, ℕ, suc, ◌+◌, ◌-◌, ◌*◌, ◌<◌, ◌≤◌, List, length, get_or, drop, Bool, true, false, cond, ◌||◌, ◌&&◌, Option, refl, sym, ◌∙◌, ap, arith, add-one}
+use Rattle.std.specs.List.{find, flat_map, list_any, list_all, range_with_len}
+use Rattle.std.specs.Option.{option_or}
+use Rattle.std.proofs.Math.Nat.{mul-le-mul_left}
+use Rattle.std.proofs.Math.Seq.{drop-cons}
+use Rattle.hp_units.specs.LayoutParts.{LayoutParts}
+use Rattle.hp_units.specs.Arithmetic.{block_size, frame_count}
+use Rattle.hp_plain.proofs.Scans.{find-flat_step}
+
+-- a test of some number from one on
+pub any-below_step : (p : ℕ → Bool) (n size : ℕ) (holds : Bool) → n < size → p n ≡ holds
+    → list_any p (range_with_len n (size - n)) ≡ cond holds true (list_any p (range_with_len (n + 1) (size - (n + 1))))
+any-below_step p n size holds h e =
+    let less : size - n ≡ suc (size - (n + 1)) = omega arith in
+    ap (λ (k : ℕ). list_any p (range_with_len n k)) less ∙ or_cond (p n) holds (list_any p (range_with_len (n + 1) (size - (n + 1)))) e
+  where
+    or_cond : (x y rest : Bool) → x ≡ y → (x || rest) ≡ cond y true rest
+    or_cond true true rest f = refl
+    or_cond false false rest f = refl
+    or_cond true false rest f = absurd cc
+    or_cond false true rest f = absurd cc
+
+-- a test of all entries that are left
+pub all-step : {X : Type 0} (p : X → Bool) (xs : List X) (i : ℕ) (d : X) (holds : Bool) → i < length xs → p (get_or xs i d) ≡ holds
+    → list_all p (drop i xs) ≡ cond holds (list_all p (drop (i + 1) xs)) false
+all-step {X} p xs i d holds h e =
+    ap (list_all p) (drop-cons xs i d h) ∙ and_cond (p (get_or xs i d)) holds (list_all p (drop (suc i) xs)) e
+    ∙ ap (λ (k : ℕ). cond holds (list_all p (drop k xs)) false) (sym (add-one i))
+  where
+    and_cond : (x y rest : Bool) → x ≡ y → (x && rest) ≡ cond y rest false
+    and_cond true true rest f = refl
+    and_cond false false rest f = refl
+    and_cond true false rest f = absurd cc
+    and_cond false true rest f = absurd cc
+
+-- a frame of a block of the layout
+pub frame_of_block : (l : LayoutParts) (block number : ℕ) → block < l.blocks → number < block_size l → block * block_size l + number < frame_count l
+frame_of_block l block number below low =
+    let more : block + 1 ≤ l.blocks = omega arith in
+    omega (arith, mul-le-mul_left (block_size l) more)
+
+-- the first number that passes a test among those of the blocks that are left, by the answer of the first of these
+pub find-flat_item : (p : ℕ → Bool) (f : ℕ → List ℕ) (xs : List ℕ) (i d : ℕ) (found : Option ℕ) → i < length xs → d ≡ get_or xs i d → found ≡ find p (f d)
+    → find p (flat_map f (drop i xs)) ≡ option_or found (find p (flat_map f (drop (i + 1) xs)))
+find-flat_item p f xs i d found h item e =
+    let rest : Option ℕ = find p (flat_map f (drop (i + 1) xs)) in
+    find-flat_step p f xs i d h ∙ ap (λ (n : ℕ). option_or (find p (f n)) rest) (sym item) ∙ ap (λ (o : Option ℕ). option_or o rest) (sym e)

@@ -1,0 +1,110 @@
+-- One step further in a search over numbers, and over the entries of a list.
+use Rattle.std.proofs.Common.{◌≡◌, ℕ, zero, suc, ◌+◌, ◌-◌, ◌<◌, ◌≤◌, ◌==◌, List, [], ◌∷◌, ◌++◌, length, get_or, take, drop, Bool, true, false, cond, ◌||◌, ◌&&◌, Option, Some, None, refl, sym, ◌∙◌, ap, subst, arith, map, add-one, zero-add, inl, inr}
+use Rattle.std.specs.List.{find, flat_map, fold, list_any, list_all, range_with_len}
+use Rattle.std.specs.Option.{is_some, option_map, option_or}
+use Rattle.std.proofs.Math.Seq.{drop-cons}
+use Rattle.std.proofs.lemmas.List.{take_more}
+use Rattle.std.proofs.lemmas.List.Folds.{find-append}
+use Rattle.std.proofs.lemmas.Bool.{cases_lt, false≢true}
+use Rattle.hp_units.specs.declared.plans.Item.{Item}
+use Rattle.hp_units.specs.declared.replies.Refusal.{Refusal}
+use Rattle.hp_units.specs.declared.replies.Refusal.TheVariants.{Busy}
+use Rattle.hp_units.specs.Choices.{first_some}
+use Rattle.hp_units.specs.FreeAreas.{is_on}
+use Rattle.hp_units.specs.Refusals.{first_repeated}
+use Rattle.hp_plain.specs.Plans.{blocks_in}
+use Rattle.hp_plain.proofs.Walks.{fold-range_more}
+
+-- ---- numbers from one on
+
+-- the numbers that are left, the first of them in front
+pub range_step : (a n size : ℕ) → n < size → range_with_len (a + n) (size - n) ≡ (a + n) ∷ range_with_len (a + (n + 1)) (size - (n + 1))
+range_step a n size h =
+    let less : size - n ≡ suc (size - (n + 1)) = omega arith in
+    let next : a + n + 1 ≡ a + (n + 1) = omega arith in
+    ap (λ (k : ℕ). range_with_len (a + n) k) less ∙ ap (λ (k : ℕ). (a + n) ∷ range_with_len k (size - (n + 1))) next
+
+-- a search for the first number
+pub find-range_step : (p : ℕ → Bool) (a n size : ℕ) (found : Bool) → n < size → p (a + n) ≡ found
+    → find p (range_with_len (a + n) (size - n)) ≡ cond found (Some (a + n)) (find p (range_with_len (a + (n + 1)) (size - (n + 1))))
+find-range_step p a n size found h e =
+    ap (find p) (range_step a n size h) ∙ ap (λ (b : Bool). cond b (Some (a + n)) (find p (range_with_len (a + (n + 1)) (size - (n + 1))))) e
+
+-- a test of all numbers
+pub all-range_step : (p : ℕ → Bool) (a n size : ℕ) (holds : Bool) → n < size → p (a + n) ≡ holds
+    → list_all p (range_with_len (a + n) (size - n)) ≡ cond holds (list_all p (range_with_len (a + (n + 1)) (size - (n + 1)))) false
+all-range_step p a n size holds h e = ap (list_all p) (range_step a n size h) ∙ and_cond (p (a + n)) holds (list_all p (range_with_len (a + (n + 1)) (size - (n + 1)))) e
+  where
+    and_cond : (x y rest : Bool) → x ≡ y → (x && rest) ≡ cond y rest false
+    and_cond true true rest f = refl
+    and_cond false false rest f = refl
+    and_cond true false rest f = absurd (false≢true (sym f))
+    and_cond false true rest f = absurd (false≢true f)
+
+-- a fold over the numbers below one, one number further
+pub fold-below_more : {B : Type 0} (f : B → ℕ → B) (b : B) (n : ℕ) → fold f b (range_with_len 0 (n + 1)) ≡ f (fold f b (range_with_len 0 n)) n
+fold-below_more f b n = fold-range_more f b 0 n ∙ ap (f (fold f b (range_with_len 0 n))) (zero-add n)
+
+-- ---- the entries of a list
+
+-- the first answer among those of the entries that are left
+pub first_some-step : {X A : Type 0} (f : X → Option A) (xs : List X) (i : ℕ) (d : X) → i < length xs
+    → first_some (map f (drop i xs)) ≡ option_or (f (get_or xs i d)) (first_some (map f (drop (i + 1) xs)))
+first_some-step {X} {A} f xs i d h =
+    ap (λ (ys : List X). first_some (map f ys)) (drop-cons xs i d h) ∙ ap (λ (k : ℕ). option_or (f (get_or xs i d)) (first_some (map f (drop k xs)))) (sym (add-one i))
+
+-- the first number that passes a test among those of the entries that are left
+pub find-flat_step : {X : Type 0} (p : ℕ → Bool) (f : X → List ℕ) (xs : List X) (i : ℕ) (d : X) → i < length xs
+    → find p (flat_map f (drop i xs)) ≡ option_or (find p (f (get_or xs i d))) (find p (flat_map f (drop (i + 1) xs)))
+find-flat_step {X} p f xs i d h =
+    ap (λ (ys : List X). find p (flat_map f ys)) (drop-cons xs i d h) ∙ find-append p (f (get_or xs i d)) (flat_map f (drop (suc i) xs))
+    ∙ ap (λ (k : ℕ). option_or (find p (f (get_or xs i d))) (find p (flat_map f (drop k xs)))) (sym (add-one i))
+
+-- ---- the blocks of a plan
+
+-- a block among the blocks of items in front of others
+stands : (block : ℕ) (before : List ℕ) (items : List Item) → is_on block (blocks_in before items) ≡ (list_any (λ item. item.block == block) items || is_on block before)
+stands block before [] = refl
+stands block before (item ∷ items) = stands block (item.block ∷ before) items ∙ turn (item.block == block) (list_any (λ other. other.block == block) items) (is_on block before)
+  where
+    turn : (x y z : Bool) → (y || (x || z)) ≡ ((x || y) || z)
+    turn true true z = refl
+    turn true false z = refl
+    turn false true z = refl
+    turn false false z = refl
+
+-- the blocks of items, one item further
+blocks_in-push : (before : List ℕ) (items : List Item) (item : Item) → blocks_in before (items ++ item ∷ []) ≡ item.block ∷ blocks_in before items
+blocks_in-push before [] item = refl
+blocks_in-push before (first ∷ items) item = blocks_in-push (first.block ∷ before) items item
+
+-- one item further in the search for a block that stands a second time
+pub repeated-step : (plan : List Item) (n : ℕ) (d : Item) (found : Bool) → n < length plan → found ≡ list_any (λ item. item.block == (get_or plan n d).block) (take n plan)
+    → first_repeated (blocks_in [] (take n plan)) (drop n plan)
+    ≡ cond found (Some (get_or plan n d).block) (first_repeated (blocks_in [] (take (n + 1) plan)) (drop (n + 1) plan))
+repeated-step plan n d found h e =
+    let item : Item = get_or plan n d in
+    let before : List ℕ = blocks_in [] (take n plan) in
+    let test : is_on item.block before ≡ found = stands item.block [] (take n plan) ∙ or_false (list_any (λ other. other.block == item.block) (take n plan)) ∙ sym e in
+    let after : item.block ∷ before ≡ blocks_in [] (take (n + 1) plan) = sym (ap (blocks_in []) (take_more plan n d h) ∙ blocks_in-push [] (take n plan) item) in
+    ap (first_repeated before) (drop-cons plan n d h ∙ ap (λ (k : ℕ). item ∷ drop k plan) (sym (add-one n)))
+    ∙ ap (λ (b : Bool). cond b (Some item.block) (first_repeated (item.block ∷ before) (drop (n + 1) plan))) test
+    ∙ ap (λ (bs : List ℕ). cond found (Some item.block) (first_repeated bs (drop (n + 1) plan))) after
+  where
+    or_false : (b : Bool) → (b || false) ≡ b
+    or_false true = refl
+    or_false false = refl
+
+-- where no item has a claimed block, a later refusal is the first
+pub none_claimed : (item : Option Item) (rest : Option Refusal) → None ≡ option_map (λ item. item.block) item
+    → option_or (option_map (λ item. Busy item.block) item) rest ≡ rest
+none_claimed None rest e = refl
+none_claimed (Some item) rest e = cc
+
+-- ---- the kernel's blocks
+
+-- a kernel's block starts at a number of the table alone
+pub some-below : (kernel : List (Option ℕ)) (n : ℕ) → is_some (get_or kernel n None) ≡ true → n < length kernel
+some-below [] n e = absurd (false≢true e)
+some-below (x ∷ xs) zero e = omega arith
+some-below (x ∷ xs) (suc n) e = let h : n < length xs = some-below xs n e in omega arith
