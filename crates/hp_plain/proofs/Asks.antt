@@ -11,7 +11,7 @@ use Rattle.hp_units.specs.Choices.{first_some}
 use Rattle.hp_units.specs.LayoutParts.{LayoutParts}
 use Rattle.hp_units.specs.Memory.{Memory}
 use Rattle.hp_units.specs.Refusals.{event_refusals, refusal_of}
-use Rattle.hp_units.specs.Step.{Answered, perform, answer, step}
+use Rattle.hp_units.specs.Step.{perform, answer, step}
 use Rattle.hp_plain.specs.Asked.{asked}
 
 -- a refusal doesn't read the serial or the processor

@@ -1,25 +1,12 @@
 -- One step further in the checks of a commit and the search of a migration.
-use Rattle.std.proofs.Common.{◌≡◌, ℕ, suc, ◌+◌, ◌-◌, ◌*◌, ◌<◌, ◌≤◌, List, length, get_or, drop, Bool, true, false, cond, ◌||◌, ◌&&◌, Option, refl, sym, ◌∙◌, ap, arith, add-one}
-use Rattle.std.specs.List.{find, flat_map, list_any, list_all, range_with_len}
+use Rattle.std.proofs.Common.{◌≡◌, ℕ, suc, ◌+◌, ◌*◌, ◌<◌, ◌≤◌, List, length, get_or, drop, Bool, true, false, cond, ◌&&◌, Option, refl, sym, ◌∙◌, ap, arith, add-one}
+use Rattle.std.specs.List.{find, flat_map, list_all}
 use Rattle.std.specs.Option.{option_or}
 use Rattle.std.proofs.Math.Nat.{mul-le-mul_left}
 use Rattle.std.proofs.Math.Seq.{drop-cons}
 use Rattle.hp_units.specs.LayoutParts.{LayoutParts}
 use Rattle.hp_units.specs.Arithmetic.{block_size, frame_count}
 use Rattle.hp_plain.proofs.Scans.{find-flat_step}
-
--- a test of some number from one on
-pub any-below_step : (p : ℕ → Bool) (n size : ℕ) (holds : Bool) → n < size → p n ≡ holds
-    → list_any p (range_with_len n (size - n)) ≡ cond holds true (list_any p (range_with_len (n + 1) (size - (n + 1))))
-any-below_step p n size holds h e =
-    let less : size - n ≡ suc (size - (n + 1)) = omega arith in
-    ap (λ (k : ℕ). list_any p (range_with_len n k)) less ∙ or_cond (p n) holds (list_any p (range_with_len (n + 1) (size - (n + 1)))) e
-  where
-    or_cond : (x y rest : Bool) → x ≡ y → (x || rest) ≡ cond y true rest
-    or_cond true true rest f = refl
-    or_cond false false rest f = refl
-    or_cond true false rest f = absurd cc
-    or_cond false true rest f = absurd cc
 
 -- a test of all entries that are left
 pub all-step : {X : Type 0} (p : X → Bool) (xs : List X) (i : ℕ) (d : X) (holds : Bool) → i < length xs → p (get_or xs i d) ≡ holds

@@ -1,14 +1,12 @@
 -- The empty state is within its layout.
-use Rattle.std.proofs.Common.{◌≡◌, ℕ, zero, suc, ◌+◌, ◌*◌, ◌≤◌, List, [], length, get_or, replicate, true, Option, None, refl, sym, ap, subst, IfSome}
+use Rattle.std.proofs.Common.{◌≡◌, ℕ, zero, suc, ◌≤◌, List, length, get_or, replicate, Option, None, refl, sym, subst, IfSome}
 use Rattle.std.specs.List.{AllByRecursion}
 use Rattle.std.proofs.lemmas.List.{length-replicate}
 use Rattle.hp_units.specs.LayoutParts.{LayoutParts}
 use Rattle.hp_units.specs.Arithmetic.{IsFrame, frame_count}
-use Rattle.hp_units.specs.Memory.{FreeFrames, Memory, entry_of, offline_row, pool_index}
-use Rattle.hp_units.specs.FreeAreas.{is_on}
-use Rattle.hp_units.specs.Boot.{empty_areas, empty_cached, empty_pages, empty_blocks}
-use Rattle.hp_units.specs.InLayout.{AreFreeAreasOf, AreFreeFramesOf, ArePagesOf, AreKernelBlocksOf, AreBlocksOf, IsMemoryOf}
-use Rattle.std.proofs.lemmas.Bool.{false≢true}
+use Rattle.hp_units.specs.Memory.{Memory, entry_of, offline_row}
+use Rattle.hp_units.specs.Boot.{empty_pages, empty_blocks}
+use Rattle.hp_units.specs.InLayout.{AreFreeFramesOf, ArePagesOf, AreKernelBlocksOf, AreBlocksOf, IsMemoryOf}
 
 -- every entry of copies of one value is that value
 at_replicate : {A : Type 0} (n i : ℕ) (x : A) → get_or (replicate n x) i x ≡ x
@@ -27,15 +25,7 @@ no_entry zero pages owner page = refl
 no_entry (suc owners) pages zero page = at_replicate pages page None
 no_entry (suc owners) pages (suc owner) page = no_entry owners pages owner page
 
--- the free frames of the empty state
-free_of : (l : LayoutParts) → AreFreeAreasOf l (empty_areas l) → AreFreeFramesOf l (record { areas = empty_areas l; cached = empty_cached l })
-free_of l areas = record {
-  areas = areas;
-  lists = length-replicate (3 * l.cpus) [];
-  cached = λ cpu pool frame on. absurd (false≢true (subst (λ (xs : List ℕ). is_on frame xs ≡ true) (at_replicate (3 * l.cpus) (3 * cpu + pool_index pool) []) on));
-}
-
--- its pages
+-- the pages of the empty state
 pages_of : (l : LayoutParts) → ArePagesOf l (empty_pages l)
 pages_of l = record {
   owners = length-replicate l.owners (replicate l.pages None);
@@ -54,10 +44,10 @@ kernel_of l = record {
 }
 
 -- and all of it
-pub memory_of : (l : LayoutParts) (s : Memory) → s.free ≡ record { areas = empty_areas l; cached = empty_cached l } → s.pages ≡ empty_pages l
-    → s.kernel ≡ replicate (frame_count l) None → s.blocks ≡ empty_blocks l → AreFreeAreasOf l s.free.areas → IsMemoryOf l s
-memory_of l s free pages kernel blocks areas = record {
-  free = subst (AreFreeFramesOf l) (sym free) (free_of l (subst (AreFreeAreasOf l) (ap (λ (f : FreeFrames). f.areas) free) areas));
+pub memory_of : (l : LayoutParts) (s : Memory) → AreFreeFramesOf l s.free → s.pages ≡ empty_pages l → s.kernel ≡ replicate (frame_count l) None
+    → s.blocks ≡ empty_blocks l → IsMemoryOf l s
+memory_of l s free pages kernel blocks = record {
+  free = free;
   pages = subst (ArePagesOf l) (sym pages) (pages_of l);
   kernel = subst (AreKernelBlocksOf l) (sym kernel) (kernel_of l);
   blocks = subst (AreBlocksOf l) (sym blocks) (record { rows = length-replicate l.blocks offline_row });

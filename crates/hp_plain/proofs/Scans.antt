@@ -1,11 +1,11 @@
 -- One step further in a search over numbers, and over the entries of a list.
-use Rattle.std.proofs.Common.{◌≡◌, ℕ, zero, suc, ◌+◌, ◌-◌, ◌<◌, ◌≤◌, ◌==◌, List, [], ◌∷◌, ◌++◌, length, get_or, take, drop, Bool, true, false, cond, ◌||◌, ◌&&◌, Option, Some, None, refl, sym, ◌∙◌, ap, subst, arith, map, add-one, zero-add, inl, inr}
-use Rattle.std.specs.List.{find, flat_map, fold, list_any, list_all, range_with_len}
+use Rattle.std.proofs.Common.{◌≡◌, ℕ, zero, suc, ◌+◌, ◌-◌, ◌<◌, ◌==◌, List, [], ◌∷◌, ◌++◌, length, get_or, take, drop, Bool, true, false, cond, ◌||◌, Option, Some, None, refl, sym, ◌∙◌, ap, arith, map, add-one, zero-add}
+use Rattle.std.specs.List.{find, flat_map, fold, list_any, range_with_len}
 use Rattle.std.specs.Option.{is_some, option_map, option_or}
 use Rattle.std.proofs.Math.Seq.{drop-cons}
 use Rattle.std.proofs.lemmas.List.{take_more}
 use Rattle.std.proofs.lemmas.List.Folds.{find-append}
-use Rattle.std.proofs.lemmas.Bool.{cases_lt, false≢true}
+use Rattle.std.proofs.lemmas.Bool.{false≢true}
 use Rattle.hp_units.specs.declared.plans.Item.{Item}
 use Rattle.hp_units.specs.declared.replies.Refusal.{Refusal}
 use Rattle.hp_units.specs.declared.replies.Refusal.TheVariants.{Busy}
@@ -13,33 +13,15 @@ use Rattle.hp_units.specs.Choices.{first_some}
 use Rattle.hp_units.specs.FreeAreas.{is_on}
 use Rattle.hp_units.specs.Refusals.{first_repeated}
 use Rattle.hp_plain.specs.Plans.{blocks_in}
-use Rattle.hp_plain.proofs.Walks.{fold-range_more}
+use Rattle.hp_areas.proofs.Ranges.{range_step, fold-range_more}
 
 -- ---- numbers from one on
-
--- the numbers that are left, the first of them in front
-pub range_step : (a n size : ℕ) → n < size → range_with_len (a + n) (size - n) ≡ (a + n) ∷ range_with_len (a + (n + 1)) (size - (n + 1))
-range_step a n size h =
-    let less : size - n ≡ suc (size - (n + 1)) = omega arith in
-    let next : a + n + 1 ≡ a + (n + 1) = omega arith in
-    ap (λ (k : ℕ). range_with_len (a + n) k) less ∙ ap (λ (k : ℕ). (a + n) ∷ range_with_len k (size - (n + 1))) next
 
 -- a search for the first number
 pub find-range_step : (p : ℕ → Bool) (a n size : ℕ) (found : Bool) → n < size → p (a + n) ≡ found
     → find p (range_with_len (a + n) (size - n)) ≡ cond found (Some (a + n)) (find p (range_with_len (a + (n + 1)) (size - (n + 1))))
 find-range_step p a n size found h e =
     ap (find p) (range_step a n size h) ∙ ap (λ (b : Bool). cond b (Some (a + n)) (find p (range_with_len (a + (n + 1)) (size - (n + 1))))) e
-
--- a test of all numbers
-pub all-range_step : (p : ℕ → Bool) (a n size : ℕ) (holds : Bool) → n < size → p (a + n) ≡ holds
-    → list_all p (range_with_len (a + n) (size - n)) ≡ cond holds (list_all p (range_with_len (a + (n + 1)) (size - (n + 1)))) false
-all-range_step p a n size holds h e = ap (list_all p) (range_step a n size h) ∙ and_cond (p (a + n)) holds (list_all p (range_with_len (a + (n + 1)) (size - (n + 1)))) e
-  where
-    and_cond : (x y rest : Bool) → x ≡ y → (x && rest) ≡ cond y rest false
-    and_cond true true rest f = refl
-    and_cond false false rest f = refl
-    and_cond true false rest f = absurd (false≢true (sym f))
-    and_cond false true rest f = absurd (false≢true f)
 
 -- a fold over the numbers below one, one number further
 pub fold-below_more : {B : Type 0} (f : B → ℕ → B) (b : B) (n : ℕ) → fold f b (range_with_len 0 (n + 1)) ≡ f (fold f b (range_with_len 0 n)) n

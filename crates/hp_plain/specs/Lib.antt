@@ -1,9 +1,5 @@
 pub mod Asked
 pub mod Examples
-pub mod Frames
 pub mod Image
-pub mod Isolated
-pub mod Migrations
 pub mod Names
 pub mod Plans
-pub mod Took

@@ -1,12 +1,7 @@
 //! The plain machine: a state as plain lists, and each step of it as the definitions say.
 #![tactic(auto)]
 
-mod areas;
-mod blocks;
-mod frames;
 mod image;
-mod lists;
-mod pages;
 mod parts;
 #[cfg(test)]
 mod tests;

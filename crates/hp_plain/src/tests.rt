@@ -2,12 +2,19 @@
 ghost use Rattle.std.specs.Prelude.{◌≡◌, IfOk};
 ghost use Rattle.hp_plain.specs.Examples.{small_layout};
 
+mod begins;
+mod commits;
+mod migrates;
+mod onlines;
+mod operations;
+mod page_steps;
+
 use super::{Image, Part};
 use hp_units::{
     Auto, Block, Boot, Class, Cpu, Event, Frame, Kind, Layout, LayoutFault, Mobility, Order, Owner,
     Page, Pageblock, Parts, Pool, Refusal, Reply, Serial, Words,
 };
-use std::alloc::Global;
+use std::alloc::{AllocError, Global};
 use std::test::Fail;
 
 /// Four memory blocks, of which the third is movable and the fourth offline.
@@ -32,6 +39,21 @@ fn small(alloc: Global) -> Result<Layout, LayoutFault>
     )
 }
 
+/// Runs the events of some serials and processors in turn; whether each is answered as it is to be.
+fn answers(
+    alloc: Global,
+    image: &mut Image,
+    calls: &[(u64, u32, Event, Reply)],
+) -> Result<bool, AllocError> {
+    for (serial, cpu, event, reply) in calls {
+        let answer = image.step(alloc, Serial(*serial), Cpu(*cpu), event)?;
+        if answer != *reply {
+            return Ok(false);
+        }
+    }
+    Ok(true)
+}
+
 #[test]
 fn boot_puts_pageblocks_on_their_lists(rt: HostRuntime) -> Result<(), Fail> {
     let layout = small(rt.alloc())?;
@@ -48,27 +70,48 @@ fn boot_puts_pageblocks_on_their_lists(rt: HostRuntime) -> Result<(), Fail> {
 }
 
 #[test]
-fn the_kernel_takes_and_gives_a_frame(rt: HostRuntime) -> Result<(), Fail> {
+fn the_kernel_takes_a_single_frame(rt: HostRuntime) -> Result<(), Fail> {
     let layout = small(rt.alloc())?;
     let mut image = Image::boot(rt.alloc(), &layout)?;
-    let cases = [
-        (
-            0,
-            Event::KernelAlloc { order: Order(0) },
-            Reply::Frame(Frame(0)),
-        ),
-        (1, Event::KernelFree { frame: Frame(0) }, Reply::Done),
-        (
-            1,
-            Event::KernelFree { frame: Frame(0) },
-            Reply::Refused(Refusal::NotKernel),
-        ),
+    let take = Event::KernelAlloc { order: Order(0) };
+    let calls = [(1, 0, take, Reply::Frame(Frame(0)))];
+    assert!(rt; answers(rt.alloc(), &mut image, &calls)?);
+    assert_eq!(rt; image.kernel_at(Frame(0)), Some(Order(0)));
+    Ok(())
+}
+
+#[test]
+fn a_freed_frame_goes_to_the_list(rt: HostRuntime) -> Result<(), Fail> {
+    let layout = small(rt.alloc())?;
+    let mut image = Image::boot(rt.alloc(), &layout)?;
+    let take = Event::KernelAlloc { order: Order(0) };
+    let give = Event::KernelFree { frame: Frame(0) };
+    let calls = [
+        (1, 0, take, Reply::Frame(Frame(0))),
+        (2, 1, give, Reply::Done),
     ];
-    for (cpu, event, wanted) in &cases {
-        let reply = image.step(rt.alloc(), Serial(1), Cpu(*cpu), event)?;
-        assert_eq!(rt; reply, *wanted);
-    }
+    assert!(rt; answers(rt.alloc(), &mut image, &calls)?);
     assert_eq!(rt; image.cpu_list(Cpu(1), Pool::Nu), [Frame(0)].as_slice());
+    Ok(())
+}
+
+#[test]
+fn a_freed_block_joins_its_buddy(rt: HostRuntime) -> Result<(), Fail> {
+    let layout = small(rt.alloc())?;
+    let mut image = Image::boot(rt.alloc(), &layout)?;
+    let take = Event::KernelAlloc { order: Order(1) };
+    let give = Event::KernelFree { frame: Frame(0) };
+    let kind = Kind {
+        mobility: Mobility::Unmovable,
+        isolated: false,
+    };
+    let takes = [(1, 0, take, Reply::Frame(Frame(0)))];
+    assert!(rt; answers(rt.alloc(), &mut image, &takes)?);
+    assert_eq!(rt; image.list(Class::Nu, Order(1)), [Frame(2)].as_slice());
+    let gives = [(2, 0, give, Reply::Done)];
+    assert!(rt; answers(rt.alloc(), &mut image, &gives)?);
+    assert_eq!(rt; image.list(Class::Nu, Order(2)), [Frame(0)].as_slice());
+    assert_eq!(rt; image.kind(Pageblock(0)), Some(kind));
     Ok(())
 }
 
@@ -127,17 +170,21 @@ fn a_page_is_added(rt: HostRuntime) -> Result<(), Fail> {
 }
 
 #[test]
-fn a_kind_is_added(rt: HostRuntime) -> Result<(), Fail> {
+fn single_parts_are_added(rt: HostRuntime) -> Result<(), Fail> {
     let layout = small(rt.alloc())?;
     let mut image = Image::empty(rt.alloc(), &layout)?;
-    let kind = Kind {
-        mobility: Mobility::Unmovable,
-        isolated: true,
-    };
-    image.add(Part::Kind {
-        pageblock: Pageblock(2),
-        kind,
+    image.add(Part::Cached {
+        cpu: Cpu(1),
+        pool: Pool::Nm,
+        frame: Frame(6),
     })?;
-    assert_eq!(rt; image.kind(Pageblock(2)), Some(kind));
+    image.add(Part::Kernel {
+        frame: Frame(4),
+        order: Order(1),
+    })?;
+    image.add(Part::Auto { auto: Auto::Online })?;
+    assert_eq!(rt; image.cpu_list(Cpu(1), Pool::Nm), [Frame(6)].as_slice());
+    assert_eq!(rt; image.kernel_at(Frame(4)), Some(Order(1)));
+    assert_eq!(rt; image.auto(), Auto::Online);
     Ok(())
 }

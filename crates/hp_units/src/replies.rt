@@ -1,4 +1,6 @@
 //! The replies and refusals of the machine, and the records that are made of them.
+ghost use Rattle.std.specs.Prelude.{◌≡◌, ◌↔◌, IsTrue};
+
 use crate::events::Event;
 use crate::numbers::{Block, Cpu, Frame, Serial};
 
@@ -74,6 +76,41 @@ pub enum Reply {
     Undone { count: u64 },
     /// The event was refused, and changed no state.
     Refused(Refusal),
+}
+
+impl Refusal {
+    /// Whether the refusals are the same.
+    pub fn same(self, other: Refusal) -> bool
+        ensures { IsTrue result ↔ (self ≡ other) }
+    {
+        self == other
+    }
+}
+
+impl Reply {
+    /// Whether the replies are the same.
+    pub fn same(&self, other: &Reply) -> bool
+        ensures { IsTrue result ↔ (self.now ≡ other.now) }
+    {
+        match (self, other) {
+            (Reply::Done, Reply::Done)
+            | (Reply::Restored, Reply::Restored)
+            | (Reply::Released, Reply::Released) => true,
+            (Reply::Frame(frame), Reply::Frame(other)) => frame == other,
+            (Reply::Word(word), Reply::Word(other)) => word == other,
+            (
+                Reply::Moved { from, to },
+                Reply::Moved {
+                    from: start,
+                    to: end,
+                },
+            ) => from == start && to == end,
+            (Reply::Opened { op }, Reply::Opened { op: other }) => op == other,
+            (Reply::Undone { count }, Reply::Undone { count: other }) => count == other,
+            (Reply::Refused(refusal), Reply::Refused(other)) => refusal.same(*other),
+            _ => false,
+        }
+    }
 }
 
 /// One entry of the history.

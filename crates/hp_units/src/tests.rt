@@ -166,6 +166,26 @@ fn copies_are_the_same(rt: HostRuntime) -> Result<(), Fail> {
 }
 
 #[test]
+fn replies_are_compared(rt: HostRuntime) -> Result<(), Fail> {
+    assert!(rt; busy(2).same(busy(2)));
+    assert!(rt; !busy(2).same(busy(3)));
+    assert!(rt; are_same(Reply::Refused(busy(2)), Reply::Refused(busy(2))));
+    assert!(rt; !are_same(Reply::Refused(busy(2)), Reply::Refused(busy(3))));
+    assert!(rt; !are_same(Reply::Refused(busy(2)), Reply::Done));
+    Ok(())
+}
+
+fn busy(block: u32) -> Refusal {
+    Refusal::Busy {
+        block: Block(block),
+    }
+}
+
+fn are_same(reply: Reply, other: Reply) -> bool {
+    reply.same(&other)
+}
+
+#[test]
 fn marks_of_events(rt: HostRuntime) -> Result<(), Fail> {
     let op = Serial(7);
     assert_eq!(rt; mark_of(&Event::Migrate { op }), Mark::Works { op });

@@ -6,8 +6,7 @@ ghost use Rattle.hp_plain.specs.Asked.{opened};
 ghost use Rattle.hp_plain.specs.Names.{OffWish};
 
 use super::Image;
-use crate::blocks::claims::claimed_row;
-use crate::blocks::plans::wish_of;
+use hp_rows::{claimed_row, wish_of};
 use hp_units::{Block, Item, Plan, Reply, Serial, Wish};
 use std::alloc::{AllocError, Global};
 

@@ -6,7 +6,7 @@ ghost use Rattle.hp_units.specs.Rows.{is_going, online_again, release_block, rel
 ghost use Rattle.hp_plain.specs.Asked.{asked};
 
 use super::Image;
-use crate::blocks::claims::is_going;
+use hp_rows::is_going;
 use hp_units::{Block, Cpu, Refusal, Reply, Row, Serial, State};
 use std::alloc::{AllocError, Global};
 

@@ -8,7 +8,7 @@ ghost use Rattle.hp_units.specs.Refusals.{first_repeated, kernel_frame_in, plan_
 ghost use Rattle.hp_plain.specs.Plans.{change_refusals, claim_refusals, names_no_block, state_refusals};
 
 use super::Image;
-use crate::blocks::plans::is_off;
+use hp_rows::is_off;
 use hp_units::{Block, Frame, Item, Layout, Refusal};
 
 impl Image {

@@ -1,5 +1,5 @@
 -- One more block is looked at.
-use Rattle.std.proofs.Common.{◌≡◌, ◌<◌, ℕ, Bool, true, length, sym, ◌∙◌, ap, arith}
+use Rattle.std.proofs.Common.{◌<◌, ℕ, Bool, true, length, sym, ◌∙◌, ap, arith}
 use Rattle.hp_units.specs.Refusals.{is_all_free}
 use Rattle.hp_plain.proofs.Commits.{all-step}
 use Rattle.hp_plain.proofs.image.Image.are_all_free.Goals as goal

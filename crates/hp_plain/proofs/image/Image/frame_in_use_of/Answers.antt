@@ -1,5 +1,5 @@
 -- One more frame is looked at.
-use Rattle.std.proofs.Common.{◌≡◌, ℕ, ◌+◌, ◌*◌, ◌^◌, ◌%◌, ◌<◌, Bool, false, not, sym, ◌∙◌, arith}
+use Rattle.std.proofs.Common.{ℕ, ◌*◌, ◌^◌, ◌%◌, ◌<◌, Bool, false, not, sym, ◌∙◌, arith}
 use Rattle.hp_units.specs.Refusals.{is_in_free_block}
 use Rattle.hp_plain.proofs.Scans.{find-range_step}
 use Rattle.hp_plain.proofs.image.Image.frame_in_use_of.Goals as goal

@@ -1,5 +1,5 @@
 -- One more frame is looked at.
-use Rattle.std.proofs.Common.{◌≡◌, ℕ, ◌+◌, ◌*◌, ◌^◌, ◌%◌, ◌<◌, Bool, false, sym, ◌∙◌, arith}
+use Rattle.std.proofs.Common.{ℕ, ◌*◌, ◌^◌, ◌%◌, ◌<◌, Bool, false, sym, ◌∙◌, arith}
 use Rattle.std.specs.Option.{is_some}
 use Rattle.hp_units.specs.Memory.{kernel_order}
 use Rattle.hp_plain.proofs.Scans.{find-range_step}

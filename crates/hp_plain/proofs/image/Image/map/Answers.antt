@@ -1,4 +1,4 @@
-use Rattle.std.proofs.Common.{◌≡◌, ℕ, List, length, replicate, IfSome, Option, sym, ◌∙◌, ap, subst}
+use Rattle.std.proofs.Common.{◌≡◌, ℕ, length, IfSome, Option, sym, ◌∙◌, ap, subst}
 use Rattle.std.proofs.lemmas.List.{length-replicate}
 use Rattle.hp_units.specs.Arithmetic.{IsFrame}
 use Rattle.hp_units.specs.InLayout.{ArePagesOf}

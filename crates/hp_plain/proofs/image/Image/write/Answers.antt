@@ -1,7 +1,6 @@
 use Rattle.std.proofs.Common.{sym, ◌∙◌, ap, subst, List, ℕ, Option}
 use Rattle.hp_units.specs.InLayout.{ArePagesOf}
 use Rattle.hp_units.specs.Memory.{with_entry}
-use Rattle.hp_units.specs.Memory.{Pages}
 use Rattle.hp_plain.proofs.PagesInLayout.{pages-write}
 use Rattle.hp_plain.proofs.image.Image.write.Goals as goal
 

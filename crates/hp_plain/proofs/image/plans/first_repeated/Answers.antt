@@ -1,6 +1,5 @@
 -- One more item is looked at.
-use Rattle.std.proofs.Common.{◌≡◌, ◌+◌, ◌<◌, ◌==◌, true, false, length, get_or, take, sym, ◌∙◌, arith}
-use Rattle.std.specs.List.{list_any}
+use Rattle.std.proofs.Common.{◌<◌, true, false, length, sym, ◌∙◌, arith}
 use Rattle.hp_plain.proofs.Scans.{repeated-step}
 use Rattle.hp_plain.proofs.image.plans.first_repeated.Goals as goal
 

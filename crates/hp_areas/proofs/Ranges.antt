@@ -1,0 +1,57 @@
+-- Numbers from one on: one number further in a test, a filter and a fold over them.
+use Rattle.std.proofs.Common.{◌≡◌, ℕ, zero, suc, ◌+◌, ◌-◌, ◌<◌, List, [], ◌∷◌, ◌++◌, Bool, true, false, cond, ◌||◌, ◌&&◌, refl, sym, ◌∙◌, ap, arith, filter, add-one}
+use Rattle.std.specs.List.{fold, list_any, list_all, range_with_len}
+use Rattle.std.proofs.lemmas.Bool.{false≢true}
+use Rattle.std.proofs.lemmas.List.Elements.{filter-append}
+use Rattle.std.proofs.lemmas.List.Sums.{fold_push}
+
+-- the numbers that are left, the first of them in front
+pub range_step : (a n size : ℕ) → n < size → range_with_len (a + n) (size - n) ≡ (a + n) ∷ range_with_len (a + (n + 1)) (size - (n + 1))
+range_step a n size h =
+    let less : size - n ≡ suc (size - (n + 1)) = omega arith in
+    let next : a + n + 1 ≡ a + (n + 1) = omega arith in
+    ap (λ (k : ℕ). range_with_len (a + n) k) less ∙ ap (λ (k : ℕ). (a + n) ∷ range_with_len k (size - (n + 1))) next
+
+-- a test of some number from one on
+pub any-below_step : (p : ℕ → Bool) (n size : ℕ) (holds : Bool) → n < size → p n ≡ holds
+    → list_any p (range_with_len n (size - n)) ≡ cond holds true (list_any p (range_with_len (n + 1) (size - (n + 1))))
+any-below_step p n size holds h e =
+    let less : size - n ≡ suc (size - (n + 1)) = omega arith in
+    ap (λ (k : ℕ). list_any p (range_with_len n k)) less ∙ or_cond (p n) holds (list_any p (range_with_len (n + 1) (size - (n + 1)))) e
+  where
+    or_cond : (x y rest : Bool) → x ≡ y → (x || rest) ≡ cond y true rest
+    or_cond true true rest f = refl
+    or_cond false false rest f = refl
+    or_cond true false rest f = absurd cc
+    or_cond false true rest f = absurd cc
+
+-- a test of all numbers
+pub all-range_step : (p : ℕ → Bool) (a n size : ℕ) (holds : Bool) → n < size → p (a + n) ≡ holds
+    → list_all p (range_with_len (a + n) (size - n)) ≡ cond holds (list_all p (range_with_len (a + (n + 1)) (size - (n + 1)))) false
+all-range_step p a n size holds h e = ap (list_all p) (range_step a n size h) ∙ and_cond (p (a + n)) holds (list_all p (range_with_len (a + (n + 1)) (size - (n + 1)))) e
+  where
+    and_cond : (x y rest : Bool) → x ≡ y → (x && rest) ≡ cond y rest false
+    and_cond true true rest f = refl
+    and_cond false false rest f = refl
+    and_cond true false rest f = absurd (false≢true (sym f))
+    and_cond false true rest f = absurd (false≢true f)
+
+-- numbers from one on, one number further
+pub range_push : (a n : ℕ) → range_with_len a (suc n) ≡ range_with_len a n ++ (a + n) ∷ []
+range_push a zero = ap (λ (k : ℕ). k ∷ []) (omega arith)
+range_push a (suc n) = ap (λ (xs : List ℕ). a ∷ xs) (range_push (a + 1) n ∙ ap (λ (k : ℕ). range_with_len (a + 1) n ++ k ∷ []) (omega arith))
+
+-- a fold over numbers from one on, one number further
+pub fold-range_more : {B : Type 0} (f : B → ℕ → B) (b : B) (a n : ℕ) → fold f b (range_with_len a (n + 1)) ≡ f (fold f b (range_with_len a n)) (a + n)
+fold-range_more f b a n =
+    ap (λ (k : ℕ). fold f b (range_with_len a k)) (add-one n) ∙ ap (fold f b) (range_push a n) ∙ fold_push f b (range_with_len a n) (a + n)
+
+-- a filter of numbers from one on, one number further
+pub filter-range_more : (p : ℕ → Bool) (a n : ℕ) (keep : Bool) → p (a + n) ≡ keep
+    → filter p (range_with_len a (n + 1)) ≡ filter p (range_with_len a n) ++ cond keep ((a + n) ∷ []) []
+filter-range_more p a n keep e =
+    ap (λ (k : ℕ). filter p (range_with_len a k)) (add_one n) ∙ ap (filter p) (range_push a n) ∙ filter-append p (range_with_len a n) ((a + n) ∷ [])
+    ∙ ap (λ (b : Bool). filter p (range_with_len a n) ++ cond b ((a + n) ∷ []) []) e
+  where
+    add_one : (k : ℕ) → k + 1 ≡ suc k
+    add_one k = omega arith

@@ -1,0 +1,17 @@
+-- An order whose list is empty is passed by.
+use Rattle.std.proofs.Common.{◌≡◌, ◌+◌, ◌-◌, ◌∙◌, arith, ap, ℕ}
+use Rattle.hp_units.specs.Memory.{free_list}
+use Rattle.hp_units.specs.FreeAreas.{greatest_order}
+use Rattle.hp_areas.proofs.Searches.{greatest_order-more, order_or-empty}
+use Rattle.hp_areas.proofs.areas.Areas.greatest_order.Goals as goal
+
+pub loop-order-preserved : goal.loop-order-preserved
+loop-order-preserved c =
+    let a = c.args.self.now in
+    let first = c.args.first in
+    let order = c.loop-order.order - 1 in
+    let here : c.loop-order.order ≡ order + 1 = omega arith in
+    c.loop-order.invariant ∙ ap (λ (n : ℕ). greatest_order a c.args.class first (n - first)) here
+    ∙ greatest_order-more a c.args.class first order (omega arith)
+    ∙ order_or-empty c.free_list.result.now (free_list a c.args.class order) order (greatest_order a c.args.class first (order - first)) c.is_empty.result
+    c.free_list.ensures c.is_empty.ensures c.if-not-is_empty.false

@@ -1,0 +1,137 @@
+//! Worked examples: each public function once, on two memory blocks and one owner of two pages.
+ghost use Rattle.std.specs.Prelude.{◌≡◌, IfOk};
+
+use super::{Blocks, Pages, claimed_row, is_going, is_off, wish_of};
+use hp_units::{
+    Auto, Block, Boot, Claim, Frame, Item, Layout, LayoutFault, Owner, Page, Parts, Row, Serial,
+    State, Wish, Words, Zone,
+};
+use std::alloc::Global;
+use std::test::Fail;
+
+const ONLINE: Row = Row {
+    state: State::Online,
+    zone: Some(Zone::Movable),
+    claim: None,
+};
+
+/// Two memory blocks of two frames, and one owner of two pages of one word.
+fn small(alloc: Global) -> Result<Layout, LayoutFault>
+    ensures blocks { IfOk result (λ l. l.blocks ≡ 2) }
+    ensures owners { IfOk result (λ l. l.owners ≡ 1) }
+    ensures pages { IfOk result (λ l. l.pages ≡ 2) }
+{
+    Layout::new(
+        alloc,
+        &Parts {
+            order: 1,
+            pageblocks: 1,
+            blocks: 2,
+            cpus: 1,
+            batch: 1,
+            high: 1,
+            owners: 1,
+            pages: 2,
+            words: 1,
+            history: 1,
+            boot: &[Boot::Offline, Boot::Offline],
+        },
+    )
+}
+
+#[test]
+fn a_row_is_set(rt: HostRuntime) -> Result<(), Fail> {
+    let layout = small(rt.alloc())?;
+    let mut blocks = Blocks::empty(rt.alloc(), &layout)?;
+    blocks.set_row(Block(1), ONLINE);
+    assert_eq!(rt; blocks.row(Block(1)), Some(ONLINE));
+    assert_eq!(rt; blocks.row_of(Block(1)), ONLINE);
+    assert_eq!(rt; blocks.zone(Block(1)), Zone::Movable);
+    assert_eq!(rt; blocks.zone(Block(0)), Zone::Normal);
+    Ok(())
+}
+
+#[test]
+fn what_added_blocks_become_is_set(rt: HostRuntime) -> Result<(), Fail> {
+    let layout = small(rt.alloc())?;
+    let mut blocks = Blocks::empty(rt.alloc(), &layout)?;
+    let before = blocks.copy(rt.alloc())?;
+    assert!(rt; blocks.same(&before));
+    blocks.set_auto(Auto::Online);
+    assert_eq!(rt; blocks.auto(), Auto::Online);
+    assert!(rt; !blocks.same(&before));
+    Ok(())
+}
+
+#[test]
+fn an_operation_holds_a_block(rt: HostRuntime) -> Result<(), Fail> {
+    let layout = small(rt.alloc())?;
+    let mut blocks = Blocks::empty(rt.alloc(), &layout)?;
+    blocks.set_row(Block(1), claimed_row(ONLINE, Serial(5), Wish::Off));
+    assert!(rt; is_going(blocks.row_of(Block(1))));
+    assert!(rt; blocks.is_live(Serial(5)));
+    let held = blocks.blocks_of(rt.alloc(), &layout, Serial(5))?;
+    assert_eq!(rt; held.as_slice(), [Block(1)].as_slice());
+    let going = blocks.going_blocks(rt.alloc(), &layout, Serial(5))?;
+    assert_eq!(rt; going.as_slice(), [Block(1)].as_slice());
+    Ok(())
+}
+
+#[test]
+fn a_plan_is_looked_through(rt: HostRuntime) -> Result<(), Fail> {
+    let layout = small(rt.alloc())?;
+    let mut blocks = Blocks::empty(rt.alloc(), &layout)?;
+    blocks.set_row(Block(1), claimed_row(ONLINE, Serial(5), Wish::Movable));
+    let plan = [item(0, Wish::Off), item(1, Wish::Normal)];
+    assert_eq!(rt; blocks.first_claimed(&plan), Some(Block(1)));
+    assert_eq!(rt; blocks.first_not_online(&plan), Some(Block(0)));
+    assert_eq!(rt; blocks.first_not_offline(&plan), Some(Block(1)));
+    assert_eq!(rt; wish_of(&plan, Block(1)), Some(Wish::Normal));
+    assert!(rt; is_off(Wish::Off));
+    Ok(())
+}
+
+#[test]
+fn a_page_is_mapped(rt: HostRuntime) -> Result<(), Fail> {
+    let layout = small(rt.alloc())?;
+    let mut pages = Pages::empty(rt.alloc(), &layout)?;
+    let before = pages.copy(rt.alloc())?;
+    pages.map(Owner(0), Page(1), Frame(3), one_word(rt.alloc())?);
+    assert!(rt; pages.is_mapped(Frame(3)));
+    assert_eq!(rt; pages.words_at(Owner(0), Page(1)), Some([7].as_slice()));
+    assert!(rt; !pages.same(&before));
+    pages.move_page(Frame(3), Frame(2));
+    assert_eq!(rt; pages.frame_at(Owner(0), Page(1)), Some(Frame(2)));
+    Ok(())
+}
+
+#[test]
+fn a_page_has_other_words(rt: HostRuntime) -> Result<(), Fail> {
+    let layout = small(rt.alloc())?;
+    let mut pages = Pages::empty(rt.alloc(), &layout)?;
+    pages.set_words(Owner(0), Page(1), Some(one_word(rt.alloc())?));
+    assert_eq!(rt; pages.words_at(Owner(0), Page(1)), Some([7].as_slice()));
+    Ok(())
+}
+
+#[test]
+fn a_page_is_unmapped(rt: HostRuntime) -> Result<(), Fail> {
+    let layout = small(rt.alloc())?;
+    let mut pages = Pages::empty(rt.alloc(), &layout)?;
+    pages.unmap(Owner(0), Page(1));
+    assert_eq!(rt; pages.frame_at(Owner(0), Page(1)), None);
+    Ok(())
+}
+
+/// A block of a plan.
+fn item(block: u32, wish: Wish) -> Item {
+    Item {
+        block: Block(block),
+        wish,
+    }
+}
+
+/// One word.
+fn one_word(alloc: Global) -> Result<Words, Fail> {
+    Ok(Words::new(vec![in alloc; 7]?))
+}
