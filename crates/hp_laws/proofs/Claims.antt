@@ -54,7 +54,7 @@ fold_blocks Q f p from (suc count) t acts skips h =
 
 -- ---- zones of rows
 
-some_zone : (zone : Option Zone) → IsSome zone → zone ≡ Some (unwrap_or zone NormalZone)
+pub some_zone : (zone : Option Zone) → IsSome zone → zone ≡ Some (unwrap_or zone NormalZone)
 some_zone None h = absurd (cc h)
 some_zone (Some zone) h = refl
 

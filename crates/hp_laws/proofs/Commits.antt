@@ -279,7 +279,7 @@ claim_offline GoingState zone claim c is e h = absurd (cc (e, h.1))
 claim_offline OnlineState zone claim c is e h = absurd (cc (is, h.1))
 claim_offline AbsentState zone claim c is e h = absurd (cc (is, h.1))
 
-going_plugged : (state : State) → is_going_state state ≡ true → (is_offline_state state || is_absent_state state) ≡ false
+pub going_plugged : (state : State) → is_going_state state ≡ true → (is_offline_state state || is_absent_state state) ≡ false
 going_plugged GoingState e = refl
 going_plugged OfflineState e = cc
 going_plugged OnlineState e = cc

@@ -1,37 +1,40 @@
 -- The free block that a free frame lies in, and pageblocks all of whose frames are free.
-use Rattle.std.proofs.Common.{◌≡◌, ◌≢◌, ℕ, zero, suc, ◌+◌, ◌*◌, ◌/◌, ◌%◌, ◌^◌, ◌<◌, ◌≤◌, List, [], ◌∷◌, length, get_or, true, false, Option, Some, refl, sym, ◌∙◌, ap, subst, arith, inl, inr, ◌==◌}
+use Rattle.std.proofs.Common.{◌≡◌, ◌≢◌, ℕ, zero, suc, ◌+◌, ◌*◌, ◌/◌, ◌%◌, ◌^◌, ◌<◌, ◌≤◌, List, [], ◌∷◌, length, get_or, true, Option, Some, refl, sym, ◌∙◌, ap, subst, arith, inl, inr, ◌==◌}
 use Rattle.std.proofs.lemmas.Bool.{cases_eq, cases_lt, both_ways, eq-eqb, or_left}
 use Rattle.std.proofs.lemmas.Bool.Decides.{nat_tests}
 use Rattle.std.proofs.lemmas.Nat.{pow_pos, shl-shr, div-add-mod'}
 use Rattle.std.proofs.lemmas.Option.{same_Some}
+use Rattle.std.proofs.Math.Nat.{lt-div-mul-add}
 use Rattle.hp_units.specs.declared.rows.Class.{Class}
 use Rattle.hp_units.specs.declared.rows.Class.TheVariants.{Nu, Nm, Mm, IsoN, IsoM}
 use Rattle.hp_units.specs.LayoutParts.{LayoutParts}
 use Rattle.hp_units.specs.Arithmetic.{buddy, pageblock_of}
 use Rattle.hp_units.specs.Memory.{FreeAreas, free_list, with_free_list, class_index}
 use Rattle.hp_units.specs.FreeAreas.{is_on}
-use Rattle.hp_units.specs.Placement.{covers, free_places, list_places, places_from}
-use Rattle.hp_laws.proofs.Sizes.{with_free_list-size}
-use Rattle.std.proofs.Math.Nat.{lt-div-mul-add}
-use Rattle.hp_laws.proofs.Places.{HasOrder, class_index-lt, covered, list_places-cons, with_free_list-places}
+use Rattle.hp_units.specs.Placement.{free_places, list_places, places_from}
 use Rattle.hp_laws.specs.Consequences.{IsFrameOf, IsInFreeBlock}
+use Rattle.hp_laws.proofs.Sizes.{with_free_list-size}
+use Rattle.hp_laws.proofs.Places.{HasOrder, class_index-lt, covered, list_places-cons, with_free_list-places}
 use Rattle.hp_laws.proofs.Ordered.{AreOrdered}
-use Rattle.hp_laws.proofs.Geometry.{buddy-buddy, buddy_above, buddy_even, buddy_odd, multiple, multiple_aligned, same_above}
+use Rattle.hp_laws.proofs.Geometry.{buddy_above, buddy_even, buddy_odd, multiple, multiple_aligned, same_above}
 use Rattle.hp_laws.proofs.FrameLists.{free_list-apart, list_places-le, on-places, on_cases, on_tail}
 use Rattle.hp_laws.proofs.Areas.{has_order, on_free}
 use Rattle.hp_laws.proofs.Onlines.{quotient}
 
 -- ---- the block that a frame lies in
 
+-- the frames of a block are those that it covers
 pub in_covered : (frame order first : ℕ) → IsFrameOf frame order first → covered frame order first ≡ 1
 in_covered frame order first h = by_sides h.low h.high
   where
     by_sides : first ≤ frame → frame < first + 2 ^ order → covered frame order first ≡ 1
     by_sides low high = grind (arith, nat_tests)
 
+-- and the other way round
 pub covered_in : (frame order first : ℕ) → 1 ≤ covered frame order first → IsFrameOf frame order first
 covered_in frame order first h = record { low = grind (arith, nat_tests); high = grind (arith, nat_tests) }
 
+-- the first of a list is on it
 pub on_head : (x : ℕ) (xs : List ℕ) → is_on x (x ∷ xs) ≡ true
 on_head x xs = or_left (x == x) (is_on x xs) (eq-eqb x x refl)
 
@@ -41,6 +44,7 @@ pub record HasOn (frame order : ℕ) (frames : List ℕ) : Type 0 where
   pub on : is_on first frames ≡ true
   pub within : IsFrameOf frame order first
 
+-- a list with a place for a frame has a block with it
 pub list_some : (frame order : ℕ) (frames : List ℕ) → 1 ≤ list_places frame order frames → HasOn frame order frames
 list_some frame order [] some = absurd (omega arith)
 list_some frame order (x ∷ xs) some = elim (cases_lt (covered frame order x) 1) [
@@ -50,6 +54,7 @@ list_some frame order (x ∷ xs) some = elim (cases_lt (covered frame order x) 1
   | inr here ↦ record { first = x; on = on_head x xs; within = covered_in frame order x here }
 ]
 
+-- and a list that has a block with a frame has a place for it
 pub some_list : (frame order first : ℕ) (frames : List ℕ) → is_on first frames ≡ true → IsFrameOf frame order first → 1 ≤ list_places frame order frames
 some_list frame order first [] on h = cc
 some_list frame order first (x ∷ xs) on h = elim (on_cases first x xs on) [
@@ -63,6 +68,7 @@ record HasList (frame number : ℕ) (lists : List (List ℕ)) : Type 0 where
   pub low : at < length lists
   pub some : 1 ≤ list_places frame ((number + at) / 5) (get_or lists at [])
 
+-- one of several lists has the frame
 places_some : (frame number : ℕ) (lists : List (List ℕ)) → 1 ≤ places_from frame number lists → HasList frame number lists
 places_some frame number [] some = absurd (omega arith)
 places_some frame number (frames ∷ lists) some = elim (cases_lt (list_places frame (number / 5) frames) 1) [
@@ -75,6 +81,7 @@ places_some frame number (frames ∷ lists) some = elim (cases_lt (list_places f
       record { at = 0; low = omega arith; some = subst (λ (n : ℕ). 1 ≤ list_places frame (n / 5) frames) sum here }
 ]
 
+-- the class of a number
 class_of_index : (n : ℕ) → n < 5 → (class : Class) × (class_index class ≡ n)
 class_of_index zero low = (Nu, refl)
 class_of_index (suc zero) low = (Nm, refl)
@@ -100,6 +107,7 @@ free_block a frame some =
       within = found.within;
     }
 
+-- a frame that a free block has is in a free place
 pub block_free : (l : LayoutParts) (class_at : ℕ → Option Class) (a : FreeAreas) (frame : ℕ) → AreOrdered l class_at a → IsInFreeBlock a frame → 1 ≤ free_places a frame
 block_free l class_at a frame h b =
     let here = on_free l class_at a b.class b.order b.first h b.on in
@@ -127,6 +135,7 @@ in_number frame order first aligned h =
     let is : first ≡ first / 2 ^ order * 2 ^ order = multiple first order aligned in
     quotient frame (2 ^ order) (first / 2 ^ order) (omega (arith, h.low)) (omega (arith, h.high))
 
+-- and the frames of one number are in the block
 pub number_in : (frame order first : ℕ) → first % 2 ^ order ≡ 0 → frame / 2 ^ order ≡ first / 2 ^ order → IsFrameOf frame order first
 number_in frame order first aligned same =
     let is : first ≡ first / 2 ^ order * 2 ^ order = multiple first order aligned in

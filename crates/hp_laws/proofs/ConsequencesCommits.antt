@@ -1,10 +1,9 @@
 -- A going block is all free where each of its frames is in a free block, and the search for a frame that is in none.
-use Rattle.std.proofs.Common.{IsSome, ◌≡◌, ℕ, zero, suc, ◌+◌, ◌*◌, ◌/◌, ◌^◌, ◌<◌, ◌≤◌, List, [], ◌∷◌, ◌++◌, length, get_or, Bool, true, false, not, cond, Option, Some, None, refl, sym, ◌∙◌, ap, subst, arith, ◌⊎◌, ◌↔◌, inl, inr, ◌||◌, eqb-true, ◌==◌}
-use Rattle.std.specs.Prelude.{filter, find, flat_map, is_none, nat_le, unwrap_or}
-use Rattle.std.specs.Bool.{then_some}
+use Rattle.std.proofs.Common.{◌≡◌, ℕ, zero, suc, ◌+◌, ◌*◌, ◌/◌, ◌^◌, ◌<◌, ◌≤◌, List, [], ◌∷◌, ◌++◌, length, get_or, Bool, true, false, not, cond, Option, Some, None, refl, sym, ◌∙◌, ap, subst, arith, ◌⊎◌, inl, inr, ◌==◌}
+use Rattle.std.specs.Prelude.{find, flat_map, is_none}
 use Rattle.std.specs.List.{list_all, list_any, range_with_len}
-use Rattle.std.specs.Option.{option_map, option_map_or}
-use Rattle.std.proofs.lemmas.Bool.{and_from, both_ways, cases_lt, false_from_ne_true, lt-leb, not-false, or_cases, or_left}
+use Rattle.std.specs.Option.{option_map}
+use Rattle.std.proofs.lemmas.Bool.{and_from, both_ways, cases_lt, false_from_ne_true, not-false, or_cases, or_left, or_right}
 use Rattle.std.proofs.lemmas.List.{get_or_past}
 use Rattle.std.proofs.lemmas.List.Folds.{list_any-append}
 use Rattle.std.proofs.lemmas.Nat.{div-add-mod', mul-le, pow_pos, shl-shr}
@@ -14,37 +13,30 @@ use Rattle.hp_units.specs.declared.rows.Class.TheVariants.{Nu, Nm, Mm, IsoN, Iso
 use Rattle.hp_units.specs.declared.rows.Kind.{Kind}
 use Rattle.hp_units.specs.declared.rows.Row.{Row}
 use Rattle.hp_units.specs.declared.rows.Zone.{Zone}
-use Rattle.hp_units.specs.declared.rows.Zone.TheVariants.{Normal as NormalZone}
 use Rattle.hp_units.specs.LayoutParts.{LayoutParts, IsLayout}
 use Rattle.hp_units.specs.Arithmetic.{all_blocks, ancestor, block_of, block_of_pageblock, block_size, frames_of_block, pageblock_of, pageblocks_of}
-use Rattle.hp_units.specs.Choices.{first_some}
-use Rattle.hp_units.specs.Memory.{FreeAreas, Memory, free_list, isolated_class, offline_row, row_of, usable_class}
+use Rattle.hp_units.specs.Memory.{FreeAreas, Memory, free_list, isolated_class, offline_row, row_of}
 use Rattle.hp_units.specs.FreeAreas.{class_of_kind, is_on}
-use Rattle.hp_units.specs.Refusals.{frame_in_use, is_all_free, is_free_start, is_in_free_block, refusal_of}
-use Rattle.hp_units.specs.Rows.{blocks_of, going_blocks, is_claimed_by, is_going, is_live, zone_of_block}
-use Rattle.hp_units.specs.Step.{Answered, answer, step}
-use Rattle.hp_units.specs.Placement.{IsWellPlaced, class_at, free_places, kind_at, row_at}
-use Rattle.hp_laws.specs.Consequences.{IsFrameOf, IsGoingFor, IsFrameInUse, IsInFreeBlock, IsLowestInUse}
-use Rattle.hp_laws.proofs.Names.{Commit, Done, NoCpu, NoOp, NotFree, Refused, Reply}
+use Rattle.hp_units.specs.Refusals.{frame_in_use, is_all_free, is_free_start, is_in_free_block}
+use Rattle.hp_units.specs.Rows.{blocks_of, going_blocks, is_claimed_by, is_going, zone_of_block}
+use Rattle.hp_units.specs.Placement.{IsWellPlaced, class_at, kind_at, row_at}
+use Rattle.hp_laws.specs.Consequences.{IsFrameOf, IsGoingFor, IsFrameInUse, IsInFreeBlock}
 use Rattle.hp_laws.proofs.Ordered.{AreOrdered}
 use Rattle.hp_laws.proofs.Options.{found_passes}
 use Rattle.hp_laws.proofs.Geometry.{multiple, multiple_aligned}
-use Rattle.hp_laws.proofs.FrameLists.{list_places-le, on_cases, on_tail}
-use Rattle.hp_laws.proofs.Areas.{has_order, on_free}
+use Rattle.hp_laws.proofs.FrameLists.{on_cases, on_tail}
+use Rattle.hp_laws.proofs.Areas.{on_free}
 use Rattle.hp_laws.proofs.States.{areas_of, block_of-pageblock}
 use Rattle.hp_laws.proofs.Onlines.{quotient}
-use Rattle.hp_laws.proofs.Pageblocks.{IsInRange, on_filter, on_range}
+use Rattle.hp_laws.proofs.Pageblocks.{on_filter, on_range}
 use Rattle.hp_laws.proofs.Isolations.{pageblock_range, some_pageblocks}
-use Rattle.hp_laws.proofs.Claims.{going_zone}
+use Rattle.hp_laws.proofs.Claims.{going_zone, some_zone}
 use Rattle.hp_laws.proofs.Commits.{filter_on, list_all_on, range_on}
-use Rattle.hp_laws.proofs.ConsequencesBlocks.{block_free, free_block, in_number, number_in, on_head, some_list, whole_pageblock}
+use Rattle.hp_laws.proofs.ConsequencesBlocks.{block_free, in_number, number_in, on_head, whole_pageblock}
 
 -- ---- tests over lists of numbers
 
-or_right : (a b : Bool) → b ≡ true → (a || b) ≡ true
-or_right true b h = refl
-or_right false b h = h
-
+-- what passes a test that something passes
 any_some : {X : Type 0} (p : X → Bool) (xs : List X) → list_any p xs ≡ true → (x : X) × (p x ≡ true)
 any_some p [] e = cc
 any_some p (x ∷ xs) e = elim (or_cases (p x) (list_any p xs) e) [
@@ -52,6 +44,7 @@ any_some p (x ∷ xs) e = elim (or_cases (p x) (list_any p xs) e) [
   | inr there ↦ any_some p xs there
 ]
 
+-- something passes a test that a number on the list passes
 on_any : (p : ℕ → Bool) (xs : List ℕ) (x : ℕ) → is_on x xs ≡ true → p x ≡ true → list_any p xs ≡ true
 on_any p [] x on e = cc
 on_any p (y ∷ ys) x on e = elim (on_cases x y ys on) [
@@ -59,10 +52,12 @@ on_any p (y ∷ ys) x on e = elim (on_cases x y ys on) [
   | inr there ↦ or_right (p y) (list_any p ys) (on_any p ys x there e)
 ]
 
+-- all pass a test that each number on the list passes
 pub all_from : (p : ℕ → Bool) (xs : List ℕ) → ((x : ℕ) → is_on x xs ≡ true → p x ≡ true) → list_all p xs ≡ true
 all_from p [] h = refl
 all_from p (x ∷ xs) h = and_from (p x) (list_all p xs) (h x (on_head x xs)) (all_from p xs (λ y on. h y (on_tail y x xs on)))
 
+-- what is found is on the list
 found_on : (p : ℕ → Bool) (xs : List ℕ) (x : ℕ) → find p xs ≡ Some x → is_on x xs ≡ true
 found_on p [] x e = cc
 found_on p (y ∷ ys) x e = by_test (p y) e (found_on p ys x)
@@ -71,6 +66,7 @@ found_on p (y ∷ ys) x e = by_test (p y) e (found_on p ys x)
     by_test true e later = (let same : y ≡ x = cc in subst (λ (n : ℕ). is_on n (y ∷ ys) ≡ true) same (on_head y ys))
     by_test false e later = on_tail x y ys (later e)
 
+-- where nothing is found, nothing on the list passes
 pub not_found : (p : ℕ → Bool) (xs : List ℕ) (x : ℕ) → find p xs ≡ None → is_on x xs ≡ true → p x ≡ false
 not_found p [] x e on = cc
 not_found p (y ∷ ys) x e on = by_test (p y) refl e (not_found p ys x)
@@ -82,9 +78,11 @@ not_found p (y ∷ ys) x e on = by_test (p y) refl e (not_found p ys x)
       | inr there ↦ later e there
     ]
 
+-- a number on one of two lists
 on_append : (x : ℕ) (xs ys : List ℕ) → is_on x (xs ++ ys) ≡ true → (is_on x xs ≡ true) ⊎ (is_on x ys ≡ true)
 on_append x xs ys on = or_cases (is_on x xs) (is_on x ys) (sym (list_any-append (λ other. other == x) xs ys) ∙ on)
 
+-- a number on one of several lists
 pub flat_on : (f : ℕ → List ℕ) (blocks : List ℕ) (x : ℕ) → is_on x (flat_map f blocks) ≡ true → (block : ℕ) × (is_on block blocks ≡ true) × (is_on x (f block) ≡ true)
 flat_on f [] x on = cc
 flat_on f (b ∷ bs) x on = elim (on_append x (f b) (flat_map f bs) on) [
@@ -92,6 +90,7 @@ flat_on f (b ∷ bs) x on = elim (on_append x (f b) (flat_map f bs) on) [
   | inr there ↦ (let rest = flat_on f bs x there in (rest.0, on_tail rest.0 b bs rest.1, rest.2))
 ]
 
+-- and each number of each list is on all of them
 pub on_flat : (f : ℕ → List ℕ) (blocks : List ℕ) (block x : ℕ) → is_on block blocks ≡ true → is_on x (f block) ≡ true → is_on x (flat_map f blocks) ≡ true
 on_flat f [] block x on there = cc
 on_flat f (b ∷ bs) block x on there = elim (on_cases block b bs on) [
@@ -101,12 +100,14 @@ on_flat f (b ∷ bs) block x on there = elim (on_cases block b bs on) [
 
 -- ---- the test of a frame
 
+-- the block of an order that a frame lies in has it
 ancestor_has : (frame order : ℕ) → IsFrameOf frame order (ancestor frame order)
 ancestor_has frame order =
     let some : 0 < 2 ^ order = pow_pos order in
     let high : frame < frame / 2 ^ order * 2 ^ order + 2 ^ order = lt-div-mul-add some in
     record { low = omega (arith, div-add-mod' frame (2 ^ order)); high = omega arith }
 
+-- a test of the five classes
 on_class : (p : Class → Bool) (class : Class) → p class ≡ true → list_any p (Nu ∷ Nm ∷ Mm ∷ IsoN ∷ IsoM ∷ []) ≡ true
 on_class p Nu e = or_left (p Nu) _ e
 on_class p Nm e = or_right (p Nu) _ (or_left (p Nm) _ e)
@@ -121,6 +122,7 @@ tested_block l a frame e =
     let class = any_some (λ (c : Class). is_on (ancestor frame order.0) (free_list a c order.0)) (Nu ∷ Nm ∷ Mm ∷ IsoN ∷ IsoM ∷ []) order.1 in
     record { class = class.0; order = order.0; first = ancestor frame order.0; on = class.1; within = ancestor_has frame order.0 }
 
+-- and it finds each that there is
 pub block_tested : (l : LayoutParts) (class_at : ℕ → Option Class) (a : FreeAreas) (frame : ℕ) → AreOrdered l class_at a → IsInFreeBlock a frame → is_in_free_block l a frame ≡ true
 block_tested l class_at a frame h b =
     let aligned = (h.blocks b.class b.order b.first b.on).aligned in
@@ -131,12 +133,9 @@ block_tested l class_at a frame h b =
 
 -- ---- the test of a block
 
+-- the class of a pageblock that is isolated
 isolated_at : (zone : Option Zone) (kind : Kind) (z : Zone) → zone ≡ Some z → kind.isolated ≡ true → option_map (λ (y : Zone). class_of_kind y kind) zone ≡ Some (isolated_class z)
 isolated_at zone kind z e f = rw (e, f) refl
-
-zone_some : (zone : Option Zone) → IsSome zone → zone ≡ Some (unwrap_or zone NormalZone)
-zone_some None h = absurd (cc h)
-zone_some (Some zone) h = refl
 
 -- a going block of whose frames each is free is all free
 pub frames_all_free : (l : LayoutParts) (s : Memory) (block : ℕ) → IsWellPlaced l s → is_going (row_of s.blocks block) ≡ true → ((frame : ℕ) → block_of l frame ≡ block → IsInFreeBlock s.free.areas frame)
@@ -144,7 +143,7 @@ pub frames_all_free : (l : LayoutParts) (s : Memory) (block : ℕ) → IsWellPla
 frames_all_free l s block p going free =
     let zone : Zone = zone_of_block s.blocks block in
     let row : Row = row_of s.blocks block in
-    let zoned : row.zone ≡ Some zone = zone_some row.zone (going_zone row.state row.zone row.claim going (p.in_order.rows block)) in
+    let zoned : row.zone ≡ Some zone = some_zone row.zone (going_zone row.state row.zone row.claim going (p.in_order.rows block)) in
     all_from (λ (n : ℕ). is_on (n * 2 ^ l.order) (free_list s.free.areas (isolated_class zone) l.order)) (pageblocks_of l block) (λ pageblock on.
     let among = on_range pageblock (block * l.pageblocks) l.pageblocks on in
     let here : block_of_pageblock l pageblock ≡ block = quotient pageblock l.pageblocks block among.low among.high in
@@ -171,11 +170,13 @@ all_free_frames l s block frame layout all here =
 
 -- ---- the frames of an operation's going blocks
 
+-- a block has frames
 some_frames : (l : LayoutParts) → IsLayout l → 0 < block_size l
 some_frames l layout =
     let some : 0 < 2 ^ l.order = pow_pos l.order in
     omega (arith, mul-le 1 1 l.pageblocks (2 ^ l.order) (some_pageblocks l layout) some)
 
+-- they are the frames that lie in it
 pub block_has : (l : LayoutParts) (block frame : ℕ) → IsLayout l → block_of l frame ≡ block → is_on frame (frames_of_block l block) ≡ true
 block_has l block frame layout e =
     let high : frame < frame / block_size l * block_size l + block_size l = lt-div-mul-add (some_frames l layout) in
@@ -191,21 +192,25 @@ claimed_low rows op block e = elim (cases_lt block (length rows)) [
       absurd (both_ways (is_claimed_by op offline_row) refl (subst (λ (r : Row). is_claimed_by op r ≡ true) past e))
 ]
 
+-- an operation is live where a row carries its number
 pub claimed_live : (rows : List Row) (op block : ℕ) → is_claimed_by op (get_or rows block offline_row) ≡ true → list_any (is_claimed_by op) rows ≡ true
 claimed_live [] op block e = cc
 claimed_live (row ∷ rows) op zero e = or_left (is_claimed_by op row) (list_any (is_claimed_by op) rows) e
 claimed_live (row ∷ rows) op (suc block) e = or_right (is_claimed_by op row) (list_any (is_claimed_by op) rows) (claimed_live rows op block e)
 
+-- the operation is taking the block offline
 pub record IsGoingBlock (l : LayoutParts) (s : Memory) (op block : ℕ) : Type 0 where
   pub claimed : is_claimed_by op (row_of s.blocks block) ≡ true
   pub going : is_going (row_of s.blocks block) ≡ true
 
+-- the going blocks of an operation
 pub going_on : (l : LayoutParts) (s : Memory) (op block : ℕ) → is_on block (going_blocks l s.blocks op) ≡ true → IsGoingBlock l s op block
 going_on l s op block on =
     let outer = on_filter (λ (b : ℕ). is_going (row_of s.blocks b)) block (blocks_of l s.blocks op) on in
     let inner = on_filter (λ (b : ℕ). is_claimed_by op (row_of s.blocks b)) block (all_blocks l) outer.right in
     record { claimed = inner.left; going = outer.left }
 
+-- each of them is among them
 on_going : (l : LayoutParts) (s : Memory) (op block : ℕ) → IsWellPlaced l s → IsGoingBlock l s op block → is_on block (going_blocks l s.blocks op) ≡ true
 on_going l s op block p h =
     let low : block < l.blocks = omega (arith, claimed_low s.blocks.rows op block h.claimed, p.in_order.shape.rows) in
@@ -216,6 +221,7 @@ on_going l s op block p h =
 abbrev pub going_frames : LayoutParts → Memory → ℕ → List ℕ
 going_frames l s op = flat_map (frames_of_block l) (going_blocks l s.blocks op)
 
+-- the frames of its going blocks
 pub frame_going : (l : LayoutParts) (s : Memory) (op frame : ℕ) → is_on frame (going_frames l s op) ≡ true → IsGoingFor l s op frame
 frame_going l s op frame on =
     let found = flat_on (frames_of_block l) (going_blocks l s.blocks op) frame on in
@@ -227,19 +233,17 @@ frame_going l s op frame on =
       going = subst (λ (b : ℕ). is_going (row_of s.blocks b) ≡ true) (sym here) block.going;
     }
 
+-- each of them is among them
 pub going_frame : (l : LayoutParts) (s : Memory) (op frame : ℕ) → IsLayout l → IsWellPlaced l s → IsGoingFor l s op frame → is_on frame (going_frames l s op) ≡ true
 going_frame l s op frame layout p h =
     on_flat (frames_of_block l) (going_blocks l s.blocks op) (block_of l frame) frame (on_going l s op (block_of l frame) p (record { claimed = h.claimed; going = h.going })) (block_has l (block_of l frame) frame layout refl)
 
 -- ---- the search for a frame that no free block has
 
+-- a test that fails does not pass
 not_true : (b : Bool) → not b ≡ true → b ≡ true → ⊥
 not_true true e f = cc
 not_true false e f = cc
-
-not_still : (b : Bool) → not b ≡ false → b ≡ true
-not_still true e = refl
-not_still false e = cc
 
 -- the frame that is found is in use
 pub found_in_use : (l : LayoutParts) (s : Memory) (op frame : ℕ) → IsWellPlaced l s → frame_in_use l s op ≡ Some frame → IsFrameInUse l s op frame
@@ -253,7 +257,7 @@ found_in_use l s op frame p e = record {
 pub none_in_use : (l : LayoutParts) (s : Memory) (op frame : ℕ) → IsLayout l → IsWellPlaced l s → frame_in_use l s op ≡ None → IsGoingFor l s op frame → IsInFreeBlock s.free.areas frame
 none_in_use l s op frame layout p e h =
     tested_block l s.free.areas frame
-    (not_still (is_in_free_block l s.free.areas frame) (not_found (λ (f : ℕ). not (is_in_free_block l s.free.areas f)) (going_frames l s op) frame e (going_frame l s op frame layout p h)))
+    (not-false (is_in_free_block l s.free.areas frame) (not_found (λ (f : ℕ). not (is_in_free_block l s.free.areas f)) (going_frames l s op) frame e (going_frame l s op frame layout p h)))
 
 -- each going block is all free where no frame is found
 pub all_free-none : (l : LayoutParts) (s : Memory) (op : ℕ) → IsLayout l → IsWellPlaced l s → list_all (is_all_free l s) (going_blocks l s.blocks op) ≡ is_none (frame_in_use l s op)

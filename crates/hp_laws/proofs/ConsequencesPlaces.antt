@@ -1,11 +1,11 @@
 -- Frames of processors' lists, kernel's blocks and pages lie in blocks with a zone, and no list is longer than there are frames.
-use Rattle.std.proofs.Common.{◌≡◌, ℕ, zero, suc, ◌+◌, ◌*◌, ◌/◌, ◌<◌, ◌≤◌, List, [], ◌∷◌, length, get_or, Bool, true, false, cond, Option, Some, None, refl, sym, ◌∙◌, ap, subst, arith, inl, inr, IfSome, ◌==◌, ◌||◌}
+use Rattle.std.proofs.Common.{◌≡◌, ℕ, zero, suc, ◌+◌, ◌*◌, ◌<◌, ◌≤◌, List, [], ◌∷◌, length, get_or, Bool, true, false, cond, Option, Some, None, refl, sym, ◌∙◌, subst, arith, inl, inr, IfSome, ◌==◌, ◌||◌}
 use Rattle.std.specs.List.{count_by}
 use Rattle.std.specs.Option.{option_map}
-use Rattle.std.proofs.lemmas.Bool.{both_ways, cases_lt}
+use Rattle.std.proofs.lemmas.Bool.{cases_lt}
 use Rattle.std.proofs.lemmas.Bool.Decides.{nat_tests}
 use Rattle.std.proofs.lemmas.List.{get_or_past}
-use Rattle.std.proofs.lemmas.List.Sums.{get_or-le-sum_by, sum_by-cons}
+use Rattle.std.proofs.lemmas.List.Sums.{get_or-le-sum_by}
 use Rattle.hp_units.specs.declared.rows.Class.{Class}
 use Rattle.hp_units.specs.declared.rows.Claim.{Claim}
 use Rattle.hp_units.specs.declared.rows.Pool.{Pool}
@@ -15,28 +15,29 @@ use Rattle.hp_units.specs.declared.rows.State.TheVariants.{Offline as OfflineSta
 use Rattle.hp_units.specs.declared.rows.Zone.{Zone}
 use Rattle.hp_units.specs.declared.rows.Zone.TheVariants.{Normal as NormalZone}
 use Rattle.hp_units.specs.LayoutParts.{LayoutParts, IsLayout}
-use Rattle.hp_units.specs.Arithmetic.{block_of, block_of_pageblock, frame_count, pageblock_of}
+use Rattle.hp_units.specs.Arithmetic.{block_of, frame_count, pageblock_of}
 use Rattle.hp_units.specs.Memory.{Memory, cached_list, class_index, free_list, kernel_order, offline_row, pool_index, row_of, zone_of_pool}
 use Rattle.hp_units.specs.FreeAreas.{class_of_kind, is_on}
 use Rattle.hp_units.specs.Pages.{frame_at}
 use Rattle.hp_units.specs.Rows.{is_absent_state, is_going_state, is_offline_state, is_online_state}
-use Rattle.hp_units.specs.Placement.{IsKernelAt, IsRowOf, IsWellPlaced, cached_places, free_places, is_unplugged, kernel_places, kind_at, list_places, mapped_places, offline_places, row_at}
+use Rattle.hp_units.specs.Placement.{IsKernelAt, IsRowOf, IsWellPlaced, cached_places, is_unplugged, kind_at, list_places, mapped_places, offline_places, row_at}
 use Rattle.hp_laws.specs.Consequences.{IsFrameOf, IsPluggedIn}
 use Rattle.hp_laws.proofs.Places.{covered, list_places-cons}
 use Rattle.hp_laws.proofs.Geometry.{same_above}
-use Rattle.hp_laws.proofs.FrameLists.{covered-self, list_places-le, on_cases, on_tail}
-use Rattle.hp_laws.proofs.Areas.{has_order, on_free}
-use Rattle.hp_laws.proofs.States.{areas_of, block_of-pageblock, in_layout, kernel-places, kernel_covered}
-use Rattle.hp_laws.proofs.Rows.{on_cached}
+use Rattle.hp_laws.proofs.FrameLists.{covered-self, list_places-le, on_tail}
+use Rattle.hp_laws.proofs.Areas.{has_order}
+use Rattle.hp_laws.proofs.States.{areas_of, block_of-pageblock, in_layout}
 use Rattle.hp_laws.proofs.Drains.{pool_zone, times, times-cons}
 use Rattle.hp_laws.proofs.Tables.{live_row, mapped_some, table_of}
-use Rattle.hp_laws.proofs.ConsequencesBlocks.{in_covered, in_number, on_head}
+use Rattle.hp_laws.proofs.ConsequencesBlocks.{in_number, on_head}
 
 -- ---- the zone of a frame's block
 
+-- the zone of the pageblock that a frame lies in is that of its block
 pub row_zone : (l : LayoutParts) (rows : List Row) (frame : ℕ) (zone : Zone) → (row_at l rows (pageblock_of l frame)).zone ≡ Some zone → (get_or rows (block_of l frame) offline_row).zone ≡ Some zone
 row_zone l rows frame zone e = subst (λ (b : ℕ). (get_or rows b offline_row).zone ≡ Some zone) (sym (block_of-pageblock l frame)) e
 
+-- a frame on a processor's list
 pub cached_zone : (l : LayoutParts) (s : Memory) (cpu : ℕ) (pool : Pool) (frame : ℕ) → IsWellPlaced l s → is_on frame (cached_list s.free cpu pool) ≡ true
     → (row_of s.blocks (block_of l frame)).zone ≡ Some (zone_of_pool pool)
 cached_zone l s cpu pool frame p on =
@@ -47,11 +48,13 @@ cached_zone l s cpu pool frame p on =
 kernel_at : (l : LayoutParts) (s : Memory) (first order : ℕ) → IsWellPlaced l s → (entry : Option ℕ) → kernel_order s first ≡ entry → entry ≡ Some order → IsKernelAt l s.blocks.rows first order
 kernel_at l s first order p entry is e = subst (λ (o : Option ℕ). IfSome o (IsKernelAt l s.blocks.rows first)) (is ∙ e) (p.in_order.kernel first)
 
+-- all of its frames lie in the pageblock that it starts in
 pub kernel_inside : (l : LayoutParts) (s : Memory) (first order frame : ℕ) → IsWellPlaced l s → kernel_order s first ≡ Some order → IsFrameOf frame order first → pageblock_of l frame ≡ pageblock_of l first
 kernel_inside l s first order frame p e within =
     let k = kernel_at l s first order p (kernel_order s first) refl e in
     same_above frame first order l.order k.in_order (in_number frame order first k.aligned within)
 
+-- a frame of the kernel's
 pub kernel_zone : (l : LayoutParts) (s : Memory) (first order frame : ℕ) → IsWellPlaced l s → kernel_order s first ≡ Some order → IsFrameOf frame order first
     → (row_of s.blocks (block_of l frame)).zone ≡ Some NormalZone
 kernel_zone l s first order frame p e within =
@@ -64,15 +67,18 @@ page_plugged l s owner page frame p e =
     let some : 1 ≤ mapped_places s.pages frame = mapped_some l.owners l.pages s.pages.table owner page frame (table_of l s p.in_order) e in
     omega (arith, p.once frame)
 
+-- a block that is neither offline nor absent is online or going
 plugged_state : (state : State) → (is_offline_state state || is_absent_state state) ≡ false → (is_online_state state || is_going_state state) ≡ true
 plugged_state OnlineState e = refl
 plugged_state GoingState e = refl
 plugged_state OfflineState e = cc
 plugged_state AbsentState e = cc
 
+-- 1 for true and 0 for false
 abbrev one_if : Bool → ℕ
 one_if b = cond b 1 0
 
+-- the block of a frame that is in no such place
 not_unplugged : (l : LayoutParts) (s : Memory) (frame : ℕ) → offline_places l s frame ≡ 0 → is_unplugged (row_of s.blocks (block_of l frame)) ≡ false
 not_unplugged l s frame e = by_row (is_unplugged (row_of s.blocks (block_of l frame))) refl e
   where
@@ -80,6 +86,7 @@ not_unplugged l s frame e = by_row (is_unplugged (row_of s.blocks (block_of l fr
     by_row true is e = absurd (omega arith)
     by_row false is e = refl
 
+-- it is plugged in
 pub plugged : (l : LayoutParts) (s : Memory) (frame : ℕ) → IsWellPlaced l s → offline_places l s frame ≡ 0 → IsPluggedIn l s frame
 plugged l s frame p e =
     let live = live_row l s frame p.in_order e in
@@ -88,6 +95,7 @@ plugged l s frame p e =
       state = plugged_state (row_of s.blocks (block_of l frame)).state (not_unplugged l s frame e);
     }
 
+-- a block with a zone is online or going
 zoned_state : (state : State) (zone : Option Zone) (claim : Option Claim) (z : Zone) → zone ≡ Some z → IsRowOf state zone claim → (is_online_state state || is_going_state state) ≡ true
 zoned_state OnlineState zone claim z e h = refl
 zoned_state GoingState zone claim z e h = refl
@@ -113,21 +121,19 @@ sum_below : ℕ → (ℕ → ℕ) → ℕ
 sum_below zero f = 0
 sum_below (suc n) f = sum_below n f + f n
 
+-- where each has at most one, there are no more than frames
 sum_most : (n : ℕ) (f : ℕ → ℕ) → ((k : ℕ) → f k ≤ 1) → sum_below n f ≤ n
 unfolding sum_below
 sum_most zero f h = omega arith
 sum_most (suc n) f h = omega (arith, sum_most n f h, h n)
 
-sum_zero : (n : ℕ) (f : ℕ → ℕ) → ((k : ℕ) → f k ≡ 0) → sum_below n f ≡ 0
-unfolding sum_below
-sum_zero zero f h = refl
-sum_zero (suc n) f h = omega (arith, sum_zero n f h, h n)
-
+-- sums add up
 sum_both : (n : ℕ) (f g h : ℕ → ℕ) → ((k : ℕ) → f k ≡ g k + h k) → sum_below n f ≡ sum_below n g + sum_below n h
 unfolding sum_below
 sum_both zero f g h e = refl
 sum_both (suc n) f g h e = omega (arith, sum_both n f g h e, e n)
 
+-- a number is once on a list of it alone
 times_one : (x k : ℕ) → x ≡ k → times k (x ∷ []) ≡ 1
 times_one x k e = grind (arith, nat_tests)
 
@@ -140,9 +146,11 @@ sum_one (suc n) x low = elim (cases_lt x n) [
   | inr above ↦ (let same : x ≡ n = omega arith in omega (arith, times_one x n same))
 ]
 
+-- the first of a list, and the rest
 times_split : (k x : ℕ) (xs : List ℕ) → times k (x ∷ xs) ≡ times k (x ∷ []) + times k xs
 times_split k x xs = omega (arith, times-cons k x xs, times-cons k x [])
 
+-- a list of numbers below one has a place for each
 length_sum : (n : ℕ) (xs : List ℕ) → ((x : ℕ) → is_on x xs ≡ true → x < n) → length xs ≤ sum_below n (λ k. times k xs)
 length_sum n [] low = omega arith
 length_sum n (x ∷ xs) low =
@@ -157,6 +165,7 @@ length_sum n (x ∷ xs) low =
 pub few_below : (n : ℕ) (xs : List ℕ) → ((x : ℕ) → is_on x xs ≡ true → x < n) → ((k : ℕ) → times k xs ≤ 1) → length xs ≤ n
 few_below n xs low once = omega (arith, length_sum n xs low, sum_most n (λ k. times k xs) once)
 
+-- a frame is covered as often as it is on the list
 times_covered : (k order : ℕ) (xs : List ℕ) → times k xs ≤ list_places k order xs
 times_covered k order [] = omega arith
 times_covered k order (x ∷ xs) = omega (arith, times_covered k order xs, times-cons k x xs, list_places-cons k order x xs, one k x)
@@ -170,7 +179,8 @@ times_covered k order (x ∷ xs) = omega (arith, times_covered k order xs, times
         in_single : (k x : ℕ) → 1 ≤ covered k 0 x → k ≡ x
         in_single k x some = grind (arith, nat_tests)
 
-class_zone : (zone : Option Zone) {class : Option Class} (f : Zone → Class) (c : Class) → class ≡ option_map f zone → class ≡ Some c → (z : Zone) × (zone ≡ Some z)
+-- a pageblock with a class has a zone
+pub class_zone : (zone : Option Zone) {class : Option Class} (f : Zone → Class) (c : Class) → class ≡ option_map f zone → class ≡ Some c → (z : Zone) × (zone ≡ Some z)
 class_zone None f c is e = cc
 class_zone (Some z) f c is e = (z, refl)
 

@@ -1,42 +1,23 @@
 -- The answer to a Commit, and the lowest frame that it names.
-use Rattle.std.proofs.Common.{IsSome, ◌≡◌, ℕ, zero, suc, ◌+◌, ◌*◌, ◌/◌, ◌^◌, ◌<◌, ◌≤◌, List, [], ◌∷◌, ◌++◌, length, get_or, Bool, true, false, not, cond, Option, Some, None, refl, sym, ◌∙◌, ap, subst, arith, ◌⊎◌, ◌↔◌, inl, inr, ◌||◌, eqb-true, ◌==◌}
+use Rattle.std.proofs.Common.{◌≡◌, ℕ, zero, suc, ◌+◌, ◌*◌, ◌<◌, ◌≤◌, List, [], ◌∷◌, ◌++◌, Bool, true, false, not, cond, Option, Some, None, refl, sym, ◌∙◌, ap, subst, arith, ◌↔◌, inl, inr}
 use Rattle.std.specs.Prelude.{filter, find, flat_map, is_none, nat_le, unwrap_or}
 use Rattle.std.specs.Bool.{then_some}
-use Rattle.std.specs.List.{list_all, list_any, range_with_len}
-use Rattle.std.specs.Option.{option_map, option_map_or}
-use Rattle.std.proofs.lemmas.Bool.{and_from, both_ways, cases_lt, false_from_ne_true, lt-leb, not-false, or_cases, or_left}
-use Rattle.std.proofs.lemmas.List.{get_or_past}
-use Rattle.std.proofs.lemmas.List.Folds.{list_any-append}
-use Rattle.std.proofs.lemmas.Nat.{div-add-mod', mul-le, pow_pos, shl-shr}
-use Rattle.std.proofs.Math.Nat.{lt-div-mul-add}
-use Rattle.hp_units.specs.declared.rows.Class.{Class}
-use Rattle.hp_units.specs.declared.rows.Class.TheVariants.{Nu, Nm, Mm, IsoN, IsoM}
-use Rattle.hp_units.specs.declared.rows.Kind.{Kind}
-use Rattle.hp_units.specs.declared.rows.Row.{Row}
-use Rattle.hp_units.specs.declared.rows.Zone.{Zone}
-use Rattle.hp_units.specs.declared.rows.Zone.TheVariants.{Normal as NormalZone}
+use Rattle.std.specs.List.{list_all, range_with_len}
+use Rattle.std.proofs.lemmas.Bool.{both_ways, lt-leb}
+use Rattle.std.proofs.lemmas.Nat.{mul-le}
 use Rattle.hp_units.specs.LayoutParts.{LayoutParts, IsLayout}
-use Rattle.hp_units.specs.Arithmetic.{all_blocks, ancestor, block_of, block_of_pageblock, block_size, frames_of_block, pageblock_of, pageblocks_of}
+use Rattle.hp_units.specs.Arithmetic.{all_blocks, block_of, block_size, frames_of_block}
 use Rattle.hp_units.specs.Choices.{first_some}
-use Rattle.hp_units.specs.Memory.{FreeAreas, Memory, free_list, isolated_class, offline_row, row_of, usable_class}
-use Rattle.hp_units.specs.FreeAreas.{class_of_kind, is_on}
-use Rattle.hp_units.specs.Refusals.{frame_in_use, is_all_free, is_free_start, is_in_free_block, refusal_of}
-use Rattle.hp_units.specs.Rows.{blocks_of, going_blocks, is_claimed_by, is_going, is_live, zone_of_block}
-use Rattle.hp_units.specs.Step.{Answered, answer, step}
-use Rattle.hp_units.specs.Placement.{IsWellPlaced, class_at, free_places, kind_at, row_at}
-use Rattle.hp_laws.specs.Consequences.{IsFrameOf, IsGoingFor, IsFrameInUse, IsInFreeBlock, IsLowestInUse}
+use Rattle.hp_units.specs.Memory.{Memory, row_of}
+use Rattle.hp_units.specs.FreeAreas.{is_on}
+use Rattle.hp_units.specs.Refusals.{frame_in_use, is_all_free, is_in_free_block, refusal_of}
+use Rattle.hp_units.specs.Rows.{blocks_of, going_blocks, is_claimed_by, is_going, is_live}
+use Rattle.hp_units.specs.Step.{answer, step}
+use Rattle.hp_units.specs.Placement.{IsWellPlaced}
+use Rattle.hp_laws.specs.Consequences.{IsFrameInUse, IsLowestInUse}
 use Rattle.hp_laws.proofs.Names.{Commit, Done, NoCpu, NoOp, NotFree, Refused, Reply}
-use Rattle.hp_laws.proofs.Ordered.{AreOrdered}
-use Rattle.hp_laws.proofs.Options.{found_passes}
-use Rattle.hp_laws.proofs.Geometry.{multiple, multiple_aligned}
-use Rattle.hp_laws.proofs.FrameLists.{list_places-le, on_cases, on_tail}
-use Rattle.hp_laws.proofs.Areas.{has_order, on_free}
-use Rattle.hp_laws.proofs.States.{areas_of, block_of-pageblock}
-use Rattle.hp_laws.proofs.Onlines.{quotient}
-use Rattle.hp_laws.proofs.Pageblocks.{IsInRange, on_filter, on_range}
-use Rattle.hp_laws.proofs.Isolations.{pageblock_range, some_pageblocks}
-use Rattle.hp_laws.proofs.Claims.{going_zone}
-use Rattle.hp_laws.proofs.Commits.{filter_on, list_all_on, range_on}
+use Rattle.hp_laws.proofs.FrameLists.{on_cases, on_tail}
+use Rattle.hp_laws.proofs.Pageblocks.{on_range}
 use Rattle.hp_laws.proofs.ConsequencesBlocks.{on_head}
 use Rattle.hp_laws.proofs.ConsequencesCommits.{all_free-none, claimed_live, found_in_use, going_frame, going_frames, none_in_use, tested_block}
 
@@ -48,6 +29,7 @@ IsCommitReply (Some frame) live reply = reply ≡ Refused (NotFree frame)
 IsCommitReply None true reply = reply ≡ Done
 IsCommitReply None false reply = reply ≡ Refused NoOp
 
+-- the reply of a Commit by a processor of the layout
 pub commit_reply : (l : LayoutParts) (s : Memory) (serial cpu op : ℕ) → IsLayout l → IsWellPlaced l s → cpu < l.cpus → IsCommitReply (frame_in_use l s op) (is_live s.blocks op) (step l s serial cpu (Commit op)).reply
 unfolding step refusal_of
 commit_reply l s serial cpu op layout p low =
@@ -71,10 +53,12 @@ abbrev IsRising : ℕ → List ℕ → Type 0
 IsRising low [] = Unit {0}
 IsRising low (x ∷ xs) = (low ≤ x) × IsRising (x + 1) xs
 
+-- from a lower number on too
 rising_low : (low more : ℕ) (xs : List ℕ) → low ≤ more → IsRising more xs → IsRising low xs
 rising_low low more [] le h = tt
 rising_low low more (x ∷ xs) le h = (omega (arith, h.0), h.1)
 
+-- no number on the list is lower
 rising_on : (low x : ℕ) (xs : List ℕ) → IsRising low xs → is_on x xs ≡ true → low ≤ x
 rising_on low x [] h on = cc
 rising_on low x (y ∷ ys) h on = elim (on_cases x y ys on) [
@@ -82,10 +66,12 @@ rising_on low x (y ∷ ys) h on = elim (on_cases x y ys on) [
   | inr there ↦ omega (arith, h.0, rising_on (y + 1) x ys h.1 there)
 ]
 
+-- a range rises
 rising_range : (from count : ℕ) → IsRising from (range_with_len from count)
 rising_range from zero = tt
 rising_range from (suc count) = (omega arith, rising_range (from + 1) count)
 
+-- what is left of a rising list rises
 rising_filter : (p : ℕ → Bool) (low : ℕ) (xs : List ℕ) → IsRising low xs → IsRising low (filter p xs)
 rising_filter p low [] h = tt
 rising_filter p low (x ∷ xs) h = by_test (p x) h.0 (rising_filter p (x + 1) xs h.1)
@@ -94,11 +80,13 @@ rising_filter p low (x ∷ xs) h = by_test (p x) h.0 (rising_filter p (x + 1) xs
     by_test true le rest = (le, rest)
     by_test false le rest = rising_low low (x + 1) (filter p xs) (omega arith) rest
 
+-- and so do two lists one above the other
 rising_append : (low middle : ℕ) (xs ys : List ℕ) → IsRising low xs → ((x : ℕ) → is_on x xs ≡ true → x < middle) → low ≤ middle → IsRising middle ys → IsRising low (xs ++ ys)
 rising_append low middle [] ys h below le k = rising_low low middle ys le k
 rising_append low middle (x ∷ xs) ys h below le k =
     (h.0, rising_append (x + 1) middle xs ys h.1 (λ y on. below y (on_tail y x xs on)) (omega (arith, below x (on_head x xs))) k)
 
+-- the frames of rising blocks rise
 rising_blocks : (l : LayoutParts) (low : ℕ) (blocks : List ℕ) → IsRising low blocks → IsRising (low * block_size l) (flat_map (frames_of_block l) blocks)
 rising_blocks l low [] h = tt
 rising_blocks l low (b ∷ bs) h =
@@ -109,6 +97,7 @@ rising_blocks l low (b ∷ bs) h =
     (rising_low (low * size) (b * size) (frames_of_block l b) le (rising_range (b * size) size))
     (λ x on. omega (arith, next, (on_range x (b * size) size on).high)) (omega (arith, next)) (rising_blocks l (b + 1) bs h.1)
 
+-- what is found on a rising list is the lowest that passes
 find_lowest : (p : ℕ → Bool) (low x y : ℕ) (xs : List ℕ) → IsRising low xs → find p xs ≡ Some x → is_on y xs ≡ true → p y ≡ true → x ≤ y
 find_lowest p low x y [] h e on passes = cc
 find_lowest p low x y (z ∷ zs) h e on passes = by_test (p z) refl e (λ f there. find_lowest p (z + 1) x y zs h.1 f there passes)
@@ -125,6 +114,7 @@ find_lowest p low x y (z ∷ zs) h e on passes = by_test (p z) refl e (λ f ther
       | inr there ↦ later f there
     ]
 
+-- a test that does not pass fails
 still_true : (b : Bool) → (b ≡ true → ⊥) → not b ≡ true
 still_true true h = absurd (h refl)
 still_true false h = refl
@@ -147,6 +137,7 @@ in_use_found l s op frame layout p h = by_found (frame_in_use l s op) refl
     by_found None e = absurd (h.not_free (none_in_use l s op frame layout p e h.going))
     by_found (Some found) e = (found, e)
 
+-- and the lowest is the one that is found
 pub lowest_found : (l : LayoutParts) (s : Memory) (op frame : ℕ) → IsLayout l → IsWellPlaced l s → IsLowestInUse l s op frame → frame_in_use l s op ≡ Some frame
 lowest_found l s op frame layout p h =
     let found = in_use_found l s op frame layout p h.here in
@@ -158,11 +149,13 @@ lowest_found l s op frame layout p h =
 
 -- ---- which Commit is refused, and which is done
 
+-- a refusal names the frame that is found
 reply_found : (o : Option ℕ) (live : Bool) (reply : Reply) (frame : ℕ) → IsCommitReply o live reply → reply ≡ Refused (NotFree frame) → o ≡ Some frame
 reply_found (Some found) live reply frame is e = cc
 reply_found None true reply frame is e = cc
 reply_found None false reply frame is e = cc
 
+-- and the frame that is found is named
 found_reply : (o : Option ℕ) (live : Bool) (reply : Reply) (frame : ℕ) → IsCommitReply o live reply → o ≡ Some frame → reply ≡ Refused (NotFree frame)
 found_reply (Some found) live reply frame is e = cc
 found_reply None live reply frame is e = cc
@@ -177,6 +170,7 @@ commit_refused l s serial cpu op frame layout p low =
       λ h. found_reply (frame_in_use l s op) (is_live s.blocks op) reply frame is (lowest_found l s op frame layout p h),
     )
 
+-- it is refused exactly where there is such a frame
 pub commit_some : (l : LayoutParts) (s : Memory) (serial cpu op : ℕ) → IsLayout l → IsWellPlaced l s → cpu < l.cpus
     → ((frame : ℕ) × ((step l s serial cpu (Commit op)).reply ≡ Refused (NotFree frame))) ↔ ((frame : ℕ) × IsFrameInUse l s op frame)
 commit_some l s serial cpu op layout p low = (
@@ -184,6 +178,7 @@ commit_some l s serial cpu op layout p low = (
   λ h. (let found = in_use_found l s op h.0 layout p h.1 in (found.0, (commit_refused l s serial cpu op found.0 layout p low).1 (found_lowest l s op found.0 layout p found.1))),
 )
 
+-- where it is done the operation is live and none is found
 reply_done : (o : Option ℕ) (live : Bool) (reply : Reply) → IsCommitReply o live reply → reply ≡ Done → (live ≡ true) × (o ≡ None)
 reply_done (Some found) live reply is e = absurd (no_refusal (sym is ∙ e))
   where
@@ -195,6 +190,7 @@ reply_done None false reply is e = absurd (no_refusal (sym is ∙ e))
     no_refusal : Refused NoOp ≡ Done → ⊥
     no_refusal e = cc
 
+-- and where these hold it is done
 done_reply : (o : Option ℕ) (live : Bool) (reply : Reply) → IsCommitReply o live reply → live ≡ true → ((frame : ℕ) → o ≡ Some frame → ⊥) → reply ≡ Done
 done_reply (Some found) live reply is e none = absurd (none found refl)
 done_reply None true reply is e none = is

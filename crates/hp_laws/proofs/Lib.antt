@@ -46,6 +46,8 @@ pub mod ConsequencesBlocks
 pub mod ConsequencesCommits
 pub mod ConsequencesReplies
 pub mod ConsequencesPlaces
+pub mod ConsequencesWorked
+pub mod Fitting
 pub mod OfflineNet
 pub mod OfflineClaims
 pub mod OfflineSteps

@@ -1,8 +1,7 @@
 -- What the Begin of an operation leaves: its claims are those of its plan, and no kernel's block starts in a block that is to go.
-use Rattle.std.proofs.Common.{◌≡◌, ℕ, zero, suc, ◌+◌, ◌*◌, ◌<◌, ◌≤◌, List, [], ◌∷◌, get_or, set, Bool, true, false, cond, Option, Some, None, map, refl, ap, sym, subst, ◌∙◌, arith, ◌⊎◌, inl, inr, IfSome, eqb-true, ◌==◌}
+use Rattle.std.proofs.Common.{◌≡◌, ◌≢◌, ℕ, zero, suc, ◌<◌, ◌≤◌, List, [], ◌∷◌, get_or, set, Bool, true, false, cond, Option, Some, None, map, refl, ap, sym, subst, ◌∙◌, arith, ◌⊎◌, inl, inr, IfSome, eqb-true, ◌==◌}
 use Rattle.std.specs.Prelude.{find, fold, is_some}
 use Rattle.std.specs.Option.{option_map, option_map_or}
-use Rattle.std.proofs.lemmas.Bool.{both_ways}
 use Rattle.std.proofs.lemmas.Option.{same_Some}
 use Rattle.hp_units.specs.declared.plans.Item.{Item}
 use Rattle.hp_units.specs.declared.rows.Claim.{Claim}
@@ -16,12 +15,11 @@ use Rattle.hp_units.specs.Choices.{first_some}
 use Rattle.hp_units.specs.LayoutParts.{LayoutParts, IsLayout}
 use Rattle.hp_units.specs.Arithmetic.{all_blocks, block_of, frames_of_block}
 use Rattle.hp_units.specs.Memory.{Memory, kernel_order, offline_row, row_of}
-use Rattle.hp_units.specs.FreeAreas.{is_on}
 use Rattle.hp_units.specs.Refusals.{kernel_frame_in, plan_refusals}
-use Rattle.hp_units.specs.Rows.{begin_block, begin_plan, claim_block, claimed_row, is_claimed_by, is_going, is_going_state, is_off, wish_of}
-use Rattle.hp_units.specs.Placement.{IsRowOf, IsWellPlaced, wishes_off}
+use Rattle.hp_units.specs.Rows.{begin_block, begin_plan, claim_block, claimed_row, is_going_state, is_off, wish_of}
+use Rattle.hp_units.specs.Placement.{IsRowOf, IsWellPlaced}
 use Rattle.hp_laws.specs.Consequences.{IsGoingFor}
-use Rattle.hp_laws.specs.Offline.{AreClaimedUpTo}
+use Rattle.hp_laws.specs.Offline.{AreHeldBy}
 use Rattle.hp_laws.proofs.Names.{HoldsUnmovable}
 use Rattle.hp_laws.proofs.Options.{found_passes, map_none}
 use Rattle.hp_laws.proofs.OwnedContents.{AllNone, all_none}
@@ -35,6 +33,7 @@ use Rattle.hp_laws.proofs.OfflineClaims.{claimed_at}
 abbrev IsFrom : (op : ℕ) (plan : List Item) (s : Memory) → ℕ → Claim → Type 0
 IsFrom op plan s block claim = ((row_of s.blocks block).claim ≡ Some claim) ⊎ ((claim.op ≡ op) × (wish_of plan block ≡ Some claim.wish))
 
+-- each claim of a state is
 abbrev ClaimsFrom : (op : ℕ) (plan : List Item) (s t : Memory) → Type 0
 ClaimsFrom op plan s t = (block : ℕ) (claim : Claim) → (row_of t.blocks block).claim ≡ Some claim → IsFrom op plan s block claim
 
@@ -46,6 +45,7 @@ set_cases (x ∷ xs) zero row (suc k) = inl refl
 set_cases (x ∷ xs) (suc i) row zero = inl refl
 set_cases (x ∷ xs) (suc i) row (suc k) = elim (set_cases xs i row k) [ inl e ↦ inl e | inr e ↦ inr (ap suc e.0, e.1) ]
 
+-- of a row that carries the plan's wish
 set-from : (op : ℕ) (plan : List Item) (s t : Memory) (block : ℕ) (row : Row) (wish : Wish) → wish_of plan block ≡ Some wish → row.claim ≡ Some (record { op = op; wish = wish }) → ClaimsFrom op plan s t
     → (other : ℕ) (claim : Claim) → (get_or (set t.blocks.rows block row) other offline_row).claim ≡ Some claim → IsFrom op plan s other claim
 set-from op plan s t block row wish is carries h other claim e = elim (set_cases t.blocks.rows block row other) [
@@ -55,11 +55,13 @@ set-from op plan s t block row wish is carries h other claim e = elim (set_cases
       inr (ap (λ (c : Claim). c.op) (sym same), ap (λ (n : ℕ). wish_of plan n) new.0 ∙ is ∙ ap (λ (c : Claim). Some c.wish) same)
 ]
 
+-- of a block that is claimed
 claim-from : (l : LayoutParts) (op : ℕ) (plan : List Item) (s t : Memory) (block : ℕ) (wish : Wish) → wish_of plan block ≡ Some wish → ClaimsFrom op plan s t → ClaimsFrom op plan s (claim_block l op t block wish)
 claim-from l op plan s t block OffWish is h = set-from op plan s t block (claimed_row (row_of t.blocks block) op OffWish) OffWish is refl h
 claim-from l op plan s t block NormalWish is h = set-from op plan s t block (claimed_row (row_of t.blocks block) op NormalWish) NormalWish is refl h
 claim-from l op plan s t block MovableWish is h = set-from op plan s t block (claimed_row (row_of t.blocks block) op MovableWish) MovableWish is refl h
 
+-- of one block of the plan
 begin_block-from : (l : LayoutParts) (op : ℕ) (plan : List Item) (s t : Memory) (block : ℕ) → ClaimsFrom op plan s t → ClaimsFrom op plan s (begin_block l op plan t block)
 begin_block-from l op plan s t block h = by_wish (wish_of plan block) refl
   where
@@ -67,29 +69,35 @@ begin_block-from l op plan s t block h = by_wish (wish_of plan block) refl
     by_wish None e = h
     by_wish (Some wish) e = claim-from l op plan s t block wish e h
 
+-- of one block after another
 fold-from : (l : LayoutParts) (op : ℕ) (plan : List Item) (s t : Memory) (blocks : List ℕ) → ClaimsFrom op plan s t → ClaimsFrom op plan s (fold (begin_block l op plan) t blocks)
 fold-from l op plan s t [] h = h
 fold-from l op plan s t (block ∷ blocks) h = fold-from l op plan s (begin_block l op plan t block) blocks (begin_block-from l op plan s t block h)
 
+-- of the whole plan
 begin-from : (l : LayoutParts) (op : ℕ) (plan : List Item) (s : Memory) → ClaimsFrom op plan s (begin_plan l s op plan)
 unfolding begin_plan
 begin-from l op plan s = fold-from l op plan s s (all_blocks l) (λ block claim e. inl e)
 
 -- ---- the kernel's blocks stay
 
+-- as a block is claimed
 claim-kernel : (l : LayoutParts) (op : ℕ) (t : Memory) (block : ℕ) (wish : Wish) → (claim_block l op t block wish).kernel ≡ t.kernel
 claim-kernel l op t block OffWish = refl
 claim-kernel l op t block NormalWish = refl
 claim-kernel l op t block MovableWish = refl
 
+-- or is not in the plan
 begin_block-kernel : (l : LayoutParts) (op : ℕ) (t : Memory) (block : ℕ) (o : Option Wish) → (option_map_or (claim_block l op t block) o t).kernel ≡ t.kernel
 begin_block-kernel l op t block None = refl
 begin_block-kernel l op t block (Some wish) = claim-kernel l op t block wish
 
+-- one block after another
 fold-kernel : (l : LayoutParts) (op : ℕ) (plan : List Item) (t : Memory) (blocks : List ℕ) → (fold (begin_block l op plan) t blocks).kernel ≡ t.kernel
 fold-kernel l op plan t [] = refl
 fold-kernel l op plan t (block ∷ blocks) = fold-kernel l op plan (begin_block l op plan t block) blocks ∙ begin_block-kernel l op t block (wish_of plan block)
 
+-- over the whole plan
 begin-kernel : (l : LayoutParts) (op : ℕ) (plan : List Item) (s : Memory) → (begin_plan l s op plan).kernel ≡ s.kernel
 unfolding begin_plan
 begin-kernel l op plan s = fold-kernel l op plan s (all_blocks l)
@@ -105,6 +113,7 @@ found_none f p (x ∷ xs) item none e = by_test (p x) e (found_none f p xs item 
     by_test true e later = (let same : x ≡ item = cc in subst (λ (i : Item). f i ≡ None) same none.0)
     by_test false e later = later e
 
+-- of a block that the plan wishes off
 kernel_none : (l : LayoutParts) (s : Memory) (plan : List Item) (block : ℕ) (wish : Wish) → first_some (plan_refusals l s plan) ≡ None → wish_of plan block ≡ Some wish → is_off wish ≡ true
     → find (λ frame. is_some (kernel_order s frame)) (frames_of_block l block) ≡ None
 kernel_none l s plan block wish e is off = by_item (find (λ item. item.block == block) plan) refl is
@@ -131,6 +140,7 @@ record HasOffClaim (op : ℕ) (row : Row) : Type 0 where
   pub op_is : claim.op ≡ op
   pub off : is_off claim.wish ≡ true
 
+-- of a row that is going for the operation
 off_claim : (op : ℕ) (row : Row) (state : State) (zone : Option Zone) (claim : Option Claim) → row.claim ≡ claim → is_going_state state ≡ true → option_map_or (λ c. c.op == op) claim false ≡ true → IsRowOf state zone claim
     → HasOffClaim op row
 off_claim op row GoingState zone (Some claim) e going mine h = record { claim = claim; is = e; op_is = eqb-true claim.op op mine; off = h.1 }
@@ -139,16 +149,16 @@ off_claim op row OfflineState zone claim e going mine h = cc
 off_claim op row OnlineState zone claim e going mine h = cc
 off_claim op row AbsentState zone claim e going mine h = cc
 
--- after a Begin with a new number, none starts in a block that goes offline for it
-pub begun_movable : (l : LayoutParts) (s : Memory) (last op : ℕ) (plan : List Item) (first : ℕ) → IsLayout l → last < op → AreClaimedUpTo last s.blocks → first_some (plan_refusals l s plan) ≡ None → IsWellPlaced l (begin_plan l s op plan)
+-- after a Begin with a number that no row carries, none starts in a block that goes offline for it
+pub begun_movable : (l : LayoutParts) (s : Memory) (op : ℕ) (plan : List Item) (first : ℕ) → IsLayout l → AreHeldBy (λ n. n ≢ op) s.blocks → first_some (plan_refusals l s plan) ≡ None → IsWellPlaced l (begin_plan l s op plan)
     → IsGoingFor l (begin_plan l s op plan) op first → kernel_order (begin_plan l s op plan) first ≡ None
-begun_movable l s last op plan first layout new claims e p h =
+begun_movable l s op plan first layout claims e p h =
     let block : ℕ = block_of l first in
     let row : Row = row_of (begin_plan l s op plan).blocks block in
     let has = off_claim op row row.state row.zone row.claim refl h.going h.claimed (p.in_order.rows block) in
     let stays : kernel_order (begin_plan l s op plan) first ≡ kernel_order s first = ap (λ (ks : List (Option ℕ)). get_or ks first None) (begin-kernel l op plan s) in
     elim (begin-from l op plan s block has.claim has.is) [
-      | inl old ↦ absurd (omega (arith, subst (λ (o : Option Claim). IfSome o (λ c. c.op ≤ last)) old (claimed_at last s.blocks.rows block claims), has.op_is))
+      | inl old ↦ absurd (subst (λ (o : Option Claim). IfSome o (λ c. c.op ≢ op)) old (claimed_at (λ n. n ≢ op) s.blocks.rows block claims) has.op_is)
       | inr new ↦
           let none = kernel_none l s plan block has.claim.wish e new.1 has.off in
           stays ∙ not_there (kernel_order s first) (not_found (λ frame. is_some (kernel_order s frame)) (frames_of_block l block) first none (block_has l block first layout refl))

@@ -1,8 +1,9 @@
--- The numbers of the operations that hold blocks: each is at most that of the last record.
-use Rattle.std.proofs.Common.{◌≡◌, ℕ, zero, suc, ◌+◌, ◌/◌, ◌<◌, ◌≤◌, List, [], ◌∷◌, length, get_or, set, Bool, true, false, cond, Option, Some, None, slice_get, refl, ap, sym, subst, ◌∙◌, arith, IfSome}
-use Rattle.std.specs.Prelude.{filter, fold, replicate}
-use Rattle.std.specs.List.{AllByRecursion, enumerate_from}
+-- The numbers of the operations that hold blocks: only a Begin's serial becomes one.
+use Rattle.std.proofs.Common.{◌≡◌, ℕ, zero, suc, ◌+◌, ◌/◌, ◌≤◌, List, [], ◌∷◌, length, get_or, set, Bool, true, false, cond, Option, Some, None, slice_get, refl, sym, subst, arith, IfSome, ◌≢◌, ◌<◌, ◌==◌, ◌||◌, eq-eqb, ne_eqb}
+use Rattle.std.specs.Prelude.{fold, replicate}
+use Rattle.std.specs.List.{AllByRecursion, enumerate_from, list_any}
 use Rattle.std.specs.Option.{option_map_or}
+use Rattle.std.proofs.lemmas.Bool.{both_ways, or_from}
 use Rattle.hp_units.specs.declared.plans.Item.{Item}
 use Rattle.hp_units.specs.declared.rows.Auto.{Auto}
 use Rattle.hp_units.specs.declared.rows.Auto.TheVariants.{Offline as OfflineAuto, Online as OnlineAuto, OnlineKernel as KernelAuto, OnlineMovable as MovableAuto}
@@ -19,178 +20,223 @@ use Rattle.hp_units.specs.Arithmetic.{all_blocks, block_bytes}
 use Rattle.hp_units.specs.Boot.{boot_block, boot_memory, empty_memory}
 use Rattle.hp_units.specs.Memory.{Blocks, Memory, kernel_order, offline_row, row_of, with_kernel_order}
 use Rattle.hp_units.specs.History.{IsLegal, net_of, run, value_of}
-use Rattle.hp_units.specs.Pages.{frame_at, fresh_words, map_page, move_page, unmap_page}
-use Rattle.hp_units.specs.FreeAreas.{give_block}
+use Rattle.hp_units.specs.Pages.{frame_at, unmap_page}
 use Rattle.hp_units.specs.ProcessorLists.{page_frame}
 use Rattle.hp_units.specs.Refusals.{kernel_block, migration_source, migration_target, refusal_of}
-use Rattle.hp_units.specs.Rows.{begin_block, begin_plan, blocks_of, claim_block, commit_block, commit_blocks, grant, is_going, online_again, online_block, release_block, release_blocks, wish_of, with_areas, with_block_row, zone_of}
-use Rattle.hp_units.specs.Step.{Answered, answer, auto_online, done, give_back, kernel_gives, kernel_takes, map_step, migrate_step, perform, step, unmap_step, with_free, with_pages}
-use Rattle.hp_laws.specs.Offline.{AreClaimedUpTo, IsClaimedUpTo}
-use Rattle.hp_laws.proofs.Names.{Event, KernelAlloc, KernelFree, Map, Unmap, Write, Read, Drain, Online, Begin, DrainFor, Migrate, Commit, Cancel, UndoAfter, Probe, Remove, SetAuto, Record, Refusal, GivesFrame, Moved}
-use Rattle.hp_laws.proofs.Net.{Numbered}
+use Rattle.hp_units.specs.Rows.{is_claimed_by, begin_block, begin_plan, blocks_of, claim_block, commit_block, commit_blocks, grant, is_going, online_again, online_block, release_block, release_blocks, wish_of, with_block_row}
+use Rattle.hp_units.specs.Step.{Answered, answer, auto_online, done, give_back, kernel_gives, kernel_takes, map_step, migrate_step, perform, step, unmap_step, with_pages}
+use Rattle.hp_laws.specs.Offline.{AreClaimedUpTo, AreHeldBy, IsHeldBy}
+use Rattle.hp_laws.proofs.Names.{Event, KernelAlloc, KernelFree, Map, Unmap, Write, Read, Drain, Online, Begin, DrainFor, Migrate, Commit, Cancel, UndoAfter, Probe, Remove, SetAuto, Record, Refusal}
 use Rattle.hp_laws.proofs.Earlier.{numbered_net}
 
 -- ---- rows written one after another
 
-claimed_set : (last : ℕ) (rows : List Row) (block : ℕ) (row : Row) → AllByRecursion (IsClaimedUpTo last) rows → IsClaimedUpTo last row → AllByRecursion (IsClaimedUpTo last) (set rows block row)
-claimed_set last [] block row h k = h
-claimed_set last (x ∷ xs) zero row h k = (k, h.1)
-claimed_set last (x ∷ xs) (suc block) row h k = (h.0, claimed_set last xs block row h.1 k)
+-- one row
+claimed_set : (P : ℕ → Type 0) (rows : List Row) (block : ℕ) (row : Row) → AllByRecursion (IsHeldBy P) rows → IsHeldBy P row → AllByRecursion (IsHeldBy P) (set rows block row)
+claimed_set P [] block row h k = h
+claimed_set P (x ∷ xs) zero row h k = (k, h.1)
+claimed_set P (x ∷ xs) (suc block) row h k = (h.0, claimed_set P xs block row h.1 k)
 
 -- a block's claim
-pub claimed_at : (last : ℕ) (rows : List Row) (block : ℕ) → AllByRecursion (IsClaimedUpTo last) rows → IsClaimedUpTo last (get_or rows block offline_row)
-claimed_at last [] block h = tt
-claimed_at last (x ∷ xs) zero h = h.0
-claimed_at last (x ∷ xs) (suc block) h = claimed_at last xs block h.1
+pub claimed_at : (P : ℕ → Type 0) (rows : List Row) (block : ℕ) → AllByRecursion (IsHeldBy P) rows → IsHeldBy P (get_or rows block offline_row)
+claimed_at P [] block h = tt
+claimed_at P (x ∷ xs) zero h = h.0
+claimed_at P (x ∷ xs) (suc block) h = claimed_at P xs block h.1
 
-claimed_more : (last more : ℕ) (rows : List Row) → last ≤ more → AllByRecursion (IsClaimedUpTo last) rows → AllByRecursion (IsClaimedUpTo more) rows
-claimed_more last more [] le h = tt
-claimed_more last more (row ∷ rows) le h = (by_claim row.claim h.0, claimed_more last more rows le h.1)
+-- by other numbers too
+held_weaker : (P Q : ℕ → Type 0) (rows : List Row) → ((op : ℕ) → P op → Q op) → AllByRecursion (IsHeldBy P) rows → AllByRecursion (IsHeldBy Q) rows
+held_weaker P Q [] more h = tt
+held_weaker P Q (row ∷ rows) more h = (by_claim row.claim h.0, held_weaker P Q rows more h.1)
   where
-    by_claim : (claim : Option Claim) → IfSome claim (λ c. c.op ≤ last) → IfSome claim (λ c. c.op ≤ more)
+    by_claim : (claim : Option Claim) → IfSome claim (λ c. P c.op) → IfSome claim (λ c. Q c.op)
     by_claim None k = tt
-    by_claim (Some c) k = omega arith
+    by_claim (Some c) k = more c.op k
 
-pub claims_more : (last more : ℕ) (s : Memory) → last ≤ more → AreClaimedUpTo last s.blocks → AreClaimedUpTo more s.blocks
-claims_more last more s le h = claimed_more last more s.blocks.rows le h
+-- no row carries a number that isn't live
+pub held_others : (op : ℕ) (rows : List Row) → list_any (is_claimed_by op) rows ≡ false → AllByRecursion (IsHeldBy (λ n. n ≢ op)) rows
+held_others op [] e = tt
+held_others op (row ∷ rows) e = (by_claim row.claim (or_parts (is_claimed_by op row) (list_any (is_claimed_by op) rows) e).0, held_others op rows (or_parts (is_claimed_by op row) (list_any (is_claimed_by op) rows) e).1)
+  where
+    or_parts : (a b : Bool) → (a || b) ≡ false → (a ≡ false) × (b ≡ false)
+    or_parts false b e = (refl, e)
+    or_parts true b e = cc
+
+    by_claim : (claim : Option Claim) → option_map_or (λ c. c.op == op) claim false ≡ false → IfSome claim (λ c. c.op ≢ op)
+    by_claim None e = tt
+    by_claim (Some c) e = λ same. both_ways (c.op == op) e (eq-eqb c.op op same)
+
+-- and a number that no row carries isn't live
+pub others_live : (op : ℕ) (rows : List Row) → AllByRecursion (IsHeldBy (λ n. n ≢ op)) rows → list_any (is_claimed_by op) rows ≡ false
+others_live op [] h = refl
+others_live op (row ∷ rows) h = or_from (is_claimed_by op row) (list_any (is_claimed_by op) rows) (by_claim row.claim h.0) (others_live op rows h.1)
+  where
+    by_claim : (claim : Option Claim) → IfSome claim (λ c. c.op ≢ op) → option_map_or (λ c. c.op == op) claim false ≡ false
+    by_claim None k = refl
+    by_claim (Some c) k = ne_eqb c.op op k
 
 -- each of several blocks is written
-claims_fold : {X : Type 0} (last : ℕ) (f : Memory → X → Memory) → ((s : Memory) (x : X) → AreClaimedUpTo last s.blocks → AreClaimedUpTo last (f s x).blocks) → (s : Memory) (xs : List X)
-    → AreClaimedUpTo last s.blocks → AreClaimedUpTo last (fold f s xs).blocks
-claims_fold last f k s [] h = h
-claims_fold last f k s (x ∷ xs) h = claims_fold last f k (f s x) xs (k s x h)
+claims_fold : {X : Type 0} (P : ℕ → Type 0) (f : Memory → X → Memory) → ((s : Memory) (x : X) → AreHeldBy P s.blocks → AreHeldBy P (f s x).blocks) → (s : Memory) (xs : List X)
+    → AreHeldBy P s.blocks → AreHeldBy P (fold f s xs).blocks
+claims_fold P f k s [] h = h
+claims_fold P f k s (x ∷ xs) h = claims_fold P f k (f s x) xs (k s x h)
 
-online-claims : (l : LayoutParts) (last : ℕ) (zone : Zone) (s : Memory) (block : ℕ) → AreClaimedUpTo last s.blocks → AreClaimedUpTo last (online_block l zone s block).blocks
+-- a block goes online
+online-claims : (l : LayoutParts) (P : ℕ → Type 0) (zone : Zone) (s : Memory) (block : ℕ) → AreHeldBy P s.blocks → AreHeldBy P (online_block l zone s block).blocks
 unfolding online_block
-online-claims l last zone s block h = claimed_set last s.blocks.rows block _ h tt
+online-claims l P zone s block h = claimed_set P s.blocks.rows block _ h tt
 
-claim-claims : (l : LayoutParts) (last op : ℕ) (s : Memory) (block : ℕ) (wish : Wish) → op ≤ last → AreClaimedUpTo last s.blocks → AreClaimedUpTo last (claim_block l op s block wish).blocks
-claim-claims l last op s block OffWish le h = claimed_set last s.blocks.rows block _ h le
-claim-claims l last op s block NormalWish le h = claimed_set last s.blocks.rows block _ h le
-claim-claims l last op s block MovableWish le h = claimed_set last s.blocks.rows block _ h le
+-- a block is claimed
+claim-claims : (l : LayoutParts) (P : ℕ → Type 0) (op : ℕ) (s : Memory) (block : ℕ) (wish : Wish) → P op → AreHeldBy P s.blocks → AreHeldBy P (claim_block l op s block wish).blocks
+claim-claims l P op s block OffWish le h = claimed_set P s.blocks.rows block _ h le
+claim-claims l P op s block NormalWish le h = claimed_set P s.blocks.rows block _ h le
+claim-claims l P op s block MovableWish le h = claimed_set P s.blocks.rows block _ h le
 
-option-claims : {X : Type 0} (last : ℕ) (f : X → Memory) (s : Memory) (o : Option X) → ((x : X) → AreClaimedUpTo last (f x).blocks) → AreClaimedUpTo last s.blocks → AreClaimedUpTo last (option_map_or f o s).blocks
-option-claims last f s None k h = h
-option-claims last f s (Some x) k h = k x
+-- a block is written or not
+option-claims : {X : Type 0} (P : ℕ → Type 0) (f : X → Memory) (s : Memory) (o : Option X) → ((x : X) → AreHeldBy P (f x).blocks) → AreHeldBy P s.blocks → AreHeldBy P (option_map_or f o s).blocks
+option-claims P f s None k h = h
+option-claims P f s (Some x) k h = k x
 
-begin-claims : (l : LayoutParts) (last op : ℕ) (s : Memory) (plan : List Item) → op ≤ last → AreClaimedUpTo last s.blocks → AreClaimedUpTo last (begin_plan l s op plan).blocks
+-- an operation begins
+begin-claims : (l : LayoutParts) (P : ℕ → Type 0) (op : ℕ) (s : Memory) (plan : List Item) → P op → AreHeldBy P s.blocks → AreHeldBy P (begin_plan l s op plan).blocks
 unfolding begin_plan
-begin-claims l last op s plan le h =
-    claims_fold last (begin_block l op plan) (λ t block k. option-claims last (claim_block l op t block) t (wish_of plan block) (λ wish. claim-claims l last op t block wish le k) k) s (all_blocks l) h
+begin-claims l P op s plan le h =
+    claims_fold P (begin_block l op plan) (λ t block k. option-claims P (claim_block l op t block) t (wish_of plan block) (λ wish. claim-claims l P op t block wish le k) k) s (all_blocks l) h
 
-grant-claims : (l : LayoutParts) (last : ℕ) (s : Memory) (block : ℕ) (wish : Wish) → AreClaimedUpTo last s.blocks → AreClaimedUpTo last (grant l s block wish).blocks
-grant-claims l last s block OffWish h = claimed_set last s.blocks.rows block offline_row h tt
-grant-claims l last s block NormalWish h = online-claims l last NormalZone s block h
-grant-claims l last s block MovableWish h = online-claims l last MovableZone s block h
+-- a block gets its wish
+grant-claims : (l : LayoutParts) (P : ℕ → Type 0) (s : Memory) (block : ℕ) (wish : Wish) → AreHeldBy P s.blocks → AreHeldBy P (grant l s block wish).blocks
+grant-claims l P s block OffWish h = claimed_set P s.blocks.rows block offline_row h tt
+grant-claims l P s block NormalWish h = online-claims l P NormalZone s block h
+grant-claims l P s block MovableWish h = online-claims l P MovableZone s block h
 
-commit-claims : (l : LayoutParts) (last op : ℕ) (s : Memory) → AreClaimedUpTo last s.blocks → AreClaimedUpTo last (commit_blocks l s op).blocks
+-- an operation commits
+commit-claims : (l : LayoutParts) (P : ℕ → Type 0) (op : ℕ) (s : Memory) → AreHeldBy P s.blocks → AreHeldBy P (commit_blocks l s op).blocks
 unfolding commit_blocks
-commit-claims l last op s h =
-    claims_fold last (commit_block l) (λ t block k. option-claims last (λ claim. grant l t block claim.wish) t (row_of t.blocks block).claim (λ claim. grant-claims l last t block claim.wish k) k) s (blocks_of l s.blocks op) h
+commit-claims l P op s h =
+    claims_fold P (commit_block l) (λ t block k. option-claims P (λ claim. grant l t block claim.wish) t (row_of t.blocks block).claim (λ claim. grant-claims l P t block claim.wish k) k) s (blocks_of l s.blocks op) h
 
-release-claims : (l : LayoutParts) (last op : ℕ) (s : Memory) → AreClaimedUpTo last s.blocks → AreClaimedUpTo last (release_blocks l s op).blocks
+-- an operation is released
+release-claims : (l : LayoutParts) (P : ℕ → Type 0) (op : ℕ) (s : Memory) → AreHeldBy P s.blocks → AreHeldBy P (release_blocks l s op).blocks
 unfolding release_blocks
-release-claims l last op s h = claims_fold last (release_block l) (λ t block k. by_state t block (is_going (row_of t.blocks block)) k) s (blocks_of l s.blocks op) h
+release-claims l P op s h = claims_fold P (release_block l) (λ t block k. by_state t block (is_going (row_of t.blocks block)) k) s (blocks_of l s.blocks op) h
   where
-    by_state : (t : Memory) (block : ℕ) (b : Bool) → AreClaimedUpTo last t.blocks
-        → AreClaimedUpTo last (cond b (online_again l t block) (with_block_row t block (record (row_of t.blocks block) { claim = None }))).blocks
-    by_state t block true k = claimed_set last t.blocks.rows block _ k tt
-    by_state t block false k = claimed_set last t.blocks.rows block _ k tt
+    by_state : (t : Memory) (block : ℕ) (b : Bool) → AreHeldBy P t.blocks
+        → AreHeldBy P (cond b (online_again l t block) (with_block_row t block (record (row_of t.blocks block) { claim = None }))).blocks
+    by_state t block true k = claimed_set P t.blocks.rows block _ k tt
+    by_state t block false k = claimed_set P t.blocks.rows block _ k tt
 
-auto-claims : (l : LayoutParts) (last : ℕ) (auto : Auto) (s : Memory) (block : ℕ) → AreClaimedUpTo last s.blocks → AreClaimedUpTo last (auto_online l auto s block).blocks
-auto-claims l last OfflineAuto s block h = h
-auto-claims l last OnlineAuto s block h = online-claims l last NormalZone s block h
-auto-claims l last KernelAuto s block h = online-claims l last NormalZone s block h
-auto-claims l last MovableAuto s block h = online-claims l last MovableZone s block h
+-- a block is added
+auto-claims : (l : LayoutParts) (P : ℕ → Type 0) (auto : Auto) (s : Memory) (block : ℕ) → AreHeldBy P s.blocks → AreHeldBy P (auto_online l auto s block).blocks
+auto-claims l P OfflineAuto s block h = h
+auto-claims l P OnlineAuto s block h = online-claims l P NormalZone s block h
+auto-claims l P KernelAuto s block h = online-claims l P NormalZone s block h
+auto-claims l P MovableAuto s block h = online-claims l P MovableZone s block h
 
 -- ---- steps that leave the blocks
 
+-- whether there is what the event asks for or not
 answered-blocks : {X : Type 0} (f : X → Answered) (s : Memory) (o : Option X) → ((x : X) → (f x).memory.blocks ≡ s.blocks) → (option_map_or f o (done s)).memory.blocks ≡ s.blocks
 answered-blocks f s None h = refl
 answered-blocks f s (Some x) h = h x
 
+-- a block of frames comes back
 give_back-blocks : (l : LayoutParts) (s : Memory) (cpu frame order : ℕ) → (give_back l s cpu frame order).blocks ≡ s.blocks
 give_back-blocks l s cpu frame zero = refl
 give_back-blocks l s cpu frame (suc below) = refl
 
+-- the kernel takes a block
 kernel_takes-blocks : (l : LayoutParts) (s : Memory) (cpu order : ℕ) → (kernel_takes l s cpu order).memory.blocks ≡ s.blocks
 unfolding kernel_takes
 kernel_takes-blocks l s cpu order = answered-blocks _ s (kernel_block l s.free cpu order) (λ handed. refl)
 
+-- the kernel gives one back
 kernel_gives-blocks : (l : LayoutParts) (s : Memory) (cpu frame : ℕ) → (kernel_gives l s cpu frame).memory.blocks ≡ s.blocks
 unfolding kernel_gives
 kernel_gives-blocks l s cpu frame = answered-blocks _ s (kernel_order s frame) (λ order. give_back-blocks l (with_kernel_order s frame None) cpu frame order)
 
+-- a page is mapped
 map_step-blocks : (l : LayoutParts) (s : Memory) (cpu owner page : ℕ) → (map_step l s cpu owner page).memory.blocks ≡ s.blocks
 unfolding map_step
 map_step-blocks l s cpu owner page = answered-blocks _ s (page_frame l s.free cpu) (λ handed. refl)
 
+-- a page is unmapped
 unmap_step-blocks : (l : LayoutParts) (s : Memory) (cpu owner page : ℕ) → (unmap_step l s cpu owner page).memory.blocks ≡ s.blocks
 unfolding unmap_step
 unmap_step-blocks l s cpu owner page = answered-blocks _ s (frame_at s.pages owner page) (λ frame. give_back-blocks l (with_pages s (unmap_page s.pages owner page)) cpu frame 0)
 
+-- a page moves
 migrate_step-blocks : (l : LayoutParts) (s : Memory) (op : ℕ) → (migrate_step l s op).memory.blocks ≡ s.blocks
 unfolding migrate_step
 migrate_step-blocks l s op = answered-blocks _ s (migration_source l s op) (λ from. answered-blocks _ s (migration_target l s.free.areas) (λ taken. refl))
 
 -- ---- each step
 
-same-claims : (last : ℕ) (s : Memory) (blocks : Blocks) → blocks ≡ s.blocks → AreClaimedUpTo last s.blocks → AreClaimedUpTo last blocks
-same-claims last s blocks e h = subst (λ (b : Blocks). AreClaimedUpTo last b) (sym e) h
+-- what leaves the blocks leaves the claims
+same-claims : (P : ℕ → Type 0) (s : Memory) (blocks : Blocks) → blocks ≡ s.blocks → AreHeldBy P s.blocks → AreHeldBy P blocks
+same-claims P s blocks e h = subst (λ (b : Blocks). AreHeldBy P b) (sym e) h
 
-perform-claims : (l : LayoutParts) (last : ℕ) (s : Memory) (serial cpu : ℕ) (event : Event) → serial ≤ last → AreClaimedUpTo last s.blocks → AreClaimedUpTo last (perform l s serial cpu event).memory.blocks
-perform-claims l last s serial cpu (KernelAlloc order) le h = same-claims last s _ (kernel_takes-blocks l s cpu order) h
-perform-claims l last s serial cpu (KernelFree frame) le h = same-claims last s _ (kernel_gives-blocks l s cpu frame) h
-perform-claims l last s serial cpu (Map owner page) le h = same-claims last s _ (map_step-blocks l s cpu owner page) h
-perform-claims l last s serial cpu (Unmap owner page) le h = same-claims last s _ (unmap_step-blocks l s cpu owner page) h
-perform-claims l last s serial cpu (Write owner page index value) le h = h
-perform-claims l last s serial cpu (Read owner page index) le h = h
-perform-claims l last s serial cpu (Drain drained) le h = h
-perform-claims l last s serial cpu (Online block zone) le h = online-claims l last zone s block h
-perform-claims l last s serial cpu (Begin plan) le h = begin-claims l last serial s plan le h
-perform-claims l last s serial cpu (DrainFor op drained) le h = h
-perform-claims l last s serial cpu (Migrate op) le h = same-claims last s _ (migrate_step-blocks l s op) h
-perform-claims l last s serial cpu (Commit op) le h = commit-claims l last op s h
-perform-claims l last s serial cpu (Cancel op) le h = release-claims l last op s h
-perform-claims l last s serial cpu (UndoAfter after) le h = h
-perform-claims l last s serial cpu (Probe address) le h =
-    auto-claims l last s.blocks.auto _ (address / block_bytes l) (claimed_set last s.blocks.rows (address / block_bytes l) offline_row h tt)
-perform-claims l last s serial cpu (Remove block) le h = claimed_set last s.blocks.rows block _ h tt
-perform-claims l last s serial cpu (SetAuto auto) le h = h
+-- an event that is not refused
+perform-claims : (l : LayoutParts) (P : ℕ → Type 0) (s : Memory) (serial cpu : ℕ) (event : Event) → P serial → AreHeldBy P s.blocks → AreHeldBy P (perform l s serial cpu event).memory.blocks
+perform-claims l P s serial cpu (KernelAlloc order) le h = same-claims P s _ (kernel_takes-blocks l s cpu order) h
+perform-claims l P s serial cpu (KernelFree frame) le h = same-claims P s _ (kernel_gives-blocks l s cpu frame) h
+perform-claims l P s serial cpu (Map owner page) le h = same-claims P s _ (map_step-blocks l s cpu owner page) h
+perform-claims l P s serial cpu (Unmap owner page) le h = same-claims P s _ (unmap_step-blocks l s cpu owner page) h
+perform-claims l P s serial cpu (Write owner page index value) le h = h
+perform-claims l P s serial cpu (Read owner page index) le h = h
+perform-claims l P s serial cpu (Drain drained) le h = h
+perform-claims l P s serial cpu (Online block zone) le h = online-claims l P zone s block h
+perform-claims l P s serial cpu (Begin plan) le h = begin-claims l P serial s plan le h
+perform-claims l P s serial cpu (DrainFor op drained) le h = h
+perform-claims l P s serial cpu (Migrate op) le h = same-claims P s _ (migrate_step-blocks l s op) h
+perform-claims l P s serial cpu (Commit op) le h = commit-claims l P op s h
+perform-claims l P s serial cpu (Cancel op) le h = release-claims l P op s h
+perform-claims l P s serial cpu (UndoAfter after) le h = h
+perform-claims l P s serial cpu (Probe address) le h =
+    auto-claims l P s.blocks.auto _ (address / block_bytes l) (claimed_set P s.blocks.rows (address / block_bytes l) offline_row h tt)
+perform-claims l P s serial cpu (Remove block) le h = claimed_set P s.blocks.rows block _ h tt
+perform-claims l P s serial cpu (SetAuto auto) le h = h
 
-answer-claims : (l : LayoutParts) (last : ℕ) (s : Memory) (serial cpu : ℕ) (event : Event) (o : Option Refusal) → serial ≤ last → AreClaimedUpTo last s.blocks → AreClaimedUpTo last (answer l s serial cpu event o).memory.blocks
-answer-claims l last s serial cpu event (Some refusal) le h = h
-answer-claims l last s serial cpu event None le h = perform-claims l last s serial cpu event le h
+-- an event, by its refusal
+answer-claims : (l : LayoutParts) (P : ℕ → Type 0) (s : Memory) (serial cpu : ℕ) (event : Event) (o : Option Refusal) → P serial → AreHeldBy P s.blocks → AreHeldBy P (answer l s serial cpu event o).memory.blocks
+answer-claims l P s serial cpu event (Some refusal) le h = h
+answer-claims l P s serial cpu event None le h = perform-claims l P s serial cpu event le h
 
-pub step-claims : (l : LayoutParts) (last : ℕ) (s : Memory) (serial cpu : ℕ) (event : Event) → serial ≤ last → AreClaimedUpTo last s.blocks → AreClaimedUpTo last (step l s serial cpu event).memory.blocks
+-- each step
+pub step-claims : (l : LayoutParts) (P : ℕ → Type 0) (s : Memory) (serial cpu : ℕ) (event : Event) → P serial → AreHeldBy P s.blocks → AreHeldBy P (step l s serial cpu event).memory.blocks
 unfolding step
-step-claims l last s serial cpu event le h = answer-claims l last s serial cpu event (refusal_of l s cpu event) le h
+step-claims l P s serial cpu event le h = answer-claims l P s serial cpu event (refusal_of l s cpu event) le h
 
 -- ---- histories
 
-pub run-claims : (l : LayoutParts) (last : ℕ) (s : Memory) (steps : List Record) → ((i : ℕ) (r : Record) → slice_get steps i ≡ Some r → r.serial ≤ last) → AreClaimedUpTo last s.blocks → AreClaimedUpTo last (run l s steps).blocks
+-- steps one after another
+pub run-claims : (l : LayoutParts) (P : ℕ → Type 0) (s : Memory) (steps : List Record) → ((i : ℕ) (r : Record) → slice_get steps i ≡ Some r → P r.serial) → AreHeldBy P s.blocks → AreHeldBy P (run l s steps).blocks
 unfolding run
-run-claims l last s [] low h = h
-run-claims l last s (r ∷ rs) low h =
-    run-claims l last (step l s r.serial r.cpu r.event).memory rs (λ i x e. low (suc i) x e) (step-claims l last s r.serial r.cpu r.event (low 0 r refl) h)
+run-claims l P s [] low h = h
+run-claims l P s (r ∷ rs) low h =
+    run-claims l P (step l s r.serial r.cpu r.event).memory rs (λ i x e. low (suc i) x e) (step-claims l P s r.serial r.cpu r.event (low 0 r refl) h)
 
 -- the operations of a legal history have numbers up to its last record's
 pub value-claims : (l : LayoutParts) (base : Memory) (before : ℕ) (h : List Record) → IsLegal l base before h → AreClaimedUpTo before base.blocks → AreClaimedUpTo (before + length h) (value_of l base h).blocks
 unfolding value_of
 value-claims l base before h legal claims =
-    run-claims l (before + length h) base (net_of h) (numbered_net l base before h legal).under (claims_more before (before + length h) base (omega arith) claims)
+    run-claims l (λ op. op ≤ before + length h) base (net_of h) (numbered_net l base before h legal).under
+    (held_weaker (λ op. op ≤ before) (λ op. op ≤ before + length h) base.blocks.rows (λ op le. omega arith) claims)
+
+-- so a greater number is not live
+pub numbered_others : (last op : ℕ) (blocks : Blocks) → last < op → AreClaimedUpTo last blocks → list_any (is_claimed_by op) blocks.rows ≡ false
+numbered_others last op blocks low h = others_live op blocks.rows (held_weaker (λ n. n ≤ last) (λ n. n ≢ op) blocks.rows (λ n le same. absurd (omega arith)) h)
 
 -- no operation holds a block when a machine starts
-replicated : (last n : ℕ) → AllByRecursion (IsClaimedUpTo last) (replicate n offline_row)
-replicated last zero = tt
-replicated last (suc n) = (tt, replicated last n)
+replicated : (P : ℕ → Type 0) (n : ℕ) → AllByRecursion (IsHeldBy P) (replicate n offline_row)
+replicated P zero = tt
+replicated P (suc n) = (tt, replicated P n)
 
-pub boot-claims : (l : LayoutParts) (last : ℕ) → AreClaimedUpTo last (boot_memory l).blocks
+-- so the state at the start has no claims
+pub boot-claims : (l : LayoutParts) (P : ℕ → Type 0) → AreHeldBy P (boot_memory l).blocks
 unfolding boot_memory
-boot-claims l last = claims_fold last (λ s entry. boot_block l s entry.0 entry.1) (λ s entry k. by_boot s entry.0 entry.1 k) (empty_memory l) (enumerate_from 0 l.boot) (replicated last l.blocks)
+boot-claims l P = claims_fold P (λ s entry. boot_block l s entry.0 entry.1) (λ s entry k. by_boot s entry.0 entry.1 k) (empty_memory l) (enumerate_from 0 l.boot) (replicated P l.blocks)
   where
-    by_boot : (s : Memory) (block : ℕ) (boot : Boot) → AreClaimedUpTo last s.blocks → AreClaimedUpTo last (boot_block l s block boot).blocks
+    by_boot : (s : Memory) (block : ℕ) (boot : Boot) → AreHeldBy P s.blocks → AreHeldBy P (boot_block l s block boot).blocks
     by_boot s block OfflineBoot k = k
-    by_boot s block NormalBoot k = online-claims l last NormalZone s block k
-    by_boot s block MovableBoot k = online-claims l last MovableZone s block k
-    by_boot s block AbsentBoot k = claimed_set last s.blocks.rows block _ k tt
+    by_boot s block NormalBoot k = online-claims l P NormalZone s block k
+    by_boot s block MovableBoot k = online-claims l P MovableZone s block k
+    by_boot s block AbsentBoot k = claimed_set P s.blocks.rows block _ k tt

@@ -1,31 +1,28 @@
 -- An operation that nothing disturbed commits: each frame of its going blocks is in a free block, as it is nowhere else.
-use Rattle.std.proofs.Common.{◌≡◌, ℕ, zero, suc, ◌+◌, ◌-◌, ◌*◌, ◌/◌, ◌%◌, ◌<◌, ◌≤◌, List, [], ◌∷◌, ◌++◌, length, get_or, Bool, true, false, cond, Option, Some, None, map, slice_get, refl, ap, sym, subst, ◌∙◌, arith, inl, inr, IfSome, ◌==◌, ◌||◌}
+use Rattle.std.proofs.Common.{◌≡◌, ◌≢◌, ℕ, zero, suc, ◌+◌, ◌-◌, ◌*◌, ◌/◌, ◌%◌, ◌<◌, ◌≤◌, List, [], ◌∷◌, ◌++◌, length, get_or, Bool, true, false, cond, Option, Some, None, map, slice_get, refl, ap, sym, subst, ◌∙◌, arith, inl, inr, ◌==◌}
 use Rattle.std.specs.Prelude.{position}
 use Rattle.std.specs.List.{count_by, enumerate_from, list_any, position_from, sum_by}
-use Rattle.std.proofs.lemmas.Iterator.Adapters.{position_from-zero}
 use Rattle.std.specs.Option.{option_map, option_map_or, option_or}
-use Rattle.std.proofs.lemmas.Bool.{and_parts, both_ways, cases_lt, eqb-true}
+use Rattle.std.proofs.lemmas.Iterator.Adapters.{position_from-zero}
+use Rattle.std.proofs.lemmas.Bool.{and_parts, cases_lt, eqb-true}
 use Rattle.std.proofs.lemmas.List.{get_or_past}
 use Rattle.std.proofs.lemmas.List.Sums.{sum_by-cons}
 use Rattle.std.proofs.lemmas.Option.{slice_get_within}
 use Rattle.hp_units.specs.declared.plans.Item.{Item}
 use Rattle.hp_units.specs.declared.rows.Pool.{Pool}
 use Rattle.hp_units.specs.declared.rows.Pool.TheVariants.{Nu as NuPool, Nm as NmPool, Mm as MmPool}
-use Rattle.hp_units.specs.declared.rows.State.{State}
-use Rattle.hp_units.specs.declared.rows.State.TheVariants.{Offline as OfflineState, Online as OnlineState, Going as GoingState, Absent as AbsentState}
-use Rattle.hp_units.specs.Choices.{first_some}
 use Rattle.hp_units.specs.LayoutParts.{LayoutParts, IsLayout}
 use Rattle.hp_units.specs.Arithmetic.{block_of, block_of_pageblock}
 use Rattle.hp_units.specs.Marks.{holds_only_own_work, is_opening, mark_of, tag_of}
-use Rattle.hp_units.specs.Memory.{Blocks, FreeFrames, Memory, cached_list, kernel_order, pool_index, row_of}
+use Rattle.hp_units.specs.Memory.{Blocks, Memory, kernel_order, pool_index, row_of}
 use Rattle.hp_units.specs.History.{IsLegal, is_refused, net_of, reply_of, run, value_of}
 use Rattle.hp_units.specs.Pages.{holds, page_at, page_from}
-use Rattle.hp_units.specs.Refusals.{frame_in_use, plan_refusals}
-use Rattle.hp_units.specs.Rows.{is_absent_state, is_claimed_by, is_going, is_going_state, is_live, is_offline_state}
+use Rattle.hp_units.specs.Refusals.{frame_in_use}
+use Rattle.hp_units.specs.Rows.{is_claimed_by, is_going, is_live}
 use Rattle.hp_units.specs.Step.{step}
-use Rattle.hp_units.specs.Placement.{IsWellPlaced, cached_places, covers, free_places, is_unplugged, kernel_places, mapped_places, offline_places}
+use Rattle.hp_units.specs.Placement.{IsWellPlaced, cached_places, covers, kernel_places, mapped_places, offline_places}
 use Rattle.hp_laws.specs.Consequences.{IsFrameOf, IsGoingFor, IsFrameInUse, IsInFreeBlock}
-use Rattle.hp_laws.specs.Offline.{AreClaimedUpTo, IsUndisturbed, drains_for}
+use Rattle.hp_laws.specs.Offline.{AreHeldBy, IsUndisturbed, drains_for}
 use Rattle.hp_laws.proofs.Names.{Begin, Commit, Done, Event, Record}
 use Rattle.hp_laws.proofs.LawProofs.{last_follows, front_legal, opening_is_begin}
 use Rattle.hp_laws.proofs.Lists.{get_left}
@@ -34,14 +31,15 @@ use Rattle.hp_laws.proofs.Earlier.{numbered_net}
 use Rattle.hp_laws.proofs.OwnedContents.{AllSucceed}
 use Rattle.hp_laws.proofs.States.{block_of-pageblock, kernel_covered}
 use Rattle.hp_laws.proofs.EventSteps.{run-placed, step-placed}
+use Rattle.hp_laws.proofs.Commits.{going_plugged}
 use Rattle.hp_laws.proofs.ConsequencesBlocks.{covered_in, free_block}
 use Rattle.hp_laws.proofs.ConsequencesCommits.{found_in_use}
 use Rattle.hp_laws.proofs.ConsequencesReplies.{IsCommitReply, commit_reply}
 use Rattle.hp_laws.proofs.ConsequencesPlaces.{kernel_inside}
 use Rattle.hp_laws.proofs.OfflineNet.{net_good, step_performed, succeed_behind}
-use Rattle.hp_laws.proofs.OfflineClaims.{claims_more, run-claims}
+use Rattle.hp_laws.proofs.OfflineClaims.{run-claims}
 use Rattle.hp_laws.proofs.OfflineBegin.{begun_movable}
-use Rattle.hp_laws.proofs.OfflineSteps.{IsDrained, OwnRun, own_run}
+use Rattle.hp_laws.proofs.OfflineSteps.{IsDrained, own_run}
 
 -- ---- places that a frame isn't in
 
@@ -56,12 +54,14 @@ empty_lists frame (frames ∷ lists) e =
       ap (λ (xs : List ℕ). count_by (λ other. other == frame) xs) (e 0),
     )
 
+-- the pool of a number
 pool_of_index : (n : ℕ) → n < 3 → (pool : Pool) × (pool_index pool ≡ n)
 pool_of_index zero low = (NuPool, refl)
 pool_of_index (suc zero) low = (NmPool, refl)
 pool_of_index (suc (suc zero)) low = (MmPool, refl)
 pool_of_index (suc (suc (suc n))) low = absurd (omega arith)
 
+-- where each processor is drained, no frame is on a list
 pub none_cached : (l : LayoutParts) (s : Memory) (frame : ℕ) → IsWellPlaced l s → ((cpu : ℕ) → cpu < l.cpus → IsDrained s.free cpu) → cached_places s.free frame ≡ 0
 none_cached l s frame p drained = empty_lists frame s.free.cached each
   where
@@ -90,9 +90,11 @@ no_entry_from frame n (entry ∷ row) e =
     by_test true is e rest sum = cc
     by_test false is e rest sum = (let none = rest e in omega (arith, sum, ap one_if is))
 
+-- and so of the first entry that has it
 no_entry : (frame : ℕ) (row : List (Option ℕ)) → position (holds frame) row ≡ None → count_by (holds frame) row ≡ 0
 no_entry frame row e = no_entry_from frame 0 row (sym (position_from-zero (holds frame) row) ∙ e)
 
+-- of the whole table
 no_page : (owner frame : ℕ) (table : List (List (Option ℕ))) → page_from owner table frame ≡ None → sum_by (λ row. count_by (holds frame) row) table ≡ 0
 no_page owner frame [] e = refl
 no_page owner frame (row ∷ rows) e =
@@ -105,6 +107,7 @@ no_page owner frame (row ∷ rows) e =
     by_position None is e rest sum = (let none = no_entry frame row is in let later = rest e in omega arith)
     by_position (Some page) is e rest sum = cc
 
+-- a frame without a page is in no place of one
 pub none_mapped : (s : Memory) (frame : ℕ) → page_at s.pages frame ≡ None → mapped_places s.pages frame ≡ 0
 none_mapped s frame e = no_page 0 frame s.pages.table e
 
@@ -118,6 +121,7 @@ kernel_sum frame n (entry ∷ entries) none =
     let rest = kernel_sum frame (n + 1) entries (λ i. (let next : n + suc i ≡ n + 1 + i = omega arith in subst (λ (k : ℕ). kernel_covered frame k (get_or entries i None) ≡ 0) next (none (suc i)))) in
     omega (arith, here, rest, sum_by-cons (λ (e : ℕ × Option ℕ). kernel_covered frame e.0 e.1) (n, entry) (enumerate_from (n + 1) entries))
 
+-- a frame of a block in which no kernel's block starts
 pub none_kernel : (l : LayoutParts) (s : Memory) (op frame : ℕ) → IsWellPlaced l s → ((first : ℕ) → IsGoingFor l s op first → kernel_order s first ≡ None) → IsGoingFor l s op frame → kernel_places s frame ≡ 0
 none_kernel l s op frame p movable h = kernel_sum frame 0 s.kernel (λ i. subst (λ (k : ℕ). kernel_covered frame k (get_or s.kernel i None) ≡ 0) (start i) (each i (kernel_order s i) refl))
   where
@@ -144,12 +148,6 @@ none_kernel l s op frame p movable h = kernel_sum frame 0 s.kernel (λ i. subst 
         no_order : {order : ℕ} → None ≡ Some order → ⊥
         no_order e = cc
 
-going_plugged : (state : State) → is_going_state state ≡ true → (is_offline_state state || is_absent_state state) ≡ false
-going_plugged GoingState e = refl
-going_plugged OfflineState e = cc
-going_plugged OnlineState e = cc
-going_plugged AbsentState e = cc
-
 -- so each frame of its going blocks is in a free block
 pub frame_free : (l : LayoutParts) (s : Memory) (op frame : ℕ) → IsWellPlaced l s → ((cpu : ℕ) → cpu < l.cpus → IsDrained s.free cpu) → ((first : ℕ) → IsGoingFor l s op first → kernel_order s first ≡ None)
     → page_at s.pages frame ≡ None → IsGoingFor l s op frame → IsInFreeBlock s.free.areas frame
@@ -159,23 +157,25 @@ frame_free l s op frame p drained movable unmapped h =
 
 -- ---- the state that the operation's own steps lead to
 
+-- what a Commit needs
 record IsReady (l : LayoutParts) (s : Memory) (op : ℕ) : Type 0 where
   pub placed : IsWellPlaced l s
   pub drained : (cpu : ℕ) → cpu < l.cpus → IsDrained s.free cpu
   pub movable : (first : ℕ) → IsGoingFor l s op first → kernel_order s first ≡ None
   pub live : is_live s.blocks op ≡ true
 
+-- the frames of going blocks are the same while the rows are
 going_same : (l : LayoutParts) (s t : Memory) (op frame : ℕ) → t.blocks ≡ s.blocks → IsGoingFor l t op frame → IsGoingFor l s op frame
 going_same l s t op frame e h = record {
   claimed = subst (λ (bs : Blocks). is_claimed_by op (row_of bs (block_of l frame)) ≡ true) e h.claimed;
   going = subst (λ (bs : Blocks). is_going (row_of bs (block_of l frame)) ≡ true) e h.going;
 }
 
--- from its Begin in a state whose operations have lower numbers
-ready : (l : LayoutParts) (s : Memory) (last op cpu : ℕ) (plan : List Item) (work : List Record) → IsLayout l → IsWellPlaced l s → last < op → AreClaimedUpTo last s.blocks
+-- from its Begin in a state in which no row carries its number
+ready : (l : LayoutParts) (s : Memory) (op cpu : ℕ) (plan : List Item) (work : List Record) → IsLayout l → IsWellPlaced l s → AreHeldBy (λ n. n ≢ op) s.blocks
     → is_refused (step l s op cpu (Begin plan)).reply ≡ false → holds_only_own_work op (map tag_of work) ≡ true → AllSucceed l (step l s op cpu (Begin plan)).memory work
     → ((c : ℕ) → c < l.cpus → list_any (λ (r : Record). drains_for op c r.event) work ≡ true) → IsReady l (run l (step l s op cpu (Begin plan)).memory work) op
-ready l s last op cpu plan work layout p new claims good own succeeds drained =
+ready l s op cpu plan work layout p claims good own succeeds drained =
     let performed = step_performed l s op cpu (Begin plan) good in
     let begun : Memory = (step l s op cpu (Begin plan)).memory in
     let placed : IsWellPlaced l begun = step-placed l s op cpu (Begin plan) layout p in
@@ -183,7 +183,7 @@ ready l s last op cpu plan work layout p new claims good own succeeds drained =
     let end : Memory = run l begun work in
     let still : (first : ℕ) → IsGoingFor l begun op first → kernel_order begun first ≡ None =
     subst (λ (t : Memory). (first : ℕ) → IsGoingFor l t op first → kernel_order t first ≡ None) (sym performed.memory)
-    (λ first h. begun_movable l s last op plan first layout new claims performed.free (subst (λ (t : Memory). IsWellPlaced l t) performed.memory placed) h) in
+    (λ first h. begun_movable l s op plan first layout claims performed.free (subst (λ (t : Memory). IsWellPlaced l t) performed.memory placed) h) in
     record {
       placed = run-placed l begun work layout placed;
       drained = λ c low. done.drained c (drained c low);
@@ -210,17 +210,15 @@ get_middle : (xs ys : List Record) (y : Record) → slice_get (xs ++ y ∷ ys) (
 get_middle [] ys y = refl
 get_middle (x ∷ xs) ys y = get_middle xs ys y
 
--- the steps before a place of a net have lower serials
-earlier_lower : (before last : ℕ) (earlier work : List Record) (begin : Record) → Numbered before last (earlier ++ begin ∷ work) → (i : ℕ) (r : Record) → slice_get earlier i ≡ Some r → r.serial ≤ begin.serial - 1
-earlier_lower before last earlier work begin h i r e =
+-- the steps before a place of a net have other serials
+earlier_other : (before last : ℕ) (earlier work : List Record) (begin : Record) → Numbered before last (earlier ++ begin ∷ work) → (i : ℕ) (r : Record) → slice_get earlier i ≡ Some r → r.serial ≢ begin.serial
+earlier_other before last earlier work begin h i r e =
     let within : i < length earlier = slice_get_within earlier i r e in
-    let low : r.serial < begin.serial = h.rising i (length earlier) r begin within (get_left earlier (begin ∷ work) i within ∙ e) (get_middle earlier work begin) in
-    omega arith
+    let below : r.serial < begin.serial = h.rising i (length earlier) r begin within (get_left earlier (begin ∷ work) i within ∙ e) (get_middle earlier work begin) in
+    λ same. absurd (omega arith)
 
-begin_over : (before last : ℕ) (earlier work : List Record) (begin : Record) → Numbered before last (earlier ++ begin ∷ work) → before < begin.serial
-begin_over before last earlier work begin h = h.over (length earlier) begin (get_middle earlier work begin)
-
-undisturbed_ready : (l : LayoutParts) (base : Memory) (before op : ℕ) (h : List Record) → IsLayout l → IsWellPlaced l base → AreClaimedUpTo before base.blocks → IsLegal l base before h → IsUndisturbed l (value_of l base h) op (net_of h)
+-- the state that an undisturbed operation leads to
+undisturbed_ready : (l : LayoutParts) (base : Memory) (before op : ℕ) (h : List Record) → IsLayout l → IsWellPlaced l base → AreHeldBy (λ n. n ≢ op) base.blocks → IsLegal l base before h → IsUndisturbed l (value_of l base h) op (net_of h)
     → IsReady l (value_of l base h) op
 unfolding value_of run
 undisturbed_ready l base before op h layout p claims legal u =
@@ -230,21 +228,19 @@ undisturbed_ready l base before op h layout p claims legal u =
     let numbered = subst (λ (n : List Record). Numbered before (before + length h) n) u.steps (numbered_net l base before h legal) in
     let start : Memory = run l base u.earlier in
     let succeeds : AllSucceed l start (u.begin ∷ u.work) = succeed_behind l base u.earlier (u.begin ∷ u.work) (subst (λ (n : List Record). AllSucceed l base n) u.steps (net_good l base before h legal)) in
-    let over : before < u.begin.serial = begin_over before (before + length h) u.earlier u.work u.begin numbered in
-    let low : AreClaimedUpTo (u.begin.serial - 1) start.blocks =
-    run-claims l (u.begin.serial - 1) base u.earlier (earlier_lower before (before + length h) u.earlier u.work u.begin numbered) (claims_more before (u.begin.serial - 1) base (omega arith) claims) in
-    let new : u.begin.serial - 1 < u.begin.serial = omega arith in
+    let new : AreHeldBy (λ n. n ≢ op) start.blocks =
+    run-claims l (λ n. n ≢ op) base u.earlier (λ i r e. subst (λ (n : ℕ). r.serial ≢ n) serial (earlier_other before (before + length h) u.earlier u.work u.begin numbered i r e)) claims in
     let whole : run l base (net_of h) ≡ run l start (u.begin ∷ u.work) = ap (run l base) u.steps ∙ run-append l base u.earlier (u.begin ∷ u.work) in
     subst (λ (t : Memory). IsReady l t op) (sym whole)
-    (at_begin start u.begin u.work event.0 event.1 serial (run-placed l base u.earlier layout p) new low succeeds u.own u.drained)
+    (at_begin start u.begin u.work event.0 event.1 serial (run-placed l base u.earlier layout p) new succeeds u.own u.drained)
   where
-    at_begin : (start : Memory) (begin : Record) (work : List Record) (plan : List Item) → begin.event ≡ Begin plan → begin.serial ≡ op → IsWellPlaced l start → begin.serial - 1 < begin.serial → AreClaimedUpTo (begin.serial - 1) start.blocks
+    at_begin : (start : Memory) (begin : Record) (work : List Record) (plan : List Item) → begin.event ≡ Begin plan → begin.serial ≡ op → IsWellPlaced l start → AreHeldBy (λ n. n ≢ op) start.blocks
         → AllSucceed l start (begin ∷ work) → holds_only_own_work op (map tag_of work) ≡ true → ((c : ℕ) → c < l.cpus → list_any (λ (r : Record). drains_for op c r.event) work ≡ true)
         → IsReady l (run l (step l start begin.serial begin.cpu begin.event).memory work) op
-    at_begin start begin work plan event serial placed new low succeeds own drained =
+    at_begin start begin work plan event serial placed new succeeds own drained =
         subst (λ (e : Event). IsReady l (run l (step l start begin.serial begin.cpu e).memory work) op) (sym event)
         (subst (λ (n : ℕ). IsReady l (run l (step l start n begin.cpu (Begin plan)).memory work) op) (sym serial)
-        (ready l start (op - 1) op begin.cpu plan work layout placed (subst (λ (n : ℕ). n - 1 < n) serial new) (subst (λ (n : ℕ). AreClaimedUpTo (n - 1) start.blocks) serial low)
+        (ready l start op begin.cpu plan work layout placed new
         (subst (λ (n : ℕ). is_refused (step l start n begin.cpu (Begin plan)).reply ≡ false) serial (subst (λ (e : Event). is_refused (step l start begin.serial begin.cpu e).reply ≡ false) event succeeds.0))
         own
         (subst (λ (n : ℕ). AllSucceed l (step l start n begin.cpu (Begin plan)).memory work) serial (subst (λ (e : Event). AllSucceed l (step l start begin.serial begin.cpu e).memory work) event succeeds.1))
@@ -257,7 +253,7 @@ unfolding reply_of
 commit_step l base before op h r legal event = (last_follows l base before h r legal).reply ∙ ap (λ (e : Event). reply_of l base before h r.cpu e) event
 
 -- an operation that nothing disturbed commits
-pub undisturbed_done : (l : LayoutParts) (base : Memory) (before op : ℕ) (h : List Record) (r : Record) → IsLayout l → IsWellPlaced l base → AreClaimedUpTo before base.blocks → IsLegal l base before (h ++ r ∷ [])
+pub undisturbed_done : (l : LayoutParts) (base : Memory) (before op : ℕ) (h : List Record) (r : Record) → IsLayout l → IsWellPlaced l base → AreHeldBy (λ n. n ≢ op) base.blocks → IsLegal l base before (h ++ r ∷ [])
     → r.event ≡ Commit op → r.cpu < l.cpus → IsUndisturbed l (value_of l base h) op (net_of h) → r.reply ≡ Done
 undisturbed_done l base before op h r layout p claims legal event low u =
     commit_step l base before op h r legal event

@@ -1,8 +1,7 @@
 -- No step of the net of a legal history was refused, and each was performed.
-use Rattle.std.proofs.Common.{◌≡◌, ℕ, zero, suc, ◌+◌, ◌<◌, ◌≤◌, List, [], ◌∷◌, ◌++◌, length, take, Bool, true, false, Option, Some, None, slice_get, refl, ap, sym, subst, ◌∙◌, arith, inl, inr}
+use Rattle.std.proofs.Common.{◌≡◌, ℕ, zero, suc, ◌+◌, List, [], ◌∷◌, ◌++◌, length, take, false, Option, Some, None, refl, ap, sym, subst, inl, inr}
 use Rattle.std.specs.Prelude.{nat_le}
 use Rattle.std.specs.Bool.{then_some}
-use Rattle.std.proofs.lemmas.List.{take_all}
 use Rattle.hp_units.specs.LayoutParts.{LayoutParts}
 use Rattle.hp_units.specs.Choices.{first_some}
 use Rattle.hp_units.specs.Memory.{Memory}
@@ -10,7 +9,7 @@ use Rattle.hp_units.specs.History.{Follows, IsLegal, is_refused, net_of, run, va
 use Rattle.hp_units.specs.Refusals.{event_refusals, refusal_of}
 use Rattle.hp_units.specs.Step.{answer, perform, step}
 use Rattle.hp_laws.proofs.Names.{Event, NoCpu, Record, Refusal}
-use Rattle.hp_laws.proofs.Net.{legal_all, legal_push, net-push, run-append}
+use Rattle.hp_laws.proofs.Net.{legal_all, legal_push, net-push}
 use Rattle.hp_laws.proofs.Earlier.{numbered_net}
 use Rattle.hp_laws.proofs.Undo.{net_cases}
 use Rattle.hp_laws.proofs.NetContents.{added_good}
@@ -18,25 +17,30 @@ use Rattle.hp_laws.proofs.OwnedContents.{AllSucceed, none_rest}
 
 -- ---- runs of which no step is refused
 
+-- one run after another
 succeed_both : (l : LayoutParts) (s : Memory) (a b : List Record) → AllSucceed l s a → AllSucceed l (run l s a) b → AllSucceed l s (a ++ b)
 unfolding run
 succeed_both l s [] b h k = k
 succeed_both l s (r ∷ a) b h k = (h.0, succeed_both l (step l s r.serial r.cpu r.event).memory a b h.1 k)
 
+-- the second of two
 pub succeed_behind : (l : LayoutParts) (s : Memory) (a b : List Record) → AllSucceed l s (a ++ b) → AllSucceed l (run l s a) b
 unfolding run
 succeed_behind l s [] b h = h
 succeed_behind l s (r ∷ a) b h = succeed_behind l (step l s r.serial r.cpu r.event).memory a b h.1
 
+-- a beginning
 succeed_take : (l : LayoutParts) (s : Memory) (k : ℕ) (n : List Record) → AllSucceed l s n → AllSucceed l s (take k n)
 succeed_take l s zero n h = tt
 succeed_take l s (suc k) [] h = tt
 succeed_take l s (suc k) (r ∷ n) h = (h.0, succeed_take l (step l s r.serial r.cpu r.event).memory k n h.1)
 
+-- a legal history of whose net no step is refused
 record IsGood (l : LayoutParts) (base : Memory) (before : ℕ) (g : List Record) : Type 0 where
   pub legal : IsLegal l base before g
   pub good : AllSucceed l base (net_of g)
 
+-- with one more record
 good_more : (l : LayoutParts) (base : Memory) (before : ℕ) (g : List Record) (r : Record) → Follows l base before g r → IsGood l base before g → IsGood l base before (g ++ r ∷ [])
 unfolding value_of
 good_more l base before g r follows h = record {
@@ -49,6 +53,7 @@ good_more l base before g r follows h = record {
       ]);
 }
 
+-- with none
 none_good : (l : LayoutParts) (base : Memory) (before : ℕ) → IsGood l base before []
 unfolding net_of
 none_good l base before = record { legal = λ n r e. absurd cc; good = tt }
@@ -65,6 +70,7 @@ pub record IsPerformed (l : LayoutParts) (s : Memory) (serial cpu : ℕ) (event 
   pub memory : (step l s serial cpu event).memory ≡ (perform l s serial cpu event).memory
   pub free : first_some (event_refusals l s cpu event) ≡ None
 
+-- each step that is not refused
 pub step_performed : (l : LayoutParts) (s : Memory) (serial cpu : ℕ) (event : Event) → is_refused (step l s serial cpu event).reply ≡ false → IsPerformed l s serial cpu event
 unfolding step refusal_of
 step_performed l s serial cpu event good =

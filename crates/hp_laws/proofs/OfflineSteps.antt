@@ -1,27 +1,22 @@
 -- What an operation's own drains and migrations keep, and which processors' lists they leave empty.
-use Rattle.std.proofs.Common.{◌≡◌, ℕ, zero, suc, ◌+◌, ◌*◌, List, [], ◌∷◌, get_or, set, Bool, true, false, not, cond, Option, Some, None, map, refl, ap, sym, subst, ◌∙◌, inl, inr, ◌==◌, ◌&&◌, ◌||◌, eqb-true}
-use Rattle.std.specs.Prelude.{nat_le}
-use Rattle.std.specs.Bool.{then_some}
+use Rattle.std.proofs.Common.{◌≡◌, ℕ, zero, suc, ◌+◌, ◌*◌, List, [], ◌∷◌, get_or, set, true, false, Option, Some, None, map, refl, sym, subst, ◌∙◌, inl, inr, ◌==◌, eqb-true}
 use Rattle.std.specs.List.{list_any}
 use Rattle.std.specs.Option.{option_map_or}
-use Rattle.std.proofs.lemmas.Bool.{and_parts, both_ways, or_cases}
+use Rattle.std.proofs.lemmas.Bool.{and_parts, not-false, or_cases}
 use Rattle.hp_units.specs.declared.rows.Pool.{Pool}
 use Rattle.hp_units.specs.declared.rows.Pool.TheVariants.{Nu as NuPool, Nm as NmPool, Mm as MmPool}
-use Rattle.hp_units.specs.LayoutParts.{LayoutParts, IsLayout}
-use Rattle.hp_units.specs.FreeAreas.{Taken, give_block}
+use Rattle.hp_units.specs.LayoutParts.{LayoutParts}
 use Rattle.hp_units.specs.Marks.{holds_only_own_work, is_work_of, mark_of, tag_of}
-use Rattle.hp_units.specs.Memory.{Blocks, FreeFrames, Memory, cached_list, pool_index}
+use Rattle.hp_units.specs.Memory.{FreeFrames, Memory, cached_list, pool_index}
 use Rattle.hp_units.specs.History.{is_refused, run}
 use Rattle.hp_units.specs.ProcessorLists.{drain_lists}
-use Rattle.hp_units.specs.Pages.{move_page}
 use Rattle.hp_units.specs.Refusals.{event_refusals, migration_source, migration_target}
-use Rattle.hp_units.specs.Rows.{is_live, with_areas, zone_of}
-use Rattle.hp_units.specs.Step.{Answered, done, migrate_step, perform, step, with_free, with_pages}
-use Rattle.hp_units.specs.Placement.{IsWellPlaced}
+use Rattle.hp_units.specs.Rows.{is_live}
+use Rattle.hp_units.specs.Step.{Answered, done, migrate_step, perform, step, with_free}
 use Rattle.hp_laws.specs.Offline.{drains_for}
 use Rattle.hp_laws.proofs.Names.{Event, KernelAlloc, KernelFree, Map, Unmap, Write, Read, Drain, Online, Begin, DrainFor, Migrate, Commit, Cancel, UndoAfter, Probe, Remove, SetAuto, Record}
 use Rattle.hp_laws.proofs.OwnedContents.{AllSucceed, all_none}
-use Rattle.hp_laws.proofs.EventSteps.{step-placed, then_none}
+use Rattle.hp_laws.proofs.EventSteps.{then_none}
 use Rattle.hp_laws.proofs.OfflineNet.{IsPerformed, step_performed}
 
 -- ---- a processor's lists after a drain
@@ -32,6 +27,7 @@ emptied [] i = refl
 emptied (frames ∷ lists) zero = refl
 emptied (frames ∷ lists) (suc i) = emptied lists i
 
+-- and one that is so stays so
 still_empty : (lists : List (List ℕ)) (i k : ℕ) → get_or lists k [] ≡ [] → get_or (set lists i []) k [] ≡ []
 still_empty [] i k e = refl
 still_empty (frames ∷ lists) zero zero e = refl
@@ -43,6 +39,7 @@ still_empty (frames ∷ lists) (suc i) (suc k) e = still_empty lists i k e
 abbrev pub IsDrained : FreeFrames → ℕ → Type 0
 IsDrained fs cpu = (pool : Pool) → cached_list fs cpu pool ≡ []
 
+-- a drain leaves the processor's lists empty
 drained_lists : (l : LayoutParts) (fs : FreeFrames) (cpu : ℕ) → IsDrained (drain_lists l fs cpu) cpu
 unfolding drain_lists
 drained_lists l fs cpu NuPool =
@@ -51,6 +48,7 @@ drained_lists l fs cpu NuPool =
 drained_lists l fs cpu NmPool = still_empty _ (3 * cpu + pool_index MmPool) (3 * cpu + pool_index NmPool) (emptied _ (3 * cpu + pool_index NmPool))
 drained_lists l fs cpu MmPool = emptied _ (3 * cpu + pool_index MmPool)
 
+-- and those that were
 drained_others : (l : LayoutParts) (fs : FreeFrames) (cpu other : ℕ) → IsDrained fs other → IsDrained (drain_lists l fs cpu) other
 unfolding drain_lists
 drained_others l fs cpu other e pool =
@@ -66,22 +64,27 @@ pub record IsWork (s t : Memory) : Type 0 where
   pub kernel : t.kernel ≡ s.kernel
   pub empty : (cpu : ℕ) → IsDrained s.free cpu → IsDrained t.free cpu
 
+-- nothing is done
 work_none : (s : Memory) → IsWork s s
 work_none s = record { blocks = refl; kernel = refl; empty = λ cpu e. e }
 
+-- one after another
 work_then : (s t u : Memory) → IsWork s t → IsWork t u → IsWork s u
 work_then s t u h k = record { blocks = k.blocks ∙ h.blocks; kernel = k.kernel ∙ h.kernel; empty = λ cpu e. k.empty cpu (h.empty cpu e) }
 
+-- whether there is what the event asks for or not
 answered-work : {X : Type 0} (f : X → Answered) (s : Memory) (o : Option X) → ((x : X) → IsWork s (f x).memory) → IsWork s (option_map_or f o (done s)).memory
 answered-work f s None h = work_none s
 answered-work f s (Some x) h = h x
 
+-- a migration
 migrate-work : (l : LayoutParts) (s : Memory) (op : ℕ) → IsWork s (migrate_step l s op).memory
 unfolding migrate_step
 migrate-work l s op =
     answered-work _ s (migration_source l s op)
     (λ from. answered-work _ s (migration_target l s.free.areas) (λ taken. record { blocks = refl; kernel = refl; empty = λ cpu e. e }))
 
+-- a drain
 drain-work : (l : LayoutParts) (s : Memory) (cpu : ℕ) → IsWork s (with_free s (drain_lists l s.free cpu))
 drain-work l s cpu = record { blocks = refl; kernel = refl; empty = λ other e. drained_others l s.free cpu other e }
 
@@ -91,24 +94,21 @@ pub record OwnStep (l : LayoutParts) (op : ℕ) (s : Memory) (event : Event) (t 
   pub drained : (cpu : ℕ) → drains_for op cpu event ≡ true → IsDrained t.free cpu
   pub live : is_live s.blocks op ≡ true
 
-not_still : (b : Bool) → not b ≡ false → b ≡ true
-not_still true e = refl
-not_still false e = cc
-
+-- each of its own events
 own_perform : (l : LayoutParts) (op : ℕ) (s : Memory) (serial cpu : ℕ) (event : Event) → is_work_of op (mark_of event) ≡ true → IsPerformed l s serial cpu event → OwnStep l op s event (perform l s serial cpu event).memory
 own_perform l op s serial cpu (DrainFor other drained) own h =
     let same : other ≡ op = eqb-true other op own in
     record {
       work = drain-work l s drained;
       drained = λ c e. subst (λ (n : ℕ). IsDrained (drain_lists l s.free drained) n) (eqb-true drained c (and_parts (other == op) (drained == c) e).1) (drained_lists l s.free drained);
-      live = subst (λ (n : ℕ). is_live s.blocks n ≡ true) same (not_still (is_live s.blocks other) (then_none _ _ (all_none (event_refusals l s cpu (DrainFor other drained)) h.free).1.0));
+      live = subst (λ (n : ℕ). is_live s.blocks n ≡ true) same (not-false (is_live s.blocks other) (then_none _ _ (all_none (event_refusals l s cpu (DrainFor other drained)) h.free).1.0));
     }
 own_perform l op s serial cpu (Migrate other) own h =
     let same : other ≡ op = eqb-true other op own in
     record {
       work = migrate-work l s other;
       drained = λ c e. cc;
-      live = subst (λ (n : ℕ). is_live s.blocks n ≡ true) same (not_still (is_live s.blocks other) (then_none _ _ (all_none (event_refusals l s cpu (Migrate other)) h.free).0));
+      live = subst (λ (n : ℕ). is_live s.blocks n ≡ true) same (not-false (is_live s.blocks other) (then_none _ _ (all_none (event_refusals l s cpu (Migrate other)) h.free).0));
     }
 own_perform l op s serial cpu (KernelAlloc order) own h = absurd cc
 own_perform l op s serial cpu (KernelFree frame) own h = absurd cc
@@ -126,6 +126,7 @@ own_perform l op s serial cpu (Probe address) own h = absurd cc
 own_perform l op s serial cpu (Remove block) own h = absurd cc
 own_perform l op s serial cpu (SetAuto auto) own h = absurd cc
 
+-- each of its own steps
 own_step : (l : LayoutParts) (op : ℕ) (s : Memory) (serial cpu : ℕ) (event : Event) → is_work_of op (mark_of event) ≡ true → is_refused (step l s serial cpu event).reply ≡ false
     → OwnStep l op s event (step l s serial cpu event).memory
 own_step l op s serial cpu event own good =
@@ -134,11 +135,13 @@ own_step l op s serial cpu event own good =
 
 -- ---- one of its own steps after another
 
+-- what several of them do
 pub record OwnRun (l : LayoutParts) (op : ℕ) (s : Memory) (steps : List Record) (t : Memory) : Type 0 where
   pub work : IsWork s t
   pub drained : (cpu : ℕ) → list_any (λ (r : Record). drains_for op cpu r.event) steps ≡ true → IsDrained t.free cpu
   pub live : (cpu : ℕ) → list_any (λ (r : Record). drains_for op cpu r.event) steps ≡ true → is_live s.blocks op ≡ true
 
+-- all of them
 pub own_run : (l : LayoutParts) (op : ℕ) (s : Memory) (steps : List Record) → holds_only_own_work op (map tag_of steps) ≡ true → AllSucceed l s steps → OwnRun l op s steps (run l s steps)
 unfolding run
 own_run l op s [] own good = record { work = work_none s; drained = λ cpu e. cc; live = λ cpu e. cc }

@@ -1,16 +1,15 @@
 -- Worked operations, computed: one that nothing disturbed and that commits, and one for each condition that is missing.
-use Rattle.std.proofs.Common.{◌≡◌, ℕ, zero, suc, ◌<◌, List, [], ◌∷◌, ◌++◌, map, Some, None, true, refl, arith, ◌==◌}
+use Rattle.std.proofs.Common.{◌≡◌, ℕ, zero, suc, ◌<◌, List, [], ◌∷◌, ◌++◌, map, Some, true, refl, arith, ◌==◌}
 use Rattle.std.specs.List.{list_all, list_any}
 use Rattle.hp_units.specs.declared.plans.Item.{Item}
 use Rattle.hp_units.specs.declared.rows.Boot.TheVariants.{Offline as OfflineBoot, Normal as NormalBoot, Movable as MovableBoot}
-use Rattle.hp_units.specs.declared.rows.Class.TheVariants.{Nm, Mm, IsoN}
-use Rattle.hp_units.specs.declared.rows.Kind.{Kind}
+use Rattle.hp_units.specs.declared.rows.Class.TheVariants.{Nm}
 use Rattle.hp_units.specs.declared.rows.Mobility.TheVariants.{Unmovable}
-use Rattle.hp_units.specs.declared.rows.Row.{Row}
 use Rattle.hp_units.specs.declared.rows.State.TheVariants.{Going as GoingState}
 use Rattle.hp_units.specs.declared.rows.Wish.TheVariants.{Off as OffWish}
 use Rattle.hp_units.specs.declared.rows.Zone.TheVariants.{Normal as NormalZone}
 use Rattle.hp_units.specs.LayoutParts.{LayoutParts}
+use Rattle.hp_units.specs.Arithmetic.{all_frames}
 use Rattle.hp_units.specs.Boot.{boot_memory}
 use Rattle.hp_units.specs.FreeAreas.{give_block, steal_block, take_block}
 use Rattle.hp_units.specs.History.{run}
@@ -18,12 +17,11 @@ use Rattle.hp_units.specs.Isolation.{move_pageblock}
 use Rattle.hp_units.specs.Memory.{Memory, with_free_list, with_kernel_order, with_kind}
 use Rattle.hp_units.specs.ProcessorLists.{drain_lists, put_one, take_frames, take_one}
 use Rattle.hp_units.specs.Refusals.{refusal_of}
-use Rattle.hp_units.specs.Rows.{begin_plan, commit_blocks, online_block, release_blocks, with_areas, with_block_row}
+use Rattle.hp_units.specs.Rows.{begin_plan, commit_blocks, is_live, online_block, release_blocks, with_areas, with_block_row}
 use Rattle.hp_units.specs.Step.{kernel_gives, kernel_takes, map_step, migrate_step, step, unmap_step}
-use Rattle.hp_units.specs.Arithmetic.{all_frames}
 use Rattle.hp_units.specs.Placement.{places_of}
-use Rattle.hp_laws.specs.Offline.{AreClaimedUpTo, IsUndisturbed, drains_for}
-use Rattle.hp_laws.proofs.Names.{Begin, Commit, Done, DrainFor, GivesFrame, KernelAlloc, KernelFree, Map, Migrate, Moved, NotFree, Opened, Record, Refused, Reply, Unmap}
+use Rattle.hp_laws.specs.Offline.{IsUndisturbed, drains_for}
+use Rattle.hp_laws.proofs.Names.{Begin, Commit, Done, DrainFor, GivesFrame, KernelAlloc, KernelFree, Map, NotFree, Opened, Record, Refused, Reply, Unmap}
 
 -- opens every definition
 unfoldable everything : Unit {0}
@@ -34,6 +32,7 @@ everything = tt
 abbrev small : LayoutParts
 small = record { order = 2; pageblocks = 1; blocks = 4; cpus = 2; batch = 2; high = 2; owners = 2; pages = 8; words = 2; history = 1000; boot = (NormalBoot ∷ NormalBoot ∷ MovableBoot ∷ OfflineBoot ∷ []) }
 
+-- a plan that wishes a block off
 abbrev off : ℕ → List Item
 off block = record { block = block; wish = OffWish } ∷ []
 
@@ -42,6 +41,7 @@ abbrev answers : Memory → List Record → List Reply
 answers s [] = []
 answers s (r ∷ rs) = (step small s r.serial r.cpu r.event).reply ∷ answers (step small s r.serial r.cpu r.event).memory rs
 
+-- each record has its step's reply
 abbrev AreAnswered : Memory → List Record → Type 0
 AreAnswered s records = answers s records ≡ map (λ (r : Record). r.reply) records
 
@@ -54,23 +54,28 @@ used =
     ∷ record { serial = 2; cpu = 0; event = Unmap 0 0; reply = Done }
     ∷ []
 
+-- block 2 goes offline
 abbrev opening : Record
 opening = record { serial = 3; cpu = 0; event = Begin (off 2); reply = Opened 3 }
 
+-- both processors are drained
 abbrev drains : List Record
 drains =
     record { serial = 4; cpu = 0; event = DrainFor 3 0; reply = Done }
     ∷ record { serial = 5; cpu = 1; event = DrainFor 3 1; reply = Done }
     ∷ []
 
+-- the state then
 abbrev after_drains : Memory
 after_drains = run small (boot_memory small) (used ++ opening ∷ drains)
 
+-- each processor is among them
 each_drained : (cpu : ℕ) → cpu < 2 → list_any (λ (r : Record). drains_for 3 cpu r.event) drains ≡ true
 each_drained zero low = refl
 each_drained (suc zero) low = refl
 each_drained (suc (suc n)) low = absurd (omega arith)
 
+-- the conditions hold
 undisturbed : IsUndisturbed small after_drains 3 (used ++ opening ∷ drains)
 unfolding everything
 undisturbed = record {
@@ -109,6 +114,7 @@ one_page =
     ∷ record { serial = 5; cpu = 0; event = Commit 2; reply = Refused (NotFree 8) }
     ∷ []
 
+-- so the commit is refused
 not_moved : AreAnswered (boot_memory small) one_page
 unfolding everything
 not_moved = refl
@@ -125,6 +131,7 @@ disturbed =
     ∷ record { serial = 7; cpu = 0; event = Commit 3; reply = Refused (NotFree 0) }
     ∷ []
 
+-- so the commit is refused
 not_alone : AreAnswered (boot_memory small) disturbed
 unfolding everything
 not_alone = refl
@@ -136,6 +143,7 @@ claimed_early =
     let areas = with_kind (with_free_list s.free.areas Nm 2 (4 ∷ [])) 0 (record { mobility = Unmovable; isolated = true }) in
     with_block_row (with_kernel_order (with_areas s areas) 0 (Some 2)) 0 (record { state = GoingState; zone = Some NormalZone; claim = Some (record { op = 1; wish = OffWish }) })
 
+-- an operation takes the number
 abbrev second_claim : List Record
 second_claim =
     record { serial = 1; cpu = 0; event = Begin (off 2); reply = Opened 1 }
@@ -144,15 +152,17 @@ second_claim =
     ∷ record { serial = 4; cpu = 0; event = Commit 1; reply = Refused (NotFree 0) }
     ∷ []
 
+-- so its commit is refused
 not_numbered : AreAnswered claimed_early second_claim
 unfolding everything
 not_numbered = refl
 
--- it is well placed in that each frame is in one place, and its claim has a number above that of the last record before it
+-- each frame of it is in one place
 early_is_placed : list_all (λ (frame : ℕ). places_of small claimed_early frame == 1) (all_frames small) ≡ true
 unfolding everything
 early_is_placed = refl
 
-early_is_above : AreClaimedUpTo 0 claimed_early.blocks → ⊥
+-- and the number is in use
+early_is_live : is_live claimed_early.blocks 1 ≡ true
 unfolding everything
-early_is_above h = absurd (omega (arith, h.0))
+early_is_live = refl

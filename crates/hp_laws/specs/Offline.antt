@@ -28,9 +28,13 @@ pub record IsUndisturbed (l : LayoutParts) (s : Memory) (op : ℕ) (net : List R
   pub drained : (cpu : ℕ) → cpu < l.cpus → list_any (λ r. drains_for op cpu r.event) work ≡ true
   pub moved : (frame : ℕ) → IsGoingFor l s op frame → page_at s.pages frame ≡ None
 
--- each operation that holds a block has a number up to one
-abbrev pub IsClaimedUpTo : ℕ → Row → Type 0
-IsClaimedUpTo last row = IfSome row.claim (λ claim. claim.op ≤ last)
+-- the number of the operation that holds a block, if one does, is such a number; and so is that of each that holds a block
+abbrev pub IsHeldBy : (ℕ → Type 0) → Row → Type 0
+IsHeldBy IsNumber row = IfSome row.claim (λ claim. IsNumber claim.op)
 
+abbrev pub AreHeldBy : (ℕ → Type 0) → Blocks → Type 0
+AreHeldBy IsNumber blocks = AllByRecursion (IsHeldBy IsNumber) blocks.rows
+
+-- each operation that holds a block has a number up to one
 abbrev pub AreClaimedUpTo : ℕ → Blocks → Type 0
-AreClaimedUpTo last blocks = AllByRecursion (IsClaimedUpTo last) blocks.rows
+AreClaimedUpTo last blocks = AreHeldBy (λ op. op ≤ last) blocks

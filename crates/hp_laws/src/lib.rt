@@ -1,5 +1,6 @@
 //! Laws of the definitions, over all histories: what an undo and a restoring Cancel leave, how each earlier state is
-//! reached, that each frame stays in one place, what the pages hold, which frames are handed out, and how operations go.
+//! reached, that each frame stays in one place and what follows from it, what the pages hold, which frames are handed out,
+//! how operations go, and that an offline which nothing disturbs commits.
 #![tactic(auto)]
 
 mod consequences;
@@ -18,4 +19,5 @@ pub use offline::{operations_are_numbered, undisturbed_offline_commits};
 pub use operations::{cancels_give_rows_back, commits_grant_wishes, operations_hold_their_rows};
 pub use placement::{
     boot_is_well_placed, contents_follow_net, histories_keep_placement, steps_keep_placement,
+    well_placed_states_fit_their_layout,
 };

@@ -3,6 +3,7 @@ ghost use Rattle.std.specs.Prelude.{◌≡◌, ℕ, List};
 ghost use Rattle.hp_units.specs.Boot.{boot_memory};
 ghost use Rattle.hp_units.specs.Contents.{contents_of_net};
 ghost use Rattle.hp_units.specs.History.{IsLegal, net_of, value_of};
+ghost use Rattle.hp_units.specs.InLayout.{IsMemoryOf};
 ghost use Rattle.hp_units.specs.LayoutParts.{IsLayout, LayoutParts};
 ghost use Rattle.hp_units.specs.Memory.{Memory};
 ghost use Rattle.hp_units.specs.Placement.{IsWellPlaced};
@@ -18,6 +19,12 @@ pub fn boot_is_well_placed()
 /// Each step of a well placed state leads to a well placed state, whatever the event and the processor (own rule).
 pub fn steps_keep_placement()
     ensures { (l : LayoutParts) (s : Memory) (serial cpu : ℕ) (event : Event) → IsLayout l → IsWellPlaced l s → IsWellPlaced l (step l s serial cpu event).memory }
+{}
+
+/// The numbers in a well placed state are those of its layout: frames, orders and words, and how many lists, kinds, pages
+/// and rows there are. That is what each step needs of the state that it works on (own rule).
+pub fn well_placed_states_fit_their_layout()
+    ensures { (l : LayoutParts) (s : Memory) → IsLayout l → IsWellPlaced l s → IsMemoryOf l s }
 {}
 
 /// Each history from a well placed base state leads to a well placed state, and so does each from the state at the start

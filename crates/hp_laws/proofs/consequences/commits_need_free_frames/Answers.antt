@@ -1,5 +1,5 @@
 -- A block is all free where each of its frames is in a free block, since free buddies are joined.
-use Rattle.std.proofs.Common.{◌≡◌, ℕ, ◌+◌, ◌↔◌, length, sym, subst}
+use Rattle.std.proofs.Common.{◌≡◌, ◌+◌, ◌↔◌, length, sym, subst}
 use Rattle.hp_units.specs.History.{value_of}
 use Rattle.hp_laws.specs.Consequences.{IsLowestInUse}
 use Rattle.hp_laws.proofs.Names.{NotFree, Refused, Reply}
