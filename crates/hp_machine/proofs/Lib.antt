@@ -1,5 +1,1 @@
-pub mod Names
-pub mod Places
-pub mod Journals
-pub mod Cuts
 pub mod Machines

@@ -1,256 +1,104 @@
--- A machine after a call.
-use Rattle.std.proofs.Common.{◌≡◌, ℕ, ◌<◌, ◌+◌, ◌^◌, Bool, true, false, List, [], ◌∷◌, ◌++◌, length, take, slice_get, refl, ap, sym, subst, ◌∙◌, arith, inl, inr}
-use Rattle.std.specs.Prelude.{◌&&◌, not, nat_le, unwrap_or, if◌then◌else◌}
-use Rattle.std.proofs.lemmas.List.{take-map, map_push, length_push}
-use Rattle.std.proofs.lemmas.Bool.{or_parts, leb-false, and_cases, not-false}
-use Rattle.hp_units.specs.Memory.{Memory}
+-- What every machine keeps, and what follows from it.
+use Rattle.std.proofs.Common.{◌≡◌, ℕ, ◌<◌, ◌≤◌, ◌+◌, false, List, [], ◌∷◌, ◌++◌, length, take, refl, ap, sym, subst, ◌∙◌, arith}
+use Rattle.std.specs.Prelude.{nat_le, Result, Ok, Err, IfOk, OnErr}
+use Rattle.std.proofs.lemmas.List.{length_push, take-append-le, take_all, append_assoc}
+use Rattle.std.proofs.lemmas.Bool.{or_parts, leb-false}
+use Rattle.hp_units.specs.Memory.{Memory, row_of}
 use Rattle.hp_units.specs.LayoutParts.{IsLayout, LayoutParts}
 use Rattle.hp_units.specs.Placement.{IsWellPlaced}
-use Rattle.hp_units.specs.Step.{step}
-use Rattle.hp_units.specs.Marks.{tag_of}
-use Rattle.hp_units.specs.History.{is_look, is_refused, net_of, run, value_of, reply_of, IsLegal}
-use Rattle.hp_plain.specs.Image.{Pictured}
-use Rattle.hp_laws.proofs.Net.{net-push, run-push, legal_push}
-use Rattle.hp_laws.proofs.Steps.{steps, is_look_effect}
-use Rattle.hp_laws.proofs.EventSteps.{value-placed}
-use Rattle.hp_laws.proofs.NetContents.{value-contents}
-use Rattle.hp_machine.specs.declared.journal.Entry.{Entry}
+use Rattle.hp_units.specs.History.{IsLegal, net_of, run, value_of}
+use Rattle.hp_units.specs.declared.events.Event.{Event}
+use Rattle.hp_units.specs.declared.plans.Item.{Item}
+use Rattle.hp_units.specs.declared.replies.Record.{Record}
 use Rattle.hp_units.specs.declared.replies.Receipt.{Receipt}
-use Rattle.hp_machine.specs.Entries.{tags_of, images_of}
-use Rattle.hp_machine.specs.Machine.{MachineValue, IsHistory, IsCalled, IsSound, is_full, last_serial, record_of}
-use Rattle.hp_machine.specs.Kept.{IsJournal, IsMachine, IsCut, IsStep, pictured}
-use Rattle.hp_machine.proofs.Names.{Event, Reply, Record, Tag}
-use Rattle.hp_machine.proofs.Journals.{journal_none, journal_take, journal_push, journal_back}
+use Rattle.hp_laws.specs.Operations.{BeginsAt, IsOpenBehind, RowsAre, state_behind}
+use Rattle.hp_laws.proofs.Boots.{boot-placed}
+use Rattle.hp_laws.proofs.EventSteps.{value-placed}
+use Rattle.hp_laws.proofs.Net.{legal_take}
+use Rattle.hp_laws.proofs.NetContents.{value-contents}
+use Rattle.hp_laws.proofs.OperationLaws.{claimed, commit_granted, commit_held, given_back, held}
+use Rattle.hp_machine.specs.Kept.{IsMachine}
+use Rattle.hp_machine.specs.Machine.{IsCalled, IsSound, MachineValue, booted, is_full, record_of}
+use Rattle.hp_machine.specs.Operations.{KeepsOperations}
 
--- where there is room for one more record
-pub room : (m : MachineValue) → is_full m ≡ false → (length m.history < m.layout.history) × (m.before + length m.history < 18446744073709551615)
-room m free =
-    let parts = or_parts (nat_le m.layout.history (length m.history)) (nat_le 18446744073709551615 (m.before + length m.history)) free in
-    (leb-false m.layout.history (length m.history) parts.0, leb-false 18446744073709551615 (m.before + length m.history) parts.1)
-
--- the longer history is legal
-follows : (m : MachineValue) (cpu : ℕ) (r : Receipt) → r.serial ≡ last_serial m + 1 → r.reply ≡ reply_of m.layout m.base m.before m.history cpu r.event → IsLegal m.layout m.base m.before m.history
-    → IsLegal m.layout m.base m.before (m.history ++ record_of cpu r ∷ [])
-follows m cpu r serial reply legal = legal_push m.layout m.base m.before m.history (record_of cpu r) legal (record { serial = serial; reply = reply })
-
--- the value after a call that left this state
-abbrev pub called : MachineValue → ℕ → Receipt → Memory → MachineValue
-called m cpu r state = record m { history = m.history ++ record_of cpu r ∷ []; state = state }
-
--- a machine with no records yet
-pub new_machine : (l : LayoutParts) (before : ℕ) (base : Memory) (image : Pictured) (h : List Record) (es : List Entry) → image ≡ pictured l base → h ≡ [] → es ≡ [] → before < 2 ^ 64 → IsLayout l → IsWellPlaced l base
-    → IsMachine (record { layout = image.layout; before = before; base = base; history = h; state = image.memory }) (tags_of es) (images_of es)
+-- at its start a machine keeps what every machine keeps
+pub booted_machine : (l : LayoutParts) (m : MachineValue) → m ≡ booted l → IsLayout l → IsMachine m
 unfolding value_of net_of run
-new_machine l before base image h es is none empty fits limits placed =
-    rw (none, empty, is) (record {
+booted_machine l m is limits =
+    rw is (record {
       limits = limits;
-      placed = placed;
+      placed = boot-placed l limits;
       history = record { legal = λ n r e. absurd cc; state = refl };
-      journal = journal_none l base;
       few = omega arith;
-      fits = omega arith;
     })
 
+-- where the history is not full there is room for one more record
+pub room : (m : MachineValue) → is_full m ≡ false → (length m.history < m.layout.history) × (nat_le 18446744073709551615 (m.before + length m.history) ≡ false)
+room m free =
+    let parts = or_parts (nat_le m.layout.history (length m.history)) (nat_le 18446744073709551615 (m.before + length m.history)) free in
+    (leb-false m.layout.history (length m.history) parts.0, parts.1)
+
+-- the longer history is within the limit
+few_called : (h new : List Record) (r : Record) (limit : ℕ) → length h < limit → new ≡ h ++ r ∷ [] → length new ≤ limit
+few_called h new r limit less is = omega (arith, less, ap length is, length_push h r)
+
+-- a call keeps it
+pub called_machine : (old new : MachineValue) (cpu : ℕ) (event : Event) (r : Receipt) → IsMachine old → is_full old ≡ false → IsCalled old cpu event r new → IsMachine new
+called_machine old new cpu event r ok free call = record {
+  limits = subst IsLayout (sym call.layout) ok.limits;
+  placed = subst (λ (l : LayoutParts). IsWellPlaced l new.base) (sym call.layout) (subst (λ (s : Memory). IsWellPlaced old.layout s) (sym call.base) ok.placed);
+  history = record { legal = legal; state = call.state ∙ sym value };
+  few = subst (λ (l : LayoutParts). length new.history ≤ l.history) (sym call.layout) (few_called old.history new.history (record_of cpu r) old.layout.history (room old free).0 call.history);
+}
+  where
+    legal : IsLegal new.layout new.base new.before new.history
+    legal =
+        subst (λ (l : LayoutParts). IsLegal l new.base new.before new.history) (sym call.layout)
+        (subst (λ (s : Memory). IsLegal old.layout s new.before new.history) (sym call.base)
+        (subst (λ (n : ℕ). IsLegal old.layout old.base n new.history) (sym call.before) call.legal))
+
+    value : value_of new.layout new.base new.history ≡ value_of old.layout old.base new.history
+    value = ap (λ (l : LayoutParts). value_of l new.base new.history) call.layout ∙ ap (λ (s : Memory). value_of old.layout s new.history) call.base
+
+-- so does one that left no record
+pub call_kept : {E : Type 0} (old new : MachineValue) (cpu : ℕ) (event : Event) (result : Result Receipt E) → IsMachine old → is_full old ≡ false → OnErr result (new ≡ old) → IfOk result (λ r. IsCalled old cpu event r new) → IsMachine new
+call_kept old new cpu event (Ok r) ok free same call = called_machine old new cpu event r ok free call
+call_kept old new cpu event (Err e) ok free same call = subst IsMachine (sym same) ok
+
 -- what a user relies on follows from what a machine keeps
-pub sound : (m : MachineValue) (tags : List Tag) (images : List Pictured) → IsMachine m tags images → IsSound m
-sound m tags images ok = record {
+pub sound : (m : MachineValue) → IsMachine m → IsSound m
+sound m ok = record {
   limits = ok.limits;
   placed = subst (λ (s : Memory). IsWellPlaced m.layout s) (sym ok.history.state) (value-placed m.layout m.base m.history ok.limits ok.placed);
   contents = ap (λ (s : Memory). s.pages.contents) ok.history.state ∙ value-contents m.layout m.base m.before m.history ok.history.legal;
 }
 
--- ---- going back
-
--- the net after going back
-cut_net : (m : MachineValue) (cpu : ℕ) (keep : ℕ) (r : Receipt) → IsCut m cpu r.event keep r.reply → net_of (m.history ++ record_of cpu r ∷ []) ≡ take keep (net_of m.history)
-cut_net m cpu keep r cut = net-push m.history (record_of cpu r) ∙ cut.cut (record_of cpu r) refl refl
-
--- the image after going back shows the value of the longer history
-cut_image : (m : MachineValue) (tags : List Tag) (images : List Pictured) (cpu keep : ℕ) (r : Receipt) (image : Pictured) → IsMachine m tags images → IsCut m cpu r.event keep r.reply
-    → image ≡ unwrap_or (slice_get images keep) (pictured m.layout m.state)
-    → image ≡ pictured m.layout (value_of m.layout m.base (m.history ++ record_of cpu r ∷ []))
-unfolding value_of
-cut_image m tags images cpu keep r image ok cut is =
-    is
-    ∙ (journal_back m.layout m.base (net_of m.history) tags images keep (pictured m.layout m.state) ok.journal cut.within (ap (pictured m.layout) ok.history.state)
-    ∙ ap (λ (n : List Record). pictured m.layout (run m.layout m.base n)) (sym (cut_net m cpu keep r cut)))
-
--- what the machine keeps after going back
-cut_machine : (m : MachineValue) (tags : List Tag) (images : List Pictured) (cpu keep : ℕ) (r : Receipt) → IsMachine m tags images → is_full m ≡ false → IsCut m cpu r.event keep r.reply → r.serial ≡ last_serial m + 1
-    → IsMachine (called m cpu r (value_of m.layout m.base (m.history ++ record_of cpu r ∷ []))) (take keep tags) (take keep images)
-cut_machine m tags images cpu keep r ok free cut serial =
-    let space = room m free in
-    record {
-      limits = ok.limits;
-      placed = ok.placed;
-      history = record { legal = follows m cpu r serial cut.answers ok.history.legal; state = refl };
-      journal = rw (cut_net m cpu keep r cut) (journal_take m.layout m.base (net_of m.history) tags images keep cut.within ok.journal);
-      few = omega (arith, space.0, length_push m.history (record_of cpu r));
-      fits = omega (arith, space.1, length_push m.history (record_of cpu r));
-    }
-
--- a receipt with the serial, the event and the reply that the definitions give
-answered : (m : MachineValue) (cpu : ℕ) (r : Receipt) → IsHistory m → r.serial ≡ last_serial m + 1 → r.reply ≡ reply_of m.layout m.base m.before m.history cpu r.event
-    → IsCalled m cpu r.event r (called m cpu r (value_of m.layout m.base (m.history ++ record_of cpu r ∷ [])))
-answered m cpu r ok serial reply = record {
-  serial = serial;
-  asked = refl;
-  reply = reply;
-  history = refl;
-  state = refl;
-  legal = follows m cpu r serial reply ok.legal;
-  layout = refl;
-  before = refl;
-  base = refl;
-}
-
--- the fields as going back leaves them
-pub cut_fields : (m : MachineValue) (es : List Entry) (cpu keep : ℕ) (r : Receipt) (image : Pictured) (h : List Record) (left : List Entry) → IsMachine m (tags_of es) (images_of es) → is_full m ≡ false → IsCut m cpu r.event keep r.reply
-    → r.serial ≡ last_serial m + 1 → image ≡ unwrap_or (slice_get (images_of es) keep) (pictured m.layout m.state) → h ≡ m.history ++ record_of cpu r ∷ [] → left ≡ take keep es
-    → IsMachine (record { layout = image.layout; before = m.before; base = m.base; history = h; state = image.memory }) (tags_of left) (images_of left)
-cut_fields m es cpu keep r image h left ok free cut serial is longer fewer =
-    let images : images_of left ≡ take keep (images_of es) = ap images_of fewer ∙ sym (take-map (λ (e : Entry). e.image) keep es) in
-    let tags : tags_of left ≡ take keep (tags_of es) = ap tags_of fewer ∙ sym (take-map (λ (e : Entry). e.tag) keep es) in
-    let shown = cut_image m (tags_of es) (images_of es) cpu keep r image ok cut is in
-    rw (longer, images, tags, shown) (cut_machine m (tags_of es) (images_of es) cpu keep r ok free cut serial)
-
--- going back is what a call does
-pub cut_called : (m : MachineValue) (es : List Entry) (cpu keep : ℕ) (r : Receipt) (image : Pictured) (h : List Record) → IsMachine m (tags_of es) (images_of es) → IsCut m cpu r.event keep r.reply
-    → r.serial ≡ last_serial m + 1 → image ≡ unwrap_or (slice_get (images_of es) keep) (pictured m.layout m.state) → h ≡ m.history ++ record_of cpu r ∷ []
-    → IsCalled m cpu r.event r (record { layout = image.layout; before = m.before; base = m.base; history = h; state = image.memory })
-cut_called m es cpu keep r image h ok cut serial is longer =
-    let shown = cut_image m (tags_of es) (images_of es) cpu keep r image ok cut is in
-    rw (longer, shown) (answered m cpu r ok.history serial cut.answers)
-
--- going back keeps the layout
-pub cut_layout : (m : MachineValue) (es : List Entry) (cpu keep : ℕ) (r : Receipt) (image : Pictured) → IsMachine m (tags_of es) (images_of es) → IsCut m cpu r.event keep r.reply
-    → image ≡ unwrap_or (slice_get (images_of es) keep) (pictured m.layout m.state) → image.layout ≡ m.layout
-cut_layout m es cpu keep r image ok cut is = ap (λ (i : Pictured). i.layout) (cut_image m (tags_of es) (images_of es) cpu keep r image ok cut is)
-
--- ---- making a step
-
--- what is known where the machine made its step
-pub record IsMade (m : MachineValue) (tags : List Tag) (images : List Pictured) (cpu : ℕ) (r : Receipt) (tag : Tag) (old new : Pictured) : Type 0 where
-  pub machine : IsMachine m tags images
-  pub free : is_full m ≡ false
-  pub by_step : IsStep m cpu r.event
-  pub serial : r.serial ≡ last_serial m + 1
-  pub memory : new.memory ≡ (step m.layout m.state r.serial cpu r.event).memory
-  pub reply : r.reply ≡ (step m.layout m.state r.serial cpu r.event).reply
-  pub layout : new.layout ≡ m.layout
-  pub old_image : old ≡ pictured m.layout m.state
-  pub tagged : tag ≡ tag_of (record_of cpu r)
-
--- whether the answer makes the event part of the net
-abbrev pub is_kept : Receipt → Bool
-is_kept r = not (is_refused r.reply) && not (is_look r.event)
-
--- the reply is that of a step in the history's state
-made_answer : (m : MachineValue) (tags : List Tag) (images : List Pictured) (cpu : ℕ) (r : Receipt) (tag : Tag) (old new : Pictured) → IsMade m tags images cpu r tag old new
-    → r.reply ≡ (step m.layout (value_of m.layout m.base m.history) (last_serial m + 1) cpu r.event).reply
-made_answer m tags images cpu r tag old new made =
-    made.reply
-    ∙ (ap (λ (n : ℕ). (step m.layout m.state n cpu r.event).reply) made.serial
-    ∙ ap (λ (s : Memory). (step m.layout s (last_serial m + 1) cpu r.event).reply) made.machine.history.state)
-
--- the reply is the one that the definitions give
-made_reply : (m : MachineValue) (tags : List Tag) (images : List Pictured) (cpu : ℕ) (r : Receipt) (tag : Tag) (old new : Pictured) → IsMade m tags images cpu r tag old new
-    → r.reply ≡ reply_of m.layout m.base m.before m.history cpu r.event
-made_reply m tags images cpu r tag old new made = made_answer m tags images cpu r tag old new made ∙ sym made.by_step.reply
-
--- the net after the step
-made_net : (m : MachineValue) (tags : List Tag) (images : List Pictured) (cpu : ℕ) (r : Receipt) (tag : Tag) (old new : Pictured) → IsMade m tags images cpu r tag old new
-    → net_of (m.history ++ record_of cpu r ∷ []) ≡ (if is_kept r then net_of m.history ++ record_of cpu r ∷ [] else net_of m.history)
-made_net m tags images cpu r tag old new made =
-    net-push m.history (record_of cpu r) ∙ made.by_step.net (record_of cpu r) refl (made_answer m tags images cpu r tag old new made)
-
--- what is refused or only looks leaves the state
-made_same : (m : MachineValue) (tags : List Tag) (images : List Pictured) (cpu : ℕ) (r : Receipt) (tag : Tag) (old new : Pictured) → IsMade m tags images cpu r tag old new → is_kept r ≡ false → new.memory ≡ m.state
-made_same m tags images cpu r tag old new made none =
-    let law = steps m.layout m.state r.serial cpu r.event in
-    made.memory ∙ (elim (and_cases (not (is_refused r.reply)) (not (is_look r.event)) none) [
-      | inl refused ↦ law.refused (ap is_refused (sym made.reply) ∙ not-false (is_refused r.reply) refused)
-      | inr looks ↦ law.looks (is_look_effect r.event (not-false (is_look r.event) looks))
-    ])
-
--- the state after the step, by whether it counts
-made_state : (m : MachineValue) (tags : List Tag) (images : List Pictured) (cpu : ℕ) (r : Receipt) (tag : Tag) (old new : Pictured) → IsMade m tags images cpu r tag old new → (b : Bool) → is_kept r ≡ b
-    → new.memory ≡ run m.layout m.base (if b then net_of m.history ++ record_of cpu r ∷ [] else net_of m.history)
-unfolding value_of
-made_state m tags images cpu r tag old new made true kept =
-    made.memory
-    ∙ (ap (λ (s : Memory). (step m.layout s r.serial cpu r.event).memory) made.machine.history.state
-    ∙ sym (run-push m.layout m.base (net_of m.history) (record_of cpu r)))
-made_state m tags images cpu r tag old new made false kept = made_same m tags images cpu r tag old new made kept ∙ made.machine.history.state
-
--- the image after the step shows the value of the longer history
-made_image : (m : MachineValue) (tags : List Tag) (images : List Pictured) (cpu : ℕ) (r : Receipt) (tag : Tag) (old new : Pictured) → IsMade m tags images cpu r tag old new
-    → new ≡ pictured m.layout (value_of m.layout m.base (m.history ++ record_of cpu r ∷ []))
-unfolding value_of
-made_image m tags images cpu r tag old new made =
-    let state = made_state m tags images cpu r tag old new made (is_kept r) refl ∙ ap (run m.layout m.base) (sym (made_net m tags images cpu r tag old new made)) in
-    ap (λ (l : LayoutParts). pictured l new.memory) made.layout ∙ ap (pictured m.layout) state
-
--- the journal after the step, by whether it counts
-made_journal : (m : MachineValue) (tags : List Tag) (images : List Pictured) (cpu : ℕ) (r : Receipt) (tag : Tag) (old new : Pictured) → IsMade m tags images cpu r tag old new → (b : Bool)
-    → IsJournal m.layout m.base (if b then net_of m.history ++ record_of cpu r ∷ [] else net_of m.history) (if b then tags ++ tag ∷ [] else tags) (if b then images ++ old ∷ [] else images)
-unfolding value_of
-made_journal m tags images cpu r tag old new made true =
-    journal_push m.layout m.base (net_of m.history) tags images (record_of cpu r) old tag made.machine.journal made.tagged (made.old_image ∙ ap (pictured m.layout) made.machine.history.state)
-made_journal m tags images cpu r tag old new made false = made.machine.journal
-
--- what the machine keeps after the step
-made_machine : (m : MachineValue) (tags : List Tag) (images : List Pictured) (cpu : ℕ) (r : Receipt) (tag : Tag) (old new : Pictured) → IsMade m tags images cpu r tag old new
-    → IsMachine (called m cpu r (value_of m.layout m.base (m.history ++ record_of cpu r ∷ []))) (if is_kept r then tags ++ tag ∷ [] else tags) (if is_kept r then images ++ old ∷ [] else images)
-made_machine m tags images cpu r tag old new made =
-    let space = room m made.free in
-    record {
-      limits = made.machine.limits;
-      placed = made.machine.placed;
-      history = record { legal = follows m cpu r made.serial (made_reply m tags images cpu r tag old new made) made.machine.history.legal; state = refl };
-      journal = rw (made_net m tags images cpu r tag old new made) (made_journal m tags images cpu r tag old new made (is_kept r));
-      few = omega (arith, space.0, length_push m.history (record_of cpu r));
-      fits = omega (arith, space.1, length_push m.history (record_of cpu r));
-    }
-
--- the fields as a step leaves them
-pub made_fields : (m : MachineValue) (es : List Entry) (cpu : ℕ) (r : Receipt) (e : Entry) (new : Pictured) (b : Bool) (h : List Record) (left : List Entry) → IsMade m (tags_of es) (images_of es) cpu r e.tag e.image new
-    → b ≡ is_kept r → h ≡ m.history ++ record_of cpu r ∷ [] → left ≡ (if b then es ++ e ∷ [] else es)
-    → IsMachine (record { layout = new.layout; before = m.before; base = m.base; history = h; state = new.memory }) (tags_of left) (images_of left)
-made_fields m es cpu r e new b h left made kept longer more =
-    let images : images_of left ≡ (if is_kept r then images_of es ++ e.image ∷ [] else images_of es) = ap images_of more ∙ (ap (λ (k : Bool). images_of (if k then es ++ e ∷ [] else es)) kept ∙ images_by (is_kept r)) in
-    let tags : tags_of left ≡ (if is_kept r then tags_of es ++ e.tag ∷ [] else tags_of es) = ap tags_of more ∙ (ap (λ (k : Bool). tags_of (if k then es ++ e ∷ [] else es)) kept ∙ tags_by (is_kept r)) in
-    let shown = made_image m (tags_of es) (images_of es) cpu r e.tag e.image new made in
-    rw (longer, images, tags, shown) (made_machine m (tags_of es) (images_of es) cpu r e.tag e.image new made)
+-- the history up to one of its records is legal
+up_to : (m : MachineValue) (h rest : List Record) (r : Record) → IsMachine m → m.history ≡ h ++ r ∷ rest → IsLegal m.layout m.base m.before (h ++ r ∷ [])
+up_to m h rest r ok is =
+    subst (λ (g : List Record). IsLegal m.layout m.base m.before g) first (legal_take m.layout m.base m.before m.history (length (h ++ r ∷ [])) ok.history.legal)
   where
-    images_by : (k : Bool) → images_of (if k then es ++ e ∷ [] else es) ≡ (if k then images_of es ++ e.image ∷ [] else images_of es)
-    images_by true = map_push (λ (x : Entry). x.image) es e
-    images_by false = refl
+    first : take (length (h ++ r ∷ [])) m.history ≡ h ++ r ∷ []
+    first =
+        ap (take (length (h ++ r ∷ []))) (is ∙ sym (append_assoc h (r ∷ []) rest))
+        ∙ (take-append-le (length (h ++ r ∷ [])) (h ++ r ∷ []) rest (omega arith) ∙ take_all (length (h ++ r ∷ [])) (h ++ r ∷ []) (omega arith))
 
-    tags_by : (k : Bool) → tags_of (if k then es ++ e ∷ [] else es) ≡ (if k then tags_of es ++ e.tag ∷ [] else tags_of es)
-    tags_by true = map_push (λ (x : Entry). x.tag) es e
-    tags_by false = refl
-
--- the step is what a call does
-pub made_called : (m : MachineValue) (es : List Entry) (cpu : ℕ) (r : Receipt) (e : Entry) (new : Pictured) (h : List Record) → IsMade m (tags_of es) (images_of es) cpu r e.tag e.image new
-    → h ≡ m.history ++ record_of cpu r ∷ []
-    → IsCalled m cpu r.event r (record { layout = new.layout; before = m.before; base = m.base; history = h; state = new.memory })
-made_called m es cpu r e new h made longer =
-    let shown = made_image m (tags_of es) (images_of es) cpu r e.tag e.image new made in
-    rw (longer, shown) (answered m cpu r made.machine.history made.serial (made_reply m (tags_of es) (images_of es) cpu r e.tag e.image new made))
-
--- ---- the copies of the event in the record and in the receipt
-
--- the record with a copy of the event is the receipt's
-pub pushed : (old reserved new : List Record) (cpu : ℕ) (r : Receipt) (event : Event) → reserved ≡ old → new ≡ reserved ++ record { serial = r.serial; cpu = cpu; event = event; reply = r.reply } ∷ [] → event ≡ r.event
-    → new ≡ old ++ record_of cpu r ∷ []
-pushed old reserved new cpu r event same is copied =
-    is
-    ∙ (ap (λ (h : List Record). h ++ record { serial = r.serial; cpu = cpu; event = event; reply = r.reply } ∷ []) same
-    ∙ ap (λ (e : Event). old ++ record { serial = r.serial; cpu = cpu; event = e; reply = r.reply } ∷ []) copied)
-
--- and so is the receipt with a copy of it
-pub with_copy : (old new : MachineValue) (cpu serial : ℕ) (event copy : Event) (reply : Reply) → copy ≡ event → IsCalled old cpu event (record { serial = serial; event = event; reply = reply }) new
-    → IsCalled old cpu event (record { serial = serial; event = copy; reply = reply }) new
-with_copy old new cpu serial event copy reply copied called =
-    subst (λ (e : Event). IsCalled old cpu event (record { serial = serial; event = e; reply = reply }) new) (sym copied) called
+-- and so do the laws of operations
+pub operations : (m : MachineValue) → IsMachine m → KeepsOperations m
+operations m ok = record {
+  rows = record {
+    claimed = λ place b plan at. claimed m.layout m.base m.before m.history place b plan ok.limits ok.placed ok.history.legal at;
+    held = λ place b plan at open_behind. still_held place b plan at open_behind;
+  };
+  commits = record {
+    held = λ h rest r place b plan is at asked good. commit_held m.layout m.base m.before h r place b plan ok.limits ok.placed (up_to m h rest r ok is) at asked good;
+    granted = λ h rest r place b plan is at asked good. commit_granted m.layout m.base m.before h r place b plan ok.limits ok.placed (up_to m h rest r ok is) at asked good;
+  };
+  cancels = λ h rest r place b plan is at asked good. given_back m.layout m.base m.before h r place b plan ok.limits ok.placed (up_to m h rest r ok is) at asked good;
+}
+  where
+    still_held : (place : ℕ) (b : Record) (plan : List Item) → BeginsAt (net_of m.history) place b plan → IsOpenBehind b.serial place (net_of m.history)
+        → RowsAre m.state plan (λ item. row_of (state_behind m.layout m.base m.before m.history b).blocks item.block)
+    still_held place b plan at stays =
+        subst (λ (s : Memory). RowsAre s plan (λ item. row_of (state_behind m.layout m.base m.before m.history b).blocks item.block)) (sym ok.history.state)
+        (held m.layout m.base m.before m.history place b plan ok.limits ok.placed ok.history.legal at stays)

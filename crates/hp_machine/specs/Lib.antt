@@ -1,4 +1,3 @@
-pub mod Entries
 pub mod Kept
 pub mod Machine
-pub mod Seen
+pub mod Operations

@@ -1,22 +1,19 @@
 -- What a contract sees of a machine, what every machine keeps, and what a call does.
-use Rattle.std.specs.Prelude.{ℕ, ◌≡◌, ◌+◌, Bool, ◌||◌, List, [], ◌∷◌, ◌++◌, length, nat_le}
+use Rattle.std.specs.Prelude.{ℕ, ◌≡◌, ◌+◌, Bool, ◌||◌, [], length, nat_le}
 use Rattle.hp_units.specs.LayoutParts.{IsLayout, LayoutParts}
-use Rattle.hp_units.specs.Memory.{Memory}
 use Rattle.hp_units.specs.Boot.{boot_memory}
 use Rattle.hp_units.specs.Contents.{contents_of_net}
-use Rattle.hp_units.specs.History.{IsLegal, net_of, reply_of, value_of}
+use Rattle.hp_units.specs.History.{net_of}
 use Rattle.hp_units.specs.Placement.{IsWellPlaced}
 use Rattle.hp_units.specs.declared.events.Event.{Event}
 use Rattle.hp_units.specs.declared.replies.Record.{Record}
 use Rattle.hp_units.specs.declared.replies.Receipt.{Receipt}
+use Rattle.hp_replay.specs.Course.{CourseValue, IsAnswered, IsHistory as IsCourseHistory}
 
--- `before` is the number of records that were sealed before the history, and `base` the state that the history began with
-pub record MachineValue : Type 0 where
-  pub layout : LayoutParts
-  pub before : ℕ
-  pub base : Memory
-  pub history : List Record
-  pub state : Memory
+-- a course's value: `layout`, `before`, the number of records that were sealed before the history, `base`, the state that the
+-- history began with, `history` and `state`
+abbrev pub MachineValue : Type 0
+MachineValue = CourseValue
 
 -- the machine of a layout at its start
 abbrev pub booted : LayoutParts → MachineValue
@@ -24,9 +21,8 @@ booted l = record { layout = l; before = 0; base = boot_memory l; history = []; 
 
 -- the headline for one machine: its history is legal, and its state is what the plain machine reaches from the base by the
 -- steps of the history that are not undone
-pub record IsHistory (m : MachineValue) : Type 0 where
-  pub legal : IsLegal m.layout m.base m.before m.history
-  pub state : m.state ≡ value_of m.layout m.base m.history
+abbrev pub IsHistory : MachineValue → Type 0
+IsHistory = IsCourseHistory
 
 -- what a user relies on in every machine: its layout is within the limits, each frame is in exactly one place, and its pages
 -- hold what Map, Unmap and Write of the steps that are not undone make of the base's pages
@@ -49,13 +45,5 @@ record_of cpu r = record { serial = r.serial; cpu = cpu; event = r.event; reply 
 
 -- the call of an event by a processor was answered so, and made the new machine of the old: one record is appended, with the
 -- next serial and the reply that the definitions give, and the state is that of the longer history
-pub record IsCalled (old : MachineValue) (cpu : ℕ) (event : Event) (r : Receipt) (new : MachineValue) : Type 0 where
-  pub serial : r.serial ≡ last_serial old + 1
-  pub asked : r.event ≡ event
-  pub reply : r.reply ≡ reply_of old.layout old.base old.before old.history cpu event
-  pub history : new.history ≡ old.history ++ record_of cpu r ∷ []
-  pub state : new.state ≡ value_of old.layout old.base new.history
-  pub legal : IsLegal old.layout old.base old.before new.history
-  pub layout : new.layout ≡ old.layout
-  pub before : new.before ≡ old.before
-  pub base : new.base ≡ old.base
+abbrev pub IsCalled : MachineValue → ℕ → Event → Receipt → MachineValue → Type 0
+IsCalled = IsAnswered

@@ -1,7 +1,6 @@
 //! The machine: one call is one step of the definitions, with a history and a journal.
 #![tactic(auto)]
 
-mod journal;
 mod machine;
 #[cfg(test)]
 mod tests;

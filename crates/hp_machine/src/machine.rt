@@ -1,45 +1,36 @@
 //! A machine with its history.
-ghost use Rattle.std.specs.Prelude.{◌≡◌, ◌↔◌, ◌+◌, ◌∷◌, ◌++◌, [], false, true, Err, Some, IfErr, IfOk, IfNone, IfSome, OnErr, IsTrue, length, slice_get};
+ghost use Rattle.std.specs.Prelude.{◌≡◌, ◌↔◌, Err, IfOk, OnErr, IsTrue, length, slice_get};
 ghost use Rattle.hp_units.specs.History.{net_of};
 ghost use Rattle.hp_units.specs.Memory.{free_list};
 ghost use Rattle.hp_units.specs.Pages.{frame_at};
-ghost use Rattle.hp_units.specs.Step.{step};
-ghost use Rattle.hp_units.specs.declared.events.Event.TheVariants.{Cancel, UndoAfter};
-ghost use Rattle.hp_units.specs.declared.replies.Reply.TheVariants.{Restored};
-ghost use Rattle.hp_machine.specs.Kept.{IsCut, IsStep, is_gone};
-ghost use Rattle.hp_machine.specs.Machine.{IsCalled, IsHistory, IsSound, booted, is_full, last_serial};
+ghost use Rattle.hp_machine.specs.Machine.{IsCalled, IsHistory, IsSound, booted, is_full};
+ghost use Rattle.hp_machine.specs.Operations.{KeepsOperations};
 
-use crate::journal::{Entry, cut, keep_step, kept_len, sole_place};
 use hp_plain::Image;
+use hp_replay::Course;
 use hp_units::{
     Auto, Block, CallFault, Class, Cpu, Event, Frame, Layout, Order, Owner, Page, Receipt, Record,
-    Refusal, Reply, Row, Serial, Tag, is_step, mark_of,
+    Row,
 };
 use std::alloc::{AllocError, Global};
 use std::marker::Model;
 
-/// A machine with its history and its journal. Every machine keeps its history legal, and its state that of the history.
+/// A machine with its history: a course whose history has the layout's limit. Every machine keeps its history legal, and its state
+/// that of the history.
 #[derive(Drop)]
 pub struct Machine {
-    before: u64,
-    base: Image,
-    image: Image,
-    history: Vec<Record>,
-    journal: Vec<Entry>,
+    course: Course,
 }
 
 impl Model for Machine {
-    ghost use Rattle.std.specs.Prelude.{◌≡◌};
-    ghost use Rattle.hp_machine.specs.Entries.{images_of, tags_of};
     ghost use Rattle.hp_machine.specs.Kept.{IsMachine};
     ghost use Rattle.hp_machine.specs.Machine.{MachineValue};
-    ghost use Rattle.hp_machine.specs.Seen.{seen};
 
     ghost Value = { MachineValue };
 
-    ghost view = { seen };
+    ghost view = { λ m. m.course };
 
-    ghost invariant = { λ m. IsMachine (seen m) (tags_of m.journal.items) (images_of m.journal.items) × (m.base.layout ≡ m.image.layout) };
+    ghost invariant = { λ m. IsMachine m.course };
 }
 
 impl Machine {
@@ -47,15 +38,8 @@ impl Machine {
     pub fn boot(alloc: Global, layout: &Layout) -> Result<Machine, AllocError>
         ensures { IfOk result (λ machine. machine ≡ booted layout.now) }
     {
-        let image = Image::boot(alloc, layout)?;
-        let base = image.copy(alloc)?;
-        Ok(Machine {
-            before: 0,
-            base,
-            image,
-            history: Vec::new(alloc),
-            journal: Vec::new(alloc),
-        })
+        let course = Course::boot(alloc, layout)?;
+        Ok(Machine { course })
     }
 
     /// One call: the event of a processor is answered and recorded (own rule). It answers `HistoryFull` where the history
@@ -69,7 +53,7 @@ impl Machine {
         if self.is_full() {
             return Err(CallFault::HistoryFull);
         }
-        match self.answer(alloc, cpu, event) {
+        match self.course.answer(alloc, cpu, event) {
             Ok(receipt) => Ok(receipt),
             Err(AllocError) => Err(CallFault::OutOfMemory),
         }
@@ -79,24 +63,37 @@ impl Machine {
     pub fn layout(&self) -> &Layout
         ensures { result.now ≡ self.now.layout }
     {
-        self.image.layout()
+        self.course.image().layout()
     }
 
-    /// The records since the last seal, oldest first. Every machine keeps its history legal, its state that of the history,
-    /// each frame in exactly one place, and in its pages what the owners' steps wrote.
+    /// The records since the last seal, oldest first. Every machine keeps its history legal, and its state that of the history.
     pub fn history(&self) -> &[Record]
         ensures records { result.now ≡ self.now.history }
         ensures kept { IsHistory self.now }
-        ensures sound { IsSound self.now }
     {
-        self.history.as_slice()
+        self.course.history()
+    }
+
+    /// Each frame is in exactly one place, and the pages hold what the owners' steps wrote (own rule).
+    pub fn stays_sound(&self)
+        ensures { IsSound self.now }
+    {
+        let _ = &self.course;
+    }
+
+    /// From a Begin that is not undone to its operation's Commit or Cancel the rows of its plan's blocks are those that it left; a
+    /// Commit gives each its wish, and a Cancel the row from before the Begin (Linux, memory hotplug: offlining; own rule).
+    pub fn keeps_operations(&self)
+        ensures { KeepsOperations self.now }
+    {
+        let _ = &self.course;
     }
 
     /// The present state, as an `Image` of its own. An error is want of memory.
     pub fn image(&self, alloc: Global) -> Result<Image, AllocError>
         ensures { IfOk result (λ image. image ≡ record { layout = self.now.layout; memory = self.now.state }) }
     {
-        self.image.copy(alloc)
+        self.course.image().copy(alloc)
     }
 
     /// The front block of the free list of a class and an order (Gorman, chapter 6: free_area). None where the list is empty
@@ -104,194 +101,49 @@ impl Machine {
     pub fn front(&self, class: Class, order: Order) -> Option<Frame>
         ensures { result ≡ slice_get (free_list self.now.state.free.areas class order) 0 }
     {
-        self.image.list(class, order).first().copied()
+        self.course.image().list(class, order).first().copied()
     }
 
     /// How many free blocks of 2^order frames a class has; 0 past the greatest order (Gorman, chapter 6: nr_free).
     pub fn list_len(&self, class: Class, order: Order) -> u32
         ensures { result ≡ length (free_list self.now.state.free.areas class order) }
     {
-        self.image.list(class, order).len() as u32
+        self.course.image().list(class, order).len() as u32
     }
 
     /// The row of a memory block (Linux, memory hotplug: state). None past the last block.
     pub fn row(&self, block: Block) -> Option<Row>
         ensures { result ≡ slice_get self.now.state.blocks.rows block }
     {
-        self.image.row(block)
+        self.course.image().row(block)
     }
 
     /// The frame that holds an owner's page. None where the page is not mapped, and past the last owner or page.
     pub fn frame_at(&self, owner: Owner, page: Page) -> Option<Frame>
         ensures { result ≡ frame_at self.now.state.pages owner page }
     {
-        self.image.frame_at(owner, page)
+        self.course.image().frame_at(owner, page)
     }
 
     /// What a memory block that is added becomes (Linux, memory hotplug: auto_online_blocks).
     pub fn auto(&self) -> Auto
         ensures { result ≡ self.now.state.blocks.auto }
     {
-        self.image.auto()
+        self.course.image().auto()
     }
 
     /// The number of steps that are not undone (own rule).
     pub fn journal_len(&self) -> u64
         ensures { result ≡ length (net_of self.now.history) }
     {
-        self.journal.len() as u64
+        self.course.journal_len()
     }
 
     /// Whether there is no room for a further record.
     fn is_full(&self) -> bool
         ensures { result ≡ is_full self.now }
     {
-        self.history.len() as u64 >= self.image.layout().history()
-            || self.before + self.history.len() as u64 >= u64::MAX
-    }
-
-    /// The serial of the next record.
-    fn next_serial(&self) -> Serial
-        requires { is_full self.now ≡ false }
-        ensures { result ≡ last_serial self.now + 1 }
-    {
-        Serial(self.before + self.history.len() as u64 + 1)
-    }
-
-    /// Answers and records an event, for which the history has room. An undo goes back, and so does a Cancel where nothing
-    /// but its operation's own work stands behind its Begin; any other event makes a step.
-    fn answer(&mut self, alloc: Global, cpu: Cpu, event: &Event) -> Result<Receipt, AllocError>
-        requires free { is_full self.old ≡ false }
-        ensures err { OnErr result (self.new ≡ self.old) }
-        ensures ok { IfOk result (λ receipt. IsCalled self.old cpu event.now receipt self.new) }
-    {
-        match event {
-            Event::UndoAfter { serial } => {
-                let (keep, reply) = self.undo_cut(cpu, *serial);
-                self.go_back(alloc, cpu, event, keep, &reply)
-            }
-            Event::Cancel { op } => {
-                let reply = self.try_step(alloc, cpu, event)?;
-                match self.cancel_cut(cpu, event, *op, &reply) {
-                    Some(keep) => self.go_back(alloc, cpu, event, keep, &Reply::Restored),
-                    None => self.act(alloc, cpu, event),
-                }
-            }
-            _ => self.act(alloc, cpu, event),
-        }
-    }
-
-    /// How many steps an undo to a serial keeps, and its reply.
-    fn undo_cut(&self, cpu: Cpu, serial: Serial) -> (usize, Reply)
-        ensures { IsCut self.now cpu (UndoAfter serial) result.0 result.1 }
-    {
-        if cpu.0 >= self.image.layout().cpus() {
-            (self.journal.len(), Reply::Refused(Refusal::NoCpu))
-        } else if self.is_gone(serial) {
-            (self.journal.len(), Reply::Refused(Refusal::Gone))
-        } else {
-            let keep = kept_len(&self.journal, serial);
-            let count = (self.journal.len() - keep) as u64;
-            (keep, Reply::Undone { count })
-        }
-    }
-
-    /// Whether an undo to a serial is refused: no record has it, or the record was sealed.
-    fn is_gone(&self, serial: Serial) -> bool
-        ensures { result ≡ is_gone self.now serial }
-    {
-        serial.0 > self.before + self.history.len() as u64 || serial.0 < self.before
-    }
-
-    /// The reply that a step of the event would get.
-    fn try_step(&self, alloc: Global, cpu: Cpu, event: &Event) -> Result<Reply, AllocError>
-        requires free { is_full self.now ≡ false }
-        ensures { IfOk result (λ reply. reply ≡ (step self.now.layout self.now.state (last_serial self.now + 1) cpu event.now).reply) }
-    {
-        let mut trial = self.image.copy(alloc)?;
-        trial.step(alloc, self.next_serial(), cpu, event)
-    }
-
-    /// How many steps a Cancel keeps that goes back to before its operation began; None where it makes a step, which would
-    /// get the reply.
-    fn cancel_cut(&self, cpu: Cpu, event: &Event, op: Serial, reply: &Reply) -> Option<usize>
-        requires asked { event.now ≡ Cancel op }
-        requires reply { reply.now ≡ (step self.now.layout self.now.state (last_serial self.now + 1) cpu event.now).reply }
-        ensures back { IfSome result (λ keep. IsCut self.now cpu event.now keep Restored) }
-        ensures step { IfNone result (IsStep self.now cpu event.now) }
-    {
-        if is_step(event, reply) {
-            sole_place(&self.journal, op)
-        } else {
-            None
-        }
-    }
-
-    /// Goes back to the first steps, and records the answer. It takes its memory before it changes anything.
-    fn go_back(
-        &mut self,
-        alloc: Global,
-        cpu: Cpu,
-        event: &Event,
-        keep: usize,
-        reply: &Reply,
-    ) -> Result<Receipt, AllocError>
-        requires free { is_full self.old ≡ false }
-        requires cut { IsCut self.old cpu event.now keep reply.now }
-        ensures err { OnErr result (self.new ≡ self.old) }
-        ensures ok { IfOk result (λ receipt. IsCalled self.old cpu event.now receipt self.new) }
-    {
-        let recorded = event.copy(alloc)?;
-        let answered = event.copy(alloc)?;
-        let serial = self.next_serial();
-        self.history.reserve(1)?;
-        cut(&mut self.journal, keep, &mut self.image);
-        self.history.push_reserved(Record {
-            serial,
-            cpu,
-            event: recorded,
-            reply: *reply,
-        });
-        Ok(Receipt {
-            serial,
-            event: answered,
-            reply: *reply,
-        })
-    }
-
-    /// Makes a step of the event, and records the answer. It takes its memory before it changes anything.
-    fn act(&mut self, alloc: Global, cpu: Cpu, event: &Event) -> Result<Receipt, AllocError>
-        requires free { is_full self.old ≡ false }
-        requires step { IsStep self.old cpu event.now }
-        ensures err { OnErr result (self.new ≡ self.old) }
-        ensures ok { IfOk result (λ receipt. IsCalled self.old cpu event.now receipt self.new) }
-    {
-        let recorded = event.copy(alloc)?;
-        let answered = event.copy(alloc)?;
-        let image = self.image.copy(alloc)?;
-        let serial = self.next_serial();
-        self.history.reserve(1)?;
-        self.journal.reserve(1)?;
-        let reply = self.image.step(alloc, serial, cpu, event)?;
-        let tag = Tag {
-            serial,
-            mark: mark_of(event),
-        };
-        keep_step(
-            &mut self.journal,
-            Entry { tag, image },
-            is_step(event, &reply),
-        );
-        self.history.push_reserved(Record {
-            serial,
-            cpu,
-            event: recorded,
-            reply,
-        });
-        Ok(Receipt {
-            serial,
-            event: answered,
-            reply,
-        })
+        self.course.history().len() as u64 >= self.course.image().layout().history()
+            || self.course.is_spent()
     }
 }

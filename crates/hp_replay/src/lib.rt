@@ -1,0 +1,11 @@
+//! Histories replayed: the course of a history, and whether records are a legal one.
+#![tactic(auto)]
+
+mod course;
+mod journal;
+mod replaying;
+#[cfg(test)]
+mod tests;
+
+pub use course::Course;
+pub use replaying::{ReplayFault, replay, replay_from};
