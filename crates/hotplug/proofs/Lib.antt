@@ -1,4 +1,9 @@
+pub mod EventsDue
+pub mod FilesDue
 pub mod Known
 pub mod Lines
+pub mod PlansDue
 pub mod Served
 pub mod Texts
+pub mod Whole
+pub mod Written

@@ -1,14 +1,17 @@
 -- Lines that are run one after another, and when their text is the one that is due.
-use Rattle.std.proofs.Common.{◌≡◌, ℕ, ◌+◌, ◌<◌, Bool, true, false, List, [], ◌∷◌, ◌++◌, length, get_or, take, if◌then◌else◌, refl, sym, ap, subst, ◌∙◌, append_assoc, append-nil, inl, inr, codes}
+use Rattle.std.proofs.Common.{◌≡◌, ℕ, ◌+◌, ◌<◌, List, [], ◌∷◌, ◌++◌, length, get_or, take, refl, sym, ap, subst, ◌∙◌, append_assoc, append-nil}
 use Rattle.std.proofs.lemmas.List.{take_more}
 use Rattle.hp_units.specs.LayoutParts.{LayoutParts}
 use Rattle.hp_units.specs.History.{value_of, net_of, run}
-use Rattle.hp_units.specs.declared.replies.Record.{Record}
-use Rattle.hp_machine.specs.Machine.{MachineValue, booted, is_full}
+use Rattle.hp_machine.specs.Machine.{MachineValue, booted}
 use Rattle.hp_workers.specs.declared.lines.Line.{Line}
 use Rattle.hp_workers.specs.declared.lines.Work.{Work}
 use Rattle.hp_workers.specs.declared.lines.Work.TheVariants as work
-use Rattle.hotplug.specs.Serial.{GrowsBy, IsWhole, WritesLine, WritesLines, lines_text, line_text, machine_after, machine_after_event, machine_after_lines, machine_after_work, next_record, wanting_line, with_record}
+use Rattle.hotplug.specs.Serial.{GrowsBy, IsWhole, WritesLine, WritesLines, WritesWork, lines_text, line_text, machine_after, machine_after_lines, machine_after_work, work_text}
+use Rattle.hotplug.proofs.EventsDue.{IsUpToDate, event_due, event_is}
+use Rattle.hotplug.proofs.FilesDue.{cat_due, echo_due, echo_is}
+use Rattle.hotplug.proofs.PlansDue.{plan_due, plan_is}
+use Rattle.hotplug.proofs.Whole.{whole_back}
 
 -- no line yet
 pub lines_none : (m : MachineValue) (xs : List Line) (old : List ℕ) → GrowsBy old old (λ (text : List ℕ). WritesLines m (take 0 xs) text m)
@@ -33,52 +36,28 @@ lines_more xs i line old now new m mid next lt so_far is_at one = record {
 
 -- ---- the state is that of the history
 
--- the state is the one that the history leads to
-abbrev pub IsUpToDate : MachineValue → Type 0
-IsUpToDate m = m.state ≡ value_of m.layout m.base m.history
-
 -- the start
 booted_is : (l : LayoutParts) → IsUpToDate (booted l)
 unfolding value_of net_of run
 booted_is l = refl
 
--- one more record, or none
-choice_is : (b : Bool) (m : MachineValue) (r : Record) → IsUpToDate m → IsUpToDate (if b then m else with_record m r)
-choice_is true m r h = h
-choice_is false m r h = refl
-
--- one more work, line, or list of lines
-work_is : (m : MachineValue) (cpu : ℕ) (w : Work) → IsUpToDate m → IsUpToDate (machine_after_work m cpu w)
-unfolding machine_after_event
-work_is m cpu (work.Event event) h = choice_is (is_full m) m (next_record m cpu event) h
-work_is m cpu (work.Plan plan turns) h = h
-work_is m cpu (work.Echo path text) h = h
-work_is m cpu (work.Cat path) h = h
-
-line_is : (m : MachineValue) (line : Line) (text : List ℕ) (new : MachineValue) → IsUpToDate m → WritesLine m line text new → IsUpToDate new
-line_is m line text new h (inl w) = subst IsUpToDate (sym w.1) (work_is m line.cpu line.work h)
-line_is m line text new h (inr w) = subst IsUpToDate (sym w.2) h
+-- one more line, or list of lines
+work_is : (m : MachineValue) (cpu : ℕ) (w : Work) (text : List ℕ) (new : MachineValue) → IsUpToDate m → WritesWork m cpu w text new → IsUpToDate new
+work_is m cpu (work.Event event) text new h ran = event_is m cpu event text new h ran
+work_is m cpu (work.Plan plan turns) text new h ran = plan_is m cpu turns plan text new h ran
+work_is m cpu (work.Echo path word) text new h ran = echo_is m cpu path word text new h ran
+work_is m cpu (work.Cat path) text new h ran = subst IsUpToDate (sym ran.1) h
 
 lines_are : (xs : List Line) (m new : MachineValue) (text : List ℕ) → IsUpToDate m → WritesLines m xs text new → IsUpToDate new
 unfolding WritesLines
 lines_are [] m new text h ran = subst IsUpToDate (sym ran.1) h
-lines_are (x ∷ xs) m new text h ran = lines_are xs ran.1 new ran.2 (line_is m x ran.0 ran.1 h ran.3) ran.5
+lines_are (x ∷ xs) m new text h ran = lines_are xs ran.1 new ran.2 (work_is m x.cpu x.work ran.0 ran.1 h ran.3) ran.5
 
 -- a run from the start keeps the state that of the history
 pub run_is : (l : LayoutParts) (xs : List Line) (text : List ℕ) (new : MachineValue) → WritesLines (booted l) xs text new → IsUpToDate new
 run_is l xs text new ran = lines_are xs (booted l) new text (booted_is l) ran
 
 -- ---- a text with no line that wanted memory
-
--- what is behind the front of a whole text is whole
-whole_back : (a b : List ℕ) → IsWhole (a ++ b) → IsWhole b
-unfolding IsWhole
-whole_back a b whole front rest e = whole (a ++ front) rest (ap (λ (l : List ℕ). a ++ l) e ∙ sym (append_assoc a front (codes "OutOfMemory" ++ 10 ∷ rest)))
-
--- a line that wanted memory makes a text that isn't whole
-wanting_is_not_whole : (b : List ℕ) → IsWhole (wanting_line ++ b) → ⊥
-unfolding IsWhole
-wanting_is_not_whole b whole = whole (codes "-: fault ") b refl
 
 -- the text is the one that is due, and so is the machine behind it
 abbrev pub AreDue : MachineValue → List Line → List ℕ → MachineValue → Type 0
@@ -92,12 +71,18 @@ due_more x xs m next new text written rest e w n due = (
   due.1 ∙ ap (λ (k : MachineValue). machine_after_lines k xs) n,
 )
 
+-- in a whole text a line wrote what is due
+work_due : (m : MachineValue) (cpu : ℕ) (w : Work) (text : List ℕ) (new : MachineValue) (rest : List ℕ) → WritesWork m cpu w text new → IsWhole (text ++ rest) → (text ≡ work_text m cpu w) × (new ≡ machine_after_work m cpu w)
+work_due m cpu (work.Event event) text new rest ran whole = event_due m cpu event text new rest ran whole
+work_due m cpu (work.Plan plan turns) text new rest ran whole = plan_due m cpu turns plan text new rest ran whole
+work_due m cpu (work.Echo path word) text new rest ran whole = echo_due m cpu path word text new rest ran whole
+work_due m cpu (work.Cat path) text new rest ran whole = (cat_due m path text rest ran.0 whole, ran.1)
+
 -- a line in front that wrote what is due, since the text is whole
 line_due : (x : Line) (xs : List Line) (m next new : MachineValue) (text written rest end : List ℕ) → WritesLine m x written next → text ≡ written ++ rest → (IsWhole (rest ++ end) → AreDue next xs rest new) → IsWhole (written ++ (rest ++ end)) → AreDue m (x ∷ xs) text new
-line_due x xs m next new text written rest end (inl w) e due whole =
-    due_more x xs m next new text written rest e w.0 w.1 (due (whole_back written (rest ++ end) whole))
-line_due x xs m next new text written rest end (inr w) e due whole =
-    absurd (wanting_is_not_whole (rest ++ end) (subst (λ (l : List ℕ). IsWhole (l ++ (rest ++ end))) w.1 whole))
+line_due x xs m next new text written rest end ran e due whole =
+    let one = work_due m x.cpu x.work written next (rest ++ end) ran whole in
+    due_more x xs m next new text written rest e one.0 one.1 (due (whole_back written (rest ++ end) whole))
 
 -- the text of a run in which no line wanted memory is the one that is due
 pub lines_due : (xs : List Line) (m new : MachineValue) (text end : List ℕ) → WritesLines m xs text new → IsWhole (text ++ end) → AreDue m xs text new

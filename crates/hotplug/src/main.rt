@@ -5,8 +5,11 @@
 //! command.
 #![tactic(auto)]
 
+mod events;
 mod fault;
+mod files;
 mod outcome;
+mod plans;
 mod serial;
 mod serve;
 mod state;

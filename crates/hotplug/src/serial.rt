@@ -1,13 +1,14 @@
 //! The text of a scenario.
-ghost use Rattle.std.specs.Prelude.{◌≡◌, ◌++◌, true, OnOk, IfOk, IfErr, string_bytes};
+ghost use Rattle.std.specs.Prelude.{OnOk, IfOk, IfErr, string_bytes};
 ghost use Rattle.hp_workers.specs.Gives.{Fails};
-ghost use Rattle.hp_workers.specs.Handled.{are_handled, is_handled_work};
-ghost use Rattle.hotplug.specs.Serial.{event_text, machine_after_event, reply_line, GrowsBy, Writes, WritesLine, WritesLines, serial_text};
+ghost use Rattle.hotplug.specs.Serial.{GrowsBy, WritesLine, WritesLines, serial_text};
 ghost use Rattle.hotplug.specs.Served.{IsTextOf};
 
+use crate::events::write_event;
+use crate::files::{write_echo, write_file};
+use crate::plans::write_plan;
 use crate::state::write_state;
 use hp_machine::Machine;
-use hp_units::{CallFault, Cpu, Event, Receipt};
 use hp_workers::{Line, Scenario, ScenarioFault, Work};
 use std::alloc::{AllocError, Global};
 
@@ -32,7 +33,6 @@ fn write_lines(
     machine: &mut Machine,
     lines: &[Line],
 ) -> Result<(), AllocError>
-    requires { are_handled lines.now ≡ true }
     ensures { OnOk result (GrowsBy (string_bytes out.old) (string_bytes out.new) (λ text. WritesLines machine.old lines.now text machine.new)) }
 {
     for line in lines {
@@ -48,43 +48,12 @@ fn write_line(
     machine: &mut Machine,
     line: &Line,
 ) -> Result<(), AllocError>
-    requires { is_handled_work line.now.work ≡ true }
     ensures { OnOk result (GrowsBy (string_bytes out.old) (string_bytes out.new) (λ text. WritesLine machine.old line.now text machine.new)) }
 {
     match &line.work {
-        Work::Event(event) => write_event(out, alloc, machine, line.cpu, event)?,
-        Work::Plan { plan: _, turns: _ } => {}
-        Work::Echo { path: _, text: _ } => {}
-        Work::Cat { path: _ } => {}
+        Work::Event(event) => write_event(out, alloc, machine, line.cpu, event),
+        Work::Plan { plan, turns } => write_plan(out, alloc, machine, line.cpu, plan, *turns),
+        Work::Echo { path, text } => write_echo(out, alloc, machine, line.cpu, path, text),
+        Work::Cat { path } => write_file(out, alloc, machine, path),
     }
-    Ok(())
-}
-
-/// Calls the machine with an event, and writes the receipt or why there is none.
-#[tactic(auto, unfolding(crate::specs::Serial::event_text, crate::specs::Serial::machine_after_event))]
-fn write_event(
-    out: &mut String,
-    alloc: Global,
-    machine: &mut Machine,
-    cpu: Cpu,
-    event: &Event,
-) -> Result<(), AllocError>
-    ensures { OnOk result (GrowsBy (string_bytes out.old) (string_bytes out.new) (λ text. Writes machine.old (event_text machine.old cpu event.now) (machine_after_event machine.old cpu event.now) text machine.new)) }
-{
-    match machine.call(alloc, cpu, event) {
-        Ok(receipt) => write_receipt(out, &receipt)?,
-        Err(CallFault::HistoryFull) => out.push_str("-: fault HistoryFull\n")?,
-        Err(CallFault::OutOfMemory) => out.push_str("-: fault OutOfMemory\n")?,
-    }
-    Ok(())
-}
-
-/// Writes the serial and the reply of a receipt.
-fn write_receipt(out: &mut String, receipt: &Receipt) -> Result<(), AllocError>
-    ensures { OnOk result (string_bytes out.new ≡ string_bytes out.old ++ reply_line receipt.now.serial receipt.now.reply) }
-{
-    let serial = receipt.serial;
-    let reply = receipt.reply;
-    writeln!(out, "{serial}: {reply}")?;
-    Ok(())
 }

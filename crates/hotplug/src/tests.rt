@@ -8,6 +8,8 @@ use std::alloc::Global;
 use std::test::Fail;
 use streams::{Failed, Sink, Source};
 
+mod layouts;
+mod plans_and_files;
 mod scenarios;
 
 /// Gives bytes in pieces, and fails at one of its calls, counted from 1; at none where that is 0.

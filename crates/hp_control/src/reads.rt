@@ -1,5 +1,5 @@
 //! What reading a control file gives.
-ghost use Rattle.std.specs.Prelude.{◌≡◌, IfOk, false, option_map};
+ghost use Rattle.std.specs.Prelude.{◌≡◌, IfOk, false, option_map, string_bytes};
 ghost use Rattle.hp_control.specs.Gives.{Gives, or_fault};
 ghost use Rattle.hp_control.specs.Reads as means;
 ghost use Rattle.hp_units.specs.Arithmetic.{block_bytes};
@@ -8,7 +8,7 @@ ghost use Rattle.std.specs.Fmt.{digits};
 
 use crate::fault::ControlFault;
 use crate::files::{BlockFile, File, file_at};
-use crate::zones::buddyinfo;
+use crate::zones::zones_text;
 use hp_machine::Machine;
 use hp_units::{Block, Layout, Row, State, Zone};
 use std::alloc::{AllocError, Global};
@@ -23,9 +23,19 @@ use std::alloc::{AllocError, Global};
 ///
 /// Errors: NoFile for another path, and for a block that is not in the layout or is absent; WriteOnly for `probe`; OutOfMemory,
 /// which may come in place of any answer.
-#[tactic(auto, unfolding(crate::specs::Reads::file_text))]
 pub fn read_file(alloc: Global, machine: &Machine, path: &str) -> Result<Vec<u8>, ControlFault>
     ensures { Gives (λ text. text.items) result (means.file_text machine.now.layout machine.now.state path.now) }
+{
+    match read_text(alloc, machine, path) {
+        Ok(text) => Ok(text.into_bytes()),
+        Err(fault) => Err(fault),
+    }
+}
+
+/// The text of the control file at a path, as [`read_file`] gives it, as a string. The errors are the same.
+#[tactic(auto, unfolding(crate::specs::Reads::file_text))]
+pub fn read_text(alloc: Global, machine: &Machine, path: &str) -> Result<String, ControlFault>
+    ensures { Gives (λ text. string_bytes text) result (means.file_text machine.now.layout machine.now.state path.now) }
 {
     match file_at(path) {
         Some(file) => text_of(alloc, machine, file),
@@ -35,12 +45,12 @@ pub fn read_file(alloc: Global, machine: &Machine, path: &str) -> Result<Vec<u8>
 
 /// The text of a file.
 #[tactic(auto, unfolding(crate::specs::Reads::text_of))]
-fn text_of(alloc: Global, machine: &Machine, file: File) -> Result<Vec<u8>, ControlFault>
-    ensures { Gives (λ text. text.items) result (means.text_of machine.now.layout machine.now.state file) }
+fn text_of(alloc: Global, machine: &Machine, file: File) -> Result<String, ControlFault>
+    ensures { Gives (λ text. string_bytes text) result (means.text_of machine.now.layout machine.now.state file) }
 {
     match file {
         File::BlockSizeBytes => Ok(block_size_text(alloc, machine.layout())?),
-        File::Buddyinfo => Ok(buddyinfo(alloc, machine)?),
+        File::Buddyinfo => Ok(zones_text(alloc, machine)?),
         File::Probe => Err(ControlFault::WriteOnly),
         File::AutoOnlineBlocks => Ok(auto_line(alloc, machine)?),
         File::OfBlock { block, file } => block_text(alloc, machine, block, file),
@@ -48,12 +58,11 @@ fn text_of(alloc: Global, machine: &Machine, file: File) -> Result<Vec<u8>, Cont
 }
 
 /// The bytes of a memory block in hexadecimal.
-fn block_size_text(alloc: Global, layout: &Layout) -> Result<Vec<u8>, AllocError>
-    ensures { IfOk result (λ text. text.items ≡ means.line (digits 16 false (block_bytes layout.now))) }
+fn block_size_text(alloc: Global, layout: &Layout) -> Result<String, AllocError>
+    ensures { IfOk result (λ text. string_bytes text ≡ means.line (digits 16 false (block_bytes layout.now))) }
 {
     let bytes = block_bytes(layout);
-    let text = format!(in alloc; "{bytes:x}\n")?;
-    Ok(text.into_bytes())
+    format!(in alloc; "{bytes:x}\n")
 }
 
 /// The bytes of a memory block.
@@ -65,12 +74,11 @@ fn block_bytes(layout: &Layout) -> u64
 }
 
 /// What a block that is added becomes.
-fn auto_line(alloc: Global, machine: &Machine) -> Result<Vec<u8>, AllocError>
-    ensures { IfOk result (λ text. text.items ≡ means.line (auto_text machine.now.state.blocks.auto)) }
+fn auto_line(alloc: Global, machine: &Machine) -> Result<String, AllocError>
+    ensures { IfOk result (λ text. string_bytes text ≡ means.line (auto_text machine.now.state.blocks.auto)) }
 {
     let auto = machine.auto();
-    let text = format!(in alloc; "{auto}\n")?;
-    Ok(text.into_bytes())
+    format!(in alloc; "{auto}\n")
 }
 
 /// The text of a file of a memory block.
@@ -79,8 +87,8 @@ fn block_text(
     machine: &Machine,
     block: Block,
     file: BlockFile,
-) -> Result<Vec<u8>, ControlFault>
-    ensures { Gives (λ text. text.items) result (or_fault ControlFault.NoFile (option_map means.line (means.word_at machine.now.state.blocks.rows block file))) }
+) -> Result<String, ControlFault>
+    ensures { Gives (λ text. string_bytes text) result (or_fault ControlFault.NoFile (option_map means.line (means.word_at machine.now.state.blocks.rows block file))) }
 {
     match word_at(machine, block, file) {
         Some(word) => Ok(line(alloc, word)?),
@@ -89,11 +97,10 @@ fn block_text(
 }
 
 /// A text with its newline.
-fn line(alloc: Global, word: &str) -> Result<Vec<u8>, AllocError>
-    ensures { IfOk result (λ text. text.items ≡ means.line word.now) }
+fn line(alloc: Global, word: &str) -> Result<String, AllocError>
+    ensures { IfOk result (λ text. string_bytes text ≡ means.line word.now) }
 {
-    let text = format!(in alloc; "{word}\n")?;
-    Ok(text.into_bytes())
+    format!(in alloc; "{word}\n")
 }
 
 /// What a file of a memory block shows, where the block is there.

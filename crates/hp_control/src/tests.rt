@@ -1,12 +1,11 @@
 use super::*;
 use hp_machine::Machine;
-use hp_units::{Auto, Block, Boot, Event, Item, Layout, Parts, Plan, Wish, Zone};
+use hp_units::{Auto, Block, Boot, Cpu, Event, Item, Layout, Owner, Page, Parts, Plan, Wish, Zone};
 use std::alloc::{AllocError, Global};
 use std::test::Fail;
 
-const BOOT: &[Boot] = &[Boot::Normal, Boot::Normal, Boot::Movable, Boot::Absent];
-
-fn booted(alloc: Global) -> Result<Machine, AllocError> {
+/// A machine of four blocks: two in Normal, one in Movable, and the last as given.
+fn booted(alloc: Global, last: Boot) -> Result<Machine, AllocError> {
     let parts = Parts {
         order: 2,
         pageblocks: 1,
@@ -18,7 +17,7 @@ fn booted(alloc: Global) -> Result<Machine, AllocError> {
         pages: 8,
         words: 2,
         history: 1000,
-        boot: BOOT,
+        boot: &[Boot::Normal, Boot::Normal, Boot::Movable, last],
     };
     match Layout::new(alloc, &parts) {
         Ok(layout) => Machine::boot(alloc, &layout),
@@ -26,33 +25,92 @@ fn booted(alloc: Global) -> Result<Machine, AllocError> {
     }
 }
 
+/// Whether a file reads as the text.
+fn is_shown(alloc: Global, machine: &Machine, path: &str, wanted: &str) -> bool {
+    match (
+        read_file(alloc, machine, path),
+        read_text(alloc, machine, path),
+    ) {
+        (Ok(bytes), Ok(text)) => bytes.as_slice() == wanted.as_bytes() && text.as_str() == wanted,
+        _ => false,
+    }
+}
+
+/// The first file of a table that does not read as the text beside it.
+fn first_misread<'a>(
+    alloc: Global,
+    machine: &Machine,
+    table: &[(&'a str, &'a str)],
+) -> Option<&'a str> {
+    for (path, wanted) in table {
+        if !is_shown(alloc, machine, path, wanted) {
+            return Some(*path);
+        }
+    }
+    None
+}
+
+/// What the files show where the last block is absent.
+const BOOTED: &[(&str, &str)] = &[
+    ("block_size_bytes", "40\n"),
+    ("auto_online_blocks", "offline\n"),
+    ("memory1/state", "online\n"),
+    ("memory1/online", "1\n"),
+    ("memory2/valid_zones", "Movable\n"),
+    ("memory0/removable", "1\n"),
+    (
+        "buddyinfo",
+        "Node 0, zone   Normal      0      0      2\nNode 0, zone  Movable      0      0      1\n",
+    ),
+];
+
 #[test]
 fn files_are_read(rt: HostRuntime) -> Result<(), Fail> {
-    let machine = booted(rt.alloc())?;
-    let files = [
-        ("block_size_bytes", "40\n"),
-        ("auto_online_blocks", "offline\n"),
-        ("memory1/state", "online\n"),
-        ("memory1/online", "1\n"),
-        ("memory2/valid_zones", "Movable\n"),
-        ("memory0/removable", "1\n"),
-        (
-            "buddyinfo",
-            "Node 0, zone   Normal      0      0      2\nNode 0, zone  Movable      0      0      1\n",
-        ),
-    ];
-    for (path, wanted) in files {
-        let text = read_file(rt.alloc(), &machine, path)?;
-        assert_eq!(rt; text.as_slice(), wanted.as_bytes(), "{path}");
-    }
+    let machine = booted(rt.alloc(), Boot::Absent)?;
+    assert_eq!(rt; first_misread(rt.alloc(), &machine, BOOTED), None);
     let text = buddyinfo(rt.alloc(), &machine)?;
     assert_eq!(rt; text.len(), 86);
     Ok(())
 }
 
+/// What the files show while block 2, of which one frame is mapped, goes offline.
+const GOING: &[(&str, &str)] = &[
+    ("memory2/state", "going-offline\n"),
+    ("memory2/online", "1\n"),
+    ("memory2/valid_zones", "Movable\n"),
+    ("memory2/removable", "1\n"),
+    ("memory3/state", "offline\n"),
+    ("memory3/online", "0\n"),
+    ("memory3/valid_zones", "Normal Movable\n"),
+    (
+        "buddyinfo",
+        "Node 0, zone   Normal      0      0      2\nNode 0, zone  Movable      0      1      0\n",
+    ),
+];
+
+#[test]
+fn a_going_block_is_shown(rt: HostRuntime) -> Result<(), Fail> {
+    let mut machine = booted(rt.alloc(), Boot::Offline)?;
+    let item = Item {
+        block: Block(2),
+        wish: Wish::Off,
+    };
+    let map = Event::Map {
+        owner: Owner(0),
+        page: Page(0),
+    };
+    let begin = Event::Begin {
+        plan: Plan::new(vec![in rt.alloc(); item]?),
+    };
+    let _ = machine.call(rt.alloc(), Cpu(0), &map)?;
+    let _ = machine.call(rt.alloc(), Cpu(0), &begin)?;
+    assert_eq!(rt; first_misread(rt.alloc(), &machine, GOING), None);
+    Ok(())
+}
+
 #[test]
 fn other_files_are_not_read(rt: HostRuntime) -> Result<(), Fail> {
-    let machine = booted(rt.alloc())?;
+    let machine = booted(rt.alloc(), Boot::Absent)?;
     let files = [
         ("memory3/state", ControlFault::NoFile),
         ("memory4/state", ControlFault::NoFile),
@@ -70,36 +128,140 @@ fn other_files_are_not_read(rt: HostRuntime) -> Result<(), Fail> {
     Ok(())
 }
 
+/// Paths and bytes that ask for nothing: a path and what is written to it, and the fault.
+const HOSTILE: &[(&str, &[u8], ControlFault)] = &[
+    ("", b"online", ControlFault::NoFile),
+    ("/", b"online", ControlFault::NoFile),
+    ("state", b"online", ControlFault::NoFile),
+    ("memory", b"online", ControlFault::NoFile),
+    ("memory3", b"online", ControlFault::NoFile),
+    ("memory/state", b"online", ControlFault::NoFile),
+    ("memory03/state", b"online", ControlFault::NoFile),
+    ("memory00/state", b"online", ControlFault::NoFile),
+    ("memory+3/state", b"online", ControlFault::NoFile),
+    ("memory-3/state", b"online", ControlFault::NoFile),
+    ("memory-0/state", b"online", ControlFault::NoFile),
+    ("memory 3/state", b"online", ControlFault::NoFile),
+    ("memory3 /state", b"online", ControlFault::NoFile),
+    ("memory3\0/state", b"online", ControlFault::NoFile),
+    ("memory0x3/state", b"online", ControlFault::NoFile),
+    ("memory3.0/state", b"online", ControlFault::NoFile),
+    ("memory\u{663}/state", b"online", ControlFault::NoFile),
+    ("memory4294967296/state", b"online", ControlFault::NoFile),
+    ("memory4294967299/state", b"online", ControlFault::NoFile),
+    (
+        "memory18446744073709551619/state",
+        b"online",
+        ControlFault::NoFile,
+    ),
+    (
+        "memory99999999999999999999999999999999/state",
+        b"online",
+        ControlFault::NoFile,
+    ),
+    ("/memory3/state", b"online", ControlFault::NoFile),
+    ("./memory3/state", b"online", ControlFault::NoFile),
+    ("../memory3/state", b"online", ControlFault::NoFile),
+    ("memory3//state", b"online", ControlFault::NoFile),
+    ("memory3/state/", b"online", ControlFault::NoFile),
+    ("memory3/./state", b"online", ControlFault::NoFile),
+    ("memory3/state ", b"online", ControlFault::NoFile),
+    ("memory3/state\n", b"online", ControlFault::NoFile),
+    ("memory3/state\0", b"online", ControlFault::NoFile),
+    ("memory3/State", b"online", ControlFault::NoFile),
+    ("Memory3/state", b"online", ControlFault::NoFile),
+    ("memory3/stat", b"online", ControlFault::NoFile),
+    ("memory3/states", b"online", ControlFault::NoFile),
+    ("probe/", b"0x40", ControlFault::NoFile),
+    ("probe ", b"0x40", ControlFault::NoFile),
+    ("memory3/probe", b"0x40", ControlFault::NoFile),
+    ("block_size_bytes", b"40", ControlFault::ReadOnly),
+    ("buddyinfo", b"", ControlFault::ReadOnly),
+    ("memory2/removable", b"1", ControlFault::ReadOnly),
+    ("memory2/removable", b"\xff", ControlFault::ReadOnly),
+    ("memory2/valid_zones", b"Normal", ControlFault::ReadOnly),
+    ("memory3/state", b"", ControlFault::BadText),
+    ("memory3/state", b"\n", ControlFault::BadText),
+    ("memory3/state", b"on", ControlFault::BadText),
+    ("memory3/state", b"onlin", ControlFault::BadText),
+    ("memory3/state", b"ONLINE", ControlFault::BadText),
+    ("memory3/state", b"online ", ControlFault::BadText),
+    ("memory3/state", b" online", ControlFault::BadText),
+    ("memory3/state", b"online\0", ControlFault::BadText),
+    ("memory3/state", b"online\r\n", ControlFault::BadText),
+    ("memory3/state", b"online\n\n", ControlFault::BadText),
+    ("memory3/state", b"\nonline", ControlFault::BadText),
+    ("memory3/state", b"online\xff", ControlFault::BadText),
+    ("memory3/state", b"\xff", ControlFault::BadText),
+    ("memory3/state", b"\xc3\x28", ControlFault::BadText),
+    (
+        "memory3/state",
+        b"online_kernel_movable",
+        ControlFault::BadText,
+    ),
+    ("memory3/state", b"onlineonline", ControlFault::BadText),
+    ("memory3/state", b"going-offline", ControlFault::BadText),
+    ("memory3/state", b"1", ControlFault::BadText),
+    ("memory3/online", b"", ControlFault::BadText),
+    ("memory3/online", b"2", ControlFault::BadText),
+    ("memory3/online", b"01", ControlFault::BadText),
+    ("memory3/online", b"+1", ControlFault::BadText),
+    ("memory3/online", b"-0", ControlFault::BadText),
+    ("memory3/online", b"1 ", ControlFault::BadText),
+    ("memory3/online", b"y", ControlFault::BadText),
+    ("memory3/online", b"online", ControlFault::BadText),
+    ("auto_online_blocks", b"", ControlFault::BadText),
+    ("auto_online_blocks", b"onlin", ControlFault::BadText),
+    ("auto_online_blocks", b"Offline", ControlFault::BadText),
+    ("auto_online_blocks", b"1", ControlFault::BadText),
+    ("probe", b"", ControlFault::BadText),
+    ("probe", b"0x", ControlFault::BadText),
+    ("probe", b"x", ControlFault::BadText),
+    ("probe", b"12", ControlFault::BadText),
+    ("probe", b"0X12", ControlFault::BadText),
+    ("probe", b"00x12", ControlFault::BadText),
+    ("probe", b"-0x12", ControlFault::BadText),
+    ("probe", b"0x-12", ControlFault::BadText),
+    ("probe", b"0x+12", ControlFault::BadText),
+    ("probe", b"0x12 ", ControlFault::BadText),
+    ("probe", b"0x12\0", ControlFault::BadText),
+    ("probe", b"0x1_0", ControlFault::BadText),
+    ("probe", b"0x1g", ControlFault::BadText),
+    ("probe", b"0x0x1", ControlFault::BadText),
+    ("probe", b"0x\xff", ControlFault::BadText),
+    ("probe", b"0x00000000000000001", ControlFault::BadText),
+    ("probe", b"0x12345678901234567", ControlFault::BadText),
+];
+
+/// The first row of a table whose text is not refused so, or whose path, where there is no such file, can be read.
+fn first_taken<'a>(
+    alloc: Global,
+    machine: &Machine,
+    table: &[(&'a str, &'a [u8], ControlFault)],
+) -> Option<&'a str> {
+    for (path, bytes, fault) in table {
+        if parse_write(alloc, path, bytes).err() != Some(*fault) {
+            return Some(*path);
+        }
+        let is_file = *fault != ControlFault::NoFile;
+        if !is_file && read_text(alloc, machine, path).err() != Some(*fault) {
+            return Some(*path);
+        }
+    }
+    None
+}
+
 #[test]
 fn hostile_paths_and_texts_are_refused(rt: HostRuntime) -> Result<(), Fail> {
-    let writes: [(&str, &[u8], ControlFault); 19] = [
-        ("memory03/state", b"online", ControlFault::NoFile),
-        ("memory4294967296/state", b"online", ControlFault::NoFile),
-        ("memory/state", b"online", ControlFault::NoFile),
-        ("memory+3/state", b"online", ControlFault::NoFile),
-        ("/memory3/state", b"online", ControlFault::NoFile),
-        ("memory3/state/", b"online", ControlFault::NoFile),
-        ("memory3", b"online", ControlFault::NoFile),
-        ("", b"online", ControlFault::NoFile),
-        ("memory3/state", b"ONLINE", ControlFault::BadText),
-        ("memory3/state", b"onlin", ControlFault::BadText),
-        ("memory3/state", b"online ", ControlFault::BadText),
-        ("memory3/state", b"online\n\n", ControlFault::BadText),
-        ("memory3/state", b"\xff", ControlFault::BadText),
-        ("memory3/online", b"2", ControlFault::BadText),
-        ("memory2/removable", b"1", ControlFault::ReadOnly),
-        ("probe", b"0x", ControlFault::BadText),
-        ("probe", b"12", ControlFault::BadText),
-        ("probe", b"0X12", ControlFault::BadText),
-        ("probe", b"0x12345678901234567", ControlFault::BadText),
+    let machine = booted(rt.alloc(), Boot::Absent)?;
+    assert_eq!(rt; first_taken(rt.alloc(), &machine, HOSTILE), None);
+    let digits = "9".repeat(rt.alloc(), 5000)?;
+    let path = format!(in rt.alloc(); "memory{digits}/state")?;
+    let long = [
+        (path.as_str(), b"online".as_slice(), ControlFault::NoFile),
+        ("memory3/online", digits.as_bytes(), ControlFault::BadText),
     ];
-    for (path, bytes, fault) in writes {
-        assert_eq!(rt;
-            parse_write(rt.alloc(), path, bytes).err(),
-            Some(fault),
-            "{path}"
-        );
-    }
+    assert_eq!(rt; first_taken(rt.alloc(), &machine, &long), None);
     Ok(())
 }
 

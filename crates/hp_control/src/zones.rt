@@ -8,14 +8,22 @@ use std::alloc::{AllocError, Global};
 
 /// The free blocks of each zone by order: a line for Normal and one for Movable, isolated blocks counted too and frames on
 /// processors' lists not (Linux, /proc/buddyinfo; own rule: no space ends a line). Errors: memory was refused.
-#[tactic(auto, unfolding(crate::specs::Zones::buddyinfo_text))]
 pub fn buddyinfo(alloc: Global, machine: &Machine) -> Result<Vec<u8>, AllocError>
     ensures { IfOk result (λ text. text.items ≡ means.buddyinfo_text machine.now.layout machine.now.state.free.areas) }
+{
+    let text = zones_text(alloc, machine)?;
+    Ok(text.into_bytes())
+}
+
+/// The line of each zone.
+#[tactic(auto, unfolding(crate::specs::Zones::buddyinfo_text))]
+pub(crate) fn zones_text(alloc: Global, machine: &Machine) -> Result<String, AllocError>
+    ensures { IfOk result (λ text. string_bytes text ≡ means.buddyinfo_text machine.now.layout machine.now.state.free.areas) }
 {
     let mut text = String::new(alloc);
     write_zone(&mut text, machine, Zone::Normal)?;
     write_zone(&mut text, machine, Zone::Movable)?;
-    Ok(text.into_bytes())
+    Ok(text)
 }
 
 /// One zone's line.

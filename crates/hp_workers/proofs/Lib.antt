@@ -1,4 +1,3 @@
-pub mod AllHandled
 pub mod Each
 pub mod Json
 pub mod LineLaw

@@ -1,6 +1,5 @@
 pub mod Form
 pub mod Gives
-pub mod Handled
 pub mod Lines
 pub mod Names
 pub mod Scenario

@@ -1,11 +1,10 @@
 -- Names are numbered as owners from 0, in the order in which they first occur (own rule).
-use Rattle.std.specs.Prelude.{ℕ, List, Option, Some, None, if◌then◌else◌, option_and_then}
+use Rattle.std.specs.Prelude.{ℕ, List, Option, option_map}
 use Rattle.std.specs.Str.{bytes_eq}
 use Rattle.std.specs.List.{position_or_len}
 use Rattle.indexmap.specs.IndexSet.{insert_key}
 use Rattle.hp_units.specs.declared.events.Event.{Event}
 use Rattle.hp_units.specs.declared.events.Event.TheVariants as event
-use Rattle.hp_workers.specs.Handled.{is_handled_work}
 use Rattle.hp_workers.specs.Lines.{Request, plain, named, Said, line_says}
 use Rattle.hp_workers.specs.declared.lines.Line.{Line}
 use Rattle.hp_workers.specs.declared.lines.Work.{Work}
@@ -45,10 +44,6 @@ numbered names said = record {
   line = record { cpu = said.cpu; work = work_of names said.request };
 }
 
--- the one filter: a line whose work is not answered yet is no line
-abbrev pub handled_only : Numbered → Option Numbered
-handled_only n = if is_handled_work n.line.work then Some n else None
-
 -- the line that a text is behind these names, and the names after it
 unfoldable pub line_in : List (List ℕ) → List ℕ → Option Numbered
-line_in names text = option_and_then (λ said. handled_only (numbered names said)) (line_says text)
+line_in names text = option_map (numbered names) (line_says text)

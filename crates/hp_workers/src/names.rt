@@ -2,7 +2,6 @@
 ghost use Rattle.std.specs.Prelude.{◌≡◌, IfOk, OnOk, option_map};
 ghost use Rattle.std.specs.Str.{bytes_eq};
 ghost use Rattle.indexmap.specs.IndexSet.{insert_key};
-ghost use Rattle.hp_workers.specs.Handled.{is_handled_work};
 ghost use Rattle.hp_workers.specs.Names.{access_event, line_in, names_with, owner_of, work_of};
 ghost use Rattle.hp_workers.specs.Seen.{request_seen};
 
@@ -12,7 +11,7 @@ use hp_units::{Event, Owner, Text};
 use indexmap::IndexSet;
 use std::alloc::{AllocError, Global};
 
-/// The line that a text is, where the program answers it. A name that is new becomes the last one.
+/// The line that a text is. A name that is new becomes the last one.
 /// What `words` held before is dropped: its room serves line after line.
 #[tactic(auto, unfolding(crate::specs::Names::line_in))]
 pub(crate) fn line_from<'a>(
@@ -28,9 +27,6 @@ pub(crate) fn line_from<'a>(
     };
     let cpu = said.cpu;
     let work = numbered_work(alloc, names, said.request)?;
-    if !is_handled_work(&work) {
-        return Ok(None);
-    }
     Ok(Some(Line { cpu, work }))
 }
 
@@ -79,15 +75,5 @@ fn access_event(owner: Owner, access: Access) -> Event
             value,
         },
         Access::Read { page, index } => Event::Read { owner, page, index },
-    }
-}
-
-/// Whether the program answers this work so far.
-fn is_handled_work(work: &Work) -> bool
-    ensures { result ≡ is_handled_work work.now }
-{
-    match work {
-        Work::Event(_) => true,
-        _ => false,
     }
 }

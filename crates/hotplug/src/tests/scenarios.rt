@@ -89,6 +89,26 @@ const SCENARIOS: &[(&str, &str, &str)] = &[
         "\"0 begin movable 3\",\"0 migrate 1\",\"1 map db 0\",\"0 cancel 1\"",
         "1: opened 1\n2: refused NothingToMove\n3: done\n4: released\nstate\nblock 0 online normal\nblock 1 online normal\nblock 2 online movable\nblock 3 offline\nNM 2: 0 4\nMM 1: 10\ncpu 1 MM: 9\npage db 0 at 8: 0 0\n",
     ),
+    (
+        "a spill gives the last frame of the list first",
+        "\"0 map db 0\",\"0 map db 1\",\"0 map db 2\",\"0 unmap db 0\",\"0 unmap db 1\"",
+        "1: done\n2: done\n3: done\n4: done\n5: done\nstate\nblock 0 online normal\nblock 1 online normal\nblock 2 online movable\nblock 3 offline\nNM 2: 0 4\nMM 0: 8 11\ncpu 0 MM: 9\npage db 2 at 10: 0 0\n",
+    ),
+    (
+        "a drained block is free in its class of isolation",
+        "\"0 map db 0\",\"0 begin off 2\",\"0 commit 2\",\"0 migrate 2\",\"0 commit 2\",\"0 drainfor 2 0\",\"0 drainfor 2 1\"",
+        "1: done\n2: opened 2\n3: refused NotFree 8\n4: moved 8 0\n5: refused NotFree 9\n6: done\n7: done\nstate\nblock 0 online normal\nblock 1 online normal\nblock 2 going movable op 2\nblock 3 offline\nisolated: 2\nNM 0: 1\nNM 1: 2\nNM 2: 4\nIM 2: 8\npage db 0 at 0: 0 0\n",
+    ),
+    (
+        "an undo inside an operation leaves it to be cancelled",
+        "\"0 map db 0\",\"0 begin off 2\",\"0 drainfor 2 0\",\"0 migrate 2\",\"1 undo 2\",\"0 migrate 2\",\"0 commit 2\",\"0 cancel 2\"",
+        "1: done\n2: opened 2\n3: done\n4: moved 8 0\n5: undone 2\n6: moved 8 0\n7: refused NotFree 9\n8: restored\nstate\nblock 0 online normal\nblock 1 online normal\nblock 2 online movable\nblock 3 offline\nNM 2: 0 4\nMM 1: 10\ncpu 0 MM: 9\npage db 0 at 8: 0 0\n",
+    ),
+    (
+        "an undone commit leaves an operation that restores",
+        "\"0 map db 0\",\"0 begin off 2\",\"0 commit 2\",\"0 migrate 2\",\"0 commit 2\",\"0 drainfor 2 0\",\"0 drainfor 2 1\",\"0 commit 2\",\"1 undo 7\",\"0 cancel 2\"",
+        "1: done\n2: opened 2\n3: refused NotFree 8\n4: moved 8 0\n5: refused NotFree 9\n6: done\n7: done\n8: done\n9: undone 1\n10: restored\nstate\nblock 0 online normal\nblock 1 online normal\nblock 2 online movable\nblock 3 offline\nNM 2: 0 4\nMM 1: 10\ncpu 0 MM: 9\npage db 0 at 8: 0 0\n",
+    ),
 ];
 
 #[test]

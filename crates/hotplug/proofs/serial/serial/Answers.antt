@@ -6,8 +6,8 @@ use Rattle.hotplug.proofs.serial.serial.Goals as goal
 pub returns-in_err-scenario-clause-err : goal.returns-in_err-scenario-clause-err
 returns-in_err-scenario-clause-err c =
     let p = err_from_is_err_and c.from_residual.result c.from_residual.ensures.1 in
-    rw (p.1, p.2) (serial_fails _ _ c.in_err-scenario.ensures.read)
+    rw (p.1, p.2) (serial_fails _ _ c.in_err-scenario.ensures)
 
 pub returns-clause-ok : goal.returns-clause-ok
 returns-clause-ok c =
-    ran_text c.args.input.now (scenario_seen c.in_ok-scenario.scenario) _ _ _ _ _ _ _ c.in_ok-scenario.ensures.read c.in_ok-machine.ensures c.as_slice.ensures c.new-out.ensures.bytes c.in_ok-write_lines.ensures c.in_ok-image.ensures c.in_ok-write_state.ensures
+    ran_text c.args.input.now (scenario_seen c.in_ok-scenario.scenario) _ _ _ _ _ _ _ c.in_ok-scenario.ensures c.in_ok-machine.ensures c.as_slice.ensures c.new-out.ensures.bytes c.in_ok-write_lines.ensures c.in_ok-image.ensures c.in_ok-write_state.ensures

@@ -1,17 +1,11 @@
-use Rattle.std.proofs.Common.{refl}
-use Rattle.hp_workers.specs.Scenario.{nothing}
-use Rattle.hp_workers.proofs.AllHandled.{lines_handled}
 use Rattle.hp_workers.proofs.LineLoop.{line_goes_on, line_stops, lines_done}
 use Rattle.hp_workers.proofs.scenario.read_lines.Goals as goal
 
-pub returns-in_default-clause-read : goal.returns-in_default-clause-read
-returns-in_default-clause-read c = line_stops c.args.texts.now c.loop-index.index _ (record { names = c.loop-index.names.keys; lines = c.loop-index.lines.items }) c.in_ok-line.field-0 _ _ c.loop-index-test.true c.in_ok-line.ensures c.in_default.is c.loop-index.invariant
+pub returns-in_default : goal.returns-in_default
+returns-in_default c = line_stops c.args.texts.now c.loop-index.index _ (record { names = c.loop-index.names.keys; lines = c.loop-index.lines.items }) c.in_ok-line.field-0 _ _ c.loop-index-test.true c.in_ok-line.ensures c.in_default.is c.loop-index.invariant
 
 pub loop-index-preserved : goal.loop-index-preserved
 loop-index-preserved c = line_goes_on c.args.texts.now c.loop-index.index _ (record { names = c.loop-index.names.keys; lines = c.loop-index.lines.items }) c.in_ok-line.field-0 c.in-Some.line _ _ _ c.loop-index-test.true c.in_ok-line.ensures c.in-Some.is c.in_ok-push.ensures.items c.loop-index.invariant
 
-pub returns-clause-read : goal.returns-clause-read
-returns-clause-read c = lines_done c.args.texts.now c.loop-index.index (record { names = c.loop-index.names.keys; lines = c.loop-index.lines.items }) _ c.loop-index-test.false c.loop-index.invariant
-
-pub returns-clause-handled : goal.returns-clause-handled
-returns-clause-handled c = lines_handled 1 nothing (record { names = c.loop-index.names.keys; lines = c.loop-index.lines.items }) _ refl (lines_done c.args.texts.now c.loop-index.index (record { names = c.loop-index.names.keys; lines = c.loop-index.lines.items }) _ c.loop-index-test.false c.loop-index.invariant)
+pub returns : goal.returns
+returns c = lines_done c.args.texts.now c.loop-index.index (record { names = c.loop-index.names.keys; lines = c.loop-index.lines.items }) _ c.loop-index-test.false c.loop-index.invariant

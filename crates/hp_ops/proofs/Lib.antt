@@ -1,0 +1,4 @@
+pub mod Gained
+pub mod MachineCalls
+pub mod Replies
+pub mod Runs

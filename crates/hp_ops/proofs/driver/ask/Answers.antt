@@ -1,0 +1,32 @@
+use Rattle.std.proofs.Common.{[], ◌∷◌, Option, None, sym, subst, inl, inr}
+use Rattle.std.proofs.lemmas.Result.{IfErr-weaker, IfOk-weaker}
+use Rattle.hp_ops.proofs.Gained.{at_fault}
+use Rattle.hp_ops.proofs.Runs.{answer_is, no_longer_live}
+use Rattle.hp_ops.specs.Courses.{EndsRun}
+use Rattle.hp_ops.specs.Ports.{Gains, IsLiveReply}
+use Rattle.hp_ops.specs.Names.{Refused, NoOp, Reply, OpEnd, EndsUndone, CallFault}
+use Rattle.hp_ops.proofs.driver.ask.Goals as goal
+
+pub returns-in-Ok-clause-ok : goal.returns-in-Ok-clause-ok
+returns-in-Ok-clause-ok g c =
+    IfOk-weaker c.unless_gone.result _ _ (λ same known. record {
+      gained = c.in-Ok.receipt ∷ [];
+      value = c.in-Ok.ensures.ok.value;
+      made = c.in-Ok.ensures.makes;
+      is = answer_is c.in-Ok.receipt c.args.event.now same c.in-Ok.ensures.ok.asked (sym known.0);
+    }) c.unless_gone.ensures.ok
+
+pub returns-in-Ok-clause-live : goal.returns-in-Ok-clause-live
+returns-in-Ok-clause-live g c =
+    IfOk-weaker c.unless_gone.result _ _ (λ same known. elim (c.in-Ok.ensures.ok.known c.requires.opened) [
+      | inl none ↦ absurd (known.1 none)
+      | inr live ↦ subst (λ (r : Reply). IsLiveReply (g.P.Port.shows c.args.port.now).cpus c.args.event.now r) (sym known.0) live
+    ]) c.unless_gone.ensures.ok
+
+pub returns-in-Ok-clause-err : goal.returns-in-Ok-clause-err
+returns-in-Ok-clause-err g c =
+    IfErr-weaker c.unless_gone.result _ _ (λ end known.
+    let ends = no_longer_live (g.P.Port.shows c.args.port.now).cpus c.args.op c.args.event.now (c.in-Ok.receipt ∷ []) c.requires.work (answer_is c.in-Ok.receipt c.args.event.now (Refused NoOp) c.in-Ok.ensures.ok.asked known.1) in
+    subst (λ (e : OpEnd). Gains g.P.Port.shows g.P.Port.makes c.args.port.now (g.P.Port.shows c.call.new.self).fault c.call.new.self (EndsRun (g.P.Port.shows c.args.port.now).cpus c.args.op (λ d. c.args.event.now) (g.P.Port.shows c.call.new.self).fault e)) (sym known.0)
+    (at_fault _ _ _ _ None (λ (f : Option CallFault). EndsRun (g.P.Port.shows c.args.port.now).cpus c.args.op (λ d. c.args.event.now) f EndsUndone) (record { gained = c.in-Ok.receipt ∷ []; value = c.in-Ok.ensures.ok.value; made = c.in-Ok.ensures.makes; is = ends })))
+    c.unless_gone.ensures.err

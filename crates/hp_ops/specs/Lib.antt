@@ -1,0 +1,4 @@
+pub mod Courses
+pub mod MachinePorts
+pub mod Names
+pub mod Ports

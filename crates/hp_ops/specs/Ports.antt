@@ -1,0 +1,65 @@
+-- What a port shows, and what one call or several make of it.
+use Rattle.std.specs.Prelude.{◌≡◌, ◌⊎◌, ℕ, ◌<◌, Bool, true, false, List, [], ◌∷◌, ◌++◌, Option, None, ⊤}
+use Rattle.std.specs.List.{list_any}
+use Rattle.hp_ops.specs.Names.{Item, Event, Begin, DrainFor, Migrate, Commit, Cancel, Reply, Done, Moved, Opened, Restored, Released, Refused, Refusal, NoFrame, NoOp, NothingToMove, NotFree, Receipt, CallFault}
+
+-- what a port shows: the receipts that it was given, oldest first, the fault of its last call, and how many processors there are
+pub record PortValue : Type 0 where
+  pub receipts : List Receipt
+  pub fault : Option CallFault
+  pub cpus : ℕ
+
+-- with further receipts, and the fault of the last call
+abbrev pub with_receipts : PortValue → List Receipt → Option CallFault → PortValue
+with_receipts p gained fault = record { receipts = p.receipts ++ gained; fault = fault; cpus = p.cpus }
+
+-- an operation was opened by one of the receipts
+abbrev pub is_opened : Reply → Bool
+is_opened (Opened op) = true
+is_opened reply = false
+
+abbrev pub has_opened : List Receipt → Bool
+has_opened receipts = list_any (λ r. is_opened r.reply) receipts
+
+-- ---- the replies that a driver meets (own rule)
+
+-- to a Begin
+abbrev pub IsBeginReply : Reply → Type 0
+IsBeginReply reply = ((op : ℕ) × (reply ≡ Opened op)) ⊎ ((refusal : Refusal) × (reply ≡ Refused refusal))
+
+-- to the events of an operation that is live
+abbrev pub IsMigrateReply : Reply → Type 0
+IsMigrateReply reply = ((from : ℕ) × (to : ℕ) × (reply ≡ Moved from to)) ⊎ ((reply ≡ Refused NoFrame) ⊎ (reply ≡ Refused NothingToMove))
+
+abbrev pub IsCommitReply : Reply → Type 0
+IsCommitReply reply = (reply ≡ Done) ⊎ ((frame : ℕ) × (reply ≡ Refused (NotFree frame)))
+
+abbrev pub IsCancelReply : Reply → Type 0
+IsCancelReply reply = (reply ≡ Restored) ⊎ (reply ≡ Released)
+
+abbrev pub IsLiveReply : (cpus : ℕ) → Event → Reply → Type 0
+IsLiveReply cpus (DrainFor op cpu) reply = cpu < cpus → reply ≡ Done
+IsLiveReply cpus (Migrate op) reply = IsMigrateReply reply
+IsLiveReply cpus (Commit op) reply = IsCommitReply reply
+IsLiveReply cpus (Cancel op) reply = IsCancelReply reply
+IsLiveReply cpus event reply = ⊤
+
+-- to the events of any operation
+abbrev pub IsDriverReply : (cpus : ℕ) → Event → Reply → Type 0
+IsDriverReply cpus event reply = (reply ≡ Refused NoOp) ⊎ IsLiveReply cpus event reply
+
+-- ---- one call, and several
+
+-- a call was answered by a receipt: of the event that was asked, with a reply that the driver knows
+pub record IsGiven (old : PortValue) (event : Event) (r : Receipt) (new : PortValue) : Type 0 where
+  pub asked : r.event ≡ event
+  pub value : new ≡ with_receipts old (r ∷ []) None
+  pub begun : (plan : List Item) → event ≡ Begin plan → IsBeginReply r.reply
+  pub known : has_opened old.receipts ≡ true → IsDriverReply old.cpus event r.reply
+
+-- calls gave further receipts, of which P holds; the last call left the fault
+pub record Gains {S : Type 0} (shows : S → PortValue) (makes : S → List Receipt → S → Type 0) (old : S) (fault : Option CallFault) (new : S) (P : List Receipt → Type 0) : Type 0 where
+  pub gained : List Receipt
+  pub value : shows new ≡ with_receipts (shows old) gained fault
+  pub made : makes old gained new
+  pub is : P gained

@@ -1,0 +1,33 @@
+//! What a driver calls.
+ghost use Rattle.std.specs.Prelude.{◌≡◌, ◌++◌, ◌∷◌, [], List, Some, IfErr, IfOk, OnErr};
+ghost use Rattle.hp_units.specs.declared.replies.Receipt.{Receipt};
+ghost use Rattle.hp_ops.specs.Ports.{IsGiven, PortValue, with_receipts};
+
+use hp_units::{CallFault, Event, Receipt};
+use std::alloc::Global;
+
+/// Calls of one processor on a machine, wherever the machine is (own rule).
+pub trait Port {
+    /// The receipts that it was given, the fault of its last call, and the number of processors.
+    ghost shows: { Self → PortValue };
+
+    /// What calls that gave these receipts make of the port.
+    ghost makes: { Self → List Receipt → Self → Type 0 };
+
+    /// The number of processors.
+    fn cpus(&self) -> u32
+        ensures { result ≡ (shows self.now).cpus };
+
+    /// One call. It gives one receipt, of this event; or else a fault, which the port then shows, and no receipt.
+    fn call(&mut self, alloc: Global, event: &Event) -> Result<Receipt, CallFault>
+        ensures ok { IfOk result (λ receipt. IsGiven (shows self.old) event.now receipt (shows self.new)) }
+        ensures err { IfErr result (λ fault. shows self.new ≡ with_receipts (shows self.old) [] (Some fault)) }
+        ensures makes { IfOk result (λ receipt. makes self.old (receipt ∷ []) self.new) }
+        ensures keeps { OnErr result (makes self.old [] self.new) };
+
+    /// No call makes nothing.
+    ghost nothing: { (p : Self) → makes p [] p };
+
+    /// Calls after calls.
+    ghost joined: { (p q r : Self) (xs ys : List Receipt) → makes p xs q → makes q ys r → makes p (xs ++ ys) r };
+}
