@@ -22,7 +22,7 @@ use Rattle.hp_buddy.proofs.Notes.{Seen, IsUnlinked, unlink-areas}
 -- ---- a frame that was put on a list leaves it
 
 -- a frame behind another is on the list
-behind-on : (after : Option ℕ) (f : ℕ) (xs : List ℕ) → is_behind after f xs ≡ true → is_on f xs ≡ true
+pub behind-on : (after : Option ℕ) (f : ℕ) (xs : List ℕ) → is_behind after f xs ≡ true → is_on f xs ≡ true
 behind-on after f [] h = cc
 behind-on None f (x ∷ xs) h = or_left (x == f) (is_on f xs) h
 behind-on (Some a) f (x ∷ xs) h = on_tail f x xs (either (x == a) (is_behind None f xs) (is_behind (Some a) f xs) h (behind-on None f xs) (behind-on (Some a) f xs))
@@ -57,7 +57,7 @@ link-undone v l links new kinds delta list class order f after before s is list_
 -- ---- a frame that left its list comes back
 
 -- what a test of a frame behind says
-after-true : (after : Option ℕ) (xs : List ℕ) → option_map_or (λ first. is_on first xs) after true ≡ true → (a : ℕ) → after ≡ Some a → is_on a xs ≡ true
+pub after-true : (after : Option ℕ) (xs : List ℕ) → option_map_or (λ first. is_on first xs) after true ≡ true → (a : ℕ) → after ≡ Some a → is_on a xs ≡ true
 after-true None xs h a e = cc
 after-true (Some b) xs h a e = let same : b ≡ a = cc in subst (λ (n : ℕ). is_on n xs ≡ true) same h
 

@@ -11,6 +11,7 @@ pub mod Moves
 pub mod Notes
 pub mod Pageblocks
 pub mod Places
+pub mod Scripts
 pub mod Searches
 pub mod Sizes
 pub mod Splits

@@ -41,7 +41,7 @@ pub list_in : (l : LayoutParts) (links : LinkedLists) (kinds : List Kind) (class
 list_in l links kinds class order h low = omega (arith, h.list_count, class_index-lt class)
 
 -- two tests
-both : (a b : Bool) → a ≡ true → b ≡ true → (a && b) ≡ true
+pub both : (a b : Bool) → a ≡ true → b ≡ true → (a && b) ≡ true
 both true b e h = h
 both false b e h = cc
 
@@ -67,7 +67,7 @@ unlink-areas l links new kinds class order f after h low on u =
     ap (λ (k : LinkedLists). areas_of k kinds) is ∙ ap (λ (ys : List ℕ). areas_of (with_list links n ys) kinds) (without-same f xs off)
 
 -- a test of a frame behind
-after-on : (after : Option ℕ) (xs : List ℕ) → ((b : ℕ) → after ≡ Some b → is_on b xs ≡ true) → option_map_or (λ first. is_on first xs) after true ≡ true
+pub after-on : (after : Option ℕ) (xs : List ℕ) → ((b : ℕ) → after ≡ Some b → is_on b xs ≡ true) → option_map_or (λ first. is_on first xs) after true ≡ true
 after-on None xs h = refl
 after-on (Some b) xs h = h b refl
 

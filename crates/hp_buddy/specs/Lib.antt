@@ -1,2 +1,3 @@
 pub mod Buddy
 pub mod Moves
+pub mod Scripts

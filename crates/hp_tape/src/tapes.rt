@@ -61,10 +61,11 @@ impl Tape {
         self.deltas.len()
     }
 
-    /// Gives back the room that no delta uses.
+    /// Gives back the room that no delta uses: all of it where there is none.
     pub fn trim(&mut self)
         ensures deltas { self.new.deltas ≡ self.old.deltas }
         ensures room { self.new.room ≤ self.old.room }
+        ensures frees { self.old.deltas ≡ [] → self.new.room ≡ 0 }
     {
         self.deltas.shrink_to_fit();
     }

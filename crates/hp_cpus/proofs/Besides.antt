@@ -1,0 +1,123 @@
+-- What the free areas' calls note leads back beside the processors' lists too, which it leaves as they are.
+use Rattle.std.proofs.Common.{◌≡◌, ℕ, suc, ◌+◌, ◌*◌, ◌<◌, ◌≤◌, add-one, List, [], ◌∷◌, ◌++◌, length, Option, refl, sym, ◌∙◌, ap, subst, arith}
+use Rattle.std.specs.List.{AllByRecursion}
+use Rattle.std.proofs.lemmas.List.{length-append}
+use Rattle.std.proofs.Math.Nat.{mul-le-mul_right, suc-mul}
+use Rattle.hp_units.specs.LayoutParts.{LayoutParts}
+use Rattle.hp_units.specs.Memory.{FreeAreas, FreeFrames}
+use Rattle.hp_tape.specs.declared.deltas.Delta.{Delta}
+use Rattle.hp_tape.specs.declared.deltas.Delta.TheVariants.{Link, Unlink, Kind as KindDelta, Kernel as KernelDelta, Map as MapDelta, Swap, Word as WordDelta, Emptied, Row as RowDelta, Auto as AutoDelta}
+use Rattle.hp_tape.specs.declared.deltas.ListId.TheVariants.{Area, Cpu}
+use Rattle.hp_tape.specs.Deltas.{AllFit, FitsAreas, FitsFree, IsDeltaOf, IsOfAreas, IsOfFree, areas_undo, free_undo, undo_all}
+use Rattle.hp_tape.specs.Tapes.{TapeValue, HasRoom, NotesAreas, NotesFree}
+use Rattle.hp_tape.proofs.Leads.{notes-append, notes-more, notes-none}
+
+-- free areas beside the processors' lists
+abbrev pub beside : List (List ℕ) → FreeAreas → FreeFrames
+beside cached a = record { areas = a; cached = cached }
+
+-- ---- one delta of the areas
+
+undo-beside : (d : Delta) (cached : List (List ℕ)) (a : FreeAreas) → IsOfAreas d → free_undo d (beside cached a) ≡ beside cached (areas_undo d a)
+undo-beside (Link (Area class order) frame after) cached a own = refl
+undo-beside (Link (Cpu cpu pool) frame after) cached a own = absurd own
+undo-beside (Unlink (Area class order) frame after) cached a own = refl
+undo-beside (Unlink (Cpu cpu pool) frame after) cached a own = absurd own
+undo-beside (KindDelta pageblock was now) cached a own = refl
+undo-beside (KernelDelta frame was now) cached a own = absurd own
+undo-beside (MapDelta owner page was now) cached a own = absurd own
+undo-beside (Swap one other) cached a own = absurd own
+undo-beside (WordDelta frame index was now) cached a own = absurd own
+undo-beside (Emptied frame words) cached a own = absurd own
+undo-beside (RowDelta block was now) cached a own = absurd own
+undo-beside (AutoDelta was now) cached a own = absurd own
+
+fits-beside : (d : Delta) (cached : List (List ℕ)) (a : FreeAreas) → IsOfAreas d → FitsAreas d a → FitsFree d (beside cached a)
+fits-beside (Link (Area class order) frame after) cached a own h = (h, tt)
+fits-beside (Link (Cpu cpu pool) frame after) cached a own h = absurd own
+fits-beside (Unlink (Area class order) frame after) cached a own h = (h, tt)
+fits-beside (Unlink (Cpu cpu pool) frame after) cached a own h = absurd own
+fits-beside (KindDelta pageblock was now) cached a own h = (h, tt)
+fits-beside (KernelDelta frame was now) cached a own h = absurd own
+fits-beside (MapDelta owner page was now) cached a own h = absurd own
+fits-beside (Swap one other) cached a own h = absurd own
+fits-beside (WordDelta frame index was now) cached a own h = absurd own
+fits-beside (Emptied frame words) cached a own h = absurd own
+fits-beside (RowDelta block was now) cached a own h = absurd own
+fits-beside (AutoDelta was now) cached a own h = absurd own
+
+own-beside : (d : Delta) → IsOfAreas d → IsOfFree d
+own-beside (Link list frame after) own = tt
+own-beside (Unlink list frame after) own = tt
+own-beside (KindDelta pageblock was now) own = tt
+own-beside (KernelDelta frame was now) own = own
+own-beside (MapDelta owner page was now) own = own
+own-beside (Swap one other) own = own
+own-beside (WordDelta frame index was now) own = own
+own-beside (Emptied frame words) own = own
+own-beside (RowDelta block was now) own = own
+own-beside (AutoDelta was now) own = own
+
+-- ---- all of them
+
+undo_all-beside : (deltas : List Delta) (cached : List (List ℕ)) (a : FreeAreas) → AllByRecursion IsOfAreas deltas
+    → undo_all free_undo deltas (beside cached a) ≡ beside cached (undo_all areas_undo deltas a)
+undo_all-beside [] cached a own = refl
+undo_all-beside (d ∷ deltas) cached a own = ap (free_undo d) (undo_all-beside deltas cached a own.1) ∙ undo-beside d cached (undo_all areas_undo deltas a) own.0
+
+all_fit-beside : (deltas : List Delta) (cached : List (List ℕ)) (a : FreeAreas) → AllByRecursion IsOfAreas deltas → AllFit FitsAreas areas_undo deltas a
+    → AllFit FitsFree free_undo deltas (beside cached a)
+all_fit-beside [] cached a own h = tt
+all_fit-beside (d ∷ deltas) cached a own h = (
+  all_fit-beside deltas cached a own.1 h.0,
+  subst (λ (fs : FreeFrames). FitsFree d fs) (sym (undo_all-beside deltas cached a own.1)) (fits-beside d cached (undo_all areas_undo deltas a) own.0 h.1),
+)
+
+all_own-beside : (deltas : List Delta) → AllByRecursion IsOfAreas deltas → AllByRecursion IsOfFree deltas
+all_own-beside [] own = tt
+all_own-beside (d ∷ deltas) own = (own-beside d own.0, all_own-beside deltas own.1)
+
+-- what a call of the free areas notes
+pub notes-beside : (l : LayoutParts) (most : ℕ) (was now : TapeValue) (cached : List (List ℕ)) (later earlier : FreeAreas) → NotesAreas l most was now later earlier
+    → NotesFree l most was now (beside cached later) (beside cached earlier)
+notes-beside l most was now cached later earlier n = record {
+  deltas = n.deltas;
+  tape = n.tape;
+  few = n.few;
+  own = all_own-beside n.deltas n.own;
+  numbers = n.numbers;
+  lead = record {
+    fit = all_fit-beside n.deltas cached later n.own n.lead.fit;
+    back = undo_all-beside n.deltas cached later n.own ∙ ap (λ (a : FreeAreas). beside cached a) n.lead.back;
+  };
+}
+
+-- ---- the notes of several calls
+
+-- one call, and then another
+pub notes-then : (l m : LayoutParts) (most more total : ℕ) (was mid now : TapeValue) (before between after : FreeFrames) → m ≡ l → most + more ≤ total
+    → NotesFree l most was mid between before → NotesFree m more mid now after between → NotesFree l total was now after before
+notes-then l m most more total was mid now before between after same le a b =
+    notes-more IsOfFree FitsFree free_undo l (most + more) total was now after before le
+    (notes-append IsOfFree FitsFree free_undo l most more was mid now after between before a (subst (λ (k : LayoutParts). NotesFree k more mid now after between) same b))
+
+-- what room a call leaves
+pub room_left : (l : LayoutParts) (most more : ℕ) (was now : TapeValue) (before after : FreeFrames) → NotesFree l most was now after before → HasRoom was (most + more) → HasRoom now more
+room_left l most more was now before after n room =
+    let size : length now.deltas ≡ length (was.deltas ++ n.deltas) = ap (λ (t : TapeValue). length t.deltas) n.tape in
+    let same : now.room ≡ was.room = ap (λ (t : TapeValue). t.room) n.tape in
+    omega (arith, n.few, length-append was.deltas n.deltas)
+
+-- no call
+pub nothing-noted : (l : LayoutParts) (most : ℕ) (tape : TapeValue) (fs : FreeFrames) → NotesFree l most tape tape fs fs
+nothing-noted l most tape fs = notes-none IsOfFree FitsFree free_undo l most tape fs
+
+-- ---- so many deltas for each of many frames
+
+-- one frame of all has room beside those before it
+pub room_for_one : (done all each : ℕ) → done < all → done * each + each ≤ all * each
+room_for_one done all each below = omega (arith, mul-le-mul_right {m = suc done} {n = all} each below, suc-mul done each)
+
+-- one frame more
+pub one_done : (done each : ℕ) → done * each + each ≡ (done + 1) * each
+one_done done each = sym (suc-mul done each) ∙ ap (λ (n : ℕ). n * each) (sym (add-one done))

@@ -1,0 +1,94 @@
+-- How often frames stand on the processors' lists.
+use Rattle.std.proofs.Common.{◌≡◌, ℕ, ◌+◌, ◌*◌, ◌<◌, ◌≤◌, List, [], ◌∷◌, ◌++◌, length, get_or, set, true, false, cond, refl, sym, ap, subst, arith, inl, inr, ◌==◌, eq-eqb}
+use Rattle.std.specs.Prelude.{count_by, sum_by}
+use Rattle.std.proofs.lemmas.Bool.{cases_lt, both_ways, false_from_ne_true, cond-true}
+use Rattle.std.proofs.lemmas.Bool.Decides.{nat_tests}
+use Rattle.std.proofs.lemmas.List.{get_or_past, get_or-set_same, length-set}
+use Rattle.std.proofs.lemmas.List.Sums.{sum_by-cons, sum_by_push, sum_by-set, get_or-le-sum_by}
+use Rattle.hp_units.specs.declared.rows.Pool.{Pool}
+use Rattle.hp_units.specs.declared.rows.Pool.TheVariants.{Nu, Nm, Mm}
+use Rattle.hp_units.specs.Memory.{pool_index}
+use Rattle.hp_units.specs.FreeAreas.{is_on}
+use Rattle.hp_links.specs.LinkedLists.{LinkedLists, IsUnlisted}
+use Rattle.hp_buddy.proofs.Lists.{on_cases}
+use Rattle.hp_buddy.proofs.Linked.{AreDistinct, contains_on}
+use Rattle.hp_cpus.specs.Cpus.{CpusValue, list_of, with_list_of, places_in, one_at}
+
+-- how often a frame stands on a list
+abbrev pub times : ℕ → List ℕ → ℕ
+times f xs = count_by (λ other. other == f) xs
+
+-- ---- one list
+
+-- one frame more in front
+pub times-cons : (f x : ℕ) (xs : List ℕ) → times f (x ∷ xs) ≡ one_at x f + times f xs
+times-cons f x xs = sum_by-cons (λ o. cond (o == f) 1 0) x xs
+
+-- one frame more at the back
+pub times-push : (f x : ℕ) (xs : List ℕ) → times f (xs ++ x ∷ []) ≡ times f xs + one_at x f
+times-push f x xs = sum_by_push (λ o. cond (o == f) 1 0) xs x
+
+-- a frame is itself
+pub one-self : (x f : ℕ) → x ≡ f → one_at x f ≡ 1
+one-self x f e = cond-true (x == f) 1 0 (eq-eqb x f e)
+
+-- a frame on a list stands there
+pub times-on : (f : ℕ) (xs : List ℕ) → is_on f xs ≡ true → 1 ≤ times f xs
+times-on f [] e = cc
+times-on f (x ∷ xs) e = elim (on_cases f x xs e) [
+  | inl same ↦ omega (arith, times-cons f x xs, one-self x f same)
+  | inr on ↦ omega (arith, times-cons f x xs, times-on f xs on)
+]
+
+-- a list where each frame stands at most once
+pub distinct : (xs : List ℕ) → ((f : ℕ) → times f xs ≤ 1) → AreDistinct xs
+distinct [] few = tt
+distinct (x ∷ xs) few = (
+  false_from_ne_true (is_on x xs) (λ on. absurd (omega (arith, few x, times-cons x x xs, one-self x x refl, times-on x xs on))),
+  distinct xs (λ f. omega (arith, few f, times-cons f x xs)),
+)
+
+-- ---- all lists
+
+-- a pool has one of three indices
+pub pool_index-lt : (pool : Pool) → pool_index pool < 3
+pool_index-lt Nu = omega arith
+pool_index-lt Nm = omega arith
+pool_index-lt Mm = omega arith
+
+-- a processor's list is one of the lists
+pub list_in : (cpus cpu count : ℕ) (pool : Pool) → cpu < cpus → count ≡ 3 * cpus → 3 * cpu + pool_index pool < count
+list_in cpus cpu count pool low size = omega (arith, pool_index-lt pool)
+
+-- there are lists for each processor
+abbrev pub HasLists : CpusValue → Type 0
+HasLists c = length c.cached ≡ 3 * c.layout.cpus
+
+-- another list
+pub with_list_of-places : (c : CpusValue) (cpu : ℕ) (pool : Pool) (xs : List ℕ) (f : ℕ) → cpu < c.layout.cpus → HasLists c
+    → places_in (with_list_of c cpu pool xs) f + times f (list_of c cpu pool) ≡ places_in c f + times f xs
+with_list_of-places c cpu pool xs f low size =
+    sum_by-set (λ (ys : List ℕ). times f ys) c.cached (3 * cpu + pool_index pool) xs [] (list_in c.layout.cpus cpu (length c.cached) pool low size)
+
+-- a list has a frame no more often than all
+pub list_of-le : (c : CpusValue) (cpu : ℕ) (pool : Pool) (f : ℕ) → cpu < c.layout.cpus → HasLists c → times f (list_of c cpu pool) ≤ places_in c f
+list_of-le c cpu pool f low size =
+    get_or-le-sum_by (λ (ys : List ℕ). times f ys) c.cached (3 * cpu + pool_index pool) [] (list_in c.layout.cpus cpu (length c.cached) pool low size)
+
+-- the list that was set
+pub list_of-same : (c : CpusValue) (cpu : ℕ) (pool : Pool) (xs : List ℕ) → cpu < c.layout.cpus → HasLists c → list_of (with_list_of c cpu pool xs) cpu pool ≡ xs
+list_of-same c cpu pool xs low size =
+    get_or-set_same c.cached (3 * cpu + pool_index pool) xs [] (list_in c.layout.cpus cpu (length c.cached) pool low size)
+
+-- there are as many lists
+pub with_list_of-size : (c : CpusValue) (cpu : ℕ) (pool : Pool) (xs : List ℕ) → HasLists c → HasLists (with_list_of c cpu pool xs)
+with_list_of-size c cpu pool xs size = omega (arith, size, length-set c.cached (3 * cpu + pool_index pool) xs)
+
+-- a frame that stands nowhere is on no list
+pub unlisted : (links : LinkedLists) (f : ℕ) → sum_by (λ (xs : List ℕ). times f xs) links.lists ≡ 0 → IsUnlisted links f
+unlisted links f none n on =
+    let there : is_on f (get_or links.lists n []) ≡ true = contains_on f (get_or links.lists n []) on in
+    elim (cases_lt n (length links.lists)) [
+      | inl below ↦ omega (arith, none, times-on f (get_or links.lists n []) there, get_or-le-sum_by (λ (xs : List ℕ). times f xs) links.lists n [] below)
+      | inr past ↦ both_ways (is_on f []) refl (subst (λ (xs : List ℕ). is_on f xs ≡ true) (get_or_past links.lists n [] past) there)
+    ]

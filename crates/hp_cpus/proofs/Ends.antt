@@ -1,0 +1,113 @@
+-- The first and the last frame of a processor's list.
+use Rattle.std.proofs.Common.{◌≡◌, ℕ, ◌+◌, ◌*◌, ◌<◌, ◌≤◌, List, [], ◌∷◌, ◌++◌, get_or, Bool, true, false, Option, Some, None, refl, sym, ◌∙◌, ap, subst, arith, eq-eqb, ◌==◌}
+use Rattle.std.proofs.lemmas.Bool.{or_left, false_from_ne_true}
+use Rattle.hp_units.specs.declared.rows.Pool.{Pool}
+use Rattle.hp_units.specs.LayoutParts.{LayoutParts}
+use Rattle.hp_units.specs.Memory.{pool_index}
+use Rattle.hp_units.specs.FreeAreas.{is_on, without}
+use Rattle.hp_links.specs.LinkedLists.{LinkedLists, list_at, first, last, last_from}
+use Rattle.hp_buddy.proofs.Lists.{on_tail}
+use Rattle.hp_buddy.proofs.Linked.{without-front, without-back}
+use Rattle.hp_cpus.specs.Cpus.{CpusValue, list_of, with_list_of, places_in}
+use Rattle.hp_cpus.proofs.Counts.{HasLists, times, times-on, times-cons, times-push, one-self, list_of-same, list_of-le}
+use Rattle.hp_cpus.proofs.Edits.{Seen}
+
+-- a list with a frame at its end, and the others
+pub record IsFirst (f : ℕ) (xs : List ℕ) : Type 0 where
+  pub rest : List ℕ
+  pub is : xs ≡ f ∷ rest
+  pub on : is_on f xs ≡ true
+
+pub record IsLast (f : ℕ) (xs : List ℕ) : Type 0 where
+  pub rest : List ℕ
+  pub is : xs ≡ rest ++ f ∷ []
+  pub on : is_on f xs ≡ true
+
+-- ---- of a list
+
+-- by the first frame
+first_is : (f : ℕ) (xs : List ℕ) → Some f ≡ first xs → IsFirst f xs
+first_is f [] e = cc
+first_is f (x ∷ xs) e =
+    let same : x ≡ f = cc in
+    record { rest = xs; is = ap (λ (y : ℕ). y ∷ xs) same; on = or_left (x == f) (is_on f xs) (eq-eqb x f same) }
+
+-- by the last frame
+last_from-is : (f x : ℕ) (xs : List ℕ) → Some f ≡ last_from (Some x) xs → IsLast f (x ∷ xs)
+last_from-is f x [] e =
+    let same : x ≡ f = cc in
+    record { rest = []; is = ap (λ (y : ℕ). y ∷ []) same; on = or_left (x == f) false (eq-eqb x f same) }
+last_from-is f x (y ∷ ys) e =
+    let r = last_from-is f y ys e in
+    record { rest = x ∷ r.rest; is = ap (λ (zs : List ℕ). x ∷ zs) r.is; on = on_tail f x (y ∷ ys) r.on }
+
+last_is : (f : ℕ) (xs : List ℕ) → Some f ≡ last xs → IsLast f xs
+last_is f [] e = cc
+last_is f (x ∷ xs) e = last_from-is f x xs e
+
+-- a list with no last frame has none
+last_from-none : (x : ℕ) (xs : List ℕ) → None ≡ last_from (Some x) xs → x ∷ xs ≡ []
+last_from-none x [] e = cc
+last_from-none x (y ∷ ys) e = absurd (some (last_from-none y ys e))
+  where
+    some : {a : ℕ} {rest : List ℕ} → a ∷ rest ≡ [] → ⊥
+    some e = cc
+
+last-none : (xs : List ℕ) → None ≡ last xs → xs ≡ []
+last-none [] e = refl
+last-none (x ∷ xs) e = last_from-none x xs e
+
+-- ---- of the value that contracts see
+
+-- there are lists for each processor
+pub seen-lists : (v : CpusValue) (l : LayoutParts) (links : LinkedLists) → Seen v l links → HasLists v
+seen-lists v l links s = subst (λ (w : CpusValue). HasLists w) s.is s.kept.list_count
+
+-- the first frame that the table shows, and the last one
+pub seen-first : (v : CpusValue) (l : LayoutParts) (links : LinkedLists) (cpu : ℕ) (pool : Pool) (n f : ℕ) → Seen v l links → n ≡ 3 * cpu + pool_index pool
+    → Some f ≡ first (list_at links n) → IsFirst f (list_of v cpu pool)
+seen-first v l links cpu pool n f s place e =
+    subst (λ (w : CpusValue). IsFirst f (list_of w cpu pool)) s.is (subst (λ (m : ℕ). IsFirst f (get_or links.lists m [])) place (first_is f (list_at links n) e))
+
+pub seen-last : (v : CpusValue) (l : LayoutParts) (links : LinkedLists) (cpu : ℕ) (pool : Pool) (n f : ℕ) → Seen v l links → n ≡ 3 * cpu + pool_index pool
+    → Some f ≡ last (list_at links n) → IsLast f (list_of v cpu pool)
+seen-last v l links cpu pool n f s place e =
+    subst (λ (w : CpusValue). IsLast f (list_of w cpu pool)) s.is (subst (λ (m : ℕ). IsLast f (get_or links.lists m [])) place (last_is f (list_at links n) e))
+
+pub seen-no_last : (v : CpusValue) (l : LayoutParts) (links : LinkedLists) (cpu : ℕ) (pool : Pool) (n : ℕ) → Seen v l links → n ≡ 3 * cpu + pool_index pool
+    → None ≡ last (list_at links n) → list_of v cpu pool ≡ []
+seen-no_last v l links cpu pool n s place e =
+    subst (λ (w : CpusValue). list_of w cpu pool ≡ []) s.is (subst (λ (m : ℕ). get_or links.lists m [] ≡ []) place (last-none (list_at links n) e))
+
+-- ---- the end left
+
+-- the first frame stands nowhere else on the list
+off_rest : (f : ℕ) (xs rest : List ℕ) → times f xs ≤ 1 → xs ≡ f ∷ rest → is_on f rest ≡ false
+off_rest f xs rest few is = false_from_ne_true (is_on f rest) (λ on. omega (arith, ap (λ (ys : List ℕ). times f ys) is ∙ times-cons f f rest, times-on f rest on, one-self f f refl))
+
+-- nor does the last one
+off_back : (f : ℕ) (xs rest : List ℕ) → times f xs ≤ 1 → xs ≡ rest ++ f ∷ [] → is_on f rest ≡ false
+off_back f xs rest few is = false_from_ne_true (is_on f rest) (λ on. omega (arith, ap (λ (ys : List ℕ). times f ys) is ∙ times-push f f rest, times-on f rest on, one-self f f refl))
+
+-- the list that a frame left
+left : (v new : CpusValue) (cpu : ℕ) (pool : Pool) (f : ℕ) → HasLists v → cpu < v.layout.cpus → new ≡ with_list_of v cpu pool (without f (list_of v cpu pool))
+    → list_of new cpu pool ≡ without f (list_of v cpu pool)
+left v new cpu pool f size low is = ap (λ (w : CpusValue). list_of w cpu pool) is ∙ list_of-same v cpu pool (without f (list_of v cpu pool)) low size
+
+-- the others stand behind the first one
+pub first-left : (v new : CpusValue) (cpu : ℕ) (pool : Pool) (f : ℕ) → HasLists v → cpu < v.layout.cpus → ((o : ℕ) → places_in v o ≤ 1) → IsFirst f (list_of v cpu pool)
+    → new ≡ with_list_of v cpu pool (without f (list_of v cpu pool)) → list_of v cpu pool ≡ f ∷ list_of new cpu pool
+first-left v new cpu pool f size low once end is =
+    let few : times f (list_of v cpu pool) ≤ 1 = omega (arith, once f, list_of-le v cpu pool f low size) in
+    let rest : list_of new cpu pool ≡ end.rest =
+    left v new cpu pool f size low is ∙ ap (λ (xs : List ℕ). without f xs) end.is ∙ without-front f end.rest (off_rest f (list_of v cpu pool) end.rest few end.is) in
+    end.is ∙ ap (λ (xs : List ℕ). f ∷ xs) (sym rest)
+
+-- and before the last one
+pub last-left : (v new : CpusValue) (cpu : ℕ) (pool : Pool) (f : ℕ) → HasLists v → cpu < v.layout.cpus → ((o : ℕ) → places_in v o ≤ 1) → IsLast f (list_of v cpu pool)
+    → new ≡ with_list_of v cpu pool (without f (list_of v cpu pool)) → list_of v cpu pool ≡ list_of new cpu pool ++ f ∷ []
+last-left v new cpu pool f size low once end is =
+    let few : times f (list_of v cpu pool) ≤ 1 = omega (arith, once f, list_of-le v cpu pool f low size) in
+    let rest : list_of new cpu pool ≡ end.rest =
+    left v new cpu pool f size low is ∙ ap (λ (xs : List ℕ). without f xs) end.is ∙ without-back f end.rest (off_back f (list_of v cpu pool) end.rest few end.is) in
+    end.is ∙ ap (λ (xs : List ℕ). xs ++ f ∷ []) (sym rest)

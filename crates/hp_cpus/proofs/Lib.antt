@@ -1,0 +1,14 @@
+pub mod Backs
+pub mod Besides
+pub mod Calls
+pub mod Counts
+pub mod Edits
+pub mod Ends
+pub mod Loops
+pub mod Placed
+pub mod Refills
+pub mod Scripts
+pub mod Spills
+pub mod Standing
+pub mod Together
+pub mod Undoes

@@ -1,0 +1,30 @@
+-- What the tests' scripts are said to do.
+use Rattle.std.specs.Prelude.{ℕ, ◌≡◌, ◌+◌, ◌*◌, ◌<◌, Bool, true, false}
+use Rattle.hp_units.specs.LayoutParts.{LayoutParts}
+use Rattle.hp_tape.specs.Bounds.{batch_bound, give_bound, move_bound, steal_bound}
+use Rattle.hp_tape.specs.declared.deltas.Delta.{Delta}
+use Rattle.hp_tape.specs.declared.deltas.Delta.TheVariants.{Link, Unlink}
+use Rattle.hp_tape.specs.declared.deltas.ListId.TheVariants.{Cpu as CpuList}
+use Rattle.hp_buddy.specs.Buddy.{BuddyValue}
+use Rattle.hp_cpus.specs.Cpus.{CpusValue, AreTogether}
+
+-- whether a delta is of a processor's list
+abbrev pub is_of_cpus : Delta → Bool
+is_of_cpus (Link (CpuList cpu pool) frame after) = true
+is_of_cpus (Unlink (CpuList cpu pool) frame after) = true
+is_of_cpus delta = false
+
+-- lists of at most twelve frames that are drained
+abbrev pub short_drain_bound : LayoutParts → ℕ
+short_drain_bound l = 12 * (l.order + 2)
+
+-- a turn of a script: a pageblock moved, lists drained, a frame stolen, or one taken or put
+abbrev pub turn_bound : LayoutParts → ℕ
+turn_bound l = move_bound l + short_drain_bound l + steal_bound l + (batch_bound l + give_bound l)
+
+-- lists and areas of pageblocks of four frames, with batches of one frame
+pub record IsSmall (c : CpusValue) (b : BuddyValue) : Type 0 where
+  pub together : AreTogether c b
+  pub order : c.layout.order ≡ 2
+  pub batch : c.layout.batch ≡ 1
+  pub cpus : 0 < c.layout.cpus

@@ -1,0 +1,174 @@
+//! The processors' lists.
+ghost use Rattle.std.specs.Prelude.{◌≡◌, ℕ, ◌+◌, ◌<◌, ◌≤◌, None, Some, IfOk, IfSome, MatchOption, length, slice_get};
+ghost use Rattle.hp_units.specs.Arithmetic.{frame_count};
+ghost use Rattle.hp_units.specs.Boot.{empty_cached};
+ghost use Rattle.hp_units.specs.Memory.{FreeAreas};
+ghost use Rattle.hp_units.specs.ProcessorLists.{drain_lists, put_one, take_one};
+ghost use Rattle.hp_tape.specs.Bounds.{drain_bound, put_one_bound, take_one_bound};
+ghost use Rattle.hp_tape.specs.Deltas.{FitsCached, IsDeltaOf, cached_undo};
+ghost use Rattle.hp_tape.specs.Tapes.{HasRoom, NotesFree};
+ghost use Rattle.hp_buddy.specs.Buddy.{AreApart, BuddyValue, next_from};
+ghost use Rattle.hp_cpus.specs.Cpus.{AreTogether, MayBePut, frames_of, list_of, one_at, places_among};
+
+mod batches;
+mod edits;
+
+use crate::pools::{list_number, pool_of};
+use hp_buddy::Buddy;
+use hp_links::Links;
+use hp_tape::{Delta, ListId, Tape};
+use hp_units::{Cpu, Frame, Layout, Pool, Zone, pageblock_of};
+use std::alloc::{AllocError, Global};
+use std::marker::Model;
+
+/// Each processor's lists of single frames, one for each pool. No call but `new` takes memory.
+#[derive(Drop)]
+pub struct Cpus {
+    layout: Layout,
+    links: Links,
+}
+
+impl Model for Cpus {
+    ghost use Rattle.hp_cpus.specs.Cpus.{CpusValue, IsCpusOf};
+
+    ghost Value = { CpusValue };
+
+    ghost view = { λ c. record { layout = c.layout; cached = c.links.lists } };
+
+    ghost invariant = { λ c. IsCpusOf c.layout c.links };
+}
+
+impl Cpus {
+    /// The lists of a layout's processors, all empty: by as many requests for memory whatever the layout.
+    pub fn new(alloc: Global, layout: &Layout) -> Result<Cpus, AllocError>
+        ensures value { IfOk result (λ c. c ≡ record { layout = layout.now; cached = empty_cached layout.now }) }
+        ensures together { IfOk result (λ c. (b : BuddyValue) → b.layout ≡ c.layout → AreApart b.layout b.areas → AreTogether c b) }
+    {
+        let layout = layout.copy(alloc)?;
+        let links = Links::new(alloc, layout.frames(), 3 * layout.cpus())?;
+        Ok(Cpus { layout, links })
+    }
+
+    /// How many frames a processor of the layout has in its list of a pool.
+    pub fn len(&self, cpu: Cpu, pool: Pool) -> u32
+        requires { cpu < self.now.layout.cpus }
+        ensures { result ≡ length (list_of self.now cpu pool) }
+    {
+        self.links.len(list_number(cpu, pool))
+    }
+
+    /// The first frame of a list of a processor of the layout.
+    pub fn front(&self, cpu: Cpu, pool: Pool) -> Option<Frame>
+        requires { cpu < self.now.layout.cpus }
+        ensures { result ≡ slice_get (list_of self.now cpu pool) 0 }
+    {
+        self.links.front(list_number(cpu, pool))
+    }
+
+    /// The frame behind a frame of the layout, on the processor's list that it is on.
+    pub fn next(&self, frame: Frame) -> Option<Frame>
+        requires { frame < frame_count self.now.layout }
+        ensures { result ≡ next_from frame self.now.cached }
+    {
+        match self.links.list_of(frame) {
+            Some(_) => self.links.next(frame),
+            None => None,
+        }
+    }
+
+    /// Takes the front frame of a processor's list; a list that is empty is first refilled by a batch from the free areas.
+    /// None if these have none for the pool, and then nothing changes (Gorman, chapter 6: per-cpu lists; the end is own).
+    pub fn take_one(
+        &mut self,
+        cpu: Cpu,
+        pool: Pool,
+        buddy: &mut Buddy,
+        tape: &mut Tape,
+    ) -> Option<Frame>
+        requires cpu { cpu < self.old.layout.cpus }
+        requires together { AreTogether self.old buddy.old }
+        requires room { HasRoom tape.old (take_one_bound self.old.layout (frames_of buddy.old.areas self.old) cpu pool) }
+        ensures taken { MatchOption result (take_one self.old.layout (frames_of buddy.old.areas self.old) cpu pool ≡ None) (λ frame. take_one self.old.layout (frames_of buddy.old.areas self.old) cpu pool ≡ Some (record { free = frames_of buddy.new.areas self.new; frame = frame })) }
+        ensures none { MatchOption result ((self.new ≡ self.old) × (buddy.new ≡ buddy.old) × (tape.new ≡ tape.old)) (λ _. Unit {0}) }
+        ensures layout { self.new.layout ≡ self.old.layout }
+        ensures notes { NotesFree self.old.layout (take_one_bound self.old.layout (frames_of buddy.old.areas self.old) cpu pool) tape.old tape.new (frames_of buddy.new.areas self.new) (frames_of buddy.old.areas self.old) }
+        ensures together { AreTogether self.new buddy.new }
+        ensures frame { IfSome result (MayBePut self.new buddy.new) }
+        ensures places { IfSome result (λ frame. (other : ℕ) → places_among buddy.old.areas self.old other ≡ places_among buddy.new.areas self.new other + one_at frame other) }
+    {
+        if self.len(cpu, pool) > 0 {
+            return self.pop(cpu, pool, tape);
+        }
+        self.refill(cpu, pool, buddy, tape);
+        self.pop(cpu, pool, tape)
+    }
+
+    /// Puts a frame of a zone at the front of the processor's list of its pool; a list that is then longer than its mark gives
+    /// a batch back to the free areas, the last frame first. A frame of an isolated pageblock goes to the free areas at once
+    /// (Gorman, chapter 6: per-cpu lists; the ends are own).
+    pub fn put_one(
+        &mut self,
+        cpu: Cpu,
+        zone: Zone,
+        frame: Frame,
+        buddy: &mut Buddy,
+        tape: &mut Tape,
+    )
+        requires cpu { cpu < self.old.layout.cpus }
+        requires together { AreTogether self.old buddy.old }
+        requires frame { MayBePut self.old buddy.old frame }
+        requires room { HasRoom tape.old (put_one_bound self.old.layout (frames_of buddy.old.areas self.old) cpu zone frame) }
+        ensures put { frames_of buddy.new.areas self.new ≡ put_one self.old.layout (frames_of buddy.old.areas self.old) cpu zone frame }
+        ensures layout { self.new.layout ≡ self.old.layout }
+        ensures notes { NotesFree self.old.layout (put_one_bound self.old.layout (frames_of buddy.old.areas self.old) cpu zone frame) tape.old tape.new (frames_of buddy.new.areas self.new) (frames_of buddy.old.areas self.old) }
+        ensures together { AreTogether self.new buddy.new }
+        ensures places { (other : ℕ) → places_among buddy.new.areas self.new other ≡ places_among buddy.old.areas self.old other + one_at frame other }
+    {
+        let kind = buddy.kind(pageblock_of(&self.layout, frame));
+        if kind.isolated {
+            self.give(zone, frame, buddy, tape);
+        } else {
+            self.put_cached(cpu, pool_of(zone, kind.mobility), frame, buddy, tape);
+        }
+    }
+
+    /// Gives all that a processor's lists hold back to the free areas, pool by pool and front first
+    /// (Gorman, chapter 6: drain_local_pages).
+    pub fn drain(&mut self, cpu: Cpu, buddy: &mut Buddy, tape: &mut Tape)
+        requires cpu { cpu < self.old.layout.cpus }
+        requires together { AreTogether self.old buddy.old }
+        requires room { HasRoom tape.old (drain_bound self.old.layout (frames_of buddy.old.areas self.old) cpu) }
+        ensures drained { frames_of buddy.new.areas self.new ≡ drain_lists self.old.layout (frames_of buddy.old.areas self.old) cpu }
+        ensures layout { self.new.layout ≡ self.old.layout }
+        ensures notes { NotesFree self.old.layout (drain_bound self.old.layout (frames_of buddy.old.areas self.old) cpu) tape.old tape.new (frames_of buddy.new.areas self.new) (frames_of buddy.old.areas self.old) }
+        ensures together { AreTogether self.new buddy.new }
+        ensures places { (other : ℕ) → places_among buddy.new.areas self.new other ≡ places_among buddy.old.areas self.old other }
+    {
+        self.drain_pool(cpu, Pool::Nu, buddy, tape);
+        self.drain_pool(cpu, Pool::Nm, buddy, tape);
+        self.drain_pool(cpu, Pool::Mm, buddy, tape);
+    }
+
+    /// Does the opposite of a delta of the layout that fits, whatever the free areas are; one of another layer changes nothing.
+    pub fn back(&mut self, delta: Delta)
+        requires fits { (areas : FreeAreas) × FitsCached delta (frames_of areas self.old) }
+        requires numbers { IsDeltaOf self.old.layout delta }
+        ensures back { (areas : FreeAreas) → frames_of areas self.new ≡ cached_undo delta (frames_of areas self.old) }
+        ensures layout { self.new.layout ≡ self.old.layout }
+    {
+        match &delta {
+            Delta::Link { list, frame, .. } => {
+                if let ListId::Cpu { .. } = list {
+                    let _ = self.links.unlink(*frame);
+                }
+            }
+            Delta::Unlink { list, frame, after } => {
+                if let ListId::Cpu { cpu, pool } = list {
+                    self.links
+                        .relink_after(list_number(*cpu, *pool), *frame, *after);
+                }
+            }
+            _ => {}
+        }
+    }
+}
