@@ -5,7 +5,8 @@ use Rattle.hp_control.specs.declared.fault.ControlFault.{ControlFault}
 use Rattle.hp_control.specs.declared.fault.ControlFault.TheVariants.{OutOfMemory}
 use Rattle.hp_control.specs.declared.writes.Request.{Request}
 use Rattle.hp_control.specs.declared.writes.Request.TheVariants as request
-use Rattle.hotplug.specs.Files.{WritesEcho, WritesFile, WritesRequest, asked_by, cat_text, machine_after_request, read_fault_line, request_text, write_fault_line}
+use Rattle.hotplug.specs.Files.{WritesEcho, WritesFile, WritesRequest, asked_by, cat_text, machine_after_request, request_text}
+use Rattle.hp_text.specs.Files.{read_fault_line, write_fault_line}
 use Rattle.hotplug.specs.Serial.{IsWhole}
 use Rattle.hotplug.proofs.EventsDue.{IsUpToDate, event_due, event_is}
 use Rattle.hotplug.proofs.PlansDue.{plan_due, plan_is}

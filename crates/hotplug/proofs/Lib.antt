@@ -4,6 +4,5 @@ pub mod Known
 pub mod Lines
 pub mod PlansDue
 pub mod Served
-pub mod Texts
 pub mod Whole
 pub mod Written

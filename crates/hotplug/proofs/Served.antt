@@ -1,28 +1,32 @@
 -- From the parts to the whole: what was read, what was made of it, and what was written.
-use Rattle.std.proofs.Common.{◌≡◌, ℕ, List, [], ◌++◌, Option, Some, None, Result, Ok, Err, sym, ap, subst, ◌∙◌, append-nil}
+use Rattle.std.proofs.Common.{◌≡◌, ℕ, ◌≤◌, List, [], ◌++◌, length, Option, Some, None, Result, Ok, Err, sym, ap, subst, ◌∙◌, append-nil}
 use Rattle.std.specs.Prelude.{IfSome}
 use Rattle.std.specs.Io.KnownBytes.{Appends, Consumes, IsAtEnd}
 use Rattle.hp_units.specs.Memory.{Memory}
 use Rattle.hp_machine.specs.Machine.{MachineValue, booted}
 use Rattle.hp_plain.specs.Image.{Pictured}
-use Rattle.hp_workers.specs.declared.lines.Line.{Line}
-use Rattle.hp_workers.specs.declared.fault.ScenarioFault.{ScenarioFault}
-use Rattle.hp_workers.specs.declared.fault.ScenarioFault.TheVariants as scenario
-use Rattle.hp_workers.specs.Gives.{◌>>=◌, Fails}
-use Rattle.hp_workers.specs.Scenario.{ScenarioValue, scenario_in}
-use Rattle.hotplug.specs.StateText.{state_text}
+use Rattle.hp_scenario.specs.declared.lines.Line.{Line}
+use Rattle.hp_scenario.specs.declared.fault.ScenarioFault.{ScenarioFault}
+use Rattle.hp_scenario.specs.declared.fault.ScenarioFault.TheVariants as scenario
+use Rattle.hp_scenario.specs.Gives.{◌>>=◌, Fails}
+use Rattle.hp_scenario.specs.Scenario.{ScenarioValue, scenario_in}
+use Rattle.hp_text.specs.State.{state_text}
 use Rattle.hotplug.specs.Serial.{GrowsBy, IsWhole, WritesLines, end_text, lines_text, scenario_text, serial_text}
 use Rattle.hotplug.proofs.Lines.{AreDue, lines_due, run_is}
-use Rattle.hotplug.specs.Served.{IsTextOf, WritesTextOf}
-use Rattle.hotplug.specs.Faults.{IsReadFault, IsFaultOf, fault_from}
+use Rattle.hotplug.specs.Served.{IsTextOf, ReadsAll, WritesTextOf}
+use Rattle.hotplug.specs.Faults.{IsReadFault, IsFaultOf, fault_from, limit}
 use Rattle.hotplug.specs.declared.fault.ProgramFault.{ProgramFault}
-use Rattle.hotplug.specs.declared.fault.ProgramFault.TheVariants.{ReadFailed, TooLong, NotJson, BadShape, Layout, BadLine, OutOfMemory, WriteFailed}
+use Rattle.hotplug.specs.declared.fault.ProgramFault.TheVariants.{ReadFailed, TooLong, NotJson, BadShape, Layout, BadLine, NotForRun, OutOfMemory, WriteFailed}
 
 -- a reader at its end gave all that it had
 given : (a b : Option (List ℕ)) (bytes : List ℕ) → Consumes a b bytes → IsAtEnd b → (P : List ℕ → Type 0) → P bytes → IfSome a P
 given None b bytes p end P h = tt
 given (Some x) None bytes p end P h = absurd p
 given (Some x) (Some y) bytes p end P h = subst P (sym (p ∙ ap (λ (l : List ℕ). bytes ++ l) end ∙ append-nil bytes)) h
+
+-- and that was within the limit
+pub all_read : (a b : Option (List ℕ)) (bytes : List ℕ) → Consumes a b bytes → IsAtEnd b → length bytes ≤ limit → ReadsAll a b
+all_read a b bytes p end fits = record { within = given a b bytes p end (λ (i : List ℕ). length i ≤ limit) fits; end = end }
 
 -- a fault of reading is one of the program
 pub read_fault : (known : Option (List ℕ)) (read written : Type 0) (fault : ProgramFault) → IsReadFault known read fault → IsFaultOf known read written fault
@@ -32,6 +36,7 @@ read_fault known read written NotJson h = absurd h
 read_fault known read written BadShape h = absurd h
 read_fault known read written (Layout f) h = absurd h
 read_fault known read written (BadLine n) h = absurd h
+read_fault known read written (NotForRun n) h = absurd h
 read_fault known read written OutOfMemory h = tt
 read_fault known read written WriteFailed h = absurd h
 
@@ -51,6 +56,7 @@ scenario_fault_of a b input read written scenario.NotJson p end h = given a b in
 scenario_fault_of a b input read written scenario.BadShape p end h = given a b input p end (λ i. scenario_in i ≡ Err scenario.BadShape) (no_scenario input _ h)
 scenario_fault_of a b input read written (scenario.Layout f) p end h = given a b input p end (λ i. scenario_in i ≡ Err (scenario.Layout f)) (no_scenario input _ h)
 scenario_fault_of a b input read written (scenario.BadLine n) p end h = given a b input p end (λ i. scenario_in i ≡ Err (scenario.BadLine n)) (no_scenario input _ h)
+scenario_fault_of a b input read written (scenario.NotForRun n) p end h = given a b input p end (λ i. scenario_in i ≡ Err (scenario.NotForRun n)) (no_scenario input _ h)
 scenario_fault_of a b input read written scenario.OutOfMemory p end h = tt
 
 -- `seen` is the slice that was passed on
@@ -67,6 +73,7 @@ fails_then scenario.NotJson r f h = ap (λ (q : Result ScenarioValue ScenarioFau
 fails_then scenario.BadShape r f h = ap (λ (q : Result ScenarioValue ScenarioFault). q >>= λ s. Ok (f s)) h
 fails_then (scenario.Layout g) r f h = ap (λ (q : Result ScenarioValue ScenarioFault). q >>= λ s. Ok (f s)) h
 fails_then (scenario.BadLine n) r f h = ap (λ (q : Result ScenarioValue ScenarioFault). q >>= λ s. Ok (f s)) h
+fails_then (scenario.NotForRun n) r f h = ap (λ (q : Result ScenarioValue ScenarioFault). q >>= λ s. Ok (f s)) h
 fails_then scenario.OutOfMemory r f h = tt
 
 -- a fault of the scenario is one of its text

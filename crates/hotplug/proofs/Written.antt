@@ -1,23 +1,24 @@
 -- What the functions that write a line did, said as their contracts say it.
-use Rattle.std.proofs.Common.{◌≡◌, ℕ, List, ◌++◌, Option, None, Result, Ok, refl, sym, ap, subst, ◌∙◌, inl, inr}
+use Rattle.std.proofs.Common.{◌≡◌, ℕ, List, ◌++◌, Option, Result, Ok, refl, sym, ap, subst, ◌∙◌, inl, inr}
 use Rattle.hp_units.specs.declared.plans.Item.{Item}
 use Rattle.hp_units.specs.declared.replies.CallFault.{CallFault}
 use Rattle.hp_units.specs.declared.replies.OpEnd.{OpEnd}
 use Rattle.hp_units.specs.declared.replies.Receipt.{Receipt}
 use Rattle.hp_units.specs.Driver.{IsDriverRun}
 use Rattle.hp_machine.specs.Machine.{MachineValue}
-use Rattle.hp_ops.specs.MachinePorts.{AreCalls, HasCause}
+use Rattle.hp_machine.specs.MachinePorts.{AreCalls, HasCause}
 use Rattle.hp_control.specs.declared.fault.ControlFault.{ControlFault}
 use Rattle.hp_control.specs.declared.fault.ControlFault.TheVariants.{NoFile, ReadOnly, BadText, OutOfMemory, WriteOnly}
 use Rattle.hp_control.specs.declared.writes.Request.{Request}
 use Rattle.hp_control.specs.Gives.{Fails}
 use Rattle.hp_control.specs.Reads.{file_text}
 use Rattle.hp_control.specs.Writes.{request_of}
-use Rattle.hotplug.specs.Files.{WritesEcho, WritesFile, WritesRequest, asked_by, read_answer, read_fault_line, write_fault_line}
-use Rattle.hotplug.specs.PlanText.{plan_line}
+use Rattle.hotplug.specs.Files.{WritesEcho, WritesFile, WritesRequest, asked_by, read_answer}
+use Rattle.hp_text.specs.Files.{read_fault_line, write_fault_line}
+use Rattle.hp_text.specs.Plans.{plan_line}
 use Rattle.hotplug.specs.Plans.{IsPlanRun, WritesPlan}
 use Rattle.hotplug.specs.Serial.{GrowsBy}
-use Rattle.hotplug.specs.StateText.{newline}
+use Rattle.hp_text.specs.State.{newline}
 
 -- a text of which more is known
 pub grows_as : (old new : List ℕ) (P Q : List ℕ → Type 0) → GrowsBy old new P → ((text : List ℕ) → P text → Q text) → GrowsBy old new Q
@@ -26,14 +27,14 @@ grows_as old new P Q g said = record { text = g.text; grown = g.grown; is = said
 -- ---- a plan
 
 -- from a port's machine before and after the calls
-pub plan_driven : (m first last new : MachineValue) (cpu caller turns : ℕ) (plan : List Item) (end : OpEnd) (before after : Option CallFault) (gained : List Receipt) → first ≡ m → caller ≡ cpu → before ≡ None → new ≡ last
-    → AreCalls first caller gained last → (HasCause before first → HasCause after last) → IsDriverRun first.layout.cpus turns plan gained after end → IsPlanRun m cpu turns plan end new
-plan_driven m first last new cpu caller turns plan end before after gained at_first same clear at_last calls caused ran = record {
+pub plan_driven : (m first last new : MachineValue) (cpu caller turns : ℕ) (plan : List Item) (end : OpEnd) (fault : Option CallFault) (gained : List Receipt) → first ≡ m → caller ≡ cpu → new ≡ last
+    → AreCalls first caller gained last → HasCause fault last → IsDriverRun first.layout.cpus turns plan gained fault end → IsPlanRun m cpu turns plan end new
+plan_driven m first last new cpu caller turns plan end fault gained at_first same at_last calls cause ran = record {
   receipts = gained;
-  fault = after;
+  fault = fault;
   calls = subst (λ (k : MachineValue). AreCalls m cpu gained k) (sym at_last) (subst (λ (n : ℕ). AreCalls m n gained last) same (subst (λ (k : MachineValue). AreCalls k caller gained last) at_first calls));
-  cause = subst (HasCause after) (sym at_last) (caused (subst (λ (f : Option CallFault). HasCause f first) (sym clear) tt));
-  run = subst (λ (k : MachineValue). IsDriverRun k.layout.cpus turns plan gained after end) at_first ran;
+  cause = subst (HasCause fault) (sym at_last) cause;
+  run = subst (λ (k : MachineValue). IsDriverRun k.layout.cpus turns plan gained fault end) at_first ran;
 }
 
 pub plan_written : (m new : MachineValue) (cpu turns : ℕ) (plan copied : List Item) (end : OpEnd) (old out : List ℕ) → copied ≡ plan → IsPlanRun m cpu turns copied end new → out ≡ old ++ plan_line end → GrowsBy old out (λ (text : List ℕ). WritesPlan m cpu turns plan text new)

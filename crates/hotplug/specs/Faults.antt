@@ -1,16 +1,17 @@
 -- Which fault comes when.
 use Rattle.std.specs.Prelude.{◌≡◌, ℕ, ◌<◌, List, length, Option, Err, IfSome}
-use Rattle.hp_workers.specs.declared.fault.ScenarioFault.{ScenarioFault}
-use Rattle.hp_workers.specs.declared.fault.ScenarioFault.TheVariants as scenario
-use Rattle.hp_workers.specs.Scenario.{scenario_in}
+use Rattle.hp_scenario.specs.declared.fault.ScenarioFault.{ScenarioFault}
+use Rattle.hp_scenario.specs.declared.fault.ScenarioFault.TheVariants as scenario
+use Rattle.hp_scenario.specs.Scenario.{scenario_in}
 use Rattle.hotplug.specs.declared.fault.ProgramFault.{ProgramFault}
-use Rattle.hotplug.specs.declared.fault.ProgramFault.TheVariants.{ReadFailed, TooLong, NotJson, BadShape, Layout, BadLine, OutOfMemory, WriteFailed}
+use Rattle.hotplug.specs.declared.fault.ProgramFault.TheVariants.{ReadFailed, TooLong, NotJson, BadShape, Layout, BadLine, NotForRun, OutOfMemory, WriteFailed}
 
 abbrev pub fault_from : ScenarioFault → ProgramFault
 fault_from scenario.NotJson = NotJson
 fault_from scenario.BadShape = BadShape
 fault_from (scenario.Layout fault) = Layout fault
 fault_from (scenario.BadLine line) = BadLine line
+fault_from (scenario.NotForRun line) = NotForRun line
 fault_from scenario.OutOfMemory = OutOfMemory
 
 abbrev pub limit : ℕ
@@ -28,6 +29,7 @@ IsFaultOf known read written NotJson = IsNone known scenario.NotJson
 IsFaultOf known read written BadShape = IsNone known scenario.BadShape
 IsFaultOf known read written (Layout fault) = IsNone known (scenario.Layout fault)
 IsFaultOf known read written (BadLine line) = IsNone known (scenario.BadLine line)
+IsFaultOf known read written (NotForRun line) = IsNone known (scenario.NotForRun line)
 IsFaultOf known read written OutOfMemory = Unit {0}
 IsFaultOf known read written WriteFailed = written
 

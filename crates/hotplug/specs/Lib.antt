@@ -3,9 +3,7 @@ pub mod FaultText
 pub mod Faults
 pub mod Files
 pub mod Outcomes
-pub mod PlanText
 pub mod Plans
 pub mod Serial
 pub mod Served
-pub mod StateText
 pub mod Streams

@@ -3,8 +3,8 @@
 ghost use Rattle.std.specs.Prelude.{◌≡◌, Some};
 ghost use Rattle.hotplug.specs.declared.fault.ProgramFault.TheVariants.{OutOfMemory};
 
+use hp_scenario::ScenarioFault;
 use hp_units::LayoutFault;
-use hp_workers::ScenarioFault;
 use std::alloc::AllocError;
 use std::error::Error;
 use std::fmt;
@@ -24,6 +24,8 @@ pub enum ProgramFault {
     Layout(LayoutFault),
     /// A text of `calls` is no line; lines are counted from 1.
     BadLine { line: u64 },
+    /// A line is not one that workers run; lines are counted from 1. No command answers it yet.
+    NotForRun { line: u64 },
     /// Want of memory.
     OutOfMemory,
     /// The writer failed.
@@ -43,6 +45,7 @@ impl fmt::Display for ProgramFault {
             ProgramFault::BadShape => write!(f, "hotplug: wrong shape"),
             ProgramFault::Layout(fault) => write!(f, "hotplug: layout fault {fault}"),
             ProgramFault::BadLine { line } => write!(f, "hotplug: line {line} not understood"),
+            ProgramFault::NotForRun { line } => write!(f, "hotplug: line {line} not for run"),
             ProgramFault::OutOfMemory => write!(f, "hotplug: out of memory"),
             ProgramFault::WriteFailed => write!(f, "hotplug: writing failed"),
         }
@@ -71,6 +74,7 @@ impl From<ScenarioFault> for ProgramFault {
             ScenarioFault::BadShape => ProgramFault::BadShape,
             ScenarioFault::Layout(fault) => ProgramFault::Layout(fault),
             ScenarioFault::BadLine { line } => ProgramFault::BadLine { line },
+            ScenarioFault::NotForRun { line } => ProgramFault::NotForRun { line },
             ScenarioFault::OutOfMemory => ProgramFault::OutOfMemory,
         }
     }

@@ -2,7 +2,7 @@
 //!
 //! `hotplug serial` reads a scenario from standard input and writes to standard output what each of its lines answers, and
 //! then the state. The exit status is 0; or 1 after a fault, which standard error names; or 2 where the command line names no
-//! command.
+//! command. It is the same where standard error takes no text.
 #![tactic(auto)]
 
 mod events;
@@ -12,7 +12,6 @@ mod outcome;
 mod plans;
 mod serial;
 mod serve;
-mod state;
 mod streams;
 mod words;
 
@@ -47,16 +46,16 @@ fn run(rt: &HostRuntime, command: Command) -> Outcome {
     }
 }
 
-fn main(rt: HostRuntime) -> io::Result<ExitCode> {
+fn main(rt: HostRuntime) -> ExitCode {
     let outcome = match command(&rt) {
         Ok(Some(command)) => run(&rt, command),
         Ok(None) => Outcome::NoCommand,
         Err(AllocError) => Outcome::Failed(ProgramFault::OutOfMemory),
     };
     if outcome != Outcome::Done {
-        eprintln!(rt; "{outcome}")?;
+        let _ = eprintln!(rt; "{outcome}");
     }
-    Ok(ExitCode::from(outcome.status()))
+    ExitCode::from(outcome.status())
 }
 
 #[cfg(test)]

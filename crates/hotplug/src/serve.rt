@@ -2,8 +2,8 @@
 
 ghost use Rattle.std.specs.Prelude.{◌≡◌, ◌≢◌, ◌<◌, ◌≤◌, ◌-◌, ◌^◌, length, IfOk, IfErr, OnOk, OnErr, vec_len};
 ghost use Rattle.std.specs.Io.KnownBytes.{Appends, Consumes, IsAtEnd, Keeps};
-ghost use Rattle.hotplug.specs.Served.{Serves, WritesTextOf};
-ghost use Rattle.hotplug.specs.Faults.{IsReadFault, IsFaultOf};
+ghost use Rattle.hotplug.specs.Served.{ReadsAll, Serves, WritesTextOf};
+ghost use Rattle.hotplug.specs.Faults.{IsReadFault, IsFaultOf, limit};
 
 use crate::fault::ProgramFault;
 use crate::serial::serial;
@@ -18,6 +18,7 @@ pub const LIMIT: usize = 16_777_216;
 pub fn read_all<R: Source>(alloc: Global, reader: &mut R) -> Result<Vec<u8>, ProgramFault>
     requires { R.failures reader.old < 2 ^ 64 - 1 }
     ensures bytes { IfOk result (λ v. Consumes (R.remaining reader.old) (R.remaining reader.new) v.items) }
+    ensures limit { IfOk result (λ v. length v.items ≤ limit) }
     ensures end { OnOk result (IsAtEnd (R.remaining reader.new)) }
     ensures err { IfErr result (IsReadFault (R.remaining reader.old) (R.failures reader.old < R.failures reader.new)) }
 {
@@ -58,6 +59,8 @@ pub fn serve<R: Source, W: Sink>(
     requires reader { R.failures reader.old < 2 ^ 64 - 1 }
     requires writer { W.failures writer.old < 2 ^ 64 - 1 }
 
+    // The reader gave all that it had, at most the limit.
+    ensures read { OnOk result (ReadsAll (R.remaining reader.old) (R.remaining reader.new)) }
     // The command's text of the bytes that were read, and nothing else.
     ensures ok { OnOk result (Serves command (R.remaining reader.old) (W.contents writer.old) (W.contents writer.new)) }
     // After another fault nothing was written.
@@ -79,6 +82,8 @@ pub fn serve_serial<R: Source, W: Sink>(
     requires reader { R.failures reader.old < 2 ^ 64 - 1 }
     requires writer { W.failures writer.old < 2 ^ 64 - 1 }
 
+    // The reader gave all that it had, at most the limit.
+    ensures read { OnOk result (ReadsAll (R.remaining reader.old) (R.remaining reader.new)) }
     // The text of the bytes that were read, and nothing else.
     ensures ok { OnOk result (WritesTextOf (R.remaining reader.old) (W.contents writer.old) (W.contents writer.new)) }
     // After another fault nothing was written.

@@ -7,4 +7,4 @@ pub returns-in-Ok : goal.returns-in-Ok
 returns-in-Ok c = on_ok_weaker c.write_request.result (λ g. echo_written _ _ c.args.cpu c.args.path.now c.args.word.now c.as_str-2.result.now c.as_bytes.result.now c.in-Ok.request _ _ c.as_str-2.ensures (search rules) c.in-Ok.ensures g) c.write_request.ensures
 
 pub returns : goal.returns
-returns c = on_ok_weaker c.write_write_fault.result (λ grown. echo_fault_written _ c.args.cpu c.args.path.now c.args.word.now c.as_str-2.result.now c.as_bytes.result.now c.in-Err.fault _ _ c.as_str-2.ensures (search rules) c.in-Err.ensures grown) c.write_write_fault.ensures
+returns c = on_ok_weaker c.write_echo_fault.result (λ grown. echo_fault_written _ c.args.cpu c.args.path.now c.args.word.now c.as_str-2.result.now c.as_bytes.result.now c.in-Err.fault _ _ c.as_str-2.ensures (search rules) c.in-Err.ensures grown) c.write_echo_fault.ensures
