@@ -4,9 +4,9 @@ use Rattle.std.proofs.lemmas.List.{take_more}
 use Rattle.hp_units.specs.LayoutParts.{LayoutParts}
 use Rattle.hp_units.specs.History.{value_of, net_of, run}
 use Rattle.hp_machine.specs.Machine.{MachineValue, booted}
-use Rattle.hp_workers.specs.declared.lines.Line.{Line}
-use Rattle.hp_workers.specs.declared.lines.Work.{Work}
-use Rattle.hp_workers.specs.declared.lines.Work.TheVariants as work
+use Rattle.hp_scenario.specs.declared.lines.Line.{Line}
+use Rattle.hp_scenario.specs.declared.lines.Work.{Work}
+use Rattle.hp_scenario.specs.declared.lines.Work.TheVariants as work
 use Rattle.hotplug.specs.Serial.{GrowsBy, IsWhole, WritesLine, WritesLines, WritesWork, lines_text, line_text, machine_after, machine_after_lines, machine_after_work, work_text}
 use Rattle.hotplug.proofs.EventsDue.{IsUpToDate, event_due, event_is}
 use Rattle.hotplug.proofs.FilesDue.{cat_due, echo_due, echo_is}

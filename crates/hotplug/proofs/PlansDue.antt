@@ -17,7 +17,7 @@ use Rattle.hp_units.specs.declared.replies.Receipt.{Receipt}
 use Rattle.hp_units.specs.declared.replies.Record.{Record}
 use Rattle.hp_units.specs.declared.replies.Reply.{Reply}
 use Rattle.hp_machine.specs.Machine.{IsCalled, MachineValue, is_full, last_serial, record_of}
-use Rattle.hp_ops.specs.MachinePorts.{AreCalls, HasCause}
+use Rattle.hp_machine.specs.MachinePorts.{AreCalls, HasCause}
 use Rattle.hotplug.specs.Events.{next_record, with_record}
 use Rattle.hotplug.specs.PlanText.{operation_text, plan_line}
 use Rattle.hotplug.specs.Plans.{IsPlanRun, PlanRun, WritesPlan, end_with, going_on, plan_run, plan_text, run_on}

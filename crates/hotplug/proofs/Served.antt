@@ -5,11 +5,11 @@ use Rattle.std.specs.Io.KnownBytes.{Appends, Consumes, IsAtEnd}
 use Rattle.hp_units.specs.Memory.{Memory}
 use Rattle.hp_machine.specs.Machine.{MachineValue, booted}
 use Rattle.hp_plain.specs.Image.{Pictured}
-use Rattle.hp_workers.specs.declared.lines.Line.{Line}
-use Rattle.hp_workers.specs.declared.fault.ScenarioFault.{ScenarioFault}
-use Rattle.hp_workers.specs.declared.fault.ScenarioFault.TheVariants as scenario
-use Rattle.hp_workers.specs.Gives.{◌>>=◌, Fails}
-use Rattle.hp_workers.specs.Scenario.{ScenarioValue, scenario_in}
+use Rattle.hp_scenario.specs.declared.lines.Line.{Line}
+use Rattle.hp_scenario.specs.declared.fault.ScenarioFault.{ScenarioFault}
+use Rattle.hp_scenario.specs.declared.fault.ScenarioFault.TheVariants as scenario
+use Rattle.hp_scenario.specs.Gives.{◌>>=◌, Fails}
+use Rattle.hp_scenario.specs.Scenario.{ScenarioValue, scenario_in}
 use Rattle.hotplug.specs.StateText.{state_text}
 use Rattle.hotplug.specs.Serial.{GrowsBy, IsWhole, WritesLines, end_text, lines_text, scenario_text, serial_text}
 use Rattle.hotplug.proofs.Lines.{AreDue, lines_due, run_is}

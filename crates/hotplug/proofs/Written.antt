@@ -6,7 +6,7 @@ use Rattle.hp_units.specs.declared.replies.OpEnd.{OpEnd}
 use Rattle.hp_units.specs.declared.replies.Receipt.{Receipt}
 use Rattle.hp_units.specs.Driver.{IsDriverRun}
 use Rattle.hp_machine.specs.Machine.{MachineValue}
-use Rattle.hp_ops.specs.MachinePorts.{AreCalls, HasCause}
+use Rattle.hp_machine.specs.MachinePorts.{AreCalls, HasCause}
 use Rattle.hp_control.specs.declared.fault.ControlFault.{ControlFault}
 use Rattle.hp_control.specs.declared.fault.ControlFault.TheVariants.{NoFile, ReadOnly, BadText, OutOfMemory, WriteOnly}
 use Rattle.hp_control.specs.declared.writes.Request.{Request}

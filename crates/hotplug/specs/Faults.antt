@@ -1,8 +1,8 @@
 -- Which fault comes when.
 use Rattle.std.specs.Prelude.{◌≡◌, ℕ, ◌<◌, List, length, Option, Err, IfSome}
-use Rattle.hp_workers.specs.declared.fault.ScenarioFault.{ScenarioFault}
-use Rattle.hp_workers.specs.declared.fault.ScenarioFault.TheVariants as scenario
-use Rattle.hp_workers.specs.Scenario.{scenario_in}
+use Rattle.hp_scenario.specs.declared.fault.ScenarioFault.{ScenarioFault}
+use Rattle.hp_scenario.specs.declared.fault.ScenarioFault.TheVariants as scenario
+use Rattle.hp_scenario.specs.Scenario.{scenario_in}
 use Rattle.hotplug.specs.declared.fault.ProgramFault.{ProgramFault}
 use Rattle.hotplug.specs.declared.fault.ProgramFault.TheVariants.{ReadFailed, TooLong, NotJson, BadShape, Layout, BadLine, OutOfMemory, WriteFailed}
 

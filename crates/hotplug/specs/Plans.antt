@@ -10,7 +10,7 @@ use Rattle.hp_units.specs.declared.replies.Receipt.{Receipt}
 use Rattle.hp_units.specs.Driver.{IsDriverRun, end_of, next_event, operation_of}
 use Rattle.hp_units.specs.Receipts.{receipt_of}
 use Rattle.hp_machine.specs.Machine.{MachineValue, is_full}
-use Rattle.hp_ops.specs.MachinePorts.{AreCalls, HasCause}
+use Rattle.hp_machine.specs.MachinePorts.{AreCalls, HasCause}
 use Rattle.hotplug.specs.Events.{next_record, with_record}
 use Rattle.hotplug.specs.PlanText.{plan_line}
 

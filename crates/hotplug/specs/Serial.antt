@@ -2,12 +2,12 @@
 use Rattle.std.specs.Prelude.{◌≡◌, ℕ, List, [], ◌∷◌, ◌++◌, codes, Result, Ok}
 use Rattle.hp_units.specs.History.{value_of}
 use Rattle.hp_machine.specs.Machine.{MachineValue, booted}
-use Rattle.hp_workers.specs.declared.fault.ScenarioFault.{ScenarioFault}
-use Rattle.hp_workers.specs.declared.lines.Line.{Line}
-use Rattle.hp_workers.specs.declared.lines.Work.{Work}
-use Rattle.hp_workers.specs.declared.lines.Work.TheVariants as work
-use Rattle.hp_workers.specs.Gives.{◌>>=◌}
-use Rattle.hp_workers.specs.Scenario.{ScenarioValue, scenario_in}
+use Rattle.hp_scenario.specs.declared.fault.ScenarioFault.{ScenarioFault}
+use Rattle.hp_scenario.specs.declared.lines.Line.{Line}
+use Rattle.hp_scenario.specs.declared.lines.Work.{Work}
+use Rattle.hp_scenario.specs.declared.lines.Work.TheVariants as work
+use Rattle.hp_scenario.specs.Gives.{◌>>=◌}
+use Rattle.hp_scenario.specs.Scenario.{ScenarioValue, scenario_in}
 use Rattle.hotplug.specs.Events.{WritesEvent, event_text, machine_after_event}
 use Rattle.hotplug.specs.Files.{WritesEcho, WritesFile, asked_by, cat_text, machine_after_request, request_text}
 use Rattle.hotplug.specs.Plans.{WritesPlan, plan_run, plan_text}

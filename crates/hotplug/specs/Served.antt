@@ -2,7 +2,7 @@
 use Rattle.std.specs.Prelude.{◌≡◌, ℕ, List, ◌++◌, Option, Ok, IfSome}
 use Rattle.std.specs.Io.KnownBytes.{Appends}
 use Rattle.hp_machine.specs.Machine.{MachineValue, booted}
-use Rattle.hp_workers.specs.Scenario.{ScenarioValue, scenario_in}
+use Rattle.hp_scenario.specs.Scenario.{ScenarioValue, scenario_in}
 use Rattle.hotplug.specs.declared.words.Command.{Command}
 use Rattle.hotplug.specs.declared.words.Command.TheVariants.{Serial}
 use Rattle.hotplug.specs.Serial.{serial_text, end_text, WritesLines, IsWhole}

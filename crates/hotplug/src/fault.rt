@@ -4,7 +4,7 @@ ghost use Rattle.std.specs.Prelude.{◌≡◌, Some};
 ghost use Rattle.hotplug.specs.declared.fault.ProgramFault.TheVariants.{OutOfMemory};
 
 use hp_units::LayoutFault;
-use hp_workers::ScenarioFault;
+use hp_scenario::ScenarioFault;
 use std::alloc::AllocError;
 use std::error::Error;
 use std::fmt;

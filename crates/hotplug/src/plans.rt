@@ -5,8 +5,8 @@ ghost use Rattle.hotplug.specs.PlanText.{cancel_word, end_words, operation_text,
 ghost use Rattle.hotplug.specs.Plans.{IsPlanRun, WritesPlan};
 ghost use Rattle.hotplug.specs.Serial.{GrowsBy};
 
-use hp_machine::Machine;
-use hp_ops::{MachinePort, run_plan};
+use hp_machine::{Machine, MachinePort};
+use hp_ops::run_plan;
 use hp_units::{CallFault, Cpu, OpEnd, Plan, Refusal, Serial};
 use std::alloc::{AllocError, Global};
 

@@ -1,6 +1,6 @@
 //! The text of a scenario.
 ghost use Rattle.std.specs.Prelude.{OnOk, IfOk, IfErr, string_bytes};
-ghost use Rattle.hp_workers.specs.Gives.{Fails};
+ghost use Rattle.hp_scenario.specs.Gives.{Fails};
 ghost use Rattle.hotplug.specs.Serial.{GrowsBy, WritesLine, WritesLines, serial_text};
 ghost use Rattle.hotplug.specs.Served.{IsTextOf};
 
@@ -9,7 +9,7 @@ use crate::files::{write_echo, write_file};
 use crate::plans::write_plan;
 use crate::state::write_state;
 use hp_machine::Machine;
-use hp_workers::{Line, Scenario, ScenarioFault, Work};
+use hp_scenario::{Line, Scenario, ScenarioFault, Work};
 use std::alloc::{AllocError, Global};
 
 /// The text of a scenario: what each line writes, and then the state.

@@ -1,5 +1,5 @@
 use Rattle.std.proofs.lemmas.Result.{err_from_is_err_and}
-use Rattle.hp_workers.specs.Seen.{scenario_seen}
+use Rattle.hp_scenario.specs.Seen.{scenario_seen}
 use Rattle.hotplug.proofs.Served.{serial_fails, ran_text}
 use Rattle.hotplug.proofs.serial.serial.Goals as goal
 
