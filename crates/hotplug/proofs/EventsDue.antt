@@ -2,9 +2,11 @@
 use Rattle.std.proofs.Common.{◌≡◌, ℕ, Bool, true, false, List, ◌++◌, codes, if◌then◌else◌, refl, sym, subst, inl, inr}
 use Rattle.hp_units.specs.History.{value_of}
 use Rattle.hp_units.specs.declared.events.Event.{Event}
+use Rattle.hp_units.specs.declared.replies.CallFault.TheVariants.{OutOfMemory}
 use Rattle.hp_units.specs.declared.replies.Record.{Record}
 use Rattle.hp_machine.specs.Machine.{MachineValue, is_full}
-use Rattle.hotplug.specs.Events.{WritesEvent, event_text, machine_after_event, next_record, wanting_line, with_record}
+use Rattle.hotplug.specs.Events.{WritesEvent, event_text, machine_after_event, next_record, with_record}
+use Rattle.hp_text.specs.Answers.{unrecorded_line}
 use Rattle.hotplug.specs.Serial.{IsWhole}
 use Rattle.hotplug.proofs.Whole.{not_whole}
 
@@ -26,8 +28,8 @@ event_is m cpu event text new h (inl w) = subst IsUpToDate (sym w.1) (event_next
 event_is m cpu event text new h (inr w) = subst IsUpToDate (sym w.2) h
 
 -- want of memory makes a text that isn't whole
-wanting_is_not_whole : (b : List ℕ) → IsWhole (wanting_line ++ b) → ⊥
-wanting_is_not_whole b whole = not_whole (wanting_line ++ b) (codes "-: fault ") b refl whole
+wanting_is_not_whole : (b : List ℕ) → IsWhole (unrecorded_line OutOfMemory ++ b) → ⊥
+wanting_is_not_whole b whole = not_whole (unrecorded_line OutOfMemory ++ b) (codes "-: fault ") b refl whole
 
 -- in a whole text an event wrote what is due
 pub event_due : (m : MachineValue) (cpu : ℕ) (event : Event) (text : List ℕ) (new : MachineValue) (rest : List ℕ) → WritesEvent m cpu event text new → IsWhole (text ++ rest) → (text ≡ event_text m cpu event) × (new ≡ machine_after_event m cpu event)

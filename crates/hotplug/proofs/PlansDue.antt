@@ -19,10 +19,10 @@ use Rattle.hp_units.specs.declared.replies.Reply.{Reply}
 use Rattle.hp_machine.specs.Machine.{IsCalled, MachineValue, is_full, last_serial, record_of}
 use Rattle.hp_machine.specs.MachinePorts.{AreCalls, HasCause}
 use Rattle.hotplug.specs.Events.{next_record, with_record}
-use Rattle.hotplug.specs.PlanText.{operation_text, plan_line}
+use Rattle.hp_text.specs.Plans.{operation_text, plan_line}
 use Rattle.hotplug.specs.Plans.{IsPlanRun, PlanRun, WritesPlan, end_with, going_on, plan_run, plan_text, run_on}
 use Rattle.hotplug.specs.Serial.{IsWhole}
-use Rattle.hotplug.specs.StateText.{newline}
+use Rattle.hp_text.specs.State.{newline}
 use Rattle.hotplug.proofs.EventsDue.{IsUpToDate}
 use Rattle.hotplug.proofs.Whole.{not_whole}
 

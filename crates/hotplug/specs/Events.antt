@@ -1,13 +1,11 @@
 -- What an event writes, and what it makes of the machine.
-use Rattle.std.specs.Prelude.{◌≡◌, ◌⊎◌, ℕ, ◌+◌, false, if◌then◌else◌, List, [], ◌∷◌, ◌++◌, codes}
-use Rattle.std.specs.Fmt.{decimal}
+use Rattle.std.specs.Prelude.{◌≡◌, ◌⊎◌, ℕ, ◌+◌, false, if◌then◌else◌, List, [], ◌∷◌, ◌++◌}
 use Rattle.hp_units.specs.declared.events.Event.{Event}
+use Rattle.hp_units.specs.declared.replies.CallFault.TheVariants.{HistoryFull, OutOfMemory}
 use Rattle.hp_units.specs.declared.replies.Record.{Record}
-use Rattle.hp_units.specs.declared.replies.Reply.{Reply}
 use Rattle.hp_units.specs.History.{reply_of, value_of}
-use Rattle.hp_units.specs.Texts.{reply_text}
 use Rattle.hp_machine.specs.Machine.{MachineValue, is_full, last_serial}
-use Rattle.hotplug.specs.StateText.{newline}
+use Rattle.hp_text.specs.Answers.{reply_line, unrecorded_line}
 
 -- the record that an event of a processor makes behind a machine's history
 abbrev pub next_record : MachineValue → (cpu : ℕ) → Event → Record
@@ -18,20 +16,9 @@ next_record m cpu event =
 abbrev pub with_record : MachineValue → Record → MachineValue
 with_record m r = record m { history = m.history ++ r ∷ []; state = value_of m.layout m.base (m.history ++ r ∷ []) }
 
--- a serial, and the reply to it
-abbrev pub reply_line : ℕ → Reply → List ℕ
-reply_line serial reply = decimal serial ++ codes ": " ++ reply_text reply ++ newline
-
--- an event that left no record because the history is full, or because memory was wanting
-abbrev pub full_line : List ℕ
-full_line = codes "-: fault HistoryFull" ++ newline
-
-abbrev pub wanting_line : List ℕ
-wanting_line = codes "-: fault OutOfMemory" ++ newline
-
 -- what an event writes, and the machine behind it
 unfoldable pub event_text : MachineValue → (cpu : ℕ) → Event → List ℕ
-event_text m cpu event = if is_full m then full_line else reply_line (next_record m cpu event).serial (next_record m cpu event).reply
+event_text m cpu event = if is_full m then unrecorded_line HistoryFull else reply_line (next_record m cpu event).serial (next_record m cpu event).reply
 
 unfoldable pub machine_after_event : MachineValue → (cpu : ℕ) → Event → MachineValue
 machine_after_event m cpu event = if is_full m then m else with_record m (next_record m cpu event)
@@ -39,7 +26,7 @@ machine_after_event m cpu event = if is_full m then m else with_record m (next_r
 -- text and machine became what they are to be; or memory was wanting, with room in the history, which is said in place of it,
 -- and the machine is as it was
 abbrev pub Writes : MachineValue → (due : List ℕ) → (next : MachineValue) → (text : List ℕ) → (new : MachineValue) → Type 0
-Writes m due next text new = ((text ≡ due) × (new ≡ next)) ⊎ ((is_full m ≡ false) × (text ≡ wanting_line) × (new ≡ m))
+Writes m due next text new = ((text ≡ due) × (new ≡ next)) ⊎ ((is_full m ≡ false) × (text ≡ unrecorded_line OutOfMemory) × (new ≡ m))
 
 -- an event was called
 abbrev pub WritesEvent : MachineValue → (cpu : ℕ) → Event → (text : List ℕ) → (new : MachineValue) → Type 0

@@ -12,7 +12,7 @@ use Rattle.hp_units.specs.Receipts.{receipt_of}
 use Rattle.hp_machine.specs.Machine.{MachineValue, is_full}
 use Rattle.hp_machine.specs.MachinePorts.{AreCalls, HasCause}
 use Rattle.hotplug.specs.Events.{next_record, with_record}
-use Rattle.hotplug.specs.PlanText.{plan_line}
+use Rattle.hp_text.specs.Plans.{plan_line}
 
 -- ---- a run where no memory is wanting
 

@@ -1,10 +1,11 @@
 //! An event's line.
-ghost use Rattle.std.specs.Prelude.{◌≡◌, ◌++◌, OnOk, string_bytes};
-ghost use Rattle.hotplug.specs.Events.{WritesEvent, reply_line};
+ghost use Rattle.std.specs.Prelude.{OnOk, string_bytes};
+ghost use Rattle.hotplug.specs.Events.{WritesEvent};
 ghost use Rattle.hotplug.specs.Serial.{GrowsBy};
 
 use hp_machine::Machine;
-use hp_units::{CallFault, Cpu, Event, Receipt};
+use hp_text::{write_receipt, write_unrecorded};
+use hp_units::{CallFault, Cpu, Event};
 use std::alloc::{AllocError, Global};
 
 /// Calls the machine with an event, and writes the receipt or why there is none.
@@ -19,19 +20,8 @@ pub fn write_event(
     ensures { OnOk result (GrowsBy (string_bytes out.old) (string_bytes out.new) (λ text. WritesEvent machine.old cpu event.now text machine.new)) }
 {
     match machine.call(alloc, cpu, event) {
-        Ok(receipt) => write_receipt(out, &receipt)?,
-        Err(CallFault::HistoryFull) => out.push_str("-: fault HistoryFull\n")?,
-        Err(CallFault::OutOfMemory) => out.push_str("-: fault OutOfMemory\n")?,
+        Ok(receipt) => write_receipt(out, &receipt),
+        Err(CallFault::HistoryFull) => write_unrecorded(out, CallFault::HistoryFull),
+        Err(CallFault::OutOfMemory) => write_unrecorded(out, CallFault::OutOfMemory),
     }
-    Ok(())
-}
-
-/// Writes the serial and the reply of a receipt.
-fn write_receipt(out: &mut String, receipt: &Receipt) -> Result<(), AllocError>
-    ensures { OnOk result (string_bytes out.new ≡ string_bytes out.old ++ reply_line receipt.now.serial receipt.now.reply) }
-{
-    let serial = receipt.serial;
-    let reply = receipt.reply;
-    writeln!(out, "{serial}: {reply}")?;
-    Ok(())
 }

@@ -1,17 +1,15 @@
 //! The lines on control files.
-ghost use Rattle.std.specs.Prelude.{◌≡◌, ◌++◌, Ok, OnOk, string_bytes};
-ghost use Rattle.hotplug.specs.Files.{WritesEcho, WritesFile, WritesRequest, read_fault_line, write_fault_line};
+ghost use Rattle.std.specs.Prelude.{Ok, OnOk, string_bytes};
+ghost use Rattle.hotplug.specs.Files.{WritesEcho, WritesFile, WritesRequest};
 ghost use Rattle.hotplug.specs.Serial.{GrowsBy};
 
 use crate::events::write_event;
 use crate::plans::write_plan;
-use hp_control::{ControlFault, Request, parse_write, read_text};
+use hp_control::{CONTROL_TURNS, Request, parse_echo, read_text};
 use hp_machine::Machine;
+use hp_text::{write_echo_fault, write_read_fault};
 use hp_units::{Cpu, Text};
 use std::alloc::{AllocError, Global};
-
-/// The migrations that a plan may try that a control file asks for.
-const CONTROL_TURNS: u32 = 1024;
 
 /// Reads a control file, and writes its text or why there is none. It makes no record.
 pub fn write_file(
@@ -28,13 +26,6 @@ pub fn write_file(
     }
 }
 
-/// Writes why a file was not read.
-fn write_read_fault(out: &mut String, fault: ControlFault) -> Result<(), AllocError>
-    ensures { OnOk result (string_bytes out.new ≡ string_bytes out.old ++ read_fault_line fault) }
-{
-    writeln!(out, "cat: fault {fault}")
-}
-
 /// Writes a word and a newline to a control file, does what that asks for, and writes how it went.
 pub fn write_echo(
     out: &mut String,
@@ -46,11 +37,9 @@ pub fn write_echo(
 ) -> Result<(), AllocError>
     ensures { OnOk result (GrowsBy (string_bytes out.old) (string_bytes out.new) (λ text. WritesEcho machine.old cpu path.now word.now text machine.new)) }
 {
-    let mut line = String::from_str(alloc, word.as_str())?;
-    line.push_str("\n")?;
-    match parse_write(alloc, path.as_str(), line.as_bytes()) {
+    match parse_echo(alloc, path.as_str(), word.as_str()) {
         Ok(request) => write_request(out, alloc, machine, cpu, &request),
-        Err(fault) => write_write_fault(out, fault),
+        Err(fault) => write_echo_fault(out, fault),
     }
 }
 
@@ -68,11 +57,4 @@ fn write_request(
         Request::Event(event) => write_event(out, alloc, machine, cpu, event),
         Request::Plan(plan) => write_plan(out, alloc, machine, cpu, plan, CONTROL_TURNS),
     }
-}
-
-/// Writes why a text was not taken.
-fn write_write_fault(out: &mut String, fault: ControlFault) -> Result<(), AllocError>
-    ensures { OnOk result (string_bytes out.new ≡ string_bytes out.old ++ write_fault_line fault) }
-{
-    writeln!(out, "echo: fault {fault}")
 }

@@ -1,13 +1,12 @@
 //! A plan's line.
-ghost use Rattle.std.specs.Prelude.{◌≡◌, ◌++◌, OnOk, codes, string_bytes};
-ghost use Rattle.hp_units.specs.Texts.{call_fault_text};
-ghost use Rattle.hotplug.specs.PlanText.{cancel_word, end_words, operation_text, plan_line, why_text};
+ghost use Rattle.std.specs.Prelude.{OnOk, string_bytes};
 ghost use Rattle.hotplug.specs.Plans.{IsPlanRun, WritesPlan};
 ghost use Rattle.hotplug.specs.Serial.{GrowsBy};
 
 use hp_machine::{Machine, MachinePort};
 use hp_ops::run_plan;
-use hp_units::{CallFault, Cpu, OpEnd, Plan, Refusal, Serial};
+use hp_text::write_plan_end;
+use hp_units::{Cpu, OpEnd, Plan};
 use std::alloc::{AllocError, Global};
 
 /// Runs a plan's driver with at most `turns` migrations, and writes how it ended.
@@ -23,7 +22,7 @@ pub fn write_plan(
 {
     let plan = plan.copy(alloc)?;
     let end = drive(alloc, machine, cpu, plan, turns);
-    write_end(out, end)
+    write_plan_end(out, end)
 }
 
 /// Runs a plan's driver on the machine.
@@ -35,64 +34,4 @@ fn drive(alloc: Global, machine: &mut Machine, cpu: Cpu, plan: Plan, turns: u32)
     // No effect at run time: the proof reads what the machine holds from this use.
     let _ = &*port.machine;
     end
-}
-
-/// Writes the line of a plan's end (own rule).
-fn write_end(out: &mut String, end: OpEnd) -> Result<(), AllocError>
-    ensures { OnOk result (string_bytes out.new ≡ string_bytes out.old ++ plan_line end) }
-{
-    out.push_str("plan: ")?;
-    write_words(out, end)?;
-    out.push_str("\n")
-}
-
-/// Writes how a plan ended.
-fn write_words(out: &mut String, end: OpEnd) -> Result<(), AllocError>
-    ensures { OnOk result (string_bytes out.new ≡ string_bytes out.old ++ end_words end) }
-{
-    match end {
-        OpEnd::Done => out.push_str("done"),
-        OpEnd::Refused(refusal) => write!(out, "refused {refusal}"),
-        OpEnd::Cancelled { why, restored } => write_cancelled(out, why, restored),
-        OpEnd::Undone => out.push_str("undone"),
-        OpEnd::Left { op, fault } => write_left(out, op, fault),
-    }
-}
-
-/// Writes that a plan was cancelled: why, and what the Cancel did.
-fn write_cancelled(out: &mut String, why: Option<Refusal>, restored: bool) -> Result<(), AllocError>
-    ensures { OnOk result (string_bytes out.new ≡ string_bytes out.old ++ codes "cancelled " ++ why_text why ++ codes " " ++ cancel_word restored) }
-{
-    out.push_str("cancelled ")?;
-    write_why(out, why)?;
-    out.push_str(if restored { " restored" } else { " released" })
-}
-
-/// Writes the last refusal, or a dash.
-fn write_why(out: &mut String, why: Option<Refusal>) -> Result<(), AllocError>
-    ensures { OnOk result (string_bytes out.new ≡ string_bytes out.old ++ why_text why) }
-{
-    match why {
-        Some(refusal) => write!(out, "{refusal}"),
-        None => out.push_str("-"),
-    }
-}
-
-/// Writes that an operation was left, and the fault.
-fn write_left(out: &mut String, op: Option<Serial>, fault: CallFault) -> Result<(), AllocError>
-    ensures { OnOk result (string_bytes out.new ≡ string_bytes out.old ++ codes "left " ++ operation_text op ++ codes " " ++ call_fault_text fault) }
-{
-    out.push_str("left ")?;
-    write_operation(out, op)?;
-    write!(out, " {fault}")
-}
-
-/// Writes an operation's number, or a dash.
-fn write_operation(out: &mut String, op: Option<Serial>) -> Result<(), AllocError>
-    ensures { OnOk result (string_bytes out.new ≡ string_bytes out.old ++ operation_text op) }
-{
-    match op {
-        Some(op) => write!(out, "{op}"),
-        None => out.push_str("-"),
-    }
 }

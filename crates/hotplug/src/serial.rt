@@ -7,9 +7,9 @@ ghost use Rattle.hotplug.specs.Served.{IsTextOf};
 use crate::events::write_event;
 use crate::files::{write_echo, write_file};
 use crate::plans::write_plan;
-use crate::state::write_state;
 use hp_machine::Machine;
 use hp_scenario::{Line, Scenario, ScenarioFault, Work};
+use hp_text::write_state;
 use std::alloc::{AllocError, Global};
 
 /// The text of a scenario: what each line writes, and then the state.

@@ -1,6 +1,0 @@
-use Rattle.std.proofs.Common.{◌≡◌, ◌++◌, string_bytes}
-use Rattle.hotplug.specs.StateText.{owner_text, texts_below}
-use Rattle.hotplug.proofs.state.pages.write_pages.Given as goal
-
-abbrev pub invariant-loop-number : goal.invariant-loop-number
-invariant-loop-number l = string_bytes l.out ≡ string_bytes l.fn.out ++ texts_below (owner_text l.image.layout l.names.keys l.image.memory.pages) l.number

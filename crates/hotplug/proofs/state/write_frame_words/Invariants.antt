@@ -1,7 +1,0 @@
-use Rattle.std.proofs.Common.{◌≡◌, ◌++◌, string_bytes, take}
-use Rattle.std.specs.List.{flat_map}
-use Rattle.hotplug.specs.StateText.{number_word}
-use Rattle.hotplug.proofs.state.write_frame_words.Given as goal
-
-abbrev pub invariant-loop-frame : goal.invariant-loop-frame
-invariant-loop-frame l = string_bytes l.out ≡ string_bytes l.fn.out ++ flat_map number_word (take l.frame-index l.frames)

@@ -1,6 +1,0 @@
-use Rattle.std.proofs.Common.{◌≡◌, ◌++◌, string_bytes}
-use Rattle.hotplug.specs.StateText.{processor_lists_text, texts_below}
-use Rattle.hotplug.proofs.state.write_processors.Given as goal
-
-abbrev pub invariant-loop-number : goal.invariant-loop-number
-invariant-loop-number l = string_bytes l.out ≡ string_bytes l.fn.out ++ texts_below (processor_lists_text l.image.memory.free) l.number

@@ -1,0 +1,23 @@
+-- How the answer to an event is written.
+use Rattle.std.specs.Prelude.{ℕ, List, ◌++◌, codes}
+use Rattle.std.specs.Fmt.{decimal}
+use Rattle.hp_units.specs.Texts.{call_fault_text, reply_text}
+use Rattle.hp_units.specs.declared.replies.CallFault.{CallFault}
+use Rattle.hp_units.specs.declared.replies.Reply.{Reply}
+use Rattle.hp_text.specs.State.{newline}
+
+-- a reply alone
+abbrev pub bare_reply_line : Reply → List ℕ
+bare_reply_line reply = reply_text reply ++ newline
+
+-- a serial, and the reply to it
+abbrev pub reply_line : ℕ → Reply → List ℕ
+reply_line serial reply = decimal serial ++ codes ": " ++ reply_text reply ++ newline
+
+-- why an event left no record, alone
+abbrev pub fault_line : CallFault → List ℕ
+fault_line fault = codes "fault " ++ call_fault_text fault ++ newline
+
+-- a dash in place of a serial, and why there is none
+abbrev pub unrecorded_line : CallFault → List ℕ
+unrecorded_line fault = codes "-: fault " ++ call_fault_text fault ++ newline

@@ -1,0 +1,13 @@
+-- How the fault of a control file is written.
+use Rattle.std.specs.Prelude.{ℕ, List, ◌++◌, codes}
+use Rattle.hp_control.specs.declared.fault.ControlFault.{ControlFault}
+use Rattle.hp_control.specs.FaultName.{fault_name}
+use Rattle.hp_text.specs.State.{newline}
+
+-- why a file was not read
+abbrev pub read_fault_line : ControlFault → List ℕ
+read_fault_line fault = codes "cat: fault " ++ fault_name fault ++ newline
+
+-- why a text was not taken
+abbrev pub write_fault_line : ControlFault → List ℕ
+write_fault_line fault = codes "echo: fault " ++ fault_name fault ++ newline

@@ -1,0 +1,19 @@
+//! Texts: how a call's answer, the end of a plan, the fault of a control file and a whole state are written. Each function appends
+//! to a `String` exactly the text that specs/ gives for its value, and changes nothing else; what it answers is `AllocError`, want
+//! of memory, where the text may be there in part.
+//!
+//! The crate knows nothing of streams, scenarios or threads. Each program that prints such values stands on it. Read specs/Answers
+//! first, then specs/State.
+#![tactic(auto)]
+
+mod answers;
+mod files;
+mod plans;
+mod state;
+#[cfg(test)]
+mod tests;
+
+pub use answers::{write_call_fault, write_receipt, write_reply, write_unrecorded};
+pub use files::{write_echo_fault, write_read_fault};
+pub use plans::write_plan_end;
+pub use state::write_state;

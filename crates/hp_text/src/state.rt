@@ -1,0 +1,333 @@
+//! How a state is written, part by part.
+ghost use Rattle.std.specs.Prelude.{◌≡◌, ◌++◌, Some, OnOk, string_bytes};
+ghost use Rattle.std.specs.List.{flat_map};
+ghost use Rattle.hp_text.specs.State.{auto_line, block_line, blocks_text, class_lists_text, frames_text, free_lists_text, has_mark, kernel_line, kernel_text, list_line, mark_text, marked_line, marked_word, marked_words, number_word, pages_text, processor_lists_text, processors_lists_text, row_line, rows_text, state_text, state_words, zone_word};
+
+mod pages;
+
+use self::pages::write_pages;
+use hp_plain::Image;
+use hp_units::{
+    Auto, Block, Class, Cpu, Frame, Kind, Mobility, Order, Pageblock, Pool, Row, State, Text, Zone,
+};
+use indexmap::IndexSet;
+use std::alloc::{AllocError, Global};
+use std::fmt;
+
+/// A list of free frames: of a class and an order, or of a processor for a pool.
+#[derive(Clone, Copy, Debug, PartialEq, Eq)]
+enum ListName {
+    Free(Class, Order),
+    Cached(Cpu, Pool),
+}
+
+impl fmt::Display for ListName {
+    ghost use Rattle.hp_text.specs.State.{list_name_text};
+
+    ghost output = { λ name. Some (list_name_text name) };
+
+    fn fmt<W: fmt::Write>(&self, f: &mut fmt::Formatter<W>) -> fmt::Result {
+        match self {
+            ListName::Free(class, order) => write!(f, "{class} {order}"),
+            ListName::Cached(cpu, pool) => write!(f, "cpu {cpu} {pool}"),
+        }
+    }
+}
+
+/// What a pageblock can be marked by.
+#[derive(Clone, Copy, Debug, PartialEq, Eq)]
+enum Mark {
+    Unmovable,
+    Isolated,
+}
+
+impl fmt::Display for Mark {
+    ghost use Rattle.hp_text.specs.State.{mark_text};
+
+    ghost output = { λ mark. Some (mark_text mark) };
+
+    fn fmt<W: fmt::Write>(&self, f: &mut fmt::Formatter<W>) -> fmt::Result {
+        match self {
+            Mark::Unmovable => write!(f, "unmovable"),
+            Mark::Isolated => write!(f, "isolated"),
+        }
+    }
+}
+
+/// Writes a state, each part only where it has something: the memory blocks, what an added block becomes, the unmovable and
+/// the isolated pageblocks, the free lists, the processors' lists, the kernel's blocks and the mapped pages. Owners are
+/// written by their names.
+#[tactic(auto, unfolding(crate::specs::State::state_text, crate::specs::State::rows_text))]
+pub fn write_state(
+    out: &mut String,
+    alloc: Global,
+    image: &Image,
+    names: &IndexSet<Text>,
+) -> Result<(), AllocError>
+    ensures { OnOk result (string_bytes out.new ≡ string_bytes out.old ++ state_text image.now.layout names.now.keys image.now.memory) }
+{
+    out.push_str("state\n")?;
+    write_blocks(out, image)?;
+    write_auto(out, image.auto())?;
+    write_marked(out, alloc, image, Mark::Unmovable)?;
+    write_marked(out, alloc, image, Mark::Isolated)?;
+    write_frames(out, image, names)?;
+    Ok(())
+}
+
+/// Writes the frames that are free, and those that are in use.
+#[tactic(auto, unfolding(crate::specs::State::frames_text))]
+fn write_frames(out: &mut String, image: &Image, names: &IndexSet<Text>) -> Result<(), AllocError>
+    ensures { OnOk result (string_bytes out.new ≡ string_bytes out.old ++ frames_text image.now.layout names.now.keys image.now.memory) }
+{
+    write_free_lists(out, image)?;
+    write_processors(out, image)?;
+    write_kernel_blocks(out, image)?;
+    write_pages(out, image, names)?;
+    Ok(())
+}
+
+/// Writes a line for each memory block.
+#[tactic(auto, unfolding(crate::specs::State::blocks_text))]
+fn write_blocks(out: &mut String, image: &Image) -> Result<(), AllocError>
+    ensures { OnOk result (string_bytes out.new ≡ string_bytes out.old ++ blocks_text image.now.layout image.now.memory.blocks) }
+{
+    for number in 0..image.layout().blocks() {
+        let block = Block(number);
+        write_block(out, block, image.row(block))?;
+    }
+    Ok(())
+}
+
+/// Writes the line of a memory block that there is.
+fn write_block(out: &mut String, block: Block, row: Option<Row>) -> Result<(), AllocError>
+    ensures { OnOk result (string_bytes out.new ≡ string_bytes out.old ++ block_line block row) }
+{
+    if let Some(row) = row {
+        write_row(out, block, row)?;
+    }
+    Ok(())
+}
+
+/// Writes the line of a memory block.
+#[tactic(auto, unfolding(crate::specs::State::row_line))]
+fn write_row(out: &mut String, block: Block, row: Row) -> Result<(), AllocError>
+    ensures { OnOk result (string_bytes out.new ≡ string_bytes out.old ++ row_line block row) }
+{
+    write!(out, "block {block} ")?;
+    write_row_state(out, row.state, row.zone)?;
+    if let Some(claim) = row.claim {
+        let op = claim.op;
+        write!(out, " op {op}")?;
+    }
+    out.push('\n')?;
+    Ok(())
+}
+
+/// Writes the state of a memory block, with its zone where it is online or going.
+fn write_row_state(out: &mut String, state: State, zone: Option<Zone>) -> Result<(), AllocError>
+    ensures { OnOk result (string_bytes out.new ≡ string_bytes out.old ++ state_words state zone) }
+{
+    match state {
+        State::Offline => out.push_str("offline")?,
+        State::Online => {
+            out.push_str("online")?;
+            write_zone(out, zone)?;
+        }
+        State::Going => {
+            out.push_str("going")?;
+            write_zone(out, zone)?;
+        }
+        State::Absent => out.push_str("absent")?,
+    }
+    Ok(())
+}
+
+/// Writes a zone after a space.
+fn write_zone(out: &mut String, zone: Option<Zone>) -> Result<(), AllocError>
+    ensures { OnOk result (string_bytes out.new ≡ string_bytes out.old ++ zone_word zone) }
+{
+    if let Some(zone) = zone {
+        write!(out, " {zone}")?;
+    }
+    Ok(())
+}
+
+/// Writes what a block that is added becomes, where it isn't offline.
+#[tactic(auto, unfolding(crate::specs::State::auto_line))]
+fn write_auto(out: &mut String, auto: Auto) -> Result<(), AllocError>
+    ensures { OnOk result (string_bytes out.new ≡ string_bytes out.old ++ auto_line auto) }
+{
+    if auto != Auto::Offline {
+        writeln!(out, "auto: {auto}")?;
+    }
+    Ok(())
+}
+
+/// Writes the line of the pageblocks that have a mark.
+#[tactic(auto, unfolding(crate::specs::State::marked_line, crate::specs::State::words_line))]
+fn write_marked(
+    out: &mut String,
+    alloc: Global,
+    image: &Image,
+    mark: Mark,
+) -> Result<(), AllocError>
+    ensures { OnOk result (string_bytes out.new ≡ string_bytes out.old ++ marked_line mark image.now.layout image.now.memory.free.areas) }
+{
+    let mut words = String::new(alloc);
+    write_marked_words(&mut words, image, mark)?;
+    if words.is_empty() {
+        return Ok(());
+    }
+    writeln!(out, "{mark}:{words}")?;
+    Ok(())
+}
+
+/// Writes the numbers of the pageblocks that have a mark.
+#[tactic(auto, unfolding(crate::specs::State::marked_words))]
+fn write_marked_words(out: &mut String, image: &Image, mark: Mark) -> Result<(), AllocError>
+    ensures { OnOk result (string_bytes out.new ≡ string_bytes out.old ++ marked_words mark image.now.layout image.now.memory.free.areas) }
+{
+    let layout = image.layout();
+    for number in 0..layout.blocks() * layout.pageblocks() {
+        let pageblock = Pageblock(number);
+        write_marked_word(out, mark, pageblock, image.kind(pageblock))?;
+    }
+    Ok(())
+}
+
+/// Writes the number of a pageblock that has a mark.
+fn write_marked_word(
+    out: &mut String,
+    mark: Mark,
+    pageblock: Pageblock,
+    kind: Option<Kind>,
+) -> Result<(), AllocError>
+    ensures { OnOk result (string_bytes out.new ≡ string_bytes out.old ++ marked_word mark pageblock kind) }
+{
+    if let Some(kind) = kind
+        && has_mark(mark, kind)
+    {
+        write!(out, " {pageblock}")?;
+    }
+    Ok(())
+}
+
+/// Whether a pageblock of a kind has a mark.
+fn has_mark(mark: Mark, kind: Kind) -> bool
+    ensures { result ≡ has_mark mark kind }
+{
+    match mark {
+        Mark::Unmovable => matches!(kind.mobility, Mobility::Unmovable),
+        Mark::Isolated => kind.isolated,
+    }
+}
+
+/// Writes the free lists, by class and order.
+#[tactic(auto, unfolding(crate::specs::State::free_lists_text))]
+fn write_free_lists(out: &mut String, image: &Image) -> Result<(), AllocError>
+    ensures { OnOk result (string_bytes out.new ≡ string_bytes out.old ++ free_lists_text image.now.layout image.now.memory.free.areas) }
+{
+    write_class(out, image, Class::Nu)?;
+    write_class(out, image, Class::Nm)?;
+    write_class(out, image, Class::Mm)?;
+    write_class(out, image, Class::IsoN)?;
+    write_class(out, image, Class::IsoM)?;
+    Ok(())
+}
+
+/// Writes a class's lists by rising order.
+#[tactic(auto, unfolding(crate::specs::State::class_lists_text))]
+fn write_class(out: &mut String, image: &Image, class: Class) -> Result<(), AllocError>
+    ensures { OnOk result (string_bytes out.new ≡ string_bytes out.old ++ class_lists_text image.now.layout image.now.memory.free.areas class) }
+{
+    for number in 0..image.layout().order() + 1 {
+        let order = Order(number);
+        write_list(out, ListName::Free(class, order), image.list(class, order))?;
+    }
+    Ok(())
+}
+
+/// Writes each processor's lists.
+#[tactic(auto, unfolding(crate::specs::State::processors_lists_text))]
+fn write_processors(out: &mut String, image: &Image) -> Result<(), AllocError>
+    ensures { OnOk result (string_bytes out.new ≡ string_bytes out.old ++ processors_lists_text image.now.layout image.now.memory.free) }
+{
+    for number in 0..image.layout().cpus() {
+        write_processor(out, image, Cpu(number))?;
+    }
+    Ok(())
+}
+
+/// Writes a processor's lists.
+#[tactic(auto, unfolding(crate::specs::State::processor_lists_text))]
+fn write_processor(out: &mut String, image: &Image, cpu: Cpu) -> Result<(), AllocError>
+    ensures { OnOk result (string_bytes out.new ≡ string_bytes out.old ++ processor_lists_text image.now.memory.free cpu) }
+{
+    write_list(
+        out,
+        ListName::Cached(cpu, Pool::Nu),
+        image.cpu_list(cpu, Pool::Nu),
+    )?;
+    write_list(
+        out,
+        ListName::Cached(cpu, Pool::Nm),
+        image.cpu_list(cpu, Pool::Nm),
+    )?;
+    write_list(
+        out,
+        ListName::Cached(cpu, Pool::Mm),
+        image.cpu_list(cpu, Pool::Mm),
+    )?;
+    Ok(())
+}
+
+/// Writes the line of a list that has something, front first.
+#[tactic(auto, unfolding(crate::specs::State::numbers_line))]
+fn write_list(out: &mut String, name: ListName, frames: &[Frame]) -> Result<(), AllocError>
+    ensures { OnOk result (string_bytes out.new ≡ string_bytes out.old ++ list_line name frames.now) }
+{
+    if frames.is_empty() {
+        return Ok(());
+    }
+    write!(out, "{name}:")?;
+    write_frame_words(out, frames)?;
+    out.push('\n')?;
+    Ok(())
+}
+
+/// Writes frames, each after a space.
+fn write_frame_words(out: &mut String, frames: &[Frame]) -> Result<(), AllocError>
+    ensures { OnOk result (string_bytes out.new ≡ string_bytes out.old ++ flat_map number_word frames.now) }
+{
+    for frame in frames {
+        write!(out, " {frame}")?;
+    }
+    Ok(())
+}
+
+/// Writes a line for each block of the kernel.
+#[tactic(auto, unfolding(crate::specs::State::kernel_text))]
+fn write_kernel_blocks(out: &mut String, image: &Image) -> Result<(), AllocError>
+    ensures { OnOk result (string_bytes out.new ≡ string_bytes out.old ++ kernel_text image.now.layout image.now.memory) }
+{
+    for number in 0..image.layout().frames() {
+        let frame = Frame(number);
+        write_kernel_block(out, frame, image.kernel_at(frame))?;
+    }
+    Ok(())
+}
+
+/// Writes the line of the kernel's block that starts at a frame.
+fn write_kernel_block(
+    out: &mut String,
+    frame: Frame,
+    order: Option<Order>,
+) -> Result<(), AllocError>
+    ensures { OnOk result (string_bytes out.new ≡ string_bytes out.old ++ kernel_line frame order) }
+{
+    if let Some(order) = order {
+        writeln!(out, "kernel {frame} order {order}")?;
+    }
+    Ok(())
+}

@@ -1,0 +1,101 @@
+//! How the mapped pages of a state are written.
+ghost use Rattle.std.specs.Prelude.{◌≡◌, ◌++◌, OnOk, option_map, string_bytes};
+ghost use Rattle.std.specs.List.{flat_map};
+ghost use Rattle.hp_text.specs.State.{name_of, number_word, owner_text, page_line, page_text, pages_text};
+
+use hp_plain::Image;
+use hp_units::{Frame, Owner, Page, Text};
+use indexmap::IndexSet;
+use std::alloc::AllocError;
+
+/// Writes a line for each mapped page, by owner and page.
+#[tactic(auto, unfolding(crate::specs::State::pages_text))]
+pub(super) fn write_pages(
+    out: &mut String,
+    image: &Image,
+    names: &IndexSet<Text>,
+) -> Result<(), AllocError>
+    ensures { OnOk result (string_bytes out.new ≡ string_bytes out.old ++ pages_text image.now.layout names.now.keys image.now.memory.pages) }
+{
+    for number in 0..image.layout().owners() {
+        write_owner(out, image, names, Owner(number))?;
+    }
+    Ok(())
+}
+
+/// Writes a line for each mapped page of an owner.
+#[tactic(auto, unfolding(crate::specs::State::owner_text))]
+fn write_owner(
+    out: &mut String,
+    image: &Image,
+    names: &IndexSet<Text>,
+    owner: Owner,
+) -> Result<(), AllocError>
+    ensures { OnOk result (string_bytes out.new ≡ string_bytes out.old ++ owner_text image.now.layout names.now.keys image.now.memory.pages owner) }
+{
+    let name = name_of(names, owner);
+    for number in 0..image.layout().pages() {
+        let page = Page(number);
+        write_page(
+            out,
+            name,
+            page,
+            image.frame_at(owner, page),
+            image.words(owner, page),
+        )?;
+    }
+    Ok(())
+}
+
+/// The name of an owner by its number, and an empty one for a number that has no name.
+fn name_of<'a>(names: &'a IndexSet<Text>, owner: Owner) -> &'a str
+    ensures { result.now ≡ name_of names.now.keys owner }
+{
+    match names.get_index(owner.0 as usize) {
+        Some(name) => name.as_str(),
+        None => "",
+    }
+}
+
+/// Writes the line of a page that is mapped.
+fn write_page(
+    out: &mut String,
+    name: &str,
+    page: Page,
+    frame: Option<Frame>,
+    words: Option<&[u64]>,
+) -> Result<(), AllocError>
+    ensures { OnOk result (string_bytes out.new ≡ string_bytes out.old ++ page_text name.now page frame (option_map (λ w. w.now) words.entry)) }
+{
+    if let Some(frame) = frame {
+        write_page_line(out, name, page, frame, words.unwrap_or(&[]))?;
+    }
+    Ok(())
+}
+
+/// Writes the line of a mapped page, with all its words.
+#[tactic(auto, unfolding(crate::specs::State::page_line))]
+fn write_page_line(
+    out: &mut String,
+    name: &str,
+    page: Page,
+    frame: Frame,
+    words: &[u64],
+) -> Result<(), AllocError>
+    ensures { OnOk result (string_bytes out.new ≡ string_bytes out.old ++ page_line name.now page frame words.now) }
+{
+    write!(out, "page {name} {page} at {frame}:")?;
+    write_words(out, words)?;
+    out.push('\n')?;
+    Ok(())
+}
+
+/// Writes words, each after a space.
+fn write_words(out: &mut String, words: &[u64]) -> Result<(), AllocError>
+    ensures { OnOk result (string_bytes out.new ≡ string_bytes out.old ++ flat_map number_word words.now) }
+{
+    for word in words {
+        write!(out, " {word}")?;
+    }
+    Ok(())
+}

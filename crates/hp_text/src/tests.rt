@@ -1,0 +1,102 @@
+//! Each writer once, and a state with a page.
+use crate::{
+    write_call_fault, write_echo_fault, write_plan_end, write_read_fault, write_receipt,
+    write_reply, write_state, write_unrecorded,
+};
+use hp_control::ControlFault;
+use hp_plain::Image;
+use hp_units::{
+    Block, Boot, CallFault, Cpu, Event, Frame, Layout, LayoutFault, OpEnd, Owner, Page, Parts,
+    Receipt, Refusal, Reply, Serial, Text,
+};
+use indexmap::IndexSet;
+use std::alloc::{AllocError, Global};
+use std::test::Fail;
+
+const ANSWERS: &str =
+    "3: frame 8\nrefused Busy 2\n-: fault HistoryFull\nfault OutOfMemory\ncat: fault NoFile\necho: fault BadText\nplan: cancelled NoFrame restored\nplan: left - HistoryFull\n";
+
+/// The text of an answer of each kind.
+fn answers(alloc: Global) -> Result<String, AllocError> {
+    let mut out = String::new(alloc);
+    let receipt = Receipt {
+        serial: Serial(3),
+        event: Event::Drain { cpu: Cpu(0) },
+        reply: Reply::Frame(Frame(8)),
+    };
+    write_receipt(&mut out, &receipt)?;
+    write_reply(&mut out, Reply::Refused(Refusal::Busy { block: Block(2) }))?;
+    write_unrecorded(&mut out, CallFault::HistoryFull)?;
+    write_call_fault(&mut out, CallFault::OutOfMemory)?;
+    write_read_fault(&mut out, ControlFault::NoFile)?;
+    write_echo_fault(&mut out, ControlFault::BadText)?;
+    write_plan_end(
+        &mut out,
+        OpEnd::Cancelled {
+            why: Some(Refusal::NoFrame),
+            restored: true,
+        },
+    )?;
+    write_plan_end(
+        &mut out,
+        OpEnd::Left {
+            op: None,
+            fault: CallFault::HistoryFull,
+        },
+    )?;
+    Ok(out)
+}
+
+#[test]
+fn answers_have_their_texts(rt: HostRuntime) -> Result<(), Fail> {
+    let text = answers(rt.alloc())?;
+    assert!(rt; text.as_str() == ANSWERS);
+    Ok(())
+}
+
+const MAPPED: &str =
+    "state\nblock 0 online normal\nblock 1 online normal\nblock 2 online movable\nblock 3 offline\nNM 2: 0 4\nMM 1: 10\ncpu 0 MM: 9\npage db 0 at 8: 0 0\n";
+
+/// Four memory blocks, of which the third is movable and the fourth offline.
+fn small(alloc: Global) -> Result<Layout, LayoutFault> {
+    Layout::new(
+        alloc,
+        &Parts {
+            order: 2,
+            pageblocks: 1,
+            blocks: 4,
+            cpus: 2,
+            batch: 2,
+            high: 2,
+            owners: 2,
+            pages: 8,
+            words: 2,
+            history: 1000,
+            boot: &[Boot::Normal, Boot::Normal, Boot::Movable, Boot::Offline],
+        },
+    )
+}
+
+/// The text of the state after the first owner's first page was mapped.
+fn mapped(alloc: Global, layout: &Layout) -> Result<String, AllocError> {
+    let mut image = Image::boot(alloc, layout)?;
+    let event = Event::Map {
+        owner: Owner(0),
+        page: Page(0),
+    };
+    let _ = image.step(alloc, Serial(1), Cpu(0), &event)?;
+    let mut names = IndexSet::new(alloc);
+    let name = Text::new(String::from_str(alloc, "db")?);
+    let _ = names.insert_full(name)?;
+    let mut out = String::new(alloc);
+    write_state(&mut out, alloc, &image, &names)?;
+    Ok(out)
+}
+
+#[test]
+fn a_state_names_its_owners(rt: HostRuntime) -> Result<(), Fail> {
+    let layout = small(rt.alloc())?;
+    let text = mapped(rt.alloc(), &layout)?;
+    assert!(rt; text.as_str() == MAPPED);
+    Ok(())
+}
