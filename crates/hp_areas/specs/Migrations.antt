@@ -5,7 +5,7 @@ use Rattle.hp_units.specs.LayoutParts.{LayoutParts}
 use Rattle.hp_units.specs.Memory.{FreeFrames}
 use Rattle.hp_units.specs.FreeAreas.{give_block}
 use Rattle.hp_units.specs.ProcessorLists.{Handed}
-use Rattle.hp_units.specs.Refusals.{migration_target}
+use Rattle.hp_units.specs.Migrations.{migration_target}
 use Rattle.hp_areas.specs.Names.{Zone}
 
 -- a new frame is taken straight from the areas, and the old one of a zone goes straight back to them

@@ -19,7 +19,7 @@ mod tests;
 
 use crate::lists::FrameList;
 use crate::lists::many::{copy_of_lists, empty_lists, same_lists};
-use classes::{ancestor, class_of_kind, list_number, normal_class, other_mobility};
+use classes::list_number;
 use hp_units::{Class, Frame, Kind, Layout, Mobility, Order, Pageblock, Zone, pageblock_of};
 use kinds::same_kinds;
 use std::alloc::{AllocError, Global};
@@ -49,11 +49,8 @@ impl Areas {
         ensures layout { IfOk result (AreFreeAreasOf layout.now) }
     {
         let lists = empty_lists(alloc, 5 * (layout.order() as usize + 1))?;
-        let kind = Kind {
-            mobility: Mobility::Movable,
-            isolated: false,
-        };
-        let kinds = vec![in alloc; kind; layout.blocks() as usize * layout.pageblocks() as usize]?;
+        let kinds = vec![in alloc; Kind::plain(); layout.blocks() as usize
+            * layout.pageblocks() as usize]?;
         Ok(Areas { lists, kinds })
     }
 
@@ -156,7 +153,7 @@ impl Areas {
         ensures layout { OnOk result (AreFreeAreasOf layout.now self.new) }
         ensures frame { IfOk result (λ taken. IfSome taken (λ frame. frame + 2 ^ wanted ≤ frame_count layout.now)) }
     {
-        let from = normal_class(other_mobility(mobility));
+        let from = Class::usable(Zone::Normal, mobility.other());
         match self.greatest_order(from, wanted, Order(layout.order())) {
             Some(order) => self.steal_front(layout, mobility, order, wanted),
             None => Ok(None),
@@ -179,9 +176,9 @@ impl Areas {
         ensures value { OnOk result (self.new ≡ give_block layout.now self.old zone frame order) }
         ensures layout { OnOk result (AreFreeAreasOf layout.now self.new) }
     {
-        let class = class_of_kind(zone, self.kind_of(pageblock_of(layout, frame)));
+        let class = Class::of_kind(zone, self.kind_of(pageblock_of(layout, frame)));
         let joined = self.join_order(class, frame, order, Order(layout.order()));
         self.remove_buddies(class, frame, order, joined);
-        self.add_front(class, joined, ancestor(frame, joined))
+        self.add_front(class, joined, frame.ancestor(joined))
     }
 }

@@ -13,14 +13,12 @@ mod isolation;
 mod lists;
 mod migrations;
 mod page_frames;
-mod pools;
 mod takes;
 
-use self::pools::{movable_class, pool_index};
 use crate::areas::Areas;
 use crate::lists::FrameList;
 use crate::lists::many::{copy_of_lists, empty_lists, same_lists};
-use hp_units::{Block, Class, Cpu, Frame, Kind, Layout, Order, Pageblock, Pool, Zone};
+use hp_units::{Block, Class, Cpu, Frame, Kind, Layout, Mobility, Order, Pageblock, Pool, Zone};
 use std::alloc::{AllocError, Global};
 use std::marker::Model;
 
@@ -82,7 +80,7 @@ impl FreeFrames {
     pub fn cached_list(&self, cpu: Cpu, pool: Pool) -> &[Frame]
         ensures { result.now ≡ cached_list self.now cpu pool }
     {
-        let number = 3 * cpu.0 as usize + pool_index(pool);
+        let number = 3 * cpu.0 as usize + pool.index() as usize;
         match self.cached.get(number) {
             Some(list) => list.as_slice(),
             None => &[],
@@ -94,7 +92,7 @@ impl FreeFrames {
         requires { 3 * cpu + pool_index pool < length self.old.cached }
         ensures { self.new ≡ with_cached_list self.old cpu pool list }
     {
-        self.cached[3 * cpu.0 as usize + pool_index(pool)] = list;
+        self.cached[3 * cpu.0 as usize + pool.index() as usize] = list;
     }
 
     /// The pageblocks of a memory block, whose number is below the layout's count, become movable
@@ -145,7 +143,7 @@ impl FreeFrames {
         ensures err { OnErr result (self.new ≡ self.old) }
         ensures layout { AreFreeFramesOf layout.now self.new }
     {
-        self.cached[3 * cpu.0 as usize + pool_index(pool)].push_back(frame)
+        self.cached[3 * cpu.0 as usize + pool.index() as usize].push_back(frame)
     }
 
     /// Sets the kind of a pageblock, whose number is below the count of the kinds (own rule).
@@ -168,7 +166,7 @@ fn add_block(areas: &mut Areas, layout: &Layout, zone: Zone, block: Block) -> Re
     let first = block.0 * layout.pageblocks();
     for number in 0..layout.pageblocks() {
         let frame = Frame((first + number) << layout.order());
-        areas.add_back(movable_class(zone), order, frame)?;
+        areas.add_back(Class::usable(zone, Mobility::Movable), order, frame)?;
     }
     Ok(())
 }

@@ -7,8 +7,8 @@ ghost use Rattle.hp_units.specs.Rows.{claimed_row, is_live};
 ghost use Rattle.hp_tape.specs.Deltas.{FitsBlocks, IsDeltaOf, blocks_undo};
 ghost use Rattle.hp_tape.specs.Tapes.{HasRoom, NotesBlocks};
 
-use hp_tape::{Delta, Tape};
-use hp_units::{Auto, Block, Claim, Layout, Row, Serial, State, Wish};
+use hp_tape::{Delta, PackedRow, Tape};
+use hp_units::{Auto, Block, Layout, Row, Serial, State, Wish};
 use std::alloc::{AllocError, Global};
 use std::marker::Model;
 use std::mem::replace;
@@ -70,7 +70,7 @@ impl Blocks {
         ensures notes { NotesBlocks self.old.layout 1 tape.old tape.new self.new.blocks self.old.blocks }
     {
         let row = self.row(block);
-        self.set(block, claimed(row, op, wish), tape);
+        self.set(block, row.claimed(op, wish), tape);
     }
 
     /// Gives a memory block of the layout another row. One delta.
@@ -81,20 +81,18 @@ impl Blocks {
         ensures layout { self.new.layout ≡ self.old.layout }
         ensures notes { NotesBlocks self.old.layout 1 tape.old tape.new self.new.blocks self.old.blocks }
     {
-        let was = self.row(block);
-        let now = row; // a copy, since the row is stored too
+        let was = PackedRow::new(self.row(block));
+        let stored = row; // a copy, since the row is packed too
+        let now = PackedRow::new(row);
         tape.note(Delta::Row { block, was, now });
-        self.rows[block.0 as usize] = row;
+        self.rows[block.0 as usize] = stored;
     }
 
     /// Whether an operation is live: whether it holds a memory block (own rule).
     pub fn is_live(&self, op: Serial) -> bool
         ensures { result ≡ is_live self.now.blocks op }
     {
-        self.rows.iter().any(|row| match row.claim {
-            Some(claim) => claim.op == op,
-            None => false,
-        })
+        self.rows.iter().any(|row| row.is_claimed_by(op))
     }
 
     /// What a memory block that is added becomes (Linux guide: auto_online_blocks).
@@ -124,24 +122,9 @@ impl Blocks {
         ensures layout { self.new.layout ≡ self.old.layout }
     {
         match &delta {
-            Delta::Row { block, was, .. } => self.rows[block.0 as usize] = *was,
+            Delta::Row { block, was, .. } => self.rows[block.0 as usize] = was.row(),
             Delta::Auto { was, .. } => self.auto = *was,
             _ => {}
         }
-    }
-}
-
-/// A row that an operation holds; with wish Off the block is going (own rule).
-fn claimed(row: Row, op: Serial, wish: Wish) -> Row
-    ensures { result ≡ claimed_row row op wish }
-{
-    let state = match wish {
-        Wish::Off => State::Going,
-        Wish::Normal | Wish::Movable => row.state,
-    };
-    Row {
-        state,
-        zone: row.zone,
-        claim: Some(Claim { op, wish }),
     }
 }

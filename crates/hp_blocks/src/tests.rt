@@ -1,7 +1,7 @@
 ghost use Rattle.std.specs.Prelude.{◌≡◌, IfOk};
 
 use super::*;
-use hp_tape::{Delta, Tape};
+use hp_tape::{Delta, PackedRow, Tape};
 use hp_units::{Auto, Block, Boot, Layout, LayoutFault, Parts, Row, Serial, State, Wish, Zone};
 use std::alloc::Global;
 use std::test::Fail;
@@ -53,8 +53,8 @@ fn claims_and_goes_back(rt: HostRuntime) -> Result<(), Fail> {
     assert!(rt; blocks.is_live(Serial(5)));
     blocks.back(Delta::Row {
         block: Block(1),
-        was: ONLINE,
-        now: blocks.row(Block(1)),
+        was: PackedRow::new(ONLINE),
+        now: PackedRow::new(blocks.row(Block(1))),
     });
     assert_eq!(rt; blocks.row(Block(1)), ONLINE);
     Ok(())

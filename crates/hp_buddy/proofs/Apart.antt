@@ -1,9 +1,7 @@
 -- Free blocks that lie apart: a shorter list keeps it, and so does one block more.
 use Rattle.std.proofs.Common.{◌≡◌, ℕ, ◌+◌, ◌*◌, ◌%◌, ◌^◌, ◌<◌, ◌≤◌, List, [], ◌∷◌, ◌++◌, ◌==◌, true, refl, ◌∙◌, subst, arith, ◌⊎◌, inl, inr}
-use Rattle.std.proofs.lemmas.Bool.{cases_lt, both_ways, or_left, eq-eqb}
-use Rattle.std.proofs.lemmas.Bool.Decides.{nat_tests}
+use Rattle.std.proofs.lemmas.Bool.{cases_lt, both_ways}
 use Rattle.std.proofs.lemmas.List.{get_or_past}
-use Rattle.std.proofs.lemmas.List.Sums.{sum_by_push}
 use Rattle.std.proofs.lemmas.Nat.{pow_pos}
 use Rattle.hp_units.specs.declared.rows.Class.{Class}
 use Rattle.hp_units.specs.declared.rows.Kind.{Kind}
@@ -12,11 +10,12 @@ use Rattle.hp_units.specs.Arithmetic.{frame_count}
 use Rattle.hp_units.specs.InLayout.{AreFreeAreasOf}
 use Rattle.hp_units.specs.Memory.{FreeAreas, free_list, with_free_list, with_kind, class_index}
 use Rattle.hp_units.specs.FreeAreas.{is_on, with_front, with_back}
-use Rattle.hp_units.specs.Placement.{list_places, free_places}
-use Rattle.hp_buddy.specs.Buddy.{AreApart, MayBeGiven, covered}
-use Rattle.hp_buddy.proofs.Sizes.{with_free_list-size, with_kind-size}
-use Rattle.hp_buddy.proofs.Places.{list_places-cons, HasOrder, with_free_list-places}
-use Rattle.hp_buddy.proofs.Lists.{on_cases, on_tail, free_list-cases}
+use Rattle.hp_units.specs.Placement.{free_places, covered}
+use Rattle.hp_lemmas.proofs.Sizes.{with_free_list-size, with_kind-size}
+use Rattle.hp_lemmas.proofs.Places.{HasOrder, with_free_list-places, covered-in, covered-out}
+use Rattle.hp_lemmas.proofs.Lists.{free_list-cases}
+use Rattle.hp_lemmas.proofs.Parts.{IsMore, IsPart, back-more, front-more}
+use Rattle.hp_buddy.specs.Buddy.{AreApart, MayBeGiven}
 
 -- the lists go up to each order of the layout
 pub has_order : (l : LayoutParts) (a : FreeAreas) (order : ℕ) → AreApart l a → order ≤ l.order → HasOrder a order
@@ -39,21 +38,7 @@ on_frame l a class order first h on =
 
 -- ---- a frame of a block, and the blocks that it has
 
--- a block has its frames
-pub covered-in : (frame order first : ℕ) → first ≤ frame → frame < first + 2 ^ order → covered frame order first ≡ 1
-covered-in frame order first low high = grind (arith, nat_tests)
-
--- and no others
-pub covered-out : (frame order first : ℕ) → (frame < first) ⊎ (first + 2 ^ order ≤ frame) → covered frame order first ≡ 0
-covered-out frame order first (inl below) = grind (arith, nat_tests)
-covered-out frame order first (inr above) = grind (arith, nat_tests)
-
 -- ---- a shorter list
-
--- each block of a list is on the other, and each frame is in no more blocks of it
-pub record IsPart (order : ℕ) (frames old : List ℕ) : Type 0 where
-  pub on : (frame : ℕ) → is_on frame frames ≡ true → is_on frame old ≡ true
-  pub places : (frame : ℕ) → list_places frame order frames ≤ list_places frame order old
 
 -- a part of a list in its place
 pub part-apart : (l : LayoutParts) (a : FreeAreas) (class : Class) (order : ℕ) (frames : List ℕ) → order ≤ l.order
@@ -73,11 +58,6 @@ part-apart l a class order frames low part h =
     }
 
 -- ---- one block more
-
--- a list with one block more: wherever it stands
-pub record IsMore (order first : ℕ) (frames old : List ℕ) : Type 0 where
-  pub on : (frame : ℕ) → is_on frame frames ≡ true → (first ≡ frame) ⊎ (is_on frame old ≡ true)
-  pub places : (frame : ℕ) → list_places frame order frames ≡ covered frame order first + list_places frame order old
 
 -- a block that none of the free blocks overlaps
 pub more-apart : (l : LayoutParts) (a : FreeAreas) (class : Class) (order first : ℕ) (frames : List ℕ) → IsMore order first frames (free_list a class order)
@@ -111,25 +91,6 @@ more-apart l a class order first frames more block h =
       ]
     ]
 
--- a block at the front
-pub front-more : (order first : ℕ) (frames : List ℕ) → IsMore order first (first ∷ frames) frames
-front-more order first frames = record { on = λ frame on. on_cases frame first frames on; places = λ frame. list_places-cons frame order first frames }
-
--- on a list with a block at its back
-back-on : (first frame : ℕ) (frames : List ℕ) → is_on frame (frames ++ first ∷ []) ≡ true → (first ≡ frame) ⊎ (is_on frame frames ≡ true)
-back-on first frame [] on = on_cases frame first [] on
-back-on first frame (x ∷ xs) on = elim (on_cases frame x (xs ++ first ∷ []) on) [
-  | inl same ↦ inr (or_left (x == frame) (is_on frame xs) (eq-eqb x frame same))
-  | inr there ↦ elim (back-on first frame xs there) [ inl same ↦ inl same | inr old ↦ inr (on_tail frame x xs old) ]
-]
-
--- a block at the back
-pub back-more : (order first : ℕ) (frames : List ℕ) → IsMore order first (frames ++ first ∷ []) frames
-back-more order first frames = record {
-  on = λ frame on. back-on first frame frames on;
-  places = λ frame. omega (arith, sum_by_push (λ x. covered frame order x) frames first);
-}
-
 -- a block at the front of its list
 pub front-apart : (l : LayoutParts) (a : FreeAreas) (class : Class) (order first : ℕ) → MayBeGiven l a order first → AreApart l a → AreApart l (with_front a class order first)
 front-apart l a class order first block h =
@@ -139,12 +100,6 @@ front-apart l a class order first block h =
 pub back-apart : (l : LayoutParts) (a : FreeAreas) (class : Class) (order first : ℕ) → MayBeGiven l a order first → AreApart l a → AreApart l (with_back a class order first)
 back-apart l a class order first block h =
     more-apart l a class order first (free_list a class order ++ first ∷ []) (back-more order first (free_list a class order)) block h
-
--- a frame is in one free block more
-pub with_back-places : (a : FreeAreas) (class : Class) (order first frame : ℕ) → HasOrder a order
-    → free_places (with_back a class order first) frame ≡ free_places a frame + covered frame order first
-with_back-places a class order first frame h =
-    omega (arith, with_free_list-places a class order frame (free_list a class order ++ first ∷ []) h, (back-more order first (free_list a class order)).places frame)
 
 -- ---- a kind
 

@@ -1,7 +1,7 @@
 -- What calls make of the small changes: their deltas joined, and the areas that they leave.
 use Rattle.std.proofs.Common.{◌≡◌, ℕ, suc, ◌+◌, ◌-◌, ◌*◌, ◌^◌, ◌<◌, ◌≤◌, List, [], ◌∷◌, ◌++◌, length, get_or, true, Option, Some, None, IfSome, MatchOption, refl, sym, ◌∙◌, ap, subst, arith}
 use Rattle.std.specs.Option.{option_and_then}
-use Rattle.std.proofs.lemmas.Nat.{pow_pos, pow-add, div_below}
+use Rattle.std.proofs.lemmas.Nat.{pow_pos, pow-add}
 use Rattle.std.proofs.Math.Nat.{mul-le-mul_left}
 use Rattle.std.proofs.lemmas.List.{length-append}
 use Rattle.hp_units.specs.declared.rows.Class.{Class}
@@ -10,20 +10,20 @@ use Rattle.hp_units.specs.declared.rows.Mobility.{Mobility}
 use Rattle.hp_units.specs.declared.rows.Zone.{Zone}
 use Rattle.hp_units.specs.declared.rows.Zone.TheVariants.{Normal as NormalZone}
 use Rattle.hp_units.specs.LayoutParts.{LayoutParts, IsLayout}
-use Rattle.hp_units.specs.Arithmetic.{frame_count, pageblock_of, pageblock_count, ancestor, buddy}
+use Rattle.hp_units.specs.Arithmetic.{frame_count, ancestor, buddy}
 use Rattle.hp_units.specs.Memory.{FreeAreas, free_list, with_free_list, class_index, usable_class}
 use Rattle.hp_units.specs.FreeAreas.{Taken, is_on, without, with_front, with_halves, without_free, without_buddies, least_order, take_first, take_front, take_block, greatest_order, steal_front, steal_block, other_mobility, join_order, give_block, class_of}
 use Rattle.hp_units.specs.Placement.{free_places}
+use Rattle.hp_lemmas.proofs.Places.{IsOrderAmong, least_order-among, greatest_order-among}
+use Rattle.hp_lemmas.proofs.Joins.{JoinsTo, join_order-joins, without_buddies-other}
 use Rattle.hp_tape.specs.Deltas.{FitsAreas, IsOfAreas, areas_undo}
 use Rattle.hp_tape.specs.Tapes.{TapeValue, HasRoom, NotesAreas}
 use Rattle.hp_tape.proofs.Leads.{notes-append, notes-more}
 use Rattle.hp_links.specs.LinkedLists.{LinkedLists, list_at, first}
 use Rattle.hp_buddy.specs.Buddy.{BuddyValue, AreApart, MayBeGiven, HasBlockMore}
-use Rattle.hp_buddy.proofs.Places.{IsOrderAmong, least_order-among}
 use Rattle.hp_buddy.proofs.Linked.{AreDistinct, without-front}
 use Rattle.hp_buddy.proofs.Apart.{has_order, on_frame}
-use Rattle.hp_buddy.proofs.Splits.{halves-left, split, take_first-takes, front_on, tail-left, IsLeft, Takes, greatest_order-among}
-use Rattle.hp_buddy.proofs.Joins.{JoinsTo, join_order-joins, without_buddies-other}
+use Rattle.hp_buddy.proofs.Splits.{halves-left, split, take_first-takes, front_on, tail-left, IsLeft, Takes}
 use Rattle.hp_buddy.proofs.Gives.{joins_up, buddy_within}
 use Rattle.hp_buddy.proofs.Searches.{with_halves-more, without_buddies-more}
 use Rattle.hp_buddy.proofs.Notes.{Seen, distinct}
@@ -45,12 +45,6 @@ room_left l most more was now before after n room =
     omega (arith, n.few, length-append was.deltas n.deltas)
 
 -- ---- numbers
-
--- a frame of the layout is in a pageblock of the layout
-pub pageblock_in : (l : LayoutParts) (frame : ℕ) → frame < frame_count l → pageblock_of l frame < pageblock_count l
-pageblock_in l frame h =
-    let turned : l.blocks * (l.pageblocks * 2 ^ l.order) ≡ l.blocks * l.pageblocks * 2 ^ l.order = grind arith in
-    div_below frame (2 ^ l.order) (l.blocks * l.pageblocks) (pow_pos l.order) (omega arith)
 
 -- a block of a lower order is no longer
 smaller : (order top : ℕ) → order ≤ top → 2 ^ order ≤ 2 ^ top

@@ -1,5 +1,5 @@
 -- A block that comes back joins with its buddies, and the free blocks lie apart.
-use Rattle.std.proofs.Common.{◌≡◌, ℕ, zero, suc, ◌+◌, ◌-◌, ◌*◌, ◌/◌, ◌^◌, ◌<◌, ◌≤◌, List, ◌∙◌, ap, arith, inl, inr}
+use Rattle.std.proofs.Common.{◌≡◌, ℕ, zero, suc, ◌+◌, ◌-◌, ◌*◌, ◌/◌, ◌^◌, ◌<◌, ◌≤◌, ◌∙◌, ap, arith, inl, inr}
 use Rattle.std.proofs.lemmas.Bool.{cases_lt}
 use Rattle.std.proofs.lemmas.Nat.{pow_pos, pow-add, div_below}
 use Rattle.std.proofs.Math.Nat.{mul-le-mul_right, lt-div-mul-add}
@@ -9,17 +9,13 @@ use Rattle.hp_units.specs.LayoutParts.{LayoutParts}
 use Rattle.hp_units.specs.Arithmetic.{buddy, ancestor, frame_count}
 use Rattle.hp_units.specs.Memory.{FreeAreas, free_list}
 use Rattle.hp_units.specs.FreeAreas.{without, without_free, without_buddies, join_order, give_block, class_of}
-use Rattle.hp_units.specs.Placement.{free_places}
-use Rattle.hp_buddy.specs.Buddy.{AreApart, MayBeGiven, HasBlockMore, covered}
-use Rattle.hp_buddy.proofs.Places.{with_front-places}
-use Rattle.hp_buddy.proofs.Joins.{without-le, without_buddies-places, HasBuddies, JoinsTo, join_order-joins}
-use Rattle.hp_buddy.proofs.Geometry.{ancestor_above, aligned_ancestor, multiple_aligned, buddy_above}
-use Rattle.hp_buddy.proofs.Lists.{on-without}
-use Rattle.hp_buddy.proofs.Apart.{has_order, covered-in, covered-out, IsPart, part-apart, front-apart}
-
--- a list without a block is a part of it
-pub without-part : (order block : ℕ) (frames : List ℕ) → IsPart order (without block frames) frames
-without-part order block frames = record { on = λ frame on. on-without frame block frames on; places = λ frame. without-le frame order block frames }
+use Rattle.hp_units.specs.Placement.{free_places, covered}
+use Rattle.hp_lemmas.proofs.Places.{with_front-places, covered-in, covered-out}
+use Rattle.hp_lemmas.proofs.Joins.{without_buddies-places, HasBuddies, JoinsTo, join_order-joins}
+use Rattle.hp_lemmas.proofs.Geometry.{ancestor_above, aligned_ancestor, multiple_aligned, buddy_above}
+use Rattle.hp_lemmas.proofs.Parts.{without-part}
+use Rattle.hp_buddy.specs.Buddy.{AreApart, MayBeGiven, HasBlockMore}
+use Rattle.hp_buddy.proofs.Apart.{has_order, part-apart, front-apart}
 
 -- a free block leaves
 pub without_free-apart : (l : LayoutParts) (a : FreeAreas) (class : Class) (order block : ℕ) → order ≤ l.order → AreApart l a → AreApart l (without_free a class order block)

@@ -18,9 +18,9 @@ use Rattle.hp_units.specs.Isolation.{move_free, move_free_below, move_pageblock}
 use Rattle.hp_units.specs.Placement.{free_places}
 use Rattle.hp_buddy.specs.Buddy.{AreApart}
 use Rattle.hp_buddy.specs.Moves.{move_one, move_first, free_one, free_count, free_total}
-use Rattle.hp_buddy.proofs.Sizes.{with_free_list-size}
-use Rattle.hp_buddy.proofs.Places.{HasOrder, class_index-lt, with_free_list-places}
-use Rattle.hp_buddy.proofs.Lists.{on-places, off-free}
+use Rattle.hp_lemmas.proofs.Sizes.{with_free_list-size}
+use Rattle.hp_lemmas.proofs.Places.{HasOrder, class_index-lt, with_free_list-places}
+use Rattle.hp_lemmas.proofs.Lists.{on-places, off-free}
 use Rattle.hp_buddy.proofs.Apart.{has_order, kind-apart}
 use Rattle.hp_buddy.proofs.Moves.{Moves, moves-then, move_first-moves, is_among, staying, going, move_first-parted, move_first-on}
 

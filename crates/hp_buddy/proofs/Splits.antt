@@ -9,13 +9,13 @@ use Rattle.hp_units.specs.declared.rows.Zone.TheVariants.{Normal as NormalZone}
 use Rattle.hp_units.specs.LayoutParts.{LayoutParts}
 use Rattle.hp_units.specs.Arithmetic.{pageblock_of}
 use Rattle.hp_units.specs.Memory.{FreeAreas, free_list, with_free_list, kind_of, usable_class}
-use Rattle.hp_units.specs.FreeAreas.{Taken, is_on, with_front, with_halves, order_or, least_order, greatest_order, take_first, take_front, take_block, steal_front, steal_block, with_mobility, other_mobility}
-use Rattle.hp_units.specs.Placement.{free_places}
-use Rattle.hp_buddy.specs.Buddy.{AreApart, MayBeGiven, HasBlockMore, covered}
-use Rattle.hp_buddy.proofs.Places.{list_places-cons, HasOrder, with_free_list-places, with_front-places, with_halves-places, least_order-among, IsOrderAmong}
-use Rattle.hp_buddy.proofs.Geometry.{upper_half}
-use Rattle.hp_buddy.proofs.Lists.{on_tail}
-use Rattle.hp_buddy.proofs.Apart.{has_order, covered-in, covered-out, IsPart, part-apart, front-apart, kind-apart}
+use Rattle.hp_units.specs.FreeAreas.{Taken, is_on, with_front, with_halves, least_order, greatest_order, take_first, take_front, take_block, steal_front, steal_block, with_mobility, other_mobility}
+use Rattle.hp_units.specs.Placement.{free_places, covered}
+use Rattle.hp_lemmas.proofs.Places.{list_places-cons, HasOrder, with_free_list-places, with_front-places, with_halves-places, least_order-among, IsOrderAmong, covered-in, covered-out, greatest_order-among}
+use Rattle.hp_lemmas.proofs.Geometry.{upper_half}
+use Rattle.hp_lemmas.proofs.Parts.{IsPart, tail-part}
+use Rattle.hp_buddy.specs.Buddy.{AreApart, MayBeGiven, HasBlockMore}
+use Rattle.hp_buddy.proofs.Apart.{has_order, part-apart, front-apart, kind-apart}
 
 -- ---- the halves of a block that is in no free block
 
@@ -62,10 +62,6 @@ halves-left l a class first last (suc count) block h =
     record { apart = front-apart l (with_halves a class first (suc last) count) class last (first + 2 ^ last) both.upper above.apart; rest = both.lower }
 
 -- ---- the front block of a list leaves
-
--- the rest of a list is a part
-tail-part : (order first : ℕ) (frames : List ℕ) → IsPart order frames (first ∷ frames)
-tail-part order first frames = record { on = λ frame on. on_tail frame first frames on; places = λ frame. omega (arith, list_places-cons frame order first frames) }
 
 -- the front block is on its list
 pub front_on : (first : ℕ) (frames xs : List ℕ) → xs ≡ first ∷ frames → is_on first xs ≡ true
@@ -146,16 +142,6 @@ with_mobility-takes l a mobility wanted (Some taken) h = record {
 cond-takes : (P : Taken → Type 0) (b : Bool) (x y : Option Taken) → IfSome x P → IfSome y P → IfSome (cond b x y) P
 cond-takes P true x y h k = h
 cond-takes P false x y h k = k
-
--- the greatest order lies among the orders that were looked at
-pub greatest_order-among : (a : FreeAreas) (class : Class) (first count : ℕ) → IfSome (greatest_order a class first count) (IsOrderAmong first count)
-greatest_order-among a class first zero = tt
-greatest_order-among a class first (suc count) = step (free_list a class (first + count)) (greatest_order a class first count) (greatest_order-among a class first count)
-  where
-    step : (frames : List ℕ) (other : Option ℕ) → IfSome other (IsOrderAmong first count) → IfSome (order_or frames (first + count) other) (IsOrderAmong first (suc count))
-    step [] None h = tt
-    step [] (Some order) h = record { low = omega (arith, h.low); high = omega (arith, h.high) }
-    step (frame ∷ frames) other h = record { low = omega arith; high = omega arith }
 
 -- stealing keeps the free blocks apart
 pub steal_block-takes : (l : LayoutParts) (a : FreeAreas) (mobility : Mobility) (wanted : ℕ) → AreApart l a → IfSome (steal_block l a mobility wanted) (Takes l a wanted)

@@ -1,19 +1,18 @@
 -- Where a free block stands, by the list that links say it is on.
-use Rattle.std.proofs.Common.{◌≡◌, ℕ, zero, suc, ◌+◌, ◌*◌, ◌/◌, ◌%◌, ◌<◌, List, [], ◌∷◌, length, get_or, true, false, Option, Some, None, replicate, refl, sym, ◌∙◌, ap, subst, arith}
+use Rattle.std.proofs.Common.{◌≡◌, ℕ, zero, suc, ◌+◌, ◌*◌, ◌/◌, ◌%◌, ◌<◌, List, [], ◌∷◌, length, get_or, true, false, Option, Some, None, replicate, refl, sym, ◌∙◌, ap, subst, arith, inl, inr}
 use Rattle.std.proofs.lemmas.List.{get_or-replicate, get_or_past, length-replicate}
-use Rattle.std.proofs.Common.{inl, inr}
 use Rattle.std.proofs.lemmas.Bool.{cases_lt, both_ways, false_from_ne_true, cond-true, cond-false}
 use Rattle.hp_units.specs.declared.rows.Class.{Class}
 use Rattle.hp_units.specs.declared.rows.Kind.{Kind}
 use Rattle.hp_units.specs.LayoutParts.{LayoutParts}
 use Rattle.hp_units.specs.Arithmetic.{pageblock_count}
-use Rattle.hp_units.specs.Memory.{free_list, class_index}
+use Rattle.hp_units.specs.Memory.{free_list, class_index, class_numbered}
 use Rattle.hp_units.specs.FreeAreas.{is_on}
 use Rattle.hp_units.specs.Placement.{places_from}
 use Rattle.hp_links.specs.LinkedLists.{LinkedLists, list_at, IsOn, IsUnlisted, IsApart, successor}
-use Rattle.hp_buddy.specs.Buddy.{BuddyValue, AreApart, class_numbered, place_from, place_of, next_from, next_of}
-use Rattle.hp_buddy.proofs.Places.{class_index-lt}
-use Rattle.hp_buddy.proofs.Lists.{class_numbered-index}
+use Rattle.hp_buddy.specs.Buddy.{BuddyValue, AreApart, place_from, place_of, next_from, next_of}
+use Rattle.hp_lemmas.proofs.Places.{class_index-lt}
+use Rattle.hp_lemmas.proofs.Lists.{class_numbered-index}
 use Rattle.hp_buddy.proofs.Linked.{contains_on, on_contains, off_list}
 use Rattle.hp_buddy.proofs.Notes.{Seen}
 

@@ -1,14 +1,13 @@
 -- What a contract sees of the layer of free areas, and what its calls need and keep.
-use Rattle.std.specs.Prelude.{ℕ, zero, suc, ◌≡◌, ◌+◌, ◌*◌, ◌/◌, ◌%◌, ◌^◌, ◌<◌, ◌≤◌, true, List, [], ◌∷◌, Option, Some, None, length, if◌then◌else◌}
+use Rattle.std.specs.Prelude.{ℕ, ◌≡◌, ◌+◌, ◌*◌, ◌/◌, ◌%◌, ◌^◌, ◌<◌, ◌≤◌, true, List, [], ◌∷◌, Option, Some, None, length, if◌then◌else◌}
 use Rattle.hp_units.specs.declared.rows.Class.{Class}
-use Rattle.hp_units.specs.declared.rows.Class.TheVariants.{Nu, Nm, Mm, IsoN, IsoM}
 use Rattle.hp_units.specs.declared.rows.Kind.{Kind}
 use Rattle.hp_units.specs.LayoutParts.{LayoutParts, IsLayout}
 use Rattle.hp_units.specs.Arithmetic.{frame_count, pageblock_count}
-use Rattle.hp_units.specs.Memory.{FreeAreas, free_list}
+use Rattle.hp_units.specs.Memory.{FreeAreas, free_list, class_numbered}
 use Rattle.hp_units.specs.FreeAreas.{is_on}
 use Rattle.hp_units.specs.InLayout.{AreFreeAreasOf}
-use Rattle.hp_units.specs.Placement.{covers, free_places}
+use Rattle.hp_units.specs.Placement.{covered, free_places}
 use Rattle.hp_links.specs.LinkedLists.{LinkedLists, successor}
 
 -- the layout, and its free areas
@@ -35,23 +34,11 @@ pub record MayBeGiven (l : LayoutParts) (a : FreeAreas) (order first : ℕ) : Ty
 
 -- ---- in how many free blocks a frame is, by a block more
 
--- 1 if a block of an order has the frame, and 0 otherwise
-abbrev pub covered : (frame order first : ℕ) → ℕ
-covered frame order first = if covers frame order first then 1 else 0
-
 -- the frames of a block are in one free block more, and all others in as many
 abbrev pub HasBlockMore : (more less : FreeAreas) → (order first : ℕ) → Type 0
 HasBlockMore more less order first = (frame : ℕ) → free_places more frame ≡ free_places less frame + covered frame order first
 
 -- ---- where a free block stands
-
--- a class by its index
-abbrev pub class_numbered : ℕ → Class
-class_numbered zero = Nu
-class_numbered (suc zero) = Nm
-class_numbered (suc (suc zero)) = Mm
-class_numbered (suc (suc (suc zero))) = IsoN
-class_numbered (suc (suc (suc (suc n)))) = IsoM
 
 -- the class and the order of the list that a frame is on: a list's number is five times its order, and its class
 abbrev pub place_from : (frame number : ℕ) → List (List ℕ) → Option (Class × ℕ)

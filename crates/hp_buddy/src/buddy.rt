@@ -19,10 +19,7 @@ mod moves;
 mod searches;
 mod splits;
 
-use crate::classes::{
-    ancestor, class_numbered, class_of_kind, isolated_class, list_number, other_mobility,
-    usable_class,
-};
+use crate::classes::list_number;
 use hp_links::Links;
 use hp_tape::{Delta, ListId, Tape};
 use hp_units::{Class, Frame, Kind, Layout, Mobility, Order, Pageblock, Zone};
@@ -47,23 +44,13 @@ impl Model for Buddy {
     ghost invariant = { λ b. IsBuddyOf b.layout b.links b.kinds.items };
 }
 
-/// The kind of a pageblock of an offline block (own rule).
-fn plain_kind() -> Kind
-    ensures { result ≡ plain_kind }
-{
-    Kind {
-        mobility: Mobility::Movable,
-        isolated: false,
-    }
-}
-
 impl Buddy {
     /// The first frame of a pageblock of the layout.
     fn first_frame(&self, pageblock: Pageblock) -> Frame
         requires { pageblock < pageblock_count self.now.layout }
         ensures { result ≡ pageblock * pageblock_size self.now.layout }
     {
-        Frame(pageblock.0 << self.layout.order())
+        self.layout.first_frame(pageblock)
     }
 
     /// How many frames a pageblock has.
@@ -71,7 +58,7 @@ impl Buddy {
         ensures is { result ≡ pageblock_size self.now.layout }
         ensures layout { IsLayout self.now.layout }
     {
-        1 << self.layout.order()
+        self.layout.pageblock_size()
     }
 
     /// The areas of a layout with nothing free, every pageblock movable and not isolated: by as many requests for memory
@@ -83,7 +70,7 @@ impl Buddy {
         let layout = layout.copy(alloc)?;
         let links = Links::new(alloc, layout.frames(), 5 * (layout.order() + 1))?;
         let pageblocks = layout.blocks() as usize * layout.pageblocks() as usize;
-        let kinds = vec![in alloc; plain_kind(); pageblocks]?;
+        let kinds = vec![in alloc; Kind::plain(); pageblocks]?;
         Ok(Buddy {
             layout,
             links,
@@ -135,7 +122,7 @@ impl Buddy {
         ensures in_order { IfSome result (λ place. place.1 ≤ self.now.layout.order) }
     {
         match self.links.list_of(frame) {
-            Some(list) => Some((class_numbered(list.0 % 5), Order(list.0 / 5))),
+            Some(list) => Some((Class::numbered(list.0 % 5), Order(list.0 / 5))),
             None => None,
         }
     }
@@ -175,7 +162,7 @@ impl Buddy {
         ensures block { IfSome result (MayBeGiven self.new.layout self.new.areas order) }
         ensures places { IfSome result (HasBlockMore self.old.areas self.new.areas order) }
     {
-        let from = usable_class(Zone::Normal, other_mobility(wanted));
+        let from = Class::usable(Zone::Normal, wanted.other());
         match self.greatest_order(from, order) {
             Some(found) => self.steal_front(wanted, found, order, tape),
             None => None,
@@ -197,7 +184,7 @@ impl Buddy {
         let class = self.class_of(zone, frame);
         let joined = self.join_order(class, frame, order);
         self.unlink_buddies(class, frame, order, joined, tape);
-        self.push_front(class, joined, ancestor(frame, joined), tape);
+        self.push_front(class, joined, frame.ancestor(joined), tape);
     }
 
     /// Isolates a pageblock of the layout, or releases it: its free blocks go, by rising number, to the back of the lists of
@@ -223,8 +210,8 @@ impl Buddy {
             mobility: kind.mobility,
             isolated,
         };
-        let from = class_of_kind(zone, kind);
-        let to = class_of_kind(zone, moved);
+        let from = Class::of_kind(zone, kind);
+        let to = Class::of_kind(zone, moved);
         self.move_all(from, to, pageblock, tape);
         self.set_kind(pageblock, moved, tape);
     }
@@ -241,7 +228,7 @@ impl Buddy {
         ensures apart { AreApart self.new.layout self.new.areas }
         ensures places { HasBlockMore self.new.areas self.old.areas self.old.layout.order (pageblock * pageblock_size self.old.layout) }
     {
-        let class = usable_class(zone, Mobility::Movable);
+        let class = Class::usable(zone, Mobility::Movable);
         let order = Order(self.layout.order());
         let first = self.first_frame(pageblock);
         self.push_back(class, order, first, tape);
@@ -262,8 +249,8 @@ impl Buddy {
     {
         let order = Order(self.layout.order());
         let first = self.first_frame(pageblock);
-        self.unlink_free(isolated_class(zone), order, first, tape);
-        self.set_kind(pageblock, plain_kind(), tape);
+        self.unlink_free(Class::isolated(zone), order, first, tape);
+        self.set_kind(pageblock, Kind::plain(), tape);
     }
 
     /// Does the opposite of a delta of the layout that fits; one of another layer changes nothing.

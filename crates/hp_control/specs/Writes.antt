@@ -1,5 +1,5 @@
 -- What writing to a control file asks for (Linux guide, Memory Hot(Un)Plug).
-use Rattle.std.specs.Prelude.{ℕ, List, [], ◌∷◌, codes, Option, Some, None, Result, Ok, Err, if◌then◌else◌}
+use Rattle.std.specs.Prelude.{ℕ, List, [], ◌∷◌, ◌++◌, codes, Option, Some, None, Result, Ok, Err, if◌then◌else◌}
 use Rattle.std.specs.Option.{option_map}
 use Rattle.std.specs.Str.{bytes_eq}
 use Rattle.hp_units.specs.declared.events.Event.TheVariants.{Online, Probe as ProbeEvent, SetAuto}
@@ -63,3 +63,11 @@ unfoldable pub request_of : List ℕ → List ℕ → Result Request ControlFaul
 request_of path bytes = do
   file ← or_fault NoFile (file_at path)
   request_to file (without_newline bytes)
+
+-- what a word asks for, with a newline after it as `echo` writes it
+abbrev pub echo_request : (path word : List ℕ) → Result Request ControlFault
+echo_request path word = request_of path (word ++ codes "\n")
+
+-- the migrations that a plan may try that a control file asks for (own rule)
+abbrev pub control_turns : ℕ
+control_turns = 1024

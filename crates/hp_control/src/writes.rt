@@ -9,6 +9,9 @@ use crate::words::{address_from, without_newline};
 use hp_units::{Auto, Block, Event, Item, Plan, Wish, Zone};
 use std::alloc::{AllocError, Global};
 
+/// The migrations that a plan may try that a control file asks for (own rule).
+pub const CONTROL_TURNS: u32 = 1024;
+
 /// What a written text asks for.
 #[derive(Debug, Drop)]
 pub enum Request {
@@ -35,6 +38,15 @@ pub fn parse_write(alloc: Global, path: &str, bytes: &[u8]) -> Result<Request, C
         Some(file) => request_to(alloc, file, without_newline(bytes)),
         None => Err(ControlFault::NoFile),
     }
+}
+
+/// What a word asks for that `echo` writes to the control file at a path: a newline follows the word. Errors as of `parse_write`.
+pub fn parse_echo(alloc: Global, path: &str, word: &str) -> Result<Request, ControlFault>
+    ensures { Gives (λ request. request) result (means.echo_request path.now word.now) }
+{
+    let mut line = String::from_str(alloc, word)?;
+    line.push_str("\n")?;
+    parse_write(alloc, path, line.as_bytes())
 }
 
 /// What a text written to a file asks for.

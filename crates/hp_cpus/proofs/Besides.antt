@@ -1,14 +1,13 @@
 -- What the free areas' calls note leads back beside the processors' lists too, which it leaves as they are.
-use Rattle.std.proofs.Common.{◌≡◌, ℕ, suc, ◌+◌, ◌*◌, ◌<◌, ◌≤◌, add-one, List, [], ◌∷◌, ◌++◌, length, Option, refl, sym, ◌∙◌, ap, subst, arith}
+use Rattle.std.proofs.Common.{◌≡◌, ℕ, ◌+◌, ◌*◌, ◌<◌, ◌≤◌, List, [], ◌∷◌, ◌++◌, length, refl, sym, ◌∙◌, ap, subst, arith}
 use Rattle.std.specs.List.{AllByRecursion}
 use Rattle.std.proofs.lemmas.List.{length-append}
-use Rattle.std.proofs.Math.Nat.{mul-le-mul_right, suc-mul}
 use Rattle.hp_units.specs.LayoutParts.{LayoutParts}
 use Rattle.hp_units.specs.Memory.{FreeAreas, FreeFrames}
 use Rattle.hp_tape.specs.declared.deltas.Delta.{Delta}
 use Rattle.hp_tape.specs.declared.deltas.Delta.TheVariants.{Link, Unlink, Kind as KindDelta, Kernel as KernelDelta, Map as MapDelta, Swap, Word as WordDelta, Emptied, Row as RowDelta, Auto as AutoDelta}
 use Rattle.hp_tape.specs.declared.deltas.ListId.TheVariants.{Area, Cpu}
-use Rattle.hp_tape.specs.Deltas.{AllFit, FitsAreas, FitsFree, IsDeltaOf, IsOfAreas, IsOfFree, areas_undo, free_undo, undo_all}
+use Rattle.hp_tape.specs.Deltas.{AllFit, FitsAreas, FitsFree, IsOfAreas, IsOfFree, areas_undo, free_undo, undo_all}
 use Rattle.hp_tape.specs.Tapes.{TapeValue, HasRoom, NotesAreas, NotesFree}
 use Rattle.hp_tape.proofs.Leads.{notes-append, notes-more, notes-none}
 
@@ -111,13 +110,3 @@ room_left l most more was now before after n room =
 -- no call
 pub nothing-noted : (l : LayoutParts) (most : ℕ) (tape : TapeValue) (fs : FreeFrames) → NotesFree l most tape tape fs fs
 nothing-noted l most tape fs = notes-none IsOfFree FitsFree free_undo l most tape fs
-
--- ---- so many deltas for each of many frames
-
--- one frame of all has room beside those before it
-pub room_for_one : (done all each : ℕ) → done < all → done * each + each ≤ all * each
-room_for_one done all each below = omega (arith, mul-le-mul_right {m = suc done} {n = all} each below, suc-mul done each)
-
--- one frame more
-pub one_done : (done each : ℕ) → done * each + each ≡ (done + 1) * each
-one_done done each = sym (suc-mul done each) ∙ ap (λ (n : ℕ). n * each) (sym (add-one done))

@@ -1,16 +1,15 @@
 -- How often frames stand on the processors' lists.
-use Rattle.std.proofs.Common.{◌≡◌, ℕ, ◌+◌, ◌*◌, ◌<◌, ◌≤◌, List, [], ◌∷◌, ◌++◌, length, get_or, set, true, false, cond, refl, sym, ap, subst, arith, inl, inr, ◌==◌, eq-eqb}
+use Rattle.std.proofs.Common.{◌≡◌, ℕ, ◌+◌, ◌*◌, ◌<◌, ◌≤◌, List, [], ◌∷◌, ◌++◌, length, get_or, true, cond, refl, subst, arith, inl, inr, ◌==◌, eq-eqb}
 use Rattle.std.specs.Prelude.{count_by, sum_by}
 use Rattle.std.proofs.lemmas.Bool.{cases_lt, both_ways, false_from_ne_true, cond-true}
-use Rattle.std.proofs.lemmas.Bool.Decides.{nat_tests}
 use Rattle.std.proofs.lemmas.List.{get_or_past, get_or-set_same, length-set}
 use Rattle.std.proofs.lemmas.List.Sums.{sum_by-cons, sum_by_push, sum_by-set, get_or-le-sum_by}
 use Rattle.hp_units.specs.declared.rows.Pool.{Pool}
-use Rattle.hp_units.specs.declared.rows.Pool.TheVariants.{Nu, Nm, Mm}
 use Rattle.hp_units.specs.Memory.{pool_index}
 use Rattle.hp_units.specs.FreeAreas.{is_on}
+use Rattle.hp_lemmas.proofs.Lists.{on_cases}
+use Rattle.hp_lemmas.proofs.Pools.{pool_index-lt}
 use Rattle.hp_links.specs.LinkedLists.{LinkedLists, IsUnlisted}
-use Rattle.hp_buddy.proofs.Lists.{on_cases}
 use Rattle.hp_buddy.proofs.Linked.{AreDistinct, contains_on}
 use Rattle.hp_cpus.specs.Cpus.{CpusValue, list_of, with_list_of, places_in, one_at}
 
@@ -49,12 +48,6 @@ distinct (x ∷ xs) few = (
 )
 
 -- ---- all lists
-
--- a pool has one of three indices
-pub pool_index-lt : (pool : Pool) → pool_index pool < 3
-pool_index-lt Nu = omega arith
-pool_index-lt Nm = omega arith
-pool_index-lt Mm = omega arith
 
 -- a processor's list is one of the lists
 pub list_in : (cpus cpu count : ℕ) (pool : Pool) → cpu < cpus → count ≡ 3 * cpus → 3 * cpu + pool_index pool < count

@@ -6,7 +6,7 @@ use Rattle.hp_units.specs.LayoutParts.{LayoutParts}
 use Rattle.hp_units.specs.Memory.{pool_index}
 use Rattle.hp_units.specs.FreeAreas.{is_on, without}
 use Rattle.hp_links.specs.LinkedLists.{LinkedLists, list_at, first, last, last_from}
-use Rattle.hp_buddy.proofs.Lists.{on_tail}
+use Rattle.hp_lemmas.proofs.Lists.{on_tail}
 use Rattle.hp_buddy.proofs.Linked.{without-front, without-back}
 use Rattle.hp_cpus.specs.Cpus.{CpusValue, list_of, with_list_of, places_in}
 use Rattle.hp_cpus.proofs.Counts.{HasLists, times, times-on, times-cons, times-push, one-self, list_of-same, list_of-le}

@@ -15,7 +15,8 @@ use Rattle.hp_buddy.specs.Buddy.{BuddyValue, AreApart, MayBeGiven, HasBlockMore}
 use Rattle.hp_cpus.specs.Cpus.{CpusValue, AreTogether, MayBePut, frames_of, list_of, with_list_of, places_among, one_at}
 use Rattle.hp_cpus.proofs.Counts.{times, times-push}
 use Rattle.hp_cpus.proofs.Together.{IsOut, IsIn, list-in, list-out}
-use Rattle.hp_cpus.proofs.Besides.{notes-beside, notes-then, room_left, room_for_one, one_done}
+use Rattle.hp_cpus.proofs.Besides.{notes-beside, notes-then, room_left}
+use Rattle.hp_buddy.proofs.Scripts.{room_for_one, one_done}
 use Rattle.hp_cpus.proofs.Spills.{given}
 
 -- what a turn keeps, and what it notes

@@ -8,9 +8,9 @@ use Rattle.hp_units.specs.declared.rows.Pool.{Pool}
 use Rattle.hp_units.specs.LayoutParts.{LayoutParts}
 use Rattle.hp_units.specs.Arithmetic.{frame_count}
 use Rattle.hp_units.specs.FreeAreas.{is_on}
-use Rattle.hp_units.specs.Placement.{free_places}
-use Rattle.hp_buddy.specs.Buddy.{BuddyValue, AreApart, MayBeGiven, HasBlockMore, covered}
-use Rattle.hp_buddy.proofs.Apart.{covered-in, covered-out}
+use Rattle.hp_units.specs.Placement.{free_places, covered}
+use Rattle.hp_buddy.specs.Buddy.{BuddyValue, AreApart, MayBeGiven, HasBlockMore}
+use Rattle.hp_lemmas.proofs.Places.{covered-in, covered-out}
 use Rattle.hp_buddy.proofs.Linked.{AreDistinct}
 use Rattle.hp_cpus.specs.Cpus.{CpusValue, AreTogether, MayBePut, list_of, with_list_of, places_in, places_among, one_at}
 use Rattle.hp_cpus.proofs.Counts.{HasLists, times, times-on, times-cons, times-push, one-self, distinct, list_of-le, with_list_of-places, with_list_of-size}
@@ -22,7 +22,7 @@ pub one-other : (f o : ℕ) → f ≢ o → one_at f o ≡ 0
 one-other f o ne = cond-false (f == o) 1 0 (ne_eqb f o ne)
 
 -- a single frame is a block of order 0
-covered-one : (o f : ℕ) → covered o 0 f ≡ one_at f o
+pub covered-one : (o f : ℕ) → covered o 0 f ≡ one_at f o
 covered-one o f = elim (cases_lt o f) [
   | inl below ↦ omega (arith, covered-out o 0 f (inl below), one-other f o (λ same. omega arith))
   | inr low ↦ elim (cases_lt f o) [

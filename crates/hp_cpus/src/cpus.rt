@@ -13,7 +13,7 @@ ghost use Rattle.hp_cpus.specs.Cpus.{AreTogether, MayBePut, frames_of, list_of, 
 mod batches;
 mod edits;
 
-use crate::pools::{list_number, pool_of};
+use crate::pools::list_number;
 use hp_buddy::Buddy;
 use hp_links::Links;
 use hp_tape::{Delta, ListId, Tape};
@@ -128,7 +128,13 @@ impl Cpus {
         if kind.isolated {
             self.give(zone, frame, buddy, tape);
         } else {
-            self.put_cached(cpu, pool_of(zone, kind.mobility), frame, buddy, tape);
+            self.put_cached(
+                cpu,
+                Pool::of_mobility(zone, kind.mobility),
+                frame,
+                buddy,
+                tape,
+            );
         }
     }
 

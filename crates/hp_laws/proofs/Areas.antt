@@ -1,28 +1,24 @@
 -- Taking and giving free blocks keeps the areas in order.
 use Rattle.std.proofs.Common.{◌≡◌, ◌≢◌, ℕ, zero, suc, ◌+◌, ◌*◌, ◌%◌, ◌^◌, ◌<◌, ◌≤◌, List, [], ◌∷◌, ◌++◌, ◌==◌, true, false, Option, refl, sym, ◌∙◌, ap, subst, arith, ◌⊎◌, inl, inr}
-use Rattle.std.proofs.lemmas.Bool.{cases_lt, false_from_ne_true, both_ways, or_left, eq-eqb}
+use Rattle.std.proofs.lemmas.Bool.{cases_lt, false_from_ne_true, both_ways}
 use Rattle.std.proofs.lemmas.List.{get_or_past}
-use Rattle.std.proofs.lemmas.List.Sums.{sum_by_push}
 use Rattle.hp_units.specs.declared.rows.Class.{Class}
 use Rattle.hp_units.specs.LayoutParts.{LayoutParts}
 use Rattle.hp_units.specs.Arithmetic.{buddy, pageblock_of}
 use Rattle.hp_units.specs.Memory.{FreeAreas, free_list, with_free_list, class_index}
 use Rattle.hp_units.specs.FreeAreas.{is_on, with_front, with_halves}
-use Rattle.hp_units.specs.Placement.{list_places, free_places, IsBlockOf}
-use Rattle.hp_laws.proofs.Sizes.{with_free_list-size}
-use Rattle.hp_laws.proofs.Places.{covered, covered-halves, list_places-cons, HasOrder, with_free_list-places, with_halves-places}
+use Rattle.hp_units.specs.Placement.{free_places, IsBlockOf, covered}
+use Rattle.hp_lemmas.proofs.Sizes.{with_free_list-size}
+use Rattle.hp_lemmas.proofs.Places.{covered-halves, HasOrder, with_free_list-places, with_halves-places}
+use Rattle.hp_lemmas.proofs.Geometry.{buddy-buddy, buddy-other, upper_half, below_aligned}
+use Rattle.hp_lemmas.proofs.Lists.{covered-self, off-free, free_list-cases, list_places-le, on-places}
+use Rattle.hp_lemmas.proofs.Parts.{IsMore, IsPart, front-more}
 use Rattle.hp_laws.proofs.Ordered.{AreOrdered}
-use Rattle.hp_laws.proofs.Geometry.{buddy-buddy, buddy-other, upper_half, below_aligned}
-use Rattle.hp_laws.proofs.FrameLists.{on_cases, on_tail, covered-self, off-free, free_list-cases, list_places-le, on-places}
 
 pub has_order : (l : LayoutParts) (class_at : ℕ → Option Class) (a : FreeAreas) (order : ℕ) → AreOrdered l class_at a → order ≤ l.order → HasOrder a order
 has_order l class_at a order h low = omega (arith, h.lists)
 
 -- ---- a shorter list
-
-pub record IsPart (order : ℕ) (frames old : List ℕ) : Type 0 where
-  pub on : (frame : ℕ) → is_on frame frames ≡ true → is_on frame old ≡ true
-  pub places : (frame : ℕ) → list_places frame order frames ≤ list_places frame order old
 
 part-off : (order : ℕ) (frames old : List ℕ) → IsPart order frames old → (frame : ℕ) → is_on frame old ≡ false → is_on frame frames ≡ false
 part-off order frames old h frame off = false_from_ne_true (is_on frame frames) (λ on. both_ways (is_on frame old) off (h.on frame on))
@@ -41,10 +37,6 @@ part-ordered l class_at a class order frames low part h =
     }
 
 -- ---- one block more
-
-pub record IsMore (order first : ℕ) (frames old : List ℕ) : Type 0 where
-  pub on : (frame : ℕ) → is_on frame frames ≡ true → (first ≡ frame) ⊎ (is_on frame old ≡ true)
-  pub places : (frame : ℕ) → list_places frame order frames ≡ covered frame order first + list_places frame order old
 
 pub more-off : (order first : ℕ) (frames old : List ℕ) → IsMore order first frames old → (frame : ℕ) → first ≢ frame → is_on frame old ≡ false → is_on frame frames ≡ false
 more-off order first frames old more frame ne off =
@@ -80,22 +72,6 @@ more-ordered l class_at a class order first frames low more block room apart h =
           (λ frame below on. more-joined order first frame frames (free_list a class order) more block.aligned (apart below)
           (λ old. (h.blocks class order frame old).aligned) (h.joined class order frame below) on) (λ c o. (λ frame below on. h.joined c o frame below on));
     }
-
-pub front-more : (order first : ℕ) (frames : List ℕ) → IsMore order first (first ∷ frames) frames
-front-more order first frames = record { on = λ frame on. on_cases frame first frames on; places = λ frame. list_places-cons frame order first frames }
-
-back-on : (first frame : ℕ) (frames : List ℕ) → is_on frame (frames ++ first ∷ []) ≡ true → (first ≡ frame) ⊎ (is_on frame frames ≡ true)
-back-on first frame [] on = on_cases frame first [] on
-back-on first frame (x ∷ xs) on = elim (on_cases frame x (xs ++ first ∷ []) on) [
-  | inl same ↦ inr (or_left (x == frame) (is_on frame xs) (eq-eqb x frame same))
-  | inr there ↦ elim (back-on first frame xs there) [ inl same ↦ inl same | inr old ↦ inr (on_tail frame x xs old) ]
-]
-
-pub back-more : (order first : ℕ) (frames : List ℕ) → IsMore order first (frames ++ first ∷ []) frames
-back-more order first frames = record {
-  on = λ frame on. back-on first frame frames on;
-  places = λ frame. omega (arith, sum_by_push (λ x. covered frame order x) frames first);
-}
 
 pub front-ordered : (l : LayoutParts) (class_at : ℕ → Option Class) (a : FreeAreas) (class : Class) (order first : ℕ) → order ≤ l.order
     → IsBlockOf l class_at class order first → ((frame : ℕ) → free_places a frame + covered frame order first ≤ 1)

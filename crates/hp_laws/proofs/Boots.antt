@@ -22,7 +22,7 @@ use Rattle.hp_units.specs.Pages.{holds, words_at}
 use Rattle.hp_units.specs.Rows.{is_going, online_block}
 use Rattle.hp_units.specs.Boot.{boot_block, boot_memory, empty_memory}
 use Rattle.hp_units.specs.Placement.{IsKernelAt, IsPage, IsRow, IsWellPlaced, cached_places, free_places, is_unplugged, kernel_places, mapped_places, offline_places, places_from}
-use Rattle.hp_laws.proofs.States.{kernel_covered}
+use Rattle.hp_lemmas.proofs.KernelBlocks.{kernel_covered}
 use Rattle.hp_laws.proofs.Rows.{unplugged-placed}
 use Rattle.hp_laws.proofs.Onlines.{online_block-placed}
 

@@ -27,12 +27,12 @@ use Rattle.hp_units.specs.Isolation.{add_pageblock, remove_block, remove_pageblo
 use Rattle.hp_units.specs.Refusals.{is_all_free}
 use Rattle.hp_units.specs.Rows.{blocks_of, commit_block, is_absent_state, commit_blocks, going_blocks, grant, is_claimed_by, is_going, is_going_state, is_off, is_offline_state, offline_block, online_block, with_areas, with_block_row, zone_of_block}
 use Rattle.hp_units.specs.Placement.{IsInOrder, IsKernelAt, IsRow, IsRowOf, IsWellPlaced, cached_places, class_at, free_places, is_unplugged, kernel_places, kind_at, offline_places, row_at, wishes_off}
-use Rattle.hp_laws.proofs.Sizes.{with_free_list-size}
-use Rattle.hp_laws.proofs.Joins.{without_free-places}
+use Rattle.hp_lemmas.proofs.Sizes.{with_free_list-size}
+use Rattle.hp_lemmas.proofs.Joins.{without_free-places}
 use Rattle.hp_laws.proofs.Ordered.{AreOrdered}
-use Rattle.hp_laws.proofs.FrameLists.{free_list-cases, on_tail}
+use Rattle.hp_lemmas.proofs.Lists.{free_list-cases, on_tail}
 use Rattle.hp_laws.proofs.Areas.{has_order, other-ordered, part-ordered}
-use Rattle.hp_laws.proofs.Gives.{without-part}
+use Rattle.hp_lemmas.proofs.Parts.{without-part}
 use Rattle.hp_laws.proofs.States.{areas_of, block_of-pageblock, get_or-cases}
 use Rattle.hp_laws.proofs.Rows.{kernel_some, on_cached, row_at-other}
 use Rattle.hp_laws.proofs.Onlines.{inside, online_block-placed, outside, quotient, within, within-split}
@@ -65,10 +65,10 @@ on_without-other first block (x ∷ xs) ne on = elim (or_cases (x == first) (is_
 
 -- ---- isolated pageblocks leave the areas
 
-abbrev IsOutside : (from count pageblock : ℕ) → Type 0
+abbrev pub IsOutside : (from count pageblock : ℕ) → Type 0
 IsOutside from count pageblock = (pageblock < from) ⊎ (from + count ≤ pageblock)
 
-record RemovesRange (l : LayoutParts) (class_at : ℕ → Option Class) (from count : ℕ) (a b : FreeAreas) : Type 0 where
+pub record RemovesRange (l : LayoutParts) (class_at : ℕ → Option Class) (from count : ℕ) (a b : FreeAreas) : Type 0 where
   pub ordered : AreOrdered l class_at b
   pub places : (frame : ℕ) → free_places b frame + within frame (from * 2 ^ l.order) ((from + count) * 2 ^ l.order) ≡ free_places a frame
   pub size : length b.kinds ≡ length a.kinds
@@ -76,7 +76,7 @@ record RemovesRange (l : LayoutParts) (class_at : ℕ → Option Class) (from co
   pub outside : (pageblock : ℕ) → IsOutside from count pageblock → kind_at b.kinds pageblock ≡ kind_at a.kinds pageblock
   pub stays : (class : Class) (order first : ℕ) → IsOutside from count (pageblock_of l first) → is_on first (free_list a class order) ≡ true → is_on first (free_list b class order) ≡ true
 
-remove_one : (l : LayoutParts) (class_at : ℕ → Option Class) (zone : Zone) (a : FreeAreas) (pageblock : ℕ) → pageblock < length a.kinds → AreOrdered l class_at a
+pub remove_one : (l : LayoutParts) (class_at : ℕ → Option Class) (zone : Zone) (a : FreeAreas) (pageblock : ℕ) → pageblock < length a.kinds → AreOrdered l class_at a
     → is_on (pageblock * 2 ^ l.order) (free_list a (isolated_class zone) l.order) ≡ true → RemovesRange l class_at pageblock 1 a (remove_pageblock l zone a pageblock)
 remove_one l class_at zone a pageblock short h on =
     let class : Class = isolated_class zone in
@@ -145,7 +145,7 @@ remove_all l class_at zone a from (suc count) short h on =
 -- ---- a block goes offline
 
 -- each pageblock of the block is one isolated free block
-abbrev IsAllFree : LayoutParts → FreeAreas → Zone → ℕ → Type 0
+abbrev pub IsAllFree : LayoutParts → FreeAreas → Zone → ℕ → Type 0
 IsAllFree l a zone block = (pageblock : ℕ) → IsInRange (block * l.pageblocks) l.pageblocks pageblock → is_on (pageblock * 2 ^ l.order) (free_list a (isolated_class zone) l.order) ≡ true
 
 remove_block-range : (l : LayoutParts) (s : Memory) (block : ℕ) (zone : Zone) → IsWellPlaced l s → block < l.blocks → IsAllFree l s.free.areas zone block
@@ -242,13 +242,13 @@ offlined-placed l s block zone layout p low plugged all =
 -- ---- what the blocks that come later need
 
 -- a state in the middle of a commit: the rows and the free pageblocks from a block on are as they were at first
-record CommitsFrom (l : LayoutParts) (s : Memory) (from : ℕ) (t : Memory) : Type 0 where
+pub record CommitsFrom (l : LayoutParts) (s : Memory) (from : ℕ) (t : Memory) : Type 0 where
   pub placed : IsWellPlaced l t
   pub later : (block : ℕ) → from ≤ block → row_of t.blocks block ≡ row_of s.blocks block
   pub stays : (class : Class) (pageblock : ℕ) → from ≤ block_of_pageblock l pageblock → is_on (pageblock * 2 ^ l.order) (free_list s.free.areas class l.order) ≡ true
       → is_on (pageblock * 2 ^ l.order) (free_list t.free.areas class l.order) ≡ true
 
-commits_next : (l : LayoutParts) (s : Memory) (from : ℕ) (t : Memory) → CommitsFrom l s from t → CommitsFrom l s (from + 1) t
+pub commits_next : (l : LayoutParts) (s : Memory) (from : ℕ) (t : Memory) → CommitsFrom l s from t → CommitsFrom l s (from + 1) t
 commits_next l s from t h = record { placed = h.placed; later = λ block above. h.later block (omega arith); stays = λ class pageblock above on. h.stays class pageblock (omega arith) on }
 
 -- pageblocks that go to the back of a list leave all others where they are
@@ -286,7 +286,7 @@ going_plugged OnlineState e = cc
 going_plugged AbsentState e = cc
 
 -- of a block that an operation holds: if it is going, it is all free
-abbrev IsGrantable : LayoutParts → Memory → ℕ → Type 0
+abbrev pub IsGrantable : LayoutParts → Memory → ℕ → Type 0
 IsGrantable l s block = is_going (row_of s.blocks block) ≡ true → IsAllFree l s.free.areas (zone_of_block s.blocks block) block
 
 online-next : (l : LayoutParts) (s t : Memory) (block : ℕ) (zone : Zone) → IsLayout l → block < l.blocks → is_unplugged (row_of t.blocks block) ≡ true → CommitsFrom l s block t → CommitsFrom l s (block + 1) (online_block l zone t block)
@@ -312,7 +312,7 @@ offline-next l s t block layout low going all h =
           (h.stays class pageblock (omega arith) on);
     }
 
-commit_block-next : (l : LayoutParts) (s : Memory) (t : Memory) (block : ℕ) → IsLayout l → block < l.blocks → IsGrantable l s block → CommitsFrom l s block t → CommitsFrom l s (block + 1) (commit_block l t block)
+pub commit_block-next : (l : LayoutParts) (s : Memory) (t : Memory) (block : ℕ) → IsLayout l → block < l.blocks → IsGrantable l s block → CommitsFrom l s block t → CommitsFrom l s (block + 1) (commit_block l t block)
 commit_block-next l s t block layout low ready h = by_claim (row_of t.blocks block).claim refl
   where
     off : (claim : Claim) → (row_of t.blocks block).claim ≡ Some claim → is_off claim.wish ≡ false → is_unplugged (row_of t.blocks block) ≡ true
@@ -373,7 +373,7 @@ range_on from (suc count) x low high = elim (cases_eq from x) [
   | inr ne ↦ on_tail x from (range_with_len (from + 1) count) (range_on (from + 1) count x (omega arith) (omega arith))
 ]
 
-grantable : (l : LayoutParts) (s : Memory) (op : ℕ) → list_all (is_all_free l s) (going_blocks l s.blocks op) ≡ true → (block : ℕ) → block < l.blocks → is_claimed_by op (row_of s.blocks block) ≡ true
+pub grantable : (l : LayoutParts) (s : Memory) (op : ℕ) → list_all (is_all_free l s) (going_blocks l s.blocks op) ≡ true → (block : ℕ) → block < l.blocks → is_claimed_by op (row_of s.blocks block) ≡ true
     → IsGrantable l s block
 grantable l s op all block low mine going pageblock among =
     let here : is_on block (going_blocks l s.blocks op) ≡ true = filter_on (λ b. is_going (row_of s.blocks b)) (blocks_of l s.blocks op) block going

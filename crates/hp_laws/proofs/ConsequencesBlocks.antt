@@ -11,13 +11,13 @@ use Rattle.hp_units.specs.LayoutParts.{LayoutParts}
 use Rattle.hp_units.specs.Arithmetic.{buddy, pageblock_of}
 use Rattle.hp_units.specs.Memory.{FreeAreas, free_list, with_free_list, class_index}
 use Rattle.hp_units.specs.FreeAreas.{is_on}
-use Rattle.hp_units.specs.Placement.{free_places, list_places, places_from}
+use Rattle.hp_units.specs.Placement.{free_places, list_places, places_from, covered}
 use Rattle.hp_laws.specs.Consequences.{IsFrameOf, IsInFreeBlock}
-use Rattle.hp_laws.proofs.Sizes.{with_free_list-size}
-use Rattle.hp_laws.proofs.Places.{HasOrder, class_index-lt, covered, list_places-cons, with_free_list-places}
+use Rattle.hp_lemmas.proofs.Sizes.{with_free_list-size}
+use Rattle.hp_lemmas.proofs.Places.{HasOrder, class_index-lt, list_places-cons, with_free_list-places}
 use Rattle.hp_laws.proofs.Ordered.{AreOrdered}
-use Rattle.hp_laws.proofs.Geometry.{buddy_above, buddy_even, buddy_odd, multiple, multiple_aligned, same_above}
-use Rattle.hp_laws.proofs.FrameLists.{free_list-apart, list_places-le, on-places, on_cases, on_tail}
+use Rattle.hp_lemmas.proofs.Geometry.{buddy_above, buddy_even, buddy_odd, multiple, multiple_aligned, same_above}
+use Rattle.hp_lemmas.proofs.Lists.{free_list-apart, list_places-le, on-places, on_cases, on_tail}
 use Rattle.hp_laws.proofs.Areas.{has_order, on_free}
 use Rattle.hp_laws.proofs.Onlines.{quotient}
 

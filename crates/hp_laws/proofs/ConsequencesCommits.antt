@@ -23,8 +23,8 @@ use Rattle.hp_units.specs.Placement.{IsWellPlaced, class_at, kind_at, row_at}
 use Rattle.hp_laws.specs.Consequences.{IsFrameOf, IsGoingFor, IsFrameInUse, IsInFreeBlock}
 use Rattle.hp_laws.proofs.Ordered.{AreOrdered}
 use Rattle.hp_laws.proofs.Options.{found_passes}
-use Rattle.hp_laws.proofs.Geometry.{multiple, multiple_aligned}
-use Rattle.hp_laws.proofs.FrameLists.{on_cases, on_tail}
+use Rattle.hp_lemmas.proofs.Geometry.{multiple, multiple_aligned}
+use Rattle.hp_lemmas.proofs.Lists.{on_cases, on_tail}
 use Rattle.hp_laws.proofs.Areas.{on_free}
 use Rattle.hp_laws.proofs.States.{areas_of, block_of-pageblock}
 use Rattle.hp_laws.proofs.Onlines.{quotient}

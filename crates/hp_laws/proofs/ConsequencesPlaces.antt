@@ -20,15 +20,16 @@ use Rattle.hp_units.specs.Memory.{Memory, cached_list, class_index, free_list, k
 use Rattle.hp_units.specs.FreeAreas.{class_of_kind, is_on}
 use Rattle.hp_units.specs.Pages.{frame_at}
 use Rattle.hp_units.specs.Rows.{is_absent_state, is_going_state, is_offline_state, is_online_state}
-use Rattle.hp_units.specs.Placement.{IsKernelAt, IsRowOf, IsWellPlaced, cached_places, is_unplugged, kind_at, list_places, mapped_places, offline_places, row_at}
+use Rattle.hp_units.specs.Placement.{IsKernelAt, IsRowOf, IsWellPlaced, cached_places, is_unplugged, kind_at, list_places, mapped_places, offline_places, row_at, covered}
 use Rattle.hp_laws.specs.Consequences.{IsFrameOf, IsPluggedIn}
-use Rattle.hp_laws.proofs.Places.{covered, list_places-cons}
-use Rattle.hp_laws.proofs.Geometry.{same_above}
-use Rattle.hp_laws.proofs.FrameLists.{covered-self, list_places-le, on_tail}
+use Rattle.hp_lemmas.proofs.Places.{list_places-cons}
+use Rattle.hp_lemmas.proofs.Geometry.{same_above}
+use Rattle.hp_lemmas.proofs.Lists.{covered-self, list_places-le, on_tail}
 use Rattle.hp_laws.proofs.Areas.{has_order}
 use Rattle.hp_laws.proofs.States.{areas_of, block_of-pageblock, in_layout}
 use Rattle.hp_laws.proofs.Drains.{pool_zone, times, times-cons}
-use Rattle.hp_laws.proofs.Tables.{live_row, mapped_some, table_of}
+use Rattle.hp_laws.proofs.Tables.{live_row}
+use Rattle.hp_lemmas.proofs.Tables.{mapped_some, table_of}
 use Rattle.hp_laws.proofs.ConsequencesBlocks.{in_number, on_head}
 
 -- ---- the zone of a frame's block

@@ -16,7 +16,7 @@ use Rattle.hp_units.specs.Step.{answer, step}
 use Rattle.hp_units.specs.Placement.{IsWellPlaced}
 use Rattle.hp_laws.specs.Consequences.{IsFrameInUse, IsLowestInUse}
 use Rattle.hp_laws.proofs.Names.{Commit, Done, NoCpu, NoOp, NotFree, Refused, Reply}
-use Rattle.hp_laws.proofs.FrameLists.{on_cases, on_tail}
+use Rattle.hp_lemmas.proofs.Lists.{on_cases, on_tail}
 use Rattle.hp_laws.proofs.Pageblocks.{on_range}
 use Rattle.hp_laws.proofs.ConsequencesBlocks.{on_head}
 use Rattle.hp_laws.proofs.ConsequencesCommits.{all_free-none, claimed_live, found_in_use, going_frame, going_frames, none_in_use, tested_block}

@@ -21,12 +21,12 @@ use Rattle.hp_units.specs.FreeAreas.{Taken, is_on, give_block, take_block, class
 use Rattle.hp_units.specs.ProcessorLists.{Refill, with_first, take_frames, give_all, drain_pool, drain_lists}
 use Rattle.hp_units.specs.Rows.{with_areas}
 use Rattle.hp_units.specs.Step.{with_free}
-use Rattle.hp_units.specs.Placement.{free_places, cached_places, IsInOrder, IsWellPlaced, class_at, pool_at, row_at, kind_at}
-use Rattle.hp_laws.proofs.Places.{covered}
-use Rattle.hp_laws.proofs.Joins.{give_block-places}
+use Rattle.hp_units.specs.Placement.{free_places, cached_places, IsInOrder, IsWellPlaced, class_at, pool_at, row_at, kind_at, covered}
+use Rattle.hp_lemmas.proofs.Joins.{give_block-places}
+use Rattle.hp_lemmas.proofs.Geometry.{aligned_ancestor}
+use Rattle.hp_lemmas.proofs.Lists.{on_tail, on_cases}
+use Rattle.hp_lemmas.proofs.Pools.{pool_index-lt}
 use Rattle.hp_laws.proofs.Ordered.{AreOrdered}
-use Rattle.hp_laws.proofs.Geometry.{aligned_ancestor}
-use Rattle.hp_laws.proofs.FrameLists.{on_tail, on_cases}
 use Rattle.hp_laws.proofs.Takes.{TakesOrdered, take_block-ordered}
 use Rattle.hp_laws.proofs.Gives.{give_block-ordered, give_block-kinds}
 use Rattle.hp_laws.proofs.States.{areas_of, areas-in_order}
@@ -110,11 +110,6 @@ unfolding pool_from
 pool_from-index NuPool = refl
 pool_from-index NmPool = refl
 pool_from-index MmPool = refl
-
-pub pool_index-lt : (pool : Pool) → pool_index pool < 3
-pool_index-lt NuPool = omega arith
-pool_index-lt NmPool = omega arith
-pool_index-lt MmPool = omega arith
 
 same_pool : (cpu other : ℕ) (pool p : Pool) → 3 * other + pool_index p ≡ 3 * cpu + pool_index pool → p ≡ pool
 same_pool cpu other pool p e =

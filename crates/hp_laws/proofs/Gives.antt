@@ -1,30 +1,18 @@
 -- Giving a block back keeps the areas in order.
-use Rattle.std.proofs.Common.{◌≡◌, ℕ, zero, suc, ◌+◌, ◌-◌, ◌/◌, ◌%◌, ◌^◌, ◌<◌, ◌≤◌, List, [], ◌∷◌, Bool, true, false, not, cond, Option, Some, refl, sym, ◌∙◌, ap, subst, arith, ◌==◌}
+use Rattle.std.proofs.Common.{◌≡◌, ℕ, zero, suc, ◌+◌, ◌-◌, ◌/◌, ◌%◌, ◌^◌, ◌<◌, ◌≤◌, List, [], ◌∷◌, Bool, true, false, cond, Option, Some, refl, sym, ◌∙◌, ap, subst, arith, ◌==◌}
 use Rattle.hp_units.specs.declared.rows.Class.{Class}
 use Rattle.hp_units.specs.declared.rows.Zone.{Zone}
 use Rattle.hp_units.specs.LayoutParts.{LayoutParts}
 use Rattle.hp_units.specs.Arithmetic.{buddy, ancestor, pageblock_of}
 use Rattle.hp_units.specs.Memory.{FreeAreas, free_list}
 use Rattle.hp_units.specs.FreeAreas.{is_on, without, without_buddies, join_order, give_block, class_of}
-use Rattle.hp_units.specs.Placement.{list_places, free_places}
-use Rattle.hp_laws.proofs.Places.{covered, list_places-cons}
-use Rattle.hp_laws.proofs.Joins.{free_list-other, without_buddies-places, HasBuddies, JoinsTo, join_order-joins}
+use Rattle.hp_units.specs.Placement.{free_places, covered}
+use Rattle.hp_lemmas.proofs.Joins.{without_buddies-places, HasBuddies, JoinsTo, join_order-joins, without_buddies-other}
+use Rattle.hp_lemmas.proofs.Geometry.{ancestor_above, aligned_ancestor, multiple_aligned}
+use Rattle.hp_lemmas.proofs.Sizes.{buddies-kinds}
+use Rattle.hp_lemmas.proofs.Parts.{without-part}
 use Rattle.hp_laws.proofs.Ordered.{AreOrdered}
-use Rattle.hp_laws.proofs.Geometry.{ancestor_above, aligned_ancestor, multiple_aligned}
-use Rattle.hp_laws.proofs.FrameLists.{on-without}
-use Rattle.hp_laws.proofs.Areas.{IsPart, part-ordered, front-ordered}
-
-less-step : (same : Bool) (frame order x : ℕ) (xs ys : List ℕ) → list_places frame order ys ≤ list_places frame order xs
-    → list_places frame order (cond (not same) (x ∷ ys) ys) ≤ list_places frame order (x ∷ xs)
-less-step true frame order x xs ys h = omega (arith, list_places-cons frame order x xs)
-less-step false frame order x xs ys h = omega (arith, list_places-cons frame order x xs, list_places-cons frame order x ys)
-
-without-le : (frame order block : ℕ) (frames : List ℕ) → list_places frame order (without block frames) ≤ list_places frame order frames
-without-le frame order block [] = omega arith
-without-le frame order block (x ∷ xs) = less-step (x == block) frame order x xs (without block xs) (without-le frame order block xs)
-
-pub without-part : (order block : ℕ) (frames : List ℕ) → IsPart order (without block frames) frames
-without-part order block frames = record { on = λ frame on. on-without frame block frames on; places = λ frame. without-le frame order block frames }
+use Rattle.hp_laws.proofs.Areas.{part-ordered, front-ordered}
 
 pub without_buddies-ordered : (l : LayoutParts) (class_at : ℕ → Option Class) (a : FreeAreas) (class : Class) (first order count : ℕ) → order + count ≤ l.order + 1
     → AreOrdered l class_at a → AreOrdered l class_at (without_buddies a class first order count)
@@ -34,13 +22,6 @@ without_buddies-ordered l class_at a class first order (suc count) low h =
     part-ordered l class_at rest class (order + count) (without (buddy (ancestor first (order + count)) (order + count)) (free_list rest class (order + count))) (omega arith)
     (without-part (order + count) (buddy (ancestor first (order + count)) (order + count)) (free_list rest class (order + count)))
     (without_buddies-ordered l class_at a class first order count (omega arith) h)
-
-without_buddies-other : (a : FreeAreas) (class : Class) (first order count other : ℕ) → order + count ≤ other
-    → free_list (without_buddies a class first order count) class other ≡ free_list a class other
-without_buddies-other a class first order zero other h = refl
-without_buddies-other a class first order (suc count) other h =
-    free_list-other (without_buddies a class first order count) class (order + count) other _ (omega arith)
-    ∙ without_buddies-other a class first order count other (omega arith)
 
 -- where joining stops short of the last order, the buddy isn't free
 stops-step : (on : Bool) (a : FreeAreas) (class : Class) (first order joined last : ℕ) → is_on (buddy (ancestor first order) order) (free_list a class order) ≡ on
@@ -55,10 +36,6 @@ join_order-stops a class first order zero last e below = absurd (omega arith)
 join_order-stops a class first order (suc count) last e below =
     stops-step (is_on (buddy (ancestor first order) order) (free_list a class order)) a class first order (join_order a class first (suc order) count) last refl
     (join_order-stops a class first (suc order) count last (omega arith)) below
-
-pub buddies-kinds : (a : FreeAreas) (class : Class) (first order count : ℕ) → (without_buddies a class first order count).kinds ≡ a.kinds
-buddies-kinds a class first order zero = refl
-buddies-kinds a class first order (suc count) = buddies-kinds a class first order count
 
 pub give_block-kinds : (l : LayoutParts) (a : FreeAreas) (zone : Zone) (first order : ℕ) → (give_block l a zone first order).kinds ≡ a.kinds
 unfolding give_block

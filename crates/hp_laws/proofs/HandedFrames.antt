@@ -17,7 +17,9 @@ use Rattle.hp_units.specs.Memory.{FreeFrames, Memory, kernel_order, with_kernel_
 use Rattle.hp_units.specs.FreeAreas.{Taken, give_block, steal_block, take_block}
 use Rattle.hp_units.specs.Pages.{frame_at, fresh_words, map_page, move_page, unmap_page}
 use Rattle.hp_units.specs.ProcessorLists.{Handed, handed_from, kernel_frame, page_frame}
-use Rattle.hp_units.specs.Refusals.{event_refusals, kernel_block, migration_source, migration_target, refusal_of}
+use Rattle.hp_units.specs.KernelBlocks.{kernel_block}
+use Rattle.hp_units.specs.Migrations.{migration_source, migration_target}
+use Rattle.hp_units.specs.Refusals.{event_refusals, refusal_of}
 use Rattle.hp_units.specs.Rows.{is_going, with_areas, zone_of}
 use Rattle.hp_units.specs.Step.{Answered, answer, done, give_back, kernel_gives, kernel_takes, map_step, migrate_step, perform, step, unmap_step, with_free, with_pages}
 use Rattle.hp_units.specs.Placement.{IsInOrder, IsWellPlaced, is_unplugged, row_at}
@@ -28,7 +30,7 @@ use Rattle.hp_laws.proofs.States.{block_of-pageblock}
 use Rattle.hp_laws.proofs.Rows.{unplugged_zone}
 use Rattle.hp_laws.proofs.Steals.{TakesPlaced, kernel_large-placed}
 use Rattle.hp_laws.proofs.Hands.{HandsPlaced}
-use Rattle.hp_laws.proofs.Tables.{entry-same, table_of}
+use Rattle.hp_lemmas.proofs.Tables.{entry-same, table_of}
 use Rattle.hp_laws.proofs.PageSteps.{HandsSome, kernel_frame-placed, page_frame-placed}
 use Rattle.hp_laws.proofs.Migrations.{TakesSome, target-placed}
 use Rattle.hp_laws.proofs.EventSteps.{below, not_there, then_none}

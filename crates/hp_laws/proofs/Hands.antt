@@ -17,11 +17,11 @@ use Rattle.hp_units.specs.FreeAreas.{is_on, class_of_kind}
 use Rattle.hp_units.specs.ProcessorLists.{Handed, Refill, take_frames, refilled_from, pop_from}
 use Rattle.hp_units.specs.Rows.{with_areas}
 use Rattle.hp_units.specs.Step.{with_free}
-use Rattle.hp_units.specs.Placement.{free_places, cached_places, IsInOrder, IsWellPlaced, class_at, pool_at, row_at, kind_at}
-use Rattle.hp_laws.proofs.Places.{covered}
-use Rattle.hp_laws.proofs.FrameLists.{on_tail}
+use Rattle.hp_units.specs.Placement.{free_places, cached_places, IsInOrder, IsWellPlaced, class_at, pool_at, row_at, kind_at, covered}
+use Rattle.hp_lemmas.proofs.Lists.{on_tail}
 use Rattle.hp_laws.proofs.States.{areas_of, areas-in_order}
-use Rattle.hp_laws.proofs.Drains.{times, times-cons, pool_index-lt, pool_zone, RefillOrdered, take_frames-ordered, cached-in_order}
+use Rattle.hp_laws.proofs.Drains.{times, times-cons, pool_zone, RefillOrdered, take_frames-ordered, cached-in_order}
+use Rattle.hp_lemmas.proofs.Pools.{pool_index-lt}
 
 -- what a processor hands out: the frame leaves its place, and it was one of the pool
 pub record HandsPlaced (l : LayoutParts) (s : Memory) (zone : Zone) (handed : Handed) : Type 0 where

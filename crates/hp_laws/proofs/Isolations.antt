@@ -21,7 +21,7 @@ use Rattle.hp_units.specs.Rows.{is_going, with_areas, with_block_row}
 use Rattle.hp_units.specs.Placement.{IsBlockOf, IsInOrder, IsKernelAt, IsRow, IsWellPlaced, class_at, free_places, is_unplugged, kind_at, offline_places, row_at}
 use Rattle.hp_laws.proofs.Ordered.{AreOrdered}
 use Rattle.hp_laws.proofs.Options.{some_weaker}
-use Rattle.hp_laws.proofs.Geometry.{buddy_above}
+use Rattle.hp_lemmas.proofs.Geometry.{buddy_above}
 use Rattle.hp_laws.proofs.Areas.{on_free, other-ordered}
 use Rattle.hp_laws.proofs.States.{areas_of, get_or-cases}
 use Rattle.hp_laws.proofs.Rows.{unplugged_zone}

@@ -9,10 +9,6 @@ pub mod Replays
 pub mod Ordered
 pub mod Options
 pub mod Sizes
-pub mod Places
-pub mod Joins
-pub mod Geometry
-pub mod FrameLists
 pub mod Areas
 pub mod Takes
 pub mod Gives
@@ -29,6 +25,7 @@ pub mod Puts
 pub mod Tables
 pub mod PageSteps
 pub mod Migrations
+pub mod MovedPages
 pub mod Pageblocks
 pub mod Isolations
 pub mod Claims
@@ -38,6 +35,7 @@ pub mod NetContents
 pub mod HandedFrames
 pub mod Records
 pub mod HandedRecords
+pub mod StepBlocks
 pub mod OperationRows
 pub mod OperationSteps
 pub mod OperationPhases

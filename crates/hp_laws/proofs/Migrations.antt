@@ -15,28 +15,28 @@ use Rattle.hp_units.specs.Arithmetic.{frames_of_block, pageblock_of}
 use Rattle.hp_units.specs.Memory.{Memory, Pages, entry_of, with_entry, class_of_pool, zone_of_pool}
 use Rattle.hp_units.specs.FreeAreas.{Taken, class_of_kind, give_block, steal_block, take_block}
 use Rattle.hp_units.specs.Pages.{frame_at, holds, move_page, page_at, page_from, words_at}
-use Rattle.hp_units.specs.Refusals.{migration_source, migration_target}
+use Rattle.hp_units.specs.Migrations.{migration_source, migration_target}
 use Rattle.hp_units.specs.Rows.{going_blocks, with_areas, zone_of}
 use Rattle.hp_units.specs.Step.{done, migrate_step, with_pages}
-use Rattle.hp_units.specs.Placement.{IsInOrder, IsPage, IsWellPlaced, class_at, free_places, kind_at, mapped_places, row_at}
-use Rattle.hp_laws.proofs.Places.{covered}
-use Rattle.hp_laws.proofs.Joins.{give_block-places}
+use Rattle.hp_units.specs.Placement.{IsInOrder, IsPage, IsWellPlaced, class_at, free_places, kind_at, mapped_places, row_at, covered}
+use Rattle.hp_lemmas.proofs.Joins.{give_block-places}
 use Rattle.hp_laws.proofs.Ordered.{AreOrdered}
 use Rattle.hp_laws.proofs.Options.{found_passes, some_weaker}
-use Rattle.hp_laws.proofs.Geometry.{aligned_ancestor}
+use Rattle.hp_lemmas.proofs.Geometry.{aligned_ancestor}
 use Rattle.hp_laws.proofs.Takes.{TakesOrdered, take_block-ordered}
 use Rattle.hp_laws.proofs.Gives.{give_block-ordered, give_block-kinds}
 use Rattle.hp_laws.proofs.States.{areas_of, areas-in_order}
 use Rattle.hp_laws.proofs.Steals.{TakesPlaced, or_some, steal_block-placed}
 use Rattle.hp_laws.proofs.Drains.{single, pool_zone}
 use Rattle.hp_laws.proofs.Hands.{class_pool, class_shown}
-use Rattle.hp_laws.proofs.Tables.{entry-cases, entry_within, held-some, mapped-places, pages-in_order, table_of, contents_of, with_entry-table}
+use Rattle.hp_laws.proofs.Tables.{pages-in_order}
+use Rattle.hp_lemmas.proofs.Tables.{entry-cases, entry_within, held-some, mapped-places, table_of, contents_of, with_entry-table}
 use Rattle.hp_laws.proofs.PageSteps.{mapped_zone}
 
 -- ---- the page at a frame
 
 -- its entry is the frame
-record IsPageAt (rows : List (List (Option ℕ))) (first frame owner page : ℕ) : Type 0 where
+pub record IsPageAt (rows : List (List (Option ℕ))) (first frame owner page : ℕ) : Type 0 where
   pub row : ℕ
   pub sum : owner ≡ first + row
   pub entry : entry_of rows row page ≡ Some frame
@@ -45,7 +45,7 @@ held_entry : (frame : ℕ) (e : Option ℕ) → holds frame e ≡ true → e ≡
 held_entry frame None h = cc
 held_entry frame (Some other) h = ap (λ (n : ℕ). Some n) (eqb-true other frame h)
 
-page_from-at : (first frame owner page : ℕ) (rows : List (List (Option ℕ))) → page_from first rows frame ≡ Some (owner, page) → IsPageAt rows first frame owner page
+pub page_from-at : (first frame owner page : ℕ) (rows : List (List (Option ℕ))) → page_from first rows frame ≡ Some (owner, page) → IsPageAt rows first frame owner page
 page_from-at first frame owner page [] e = cc
 page_from-at first frame owner page (row ∷ rows) e = by_position (position (holds frame) row) refl e (page_from-at (first + 1) frame owner page rows)
   where

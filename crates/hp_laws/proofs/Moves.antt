@@ -7,8 +7,8 @@ use Rattle.std.proofs.lemmas.Bool.Decides.{nat_tests}
 use Rattle.std.proofs.lemmas.List.Sums.{sum_by-cons}
 use Rattle.hp_units.specs.FreeAreas.{is_on}
 use Rattle.hp_units.specs.Placement.{list_places}
-use Rattle.hp_laws.proofs.Places.{list_places-cons}
-use Rattle.hp_laws.proofs.FrameLists.{covered-self, on-places}
+use Rattle.hp_lemmas.proofs.Places.{list_places-cons}
+use Rattle.hp_lemmas.proofs.Lists.{covered-self, on-places}
 
 -- the sum over the numbers of a range that pass
 total : (w : ℕ → ℕ) (p : ℕ → Bool) (from count : ℕ) → ℕ

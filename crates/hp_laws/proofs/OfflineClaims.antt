@@ -18,16 +18,16 @@ use Rattle.hp_units.specs.declared.rows.Zone.TheVariants.{Normal as NormalZone, 
 use Rattle.hp_units.specs.LayoutParts.{LayoutParts}
 use Rattle.hp_units.specs.Arithmetic.{all_blocks, block_bytes}
 use Rattle.hp_units.specs.Boot.{boot_block, boot_memory, empty_memory}
-use Rattle.hp_units.specs.Memory.{Blocks, Memory, kernel_order, offline_row, row_of, with_kernel_order}
+use Rattle.hp_units.specs.Memory.{Blocks, Memory, offline_row, row_of}
 use Rattle.hp_units.specs.History.{IsLegal, net_of, run, value_of}
-use Rattle.hp_units.specs.Pages.{frame_at, unmap_page}
-use Rattle.hp_units.specs.ProcessorLists.{page_frame}
-use Rattle.hp_units.specs.Refusals.{kernel_block, migration_source, migration_target, refusal_of}
+use Rattle.hp_units.specs.Migrations.{migration_source, migration_target}
+use Rattle.hp_units.specs.Refusals.{refusal_of}
 use Rattle.hp_units.specs.Rows.{is_claimed_by, begin_block, begin_plan, blocks_of, claim_block, commit_block, commit_blocks, grant, is_going, online_again, online_block, release_block, release_blocks, wish_of, with_block_row}
-use Rattle.hp_units.specs.Step.{Answered, answer, auto_online, done, give_back, kernel_gives, kernel_takes, map_step, migrate_step, perform, step, unmap_step, with_pages}
+use Rattle.hp_units.specs.Step.{answer, auto_online, migrate_step, perform, step}
 use Rattle.hp_laws.specs.Offline.{AreClaimedUpTo, AreHeldBy, IsHeldBy}
 use Rattle.hp_laws.proofs.Names.{Event, KernelAlloc, KernelFree, Map, Unmap, Write, Read, Drain, Online, Begin, DrainFor, Migrate, Commit, Cancel, UndoAfter, Probe, Remove, SetAuto, Record, Refusal}
 use Rattle.hp_laws.proofs.Earlier.{numbered_net}
+use Rattle.hp_laws.proofs.StepBlocks.{answered-blocks, kernel_takes-blocks, kernel_gives-blocks, map_step-blocks, unmap_step-blocks}
 
 -- ---- rows written one after another
 
@@ -130,38 +130,6 @@ auto-claims l P OfflineAuto s block h = h
 auto-claims l P OnlineAuto s block h = online-claims l P NormalZone s block h
 auto-claims l P KernelAuto s block h = online-claims l P NormalZone s block h
 auto-claims l P MovableAuto s block h = online-claims l P MovableZone s block h
-
--- ---- steps that leave the blocks
-
--- whether there is what the event asks for or not
-answered-blocks : {X : Type 0} (f : X → Answered) (s : Memory) (o : Option X) → ((x : X) → (f x).memory.blocks ≡ s.blocks) → (option_map_or f o (done s)).memory.blocks ≡ s.blocks
-answered-blocks f s None h = refl
-answered-blocks f s (Some x) h = h x
-
--- a block of frames comes back
-give_back-blocks : (l : LayoutParts) (s : Memory) (cpu frame order : ℕ) → (give_back l s cpu frame order).blocks ≡ s.blocks
-give_back-blocks l s cpu frame zero = refl
-give_back-blocks l s cpu frame (suc below) = refl
-
--- the kernel takes a block
-kernel_takes-blocks : (l : LayoutParts) (s : Memory) (cpu order : ℕ) → (kernel_takes l s cpu order).memory.blocks ≡ s.blocks
-unfolding kernel_takes
-kernel_takes-blocks l s cpu order = answered-blocks _ s (kernel_block l s.free cpu order) (λ handed. refl)
-
--- the kernel gives one back
-kernel_gives-blocks : (l : LayoutParts) (s : Memory) (cpu frame : ℕ) → (kernel_gives l s cpu frame).memory.blocks ≡ s.blocks
-unfolding kernel_gives
-kernel_gives-blocks l s cpu frame = answered-blocks _ s (kernel_order s frame) (λ order. give_back-blocks l (with_kernel_order s frame None) cpu frame order)
-
--- a page is mapped
-map_step-blocks : (l : LayoutParts) (s : Memory) (cpu owner page : ℕ) → (map_step l s cpu owner page).memory.blocks ≡ s.blocks
-unfolding map_step
-map_step-blocks l s cpu owner page = answered-blocks _ s (page_frame l s.free cpu) (λ handed. refl)
-
--- a page is unmapped
-unmap_step-blocks : (l : LayoutParts) (s : Memory) (cpu owner page : ℕ) → (unmap_step l s cpu owner page).memory.blocks ≡ s.blocks
-unfolding unmap_step
-unmap_step-blocks l s cpu owner page = answered-blocks _ s (frame_at s.pages owner page) (λ frame. give_back-blocks l (with_pages s (unmap_page s.pages owner page)) cpu frame 0)
 
 -- a page moves
 migrate_step-blocks : (l : LayoutParts) (s : Memory) (op : ℕ) → (migrate_step l s op).memory.blocks ≡ s.blocks

@@ -29,7 +29,8 @@ use Rattle.hp_laws.proofs.Lists.{get_left}
 use Rattle.hp_laws.proofs.Net.{Numbered, run-append}
 use Rattle.hp_laws.proofs.Earlier.{numbered_net}
 use Rattle.hp_laws.proofs.OwnedContents.{AllSucceed}
-use Rattle.hp_laws.proofs.States.{block_of-pageblock, kernel_covered}
+use Rattle.hp_laws.proofs.States.{block_of-pageblock}
+use Rattle.hp_lemmas.proofs.KernelBlocks.{kernel_covered}
 use Rattle.hp_laws.proofs.EventSteps.{run-placed, step-placed}
 use Rattle.hp_laws.proofs.Commits.{going_plugged}
 use Rattle.hp_laws.proofs.ConsequencesBlocks.{covered_in, free_block}

@@ -10,7 +10,8 @@ use Rattle.hp_units.specs.Marks.{holds_only_own_work, is_work_of, mark_of, tag_o
 use Rattle.hp_units.specs.Memory.{FreeFrames, Memory, cached_list, pool_index}
 use Rattle.hp_units.specs.History.{is_refused, run}
 use Rattle.hp_units.specs.ProcessorLists.{drain_lists}
-use Rattle.hp_units.specs.Refusals.{event_refusals, migration_source, migration_target}
+use Rattle.hp_units.specs.Migrations.{migration_source, migration_target}
+use Rattle.hp_units.specs.Refusals.{event_refusals}
 use Rattle.hp_units.specs.Rows.{is_live}
 use Rattle.hp_units.specs.Step.{Answered, done, migrate_step, perform, step, with_free}
 use Rattle.hp_laws.specs.Offline.{drains_for}

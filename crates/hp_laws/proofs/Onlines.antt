@@ -20,11 +20,12 @@ use Rattle.hp_units.specs.Memory.{FreeAreas, Memory, free_list, with_free_list, 
 use Rattle.hp_units.specs.FreeAreas.{class_of_kind}
 use Rattle.hp_units.specs.Isolation.{add_pageblock, add_block}
 use Rattle.hp_units.specs.Rows.{with_block_row, online_block}
-use Rattle.hp_units.specs.Placement.{is_unplugged, free_places, offline_places, IsInOrder, IsWellPlaced, class_at, kind_at}
-use Rattle.hp_laws.proofs.Places.{covered, with_free_list-places}
+use Rattle.hp_units.specs.Placement.{is_unplugged, free_places, offline_places, IsInOrder, IsWellPlaced, class_at, kind_at, covered}
+use Rattle.hp_lemmas.proofs.Places.{with_free_list-places}
 use Rattle.hp_laws.proofs.Ordered.{AreOrdered}
-use Rattle.hp_laws.proofs.Geometry.{multiple_aligned}
-use Rattle.hp_laws.proofs.Areas.{has_order, more-ordered, back-more}
+use Rattle.hp_lemmas.proofs.Geometry.{multiple_aligned}
+use Rattle.hp_laws.proofs.Areas.{has_order, more-ordered}
+use Rattle.hp_lemmas.proofs.Parts.{back-more}
 use Rattle.hp_laws.proofs.States.{areas_of, areas-in_order}
 use Rattle.hp_laws.proofs.Rows.{row-in_order, plain_kinds, HasPlainKinds}
 

@@ -1,9 +1,9 @@
 -- What one step does to the rows of memory blocks: a claimed row changes only where its operation ends.
-use Rattle.std.proofs.Common.{◌≡◌, ◌≢◌, ℕ, zero, suc, ◌/◌, ◌<◌, ◌≤◌, List, [], ◌∷◌, length, get_or, set, Bool, true, false, not, cond, Option, Some, None, refl, ap, sym, subst, ◌∙◌, arith, ◌⊎◌, inl, inr, length-set, eq-eqb, eqb-true, ne_eqb, ◌==◌}
-use Rattle.std.specs.Prelude.{find, is_some, nat_le}
+use Rattle.std.proofs.Common.{◌≡◌, ◌≢◌, ℕ, ◌/◌, ◌<◌, ◌≤◌, List, [], ◌∷◌, length, get_or, set, Bool, true, false, cond, Option, Some, None, refl, ap, sym, subst, ◌∙◌, arith, ◌⊎◌, inl, inr, length-set, eq-eqb, eqb-true, ne_eqb, ◌==◌}
+use Rattle.std.specs.Prelude.{find, nat_le}
 use Rattle.std.specs.Bool.{then_some}
 use Rattle.std.specs.Option.{option_map, option_map_or}
-use Rattle.std.proofs.lemmas.Bool.{both_ways, cases_Bool, cases_eq, cases_lt, not-false}
+use Rattle.std.proofs.lemmas.Bool.{both_ways, cases_eq, cases_lt, not-false}
 use Rattle.std.proofs.lemmas.List.{get_or-set_other, get_or-set_same, get_or_past}
 use Rattle.hp_units.specs.declared.plans.Item.{Item}
 use Rattle.hp_units.specs.declared.rows.Auto.{Auto}
@@ -19,12 +19,11 @@ use Rattle.hp_units.specs.declared.rows.Zone.TheVariants.{Normal as NormalZone, 
 use Rattle.hp_units.specs.LayoutParts.{LayoutParts, IsLayout}
 use Rattle.hp_units.specs.Arithmetic.{block_bytes}
 use Rattle.hp_units.specs.Choices.{first_some}
-use Rattle.hp_units.specs.Memory.{Blocks, Memory, kernel_order, offline_row, row_of}
-use Rattle.hp_units.specs.Pages.{frame_at}
-use Rattle.hp_units.specs.ProcessorLists.{page_frame}
-use Rattle.hp_units.specs.Refusals.{event_refusals, kernel_block, migration_source, migration_target, plan_refusals, refusal_of}
+use Rattle.hp_units.specs.Memory.{Blocks, Memory, offline_row, row_of}
+use Rattle.hp_units.specs.Migrations.{migration_source, migration_target}
+use Rattle.hp_units.specs.Refusals.{event_refusals, plan_refusals, refusal_of}
 use Rattle.hp_units.specs.Rows.{is_absent, is_absent_state, is_claimed, is_claimed_by, begin_plan, commit_blocks, online_block, release_blocks, with_block_row, is_going, wish_of}
-use Rattle.hp_units.specs.Step.{Answered, answer, auto_online, done, give_back, kernel_gives, kernel_takes, map_step, migrate_step, perform, step, unmap_step}
+use Rattle.hp_units.specs.Step.{answer, auto_online, kernel_gives, kernel_takes, map_step, migrate_step, perform, step, unmap_step}
 use Rattle.hp_units.specs.Placement.{IsRowOf, IsWellPlaced}
 use Rattle.hp_laws.specs.Operations.{ends, wished_row}
 use Rattle.hp_laws.proofs.Names.{Event, Refusal, NoCpu, KernelAlloc, KernelFree, Map, Unmap, Write, Read, Drain, Online, Begin, DrainFor, Migrate, Commit, Cancel, UndoAfter, Probe, Remove, SetAuto}
@@ -32,6 +31,7 @@ use Rattle.hp_laws.proofs.EventSteps.{below, not_there, step-placed, then_none}
 use Rattle.hp_laws.proofs.Options.{found_fails, found_passes, map_none}
 use Rattle.hp_laws.proofs.OwnedContents.{all_none, none_rest}
 use Rattle.hp_laws.proofs.OperationRows.{begin-row, begun_row, commit-row, committed_row, release-row, released_row, row_with}
+use Rattle.hp_laws.proofs.StepBlocks.{answered-blocks, kernel_takes-blocks, kernel_gives-blocks, map_step-blocks, unmap_step-blocks}
 
 -- ---- a row and what a step makes of it
 
@@ -81,30 +81,6 @@ set_free op serial event rows at block row short was is = elim (cases_eq block a
 ]
 
 -- ---- events that leave the rows
-
-answered-blocks : {X : Type 0} (f : X → Answered) (s : Memory) (o : Option X) → ((x : X) → (f x).memory.blocks ≡ s.blocks) → (option_map_or f o (done s)).memory.blocks ≡ s.blocks
-answered-blocks f s None h = refl
-answered-blocks f s (Some x) h = h x
-
-give_back-blocks : (l : LayoutParts) (s : Memory) (cpu frame order : ℕ) → (give_back l s cpu frame order).blocks ≡ s.blocks
-give_back-blocks l s cpu frame zero = refl
-give_back-blocks l s cpu frame (suc below) = refl
-
-kernel_takes-blocks : (l : LayoutParts) (s : Memory) (cpu order : ℕ) → (kernel_takes l s cpu order).memory.blocks ≡ s.blocks
-unfolding kernel_takes
-kernel_takes-blocks l s cpu order = answered-blocks _ s (kernel_block l s.free cpu order) (λ handed. refl)
-
-kernel_gives-blocks : (l : LayoutParts) (s : Memory) (cpu frame : ℕ) → (kernel_gives l s cpu frame).memory.blocks ≡ s.blocks
-unfolding kernel_gives
-kernel_gives-blocks l s cpu frame = answered-blocks _ s (kernel_order s frame) (λ order. give_back-blocks l _ cpu frame order)
-
-map_step-blocks : (l : LayoutParts) (s : Memory) (cpu owner page : ℕ) → (map_step l s cpu owner page).memory.blocks ≡ s.blocks
-unfolding map_step
-map_step-blocks l s cpu owner page = answered-blocks _ s (page_frame l s.free cpu) (λ handed. refl)
-
-unmap_step-blocks : (l : LayoutParts) (s : Memory) (cpu owner page : ℕ) → (unmap_step l s cpu owner page).memory.blocks ≡ s.blocks
-unfolding unmap_step
-unmap_step-blocks l s cpu owner page = answered-blocks _ s (frame_at s.pages owner page) (λ frame. refl)
 
 migrate_step-blocks : (l : LayoutParts) (s : Memory) (op : ℕ) → (migrate_step l s op).memory.blocks ≡ s.blocks
 unfolding migrate_step

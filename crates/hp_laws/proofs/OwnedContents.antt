@@ -22,7 +22,9 @@ use Rattle.hp_units.specs.Memory.{Memory, Pages, with_entry, row_of, kernel_orde
 use Rattle.hp_units.specs.ProcessorLists.{page_frame}
 use Rattle.hp_units.specs.Pages.{page_at, frame_at, move_page}
 use Rattle.hp_units.specs.Rows.{blocks_of, is_going, wish_of, claim_block, begin_block, begin_plan, grant, commit_block, commit_blocks, release_block, release_blocks, online_block}
-use Rattle.hp_units.specs.Refusals.{kernel_block, migration_source, migration_target, event_refusals, refusal_of}
+use Rattle.hp_units.specs.KernelBlocks.{kernel_block}
+use Rattle.hp_units.specs.Migrations.{migration_source, migration_target}
+use Rattle.hp_units.specs.Refusals.{event_refusals, refusal_of}
 use Rattle.hp_units.specs.Step.{Answered, done, kernel_takes, kernel_gives, give_back, map_step, unmap_step, migrate_step, auto_online, perform, answer, step}
 use Rattle.hp_units.specs.Contents.{contents_after, contents_of_net}
 use Rattle.hp_units.specs.History.{is_refused, run}
@@ -107,7 +109,7 @@ move_page-contents ps from to = at (page_at ps from)
     at None = refl
     at (Some page) = refl
 
-migrate_step-contents : (l : LayoutParts) (s : Memory) (op : ℕ) → (migrate_step l s op).memory.pages.contents ≡ s.pages.contents
+pub migrate_step-contents : (l : LayoutParts) (s : Memory) (op : ℕ) → (migrate_step l s op).memory.pages.contents ≡ s.pages.contents
 unfolding migrate_step
 migrate_step-contents l s op =
     answered-contents _ s (migration_source l s op) (λ from. answered-contents _ s (migration_target l s.free.areas) (λ taken. move_page-contents s.pages from taken.frame))

@@ -17,12 +17,14 @@ use Rattle.hp_units.specs.Rows.{zone_of}
 use Rattle.hp_units.specs.Step.{done, give_back, kernel_gives, kernel_takes, map_step, unmap_step, with_free, with_pages}
 use Rattle.hp_units.specs.Placement.{IsInOrder, IsKernelAt, IsPage, IsWellPlaced, kernel_places, mapped_places, row_at}
 use Rattle.hp_laws.proofs.Options.{some_weaker}
-use Rattle.hp_laws.proofs.FrameLists.{covered-self}
-use Rattle.hp_laws.proofs.States.{in_layout, kernel-in_order, kernel-places, kernel_free, kernel_give-placed, zone_known}
+use Rattle.hp_lemmas.proofs.Lists.{covered-self}
+use Rattle.hp_laws.proofs.States.{in_layout, kernel-in_order, kernel_free, kernel_give-placed, zone_known}
+use Rattle.hp_lemmas.proofs.KernelBlocks.{kernel-places}
 use Rattle.hp_laws.proofs.Steals.{or_some, steal_block-placed, kernel_takes-placed}
 use Rattle.hp_laws.proofs.Hands.{HandsPlaced}
 use Rattle.hp_laws.proofs.Puts.{handed_from-placed, put_one-placed, take_one-placed}
-use Rattle.hp_laws.proofs.Tables.{HasZone, both-in_order, contents_of, entry-cases, entry_within, held-some, live_row, mapped-places, mapped_some, pages-in_order, table_of, with_entry-table}
+use Rattle.hp_laws.proofs.Tables.{HasZone, both-in_order, live_row, pages-in_order}
+use Rattle.hp_lemmas.proofs.Tables.{contents_of, entry-cases, entry_within, held-some, mapped-places, mapped_some, table_of, with_entry-table}
 
 -- ---- a single frame for the kernel
 

@@ -15,10 +15,10 @@ use Rattle.hp_units.specs.Arithmetic.{frames_of_pageblock, pageblock_of}
 use Rattle.hp_units.specs.Memory.{FreeAreas, free_list, with_free_list, class_index}
 use Rattle.hp_units.specs.FreeAreas.{is_on}
 use Rattle.hp_units.specs.Isolation.{move_free, move_free_below}
-use Rattle.hp_units.specs.Placement.{free_places, list_places}
-use Rattle.hp_laws.proofs.Sizes.{with_free_list-size}
-use Rattle.hp_laws.proofs.Places.{covered, HasOrder, with_free_list-places}
-use Rattle.hp_laws.proofs.FrameLists.{free_list-apart, free_list-cases, free_list-same, list_places-le, that_list}
+use Rattle.hp_units.specs.Placement.{free_places, list_places, covered}
+use Rattle.hp_lemmas.proofs.Sizes.{with_free_list-size}
+use Rattle.hp_lemmas.proofs.Places.{HasOrder, with_free_list-places}
+use Rattle.hp_lemmas.proofs.Lists.{free_list-apart, free_list-cases, free_list-same, list_places-le, that_list}
 use Rattle.hp_laws.proofs.Onlines.{quotient}
 use Rattle.hp_laws.proofs.Moves.{AreApart, apart_by_places, is_among, moved-sum}
 

@@ -14,17 +14,17 @@ use Rattle.hp_units.specs.FreeAreas.{Taken, is_on, class_of_kind, give_block}
 use Rattle.hp_units.specs.ProcessorLists.{give_all, handed_from, pop_cached, put_one, refilled, spilled, take_one}
 use Rattle.hp_units.specs.Rows.{with_areas}
 use Rattle.hp_units.specs.Step.{with_free}
-use Rattle.hp_units.specs.Placement.{IsInOrder, IsWellPlaced, cached_places, class_at, kind_at, places_of, pool_at, row_at}
-use Rattle.hp_laws.proofs.Places.{covered}
-use Rattle.hp_laws.proofs.Joins.{give_block-places}
+use Rattle.hp_units.specs.Placement.{IsInOrder, IsWellPlaced, cached_places, class_at, kind_at, places_of, pool_at, row_at, covered}
+use Rattle.hp_lemmas.proofs.Joins.{give_block-places}
 use Rattle.hp_laws.proofs.Ordered.{AreOrdered}
-use Rattle.hp_laws.proofs.Geometry.{aligned_ancestor}
-use Rattle.hp_laws.proofs.FrameLists.{on_cases}
+use Rattle.hp_lemmas.proofs.Geometry.{aligned_ancestor}
+use Rattle.hp_lemmas.proofs.Lists.{on_cases}
 use Rattle.hp_laws.proofs.Options.{some_weaker}
 use Rattle.hp_laws.proofs.Gives.{give_block-ordered, give_block-kinds}
 use Rattle.hp_laws.proofs.States.{areas_of, areas-in_order}
 use Rattle.hp_laws.proofs.Steals.{TakesPlaced}
-use Rattle.hp_laws.proofs.Drains.{times, times-cons, single, pool_index-lt, pool_zone, give_all-ordered, cached-in_order}
+use Rattle.hp_laws.proofs.Drains.{times, times-cons, single, pool_zone, give_all-ordered, cached-in_order}
+use Rattle.hp_lemmas.proofs.Pools.{pool_index-lt}
 use Rattle.hp_laws.proofs.Hands.{HandsPlaced, cached-places, refilled-placed, pop-placed}
 
 -- ---- parts of a list

@@ -21,9 +21,10 @@ use Rattle.hp_units.specs.Memory.{FreeFrames, Memory, cached_list, kernel_order,
 use Rattle.hp_units.specs.FreeAreas.{is_on, class_of_kind}
 use Rattle.hp_units.specs.Rows.{with_block_row, is_going, is_offline_state, is_absent_state, is_going_state}
 use Rattle.hp_units.specs.Placement.{is_unplugged, IsRow, IsRowOf, free_places, cached_places, kernel_places, mapped_places, offline_places, IsInOrder, IsWellPlaced, IsKernelAt, class_at, pool_at, row_at, kind_at}
-use Rattle.hp_laws.proofs.FrameLists.{covered-self}
+use Rattle.hp_lemmas.proofs.Lists.{covered-self}
 use Rattle.hp_laws.proofs.Areas.{other-ordered}
-use Rattle.hp_laws.proofs.States.{get_or-cases, areas_of, block_of-pageblock, kernel-places}
+use Rattle.hp_laws.proofs.States.{get_or-cases, areas_of, block_of-pageblock}
+use Rattle.hp_lemmas.proofs.KernelBlocks.{kernel-places}
 
 -- ---- what is in a place isn't in an unplugged block
 

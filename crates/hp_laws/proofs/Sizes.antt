@@ -1,39 +1,17 @@
 -- Each operation keeps the lengths of the lists of the state.
-use Rattle.std.proofs.Common.{◌≡◌, ℕ, zero, suc, ◌+◌, ◌-◌, List, [], ◌∷◌, length, Option, Some, None, Bool, true, false, refl, ◌∙◌, IfSome, cond, ◌==◌, length-set}
+use Rattle.std.proofs.Common.{◌≡◌, ℕ, zero, suc, ◌+◌, ◌-◌, List, [], ◌∷◌, Option, Some, None, Bool, true, false, ◌∙◌, IfSome, cond, ◌==◌}
 use Rattle.std.specs.Prelude.{fold}
 use Rattle.std.specs.Option.{option_map, option_map_or, option_and_then}
 use Rattle.hp_units.specs.declared.rows.Zone.{Zone}
 use Rattle.hp_units.specs.declared.rows.Class.{Class}
 use Rattle.hp_units.specs.declared.rows.Mobility.{Mobility}
 use Rattle.hp_units.specs.declared.rows.Pool.{Pool}
-use Rattle.hp_units.specs.declared.rows.Kind.{Kind}
 use Rattle.hp_units.specs.LayoutParts.{LayoutParts}
 use Rattle.hp_units.specs.Arithmetic.{ancestor}
-use Rattle.hp_units.specs.Memory.{FreeAreas, free_list, with_free_list, with_kind, class_of_pool}
-use Rattle.hp_units.specs.FreeAreas.{Taken, least_order, with_halves, take_first, take_front, take_block, join_order, without_buddies, give_block, with_mobility, steal_block, class_of}
+use Rattle.hp_units.specs.Memory.{FreeAreas, free_list, class_of_pool}
+use Rattle.hp_units.specs.FreeAreas.{Taken, least_order, take_first, take_front, take_block, join_order, without_buddies, give_block, with_mobility, steal_block, class_of}
 use Rattle.hp_units.specs.ProcessorLists.{Refill, take_frames, with_first, give_all}
-
--- two states of the free areas have lists of the same lengths
-pub record SameAreas (a b : FreeAreas) : Type 0 where
-  pub lists : length b.lists ≡ length a.lists
-  pub kinds : length b.kinds ≡ length a.kinds
-
-pub same_areas : (a : FreeAreas) → SameAreas a a
-same_areas a = record { lists = refl; kinds = refl }
-
-pub same_areas-then : {a b c : FreeAreas} → SameAreas a b → SameAreas b c → SameAreas a c
-same_areas-then h k = record { lists = k.lists ∙ h.lists; kinds = k.kinds ∙ h.kinds }
-
-pub with_free_list-size : (a : FreeAreas) (class : Class) (order : ℕ) (frames : List ℕ) → SameAreas a (with_free_list a class order frames)
-with_free_list-size a class order frames = record { lists = length-set a.lists _ frames; kinds = refl }
-
-pub with_kind-size : (a : FreeAreas) (pageblock : ℕ) (kind : Kind) → SameAreas a (with_kind a pageblock kind)
-with_kind-size a pageblock kind = record { lists = refl; kinds = length-set a.kinds pageblock kind }
-
-pub with_halves-size : (a : FreeAreas) (class : Class) (frame last count : ℕ) → SameAreas a (with_halves a class frame last count)
-with_halves-size a class frame last zero = same_areas a
-with_halves-size a class frame last (suc count) =
-    same_areas-then (with_halves-size a class frame (suc last) count) (with_free_list-size _ class last _)
+use Rattle.hp_lemmas.proofs.Sizes.{SameAreas, same_areas, same_areas-then, with_free_list-size, with_halves-size, with_kind-size, without_buddies-size}
 
 -- what is taken, if anything is, leaves lists of the same lengths
 abbrev pub KeepsAreas : FreeAreas → Option Taken → Type 0
@@ -66,11 +44,6 @@ pub steal_block-size : (l : LayoutParts) (a : FreeAreas) (mobility : Mobility) (
 unfolding steal_block
 steal_block-size l a mobility wanted = and_then-size a _ _ (λ order. cond-size a (order == l.order) _ _
     (with_mobility-size l a mobility _ (take_first-size a _ _ order wanted _)) (take_first-size a _ _ order wanted _))
-
-pub without_buddies-size : (a : FreeAreas) (class : Class) (frame order count : ℕ) → SameAreas a (without_buddies a class frame order count)
-without_buddies-size a class frame order zero = same_areas a
-without_buddies-size a class frame order (suc count) =
-    same_areas-then (without_buddies-size a class frame order count) (with_free_list-size _ class (order + count) _)
 
 pub give_block-size : (l : LayoutParts) (a : FreeAreas) (zone : Zone) (frame order : ℕ) → SameAreas a (give_block l a zone frame order)
 unfolding give_block

@@ -1,11 +1,8 @@
 -- Events on whole states.
-use Rattle.std.proofs.Common.{◌≡◌, ℕ, zero, suc, ◌+◌, ◌*◌, ◌/◌, ◌^◌, ◌<◌, ◌≤◌, List, [], ◌∷◌, length, get_or, set, Bool, true, false, cond, Option, Some, None, refl, sym, ◌∙◌, ap, subst, arith, inl, inr, IfSome, add-zero, length-set}
-use Rattle.std.specs.List.{enumerate_from, sum_by}
-use Rattle.std.specs.Option.{option_map_or, option_map}
+use Rattle.std.proofs.Common.{◌≡◌, ℕ, ◌+◌, ◌*◌, ◌/◌, ◌^◌, ◌<◌, ◌≤◌, List, [], ◌∷◌, length, get_or, set, Bool, true, false, cond, Option, Some, None, refl, sym, ◌∙◌, ap, subst, arith, inl, inr, IfSome, length-set}
+use Rattle.std.specs.Option.{option_map}
 use Rattle.std.proofs.lemmas.Bool.{cases_eq, cases_lt}
 use Rattle.std.proofs.lemmas.List.{get_or-set_other, get_or-set_same, get_or_past}
-use Rattle.std.proofs.lemmas.List.FromFn.{length-enumerate_from, get_or-enumerate_from}
-use Rattle.std.proofs.lemmas.List.Sums.{sum_by-set}
 use Rattle.std.specs.Prelude.{unwrap_or}
 use Rattle.std.proofs.lemmas.Nat.{pow_pos, mul-le}
 use Rattle.std.proofs.Math.Nat.{div-div-eq-div-mul, lt-div-mul-add}
@@ -24,14 +21,14 @@ use Rattle.hp_units.specs.LayoutParts.{LayoutParts, IsLayout}
 use Rattle.hp_units.specs.Arithmetic.{pageblock_of, block_of, block_of_pageblock, frame_count}
 use Rattle.hp_units.specs.Memory.{FreeAreas, Memory, free_list, cached_list, kernel_order, with_kernel_order, offline_row, isolated_class, usable_class}
 use Rattle.hp_units.specs.FreeAreas.{Taken, is_on, give_block, class_of, class_of_kind}
-use Rattle.hp_units.specs.Placement.{covers, free_places, kernel_places, IsBlockOf, IsInOrder, IsWellPlaced, IsKernelAt, class_at, pool_at, row_at, kind_at}
-use Rattle.hp_laws.proofs.FrameLists.{covered-self}
-use Rattle.hp_laws.proofs.Places.{covered}
-use Rattle.hp_laws.proofs.Joins.{give_block-places}
+use Rattle.hp_units.specs.Placement.{free_places, kernel_places, IsBlockOf, IsInOrder, IsWellPlaced, IsKernelAt, class_at, pool_at, row_at, kind_at, covered}
+use Rattle.hp_lemmas.proofs.Lists.{covered-self}
+use Rattle.hp_lemmas.proofs.Joins.{give_block-places}
 use Rattle.hp_laws.proofs.Ordered.{AreOrdered}
-use Rattle.hp_laws.proofs.Geometry.{aligned_ancestor}
+use Rattle.hp_lemmas.proofs.Geometry.{aligned_ancestor}
 use Rattle.hp_laws.proofs.Takes.{TakesOrdered}
 use Rattle.hp_laws.proofs.Gives.{give_block-ordered, give_block-kinds}
+use Rattle.hp_lemmas.proofs.KernelBlocks.{kernel-places}
 
 -- a list written at one index: whatever holds there of what is written, and of all before, holds of all
 pub get_or-cases : {X : Type 0} (P : ℕ → X → Type 0) (xs : List X) (i : ℕ) (x d : X) → i < length xs → P i x → ((k : ℕ) → P k (get_or xs k d)) → (k : ℕ) → P k (get_or (set xs i x) k d)
@@ -94,30 +91,6 @@ set_auto-placed l s auto p =
     }
 
 -- ---- the kernel's blocks
-
-enumerate-set : {X : Type 0} (n : ℕ) (xs : List X) (i : ℕ) (x : X) → enumerate_from n (set xs i x) ≡ set (enumerate_from n xs) i (n + i, x)
-enumerate-set n [] i x = refl
-enumerate-set n (y ∷ ys) zero x = rw add-zero refl
-enumerate-set n (y ∷ ys) (suc i) x =
-    let sum : n + suc i ≡ n + 1 + i = omega arith in
-    rw sum (ap (λ rest. (n, y) ∷ rest) (enumerate-set (n + 1) ys i x))
-
--- 1 if the kernel's block of an entry has a frame
-abbrev pub kernel_covered : (frame first : ℕ) → Option ℕ → ℕ
-kernel_covered frame first entry = cond (option_map_or (λ order. covers frame order first) entry false) 1 0
-
-pub kernel-places : (s : Memory) (first frame : ℕ) (entry : Option ℕ) → first < length s.kernel
-    → kernel_places (with_kernel_order s first entry) frame + kernel_covered frame first (kernel_order s first) ≡ kernel_places s frame + kernel_covered frame first entry
-kernel-places s first frame entry h =
-    let f = λ (e : ℕ × Option ℕ). kernel_covered frame e.0 e.1 in
-    let low : first < length (enumerate_from 0 s.kernel) = rw length-enumerate_from h in
-    let at : get_or (enumerate_from 0 s.kernel) first (0, None) ≡ (0 + first, get_or s.kernel first None) = get_or-enumerate_from 0 s.kernel first (0, None) h in
-    let zero_sum : 0 + first ≡ first = omega arith in
-    let sum : sum_by f (set (enumerate_from 0 s.kernel) first (0 + first, entry)) + f (get_or (enumerate_from 0 s.kernel) first (0, None)) ≡ sum_by f (enumerate_from 0 s.kernel) + f (0 + first, entry) =
-    sum_by-set f (enumerate_from 0 s.kernel) first (0 + first, entry) (0, None) low in
-    let there = subst (λ (e : ℕ × Option ℕ). sum_by f (set (enumerate_from 0 s.kernel) first (0 + first, entry)) + f e ≡ sum_by f (enumerate_from 0 s.kernel) + f (0 + first, entry)) at sum in
-    let whole = subst (λ (es : List (ℕ × Option ℕ)). sum_by f es + f (0 + first, get_or s.kernel first None) ≡ sum_by f (enumerate_from 0 s.kernel) + f (0 + first, entry)) (sym (enumerate-set 0 s.kernel first entry)) there in
-    rw zero_sum at whole
 
 -- ---- blocks of the kernel of an order above zero, straight from the areas and back
 

@@ -1,9 +1,9 @@
 -- Taking and stealing blocks from the areas of a state, and the kernel's larger blocks.
-use Rattle.std.proofs.Common.{◌≡◌, ◌≢◌, ℕ, zero, suc, ◌+◌, ◌-◌, ◌*◌, ◌/◌, ◌%◌, ◌^◌, ◌<◌, ◌≤◌, List, [], ◌∷◌, length, get_or, set, Bool, true, false, cond, Option, Some, None, refl, sym, ◌∙◌, ap, subst, arith, inl, inr, IfSome, length-set, eq-eqb, eqb-true, ◌==◌}
+use Rattle.std.proofs.Common.{◌≡◌, ◌≢◌, ℕ, suc, ◌+◌, ◌-◌, ◌*◌, ◌/◌, ◌%◌, ◌^◌, ◌<◌, ◌≤◌, List, [], ◌∷◌, length, get_or, set, Bool, true, false, cond, Option, Some, None, refl, sym, ◌∙◌, ap, subst, arith, inl, inr, IfSome, length-set, eq-eqb, eqb-true, ◌==◌}
 use Rattle.std.specs.Option.{option_map, option_map_or, option_and_then, option_or}
 use Rattle.std.proofs.lemmas.Bool.{cases_eq, or_left}
 use Rattle.std.proofs.lemmas.List.{get_or-set_other, get_or-set_same}
-use Rattle.std.proofs.lemmas.Nat.{pow_pos, div_below}
+use Rattle.std.proofs.lemmas.Nat.{pow_pos}
 use Rattle.hp_units.specs.declared.rows.Class.{Class}
 use Rattle.hp_units.specs.declared.rows.Class.TheVariants.{Nu}
 use Rattle.hp_units.specs.declared.rows.Kind.{Kind}
@@ -12,21 +12,24 @@ use Rattle.hp_units.specs.declared.rows.Zone.TheVariants.{Normal as NormalZone, 
 use Rattle.hp_units.specs.declared.rows.Mobility.{Mobility}
 use Rattle.hp_units.specs.declared.rows.Mobility.TheVariants.{Unmovable, Movable}
 use Rattle.hp_units.specs.LayoutParts.{LayoutParts, IsLayout}
-use Rattle.hp_units.specs.Arithmetic.{pageblock_of, pageblock_count, frame_count}
+use Rattle.hp_units.specs.Arithmetic.{pageblock_of, frame_count}
 use Rattle.hp_units.specs.Memory.{FreeAreas, Memory, free_list, with_free_list, usable_class, isolated_class, pool_of, plain_kind, kernel_order, with_kernel_order}
-use Rattle.hp_units.specs.FreeAreas.{Taken, is_on, with_halves, take_first, take_front, take_block, order_or, greatest_order, steal_front, steal_block, with_mobility, other_mobility, class_of_kind}
+use Rattle.hp_units.specs.FreeAreas.{Taken, is_on, with_halves, take_first, take_front, take_block, greatest_order, steal_front, steal_block, with_mobility, other_mobility, class_of_kind}
 use Rattle.hp_units.specs.Rows.{with_areas, is_going}
 use Rattle.hp_units.specs.Step.{kernel_takes, with_free, done}
 use Rattle.hp_units.specs.ProcessorLists.{handed_from}
 use Rattle.hp_units.specs.declared.replies.Reply.TheVariants.{Frame as GivesFrame}
-use Rattle.hp_units.specs.Placement.{free_places, cached_places, kernel_places, IsBlockOf, IsInOrder, IsWellPlaced, class_at, row_at, kind_at}
-use Rattle.hp_laws.proofs.Places.{covered, list_places-cons, HasOrder, with_free_list-places, with_halves-places, IsOrderAmong}
+use Rattle.hp_units.specs.Placement.{free_places, cached_places, kernel_places, IsBlockOf, IsInOrder, IsWellPlaced, class_at, row_at, kind_at, covered}
+use Rattle.hp_lemmas.proofs.Places.{list_places-cons, HasOrder, with_free_list-places, with_halves-places, IsOrderAmong, greatest_order-among}
+use Rattle.hp_lemmas.proofs.Geometry.{multiple, below_aligned, pageblock_in}
+use Rattle.hp_lemmas.proofs.Lists.{covered-self}
+use Rattle.hp_lemmas.proofs.Parts.{IsPart, tail-part}
+use Rattle.hp_lemmas.proofs.Sizes.{halves-kinds}
 use Rattle.hp_laws.proofs.Ordered.{AreOrdered}
-use Rattle.hp_laws.proofs.Geometry.{multiple, below_aligned}
-use Rattle.hp_laws.proofs.FrameLists.{covered-self}
-use Rattle.hp_laws.proofs.Areas.{IsPart, has_order, part-ordered, halves-ordered, other-ordered}
-use Rattle.hp_laws.proofs.Takes.{TakesOrdered, take_first-ordered, take_block-ordered, halves-kinds, tail-part}
-use Rattle.hp_laws.proofs.States.{areas_of, areas-in_order, kernel-in_order, in_layout, kernel_free, kernel-places}
+use Rattle.hp_laws.proofs.Areas.{has_order, part-ordered, halves-ordered, other-ordered}
+use Rattle.hp_laws.proofs.Takes.{TakesOrdered, take_first-ordered, take_block-ordered}
+use Rattle.hp_laws.proofs.States.{areas_of, areas-in_order, kernel-in_order, in_layout, kernel_free}
+use Rattle.hp_lemmas.proofs.KernelBlocks.{kernel-places}
 use Rattle.hp_laws.proofs.Rows.{on_cached}
 use Rattle.hp_laws.proofs.Onlines.{inside}
 use Rattle.hp_laws.proofs.Options.{some_weaker}
@@ -70,11 +73,6 @@ taken-placed l s m order taken p t =
 in_pageblock : (l : LayoutParts) (frame first : ℕ) → first % 2 ^ l.order ≡ 0 → pageblock_of l frame ≡ pageblock_of l first → covered frame l.order first ≡ 1
 in_pageblock l frame first aligned e =
     subst (λ (f : ℕ). covered frame l.order f ≡ 1) (sym (multiple first l.order aligned)) (inside frame (2 ^ l.order) (first / 2 ^ l.order) (pow_pos l.order) e)
-
-pageblock_in : (l : LayoutParts) (frame : ℕ) → frame < frame_count l → pageblock_of l frame < pageblock_count l
-pageblock_in l frame h =
-    let turned : l.blocks * (l.pageblocks * 2 ^ l.order) ≡ l.blocks * l.pageblocks * 2 ^ l.order = grind arith in
-    div_below frame (2 ^ l.order) (l.blocks * l.pageblocks) (pow_pos l.order) (omega arith)
 
 -- a whole pageblock is stolen: what is written of its kind is written at once
 steal_whole : (l : LayoutParts) (s : Memory) (m from : Mobility) (wanted first : ℕ) (frames : List ℕ) → IsLayout l → IsWellPlaced l s → wanted ≤ l.order
@@ -155,15 +153,6 @@ steal_top l s m from wanted (first ∷ frames) layout p w e = steal_whole l s m 
 cond_some : {X : Type 0} (P : X → Type 0) (b : Bool) (x y : Option X) → (b ≡ true → IfSome x P) → (b ≡ false → IfSome y P) → IfSome (cond b x y) P
 cond_some P true x y h k = h refl
 cond_some P false x y h k = k refl
-
-greatest_order-among : (a : FreeAreas) (class : Class) (first count : ℕ) → IfSome (greatest_order a class first count) (IsOrderAmong first count)
-greatest_order-among a class first zero = tt
-greatest_order-among a class first (suc count) = step (free_list a class (first + count)) (greatest_order a class first count) (greatest_order-among a class first count)
-  where
-    step : (frames : List ℕ) (other : Option ℕ) → IfSome other (IsOrderAmong first count) → IfSome (order_or frames (first + count) other) (IsOrderAmong first (suc count))
-    step [] None h = tt
-    step [] (Some order) h = record { low = omega (arith, h.low); high = omega (arith, h.high) }
-    step (frame ∷ frames) other h = record { low = omega arith; high = omega arith }
 
 steal_front-placed : (l : LayoutParts) (s : Memory) (m : Mobility) (order wanted : ℕ) → IsLayout l → IsWellPlaced l s → order ≤ l.order → wanted ≤ order
     → IfSome (steal_front l s.free.areas m order wanted) (TakesPlaced l s NormalZone wanted)

@@ -7,7 +7,9 @@ use Rattle.hp_units.specs.LayoutParts.{LayoutParts}
 use Rattle.hp_units.specs.Memory.{Memory, kernel_order}
 use Rattle.hp_units.specs.ProcessorLists.{page_frame}
 use Rattle.hp_units.specs.Pages.{frame_at}
-use Rattle.hp_units.specs.Refusals.{kernel_block, migration_source, migration_target, refusal_of}
+use Rattle.hp_units.specs.KernelBlocks.{kernel_block}
+use Rattle.hp_units.specs.Migrations.{migration_source, migration_target}
+use Rattle.hp_units.specs.Refusals.{refusal_of}
 use Rattle.hp_units.specs.Step.{Answered, answer, kernel_gives, kernel_takes, map_step, migrate_step, perform, step, unmap_step}
 use Rattle.hp_units.specs.History.{Looks, effect_of, goes_back, is_look, is_refused}
 

@@ -1,20 +1,18 @@
 -- Taking a block keeps the areas in order.
-use Rattle.std.proofs.Common.{◌≡◌, ℕ, zero, suc, ◌+◌, ◌-◌, ◌≤◌, List, [], ◌∷◌, true, Option, Some, None, refl, sym, subst, arith, IfSome, eq-eqb, ◌==◌}
+use Rattle.std.proofs.Common.{◌≡◌, ℕ, ◌+◌, ◌-◌, ◌≤◌, List, [], ◌∷◌, true, Option, Some, None, refl, sym, subst, arith, IfSome, eq-eqb, ◌==◌}
 use Rattle.std.specs.Option.{option_and_then}
 use Rattle.std.proofs.lemmas.Bool.{or_left}
 use Rattle.hp_units.specs.declared.rows.Class.{Class}
 use Rattle.hp_units.specs.LayoutParts.{LayoutParts}
 use Rattle.hp_units.specs.Memory.{FreeAreas, free_list, with_free_list}
-use Rattle.hp_units.specs.FreeAreas.{Taken, is_on, with_halves, least_order, take_first, take_front, take_block}
-use Rattle.hp_units.specs.Placement.{free_places, IsBlockOf}
-use Rattle.hp_laws.proofs.Places.{covered, list_places-cons, HasOrder, with_free_list-places, with_halves-places, least_order-among, IsOrderAmong}
+use Rattle.hp_units.specs.FreeAreas.{Taken, is_on, least_order, take_first, take_front, take_block}
+use Rattle.hp_units.specs.Placement.{free_places, IsBlockOf, covered}
+use Rattle.hp_lemmas.proofs.Places.{list_places-cons, HasOrder, with_free_list-places, with_halves-places, least_order-among, IsOrderAmong}
+use Rattle.hp_lemmas.proofs.Geometry.{below_aligned}
+use Rattle.hp_lemmas.proofs.Parts.{IsPart, tail-part}
+use Rattle.hp_lemmas.proofs.Sizes.{halves-kinds}
 use Rattle.hp_laws.proofs.Ordered.{AreOrdered}
-use Rattle.hp_laws.proofs.Geometry.{below_aligned}
-use Rattle.hp_laws.proofs.FrameLists.{on_tail}
-use Rattle.hp_laws.proofs.Areas.{IsPart, has_order, part-ordered, halves-ordered}
-
-pub tail-part : (order first : ℕ) (frames : List ℕ) → IsPart order frames (first ∷ frames)
-tail-part order first frames = record { on = λ frame on. on_tail frame first frames on; places = λ frame. omega (arith, list_places-cons frame order first frames) }
+use Rattle.hp_laws.proofs.Areas.{has_order, part-ordered, halves-ordered}
 
 -- what was taken: the areas stay in order, its frames leave their places, and it was a block of the class
 pub record TakesOrdered (l : LayoutParts) (class_at : ℕ → Option Class) (a : FreeAreas) (class : Class) (wanted : ℕ) (taken : Taken) : Type 0 where
@@ -22,10 +20,6 @@ pub record TakesOrdered (l : LayoutParts) (class_at : ℕ → Option Class) (a :
   pub places : (frame : ℕ) → free_places taken.areas frame + covered frame wanted taken.frame ≡ free_places a frame
   pub block : IsBlockOf l class_at class wanted taken.frame
   pub kinds : taken.areas.kinds ≡ a.kinds
-
-pub halves-kinds : (a : FreeAreas) (class : Class) (frame last count : ℕ) → (with_halves a class frame last count).kinds ≡ a.kinds
-halves-kinds a class frame last zero = refl
-halves-kinds a class frame last (suc count) = halves-kinds a class frame (suc last) count
 
 pub take_first-ordered : (l : LayoutParts) (class_at : ℕ → Option Class) (a : FreeAreas) (class : Class) (order wanted : ℕ) (frames : List ℕ) → free_list a class order ≡ frames
     → order ≤ l.order → wanted ≤ order → AreOrdered l class_at a → IfSome (take_first a class class order wanted frames) (TakesOrdered l class_at a class wanted)

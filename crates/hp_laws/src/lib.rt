@@ -18,6 +18,6 @@ pub use laws::{earlier_states, restored_state, undone_state};
 pub use offline::{operations_are_numbered, undisturbed_offline_commits};
 pub use operations::{cancels_give_rows_back, commits_grant_wishes, operations_hold_their_rows};
 pub use placement::{
-    boot_is_well_placed, contents_follow_net, histories_keep_placement, steps_keep_placement,
-    well_placed_states_fit_their_layout,
+    boot_is_well_placed, contents_follow_net, free_frames_are_not_in_use, histories_keep_placement,
+    migrations_move_no_word, steps_keep_placement, well_placed_states_fit_their_layout,
 };

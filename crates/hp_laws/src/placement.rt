@@ -1,15 +1,20 @@
 //! The laws of placement and of contents. Each is a function that does nothing; what it ensures is the law.
-ghost use Rattle.std.specs.Prelude.{◌≡◌, ℕ, List};
+ghost use Rattle.std.specs.Prelude.{◌≡◌, ℕ, ◌+◌, ◌≤◌, true, List, ◌==◌, if◌then◌else◌};
+ghost use Rattle.std.specs.Option.{option_map};
+ghost use Rattle.hp_units.specs.Arithmetic.{block_of};
 ghost use Rattle.hp_units.specs.Boot.{boot_memory};
 ghost use Rattle.hp_units.specs.Contents.{contents_of_net};
 ghost use Rattle.hp_units.specs.History.{IsLegal, net_of, value_of};
 ghost use Rattle.hp_units.specs.InLayout.{IsMemoryOf};
 ghost use Rattle.hp_units.specs.LayoutParts.{IsLayout, LayoutParts};
-ghost use Rattle.hp_units.specs.Memory.{Memory};
-ghost use Rattle.hp_units.specs.Placement.{IsWellPlaced};
+ghost use Rattle.hp_units.specs.Memory.{Memory, row_of};
+ghost use Rattle.hp_units.specs.Pages.{frame_at};
+ghost use Rattle.hp_units.specs.Placement.{IsWellPlaced, cached_places, free_places, is_unplugged, kernel_places, mapped_places};
 ghost use Rattle.hp_units.specs.Step.{step};
 ghost use Rattle.hp_units.specs.declared.events.Event.{Event};
+ghost use Rattle.hp_units.specs.declared.events.Event.TheVariants.{Migrate};
 ghost use Rattle.hp_units.specs.declared.replies.Record.{Record};
+ghost use Rattle.hp_units.specs.declared.replies.Reply.TheVariants.{Moved};
 
 /// The state that a machine starts in is well placed (own rule).
 pub fn boot_is_well_placed()
@@ -32,6 +37,28 @@ pub fn well_placed_states_fit_their_layout()
 pub fn histories_keep_placement()
     ensures base { (l : LayoutParts) (base : Memory) (h : List Record) → IsLayout l → IsWellPlaced l base → IsWellPlaced l (value_of l base h) }
     ensures boot { (l : LayoutParts) (h : List Record) → IsLayout l → IsWellPlaced l (value_of l (boot_memory l) h) }
+{}
+
+/// In a well placed state a free frame, in the areas or on a processor's list, holds no page and is
+/// not in use by the kernel, and a frame of an offline or absent block is in no other place (own rule).
+pub fn free_frames_are_not_in_use()
+    ensures free { (l : LayoutParts) (s : Memory) (frame : ℕ) → IsWellPlaced l s
+        → 1 ≤ free_places s.free.areas frame + cached_places s.free frame
+        → mapped_places s.pages frame + kernel_places s frame ≡ 0 }
+    ensures unplugged { (l : LayoutParts) (s : Memory) (frame : ℕ) → IsWellPlaced l s
+        → is_unplugged (row_of s.blocks (block_of l frame)) ≡ true
+        → free_places s.free.areas frame + cached_places s.free frame + mapped_places s.pages frame + kernel_places s frame ≡ 0 }
+{}
+
+/// A migration gives the page at its old frame the new one and leaves each other page where it is; it
+/// changes no word of any page, so that the words follow the table (Linux, memory hotplug: migration).
+pub fn migrations_move_no_word()
+    ensures words { (l : LayoutParts) (s : Memory) (serial cpu op : ℕ)
+        → (step l s serial cpu (Migrate op)).memory.pages.contents ≡ s.pages.contents }
+    ensures frames { (l : LayoutParts) (s : Memory) (serial cpu op from to owner page : ℕ) → IsWellPlaced l s
+        → (step l s serial cpu (Migrate op)).reply ≡ Moved from to
+        → frame_at (step l s serial cpu (Migrate op)).memory.pages owner page
+        ≡ option_map (λ frame. if frame == from then to else frame) (frame_at s.pages owner page) }
 {}
 
 /// The contents of the pages are what Map, Unmap and Write of the net make of the base state's: no drain, migration,

@@ -1,1 +1,3 @@
+pub mod MachineCalls
 pub mod Machines
+pub mod Replies

@@ -4,6 +4,7 @@ use Rattle.std.specs.Prelude.{nat_le, Result, Ok, Err, IfOk, OnErr}
 use Rattle.std.proofs.lemmas.List.{length_push, take-append-le, take_all, append_assoc}
 use Rattle.std.proofs.lemmas.Bool.{or_parts, leb-false}
 use Rattle.hp_units.specs.Memory.{Memory, row_of}
+use Rattle.hp_units.specs.Boot.{boot_memory}
 use Rattle.hp_units.specs.LayoutParts.{IsLayout, LayoutParts}
 use Rattle.hp_units.specs.Placement.{IsWellPlaced}
 use Rattle.hp_units.specs.History.{IsLegal, net_of, run, value_of}
@@ -30,6 +31,7 @@ booted_machine l m is limits =
       placed = boot-placed l limits;
       history = record { legal = λ n r e. absurd cc; state = refl };
       few = omega arith;
+      boots = λ none. refl;
     })
 
 -- where the history is not full there is room for one more record
@@ -49,6 +51,7 @@ called_machine old new cpu event r ok free call = record {
   placed = subst (λ (l : LayoutParts). IsWellPlaced l new.base) (sym call.layout) (subst (λ (s : Memory). IsWellPlaced old.layout s) (sym call.base) ok.placed);
   history = record { legal = legal; state = call.state ∙ sym value };
   few = subst (λ (l : LayoutParts). length new.history ≤ l.history) (sym call.layout) (few_called old.history new.history (record_of cpu r) old.layout.history (room old free).0 call.history);
+  boots = λ none. call.base ∙ (ok.boots (sym call.before ∙ none) ∙ ap boot_memory (sym call.layout));
 }
   where
     legal : IsLegal new.layout new.base new.before new.history

@@ -1,3 +1,5 @@
 pub mod Kept
 pub mod Machine
+pub mod MachinePorts
+pub mod Names
 pub mod Operations

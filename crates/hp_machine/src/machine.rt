@@ -1,5 +1,6 @@
 //! A machine with its history.
 ghost use Rattle.std.specs.Prelude.{◌≡◌, ◌↔◌, Err, IfOk, OnErr, IsTrue, length, slice_get};
+ghost use Rattle.hp_units.specs.Boot.{boot_memory};
 ghost use Rattle.hp_units.specs.History.{net_of};
 ghost use Rattle.hp_units.specs.Memory.{free_list};
 ghost use Rattle.hp_units.specs.Pages.{frame_at};
@@ -42,6 +43,14 @@ impl Machine {
         Ok(Machine { course })
     }
 
+    /// An equal machine, with the same records. An error is out of memory.
+    pub fn copy(&self, alloc: Global) -> Result<Machine, AllocError>
+        ensures { IfOk result (λ machine. machine ≡ self.now) }
+    {
+        let course = self.course.copy(alloc)?;
+        Ok(Machine { course })
+    }
+
     /// One call: the event of a processor is answered and recorded (own rule). It answers `HistoryFull` where the history
     /// holds its limit of records or the last serial is 2^64 - 1, and otherwise `OutOfMemory` where memory is wanting; then
     /// all is as before.
@@ -77,6 +86,13 @@ impl Machine {
     /// Each frame is in exactly one place, and the pages hold what the owners' steps wrote (own rule).
     pub fn stays_sound(&self)
         ensures { IsSound self.now }
+    {
+        let _ = &self.course;
+    }
+
+    /// As long as no record was sealed, the history began with the state at boot (own rule).
+    pub fn begins_at_boot(&self)
+        ensures { self.now.before ≡ 0 → self.now.base ≡ boot_memory self.now.layout }
     {
         let _ = &self.course;
     }

@@ -1,8 +1,9 @@
-//! Worked calls on one memory block of four frames.
-use crate::Machine;
+//! Worked calls on one memory block of four frames, and a whole offline by the driver of a plan.
+use crate::{Machine, MachinePort};
+use hp_ops::run_plan;
 use hp_units::{
-    Auto, Block, Boot, CallFault, Class, Cpu, Event, Frame, Layout, Order, Owner, Page, Parts,
-    Reply, Serial, State,
+    Auto, Block, Boot, CallFault, Class, Cpu, Event, Frame, Item, Layout, OpEnd, Order, Owner,
+    Page, Parts, Plan, Reply, Serial, State, Wish,
 };
 use std::alloc::Global;
 use std::test::Fail;
@@ -77,5 +78,48 @@ fn queries_show_the_state_at_boot(rt: HostRuntime) -> Result<(), Fail> {
     assert_eq!(rt; machine.layout().frames(), 4);
     let image = machine.image(rt.alloc())?;
     assert_eq!(rt; image.list(Class::Nm, Order(2)).len(), 1);
+    Ok(())
+}
+
+/// The plan that takes block 2 offline.
+fn offline(alloc: Global) -> Result<Plan, Fail> {
+    let items = vec![in alloc;
+        Item {
+            block: Block(2),
+            wish: Wish::Off
+        },
+    ]?;
+    Ok(Plan::new(items))
+}
+
+#[test]
+fn a_mapped_block_goes_offline(rt: HostRuntime) -> Result<(), Fail> {
+    let parts = Parts {
+        order: 2,
+        pageblocks: 1,
+        blocks: 4,
+        cpus: 2,
+        batch: 2,
+        high: 2,
+        owners: 2,
+        pages: 8,
+        words: 2,
+        history: 1000,
+        boot: &[Boot::Normal, Boot::Normal, Boot::Movable, Boot::Offline],
+    };
+    let layout = Layout::new(rt.alloc(), &parts)?;
+    let mut machine = Machine::boot(rt.alloc(), &layout)?;
+    let map = Event::Map {
+        owner: Owner(0),
+        page: Page(0),
+    };
+    let _mapped = machine.call(rt.alloc(), Cpu(0), &map)?;
+    let mut port = MachinePort::new(&mut machine, Cpu(0));
+    let end = run_plan(rt.alloc(), &mut port, offline(rt.alloc())?, 1024);
+    assert_eq!(rt; end, OpEnd::Done);
+    let row = machine.row(Block(2)).ok_or("no row")?;
+    assert_eq!(rt; row.state, State::Offline);
+    assert_eq!(rt; machine.frame_at(Owner(0), Page(0)), Some(Frame(0)));
+    assert_eq!(rt; machine.history().len(), 7);
     Ok(())
 }

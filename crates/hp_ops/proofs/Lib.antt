@@ -1,4 +1,2 @@
 pub mod Gained
-pub mod MachineCalls
-pub mod Replies
 pub mod Runs

@@ -6,7 +6,7 @@ use Rattle.std.specs.Option.{option_map_or, option_and_then}
 use Rattle.std.proofs.lemmas.Bool.{lt-ltb, le-ltb}
 use Rattle.std.proofs.lemmas.List.Sums.{fold-append, sum_by-append, sum_by-cons}
 use Rattle.hp_units.specs.Driver.{AllNext, Ends, IsDriverRun, cause_after, cause_of, end_after, end_of, is_migrate, next_after, next_event, next_drain, operation_of, tried}
-use Rattle.hp_ops.specs.Names.{Item, Event, Begin, DrainFor, Migrate, Commit, Cancel, Reply, Done, Moved, Opened, Restored, Released, Refused, Refusal, NoFrame, NoOp, NothingToMove, NotFree, Receipt, OpEnd, EndsDone, EndsCancelled, EndsUndone, CallFault}
+use Rattle.hp_ops.specs.Names.{Item, Event, Begin, DrainFor, Migrate, Commit, Cancel, Reply, Done, Moved, Opened, Restored, Released, Refused, Refusal, NoFrame, NoOp, NothingToMove, NotFree, Receipt, OpEnd, EndsDone, EndsCancelled, EndsUndone, EndsLeft, CallFault}
 use Rattle.hp_ops.specs.Ports.{IsCommitReply}
 use Rattle.hp_ops.specs.Courses.{Course, StandsAt, IsAnswer, LeadsOn, EndsRun, EndsAtCancel, EndsFreshRun, SpendsTurns, TakesTurn, TurnsTaken, drain_of, fresh, is_work, refused_by, spent, taken, tried_more, turn_of}
 
@@ -153,6 +153,17 @@ pub no_longer_live : (cpus op : ℕ) (event : Event) (gained : List Receipt) →
 no_longer_live cpus op event gained work a c earlier at =
     subst (λ (xs : List Receipt). IsDriverRun cpus c.turns c.plan (earlier ++ xs) None EndsUndone) (sym a.1)
     (ends_with cpus op c event (Refused NoOp) a.0 earlier EndsUndone at (λ rs. no_op_last cpus c.turns event rs work) (no_op_end (cause_after c.why event (Refused NoOp)) event work))
+
+-- a call left a fault
+pub left_with : (cpus op : ℕ) (event : Event) (fault : CallFault) → EndsRun cpus op (λ c. event) (Some fault) (EndsLeft (Some op) fault) []
+left_with cpus op event fault c earlier at =
+    subst (λ (xs : List Receipt). IsDriverRun cpus c.turns c.plan xs (Some fault) (EndsLeft (Some op) fault)) (sym (append-nil earlier)) (record {
+      events = at.events;
+      ends = subst (λ (o : Option Event). Ends earlier o (Some fault) (EndsLeft (Some op) fault)) (sym at.next_is) (ap (λ (o : Option ℕ). EndsLeft o fault) (sym at.operation));
+    })
+
+pub left_at_once : (cpus turns : ℕ) (plan : List Item) (fault : CallFault) → IsDriverRun cpus turns plan [] (Some fault) (EndsLeft None fault)
+left_at_once cpus turns plan fault = record { events = tt; ends = refl }
 
 -- the operation is open
 opened : (cpus op turns serial : ℕ) (plan : List Item) → StandsAt cpus op (fresh plan turns) (drain_of cpus op 0 (fresh plan turns)) (answer_of serial (Begin plan) (Opened op) ∷ [])

@@ -1,4 +1,3 @@
 pub mod Courses
-pub mod MachinePorts
 pub mod Names
 pub mod Ports

@@ -1,14 +1,12 @@
 -- The variants of the events, replies and ends under names of their own, passed on from one place. Declares nothing.
-pub use Rattle.hp_units.specs.declared.events.Event.TheVariants.{KernelAlloc, KernelFree, Map, Unmap, Write, Read, Drain, Online, Begin, DrainFor, Migrate, Commit, Cancel, UndoAfter, Probe, Remove, SetAuto}
-pub use Rattle.hp_units.specs.declared.replies.Reply.TheVariants.{Done, Moved, Opened, Restored, Released, Undone, Refused}
-pub use Rattle.hp_units.specs.declared.replies.Refusal.TheVariants.{NoCpu, NoFrame, NoOp, NothingToMove, NotFree}
-pub use Rattle.hp_units.specs.declared.replies.OpEnd.TheVariants.{Done as EndsDone, Refused as EndsRefused, Cancelled as EndsCancelled, Undone as EndsUndone, Left as EndsLeft}
+pub use Rattle.hp_units.specs.declared.events.Event.TheVariants.{Begin, DrainFor, Migrate, Commit, Cancel}
+pub use Rattle.hp_units.specs.declared.replies.Reply.TheVariants.{Done, Moved, Opened, Restored, Released, Refused}
+pub use Rattle.hp_units.specs.declared.replies.Refusal.TheVariants.{NoFrame, NoOp, NothingToMove, NotFree}
+pub use Rattle.hp_units.specs.declared.replies.OpEnd.TheVariants.{Done as EndsDone, Cancelled as EndsCancelled, Undone as EndsUndone, Left as EndsLeft}
 pub use Rattle.hp_units.specs.declared.events.Event.{Event}
 pub use Rattle.hp_units.specs.declared.plans.Item.{Item}
 pub use Rattle.hp_units.specs.declared.replies.Reply.{Reply}
 pub use Rattle.hp_units.specs.declared.replies.Refusal.{Refusal}
-pub use Rattle.hp_units.specs.declared.replies.Record.{Record}
 pub use Rattle.hp_units.specs.declared.replies.Receipt.{Receipt}
 pub use Rattle.hp_units.specs.declared.replies.OpEnd.{OpEnd}
 pub use Rattle.hp_units.specs.declared.replies.CallFault.{CallFault}
-pub use Rattle.hp_units.specs.declared.replies.CallFault.TheVariants.{HistoryFull, OutOfMemory}

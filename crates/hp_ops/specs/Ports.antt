@@ -1,5 +1,5 @@
 -- What a port shows, and what one call or several make of it.
-use Rattle.std.specs.Prelude.{◌≡◌, ◌⊎◌, ℕ, ◌<◌, Bool, true, false, List, [], ◌∷◌, ◌++◌, Option, None, ⊤}
+use Rattle.std.specs.Prelude.{◌≡◌, ◌⊎◌, ℕ, ◌<◌, Bool, true, false, List, [], ◌∷◌, ◌++◌, Option, Some, None, ⊤}
 use Rattle.std.specs.List.{list_any}
 use Rattle.hp_ops.specs.Names.{Item, Event, Begin, DrainFor, Migrate, Commit, Cancel, Reply, Done, Moved, Opened, Restored, Released, Refused, Refusal, NoFrame, NoOp, NothingToMove, NotFree, Receipt, CallFault}
 
@@ -57,9 +57,14 @@ pub record IsGiven (old : PortValue) (event : Event) (r : Receipt) (new : PortVa
   pub begun : (plan : List Item) → event ≡ Begin plan → IsBeginReply r.reply
   pub known : has_opened old.receipts ≡ true → IsDriverReply old.cpus event r.reply
 
--- calls gave further receipts, of which P holds; the last call left the fault
-pub record Gains {S : Type 0} (shows : S → PortValue) (makes : S → List Receipt → S → Type 0) (old : S) (fault : Option CallFault) (new : S) (P : List Receipt → Type 0) : Type 0 where
+-- calls that gave these receipts, and after them, where there is a fault, one more call, which left it
+abbrev pub AreMade : {S : Type 0} → (makes : S → List Receipt → S → Type 0) → (leaves : S → CallFault → S → Type 0) → S → List Receipt → Option CallFault → S → Type 0
+AreMade makes leaves old gained None new = makes old gained new
+AreMade {S} makes leaves old gained (Some fault) new = (last : S) × makes old gained last × leaves last fault new
+
+-- calls gave further receipts, of which P holds, and at most the last call left a fault
+pub record Gains {S : Type 0} (shows : S → PortValue) (makes : S → List Receipt → S → Type 0) (leaves : S → CallFault → S → Type 0) (old : S) (fault : Option CallFault) (new : S) (P : List Receipt → Type 0) : Type 0 where
   pub gained : List Receipt
   pub value : shows new ≡ with_receipts (shows old) gained fault
-  pub made : makes old gained new
+  pub made : AreMade makes leaves old gained fault new
   pub is : P gained

@@ -1,5 +1,6 @@
 //! What a driver calls.
-ghost use Rattle.std.specs.Prelude.{◌≡◌, ◌++◌, ◌∷◌, [], List, Some, IfErr, IfOk, OnErr};
+ghost use Rattle.std.specs.Prelude.{◌≡◌, ◌++◌, ◌∷◌, [], List, Some, IfErr, IfOk};
+ghost use Rattle.hp_units.specs.declared.replies.CallFault.{CallFault};
 ghost use Rattle.hp_units.specs.declared.replies.Receipt.{Receipt};
 ghost use Rattle.hp_ops.specs.Ports.{IsGiven, PortValue, with_receipts};
 
@@ -14,6 +15,9 @@ pub trait Port {
     /// What calls that gave these receipts make of the port.
     ghost makes: { Self → List Receipt → Self → Type 0 };
 
+    /// What a call that left a fault makes of the port.
+    ghost leaves: { Self → CallFault → Self → Type 0 };
+
     /// The number of processors.
     fn cpus(&self) -> u32
         ensures { result ≡ (shows self.now).cpus };
@@ -23,11 +27,12 @@ pub trait Port {
         ensures ok { IfOk result (λ receipt. IsGiven (shows self.old) event.now receipt (shows self.new)) }
         ensures err { IfErr result (λ fault. shows self.new ≡ with_receipts (shows self.old) [] (Some fault)) }
         ensures makes { IfOk result (λ receipt. makes self.old (receipt ∷ []) self.new) }
-        ensures keeps { OnErr result (makes self.old [] self.new) };
+        ensures leaves { IfErr result (λ fault. leaves self.old fault self.new) };
 
     /// No call makes nothing.
     ghost nothing: { (p : Self) → makes p [] p };
 
-    /// Calls after calls.
+    /// Calls after calls that gave receipts. No law speaks of a call after a fault, so a caller that shows what its calls
+    /// make of every port makes none.
     ghost joined: { (p q r : Self) (xs ys : List Receipt) → makes p xs q → makes q ys r → makes p (xs ++ ys) r };
 }

@@ -1,4 +1,4 @@
-//! Each end of a driver's run, through a port that answers as a test says, and a whole offline on a machine.
+//! Each end of a driver's run, through a port that answers as a test says.
 ghost use Rattle.std.specs.Prelude.{◌≡◌, ◌⊎◌, ◌++◌, ◌∷◌, [], ℕ, List, IfOk, OnErr};
 ghost use Rattle.hp_units.specs.declared.events.Event.TheVariants.{Begin};
 ghost use Rattle.hp_units.specs.declared.plans.Item.{Item};
@@ -7,11 +7,9 @@ ghost use Rattle.hp_units.specs.declared.replies.Reply.TheVariants.{Done, Refuse
 ghost use Rattle.hp_ops.specs.Ports.{IsBeginReply, IsCancelReply, IsCommitReply, IsDriverReply, IsMigrateReply};
 
 use crate::port::Port;
-use crate::{MachinePort, run_plan};
-use hp_machine::Machine;
+use crate::run_plan;
 use hp_units::{
-    Block, Boot, CallFault, Cpu, Event, Frame, Item, Layout, OpEnd, Owner, Page, Parts, Plan,
-    Receipt, Refusal, Reply, Serial, State, Wish,
+    Block, CallFault, Event, Frame, Item, OpEnd, Plan, Receipt, Refusal, Reply, Serial, Wish,
 };
 use std::alloc::{AllocError, Global};
 use std::test::Fail;
@@ -76,6 +74,8 @@ impl Port for Scripted {
     ghost shows = { λ p. record { receipts = p.receipts.items; fault = p.fault; cpus = 2 } };
 
     ghost makes = { λ p gained q. ⊤ };
+
+    ghost leaves = { λ p fault q. ⊤ };
 
     fn cpus(&self) -> u32 {
         2
@@ -285,37 +285,5 @@ fn a_fault_leaves_the_operation(rt: HostRuntime) -> Result<(), Fail> {
     let later = OpEnd::Left { op, fault };
     let answers = [Answer::Good, Answer::Good, Answer::Full];
     assert!(rt; ends_as(rt.alloc(), &answers, 9, later, 2)?);
-    Ok(())
-}
-
-#[test]
-fn a_mapped_block_goes_offline(rt: HostRuntime) -> Result<(), Fail> {
-    let parts = Parts {
-        order: 2,
-        pageblocks: 1,
-        blocks: 4,
-        cpus: 2,
-        batch: 2,
-        high: 2,
-        owners: 2,
-        pages: 8,
-        words: 2,
-        history: 1000,
-        boot: &[Boot::Normal, Boot::Normal, Boot::Movable, Boot::Offline],
-    };
-    let layout = Layout::new(rt.alloc(), &parts)?;
-    let mut machine = Machine::boot(rt.alloc(), &layout)?;
-    let map = Event::Map {
-        owner: Owner(0),
-        page: Page(0),
-    };
-    let _mapped = machine.call(rt.alloc(), Cpu(0), &map)?;
-    let mut port = MachinePort::new(&mut machine, Cpu(0));
-    let end = run_plan(rt.alloc(), &mut port, offline(rt.alloc())?, 1024);
-    assert_eq!(rt; end, OpEnd::Done);
-    let row = machine.row(Block(2)).ok_or("no row")?;
-    assert_eq!(rt; row.state, State::Offline);
-    assert_eq!(rt; machine.frame_at(Owner(0), Page(0)), Some(Frame(0)));
-    assert_eq!(rt; machine.history().len(), 7);
     Ok(())
 }

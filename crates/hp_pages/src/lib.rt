@@ -4,10 +4,12 @@
 
 mod buffers;
 mod frame_set;
+mod laws;
 mod pages;
 mod place_sums;
 mod table;
 
+pub use laws::well_placed_pages_are_settled;
 pub use pages::{Pages, fresh_words};
 
 #[cfg(test)]

@@ -1,6 +1,5 @@
 pub mod Asks
 pub mod Begins
-pub mod Bytes
 pub mod Commits
 pub mod EmptyState
 pub mod Onlines

@@ -2,7 +2,6 @@
 ghost use Rattle.std.specs.Prelude.{◌≡◌, IfOk};
 ghost use Rattle.hp_plain.specs.Examples.{small_layout};
 
-mod begins;
 mod commits;
 mod migrates;
 mod onlines;

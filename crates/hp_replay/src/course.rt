@@ -9,7 +9,8 @@ ghost use Rattle.hp_units.specs.declared.replies.Reply.TheVariants.{Restored};
 ghost use Rattle.hp_replay.specs.Course.{IsAnswered, IsHistory, is_spent, last_serial, started};
 ghost use Rattle.hp_replay.specs.Kept.{IsCut, IsStep, is_gone};
 
-use crate::journal::{Entry, cut, keep_step, kept_len, sole_place};
+use crate::journal::{Entry, copy_entries, cut, keep_step, kept_len, sole_place};
+use crate::records::copy_records;
 use hp_plain::Image;
 use hp_units::{
     Cpu, Event, Layout, Receipt, Record, Refusal, Reply, Serial, Tag, is_step, mark_of,
@@ -58,6 +59,23 @@ impl Course {
     {
         let base = Image::boot(alloc, layout)?;
         Course::starting(alloc, base, 0)
+    }
+
+    /// An equal course. An error is out of memory.
+    pub fn copy(&self, alloc: Global) -> Result<Course, AllocError>
+        ensures { IfOk result (λ course. course ≡ self.now) }
+    {
+        let base = self.base.copy(alloc)?;
+        let image = self.image.copy(alloc)?;
+        let history = copy_records(alloc, &self.history)?;
+        let journal = copy_entries(alloc, &self.journal)?;
+        Ok(Course {
+            before: self.before,
+            base,
+            image,
+            history,
+            journal,
+        })
     }
 
     /// Answers and records an event of a processor, where there is a further serial. An undo goes back, and so does a Cancel

@@ -1,17 +1,40 @@
 //! The journal: an entry for each step that is not undone, with the whole state before it.
-ghost use Rattle.std.specs.Prelude.{◌≡◌, ℕ, ◌+◌, ◌-◌, ◌<◌, ◌≤◌, ◌∷◌, ◌++◌, [], Some, if◌then◌else◌, length, slice_get, take, unwrap_or, vec_capacity, vec_len};
+ghost use Rattle.std.specs.Prelude.{◌≡◌, ℕ, ◌+◌, ◌-◌, ◌<◌, ◌≤◌, ◌∷◌, ◌++◌, [], IfOk, Some, if◌then◌else◌, length, slice_get, take, unwrap_or, vec_capacity, vec_len};
 ghost use Rattle.hp_units.specs.Marks.{is_opening, is_work_of, sole_at};
 ghost use Rattle.hp_units.specs.declared.marks.Tag.{Tag};
 ghost use Rattle.hp_replay.specs.Entries.{images_of, tags_of};
 
 use hp_plain::Image;
 use hp_units::{Mark, Serial, Tag};
+use std::alloc::{AllocError, Global};
 
 /// A step that is not undone: its tag, and the state before it.
 #[derive(Drop)]
 pub(crate) struct Entry {
     pub(crate) tag: Tag,
     pub(crate) image: Image,
+}
+
+impl Entry {
+    /// An equal entry. An error is out of memory.
+    fn copy(&self, alloc: Global) -> Result<Entry, AllocError>
+        ensures { IfOk result (λ copy. copy ≡ self.now) }
+    {
+        let tag = self.tag;
+        let image = self.image.copy(alloc)?;
+        Ok(Entry { tag, image })
+    }
+}
+
+/// Equal entries. An error is out of memory.
+pub(crate) fn copy_entries(alloc: Global, journal: &[Entry]) -> Result<Vec<Entry>, AllocError>
+    ensures { IfOk result (λ copy. copy.items ≡ journal.now) }
+{
+    let mut copy = Vec::new(alloc);
+    for entry in journal {
+        copy.push(entry.copy(alloc)?)?;
+    }
+    Ok(copy)
 }
 
 /// The tag of the entry at a place.

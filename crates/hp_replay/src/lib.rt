@@ -3,6 +3,7 @@
 
 mod course;
 mod journal;
+mod records;
 mod replaying;
 #[cfg(test)]
 mod tests;

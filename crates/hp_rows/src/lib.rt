@@ -8,6 +8,5 @@ mod pages;
 mod tests;
 
 pub use blocks::Blocks;
-pub use blocks::claims::{claimed_row, is_going};
-pub use blocks::plans::{is_off, wish_of};
+pub use blocks::plans::wish_of;
 pub use pages::Pages;

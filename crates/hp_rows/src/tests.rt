@@ -1,7 +1,7 @@
 //! Worked examples: each public function once, on two memory blocks and one owner of two pages.
 ghost use Rattle.std.specs.Prelude.{◌≡◌, IfOk};
 
-use super::{Blocks, Pages, claimed_row, is_going, is_off, wish_of};
+use super::{Blocks, Pages, wish_of};
 use hp_units::{
     Auto, Block, Boot, Claim, Frame, Item, Layout, LayoutFault, Owner, Page, Parts, Row, Serial,
     State, Wish, Words, Zone,
@@ -67,8 +67,8 @@ fn what_added_blocks_become_is_set(rt: HostRuntime) -> Result<(), Fail> {
 fn an_operation_holds_a_block(rt: HostRuntime) -> Result<(), Fail> {
     let layout = small(rt.alloc())?;
     let mut blocks = Blocks::empty(rt.alloc(), &layout)?;
-    blocks.set_row(Block(1), claimed_row(ONLINE, Serial(5), Wish::Off));
-    assert!(rt; is_going(blocks.row_of(Block(1))));
+    blocks.set_row(Block(1), ONLINE.claimed(Serial(5), Wish::Off));
+    assert!(rt; blocks.row_of(Block(1)).is_going());
     assert!(rt; blocks.is_live(Serial(5)));
     let held = blocks.blocks_of(rt.alloc(), &layout, Serial(5))?;
     assert_eq!(rt; held.as_slice(), [Block(1)].as_slice());
@@ -81,13 +81,12 @@ fn an_operation_holds_a_block(rt: HostRuntime) -> Result<(), Fail> {
 fn a_plan_is_looked_through(rt: HostRuntime) -> Result<(), Fail> {
     let layout = small(rt.alloc())?;
     let mut blocks = Blocks::empty(rt.alloc(), &layout)?;
-    blocks.set_row(Block(1), claimed_row(ONLINE, Serial(5), Wish::Movable));
+    blocks.set_row(Block(1), ONLINE.claimed(Serial(5), Wish::Movable));
     let plan = [item(0, Wish::Off), item(1, Wish::Normal)];
     assert_eq!(rt; blocks.first_claimed(&plan), Some(Block(1)));
     assert_eq!(rt; blocks.first_not_online(&plan), Some(Block(0)));
     assert_eq!(rt; blocks.first_not_offline(&plan), Some(Block(1)));
     assert_eq!(rt; wish_of(&plan, Block(1)), Some(Wish::Normal));
-    assert!(rt; is_off(Wish::Off));
     Ok(())
 }
 

@@ -1,3 +1,4 @@
 pub mod Bounds
 pub mod Deltas
+pub mod PackedRows
 pub mod Tapes

@@ -1,7 +1,7 @@
 //! What was done to the state, so that it can be undone.
-use hp_units::{
-    Auto, Block, Class, Cpu, Frame, Kind, Order, Owner, Page, Pageblock, Pool, Row, Words,
-};
+use crate::packed_rows::PackedRow;
+use hp_units::{Auto, Block, Class, Cpu, Frame, Kind, Order, Owner, Page, Pageblock, Pool, Words};
+use std::mem::size_of;
 
 /// A list of frames.
 #[derive(Clone, Copy, Debug, PartialEq, Eq, Drop)]
@@ -66,8 +66,8 @@ pub enum Delta {
     /// The row of a memory block changed.
     Row {
         block: Block,
-        was: Row,
-        now: Row,
+        was: PackedRow,
+        now: PackedRow,
     },
     /// What an added memory block becomes changed.
     Auto {
@@ -75,3 +75,6 @@ pub enum Delta {
         now: Auto,
     },
 }
+
+/// Bytes of a delta decide what a journal costs (own rule).
+const _: () = prove!(size_of::<Delta>() <= 32);

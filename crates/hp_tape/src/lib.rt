@@ -2,9 +2,11 @@
 #![tactic(auto)]
 
 mod deltas;
+mod packed_rows;
 mod tapes;
 
 pub use deltas::{Delta, ListId};
+pub use packed_rows::PackedRow;
 pub use tapes::Tape;
 
 #[cfg(test)]

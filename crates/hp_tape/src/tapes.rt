@@ -1,5 +1,6 @@
 //! The list of deltas that a step notes.
-ghost use Rattle.std.specs.Prelude.{◌≡◌, ◌<◌, ◌≤◌, [], ◌∷◌, ◌++◌, length, IfOk, MatchOption};
+ghost use Rattle.std.specs.Prelude.{◌≡◌, ◌+◌, ◌<◌, ◌≤◌, [], ◌∷◌, ◌++◌, length, IfOk, IsOk, MatchOption, OnErr, OnOk};
+ghost use Rattle.hp_tape.specs.Tapes.{HasRoom};
 
 use crate::deltas::Delta;
 use std::alloc::{AllocError, Global};
@@ -28,6 +29,19 @@ impl Tape {
     {
         let deltas = Vec::with_capacity(alloc, n)?;
         Ok(Tape { deltas })
+    }
+
+    /// Makes room for `n` more deltas. The room grows by a factor, so that many small calls copy each delta few times.
+    ///
+    /// Fails only where that room was missing, and then the tape is as before.
+    pub fn reserve(&mut self, n: usize) -> Result<(), AllocError>
+        ensures deltas { self.new.deltas ≡ self.old.deltas }
+        ensures room { OnOk result (HasRoom self.new n) }
+        ensures grows { self.old.room ≤ self.new.room }
+        ensures succeeds { HasRoom self.old n → IsOk result }
+        ensures full { OnErr result (self.new ≡ self.old) }
+    {
+        self.deltas.reserve(n)
     }
 
     /// Notes one more delta, for which there is room.

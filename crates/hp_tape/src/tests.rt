@@ -1,5 +1,5 @@
 use super::*;
-use hp_units::{Auto, Frame};
+use hp_units::{Auto, Block, Claim, Frame, Row, Serial, State, Wish, Zone};
 use std::test::Fail;
 
 #[test]
@@ -19,5 +19,31 @@ fn notes_and_takes_back(rt: HostRuntime) -> Result<(), Fail> {
     assert!(rt; matches!(tape.latest(), Some(Delta::Auto { .. })));
     assert!(rt; matches!(tape.latest(), Some(Delta::Swap { .. })));
     assert!(rt; tape.latest().is_none());
+    Ok(())
+}
+
+const HELD: Row = Row {
+    state: State::Going,
+    zone: Some(Zone::Movable),
+    claim: Some(Claim {
+        op: Serial((7 << 40) + 9),
+        wish: Wish::Off,
+    }),
+};
+
+#[test]
+fn packs_a_row(rt: HostRuntime) {
+    assert_eq!(rt; PackedRow::new(HELD).row(), HELD);
+}
+
+#[test]
+fn reserves_more_room(rt: HostRuntime) -> Result<(), Fail> {
+    let mut tape = Tape::with_room(rt.alloc(), 0)?;
+    tape.reserve(1)?;
+    tape.note(Delta::Swap {
+        a: Frame(1),
+        b: Frame(2),
+    });
+    assert_eq!(rt; tape.len(), 1);
     Ok(())
 }

@@ -1,6 +1,7 @@
 -- Owners' contents by the net alone, and the frame that a record hands out.
 use Rattle.std.specs.Prelude.{ℕ, List, Option, Some, None, fold, slice_set}
 use Rattle.std.specs.Option.{option_map}
+use Rattle.hp_units.specs.Numbers.{Frame}
 use Rattle.hp_units.specs.Names.{Event, Map, Unmap, Write, Reply, Done, GivesFrame, Moved, Record}
 use Rattle.hp_units.specs.LayoutParts.{LayoutParts}
 use Rattle.hp_units.specs.Memory.{Memory, entry_of, with_entry}
@@ -19,11 +20,11 @@ abbrev pub contents_of_net : LayoutParts → List (List (Option (List ℕ))) →
 contents_of_net l contents net = fold (λ c r. contents_after l c r.event) contents net
 
 -- the frame that a record hands out, given the state after it (own rule)
-abbrev pub handed_by_reply : Memory → Event → Reply → Option ℕ
+abbrev pub handed_by_reply : Memory → Event → Reply → Option Frame
 handed_by_reply after event (GivesFrame frame) = Some frame
 handed_by_reply after event (Moved from to) = Some to
 handed_by_reply after (Map owner page) Done = frame_at after.pages owner page
 handed_by_reply after event reply = None
 
-abbrev pub handed_frame : Memory → Record → Option ℕ
+abbrev pub handed_frame : Memory → Record → Option Frame
 handed_frame after r = handed_by_reply after r.event r.reply

@@ -2,6 +2,7 @@
 use Rattle.std.specs.Prelude.{◌≡◌, ℕ, ◌+◌, Bool, true, false, List, [], ◌∷◌, ◌++◌, Option, Some, None, nat_lt, count_by, fold, if◌then◌else◌}
 use Rattle.std.specs.List.{last_or}
 use Rattle.std.specs.Option.{option_map_or, option_and_then}
+use Rattle.hp_units.specs.Numbers.{Cpu, Serial}
 use Rattle.hp_units.specs.Names.{Item, Event, Begin, DrainFor, Migrate, Commit, Cancel, Reply, Done, Moved, Opened, Restored, Released, Refused, Refusal, NoFrame, NoOp, NothingToMove, NotFree, Receipt, OpEnd, EndsDone, EndsRefused, EndsCancelled, EndsUndone, EndsLeft, CallFault}
 
 -- how many migrations were tried
@@ -13,11 +14,11 @@ abbrev pub tried : List Receipt → ℕ
 tried receipts = count_by (λ r. is_migrate r.event) receipts
 
 -- where a migration would be next, or a cancel once so many were tried
-abbrev pub migrate_or_cancel : (turns op : ℕ) → List Receipt → Event
+abbrev pub migrate_or_cancel : (turns : ℕ) (op : Serial) → List Receipt → Event
 migrate_or_cancel turns op receipts = if nat_lt (tried receipts) turns then Migrate op else Cancel op
 
 -- the drain of a round for a processor, or behind the last one a turn
-abbrev pub next_drain : (cpus turns op cpu : ℕ) → List Receipt → Event
+abbrev pub next_drain : (cpus turns : ℕ) (op : Serial) (cpu : Cpu) → List Receipt → Event
 next_drain cpus turns op cpu receipts = if nat_lt cpu cpus then DrainFor op cpu else migrate_or_cancel turns op receipts
 
 -- the event behind one that was answered, if the run goes on: behind Opened, NoFrame and NotFree a round of drains,
@@ -58,11 +59,11 @@ abbrev pub end_of : List Receipt → Option OpEnd
 end_of receipts = option_and_then (λ r. end_after (cause_of receipts) r.event r.reply) (last_or None receipts)
 
 -- the operation that the first receipt opened
-abbrev pub opened_by : Reply → Option ℕ
+abbrev pub opened_by : Reply → Option Serial
 opened_by (Opened op) = Some op
 opened_by reply = None
 
-abbrev pub operation_of : List Receipt → Option ℕ
+abbrev pub operation_of : List Receipt → Option Serial
 operation_of [] = None
 operation_of (r ∷ rs) = opened_by r.reply
 

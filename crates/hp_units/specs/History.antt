@@ -1,6 +1,7 @@
 -- Whole histories: which steps count, the state that they lead to, and which histories there can be.
 -- A history is the list of records since a base state, oldest first, and `before` is the number of all earlier records.
 use Rattle.std.specs.Prelude.{ℕ, ◌≡◌, ◌+◌, Bool, true, false, ◌||◌, if◌then◌else◌, List, [], ◌∷◌, ◌++◌, Option, Some, None, length, take, map, filter, count_by, fold, nat_lt, nat_le, slice_get}
+use Rattle.hp_units.specs.Numbers.{Cpu, Serial}
 use Rattle.hp_units.specs.Names.{Event, Read, Cancel, UndoAfter, Reply, Restored, Undone, Refused, NoCpu, Gone, Record}
 use Rattle.hp_units.specs.LayoutParts.{LayoutParts}
 use Rattle.hp_units.specs.Memory.{Memory}
@@ -12,8 +13,8 @@ use Rattle.hp_units.specs.Step.{step}
 -- it only reads, it undoes the steps above a serial, it cancels an operation, or it is a step
 pub data Effect : Type 0 where
   Looks : Effect
-  Undoes : (serial : ℕ) → Effect
-  Cancels : (op : ℕ) → Effect
+  Undoes : (serial : Serial) → Effect
+  Cancels : (op : Serial) → Effect
   Acts : Effect
 
 abbrev pub effect_of : Event → Effect
@@ -45,10 +46,10 @@ goes_back reply = false
 -- ---- the net: the steps that are not dropped (own rule)
 
 -- the steps up to a serial, and how many are above it
-unfoldable pub steps_until : ℕ → List Record → List Record
+unfoldable pub steps_until : Serial → List Record → List Record
 steps_until serial net = filter (λ r. nat_le r.serial serial) net
 
-unfoldable pub count_above : ℕ → List Record → ℕ
+unfoldable pub count_above : Serial → List Record → ℕ
 count_above serial net = count_by (λ r. nat_lt serial r.serial) net
 
 -- the steps before a place, or with one more where there is no such place
@@ -89,12 +90,12 @@ cancel_reply reply None = reply
 cancel_reply reply (Some place) = if is_refused reply then reply else Restored
 
 -- the reply to an undo of the steps above a serial, when the number of earlier records and the last serial are known
-abbrev pub undo_reply : (before last : ℕ) → List Record → ℕ → Reply
+abbrev pub undo_reply : (before last : Serial) → List Record → Serial → Reply
 undo_reply before last net serial =
     if nat_lt last serial || nat_lt serial before then Refused Gone else Undone (count_above serial net)
 
 -- the reply to an event in a state, by its effect
-abbrev pub effect_reply : LayoutParts → (before last : ℕ) → List Record → Memory → (serial cpu : ℕ) → Event → Effect → Reply
+abbrev pub effect_reply : LayoutParts → (before last : Serial) → List Record → Memory → (serial : Serial) (cpu : Cpu) → Event → Effect → Reply
 effect_reply l before last net s serial cpu event Looks = (step l s serial cpu event).reply
 effect_reply l before last net s serial cpu event (Undoes kept) =
     if nat_lt cpu l.cpus then undo_reply before last net kept else Refused NoCpu
@@ -103,7 +104,7 @@ effect_reply l before last net s serial cpu event (Cancels op) =
 effect_reply l before last net s serial cpu event Acts = (step l s serial cpu event).reply
 
 -- the reply that an event must have behind the earlier records
-unfoldable pub reply_of : LayoutParts → Memory → (before : ℕ) → List Record → (cpu : ℕ) → Event → Reply
+unfoldable pub reply_of : LayoutParts → Memory → (before : Serial) → List Record → (cpu : Cpu) → Event → Reply
 reply_of l base before earlier cpu event =
     effect_reply l before (before + length earlier) (net_of earlier) (value_of l base earlier) (before + length earlier + 1) cpu event (effect_of event)
 

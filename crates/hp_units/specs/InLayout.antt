@@ -2,6 +2,7 @@
 -- state is such a state.
 use Rattle.std.specs.Prelude.{◌≡◌, ℕ, ◌+◌, ◌*◌, ◌^◌, ◌≤◌, true, List, Option, None, length, slice_index_or, IfSome}
 use Rattle.std.specs.List.{AllByRecursion}
+use Rattle.hp_units.specs.Numbers.{Frame, Order, Cpu, Owner, Page}
 use Rattle.hp_units.specs.Names.{Class, Pool}
 use Rattle.hp_units.specs.LayoutParts.{LayoutParts}
 use Rattle.hp_units.specs.Arithmetic.{IsFrame, frame_count, pageblock_count}
@@ -13,13 +14,13 @@ use Rattle.hp_units.specs.Pages.{frame_at, words_at}
 pub record AreFreeAreasOf (l : LayoutParts) (a : FreeAreas) : Type 0 where
   pub lists : length a.lists ≡ 5 * (l.order + 1)
   pub kinds : length a.kinds ≡ pageblock_count l
-  pub free : (class : Class) (order first : ℕ) → is_on first (free_list a class order) ≡ true → first + 2 ^ order ≤ frame_count l
+  pub free : (class : Class) (order : Order) (first : Frame) → is_on first (free_list a class order) ≡ true → first + 2 ^ order ≤ frame_count l
 
 -- and three lists of frames for each processor
 pub record AreFreeFramesOf (l : LayoutParts) (fs : FreeFrames) : Type 0 where
   pub areas : AreFreeAreasOf l fs.areas
   pub lists : length fs.cached ≡ 3 * l.cpus
-  pub cached : (cpu : ℕ) (pool : Pool) (frame : ℕ) → is_on frame (cached_list fs cpu pool) ≡ true → IsFrame l frame
+  pub cached : (cpu : Cpu) (pool : Pool) (frame : Frame) → is_on frame (cached_list fs cpu pool) ≡ true → IsFrame l frame
 
 -- each owner has the layout's pages, at frames and with as many words as the layout says
 pub record ArePagesOf (l : LayoutParts) (ps : Pages) : Type 0 where
@@ -27,13 +28,13 @@ pub record ArePagesOf (l : LayoutParts) (ps : Pages) : Type 0 where
   pub pages : AllByRecursion (λ row. length row ≡ l.pages) ps.table
   pub content_owners : length ps.contents ≡ l.owners
   pub content_pages : AllByRecursion (λ row. length row ≡ l.pages) ps.contents
-  pub mapped : (owner page : ℕ) → IfSome (frame_at ps owner page) (IsFrame l)
-  pub words : (owner page : ℕ) → IfSome (words_at ps owner page) (λ words. length words ≡ l.words)
+  pub mapped : (owner : Owner) (page : Page) → IfSome (frame_at ps owner page) (IsFrame l)
+  pub words : (owner : Owner) (page : Page) → IfSome (words_at ps owner page) (λ words. length words ≡ l.words)
 
 -- the kernel's blocks are of orders that there are
-pub record AreKernelBlocksOf (l : LayoutParts) (kernel : List (Option ℕ)) : Type 0 where
+pub record AreKernelBlocksOf (l : LayoutParts) (kernel : List (Option Order)) : Type 0 where
   pub frames : length kernel ≡ frame_count l
-  pub orders : (first : ℕ) → IfSome (slice_index_or kernel first None) (λ order. order ≤ l.order)
+  pub orders : (first : Frame) → IfSome (slice_index_or kernel first None) (λ order. order ≤ l.order)
 
 -- a row for each memory block
 pub record AreBlocksOf (l : LayoutParts) (bs : Blocks) : Type 0 where

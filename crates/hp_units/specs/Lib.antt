@@ -7,11 +7,14 @@ pub mod FreeAreas
 pub mod History
 pub mod InLayout
 pub mod Isolation
+pub mod KernelBlocks
 pub mod LayoutParts
 pub mod Marks
 pub mod Memory
+pub mod Migrations
 pub mod Names
 pub mod NumberWords
+pub mod Numbers
 pub mod Pages
 pub mod PartsSeen
 pub mod Placement

@@ -2,6 +2,7 @@
 -- and migrations.
 use Rattle.std.specs.Prelude.{ℕ, suc, ◌==◌, Bool, true, false, if◌then◌else◌, ◌&&◌, List, [], ◌∷◌, Option, Some, None}
 use Rattle.std.specs.Option.{option_map}
+use Rattle.hp_units.specs.Numbers.{Serial}
 use Rattle.hp_units.specs.Names.{Event, Begin, DrainFor, Migrate, Mark, Opens, Works, Other, Tag, Record}
 
 -- the mark of an event (own rule)
@@ -21,21 +22,21 @@ is_opening Opens = true
 is_opening (Works op) = false
 is_opening Other = false
 
-abbrev pub is_work_of : ℕ → Mark → Bool
+abbrev pub is_work_of : Serial → Mark → Bool
 is_work_of op Opens = false
 is_work_of op (Works other) = other == op
 is_work_of op Other = false
 
 -- the step begins the operation
-abbrev pub begins : ℕ → Tag → Bool
+abbrev pub begins : Serial → Tag → Bool
 begins op t = is_opening t.mark && (t.serial == op)
 
 -- the steps are the operation's own drains and migrations
-abbrev pub holds_only_own_work : ℕ → List Tag → Bool
+abbrev pub holds_only_own_work : Serial → List Tag → Bool
 holds_only_own_work op [] = true
 holds_only_own_work op (t ∷ ts) = is_work_of op t.mark && holds_only_own_work op ts
 
 -- the place of the operation's Begin, if behind it there is nothing but the operation's own work: the operation is sole (own rule)
-unfoldable pub sole_at : ℕ → List Tag → Option ℕ
+unfoldable pub sole_at : Serial → List Tag → Option ℕ
 sole_at op [] = None
 sole_at op (t ∷ ts) = if begins op t && holds_only_own_work op ts then Some 0 else option_map suc (sole_at op ts)

@@ -2,6 +2,7 @@
 use Rattle.std.specs.Prelude.{◌≡◌, ℕ, ◌+◌, ◌*◌, ◌/◌, ◌%◌, ◌^◌, ◌<◌, ◌≤◌, Bool, true, false, ◌&&◌, ◌||◌, List, [], ◌∷◌, Option, Some, None, ◌==◌, nat_lt, nat_le, length, count_by, sum_by, slice_index_or, IfSome, IsSome, if◌then◌else◌}
 use Rattle.std.specs.List.{AllByRecursion, enumerate_from}
 use Rattle.std.specs.Option.{option_map, option_map_or}
+use Rattle.hp_units.specs.Numbers.{Frame, Order, Pageblock, Block, Cpu, Owner, Page}
 use Rattle.hp_units.specs.Names.{Zone, NormalZone, Unmovable, Class, Pool, OfflineState, OnlineState, GoingState, AbsentState, State, Row, Claim, Kind}
 use Rattle.hp_units.specs.LayoutParts.{LayoutParts}
 use Rattle.hp_units.specs.Arithmetic.{buddy, frame_count, pageblock_count, pageblock_of, block_of, block_of_pageblock}
@@ -27,28 +28,32 @@ pub record IsShaped (l : LayoutParts) (s : Memory) : Type 0 where
 -- ---- in how many places a frame is
 
 -- whether a block of an order that starts at a frame has the frame
-abbrev pub covers : (frame order first : ℕ) → Bool
+abbrev pub covers : (frame : Frame) (order : Order) (first : Frame) → Bool
 covers frame order first = nat_le first frame && nat_lt frame (first + 2 ^ order)
+
+-- 1 if a block of an order has the frame, and 0 otherwise
+abbrev pub covered : (frame : Frame) (order : Order) (first : Frame) → ℕ
+covered frame order first = if covers frame order first then 1 else 0
 
 -- how many blocks on a list of an order have the frame, and on the lists of all classes and orders from one on:
 -- a list's number is five times its order, and its class
-abbrev pub list_places : (frame order : ℕ) → List ℕ → ℕ
+abbrev pub list_places : (frame : Frame) (order : Order) → List Frame → ℕ
 list_places frame order frames = count_by (covers frame order) frames
 
-abbrev pub places_from : (frame number : ℕ) → List (List ℕ) → ℕ
+abbrev pub places_from : (frame : Frame) (number : ℕ) → List (List Frame) → ℕ
 places_from frame number [] = 0
 places_from frame number (frames ∷ lists) = list_places frame (number / 5) frames + places_from frame (number + 1) lists
 
-abbrev pub free_places : FreeAreas → ℕ → ℕ
+abbrev pub free_places : FreeAreas → Frame → ℕ
 free_places a frame = places_from frame 0 a.lists
 
-abbrev pub cached_places : FreeFrames → ℕ → ℕ
+abbrev pub cached_places : FreeFrames → Frame → ℕ
 cached_places fs frame = sum_by (λ frames. count_by (λ other. other == frame) frames) fs.cached
 
-abbrev pub mapped_places : Pages → ℕ → ℕ
+abbrev pub mapped_places : Pages → Frame → ℕ
 mapped_places ps frame = sum_by (λ row. count_by (holds frame) row) ps.table
 
-abbrev pub kernel_places : Memory → ℕ → ℕ
+abbrev pub kernel_places : Memory → Frame → ℕ
 kernel_places s frame =
     count_by (λ entry. option_map_or (λ order. covers frame order entry.0) entry.1 false) (enumerate_from 0 s.kernel)
 
@@ -56,35 +61,35 @@ kernel_places s frame =
 abbrev pub is_unplugged : Row → Bool
 is_unplugged row = is_offline row || is_absent row
 
-abbrev pub offline_places : LayoutParts → Memory → ℕ → ℕ
+abbrev pub offline_places : LayoutParts → Memory → Frame → ℕ
 offline_places l s frame = if is_unplugged (row_of s.blocks (block_of l frame)) then 1 else 0
 
-abbrev pub places_of : LayoutParts → Memory → ℕ → ℕ
+abbrev pub places_of : LayoutParts → Memory → Frame → ℕ
 places_of l s frame =
     free_places s.free.areas frame + cached_places s.free frame + mapped_places s.pages frame + kernel_places s frame + offline_places l s frame
 
 -- ---- what a place asks of a frame
 
 -- of a pageblock: its block's row and its kind; the class of its free blocks and the pool of its single frames, none without a zone
-abbrev pub row_at : LayoutParts → List Row → ℕ → Row
+abbrev pub row_at : LayoutParts → List Row → Pageblock → Row
 row_at l rows pageblock = slice_index_or rows (block_of_pageblock l pageblock) offline_row
 
-abbrev pub kind_at : List Kind → ℕ → Kind
+abbrev pub kind_at : List Kind → Pageblock → Kind
 kind_at kinds pageblock = slice_index_or kinds pageblock plain_kind
 
-abbrev pub class_at : LayoutParts → List Kind → List Row → ℕ → Option Class
+abbrev pub class_at : LayoutParts → List Kind → List Row → Pageblock → Option Class
 class_at l kinds rows pageblock = option_map (λ zone. class_of_kind zone (kind_at kinds pageblock)) (row_at l rows pageblock).zone
 
-abbrev pub pool_at : LayoutParts → List Kind → List Row → ℕ → Option Pool
+abbrev pub pool_at : LayoutParts → List Kind → List Row → Pageblock → Option Pool
 pool_at l kinds rows pageblock = option_map (λ zone. pool_of zone (kind_at kinds pageblock).mobility) (row_at l rows pageblock).zone
 
 -- a free block of a class and an order
-pub record IsBlockOf (l : LayoutParts) (class_at : ℕ → Option Class) (class : Class) (order first : ℕ) : Type 0 where
+pub record IsBlockOf (l : LayoutParts) (class_at : Pageblock → Option Class) (class : Class) (order : Order) (first : Frame) : Type 0 where
   pub aligned : first % 2 ^ order ≡ 0
   pub class_agrees : class_at (pageblock_of l first) ≡ Some class
 
 -- a kernel's block
-pub record IsKernelAt (l : LayoutParts) (rows : List Row) (first order : ℕ) : Type 0 where
+pub record IsKernelAt (l : LayoutParts) (rows : List Row) (first : Frame) (order : Order) : Type 0 where
   pub in_order : order ≤ l.order
   pub aligned : first % 2 ^ order ≡ 0
   pub normal : (row_at l rows (pageblock_of l first)).zone ≡ Some NormalZone
@@ -103,7 +108,7 @@ abbrev pub IsRow : Row → Type 0
 IsRow row = IsRowOf row.state row.zone row.claim
 
 -- a page has words exactly where it has a frame, and then the layout's number
-abbrev pub IsPage : LayoutParts → Option ℕ → Option (List ℕ) → Type 0
+abbrev pub IsPage : LayoutParts → Option Frame → Option (List ℕ) → Type 0
 IsPage l None None = Unit {0}
 IsPage l None (Some words) = ⊥
 IsPage l (Some frame) None = ⊥
@@ -114,19 +119,19 @@ IsPage l (Some frame) (Some words) = length words ≡ l.words
 -- the parts of a state agree, and each list is as it must be
 pub record IsInOrder (l : LayoutParts) (s : Memory) : Type 0 where
   pub shape : IsShaped l s
-  pub blocks : (class : Class) (order first : ℕ) → is_on first (free_list s.free.areas class order) ≡ true
+  pub blocks : (class : Class) (order : Order) (first : Frame) → is_on first (free_list s.free.areas class order) ≡ true
       → IsBlockOf l (class_at l s.free.areas.kinds s.blocks.rows) class order first
-  pub joined : (class : Class) (order first : ℕ) → order < l.order → is_on first (free_list s.free.areas class order) ≡ true
+  pub joined : (class : Class) (order : Order) (first : Frame) → order < l.order → is_on first (free_list s.free.areas class order) ≡ true
       → is_on (buddy first order) (free_list s.free.areas class order) ≡ false
-  pub cached : (cpu : ℕ) (pool : Pool) (frame : ℕ) → is_on frame (cached_list s.free cpu pool) ≡ true
+  pub cached : (cpu : Cpu) (pool : Pool) (frame : Frame) → is_on frame (cached_list s.free cpu pool) ≡ true
       → pool_at l s.free.areas.kinds s.blocks.rows (pageblock_of l frame) ≡ Some pool
-  pub kernel : (first : ℕ) → IfSome (kernel_order s first) (IsKernelAt l s.blocks.rows first)
-  pub mobility : (pageblock : ℕ) → (kind_at s.free.areas.kinds pageblock).mobility ≡ Unmovable → (row_at l s.blocks.rows pageblock).zone ≡ Some NormalZone
-  pub isolated : (pageblock : ℕ) → (kind_at s.free.areas.kinds pageblock).isolated ≡ is_going (row_at l s.blocks.rows pageblock)
-  pub rows : (block : ℕ) → IsRow (row_of s.blocks block)
-  pub words : (owner page : ℕ) → IsPage l (frame_at s.pages owner page) (words_at s.pages owner page)
+  pub kernel : (first : Frame) → IfSome (kernel_order s first) (IsKernelAt l s.blocks.rows first)
+  pub mobility : (pageblock : Pageblock) → (kind_at s.free.areas.kinds pageblock).mobility ≡ Unmovable → (row_at l s.blocks.rows pageblock).zone ≡ Some NormalZone
+  pub isolated : (pageblock : Pageblock) → (kind_at s.free.areas.kinds pageblock).isolated ≡ is_going (row_at l s.blocks.rows pageblock)
+  pub rows : (block : Block) → IsRow (row_of s.blocks block)
+  pub words : (owner : Owner) (page : Page) → IsPage l (frame_at s.pages owner page) (words_at s.pages owner page)
 
 -- a well placed state: and each number is in one place, those beyond the layout as if offline (own rule)
 pub record IsWellPlaced (l : LayoutParts) (s : Memory) : Type 0 where
   pub in_order : IsInOrder l s
-  pub once : (frame : ℕ) → places_of l s frame ≡ 1
+  pub once : (frame : Frame) → places_of l s frame ≡ 1

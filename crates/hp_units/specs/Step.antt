@@ -1,6 +1,7 @@
 -- One step of the machine: the state after an event, and the reply.
 use Rattle.std.specs.Prelude.{ℕ, zero, suc, ◌/◌, Option, Some, None}
 use Rattle.std.specs.Option.{option_map_or}
+use Rattle.hp_units.specs.Numbers.{Frame, Order, Block, Cpu, Owner, Page, Serial}
 use Rattle.hp_units.specs.Names.{NormalZone, MovableZone, AbsentState, Auto, OfflineAuto, OnlineAuto, KernelAuto, MovableAuto, Event, KernelAlloc, KernelFree, Map, Unmap, Write, Read, Drain, Online, Begin, DrainFor, Migrate, Commit, Cancel, UndoAfter, Probe, Remove, SetAuto, Refusal, Reply, Done, GivesFrame, Word, Moved, Opened, Released, Refused}
 use Rattle.hp_units.specs.LayoutParts.{LayoutParts}
 use Rattle.hp_units.specs.Arithmetic.{block_bytes}
@@ -9,7 +10,9 @@ use Rattle.hp_units.specs.FreeAreas.{give_block}
 use Rattle.hp_units.specs.ProcessorLists.{put_one, drain_lists, page_frame}
 use Rattle.hp_units.specs.Pages.{frame_at, fresh_words, map_page, unmap_page, write_word, read_word, move_page}
 use Rattle.hp_units.specs.Rows.{zone_of, with_areas, with_block_row, online_block, begin_plan, commit_blocks, release_blocks}
-use Rattle.hp_units.specs.Refusals.{kernel_block, migration_source, migration_target, refusal_of}
+use Rattle.hp_units.specs.KernelBlocks.{kernel_block}
+use Rattle.hp_units.specs.Migrations.{migration_source, migration_target}
+use Rattle.hp_units.specs.Refusals.{refusal_of}
 
 -- the state after an event, and the reply to it
 pub record Answered : Type 0 where
@@ -26,33 +29,33 @@ abbrev pub with_pages : Memory → Pages → Memory
 with_pages s pages = record s { pages = pages }
 
 -- the kernel takes a block (Gorman, chapter 6; own rule)
-unfoldable pub kernel_takes : LayoutParts → Memory → (cpu order : ℕ) → Answered
+unfoldable pub kernel_takes : LayoutParts → Memory → (cpu : Cpu) (order : Order) → Answered
 kernel_takes l s cpu order =
     option_map_or (λ handed. record { memory = with_kernel_order (with_free s handed.free) handed.frame (Some order); reply = GivesFrame handed.frame })
     (kernel_block l s.free cpu order) (done s)
 
 -- a block of an order comes back: a single frame by the processor's list, any other straight to the areas (Gorman, chapter 6; own rule)
-abbrev pub give_back : LayoutParts → Memory → (cpu frame order : ℕ) → Memory
+abbrev pub give_back : LayoutParts → Memory → (cpu : Cpu) (frame : Frame) (order : Order) → Memory
 give_back l s cpu frame zero = with_free s (put_one l s.free cpu (zone_of l s frame) frame)
 give_back l s cpu frame (suc below) = with_areas s (give_block l s.free.areas (zone_of l s frame) frame (suc below))
 
-unfoldable pub kernel_gives : LayoutParts → Memory → (cpu frame : ℕ) → Answered
+unfoldable pub kernel_gives : LayoutParts → Memory → (cpu : Cpu) (frame : Frame) → Answered
 kernel_gives l s cpu frame =
     option_map_or (λ order. done (give_back l (with_kernel_order s frame None) cpu frame order)) (kernel_order s frame) (done s)
 
 -- a page is mapped, with zeros in it, and unmapped (own rule)
-unfoldable pub map_step : LayoutParts → Memory → (cpu owner page : ℕ) → Answered
+unfoldable pub map_step : LayoutParts → Memory → (cpu : Cpu) (owner : Owner) (page : Page) → Answered
 map_step l s cpu owner page =
     option_map_or (λ handed. done (with_pages (with_free s handed.free) (map_page s.pages owner page handed.frame (fresh_words l))))
     (page_frame l s.free cpu) (done s)
 
-unfoldable pub unmap_step : LayoutParts → Memory → (cpu owner page : ℕ) → Answered
+unfoldable pub unmap_step : LayoutParts → Memory → (cpu : Cpu) (owner : Owner) (page : Page) → Answered
 unmap_step l s cpu owner page =
     option_map_or (λ frame. done (give_back l (with_pages s (unmap_page s.pages owner page)) cpu frame 0)) (frame_at s.pages owner page) (done s)
 
 -- the page at the lowest mapped frame of the operation's going blocks moves to a frame straight from the areas, and its
 -- old frame goes straight back to them (Linux, memory hotplug: migration; own rule)
-unfoldable pub migrate_step : LayoutParts → Memory → ℕ → Answered
+unfoldable pub migrate_step : LayoutParts → Memory → Serial → Answered
 migrate_step l s op =
     option_map_or (λ from. option_map_or (λ taken. record {
       memory = with_areas (with_pages s (move_page s.pages from taken.frame)) (give_block l taken.areas (zone_of l s from) from 0);
@@ -61,14 +64,14 @@ migrate_step l s op =
     (migration_target l s.free.areas) (done s)) (migration_source l s op) (done s)
 
 -- a block that is there becomes online, as the machine is set to do (Linux, memory hotplug: auto_online_blocks)
-abbrev pub auto_online : LayoutParts → Auto → Memory → ℕ → Memory
+abbrev pub auto_online : LayoutParts → Auto → Memory → Block → Memory
 auto_online l OfflineAuto s block = s
 auto_online l OnlineAuto s block = online_block l NormalZone s block
 auto_online l KernelAuto s block = online_block l NormalZone s block
 auto_online l MovableAuto s block = online_block l MovableZone s block
 
 -- what an event that isn't refused does (own rule)
-abbrev pub perform : LayoutParts → Memory → (serial cpu : ℕ) → Event → Answered
+abbrev pub perform : LayoutParts → Memory → (serial : Serial) (cpu : Cpu) → Event → Answered
 perform l s serial cpu (KernelAlloc order) = kernel_takes l s cpu order
 perform l s serial cpu (KernelFree frame) = kernel_gives l s cpu frame
 perform l s serial cpu (Map owner page) = map_step l s cpu owner page
@@ -89,10 +92,10 @@ perform l s serial cpu (Remove block) = done (with_block_row s block (record off
 perform l s serial cpu (SetAuto auto) = done (record s { blocks = record s.blocks { auto = auto } })
 
 -- a refusal leaves the state
-abbrev pub answer : LayoutParts → Memory → (serial cpu : ℕ) → Event → Option Refusal → Answered
+abbrev pub answer : LayoutParts → Memory → (serial : Serial) (cpu : Cpu) → Event → Option Refusal → Answered
 answer l s serial cpu event (Some refusal) = record { memory = s; reply = Refused refusal }
 answer l s serial cpu event None = perform l s serial cpu event
 
 -- one step. UndoAfter is no event of this, and a Cancel here is the release (own rule)
-unfoldable pub step : LayoutParts → Memory → (serial cpu : ℕ) → Event → Answered
+unfoldable pub step : LayoutParts → Memory → (serial : Serial) (cpu : Cpu) → Event → Answered
 step l s serial cpu event = answer l s serial cpu event (refusal_of l s cpu event)

@@ -1,6 +1,6 @@
 //! The layout of a machine: how much of everything there is.
-ghost use Rattle.std.specs.Prelude.{◌≡◌, ◌<◌, ◌≤◌, None, IfOk, IfErr, OnOk, IsTrue};
-ghost use Rattle.hp_units.specs.Arithmetic.{block_of, buddy, frame_count, pageblock_of};
+ghost use Rattle.std.specs.Prelude.{◌≡◌, ◌*◌, ◌<◌, ◌≤◌, None, IfOk, IfErr, OnOk, IsTrue};
+ghost use Rattle.hp_units.specs.Arithmetic.{block_bytes, block_of, block_size, buddy, frame_count, pageblock_count, pageblock_of, pageblock_size};
 ghost use Rattle.hp_units.specs.LayoutParts.{IsLayout, frame_fault, is_pageblock_count, is_within, layout_fault, owner_fault, processor_fault};
 ghost use Rattle.hp_units.specs.PartsSeen.{IsLayoutFault, parts_seen};
 
@@ -256,8 +256,41 @@ impl Layout {
         ensures is { result ≡ frame_count self.now }
         ensures layout { IsLayout self.now }
     {
-        let block = self.pageblocks << self.order;
-        self.blocks * block
+        self.blocks * self.block_size()
+    }
+
+    /// The number of frames in a pageblock, at most 2^10.
+    pub fn pageblock_size(&self) -> u32
+        ensures is { result ≡ pageblock_size self.now }
+        ensures layout { IsLayout self.now }
+    {
+        1 << self.order
+    }
+
+    /// The number of frames in a memory block, at most 2^16 (Linux, memory hotplug: a memory block
+    /// is whole pageblocks).
+    pub fn block_size(&self) -> u32
+        ensures is { result ≡ block_size self.now }
+        ensures layout { IsLayout self.now }
+    {
+        self.pageblocks << self.order
+    }
+
+    /// The number of bytes in a memory block, at eight bytes a word: at most 2^28 (Linux, memory
+    /// hotplug: block_size_bytes).
+    pub fn block_bytes(&self) -> u64
+        ensures is { result ≡ block_bytes self.now }
+        ensures some { 0 < result }
+    {
+        u64::from(self.block_size()) * u64::from(self.words) * 8
+    }
+
+    /// The first frame of a pageblock of the layout.
+    pub fn first_frame(&self, pageblock: Pageblock) -> Frame
+        requires { pageblock < pageblock_count self.now }
+        ensures { result ≡ pageblock * pageblock_size self.now }
+    {
+        Frame(pageblock.0 << self.order)
     }
 }
 

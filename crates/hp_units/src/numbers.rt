@@ -1,5 +1,6 @@
 //! Numbers of things. A contract sees each as the number itself.
-ghost use Rattle.std.specs.Prelude.{ℕ};
+ghost use Rattle.std.specs.Prelude.{◌≡◌, ℕ, ◌<◌};
+ghost use Rattle.hp_units.specs.Arithmetic.{ancestor};
 
 use std::marker::Model;
 
@@ -13,6 +14,18 @@ impl Model for Frame {
     ghost view = { λ a. a.0 };
 
     ghost inverse = { λ n. record { 0 = n } };
+}
+
+impl Frame {
+    /// The first frame of the block of an order that the frame lies in (Knuth, volume 1,
+    /// section 2.5). The order is below 32.
+    pub fn ancestor(self, order: Order) -> Frame
+        requires { order < 32 }
+        ensures { result ≡ ancestor self order }
+    {
+        let size = 1 << order.0;
+        Frame(self.0 / size * size)
+    }
 }
 
 /// The order of a block of 2^order frames, 0 to 10 in a layout (Knuth, volume 1, section 2.5).

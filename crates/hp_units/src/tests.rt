@@ -57,6 +57,50 @@ fn numbers_of_frames(rt: HostRuntime) -> Result<(), Fail> {
     assert_eq!(rt; buddy(Frame(4), Order(1)), Frame(6));
     assert_eq!(rt; pageblock_of(&layout, Frame(11)), Pageblock(2));
     assert_eq!(rt; block_of(&layout, Frame(12)), Block(3));
+    assert_eq!(rt; Frame(13).ancestor(Order(2)), Frame(12));
+    assert_eq!(rt; layout.pageblock_size(), 4);
+    assert_eq!(rt; layout.block_size(), 4);
+    assert_eq!(rt; layout.block_bytes(), 4 * 7 * 8);
+    Ok(())
+}
+
+#[test]
+fn classes_and_pools_by_zone(rt: HostRuntime) -> Result<(), Fail> {
+    let pool = Pool::of_mobility(Zone::Movable, Mobility::Movable);
+    assert_eq!(rt;
+        pool.class(),
+        Class::usable(pool.zone(), Mobility::Unmovable.other())
+    );
+    assert_eq!(rt; pool.index(), 2);
+    let isolated = Kind {
+        isolated: true,
+        ..Kind::plain()
+    };
+    assert_eq!(rt;
+        Class::of_kind(Zone::Movable, isolated),
+        Class::isolated(Zone::Movable)
+    );
+    assert_eq!(rt;
+        Class::numbered(Class::isolated(Zone::Movable).index()),
+        Class::IsoM
+    );
+    Ok(())
+}
+
+/// The row of a block that operation 5 takes offline.
+fn going() -> Row {
+    Row::online(Zone::Normal).claimed(Serial(5), Wish::Off)
+}
+
+#[test]
+fn rows_show_their_state_and_claim(rt: HostRuntime) -> Result<(), Fail> {
+    assert!(rt; Wish::Off.is_off());
+    assert!(rt; Row::online(Zone::Normal).is_online());
+    assert!(rt; going().is_going());
+    assert!(rt; going().is_claimed_by(Serial(5)));
+    assert!(rt; !going().unclaimed().is_claimed());
+    assert!(rt; Row::bare(State::Offline).is_offline());
+    assert!(rt; Row::bare(State::Absent).is_absent());
     Ok(())
 }
 

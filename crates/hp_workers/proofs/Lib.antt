@@ -1,8 +1,3 @@
-pub mod Each
-pub mod Json
-pub mod LineLaw
-pub mod LineLoop
-pub mod LinesRead
-pub mod LinesSpelled
-pub mod PlanItems
-pub mod WordsSpelled
+pub mod Echoes
+pub mod LineRuns
+pub mod WorkerLists

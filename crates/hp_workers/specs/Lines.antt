@@ -1,211 +1,90 @@
--- What a line asks for, with a name as it is written (own rule).
-use Rattle.std.specs.Prelude.{ℕ, List, [], ◌∷◌, codes, Option, Some, None, if◌then◌else◌, option_map, option_and_then}
-use Rattle.std.specs.Str.{bytes_eq}
+-- What running lines makes of a seat, and how the lines end (own rule).
+use Rattle.std.specs.Prelude.{◌≡◌, ◌⊎◌, ℕ, ◌≤◌, List, [], ◌∷◌, ◌++◌, Option, Result, Ok, Err, length, take}
+use Rattle.hp_units.specs.Driver.{IsDriverRun}
+use Rattle.hp_units.specs.LayoutParts.{LayoutParts}
 use Rattle.hp_units.specs.declared.events.Event.{Event}
-use Rattle.hp_units.specs.declared.events.Event.TheVariants.{KernelAlloc, KernelFree, Drain, Online, Begin, DrainFor, Migrate, Commit, Cancel, UndoAfter, Remove}
 use Rattle.hp_units.specs.declared.plans.Item.{Item}
-use Rattle.hp_units.specs.declared.rows.Wish.{Wish}
-use Rattle.hp_units.specs.declared.rows.Wish.TheVariants as wish
-use Rattle.hp_units.specs.declared.rows.Zone.{Zone}
-use Rattle.hp_units.specs.declared.rows.Zone.TheVariants as zone
-use Rattle.hp_units.specs.NumberWords.{number_of}
-use Rattle.hp_workers.specs.Words.{name_of, words_of}
-use Rattle.hp_workers.specs.declared.lines.Work.{Work}
-use Rattle.hp_workers.specs.declared.lines.Work.TheVariants as work
-use Rattle.hp_workers.specs.declared.requests.Access.{Access}
-use Rattle.hp_workers.specs.declared.requests.Access.TheVariants as access
+use Rattle.hp_units.specs.declared.replies.CallFault.{CallFault}
+use Rattle.hp_units.specs.declared.replies.Receipt.{Receipt}
+use Rattle.hp_ops.specs.Ports.{AreMade, PortValue}
+use Rattle.hp_control.specs.Writes.{control_turns, echo_request}
+use Rattle.hp_control.specs.declared.fault.ControlFault.{ControlFault}
+use Rattle.hp_control.specs.declared.fault.ControlFault.TheVariants.{OutOfMemory}
+use Rattle.hp_control.specs.declared.writes.Request.{Request}
+use Rattle.hp_control.specs.declared.writes.Request.TheVariants as request
+use Rattle.hp_scenario.specs.declared.lines.Line.{Line}
+use Rattle.hp_scenario.specs.declared.lines.Work.{Work}
+use Rattle.hp_scenario.specs.declared.lines.Work.TheVariants as work
+use Rattle.hp_shared.specs.Shared.{SeatValue}
+use Rattle.hp_shared.specs.SeatPorts.{AreTurns}
+use Rattle.hp_workers.specs.declared.lines.LineEnd.{LineEnd}
+use Rattle.hp_workers.specs.declared.lines.LineEnd.TheVariants.{Reply as Replied, Fault as Faulted, Plan as Planned, Control as Untaken}
 
-infixl 10 ◌>>=◌
-abbrev pub ◌>>=◌ : {A B : Type 0} → Option A → (A → Option B) → Option B
-o >>= f = option_and_then f o
+-- what one line is: the receipts that it gained, and its end
+abbrev pub Run : Type 1
+Run = List Receipt → LineEnd → Type 0
 
--- work that names no owner, or an access to a page of a named one
-pub data Request : Type 0 where
-  plain : Work → Request
-  named : (name : List ℕ) → Access → Request
+-- an event was asked for: one receipt of it, whose reply is the end; or none, and the end is the fault of its call
+abbrev pub IsEventRun : Event → Run
+IsEventRun event gained (Replied reply) = (r : Receipt) × (gained ≡ r ∷ []) × (r.event ≡ event) × (r.reply ≡ reply)
+IsEventRun event gained (Faulted fault) = gained ≡ []
+IsEventRun event gained (Planned end) = ⊥
+IsEventRun event gained (Untaken fault) = ⊥
 
--- an event that names no owner
-abbrev pub event : Event → Request
-event e = plain (work.Event e)
+-- a plan was carried out: a run of its driver, whose end is the end
+abbrev pub IsPlanRun : (cpus turns : ℕ) → List Item → Run
+IsPlanRun cpus turns plan gained (Replied reply) = ⊥
+IsPlanRun cpus turns plan gained (Faulted fault) = ⊥
+IsPlanRun cpus turns plan gained (Planned end) = (fault : Option CallFault) × IsDriverRun cpus turns plan gained fault end
+IsPlanRun cpus turns plan gained (Untaken fault) = ⊥
 
--- ---- words by their kind
+-- no call was made, since a control file does not take a text
+abbrev pub IsUntaken : ControlFault → Run
+IsUntaken fault gained end = (gained ≡ []) × (end ≡ Untaken fault)
 
--- the number that the only word is
-unfoldable pub only_number : (bits : ℕ) → List (List ℕ) → Option ℕ
-only_number bits (word ∷ []) = number_of bits word
-only_number bits _ = None
+-- what a control file was asked for was done
+abbrev pub IsRequestRun : (cpus : ℕ) → Result Request ControlFault → Run
+IsRequestRun cpus (Ok (request.Event event)) = IsEventRun event
+IsRequestRun cpus (Ok (request.Plan plan)) = IsPlanRun cpus control_turns plan
+IsRequestRun cpus (Err fault) = IsUntaken fault
 
--- the zone that a word names
-unfoldable pub zone_of : List ℕ → Option Zone
-zone_of word =
-    if bytes_eq word (codes "normal") then Some zone.Normal
-    else (if bytes_eq word (codes "movable") then Some zone.Movable
-    else None)
+-- a word was written to a control file; or there was no memory to tell what it asks for
+abbrev pub IsEchoRun : (cpus : ℕ) → (path word : List ℕ) → Run
+IsEchoRun cpus path word gained end = IsRequestRun cpus (echo_request path word) gained end ⊎ IsUntaken OutOfMemory gained end
 
--- what a word makes of a memory block
-unfoldable pub wish_of : List ℕ → Option Wish
-wish_of word =
-    if bytes_eq word (codes "off") then Some wish.Off
-    else (if bytes_eq word (codes "normal") then Some wish.Normal
-    else (if bytes_eq word (codes "movable") then Some wish.Movable
-    else None))
+-- no line is run that reads a control file
+abbrev pub IsNoRun : Run
+IsNoRun gained end = ⊥
 
--- a plan's item: what is made of a memory block, and its number
-unfoldable pub item_of : (wish block : List ℕ) → Option Item
-item_of wish block = do
-  w ← wish_of wish
-  b ← number_of 32 block
-  Some (record { block = b; wish = w })
+-- a line was run
+abbrev pub IsLine : (cpus : ℕ) → Work → Run
+IsLine cpus (work.Event event) = IsEventRun event
+IsLine cpus (work.Plan plan turns) = IsPlanRun cpus turns plan
+IsLine cpus (work.Echo path word) = IsEchoRun cpus path word
+IsLine cpus (work.Cat path) = IsNoRun
 
--- the items of a plan, two words each
-unfoldable pub items_of : List (List ℕ) → Option (List Item)
-items_of [] = Some []
-items_of (wish ∷ []) = None
-items_of (wish ∷ block ∷ rest) = do
-  item ← item_of wish block
-  items ← items_of rest
-  Some (item ∷ items)
+-- it was run through a port, of whose calls at most the last left a fault
+pub record IsPortRun {S : Type 0} (shows : S → PortValue) (makes : S → List Receipt → S → Type 0) (leaves : S → CallFault → S → Type 0) (old : S) (Ran : Run) (end : LineEnd) (new : S) : Type 0 where
+  pub gained : List Receipt
+  pub fault : Option CallFault
+  pub made : AreMade makes leaves old gained fault new
+  pub ran : Ran gained end
 
--- a text of one byte or more
-abbrev pub text_of : List ℕ → Option (List ℕ)
-text_of [] = None
-text_of (b ∷ bs) = Some (b ∷ bs)
+-- a line was run by a seat, which keeps the receipts that it gained
+pub record IsLineRun (l : LayoutParts) (old : SeatValue) (asked : Work) (end : LineEnd) (new : SeatValue) : Type 0 where
+  pub gained : List Receipt
+  pub turns : AreTurns l old gained new
+  pub line : IsLine l.cpus asked gained end
 
--- ---- each verb, by the words behind it
+-- lines, one after another, gained these receipts and ended so
+abbrev pub AreLines : (cpus : ℕ) → List Line → List Receipt → List LineEnd → Type 0
+AreLines cpus [] gained ends = (gained ≡ []) × (ends ≡ [])
+AreLines cpus (line ∷ lines) gained ends =
+    (first : List Receipt) × (end : LineEnd) × (later : List Receipt) × (others : List LineEnd) × (gained ≡ first ++ later) × (ends ≡ end ∷ others) × IsLine cpus line.work first end × AreLines cpus lines later others
 
-unfoldable pub kalloc_of : List (List ℕ) → Option Request
-kalloc_of args = option_map (λ n. event (KernelAlloc n)) (only_number 32 args)
-
-unfoldable pub kfree_of : List (List ℕ) → Option Request
-kfree_of args = option_map (λ n. event (KernelFree n)) (only_number 32 args)
-
-unfoldable pub map_of : List (List ℕ) → Option Request
-map_of (name ∷ page ∷ []) = do
-  n ← name_of name
-  p ← number_of 32 page
-  Some (named n (access.Map p))
-map_of _ = None
-
-unfoldable pub unmap_of : List (List ℕ) → Option Request
-unmap_of (name ∷ page ∷ []) = do
-  n ← name_of name
-  p ← number_of 32 page
-  Some (named n (access.Unmap p))
-unmap_of _ = None
-
-unfoldable pub write_of : List (List ℕ) → Option Request
-write_of (name ∷ page ∷ index ∷ value ∷ []) = do
-  n ← name_of name
-  p ← number_of 32 page
-  i ← number_of 32 index
-  v ← number_of 64 value
-  Some (named n (access.Write p i v))
-write_of _ = None
-
-unfoldable pub read_of : List (List ℕ) → Option Request
-read_of (name ∷ page ∷ index ∷ []) = do
-  n ← name_of name
-  p ← number_of 32 page
-  i ← number_of 32 index
-  Some (named n (access.Read p i))
-read_of _ = None
-
-unfoldable pub drain_of : List (List ℕ) → Option Request
-drain_of args = option_map (λ n. event (Drain n)) (only_number 32 args)
-
-unfoldable pub online_of : List (List ℕ) → Option Request
-online_of (block ∷ zone ∷ []) = do
-  b ← number_of 32 block
-  z ← zone_of zone
-  Some (event (Online b z))
-online_of _ = None
-
-unfoldable pub begin_of : List (List ℕ) → Option Request
-begin_of args = option_map (λ items. event (Begin items)) (items_of args)
-
-unfoldable pub drainfor_of : List (List ℕ) → Option Request
-drainfor_of (op ∷ cpu ∷ []) = do
-  o ← number_of 64 op
-  c ← number_of 32 cpu
-  Some (event (DrainFor o c))
-drainfor_of _ = None
-
-unfoldable pub migrate_of : List (List ℕ) → Option Request
-migrate_of args = option_map (λ n. event (Migrate n)) (only_number 64 args)
-
-unfoldable pub commit_of : List (List ℕ) → Option Request
-commit_of args = option_map (λ n. event (Commit n)) (only_number 64 args)
-
-unfoldable pub cancel_of : List (List ℕ) → Option Request
-cancel_of args = option_map (λ n. event (Cancel n)) (only_number 64 args)
-
-unfoldable pub undo_of : List (List ℕ) → Option Request
-undo_of args = option_map (λ n. event (UndoAfter n)) (only_number 64 args)
-
-unfoldable pub remove_of : List (List ℕ) → Option Request
-remove_of args = option_map (λ n. event (Remove n)) (only_number 32 args)
-
-unfoldable pub plan_of : List (List ℕ) → Option Request
-plan_of [] = None
-plan_of (turns ∷ rest) = do
-  n ← number_of 32 turns
-  items ← items_of rest
-  Some (plain (work.Plan items n))
-
-unfoldable pub echo_of : List (List ℕ) → Option Request
-echo_of (text ∷ path ∷ []) = do
-  t ← text_of text
-  p ← text_of path
-  Some (plain (work.Echo p t))
-echo_of _ = None
-
-unfoldable pub cat_of : List (List ℕ) → Option Request
-cat_of (path ∷ []) = option_map (λ p. plain (work.Cat p)) (text_of path)
-cat_of _ = None
-
--- ---- a line
-
--- the event that a verb and the words behind it ask for, where it has no list
-unfoldable pub event_of : List ℕ → List (List ℕ) → Option Request
-event_of verb args =
-    if bytes_eq verb (codes "kalloc") then kalloc_of args
-    else (if bytes_eq verb (codes "kfree") then kfree_of args
-    else (if bytes_eq verb (codes "map") then map_of args
-    else (if bytes_eq verb (codes "unmap") then unmap_of args
-    else (if bytes_eq verb (codes "write") then write_of args
-    else (if bytes_eq verb (codes "read") then read_of args
-    else (if bytes_eq verb (codes "drain") then drain_of args
-    else (if bytes_eq verb (codes "online") then online_of args
-    else (if bytes_eq verb (codes "drainfor") then drainfor_of args
-    else (if bytes_eq verb (codes "migrate") then migrate_of args
-    else (if bytes_eq verb (codes "commit") then commit_of args
-    else (if bytes_eq verb (codes "cancel") then cancel_of args
-    else (if bytes_eq verb (codes "undo") then undo_of args
-    else (if bytes_eq verb (codes "remove") then remove_of args
-    else None)))))))))))))
-
--- what the words behind the processor ask for
-unfoldable pub request_of : List (List ℕ) → Option Request
-request_of [] = None
-request_of (verb ∷ args) =
-    if bytes_eq verb (codes "begin") then begin_of args
-    else (if bytes_eq verb (codes "plan") then plan_of args
-    else (if bytes_eq verb (codes "echo") then echo_of args
-    else (if bytes_eq verb (codes "cat") then cat_of args
-    else event_of verb args)))
-
--- a processor and what it asks for
-pub record Said : Type 0 where
-  pub cpu : ℕ
-  pub request : Request
-
-unfoldable pub words_say : List (List ℕ) → Option Said
-words_say [] = None
-words_say (cpu ∷ rest) = do
-  c ← number_of 32 cpu
-  r ← request_of rest
-  Some (record { cpu = c; request = r })
-
--- what a text says, where it is a line
-unfoldable pub line_says : List ℕ → Option Said
-line_says text = words_say (words_of text)
+-- a seat ran a beginning of the lines, with an end for each
+pub record IsWorked (l : LayoutParts) (old : SeatValue) (lines : List Line) (new : SeatValue) (ends : List LineEnd) : Type 0 where
+  pub gained : List Receipt
+  pub turns : AreTurns l old gained new
+  pub ran : AreLines l.cpus (take (length ends) lines) gained ends
+  pub within : length ends ≤ length lines

@@ -1,43 +1,11 @@
-//! Why a text is no scenario.
-ghost use Rattle.std.specs.Prelude.{◌≡◌};
-ghost use Rattle.hp_workers.specs.declared.fault.ScenarioFault.TheVariants.{OutOfMemory};
+//! Why not all lines were run.
+use hp_units::Cpu;
 
-use hp_units::LayoutFault;
-use std::alloc::{AllocError, AllocFailed};
-use thiserror::Error;
-
-/// The first fault of a scenario's text, in this order. Want of memory may come in place of any.
-#[derive(Clone, Copy, Debug, PartialEq, Eq, Error)]
-pub enum ScenarioFault {
-    /// The text is no JSON.
-    #[error("not JSON")]
-    NotJson,
-    /// Keys, kinds or words differ from a scenario's.
-    #[error("wrong shape")]
-    BadShape,
-    /// The layout is out of its limits.
-    #[error("layout fault {0:?}")]
-    Layout(LayoutFault),
-    /// A text of `calls` is no line; lines are counted from 1.
-    #[error("line {line} not understood")]
-    BadLine { line: u64 },
-    /// Want of memory.
-    #[error("out of memory")]
+/// Why a worker did not run all its lines (own rule).
+#[derive(Clone, Copy, Debug, PartialEq, Eq, Drop)]
+pub enum RunFault {
+    /// No thread could be made for the worker of this processor.
+    NotStarted { cpu: Cpu },
+    /// Memory was refused.
     OutOfMemory,
-}
-
-impl From<AllocError> for ScenarioFault {
-    ghost from_gives = { λ _ e. e ≡ OutOfMemory };
-
-    fn from(_e: AllocError) -> ScenarioFault {
-        ScenarioFault::OutOfMemory
-    }
-}
-
-impl<T: Drop> From<AllocFailed<T>> for ScenarioFault {
-    ghost from_gives = { λ _ e. e ≡ OutOfMemory };
-
-    fn from(_e: AllocFailed<T>) -> ScenarioFault {
-        ScenarioFault::from(AllocError)
-    }
 }

@@ -1,20 +1,24 @@
-//! Scenarios: a layout and the lines that run on it, read from JSON.
+//! Workers that run the lines of a processor each, in threads, on a machine that they share.
+//!
+//! The crate owns what a worker does with a line (`lines`), with a script (`worker`), how the workers' threads are started and
+//! joined (`threads`), and the gate that stands round each call (`gate`, `port`). It calls the machine through seats alone, so it
+//! never holds the lock itself: each call takes the lock and lets it go, those of a plan too. It prints nothing and parses nothing
+//! but what an echo writes, and that outside the lock.
+//!
+//! Read `threads` first: `run_workers` is what the crate is for.
 #![tactic(auto)]
 
 mod fault;
-mod form;
-mod laws;
+mod gate;
 mod lines;
-mod names;
-mod plans;
-mod requests;
-mod scenario;
+mod port;
+mod threads;
+mod worker;
+
+pub use fault::RunFault;
+pub use gate::{Gate, OpenGate};
+pub use lines::{Ends, LineEnd};
+pub use threads::{RunEnd, run_workers};
+
 #[cfg(test)]
 mod tests;
-mod verbs;
-mod words;
-
-pub use fault::ScenarioFault;
-pub use laws::lines_are_spelled;
-pub use lines::{Line, Lines, Work};
-pub use scenario::Scenario;

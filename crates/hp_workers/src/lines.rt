@@ -1,58 +1,129 @@
-//! The lines of a scenario.
-ghost use Rattle.std.specs.Prelude.{◌≡◌};
+//! One line of a worker, and what became of it.
+ghost use Rattle.std.specs.Prelude.{◌≡◌, false, None};
+ghost use Rattle.hp_scenario.specs.Scripts.{IsForRun, is_cat};
+ghost use Rattle.hp_workers.specs.Lines.{IsEchoRun, IsEventRun, IsLine, IsLineRun, IsPlanRun, IsPortRun};
 
-use hp_units::{Cpu, Event, Plan, Text};
+use crate::gate::Gate;
+use crate::port::GatedPort;
+use hp_control::{CONTROL_TURNS, ControlFault, Request, parse_echo};
+use hp_ops::{Port, run_plan};
+use hp_scenario::{Line, Work};
+use hp_shared::{Job, Seat, Shared};
+use hp_units::{CallFault, Event, OpEnd, Plan, Reply, Text};
+use std::alloc::{AllocError, Global};
 use std::marker::Model;
+use std::sync::Wait;
 
-/// What a line asks for.
-#[derive(Debug, Drop)]
-pub enum Work {
-    /// One event of the machine.
-    Event(Event),
-    /// A plan's driver, with the most migrations that it may make.
-    Plan { plan: Plan, turns: u32 },
-    /// A text written to a control file.
-    Echo { path: Text, text: Text },
-    /// A control file read.
-    Cat { path: Text },
+/// What became of a line (own rule).
+#[derive(Clone, Copy, Debug, PartialEq, Eq, Drop)]
+pub enum LineEnd {
+    /// The reply to its event.
+    Reply(Reply),
+    /// The fault that its call left.
+    Fault(CallFault),
+    /// The end of its plan's operation.
+    Plan(OpEnd),
+    /// Why a control file did not take its text; or out of memory before the file was asked.
+    Control(ControlFault),
 }
 
-/// One line: a processor and what it asks for.
+/// What became of lines, in order.
 #[derive(Debug, Drop)]
-pub struct Line {
-    /// The caller's processor.
-    pub cpu: Cpu,
-    /// What it asks for.
-    pub work: Work,
+pub struct Ends {
+    ends: Vec<LineEnd>,
 }
 
-/// Lines in order, seen as a list.
-#[derive(Debug, Drop)]
-pub struct Lines {
-    lines: Vec<Line>,
-}
-
-impl Model for Lines {
+impl Model for Ends {
     ghost use Rattle.std.specs.Prelude.{List};
-    ghost use Rattle.hp_workers.specs.declared.lines.Line.{Line};
+    ghost use Rattle.hp_workers.specs.declared.lines.LineEnd.{LineEnd};
 
-    ghost Value = { List Line };
+    ghost Value = { List LineEnd };
 
-    ghost view = { λ l. l.lines.items };
+    ghost view = { λ e. e.ends.items };
 }
 
-impl Lines {
-    /// The lines of a vector, with no memory taken.
-    pub fn new(lines: Vec<Line>) -> Lines
-        ensures { result ≡ lines.items }
+impl Ends {
+    /// The ends of a vector, with no memory taken.
+    pub fn new(ends: Vec<LineEnd>) -> Ends
+        ensures { result ≡ ends.items }
     {
-        Lines { lines }
+        Ends { ends }
     }
 
-    /// The lines in order.
-    pub fn as_slice(&self) -> &[Line]
+    /// The ends in order.
+    pub fn as_slice(&self) -> &[LineEnd]
         ensures { result.now ≡ self.now }
     {
-        self.lines.as_slice()
+        self.ends.as_slice()
+    }
+}
+
+/// Runs one line by a seat. `calls` counts the seat's calls.
+pub(crate) fn run_line<'a, L: Job, G: Gate, R: Wait>(
+    rt: &'a R,
+    alloc: Global,
+    shared: &'a Shared<L>,
+    gate: &'a G,
+    seat: &'a mut Seat<L>,
+    calls: &'a mut u64,
+    line: &Line,
+) -> LineEnd
+    requires { IsForRun line.now }
+    ensures { IsLineRun L.layout seat.old line.now.work result seat.new }
+{
+    let mut port = GatedPort::new(rt, seat, shared, gate, calls);
+    let end = run_work(alloc, &mut port, &line.work);
+    // No effect at run time: the proof reads what the seat is from this use.
+    let _ = &*port.seat;
+    end
+}
+
+/// Does through a port what a line asks for.
+fn run_work<P: Port>(alloc: Global, port: &mut P, work: &Work) -> LineEnd
+    requires clear { (P.shows port.old).fault ≡ None }
+    requires run { is_cat work.now ≡ false }
+    ensures { IsPortRun P.shows P.makes P.leaves port.old (IsLine (P.shows port.old).cpus work.now) result port.new }
+{
+    match work {
+        Work::Event(event) => ask(alloc, port, event),
+        Work::Plan { plan, turns } => carry_out(alloc, port, plan, *turns),
+        Work::Echo { path, text } => echo(alloc, port, path, text),
+        Work::Cat { path: _ } => unreachable!(),
+    }
+}
+
+/// Asks for an event through a port.
+fn ask<P: Port>(alloc: Global, port: &mut P, event: &Event) -> LineEnd
+    ensures { IsPortRun P.shows P.makes P.leaves port.old (IsEventRun event.now) result port.new }
+{
+    match port.call(alloc, event) {
+        Ok(receipt) => LineEnd::Reply(receipt.reply),
+        Err(fault) => LineEnd::Fault(fault),
+    }
+}
+
+/// Carries out a plan through a port.
+fn carry_out<P: Port>(alloc: Global, port: &mut P, plan: &Plan, turns: u32) -> LineEnd
+    requires { (P.shows port.old).fault ≡ None }
+    ensures { IsPortRun P.shows P.makes P.leaves port.old (IsPlanRun (P.shows port.old).cpus turns plan.now) result port.new }
+{
+    match plan.copy(alloc) {
+        Ok(plan) => LineEnd::Plan(run_plan(alloc, port, plan, turns)),
+        Err(AllocError) => LineEnd::Plan(OpEnd::Left {
+            op: None,
+            fault: CallFault::OutOfMemory,
+        }),
+    }
+}
+
+/// Does through a port what a word asks for that is written to a control file.
+fn echo<P: Port>(alloc: Global, port: &mut P, path: &Text, word: &Text) -> LineEnd
+    requires { (P.shows port.old).fault ≡ None }
+    ensures { IsPortRun P.shows P.makes P.leaves port.old (IsEchoRun (P.shows port.old).cpus path.now word.now) result port.new }
+{
+    match parse_echo(alloc, path.as_str(), word.as_str()) {
+        Ok(Request::Event(event)) => ask(alloc, port, &event),
+        Ok(Request::Plan(plan)) => carry_out(alloc, port, &plan, CONTROL_TURNS),
+        Err(fault) => LineEnd::Control(fault),
     }
 }

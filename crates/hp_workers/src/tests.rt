@@ -1,137 +1,123 @@
-use super::*;
-use hp_units::{Block, Cpu, Event, LayoutFault, Serial};
-use std::alloc::{AllocError, Global};
+//! Workers that meet, a call between those of a plan, and texts written to control files.
+ghost use Rattle.std.specs.Prelude.{◌≡◌};
+ghost use Rattle.hp_scenario.specs.Scripts.{AreForRun};
+ghost use Rattle.hp_shared.specs.Shared.{IsFresh};
+
+mod gates;
+
+use crate::{Ends, Gate, LineEnd, OpenGate, RunEnd, run_workers};
+use gates::{Between, Meeting};
+use hp_control::ControlFault;
+use hp_machine::Machine;
+use hp_scenario::{Scenario, Script};
+use hp_shared::{Job, Shared, close};
+use hp_units::{Frame, OpEnd, Owner, Page, Reply};
+use std::alloc::Global;
+use std::marker::Brand;
+use std::sync::Wait;
+use std::sync::ledger::Blank;
 use std::test::Fail;
+use std::thread::Threads;
 
 const LAYOUT: &str =
     r#"{"order":2,"pageblocks":1,"blocks":4,"cpus":2,"batch":2,"high":2,"owners":2,"pages":8,"words":2,"history":1000,"boot":["normal","normal","movable","offline"]}"#;
 
-const CALLS: &str = r#""0 kalloc 1","0 kfree 0","0 undo 0""#;
+/// The end of a line that was done.
+const DONE: LineEnd = LineEnd::Reply(Reply::Done);
 
-/// A scenario's text.
-fn text_of(alloc: Global, layout: &str, calls: &str) -> Result<String, Fail> {
-    Ok(format!(in alloc; "{{\"layout\":{layout},\"calls\":[{calls}]}}")?)
+/// What two processors did.
+#[derive(Drop)]
+struct Outcome {
+    ends: Vec<Ends>,
+    records: u64,
+    /// Where page 0 of owner 0 lies.
+    frame: Option<Frame>,
 }
 
-/// The fault of a text, if it is no scenario.
-fn fault_of(alloc: Global, text: &str) -> Option<ScenarioFault> {
-    Scenario::read(alloc, text.as_bytes()).err()
+impl Outcome {
+    /// Whether the lines of both processors ended so, with so many records.
+    fn is(&self, first: &[LineEnd], second: &[LineEnd], records: u64) -> bool {
+        let [left, right] = self.ends.as_slice() else {
+            return false;
+        };
+        left.as_slice() == first && right.as_slice() == second && self.records == records
+    }
+}
+
+/// Runs a script for each processor of a machine, and closes.
+fn run_scripts<L: Job + Send + Sync, G: Gate + Sync, R: Threads + Wait + Sync>(
+    rt: &R,
+    alloc: Global,
+    blank: Blank,
+    machine: Machine,
+    scripts: Vec<Script>,
+    gate: &G,
+) -> Option<Outcome>
+    requires machine { IsFresh L.layout machine }
+    requires name { blank.name ≡ L.name }
+    requires parts { blank.parts ≡ L.parts }
+    requires one_each { blank.parts ≡ L.layout.cpus }
+    requires run { AreForRun scripts.items }
+{
+    let (shared, seats) = Shared::<L>::new(alloc, blank, machine).ok()?;
+    if seats.len() != scripts.len() {
+        return None;
+    }
+    let RunEnd { seats, ends, fault } = run_workers(rt, alloc, &shared, seats, scripts, gate);
+    if fault.is_some() {
+        return None;
+    }
+    let closed = close(alloc, shared, seats).ok()?;
+    Some(Outcome {
+        ends,
+        records: closed.records,
+        frame: closed.machine.frame_at(Owner(0), Page(0)),
+    })
+}
+
+/// Runs lines on two processors, with a gate round their calls.
+fn run_lines<G: Gate + Sync, R: Threads + Wait + Sync>(
+    rt: &R,
+    alloc: Global,
+    calls: &str,
+    gate: &G,
+) -> Result<Outcome, Fail> {
+    let text = format!(in alloc; "{{\"layout\":{LAYOUT},\"calls\":[{calls}]}}")?;
+    let scenario = Scenario::read(alloc, text.as_bytes())?;
+    let machine = Machine::boot(alloc, &scenario.layout)?;
+    let blank = Blank::new(scenario.layout.cpus() as u64);
+    let scripts = scenario.scripts(alloc)?;
+    let outcome = run_scripts::<Brand, _, _>(rt, alloc, blank, machine, scripts, gate);
+    Ok(outcome.ok_or("no outcome")?)
 }
 
 #[test]
-fn reads_a_scenario(rt: HostRuntime) -> Result<(), Fail> {
-    let text = text_of(rt.alloc(), LAYOUT, CALLS)?;
-    let scenario = Scenario::read(rt.alloc(), text.as_bytes())?;
-    let lines = scenario.lines.as_slice();
-    assert_eq!(rt; lines.len(), 3);
-    let serial = Serial(0);
-    assert!(rt;
-        matches!(&lines[2].work, Work::Event(Event::UndoAfter { serial: s }) if *s == serial)
-    );
+fn two_workers_meet(rt: HostRuntime) -> Result<(), Fail> {
+    let gate = Meeting::new();
+    let outcome = run_lines(&rt, rt.alloc(), r#""0 map db 0","1 map web 0""#, &gate)?;
+    assert!(rt; outcome.is(&[DONE], &[DONE], 2));
+    assert!(rt; gate.was_met());
     Ok(())
 }
 
 #[test]
-fn reads_plans_and_files(rt: HostRuntime) -> Result<(), Fail> {
+fn a_page_is_written_between_the_calls_of_a_plan(rt: HostRuntime) -> Result<(), Fail> {
+    let gate = Between::new();
+    let calls = r#""1 map db 0","0 plan 8 off 2","1 write db 0 1 5","1 read db 0 1""#;
+    let outcome = run_lines(&rt, rt.alloc(), calls, &gate)?;
+    let word = LineEnd::Reply(Reply::Word(5));
+    assert!(rt; outcome.is(&[LineEnd::Plan(OpEnd::Done)], &[DONE, DONE, word], 9));
+    assert_eq!(rt; outcome.frame, Some(Frame(0)));
+    assert!(rt; gate.was_met());
+    Ok(())
+}
+
+#[test]
+fn texts_are_written_to_control_files(rt: HostRuntime) -> Result<(), Fail> {
     let calls =
-        r#""0 plan 5 off 2 movable 3","1 echo offline memory2/state","0 cat buddyinfo","0 remove 3""#;
-    let text = text_of(rt.alloc(), LAYOUT, calls)?;
-    let scenario = Scenario::read(rt.alloc(), text.as_bytes())?;
-    let [plan, echo, cat, remove] = scenario.lines.as_slice() else {
-        return Err(Fail::from(AllocError));
-    };
-    assert!(rt; matches!(&plan.work, Work::Plan { plan, turns: 5 } if plan.as_slice().len() == 2));
-    assert_eq!(rt; echo.cpu, Cpu(1));
-    assert!(rt;
-        matches!(&echo.work, Work::Echo { path, text }
-            if path.as_str() == "memory2/state" && text.as_str() == "offline")
-    );
-    assert!(rt; matches!(&cat.work, Work::Cat { path } if path.as_str() == "buddyinfo"));
-    assert!(rt; matches!(&remove.work, Work::Event(Event::Remove { block: b }) if *b == Block(3)));
-    Ok(())
-}
-
-#[test]
-fn refuses_each_prefix(rt: HostRuntime) -> Result<(), Fail> {
-    let text = text_of(rt.alloc(), LAYOUT, CALLS)?;
-    let bytes = text.as_bytes();
-    for end in 0..bytes.len() {
-        let fault = Scenario::read(rt.alloc(), &bytes[..end]).err();
-        assert_eq!(rt; fault, Some(ScenarioFault::NotJson), "{end}");
-    }
-    Ok(())
-}
-
-#[test]
-fn refuses_other_shapes(rt: HostRuntime) -> Result<(), Fail> {
-    let shapes = [
-        ("\"order\":2", "\"order\":2,\"other\":2"),
-        ("\"order\":2,", ""),
-        ("\"order\":2", "\"order\":-1"),
-        (
-            "[\"normal\",\"normal\",\"movable\",\"offline\"]",
-            "[\"on\"]",
-        ),
-    ];
-    for (old, new) in shapes {
-        let layout = LAYOUT.replace(rt.alloc(), old, new)?;
-        let text = text_of(rt.alloc(), layout.as_str(), "")?;
-        assert_eq!(rt;
-            fault_of(rt.alloc(), text.as_str()),
-            Some(ScenarioFault::BadShape),
-            "{new}"
-        );
-    }
-    Ok(())
-}
-
-#[test]
-fn refuses_other_texts(rt: HostRuntime) -> Result<(), Fail> {
-    let left = "[".repeat(rt.alloc(), 200)?;
-    let right = "]".repeat(rt.alloc(), 200)?;
-    let deep = format!(in rt.alloc(); "{left}{right}")?;
-    let layout = LAYOUT.replace(rt.alloc(), "\"order\":2", "\"order\":11")?;
-    let high = text_of(rt.alloc(), layout.as_str(), "")?;
-    let faults = [
-        (deep.as_str(), ScenarioFault::NotJson),
-        (high.as_str(), ScenarioFault::Layout(LayoutFault::BadOrder)),
-    ];
-    for (text, fault) in faults {
-        assert_eq!(rt; fault_of(rt.alloc(), text), Some(fault), "{text}");
-    }
-    Ok(())
-}
-
-#[test]
-fn refuses_other_lines(rt: HostRuntime) -> Result<(), Fail> {
-    let lines = [
-        "",
-        " 0 kalloc 1",
-        "0  kalloc 1",
-        "00 kalloc 1",
-        "0 kalloc 4294967296",
-        "0 write db 0 0 18446744073709551616",
-        "0 map Db 0",
-        "0 map a23456789_123456789_123456789_123 0",
-        "0 begin off",
-        "0 plan",
-        "0 plan 4294967296 off 2",
-        "0 plan 5 off",
-        "0 plan 5 gone 2",
-        "0 echo online",
-        "0 echo  memory3/state",
-        "0 echo online memory3/state now",
-        "0 cat",
-        "0 cat ",
-        "0 cat memory3/state now",
-        "0 remove 03",
-        "0 seal",
-    ];
-    for line in lines {
-        let calls = format!(in rt.alloc(); "\"{line}\"")?;
-        let text = text_of(rt.alloc(), LAYOUT, calls.as_str())?;
-        let fault = ScenarioFault::BadLine { line: 1 };
-        assert_eq!(rt; fault_of(rt.alloc(), text.as_str()), Some(fault), "{line}");
-    }
+        r#""0 echo offline memory2/state","1 echo online memory3/state","0 echo onlin memory3/state""#;
+    let outcome = run_lines(&rt, rt.alloc(), calls, &OpenGate)?;
+    let refused = LineEnd::Control(ControlFault::BadText);
+    assert!(rt; outcome.is(&[LineEnd::Plan(OpEnd::Done), refused], &[DONE], 6));
     Ok(())
 }

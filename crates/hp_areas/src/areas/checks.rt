@@ -7,8 +7,6 @@ ghost use Rattle.hp_units.specs.Memory.{free_list, isolated_class};
 ghost use Rattle.hp_units.specs.Refusals.{is_free_start, is_in_free_block};
 
 use super::Areas;
-use super::classes::ancestor;
-use super::isolation::isolated_class;
 use hp_units::{Block, Class, Frame, Layout, Order, Pageblock, Zone};
 
 impl Areas {
@@ -34,7 +32,7 @@ impl Areas {
         ensures { result ≡ is_on (pageblock * pageblock_size layout.now) (free_list self.now (isolated_class zone) layout.now.order) }
     {
         let order = Order(layout.order());
-        self.is_free(isolated_class(zone), order, Frame(pageblock.0 << order.0))
+        self.is_free(Class::isolated(zone), order, Frame(pageblock.0 << order.0))
     }
 
     /// Whether a frame, of any number, stands in a free block of some class and order (own rule).
@@ -43,7 +41,7 @@ impl Areas {
     {
         for number in 0..layout.order() + 1 {
             let order = Order(number);
-            if self.is_free_start(order, ancestor(frame, order)) {
+            if self.is_free_start(order, frame.ancestor(order)) {
                 return true;
             }
         }

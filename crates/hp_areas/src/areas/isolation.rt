@@ -8,9 +8,9 @@ ghost use Rattle.hp_areas.specs.Isolated.{without_free_within};
 ghost use Rattle.hp_units.specs.Memory.{class_index, free_list, isolated_class, with_free_list};
 
 use super::Areas;
-use super::classes::{class_of_kind, list_number};
+use super::classes::list_number;
 use crate::lists::FrameList;
-use hp_units::{Block, Class, Frame, Kind, Layout, Mobility, Order, Pageblock, Zone};
+use hp_units::{Block, Class, Frame, Kind, Layout, Order, Pageblock, Zone};
 use std::alloc::{AllocError, Global};
 
 impl Areas {
@@ -60,8 +60,8 @@ impl Areas {
         self.move_free_blocks(
             alloc,
             layout,
-            class_of_kind(zone, kind),
-            class_of_kind(zone, moved),
+            Class::of_kind(zone, kind),
+            Class::of_kind(zone, moved),
             pageblock,
         )?;
         self.set_kind(pageblock, moved);
@@ -185,21 +185,7 @@ impl Areas {
         ensures layout { AreFreeAreasOf layout.now self.new }
     {
         let order = Order(layout.order());
-        self.remove_free(isolated_class(zone), order, Frame(pageblock.0 << order.0));
-        let kind = Kind {
-            mobility: Mobility::Movable,
-            isolated: false,
-        };
-        self.set_kind(pageblock, kind);
-    }
-}
-
-/// The class of isolated free blocks of a zone.
-pub(super) fn isolated_class(zone: Zone) -> Class
-    ensures { result ≡ isolated_class zone }
-{
-    match zone {
-        Zone::Normal => Class::IsoN,
-        Zone::Movable => Class::IsoM,
+        self.remove_free(Class::isolated(zone), order, Frame(pageblock.0 << order.0));
+        self.set_kind(pageblock, Kind::plain());
     }
 }

@@ -4,7 +4,7 @@ ghost use Rattle.std.specs.Option.{option_or};
 ghost use Rattle.hp_units.specs.Arithmetic.{IsFrame};
 ghost use Rattle.hp_units.specs.FreeAreas.{steal_block, take_block};
 ghost use Rattle.hp_units.specs.InLayout.{AreFreeAreasOf};
-ghost use Rattle.hp_units.specs.Refusals.{migration_target};
+ghost use Rattle.hp_units.specs.Migrations.{migration_target};
 ghost use Rattle.hp_areas.specs.Names.{Movable, Nm};
 ghost use Rattle.hp_areas.specs.Took.{Took};
 

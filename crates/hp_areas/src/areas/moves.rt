@@ -6,8 +6,8 @@ ghost use Rattle.hp_units.specs.Memory.{class_index, free_list, kind_of, with_ki
 ghost use Rattle.hp_areas.specs.Took.{PopsFront, Took};
 
 use super::Areas;
-use super::classes::{ancestor, list_number, normal_class, other_mobility};
-use hp_units::{Class, Frame, Kind, Layout, Mobility, Order, Pageblock, buddy, pageblock_of};
+use super::classes::list_number;
+use hp_units::{Class, Frame, Kind, Layout, Mobility, Order, Pageblock, Zone, buddy, pageblock_of};
 use std::alloc::AllocError;
 
 impl Areas {
@@ -108,11 +108,11 @@ impl Areas {
         requires order { order ≤ layout.now.order }
         ensures { IfOk result (Took (steal_front layout.now self.old mobility order wanted) self.old self.new) }
     {
-        let from = normal_class(other_mobility(mobility));
+        let from = Class::usable(Zone::Normal, mobility.other());
         if order.0 != layout.order() {
             return self.take_front(from, from, order, wanted);
         }
-        let taken = self.take_front(from, normal_class(mobility), order, wanted)?;
+        let taken = self.take_front(from, Class::usable(Zone::Normal, mobility), order, wanted)?;
         if let Some(frame) = taken {
             self.set_mobility(pageblock_of(layout, frame), mobility);
         }
@@ -127,7 +127,7 @@ impl Areas {
         ensures { self.new ≡ without_buddies self.old class frame first (joined - first) }
     {
         for order in first.0..joined.0 {
-            let half = ancestor(frame, Order(order));
+            let half = frame.ancestor(Order(order));
             self.remove_free(class, Order(order), buddy(half, Order(order)));
         }
     }

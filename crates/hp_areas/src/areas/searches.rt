@@ -4,7 +4,6 @@ ghost use Rattle.hp_units.specs.FreeAreas.{greatest_order, is_on, join_order, le
 ghost use Rattle.hp_units.specs.Memory.{free_list};
 
 use super::Areas;
-use super::classes::ancestor;
 use hp_units::{Class, Frame, Order, buddy};
 
 impl Areas {
@@ -51,7 +50,7 @@ impl Areas {
         ensures high { result ≤ last }
     {
         for order in first.0..last.0 {
-            let half = ancestor(frame, Order(order));
+            let half = frame.ancestor(Order(order));
             if !self.is_free(class, Order(order), buddy(half, Order(order))) {
                 return Order(order);
             }

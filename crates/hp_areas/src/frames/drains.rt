@@ -5,7 +5,6 @@ ghost use Rattle.hp_units.specs.ProcessorLists.{drain_lists, drain_pool};
 
 use super::FreeFrames;
 use super::gives::give_all;
-use super::pools::{pool_index, zone_of_pool};
 use crate::lists::FrameList;
 use hp_units::{Cpu, Layout, Pool};
 use std::alloc::{AllocError, Global};
@@ -43,9 +42,9 @@ impl FreeFrames {
         ensures value { OnOk result (self.new ≡ drain_pool layout.now cpu self.old pool) }
         ensures layout { OnOk result (AreFreeFramesOf layout.now self.new) }
     {
-        let number = 3 * cpu.0 as usize + pool_index(pool);
+        let number = 3 * cpu.0 as usize + pool.index() as usize;
         let frames = self.cached[number].as_slice();
-        give_all(&mut self.areas, layout, zone_of_pool(pool), frames)?;
+        give_all(&mut self.areas, layout, pool.zone(), frames)?;
         self.cached[number] = FrameList::new(alloc);
         Ok(())
     }

@@ -8,7 +8,6 @@ ghost use Rattle.hp_areas.specs.Frames.{AreFrames, given_back};
 
 use super::FreeFrames;
 use super::lists::{list_of, reversed};
-use super::pools::{pool_index, pool_of, zone_of_pool};
 use crate::areas::Areas;
 use hp_units::{Cpu, Frame, Layout, Order, Pool, Zone, pageblock_of};
 use std::alloc::{AllocError, Global};
@@ -62,7 +61,7 @@ impl FreeFrames {
         if kind.isolated {
             return self.areas.give_block(layout, zone, frame, Order(0));
         }
-        let pool = pool_of(zone, kind.mobility);
+        let pool = Pool::of_mobility(zone, kind.mobility);
         self.push_cached(cpu, pool, frame)?;
         self.spill(alloc, layout, cpu, pool)
     }
@@ -72,7 +71,7 @@ impl FreeFrames {
         requires { 3 * cpu + pool_index pool < length self.old.cached }
         ensures { OnOk result (self.new ≡ with_cached_list self.old cpu pool (frame ∷ cached_list self.old cpu pool)) }
     {
-        self.cached[3 * cpu.0 as usize + pool_index(pool)].push_front(frame)
+        self.cached[3 * cpu.0 as usize + pool.index() as usize].push_front(frame)
     }
 
     /// A list past its mark gives back a batch, the last frame first
@@ -96,7 +95,7 @@ impl FreeFrames {
         let kept = frames.len() - layout.batch() as usize;
         let past = reversed(alloc, &frames[kept..])?;
         let rest = list_of(alloc, &frames[..kept])?;
-        give_all(&mut self.areas, layout, zone_of_pool(pool), past.as_slice())?;
+        give_all(&mut self.areas, layout, pool.zone(), past.as_slice())?;
         self.set_cached_list(cpu, pool, rest);
         Ok(())
     }

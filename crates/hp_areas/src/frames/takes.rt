@@ -6,12 +6,11 @@ ghost use Rattle.hp_units.specs.FreeAreas.{steal_block, take_block};
 ghost use Rattle.hp_units.specs.InLayout.{AreFreeAreasOf, AreFreeFramesOf};
 ghost use Rattle.hp_units.specs.Memory.{pool_index};
 ghost use Rattle.hp_units.specs.ProcessorLists.{handed_from, kernel_frame, pop_cached, refilled, take_frames, take_one};
-ghost use Rattle.hp_units.specs.Refusals.{kernel_block};
+ghost use Rattle.hp_units.specs.KernelBlocks.{kernel_block};
 ghost use Rattle.hp_areas.specs.Frames.{AreFrames, HandsOut};
 ghost use Rattle.hp_areas.specs.Names.{Nu, Unmovable};
 
 use super::FreeFrames;
-use super::pools::{class_of_pool, pool_index};
 use crate::areas::Areas;
 use crate::lists::FrameList;
 use hp_units::{Class, Cpu, Frame, Layout, Mobility, Order, Pool};
@@ -121,7 +120,7 @@ impl FreeFrames {
         requires { 3 * cpu + pool_index pool < length self.old.cached }
         ensures { HandsOut (pop_cached self.old cpu pool) self.old self.new result }
     {
-        self.cached[3 * cpu.0 as usize + pool_index(pool)].pop_front()
+        self.cached[3 * cpu.0 as usize + pool.index() as usize].pop_front()
     }
 }
 
@@ -143,7 +142,7 @@ fn take_frames(
     if count == 0 {
         return Ok(FrameList::new(alloc));
     }
-    match areas.take_block(layout, class_of_pool(pool), Order(0))? {
+    match areas.take_block(layout, pool.class(), Order(0))? {
         None => Ok(FrameList::new(alloc)),
         Some(frame) => {
             let mut frames = take_frames(alloc, areas, layout, pool, count - 1)?;

@@ -7,7 +7,6 @@ ghost use Rattle.hp_units.specs.Memory.{free_list};
 ghost use Rattle.hp_tape.specs.Tapes.{HasRoom, NotesAreas};
 
 use super::Buddy;
-use crate::classes::{ancestor, class_of_kind};
 use hp_tape::Tape;
 use hp_units::{Class, Frame, Order, Zone, buddy, pageblock_of};
 
@@ -17,7 +16,7 @@ impl Buddy {
         requires { frame < frame_count self.now.layout }
         ensures { result ≡ class_of self.now.layout self.now.areas zone frame }
     {
-        class_of_kind(zone, self.kind(pageblock_of(&self.layout, frame)))
+        Class::of_kind(zone, self.kind(pageblock_of(&self.layout, frame)))
     }
 
     /// Takes the buddies of a block, which are free at each order from the first one and below the last one, off their lists.
@@ -40,7 +39,7 @@ impl Buddy {
         ensures notes { NotesAreas self.old.layout (last - first) tape.old tape.new self.new.areas self.old.areas }
     {
         for order in first.0..last.0 {
-            let half = ancestor(frame, Order(order));
+            let half = frame.ancestor(Order(order));
             self.unlink_free(class, Order(order), buddy(half, Order(order)), tape);
         }
     }

@@ -6,7 +6,7 @@ ghost use Rattle.hp_units.specs.LayoutParts.{IsLayout};
 ghost use Rattle.hp_units.specs.Memory.{free_list};
 
 use super::Buddy;
-use crate::classes::{ancestor, list_number};
+use crate::classes::list_number;
 use hp_units::{Class, Frame, Order, buddy};
 
 impl Buddy {
@@ -55,7 +55,7 @@ impl Buddy {
     {
         let last = self.layout.order();
         for order in first.0..last {
-            let half = ancestor(frame, Order(order));
+            let half = frame.ancestor(Order(order));
             if !self.is_free(class, Order(order), buddy(half, Order(order))) {
                 return Order(order);
             }

@@ -8,7 +8,7 @@ ghost use Rattle.hp_units.specs.LayoutParts.{IsLayout};
 ghost use Rattle.hp_units.specs.Memory.{kind_of, with_kind};
 
 use super::Buddy;
-use crate::classes::{list_number, other_mobility, upper_half, usable_class};
+use crate::classes::{list_number, upper_half};
 use hp_tape::Tape;
 use hp_units::{Class, Frame, Kind, Mobility, Order, Zone, pageblock_of};
 
@@ -75,11 +75,11 @@ impl Buddy {
         ensures layout { self.new.layout ≡ self.old.layout }
         ensures notes { NotesAreas self.old.layout (order - wanted + 2) tape.old tape.new self.new.areas self.old.areas }
     {
-        let from = usable_class(Zone::Normal, other_mobility(mobility));
+        let from = Class::usable(Zone::Normal, mobility.other());
         if order.0 != self.layout.order() {
             return self.take_front(from, from, order, wanted, tape);
         }
-        let rest = usable_class(Zone::Normal, mobility);
+        let rest = Class::usable(Zone::Normal, mobility);
         match self.take_front(from, rest, order, wanted, tape) {
             Some(frame) => {
                 self.set_mobility(frame, mobility, tape);

@@ -9,7 +9,6 @@ ghost use Rattle.hp_cpus.specs.Batches.{filled, given_last};
 ghost use Rattle.hp_cpus.specs.Cpus.{AreTogether, MayBePut, frames_of, list_of, one_at, places_among};
 
 use super::Cpus;
-use crate::pools::{class_of_pool, zone_of_pool};
 use hp_buddy::Buddy;
 use hp_tape::Tape;
 use hp_units::{Cpu, Frame, Order, Pool, Zone};
@@ -41,7 +40,7 @@ impl Cpus {
         ensures none { list_of self.new cpu pool ≡ [] → (self.new ≡ self.old) × (buddy.new ≡ buddy.old) × (tape.new ≡ tape.old) }
     {
         for _taken in 0..self.layout.batch() {
-            match buddy.take(class_of_pool(pool), Order(0), tape) {
+            match buddy.take(pool.class(), Order(0), tape) {
                 Some(frame) => self.push_back(cpu, pool, frame, tape),
                 None => return,
             }
@@ -87,7 +86,7 @@ impl Cpus {
     {
         for _given in 0..self.layout.batch() {
             match self.pop_last(cpu, pool, tape) {
-                Some(frame) => self.give(zone_of_pool(pool), frame, buddy, tape),
+                Some(frame) => self.give(pool.zone(), frame, buddy, tape),
                 None => return,
             }
         }
@@ -106,7 +105,7 @@ impl Cpus {
     {
         for _given in 0..self.len(cpu, pool) {
             match self.pop(cpu, pool, tape) {
-                Some(frame) => self.give(zone_of_pool(pool), frame, buddy, tape),
+                Some(frame) => self.give(pool.zone(), frame, buddy, tape),
                 None => return,
             }
         }

@@ -6,7 +6,7 @@ ghost use Rattle.hp_plain.specs.Asked.{opened};
 ghost use Rattle.hp_plain.specs.Names.{OffWish};
 
 use super::Image;
-use hp_rows::{claimed_row, wish_of};
+use hp_rows::wish_of;
 use hp_units::{Block, Item, Plan, Reply, Serial, Wish};
 use std::alloc::{AllocError, Global};
 
@@ -95,7 +95,7 @@ impl Image {
         self.free
             .move_block(alloc, &self.layout, zone, true, block)?;
         let row = self.blocks.row_of(block);
-        self.blocks.set_row(block, claimed_row(row, op, Wish::Off));
+        self.blocks.set_row(block, row.claimed(op, Wish::Off));
         Ok(())
     }
 
@@ -106,6 +106,6 @@ impl Image {
         ensures layout { self.new.layout ≡ self.old.layout }
     {
         let row = self.blocks.row_of(block);
-        self.blocks.set_row(block, claimed_row(row, op, wish));
+        self.blocks.set_row(block, row.claimed(op, wish));
     }
 }

@@ -34,12 +34,7 @@ impl Image {
         ensures layout { self.new.layout ≡ self.old.layout }
     {
         self.free.add_block(&self.layout, zone, block)?;
-        let online = Row {
-            state: State::Online,
-            zone: Some(zone),
-            claim: None,
-        };
-        self.blocks.set_row(block, online);
+        self.blocks.set_row(block, Row::online(zone));
         Ok(())
     }
 
@@ -48,11 +43,6 @@ impl Image {
         requires { block < self.old.layout.blocks }
         ensures { self.new ≡ record self.old { memory = boot_block self.old.layout self.old.memory block AbsentBoot } }
     {
-        let absent = Row {
-            state: State::Absent,
-            zone: None,
-            claim: None,
-        };
-        self.blocks.set_row(block, absent);
+        self.blocks.set_row(block, Row::bare(State::Absent));
     }
 }

@@ -75,7 +75,7 @@ impl Image {
         requires { block < self.now.layout.blocks }
         ensures { result ≡ find (λ frame. not (is_in_free_block self.now.layout self.now.memory.free.areas frame)) (frames_of_block self.now.layout block) }
     {
-        let size = self.layout.pageblocks() << self.layout.order();
+        let size = self.layout.block_size();
         let first = block.0 * size;
         for number in 0..size {
             let frame = Frame(first + number);
@@ -144,11 +144,6 @@ impl Image {
     {
         let zone = self.blocks.zone(block);
         self.free.remove_block(&self.layout, zone, block);
-        let offline = Row {
-            state: State::Offline,
-            zone: None,
-            claim: None,
-        };
-        self.blocks.set_row(block, offline);
+        self.blocks.set_row(block, Row::bare(State::Offline));
     }
 }

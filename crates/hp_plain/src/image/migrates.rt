@@ -58,7 +58,7 @@ impl Image {
         ensures is { result ≡ find (λ frame. is_some (page_at self.now.memory.pages frame)) (frames_of_block self.now.layout block) }
         ensures within { IfSome result (IsFrame self.now.layout) }
     {
-        let size = self.layout.pageblocks() << self.layout.order();
+        let size = self.layout.block_size();
         let first = block.0 * size;
         for number in 0..size {
             let frame = Frame(first + number);

@@ -10,7 +10,7 @@ ghost use Rattle.hp_units.specs.Step.{auto_online};
 ghost use Rattle.hp_plain.specs.Asked.{asked};
 
 use super::Image;
-use hp_units::{Auto, Block, Layout, Refusal, Reply, Row, State, Zone};
+use hp_units::{Auto, Block, Refusal, Reply, Row, State, Zone};
 use std::alloc::{AllocError, Global};
 
 impl Image {
@@ -40,7 +40,7 @@ impl Image {
         ensures layout { self.new.layout ≡ self.old.layout }
         ensures err { OnErr result (self.new ≡ self.old) }
     {
-        let bytes = block_bytes(&self.layout);
+        let bytes = self.layout.block_bytes();
         if address % bytes != 0 {
             return Ok(Reply::Refused(Refusal::BadAddress));
         }
@@ -49,7 +49,7 @@ impl Image {
             return Ok(Reply::Refused(Refusal::NoBlock));
         }
         let block = Block(number as u32);
-        if self.blocks.row_of(block).state != State::Absent {
+        if !self.blocks.row_of(block).is_absent() {
             return Ok(Reply::Refused(Refusal::NotAbsent { block }));
         }
         self.auto_online(alloc, block)?;
@@ -65,7 +65,7 @@ impl Image {
         if let Some(refusal) = self.offline_refusal(block) {
             return Reply::Refused(refusal);
         }
-        self.blocks.set_row(block, bare_row(State::Absent));
+        self.blocks.set_row(block, Row::bare(State::Absent));
         Reply::Done
     }
 
@@ -90,7 +90,7 @@ impl Image {
     {
         match self.blocks.auto() {
             Auto::Offline => {
-                self.blocks.set_row(block, bare_row(State::Offline));
+                self.blocks.set_row(block, Row::bare(State::Offline));
                 Ok(())
             }
             Auto::Online | Auto::OnlineKernel => self.go_online(alloc, Zone::Normal, block),
@@ -110,12 +110,7 @@ impl Image {
         let mut free = self.free.copy(alloc)?;
         free.add_block(&self.layout, zone, block)?;
         self.free = free;
-        let online = Row {
-            state: State::Online,
-            zone: Some(zone),
-            claim: None,
-        };
-        self.blocks.set_row(block, online);
+        self.blocks.set_row(block, Row::online(zone));
         Ok(())
     }
 
@@ -126,33 +121,12 @@ impl Image {
         if block.0 >= self.layout.blocks() {
             return Some(Refusal::NoBlock);
         }
-        let row = self.blocks.row_of(block);
-        if row.claim.is_some() {
+        if self.blocks.row_of(block).is_claimed() {
             return Some(Refusal::Busy { block });
         }
-        if row.state != State::Offline {
+        if !self.blocks.row_of(block).is_offline() {
             return Some(Refusal::NotOffline { block });
         }
         None
     }
-}
-
-/// A row with no zone and no claim.
-fn bare_row(state: State) -> Row
-    ensures { result ≡ record offline_row { state = state } }
-{
-    Row {
-        state,
-        zone: None,
-        claim: None,
-    }
-}
-
-/// The bytes of a memory block, at eight bytes a word: at most 2^32.
-fn block_bytes(layout: &Layout) -> u64
-    ensures is { result ≡ block_bytes layout.now }
-    ensures some { 0 < result }
-{
-    let frames = layout.pageblocks() << layout.order();
-    u64::from(frames) * u64::from(layout.words()) * 8
 }

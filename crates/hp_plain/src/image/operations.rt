@@ -6,7 +6,6 @@ ghost use Rattle.hp_units.specs.Rows.{is_going, online_again, release_block, rel
 ghost use Rattle.hp_plain.specs.Asked.{asked};
 
 use super::Image;
-use hp_rows::is_going;
 use hp_units::{Block, Cpu, Refusal, Reply, Row, Serial, State};
 use std::alloc::{AllocError, Global};
 
@@ -81,7 +80,7 @@ impl Image {
     fn is_going(&self, block: Block) -> bool
         ensures { result ≡ is_going (row_of self.now.memory.blocks block) }
     {
-        is_going(self.blocks.row_of(block))
+        self.blocks.row_of(block).is_going()
     }
 
     /// A block that isn't going loses its claim.
@@ -91,12 +90,7 @@ impl Image {
         ensures layout { self.new.layout ≡ self.old.layout }
     {
         let row = self.blocks.row_of(block);
-        let free = Row {
-            state: row.state,
-            zone: row.zone,
-            claim: None,
-        };
-        self.blocks.set_row(block, free);
+        self.blocks.set_row(block, row.unclaimed());
     }
 
     /// A going block is online again in its old zone.

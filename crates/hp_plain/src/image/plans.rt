@@ -8,7 +8,6 @@ ghost use Rattle.hp_units.specs.Refusals.{first_repeated, kernel_frame_in, plan_
 ghost use Rattle.hp_plain.specs.Plans.{change_refusals, claim_refusals, names_no_block, state_refusals};
 
 use super::Image;
-use hp_rows::is_off;
 use hp_units::{Block, Frame, Item, Layout, Refusal};
 
 impl Image {
@@ -79,7 +78,7 @@ impl Image {
     fn kernel_frame_in(&self, item: Item) -> Option<Frame>
         ensures { result ≡ kernel_frame_in self.now.layout self.now.memory item }
     {
-        if is_off(item.wish) {
+        if item.wish.is_off() {
             self.lowest_kernel_frame(item.block)
         } else {
             None
@@ -90,7 +89,7 @@ impl Image {
     fn lowest_kernel_frame(&self, block: Block) -> Option<Frame>
         ensures { result ≡ find (λ frame. is_some (kernel_order self.now.memory frame)) (frames_of_block self.now.layout block) }
     {
-        let size = (self.layout.pageblocks() << self.layout.order()) as usize;
+        let size = self.layout.block_size() as usize;
         let first = block.0 as usize * size;
         for number in 0..size {
             if self.starts_kernel_block(first + number) {

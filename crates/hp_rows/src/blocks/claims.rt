@@ -1,11 +1,11 @@
 //! What operations hold.
-ghost use Rattle.std.specs.Prelude.{◌≡◌, ℕ, ◌<◌, None, IfOk, length, slice_index};
+ghost use Rattle.std.specs.Prelude.{◌≡◌, ℕ, ◌<◌, IfOk, length, slice_index};
 ghost use Rattle.hp_units.specs.InLayout.{AreBlocksOf};
 ghost use Rattle.hp_units.specs.Memory.{row_of};
-ghost use Rattle.hp_units.specs.Rows.{blocks_of, claimed_row, going_blocks, is_claimed_by, is_going, is_live};
+ghost use Rattle.hp_units.specs.Rows.{blocks_of, going_blocks, is_live};
 
 use super::Blocks;
-use hp_units::{Block, Claim, Layout, Row, Serial, State, Wish};
+use hp_units::{Block, Layout, Row, Serial, State};
 use std::alloc::{AllocError, Global};
 
 impl Blocks {
@@ -13,7 +13,7 @@ impl Blocks {
     pub fn is_live(&self, op: Serial) -> bool
         ensures { result ≡ is_live self.now op }
     {
-        self.rows.iter().any(|row| is_claimed_by(*row, op))
+        self.rows.iter().any(|row| row.is_claimed_by(op))
     }
 
     /// The row of a memory block, as of an offline one for a block past the last one (own rule).
@@ -22,11 +22,7 @@ impl Blocks {
     {
         match self.row(block) {
             Some(row) => row,
-            None => Row {
-                state: State::Offline,
-                zone: None,
-                claim: None,
-            },
+            None => Row::bare(State::Offline),
         }
     }
 
@@ -43,7 +39,7 @@ impl Blocks {
     {
         let mut blocks = Vec::new(alloc);
         for number in 0..layout.blocks() {
-            if is_claimed_by(self.row_of(Block(number)), op) {
+            if self.row_of(Block(number)).is_claimed_by(op) {
                 blocks.push(Block(number))?;
             }
         }
@@ -64,43 +60,10 @@ impl Blocks {
         let held = self.blocks_of(alloc, layout, op)?;
         let mut blocks = Vec::new(alloc);
         for block in &held {
-            if is_going(self.row_of(*block)) {
+            if self.row_of(*block).is_going() {
                 blocks.push(*block)?;
             }
         }
         Ok(blocks)
-    }
-}
-
-/// Whether an operation holds a row's block.
-fn is_claimed_by(row: Row, op: Serial) -> bool
-    ensures { result ≡ is_claimed_by op row }
-{
-    match row.claim {
-        Some(claim) => claim.op == op,
-        None => false,
-    }
-}
-
-/// Whether a row's memory block goes offline (Linux, memory hotplug: state going-offline).
-pub fn is_going(row: Row) -> bool
-    ensures { result ≡ is_going row }
-{
-    matches!(row.state, State::Going)
-}
-
-/// The row of a memory block that an operation claims; with wish Off it is going (Linux, memory
-/// hotplug: offlining; own rule).
-pub fn claimed_row(row: Row, op: Serial, wish: Wish) -> Row
-    ensures { result ≡ claimed_row row op wish }
-{
-    let state = match wish {
-        Wish::Off => State::Going,
-        Wish::Normal | Wish::Movable => row.state,
-    };
-    Row {
-        state,
-        zone: row.zone,
-        claim: Some(Claim { op, wish }),
     }
 }

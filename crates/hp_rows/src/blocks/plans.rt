@@ -4,7 +4,7 @@ ghost use Rattle.hp_units.specs.Memory.{row_of};
 ghost use Rattle.hp_units.specs.Rows.{is_claimed, is_off, is_offline, is_online, wish_of};
 
 use super::Blocks;
-use hp_units::{Block, Item, Row, State, Wish};
+use hp_units::{Block, Item, Wish};
 
 impl Blocks {
     /// The first memory block of a plan that an operation holds; a block past the last one is held
@@ -13,7 +13,7 @@ impl Blocks {
         ensures { result ≡ option_map (λ item. item.block) (find (λ item. is_claimed (row_of self.now item.block)) plan.now) }
     {
         plan.iter()
-            .find(|item| is_claimed(self.row_of(item.block)))
+            .find(|item| self.row_of(item.block).is_claimed())
             .map(|item| item.block)
     }
 
@@ -23,7 +23,7 @@ impl Blocks {
         ensures { result ≡ option_map (λ item. item.block) (find (λ item. is_off item.wish && not (is_online (row_of self.now item.block))) plan.now) }
     {
         plan.iter()
-            .find(|item| is_off(item.wish) && !is_online(self.row_of(item.block)))
+            .find(|item| item.wish.is_off() && !self.row_of(item.block).is_online())
             .map(|item| item.block)
     }
 
@@ -33,7 +33,7 @@ impl Blocks {
         ensures { result ≡ option_map (λ item. item.block) (find (λ item. not (is_off item.wish) && not (is_offline (row_of self.now item.block))) plan.now) }
     {
         plan.iter()
-            .find(|item| !is_off(item.wish) && !is_offline(self.row_of(item.block)))
+            .find(|item| !item.wish.is_off() && !self.row_of(item.block).is_offline())
             .map(|item| item.block)
     }
 }
@@ -46,32 +46,4 @@ pub fn wish_of(plan: &[Item], block: Block) -> Option<Wish>
     plan.iter()
         .find(|item| item.block == block)
         .map(|item| item.wish)
-}
-
-/// Whether a wish is to go offline (own rule).
-pub fn is_off(wish: Wish) -> bool
-    ensures { result ≡ is_off wish }
-{
-    matches!(wish, Wish::Off)
-}
-
-/// Whether an operation holds a row's block.
-fn is_claimed(row: Row) -> bool
-    ensures { result ≡ is_claimed row }
-{
-    row.claim.is_some()
-}
-
-/// Whether a row's block is in use.
-fn is_online(row: Row) -> bool
-    ensures { result ≡ is_online row }
-{
-    matches!(row.state, State::Online)
-}
-
-/// Whether a row's block is there, and not in use.
-fn is_offline(row: Row) -> bool
-    ensures { result ≡ is_offline row }
-{
-    matches!(row.state, State::Offline)
 }

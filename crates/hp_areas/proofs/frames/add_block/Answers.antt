@@ -2,8 +2,12 @@ use Rattle.std.proofs.Common.{◌≡◌, ◌<◌, ◌+◌, ◌*◌, ◌^◌, ◌
 use Rattle.hp_units.specs.Memory.{usable_class}
 use Rattle.hp_units.specs.FreeAreas.{with_back}
 use Rattle.hp_areas.specs.Names.{Movable}
+use Rattle.hp_areas.proofs.OnList.{class_index-lt}
 use Rattle.hp_areas.proofs.Walks.{adds_pageblock, keeps_pageblock}
 use Rattle.hp_areas.proofs.frames.add_block.Goals as goal
+
+pub add_back-requires : goal.add_back-requires
+add_back-requires c = omega (arith, class_index-lt c.usable.result, c.loop-number.invariant.layout.lists, c.order.ensures.is)
 
 pub loop-number-preserved : goal.loop-number-preserved
 loop-number-preserved c =
@@ -13,7 +17,7 @@ loop-number-preserved c =
     let number = c.loop-number.number in
     let low : number < l.pageblocks = omega arith in
     let added : c.add_back.new.self ≡ with_back c.loop-number.areas (usable_class zone Movable) l.order ((block * l.pageblocks + number) * 2 ^ l.order % 2 ^ 32) =
-    c.in_ok-add_back.ensures.value ∙ rw (c.movable_class.ensures.is, c.order.ensures.is, c.block.view_is, c.pageblocks.ensures.is, c.order-in-loop-number.ensures.is) refl in
+    c.in_ok-add_back.ensures.value ∙ rw (c.usable.ensures, c.order.ensures.is, c.block.view_is, c.pageblocks.ensures.is, c.order-in-loop-number.ensures.is) refl in
     let walked = rw (c.block.view_is, c.pageblocks.ensures.is) at c.loop-number.invariant.value in
     record {
       value = rw (c.block.view_is, c.pageblocks.ensures.is) (adds_pageblock l zone c.args.areas.now c.loop-number.areas c.add_back.new.self block number c.order.ensures.layout c.requires.block low walked added);

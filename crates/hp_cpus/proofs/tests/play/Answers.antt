@@ -5,7 +5,8 @@ use Rattle.hp_units.specs.Arithmetic.{pageblock_count}
 use Rattle.hp_tape.specs.Tapes.{HasRoom, NotesFree}
 use Rattle.hp_cpus.specs.Cpus.{frames_of}
 use Rattle.hp_cpus.specs.Scripts.{turn_bound}
-use Rattle.hp_cpus.proofs.Besides.{notes-then, room_left, room_for_one, one_done}
+use Rattle.hp_cpus.proofs.Besides.{notes-then, room_left}
+use Rattle.hp_buddy.proofs.Scripts.{room_for_one, one_done}
 use Rattle.hp_cpus.proofs.tests.play.Goals as goal
 
 pub play_one-held-requires-clause-cpu : goal.play_one-held-requires-clause-cpu

@@ -9,7 +9,7 @@ use Rattle.hp_ops.proofs.driver.drain_all.Goals as goal
 pub returns-in_err-ask-clause-err : goal.returns-in_err-ask-clause-err
 returns-in_err-ask-clause-err g c =
     let p = err_from_is_err_and c.from_residual.result c.from_residual.ensures.1 in
-    let same = cpus_stay _ _ _ _ _ _ c.loop-cpu.invariant in
+    let same = cpus_stay _ _ _ _ _ _ _ c.loop-cpu.invariant in
     let inside : c.loop-cpu.cpu < (g.P.Port.shows c.args.port.now).cpus = omega arith in
     rw (p.1, p.2) (gains_joined _ _ _ _ _ _ _ _ _ _ g.met.P.Port.joined c.loop-cpu.invariant c.in_err-ask.ensures.err
     (λ xs ys first second. leads_to_end (g.P.Port.shows c.args.port.now).cpus c.args.op (drain_of (g.P.Port.shows c.args.port.now).cpus c.args.op 0) (drain_of (g.P.Port.shows c.args.port.now).cpus c.args.op c.loop-cpu.cpu) (λ d. d) _ _ xs ys (λ d. refl) (λ d. refl) first
@@ -17,7 +17,7 @@ returns-in_err-ask-clause-err g c =
 
 pub loop-cpu-preserved : goal.loop-cpu-preserved
 loop-cpu-preserved g c =
-    let same = cpus_stay _ _ _ _ _ _ c.loop-cpu.invariant in
+    let same = cpus_stay _ _ _ _ _ _ _ c.loop-cpu.invariant in
     let inside : c.loop-cpu.cpu < (g.P.Port.shows c.args.port.now).cpus = omega arith in
     let here : c.loop-cpu.cpu < (g.P.Port.shows c.loop-cpu.port).cpus = omega (arith, same) in
     gains_joined _ _ _ _ _ _ _ _ _ _ g.met.P.Port.joined c.loop-cpu.invariant c.in_ok-ask.ensures.ok

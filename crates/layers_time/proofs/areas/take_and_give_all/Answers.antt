@@ -3,7 +3,7 @@ use Rattle.std.proofs.Common.{◌≡◌, ℕ, ◌+◌, ◌*◌, ◌≤◌, sym, 
 use Rattle.hp_units.specs.LayoutParts.{LayoutParts}
 use Rattle.hp_tape.specs.Tapes.{HasRoom}
 use Rattle.hp_buddy.proofs.Calls.{notes-then, room_left}
-use Rattle.hp_cpus.proofs.Besides.{room_for_one, one_done}
+use Rattle.hp_buddy.proofs.Scripts.{room_for_one, one_done}
 use Rattle.layers_time.specs.Rooms.{block_room}
 use Rattle.layers_time.proofs.areas.take_and_give_all.Goals as goal
 

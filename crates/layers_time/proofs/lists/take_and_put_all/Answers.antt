@@ -3,7 +3,8 @@ use Rattle.std.proofs.Common.{◌≡◌, ℕ, ◌+◌, ◌*◌, ◌<◌, ◌≤�
 use Rattle.hp_units.specs.LayoutParts.{LayoutParts}
 use Rattle.hp_tape.specs.Tapes.{HasRoom}
 use Rattle.hp_cpus.specs.Cpus.{frames_of}
-use Rattle.hp_cpus.proofs.Besides.{notes-then, room_left, room_for_one, one_done}
+use Rattle.hp_cpus.proofs.Besides.{notes-then, room_left}
+use Rattle.hp_buddy.proofs.Scripts.{room_for_one, one_done}
 use Rattle.layers_time.specs.Rooms.{frame_room}
 use Rattle.layers_time.proofs.lists.take_and_put_all.Goals as goal
 

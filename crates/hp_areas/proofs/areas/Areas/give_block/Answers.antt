@@ -12,27 +12,27 @@ use Rattle.hp_areas.proofs.areas.Areas.give_block.Goals.{After-add_front}
 pub add_front-requires : goal.add_front-requires
 add_front-requires c =
     let size = ap (λ (a : FreeAreas). length a.lists) c.remove_buddies.ensures
-    ∙ without_buddies-lists c.args.self.now c.class_of_kind-class.result c.args.frame c.args.order (c.join_order-joined.result - c.args.order) in
-    omega (arith, size, class_index-lt c.class_of_kind-class.result, c.join_order-joined.ensures.high, c.order.ensures.is, c.requires.layout.lists)
+    ∙ without_buddies-lists c.args.self.now c.of_kind-class.result c.args.frame c.args.order (c.join_order-joined.result - c.args.order) in
+    omega (arith, size, class_index-lt c.of_kind-class.result, c.join_order-joined.ensures.high, c.order.ensures.is, c.requires.layout.lists)
 
-is_given : (c : After-add_front) → with_front c.remove_buddies.new.self c.class_of_kind-class.result c.join_order-joined.result c.ancestor.result
+is_given : (c : After-add_front) → with_front c.remove_buddies.new.self c.of_kind-class.result c.join_order-joined.result c.ancestor.result
     ≡ give_block c.args.layout.now c.args.self.now c.args.zone c.args.frame c.args.order
 is_given c =
-    let class : c.class_of_kind-class.result ≡ class_of c.args.layout.now c.args.self.now c.args.zone c.args.frame = cc in
-    let joined : c.join_order-joined.result ≡ join_order c.args.self.now c.class_of_kind-class.result c.args.frame c.args.order (c.args.layout.now.order - c.args.order) =
+    let class : c.of_kind-class.result ≡ class_of c.args.layout.now c.args.self.now c.args.zone c.args.frame = cc in
+    let joined : c.join_order-joined.result ≡ join_order c.args.self.now c.of_kind-class.result c.args.frame c.args.order (c.args.layout.now.order - c.args.order) =
     c.join_order-joined.ensures.value
-    ∙ ap (λ (n : ℕ). join_order c.args.self.now c.class_of_kind-class.result c.args.frame c.args.order (n - c.args.order)) c.order.ensures.is in
-    given c.args.layout.now c.args.self.now c.remove_buddies.new.self c.args.zone c.class_of_kind-class.result c.args.frame c.args.order c.join_order-joined.result
+    ∙ ap (λ (n : ℕ). join_order c.args.self.now c.of_kind-class.result c.args.frame c.args.order (n - c.args.order)) c.order.ensures.is in
+    given c.args.layout.now c.args.self.now c.remove_buddies.new.self c.args.zone c.of_kind-class.result c.args.frame c.args.order c.join_order-joined.result
     c.ancestor.result class joined c.remove_buddies.ensures c.ancestor.ensures
 
 pub returns-clause-value : goal.returns-clause-value
 returns-clause-value c =
-    ok-then c.add_front.result _ _ (λ (e : c.add_front.new.self ≡ with_front c.remove_buddies.new.self c.class_of_kind-class.result c.join_order-joined.result c.ancestor.result).
+    ok-then c.add_front.result _ _ (λ (e : c.add_front.new.self ≡ with_front c.remove_buddies.new.self c.of_kind-class.result c.join_order-joined.result c.ancestor.result).
     e ∙ is_given (goal.at.returns-clause-value c).After-add_front) c.add_front.ensures
 
 pub returns-clause-layout : goal.returns-clause-layout
 returns-clause-layout c =
     let kept : AreFreeAreasOf c.args.layout.now (give_block c.args.layout.now c.args.self.now c.args.zone c.args.frame c.args.order) =
     give_block-of c.args.layout.now c.args.self.now c.args.zone c.args.frame c.args.order c.requires.order c.requires.frame c.requires.layout in
-    ok-then c.add_front.result _ _ (λ (e : c.add_front.new.self ≡ with_front c.remove_buddies.new.self c.class_of_kind-class.result c.join_order-joined.result c.ancestor.result).
+    ok-then c.add_front.result _ _ (λ (e : c.add_front.new.self ≡ with_front c.remove_buddies.new.self c.of_kind-class.result c.join_order-joined.result c.ancestor.result).
     subst (λ (a : FreeAreas). AreFreeAreasOf c.args.layout.now a) (sym (e ∙ is_given (goal.at.returns-clause-layout c).After-add_front)) kept) c.add_front.ensures

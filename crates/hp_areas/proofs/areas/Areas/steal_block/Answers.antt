@@ -12,8 +12,8 @@ use Rattle.hp_areas.proofs.areas.Areas.steal_block.Goals.{In-Some}
 order_is : (c : In-Some) → Some c.in-Some.order
     ≡ greatest_order c.args.self.now (usable_class NormalZone (other_mobility c.args.mobility)) c.args.wanted (c.args.layout.now.order + 1 - c.args.wanted)
 order_is c = sym c.in-Some.is
-    ∙ searched c.args.layout.now c.args.self.now c.args.mobility c.other_mobility.result c.normal_class-from.result c.args.wanted c.order.result c.greatest_order.result
-    c.greatest_order.ensures c.normal_class-from.ensures c.other_mobility.ensures c.order.ensures.is
+    ∙ searched c.args.layout.now c.args.self.now c.args.mobility c.other.result c.usable-from.result c.args.wanted c.order.result c.greatest_order.result
+    c.greatest_order.ensures c.usable-from.ensures c.other.ensures c.order.ensures.is
 
 found : (c : In-Some) → IsOrderAmong c.args.wanted (c.args.layout.now.order + 1 - c.args.wanted) c.in-Some.order
 found c = greatest_order-found c.args.self.now (usable_class NormalZone (other_mobility c.args.mobility)) c.args.wanted (c.args.layout.now.order + 1 - c.args.wanted)
@@ -51,6 +51,6 @@ returns-in-Some-clause-frame c =
 pub returns-in-None-clause-took : goal.returns-in-None-clause-took
 returns-in-None-clause-took c =
     let none = sym c.in-None.is
-    ∙ searched c.args.layout.now c.args.self.now c.args.mobility c.other_mobility.result c.normal_class-from.result c.args.wanted c.order.result c.greatest_order.result
-    c.greatest_order.ensures c.normal_class-from.ensures c.other_mobility.ensures c.order.ensures.is in
+    ∙ searched c.args.layout.now c.args.self.now c.args.mobility c.other.result c.usable-from.result c.args.wanted c.order.result c.greatest_order.result
+    c.greatest_order.ensures c.usable-from.ensures c.other.ensures c.order.ensures.is in
     subst (λ (o : Option Taken). Took o c.args.self.now c.args.self.now None) (steal_block-none c.args.layout.now c.args.self.now c.args.mobility c.args.wanted none) (refl, refl)

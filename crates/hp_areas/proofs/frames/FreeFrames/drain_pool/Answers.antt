@@ -10,7 +10,7 @@ give_all-requires-clause-frames c =
     let l = c.args.layout.now in
     let fs = c.self.inside in
     let old = subst (AreFreeFramesOf l) (sym c.self.view_is) c.requires.layout in
-    let number = 3 * c.cpu.inside.0 + c.pool_index.result in
-    let is : number ≡ 3 * c.args.cpu + pool_index c.args.pool = omega (arith, c.cpu.view_is, c.pool_index.ensures.is) in
+    let number = 3 * c.cpu.inside.0 + c.index.result in
+    let is : number ≡ 3 * c.args.cpu + pool_index c.args.pool = omega (arith, c.cpu.view_is, c.index.ensures.is) in
     subst (AreFrames l) (sym c.as_slice-frames.ensures)
-    (frames-read l _ c.args.cpu c.args.pool number c.index.result.now old c.requires.cpu is c.index.ensures)
+    (frames-read l _ c.args.cpu c.args.pool number c.index-2.result.now old c.requires.cpu is c.index-2.ensures)

@@ -9,7 +9,7 @@ use Rattle.hp_buddy.proofs.buddy.Buddy.add_pageblock.Goals.{After-push_back}
 
 gives : (c : After-push_back) → Gives c.args.self.now.layout c.args.self.now.areas c.args.self.now.layout.order (c.args.pageblock * pageblock_size c.args.self.now.layout) c.push_back.new.self.areas
 gives c =
-    block_added c.args.self.now.layout c.args.self.now.areas c.push_back.new.self.areas c.usable_class-class.result c.order.result c.args.self.now.layout.order c.first_frame-first.result
+    block_added c.args.self.now.layout c.args.self.now.areas c.push_back.new.self.areas c.usable-class.result c.order.result c.args.self.now.layout.order c.first_frame-first.result
     (c.args.pageblock * pageblock_size c.args.self.now.layout) (c.order.ensures.is ∙ ap (λ (v : BuddyValue). v.layout.order) c.self.view_is) c.first_frame-first.ensures c.push_back.ensures.areas c.requires.block c.requires.apart
 
 pub returns-clause-apart : goal.returns-clause-apart

@@ -7,7 +7,7 @@ use Rattle.hp_units.specs.Memory.{FreeAreas}
 use Rattle.hp_units.specs.FreeAreas.{give_block}
 use Rattle.hp_units.specs.Placement.{free_places}
 use Rattle.hp_buddy.specs.Buddy.{AreApart}
-use Rattle.hp_buddy.proofs.Joins.{JoinsTo}
+use Rattle.hp_lemmas.proofs.Joins.{JoinsTo}
 use Rattle.hp_buddy.proofs.Splits.{IsLeft}
 use Rattle.hp_buddy.proofs.Gives.{Gives, give_block-gives}
 use Rattle.hp_buddy.proofs.Calls.{joins_to, joined_left, block_given, notes-then, room_left}

@@ -15,7 +15,7 @@ use Rattle.hp_buddy.proofs.buddy.Buddy.move_pageblock.Goals.{After-set_kind}
 is : (c : After-set_kind) → c.set_kind.new.self.areas ≡ move_pageblock c.args.self.now.layout c.args.zone c.args.isolated c.args.self.now.areas c.args.pageblock
 is c =
     pageblock_moved c.args.self.now.layout c.args.zone c.args.isolated c.args.self.now.areas c.move_all.new.self.areas c.set_kind.new.self.areas c.args.pageblock c.kind-kind.result
-    (record { mobility = c.kind-kind.result.mobility; isolated = c.args.isolated }) c.class_of_kind-from.result c.class_of_kind-to.result c.kind-kind.ensures refl c.class_of_kind-from.ensures c.class_of_kind-to.ensures
+    (record { mobility = c.kind-kind.result.mobility; isolated = c.args.isolated }) c.of_kind-from.result c.of_kind-to.result c.kind-kind.ensures refl c.of_kind-from.ensures c.of_kind-to.ensures
     c.move_all.ensures.areas c.set_kind.ensures.areas
 
 moves : (c : After-set_kind) → Moves c.args.self.now.layout c.args.self.now.areas c.set_kind.new.self.areas

@@ -17,9 +17,9 @@ returns-clause-notes c =
 
 removes : (c : After-set_kind) → Removes c.args.self.now.layout c.args.self.now.areas c.args.self.now.layout.order (c.args.pageblock * pageblock_size c.args.self.now.layout) c.set_kind.new.self.areas
 removes c =
-    block_removed c.args.self.now.layout c.args.self.now.areas c.unlink_free.new.self.areas c.set_kind.new.self.areas c.isolated_class.result c.order.result c.args.self.now.layout.order c.first_frame-first.result
-    (c.args.pageblock * pageblock_size c.args.self.now.layout) c.args.pageblock c.plain_kind.result (c.order.ensures.is ∙ ap (λ (v : BuddyValue). v.layout.order) c.self.view_is) c.first_frame-first.ensures (omega arith)
-    (subst (λ (k : Class). is_on (c.args.pageblock * pageblock_size c.args.self.now.layout) (free_list c.args.self.now.areas k c.args.self.now.layout.order) ≡ true) (sym c.isolated_class.ensures) c.requires.free)
+    block_removed c.args.self.now.layout c.args.self.now.areas c.unlink_free.new.self.areas c.set_kind.new.self.areas c.isolated.result c.order.result c.args.self.now.layout.order c.first_frame-first.result
+    (c.args.pageblock * pageblock_size c.args.self.now.layout) c.args.pageblock c.plain.result (c.order.ensures.is ∙ ap (λ (v : BuddyValue). v.layout.order) c.self.view_is) c.first_frame-first.ensures (omega arith)
+    (subst (λ (k : Class). is_on (c.args.pageblock * pageblock_size c.args.self.now.layout) (free_list c.args.self.now.areas k c.args.self.now.layout.order) ≡ true) (sym c.isolated.ensures) c.requires.free)
     c.unlink_free.ensures.areas c.set_kind.ensures.areas c.requires.apart
 
 pub returns-clause-apart : goal.returns-clause-apart

@@ -4,7 +4,7 @@ use Rattle.hp_buddy.proofs.buddy.Buddy.steal_front.Goals as goal
 
 pub set_mobility-requires-clause-frame : goal.set_mobility-requires-clause-frame
 set_mobility-requires-clause-frame c =
-    taken_frame c.args.self.now.layout c.take_front-2.new.self.layout c.args.self.now.areas c.usable_class-from.result c.usable_class-rest.result c.args.order c.args.wanted
+    taken_frame c.args.self.now.layout c.take_front-2.new.self.layout c.args.self.now.areas c.usable-from.result c.usable-rest.result c.args.order c.args.wanted
     (record { areas = c.take_front-2.new.self.areas; frame = c.in-Some.frame }) c.requires.apart c.requires.order c.requires.wanted c.in-Some.ensures.layout c.in-Some.ensures.taken
 
 pub returns-in-Some-clause-notes : goal.returns-in-Some-clause-notes

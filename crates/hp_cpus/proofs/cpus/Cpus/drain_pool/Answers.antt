@@ -72,7 +72,7 @@ loop-given-preserved c =
       drained =
           sym (drain_pool-more l (frames_of k.buddy.areas k.self) (frames_of c.give.new.buddy.areas d) c.args.cpu c.args.pool c.in-Some.frame k.self.layout.cpus (list_of d c.args.cpu c.args.pool)
           (subst (λ (m : LayoutParts). c.args.cpu < m.cpus) (sym k.invariant.layout) c.requires.cpu) k.invariant.together.lists c.in-Some.ensures.popped
-          (given_is l k.self d k.buddy c.give.new.buddy c.args.cpu c.args.pool c.zone_of_pool.result c.in-Some.frame t.layout c.zone_of_pool.ensures c.in-Some.ensures.cached c.give.ensures.given)) ∙ k.invariant.drained;
+          (given_is l k.self d k.buddy c.give.new.buddy c.args.cpu c.args.pool c.zone.result c.in-Some.frame t.layout c.zone.ensures c.in-Some.ensures.cached c.give.ensures.given)) ∙ k.invariant.drained;
       left = omega (arith, size, k.invariant.left);
       layout = t.layout;
       together = t.together;

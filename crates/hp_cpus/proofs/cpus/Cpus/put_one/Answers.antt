@@ -3,7 +3,7 @@ use Rattle.std.proofs.Common.{◌≡◌, ◌<◌, ℕ, sym, ◌∙◌, ap, subst
 use Rattle.hp_units.specs.LayoutParts.{LayoutParts}
 use Rattle.hp_units.specs.Arithmetic.{pageblock_of, pageblock_count}
 use Rattle.hp_units.specs.Memory.{FreeAreas}
-use Rattle.hp_buddy.proofs.Calls.{pageblock_in}
+use Rattle.hp_lemmas.proofs.Geometry.{pageblock_in}
 use Rattle.hp_cpus.specs.Cpus.{CpusValue, frames_of}
 use Rattle.hp_cpus.proofs.Calls.{put_one-isolated, put_one-cached}
 use Rattle.hp_cpus.proofs.cpus.Cpus.put_one.Goals as goal
@@ -27,5 +27,5 @@ returns-then-kind-clause-put c =
 pub returns-else-kind-clause-put : goal.returns-else-kind-clause-put
 returns-else-kind-clause-put c =
     c.put_cached.ensures.put
-    ∙ sym (put_one-cached c.args.self.now.layout (frames_of c.args.buddy.now.areas c.args.self.now) c.args.cpu c.args.zone c.args.frame c.pageblock_of.result c.kind-kind.result c.pool_of.result
-    (place (goal.at.returns-else-kind-clause-put c).After-pageblock_of) c.kind-kind.ensures c.if-kind.false c.pool_of.ensures)
+    ∙ sym (put_one-cached c.args.self.now.layout (frames_of c.args.buddy.now.areas c.args.self.now) c.args.cpu c.args.zone c.args.frame c.pageblock_of.result c.kind-kind.result c.of_mobility.result
+    (place (goal.at.returns-else-kind-clause-put c).After-pageblock_of) c.kind-kind.ensures c.if-kind.false c.of_mobility.ensures)

@@ -31,8 +31,8 @@ take-requires-clause-room c =
 
 taken : (c : In-Some) → IsTaken c.args.self.now.layout (class_of_pool c.args.pool) c.loop-taken.buddy c.take.new.self c.in-Some.frame c.loop-taken.tape c.take.new.tape
 taken c =
-    taken_as c.args.self.now.layout c.class_of_pool.result (class_of_pool c.args.pool) c.loop-taken.buddy c.take.new.self c.in-Some.frame c.loop-taken.tape c.take.new.tape
-    (c.loop-taken.invariant.together.layout ∙ c.loop-taken.invariant.layout) c.class_of_pool.ensures c.in-Some.ensures.taken c.in-Some.ensures.layout c.in-Some.ensures.notes
+    taken_as c.args.self.now.layout c.class.result (class_of_pool c.args.pool) c.loop-taken.buddy c.take.new.self c.in-Some.frame c.loop-taken.tape c.take.new.tape
+    (c.loop-taken.invariant.together.layout ∙ c.loop-taken.invariant.layout) c.class.ensures c.in-Some.ensures.taken c.in-Some.ensures.layout c.in-Some.ensures.notes
 
 out : (c : In-Some) → IsOut c.loop-taken.self c.loop-taken.self c.loop-taken.buddy c.take.new.self c.in-Some.frame
 out c =
@@ -95,8 +95,8 @@ loop-taken-preserved c =
 -- nothing was taken
 nothing : (c : In-None) → take_block c.args.self.now.layout c.loop-taken.buddy.areas (class_of_pool c.args.pool) 0 ≡ None
 nothing c =
-    subst (λ (k : Class). take_block c.args.self.now.layout c.loop-taken.buddy.areas k 0 ≡ None) c.class_of_pool.ensures
-    (subst (λ (l : LayoutParts). take_block l c.loop-taken.buddy.areas c.class_of_pool.result 0 ≡ None) (c.loop-taken.invariant.together.layout ∙ c.loop-taken.invariant.layout) c.in-None.ensures.taken)
+    subst (λ (k : Class). take_block c.args.self.now.layout c.loop-taken.buddy.areas k 0 ≡ None) c.class.ensures
+    (subst (λ (l : LayoutParts). take_block l c.loop-taken.buddy.areas c.class.result 0 ≡ None) (c.loop-taken.invariant.together.layout ∙ c.loop-taken.invariant.layout) c.in-None.ensures.taken)
 
 pub returns-in-None-clause-filled : goal.returns-in-None-clause-filled
 returns-in-None-clause-filled c =

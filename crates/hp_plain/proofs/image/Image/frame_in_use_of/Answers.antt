@@ -6,7 +6,7 @@ use Rattle.hp_plain.proofs.image.Image.frame_in_use_of.Goals as goal
 
 pub loop-number-preserved : goal.loop-number-preserved
 loop-number-preserved c =
-    let size : ℕ = c.pageblocks.result * 2 ^ c.order.result % 4294967296 in
+    let size : ℕ = c.block_size-size.result in
     let first : ℕ = c.block.inside.0 * size in
     let p : ℕ → Bool = λ (frame : ℕ). not (is_in_free_block c.args.self.now.layout c.args.self.now.memory.free.areas frame) in
     let below : c.loop-number.number < size = omega arith in

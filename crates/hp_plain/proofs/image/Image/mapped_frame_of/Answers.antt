@@ -7,7 +7,7 @@ use Rattle.hp_plain.proofs.image.Image.mapped_frame_of.Goals as goal
 
 pub loop-number-preserved : goal.loop-number-preserved
 loop-number-preserved c =
-    let size : ℕ = c.pageblocks.result * 2 ^ c.order.result % 4294967296 in
+    let size : ℕ = c.block_size-size.result in
     let first : ℕ = c.block.inside.0 * size in
     let p : ℕ → Bool = λ (frame : ℕ). is_some (page_at c.args.self.now.memory.pages frame) in
     let below : c.loop-number.number < size = omega arith in

@@ -1,0 +1,10 @@
+pub mod Geometry
+pub mod Joins
+pub mod KernelBlocks
+pub mod Lists
+pub mod Parts
+pub mod Placed
+pub mod Places
+pub mod Pools
+pub mod Sizes
+pub mod Tables

@@ -1,0 +1,32 @@
+-- A port on a machine, and what calls make of the machine.
+use Rattle.std.specs.Prelude.{◌≡◌, ℕ, true, false, List, [], ◌∷◌, ◌++◌, Option, Some, None, ⊤}
+use Rattle.std.proofs.Common.{subst}
+use Rattle.hp_units.specs.Receipts.{receipts_of}
+use Rattle.hp_machine.specs.Machine.{IsCalled, MachineValue, is_full}
+use Rattle.hp_machine.specs.Names.{Receipt, CallFault, HistoryFull, OutOfMemory}
+use Rattle.hp_ops.specs.Ports.{PortValue}
+
+-- what a processor's port shows: the processor's records of the machine
+abbrev pub port_value : MachineValue → (cpu : ℕ) → Option CallFault → PortValue
+port_value m cpu fault = record { receipts = receipts_of cpu m.history; fault = fault; cpus = m.layout.cpus }
+
+-- calls of a processor, one after another, gave these receipts: for each there was room in the history
+abbrev pub AreCalls : MachineValue → (cpu : ℕ) → List Receipt → MachineValue → Type 0
+AreCalls old cpu [] new = new ≡ old
+AreCalls old cpu (r ∷ rs) new = (next : MachineValue) × (is_full old ≡ false) × IsCalled old cpu r.event r next × AreCalls next cpu rs new
+
+-- a call's fault has its cause: the history is full, or memory was wanting where there was room
+abbrev pub HasCause : Option CallFault → MachineValue → Type 0
+HasCause None m = ⊤
+HasCause (Some HistoryFull) m = is_full m ≡ true
+HasCause (Some OutOfMemory) m = is_full m ≡ false
+
+-- calls after calls
+pub calls_joined : (cpu : ℕ) (xs ys : List Receipt) (old mid new : MachineValue) → AreCalls old cpu xs mid → AreCalls mid cpu ys new → AreCalls old cpu (xs ++ ys) new
+calls_joined cpu [] ys old mid new first second = subst (λ (m : MachineValue). AreCalls m cpu ys new) first second
+calls_joined cpu (x ∷ xs) ys old mid new first second = (first.0, first.1, first.2, calls_joined cpu xs ys first.0 mid new first.3 second)
+
+-- and where the processor is said once more
+pub makes_joined : (cpu same : ℕ) (xs ys : List Receipt) (old mid new : MachineValue) → same ≡ cpu → AreCalls old cpu xs mid → AreCalls mid same ys new → AreCalls old cpu (xs ++ ys) new
+makes_joined cpu same xs ys old mid new is first second =
+    calls_joined cpu xs ys old mid new first (subst (λ (n : ℕ). AreCalls mid n ys new) is second)

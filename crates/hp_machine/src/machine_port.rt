@@ -1,0 +1,67 @@
+//! A port on a machine.
+ghost use Rattle.std.specs.Prelude.{◌≡◌, None};
+
+use crate::machine::Machine;
+use hp_ops::Port;
+use hp_units::{CallFault, Cpu, Event, Receipt};
+use std::alloc::Global;
+
+/// A processor of a machine. It shows the processor's records of the machine as its receipts.
+#[derive(Drop)]
+pub struct MachinePort<'a> {
+    /// The machine.
+    pub machine: &'a mut Machine,
+    /// The processor that calls.
+    pub cpu: Cpu,
+    /// The fault of the last call; none at first and after a receipt.
+    pub fault: Option<CallFault>,
+}
+
+impl<'a> MachinePort<'a> {
+    /// A processor's port, with no call made yet.
+    pub fn new(machine: &'a mut Machine, cpu: Cpu) -> MachinePort<'a>
+        ensures same_reference { result.machine.ghost_name ≡ machine.entry.ghost_name }
+        ensures machine { result.machine.now ≡ machine.old }
+        ensures cpu { result.cpu ≡ cpu }
+        ensures fault { result.fault ≡ None }
+    {
+        MachinePort {
+            machine,
+            cpu,
+            fault: None,
+        }
+    }
+}
+
+impl<'a> Port for MachinePort<'a> {
+    ghost use Rattle.std.specs.Prelude.{◌≡◌, Some, refl};
+    ghost use Rattle.std.proofs.Common.{◌∙◌};
+    ghost use Rattle.hp_machine.specs.MachinePorts.{AreCalls, HasCause, makes_joined, port_value};
+
+    ghost shows = { λ p. port_value p.machine.now p.cpu p.fault };
+
+    ghost makes = { λ p gained q. (q.machine.ghost_name ≡ p.machine.ghost_name) × (q.cpu ≡ p.cpu) × AreCalls p.machine.now p.cpu gained q.machine.now };
+
+    ghost leaves = { λ p fault q. (q.machine.ghost_name ≡ p.machine.ghost_name) × (q.cpu ≡ p.cpu) × (q.machine.now ≡ p.machine.now) × HasCause (Some fault) p.machine.now };
+
+    fn cpus(&self) -> u32 {
+        self.machine.layout().cpus()
+    }
+
+    fn call(&mut self, alloc: Global, event: &Event) -> Result<Receipt, CallFault> {
+        match self.machine.call(alloc, self.cpu, event) {
+            Ok(receipt) => {
+                self.fault = None;
+                Ok(receipt)
+            }
+            Err(fault) => {
+                self.fault = Some(fault);
+                Err(fault)
+            }
+        }
+    }
+
+    ghost nothing = { λ p. (refl, refl, refl) };
+
+    ghost joined = { λ p q r xs ys a b. (b.0 ∙ a.0, b.1 ∙ a.1, makes_joined p.cpu q.cpu xs ys p.machine.now q.machine.now r.machine.now a.1 a.2 b.2) };
+}

@@ -1,0 +1,124 @@
+-- Lines that are dealt to the scripts of their processors, one after another.
+use Rattle.std.proofs.Common.{◌≡◌, ◌≢◌, ℕ, suc, ◌+◌, ◌<◌, ◌≤◌, Bool, true, false, not, ◌&&◌, List, [], ◌∷◌, ◌++◌, length, map, filter, cond, eqb, get_or, set, reverse, refl, sym, ap, subst, ◌∙◌, arith, Option, Some, None}
+use Rattle.std.specs.Bool.{nat_lt}
+use Rattle.std.specs.List.{All, list_all, position_or_len, range_with_len}
+use Rattle.std.proofs.lemmas.List.{append-nil, append_assoc, ext_get_or, get_or_default, get_or-set_other, length-set, reverse-append, reverse-reverse}
+use Rattle.std.proofs.lemmas.List.Elements.{All-filter, All-map}
+use Rattle.std.proofs.lemmas.List.Folds.{list_all-append}
+use Rattle.std.proofs.lemmas.List.FromFn.{get_or-map-range_with_len, length-map-range_with_len}
+use Rattle.std.proofs.lemmas.List.Sums.{AllPass-from_list_all, fails_before_first, list_all-from_AllPass}
+use Rattle.std.proofs.lemmas.Bool.{eqb-false, eqb-true, ltb-false, ltb-true}
+use Rattle.std.proofs.lemmas.Grind.{get_or-set_at}
+use Rattle.hp_scenario.specs.Scripts.{AreForRun, IsForRun, first_unfit, is_cat, is_for_run, script_of}
+use Rattle.hp_scenario.specs.declared.lines.Line.{Line}
+
+-- what the lines that are left, of which the last goes next, add to the scripts so far, makes the scripts of all lines
+abbrev pub AreDealt : (lines left : List Line) (scripts : List (List Line)) → Type 0
+AreDealt lines left scripts = (cpu : ℕ) → cpu < length scripts → get_or scripts cpu [] ++ script_of (reverse left) cpu ≡ script_of lines cpu
+
+-- no line is dealt
+pub none_dealt : (lines left : List Line) (scripts : List (List Line)) (cpus : ℕ) → left ≡ reverse lines → scripts ≡ map (script_of []) (range_with_len 0 cpus) → AreDealt lines left scripts
+none_dealt lines left scripts cpus left_is scripts_are cpu within =
+    let count : length scripts ≡ cpus = ap length scripts_are ∙ length-map-range_with_len (script_of []) 0 cpus in
+    let here : get_or scripts cpu [] ≡ [] = ap (λ (xs : List (List Line)). get_or xs cpu []) scripts_are ∙ get_or-map-range_with_len (script_of []) 0 cpus cpu cpu [] (omega (arith, within, count)) (omega arith) in
+    let all : reverse left ≡ lines = ap reverse left_is ∙ reverse-reverse lines in
+    ap (λ (xs : List Line). xs ++ script_of (reverse left) cpu) here ∙ ap (λ (xs : List Line). script_of xs cpu) all
+
+-- a line more is dealt
+one_dealt : (lines old left : List Line) (line : Line) (scripts : List (List Line)) (own : List Line) → old ≡ left ++ line ∷ [] → own ≡ get_or scripts line.cpu [] ++ line ∷ [] → line.cpu < length scripts → AreDealt lines old scripts → AreDealt lines left (set scripts line.cpu own)
+one_dealt lines old left line scripts own old_is own_is inside before cpu within =
+    by_cpu (eqb line.cpu cpu) refl
+  where
+    next : reverse old ≡ line ∷ reverse left
+    next = ap reverse old_is ∙ reverse-append left (line ∷ [])
+
+    room : cpu < length scripts
+    room = omega (arith, within, length-set scripts line.cpu own)
+
+    due : get_or scripts cpu [] ++ cond (eqb line.cpu cpu) (line ∷ script_of (reverse left) cpu) (script_of (reverse left) cpu) ≡ script_of lines cpu
+    due = ap (λ (xs : List Line). get_or scripts cpu [] ++ script_of xs cpu) (sym next) ∙ before cpu room
+
+    by_cpu : (is_own : Bool) → eqb line.cpu cpu ≡ is_own → get_or (set scripts line.cpu own) cpu [] ++ script_of (reverse left) cpu ≡ script_of lines cpu
+    by_cpu true e =
+        let same : line.cpu ≡ cpu = eqb-true line.cpu cpu e in
+        let here : get_or (set scripts line.cpu own) cpu [] ≡ get_or scripts cpu [] ++ line ∷ [] =
+        get_or-set_at scripts line.cpu cpu own [] (sym same) inside ∙ (own_is ∙ ap (λ (k : ℕ). get_or scripts k [] ++ line ∷ []) same) in
+        ap (λ (xs : List Line). xs ++ script_of (reverse left) cpu) here
+        ∙ (append_assoc (get_or scripts cpu []) (line ∷ []) (script_of (reverse left) cpu)
+        ∙ (ap (λ (t : Bool). get_or scripts cpu [] ++ cond t (line ∷ script_of (reverse left) cpu) (script_of (reverse left) cpu)) (sym e) ∙ due))
+    by_cpu false e =
+        let other : cpu ≢ line.cpu = λ same. eqb-false line.cpu cpu e (sym same) in
+        ap (λ (xs : List Line). xs ++ script_of (reverse left) cpu) (get_or-set_other scripts line.cpu cpu own [] other)
+        ∙ (ap (λ (t : Bool). get_or scripts cpu [] ++ cond t (line ∷ script_of (reverse left) cpu) (script_of (reverse left) cpu)) (sym e) ∙ due)
+
+-- and where its place is said once more
+pub one_dealt_at : (lines old left : List Line) (line : Line) (scripts : List (List Line)) (own : List Line) (place : ℕ) → place ≡ line.cpu → old ≡ left ++ line ∷ [] → own ≡ get_or scripts place [] ++ line ∷ [] → place < length scripts → AreDealt lines old scripts → AreDealt lines left (set scripts place own)
+one_dealt_at lines old left line scripts own place is old_is own_is inside before =
+    subst (λ (k : ℕ). AreDealt lines left (set scripts k own)) (sym is)
+    (one_dealt lines old left line scripts own old_is (own_is ∙ ap (λ (k : ℕ). get_or scripts k [] ++ line ∷ []) is) (omega (arith, inside, is)) before)
+
+-- all lines are dealt
+pub all_dealt : (lines left : List Line) (scripts : List (List Line)) (cpus : ℕ) → left ≡ [] → length scripts ≡ cpus → AreDealt lines left scripts → scripts ≡ map (script_of lines) (range_with_len 0 cpus)
+all_dealt lines left scripts cpus none count dealt =
+    ext_get_or [] scripts (map (script_of lines) (range_with_len 0 cpus)) (count ∙ sym (length-map-range_with_len (script_of lines) 0 cpus)) (λ cpu within.
+    sym (append-nil (get_or scripts cpu []))
+    ∙ (ap (λ (xs : List Line). get_or scripts cpu [] ++ script_of (reverse xs) cpu) (sym none)
+    ∙ (dealt cpu within
+    ∙ sym (get_or-map-range_with_len (script_of lines) 0 cpus cpu cpu [] (omega (arith, within, count)) (omega arith)))))
+
+and_both : (s t : Bool) → (s && t) ≡ true → (s ≡ true) × (t ≡ true)
+and_both true true e = (refl, refl)
+and_both true false e = absurd cc
+and_both false t e = absurd cc
+
+both_and : (s t : Bool) → s ≡ true → t ≡ true → (s && t) ≡ true
+both_and true true first second = refl
+both_and true false first second = absurd cc
+both_and false t first second = absurd cc
+
+not_false : (t : Bool) → not t ≡ false → t ≡ true
+not_false true e = refl
+not_false false e = absurd cc
+
+-- the search comes to the end
+reached : (cpus : ℕ) (lines : List Line) → first_unfit cpus lines ≡ None → length lines ≤ position_or_len (λ line. not (is_for_run cpus line)) lines
+reached cpus lines none = by_test (nat_lt (position_or_len (λ line. not (is_for_run cpus line)) lines) (length lines)) refl none
+  where
+    by_test : (t : Bool) → nat_lt (position_or_len (λ line. not (is_for_run cpus line)) lines) (length lines) ≡ t → cond t (Some (position_or_len (λ line. not (is_for_run cpus line)) lines)) None ≡ None → length lines ≤ position_or_len (λ line. not (is_for_run cpus line)) lines
+    by_test true e found = absurd cc
+    by_test false e found = ltb-false _ _ e
+
+-- a line that may be run reads no control file
+reads_none : (cpus : ℕ) (line : Line) → is_for_run cpus line ≡ true → IsForRun line
+reads_none cpus line fits = no_cat (is_cat line.work) (and_both (nat_lt line.cpu cpus) (not (is_cat line.work)) fits).1
+  where
+    no_cat : (t : Bool) → not t ≡ true → t ≡ false
+    no_cat true e = absurd cc
+    no_cat false e = refl
+
+-- of lines that all may be run, the last may be, and the others
+pub all_but_last : (cpus : ℕ) (old left : List Line) (line : Line) → old ≡ left ++ line ∷ [] → list_all (is_for_run cpus) old ≡ true → (list_all (is_for_run cpus) left ≡ true) × (line.cpu < cpus)
+all_but_last cpus old left line old_is all =
+    let both = and_both (list_all (is_for_run cpus) left) (list_all (is_for_run cpus) (line ∷ [])) (sym (list_all-append (is_for_run cpus) left (line ∷ [])) ∙ (ap (list_all (is_for_run cpus)) (sym old_is) ∙ all)) in
+    let last = and_both (is_for_run cpus line) true both.1 in
+    (both.0, ltb-true line.cpu cpus (and_both (nat_lt line.cpu cpus) (not (is_cat line.work)) last.0).0)
+
+-- lines that all may be run, in the other order
+pub all_reversed : (cpus : ℕ) (lines : List Line) → list_all (is_for_run cpus) lines ≡ true → list_all (is_for_run cpus) (reverse lines) ≡ true
+all_reversed cpus [] all = refl
+all_reversed cpus (line ∷ lines) all =
+    let parts = and_both (is_for_run cpus line) (list_all (is_for_run cpus) lines) all in
+    ap (list_all (is_for_run cpus)) (reverse-append (line ∷ []) lines)
+    ∙ (list_all-append (is_for_run cpus) (reverse lines) (line ∷ [])
+    ∙ both_and (list_all (is_for_run cpus) (reverse lines)) (list_all (is_for_run cpus) (line ∷ [])) (all_reversed cpus lines parts.1) (both_and (is_for_run cpus line) true parts.0 refl))
+
+-- where no line is found that no worker may run, all may be
+pub all_fit : (cpus : ℕ) (lines : List Line) → first_unfit cpus lines ≡ None → list_all (is_for_run cpus) lines ≡ true
+all_fit cpus lines none =
+    list_all-from_AllPass (is_for_run cpus) lines (λ k d within. not_false (is_for_run cpus (get_or lines k d)) (fails_before_first (λ line. not (is_for_run cpus line)) lines k d (omega (arith, within, reached cpus lines none))))
+
+-- the scripts of lines that all may be run
+pub all_for_run : (cpus : ℕ) (lines : List Line) → list_all (is_for_run cpus) lines ≡ true → AreForRun (map (script_of lines) (range_with_len 0 cpus))
+all_for_run cpus lines all =
+    All-map (λ script. All IsForRun script) (script_of lines) (range_with_len 0 cpus) (λ k d within.
+    All-filter _ IsForRun lines (λ at e inside. reads_none cpus (get_or lines at e) (AllPass-from_list_all (is_for_run cpus) lines all at e inside)))

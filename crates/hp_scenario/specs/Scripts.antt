@@ -1,0 +1,44 @@
+-- The lines of a scenario by processor (own rule).
+use Rattle.std.specs.Prelude.{◌≡◌, ℕ, ◌+◌, ◌==◌, Bool, true, false, ◌&&◌, not, List, filter, map, nat_lt, Option, Some, None, Result, Ok, Err}
+use Rattle.std.specs.List.{All, position, range_with_len}
+use Rattle.hp_scenario.specs.Scenario.{ScenarioValue}
+use Rattle.hp_scenario.specs.declared.fault.ScenarioFault.{ScenarioFault}
+use Rattle.hp_scenario.specs.declared.fault.ScenarioFault.TheVariants.{NotForRun}
+use Rattle.hp_scenario.specs.declared.lines.Line.{Line}
+use Rattle.hp_scenario.specs.declared.lines.Work.{Work}
+use Rattle.hp_scenario.specs.declared.lines.Work.TheVariants as work
+
+-- whether it reads a control file
+abbrev pub is_cat : Work → Bool
+is_cat (work.Event event) = false
+is_cat (work.Plan plan turns) = false
+is_cat (work.Echo path text) = false
+is_cat (work.Cat path) = true
+
+-- no line of any script reads a control file
+abbrev pub IsForRun : Line → Type 0
+IsForRun line = is_cat line.work ≡ false
+
+abbrev pub AreForRun : List (List Line) → Type 0
+AreForRun scripts = All (λ script. All IsForRun script) scripts
+
+-- whether a worker may run the line, with so many processors
+abbrev pub is_for_run : (cpus : ℕ) → Line → Bool
+is_for_run cpus line = nat_lt line.cpu cpus && not (is_cat line.work)
+
+-- the lines of a processor, in order
+abbrev pub script_of : List Line → (cpu : ℕ) → List Line
+script_of lines cpu = filter (λ line. line.cpu == cpu) lines
+
+-- where the first line stands that no worker may run
+abbrev pub first_unfit : (cpus : ℕ) → List Line → Option ℕ
+first_unfit cpus lines = position (λ line. not (is_for_run cpus line)) lines
+
+-- a script for each processor from 0, unless no worker may run the line there; that line is counted from 1
+abbrev pub scripts_unless : ScenarioValue → Option ℕ → Result (List (List Line)) ScenarioFault
+scripts_unless scenario (Some at) = Err (NotForRun (at + 1))
+scripts_unless scenario None = Ok (map (script_of scenario.lines) (range_with_len 0 scenario.layout.cpus))
+
+-- the scripts of a scenario, or the first line that no worker may run
+unfoldable pub scripts_of : ScenarioValue → Result (List (List Line)) ScenarioFault
+scripts_of scenario = scripts_unless scenario (first_unfit scenario.layout.cpus scenario.lines)

@@ -1,0 +1,46 @@
+//! Why a text is no scenario.
+ghost use Rattle.std.specs.Prelude.{◌≡◌};
+ghost use Rattle.hp_scenario.specs.declared.fault.ScenarioFault.TheVariants.{OutOfMemory};
+
+use hp_units::LayoutFault;
+use std::alloc::{AllocError, AllocFailed};
+use thiserror::Error;
+
+/// The first fault of a scenario, in this order. Want of memory may come in place of any.
+#[derive(Clone, Copy, Debug, PartialEq, Eq, Error)]
+pub enum ScenarioFault {
+    /// The text is no JSON.
+    #[error("not JSON")]
+    NotJson,
+    /// Keys, kinds or words differ from a scenario's.
+    #[error("wrong shape")]
+    BadShape,
+    /// The layout is out of its limits.
+    #[error("layout fault {0:?}")]
+    Layout(LayoutFault),
+    /// A text of `calls` is no line; lines are counted from 1.
+    #[error("line {line} not understood")]
+    BadLine { line: u64 },
+    /// A line that no worker may run: it reads a control file, or its processor is not in the layout; lines are counted from 1.
+    #[error("line {line} not for run")]
+    NotForRun { line: u64 },
+    /// Want of memory.
+    #[error("out of memory")]
+    OutOfMemory,
+}
+
+impl From<AllocError> for ScenarioFault {
+    ghost from_gives = { λ _ e. e ≡ OutOfMemory };
+
+    fn from(_e: AllocError) -> ScenarioFault {
+        ScenarioFault::OutOfMemory
+    }
+}
+
+impl<T: Drop> From<AllocFailed<T>> for ScenarioFault {
+    ghost from_gives = { λ _ e. e ≡ OutOfMemory };
+
+    fn from(_e: AllocFailed<T>) -> ScenarioFault {
+        ScenarioFault::from(AllocError)
+    }
+}

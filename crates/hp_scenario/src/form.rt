@@ -1,0 +1,129 @@
+//! The form of a scenario: its keys, and the kinds of their values.
+
+ghost use Rattle.std.specs.Prelude.{◌≡◌, map, option_map, IfOk};
+ghost use Rattle.serde_json.specs.Find.{as_str};
+ghost use Rattle.serde_json.specs.View.{view, items_view};
+ghost use Rattle.hp_units.specs.PartsSeen.{parts_seen};
+ghost use Rattle.hp_scenario.specs.Gives.{Gives, or_fault};
+ghost use Rattle.hp_scenario.specs.Form.{has_keys as keys, number_at as number, boot_of, boot_at as boot_in, each_in, texts_at as texts, boots_at as boots, parts_with as with_boot};
+
+use crate::fault::ScenarioFault;
+use hp_units::{Boot, Parts};
+use serde_json::Value;
+use std::alloc::Global;
+
+#[tactic(auto, unfolding(crate::specs::Form::has_keys))]
+pub(crate) fn has_keys(value: &Value, count: usize) -> bool
+    ensures { result ≡ keys count (view value.now) }
+{
+    match value.as_object() {
+        Some(members) => members.len() == count,
+        None => false,
+    }
+}
+
+#[tactic(auto, unfolding(crate::specs::Form::number_at))]
+fn number_at(value: &Value, key: &str) -> Option<u64>
+    ensures { result ≡ number key.now (view value.now) }
+{
+    value.get(key).and_then(Value::as_u64)
+}
+
+#[tactic(auto, unfolding(crate::specs::Form::boot_of))]
+fn boot_from(word: &str) -> Option<Boot>
+    ensures { result ≡ boot_of word.now }
+{
+    match word {
+        "offline" => Some(Boot::Offline),
+        "normal" => Some(Boot::Normal),
+        "movable" => Some(Boot::Movable),
+        "absent" => Some(Boot::Absent),
+        _ => None,
+    }
+}
+
+fn texts_from<'a>(alloc: Global, values: &'a Vec<Value>) -> Result<Vec<&'a str>, ScenarioFault>
+    ensures { Gives (λ v. map (λ t. t.now) v.items) result (or_fault ScenarioFault.BadShape (each_in as_str (items_view values.now.items))) }
+{
+    let mut texts = Vec::new(alloc);
+    for value in values {
+        let Some(text) = value.as_str() else {
+            return Err(ScenarioFault::BadShape);
+        };
+        texts.push(text)?;
+    }
+    Ok(texts)
+}
+
+#[tactic(auto, unfolding(crate::specs::Form::boot_of))]
+fn boot_at(value: &Value) -> Option<Boot>
+    ensures { result ≡ boot_in (view value.now) }
+{
+    boot_from(value.as_str()?)
+}
+
+fn boots_from(alloc: Global, values: &Vec<Value>) -> Result<Vec<Boot>, ScenarioFault>
+    ensures { Gives (λ v. v.items) result (or_fault ScenarioFault.BadShape (each_in boot_in (items_view values.now.items))) }
+{
+    let mut boots = Vec::new(alloc);
+    for value in values {
+        let Some(boot) = boot_at(value) else {
+            return Err(ScenarioFault::BadShape);
+        };
+        boots.push(boot)?;
+    }
+    Ok(boots)
+}
+
+#[tactic(auto, unfolding(crate::specs::Form::texts_at))]
+pub(crate) fn texts_at<'a>(
+    alloc: Global,
+    value: &'a Value,
+    key: &str,
+) -> Result<Vec<&'a str>, ScenarioFault>
+    ensures { Gives (λ v. map (λ t. t.now) v.items) result (or_fault ScenarioFault.BadShape (texts key.now (view value.now))) }
+{
+    match value.get(key).and_then(Value::as_array) {
+        Some(values) => texts_from(alloc, values),
+        None => Err(ScenarioFault::BadShape),
+    }
+}
+
+#[tactic(auto, unfolding(crate::specs::Form::boots_at))]
+pub(crate) fn boots_at(alloc: Global, value: &Value, key: &str) -> Result<Vec<Boot>, ScenarioFault>
+    ensures { Gives (λ v. v.items) result (or_fault ScenarioFault.BadShape (boots key.now (view value.now))) }
+{
+    match value.get(key).and_then(Value::as_array) {
+        Some(values) => boots_from(alloc, values),
+        None => Err(ScenarioFault::BadShape),
+    }
+}
+
+#[tactic(auto, unfolding(crate::specs::Form::parts_with))]
+pub(crate) fn parts_with<'a>(layout: &Value, boot: &'a [Boot]) -> Option<Parts<'a>>
+    ensures { option_map parts_seen result ≡ with_boot boot.now (view layout.now) }
+{
+    let order = number_at(layout, "order")?;
+    let pageblocks = number_at(layout, "pageblocks")?;
+    let blocks = number_at(layout, "blocks")?;
+    let cpus = number_at(layout, "cpus")?;
+    let batch = number_at(layout, "batch")?;
+    let high = number_at(layout, "high")?;
+    let owners = number_at(layout, "owners")?;
+    let pages = number_at(layout, "pages")?;
+    let words = number_at(layout, "words")?;
+    let history = number_at(layout, "history")?;
+    Some(Parts {
+        order,
+        pageblocks,
+        blocks,
+        cpus,
+        batch,
+        high,
+        owners,
+        pages,
+        words,
+        history,
+        boot,
+    })
+}

@@ -1,0 +1,22 @@
+//! Scenarios: a layout and the lines that run on it, read from JSON.
+#![tactic(auto)]
+
+mod fault;
+mod form;
+mod laws;
+mod lines;
+mod names;
+mod plans;
+mod requests;
+mod scenario;
+mod scripts;
+#[cfg(test)]
+mod tests;
+mod verbs;
+mod words;
+
+pub use fault::ScenarioFault;
+pub use laws::lines_are_spelled;
+pub use lines::{Line, Lines, Work};
+pub use scenario::Scenario;
+pub use scripts::Script;

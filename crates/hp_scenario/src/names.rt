@@ -1,0 +1,79 @@
+//! Names are numbered in the order in which they first occur.
+ghost use Rattle.std.specs.Prelude.{◌≡◌, IfOk, OnOk, option_map};
+ghost use Rattle.std.specs.Str.{bytes_eq};
+ghost use Rattle.indexmap.specs.IndexSet.{insert_key};
+ghost use Rattle.hp_scenario.specs.Names.{access_event, line_in, names_with, owner_of, work_of};
+ghost use Rattle.hp_scenario.specs.Seen.{request_seen};
+
+use crate::lines::{Line, Work};
+use crate::requests::{Access, Request, line_says};
+use hp_units::{Event, Owner, Text};
+use indexmap::IndexSet;
+use std::alloc::{AllocError, Global};
+
+/// The line that a text is. A name that is new becomes the last one.
+/// What `words` held before is dropped: its room serves line after line.
+#[tactic(auto, unfolding(crate::specs::Names::line_in))]
+pub(crate) fn line_from<'a>(
+    alloc: Global,
+    names: &mut IndexSet<Text>,
+    words: &mut Vec<&'a str>,
+    text: &'a str,
+) -> Result<Option<Line>, AllocError>
+    ensures { IfOk result (λ line. option_map (λ line. record { names = names.new.keys; line = line }) line ≡ line_in names.old.keys text.now) }
+{
+    let Some(said) = line_says(alloc, words, text)? else {
+        return Ok(None);
+    };
+    let cpu = said.cpu;
+    let work = numbered_work(alloc, names, said.request)?;
+    Ok(Some(Line { cpu, work }))
+}
+
+/// The work of a request, with its name numbered.
+fn numbered_work(
+    alloc: Global,
+    names: &mut IndexSet<Text>,
+    request: Request<'_>,
+) -> Result<Work, AllocError>
+    ensures names { OnOk result (names.new.keys ≡ names_with names.old.keys (request_seen request.entry)) }
+    ensures work { IfOk result (λ work. work ≡ work_of names.old.keys (request_seen request.entry)) }
+{
+    match request {
+        Request::Plain(work) => Ok(work),
+        Request::Named { name, access } => {
+            let owner = owner_of(alloc, names, name)?;
+            Ok(Work::Event(access_event(owner, access)))
+        }
+    }
+}
+
+/// The number of a name, which becomes the last one where it is new.
+fn owner_of(alloc: Global, names: &mut IndexSet<Text>, name: &str) -> Result<Owner, AllocError>
+    ensures names { OnOk result (names.new.keys ≡ insert_key bytes_eq names.old.keys name.now) }
+    ensures owner { IfOk result (λ owner. owner ≡ owner_of names.old.keys name.now) }
+{
+    let name = Text::new(String::from_str(alloc, name)?);
+    let (index, _) = names.insert_full(name)?;
+    let Ok(index) = u32::try_from(index) else {
+        return Err(AllocError);
+    };
+    Ok(Owner(index))
+}
+
+/// The event of an owner's access.
+fn access_event(owner: Owner, access: Access) -> Event
+    ensures { result ≡ access_event owner access }
+{
+    match access {
+        Access::Map { page } => Event::Map { owner, page },
+        Access::Unmap { page } => Event::Unmap { owner, page },
+        Access::Write { page, index, value } => Event::Write {
+            owner,
+            page,
+            index,
+            value,
+        },
+        Access::Read { page, index } => Event::Read { owner, page, index },
+    }
+}

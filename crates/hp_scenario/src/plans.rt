@@ -1,0 +1,48 @@
+//! The items of a plan.
+ghost use Rattle.std.specs.Prelude.{◌≡◌, map, IfOk, option_map};
+ghost use Rattle.hp_scenario.specs.Lines as says;
+
+use hp_units::{Block, Item, Wish, number32};
+use std::alloc::{AllocError, Global};
+
+/// The items of a plan, two words each.
+pub(crate) fn items_from(alloc: Global, words: &[&str]) -> Result<Option<Vec<Item>>, AllocError>
+    ensures { IfOk result (λ items. option_map (λ v. v.items) items ≡ says.items_of (map (λ w. w.now) words.now)) }
+{
+    let mut items = Vec::new(alloc);
+    let mut rest = words;
+    while let [wish, block, tail @ ..] = rest {
+        let Some(item) = item_from(wish, block) else {
+            return Ok(None);
+        };
+        items.push(item)?;
+        rest = tail;
+    }
+    if !rest.is_empty() {
+        return Ok(None);
+    }
+    Ok(Some(items))
+}
+
+/// A plan's item: what is made of a memory block, and its number.
+#[tactic(auto, unfolding(crate::specs::Lines::item_of))]
+fn item_from(wish: &str, block: &str) -> Option<Item>
+    ensures { result ≡ says.item_of wish.now block.now }
+{
+    let wish = wish_from(wish)?;
+    let block = Block(number32(block)?);
+    Some(Item { block, wish })
+}
+
+/// What a word makes of a memory block.
+#[tactic(auto, unfolding(crate::specs::Lines::wish_of))]
+fn wish_from(word: &str) -> Option<Wish>
+    ensures { result ≡ says.wish_of word.now }
+{
+    match word {
+        "off" => Some(Wish::Off),
+        "normal" => Some(Wish::Normal),
+        "movable" => Some(Wish::Movable),
+        _ => None,
+    }
+}

@@ -1,0 +1,89 @@
+//! What a line says, with a name as it is written.
+ghost use Rattle.std.specs.Prelude.{◌≡◌, map, IfOk, OnOk, option_map};
+ghost use Rattle.hp_scenario.specs.Lines as says;
+ghost use Rattle.hp_scenario.specs.Seen.{request_seen, said_seen};
+ghost use Rattle.hp_scenario.specs.Words.{words_of};
+
+use crate::lines::Work;
+use crate::verbs::{begin, cat, echo, event_from, plan};
+use hp_units::{Cpu, Event, Page, number32};
+use std::alloc::{AllocError, Global};
+
+/// An access to a page of an owner, who is named beside it.
+#[derive(Clone, Copy, Debug)]
+pub(crate) enum Access {
+    Map { page: Page },
+    Unmap { page: Page },
+    Write { page: Page, index: u32, value: u64 },
+    Read { page: Page, index: u32 },
+}
+
+/// What a line asks for: work that names no owner, or an access to a page of a named one.
+#[derive(Debug, Drop)]
+pub(crate) enum Request<'a> {
+    Plain(Work),
+    Named { name: &'a str, access: Access },
+}
+
+/// A processor, and what it asks for.
+#[derive(Debug, Drop)]
+pub(crate) struct Said<'a> {
+    pub(crate) cpu: Cpu,
+    pub(crate) request: Request<'a>,
+}
+
+/// What a text says, where it is a line. What `words` held before is dropped: its room serves line after line.
+#[tactic(auto, unfolding(crate::specs::Lines::line_says))]
+pub(crate) fn line_says<'a>(
+    alloc: Global,
+    words: &mut Vec<&'a str>,
+    text: &'a str,
+) -> Result<Option<Said<'a>>, AllocError>
+    ensures { IfOk result (λ said. option_map said_seen said ≡ says.line_says text.now) }
+{
+    split_words(words, text)?;
+    words_say(alloc, words)
+}
+
+/// Makes `words` the words between single spaces.
+fn split_words<'a>(words: &mut Vec<&'a str>, text: &'a str) -> Result<(), AllocError>
+    ensures { OnOk result (map (λ w. w.now) words.new.items ≡ words_of text.now) }
+{
+    words.clear();
+    words.extend(text.split(' '))
+}
+
+/// What the words of a line say.
+#[tactic(auto, unfolding(crate::specs::Lines::words_say))]
+fn words_say<'a>(alloc: Global, words: &[&'a str]) -> Result<Option<Said<'a>>, AllocError>
+    ensures { IfOk result (λ said. option_map said_seen said ≡ says.words_say (map (λ w. w.now) words.now)) }
+{
+    let [cpu, rest @ ..] = words else {
+        return Ok(None);
+    };
+    let Some(cpu) = number32(cpu) else {
+        return Ok(None);
+    };
+    let Some(request) = request_from(alloc, rest)? else {
+        return Ok(None);
+    };
+    let cpu = Cpu(cpu);
+    Ok(Some(Said { cpu, request }))
+}
+
+/// What the words behind the processor ask for.
+#[tactic(auto, unfolding(crate::specs::Lines::request_of))]
+fn request_from<'a>(alloc: Global, words: &[&'a str]) -> Result<Option<Request<'a>>, AllocError>
+    ensures { IfOk result (λ request. option_map request_seen request ≡ says.request_of (map (λ w. w.now) words.now)) }
+{
+    let Some((verb, args)) = words.split_first() else {
+        return Ok(None);
+    };
+    match *verb {
+        "begin" => begin(alloc, args),
+        "plan" => plan(alloc, args),
+        "echo" => echo(alloc, args),
+        "cat" => cat(alloc, args),
+        _ => Ok(event_from(verb, args)),
+    }
+}

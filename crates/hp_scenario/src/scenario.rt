@@ -1,0 +1,128 @@
+//! A scenario.
+ghost use Rattle.std.specs.Prelude.{◌≡◌, map};
+ghost use Rattle.serde_json.specs.View.{view};
+ghost use Rattle.hp_units.specs.LayoutParts.{layout_fault};
+ghost use Rattle.hp_units.specs.PartsSeen.{parts_seen};
+ghost use Rattle.hp_scenario.specs.Form.{Form, parts_of, form_of};
+ghost use Rattle.hp_scenario.specs.Gives.{Gives, or_fault};
+ghost use Rattle.hp_scenario.specs.Scenario.{nothing, lines_from, layout_or, json_of, scenario_in, scenario_of, scenario_with};
+ghost use Rattle.hp_scenario.specs.Seen.{script_seen, scenario_seen};
+
+use crate::fault::ScenarioFault;
+use crate::form::{boots_at, has_keys, parts_with, texts_at};
+use crate::lines::{Line, Lines};
+use crate::names::line_from;
+use hp_units::{Layout, LayoutFault, Parts, Text};
+use indexmap::IndexSet;
+use serde_json::Value;
+use std::alloc::Global;
+
+/// A layout, the owners' names by number, and the lines that run on it.
+#[derive(Drop)]
+pub struct Scenario {
+    /// The layout.
+    pub layout: Layout,
+    /// The owners' names: an owner's number is its name's place.
+    pub names: IndexSet<Text>,
+    /// The lines in order.
+    pub lines: Lines,
+}
+
+/// The owners' names and the lines.
+#[derive(Drop)]
+pub(crate) struct Script {
+    names: IndexSet<Text>,
+    lines: Vec<Line>,
+}
+
+impl Scenario {
+    /// Reads a scenario from its bytes.
+    #[tactic(auto, unfolding(crate::specs::Scenario::scenario_in))]
+    pub fn read(alloc: Global, bytes: &[u8]) -> Result<Scenario, ScenarioFault>
+        ensures { Gives scenario_seen result (scenario_in bytes.now) }
+    {
+        let value = json_from(alloc, bytes)?;
+        scenario_from(alloc, &value)
+    }
+}
+
+/// The JSON value that the bytes are.
+#[tactic(auto, unfolding(crate::specs::Scenario::json_of))]
+fn json_from(alloc: Global, bytes: &[u8]) -> Result<Value, ScenarioFault>
+    ensures { Gives view result (or_fault ScenarioFault.NotJson (json_of bytes.now)) }
+{
+    match Value::from_slice(alloc, bytes) {
+        Ok(value) => Ok(value),
+        Err(error) => {
+            if error.is_memory() {
+                Err(ScenarioFault::OutOfMemory)
+            } else {
+                Err(ScenarioFault::NotJson)
+            }
+        }
+    }
+}
+
+/// The scenario that a JSON value is: its shape comes before its layout and its lines.
+#[tactic(auto, unfolding(crate::specs::Scenario::scenario_of, crate::specs::Form::form_of, crate::specs::Form::parts_of))]
+fn scenario_from(alloc: Global, value: &Value) -> Result<Scenario, ScenarioFault>
+    ensures { Gives scenario_seen result (scenario_of (view value.now)) }
+{
+    if !has_keys(value, 2) {
+        return Err(ScenarioFault::BadShape);
+    }
+    let layout = value.get("layout").ok_or(ScenarioFault::BadShape)?;
+    if !has_keys(layout, 11) {
+        return Err(ScenarioFault::BadShape);
+    }
+    let boot = boots_at(alloc, layout, "boot")?;
+    let parts = parts_with(layout, &boot).ok_or(ScenarioFault::BadShape)?;
+    let calls = texts_at(alloc, value, "calls")?;
+    scenario_with(alloc, &parts, &calls)
+}
+
+/// The scenario of a layout's parts and of the lines' texts.
+#[tactic(auto, unfolding(crate::specs::Scenario::scenario_with))]
+fn scenario_with(
+    alloc: Global,
+    parts: &Parts<'_>,
+    calls: &[&str],
+) -> Result<Scenario, ScenarioFault>
+    ensures { Gives scenario_seen result (scenario_with (record { parts = parts_seen parts.now; calls = map (λ t. t.now) calls.now })) }
+{
+    let layout = layout_from(alloc, parts)?;
+    let script = read_lines(alloc, calls)?;
+    Ok(Scenario {
+        layout,
+        names: script.names,
+        lines: Lines::new(script.lines),
+    })
+}
+
+/// The layout of the parts.
+fn layout_from(alloc: Global, parts: &Parts<'_>) -> Result<Layout, ScenarioFault>
+    ensures { Gives (λ l. l) result (layout_or (parts_seen parts.now) (layout_fault (parts_seen parts.now))) }
+{
+    match Layout::new(alloc, parts) {
+        Ok(layout) => Ok(layout),
+        Err(LayoutFault::OutOfMemory) => Err(ScenarioFault::OutOfMemory),
+        Err(fault) => Err(ScenarioFault::Layout(fault)),
+    }
+}
+
+/// The lines of the texts.
+fn read_lines(alloc: Global, texts: &[&str]) -> Result<Script, ScenarioFault>
+    ensures { Gives script_seen result (lines_from 1 nothing (map (λ t. t.now) texts.now)) }
+{
+    let mut names = IndexSet::new(alloc);
+    let mut lines = Vec::new(alloc);
+    let mut words = Vec::new(alloc);
+    for (index, text) in texts.iter().enumerate() {
+        let Some(line) = line_from(alloc, &mut names, &mut words, text)? else {
+            let line = index as u64 + 1;
+            return Err(ScenarioFault::BadLine { line });
+        };
+        lines.push(line)?;
+    }
+    Ok(Script { names, lines })
+}

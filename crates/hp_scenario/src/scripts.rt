@@ -1,0 +1,123 @@
+//! The lines of each processor.
+ghost use Rattle.std.specs.Prelude.{◌≡◌, true, ◌++◌, ◌∷◌, [], IfOk, OnOk, length, map};
+ghost use Rattle.std.specs.List.{list_all, range_with_len};
+ghost use Rattle.hp_scenario.specs.Gives.{Gives};
+ghost use Rattle.hp_scenario.specs.Scripts.{AreForRun, first_unfit as unfit, is_for_run, script_of, scripts_of};
+ghost use Rattle.hp_scenario.specs.Seen.{scenario_seen};
+
+#[cfg(test)]
+mod tests;
+
+use crate::fault::ScenarioFault;
+use crate::lines::{Line, Lines, Work};
+use crate::scenario::Scenario;
+use std::alloc::{AllocError, Global};
+use std::marker::Model;
+
+/// The lines of one processor, in order.
+#[derive(Debug, Drop)]
+pub struct Script {
+    lines: Vec<Line>,
+}
+
+impl Model for Script {
+    ghost use Rattle.std.specs.Prelude.{List};
+    ghost use Rattle.hp_scenario.specs.declared.lines.Line.{Line};
+
+    ghost Value = { List Line };
+
+    ghost view = { λ s. s.lines.items };
+}
+
+impl Script {
+    /// The script of these lines, with no memory taken.
+    pub fn new(lines: Vec<Line>) -> Script
+        ensures { result ≡ lines.items }
+    {
+        Script { lines }
+    }
+
+    /// The lines in order.
+    pub fn as_slice(&self) -> &[Line]
+        ensures { result.now ≡ self.now }
+    {
+        self.lines.as_slice()
+    }
+
+    /// One line more, at the end. An error is out of memory.
+    fn push(&mut self, line: Line) -> Result<(), AllocError>
+        ensures { OnOk result (self.new ≡ self.old ++ line ∷ []) }
+    {
+        Ok(self.lines.push(line)?)
+    }
+}
+
+impl Scenario {
+    /// The lines by processor: one script for each processor of the layout, in order from 0. It takes the scenario, whose lines
+    /// move into the scripts.
+    ///
+    /// Errors: NotForRun with the first line, counted from 1, that reads a control file or whose processor is not in the layout;
+    /// OutOfMemory, which may come in place of any answer.
+    #[tactic(auto, unfolding(crate::specs::Scripts::scripts_of))]
+    pub fn scripts(self, alloc: Global) -> Result<Vec<Script>, ScenarioFault>
+        ensures scripts { Gives (λ scripts. scripts.items) result (scripts_of (scenario_seen self)) }
+        ensures count { IfOk result (λ scripts. length scripts.items ≡ (scenario_seen self).layout.cpus) }
+        ensures run { IfOk result (λ scripts. AreForRun scripts.items) }
+    {
+        let cpus = self.layout.cpus();
+        let lines = self.lines.into_vec();
+        if let Some(index) = first_unfit(&lines, cpus) {
+            let line = index as u64 + 1;
+            return Err(ScenarioFault::NotForRun { line });
+        }
+        Ok(dealt(alloc, lines, cpus)?)
+    }
+}
+
+/// Where the first line stands that no worker may run.
+fn first_unfit(lines: &[Line], cpus: u32) -> Option<usize>
+    ensures { result ≡ unfit cpus lines.now }
+{
+    lines.iter().position(|line| !line.is_for_run(cpus))
+}
+
+/// The lines of each processor. All lines may be run.
+fn dealt(alloc: Global, lines: Vec<Line>, cpus: u32) -> Result<Vec<Script>, AllocError>
+    requires { list_all (is_for_run cpus) lines.items ≡ true }
+    ensures { IfOk result (λ scripts. scripts.items ≡ map (script_of lines.items) (range_with_len 0 cpus)) }
+{
+    let mut scripts = no_scripts(alloc, cpus)?;
+    let mut left = lines;
+    left.reverse();
+    while let Some(line) = left.pop() {
+        scripts[line.place()].push(line)?;
+    }
+    Ok(scripts)
+}
+
+/// An empty script for each processor.
+fn no_scripts(alloc: Global, cpus: u32) -> Result<Vec<Script>, AllocError>
+    ensures { IfOk result (λ scripts. scripts.items ≡ map (script_of []) (range_with_len 0 cpus)) }
+{
+    let mut scripts = Vec::with_capacity(alloc, cpus as usize)?;
+    for _cpu in 0..cpus {
+        scripts.push_reserved(Script::new(Vec::new(alloc)));
+    }
+    Ok(scripts)
+}
+
+impl Line {
+    /// The place of the line's script.
+    fn place(&self) -> usize
+        ensures { result ≡ self.now.cpu }
+    {
+        self.cpu.0 as usize
+    }
+
+    /// Whether a worker may run the line: its processor is one of so many, and it does not read a control file.
+    fn is_for_run(&self, cpus: u32) -> bool
+        ensures { result ≡ is_for_run cpus self.now }
+    {
+        self.cpu.0 < cpus && !matches!(&self.work, Work::Cat { .. })
+    }
+}

@@ -1,0 +1,23 @@
+use Rattle.std.proofs.Common.{◌≡◌, ap, sym, ◌∙◌, ◌++◌, ◌∷◌, [], List, arith}
+use Rattle.std.proofs.lemmas.List.FromFn.{map-range_with_len_more}
+use Rattle.hp_units.specs.LayoutParts.{LayoutParts}
+use Rattle.hp_shared.specs.Shared.{SeatValue, first_seat, first_seats}
+use Rattle.hp_shared.proofs.shared.Shared.new.Goals as goal
+
+pub loop-cpu-preserved : goal.loop-cpu-preserved
+loop-cpu-preserved g c =
+    let i = c.loop-cpu.invariant in (
+      omega (arith, i.0, c.split_off-share.ensures.parts_left),
+      omega (arith, i.1, c.split_off-share.ensures.amount_left),
+      c.push_reserved.ensures.items
+          ∙ (ap (λ (seats : List SeatValue). seats ++ c.new.result ∷ []) i.2
+          ∙ (ap (λ (seat : SeatValue). first_seats c.loop-cpu.cpu ++ seat ∷ []) c.new.ensures
+          ∙ sym (map-range_with_len_more first_seat 0 c.loop-cpu.cpu c.loop-cpu.cpu (omega arith)))),
+      omega (arith, i.3, c.push_reserved.ensures.len),
+      omega (arith, i.4, c.push_reserved.ensures.capacity),
+    )
+
+pub returns-clause-seats : goal.returns-clause-seats
+returns-clause-seats g c =
+    let cpus : c.cpus-cpus.result ≡ g.L.Job.layout.cpus = c.cpus-cpus.ensures.is ∙ (ap (λ (l : LayoutParts). l.cpus) c.layout.ensures ∙ ap (λ (l : LayoutParts). l.cpus) c.requires.machine.layout) in
+    c.loop-cpu.invariant.2 ∙ ap first_seats (omega (arith, cpus, c.loop-cpu.auto.cpu-end, c.loop-cpu-test.false))

@@ -1,0 +1,5 @@
+pub mod Closing
+pub mod Comparing
+pub mod Marks
+pub mod SeatPorts
+pub mod Shared

@@ -1,0 +1,64 @@
+-- What a contract sees of a shared machine and of its seats, and what a call of a seat does.
+use Rattle.std.specs.Prelude.{ℕ, ◌≡◌, ◌<◌, ◌≤◌, List, [], ◌∷◌, ◌++◌, length, map}
+use Rattle.std.specs.List.{range_with_len}
+use Rattle.hp_units.specs.LayoutParts.{LayoutParts}
+use Rattle.hp_units.specs.Boot.{boot_memory}
+use Rattle.hp_units.specs.declared.events.Event.{Event}
+use Rattle.hp_units.specs.declared.replies.Receipt.{Receipt}
+use Rattle.hp_units.specs.declared.replies.Record.{Record}
+use Rattle.hp_machine.specs.Machine.{IsHistory, MachineValue, last_serial, record_of}
+
+-- what lies under the lock: a machine, and how many records it has made
+pub record LockedValue : Type 0 where
+  pub machine : MachineValue
+  pub total : ℕ
+
+-- a machine of the layout with no records, which sealed nothing
+pub record IsFresh (l : LayoutParts) (m : MachineValue) : Type 0 where
+  pub layout : m.layout ≡ l
+  pub before : m.before ≡ 0
+  pub history : m.history ≡ []
+
+-- what every lock shows: the layout's machine, from boot on, with a legal history and the state that the history leads to; the
+-- total is the number of its records
+pub record IsShared (l : LayoutParts) (v : LockedValue) : Type 0 where
+  pub layout : v.machine.layout ≡ l
+  pub before : v.machine.before ≡ 0
+  pub base : v.machine.base ≡ boot_memory l
+  pub history : IsHistory v.machine
+  pub total : v.total ≡ last_serial v.machine
+
+-- a seat: its processor, and the receipts of its calls, oldest first
+pub record SeatValue : Type 0 where
+  pub cpu : ℕ
+  pub receipts : List Receipt
+
+-- the seat of each processor, with no call made yet
+abbrev pub first_seat : ℕ → SeatValue
+first_seat cpu = record { cpu = cpu; receipts = [] }
+
+abbrev pub first_seats : (cpus : ℕ) → List SeatValue
+first_seats cpus = map first_seat (range_with_len 0 cpus)
+
+-- a receipt is that of the last record of a machine's history, a record of the processor
+pub record IsLastOf (m : MachineValue) (cpu : ℕ) (r : Receipt) : Type 0 where
+  pub earlier : List Record
+  pub history : m.history ≡ earlier ++ record_of cpu r ∷ []
+  pub serial : r.serial ≡ last_serial m
+
+-- a processor's turn under the lock was answered so, with so many receipts of its seat now: the receipt is of the event that was
+-- asked, and some state of the shared machine has it as its last record, with as many records as the receipt's serial says; these
+-- are at least as many as the seat has receipts
+pub record IsTurn (l : LayoutParts) (cpu : ℕ) (event : Event) (r : Receipt) (receipts : ℕ) : Type 0 where
+  pub asked : r.event ≡ event
+  pub seen : LockedValue
+  pub shared : IsShared l seen
+  pub last : IsLastOf seen.machine cpu r
+  pub within : receipts ≤ r.serial
+
+-- the call of an event by a seat, whose processor is in the layout, was answered so: its receipt is appended
+pub record IsSeated (l : LayoutParts) (old : SeatValue) (event : Event) (r : Receipt) (new : SeatValue) : Type 0 where
+  pub inside : old.cpu < l.cpus
+  pub cpu : new.cpu ≡ old.cpu
+  pub receipts : new.receipts ≡ old.receipts ++ r ∷ []
+  pub turn : IsTurn l old.cpu event r (length new.receipts)

@@ -1,0 +1,120 @@
+//! The comparison of all seats' receipts with a history: one pass over the history, and one over the receipts.
+ghost use Rattle.std.specs.Prelude.{ℕ, ◌≡◌, ◌+◌, ◌<◌, ◌^◌, ◌-◌, ◌++◌, ◌∷◌, [], List, true, false, IfOk, IfSome, IfNone, Some, length, slice_get, vec_len};
+ghost use Rattle.hp_units.specs.declared.replies.Record.{Record};
+ghost use Rattle.hp_shared.specs.Marks.{AreMarks, AreSeated};
+ghost use Rattle.hp_shared.specs.Comparing.{HasEach, IsCompared, IsOutcome, IsSeatAt, IsSeatOf, IsTwinless, IsUnseated, StraysAt, StraysHere};
+
+use crate::job::Job;
+use crate::marks::{Mark, lower};
+use crate::seat::Seat;
+use hp_units::{Cpu, Record, Serial};
+use std::alloc::{AllocError, Global};
+
+/// Whether there is one seat for each processor, in any order.
+pub fn has_each<L: Job>(seats: &Vec<Seat<L>>, cpus: u32) -> bool
+    ensures each { result ≡ true → HasEach cpus seats.now.items }
+    ensures missing { result ≡ false → HasEach cpus seats.now.items → ⊥ }
+{
+    if seats.len() != cpus as usize {
+        return false;
+    }
+    for place in 0..seats.len() {
+        if seats[place].cpu().0 >= cpus || has_twin(seats, place) {
+            return false;
+        }
+    }
+    true
+}
+
+/// Whether another seat is of the same processor.
+fn has_twin<L: Job>(seats: &Vec<Seat<L>>, place: usize) -> bool
+    requires { place < vec_len seats.now }
+    ensures alone { result ≡ false → IsTwinless seats.now.items place }
+    ensures twin { result ≡ true → IsTwinless seats.now.items place → ⊥ }
+{
+    let cpu = seats[place].cpu();
+    for other in 0..seats.len() {
+        if other != place && seats[other].cpu() == cpu {
+            return true;
+        }
+    }
+    false
+}
+
+/// The place of a processor's seat, which mostly is the processor's number.
+fn place_of<L: Job>(seats: &Vec<Seat<L>>, cpu: Cpu) -> Option<usize>
+    ensures found { IfSome result (λ place. IsSeatAt seats.now.items cpu place) }
+    ensures none { IfNone result (IsUnseated seats.now.items cpu) }
+{
+    let own = cpu.0 as usize;
+    if own < seats.len() && seats[own].cpu() == cpu {
+        return Some(own);
+    }
+    for place in 0..seats.len() {
+        if seats[place].cpu() == cpu {
+            return Some(place);
+        }
+    }
+    None
+}
+
+/// Compares the receipts of all seats, no two of which are of the same processor, with the records of a history. None where each
+/// seat's receipts are its processor's records and there are no others; else the lowest serial at which they differ. An error is
+/// out of memory.
+pub fn compare<L: Job>(
+    alloc: Global,
+    history: &[Record],
+    seats: &Vec<Seat<L>>,
+) -> Result<Option<Serial>, AllocError>
+    requires { (place : ℕ) → IsTwinless seats.now.items place }
+    ensures { IfOk result (IsCompared history.now seats.now.items) }
+{
+    let mut marks = vec![in alloc; Mark::start(); seats.len()]?;
+    // No effect at run time: the proof reads the bound on the history's length from this call.
+    let _ = history.len();
+    let mut lowest = mark_records(seats, &mut marks, history);
+    for place in 0..seats.len() {
+        lowest = lower(lowest, marks[place].finish(seats[place].receipts()));
+    }
+    Ok(lowest)
+}
+
+/// Marks more records, each at its seat. The lowest serial of a record of no seat.
+fn mark_records<L: Job>(
+    seats: &Vec<Seat<L>>,
+    marks: &mut Vec<Mark>,
+    records: &[Record],
+) -> Option<Serial>
+    requires apart { (place : ℕ) → IsTwinless seats.now.items place }
+    requires room { (history : List Record) × (length history + length records.now < 2 ^ 64) × AreMarks history seats.now.items marks.old.items }
+    ensures marks { (history : List Record) → AreMarks history seats.now.items marks.old.items → AreMarks (history ++ records.now) seats.now.items marks.new.items }
+    ensures len { vec_len marks.new ≡ vec_len marks.old }
+    ensures strays { IsOutcome (AreSeated records.now seats.now.items) (StraysAt records.now seats.now.items) result }
+{
+    let mut lowest = None;
+    for at in 0..records.len() {
+        lowest = lower(lowest, mark_record(seats, marks, &records[at]));
+    }
+    lowest
+}
+
+/// Marks one more record at its seat. The record's serial where it is of no seat.
+fn mark_record<L: Job>(
+    seats: &Vec<Seat<L>>,
+    marks: &mut Vec<Mark>,
+    latest: &Record,
+) -> Option<Serial>
+    requires apart { (place : ℕ) → IsTwinless seats.now.items place }
+    requires room { (history : List Record) × (length history < 2 ^ 64 - 1) × AreMarks history seats.now.items marks.old.items }
+    ensures marks { (history : List Record) → AreMarks history seats.now.items marks.old.items → AreMarks (history ++ latest.now ∷ []) seats.now.items marks.new.items }
+    ensures len { vec_len marks.new ≡ vec_len marks.old }
+    ensures stray { IsOutcome (IsSeatOf seats.now.items latest.now.cpu) (StraysHere seats.now.items latest.now) result }
+{
+    match place_of(seats, latest.cpu) {
+        Some(place) => {
+            marks[place] = marks[place].step(seats[place].receipts(), latest);
+            None
+        }
+        None => Some(latest.serial),
+    }
+}

@@ -1,0 +1,30 @@
+//! A machine that several threads share: one lock round it, a seat for each processor, and at the end the comparison of all
+//! receipts with the history.
+//!
+//! The crate owns the lock (`Shared`), what lies under it (`Locked`), the processors' accesses (`Seat`, and `SeatPort` for the
+//! driver of a plan) and the end (`close`). The machine it only calls and reads: a turn under the lock is one `Machine::call`. It
+//! starts no thread, and waits for the lock alone, which nobody holds between two calls.
+//!
+//! What ties a seat to the machine is std's ledger: the total under the lock is the number of the machine's records, and each
+//! seat's share is the number of its receipts. Read `locked` first, then `seat` and `closing`; `marks` and `comparing` are how
+//! `close` compares.
+#![tactic(auto)]
+
+mod closing;
+mod comparing;
+mod job;
+mod locked;
+mod marks;
+mod seat;
+mod seat_port;
+mod shared;
+
+pub use closing::{CloseFault, CloseRefused, Closed, close};
+pub use job::Job;
+pub use locked::Locked;
+pub use seat::Seat;
+pub use seat_port::SeatPort;
+pub use shared::Shared;
+
+#[cfg(test)]
+mod tests;

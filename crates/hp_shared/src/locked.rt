@@ -1,0 +1,84 @@
+//! What lies under the lock.
+ghost use Rattle.std.specs.Prelude.{◌≡◌, ◌↔◌, ◌+◌, ◌≤◌, ◌<◌, Err, IfOk, OnErr, OnOk, IsTrue};
+ghost use Rattle.hp_units.specs.declared.replies.CallFault.TheVariants.{HistoryFull};
+ghost use Rattle.hp_machine.specs.Machine.{IsCalled, is_full};
+ghost use Rattle.hp_shared.specs.Shared.{IsFresh, IsShared};
+
+use crate::job::Job;
+use hp_machine::Machine;
+use hp_units::{CallFault, Cpu, Event, Receipt};
+use std::alloc::Global;
+use std::marker::Model;
+use std::sync::ledger::{Book, Share};
+
+/// A machine of the job's layout, and the total of its records, which the ledger of the seats' shares carries (own rule).
+#[derive(Drop)]
+pub struct Locked<L: Job> {
+    machine: Machine,
+    book: Book<L>,
+}
+
+impl<L: Job> Model for Locked<L> {
+    ghost use Rattle.hp_shared.specs.Shared.{IsShared, LockedValue};
+
+    ghost Value = { LockedValue };
+
+    ghost view = { λ l. record { machine = l.machine; total = l.book.total } };
+
+    ghost invariant = { λ l. IsShared L.layout (record { machine = l.machine; total = l.book.total }) };
+}
+
+impl<L: Job> Locked<L> {
+    /// A machine at its start, whose records the ledger counts from now on.
+    pub(crate) fn new(machine: Machine, book: Book<L>) -> Locked<L>
+        requires machine { IsFresh L.layout machine }
+        requires book { book.total ≡ 0 }
+        ensures { result ≡ record { machine = machine; total = 0 } }
+    {
+        machine.begins_at_boot();
+        let _ = machine.history();
+        Locked { machine, book }
+    }
+
+    /// The one step of a seat: a call of the machine (own rule). Where it was recorded, the total and the seat's share each rise by
+    /// one; no share is above the total. It waits for nobody, since whoever calls it holds the lock.
+    ///
+    /// Errors are those of `Machine::call`, `HistoryFull` exactly where the history holds its limit; they leave all as it was.
+    pub fn turn(
+        &mut self,
+        alloc: Global,
+        share: &mut Share<L>,
+        cpu: Cpu,
+        event: &Event,
+    ) -> Result<Receipt, CallFault>
+        requires { 0 < share.old.parts }
+        ensures full { (result ≡ Err HistoryFull) ↔ IsTrue (is_full self.old.machine) }
+        ensures err { OnErr result ((self.new ≡ self.old) × (share.new.amount ≡ share.old.amount)) }
+        ensures ok { IfOk result (λ receipt. IsCalled self.old.machine cpu event.now receipt self.new.machine) }
+        ensures counted { OnOk result ((self.new.total ≡ self.old.total + 1) × (share.new.amount ≡ share.old.amount + 1)) }
+        ensures parts { share.new.parts ≡ share.old.parts }
+        ensures within { share.new.amount ≤ self.new.total }
+        ensures kept { IsShared L.layout self.new }
+    {
+        self.book.audit(share);
+        let receipt = self.machine.call(alloc, cpu, event)?;
+        self.book.add(share, 1);
+        Ok(receipt)
+    }
+
+    /// The machine.
+    pub(crate) fn machine(&self) -> &Machine
+        ensures machine { result.now ≡ self.now.machine }
+        ensures kept { IsShared L.layout self.now }
+    {
+        &self.machine
+    }
+
+    /// The machine alone.
+    pub(crate) fn into_machine(self) -> Machine
+        ensures { result ≡ self.machine }
+    {
+        let Locked { machine, book: _ } = self;
+        machine
+    }
+}

@@ -1,0 +1,90 @@
+//! A processor's access to the shared machine.
+ghost use Rattle.std.specs.Prelude.{◌≡◌, ◌+◌, ◌<◌, ◌≤◌, ◌++◌, ◌∷◌, [], IfOk, OnErr, OnOk, length, vec_len, vec_capacity};
+ghost use Rattle.hp_shared.specs.Shared.{IsSeated, first_seat};
+
+use crate::job::Job;
+use crate::shared::Shared;
+use hp_units::{CallFault, Cpu, Event, Receipt};
+use std::alloc::Global;
+use std::marker::Model;
+use std::sync::Wait;
+use std::sync::ledger::Share;
+
+/// The one access of a processor to the shared machine (own rule). It keeps a receipt of each of its calls, and holds a share of
+/// the machine's total: the number of its receipts.
+#[derive(Drop)]
+pub struct Seat<L: Job> {
+    cpu: Cpu,
+    receipts: Vec<Receipt>,
+    share: Share<L>,
+}
+
+impl<L: Job> Model for Seat<L> {
+    ghost use Rattle.std.specs.Prelude.{◌≡◌, ◌<◌, length};
+    ghost use Rattle.hp_shared.specs.Shared.{SeatValue};
+
+    ghost Value = { SeatValue };
+
+    ghost view = { λ s. record { cpu = s.cpu; receipts = s.receipts.items } };
+
+    ghost invariant = { λ s. (s.cpu < L.layout.cpus) × (0 < s.share.parts) × (s.share.amount ≡ length s.receipts.items) };
+}
+
+impl<L: Job> Seat<L> {
+    /// A seat with a share that counts nothing yet.
+    pub(crate) fn new(alloc: Global, cpu: Cpu, share: Share<L>) -> Seat<L>
+        requires cpu { cpu < L.layout.cpus }
+        requires share { (0 < share.parts) × (share.amount ≡ 0) }
+        ensures { result ≡ first_seat cpu }
+    {
+        Seat {
+            cpu,
+            receipts: Vec::new(alloc),
+            share,
+        }
+    }
+
+    /// One call of the seat's processor, under one holding of the lock, for which it may wait; its receipt is kept. Room for the
+    /// receipt and the copy of the event are made before the lock is taken.
+    ///
+    /// Errors: `HistoryFull` where the history holds its limit of records, `OutOfMemory` before the lock or under it. Either
+    /// leaves seat and machine as they were.
+    pub fn call(
+        &mut self,
+        rt: &impl Wait,
+        alloc: Global,
+        shared: &Shared<L>,
+        event: &Event,
+    ) -> Result<Receipt, CallFault>
+        ensures ok { IfOk result (λ receipt. IsSeated L.layout self.old event.now receipt self.new) }
+        ensures err { OnErr result (self.new ≡ self.old) }
+    {
+        let Ok(()) = self.receipts.reserve(1) else {
+            return Err(CallFault::OutOfMemory);
+        };
+        let Ok(asked) = event.copy(alloc) else {
+            return Err(CallFault::OutOfMemory);
+        };
+        let receipt = shared.turn(rt, alloc, &mut self.share, self.cpu, event)?;
+        self.receipts.push_reserved(Receipt {
+            serial: receipt.serial,
+            event: asked,
+            reply: receipt.reply,
+        });
+        Ok(receipt)
+    }
+
+    /// The processor's number, below the layout's number of processors.
+    pub fn cpu(&self) -> Cpu
+        ensures { result ≡ self.now.cpu }
+    {
+        self.cpu
+    }
+
+    /// The receipts of the seat's calls, oldest first.
+    pub fn receipts(&self) -> &[Receipt]
+        ensures { result.now ≡ self.now.receipts }
+    {
+        self.receipts.as_slice()
+    }
+}

@@ -1,0 +1,30 @@
+-- What a number counts, in the signatures of the definitions: each is the number itself, and costs a proof nothing.
+use Rattle.std.specs.Prelude.{ℕ}
+
+-- a page frame (Gorman, chapter 2), and the order of a block of 2^order frames (Knuth, volume 1, section 2.5)
+abbrev pub Frame : Type 0
+Frame = ℕ
+
+abbrev pub Order : Type 0
+Order = ℕ
+
+-- a pageblock (own rule), and a memory block (Linux, memory hotplug: memory block)
+abbrev pub Pageblock : Type 0
+Pageblock = ℕ
+
+abbrev pub Block : Type 0
+Block = ℕ
+
+-- a processor, an owner of pages, and a page of an owner
+abbrev pub Cpu : Type 0
+Cpu = ℕ
+
+abbrev pub Owner : Type 0
+Owner = ℕ
+
+abbrev pub Page : Type 0
+Page = ℕ
+
+-- the serial of a record, which also names the operation that its Begin opens (own rule)
+abbrev pub Serial : Type 0
+Serial = ℕ

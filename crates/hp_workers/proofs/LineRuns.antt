@@ -1,0 +1,69 @@
+-- Lines, one after another.
+use Rattle.std.proofs.Common.{◌≡◌, ℕ, zero, suc, ◌+◌, ◌<◌, ◌≤◌, List, [], ◌∷◌, ◌++◌, length, take, Option, Some, None, slice_get, refl, ap, sym, subst, ◌∙◌, arith, add-one}
+use Rattle.std.proofs.lemmas.List.{append_assoc, append-nil, length-append}
+use Rattle.std.proofs.lemmas.Option.{slice_get_within}
+use Rattle.hp_units.specs.LayoutParts.{LayoutParts}
+use Rattle.hp_units.specs.declared.replies.CallFault.{CallFault}
+use Rattle.hp_units.specs.declared.replies.Receipt.{Receipt}
+use Rattle.hp_ops.specs.Ports.{AreMade}
+use Rattle.hp_laws.proofs.Lists.{take_next}
+use Rattle.hp_scenario.specs.declared.lines.Line.{Line}
+use Rattle.hp_scenario.specs.declared.lines.Work.{Work}
+use Rattle.hp_shared.specs.Shared.{SeatValue}
+use Rattle.hp_shared.specs.SeatPorts.{AreTurns, turns_joined}
+use Rattle.hp_workers.specs.declared.lines.LineEnd.{LineEnd}
+use Rattle.hp_workers.specs.Lines.{AreLines, IsLine, IsLineRun, IsWorked}
+
+-- what a port's calls made of its seat
+pub seat_made : {S N : Type 0} (l : LayoutParts) (makes : S → List Receipt → S → Type 0) (leaves : S → CallFault → S → Type 0) (old new : S) (gained : List Receipt) (fault : Option CallFault) → AreMade makes leaves old gained fault new
+    → (name : S → N) (seat : S → SeatValue)
+    → ((p q : S) (gained : List Receipt) → makes p gained q → (name q ≡ name p) × AreTurns l (seat p) gained (seat q))
+    → ((p q : S) (fault : CallFault) → leaves p fault q → (name q ≡ name p) × (seat q ≡ seat p))
+    → (name new ≡ name old) × AreTurns l (seat old) gained (seat new)
+seat_made l makes leaves old new gained None made name seat as_turns as_left = as_turns old new gained made
+seat_made l makes leaves old new gained (Some fault) made name seat as_turns as_left =
+    let turns = as_turns old made.0 gained made.1 in
+    let left = as_left made.0 new fault made.2 in
+    (left.0 ∙ turns.0, subst (λ (s : SeatValue). AreTurns l (seat old) gained s) (sym left.1) turns.1)
+
+-- a line was run by the seat that a port had
+pub line_run : (l : LayoutParts) (old first last new : SeatValue) (asked : Work) (gained : List Receipt) (end : LineEnd) → first ≡ old → new ≡ last → AreTurns l first gained last → IsLine l.cpus asked gained end → IsLineRun l old asked end new
+line_run l old first last new asked gained end first_is new_is turns ran =
+    subst (λ (s : SeatValue). IsLineRun l s asked end new) first_is
+    (subst (λ (s : SeatValue). IsLineRun l first asked end s) (sym new_is) (record { gained = gained; turns = turns; line = ran }))
+
+-- one more line
+lines_more : (cpus : ℕ) (lines : List Line) (line : Line) (gained more : List Receipt) (ends : List LineEnd) (end : LineEnd) → AreLines cpus lines gained ends → IsLine cpus line.work more end → AreLines cpus (lines ++ line ∷ []) (gained ++ more) (ends ++ end ∷ [])
+lines_more cpus [] line gained more ends end none ran =
+    (more, end, [], [], ap (λ (rs : List Receipt). rs ++ more) none.0 ∙ sym (append-nil more), ap (λ (es : List LineEnd). es ++ end ∷ []) none.1, ran, (refl, refl))
+lines_more cpus (x ∷ lines) line gained more ends end before ran =
+    let later = lines_more cpus lines line before.2 more before.3 end before.7 ran in (
+      before.0,
+      before.1,
+      before.2 ++ more,
+      before.3 ++ end ∷ [],
+      ap (λ (rs : List Receipt). rs ++ more) before.4 ∙ append_assoc before.0 before.2 more,
+      ap (λ (es : List LineEnd). es ++ end ∷ []) before.5,
+      before.6,
+      later,
+    )
+
+-- no line yet
+pub worked_none : (l : LayoutParts) (seat : SeatValue) (lines : List Line) (ends : List LineEnd) → ends ≡ [] → IsWorked l seat lines seat ends
+worked_none l seat lines ends none =
+    subst (IsWorked l seat lines seat) (sym none) (record { gained = []; turns = refl; ran = (refl, refl); within = omega arith })
+
+-- one more line of a script
+pub worked_next : (l : LayoutParts) (old mid new : SeatValue) (lines : List Line) (line : Line) (ends more : List LineEnd) (end : LineEnd) → slice_get lines (length ends) ≡ Some line → more ≡ ends ++ end ∷ [] → IsWorked l old lines mid ends → IsLineRun l mid line.work end new → IsWorked l old lines new more
+worked_next l old mid new lines line ends more end here is worked run =
+    subst (IsWorked l old lines new) (sym is) (record {
+      gained = worked.gained ++ run.gained;
+      turns = turns_joined l worked.gained run.gained old mid new worked.turns run.turns;
+      ran =
+          subst (λ (ls : List Line). AreLines l.cpus ls (worked.gained ++ run.gained) (ends ++ end ∷ [])) (sym taken)
+          (lines_more l.cpus (take (length ends) lines) line worked.gained run.gained ends end worked.ran run.line);
+      within = (let inside = slice_get_within lines (length ends) line here in omega (arith, length-append ends (end ∷ []), inside));
+    })
+  where
+    taken : take (length (ends ++ end ∷ [])) lines ≡ take (length ends) lines ++ line ∷ []
+    taken = ap (λ (k : ℕ). take k lines) (omega (arith, length-append ends (end ∷ [])) ∙ add-one (length ends)) ∙ take_next lines (length ends) line here

@@ -1,5 +1,0 @@
-use Rattle.hp_workers.proofs.LineLaw.{lines_law}
-use Rattle.hp_workers.proofs.laws.lines_are_spelled.Goals as goal
-
-pub returns : goal.returns
-returns c = lines_law

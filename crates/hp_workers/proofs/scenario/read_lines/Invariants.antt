@@ -1,6 +1,0 @@
-use Rattle.std.proofs.Common.{◌≡◌, ◌+◌, map, drop}
-use Rattle.hp_workers.specs.Scenario.{nothing, lines_from}
-use Rattle.hp_workers.proofs.scenario.read_lines.Given as goal
-
-abbrev pub invariant-loop-index : goal.invariant-loop-index
-invariant-loop-index l = lines_from (l.index + 1) (record { names = l.names.keys; lines = l.lines.items }) (drop l.index (map (λ t. t.now) l.texts)) ≡ lines_from 1 nothing (map (λ t. t.now) l.texts)

@@ -1,0 +1,19 @@
+use Rattle.std.proofs.Common.{◌≡◌, length, Some, List, slice_get, refl, sym, ap, subst, ◌∙◌, arith}
+use Rattle.std.proofs.lemmas.Option.{slice_get_read}
+use Rattle.hp_scenario.specs.declared.lines.Line.{Line}
+use Rattle.hp_workers.proofs.LineRuns.{worked_next}
+use Rattle.hp_workers.proofs.worker.run_script.Goals as goal
+
+pub loop-at-preserved : goal.loop-at-preserved
+loop-at-preserved g c =
+    let i = c.loop-at.invariant in
+    let lines = c.as_slice-lines.result.now in
+    let at = c.loop-at.at in
+    let count : at ≡ length c.loop-at.ends.items = omega (arith, i.0, c.loop-at.ends.ok.0) in
+    let read = slice_get_read lines (length lines) at c.index-lines-at.result refl (omega (arith, c.loop-at-test.true, c.loop-at.auto)) c.index-lines-at.is in
+    let here : slice_get c.args.script.now (length c.loop-at.ends.items) ≡ Some c.index-lines-at.result =
+    ap (λ (ws : List Line). slice_get ws (length c.loop-at.ends.items)) (sym c.as_slice-lines.ensures) ∙ (ap (λ k. slice_get lines k) (sym count) ∙ read) in (
+      omega (arith, i.0, c.push_reserved.ensures.len),
+      omega (arith, i.1, c.push_reserved.ensures.capacity),
+      worked_next g.L.Job.layout c.args.seat c.loop-at.seat c.run_line-end.new.seat c.args.script.now c.index-lines-at.result c.loop-at.ends.items c.push_reserved.new.self.items c.run_line-end.result here c.push_reserved.ensures.items i.2 c.run_line-end.ensures,
+    )

@@ -1,0 +1,169 @@
+//! Workers in threads, one for each seat.
+ghost use Rattle.std.specs.Prelude.{◌≡◌, ◌≤◌, [], None, Some, vec_len, vec_capacity};
+ghost use Rattle.std.specs.List.{All};
+ghost use Rattle.std.specs.Thread.{IsSend, IsSync};
+ghost use Rattle.hp_scenario.specs.Scripts.{AreForRun, IsForRun};
+ghost use Rattle.hp_workers.specs.Workers.{AreWorkers, IsRunEnd, IsWorker};
+ghost use Rattle.hp_workers.specs.declared.fault.RunFault.TheVariants.{OutOfMemory};
+
+use crate::fault::RunFault;
+use crate::gate::Gate;
+use crate::lines::Ends;
+use crate::worker::{Worked, run_script};
+use hp_scenario::Script;
+use hp_shared::{Job, Seat, Shared};
+use std::alloc::Global;
+use std::snapshot::Snapshot;
+use std::sync::Wait;
+use std::sync::atomic::{AtomicBool, Ordering};
+use std::thread;
+use std::thread::{Promise, Threads};
+
+/// What a worker's thread promises: its seat and its script as they were.
+#[derive(Drop)]
+pub struct Task<L: Job> {
+    seat: Snapshot<Seat<L>>,
+    script: Snapshot<Script>,
+}
+
+impl<L: Job> Promise<Worked<L>> for Task<L> {
+    ghost use Rattle.hp_workers.specs.Workers.{IsWorker};
+
+    ghost kept_by = { λ t w. IsWorker L.layout t.seat.value t.script.value w.seat w.ends w.fault };
+}
+
+/// What a run of workers leaves.
+#[derive(Drop)]
+pub struct RunEnd<L: Job> {
+    /// All seats, in the order in which they came, each after the lines that it ran.
+    pub seats: Vec<Seat<L>>,
+    /// For each seat the ends of the lines that it ran; no item at all where memory was refused before any line.
+    pub ends: Vec<Ends>,
+    /// None where all lines were run.
+    pub fault: Option<RunFault>,
+}
+
+/// Runs each script by the seat at its place, each in a thread of its own, and waits for all (own rule). Each call of a seat takes
+/// the machine's lock anew, with the gate before and after it.
+///
+/// All seats come back in every case, with the receipts of the lines that they ran, in order. Without a fault these are all lines;
+/// with one, a beginning of each script. A worker for which no thread can be made runs no line: NotStarted. OutOfMemory: memory was
+/// refused before a worker's first line. Out of memory in a line is that line's end and no fault of the run.
+pub fn run_workers<L: Job + Send + Sync, G: Gate + Sync, R: Threads + Wait + Sync>(
+    rt: &R,
+    alloc: Global,
+    shared: &Shared<L>,
+    seats: Vec<Seat<L>>,
+    scripts: Vec<Script>,
+    gate: &G,
+) -> RunEnd<L>
+    requires one_each { vec_len seats ≡ vec_len scripts }
+    requires run { AreForRun scripts.items }
+    ensures { IsRunEnd L.layout seats.items scripts.items result.seats.items result.ends.items result.fault }
+{
+    let Ok(backs) = Vec::with_capacity(alloc, seats.len()) else {
+        return unstarted(alloc, seats);
+    };
+    let Ok(ends) = Vec::with_capacity(alloc, seats.len()) else {
+        return unstarted(alloc, seats);
+    };
+    let room = RunEnd {
+        seats: backs,
+        ends,
+        fault: None,
+    };
+    run_rest(rt, alloc, shared, gate, seats, &scripts, room)
+}
+
+/// The seats as they were, since memory was refused.
+fn unstarted<L: Job>(alloc: Global, seats: Vec<Seat<L>>) -> RunEnd<L>
+    ensures seats { result.seats.items ≡ seats.items }
+    ensures ends { result.ends.items ≡ [] }
+    ensures fault { result.fault ≡ Some OutOfMemory }
+{
+    RunEnd {
+        seats,
+        ends: Vec::new(alloc),
+        fault: Some(RunFault::OutOfMemory),
+    }
+}
+
+/// Runs a worker for each seat, each in a thread beside those of the seats before it. The end has room for all.
+fn run_rest<L: Job + Send + Sync, G: Gate + Sync, R: Threads + Wait + Sync>(
+    rt: &R,
+    alloc: Global,
+    shared: &Shared<L>,
+    gate: &G,
+    seats: Vec<Seat<L>>,
+    scripts: &Vec<Script>,
+    room: RunEnd<L>,
+) -> RunEnd<L>
+    requires scripts { vec_len seats ≤ vec_len scripts.now }
+    requires run { AreForRun scripts.now.items }
+    requires empty { (room.seats.items ≡ []) × (room.ends.items ≡ []) × (room.fault ≡ None) }
+    requires room { (vec_len seats ≤ vec_capacity room.seats) × (vec_len seats ≤ vec_capacity room.ends) }
+    ensures workers { AreWorkers L.layout seats.items scripts.now.items result.seats.items result.ends.items result.fault }
+    ensures room { (vec_capacity result.seats ≡ vec_capacity room.seats) × (vec_capacity result.ends ≡ vec_capacity room.ends) }
+{
+    let mut seats = seats;
+    let Some(seat) = seats.pop() else {
+        return room;
+    };
+    let script = &scripts[seats.len()];
+    let task = Task {
+        seat: Snapshot::of(&seat),
+        script: Snapshot::of(script),
+    };
+    let flag = AtomicBool::new(true);
+    let starts = &flag;
+    let (worked, done) = thread::scope(
+        thread::scope_env(),
+        rt,
+        move |scope| -> (Worked<L>, RunEnd<L>)
+            requires { IsSend L.row × IsSync L.row × IsSync G.row × IsSync R.row × (task.seat.value ≡ seat) × (task.script.value ≡ script.now) × AreForRun scripts.now.items × All IsForRun script.now × (vec_len seats ≤ vec_len scripts.now) × (room.seats.items ≡ []) × (room.ends.items ≡ []) × (room.fault ≡ None) × (vec_len seats ≤ vec_capacity room.seats) × (vec_len seats ≤ vec_capacity room.ends) }
+            ensures { IsWorker L.layout seat script.entry.now result.0.seat result.0.ends result.0.fault × AreWorkers L.layout seats.items scripts.entry.now.items result.1.seats.items result.1.ends.items result.1.fault × (vec_capacity result.1.seats ≡ vec_capacity room.seats) × (vec_capacity result.1.ends ≡ vec_capacity room.ends) }
+        {
+            let started = scope.spawn_with(
+                task,
+                move || -> Worked<L>
+                    requires { All IsForRun script.now }
+                    ensures { IsWorker L.layout seat script.entry.now result.seat result.ends result.fault }
+                { run_script(rt, alloc, shared, gate, starts, seat, script) },
+            );
+            match started {
+                Ok(child) => {
+                    let done = run_rest(rt, alloc, shared, gate, seats, scripts, room);
+                    (child.join(rt), done)
+                }
+                Err(refused) => {
+                    starts.store(false, Ordering::SeqCst);
+                    let worked = (refused.value)();
+                    (
+                        worked,
+                        run_rest(rt, alloc, shared, gate, seats, scripts, room),
+                    )
+                }
+            }
+        },
+    );
+    let RunEnd { seats, ends, fault } = done;
+    let mut backs = seats;
+    let mut ends = ends;
+    backs.push_reserved(worked.seat);
+    ends.push_reserved(worked.ends);
+    RunEnd {
+        seats: backs,
+        ends,
+        fault: first(fault, worked.fault),
+    }
+}
+
+/// The first of two faults, where there is one.
+fn first(one: Option<RunFault>, other: Option<RunFault>) -> Option<RunFault>
+    ensures { result ≡ None → (one ≡ None) × (other ≡ None) }
+{
+    match one {
+        Some(_) => one,
+        None => other,
+    }
+}

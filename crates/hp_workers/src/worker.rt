@@ -1,0 +1,73 @@
+//! One worker: a seat and its script.
+ghost use Rattle.std.specs.Prelude.{◌≡◌, [], Some};
+ghost use Rattle.std.specs.List.{All};
+ghost use Rattle.hp_scenario.specs.Scripts.{IsForRun};
+ghost use Rattle.hp_workers.specs.Workers.{IsWorker};
+
+use crate::fault::RunFault;
+use crate::gate::Gate;
+use crate::lines::{Ends, run_line};
+use hp_scenario::Script;
+use hp_shared::{Job, Seat, Shared};
+use std::alloc::Global;
+use std::sync::Wait;
+use std::sync::atomic::{AtomicBool, Ordering};
+
+/// A seat after the lines that it ran, what became of these, and why not all were run.
+#[derive(Drop)]
+pub struct Worked<L: Job> {
+    /// The seat.
+    pub seat: Seat<L>,
+    /// An end for each line that was run.
+    pub ends: Ends,
+    /// None where all lines were run.
+    pub fault: Option<RunFault>,
+}
+
+/// Runs a script by a seat, line by line, if it is to start.
+pub(crate) fn run_script<L: Job, G: Gate, R: Wait>(
+    rt: &R,
+    alloc: Global,
+    shared: &Shared<L>,
+    gate: &G,
+    starts: &AtomicBool,
+    seat: Seat<L>,
+    script: &Script,
+) -> Worked<L>
+    requires { All IsForRun script.now }
+    ensures { IsWorker L.layout seat script.now result.seat result.ends result.fault }
+{
+    if !starts.load(Ordering::SeqCst) {
+        let cpu = seat.cpu();
+        return stopped(alloc, seat, RunFault::NotStarted { cpu });
+    }
+    let lines = script.as_slice();
+    let Ok(ends) = Vec::with_capacity(alloc, lines.len()) else {
+        return stopped(alloc, seat, RunFault::OutOfMemory);
+    };
+    let mut seat = seat;
+    let mut ends = ends;
+    let mut calls = 0;
+    for at in 0..lines.len() {
+        let end = run_line(rt, alloc, shared, gate, &mut seat, &mut calls, &lines[at]);
+        ends.push_reserved(end);
+    }
+    Worked {
+        seat,
+        ends: Ends::new(ends),
+        fault: None,
+    }
+}
+
+/// A worker that ran no line.
+fn stopped<L: Job>(alloc: Global, seat: Seat<L>, fault: RunFault) -> Worked<L>
+    ensures seat { result.seat ≡ seat }
+    ensures ends { result.ends ≡ [] }
+    ensures fault { result.fault ≡ Some fault }
+{
+    Worked {
+        seat,
+        ends: Ends::new(Vec::new(alloc)),
+        fault: Some(fault),
+    }
+}

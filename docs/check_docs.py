@@ -1,0 +1,311 @@
+#!/usr/bin/env python3
+"""Runs every example and every output that the documents show, and compares what the program
+prints, byte by byte. `check` at the top runs it after the gate; alone it takes a program:
+
+    python3 docs/check_docs.py [PROGRAM]        without PROGRAM: crates/hotplug/out/hotplug
+
+What is checked, in each *.md file at the top, in docs/ and in examples/:
+- what `hotplug serial` prints for examples/NAME.json is examples/NAME.out, and examples/README.md
+  names it;
+- a code block marked `console`: each line `$ COMMAND` is run by bash at the top, with `hotplug` on
+  the path, and prints the lines below it, standard error included;
+- a code block marked `lines FILE`: lines and their answers in two columns, on the layout of the
+  scenario FILE; a further line of an answer begins with spaces;
+- a code block marked `json FILE` is that file, and one marked `state FILE` the state it prints;
+- a table after `<!-- answers: FILE -->`: its first two columns are FILE's lines and their answers;
+- no other kind of block stands there but `text` (a picture) and `sh` (commands to type);
+- no line has more than 100 columns, and each link has its target;
+- in docs/PROVED.md, each `function` (`clause`, ..) below a crate's heading is in its source, and
+  each crate of crates.txt has a heading;
+- each path `crates/..`, `docs/..` or `examples/..` in a code span is there, but for what is built;
+  and below a line "In `crates/NAME`" each path `src/..`, `specs/..` or `proofs/..`, each name and
+  each `NAME.edit` in that crate.
+The last line is 'documents: N passed, M failed'; the exit status is 0 where nothing failed, else 1.
+"""
+import functools
+import json
+import os
+import re
+import subprocess
+import sys
+import tempfile
+from pathlib import Path
+
+ROOT = Path(__file__).resolve().parent.parent
+WIDTH = 100
+SECONDS = 60
+
+
+class Checks:
+    """What was checked, and what failed."""
+
+    def __init__(self):
+        self.passed, self.failures = 0, []
+
+    def holds(self, where, is_right, message):
+        if is_right:
+            self.passed += 1
+        else:
+            self.failures.append(f"{where}: {message}")
+
+    def same(self, where, expected, got):
+        self.holds(where, expected == got, f"differs\n    the document says {expected!r}\n"
+                                           f"    the program says  {got!r}")
+
+    def report(self):
+        for failure in self.failures:
+            print(failure)
+        print(f"documents: {self.passed} passed, {len(self.failures)} failed")
+
+
+# The program
+
+def serial(program, scenario):
+    """What the program prints for the bytes of a scenario."""
+    ran = subprocess.run([program, "serial"], input=scenario, stdout=subprocess.PIPE,
+                         stderr=subprocess.STDOUT, timeout=SECONDS)
+    return ran.stdout.decode()
+
+
+def split_state(text):
+    """The answers and the state of what `serial` printed; no state where it failed."""
+    at = text.rfind("state\nblock 0 ")
+    return (text, "") if at < 0 else (text[:at], text[at:])
+
+
+def answers(program, layout, calls):
+    """What each line prints: what running it as well adds to the answers of the lines before it."""
+    printed, before = [], ""
+    for end in range(1, len(calls) + 1):
+        scenario = json.dumps({"layout": layout, "calls": calls[:end]}).encode()
+        text, state = split_state(serial(program, scenario))
+        if not state:
+            return printed + [text.rstrip("\n")]
+        printed.append(text[len(before):].rstrip("\n"))
+        before = text
+    return printed
+
+
+def check_examples(checks, program):
+    listed = (ROOT / "examples" / "README.md").read_text()
+    for scenario in sorted((ROOT / "examples").glob("*.json")):
+        out = scenario.with_suffix(".out")
+        expected = out.read_text() if out.exists() else "no file"
+        checks.same(f"examples/{scenario.name}", expected, serial(program, scenario.read_bytes()))
+        checks.holds(f"examples/{scenario.name}", f"]({scenario.name})" in listed,
+                     "is not in examples/README.md")
+
+
+# Blocks
+
+def commands_of(body):
+    """The commands of a console block, each with the text below it."""
+    commands = []
+    for line in body:
+        if line.startswith("$ "):
+            commands.append((line[2:], ""))
+        elif commands:
+            command, text = commands[-1]
+            commands[-1] = (command, text + line + "\n")
+    return commands
+
+
+def check_console(checks, where, body, program):
+    with tempfile.TemporaryDirectory() as directory:
+        (Path(directory) / "hotplug").symlink_to(program)
+        path = directory + os.pathsep + os.environ["PATH"]
+        for command, expected in commands_of(body):
+            ran = subprocess.run(["bash", "-c", command], cwd=ROOT, stdout=subprocess.PIPE,
+                                 stderr=subprocess.STDOUT, timeout=SECONDS,
+                                 env={**os.environ, "PATH": path})
+            checks.same(f"{where}: $ {command}", expected, ran.stdout.decode())
+
+
+def check_lines(checks, where, body, file, program):
+    calls, expected = [], []
+    for line in body:
+        if line.startswith(" "):
+            expected[-1] += "\n" + line.strip()
+        else:
+            call, _, answer = line.partition("  ")
+            calls.append(call)
+            expected.append(answer.strip())
+    layout = json.loads((ROOT / file).read_text())["layout"]
+    printed = answers(program, layout, calls) + ["nothing"] * len(calls)
+    for call, wanted, got in zip(calls, expected, printed):
+        checks.same(f"{where}: {call}", wanted, got)
+
+
+def check_block(checks, where, kind, body, program):
+    text = "".join(line + "\n" for line in body)
+    if kind == ["console"]:
+        check_console(checks, where, body, program)
+    elif kind[:1] == ["lines"]:
+        check_lines(checks, where, body, kind[1], program)
+    elif kind[:1] == ["json"]:
+        checks.same(where, text, (ROOT / kind[1]).read_text())
+    elif kind[:1] == ["state"]:
+        checks.same(where, text, split_state(serial(program, (ROOT / kind[1]).read_bytes()))[1])
+    else:
+        checks.holds(where, kind in (["sh"], ["text"]), f"a block of no known kind: {kind}")
+
+
+def check_table(checks, where, rows, file, program):
+    scenario = json.loads((ROOT / file).read_text())
+    shown = [tuple(re.findall(r"`([^`]*)`", row)[:2]) for row in rows[2:]]
+    printed = list(zip(scenario["calls"], answers(program, scenario["layout"], scenario["calls"])))
+    for wanted, got in zip(shown, printed):
+        checks.same(where, wanted, got)
+    checks.holds(where, len(shown) == len(printed),
+                 f"has {len(shown)} rows, and {file} {len(printed)} lines")
+
+
+# Lines
+
+def heading_anchor(title):
+    return re.sub(r"[^a-z0-9 _-]", "", title.lower()).replace(" ", "-")
+
+
+def check_link(checks, where, document, target):
+    name, _, anchor = target.partition("#")
+    file = (document.parent / name).resolve() if name else document
+    titles = re.findall(r"(?m)^#+ (.*)$", file.read_text()) if file.is_file() else []
+    anchors = [heading_anchor(title) for title in titles]
+    checks.holds(where, file.exists() and (not anchor or anchor in anchors), f"no {target}")
+
+
+def check_words(checks, where, document, line, crate):
+    """The links and paths of a line, which stands below the name of a crate or of none."""
+    for target in re.findall(r"\]\(([^)\s]+)\)", line):
+        if "://" not in target:
+            check_link(checks, where, document, target)
+    for path in re.findall(r"`((?:crates|docs|examples)/[\w./-]+)`", line):
+        checks.holds(where, (ROOT / path).exists() or "/out/" in path, f"no {path}")
+    if crate:
+        check_crate_words(checks, where, line, ROOT / crate)
+
+
+@functools.cache
+def words_of(crate):
+    """The words of a crate's sources, and the names of its must-fail edits."""
+    files = [file for part in ("src", "specs", "proofs") for file in (crate / part).rglob("*.*t")]
+    words = {word for file in files for word in re.findall(r"[\w-]+", file.read_text())}
+    return words | {edit.name for edit in (crate / "must-fail").glob("*.edit")}
+
+
+def check_crate_words(checks, where, line, crate):
+    """The paths and names that a line below the name of a crate has in code spans."""
+    for path in re.findall(r"`((?:src|specs|proofs)/[\w./-]+)`", line):
+        checks.holds(where, (crate / path).exists(), f"no {path} in {crate.name}")
+    for name in re.findall(r"`(?:\w+::)?([A-Za-z_][\w-]*(?:\.edit)?)`", line):
+        there = name == "must-fail" or name in words_of(crate)
+        checks.holds(where, there, f"no {name} in {crate.name}")
+
+
+def crate_of(line, crate):
+    """The crate that a line's paths are of, after that of the line before it."""
+    begins = re.match(r"In `(crates/\w+)`", line)
+    if begins:
+        return begins[1]
+    return None if line.startswith("#") else crate
+
+
+def rows_from(lines, at):
+    rows = []
+    while at < len(lines) and lines[at].startswith("|"):
+        rows.append(lines[at])
+        at += 1
+    return rows
+
+
+def check_document(checks, document, program):
+    lines, at, crate = document.read_text().split("\n"), 0, None
+    name = document.relative_to(ROOT)
+    wide = [number for number, line in enumerate(lines, 1) if len(line) > WIDTH]
+    checks.holds(name, not wide, f"more than {WIDTH} columns in the lines {wide}")
+    while at < len(lines):
+        line, where = lines[at], f"{name}:{at + 1}"
+        if line.startswith("```"):
+            end = lines.index("```", at + 1)
+            check_block(checks, where, line[3:].split(), lines[at + 1:end], program)
+            at = end
+        else:
+            marked = re.fullmatch(r"<!-- answers: (\S+) -->", line)
+            if marked:
+                check_table(checks, where, rows_from(lines, at + 1), marked[1], program)
+            crate = crate_of(line, crate)
+            check_words(checks, where, document, line, crate)
+        at += 1
+
+
+# What is proved
+
+@functools.cache
+def functions_of(crate):
+    """Each function of a crate with the names of its clauses."""
+    found = {}
+    for file in sorted((ROOT / "crates" / crate / "src").rglob("*.rt")):
+        current = None
+        for line in file.read_text().split("\n"):
+            begins = re.search(r"\bfn (\w+)", line)
+            if begins:
+                current = found.setdefault(begins[1], set())
+            clause = re.match(r"\s*(?:ensures|requires) (\w+) \{", line)
+            if clause and current is not None:
+                current.add(clause[1])
+    return found
+
+
+def check_item(checks, where, item, crate):
+    """The functions that an item of PROVED.md names, and the clauses after them in parentheses."""
+    known = functions_of(crate)
+    named = re.match(r"- ((?:`[\w:]+`(?:, )?)+)(?::| \()", item)
+    for function in re.findall(r"`([\w:]+)`", named[1]) if named else []:
+        checks.holds(where, function.split("::")[-1] in known, f"{crate} has no {function}")
+    for names, clauses in re.findall(r"((?:`[\w:]+`(?:, )?)+) \(((?:`\w+`(?:, )?)+)\)", item):
+        for function in re.findall(r"`([\w:]+)`", names):
+            for clause in re.findall(r"`(\w+)`", clauses):
+                has = clause in known.get(function.split("::")[-1], ())
+                checks.holds(where, has, f"{function} of {crate} has no clause {clause}")
+
+
+def check_proved(checks):
+    crate, headed = None, set()
+    text = (ROOT / "docs" / "PROVED.md").read_text()
+    for part in re.findall(r"(?m)^#+ .*|^- .*(?:\n  .*)*", text):
+        heading = re.match(r"#+ (`(\w+)`)?", part)
+        if heading:
+            crate = heading[2]
+            headed.add(crate)
+            there = not crate or (ROOT / "crates" / crate).is_dir()
+            checks.holds("docs/PROVED.md", there, f"no crate {crate}")
+        elif crate:
+            check_item(checks, f"docs/PROVED.md: {part[:40]} ..", " ".join(part.split()), crate)
+    for name in re.findall(r"(?m)^(\w+)", (ROOT / "crates.txt").read_text()):
+        checks.holds("docs/PROVED.md", name in headed, f"no heading of crate {name}")
+
+
+def check_all(checks, program):
+    if not os.access(program, os.X_OK):
+        checks.holds("documents", False, f"no program at {program}: README.md says how to build it")
+        return
+    check_examples(checks, program)
+    for folder in (ROOT, ROOT / "docs", ROOT / "examples"):
+        for document in sorted(folder.glob("*.md")):
+            check_document(checks, document, program)
+    check_proved(checks)
+
+
+def main(words):
+    program = Path(words[0] if words else ROOT / "crates/hotplug/out/hotplug").resolve()
+    checks = Checks()
+    try:
+        check_all(checks, program)
+    except (ValueError, LookupError, OSError, subprocess.SubprocessError) as error:
+        checks.holds("documents", False, f"cannot be checked: {error!r}")
+    checks.report()
+    return 1 if checks.failures else 0
+
+
+if __name__ == "__main__":
+    sys.exit(main(sys.argv[1:]))
