@@ -28,68 +28,117 @@ const TWO_OWNERS: &str =
 /// A page is mapped, and its memory block goes offline.
 const OFFLINE: &str = "\"0 map db 0\",\"0 plan 4 off 2\"";
 
-/// Commands, calls, and what is written.
-const RUNS: &[(Command, &str, &str)] = &[
+/// What a run shows, its command, its calls, and its text.
+const RUNS: &[(&str, Command, &str, &str)] = &[
     (
+        "serial starts no worker",
         Command::Serial,
         "\"0 kalloc 1\"",
         "1: frame 0\nstate\nblock 0 online normal\nblock 1 online normal\nblock 2 online movable\nblock 3 offline\nunmovable: 0\nNU 1: 2\nNM 2: 4\nMM 2: 8\nkernel 0 order 1\n",
     ),
     (
+        "two workers read back what they wrote",
         Command::Run,
         TWO_OWNERS,
         "cpu 0\ndone\ndone\nword 7\ndone\nword 8\ndone\ndone\nword 0\ndone\nword 9\ncpu 1\ndone\ndone\nword 7\ndone\nword 8\ndone\ndone\nword 0\ndone\nword 9\n20 records\n",
     ),
     (
+        "a worker takes a block offline beside one with no lines",
         Command::Run,
         OFFLINE,
         "cpu 0\ndone\nplan: done\ncpu 1\n7 records\n",
     ),
     (
+        "a refusal and a fault of a control file are lines of their own",
         Command::Run,
         "\"1 kalloc 3\",\"1 echo online memory3/state\",\"1 echo onlin memory3/state\"",
         "cpu 0\ncpu 1\nrefused BadOrder\ndone\necho: fault BadText\n2 records\n",
     ),
-    (Command::Audit, TWO_OWNERS, "20 records\naudit ok\n"),
-    (Command::Audit, OFFLINE, "7 records\naudit ok\n"),
     (
+        "a run of no lines",
+        Command::Run,
+        "",
+        "cpu 0\ncpu 1\n0 records\n",
+    ),
+    (
+        "the history of two workers is replayed",
+        Command::Audit,
+        TWO_OWNERS,
+        "20 records\naudit ok\n",
+    ),
+    (
+        "the history of an offline is replayed",
+        Command::Audit,
+        OFFLINE,
+        "7 records\naudit ok\n",
+    ),
+    (
+        "a history with an undo is replayed",
         Command::Audit,
         "\"0 kalloc 1\",\"0 kfree 0\",\"0 undo 0\"",
         "3 records\naudit ok\n",
     ),
+    (
+        "the history of no lines is replayed",
+        Command::Audit,
+        "",
+        "0 records\naudit ok\n",
+    ),
 ];
 
-/// The place of the first of these runs that writes another text.
-fn first_other<R: Threads + Wait + Sync>(rt: &R, alloc: Global) -> Result<Option<usize>, Fail> {
-    for (place, (command, calls, text)) in RUNS.iter().enumerate() {
-        let input = scenario(alloc, LAYOUT, calls)?;
-        let (result, bytes) = served(rt, *command, alloc, input.as_bytes());
-        if result != Ok(()) || bytes.as_slice() != text.as_bytes() {
-            return Ok(Some(place));
-        }
-    }
-    Ok(None)
+/// Whether a command writes this text, and nothing else.
+fn writes<R: Threads + Wait + Sync>(
+    rt: &R,
+    alloc: Global,
+    command: Command,
+    calls: &str,
+    text: &str,
+) -> Result<bool, Fail> {
+    let input = scenario(alloc, LAYOUT, calls)?;
+    let (result, bytes) = served(rt, command, alloc, input.as_bytes());
+    Ok(result == Ok(()) && bytes.as_slice() == text.as_bytes())
 }
 
 #[test]
 fn each_command_writes_its_text(rt: HostRuntime) -> Result<(), Fail> {
-    assert_eq!(rt; first_other(&rt, rt.alloc())?, None);
+    for (name, command, calls, text) in RUNS {
+        assert!(rt; writes(&rt, rt.alloc(), *command, calls, text)?, "{name}");
+    }
     Ok(())
 }
 
 #[test]
-fn workers_read_no_control_file(rt: HostRuntime) -> Result<(), Fail> {
-    for (command, calls) in [
-        (Command::Run, "\"0 cat buddyinfo\""),
-        (Command::Audit, "\"2 drain 0\""),
+fn lines_that_no_worker_may_run_are_named(rt: HostRuntime) -> Result<(), Fail> {
+    for (name, command, calls, line) in [
+        (
+            "a control file is not read by run",
+            Command::Run,
+            "\"0 cat buddyinfo\"",
+            1,
+        ),
+        (
+            "a processor is not in the layout",
+            Command::Run,
+            "\"2 drain 0\"",
+            1,
+        ),
+        (
+            "the first such line is named",
+            Command::Run,
+            "\"0 map db 0\",\"2 drain 0\",\"0 cat buddyinfo\"",
+            2,
+        ),
+        (
+            "a control file is not read by audit",
+            Command::Audit,
+            "\"0 cat buddyinfo\"",
+            1,
+        ),
     ] {
         let input = scenario(rt.alloc(), LAYOUT, calls)?;
         let (result, bytes) = served(&rt, command, rt.alloc(), input.as_bytes());
-        assert!(rt;
-            result == Err(ProgramFault::NotForRun { line: 1 }),
-            "{calls}"
-        );
-        assert!(rt; bytes.is_empty(), "{calls}");
+        assert!(rt; result == Err(ProgramFault::NotForRun { line }), "{name}");
+        assert!(rt; bytes.is_empty(), "{name}");
     }
     Ok(())
 }
