@@ -351,6 +351,12 @@ fn three_words_are_commands(rt: HostRuntime) -> Result<(), Fail> {
     Ok(())
 }
 
+/// Whether an end has this status and this text.
+fn is_said(alloc: Global, outcome: Outcome, status: u8, text: &str) -> Result<bool, AllocError> {
+    let line = format!(in alloc; "{outcome}")?;
+    Ok(outcome.status() == status && line.as_str() == text)
+}
+
 #[test]
 fn ends_have_their_status_and_text(rt: HostRuntime) -> Result<(), Fail> {
     for (outcome, status, text) in [
@@ -387,14 +393,28 @@ fn ends_have_their_status_and_text(rt: HostRuntime) -> Result<(), Fail> {
             "hotplug: line 12 not understood",
         ),
         (
-            Outcome::Failed(ProgramFault::NotForRun { line: 3 }),
-            1,
-            "hotplug: line 3 not for run",
-        ),
-        (
             Outcome::Failed(ProgramFault::OutOfMemory),
             1,
             "hotplug: out of memory",
+        ),
+        (
+            Outcome::Failed(ProgramFault::WriteFailed),
+            1,
+            "hotplug: writing failed",
+        ),
+    ] {
+        assert!(rt; is_said(rt.alloc(), outcome, status, text)?, "{text}");
+    }
+    Ok(())
+}
+
+#[test]
+fn ends_of_runs_have_their_status_and_text(rt: HostRuntime) -> Result<(), Fail> {
+    for (outcome, status, text) in [
+        (
+            Outcome::Failed(ProgramFault::NotForRun { line: 3 }),
+            1,
+            "hotplug: line 3 not for run",
         ),
         (
             Outcome::Failed(ProgramFault::NotStarted { cpu: Cpu(1) }),
@@ -426,15 +446,8 @@ fn ends_have_their_status_and_text(rt: HostRuntime) -> Result<(), Fail> {
             1,
             "hotplug: audit differs",
         ),
-        (
-            Outcome::Failed(ProgramFault::WriteFailed),
-            1,
-            "hotplug: writing failed",
-        ),
     ] {
-        let line = format!(in rt.alloc(); "{outcome}")?;
-        assert!(rt; outcome.status() == status, "{text}");
-        assert!(rt; line.as_str() == text, "{text}");
+        assert!(rt; is_said(rt.alloc(), outcome, status, text)?, "{text}");
     }
     Ok(())
 }
