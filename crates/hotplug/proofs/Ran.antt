@@ -1,5 +1,5 @@
 -- From the parts of a run to the whole: what was read, how its lines were parted and worked off, and why not.
-use Rattle.std.proofs.Common.{◌≡◌, ℕ, List, length, Option, Some, None, Result, Ok, Err, sym, ap, subst, ◌∙◌, inl, inr}
+use Rattle.std.proofs.Common.{◌≡◌, ℕ, List, length, Option, Some, None, Result, Ok, sym, ap, subst, ◌∙◌, inl, inr}
 use Rattle.hp_units.specs.LayoutParts.{LayoutParts}
 use Rattle.hp_machine.specs.Machine.{MachineValue}
 use Rattle.hp_scenario.specs.declared.fault.ScenarioFault.{ScenarioFault}
@@ -17,10 +17,10 @@ use Rattle.hp_workers.specs.declared.fault.RunFault.TheVariants as running
 use Rattle.hp_workers.specs.declared.lines.LineEnd.{LineEnd}
 use Rattle.hp_workers.specs.Workers.{AreWorkers, IsRunEnd}
 use Rattle.hotplug.specs.Faults.{IsFaultOf, IsWorkFault, close_fault_from, fault_from, run_fault_from}
-use Rattle.hotplug.specs.Runs.{IsRunOf, IsRunTextOf, IsWorkedOff}
+use Rattle.hotplug.specs.Runs.{IsRunOf, IsWorkedOff}
 use Rattle.hotplug.specs.declared.fault.ProgramFault.{ProgramFault}
 use Rattle.hotplug.specs.declared.fault.ProgramFault.TheVariants.{ReadFailed, TooLong, NotJson, BadShape, Layout, BadLine, NotForRun, OutOfMemory, NotStarted, SeatMissing, Mismatch, WrongReply, WrongSerial, AuditDiffers, WriteFailed}
-use Rattle.hotplug.specs.declared.words.Command.TheVariants.{Run, Audit}
+use Rattle.hotplug.specs.declared.words.Command.TheVariants.{Run}
 use Rattle.hotplug.proofs.Seated.{has_each}
 use Rattle.hotplug.proofs.Unfit.{only_not_for_run}
 

@@ -5,11 +5,11 @@ use Rattle.hp_units.specs.LayoutParts.{LayoutParts, layout_fault}
 use Rattle.hp_units.specs.declared.layouts.LayoutFault.{LayoutFault}
 use Rattle.hp_scenario.specs.Form.{Form, form_of}
 use Rattle.hp_scenario.specs.Gives.{◌>>=◌, or_fault}
-use Rattle.hp_scenario.specs.Names.{Numbered, line_in}
+use Rattle.hp_scenario.specs.Names.{line_in}
 use Rattle.hp_scenario.specs.Scenario.{ScenarioValue, Script, json_of, layout_or, lines_from, nothing, scenario_in, scenario_of, scenario_with, with_line}
 use Rattle.hp_scenario.specs.Scripts.{first_unfit, scripts_of, scripts_unless}
 use Rattle.hp_scenario.specs.declared.fault.ScenarioFault.{ScenarioFault}
-use Rattle.hp_scenario.specs.declared.fault.ScenarioFault.TheVariants.{NotJson, BadShape, Layout, BadLine, NotForRun}
+use Rattle.hp_scenario.specs.declared.fault.ScenarioFault.TheVariants.{NotJson, BadShape, BadLine, NotForRun}
 
 -- ---- reading
 

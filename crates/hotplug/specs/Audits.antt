@@ -1,5 +1,5 @@
 -- When a machine's history is found to lead to its state.
-use Rattle.std.specs.Prelude.{◌≡◌, ℕ}
+use Rattle.std.specs.Prelude.{◌≡◌}
 use Rattle.hp_units.specs.Boot.{boot_memory}
 use Rattle.hp_units.specs.History.{IsLegal, value_of}
 use Rattle.hp_machine.specs.Machine.{MachineValue}
