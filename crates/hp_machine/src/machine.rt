@@ -4,7 +4,7 @@ ghost use Rattle.hp_units.specs.Boot.{boot_memory};
 ghost use Rattle.hp_units.specs.History.{net_of};
 ghost use Rattle.hp_units.specs.Memory.{free_list};
 ghost use Rattle.hp_units.specs.Pages.{frame_at};
-ghost use Rattle.hp_machine.specs.Machine.{IsCalled, IsHistory, IsSound, booted, is_full, sealed};
+ghost use Rattle.hp_machine.specs.Machine.{IsCalled, IsHistory, IsSound, booted, is_full, last_serial, sealed};
 ghost use Rattle.hp_machine.specs.Operations.{KeepsOperations};
 ghost use Rattle.hp_replay.specs.Volumes.{volume_of};
 
@@ -179,6 +179,13 @@ impl Machine {
         ensures { result ≡ length (net_of self.now.history) }
     {
         self.course.journal_len()
+    }
+
+    /// The last serial so far, which is the number of all records, sealed ones included.
+    pub fn last_serial(&self) -> u64
+        ensures { result ≡ last_serial self.now }
+    {
+        self.course.last_serial()
     }
 
     /// Whether there is no room for a further record.
