@@ -3,7 +3,6 @@ ghost use Rattle.std.specs.Prelude.{◌≡◌, ℕ, ◌+◌, ◌*◌, ◌^◌, �
 ghost use Rattle.hp_units.specs.Arithmetic.{frame_count, pageblock_count};
 ghost use Rattle.hp_units.specs.Isolation.{add_block, add_pageblock, move_block, move_pageblock};
 ghost use Rattle.hp_units.specs.LayoutParts.{IsLayout};
-ghost use Rattle.hp_units.specs.Memory.{pool_of};
 ghost use Rattle.hp_units.specs.FreeAreas.{give_block, steal_block, take_block};
 ghost use Rattle.hp_units.specs.ProcessorLists.{drain_lists, handed_from, kernel_frame, page_frame, take_one};
 ghost use Rattle.hp_units.specs.KernelBlocks.{kernel_block};
@@ -171,7 +170,7 @@ impl Frames {
         let kind = self.buddy.kind(pageblock_of(layout, frame));
         if kind.isolated {
             layout.order() as usize + 1
-        } else if self.cpus.len(cpu, pool_of(zone, kind.mobility)) < layout.high() {
+        } else if self.cpus.len(cpu, Pool::of_mobility(zone, kind.mobility)) < layout.high() {
             1
         } else {
             batch_room(layout)
@@ -329,15 +328,4 @@ fn batch_room(layout: &Layout) -> usize
     ensures small { result ≤ 2 ^ 20 }
 {
     layout.batch() as usize * (layout.order() as usize + 2) + 1
-}
-
-/// The pool of a frame, by the zone of its block and the mobility of its pageblock.
-fn pool_of(zone: Zone, mobility: Mobility) -> Pool
-    ensures { result ≡ pool_of zone mobility }
-{
-    match (zone, mobility) {
-        (Zone::Normal, Mobility::Unmovable) => Pool::Nu,
-        (Zone::Normal, Mobility::Movable) => Pool::Nm,
-        (Zone::Movable, _) => Pool::Mm,
-    }
 }

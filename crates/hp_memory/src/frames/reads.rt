@@ -2,7 +2,7 @@
 ghost use Rattle.std.specs.Prelude.{◌≡◌, ◌*◌, ◌<◌, ◌==◌, false};
 ghost use Rattle.std.specs.Option.{option_map_or};
 ghost use Rattle.std.specs.List.{list_all};
-ghost use Rattle.hp_units.specs.Arithmetic.{ancestor, frame_count, pageblock_count, pageblock_size, pageblocks_of};
+ghost use Rattle.hp_units.specs.Arithmetic.{frame_count, pageblock_count, pageblock_size, pageblocks_of};
 ghost use Rattle.hp_units.specs.FreeAreas.{is_on};
 ghost use Rattle.hp_units.specs.Memory.{free_list, isolated_class};
 ghost use Rattle.hp_units.specs.Refusals.{is_free_start, is_in_free_block};
@@ -34,7 +34,7 @@ impl Frames {
         ensures { result ≡ is_on (pageblock * pageblock_size layout.now) (free_list self.now.buddy.areas (isolated_class zone) layout.now.order) }
     {
         let order = Order(layout.order());
-        self.is_free(isolated_class(zone), order, Frame(pageblock.0 << order.0))
+        self.is_free(Class::isolated(zone), order, Frame(pageblock.0 << order.0))
     }
 
     /// Whether a free block of a class and an order starts at a frame.
@@ -56,7 +56,7 @@ impl Frames {
     {
         for number in 0..layout.order() + 1 {
             let order = Order(number);
-            if self.is_free_start(order, ancestor(frame, order)) {
+            if self.is_free_start(order, frame.ancestor(order)) {
                 return true;
             }
         }
@@ -80,23 +80,4 @@ fn is_of_order(place: Option<(Class, Order)>, order: Order) -> bool
         Some((_, at)) => at == order,
         None => false,
     }
-}
-
-/// The class of the isolated free blocks of a zone.
-fn isolated_class(zone: Zone) -> Class
-    ensures { result ≡ isolated_class zone }
-{
-    match zone {
-        Zone::Normal => Class::IsoN,
-        Zone::Movable => Class::IsoM,
-    }
-}
-
-/// The first frame of the block of an order that a frame lies in (Knuth 2.5).
-fn ancestor(frame: Frame, order: Order) -> Frame
-    requires { order < 32 }
-    ensures { result ≡ ancestor frame order }
-{
-    let size = 1 << order.0;
-    Frame(frame.0 / size * size)
 }

@@ -19,7 +19,6 @@ ghost use Rattle.hp_memory.specs.Layers.{AreOfOneLayout, ArePlaced, IsAnswered, 
 ghost use Rattle.hp_memory.specs.Operations.{IsReworked};
 
 use super::Layers;
-use hp_rows::is_going;
 use hp_tape::Tape;
 use hp_units::{Block, Frame, Refusal, Reply, Row, Serial, State, Wish, Zone};
 use std::alloc::{AllocError, Global};
@@ -84,7 +83,7 @@ impl Layers {
         requires block { block < self.now.layout.blocks }
         ensures { result ≡ is_ready self.now.layout (state_of self.now) block }
     {
-        if !is_going(self.blocks.row(block)) {
+        if !self.blocks.row(block).is_going() {
             return true;
         }
         let zone = self.zone_of_block(block);
@@ -111,7 +110,7 @@ impl Layers {
         requires block { block < self.now.layout.blocks }
         ensures { result ≡ find (is_in_use self.now.layout (state_of self.now)) (leaving_frames self.now.layout (state_of self.now) block) }
     {
-        if !is_going(self.blocks.row(block)) {
+        if !self.blocks.row(block).is_going() {
             return None;
         }
         self.lowest_in_use(block)

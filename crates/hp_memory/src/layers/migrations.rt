@@ -2,15 +2,13 @@
 ghost use Rattle.std.specs.Prelude.{◌≡◌, ◌<◌, IfOk, OnErr};
 ghost use Rattle.hp_units.specs.declared.events.Event.TheVariants.{Migrate};
 ghost use Rattle.hp_units.specs.Migrations.{migration_source};
-ghost use Rattle.hp_units.specs.Rows.{is_claimed_by};
 ghost use Rattle.hp_memory.specs.Migrations.{source_of};
 ghost use Rattle.hp_plain.specs.Asked.{asked};
 ghost use Rattle.hp_memory.specs.Layers.{AreOfOneLayout, ArePlaced, IsAnswered, state_of};
 
 use super::Layers;
-use hp_rows::is_going;
 use hp_tape::Tape;
-use hp_units::{Block, Frame, Order, Refusal, Reply, Row, Serial};
+use hp_units::{Block, Frame, Order, Refusal, Reply, Serial};
 use std::alloc::AllocError;
 
 impl Layers {
@@ -61,23 +59,13 @@ impl Layers {
         requires block { block < self.now.layout.blocks }
         ensures { result ≡ source_of self.now.layout (state_of self.now) op block }
     {
-        if !is_claimed_by(self.blocks.row(block), op) {
+        if !self.blocks.row(block).is_claimed_by(op) {
             return None;
         }
-        if !is_going(self.blocks.row(block)) {
+        if !self.blocks.row(block).is_going() {
             return None;
         }
         let size = self.layout.pageblocks() << self.layout.order();
         self.pages.lowest_mapped(Frame(block.0 * size), size)
-    }
-}
-
-/// Whether an operation holds a block of a row.
-pub(crate) fn is_claimed_by(row: Row, op: Serial) -> bool
-    ensures { result ≡ is_claimed_by op row }
-{
-    match row.claim {
-        Some(claim) => claim.op == op,
-        None => false,
     }
 }

@@ -11,8 +11,7 @@ ghost use Rattle.hp_plain.specs.Plans.{change_refusals, claim_refusals, names_no
 ghost use Rattle.hp_memory.specs.Layers.{AreOfOneLayout, state_of};
 
 use super::Layers;
-use hp_rows::is_off;
-use hp_units::{Block, Frame, Item, Layout, Refusal, Row, State};
+use hp_units::{Block, Frame, Item, Layout, Refusal};
 
 impl Layers {
     /// Why a plan is refused, if it is: the first reason in its order, each looked for in the whole plan (own rule).
@@ -92,7 +91,7 @@ impl Layers {
         requires block { item.block < self.now.layout.blocks }
         ensures { result ≡ is_claimed (row_of self.now.blocks.blocks item.block) }
     {
-        self.blocks.row(item.block).claim.is_some()
+        self.blocks.row(item.block).is_claimed()
     }
 
     /// The first memory block of a plan that is to go offline and isn't online (Linux, memory hotplug: offlining; own rule).
@@ -115,7 +114,7 @@ impl Layers {
         requires block { item.block < self.now.layout.blocks }
         ensures { result ≡ (is_off item.wish && not (is_online (row_of self.now.blocks.blocks item.block))) }
     {
-        is_off(item.wish) && !is_online(self.blocks.row(item.block))
+        item.wish.is_off() && !self.blocks.row(item.block).is_online()
     }
 
     /// The first memory block of a plan that is to go online and isn't offline (Linux, memory hotplug: onlining; own rule).
@@ -138,7 +137,7 @@ impl Layers {
         requires block { item.block < self.now.layout.blocks }
         ensures { result ≡ (not (is_off item.wish) && not (is_offline (row_of self.now.blocks.blocks item.block))) }
     {
-        !is_off(item.wish) && !is_offline(self.blocks.row(item.block))
+        !item.wish.is_off() && !self.blocks.row(item.block).is_offline()
     }
 
     /// The lowest first frame of a kernel's block in the first block that is to go and has one.
@@ -161,7 +160,7 @@ impl Layers {
         requires block { item.block < self.now.layout.blocks }
         ensures { result ≡ kernel_frame_in self.now.layout (state_of self.now) item }
     {
-        if is_off(item.wish) {
+        if item.wish.is_off() {
             self.lowest_kernel_frame(item.block)
         } else {
             None
@@ -221,18 +220,4 @@ fn stands_in(items: &[Item], block: Block) -> bool
     ensures { result ≡ list_any (λ item. item.block == block) items.now }
 {
     items.iter().any(|item| item.block == block)
-}
-
-/// Whether a row's block is in use.
-fn is_online(row: Row) -> bool
-    ensures { result ≡ is_online row }
-{
-    matches!(row.state, State::Online)
-}
-
-/// Whether a row's block is there, and not in use.
-fn is_offline(row: Row) -> bool
-    ensures { result ≡ is_offline row }
-{
-    matches!(row.state, State::Offline)
 }

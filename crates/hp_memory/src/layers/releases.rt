@@ -12,8 +12,6 @@ ghost use Rattle.hp_memory.specs.Layers.{AreOfOneLayout, ArePlaced, IsAnswered, 
 ghost use Rattle.hp_memory.specs.Operations.{IsReworked};
 
 use super::Layers;
-use super::migrations::is_claimed_by;
-use hp_rows::is_going;
 use hp_tape::Tape;
 use hp_units::{Block, Refusal, Reply, Row, Serial, State};
 use std::alloc::{AllocError, Global};
@@ -67,7 +65,7 @@ impl Layers {
         requires block { block < self.now.layout.blocks }
         ensures { OnOk result (blocks.new.items ≡ blocks.old.items ++ (if is_claimed_by op (row_of self.now.blocks.blocks block) then block ∷ [] else [])) }
     {
-        if is_claimed_by(self.blocks.row(block), op) {
+        if self.blocks.row(block).is_claimed_by(op) {
             blocks.push(block)?;
         }
         Ok(())
@@ -103,7 +101,7 @@ impl Layers {
         requires room { HasRoom tape.old (moved_block_bound self.old.layout) }
         ensures { IsReworked self.old (release_block self.old.layout (state_of self.old) block) (moved_block_bound self.old.layout) self.new tape.old tape.new }
     {
-        if is_going(self.blocks.row(block)) {
+        if self.blocks.row(block).is_going() {
             self.online_again(block, tape);
         } else {
             self.unclaim(block, tape);

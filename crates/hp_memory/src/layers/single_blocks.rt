@@ -150,7 +150,7 @@ impl Layers {
         requires one { AreOfOneLayout self.now }
         ensures { result ≡ first_some (event_refusals self.now.layout (state_of self.now) 0 (Probe address)) }
     {
-        let bytes = block_bytes(&self.layout);
+        let bytes = self.layout.block_bytes();
         if address % bytes != 0 {
             return Some(Refusal::BadAddress);
         }
@@ -181,15 +181,5 @@ fn block_at(layout: &Layout, address: u64) -> Block
     requires { address / block_bytes layout.now < layout.now.blocks }
     ensures { result ≡ address / block_bytes layout.now }
 {
-    Block((address / block_bytes(layout)) as u32)
-}
-
-/// The bytes of a memory block, at eight bytes a word: at most 2^32.
-fn block_bytes(layout: &Layout) -> u64
-    ensures is { result ≡ block_bytes layout.now }
-    ensures some { 0 < result }
-    ensures layout { IsLayout layout.now }
-{
-    let frames = layout.pageblocks() << layout.order();
-    u64::from(frames) * u64::from(layout.words()) * 8
+    Block((address / layout.block_bytes()) as u32)
 }
