@@ -181,5 +181,6 @@ fn block_at(layout: &Layout, address: u64) -> Block
     requires { address / block_bytes layout.now < layout.now.blocks }
     ensures { result ≡ address / block_bytes layout.now }
 {
+    let _ = layout.blocks(); // its number of blocks fits a u32
     Block((address / layout.block_bytes()) as u32)
 }
