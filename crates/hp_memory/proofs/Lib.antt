@@ -13,7 +13,7 @@ mod Releases
 mod SingleBlocks
 mod Sources
 mod States
-mod Steps
+pub mod Steps
 mod Taken
 mod Unwinding
 mod Committed
