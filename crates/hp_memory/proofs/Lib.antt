@@ -8,6 +8,7 @@ mod Claims
 mod Migrated
 mod OnlineBlocks
 mod PageEvents
+mod Pictured
 mod Placed
 mod Releases
 mod SingleBlocks
