@@ -26,7 +26,7 @@ use hp_units::{Class, Frame, Kind, Layout, Mobility, Order, Pageblock, Zone};
 use std::alloc::{AllocError, Global};
 use std::marker::Model;
 
-/// The free areas of a layout. No call but `new` takes memory.
+/// The free areas of a layout. No call but `new` and `list` takes memory.
 #[derive(Drop)]
 pub struct Buddy {
     layout: Layout,
@@ -92,6 +92,14 @@ impl Buddy {
         ensures { result ≡ length (free_list self.now.areas class order) }
     {
         self.links.len(list_number(class, order))
+    }
+
+    /// The free blocks of a class and an order of the layout, front first.
+    pub fn list(&self, alloc: Global, class: Class, order: Order) -> Result<Vec<Frame>, AllocError>
+        requires { order ≤ self.now.layout.order }
+        ensures { IfOk result (λ frames. frames.items ≡ free_list self.now.areas class order) }
+    {
+        self.links.list(alloc, list_number(class, order))
     }
 
     /// The first free block of a class and an order of the layout.

@@ -21,7 +21,7 @@ use hp_units::{Cpu, Frame, Layout, Pool, Zone, pageblock_of};
 use std::alloc::{AllocError, Global};
 use std::marker::Model;
 
-/// Each processor's lists of single frames, one for each pool. No call but `new` takes memory.
+/// Each processor's lists of single frames, one for each pool. No call but `new` and `list` takes memory.
 #[derive(Drop)]
 pub struct Cpus {
     layout: Layout,
@@ -55,6 +55,14 @@ impl Cpus {
         ensures { result ≡ length (list_of self.now cpu pool) }
     {
         self.links.len(list_number(cpu, pool))
+    }
+
+    /// The frames of a list of a processor of the layout, front first.
+    pub fn list(&self, alloc: Global, cpu: Cpu, pool: Pool) -> Result<Vec<Frame>, AllocError>
+        requires { cpu < self.now.layout.cpus }
+        ensures { IfOk result (λ frames. frames.items ≡ list_of self.now cpu pool) }
+    {
+        self.links.list(alloc, list_number(cpu, pool))
     }
 
     /// The first frame of a list of a processor of the layout.

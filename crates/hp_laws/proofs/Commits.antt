@@ -42,7 +42,7 @@ use Rattle.hp_laws.proofs.Claims.{fold_blocks, later_rows}
 
 -- ---- what stays on a list
 
-on_without-other : (first block : ℕ) (frames : List ℕ) → first ≢ block → is_on first frames ≡ true → is_on first (without block frames) ≡ true
+pub on_without-other : (first block : ℕ) (frames : List ℕ) → first ≢ block → is_on first frames ≡ true → is_on first (without block frames) ≡ true
 on_without-other first block [] ne on = cc
 on_without-other first block (x ∷ xs) ne on = elim (or_cases (x == first) (is_on first xs) on) [
   | inl same ↦
@@ -265,7 +265,7 @@ added-stays l zone a from (suc count) has class order first on =
 
 -- ---- one block of a commit
 
-claim_going : (state : State) (zone : Option Zone) (claim : Option Claim) → wishes_off claim ≡ true → IsRowOf state zone claim → is_going_state state ≡ true
+pub claim_going : (state : State) (zone : Option Zone) (claim : Option Claim) → wishes_off claim ≡ true → IsRowOf state zone claim → is_going_state state ≡ true
 claim_going GoingState zone claim e h = refl
 claim_going OfflineState zone claim e h = absurd (cc (e, h.1))
 claim_going OnlineState zone None e h = cc
@@ -273,7 +273,7 @@ claim_going OnlineState zone (Some claim) e h = absurd (cc h.1)
 claim_going AbsentState zone None e h = cc
 claim_going AbsentState zone (Some claim) e h = absurd (cc h.1)
 
-claim_offline : (state : State) (zone : Option Zone) (claim : Option Claim) (c : Claim) → claim ≡ Some c → wishes_off claim ≡ false → IsRowOf state zone claim → is_offline_state state ≡ true
+pub claim_offline : (state : State) (zone : Option Zone) (claim : Option Claim) (c : Claim) → claim ≡ Some c → wishes_off claim ≡ false → IsRowOf state zone claim → is_offline_state state ≡ true
 claim_offline OfflineState zone claim c is e h = refl
 claim_offline GoingState zone claim c is e h = absurd (cc (e, h.1))
 claim_offline OnlineState zone claim c is e h = absurd (cc (is, h.1))
@@ -312,6 +312,15 @@ offline-next l s t block layout low going all h =
           (h.stays class pageblock (omega arith) on);
     }
 
+-- a block that could be granted at first still can be
+pub grantable_later : (l : LayoutParts) (s t : Memory) (block : ℕ) → IsGrantable l s block → CommitsFrom l s block t → IsGrantable l t block
+grantable_later l s t block ready h going pageblock among =
+    let same : row_of t.blocks block ≡ row_of s.blocks block = h.later block (omega arith) in
+    let here : block_of_pageblock l pageblock ≡ block = quotient pageblock l.pageblocks block among.low among.high in
+    h.stays (isolated_class (zone_of_block t.blocks block)) pageblock (omega arith)
+    (subst (λ (row : Row). is_on (pageblock * 2 ^ l.order) (free_list s.free.areas (isolated_class (unwrap_or row.zone NormalZone)) l.order) ≡ true) (sym same)
+    (ready (ap is_going (sym same) ∙ going) pageblock among))
+
 pub commit_block-next : (l : LayoutParts) (s : Memory) (t : Memory) (block : ℕ) → IsLayout l → block < l.blocks → IsGrantable l s block → CommitsFrom l s block t → CommitsFrom l s (block + 1) (commit_block l t block)
 commit_block-next l s t block layout low ready h = by_claim (row_of t.blocks block).claim refl
   where
@@ -320,19 +329,11 @@ commit_block-next l s t block layout low ready h = by_claim (row_of t.blocks blo
         let row : Row = row_of t.blocks block in
         or_left (is_offline_state row.state) _ (claim_offline row.state row.zone row.claim claim e (ap wishes_off e ∙ still) (h.placed.in_order.rows block))
 
-    all : is_going (row_of t.blocks block) ≡ true → IsAllFree l t.free.areas (zone_of_block t.blocks block) block
-    all going pageblock among =
-        let same : row_of t.blocks block ≡ row_of s.blocks block = h.later block (omega arith) in
-        let here : block_of_pageblock l pageblock ≡ block = quotient pageblock l.pageblocks block among.low among.high in
-        h.stays (isolated_class (zone_of_block t.blocks block)) pageblock (omega arith)
-        (subst (λ (row : Row). is_on (pageblock * 2 ^ l.order) (free_list s.free.areas (isolated_class (unwrap_or row.zone NormalZone)) l.order) ≡ true) (sym same)
-        (ready (ap is_going (sym same) ∙ going) pageblock among))
-
     by_wish : (claim : Claim) (wish : Wish) → (row_of t.blocks block).claim ≡ Some claim → claim.wish ≡ wish → CommitsFrom l s (block + 1) (grant l t block wish)
     by_wish claim OffWish e w =
         let row : Row = row_of t.blocks block in
         let going : is_going row ≡ true = claim_going row.state row.zone row.claim (ap wishes_off e ∙ ap is_off w) (h.placed.in_order.rows block) in
-        offline-next l s t block layout low going (all going) h
+        offline-next l s t block layout low going (grantable_later l s t block ready h going) h
     by_wish claim NormalWish e w = online-next l s t block NormalZone layout low (off claim e (ap is_off w)) h
     by_wish claim MovableWish e w = online-next l s t block MovableZone layout low (off claim e (ap is_off w)) h
 

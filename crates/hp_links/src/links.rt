@@ -86,6 +86,20 @@ impl Links {
         self.rings.frame_at(self.rings.next(place))
     }
 
+    /// The frames of a list, front first.
+    pub fn list(&self, alloc: Global, list: ListNumber) -> Result<Vec<Frame>, AllocError>
+        requires { list < length self.now.lists }
+        ensures { IfOk result (λ frames. frames.items ≡ list_at self.now list) }
+    {
+        let mut frames = Vec::with_capacity(alloc, self.rings.len(list) as usize)?;
+        let mut ahead = self.front(list);
+        while let Some(frame) = ahead {
+            frames.push(frame)?;
+            ahead = self.next(frame);
+        }
+        Ok(frames)
+    }
+
     /// Puts a frame that is on no list in front of a list.
     pub fn push_front(&mut self, list: ListNumber, frame: Frame)
         requires list_in { list < length self.old.lists }

@@ -31,6 +31,8 @@ fn keeps_order(rt: HostRuntime) -> Result<(), Fail> {
     assert_eq!(rt; links.next(f0), None);
     assert_eq!(rt; links.last(list), Some(f0));
     assert_eq!(rt; links.len(list), 3);
+    let frames = links.list(rt.alloc(), list)?;
+    assert!(rt; frames.as_slice() == [f3, f2, f0].as_slice());
     Ok(())
 }
 

@@ -1,0 +1,9 @@
+pub mod Names
+pub mod Places
+pub mod Deltas
+pub mod Starts
+pub mod Journals
+pub mod Cuts
+pub mod Courses
+pub mod Replays
+pub mod Chains

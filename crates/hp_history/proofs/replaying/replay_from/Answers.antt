@@ -1,0 +1,32 @@
+-- The course begins at the base; that of all records shows the state that they lead to.
+use Rattle.std.proofs.Common.{◌∙◌}
+use Rattle.std.proofs.lemmas.Result.{err_from_is_err_and}
+use Rattle.hp_history.specs.Replay.{IsCourseOf}
+use Rattle.hp_history.proofs.Replays.{course_again, fault_again, placed, refutes_again, shown, started_again}
+use Rattle.hp_history.proofs.replaying.replay_from.Goals as goal
+
+pub followed-requires : goal.followed-requires
+followed-requires c = started_again c.args.base.now.layout c.args.base.now.memory c.args.before c.in_ok-course.course c.in_ok-course.ensures
+
+-- what was found of the records, by the base itself
+followed_so : (c : goal.After-image) → IsCourseOf c.args.base.now.layout c.args.base.now.memory c.args.before c.args.records.now c.followed.new.course
+followed_so c = course_again c.args.base.now.layout c.args.base.now.memory c.args.before c.args.records.now c.in_ok-course.course c.followed.new.course c.in_ok-course.ensures c.in_ok-followed.ensures.course
+
+pub returns-clause-legal : goal.returns-clause-legal
+returns-clause-legal c = (followed_so (goal.at.returns-clause-legal c).After-image).legal
+
+pub returns-clause-value : goal.returns-clause-value
+returns-clause-value c = c.in_ok-image.ensures ∙ shown c.args.base.now.layout c.args.base.now.memory c.args.before c.args.records.now c.followed.new.course (followed_so (goal.at.returns-clause-value c).After-image)
+
+pub returns-clause-placed : goal.returns-clause-placed
+returns-clause-placed c = placed c.args.base.now.layout c.args.base.now.memory c.args.before c.args.records.now c.in_ok-image.image (returns-clause-value c) c.requires.limits c.requires.placed
+
+pub returns-in_err-followed-clause-fault : goal.returns-in_err-followed-clause-fault
+returns-in_err-followed-clause-fault c =
+    let p = err_from_is_err_and c.from_residual-in_err-followed.result c.from_residual-in_err-followed.ensures.1 in
+    rw (p.1, p.2) (fault_again c.args.base.now.layout c.args.base.now.memory c.args.before c.args.records.now c.in_ok-course.course _ c.in_ok-course.ensures c.in_err-followed.ensures.fault)
+
+pub returns-in_err-followed-clause-only : goal.returns-in_err-followed-clause-only
+returns-in_err-followed-clause-only c =
+    let p = err_from_is_err_and c.from_residual-in_err-followed.result c.from_residual-in_err-followed.ensures.1 in
+    rw (p.1, p.2) (refutes_again c.args.base.now.layout c.args.base.now.memory c.args.before c.args.records.now c.in_ok-course.course _ c.in_ok-course.ensures c.in_err-followed.ensures.only)

@@ -1,0 +1,51 @@
+-- What a contract sees of a course, what every course keeps, and what answering an event does.
+use Rattle.std.specs.Prelude.{ℕ, ◌≡◌, ◌+◌, Bool, List, [], ◌∷◌, ◌++◌, length, nat_le}
+use Rattle.hp_units.specs.LayoutParts.{LayoutParts}
+use Rattle.hp_units.specs.Memory.{Memory}
+use Rattle.hp_units.specs.History.{IsLegal, reply_of, value_of}
+use Rattle.hp_units.specs.declared.events.Event.{Event}
+use Rattle.hp_units.specs.declared.replies.Record.{Record}
+use Rattle.hp_units.specs.declared.replies.Receipt.{Receipt}
+
+-- `before` is the number of all earlier records, and `base` the state that the history began with
+pub record CourseValue : Type 0 where
+  pub layout : LayoutParts
+  pub before : ℕ
+  pub base : Memory
+  pub history : List Record
+  pub state : Memory
+
+-- the course of no records, over a base state and after earlier records
+abbrev pub started : LayoutParts → Memory → (before : ℕ) → CourseValue
+started l base before = record { layout = l; before = before; base = base; history = []; state = base }
+
+-- its history is legal, and its state is what the plain machine reaches from the base by the steps of the history that are
+-- not undone
+pub record IsHistory (c : CourseValue) : Type 0 where
+  pub legal : IsLegal c.layout c.base c.before c.history
+  pub state : c.state ≡ value_of c.layout c.base c.history
+
+-- the last serial so far
+abbrev pub last_serial : CourseValue → ℕ
+last_serial c = c.before + length c.history
+
+-- there is no further serial
+abbrev pub is_spent : CourseValue → Bool
+is_spent c = nat_le 18446744073709551615 (c.before + length c.history)
+
+-- the record of a receipt
+abbrev pub record_of : ℕ → Receipt → Record
+record_of cpu r = record { serial = r.serial; cpu = cpu; event = r.event; reply = r.reply }
+
+-- the event of a processor was answered so, and made the new course of the old: one record is appended, with the next serial
+-- and the reply that the definitions give, and the state is that of the longer history
+pub record IsAnswered (old : CourseValue) (cpu : ℕ) (event : Event) (r : Receipt) (new : CourseValue) : Type 0 where
+  pub serial : r.serial ≡ last_serial old + 1
+  pub asked : r.event ≡ event
+  pub reply : r.reply ≡ reply_of old.layout old.base old.before old.history cpu event
+  pub history : new.history ≡ old.history ++ record_of cpu r ∷ []
+  pub state : new.state ≡ value_of old.layout old.base new.history
+  pub legal : IsLegal old.layout old.base old.before new.history
+  pub layout : new.layout ≡ old.layout
+  pub before : new.before ≡ old.before
+  pub base : new.base ≡ old.base

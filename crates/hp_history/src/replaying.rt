@@ -1,0 +1,108 @@
+//! A replay: a list of records is read again, each answer against that of a course.
+ghost use Rattle.std.specs.Prelude.{◌≡◌, IfErr, IfOk, OnOk};
+ghost use Rattle.hp_units.specs.Boot.{boot_memory};
+ghost use Rattle.hp_units.specs.History.{IsLegal, value_of};
+ghost use Rattle.hp_units.specs.LayoutParts.{IsLayout};
+ghost use Rattle.hp_units.specs.Placement.{IsWellPlaced};
+ghost use Rattle.hp_history.specs.Course.{started};
+ghost use Rattle.hp_history.specs.Replay.{IsCourseOf, IsFault, IsFaultHere, IsFollowed, Refutes};
+
+use crate::course::Course;
+use hp_plain::Image;
+use hp_units::{Layout, Record, Serial};
+use std::alloc::{AllocError, Global};
+
+/// Why records are no legal history: the first record at fault, its serial looked at before its reply; or out of memory,
+/// which may come in place of any answer.
+#[derive(Clone, Copy, Debug, PartialEq, Eq, Drop)]
+pub enum ReplayFault {
+    /// The record of this serial has another reply than the plain machine gives.
+    WrongReply { serial: Serial },
+    /// The record at this place, counted from 0, hasn't the next serial.
+    WrongSerial { at: u64 },
+    /// Memory was refused.
+    OutOfMemory,
+}
+
+impl From<AllocError> for ReplayFault {
+    ghost use Rattle.std.specs.Prelude.{◌≡◌};
+    ghost use Rattle.hp_history.specs.declared.replaying.ReplayFault.TheVariants.{OutOfMemory};
+
+    ghost from_gives = { λ _ e. e ≡ OutOfMemory };
+
+    fn from(_error: AllocError) -> ReplayFault {
+        ReplayFault::OutOfMemory
+    }
+}
+
+/// The state after the records, from the state at boot and the first serial on, if they are a legal history (own rule).
+/// Time and memory are linear in the records and the layout.
+pub fn replay(alloc: Global, layout: &Layout, records: &[Record]) -> Result<Image, ReplayFault>
+    ensures legal { OnOk result (IsLegal layout.now (boot_memory layout.now) 0 records.now) }
+    ensures value { IfOk result (λ image. image ≡ record { layout = layout.now; memory = value_of layout.now (boot_memory layout.now) records.now }) }
+    ensures placed { IfOk result (λ image. IsWellPlaced image.layout image.memory) }
+    ensures fault { IfErr result (IsFault layout.now (boot_memory layout.now) 0 records.now) }
+    ensures only { IfErr result (Refutes layout.now (boot_memory layout.now) 0 records.now) }
+{
+    let mut course = Course::boot(alloc, layout)?;
+    followed(alloc, &mut course, records)?;
+    let image = course.image(alloc)?;
+    Ok(image)
+}
+
+/// The state after the records, from a base state and the number of all earlier records on, if they are a legal history
+/// (own rule). Time and memory are linear in the records and the layout.
+pub fn replay_from(
+    alloc: Global,
+    base: &Image,
+    before: u64,
+    records: &[Record],
+) -> Result<Image, ReplayFault>
+    requires limits { IsLayout base.now.layout }
+    requires placed { IsWellPlaced base.now.layout base.now.memory }
+    ensures legal { OnOk result (IsLegal base.now.layout base.now.memory before records.now) }
+    ensures value { IfOk result (λ image. image ≡ record { layout = base.now.layout; memory = value_of base.now.layout base.now.memory records.now }) }
+    ensures placed { IfOk result (λ image. IsWellPlaced image.layout image.memory) }
+    ensures fault { IfErr result (IsFault base.now.layout base.now.memory before records.now) }
+    ensures only { IfErr result (Refutes base.now.layout base.now.memory before records.now) }
+{
+    let mut course = Course::start(alloc, base, before)?;
+    followed(alloc, &mut course, records)?;
+    let image = course.image(alloc)?;
+    Ok(image)
+}
+
+/// Makes the course of no records the course of these, if they are a legal history over its base.
+pub(crate) fn followed(
+    alloc: Global,
+    course: &mut Course,
+    records: &[Record],
+) -> Result<(), ReplayFault>
+    requires { course.old ≡ started course.old.layout course.old.base course.old.before }
+    ensures course { OnOk result (IsCourseOf course.old.layout course.old.base course.old.before records.now course.new) }
+    ensures fault { IfErr result (IsFault course.old.layout course.old.base course.old.before records.now) }
+    ensures only { IfErr result (Refutes course.old.layout course.old.base course.old.before records.now) }
+{
+    for (place, record) in records.iter().enumerate() {
+        follow(alloc, course, place as u64, record)?;
+    }
+    Ok(())
+}
+
+/// Goes on by the record at a place, if it may stand after those of the course.
+fn follow(alloc: Global, course: &mut Course, at: u64, next: &Record) -> Result<(), ReplayFault>
+    ensures ok { OnOk result (IsFollowed course.old next.now course.new) }
+    ensures err { IfErr result (IsFaultHere course.old at next.now) }
+{
+    if !course.expects(next.serial) {
+        return Err(ReplayFault::WrongSerial { at });
+    }
+    let receipt = course.answer(alloc, next.cpu, &next.event)?;
+    if receipt.reply.same(&next.reply) {
+        Ok(())
+    } else {
+        Err(ReplayFault::WrongReply {
+            serial: next.serial,
+        })
+    }
+}

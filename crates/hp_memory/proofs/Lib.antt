@@ -1,0 +1,24 @@
+mod Answers
+mod Drained
+mod Given
+mod Kernel
+mod KernelEvents
+mod Lifts
+mod Claims
+mod Migrated
+mod OnlineBlocks
+mod PageEvents
+mod Pictured
+mod Placed
+mod Releases
+mod SingleBlocks
+mod Sources
+mod States
+pub mod Steps
+mod Taken
+mod Unwinding
+mod Committed
+mod Frees
+mod Removed
+mod Plans
+mod Begun

@@ -1,0 +1,139 @@
+//! Worked examples, on four memory blocks of one pageblock of four frames.
+ghost use Rattle.std.specs.Prelude.{◌≡◌};
+
+mod single_blocks;
+
+use super::Memory;
+use hp_tape::Tape;
+use hp_units::{
+    Block, Boot, Cpu, Event, Frame, Item, Layout, LayoutFault, Order, Owner, Page, Parts, Plan,
+    Refusal, Reply, Serial, Wish,
+};
+use std::alloc::{AllocError, Global};
+use std::test::Fail;
+
+/// Four memory blocks, of which the third is movable and the fourth offline.
+fn small(alloc: Global) -> Result<Layout, LayoutFault> {
+    Layout::new(
+        alloc,
+        &Parts {
+            order: 2,
+            pageblocks: 1,
+            blocks: 4,
+            cpus: 2,
+            batch: 2,
+            high: 2,
+            owners: 2,
+            pages: 8,
+            words: 2,
+            history: 1000,
+            boot: &[Boot::Normal, Boot::Normal, Boot::Movable, Boot::Offline],
+        },
+    )
+}
+
+/// Runs events in turn, on one tape; whether each is answered as it is to be.
+fn answers(
+    alloc: Global,
+    memory: &mut Memory,
+    tape: &mut Tape,
+    calls: &[(u64, Event, Reply)],
+) -> Result<bool, AllocError> {
+    for (serial, event, reply) in calls {
+        let answer = memory.step(alloc, Serial(*serial), Cpu(0), event, tape)?;
+        if !answer.same(reply) {
+            return Ok(false);
+        }
+    }
+    Ok(true)
+}
+
+#[test]
+fn a_block_goes_offline_once_its_page_has_moved(rt: HostRuntime) -> Result<(), Fail> {
+    let alloc = rt.alloc();
+    let mut memory = Memory::boot(alloc, &small(alloc)?)?;
+    let mut tape = Tape::with_room(alloc, 0)?;
+    let (owner, page, op) = (Owner(0), Page(0), Serial(2));
+    let leave = Item {
+        block: Block(2),
+        wish: Wish::Off,
+    };
+    let plan = Plan::new(vec![in alloc; leave]?);
+    let (from, to, cpu) = (Frame(8), Frame(0), Cpu(0));
+    let held = Refusal::NotFree { frame: from };
+    let calls = [
+        (1, Event::Map { owner, page }, Reply::Done),
+        (2, Event::Begin { plan }, Reply::Opened { op }),
+        (3, Event::Commit { op }, Reply::Refused(held)),
+        (4, Event::Migrate { op }, Reply::Moved { from, to }),
+        (5, Event::Drain { cpu }, Reply::Done),
+        (6, Event::Commit { op }, Reply::Done),
+    ];
+    assert!(rt; answers(alloc, &mut memory, &mut tape, &calls)?);
+    Ok(())
+}
+
+/// A step that is taken back at once leaves all as it was, as the contracts of both calls alone show.
+fn stepped_and_back(
+    alloc: Global,
+    memory: &mut Memory,
+    tape: &mut Tape,
+    serial: Serial,
+    event: &Event,
+) -> Result<Reply, AllocError>
+    ensures memory { memory.new ≡ memory.old }
+    ensures tape { tape.new.deltas ≡ tape.old.deltas }
+{
+    memory.is_placed();
+    let mark = tape.len();
+    let reply = memory.step(alloc, serial, Cpu(0), event, tape)?;
+    memory.back(tape, mark);
+    Ok(reply)
+}
+
+#[test]
+fn a_step_goes_back(rt: HostRuntime) -> Result<(), Fail> {
+    let alloc = rt.alloc();
+    let layout = small(alloc)?;
+    let mut memory = Memory::boot(alloc, &layout)?;
+    let mut tape = Tape::with_room(alloc, 0)?;
+    let take = Event::KernelAlloc { order: Order(1) };
+    let frame = Reply::Frame(Frame(0));
+    let answer = stepped_and_back(alloc, &mut memory, &mut tape, Serial(1), &take)?;
+    assert!(rt; answer.same(&frame));
+    let again = [(1, take, frame)];
+    assert!(rt; answers(alloc, &mut memory, &mut tape, &again)?);
+    Ok(())
+}
+
+#[test]
+fn a_copy_goes_on_alike(rt: HostRuntime) -> Result<(), Fail> {
+    let alloc = rt.alloc();
+    let mut memory = Memory::boot(alloc, &small(alloc)?)?;
+    let mut tape = Tape::with_room(alloc, 0)?;
+    let (owner, page, index, value) = (Owner(1), Page(3), 1, 7);
+    let write = Event::Write {
+        owner,
+        page,
+        index,
+        value,
+    };
+    let calls = [
+        (1, Event::Map { owner, page }, Reply::Done),
+        (2, write, Reply::Done),
+        (
+            3,
+            Event::KernelAlloc { order: Order(1) },
+            Reply::Frame(Frame(0)),
+        ),
+    ];
+    assert!(rt; answers(alloc, &mut memory, &mut tape, &calls)?);
+    let mut copy = memory.copy(alloc)?;
+    assert!(rt; copy.image(alloc)?.same(&memory.image(alloc)?));
+    assert!(rt; copy.layout().blocks() == 4);
+    assert!(rt; !copy.is_live(Serial(1)));
+    let look = Event::Read { owner, page, index };
+    let more = [(4, look, Reply::Word(value))];
+    assert!(rt; answers(alloc, &mut copy, &mut tape, &more)?);
+    Ok(())
+}
