@@ -32,13 +32,13 @@ returns-clause-placed c = end_placed c.args.layout.now c.args.volumes.now c.into
 
 pub returns-in_err-after_volume-clause-fault : goal.returns-in_err-after_volume-clause-fault
 returns-in_err-after_volume-clause-fault c =
-    let p = err_from_is_err_and c.from_residual.result c.from_residual.ensures.1 in
+    let p = err_from_is_err_and c.from_residual-in_err-after_volume.result c.from_residual-in_err-after_volume.ensures.1 in
     rw (p.1, p.2) (fault_after c.args.layout.now c.args.volumes.now c.loop-place.place c.index-volumes-place.result c.loop-place.end _
     (slice_get_read c.args.volumes.now (length c.args.volumes.now) c.loop-place.place c.index-volumes-place.result refl c.loop-place-test.true c.index-volumes-place.is) c.loop-place.invariant.end c.in_err-after_volume.ensures.err)
 
 pub returns-in_err-after_volume-clause-only : goal.returns-in_err-after_volume-clause-only
 returns-in_err-after_volume-clause-only c =
-    let p = err_from_is_err_and c.from_residual.result c.from_residual.ensures.1 in
+    let p = err_from_is_err_and c.from_residual-in_err-after_volume.result c.from_residual-in_err-after_volume.ensures.1 in
     rw (p.1, p.2) (chain_refuted c.args.layout.now c.args.volumes.now _
     (fault_after c.args.layout.now c.args.volumes.now c.loop-place.place c.index-volumes-place.result c.loop-place.end _
     (slice_get_read c.args.volumes.now (length c.args.volumes.now) c.loop-place.place c.index-volumes-place.result refl c.loop-place-test.true c.index-volumes-place.is) c.loop-place.invariant.end c.in_err-after_volume.ensures.err))
