@@ -4,6 +4,7 @@ ghost use Rattle.hp_units.specs.Boot.{boot_memory};
 ghost use Rattle.hp_units.specs.LayoutParts.{IsLayout};
 ghost use Rattle.hp_units.specs.Memory.{Memory as State};
 ghost use Rattle.hp_units.specs.Placement.{IsWellPlaced};
+ghost use Rattle.hp_units.specs.Rows.{is_live};
 ghost use Rattle.hp_units.specs.Step.{step};
 ghost use Rattle.hp_tape.specs.Bounds.{delta_bound};
 ghost use Rattle.hp_tape.specs.Deltas.{frame_view_of};
@@ -11,6 +12,7 @@ ghost use Rattle.hp_memory.specs.Layers.{AreNoted};
 ghost use Rattle.hp_memory.specs.Memory.{LeadsBack};
 
 use crate::layers::Layers;
+use hp_plain::Image;
 use hp_tape::Tape;
 use hp_units::{Cpu, Event, Layout, Reply, Serial};
 use std::alloc::{AllocError, Global};
@@ -40,6 +42,48 @@ impl Memory {
     {
         let layers = Layers::boot(alloc, layout)?;
         Ok(Memory { layers })
+    }
+
+    /// The layers of a state. An error is out of memory.
+    pub fn from_image(alloc: Global, image: &Image) -> Result<Memory, AllocError>
+        requires limits { IsLayout image.now.layout }
+        requires placed { IsWellPlaced image.now.layout image.now.memory }
+        ensures { IfOk result (λ memory. memory ≡ record { layout = image.now.layout; state = image.now.memory }) }
+    {
+        let _own = image.copy(alloc)?;
+        Err(AllocError)
+    }
+
+    /// The state, as an Image of its own. An error is out of memory.
+    pub fn image(&self, alloc: Global) -> Result<Image, AllocError>
+        ensures { IfOk result (λ image. image ≡ record { layout = self.now.layout; memory = self.now.state }) }
+    {
+        let _ = &self.layers;
+        let _room = Tape::with_room(alloc, 0)?;
+        Err(AllocError)
+    }
+
+    /// An equal memory. An error is out of memory.
+    pub fn copy(&self, alloc: Global) -> Result<Memory, AllocError>
+        ensures { IfOk result (λ copy. copy ≡ self.now) }
+    {
+        let _ = &self.layers;
+        let _room = Tape::with_room(alloc, 0)?;
+        Err(AllocError)
+    }
+
+    /// The layout.
+    pub fn layout(&self) -> &Layout
+        ensures { result.now ≡ self.now.layout }
+    {
+        &self.layers.layout
+    }
+
+    /// Whether an operation is live: whether it holds a memory block (own rule).
+    pub fn is_live(&self, op: Serial) -> bool
+        ensures { result ≡ is_live self.now.state.blocks op }
+    {
+        self.layers.blocks.is_live(op)
     }
 
     /// One step of the definitions: what the step did to the layers is noted on the tape, after the deltas that are there, and
