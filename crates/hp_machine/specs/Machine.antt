@@ -8,7 +8,7 @@ use Rattle.hp_units.specs.Placement.{IsWellPlaced}
 use Rattle.hp_units.specs.declared.events.Event.{Event}
 use Rattle.hp_units.specs.declared.replies.Record.{Record}
 use Rattle.hp_units.specs.declared.replies.Receipt.{Receipt}
-use Rattle.hp_replay.specs.Course.{CourseValue, IsAnswered, IsHistory as IsCourseHistory, started}
+use Rattle.hp_history.specs.Course.{CourseValue, IsAnswered, IsHistory as IsCourseHistory, started}
 
 -- a course's value: `layout`, `before`, the number of records that were sealed before the history, `base`, the state that the
 -- history began with, `history` and `state`

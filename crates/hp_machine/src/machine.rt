@@ -1,15 +1,23 @@
 //! A machine with its history.
-ghost use Rattle.std.specs.Prelude.{◌≡◌, ◌↔◌, Err, IfOk, OnErr, OnOk, IsTrue, length, slice_get};
+ghost use Rattle.std.specs.Prelude.{◌≡◌, ◌↔◌, ◌≤◌, Err, IfOk, MatchOption, OnErr, OnOk, IsTrue, length, slice_get};
 ghost use Rattle.hp_units.specs.Boot.{boot_memory};
 ghost use Rattle.hp_units.specs.History.{net_of};
 ghost use Rattle.hp_units.specs.Memory.{free_list};
 ghost use Rattle.hp_units.specs.Pages.{frame_at};
+ghost use Rattle.hp_tape.specs.Deltas.{page_frames_of};
+ghost use Rattle.hp_pages.specs.Pages.{AreSettled};
+ghost use Rattle.hp_history.specs.Entries.{IsEntry};
+ghost use Rattle.hp_history.specs.Volumes.{volume_of};
 ghost use Rattle.hp_machine.specs.Machine.{IsCalled, IsHistory, IsSound, booted, is_full, last_serial, sealed};
 ghost use Rattle.hp_machine.specs.Operations.{KeepsOperations};
-ghost use Rattle.hp_replay.specs.Volumes.{volume_of};
 
+use hp_blocks::Blocks;
+use hp_buddy::Buddy;
+use hp_cpus::Cpus;
+use hp_history::{Course, Volume};
+use hp_pages::Pages;
 use hp_plain::Image;
-use hp_replay::{Course, Volume};
+use hp_tape::Delta;
 use hp_units::{
     Auto, Block, CallFault, Class, Cpu, Event, Frame, Layout, Order, Owner, Page, Receipt, Record,
     Row,
@@ -98,7 +106,7 @@ impl Machine {
     pub fn layout(&self) -> &Layout
         ensures { result.now ≡ self.now.layout }
     {
-        self.course.image().layout()
+        self.course.memory().layout()
     }
 
     /// The records since the last seal, oldest first. Every machine keeps its history legal, and its state that of the history.
@@ -135,7 +143,7 @@ impl Machine {
     pub fn image(&self, alloc: Global) -> Result<Image, AllocError>
         ensures { IfOk result (λ image. image ≡ record { layout = self.now.layout; memory = self.now.state }) }
     {
-        self.course.image().copy(alloc)
+        self.course.image(alloc)
     }
 
     /// The front block of the free list of a class and an order (Gorman, chapter 6: free_area). None where the list is empty
@@ -143,35 +151,35 @@ impl Machine {
     pub fn front(&self, class: Class, order: Order) -> Option<Frame>
         ensures { result ≡ slice_get (free_list self.now.state.free.areas class order) 0 }
     {
-        self.course.image().list(class, order).first().copied()
+        self.course.memory().front(class, order)
     }
 
     /// How many free blocks of 2^order frames a class has; 0 past the greatest order (Gorman, chapter 6: nr_free).
     pub fn list_len(&self, class: Class, order: Order) -> u32
         ensures { result ≡ length (free_list self.now.state.free.areas class order) }
     {
-        self.course.image().list(class, order).len() as u32
+        self.course.memory().list_len(class, order)
     }
 
     /// The row of a memory block (Linux, memory hotplug: state). None past the last block.
     pub fn row(&self, block: Block) -> Option<Row>
         ensures { result ≡ slice_get self.now.state.blocks.rows block }
     {
-        self.course.image().row(block)
+        self.course.memory().row(block)
     }
 
     /// The frame that holds an owner's page. None where the page is not mapped, and past the last owner or page.
     pub fn frame_at(&self, owner: Owner, page: Page) -> Option<Frame>
         ensures { result ≡ frame_at self.now.state.pages owner page }
     {
-        self.course.image().frame_at(owner, page)
+        self.course.memory().frame_at(owner, page)
     }
 
     /// What a memory block that is added becomes (Linux, memory hotplug: auto_online_blocks).
     pub fn auto(&self) -> Auto
         ensures { result ≡ self.now.state.blocks.auto }
     {
-        self.course.image().auto()
+        self.course.memory().auto()
     }
 
     /// The number of steps that are not undone (own rule).
@@ -179,6 +187,43 @@ impl Machine {
         ensures { result ≡ length (net_of self.now.history) }
     {
         self.course.journal_len()
+    }
+
+    /// What a step that is not undone did, counted from 0; None past the last. Its deltas, latest first, lead back from the
+    /// state after the step to the state before it, and are no more than the bound (own rule).
+    pub fn entry(&self, at: u64) -> Option<&[Delta]>
+        ensures { MatchOption result (length (net_of self.now.history) ≤ at) (λ deltas. IsEntry self.now at deltas.now) }
+    {
+        self.course.entry(at)
+    }
+
+    /// The free areas.
+    pub fn buddy(&self) -> &Buddy
+        ensures { result.now ≡ record { layout = self.now.layout; areas = self.now.state.free.areas } }
+    {
+        self.course.memory().buddy()
+    }
+
+    /// The processors' lists.
+    pub fn cpus(&self) -> &Cpus
+        ensures { result.now ≡ record { layout = self.now.layout; cached = self.now.state.free.cached } }
+    {
+        self.course.memory().cpus()
+    }
+
+    /// The owners' pages by their frames: each mapped frame has its page's words, and no other frame has any.
+    pub fn pages(&self) -> &Pages
+        ensures value { result.now ≡ record { layout = self.now.layout; pages = page_frames_of self.now.layout self.now.state.pages } }
+        ensures settled { AreSettled result.now.pages }
+    {
+        self.course.memory().pages()
+    }
+
+    /// The rows of the memory blocks.
+    pub fn blocks(&self) -> &Blocks
+        ensures { result.now ≡ record { layout = self.now.layout; blocks = self.now.state.blocks } }
+    {
+        self.course.memory().blocks()
     }
 
     /// The last serial so far, which is the number of all records, sealed ones included.
@@ -192,7 +237,7 @@ impl Machine {
     fn is_full(&self) -> bool
         ensures { result ≡ is_full self.now }
     {
-        self.course.history().len() as u64 >= self.course.image().layout().history()
+        self.course.history().len() as u64 >= self.course.memory().layout().history()
             || self.course.is_spent()
     }
 }

@@ -11,6 +11,8 @@ ghost use Rattle.hp_tape.specs.Deltas.{frame_view_of};
 ghost use Rattle.hp_memory.specs.Layers.{AreNoted};
 ghost use Rattle.hp_memory.specs.Memory.{LeadsBack};
 
+mod reads;
+
 use crate::layers::Layers;
 use hp_plain::Image;
 use hp_tape::Tape;

@@ -1,0 +1,93 @@
+//! What a memory shows of its state, and its layers.
+ghost use Rattle.std.specs.Prelude.{◌≡◌, length, slice_get};
+ghost use Rattle.hp_units.specs.Memory.{free_list};
+ghost use Rattle.hp_units.specs.Pages.{frame_at};
+ghost use Rattle.hp_tape.specs.Deltas.{page_frames_of};
+ghost use Rattle.hp_pages.specs.Pages.{AreSettled};
+
+use crate::memory::Memory;
+use hp_blocks::Blocks;
+use hp_buddy::Buddy;
+use hp_cpus::Cpus;
+use hp_pages::Pages;
+use hp_units::{Auto, Block, Class, Frame, Order, Owner, Page, Row};
+
+impl Memory {
+    /// The front block of the free list of a class and an order (Gorman, chapter 6: free_area). None where the list is empty
+    /// and past the greatest order.
+    pub fn front(&self, class: Class, order: Order) -> Option<Frame>
+        ensures { result ≡ slice_get (free_list self.now.state.free.areas class order) 0 }
+    {
+        if order.0 > self.layers.layout.order() {
+            return None;
+        }
+        self.layers.frames.buddy.front(class, order)
+    }
+
+    /// How many free blocks of 2^order frames a class has; 0 past the greatest order (Gorman, chapter 6: nr_free).
+    pub fn list_len(&self, class: Class, order: Order) -> u32
+        ensures { result ≡ length (free_list self.now.state.free.areas class order) }
+    {
+        if order.0 > self.layers.layout.order() {
+            return 0;
+        }
+        self.layers.frames.buddy.len(class, order)
+    }
+
+    /// The row of a memory block (Linux, memory hotplug: state). None past the last block.
+    pub fn row(&self, block: Block) -> Option<Row>
+        ensures { result ≡ slice_get self.now.state.blocks.rows block }
+    {
+        if block.0 >= self.layers.layout.blocks() {
+            return None;
+        }
+        Some(self.layers.blocks.row(block))
+    }
+
+    /// The frame that holds an owner's page. None where the page is not mapped, and past the last owner or page.
+    pub fn frame_at(&self, owner: Owner, page: Page) -> Option<Frame>
+        ensures { result ≡ frame_at self.now.state.pages owner page }
+    {
+        let layout = &self.layers.layout;
+        if owner.0 >= layout.owners() || page.0 >= layout.pages() {
+            return None;
+        }
+        self.layers.pages.frame_at(owner, page)
+    }
+
+    /// What a memory block that is added becomes (Linux, memory hotplug: auto_online_blocks).
+    pub fn auto(&self) -> Auto
+        ensures { result ≡ self.now.state.blocks.auto }
+    {
+        self.layers.blocks.auto()
+    }
+
+    /// The free areas.
+    pub fn buddy(&self) -> &Buddy
+        ensures { result.now ≡ record { layout = self.now.layout; areas = self.now.state.free.areas } }
+    {
+        &self.layers.frames.buddy
+    }
+
+    /// The processors' lists.
+    pub fn cpus(&self) -> &Cpus
+        ensures { result.now ≡ record { layout = self.now.layout; cached = self.now.state.free.cached } }
+    {
+        &self.layers.frames.cpus
+    }
+
+    /// The owners' pages by their frames: each mapped frame has its page's words, and no other frame has any.
+    pub fn pages(&self) -> &Pages
+        ensures value { result.now ≡ record { layout = self.now.layout; pages = page_frames_of self.now.layout self.now.state.pages } }
+        ensures settled { AreSettled result.now.pages }
+    {
+        &self.layers.pages
+    }
+
+    /// The rows of the memory blocks.
+    pub fn blocks(&self) -> &Blocks
+        ensures { result.now ≡ record { layout = self.now.layout; blocks = self.now.state.blocks } }
+    {
+        &self.layers.blocks
+    }
+}
