@@ -10,6 +10,11 @@ use hp_units::{
 use std::alloc::Global;
 use std::test::Fail;
 
+const ISOLATED: Kind = Kind {
+    mobility: Mobility::Unmovable,
+    isolated: true,
+};
+
 /// Four memory blocks, of which the third is movable and the fourth offline.
 fn small(alloc: Global) -> Result<Layout, LayoutFault>
     ensures { IfOk result (λ layout. layout ≡ small_layout) }
@@ -102,20 +107,15 @@ fn single_parts_are_added(rt: HostRuntime) -> Result<(), Fail> {
 fn kinds_and_rows_are_added(rt: HostRuntime) -> Result<(), Fail> {
     let layout = small(rt.alloc())?;
     let mut image = Image::empty(rt.alloc(), &layout)?;
-    let kind = Kind {
-        mobility: Mobility::Unmovable,
-        isolated: true,
-    };
-    let absent = Row::bare(State::Absent);
     image.add(Part::Kind {
         pageblock: Pageblock(1),
-        kind,
+        kind: ISOLATED,
     })?;
     image.add(Part::Row {
         block: Block(3),
-        row: absent,
+        row: Row::bare(State::Absent),
     })?;
-    assert_eq!(rt; image.kind(Pageblock(1)), Some(kind));
-    assert_eq!(rt; image.row(Block(3)), Some(absent));
+    assert_eq!(rt; image.kind(Pageblock(1)), Some(ISOLATED));
+    assert_eq!(rt; image.row(Block(3)), Some(Row::bare(State::Absent)));
     Ok(())
 }
