@@ -8,9 +8,9 @@ use Rattle.hp_units.specs.Memory.{Memory}
 use Rattle.hp_units.specs.declared.replies.Record.{Record}
 use Rattle.hp_machine.specs.Machine.{MachineValue}
 use Rattle.hp_plain.specs.Image.{Pictured}
-use Rattle.hp_replay.specs.Replay.{IsFault, Refutes}
-use Rattle.hp_replay.specs.declared.replaying.ReplayFault.{ReplayFault}
-use Rattle.hp_replay.specs.declared.replaying.ReplayFault.TheVariants as replaying
+use Rattle.hp_history.specs.Replay.{IsFault, Refutes}
+use Rattle.hp_history.specs.declared.replaying.ReplayFault.{ReplayFault}
+use Rattle.hp_history.specs.declared.replaying.ReplayFault.TheVariants as replaying
 use Rattle.hp_shared.specs.Shared.{IsShared}
 use Rattle.hp_workers.specs.declared.lines.LineEnd.{LineEnd}
 use Rattle.hotplug.specs.Audits.{HasAuditFault, IsAudited}

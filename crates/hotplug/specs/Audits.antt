@@ -3,8 +3,8 @@ use Rattle.std.specs.Prelude.{◌≡◌}
 use Rattle.hp_units.specs.Boot.{boot_memory}
 use Rattle.hp_units.specs.History.{IsLegal, value_of}
 use Rattle.hp_machine.specs.Machine.{MachineValue}
-use Rattle.hp_replay.specs.Replay.{IsFault}
-use Rattle.hp_replay.specs.declared.replaying.ReplayFault.TheVariants as replaying
+use Rattle.hp_history.specs.Replay.{IsFault}
+use Rattle.hp_history.specs.declared.replaying.ReplayFault.TheVariants as replaying
 use Rattle.hotplug.specs.declared.fault.ProgramFault.{ProgramFault}
 use Rattle.hotplug.specs.declared.fault.ProgramFault.TheVariants.{OutOfMemory, WrongReply, WrongSerial, AuditDiffers}
 

@@ -1,7 +1,7 @@
 -- Which fault comes when.
 use Rattle.std.specs.Prelude.{◌≡◌, ℕ, ◌<◌, List, length, Option, Err, IfSome}
-use Rattle.hp_replay.specs.declared.replaying.ReplayFault.{ReplayFault}
-use Rattle.hp_replay.specs.declared.replaying.ReplayFault.TheVariants as replaying
+use Rattle.hp_history.specs.declared.replaying.ReplayFault.{ReplayFault}
+use Rattle.hp_history.specs.declared.replaying.ReplayFault.TheVariants as replaying
 use Rattle.hp_scenario.specs.declared.fault.ScenarioFault.{ScenarioFault}
 use Rattle.hp_scenario.specs.declared.fault.ScenarioFault.TheVariants as scenario
 use Rattle.hp_scenario.specs.Scenario.{scenario_in}

@@ -8,7 +8,7 @@ ghost use Rattle.hotplug.specs.declared.words.Command.TheVariants.{Audit};
 use crate::fault::ProgramFault;
 use crate::runs::{work_off, write_records};
 use hp_machine::Machine;
-use hp_replay::replay;
+use hp_history::replay;
 use std::alloc::Global;
 use std::sync::Wait;
 use std::thread::Threads;

@@ -3,7 +3,7 @@
 ghost use Rattle.std.specs.Prelude.{◌≡◌, Some};
 ghost use Rattle.hotplug.specs.declared.fault.ProgramFault.TheVariants.{OutOfMemory};
 
-use hp_replay::ReplayFault;
+use hp_history::ReplayFault;
 use hp_scenario::ScenarioFault;
 use hp_shared::CloseFault;
 use hp_units::{Cpu, LayoutFault, Serial};
