@@ -165,26 +165,57 @@ fn a_course_shows_what_it_keeps(rt: HostRuntime) -> Result<(), Fail> {
     Ok(())
 }
 
+/// Answers an event of processor 0, where there is a further serial.
+fn act(alloc: Global, course: &mut Course, event: &Event) -> Result<(), AllocError> {
+    if !course.is_spent() {
+        let _receipt = course.answer(alloc, Cpu(0), event)?;
+    }
+    Ok(())
+}
+
+/// Takes a block, is refused another, and gives the first back: two steps.
+fn take_and_give(alloc: Global, course: &mut Course) -> Result<(), AllocError> {
+    act(alloc, course, &Event::KernelAlloc { order: Order(1) })?;
+    act(alloc, course, &Event::KernelFree { frame: Frame(9) })?;
+    act(alloc, course, &Event::KernelFree { frame: Frame(0) })
+}
+
+/// Whether each of two steps has deltas, a third none, and the way back over both those of both.
+fn shows_two_steps(course: &Course) -> bool {
+    let first = count_of(course.entry(0));
+    let second = count_of(course.entry(1));
+    let both = count_of(course.way_back(0));
+    course.journal_len() == 2
+        && first > 0
+        && second > 0
+        && count_of(course.entry(2)) == 0
+        && both >= first
+        && both - first == second
+}
+
+/// Whether an undo of the second of two steps leaves the deltas of the first alone.
+fn undoes_the_second(alloc: Global, course: &mut Course) -> Result<bool, AllocError> {
+    let first = count_of(course.entry(0));
+    let serial = Serial(1);
+    act(alloc, course, &Event::UndoAfter { serial })?;
+    Ok(course.journal_len() == 1 && count_of(course.way_back(0)) == first)
+}
+
 #[test]
 fn an_entry_holds_what_its_step_did(rt: HostRuntime) -> Result<(), Fail> {
     let layout = small(rt.alloc())?;
     let mut course = Course::boot(rt.alloc(), &layout)?;
-    let take = Event::KernelAlloc { order: Order(1) };
-    let _taken = course.answer(rt.alloc(), Cpu(0), &take)?;
-    let astray = Event::KernelFree { frame: Frame(9) };
-    let _refused = course.answer(rt.alloc(), Cpu(0), &astray)?;
-    let give = Event::KernelFree { frame: Frame(0) };
-    let _given = course.answer(rt.alloc(), Cpu(0), &give)?;
-    assert_eq!(rt; course.journal_len(), 2);
-    let first = count_of(course.entry(0));
-    let second = count_of(course.entry(1));
-    assert!(rt; first > 0);
-    assert!(rt; second > 0);
-    assert_eq!(rt; count_of(course.entry(2)), 0);
-    assert_eq!(rt; count_of(course.way_back(0)), first + second);
-    let back = Event::UndoAfter { serial: Serial(1) };
-    let _undone = course.answer(rt.alloc(), Cpu(0), &back)?;
-    assert_eq!(rt; count_of(course.way_back(0)), first);
+    take_and_give(rt.alloc(), &mut course)?;
+    assert!(rt; shows_two_steps(&course));
+    Ok(())
+}
+
+#[test]
+fn an_undo_leaves_the_deltas_of_earlier_steps(rt: HostRuntime) -> Result<(), Fail> {
+    let layout = small(rt.alloc())?;
+    let mut course = Course::boot(rt.alloc(), &layout)?;
+    take_and_give(rt.alloc(), &mut course)?;
+    assert!(rt; undoes_the_second(rt.alloc(), &mut course)?);
     Ok(())
 }
 
@@ -285,17 +316,25 @@ fn a_volume_whose_earlier_ones_are_missing_is_named(rt: HostRuntime) -> Result<(
     Ok(())
 }
 
+/// Whether a seal after one record hands it out, and the course goes on after it.
+fn seals_one(alloc: Global, course: &mut Course) -> Result<bool, AllocError> {
+    act(alloc, course, &Event::KernelAlloc { order: Order(1) })?;
+    let volume = course.seal(alloc)?;
+    let records = volume.records.into_vec();
+    Ok(records.len() == 1 && course.history().is_empty() && course.last_serial() == 1)
+}
+
+/// Whether a copy has as many earlier records.
+fn copies(alloc: Global, course: &Course) -> Result<bool, AllocError> {
+    let copy = course.copy(alloc)?;
+    Ok(copy.before() == course.before())
+}
+
 #[test]
 fn a_sealed_course_goes_on_from_its_state(rt: HostRuntime) -> Result<(), Fail> {
     let layout = small(rt.alloc())?;
     let mut course = Course::boot(rt.alloc(), &layout)?;
-    let event = Event::KernelAlloc { order: Order(1) };
-    let _taken = course.answer(rt.alloc(), Cpu(0), &event)?;
-    let sealed = course.seal(rt.alloc())?;
-    assert_eq!(rt; sealed.records.into_vec().len(), 1);
-    assert_eq!(rt; course.history().len(), 0);
-    assert_eq!(rt; course.last_serial(), 1);
-    let copy = course.copy(rt.alloc())?;
-    assert_eq!(rt; copy.before(), 1);
+    assert!(rt; seals_one(rt.alloc(), &mut course)?);
+    assert!(rt; copies(rt.alloc(), &course)?);
     Ok(())
 }
