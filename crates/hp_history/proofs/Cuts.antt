@@ -2,17 +2,17 @@
 use Rattle.std.proofs.Common.{◌≡◌, ℕ, ◌<◌, ◌≤◌, ◌+◌, ◌-◌, Bool, true, false, cond, List, [], ◌∷◌, ◌++◌, length, map, take, Option, Some, None, slice_get, refl, ap, sym, ◌∙◌, arith, inl, inr}
 use Rattle.std.specs.Prelude.{◌&&◌, ◌⊎◌, not, IfSome, IfNone, if◌then◌else◌}
 use Rattle.std.specs.Bool.{then_some}
-use Rattle.std.specs.Option.{option_map}
+use Rattle.std.specs.Option.{option_map, option_or}
 use Rattle.std.proofs.lemmas.List.{take_all}
 use Rattle.std.proofs.lemmas.Option.{slice_get-map, same_Some}
-use Rattle.std.proofs.lemmas.Bool.{lt-ltb, le-ltb, cases_lt}
+use Rattle.std.proofs.lemmas.Bool.{lt-ltb, le-ltb, lt-leb, le-leb, cases_lt}
 use Rattle.hp_units.specs.Memory.{Memory}
 use Rattle.hp_units.specs.LayoutParts.{LayoutParts}
 use Rattle.hp_units.specs.Choices.{first_some}
 use Rattle.hp_units.specs.Rows.{is_live}
 use Rattle.hp_units.specs.Step.{Answered, answer, step}
 use Rattle.hp_tape.specs.declared.deltas.Delta.{Delta}
-use Rattle.hp_memory.proofs.Steps.{step-in, step-no_cpu}
+use Rattle.hp_units.specs.Refusals.{event_refusals, refusal_of}
 use Rattle.hp_units.specs.Marks.{sole_at, tag_of}
 use Rattle.hp_units.specs.History.{Effect, Cancels, Looks, Acts, is_refused, is_look, net_with, net_with_effect, effect_of, cut_or_add, steps_until, count_above, net_of, value_of, reply_of, cancel_reply}
 use Rattle.hp_laws.proofs.Lists.{get_some}
@@ -204,6 +204,16 @@ pub all_steps : (m : CourseValue) (es : List Entry) (ds : List Delta) (keep : �
 all_steps m es ds keep ok is = is ∙ entry_count m.layout m.base m.history (net_of m.history) es ds ok.journal
 
 -- ---- whether a Cancel is refused
+
+-- by whether the layout has its processor
+step-no_cpu : (l : LayoutParts) (s : Memory) (serial cpu : ℕ) (event : Event) → l.cpus ≤ cpu → step l s serial cpu event ≡ record { memory = s; reply = Refused NoCpu }
+unfolding step refusal_of
+step-no_cpu l s serial cpu event past = rw (le-leb l.cpus cpu past) refl
+
+step-in : (l : LayoutParts) (s : Memory) (serial cpu : ℕ) (event : Event) → cpu < l.cpus → step l s serial cpu event ≡ answer l s serial cpu event (first_some (event_refusals l s cpu event))
+unfolding step refusal_of
+step-in l s serial cpu event below =
+    ap (λ (b : Bool). answer l s serial cpu event (option_or (then_some b NoCpu) (first_some (event_refusals l s cpu event)))) (lt-leb l.cpus cpu below)
 
 -- by whether its operation is live
 by_live : (l : LayoutParts) (s : Memory) (serial cpu op : ℕ) (live : Bool) → is_refused (answer l s serial cpu (Cancel op) (first_some (then_some (not live) NoOp ∷ []))).reply ≡ not live

@@ -117,10 +117,11 @@ impl Course {
         ensures volume { IfOk result (λ volume. volume ≡ volume_of self.old) }
         ensures goes_on { OnOk result (self.new ≡ started self.old.layout self.old.state (last_serial self.old)) }
     {
+        let last = self.last_serial();
         let now = self.memory.image(alloc)?;
         let deltas = Tape::with_room(alloc, 0)?;
         let before = self.before;
-        self.before = self.last_serial();
+        self.before = last;
         let base = replace(&mut self.base, now);
         let history = replace(&mut self.history, Vec::new(alloc));
         self.entries = Vec::new(alloc);

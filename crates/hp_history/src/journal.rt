@@ -43,7 +43,8 @@ fn step_tag(entries: &[Entry], history: &[Record], place: usize) -> Tag
     requires within { AreWithin (length history.now) entries.now }
     ensures { slice_get (tags_of history.now entries.now) place ≡ Some result }
 {
-    entries[place].tag(history)
+    let entry = &entries[place];
+    entry.tag(history)
 }
 
 /// How many of the steps an undo to a serial keeps: those down to the latest whose serial is not above it.

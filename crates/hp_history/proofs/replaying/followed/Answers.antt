@@ -20,13 +20,13 @@ returns-clause-course c =
 
 pub returns-in_err-follow-clause-fault : goal.returns-in_err-follow-clause-fault
 returns-in_err-follow-clause-fault c =
-    let p = err_from_is_err_and c.from_residual-in_err-follow.result c.from_residual-in_err-follow.ensures.1 in
+    let p = err_from_is_err_and c.from_residual.result c.from_residual.ensures.1 in
     rw (p.1, p.2) (fault_at c.args.course.now.layout c.args.course.now.base c.args.course.now.before c.args.records.now c.loop-place.place c.index-records-place.result c.loop-place.course _
     (slice_get_read c.args.records.now (length c.args.records.now) c.loop-place.place c.index-records-place.result refl c.loop-place-test.true c.index-records-place.is) c.loop-place.invariant.course c.in_err-follow.ensures.err)
 
 pub returns-in_err-follow-clause-only : goal.returns-in_err-follow-clause-only
 returns-in_err-follow-clause-only c =
-    let p = err_from_is_err_and c.from_residual-in_err-follow.result c.from_residual-in_err-follow.ensures.1 in
+    let p = err_from_is_err_and c.from_residual.result c.from_residual.ensures.1 in
     rw (p.1, p.2) (refutes c.args.course.now.layout c.args.course.now.base c.args.course.now.before c.args.records.now _
     (fault_at c.args.course.now.layout c.args.course.now.base c.args.course.now.before c.args.records.now c.loop-place.place c.index-records-place.result c.loop-place.course _
     (slice_get_read c.args.records.now (length c.args.records.now) c.loop-place.place c.index-records-place.result refl c.loop-place-test.true c.index-records-place.is) c.loop-place.invariant.course c.in_err-follow.ensures.err))

@@ -6,12 +6,13 @@ use Rattle.hp_laws.proofs.Boots.{boot-placed}
 use Rattle.hp_history.specs.Replay.{IsCourseOf}
 use Rattle.hp_history.proofs.Replays.{course_again, fault_again, placed, refutes_again, shown, started_again}
 use Rattle.hp_history.proofs.replaying.replay.Goals as goal
+use Rattle.hp_history.proofs.replaying.replay.Goals.{After-image}
 
 pub followed-requires : goal.followed-requires
 followed-requires c = started_again c.args.layout.now (boot_memory c.args.layout.now) 0 c.in_ok-course.course c.in_ok-course.ensures.start
 
 -- what was found of the records, by the base itself
-followed_so : (c : goal.After-image) → IsCourseOf c.args.layout.now (boot_memory c.args.layout.now) 0 c.args.records.now c.followed.new.course
+followed_so : (c : After-image) → IsCourseOf c.args.layout.now (boot_memory c.args.layout.now) 0 c.args.records.now c.followed.new.course
 followed_so c = course_again c.args.layout.now (boot_memory c.args.layout.now) 0 c.args.records.now c.in_ok-course.course c.followed.new.course c.in_ok-course.ensures.start c.in_ok-followed.ensures.course
 
 pub returns-clause-legal : goal.returns-clause-legal

@@ -4,12 +4,13 @@ use Rattle.std.proofs.lemmas.Result.{err_from_is_err_and}
 use Rattle.hp_history.specs.Replay.{IsCourseOf}
 use Rattle.hp_history.proofs.Replays.{course_again, fault_again, placed, refutes_again, shown, started_again}
 use Rattle.hp_history.proofs.replaying.replay_from.Goals as goal
+use Rattle.hp_history.proofs.replaying.replay_from.Goals.{After-image}
 
 pub followed-requires : goal.followed-requires
 followed-requires c = started_again c.args.base.now.layout c.args.base.now.memory c.args.before c.in_ok-course.course c.in_ok-course.ensures
 
 -- what was found of the records, by the base itself
-followed_so : (c : goal.After-image) → IsCourseOf c.args.base.now.layout c.args.base.now.memory c.args.before c.args.records.now c.followed.new.course
+followed_so : (c : After-image) → IsCourseOf c.args.base.now.layout c.args.base.now.memory c.args.before c.args.records.now c.followed.new.course
 followed_so c = course_again c.args.base.now.layout c.args.base.now.memory c.args.before c.args.records.now c.in_ok-course.course c.followed.new.course c.in_ok-course.ensures c.in_ok-followed.ensures.course
 
 pub returns-clause-legal : goal.returns-clause-legal

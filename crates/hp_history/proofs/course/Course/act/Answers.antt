@@ -39,15 +39,22 @@ keep_step-requires-clause-same c =
     let here = (goal.at.keep_step-requires-clause-same c).After-is_step in
     λ none. made_off (seen c.self.inside) c.self.inside.entries.items c.self.inside.deltas.deltas c.args.cpu (receipt here) (entry here) c.step.new.self c.step.new.tape.deltas (made here) (sym c.is_step.ensures ∙ none)
 
--- what it left
+-- the same where the course has changed
+abbrev last_receipt : After-push_reserved → Receipt
+last_receipt c = record { serial = c.next_serial-serial.result; event = c.args.event.now; reply = c.in_ok-reply.reply }
+
+abbrev last_entry : After-push_reserved → Entry
+last_entry c = record { place = c.len.result; start = c.len-2.result }
+
+-- what the step left
 left : (c : After-push_reserved)
-    → IsLeft (seen c.self.inside) c.self.inside.entries.items c.args.cpu (receipt c.After-is_step) (entry c.After-is_step) c.step.new.self c.step.new.tape.deltas c.is_step.result c.keep_step.new.memory c.push_reserved.new.self.items
+    → IsLeft (seen c.self.inside) c.self.inside.entries.items c.args.cpu (last_receipt c) (last_entry c) c.step.new.self c.step.new.tape.deltas c.is_step.result c.keep_step.new.memory c.push_reserved.new.self.items
     c.keep_step.new.entries.items c.keep_step.new.deltas.deltas
 left c = record {
   steps = c.is_step.ensures;
   state = c.keep_step.ensures.state;
   layout = c.keep_step.ensures.layout;
-  history = pushed c.self.inside.history.items c.reserve.new.self.items c.push_reserved.new.self.items c.args.cpu (receipt c.After-is_step) c.in_ok-recorded.recorded c.in_ok-reserve.ensures.items c.push_reserved.ensures.items
+  history = pushed c.self.inside.history.items c.reserve.new.self.items c.push_reserved.new.self.items c.args.cpu (last_receipt c) c.in_ok-recorded.recorded c.in_ok-reserve.ensures.items c.push_reserved.ensures.items
       c.in_ok-recorded.ensures;
   entries = rw c.in_ok-reserve-2.ensures.items at c.keep_step.ensures.entries;
   deltas = c.keep_step.ensures.deltas;
@@ -56,7 +63,7 @@ left c = record {
 pub invariant_of-self-2 : goal.invariant_of-self-2
 invariant_of-self-2 c =
     let here = (goal.at.invariant_of-self-2 c).After-push_reserved in
-    let step = here.After-is_step in (
+    let step = (goal.at.invariant_of-self-2 c).After-is_step in (
       made_fields (seen c.self.inside) c.self.inside.entries.items c.self.inside.deltas.deltas c.args.cpu (receipt step) (entry step) c.step.new.self c.step.new.tape.deltas c.is_step.result c.keep_step.new.memory
           c.push_reserved.new.self.items c.keep_step.new.entries.items c.keep_step.new.deltas.deltas (made step) (left here),
       c.self.invariant.1 ∙ sym (c.keep_step.ensures.layout ∙ c.step.ensures.layout),
@@ -65,7 +72,7 @@ invariant_of-self-2 c =
 pub returns-clause-ok : goal.returns-clause-ok
 returns-clause-ok c =
     let here = (goal.at.returns-clause-ok c).After-push_reserved in
-    let step = here.After-is_step in
+    let step = (goal.at.returns-clause-ok c).After-is_step in
     rw (← c.self.view_is) (with_copy (seen c.self.inside) _ c.args.cpu c.next_serial-serial.result c.args.event.now c.in_ok-answered.answered c.in_ok-reply.reply c.in_ok-answered.ensures
     (made_answered (seen c.self.inside) c.self.inside.entries.items c.self.inside.deltas.deltas c.args.cpu (receipt step) (entry step) c.step.new.self c.step.new.tape.deltas c.is_step.result c.keep_step.new.memory
     c.push_reserved.new.self.items c.keep_step.new.entries.items c.keep_step.new.deltas.deltas (made step) (left here)))

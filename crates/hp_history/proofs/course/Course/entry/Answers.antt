@@ -16,8 +16,7 @@ below c =
     let m = seen c.self.inside in
     omega (
       arith,
-      c.if-at-len.false,
-      c.len.ensures,
+      c.if-at-entries.false,
       ap (λ (es : List Entry). length es) c.as_slice-entries.ensures.value,
       entry_count m.layout m.base m.history (net_of m.history) c.self.inside.entries.items c.self.inside.deltas.deltas c.self.invariant.0.journal,
     )

@@ -9,27 +9,26 @@ use Rattle.hp_history.specs.Entries.{IsWayBack, start_of}
 use Rattle.hp_history.specs.Seen.{seen}
 use Rattle.hp_history.proofs.Journals.{entry_count, start_within, way_back}
 use Rattle.hp_history.proofs.course.Course.way_back.Goals as goal
-use Rattle.hp_history.proofs.course.Course.way_back.Goals.{After-start_of}
+use Rattle.hp_history.proofs.course.Course.way_back.Goals.{After-start_of-start}
 
-reach : (c : After-start_of) → c.args.at ≤ length (net_of c.self.inside.history.items)
+reach : (c : After-start_of-start) → c.args.at ≤ length (net_of c.self.inside.history.items)
 reach c =
     let m = seen c.self.inside in
     omega (
       arith,
-      c.if-at-len.false,
-      c.len.ensures,
+      c.if-at-entries.false,
       ap (λ (es : List Entry). length es) c.as_slice-entries.ensures.value,
       entry_count m.layout m.base m.history (net_of m.history) c.self.inside.entries.items c.self.inside.deltas.deltas c.self.invariant.0.journal,
     )
 
-start : (c : After-start_of) → c.start_of-start.result ≡ start_of c.self.inside.entries.items (length c.self.inside.deltas.deltas) c.args.at
+start : (c : After-start_of-start) → c.start_of-start.result ≡ start_of c.self.inside.entries.items (length c.self.inside.deltas.deltas) c.args.at
 start c =
     c.start_of-start.ensures
     ∙ (ap (λ (es : List Entry). start_of es c.len-count.result c.args.at) c.as_slice-entries.ensures.value ∙ ap (λ (n : ℕ). start_of c.self.inside.entries.items n c.args.at) c.len-count.ensures)
 
 pub between-requires-clause-order : goal.between-requires-clause-order
 between-requires-clause-order c =
-    let here = (goal.at.between-requires-clause-order c).After-start_of in
+    let here = (goal.at.between-requires-clause-order c).After-start_of-start in
     let m = seen c.self.inside in
     subst (λ (n : ℕ). n ≤ c.len-count.result) (sym (start here))
     (subst (λ (n : ℕ). start_of c.self.inside.entries.items (length c.self.inside.deltas.deltas) c.args.at ≤ n) (sym c.len-count.ensures)
@@ -37,7 +36,7 @@ between-requires-clause-order c =
 
 pub returns : goal.returns
 returns c =
-    let here = (goal.at.returns c).After-start_of in
+    let here = (goal.at.returns c).After-start_of-start in
     let es = c.self.inside.entries.items in
     let ds = c.self.inside.deltas.deltas in
     let shown =
