@@ -8,12 +8,13 @@ mod Claims
 mod Migrated
 mod OnlineBlocks
 mod PageEvents
+mod Pictured
 mod Placed
 mod Releases
 mod SingleBlocks
 mod Sources
 mod States
-mod Steps
+pub mod Steps
 mod Taken
 mod Unwinding
 mod Committed

@@ -1,10 +1,10 @@
 -- Pages that move out of blocks which are going offline.
-use Rattle.std.proofs.Common.{◌≡◌, ℕ, suc, ◌+◌, ◌*◌, ◌%◌, ◌^◌, ◌<◌, ◌≤◌, true, false, List, [], Option, Some, None, refl, sym, ◌∙◌, ap, subst, arith, inl, inr}
+use Rattle.std.proofs.Common.{◌≡◌, ℕ, suc, ◌+◌, ◌*◌, ◌^◌, ◌<◌, ◌≤◌, true, false, List, [], Option, Some, None, refl, sym, ◌∙◌, ap, subst, arith, inl, inr}
 use Rattle.std.specs.Prelude.{is_some}
 use Rattle.std.proofs.lemmas.Bool.{cases_lt}
 use Rattle.std.proofs.lemmas.Option.{same_Some}
 use Rattle.hp_units.specs.declared.rows.Zone.{Zone}
-use Rattle.std.proofs.Math.Nat.{mod-eq_of_lt, mul-le-mul_right, suc-mul}
+use Rattle.std.proofs.Math.Nat.{mul-le-mul_right, suc-mul}
 use Rattle.hp_units.specs.LayoutParts.{LayoutParts, IsLayout}
 use Rattle.hp_units.specs.Arithmetic.{frame_count}
 use Rattle.hp_units.specs.FreeAreas.{Taken, give_block}
@@ -130,13 +130,8 @@ migrate-done {before} m f g ps op from to zone was mid more now p none live sour
 -- ---- the frames of a block
 
 -- as they are computed
-pub block-frames : (l : LayoutParts) (block at pageblocks order : ℕ) → IsLayout l → block < l.blocks → at ≡ block → pageblocks ≡ l.pageblocks → order ≡ l.order
-    → at * (pageblocks * 2 ^ order % 4294967296) + pageblocks * 2 ^ order % 4294967296 ≤ frame_count l
-block-frames l block at pageblocks order layout low here p_is o_is =
-    let size : pageblocks * 2 ^ order ≡ l.pageblocks * 2 ^ l.order = ap (λ (n : ℕ). n * 2 ^ order) p_is ∙ ap (λ (n : ℕ). l.pageblocks * 2 ^ n) o_is in
-    let all : 1 * (l.pageblocks * 2 ^ l.order) ≤ l.blocks * (l.pageblocks * 2 ^ l.order) = mul-le-mul_right (l.pageblocks * 2 ^ l.order) layout.some_blocks in
-    let small : l.pageblocks * 2 ^ l.order < 4294967296 = omega (arith, all, layout.frames) in
-    let whole : pageblocks * 2 ^ order % 4294967296 ≡ l.pageblocks * 2 ^ l.order = ap (λ (n : ℕ). n % 4294967296) size ∙ mod-eq_of_lt small in
+pub block-last : (l : LayoutParts) (block at size : ℕ) → block < l.blocks → at ≡ block → size ≡ l.pageblocks * 2 ^ l.order → at * size + size ≤ frame_count l
+block-last l block at size low here size_is =
     let more : suc block * (l.pageblocks * 2 ^ l.order) ≤ l.blocks * (l.pageblocks * 2 ^ l.order) = mul-le-mul_right (l.pageblocks * 2 ^ l.order) low in
-    subst (λ (n : ℕ). at * n + n ≤ frame_count l) (sym whole)
+    subst (λ (n : ℕ). at * n + n ≤ frame_count l) (sym size_is)
     (subst (λ (b : ℕ). b * (l.pageblocks * 2 ^ l.order) + l.pageblocks * 2 ^ l.order ≤ frame_count l) (sym here) (omega (arith, more, suc-mul block (l.pageblocks * 2 ^ l.order))))

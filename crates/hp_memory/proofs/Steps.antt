@@ -1,13 +1,19 @@
 -- A step of an event, by the answer of a processor that is in the layout.
-use Rattle.std.proofs.Common.{◌≡◌, ℕ, ◌<◌, ◌≤◌, List, Result, IfOk, Bool, Option, Some, None, refl, sym, ◌∙◌, ap, subst}
+use Rattle.std.proofs.Common.{◌≡◌, ℕ, ◌<◌, ◌≤◌, List, drop, length, Result, IfOk, Bool, Option, Some, None, refl, sym, ◌∙◌, ap, subst}
+use Rattle.std.proofs.Math.Seq.{drop-append_seam}
 use Rattle.std.specs.Bool.{then_some}
+use Rattle.std.specs.List.{AllByRecursion}
 use Rattle.std.specs.Option.{option_or}
 use Rattle.std.proofs.lemmas.Bool.{le-leb, lt-leb}
 use Rattle.hp_units.specs.declared.events.Event.{Event}
 use Rattle.hp_units.specs.declared.replies.Reply.{Reply}
 use Rattle.hp_tape.specs.declared.deltas.Delta.{Delta}
 use Rattle.hp_memory.specs.declared.layers.Layers.{Layers}
-use Rattle.hp_memory.specs.Layers.{IsAnswered, state_of}
+use Rattle.hp_tape.specs.Deltas.{Fits, IsDeltaOf, frame_view_of, undo}
+use Rattle.hp_tape.specs.Tapes.{LeadBack}
+use Rattle.hp_units.specs.Placement.{IsWellPlaced}
+use Rattle.hp_memory.specs.Layers.{AreNoted, IsAnswered, state_of}
+use Rattle.hp_memory.specs.Memory.{LeadsBack, MemoryValue}
 use Rattle.hp_units.specs.declared.replies.Refusal.{Refusal}
 use Rattle.hp_units.specs.declared.replies.Refusal.TheVariants.{NoCpu}
 use Rattle.hp_units.specs.declared.replies.Reply.TheVariants.{Refused}
@@ -24,7 +30,7 @@ unfolding step refusal_of
 step-no_cpu l s serial cpu event past = rw (le-leb l.cpus cpu past) refl
 
 -- one that is
-step-in : (l : LayoutParts) (s : Memory) (serial cpu : ℕ) (event : Event) → cpu < l.cpus → step l s serial cpu event ≡ answer l s serial cpu event (first_some (event_refusals l s cpu event))
+pub step-in : (l : LayoutParts) (s : Memory) (serial cpu : ℕ) (event : Event) → cpu < l.cpus → step l s serial cpu event ≡ answer l s serial cpu event (first_some (event_refusals l s cpu event))
 unfolding step refusal_of
 step-in l s serial cpu event below =
     ap (λ (b : Bool). answer l s serial cpu event (option_or (then_some b NoCpu) (first_some (event_refusals l s cpu event)))) (lt-leb l.cpus cpu below)
@@ -48,3 +54,26 @@ pub answered : (m new : Layers) (event other : Event) (serial cpu : ℕ) (a : An
 answered m new event other serial cpu a before now result is steps h =
     subst (λ (e : Event). IfOk result (IsAnswered m e (step m.layout (state_of m) serial cpu e) new before now)) (sym is)
     (subst (λ (b : Answered). IfOk result (IsAnswered m other b new before now)) (sym steps) h)
+
+-- what a step noted leads back
+pub noted-back : (l : LayoutParts) (most : ℕ) (was now : List Delta) (later earlier : Memory) → IsWellPlaced l earlier → AreNoted l most was now (frame_view_of l later) (frame_view_of l earlier)
+    → LeadsBack l (drop (length was) now) later earlier
+noted-back l most was now later earlier placed n =
+    let behind : drop (length was) now ≡ n.deltas = ap (λ (ds : List Delta). drop (length was) ds) n.after ∙ drop-append_seam was n.deltas in
+    record {
+      placed = placed;
+      numbers = subst (λ (ds : List Delta). AllByRecursion (IsDeltaOf l) ds) (sym behind) n.numbers;
+      lead = subst (λ (ds : List Delta). LeadBack Fits undo ds (frame_view_of l later) (frame_view_of l earlier)) (sym behind) n.lead;
+    }
+
+-- of a caller that kept how many deltas there were, on what has the same layout
+pub step-leads : (l k : LayoutParts) (most mark : ℕ) (was now : List Delta) (later earlier : Memory) → IsWellPlaced l earlier → AreNoted l most was now (frame_view_of l later) (frame_view_of l earlier)
+    → mark ≡ length was → k ≡ l → LeadsBack k (drop mark now) later earlier
+step-leads l k most mark was now later earlier placed n at same =
+    subst (λ (m : LayoutParts). LeadsBack m (drop mark now) later earlier) (sym same)
+    (subst (λ (i : ℕ). LeadsBack l (drop i now) later earlier) (sym at) (noted-back l most was now later earlier placed n))
+
+-- values of one layout and one state
+pub same_memory : (v w : MemoryValue) → v.layout ≡ w.layout → v.state ≡ w.state → v ≡ w
+same_memory v w layout state =
+    ap (λ (l : LayoutParts). record { layout = l; state = v.state }) layout ∙ ap (λ (s : Memory). record { layout = w.layout; state = s }) state

@@ -9,6 +9,7 @@ ghost use Rattle.hp_memory.specs.Layers.{AreOfOneLayout, state_of, view_of};
 mod begins;
 mod commits;
 mod drains;
+mod images;
 mod kernel;
 mod migrations;
 mod onlines;

@@ -46,32 +46,30 @@ impl Memory {
         Ok(Memory { layers })
     }
 
-    /// The layers of a state. An error is out of memory.
+    /// The layers of a well placed state. An error is out of memory.
     pub fn from_image(alloc: Global, image: &Image) -> Result<Memory, AllocError>
         requires limits { IsLayout image.now.layout }
         requires placed { IsWellPlaced image.now.layout image.now.memory }
         ensures { IfOk result (λ memory. memory ≡ record { layout = image.now.layout; state = image.now.memory }) }
     {
-        let _own = image.copy(alloc)?;
-        Err(AllocError)
+        let layers = Layers::from_image(alloc, image)?;
+        Ok(Memory { layers })
     }
 
     /// The state, as an Image of its own. An error is out of memory.
     pub fn image(&self, alloc: Global) -> Result<Image, AllocError>
         ensures { IfOk result (λ image. image ≡ record { layout = self.now.layout; memory = self.now.state }) }
     {
-        let _ = &self.layers;
-        let _room = Tape::with_room(alloc, 0)?;
-        Err(AllocError)
+        self.layers.image(alloc)
     }
 
     /// An equal memory. An error is out of memory.
     pub fn copy(&self, alloc: Global) -> Result<Memory, AllocError>
         ensures { IfOk result (λ copy. copy ≡ self.now) }
     {
-        let _ = &self.layers;
-        let _room = Tape::with_room(alloc, 0)?;
-        Err(AllocError)
+        self.is_placed();
+        let image = self.image(alloc)?;
+        Memory::from_image(alloc, &image)
     }
 
     /// The layout.

@@ -1,4 +1,6 @@
 //! Worked examples, on four memory blocks of one pageblock of four frames.
+ghost use Rattle.std.specs.Prelude.{◌≡◌};
+
 mod single_blocks;
 
 use super::Memory;
@@ -30,24 +32,26 @@ fn small(alloc: Global) -> Result<Layout, LayoutFault> {
     )
 }
 
-/// Whether a step of an event is answered as it is to be.
+/// Runs events in turn, on one tape; whether each is answered as it is to be.
 fn answers(
     alloc: Global,
     memory: &mut Memory,
     tape: &mut Tape,
-    serial: u64,
-    event: &Event,
-    reply: &Reply,
+    calls: &[(u64, Event, Reply)],
 ) -> Result<bool, AllocError> {
-    let answer = memory.step(alloc, Serial(serial), Cpu(0), event, tape)?;
-    Ok(answer.same(reply))
+    for (serial, event, reply) in calls {
+        let answer = memory.step(alloc, Serial(*serial), Cpu(0), event, tape)?;
+        if !answer.same(reply) {
+            return Ok(false);
+        }
+    }
+    Ok(true)
 }
 
 #[test]
 fn a_block_goes_offline_once_its_page_has_moved(rt: HostRuntime) -> Result<(), Fail> {
     let alloc = rt.alloc();
-    let layout = small(alloc)?;
-    let mut memory = Memory::boot(alloc, &layout)?;
+    let mut memory = Memory::boot(alloc, &small(alloc)?)?;
     let mut tape = Tape::with_room(alloc, 0)?;
     let (owner, page, op) = (Owner(0), Page(0), Serial(2));
     let leave = Item {
@@ -55,39 +59,36 @@ fn a_block_goes_offline_once_its_page_has_moved(rt: HostRuntime) -> Result<(), F
         wish: Wish::Off,
     };
     let plan = Plan::new(vec![in alloc; leave]?);
-    let map = Event::Map { owner, page };
-    assert!(rt; answers(alloc, &mut memory, &mut tape, 1, &map, &Reply::Done)?);
-    let begin = Event::Begin { plan };
-    assert!(rt;
-        answers(
-            alloc,
-            &mut memory,
-            &mut tape,
-            2,
-            &begin,
-            &Reply::Opened { op }
-        )?
-    );
-    let held = Reply::Refused(Refusal::NotFree { frame: Frame(8) });
-    let commit = Event::Commit { op };
-    assert!(rt; answers(alloc, &mut memory, &mut tape, 3, &commit, &held)?);
-    let (from, to) = (Frame(8), Frame(0));
-    let migrate = Event::Migrate { op };
-    assert!(rt;
-        answers(
-            alloc,
-            &mut memory,
-            &mut tape,
-            4,
-            &migrate,
-            &Reply::Moved { from, to }
-        )?
-    );
-    let drain = Event::Drain { cpu: Cpu(0) };
-    assert!(rt; answers(alloc, &mut memory, &mut tape, 5, &drain, &Reply::Done)?);
-    assert!(rt; answers(alloc, &mut memory, &mut tape, 6, &commit, &Reply::Done)?);
-    memory.is_placed();
+    let (from, to, cpu) = (Frame(8), Frame(0), Cpu(0));
+    let held = Refusal::NotFree { frame: from };
+    let calls = [
+        (1, Event::Map { owner, page }, Reply::Done),
+        (2, Event::Begin { plan }, Reply::Opened { op }),
+        (3, Event::Commit { op }, Reply::Refused(held)),
+        (4, Event::Migrate { op }, Reply::Moved { from, to }),
+        (5, Event::Drain { cpu }, Reply::Done),
+        (6, Event::Commit { op }, Reply::Done),
+    ];
+    assert!(rt; answers(alloc, &mut memory, &mut tape, &calls)?);
     Ok(())
+}
+
+/// A step that is taken back at once leaves all as it was, as the contracts of both calls alone show.
+fn stepped_and_back(
+    alloc: Global,
+    memory: &mut Memory,
+    tape: &mut Tape,
+    serial: Serial,
+    event: &Event,
+) -> Result<Reply, AllocError>
+    ensures memory { memory.new ≡ memory.old }
+    ensures tape { tape.new.deltas ≡ tape.old.deltas }
+{
+    memory.is_placed();
+    let mark = tape.len();
+    let reply = memory.step(alloc, serial, Cpu(0), event, tape)?;
+    memory.back(tape, mark);
+    Ok(reply)
 }
 
 #[test]
@@ -97,18 +98,42 @@ fn a_step_goes_back(rt: HostRuntime) -> Result<(), Fail> {
     let mut memory = Memory::boot(alloc, &layout)?;
     let mut tape = Tape::with_room(alloc, 0)?;
     let take = Event::KernelAlloc { order: Order(1) };
-    memory.is_placed();
-    let _ = memory.step(alloc, Serial(1), Cpu(0), &take, &mut tape)?;
-    memory.back(&mut tape, 0);
-    assert!(rt;
-        answers(
-            alloc,
-            &mut memory,
-            &mut tape,
-            1,
-            &take,
-            &Reply::Frame(Frame(0))
-        )?
-    );
+    let frame = Reply::Frame(Frame(0));
+    let answer = stepped_and_back(alloc, &mut memory, &mut tape, Serial(1), &take)?;
+    assert!(rt; answer.same(&frame));
+    let again = [(1, take, frame)];
+    assert!(rt; answers(alloc, &mut memory, &mut tape, &again)?);
+    Ok(())
+}
+
+#[test]
+fn a_copy_goes_on_alike(rt: HostRuntime) -> Result<(), Fail> {
+    let alloc = rt.alloc();
+    let mut memory = Memory::boot(alloc, &small(alloc)?)?;
+    let mut tape = Tape::with_room(alloc, 0)?;
+    let (owner, page, index, value) = (Owner(1), Page(3), 1, 7);
+    let write = Event::Write {
+        owner,
+        page,
+        index,
+        value,
+    };
+    let calls = [
+        (1, Event::Map { owner, page }, Reply::Done),
+        (2, write, Reply::Done),
+        (
+            3,
+            Event::KernelAlloc { order: Order(1) },
+            Reply::Frame(Frame(0)),
+        ),
+    ];
+    assert!(rt; answers(alloc, &mut memory, &mut tape, &calls)?);
+    let mut copy = memory.copy(alloc)?;
+    assert!(rt; copy.image(alloc)?.same(&memory.image(alloc)?));
+    assert!(rt; copy.layout().blocks() == 4);
+    assert!(rt; !copy.is_live(Serial(1)));
+    let look = Event::Read { owner, page, index };
+    let more = [(4, look, Reply::Word(value))];
+    assert!(rt; answers(alloc, &mut copy, &mut tape, &more)?);
     Ok(())
 }

@@ -1,6 +1,6 @@
 mod FrameSets
 mod PageCalls
-mod PageParts
+pub mod PageParts
 pub mod Places
 mod Tables
 mod Unwinding

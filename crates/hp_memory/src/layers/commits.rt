@@ -122,7 +122,7 @@ impl Layers {
         requires block { block < self.now.layout.blocks }
         ensures { result ≡ find (is_in_use self.now.layout (state_of self.now)) (frames_of_block self.now.layout block) }
     {
-        let size = self.layout.pageblocks() << self.layout.order();
+        let size = self.layout.block_size();
         let first = block.0 * size;
         for number in 0..size {
             let frame = Frame(first + number);

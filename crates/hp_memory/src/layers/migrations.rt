@@ -65,7 +65,7 @@ impl Layers {
         if !self.blocks.row(block).is_going() {
             return None;
         }
-        let size = self.layout.pageblocks() << self.layout.order();
+        let size = self.layout.block_size();
         self.pages.lowest_mapped(Frame(block.0 * size), size)
     }
 }

@@ -173,7 +173,7 @@ impl Layers {
         requires block { block < self.now.layout.blocks }
         ensures { result ≡ find (λ frame. is_some (kernel_order (state_of self.now) frame)) (frames_of_block self.now.layout block) }
     {
-        let size = self.layout.pageblocks() << self.layout.order();
+        let size = self.layout.block_size();
         let first = block.0 * size;
         for number in 0..size {
             let frame = Frame(first + number);

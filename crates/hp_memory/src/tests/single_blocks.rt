@@ -1,10 +1,9 @@
 //! Memory blocks that come and go.
+use super::answers;
 use crate::Memory;
 use hp_tape::Tape;
-use hp_units::{
-    Auto, Block, Boot, Cpu, Event, Layout, LayoutFault, Parts, Refusal, Reply, Serial, Zone,
-};
-use std::alloc::{AllocError, Global};
+use hp_units::{Auto, Block, Boot, Event, Layout, LayoutFault, Parts, Refusal, Reply, Zone};
+use std::alloc::Global;
 use std::test::Fail;
 
 /// Four memory blocks of 32 bytes: one online, two offline, and the third absent.
@@ -25,22 +24,6 @@ fn scattered(alloc: Global) -> Result<Layout, LayoutFault> {
             boot: &[Boot::Normal, Boot::Offline, Boot::Absent, Boot::Offline],
         },
     )
-}
-
-/// Runs events in turn, on one tape; whether each is answered as it is to be.
-fn answers(
-    alloc: Global,
-    memory: &mut Memory,
-    tape: &mut Tape,
-    calls: &[(u64, Event, Reply)],
-) -> Result<bool, AllocError> {
-    for (serial, event, reply) in calls {
-        let answer = memory.step(alloc, Serial(*serial), Cpu(0), event, tape)?;
-        if answer != *reply {
-            return Ok(false);
-        }
-    }
-    Ok(true)
 }
 
 #[test]

@@ -1,0 +1,4 @@
+mod Images
+mod Lists
+mod Pages
+pub mod Tables

@@ -1,0 +1,11 @@
+//! The layers of an Image.
+mod areas;
+mod pages;
+mod processors;
+mod rows;
+
+pub use areas::buddy_of;
+pub use pages::pages_of;
+pub use processors::cpus_of;
+pub(crate) use processors::pool_numbered;
+pub use rows::blocks_of;

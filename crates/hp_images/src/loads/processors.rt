@@ -1,0 +1,70 @@
+//! The processors' lists of an Image.
+ghost use Rattle.std.specs.Prelude.{◌≡◌, ◌<◌, [], IfOk};
+ghost use Rattle.hp_units.specs.LayoutParts.{IsLayout};
+ghost use Rattle.hp_units.specs.Memory.{cached_list};
+ghost use Rattle.hp_units.specs.Placement.{IsWellPlaced};
+ghost use Rattle.hp_cpus.specs.Cpus.{list_of, with_list_of};
+ghost use Rattle.hp_images.specs.Tables.{AreCopied, ArePartly};
+ghost use Rattle.hp_images.specs.Pools.{pool_numbered};
+
+use hp_cpus::Cpus;
+use hp_plain::Image;
+use hp_tape::{Delta, ListId};
+use hp_units::{Cpu, Pool};
+use std::alloc::{AllocError, Global};
+
+/// The processors' lists of an Image whose state is well placed. An error is out of memory.
+pub fn cpus_of(alloc: Global, image: &Image) -> Result<Cpus, AllocError>
+    requires limits { IsLayout image.now.layout }
+    requires placed { IsWellPlaced image.now.layout image.now.memory }
+    ensures { IfOk result (λ cpus. cpus ≡ record { layout = image.now.layout; cached = image.now.memory.free.cached }) }
+{
+    let mut cpus = Cpus::new(alloc, image.layout())?;
+    load_lists(&mut cpus, image);
+    Ok(cpus)
+}
+
+/// The single frames of an Image come onto empty lists.
+fn load_lists(cpus: &mut Cpus, image: &Image)
+    requires limits { IsLayout image.now.layout }
+    requires placed { IsWellPlaced image.now.layout image.now.memory }
+    requires layout { cpus.old.layout ≡ image.now.layout }
+    requires none { AreCopied [] [] 0 image.now.memory.free.cached cpus.old.cached }
+    ensures { cpus.new ≡ record cpus.old { cached = image.now.memory.free.cached } }
+{
+    for number in 0..3 * image.layout().cpus() {
+        load_list(cpus, image, Cpu(number / 3), pool_numbered(number % 3));
+    }
+}
+
+/// The frames of a processor's list of a pool come onto it, the last one first.
+fn load_list(cpus: &mut Cpus, image: &Image, cpu: Cpu, pool: Pool)
+    requires limits { IsLayout image.now.layout }
+    requires placed { IsWellPlaced image.now.layout image.now.memory }
+    requires layout { cpus.old.layout ≡ image.now.layout }
+    requires cpu { cpu < image.now.layout.cpus }
+    requires partly { ArePartly image.now.memory.free.cached cpus.old.cached }
+    requires none { list_of cpus.old cpu pool ≡ [] }
+    ensures { cpus.new ≡ with_list_of cpus.old cpu pool (cached_list image.now.memory.free cpu pool) }
+{
+    let frames = image.cpu_list(cpu, pool);
+    for number in 0..frames.len() {
+        let frame = frames[frames.len() - 1 - number];
+        cpus.back(Delta::Unlink {
+            list: ListId::Cpu { cpu, pool },
+            frame,
+            after: None,
+        });
+    }
+}
+
+/// The pool of a number, 0 to 2; the last one past it.
+pub(crate) fn pool_numbered(number: u32) -> Pool
+    ensures { result ≡ pool_numbered number }
+{
+    match number {
+        0 => Pool::Nu,
+        1 => Pool::Nm,
+        _ => Pool::Mm,
+    }
+}

@@ -1,0 +1,10 @@
+//! An Image of the layers, part by part.
+mod areas;
+mod pages;
+mod processors;
+mod rows;
+
+pub use areas::put_areas;
+pub use pages::put_pages;
+pub use processors::put_cpus;
+pub use rows::put_blocks;
