@@ -105,35 +105,3 @@ fn a_step_goes_back(rt: HostRuntime) -> Result<(), Fail> {
     assert!(rt; answers(alloc, &mut memory, &mut tape, &again)?);
     Ok(())
 }
-
-#[test]
-fn a_copy_goes_on_alike(rt: HostRuntime) -> Result<(), Fail> {
-    let alloc = rt.alloc();
-    let mut memory = Memory::boot(alloc, &small(alloc)?)?;
-    let mut tape = Tape::with_room(alloc, 0)?;
-    let (owner, page, index, value) = (Owner(1), Page(3), 1, 7);
-    let write = Event::Write {
-        owner,
-        page,
-        index,
-        value,
-    };
-    let calls = [
-        (1, Event::Map { owner, page }, Reply::Done),
-        (2, write, Reply::Done),
-        (
-            3,
-            Event::KernelAlloc { order: Order(1) },
-            Reply::Frame(Frame(0)),
-        ),
-    ];
-    assert!(rt; answers(alloc, &mut memory, &mut tape, &calls)?);
-    let mut copy = memory.copy(alloc)?;
-    assert!(rt; copy.image(alloc)?.same(&memory.image(alloc)?));
-    assert!(rt; copy.layout().blocks() == 4);
-    assert!(rt; !copy.is_live(Serial(1)));
-    let look = Event::Read { owner, page, index };
-    let more = [(4, look, Reply::Word(value))];
-    assert!(rt; answers(alloc, &mut copy, &mut tape, &more)?);
-    Ok(())
-}
