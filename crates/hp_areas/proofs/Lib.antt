@@ -1,13 +1,5 @@
-pub mod Drains
 pub mod EmptyFrames
+pub mod EqualLists
 pub mod FramesInLayout
-pub mod Gives
-pub mod HandedOut
-pub mod InLayout
-pub mod Isolation
-pub mod OnList
 pub mod Ranges
-pub mod Searches
-pub mod Steals
-pub mod Takes
 pub mod Walks

@@ -1,8 +1,7 @@
--- Numbers from one on: one number further in a test, a filter and a fold over them.
-use Rattle.std.proofs.Common.{◌≡◌, ℕ, zero, suc, ◌+◌, ◌-◌, ◌<◌, List, [], ◌∷◌, ◌++◌, Bool, true, false, cond, ◌||◌, ◌&&◌, refl, sym, ◌∙◌, ap, arith, filter, add-one}
+-- Numbers from one on: one number further in a test and a fold over them.
+use Rattle.std.proofs.Common.{◌≡◌, ℕ, zero, suc, ◌+◌, ◌-◌, ◌<◌, List, [], ◌∷◌, ◌++◌, Bool, true, false, cond, ◌||◌, ◌&&◌, refl, sym, ◌∙◌, ap, arith, add-one}
 use Rattle.std.specs.List.{fold, list_any, list_all, range_with_len}
 use Rattle.std.proofs.lemmas.Bool.{false≢true}
-use Rattle.std.proofs.lemmas.List.Elements.{filter-append}
 use Rattle.std.proofs.lemmas.List.Sums.{fold_push}
 
 -- the numbers that are left, the first of them in front
@@ -45,13 +44,3 @@ range_push a (suc n) = ap (λ (xs : List ℕ). a ∷ xs) (range_push (a + 1) n �
 pub fold-range_more : {B : Type 0} (f : B → ℕ → B) (b : B) (a n : ℕ) → fold f b (range_with_len a (n + 1)) ≡ f (fold f b (range_with_len a n)) (a + n)
 fold-range_more f b a n =
     ap (λ (k : ℕ). fold f b (range_with_len a k)) (add-one n) ∙ ap (fold f b) (range_push a n) ∙ fold_push f b (range_with_len a n) (a + n)
-
--- a filter of numbers from one on, one number further
-pub filter-range_more : (p : ℕ → Bool) (a n : ℕ) (keep : Bool) → p (a + n) ≡ keep
-    → filter p (range_with_len a (n + 1)) ≡ filter p (range_with_len a n) ++ cond keep ((a + n) ∷ []) []
-filter-range_more p a n keep e =
-    ap (λ (k : ℕ). filter p (range_with_len a k)) (add_one n) ∙ ap (filter p) (range_push a n) ∙ filter-append p (range_with_len a n) ((a + n) ∷ [])
-    ∙ ap (λ (b : Bool). filter p (range_with_len a n) ++ cond b ((a + n) ∷ []) []) e
-  where
-    add_one : (k : ℕ) → k + 1 ≡ suc k
-    add_one k = omega arith

@@ -5,15 +5,7 @@ ghost use Rattle.hp_units.specs.Boot.{empty_areas, empty_cached};
 ghost use Rattle.hp_units.specs.FreeAreas.{with_back};
 ghost use Rattle.hp_units.specs.InLayout.{AreFreeAreasOf, AreFreeFramesOf};
 ghost use Rattle.hp_units.specs.Isolation.{add_block};
-ghost use Rattle.hp_units.specs.Memory.{cached_list, pool_index, with_cached_list, with_kind};
-
-mod drains;
-mod gives;
-mod isolation;
-mod lists;
-mod migrations;
-mod page_frames;
-mod takes;
+ghost use Rattle.hp_units.specs.Memory.{cached_list, with_cached_list, with_kind};
 
 use crate::areas::Areas;
 use crate::lists::FrameList;
@@ -41,7 +33,7 @@ impl Model for FreeFrames {
 
 impl FreeFrames {
     /// Nothing free, nothing on the processors' lists, and every pageblock movable and not isolated
-    /// (own rule). Fails only for want of memory.
+    /// (own rule). An error is out of memory.
     #[tactic(auto, using(crate::proofs::EmptyFrames::empty_of))]
     pub fn empty(alloc: Global, layout: &Layout) -> Result<FreeFrames, AllocError>
         ensures value { IfOk result (λ free. free ≡ record { areas = empty_areas layout.now; cached = empty_cached layout.now }) }
@@ -52,7 +44,7 @@ impl FreeFrames {
         Ok(FreeFrames { areas, cached })
     }
 
-    /// Equal free frames. Fails only for want of memory.
+    /// Equal free frames. An error is out of memory.
     pub fn copy(&self, alloc: Global) -> Result<FreeFrames, AllocError>
         ensures { IfOk result (λ free. free ≡ self.now) }
     {
@@ -87,17 +79,9 @@ impl FreeFrames {
         }
     }
 
-    /// Replaces a processor's list of a pool.
-    fn set_cached_list(&mut self, cpu: Cpu, pool: Pool, list: FrameList)
-        requires { 3 * cpu + pool_index pool < length self.old.cached }
-        ensures { self.new ≡ with_cached_list self.old cpu pool list }
-    {
-        self.cached[3 * cpu.0 as usize + pool.index() as usize] = list;
-    }
-
     /// The pageblocks of a memory block, whose number is below the layout's count, become movable
     /// free blocks of the greatest order, by rising number at the back of the zone's list (Linux,
-    /// memory hotplug: onlining; the order is an own rule). After want of memory some of them are.
+    /// memory hotplug: onlining; the order is an own rule). After an error some of them are.
     pub fn add_block(&mut self, layout: &Layout, zone: Zone, block: Block) -> Result<(), AllocError>
         requires layout { AreFreeFramesOf layout.now self.old }
         requires block { block < layout.now.blocks }
@@ -108,7 +92,7 @@ impl FreeFrames {
     }
 
     /// One more free block of 2^order frames, which all lie in the layout, at the back of its
-    /// class's list (own rule). After want of memory nothing has changed.
+    /// class's list (own rule). After an error nothing has changed.
     #[tactic(auto, using(crate::proofs::FramesInLayout::class_index_below, crate::proofs::FramesInLayout::of_back))]
     pub fn add_free(
         &mut self,
@@ -128,7 +112,7 @@ impl FreeFrames {
     }
 
     /// One more frame of the layout at the back of a list of one of its processors (own rule).
-    /// After want of memory nothing has changed.
+    /// After an error nothing has changed.
     pub fn add_cached(
         &mut self,
         layout: &Layout,

@@ -1,5 +1,5 @@
-//! The plain free frames: free areas and processors' lists as lists of frames, and what handing out,
-//! coming back, draining, isolation and migration do to them, as the definitions say.
+//! The free frames as a value: free areas and processors' lists as lists of frames, copied, compared,
+//! read, and made by setting one part after another.
 #![tactic(auto)]
 
 mod areas;

@@ -1,9 +1,7 @@
 //! Lists of frames.
-ghost use Rattle.std.specs.Prelude.{◌≡◌, ◌≢◌, IfOk, [], ◌∷◌, ◌++◌, MatchBool, MatchOption, OnErr, OnOk};
-ghost use Rattle.hp_units.specs.FreeAreas.{without};
+ghost use Rattle.std.specs.Prelude.{◌≡◌, ◌≢◌, IfOk, [], ◌∷◌, ◌++◌, MatchBool, OnErr, OnOk};
 
 pub(crate) mod many;
-mod moves;
 
 use hp_units::Frame;
 use std::alloc::{AllocError, Global};
@@ -40,7 +38,7 @@ impl FrameList {
         self.frames.as_slice()
     }
 
-    /// An equal list. Fails only for want of memory.
+    /// An equal list. An error is out of memory.
     pub(crate) fn copy(&self, alloc: Global) -> Result<FrameList, AllocError>
         ensures { IfOk result (λ list. list ≡ self.now) }
     {
@@ -55,37 +53,12 @@ impl FrameList {
         self.frames.as_slice() == other.frames.as_slice()
     }
 
-    /// One more frame in front. Fails only for want of memory.
-    pub(crate) fn push_front(&mut self, frame: Frame) -> Result<(), AllocError>
-        ensures { OnOk result (self.new ≡ frame ∷ self.old) }
-    {
-        self.frames.insert(0, frame)?;
-        Ok(())
-    }
-
-    /// One more frame at the back. For want of memory nothing changes.
+    /// One more frame at the back. After an error nothing has changed.
     pub(crate) fn push_back(&mut self, frame: Frame) -> Result<(), AllocError>
         ensures value { OnOk result (self.new ≡ self.old ++ frame ∷ []) }
         ensures err { OnErr result (self.new ≡ self.old) }
     {
         self.frames.push(frame)?;
         Ok(())
-    }
-
-    /// Takes the front frame; `None` where there is none.
-    pub(crate) fn pop_front(&mut self) -> Option<Frame>
-        ensures { MatchOption result ((self.old ≡ []) × (self.new ≡ [])) (λ frame. self.old ≡ frame ∷ self.new) }
-    {
-        if self.frames.is_empty() {
-            return None;
-        }
-        Some(self.frames.remove(0))
-    }
-
-    /// Takes a frame off the list, wherever it stands.
-    pub(crate) fn remove(&mut self, frame: Frame)
-        ensures { self.new ≡ without frame self.old }
-    {
-        self.frames.retain(|other| *other != frame);
     }
 }

@@ -33,7 +33,7 @@ fn small(alloc: Global) -> Result<Layout, LayoutFault>
 }
 
 #[test]
-fn a_memory_block_comes_and_goes(rt: HostRuntime) -> Result<(), Fail> {
+fn a_memory_block_is_added(rt: HostRuntime) -> Result<(), Fail> {
     let layout = small(rt.alloc())?;
     let mut free = FreeFrames::empty(rt.alloc(), &layout)?;
     free.add_block(&layout, Zone::Normal, Block(1))?;
@@ -41,44 +41,6 @@ fn a_memory_block_comes_and_goes(rt: HostRuntime) -> Result<(), Fail> {
         free.areas().free_list(Class::Nm, Order(1)),
         [Frame(2)].as_slice()
     );
-    free.move_block(rt.alloc(), &layout, Zone::Normal, true, Block(1))?;
-    assert!(rt; free.areas().is_all_free(&layout, Zone::Normal, Block(1)));
-    assert!(rt; free.areas().is_in_free_block(&layout, Frame(3)));
-    free.remove_block(&layout, Zone::Normal, Block(1));
-    assert!(rt; !free.areas().is_in_free_block(&layout, Frame(3)));
-    Ok(())
-}
-
-#[test]
-fn the_kernel_takes_and_gives(rt: HostRuntime) -> Result<(), Fail> {
-    let layout = small(rt.alloc())?;
-    let mut free = FreeFrames::empty(rt.alloc(), &layout)?;
-    free.add_block(&layout, Zone::Normal, Block(0))?;
-    let taken = free.kernel_block(rt.alloc(), &layout, Cpu(0), Order(1))?;
-    assert_eq!(rt; taken, Some(Frame(0)));
-    free.give_back(
-        rt.alloc(),
-        &layout,
-        Cpu(0),
-        Zone::Normal,
-        Frame(0),
-        Order(0),
-    )?;
-    assert_eq!(rt; free.cached_list(Cpu(0), Pool::Nu), [Frame(0)].as_slice());
-    free.drain_lists(rt.alloc(), &layout, Cpu(0))?;
-    assert!(rt; free.cached_list(Cpu(0), Pool::Nu).is_empty());
-    Ok(())
-}
-
-#[test]
-fn a_page_gets_a_frame_and_migrates(rt: HostRuntime) -> Result<(), Fail> {
-    let layout = small(rt.alloc())?;
-    let mut free = FreeFrames::empty(rt.alloc(), &layout)?;
-    free.add_block(&layout, Zone::Movable, Block(1))?;
-    let handed = free.page_frame(rt.alloc(), &layout, Cpu(0))?;
-    assert_eq!(rt; handed, Some(Frame(2)));
-    let moved = free.migrate(&layout, Zone::Movable, Frame(2))?;
-    assert_eq!(rt; moved, Some(Frame(3)));
     Ok(())
 }
 
@@ -88,6 +50,7 @@ fn single_parts_are_set(rt: HostRuntime) -> Result<(), Fail> {
     let mut free = FreeFrames::empty(rt.alloc(), &layout)?;
     free.add_free(&layout, Class::Nm, Order(1), Frame(0))?;
     free.add_cached(&layout, Cpu(0), Pool::Nm, Frame(2))?;
+    assert_eq!(rt; free.cached_list(Cpu(0), Pool::Nm), [Frame(2)].as_slice());
     let before = free.copy(rt.alloc())?;
     assert!(rt; free.same(&before));
     let kind = Kind {

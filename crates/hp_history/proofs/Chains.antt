@@ -28,13 +28,13 @@ use Rattle.hp_history.proofs.Replays.{refutes}
 
 -- ---- one volume more
 
-count_more : (volumes : List Volume) (v : Volume) → records_in (volumes ++ v ∷ []) ≡ records_in volumes + length v.records
+pub count_more : (volumes : List Volume) (v : Volume) → records_in (volumes ++ v ∷ []) ≡ records_in volumes + length v.records
 count_more volumes v = omega (arith, sum_by-append (λ (x : Volume). length x.records) volumes (v ∷ []), sum_by-cons (λ (x : Volume). length x.records) v [])
 
-state_more : (l : LayoutParts) (volumes : List Volume) (v : Volume) → state_after l (volumes ++ v ∷ []) ≡ value_of l (state_after l volumes) v.records
+pub state_more : (l : LayoutParts) (volumes : List Volume) (v : Volume) → state_after l (volumes ++ v ∷ []) ≡ value_of l (state_after l volumes) v.records
 state_more l volumes v = fold-append (λ (s : Memory) (x : Volume). value_of l s x.records) (boot_memory l) volumes (v ∷ [])
 
-chain_more : (l : LayoutParts) (volumes : List Volume) (v : Volume) → IsChain l volumes → FollowsVolumes l volumes v → IsChain l (volumes ++ v ∷ [])
+pub chain_more : (l : LayoutParts) (volumes : List Volume) (v : Volume) → IsChain l volumes → FollowsVolumes l volumes v → IsChain l (volumes ++ v ∷ [])
 chain_more l volumes v chain next at x e =
     elim (get_push_cases volumes v x at e) [
       | inl there ↦ (let lt : at < length volumes = slice_get_within volumes at x there in

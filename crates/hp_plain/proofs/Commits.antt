@@ -1,11 +1,8 @@
 -- One step further in the checks of a commit and the search of a migration.
-use Rattle.std.proofs.Common.{◌≡◌, ℕ, suc, ◌+◌, ◌*◌, ◌<◌, ◌≤◌, List, length, get_or, drop, Bool, true, false, cond, ◌&&◌, Option, refl, sym, ◌∙◌, ap, arith, add-one}
+use Rattle.std.proofs.Common.{◌≡◌, ℕ, suc, ◌+◌, ◌<◌, List, length, get_or, drop, Bool, true, false, cond, ◌&&◌, Option, refl, sym, ◌∙◌, ap, add-one}
 use Rattle.std.specs.List.{find, flat_map, list_all}
 use Rattle.std.specs.Option.{option_or}
-use Rattle.std.proofs.Math.Nat.{mul-le-mul_left}
 use Rattle.std.proofs.Math.Seq.{drop-cons}
-use Rattle.hp_units.specs.LayoutParts.{LayoutParts}
-use Rattle.hp_units.specs.Arithmetic.{block_size, frame_count}
 use Rattle.hp_plain.proofs.Scans.{find-flat_step}
 
 -- a test of all entries that are left
@@ -20,12 +17,6 @@ all-step {X} p xs i d holds h e =
     and_cond false false rest f = refl
     and_cond true false rest f = absurd cc
     and_cond false true rest f = absurd cc
-
--- a frame of a block of the layout
-pub frame_of_block : (l : LayoutParts) (block number : ℕ) → block < l.blocks → number < block_size l → block * block_size l + number < frame_count l
-frame_of_block l block number below low =
-    let more : block + 1 ≤ l.blocks = omega arith in
-    omega (arith, mul-le-mul_left (block_size l) more)
 
 -- the first number that passes a test among those of the blocks that are left, by the answer of the first of these
 pub find-flat_item : (p : ℕ → Bool) (f : ℕ → List ℕ) (xs : List ℕ) (i d : ℕ) (found : Option ℕ) → i < length xs → d ≡ get_or xs i d → found ≡ find p (f d)

@@ -1,8 +1,6 @@
-pub mod Asks
 pub mod Begins
 pub mod Commits
 pub mod EmptyState
-pub mod Onlines
 pub mod PagesInLayout
 pub mod Scans
 pub mod Walks

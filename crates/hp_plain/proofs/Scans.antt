@@ -1,15 +1,11 @@
 -- One step further in a search over numbers, and over the entries of a list.
-use Rattle.std.proofs.Common.{◌≡◌, ℕ, zero, suc, ◌+◌, ◌-◌, ◌<◌, ◌==◌, List, [], ◌∷◌, ◌++◌, length, get_or, take, drop, Bool, true, false, cond, ◌||◌, Option, Some, None, refl, sym, ◌∙◌, ap, arith, map, add-one, zero-add}
+use Rattle.std.proofs.Common.{◌≡◌, ℕ, suc, ◌+◌, ◌-◌, ◌<◌, ◌==◌, List, [], ◌∷◌, ◌++◌, length, get_or, take, drop, Bool, true, false, cond, ◌||◌, Some, refl, sym, ◌∙◌, ap, add-one, zero-add}
 use Rattle.std.specs.List.{find, flat_map, fold, list_any, range_with_len}
-use Rattle.std.specs.Option.{is_some, option_map, option_or}
+use Rattle.std.specs.Option.{option_or}
 use Rattle.std.proofs.Math.Seq.{drop-cons}
 use Rattle.std.proofs.lemmas.List.{take_more}
 use Rattle.std.proofs.lemmas.List.Folds.{find-append}
-use Rattle.std.proofs.lemmas.Bool.{false≢true}
 use Rattle.hp_units.specs.declared.plans.Item.{Item}
-use Rattle.hp_units.specs.declared.replies.Refusal.{Refusal}
-use Rattle.hp_units.specs.declared.replies.Refusal.TheVariants.{Busy}
-use Rattle.hp_units.specs.Choices.{first_some}
 use Rattle.hp_units.specs.FreeAreas.{is_on}
 use Rattle.hp_units.specs.Refusals.{first_repeated}
 use Rattle.hp_plain.specs.Plans.{blocks_in}
@@ -28,12 +24,6 @@ pub fold-below_more : {B : Type 0} (f : B → ℕ → B) (b : B) (n : ℕ) → f
 fold-below_more f b n = fold-range_more f b 0 n ∙ ap (f (fold f b (range_with_len 0 n))) (zero-add n)
 
 -- ---- the entries of a list
-
--- the first answer among those of the entries that are left
-pub first_some-step : {X A : Type 0} (f : X → Option A) (xs : List X) (i : ℕ) (d : X) → i < length xs
-    → first_some (map f (drop i xs)) ≡ option_or (f (get_or xs i d)) (first_some (map f (drop (i + 1) xs)))
-first_some-step {X} {A} f xs i d h =
-    ap (λ (ys : List X). first_some (map f ys)) (drop-cons xs i d h) ∙ ap (λ (k : ℕ). option_or (f (get_or xs i d)) (first_some (map f (drop k xs)))) (sym (add-one i))
 
 -- the first number that passes a test among those of the entries that are left
 pub find-flat_step : {X : Type 0} (p : ℕ → Bool) (f : X → List ℕ) (xs : List X) (i : ℕ) (d : X) → i < length xs
@@ -76,17 +66,3 @@ repeated-step plan n d found h e =
     or_false : (b : Bool) → (b || false) ≡ b
     or_false true = refl
     or_false false = refl
-
--- where no item has a claimed block, a later refusal is the first
-pub none_claimed : (item : Option Item) (rest : Option Refusal) → None ≡ option_map (λ item. item.block) item
-    → option_or (option_map (λ item. Busy item.block) item) rest ≡ rest
-none_claimed None rest e = refl
-none_claimed (Some item) rest e = cc
-
--- ---- the kernel's blocks
-
--- a kernel's block starts at a number of the table alone
-pub some-below : (kernel : List (Option ℕ)) (n : ℕ) → is_some (get_or kernel n None) ≡ true → n < length kernel
-some-below [] n e = absurd (false≢true e)
-some-below (x ∷ xs) zero e = omega arith
-some-below (x ∷ xs) (suc n) e = let h : n < length xs = some-below xs n e in omega arith

@@ -4,29 +4,18 @@ ghost use Rattle.hp_units.specs.Boot.{boot_memory, empty_memory};
 ghost use Rattle.hp_units.specs.LayoutParts.{IsLayout};
 ghost use Rattle.hp_units.specs.Memory.{cached_list, free_list, kernel_order};
 ghost use Rattle.hp_units.specs.Pages.{frame_at, words_at};
-ghost use Rattle.hp_units.specs.Step.{step};
 ghost use Rattle.hp_plain.specs.Image.{IsPartOf, with_part};
 
 mod adds;
-mod begins;
 mod boots;
-mod commits;
-mod drains;
-mod migrates;
-mod onlines;
-mod operations;
 mod orders;
-mod page_steps;
-mod plans;
-mod steps;
 
 use self::orders::same_orders;
 use crate::parts::Part;
 use hp_areas::FreeFrames;
 use hp_rows::{Blocks, Pages};
 use hp_units::{
-    Auto, Block, Class, Cpu, Event, Frame, Kind, Layout, Order, Owner, Page, Pageblock, Pool,
-    Refusal, Reply, Row, Serial,
+    Auto, Block, Class, Cpu, Frame, Kind, Layout, Order, Owner, Page, Pageblock, Pool, Row,
 };
 use std::alloc::{AllocError, Global};
 use std::marker::Model;
@@ -118,7 +107,7 @@ impl Image {
             && self.blocks.same(&other.blocks)
     }
 
-    /// Sets one part, a list's frame at the back. After want of memory the Image is as before.
+    /// Sets one part, a list's frame at the back. After an error the Image is as before.
     pub fn add(&mut self, part: Part) -> Result<(), AllocError>
         requires { IsPartOf self.old.layout part }
         ensures ok { OnOk result (self.new ≡ record self.old { memory = with_part self.old.memory part }) }
@@ -141,50 +130,6 @@ impl Image {
             Part::Kind { pageblock, kind } => self.add_kind(pageblock, kind),
             Part::Row { block, row } => self.add_row(block, row),
             Part::Auto { auto } => self.add_auto(auto),
-        }
-    }
-
-    /// One step of the plain machine. A Cancel is the release here, and an UndoAfter does nothing
-    /// (own rule). After want of memory the Image is as before.
-    #[tactic(auto, unfolding(hp_units::specs::Step::step, hp_units::specs::Refusals::refusal_of))]
-    pub fn step(
-        &mut self,
-        alloc: Global,
-        serial: Serial,
-        cpu: Cpu,
-        event: &Event,
-    ) -> Result<Reply, AllocError>
-        ensures memory { OnOk result (self.new.memory ≡ (step self.old.layout self.old.memory serial cpu event.now).memory) }
-        ensures reply { IfOk result (λ reply. reply ≡ (step self.old.layout self.old.memory serial cpu event.now).reply) }
-        ensures layout { self.new.layout ≡ self.old.layout }
-        ensures err { OnErr result (self.new ≡ self.old) }
-    {
-        if cpu.0 >= self.layout.cpus() {
-            return Ok(Reply::Refused(Refusal::NoCpu));
-        }
-        match event {
-            Event::KernelAlloc { order } => self.kernel_alloc(alloc, cpu, *order),
-            Event::KernelFree { frame } => self.kernel_free(alloc, cpu, *frame),
-            Event::Map { owner, page } => self.map(alloc, cpu, *owner, *page),
-            Event::Unmap { owner, page } => self.unmap(alloc, cpu, *owner, *page),
-            Event::Write {
-                owner,
-                page,
-                index,
-                value,
-            } => self.write(alloc, *owner, *page, *index, *value),
-            Event::Read { owner, page, index } => Ok(self.read(*owner, *page, *index)),
-            Event::Drain { cpu } => self.drain(alloc, *cpu),
-            Event::Online { block, zone } => self.online(alloc, *block, *zone),
-            Event::Begin { plan } => self.begin(alloc, serial, plan),
-            Event::DrainFor { op, cpu } => self.drain_for(alloc, *op, *cpu),
-            Event::Migrate { op } => self.migrate(alloc, *op),
-            Event::Commit { op } => self.commit(alloc, *op),
-            Event::Cancel { op } => self.cancel(alloc, *op),
-            Event::UndoAfter { .. } => Ok(Reply::Done),
-            Event::Probe { address } => self.probe(alloc, *address),
-            Event::Remove { block } => Ok(self.remove(*block)),
-            Event::SetAuto { auto } => Ok(self.set_auto(*auto)),
         }
     }
 

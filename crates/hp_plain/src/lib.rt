@@ -1,4 +1,5 @@
-//! The plain machine: a state as plain lists, and each step of it as the definitions say.
+//! A whole state as a value: an `Image` of plain lists, copied, compared, read, and made by setting
+//! one part after another.
 #![tactic(auto)]
 
 mod image;

@@ -2,19 +2,18 @@
 ghost use Rattle.std.specs.Prelude.{◌≡◌, IfOk};
 ghost use Rattle.hp_plain.specs.Examples.{small_layout};
 
-mod commits;
-mod migrates;
-mod onlines;
-mod operations;
-mod page_steps;
-
 use super::{Image, Part};
 use hp_units::{
-    Auto, Block, Boot, Class, Cpu, Event, Frame, Kind, Layout, LayoutFault, Mobility, Order, Owner,
-    Page, Pageblock, Parts, Pool, Refusal, Reply, Serial, Words,
+    Auto, Block, Boot, Class, Cpu, Frame, Kind, Layout, LayoutFault, Mobility, Order, Owner, Page,
+    Pageblock, Parts, Pool, Row, State, Words,
 };
-use std::alloc::{AllocError, Global};
+use std::alloc::Global;
 use std::test::Fail;
+
+const ISOLATED: Kind = Kind {
+    mobility: Mobility::Unmovable,
+    isolated: true,
+};
 
 /// Four memory blocks, of which the third is movable and the fourth offline.
 fn small(alloc: Global) -> Result<Layout, LayoutFault>
@@ -38,21 +37,6 @@ fn small(alloc: Global) -> Result<Layout, LayoutFault>
     )
 }
 
-/// Runs the events of some serials and processors in turn; whether each is answered as it is to be.
-fn answers(
-    alloc: Global,
-    image: &mut Image,
-    calls: &[(u64, u32, Event, Reply)],
-) -> Result<bool, AllocError> {
-    for (serial, cpu, event, reply) in calls {
-        let answer = image.step(alloc, Serial(*serial), Cpu(*cpu), event)?;
-        if answer != *reply {
-            return Ok(false);
-        }
-    }
-    Ok(true)
-}
-
 #[test]
 fn boot_puts_pageblocks_on_their_lists(rt: HostRuntime) -> Result<(), Fail> {
     let layout = small(rt.alloc())?;
@@ -65,75 +49,6 @@ fn boot_puts_pageblocks_on_their_lists(rt: HostRuntime) -> Result<(), Fail> {
     assert!(rt; image.row(Block(4)).is_none());
     assert_eq!(rt; image.auto(), Auto::Offline);
     assert_eq!(rt; image.layout().frames(), 16);
-    Ok(())
-}
-
-#[test]
-fn the_kernel_takes_a_single_frame(rt: HostRuntime) -> Result<(), Fail> {
-    let layout = small(rt.alloc())?;
-    let mut image = Image::boot(rt.alloc(), &layout)?;
-    let take = Event::KernelAlloc { order: Order(0) };
-    let calls = [(1, 0, take, Reply::Frame(Frame(0)))];
-    assert!(rt; answers(rt.alloc(), &mut image, &calls)?);
-    assert_eq!(rt; image.kernel_at(Frame(0)), Some(Order(0)));
-    Ok(())
-}
-
-#[test]
-fn a_freed_frame_goes_to_the_list(rt: HostRuntime) -> Result<(), Fail> {
-    let layout = small(rt.alloc())?;
-    let mut image = Image::boot(rt.alloc(), &layout)?;
-    let take = Event::KernelAlloc { order: Order(0) };
-    let give = Event::KernelFree { frame: Frame(0) };
-    let calls = [
-        (1, 0, take, Reply::Frame(Frame(0))),
-        (2, 1, give, Reply::Done),
-    ];
-    assert!(rt; answers(rt.alloc(), &mut image, &calls)?);
-    assert_eq!(rt; image.cpu_list(Cpu(1), Pool::Nu), [Frame(0)].as_slice());
-    Ok(())
-}
-
-#[test]
-fn a_freed_block_joins_its_buddy(rt: HostRuntime) -> Result<(), Fail> {
-    let layout = small(rt.alloc())?;
-    let mut image = Image::boot(rt.alloc(), &layout)?;
-    let take = Event::KernelAlloc { order: Order(1) };
-    let give = Event::KernelFree { frame: Frame(0) };
-    let kind = Kind {
-        mobility: Mobility::Unmovable,
-        isolated: false,
-    };
-    let takes = [(1, 0, take, Reply::Frame(Frame(0)))];
-    assert!(rt; answers(rt.alloc(), &mut image, &takes)?);
-    assert_eq!(rt; image.list(Class::Nu, Order(1)), [Frame(2)].as_slice());
-    let gives = [(2, 0, give, Reply::Done)];
-    assert!(rt; answers(rt.alloc(), &mut image, &gives)?);
-    assert_eq!(rt; image.list(Class::Nu, Order(2)), [Frame(0)].as_slice());
-    assert_eq!(rt; image.kind(Pageblock(0)), Some(kind));
-    Ok(())
-}
-
-#[test]
-fn refused_events_leave_the_state(rt: HostRuntime) -> Result<(), Fail> {
-    let layout = small(rt.alloc())?;
-    let mut image = Image::boot(rt.alloc(), &layout)?;
-    let before = image.copy(rt.alloc())?;
-    let cases = [
-        (2, Event::KernelAlloc { order: Order(0) }, Refusal::NoCpu),
-        (0, Event::KernelAlloc { order: Order(3) }, Refusal::BadOrder),
-        (
-            0,
-            Event::KernelFree { frame: Frame(16) },
-            Refusal::NoSuchFrame,
-        ),
-        (0, Event::KernelFree { frame: Frame(0) }, Refusal::NotKernel),
-    ];
-    for (cpu, event, refusal) in &cases {
-        let reply = image.step(rt.alloc(), Serial(1), Cpu(*cpu), event)?;
-        assert_eq!(rt; reply, Reply::Refused(*refusal));
-    }
-    assert!(rt; image.same(&before));
     Ok(())
 }
 
@@ -185,5 +100,22 @@ fn single_parts_are_added(rt: HostRuntime) -> Result<(), Fail> {
     assert_eq!(rt; image.cpu_list(Cpu(1), Pool::Nm), [Frame(6)].as_slice());
     assert_eq!(rt; image.kernel_at(Frame(4)), Some(Order(1)));
     assert_eq!(rt; image.auto(), Auto::Online);
+    Ok(())
+}
+
+#[test]
+fn kinds_and_rows_are_added(rt: HostRuntime) -> Result<(), Fail> {
+    let layout = small(rt.alloc())?;
+    let mut image = Image::empty(rt.alloc(), &layout)?;
+    image.add(Part::Kind {
+        pageblock: Pageblock(1),
+        kind: ISOLATED,
+    })?;
+    image.add(Part::Row {
+        block: Block(3),
+        row: Row::bare(State::Absent),
+    })?;
+    assert_eq!(rt; image.kind(Pageblock(1)), Some(ISOLATED));
+    assert_eq!(rt; image.row(Block(3)), Some(Row::bare(State::Absent)));
     Ok(())
 }

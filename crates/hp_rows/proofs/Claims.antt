@@ -1,5 +1,5 @@
 -- The blocks that an operation holds are blocks of the layout.
-use Rattle.std.proofs.Common.{◌≡◌, ℕ, zero, suc, ◌+◌, ◌<◌, ◌==◌, List, [], ◌∷◌, ◌++◌, length, get_or, Bool, true, false, cond, ◌||◌, take, refl, ◌∙◌, ap, subst, arith, inl, inr, filter, eq-eqb, zero-add}
+use Rattle.std.proofs.Common.{◌≡◌, ℕ, zero, suc, ◌+◌, ◌<◌, ◌==◌, List, [], ◌∷◌, ◌++◌, length, get_or, Bool, true, cond, refl, ◌∙◌, ap, subst, arith, inl, inr, filter, eq-eqb, zero-add}
 use Rattle.std.specs.List.{range_with_len}
 use Rattle.std.proofs.lemmas.List.Folds.{list_any_at}
 use Rattle.std.proofs.lemmas.Bool.{false≢true}
@@ -7,7 +7,7 @@ use Rattle.hp_units.specs.LayoutParts.{LayoutParts}
 use Rattle.hp_units.specs.Arithmetic.{all_blocks}
 use Rattle.hp_units.specs.Memory.{Blocks, row_of}
 use Rattle.hp_units.specs.FreeAreas.{is_on}
-use Rattle.hp_units.specs.Rows.{blocks_of, is_going, is_claimed_by}
+use Rattle.hp_units.specs.Rows.{blocks_of, is_claimed_by}
 use Rattle.hp_rows.proofs.Filters.{on_cases, on-filter, filter-range_more}
 
 -- a number on a list of numbers from one on is below their end
@@ -28,29 +28,6 @@ blocks_of-below l bs op blocks e k below =
     let p : ℕ → Bool = λ (block : ℕ). is_claimed_by op (row_of bs block) in
     let on : is_on (get_or blocks k 0) (blocks_of l bs op) ≡ true = subst (λ (xs : List ℕ). is_on (get_or blocks k 0) xs ≡ true) e (at-on blocks k below) in
     let h : get_or blocks k 0 < 0 + l.blocks = range-below 0 l.blocks (get_or blocks k 0) (on-filter p (get_or blocks k 0) (all_blocks l) on) in
-    omega arith
-
--- a frame among the first few of a list is on it
-on-take : (n b : ℕ) (xs : List ℕ) → is_on b (take n xs) ≡ true → is_on b xs ≡ true
-on-take zero b xs e = absurd (false≢true e)
-on-take (suc n) b [] e = e
-on-take (suc n) b (x ∷ xs) e = go (x == b) (on-take n b xs) e
-  where
-    go : (same : Bool) → (is_on b (take n xs) ≡ true → is_on b xs ≡ true) → (same || is_on b (take n xs)) ≡ true → (same || is_on b xs) ≡ true
-    go true h f = refl
-    go false h f = h f
-
--- and so are those that it takes offline, as far as they were looked at
-pub going_blocks-below : (l : LayoutParts) (bs : Blocks) (op n : ℕ) (held blocks : List ℕ) → held ≡ blocks_of l bs op → blocks ≡ filter (λ block. is_going (row_of bs block)) (take n held)
-    → (k : ℕ) → k < length blocks → get_or blocks k 0 < l.blocks
-going_blocks-below l bs op n held blocks e f k below =
-    let p : ℕ → Bool = λ (block : ℕ). is_claimed_by op (row_of bs block) in
-    let q : ℕ → Bool = λ (block : ℕ). is_going (row_of bs block) in
-    let b : ℕ = get_or blocks k 0 in
-    let on : is_on b (filter q (take n held)) ≡ true = subst (λ (xs : List ℕ). is_on b xs ≡ true) f (at-on blocks k below) in
-    let there : is_on b held ≡ true = on-take n b held (on-filter q b (take n held) on) in
-    let mine : is_on b (blocks_of l bs op) ≡ true = subst (λ (xs : List ℕ). is_on b xs ≡ true) e there in
-    let h : b < 0 + l.blocks = range-below 0 l.blocks b (on-filter p b (all_blocks l) mine) in
     omega arith
 
 -- a filter of the numbers below one, one number further

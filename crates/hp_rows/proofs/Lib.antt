@@ -1,3 +1,2 @@
 pub mod Claims
 pub mod Filters
-pub mod Migrations

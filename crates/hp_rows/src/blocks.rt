@@ -1,10 +1,8 @@
 //! The row of each memory block, and what a block that is added becomes.
 ghost use Rattle.std.specs.Prelude.{◌≡◌, ◌≢◌, MatchBool, ◌<◌, IfOk, length, slice_get};
 ghost use Rattle.hp_units.specs.Boot.{empty_blocks};
-ghost use Rattle.hp_units.specs.Memory.{row_of, with_row};
-ghost use Rattle.hp_units.specs.Rows.{zone_of_block};
+ghost use Rattle.hp_units.specs.Memory.{with_row};
 
-pub(crate) mod claims;
 pub(crate) mod plans;
 
 use hp_units::{Auto, Block, Claim, Layout, Row, State, Zone};
@@ -28,7 +26,7 @@ impl Model for Blocks {
 
 impl Blocks {
     /// All blocks of the layout offline, unclaimed, and an added block to stay offline (own rule).
-    /// Fails only for want of memory.
+    /// An error is out of memory.
     pub fn empty(alloc: Global, layout: &Layout) -> Result<Blocks, AllocError>
         ensures { IfOk result (λ blocks. blocks ≡ empty_blocks layout.now) }
     {
@@ -44,7 +42,7 @@ impl Blocks {
         })
     }
 
-    /// Equal rows. Fails only for want of memory.
+    /// Equal rows. An error is out of memory.
     pub fn copy(&self, alloc: Global) -> Result<Blocks, AllocError>
         ensures { IfOk result (λ blocks. blocks ≡ self.now) }
     {
@@ -75,17 +73,6 @@ impl Blocks {
         ensures { self.new ≡ with_row self.old block row }
     {
         self.rows[block.0 as usize] = row;
-    }
-
-    /// The zone of a memory block, Normal where it has none (Gorman, chapter 2: zones; the default
-    /// is an own rule).
-    pub fn zone(&self, block: Block) -> Zone
-        ensures { result ≡ zone_of_block self.now block }
-    {
-        match self.row(block) {
-            Some(row) => row.zone.unwrap_or(Zone::Normal),
-            None => Zone::Normal,
-        }
     }
 
     /// What a memory block that is added becomes (Linux, memory hotplug: auto_online_blocks).

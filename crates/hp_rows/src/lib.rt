@@ -1,5 +1,5 @@
-//! The plain rows of memory blocks and the plain pages of owners: what claims, plans, maps, writes and
-//! moves do to them, as the definitions say.
+//! The rows of memory blocks and the owners' pages as values: copied, compared, read, and made by
+//! setting one part after another.
 #![tactic(auto)]
 
 mod blocks;

@@ -3,9 +3,6 @@ ghost use Rattle.std.specs.Prelude.{◌≡◌, ◌≢◌, MatchBool, ◌<◌, []
 ghost use Rattle.hp_units.specs.Boot.{empty_pages};
 ghost use Rattle.hp_units.specs.Pages.{frame_at, map_page, words_at};
 
-mod migrations;
-mod writes;
-
 use hp_units::{Frame, Layout, Owner, Page, Words};
 use std::alloc::{AllocError, Global};
 use std::marker::Model;
@@ -191,7 +188,7 @@ impl Model for Pages {
 }
 
 impl Pages {
-    /// No page of the layout's owners mapped (own rule). Fails only for want of memory.
+    /// No page of the layout's owners mapped (own rule). An error is out of memory.
     pub fn empty(alloc: Global, layout: &Layout) -> Result<Pages, AllocError>
         ensures { IfOk result (λ pages. pages ≡ empty_pages layout.now) }
     {
@@ -200,7 +197,7 @@ impl Pages {
         Ok(Pages { table, contents })
     }
 
-    /// Equal pages. Fails only for want of memory.
+    /// Equal pages. An error is out of memory.
     pub fn copy(&self, alloc: Global) -> Result<Pages, AllocError>
         ensures { IfOk result (λ pages. pages ≡ self.now) }
     {

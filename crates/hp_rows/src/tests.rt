@@ -3,8 +3,8 @@ ghost use Rattle.std.specs.Prelude.{◌≡◌, IfOk};
 
 use super::{Blocks, Pages, wish_of};
 use hp_units::{
-    Auto, Block, Boot, Claim, Frame, Item, Layout, LayoutFault, Owner, Page, Parts, Row, Serial,
-    State, Wish, Words, Zone,
+    Auto, Block, Boot, Frame, Item, Layout, LayoutFault, Owner, Page, Parts, Row, State, Wish,
+    Words, Zone,
 };
 use std::alloc::Global;
 use std::test::Fail;
@@ -45,9 +45,6 @@ fn a_row_is_set(rt: HostRuntime) -> Result<(), Fail> {
     let mut blocks = Blocks::empty(rt.alloc(), &layout)?;
     blocks.set_row(Block(1), ONLINE);
     assert_eq!(rt; blocks.row(Block(1)), Some(ONLINE));
-    assert_eq!(rt; blocks.row_of(Block(1)), ONLINE);
-    assert_eq!(rt; blocks.zone(Block(1)), Zone::Movable);
-    assert_eq!(rt; blocks.zone(Block(0)), Zone::Normal);
     Ok(())
 }
 
@@ -64,28 +61,8 @@ fn what_added_blocks_become_is_set(rt: HostRuntime) -> Result<(), Fail> {
 }
 
 #[test]
-fn an_operation_holds_a_block(rt: HostRuntime) -> Result<(), Fail> {
-    let layout = small(rt.alloc())?;
-    let mut blocks = Blocks::empty(rt.alloc(), &layout)?;
-    blocks.set_row(Block(1), ONLINE.claimed(Serial(5), Wish::Off));
-    assert!(rt; blocks.row_of(Block(1)).is_going());
-    assert!(rt; blocks.is_live(Serial(5)));
-    let held = blocks.blocks_of(rt.alloc(), &layout, Serial(5))?;
-    assert_eq!(rt; held.as_slice(), [Block(1)].as_slice());
-    let going = blocks.going_blocks(rt.alloc(), &layout, Serial(5))?;
-    assert_eq!(rt; going.as_slice(), [Block(1)].as_slice());
-    Ok(())
-}
-
-#[test]
-fn a_plan_is_looked_through(rt: HostRuntime) -> Result<(), Fail> {
-    let layout = small(rt.alloc())?;
-    let mut blocks = Blocks::empty(rt.alloc(), &layout)?;
-    blocks.set_row(Block(1), ONLINE.claimed(Serial(5), Wish::Movable));
+fn a_plan_wishes(rt: HostRuntime) -> Result<(), Fail> {
     let plan = [item(0, Wish::Off), item(1, Wish::Normal)];
-    assert_eq!(rt; blocks.first_claimed(&plan), Some(Block(1)));
-    assert_eq!(rt; blocks.first_not_online(&plan), Some(Block(0)));
-    assert_eq!(rt; blocks.first_not_offline(&plan), Some(Block(1)));
     assert_eq!(rt; wish_of(&plan, Block(1)), Some(Wish::Normal));
     Ok(())
 }
@@ -96,29 +73,9 @@ fn a_page_is_mapped(rt: HostRuntime) -> Result<(), Fail> {
     let mut pages = Pages::empty(rt.alloc(), &layout)?;
     let before = pages.copy(rt.alloc())?;
     pages.map(Owner(0), Page(1), Frame(3), one_word(rt.alloc())?);
-    assert!(rt; pages.is_mapped(Frame(3)));
+    assert_eq!(rt; pages.frame_at(Owner(0), Page(1)), Some(Frame(3)));
     assert_eq!(rt; pages.words_at(Owner(0), Page(1)), Some([7].as_slice()));
     assert!(rt; !pages.same(&before));
-    pages.move_page(Frame(3), Frame(2));
-    assert_eq!(rt; pages.frame_at(Owner(0), Page(1)), Some(Frame(2)));
-    Ok(())
-}
-
-#[test]
-fn a_page_has_other_words(rt: HostRuntime) -> Result<(), Fail> {
-    let layout = small(rt.alloc())?;
-    let mut pages = Pages::empty(rt.alloc(), &layout)?;
-    pages.set_words(Owner(0), Page(1), Some(one_word(rt.alloc())?));
-    assert_eq!(rt; pages.words_at(Owner(0), Page(1)), Some([7].as_slice()));
-    Ok(())
-}
-
-#[test]
-fn a_page_is_unmapped(rt: HostRuntime) -> Result<(), Fail> {
-    let layout = small(rt.alloc())?;
-    let mut pages = Pages::empty(rt.alloc(), &layout)?;
-    pages.unmap(Owner(0), Page(1));
-    assert_eq!(rt; pages.frame_at(Owner(0), Page(1)), None);
     Ok(())
 }
 

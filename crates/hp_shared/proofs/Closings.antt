@@ -1,7 +1,7 @@
 -- What the lock showed at the end, by what was compared.
 use Rattle.std.proofs.Common.{◌≡◌, ℕ, List, refl, ap, sym, subst, ◌∙◌}
 use Rattle.hp_units.specs.LayoutParts.{LayoutParts}
-use Rattle.hp_replay.specs.declared.volumes.Volume.{Volume}
+use Rattle.hp_history.specs.declared.volumes.Volume.{Volume}
 use Rattle.hp_machine.specs.Machine.{MachineValue, last_serial}
 use Rattle.hp_shared.specs.declared.closing.CloseFault.{CloseFault}
 use Rattle.hp_shared.specs.Closing.{HasCause, HasFault, IsChecked, IsClosed}

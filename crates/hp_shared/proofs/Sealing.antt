@@ -5,9 +5,9 @@ use Rattle.std.proofs.lemmas.Bool.{cases_lt}
 use Rattle.std.proofs.lemmas.List.{append_assoc, append-nil, length-append}
 use Rattle.std.proofs.lemmas.List.Sums.{sum_by-cons, sum_by-take-le}
 use Rattle.hp_units.specs.declared.replies.Record.{Record}
-use Rattle.hp_replay.specs.Volumes.{records_in}
-use Rattle.hp_replay.proofs.Chains.{count_more}
-use Rattle.hp_replay.specs.declared.volumes.Volume.{Volume}
+use Rattle.hp_history.specs.Volumes.{records_in}
+use Rattle.hp_history.proofs.Chains.{count_more}
+use Rattle.hp_history.specs.declared.volumes.Volume.{Volume}
 use Rattle.hp_machine.specs.Machine.{MachineValue, last_serial}
 use Rattle.hp_shared.specs.declared.marks.Mark.{Mark}
 use Rattle.hp_shared.specs.Comparing.{IsOutcome, StraysAt}

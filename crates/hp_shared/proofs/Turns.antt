@@ -9,9 +9,9 @@ use Rattle.hp_units.specs.declared.events.Event.{Event}
 use Rattle.hp_units.specs.declared.replies.Receipt.{Receipt}
 use Rattle.hp_units.specs.declared.replies.Record.{Record}
 use Rattle.hp_laws.proofs.Lists.{get_end}
-use Rattle.hp_replay.specs.Volumes.{FollowsVolumes, records_in, state_after, volume_of}
-use Rattle.hp_replay.proofs.Chains.{chain_more, count_more, state_more}
-use Rattle.hp_replay.specs.declared.volumes.Volume.{Volume}
+use Rattle.hp_history.specs.Volumes.{FollowsVolumes, records_in, state_after, volume_of}
+use Rattle.hp_history.proofs.Chains.{chain_more, count_more, state_more}
+use Rattle.hp_history.specs.declared.volumes.Volume.{Volume}
 use Rattle.hp_machine.specs.Machine.{IsCalled, IsHistory, MachineValue, last_serial, record_of, sealed}
 use Rattle.hp_shared.specs.Shared.{IsFresh, IsLastOf, IsShared}
 

@@ -1,7 +1,7 @@
 -- When a shared machine is closed, and why it is not.
 use Rattle.std.specs.Prelude.{◌≡◌, ℕ, List, length}
 use Rattle.hp_units.specs.LayoutParts.{LayoutParts}
-use Rattle.hp_replay.specs.declared.volumes.Volume.{Volume}
+use Rattle.hp_history.specs.declared.volumes.Volume.{Volume}
 use Rattle.hp_machine.specs.Machine.{MachineValue}
 use Rattle.hp_shared.specs.declared.closing.CloseFault.{CloseFault}
 use Rattle.hp_shared.specs.declared.closing.CloseFault.TheVariants.{SeatMissing, WrongVolume, Mismatch, OutOfMemory}

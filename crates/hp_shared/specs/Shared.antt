@@ -6,8 +6,8 @@ use Rattle.hp_units.specs.Memory.{Memory}
 use Rattle.hp_units.specs.declared.events.Event.{Event}
 use Rattle.hp_units.specs.declared.replies.Receipt.{Receipt}
 use Rattle.hp_units.specs.declared.replies.Record.{Record}
-use Rattle.hp_replay.specs.Volumes.{IsChain, records_in, state_after}
-use Rattle.hp_replay.specs.declared.volumes.Volume.{Volume}
+use Rattle.hp_history.specs.Volumes.{IsChain, records_in, state_after}
+use Rattle.hp_history.specs.declared.volumes.Volume.{Volume}
 use Rattle.hp_machine.specs.Machine.{IsHistory, MachineValue, last_serial, record_of}
 
 -- what lies under the lock: a machine, and how many records it has made

@@ -2,8 +2,8 @@
 use Rattle.std.specs.Prelude.{ℕ, ◌≡◌, ◌≢◌, ◌<◌, ◌≤◌, ◌⊎◌, List, [], ◌∷◌, ◌++◌, Some, length, slice_get, take}
 use Rattle.hp_units.specs.LayoutParts.{LayoutParts}
 use Rattle.hp_units.specs.declared.replies.Record.{Record}
-use Rattle.hp_replay.specs.Volumes.{records_in, volume_of}
-use Rattle.hp_replay.specs.declared.volumes.Volume.{Volume}
+use Rattle.hp_history.specs.Volumes.{records_in, volume_of}
+use Rattle.hp_history.specs.declared.volumes.Volume.{Volume}
 use Rattle.hp_machine.specs.Machine.{MachineValue, last_serial}
 use Rattle.hp_shared.specs.Shared.{IsShared, LockedValue}
 

@@ -2,14 +2,14 @@
 ghost use Rattle.std.specs.Prelude.{ℕ, ◌≡◌, ◌<◌, ◌^◌, ◌∷◌, [], true, false, IfOk, IfSome, IfNone, length, vec_len};
 ghost use Rattle.hp_shared.specs.Marks.{AreMarkedOn, AreMarks, AreStrays, HasRoom};
 ghost use Rattle.hp_shared.specs.Comparing.{HasEach, IsCompared, IsOutcome, IsSeatAt, IsSeatOf, IsTwinless, IsUnseated, StraysHere};
-ghost use Rattle.hp_replay.specs.Volumes.{records_in};
+ghost use Rattle.hp_history.specs.Volumes.{records_in};
 ghost use Rattle.hp_shared.specs.Volumes.{ReachSealed, all_records, sealed_records};
 
 use crate::job::Job;
 use crate::marks::{Mark, lower};
 use crate::seat::Seat;
 use hp_machine::Machine;
-use hp_replay::Volume;
+use hp_history::Volume;
 use hp_units::{Cpu, Record, Serial};
 use std::alloc::{AllocError, Global};
 

@@ -2,12 +2,12 @@
 ghost use Rattle.std.specs.Prelude.{◌≡◌, ◌↔◌, ◌+◌, ◌≤◌, ◌<◌, Err, IfOk, OnErr, OnOk, IsTrue};
 ghost use Rattle.hp_units.specs.declared.replies.CallFault.TheVariants.{HistoryFull};
 ghost use Rattle.hp_machine.specs.Machine.{IsCalled, is_full, sealed};
-ghost use Rattle.hp_replay.specs.Volumes.{volume_of};
+ghost use Rattle.hp_history.specs.Volumes.{volume_of};
 ghost use Rattle.hp_shared.specs.Shared.{IsFresh, IsShared};
 
 use crate::job::Job;
 use hp_machine::Machine;
-use hp_replay::Volume;
+use hp_history::Volume;
 use hp_units::{CallFault, Cpu, Event, Receipt};
 use std::alloc::{AllocError, Global};
 use std::marker::Model;

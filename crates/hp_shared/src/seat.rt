@@ -5,7 +5,7 @@ ghost use Rattle.hp_shared.specs.Volumes.{IsSealOf};
 
 use crate::job::Job;
 use crate::shared::Shared;
-use hp_replay::Volume;
+use hp_history::Volume;
 use hp_units::{CallFault, Cpu, Event, Receipt};
 use std::alloc::{AllocError, Global};
 use std::marker::Model;

@@ -7,7 +7,7 @@ use crate::job::Job;
 use crate::locked::Locked;
 use crate::seat::Seat;
 use hp_machine::Machine;
-use hp_replay::Volume;
+use hp_history::Volume;
 use hp_units::{CallFault, Cpu, Event, Receipt};
 use std::alloc::{AllocError, Global};
 use std::sync::ledger::{Blank, Share};

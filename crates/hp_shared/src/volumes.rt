@@ -2,7 +2,7 @@
 ghost use Rattle.std.specs.Prelude.{IfNone, IfSome};
 ghost use Rattle.hp_shared.specs.Volumes.{IsWrongAt, ReachSealed};
 
-use hp_replay::Volume;
+use hp_history::Volume;
 
 /// The place, from 0, of the first volume whose `before` is not the number of records in the volumes before it; the number of
 /// volumes where each is right and together they do not hold `sealed` records. None where they do.

@@ -77,26 +77,34 @@ fn small(alloc: Global) -> Result<Layout, LayoutFault> {
     )
 }
 
-/// The text of the state after the first owner's first page was mapped.
-fn mapped(alloc: Global, layout: &Layout) -> Result<String, AllocError> {
-    let mut image = Image::boot(alloc, layout)?;
+/// Maps the first owner's first page twice; whether the first was done and the second refused.
+fn maps_once(alloc: Global, image: &mut Image) -> Result<bool, AllocError> {
     let event = Event::Map {
         owner: Owner(0),
         page: Page(0),
     };
-    let _ = image.step(alloc, Serial(1), Cpu(0), &event)?;
+    let refused = Reply::Refused(Refusal::AlreadyMapped);
+    let first = image.step(alloc, Serial(1), Cpu(0), &event)?;
+    let second = image.step(alloc, Serial(2), Cpu(0), &event)?;
+    Ok(first == Reply::Done && second == refused)
+}
+
+/// The text of a state whose only owner is called `db`.
+fn text_of(alloc: Global, image: &Image) -> Result<String, AllocError> {
     let mut names = IndexSet::new(alloc);
     let name = Text::new(String::from_str(alloc, "db")?);
     let _ = names.insert_full(name)?;
     let mut out = String::new(alloc);
-    write_state(&mut out, alloc, &image, &names)?;
+    write_state(&mut out, alloc, image, &names)?;
     Ok(out)
 }
 
 #[test]
 fn a_state_names_its_owners(rt: HostRuntime) -> Result<(), Fail> {
     let layout = small(rt.alloc())?;
-    let text = mapped(rt.alloc(), &layout)?;
+    let mut image = Image::boot(rt.alloc(), &layout)?;
+    assert!(rt; maps_once(rt.alloc(), &mut image)?);
+    let text = text_of(rt.alloc(), &image)?;
     assert!(rt; text.as_str() == MAPPED);
     Ok(())
 }

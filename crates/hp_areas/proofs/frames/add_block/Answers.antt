@@ -2,12 +2,12 @@ use Rattle.std.proofs.Common.{◌≡◌, ◌<◌, ◌+◌, ◌*◌, ◌^◌, ◌
 use Rattle.hp_units.specs.Memory.{usable_class}
 use Rattle.hp_units.specs.FreeAreas.{with_back}
 use Rattle.hp_areas.specs.Names.{Movable}
-use Rattle.hp_areas.proofs.OnList.{class_index-lt}
+use Rattle.hp_areas.proofs.FramesInLayout.{class_index_below}
 use Rattle.hp_areas.proofs.Walks.{adds_pageblock, keeps_pageblock}
 use Rattle.hp_areas.proofs.frames.add_block.Goals as goal
 
 pub add_back-requires : goal.add_back-requires
-add_back-requires c = omega (arith, class_index-lt c.usable.result, c.loop-number.invariant.layout.lists, c.order.ensures.is)
+add_back-requires c = omega (arith, class_index_below c.usable.result, c.loop-number.invariant.layout.lists, c.order.ensures.is)
 
 pub loop-number-preserved : goal.loop-number-preserved
 loop-number-preserved c =

@@ -1,7 +1,7 @@
 use Rattle.std.proofs.Common.{◌<◌, length, take, refl, subst, ◌∙◌, arith}
 use Rattle.std.specs.Prelude.{List}
 use Rattle.std.proofs.lemmas.Option.{slice_get_read}
-use Rattle.hp_replay.specs.declared.volumes.Volume.{Volume}
+use Rattle.hp_history.specs.declared.volumes.Volume.{Volume}
 use Rattle.hp_shared.specs.Marks.{AreMarks, AreSeated}
 use Rattle.hp_shared.specs.Comparing.{IsOutcome, StraysAt}
 use Rattle.hp_shared.specs.Volumes.{sealed_records}

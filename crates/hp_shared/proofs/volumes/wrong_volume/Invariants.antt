@@ -1,5 +1,5 @@
 use Rattle.std.specs.Prelude.{◌≡◌, ◌≤◌, ◌*◌, take}
-use Rattle.hp_replay.specs.Volumes.{records_in}
+use Rattle.hp_history.specs.Volumes.{records_in}
 use Rattle.hp_shared.specs.Volumes.{AreCountedBefore}
 use Rattle.hp_shared.proofs.volumes.wrong_volume.Given as goal
 

@@ -2,7 +2,7 @@
 use Rattle.std.proofs.Common.{◌∙◌}
 use Rattle.std.proofs.lemmas.Bool.Decides.{Decides-eqb}
 use Rattle.std.proofs.lemmas.Slice.Eq.{slice_eq-Decides}
-use Rattle.hp_areas.proofs.OnList.{cases_of}
+use Rattle.hp_areas.proofs.EqualLists.{cases_of}
 use Rattle.hp_areas.proofs.lists.FrameList.same.Goals as goal
 
 pub returns : goal.returns

@@ -1,7 +1,7 @@
 use Rattle.std.proofs.Common.{◌≡◌, arith}
 use Rattle.std.proofs.lemmas.Result.{IfOk-weaker}
-use Rattle.hp_replay.specs.Volumes.{volume_of}
-use Rattle.hp_replay.specs.declared.volumes.Volume.{Volume}
+use Rattle.hp_history.specs.Volumes.{volume_of}
+use Rattle.hp_history.specs.declared.volumes.Volume.{Volume}
 use Rattle.hp_shared.specs.Volumes.{IsSealOf}
 use Rattle.hp_shared.proofs.shared.Shared.seal.Goals as goal
 

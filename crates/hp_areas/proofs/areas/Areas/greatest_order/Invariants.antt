@@ -1,7 +1,0 @@
-use Rattle.std.proofs.Common.{◌≡◌, ◌+◌, ◌-◌}
-use Rattle.hp_units.specs.FreeAreas.{greatest_order}
-use Rattle.hp_areas.proofs.areas.Areas.greatest_order.Given as goal
-
-abbrev pub invariant-loop-order : goal.invariant-loop-order
-invariant-loop-order l =
-    greatest_order l.self l.class l.fn.first (l.fn.last + 1 - l.fn.first) ≡ greatest_order l.self l.class l.fn.first (l.order - l.fn.first)

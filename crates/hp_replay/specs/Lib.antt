@@ -1,6 +1,0 @@
-pub mod Course
-pub mod Entries
-pub mod Kept
-pub mod Replay
-pub mod Seen
-pub mod Volumes
