@@ -1,13 +1,13 @@
 -- Images with one part changed.
-use Rattle.std.proofs.Common.{ℕ, ◌≡◌, ◌+◌, ◌*◌, ◌^◌, ◌<◌, ◌≤◌, List, [], ◌∷◌, ◌++◌, Option, true, length, get_or, set, take, sym, ◌∙◌, ap, subst, arith}
+use Rattle.std.proofs.Common.{ℕ, ◌≡◌, ◌+◌, ◌*◌, ◌<◌, ◌≤◌, List, true, length, get_or, set, take, sym, ◌∙◌, ap, subst, arith}
 use Rattle.hp_units.specs.declared.rows.Class.{Class}
 use Rattle.hp_units.specs.declared.rows.Kind.{Kind}
 use Rattle.hp_units.specs.declared.rows.Pool.{Pool}
 use Rattle.hp_units.specs.declared.rows.Row.{Row}
 use Rattle.hp_units.specs.LayoutParts.{LayoutParts}
-use Rattle.hp_units.specs.Arithmetic.{IsFrame, frame_count}
+use Rattle.hp_units.specs.Arithmetic.{IsFrame}
 use Rattle.hp_units.specs.InLayout.{AreFreeAreasOf}
-use Rattle.hp_units.specs.Memory.{FreeAreas, Pages, cached_list, class_index, free_list, pool_index, with_cached_list, with_free_list}
+use Rattle.hp_units.specs.Memory.{FreeAreas, Pages, class_index, free_list, pool_index}
 use Rattle.hp_units.specs.FreeAreas.{is_on}
 use Rattle.hp_units.specs.Rows.{with_areas}
 use Rattle.hp_lemmas.proofs.Places.{class_index-lt}

@@ -1,14 +1,13 @@
 -- Tables of pages that are copied entry by entry.
-use Rattle.std.proofs.Common.{ℕ, zero, suc, ◌≡◌, ◌+◌, ◌<◌, ◌≤◌, List, [], ◌∷◌, Option, Some, None, length, get_or, set, map, replicate, unwrap_or, refl, sym, ◌∙◌, ap, subst, arith}
+use Rattle.std.proofs.Common.{ℕ, zero, suc, ◌≡◌, ◌+◌, ◌<◌, ◌≤◌, List, [], ◌∷◌, Option, Some, None, length, get_or, set, map, replicate, sym, ◌∙◌, ap, subst, arith}
 use Rattle.std.specs.List.{AllByRecursion}
 use Rattle.std.specs.Option.{option_and_then}
 use Rattle.std.proofs.lemmas.List.{get_or-map, get_or-set_same, length-map, length-set, set-get_or, set-set}
-use Rattle.std.proofs.lemmas.Option.{unwrap_or-slice_get}
 use Rattle.hp_units.specs.LayoutParts.{LayoutParts, IsLayout}
 use Rattle.hp_units.specs.Arithmetic.{IsFrame, frame_count}
 use Rattle.hp_units.specs.Boot.{empty_pages}
-use Rattle.hp_units.specs.Memory.{Memory, Pages, entry_of, with_entry}
-use Rattle.hp_units.specs.Pages.{frame_at, page_at, page_from, words_at}
+use Rattle.hp_units.specs.Memory.{Memory, Pages, with_entry}
+use Rattle.hp_units.specs.Pages.{frame_at, page_from, words_at}
 use Rattle.hp_units.specs.Placement.{IsWellPlaced}
 use Rattle.hp_tape.specs.Deltas.{PageFrames, buffer_of, page_frames_of, with_buffer}
 use Rattle.hp_lemmas.proofs.Placed.{page-in_use}

@@ -1,5 +1,5 @@
 -- Operations that commit.
-use Rattle.std.proofs.Common.{◌≡◌, ℕ, zero, suc, ◌+◌, ◌*◌, ◌^◌, ◌<◌, ◌≤◌, Bool, true, false, not, ◌&&◌, List, [], ◌∷◌, ◌++◌, length, take, get_or, cond, Option, Some, None, refl, sym, ◌∙◌, ap, subst, arith, inl, inr}
+use Rattle.std.proofs.Common.{◌≡◌, ℕ, zero, suc, ◌+◌, ◌*◌, ◌<◌, ◌≤◌, Bool, true, false, ◌&&◌, List, [], ◌∷◌, ◌++◌, length, take, get_or, cond, Option, Some, None, refl, sym, ◌∙◌, ap, subst, arith}
 use Rattle.std.specs.Prelude.{filter, find, fold, unwrap_or}
 use Rattle.std.specs.List.{flat_map, list_all, range_with_len}
 use Rattle.std.specs.Option.{option_map, option_map_or}
@@ -20,7 +20,7 @@ use Rattle.hp_units.specs.Refusals.{frame_in_use, is_all_free}
 use Rattle.hp_units.specs.Rows.{blocks_of, commit_block, commit_blocks, going_blocks, grant, is_claimed_by, is_going, is_live, is_off, is_offline_state, zone_of_block}
 use Rattle.hp_units.specs.Step.{Answered}
 use Rattle.hp_tape.specs.declared.deltas.Delta.{Delta}
-use Rattle.hp_tape.specs.Bounds.{committed_block_bound, delta_bound}
+use Rattle.hp_tape.specs.Bounds.{committed_block_bound}
 use Rattle.hp_tape.specs.Deltas.{Fits, undo}
 use Rattle.hp_tape.specs.Tapes.{TapeValue}
 use Rattle.hp_tape.proofs.Leads.{notes-more}

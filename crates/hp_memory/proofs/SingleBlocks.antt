@@ -1,5 +1,5 @@
 -- Events of single memory blocks, and their answers.
-use Rattle.std.proofs.Common.{◌≡◌, ℕ, ◌+◌, ◌/◌, ◌<◌, ◌≤◌, List, false, true, Option, Some, None, refl, sym, ◌∙◌, ap, subst, arith}
+use Rattle.std.proofs.Common.{◌≡◌, ℕ, ◌/◌, ◌<◌, ◌≤◌, List, false, true, Option, Some, None, refl, sym, ◌∙◌, ap, subst, arith}
 use Rattle.std.proofs.lemmas.Bool.{not-false, or_left, or_right}
 use Rattle.std.proofs.lemmas.List.{set-set}
 use Rattle.hp_units.specs.declared.events.Event.{Event}

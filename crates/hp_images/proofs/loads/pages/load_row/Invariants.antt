@@ -1,4 +1,4 @@
-use Rattle.std.proofs.Common.{ℕ, ◌≡◌, [], None, List, Option, get_or, set}
+use Rattle.std.proofs.Common.{◌≡◌, [], None, get_or, set}
 use Rattle.hp_images.specs.Tables.{AreCopied}
 use Rattle.hp_images.proofs.loads.pages.load_row.Given as goal
 

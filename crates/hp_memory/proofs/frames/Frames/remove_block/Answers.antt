@@ -1,5 +1,5 @@
 -- One pageblock further.
-use Rattle.std.proofs.Common.{◌≡◌, ℕ, ◌+◌, ◌*◌, ◌^◌, ◌<◌, ◌≤◌, true, sym, ap, subst, ◌∙◌, arith}
+use Rattle.std.proofs.Common.{◌≡◌, ℕ, ◌+◌, ◌*◌, ◌^◌, ◌<◌, true, sym, ap, subst, ◌∙◌, arith}
 use Rattle.hp_units.specs.FreeAreas.{is_on}
 use Rattle.hp_units.specs.Isolation.{remove_pageblock}
 use Rattle.hp_units.specs.Memory.{free_list, isolated_class}

@@ -1,4 +1,4 @@
-use Rattle.std.proofs.Common.{None, replicate, ◌∙◌, ap, arith}
+use Rattle.std.proofs.Common.{None, ap, arith}
 use Rattle.hp_units.specs.Arithmetic.{frame_count}
 use Rattle.hp_images.proofs.Tables.{copied-all, copied-none}
 use Rattle.hp_memory.proofs.kernel_blocks.KernelBlocks.of_image.Goals as goal

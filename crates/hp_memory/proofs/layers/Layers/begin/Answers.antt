@@ -1,9 +1,8 @@
-use Rattle.std.proofs.Common.{◌≡◌, None, Some, sym, ◌∙◌}
+use Rattle.std.proofs.Common.{◌≡◌, None}
 use Rattle.hp_units.specs.Choices.{first_some}
 use Rattle.hp_units.specs.Refusals.{plan_refusals}
 use Rattle.hp_memory.specs.Layers.{state_of}
-use Rattle.hp_memory.proofs.Answers.{refused}
-use Rattle.hp_memory.proofs.Begun.{begin-done, begin-refused}
+use Rattle.hp_memory.proofs.Begun.{begin-done}
 use Rattle.hp_memory.proofs.Placed.{tidy-placed}
 use Rattle.hp_memory.proofs.layers.Layers.begin.Goals as goal
 

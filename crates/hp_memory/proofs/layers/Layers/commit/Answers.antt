@@ -2,7 +2,6 @@ use Rattle.std.proofs.Common.{◌≡◌, ℕ, ◌<◌, List, length, get_or, tru
 use Rattle.std.specs.List.{list_all}
 use Rattle.hp_units.specs.declared.events.Event.TheVariants.{Commit}
 use Rattle.hp_units.specs.declared.replies.Refusal.TheVariants.{NotFree}
-use Rattle.hp_units.specs.Rows.{blocks_of, is_live}
 use Rattle.hp_memory.specs.Commits.{is_ready}
 use Rattle.hp_memory.specs.Layers.{state_of}
 use Rattle.hp_memory.proofs.Answers.{refused}

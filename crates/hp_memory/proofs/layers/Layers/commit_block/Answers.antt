@@ -1,4 +1,4 @@
-use Rattle.std.proofs.Common.{◌≡◌, Some, None, sym, ◌∙◌}
+use Rattle.std.proofs.Common.{◌≡◌, Some, sym, ◌∙◌}
 use Rattle.std.specs.Option.{option_map}
 use Rattle.hp_units.specs.Memory.{row_of}
 use Rattle.hp_memory.proofs.Committed.{granted, may-come, may-go, ungranted}

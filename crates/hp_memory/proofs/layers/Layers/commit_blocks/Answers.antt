@@ -1,5 +1,5 @@
 -- One block further.
-use Rattle.std.proofs.Common.{◌≡◌, ◌<◌, ◌*◌, ℕ, get_or, sym, subst}
+use Rattle.std.proofs.Common.{◌<◌, ◌*◌, ℕ, sym, subst}
 use Rattle.std.proofs.lemmas.List.{get_or_read}
 use Rattle.hp_units.specs.LayoutParts.{LayoutParts}
 use Rattle.hp_units.specs.Rows.{commit_block}

@@ -1,5 +1,5 @@
 -- One more item is looked at.
-use Rattle.std.proofs.Common.{◌<◌, Bool, true, false, length, sym, ◌∙◌, arith}
+use Rattle.std.proofs.Common.{Bool, true, false, sym, ◌∙◌}
 use Rattle.std.specs.Prelude.{◌&&◌, not}
 use Rattle.hp_units.specs.declared.plans.Item.{Item}
 use Rattle.hp_units.specs.Memory.{row_of}

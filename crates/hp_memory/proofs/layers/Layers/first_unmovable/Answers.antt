@@ -1,5 +1,5 @@
 -- One more item is looked at.
-use Rattle.std.proofs.Common.{◌≡◌, ℕ, ◌<◌, Option, Some, None, length, sym, ◌∙◌, arith}
+use Rattle.std.proofs.Common.{◌≡◌, ℕ, Option, Some, None, sym, ◌∙◌}
 use Rattle.hp_units.specs.declared.plans.Item.{Item}
 use Rattle.hp_units.specs.Refusals.{kernel_frame_in}
 use Rattle.hp_memory.specs.Layers.{state_of}

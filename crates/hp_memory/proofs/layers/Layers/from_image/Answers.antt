@@ -1,4 +1,4 @@
-use Rattle.std.proofs.Common.{◌∙◌, ap}
+use Rattle.std.proofs.Common.{◌∙◌}
 use Rattle.hp_memory.proofs.OnlineBlocks.{loaded-led}
 use Rattle.hp_memory.proofs.layers.Layers.from_image.Goals as goal
 

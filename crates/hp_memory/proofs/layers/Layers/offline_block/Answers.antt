@@ -1,4 +1,4 @@
-use Rattle.std.proofs.Common.{◌≡◌, ◌+◌, ◌*◌, ◌≤◌, sym, subst, arith}
+use Rattle.std.proofs.Common.{◌*◌, sym, subst, arith}
 use Rattle.hp_units.specs.declared.rows.Zone.{Zone}
 use Rattle.hp_units.specs.Isolation.{remove_block}
 use Rattle.hp_units.specs.Memory.{offline_row}

@@ -1,4 +1,4 @@
-use Rattle.std.proofs.Common.{◌≡◌, ℕ, ◌*◌, ◌≤◌, length, sym, subst, arith}
+use Rattle.std.proofs.Common.{ℕ, ◌*◌, ◌≤◌, length, sym, subst, arith}
 use Rattle.hp_tape.specs.Bounds.{moved_block_bound}
 use Rattle.hp_memory.specs.Operations.{claimed_below}
 use Rattle.hp_memory.proofs.Begun.{plan-room}

@@ -1,9 +1,9 @@
 -- Each delta is undone when its turn comes.
-use Rattle.std.proofs.Common.{◌≡◌, ◌<◌, ◌≤◌, List, length, take, drop, ◌∙◌, sym, subst, arith}
+use Rattle.std.proofs.Common.{◌<◌, length, drop, ◌∙◌, sym, subst, arith}
 use Rattle.hp_units.specs.LayoutParts.{LayoutParts}
 use Rattle.hp_tape.specs.Deltas.{IsDeltaOf, undo, undo_all}
 use Rattle.hp_memory.specs.Layers.{view_of}
-use Rattle.hp_memory.proofs.Unwinding.{IsLatest, latest, past-drop, past-length, past-take, unwound, unwound-all}
+use Rattle.hp_memory.proofs.Unwinding.{IsLatest, latest, past-drop, past-length, past-take, unwound}
 use Rattle.hp_memory.proofs.layers.Layers.unwind.Goals as goal
 use Rattle.hp_memory.proofs.layers.Layers.unwind.Goals.{In-Some}
 
