@@ -4,6 +4,7 @@ use crate::{
     write_reply, write_state, write_unrecorded,
 };
 use hp_control::ControlFault;
+use hp_machine::Machine;
 use hp_plain::Image;
 use hp_units::{
     Block, Boot, CallFault, Cpu, Event, Frame, Layout, LayoutFault, OpEnd, Owner, Page, Parts,
@@ -78,15 +79,15 @@ fn small(alloc: Global) -> Result<Layout, LayoutFault> {
 }
 
 /// Maps the first owner's first page twice; whether the first was done and the second refused.
-fn maps_once(alloc: Global, image: &mut Image) -> Result<bool, AllocError> {
+fn maps_once(alloc: Global, machine: &mut Machine) -> Result<bool, CallFault> {
     let event = Event::Map {
         owner: Owner(0),
         page: Page(0),
     };
     let refused = Reply::Refused(Refusal::AlreadyMapped);
-    let first = image.step(alloc, Serial(1), Cpu(0), &event)?;
-    let second = image.step(alloc, Serial(2), Cpu(0), &event)?;
-    Ok(first == Reply::Done && second == refused)
+    let first = machine.call(alloc, Cpu(0), &event)?;
+    let second = machine.call(alloc, Cpu(0), &event)?;
+    Ok(first.reply == Reply::Done && second.reply == refused)
 }
 
 /// The text of a state whose only owner is called `db`.
@@ -102,8 +103,9 @@ fn text_of(alloc: Global, image: &Image) -> Result<String, AllocError> {
 #[test]
 fn a_state_names_its_owners(rt: HostRuntime) -> Result<(), Fail> {
     let layout = small(rt.alloc())?;
-    let mut image = Image::boot(rt.alloc(), &layout)?;
-    assert!(rt; maps_once(rt.alloc(), &mut image)?);
+    let mut machine = Machine::boot(rt.alloc(), &layout)?;
+    assert!(rt; maps_once(rt.alloc(), &mut machine)?);
+    let image = machine.image(rt.alloc())?;
     let text = text_of(rt.alloc(), &image)?;
     assert!(rt; text.as_str() == MAPPED);
     Ok(())
