@@ -5,7 +5,8 @@ use Rattle.hp_control.specs.declared.fault.ControlFault.{ControlFault}
 use Rattle.hp_control.specs.declared.fault.ControlFault.TheVariants.{OutOfMemory}
 use Rattle.hp_control.specs.declared.writes.Request.{Request}
 use Rattle.hp_control.specs.declared.writes.Request.TheVariants as request
-use Rattle.hotplug.specs.Files.{WritesEcho, WritesFile, WritesRequest, asked_by, cat_text, machine_after_request, request_text}
+use Rattle.hp_control.specs.Writes.{echo_request}
+use Rattle.hotplug.specs.Files.{WritesEcho, WritesFile, WritesRequest, cat_text, machine_after_request, request_text}
 use Rattle.hp_text.specs.Files.{read_fault_line, write_fault_line}
 use Rattle.hotplug.specs.Serial.{IsWhole}
 use Rattle.hotplug.proofs.EventsDue.{IsUpToDate, event_due, event_is}
@@ -20,7 +21,7 @@ request_is m cpu (Ok (request.Plan plan)) text new h w = plan_is m cpu 1024 plan
 request_is m cpu (Err fault) text new h w = subst IsUpToDate (sym w.1) h
 
 pub echo_is : (m : MachineValue) (cpu : ℕ) (path word text : List ℕ) (new : MachineValue) → IsUpToDate m → WritesEcho m cpu path word text new → IsUpToDate new
-echo_is m cpu path word text new h (inl w) = request_is m cpu (asked_by path word) text new h w
+echo_is m cpu path word text new h (inl w) = request_is m cpu (echo_request path word) text new h w
 echo_is m cpu path word text new h (inr w) = subst IsUpToDate (sym w.1) h
 
 -- ---- the text
@@ -38,8 +39,8 @@ request_due m cpu (Ok (request.Event event)) text new rest w whole = event_due m
 request_due m cpu (Ok (request.Plan plan)) text new rest w whole = plan_due m cpu 1024 plan text new rest w whole
 request_due m cpu (Err fault) text new rest w whole = w
 
-pub echo_due : (m : MachineValue) (cpu : ℕ) (path word text : List ℕ) (new : MachineValue) (rest : List ℕ) → WritesEcho m cpu path word text new → IsWhole (text ++ rest) → (text ≡ request_text m cpu (asked_by path word)) × (new ≡ machine_after_request m cpu (asked_by path word))
-echo_due m cpu path word text new rest (inl w) whole = request_due m cpu (asked_by path word) text new rest w whole
+pub echo_due : (m : MachineValue) (cpu : ℕ) (path word text : List ℕ) (new : MachineValue) (rest : List ℕ) → WritesEcho m cpu path word text new → IsWhole (text ++ rest) → (text ≡ request_text m cpu (echo_request path word)) × (new ≡ machine_after_request m cpu (echo_request path word))
+echo_due m cpu path word text new rest (inl w) whole = request_due m cpu (echo_request path word) text new rest w whole
 echo_due m cpu path word text new rest (inr w) whole = absurd (echo_is_not_whole rest (subst (λ (l : List ℕ). IsWhole (l ++ rest)) w.0 whole))
 
 -- and a file was read

@@ -1,8 +1,12 @@
+pub mod Audited
 pub mod EventsDue
 pub mod FilesDue
 pub mod Known
 pub mod Lines
 pub mod PlansDue
+pub mod Ran
+pub mod Seated
 pub mod Served
+pub mod Unfit
 pub mod Whole
 pub mod Written

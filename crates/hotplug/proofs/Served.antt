@@ -1,5 +1,5 @@
 -- From the parts to the whole: what was read, what was made of it, and what was written.
-use Rattle.std.proofs.Common.{◌≡◌, ℕ, ◌≤◌, List, [], ◌++◌, length, Option, Some, None, Result, Ok, Err, sym, ap, subst, ◌∙◌, append-nil}
+use Rattle.std.proofs.Common.{◌≡◌, ℕ, ◌<◌, ◌≤◌, List, [], ◌++◌, length, Option, Some, None, Result, Ok, Err, sym, ap, subst, ◌∙◌, append-nil}
 use Rattle.std.specs.Prelude.{IfSome}
 use Rattle.std.specs.Io.KnownBytes.{Appends, Consumes, IsAtEnd}
 use Rattle.hp_units.specs.Memory.{Memory}
@@ -13,10 +13,14 @@ use Rattle.hp_scenario.specs.Scenario.{ScenarioValue, scenario_in}
 use Rattle.hp_text.specs.State.{state_text}
 use Rattle.hotplug.specs.Serial.{GrowsBy, IsWhole, WritesLines, end_text, lines_text, scenario_text, serial_text}
 use Rattle.hotplug.proofs.Lines.{AreDue, lines_due, run_is}
-use Rattle.hotplug.specs.Served.{IsTextOf, ReadsAll, WritesTextOf}
+use Rattle.hotplug.specs.Runs.{IsAuditTextOf, IsRunTextOf, scripts_in}
+use Rattle.hotplug.specs.Served.{IsTextOf, ReadsAll, Serves, WritesTextOf}
 use Rattle.hotplug.specs.Faults.{IsReadFault, IsFaultOf, fault_from, limit}
 use Rattle.hotplug.specs.declared.fault.ProgramFault.{ProgramFault}
-use Rattle.hotplug.specs.declared.fault.ProgramFault.TheVariants.{ReadFailed, TooLong, NotJson, BadShape, Layout, BadLine, NotForRun, OutOfMemory, WriteFailed}
+use Rattle.hotplug.specs.declared.fault.ProgramFault.TheVariants.{ReadFailed, TooLong, NotJson, BadShape, Layout, BadLine, NotForRun, OutOfMemory, NotStarted, SeatMissing, Mismatch, WrongReply, WrongSerial, AuditDiffers, WriteFailed}
+use Rattle.hotplug.specs.declared.words.Command.{Command}
+use Rattle.hotplug.specs.declared.words.Command.TheVariants.{Serial, Run, Audit}
+use Rattle.hotplug.proofs.Unfit.{never_not_for_run}
 
 -- a reader at its end gave all that it had
 given : (a b : Option (List ℕ)) (bytes : List ℕ) → Consumes a b bytes → IsAtEnd b → (P : List ℕ → Type 0) → P bytes → IfSome a P
@@ -29,16 +33,45 @@ pub all_read : (a b : Option (List ℕ)) (bytes : List ℕ) → Consumes a b byt
 all_read a b bytes p end fits = record { within = given a b bytes p end (λ (i : List ℕ). length i ≤ limit) fits; end = end }
 
 -- a fault of reading is one of the program
-pub read_fault : (known : Option (List ℕ)) (read written : Type 0) (fault : ProgramFault) → IsReadFault known read fault → IsFaultOf known read written fault
-read_fault known read written ReadFailed h = h
-read_fault known read written TooLong h = h
-read_fault known read written NotJson h = absurd h
-read_fault known read written BadShape h = absurd h
-read_fault known read written (Layout f) h = absurd h
-read_fault known read written (BadLine n) h = absurd h
-read_fault known read written (NotForRun n) h = absurd h
-read_fault known read written OutOfMemory h = tt
-read_fault known read written WriteFailed h = absurd h
+pub read_fault : (command : Command) (known : Option (List ℕ)) (read written : Type 0) (fault : ProgramFault) → IsReadFault known read fault → IsFaultOf command known read written fault
+read_fault command known read written ReadFailed h = h
+read_fault command known read written TooLong h = h
+read_fault command known read written NotJson h = absurd h
+read_fault command known read written BadShape h = absurd h
+read_fault command known read written (Layout f) h = absurd h
+read_fault command known read written (BadLine n) h = absurd h
+read_fault command known read written (NotForRun n) h = absurd h
+read_fault command known read written OutOfMemory h = tt
+read_fault command known read written (NotStarted c) h = absurd h
+read_fault command known read written SeatMissing h = absurd h
+read_fault command known read written (Mismatch n) h = absurd h
+read_fault command known read written (WrongReply n) h = absurd h
+read_fault command known read written (WrongSerial n) h = absurd h
+read_fault command known read written AuditDiffers h = absurd h
+read_fault command known read written WriteFailed h = absurd h
+
+-- a fault of the bytes is one of the reader that gave them all
+input_fault_of : (command : Command) (a b : Option (List ℕ)) (input : List ℕ) (read written : Type 0) (fault : ProgramFault) → Consumes a b input → IsAtEnd b → IsFaultOf command (Some input) ⊥ ⊥ fault → IsFaultOf command a read written fault
+input_fault_of command a b input read written ReadFailed p end h = absurd h
+input_fault_of command a b input read written TooLong p end h = given a b input p end (λ (i : List ℕ). limit < length i) h
+input_fault_of command a b input read written NotJson p end h = given a b input p end (λ (i : List ℕ). scenario_in i ≡ Err scenario.NotJson) h
+input_fault_of command a b input read written BadShape p end h = given a b input p end (λ (i : List ℕ). scenario_in i ≡ Err scenario.BadShape) h
+input_fault_of command a b input read written (Layout f) p end h = given a b input p end (λ (i : List ℕ). scenario_in i ≡ Err (scenario.Layout f)) h
+input_fault_of command a b input read written (BadLine n) p end h = given a b input p end (λ (i : List ℕ). scenario_in i ≡ Err (scenario.BadLine n)) h
+input_fault_of command a b input read written (NotForRun n) p end h = (h.0, given a b input p end (λ (i : List ℕ). scripts_in i ≡ Err (scenario.NotForRun n)) h.1)
+input_fault_of command a b input read written OutOfMemory p end h = tt
+input_fault_of command a b input read written (NotStarted c) p end h = h
+input_fault_of command a b input read written SeatMissing p end h = absurd h
+input_fault_of command a b input read written (Mismatch n) p end h = h
+input_fault_of command a b input read written (WrongReply n) p end h = absurd h
+input_fault_of command a b input read written (WrongSerial n) p end h = absurd h
+input_fault_of command a b input read written AuditDiffers p end h = absurd h
+input_fault_of command a b input read written WriteFailed p end h = absurd h
+
+-- `seen` is the slice that was passed on
+pub input_fault : (command : Command) (a b : Option (List ℕ)) (input seen : List ℕ) (read written : Type 0) (fault : ProgramFault) → seen ≡ input → Consumes a b input → IsAtEnd b → IsFaultOf command (Some seen) ⊥ ⊥ fault → IsFaultOf command a read written fault
+input_fault command a b input seen read written fault same p end h =
+    input_fault_of command a b input read written fault p end (subst (λ (i : List ℕ). IsFaultOf command (Some i) ⊥ ⊥ fault) same h)
 
 -- only the scenario can be at fault
 refused : (r : Result ScenarioValue ScenarioFault) (fault : ScenarioFault) (f : ScenarioValue → List ℕ) → (r >>= λ s. Ok (f s)) ≡ Err fault → r ≡ Err fault
@@ -51,21 +84,30 @@ unfolding serial_text
 no_scenario input fault e = refused (scenario_in input) fault scenario_text e
 
 -- a fault of the scenario is one of the program
-scenario_fault_of : (a b : Option (List ℕ)) (input : List ℕ) (read written : Type 0) (fault : ScenarioFault) → Consumes a b input → IsAtEnd b → Fails fault (serial_text input) → IsFaultOf a read written (fault_from fault)
+scenario_fault_of : (a b : Option (List ℕ)) (input : List ℕ) (read written : Type 0) (fault : ScenarioFault) → Consumes a b input → IsAtEnd b → Fails fault (serial_text input) → IsFaultOf Serial a read written (fault_from fault)
 scenario_fault_of a b input read written scenario.NotJson p end h = given a b input p end (λ i. scenario_in i ≡ Err scenario.NotJson) (no_scenario input _ h)
 scenario_fault_of a b input read written scenario.BadShape p end h = given a b input p end (λ i. scenario_in i ≡ Err scenario.BadShape) (no_scenario input _ h)
 scenario_fault_of a b input read written (scenario.Layout f) p end h = given a b input p end (λ i. scenario_in i ≡ Err (scenario.Layout f)) (no_scenario input _ h)
 scenario_fault_of a b input read written (scenario.BadLine n) p end h = given a b input p end (λ i. scenario_in i ≡ Err (scenario.BadLine n)) (no_scenario input _ h)
-scenario_fault_of a b input read written (scenario.NotForRun n) p end h = given a b input p end (λ i. scenario_in i ≡ Err (scenario.NotForRun n)) (no_scenario input _ h)
+scenario_fault_of a b input read written (scenario.NotForRun n) p end h = absurd (never_not_for_run input n (no_scenario input _ h))
 scenario_fault_of a b input read written scenario.OutOfMemory p end h = tt
 
 -- `seen` is the slice that was passed on
-pub scenario_fault : (a b : Option (List ℕ)) (input seen : List ℕ) (read written : Type 0) (fault : ScenarioFault) → seen ≡ input → Consumes a b input → IsAtEnd b → Fails fault (serial_text seen) → IsFaultOf a read written (fault_from fault)
+pub scenario_fault : (a b : Option (List ℕ)) (input seen : List ℕ) (read written : Type 0) (fault : ScenarioFault) → seen ≡ input → Consumes a b input → IsAtEnd b → Fails fault (serial_text seen) → IsFaultOf Serial a read written (fault_from fault)
 scenario_fault a b input seen read written fault same p end h = scenario_fault_of a b input read written fault p end (subst (λ (i : List ℕ). Fails fault (serial_text i)) same h)
 
 -- what was read, its text, and what was written
 pub all_written : (a b old new : Option (List ℕ)) (input text : List ℕ) → Consumes a b input → IsAtEnd b → IsTextOf input text → Appends old new text → WritesTextOf a old new
 all_written a b old new input text p end h w = given a b input p end (λ i. (t : List ℕ) × Appends old new t × IsTextOf i t) (text, w, h)
+
+-- and that of a run and of an audit
+pub run_written : (a b old new : Option (List ℕ)) (input seen text : List ℕ) → seen ≡ input → Consumes a b input → IsAtEnd b → IsRunTextOf seen text → Appends old new text → Serves Run a old new
+run_written a b old new input seen text same p end h w =
+    given a b input p end (λ i. (t : List ℕ) × Appends old new t × IsRunTextOf i t) (text, w, subst (λ (i : List ℕ). IsRunTextOf i text) same h)
+
+pub audit_written : (a b old new : Option (List ℕ)) (input seen text : List ℕ) → seen ≡ input → Consumes a b input → IsAtEnd b → IsAuditTextOf seen text → Appends old new text → Serves Audit a old new
+audit_written a b old new input seen text same p end h w =
+    given a b input p end (λ i. (t : List ℕ) × Appends old new t × IsAuditTextOf i t) (text, w, subst (λ (i : List ℕ). IsAuditTextOf i text) same h)
 
 -- what reading answers, the whole answers
 fails_then : (fault : ScenarioFault) (r : Result ScenarioValue ScenarioFault) (f : ScenarioValue → List ℕ) → Fails fault r → Fails fault (r >>= λ s. Ok (f s))

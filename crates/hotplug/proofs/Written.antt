@@ -12,13 +12,12 @@ use Rattle.hp_control.specs.declared.fault.ControlFault.TheVariants.{NoFile, Rea
 use Rattle.hp_control.specs.declared.writes.Request.{Request}
 use Rattle.hp_control.specs.Gives.{Fails}
 use Rattle.hp_control.specs.Reads.{file_text}
-use Rattle.hp_control.specs.Writes.{request_of}
-use Rattle.hotplug.specs.Files.{WritesEcho, WritesFile, WritesRequest, asked_by, read_answer}
+use Rattle.hp_control.specs.Writes.{echo_request}
+use Rattle.hotplug.specs.Files.{WritesEcho, WritesFile, WritesRequest, read_answer}
 use Rattle.hp_text.specs.Files.{read_fault_line, write_fault_line}
 use Rattle.hp_text.specs.Plans.{plan_line}
 use Rattle.hotplug.specs.Plans.{IsPlanRun, WritesPlan}
 use Rattle.hotplug.specs.Serial.{GrowsBy}
-use Rattle.hp_text.specs.State.{newline}
 
 -- a text of which more is known
 pub grows_as : (old new : List ℕ) (P Q : List ℕ → Type 0) → GrowsBy old new P → ((text : List ℕ) → P text → Q text) → GrowsBy old new Q
@@ -63,21 +62,21 @@ file_fault_written m path asked fault old out same refused grown = record {
 
 -- ---- a text written
 
-pub echo_written : (m new : MachineValue) (cpu : ℕ) (path word asked sent : List ℕ) (request : Request) (old out : List ℕ) → asked ≡ path → sent ≡ word ++ newline → request_of asked sent ≡ Ok request → GrowsBy old out (λ (text : List ℕ). WritesRequest m cpu (Ok request) text new) → GrowsBy old out (λ (text : List ℕ). WritesEcho m cpu path word text new)
-echo_written m new cpu path word asked sent request old out at same means g =
-    let is : asked_by path word ≡ Ok request = ap (λ (p : List ℕ). request_of p (word ++ newline)) (sym at) ∙ ap (request_of asked) (sym same) ∙ means in
+pub echo_written : (m new : MachineValue) (cpu : ℕ) (path word asked said : List ℕ) (request : Request) (old out : List ℕ) → asked ≡ path → said ≡ word → echo_request asked said ≡ Ok request → GrowsBy old out (λ (text : List ℕ). WritesRequest m cpu (Ok request) text new) → GrowsBy old out (λ (text : List ℕ). WritesEcho m cpu path word text new)
+echo_written m new cpu path word asked said request old out at same means g =
+    let is : echo_request path word ≡ Ok request = ap (λ (p : List ℕ). echo_request p word) (sym at) ∙ ap (echo_request asked) (sym same) ∙ means in
     grows_as old out _ _ g (λ (text : List ℕ) w. inl (subst (λ (a : Result Request ControlFault). WritesRequest m cpu a text new) (sym is) w))
 
-write_refused : (m : MachineValue) (cpu : ℕ) (path word : List ℕ) (fault : ControlFault) → Fails fault (asked_by path word) → WritesEcho m cpu path word (write_fault_line fault) m
+write_refused : (m : MachineValue) (cpu : ℕ) (path word : List ℕ) (fault : ControlFault) → Fails fault (echo_request path word) → WritesEcho m cpu path word (write_fault_line fault) m
 write_refused m cpu path word NoFile h = inl (subst (λ (a : Result Request ControlFault). WritesRequest m cpu a (write_fault_line NoFile) m) (sym h) (refl, refl))
 write_refused m cpu path word ReadOnly h = inl (subst (λ (a : Result Request ControlFault). WritesRequest m cpu a (write_fault_line ReadOnly) m) (sym h) (refl, refl))
 write_refused m cpu path word BadText h = inl (subst (λ (a : Result Request ControlFault). WritesRequest m cpu a (write_fault_line BadText) m) (sym h) (refl, refl))
 write_refused m cpu path word OutOfMemory h = inr (refl, refl)
 write_refused m cpu path word WriteOnly h = inl (subst (λ (a : Result Request ControlFault). WritesRequest m cpu a (write_fault_line WriteOnly) m) (sym h) (refl, refl))
 
-pub echo_fault_written : (m : MachineValue) (cpu : ℕ) (path word asked sent : List ℕ) (fault : ControlFault) (old out : List ℕ) → asked ≡ path → sent ≡ word ++ newline → Fails fault (request_of asked sent) → out ≡ old ++ write_fault_line fault → GrowsBy old out (λ (text : List ℕ). WritesEcho m cpu path word text m)
-echo_fault_written m cpu path word asked sent fault old out at same refused grown = record {
+pub echo_fault_written : (m : MachineValue) (cpu : ℕ) (path word asked said : List ℕ) (fault : ControlFault) (old out : List ℕ) → asked ≡ path → said ≡ word → Fails fault (echo_request asked said) → out ≡ old ++ write_fault_line fault → GrowsBy old out (λ (text : List ℕ). WritesEcho m cpu path word text m)
+echo_fault_written m cpu path word asked said fault old out at same refused grown = record {
   text = write_fault_line fault;
   grown = grown;
-  is = write_refused m cpu path word fault (subst (λ (p : List ℕ). Fails fault (request_of p (word ++ newline))) at (subst (λ (s : List ℕ). Fails fault (request_of asked s)) same refused));
+  is = write_refused m cpu path word fault (subst (λ (p : List ℕ). Fails fault (echo_request p word)) at (subst (λ (s : List ℕ). Fails fault (echo_request asked s)) same refused));
 }

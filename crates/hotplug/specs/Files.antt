@@ -1,16 +1,15 @@
 -- What lines on control files write, and what they make of the machine.
-use Rattle.std.specs.Prelude.{◌≡◌, ◌⊎◌, ℕ, List, ◌++◌, Result, Ok, Err}
+use Rattle.std.specs.Prelude.{◌≡◌, ◌⊎◌, ℕ, List, Result, Ok, Err}
 use Rattle.hp_machine.specs.Machine.{MachineValue}
 use Rattle.hp_control.specs.declared.fault.ControlFault.{ControlFault}
 use Rattle.hp_control.specs.declared.fault.ControlFault.TheVariants.{OutOfMemory}
 use Rattle.hp_control.specs.declared.writes.Request.{Request}
 use Rattle.hp_control.specs.declared.writes.Request.TheVariants as request
 use Rattle.hp_control.specs.Reads.{file_text}
-use Rattle.hp_control.specs.Writes.{request_of}
+use Rattle.hp_control.specs.Writes.{control_turns, echo_request}
 use Rattle.hotplug.specs.Events.{WritesEvent, event_text, machine_after_event}
 use Rattle.hotplug.specs.Plans.{WritesPlan, plan_run, plan_text}
 use Rattle.hp_text.specs.Files.{read_fault_line, write_fault_line}
-use Rattle.hp_text.specs.State.{newline}
 
 -- ---- a file read
 
@@ -27,14 +26,6 @@ abbrev pub WritesFile : MachineValue → (path text : List ℕ) → Type 0
 WritesFile m path text = (text ≡ cat_text m path) ⊎ (text ≡ read_fault_line OutOfMemory)
 
 -- ---- a text written
-
--- the migrations that a plan may try that a control file asks for (own rule)
-abbrev pub control_turns : ℕ
-control_turns = 1024
-
--- what a word asks for, with a newline behind it as `echo` writes it
-abbrev pub asked_by : (path word : List ℕ) → Result Request ControlFault
-asked_by path word = request_of path (word ++ newline)
 
 -- what is written for what is asked, and the machine behind it
 abbrev pub request_text : MachineValue → (cpu : ℕ) → Result Request ControlFault → List ℕ
@@ -55,4 +46,4 @@ WritesRequest m cpu (Err fault) text new = (text ≡ write_fault_line fault) × 
 
 -- a word was written to a file; or memory was wanting to tell what it asks for, which is said in place of it
 abbrev pub WritesEcho : MachineValue → (cpu : ℕ) → (path word text : List ℕ) → (new : MachineValue) → Type 0
-WritesEcho m cpu path word text new = WritesRequest m cpu (asked_by path word) text new ⊎ ((text ≡ write_fault_line OutOfMemory) × (new ≡ m))
+WritesEcho m cpu path word text new = WritesRequest m cpu (echo_request path word) text new ⊎ ((text ≡ write_fault_line OutOfMemory) × (new ≡ m))

@@ -1,9 +1,11 @@
+pub mod Audits
 pub mod Events
 pub mod FaultText
 pub mod Faults
 pub mod Files
 pub mod Outcomes
 pub mod Plans
+pub mod Runs
 pub mod Serial
 pub mod Served
 pub mod Streams

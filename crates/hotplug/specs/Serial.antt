@@ -2,6 +2,7 @@
 use Rattle.std.specs.Prelude.{◌≡◌, ℕ, List, [], ◌∷◌, ◌++◌, codes, Result, Ok}
 use Rattle.hp_units.specs.History.{value_of}
 use Rattle.hp_machine.specs.Machine.{MachineValue, booted}
+use Rattle.hp_control.specs.Writes.{echo_request}
 use Rattle.hp_scenario.specs.declared.fault.ScenarioFault.{ScenarioFault}
 use Rattle.hp_scenario.specs.declared.lines.Line.{Line}
 use Rattle.hp_scenario.specs.declared.lines.Work.{Work}
@@ -9,7 +10,7 @@ use Rattle.hp_scenario.specs.declared.lines.Work.TheVariants as work
 use Rattle.hp_scenario.specs.Gives.{◌>>=◌}
 use Rattle.hp_scenario.specs.Scenario.{ScenarioValue, scenario_in}
 use Rattle.hotplug.specs.Events.{WritesEvent, event_text, machine_after_event}
-use Rattle.hotplug.specs.Files.{WritesEcho, WritesFile, asked_by, cat_text, machine_after_request, request_text}
+use Rattle.hotplug.specs.Files.{WritesEcho, WritesFile, cat_text, machine_after_request, request_text}
 use Rattle.hotplug.specs.Plans.{WritesPlan, plan_run, plan_text}
 use Rattle.hp_text.specs.State.{state_text}
 
@@ -19,13 +20,13 @@ use Rattle.hp_text.specs.State.{state_text}
 abbrev pub work_text : MachineValue → (cpu : ℕ) → Work → List ℕ
 work_text m cpu (work.Event event) = event_text m cpu event
 work_text m cpu (work.Plan plan turns) = plan_text m cpu turns plan
-work_text m cpu (work.Echo path word) = request_text m cpu (asked_by path word)
+work_text m cpu (work.Echo path word) = request_text m cpu (echo_request path word)
 work_text m cpu (work.Cat path) = cat_text m path
 
 abbrev pub machine_after_work : MachineValue → (cpu : ℕ) → Work → MachineValue
 machine_after_work m cpu (work.Event event) = machine_after_event m cpu event
 machine_after_work m cpu (work.Plan plan turns) = (plan_run m cpu turns plan).machine
-machine_after_work m cpu (work.Echo path word) = machine_after_request m cpu (asked_by path word)
+machine_after_work m cpu (work.Echo path word) = machine_after_request m cpu (echo_request path word)
 machine_after_work m cpu (work.Cat path) = m
 
 abbrev pub line_text : MachineValue → Line → List ℕ

@@ -4,8 +4,9 @@ use Rattle.std.specs.Io.KnownBytes.{Appends, IsAtEnd}
 use Rattle.hp_machine.specs.Machine.{MachineValue, booted}
 use Rattle.hp_scenario.specs.Scenario.{ScenarioValue, scenario_in}
 use Rattle.hotplug.specs.declared.words.Command.{Command}
-use Rattle.hotplug.specs.declared.words.Command.TheVariants.{Serial}
+use Rattle.hotplug.specs.declared.words.Command.TheVariants.{Serial, Run, Audit}
 use Rattle.hotplug.specs.Faults.{limit}
+use Rattle.hotplug.specs.Runs.{IsAuditTextOf, IsRunTextOf}
 use Rattle.hotplug.specs.Serial.{serial_text, end_text, WritesLines, IsWhole}
 
 -- the bytes are a scenario, and the text is that of a run of its lines with the state behind them; where no line of it ends in
@@ -28,6 +29,8 @@ pub record ReadsAll (old new : Option (List ℕ)) : Type 0 where
 abbrev pub WritesTextOf : (known old new : Option (List ℕ)) → Type 0
 WritesTextOf known old new = IfSome known (λ input. (text : List ℕ) × Appends old new text × IsTextOf input text)
 
--- what a command has written
+-- what a command has written: of the bytes that were read its text, and nothing else
 abbrev pub Serves : Command → (known old new : Option (List ℕ)) → Type 0
 Serves Serial known old new = WritesTextOf known old new
+Serves Run known old new = IfSome known (λ input. (text : List ℕ) × Appends old new text × IsRunTextOf input text)
+Serves Audit known old new = IfSome known (λ input. (text : List ℕ) × Appends old new text × IsAuditTextOf input text)

@@ -3,8 +3,11 @@
 ghost use Rattle.std.specs.Prelude.{◌≡◌, Some};
 ghost use Rattle.hotplug.specs.declared.fault.ProgramFault.TheVariants.{OutOfMemory};
 
+use hp_replay::ReplayFault;
 use hp_scenario::ScenarioFault;
-use hp_units::LayoutFault;
+use hp_shared::CloseFault;
+use hp_units::{Cpu, LayoutFault, Serial};
+use hp_workers::RunFault;
 use std::alloc::AllocError;
 use std::error::Error;
 use std::fmt;
@@ -24,10 +27,22 @@ pub enum ProgramFault {
     Layout(LayoutFault),
     /// A text of `calls` is no line; lines are counted from 1.
     BadLine { line: u64 },
-    /// A line is not one that workers run; lines are counted from 1. No command answers it yet.
+    /// A line that no worker may run: it reads a control file, or its processor is not in the layout; lines are counted from 1.
     NotForRun { line: u64 },
-    /// Want of memory.
+    /// Out of memory.
     OutOfMemory,
+    /// No thread could be made for the worker of this processor.
+    NotStarted { cpu: Cpu },
+    /// There was not one seat for each processor at the end of a run.
+    SeatMissing,
+    /// The lowest serial at which a processor's receipts and its records differ.
+    Mismatch { serial: Serial },
+    /// The record of this serial has another reply than the plain machine gives.
+    WrongReply { serial: Serial },
+    /// The record at this place, counted from 0, hasn't the next serial.
+    WrongSerial { at: u64 },
+    /// The history leads to another state than the machine's.
+    AuditDiffers,
     /// The writer failed.
     WriteFailed,
 }
@@ -47,6 +62,16 @@ impl fmt::Display for ProgramFault {
             ProgramFault::BadLine { line } => write!(f, "hotplug: line {line} not understood"),
             ProgramFault::NotForRun { line } => write!(f, "hotplug: line {line} not for run"),
             ProgramFault::OutOfMemory => write!(f, "hotplug: out of memory"),
+            ProgramFault::NotStarted { cpu } => write!(f, "hotplug: worker {cpu} not started"),
+            ProgramFault::SeatMissing => write!(f, "hotplug: seat missing"),
+            ProgramFault::Mismatch { serial } => {
+                write!(f, "hotplug: record {serial} does not match")
+            }
+            ProgramFault::WrongReply { serial } => {
+                write!(f, "hotplug: audit fault at record {serial}")
+            }
+            ProgramFault::WrongSerial { at } => write!(f, "hotplug: audit fault at position {at}"),
+            ProgramFault::AuditDiffers => write!(f, "hotplug: audit differs"),
             ProgramFault::WriteFailed => write!(f, "hotplug: writing failed"),
         }
     }
@@ -76,6 +101,50 @@ impl From<ScenarioFault> for ProgramFault {
             ScenarioFault::BadLine { line } => ProgramFault::BadLine { line },
             ScenarioFault::NotForRun { line } => ProgramFault::NotForRun { line },
             ScenarioFault::OutOfMemory => ProgramFault::OutOfMemory,
+        }
+    }
+}
+
+impl From<RunFault> for ProgramFault {
+    ghost use Rattle.std.specs.Prelude.{◌≡◌};
+    ghost use Rattle.hotplug.specs.Faults.{run_fault_from};
+
+    ghost from_gives = { λ f e. e ≡ run_fault_from f };
+
+    fn from(fault: RunFault) -> ProgramFault {
+        match fault {
+            RunFault::NotStarted { cpu } => ProgramFault::NotStarted { cpu },
+            RunFault::OutOfMemory => ProgramFault::OutOfMemory,
+        }
+    }
+}
+
+impl From<CloseFault> for ProgramFault {
+    ghost use Rattle.std.specs.Prelude.{◌≡◌};
+    ghost use Rattle.hotplug.specs.Faults.{close_fault_from};
+
+    ghost from_gives = { λ f e. e ≡ close_fault_from f };
+
+    fn from(fault: CloseFault) -> ProgramFault {
+        match fault {
+            CloseFault::SeatMissing => ProgramFault::SeatMissing,
+            CloseFault::Mismatch { serial } => ProgramFault::Mismatch { serial },
+            CloseFault::OutOfMemory => ProgramFault::OutOfMemory,
+        }
+    }
+}
+
+impl From<ReplayFault> for ProgramFault {
+    ghost use Rattle.std.specs.Prelude.{◌≡◌};
+    ghost use Rattle.hotplug.specs.Faults.{replay_fault_from};
+
+    ghost from_gives = { λ f e. e ≡ replay_fault_from f };
+
+    fn from(fault: ReplayFault) -> ProgramFault {
+        match fault {
+            ReplayFault::WrongReply { serial } => ProgramFault::WrongReply { serial },
+            ReplayFault::WrongSerial { at } => ProgramFault::WrongSerial { at },
+            ReplayFault::OutOfMemory => ProgramFault::OutOfMemory,
         }
     }
 }

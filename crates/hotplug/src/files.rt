@@ -5,14 +5,11 @@ ghost use Rattle.hotplug.specs.Serial.{GrowsBy};
 
 use crate::events::write_event;
 use crate::plans::write_plan;
-use hp_control::{Request, parse_write, read_text};
+use hp_control::{CONTROL_TURNS, Request, parse_echo, read_text};
 use hp_machine::Machine;
 use hp_text::{write_echo_fault, write_read_fault};
 use hp_units::{Cpu, Text};
 use std::alloc::{AllocError, Global};
-
-/// The migrations that a plan may try that a control file asks for.
-const CONTROL_TURNS: u32 = 1024;
 
 /// Reads a control file, and writes its text or why there is none. It makes no record.
 pub fn write_file(
@@ -40,9 +37,7 @@ pub fn write_echo(
 ) -> Result<(), AllocError>
     ensures { OnOk result (GrowsBy (string_bytes out.old) (string_bytes out.new) (λ text. WritesEcho machine.old cpu path.now word.now text machine.new)) }
 {
-    let mut line = String::from_str(alloc, word.as_str())?;
-    line.push_str("\n")?;
-    match parse_write(alloc, path.as_str(), line.as_bytes()) {
+    match parse_echo(alloc, path.as_str(), word.as_str()) {
         Ok(request) => write_request(out, alloc, machine, cpu, &request),
         Err(fault) => write_echo_fault(out, fault),
     }

@@ -2,14 +2,14 @@ ghost use Rattle.std.specs.Prelude.{◌≡◌, Some};
 
 use super::*;
 use fault::ProgramFault;
-use hp_units::LayoutFault;
-use serve::{LIMIT, serve};
-use std::alloc::Global;
+use hp_units::{Cpu, LayoutFault, Serial};
+use serve::{LIMIT, serve, serve_serial};
 use std::test::Fail;
 use streams::{Failed, Sink, Source};
 
 mod layouts;
 mod plans_and_files;
+mod runs;
 mod scenarios;
 
 /// Gives bytes in pieces, and fails at one of its calls, counted from 1; at none where that is 0.
@@ -99,7 +99,7 @@ impl Sink for Collected {
 fn served(alloc: Global, input: &[u8]) -> (Result<(), ProgramFault>, Vec<u8>) {
     let mut reader = Scripted::new(input, 4096, 0);
     let mut writer = Collected::new(alloc, 4096, 0);
-    let result = serve(Command::Serial, alloc, &mut reader, &mut writer);
+    let result = serve_serial(alloc, &mut reader, &mut writer);
     (result, writer.bytes)
 }
 
@@ -279,7 +279,7 @@ fn pieces_are_joined(rt: HostRuntime) -> Result<(), Fail> {
     for (read, written) in [(1, 4096), (5, 30), (4096, 1)] {
         let mut reader = Scripted::new(input.as_bytes(), read, 0);
         let mut writer = Collected::new(rt.alloc(), written, 0);
-        let result = serve(Command::Serial, rt.alloc(), &mut reader, &mut writer);
+        let result = serve_serial(rt.alloc(), &mut reader, &mut writer);
         assert!(rt; result == Ok(()), "{read} {written}");
         assert!(rt;
             writer.bytes.as_slice() == UNDONE.as_bytes(),
@@ -295,7 +295,7 @@ fn failed_reads_write_nothing(rt: HostRuntime) -> Result<(), Fail> {
     for fails_at in [1, 2, 3] {
         let mut reader = Scripted::new(input.as_bytes(), 100, fails_at);
         let mut writer = Collected::new(rt.alloc(), 4096, 0);
-        let result = serve(Command::Serial, rt.alloc(), &mut reader, &mut writer);
+        let result = serve_serial(rt.alloc(), &mut reader, &mut writer);
         assert!(rt; result == Err(ProgramFault::ReadFailed), "{fails_at}");
         assert!(rt; writer.bytes.is_empty(), "{fails_at}");
     }
@@ -308,7 +308,7 @@ fn failed_writes_are_named(rt: HostRuntime) -> Result<(), Fail> {
     for fails_at in [1, 2, 3] {
         let mut reader = Scripted::new(input.as_bytes(), 4096, 0);
         let mut writer = Collected::new(rt.alloc(), 30, fails_at);
-        let result = serve(Command::Serial, rt.alloc(), &mut reader, &mut writer);
+        let result = serve_serial(rt.alloc(), &mut reader, &mut writer);
         assert!(rt; result == Err(ProgramFault::WriteFailed), "{fails_at}");
     }
     Ok(())
@@ -323,20 +323,38 @@ fn command_of(alloc: Global, words: &[&str]) -> Result<Option<Command>, AllocErr
     command_from(alloc, &owned)
 }
 
-#[test]
-fn only_serial_is_a_command(rt: HostRuntime) -> Result<(), Fail> {
-    assert!(rt; command_of(rt.alloc(), &["hotplug", "serial"])? == Some(Command::Serial));
-    for words in [
-        ["hotplug", "--help"],
-        ["hotplug", "walk"],
-        ["hotplug", ""],
-        ["hotplug", "--serial"],
+/// Whether each word names its command, and other words name none.
+fn commands_are_named(alloc: Global) -> Result<bool, AllocError> {
+    for (word, command) in [
+        ("serial", Command::Serial),
+        ("run", Command::Run),
+        ("audit", Command::Audit),
     ] {
-        assert!(rt; command_of(rt.alloc(), &words)?.is_none());
+        if command_of(alloc, &["hotplug", word])? != Some(command) {
+            return Ok(false);
+        }
     }
-    assert!(rt; command_of(rt.alloc(), &["hotplug"])?.is_none());
-    assert!(rt; command_of(rt.alloc(), &["hotplug", "serial", "twice"])?.is_none());
+    for word in ["--help", "walk", "", "--serial", "help"] {
+        if command_of(alloc, &["hotplug", word])?.is_some() {
+            return Ok(false);
+        }
+    }
+    Ok(
+        command_of(alloc, &["hotplug"])?.is_none()
+            && command_of(alloc, &["hotplug", "run", "twice"])?.is_none(),
+    )
+}
+
+#[test]
+fn three_words_are_commands(rt: HostRuntime) -> Result<(), Fail> {
+    assert!(rt; commands_are_named(rt.alloc())?);
     Ok(())
+}
+
+/// Whether an end has this status and this text.
+fn is_said(alloc: Global, outcome: Outcome, status: u8, text: &str) -> Result<bool, AllocError> {
+    let line = format!(in alloc; "{outcome}")?;
+    Ok(outcome.status() == status && line.as_str() == text)
 }
 
 #[test]
@@ -385,9 +403,51 @@ fn ends_have_their_status_and_text(rt: HostRuntime) -> Result<(), Fail> {
             "hotplug: writing failed",
         ),
     ] {
-        let line = format!(in rt.alloc(); "{outcome}")?;
-        assert!(rt; outcome.status() == status, "{text}");
-        assert!(rt; line.as_str() == text, "{text}");
+        assert!(rt; is_said(rt.alloc(), outcome, status, text)?, "{text}");
+    }
+    Ok(())
+}
+
+#[test]
+fn ends_of_runs_have_their_status_and_text(rt: HostRuntime) -> Result<(), Fail> {
+    for (outcome, status, text) in [
+        (
+            Outcome::Failed(ProgramFault::NotForRun { line: 3 }),
+            1,
+            "hotplug: line 3 not for run",
+        ),
+        (
+            Outcome::Failed(ProgramFault::NotStarted { cpu: Cpu(1) }),
+            1,
+            "hotplug: worker 1 not started",
+        ),
+        (
+            Outcome::Failed(ProgramFault::SeatMissing),
+            1,
+            "hotplug: seat missing",
+        ),
+        (
+            Outcome::Failed(ProgramFault::Mismatch { serial: Serial(7) }),
+            1,
+            "hotplug: record 7 does not match",
+        ),
+        (
+            Outcome::Failed(ProgramFault::WrongReply { serial: Serial(7) }),
+            1,
+            "hotplug: audit fault at record 7",
+        ),
+        (
+            Outcome::Failed(ProgramFault::WrongSerial { at: 7 }),
+            1,
+            "hotplug: audit fault at position 7",
+        ),
+        (
+            Outcome::Failed(ProgramFault::AuditDiffers),
+            1,
+            "hotplug: audit differs",
+        ),
+    ] {
+        assert!(rt; is_said(rt.alloc(), outcome, status, text)?, "{text}");
     }
     Ok(())
 }

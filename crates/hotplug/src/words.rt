@@ -6,19 +6,26 @@ use std::alloc::{AllocError, Global};
 /// What the program is to do.
 #[derive(Clone, Copy, Debug, PartialEq, Eq)]
 pub enum Command {
-    /// Runs the lines of a scenario on one machine.
+    /// Runs the lines of a scenario in order on one machine, and writes its state.
     Serial,
+    /// Runs the lines of a scenario by a worker for each processor, in threads.
+    Run,
+    /// Runs as `Run` does, and replays the history.
+    Audit,
 }
 
 /// The command that the words name, the program's own name first; none where they name none, or ask for help.
 pub fn command_from(alloc: Global, words: &[String]) -> Result<Option<Command>, AllocError> {
-    let serial = clap::Command::new(alloc, "serial");
     let program = clap::Command::new(alloc, "hotplug")
-        .subcommand(serial)?
+        .subcommand(clap::Command::new(alloc, "serial"))?
+        .subcommand(clap::Command::new(alloc, "run"))?
+        .subcommand(clap::Command::new(alloc, "audit"))?
         .subcommand_required(true);
     match program.try_get_matches_from(words) {
         Ok(matches) => match matches.subcommand_name() {
             Some("serial") => Ok(Some(Command::Serial)),
+            Some("run") => Ok(Some(Command::Run)),
+            Some("audit") => Ok(Some(Command::Audit)),
             _ => Ok(None),
         },
         Err(error) => {

@@ -1,0 +1,88 @@
+-- From the parts of a run to the whole: what was read, how its lines were parted and worked off, and why not.
+use Rattle.std.proofs.Common.{◌≡◌, ℕ, List, length, Option, Some, None, Result, Ok, sym, ap, subst, ◌∙◌, inl, inr}
+use Rattle.hp_units.specs.LayoutParts.{LayoutParts}
+use Rattle.hp_machine.specs.Machine.{MachineValue}
+use Rattle.hp_scenario.specs.declared.fault.ScenarioFault.{ScenarioFault}
+use Rattle.hp_scenario.specs.declared.fault.ScenarioFault.TheVariants as scenario
+use Rattle.hp_scenario.specs.declared.lines.Line.{Line}
+use Rattle.hp_scenario.specs.Gives.{◌>>=◌, Fails}
+use Rattle.hp_scenario.specs.Scenario.{ScenarioValue, scenario_in}
+use Rattle.hp_scenario.specs.Scripts.{scripts_of}
+use Rattle.hp_shared.specs.declared.closing.CloseFault.{CloseFault}
+use Rattle.hp_shared.specs.declared.closing.CloseFault.TheVariants as closing
+use Rattle.hp_shared.specs.Closing.{HasCause, IsClosed}
+use Rattle.hp_shared.specs.Shared.{SeatValue, first_seats}
+use Rattle.hp_workers.specs.declared.fault.RunFault.{RunFault}
+use Rattle.hp_workers.specs.declared.fault.RunFault.TheVariants as running
+use Rattle.hp_workers.specs.declared.lines.LineEnd.{LineEnd}
+use Rattle.hp_workers.specs.Workers.{AreWorkers, IsRunEnd}
+use Rattle.hotplug.specs.Faults.{IsFaultOf, IsWorkFault, close_fault_from, fault_from, run_fault_from}
+use Rattle.hotplug.specs.Runs.{IsRunOf, IsWorkedOff}
+use Rattle.hotplug.specs.declared.fault.ProgramFault.{ProgramFault}
+use Rattle.hotplug.specs.declared.fault.ProgramFault.TheVariants.{ReadFailed, TooLong, NotJson, BadShape, Layout, BadLine, NotForRun, OutOfMemory, NotStarted, SeatMissing, Mismatch, WrongReply, WrongSerial, AuditDiffers, WriteFailed}
+use Rattle.hotplug.specs.declared.words.Command.TheVariants.{Run}
+use Rattle.hotplug.proofs.Seated.{has_each}
+use Rattle.hotplug.proofs.Unfit.{only_not_for_run}
+
+-- ---- why not
+
+-- the bytes are no scenario
+pub unread : (input : List ℕ) (fault : ScenarioFault) → Fails fault (scenario_in input) → IsFaultOf Run (Some input) ⊥ ⊥ (fault_from fault)
+unread input scenario.NotJson h = h
+unread input scenario.BadShape h = h
+unread input (scenario.Layout fault) h = h
+unread input (scenario.BadLine line) h = h
+unread input (scenario.NotForRun line) h = (tt, ap (λ (r : Result ScenarioValue ScenarioFault). r >>= scripts_of) h)
+unread input scenario.OutOfMemory h = tt
+
+-- a line of theirs is not for run
+pub unfit : (input : List ℕ) (s : ScenarioValue) (fault : ScenarioFault) → scenario_in input ≡ Ok s → Fails fault (scripts_of s) → IsFaultOf Run (Some input) ⊥ ⊥ (fault_from fault)
+unfit input s scenario.NotJson read h = absurd (only_not_for_run s scenario.NotJson h)
+unfit input s scenario.BadShape read h = absurd (only_not_for_run s scenario.BadShape h)
+unfit input s (scenario.Layout fault) read h = absurd (only_not_for_run s (scenario.Layout fault) h)
+unfit input s (scenario.BadLine line) read h = absurd (only_not_for_run s (scenario.BadLine line) h)
+unfit input s (scenario.NotForRun line) read h = (tt, ap (λ (r : Result ScenarioValue ScenarioFault). r >>= scripts_of) read ∙ h)
+unfit input s scenario.OutOfMemory read h = tt
+
+-- a worker was not started, or memory was wanting
+pub unstarted : (fault : RunFault) → IsWorkFault (run_fault_from fault)
+unstarted (running.NotStarted cpu) = tt
+unstarted running.OutOfMemory = tt
+
+-- the machine was not closed: no seat is missing
+pub unclosed : (l : LayoutParts) (scripts : List (List Line)) (seats : List SeatValue) (ends : List (List LineEnd)) (fault : CloseFault) → length scripts ≡ l.cpus → AreWorkers l (first_seats l.cpus) scripts seats ends None → HasCause l seats fault → IsWorkFault (close_fault_from fault)
+unclosed l scripts seats ends closing.SeatMissing count workers cause = absurd (cause.fault (has_each l scripts seats ends None count workers))
+unclosed l scripts seats ends (closing.Mismatch serial) count workers cause = tt
+unclosed l scripts seats ends closing.OutOfMemory count workers cause = tt
+
+-- so the command fails
+pub work_fails : (input : List ℕ) (fault : ProgramFault) → IsWorkFault fault → IsFaultOf Run (Some input) ⊥ ⊥ fault
+work_fails input ReadFailed h = absurd h
+work_fails input TooLong h = absurd h
+work_fails input NotJson h = absurd h
+work_fails input BadShape h = absurd h
+work_fails input (Layout fault) h = absurd h
+work_fails input (BadLine line) h = absurd h
+work_fails input (NotForRun line) h = absurd h
+work_fails input OutOfMemory h = tt
+work_fails input (NotStarted cpu) h = tt
+work_fails input SeatMissing h = absurd h
+work_fails input (Mismatch serial) h = tt
+work_fails input (WrongReply serial) h = absurd h
+work_fails input (WrongSerial at) h = absurd h
+work_fails input AuditDiffers h = absurd h
+work_fails input WriteFailed h = absurd h
+
+-- ---- the run
+
+-- without a fault all workers ran their scripts
+pub all_ran : (l : LayoutParts) (olds : List SeatValue) (scripts : List (List Line)) (news : List SeatValue) (ends : List (List LineEnd)) (fault : Option RunFault) → olds ≡ first_seats l.cpus → fault ≡ None → IsRunEnd l olds scripts news ends fault → AreWorkers l (first_seats l.cpus) scripts news ends None
+all_ran l olds scripts news ends fault first none (inl unstarted) = let bad : None ≡ Some running.OutOfMemory = sym none ∙ unstarted.2 in absurd cc
+all_ran l olds scripts news ends fault first none (inr workers) =
+    subst (λ (f : Option RunFault). AreWorkers l (first_seats l.cpus) scripts news ends f) none (subst (λ (xs : List SeatValue). AreWorkers l xs scripts news ends fault) first workers)
+
+pub worked_off : (l : LayoutParts) (scripts : List (List Line)) (seats : List SeatValue) (ends : List (List LineEnd)) (m : MachineValue) (count : ℕ) → AreWorkers l (first_seats l.cpus) scripts seats ends None → IsClosed l seats m count → IsWorkedOff l scripts ends m count
+worked_off l scripts seats ends m count workers closed = record { seats = seats; workers = workers; closed = closed }
+
+pub run_is : (input : List ℕ) (s : ScenarioValue) (scripts : List (List Line)) (ends : List (List LineEnd)) (m : MachineValue) (count : ℕ) → scenario_in input ≡ Ok s → scripts_of s ≡ Ok scripts → IsWorkedOff s.layout scripts ends m count → IsRunOf input ends m count
+run_is input s scripts ends m count read parted worked = record { scenario = s; read = read; scripts = scripts; parted = parted; worked = worked }

@@ -1,0 +1,19 @@
+use Rattle.std.proofs.Common.{◌≡◌, None, arith, ap, length, rules}
+use Rattle.std.proofs.lemmas.List.FromFn.{length-map-range_with_len}
+use Rattle.hp_shared.specs.Shared.{first_seat, first_seats}
+use Rattle.hotplug.proofs.Ran.{all_ran, unclosed}
+use Rattle.hotplug.proofs.runs.run_scripts.Goals as goal
+
+pub run_workers-seats-requires-clause-one_each : goal.run_workers-seats-requires-clause-one_each
+run_workers-seats-requires-clause-one_each g c κs within =
+    let seated : c.in-Ok.seats.items ≡ first_seats g.L.Job.layout.cpus = search rules in
+    omega (arith, c.in-Ok.seats.ok.0, c.args.scripts.ok.0, c.requires.scripts, ap (λ xs. length xs) seated, length-map-range_with_len first_seat 0 g.L.Job.layout.cpus)
+
+pub returns-in-Err-clause-err : goal.returns-in-Err-clause-err
+returns-in-Err-clause-err g c =
+    let l = g.L.Job.layout in
+    let seated : c.in-Ok.seats.items ≡ first_seats l.cpus = search rules in
+    let none : c.run_workers-seats.result.fault ≡ None = search rules in
+    let ran = all_ran l c.in-Ok.seats.items c.args.scripts.items c.run_workers-seats.result.seats.items c.run_workers-seats.result.ends.items c.run_workers-seats.result.fault seated none c.run_workers-seats.ensures in
+    rw (c.from-in-Err.ensures)
+    (unclosed l c.args.scripts.items c.run_workers-seats.result.seats.items c.run_workers-seats.result.ends.items c.in-Err.refused.fault c.requires.scripts ran c.in-Err.ensures.err)

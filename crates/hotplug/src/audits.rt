@@ -1,0 +1,44 @@
+//! A run whose history is read again.
+ghost use Rattle.std.specs.Prelude.{Some, IfErr, IfOk, OnOk, string_bytes};
+ghost use Rattle.hotplug.specs.Audits.{HasAuditFault, IsAudited};
+ghost use Rattle.hotplug.specs.Faults.{IsFaultOf};
+ghost use Rattle.hotplug.specs.Runs.{IsAuditTextOf};
+ghost use Rattle.hotplug.specs.declared.words.Command.TheVariants.{Audit};
+
+use crate::fault::ProgramFault;
+use crate::runs::{work_off, write_records};
+use hp_machine::Machine;
+use hp_replay::replay;
+use std::alloc::Global;
+use std::sync::Wait;
+use std::thread::Threads;
+
+/// The text of an audit: the scenario that the bytes are is run as `run` does it, and then the history of its machine is replayed.
+pub fn audit<R: Threads + Wait + Sync>(
+    rt: &R,
+    alloc: Global,
+    input: &[u8],
+) -> Result<String, ProgramFault>
+    ensures ok { IfOk result (λ out. IsAuditTextOf input.now (string_bytes out)) }
+    ensures err { IfErr result (IsFaultOf Audit (Some input.now) ⊥ ⊥) }
+{
+    let worked = work_off(rt, alloc, input)?;
+    check_history(alloc, &worked.closed.machine)?;
+    let mut out = String::new(alloc);
+    write_records(&mut out, worked.closed.records)?;
+    out.push_str("audit ok\n")?;
+    Ok(out)
+}
+
+/// Replays a machine's history from boot on, and compares the state that it leads to with the machine's.
+fn check_history(alloc: Global, machine: &Machine) -> Result<(), ProgramFault>
+    ensures ok { OnOk result (IsAudited machine.now) }
+    ensures err { IfErr result (HasAuditFault machine.now) }
+{
+    let replayed = replay(alloc, machine.layout(), machine.history())?;
+    let image = machine.image(alloc)?;
+    if !replayed.same(&image) {
+        return Err(ProgramFault::AuditDiffers);
+    }
+    Ok(())
+}
