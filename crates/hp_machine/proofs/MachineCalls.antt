@@ -34,7 +34,7 @@ called_is_given old new cpu event r fault called =
 abbrev pub TellsFull : Result Receipt CallFault → Bool → Type 0
 TellsFull given full = (given ≡ Err HistoryFull) ↔ IsTrue full
 
--- behind a receipt, and behind want of memory, there was room
+-- with a receipt, and with out of memory, there was room
 room_of : (full : Bool) (r : Receipt) → TellsFull (Ok r) full → full ≡ false
 room_of true r tells = let e = tells.1 refl in absurd cc
 room_of false r tells = refl

@@ -1,6 +1,6 @@
 -- What every machine keeps, and what follows from it.
 use Rattle.std.proofs.Common.{◌≡◌, ℕ, ◌<◌, ◌≤◌, ◌+◌, false, List, [], ◌∷◌, ◌++◌, length, take, refl, ap, sym, subst, ◌∙◌, arith}
-use Rattle.std.specs.Prelude.{nat_le, Result, Ok, Err, IfOk, OnErr}
+use Rattle.std.specs.Prelude.{nat_le, Result, Ok, Err, IfOk, OnErr, OnOk}
 use Rattle.std.proofs.lemmas.List.{length_push, take-append-le, take_all, append_assoc}
 use Rattle.std.proofs.lemmas.Bool.{or_parts, leb-false}
 use Rattle.hp_units.specs.Memory.{Memory, row_of}
@@ -19,7 +19,7 @@ use Rattle.hp_laws.proofs.Net.{legal_take}
 use Rattle.hp_laws.proofs.NetContents.{value-contents}
 use Rattle.hp_laws.proofs.OperationLaws.{claimed, commit_granted, commit_held, given_back, held}
 use Rattle.hp_machine.specs.Kept.{IsMachine}
-use Rattle.hp_machine.specs.Machine.{IsCalled, IsSound, MachineValue, booted, is_full, record_of}
+use Rattle.hp_machine.specs.Machine.{IsCalled, IsSound, MachineValue, booted, is_full, last_serial, record_of, sealed}
 use Rattle.hp_machine.specs.Operations.{KeepsOperations}
 
 -- at its start a machine keeps what every machine keeps
@@ -75,6 +75,32 @@ sound m ok = record {
   placed = subst (λ (s : Memory). IsWellPlaced m.layout s) (sym ok.history.state) (value-placed m.layout m.base m.history ok.limits ok.placed);
   contents = ap (λ (s : Memory). s.pages.contents) ok.history.state ∙ value-contents m.layout m.base m.before m.history ok.history.legal;
 }
+
+-- where no record is there to be sealed, the state is that at boot
+no_records : (l : LayoutParts) (base : Memory) (h : List Record) → length h ≡ 0 → value_of l base h ≡ base
+unfolding value_of net_of run
+no_records l base [] none = refl
+no_records l base (r ∷ h) none = absurd cc
+
+at_boot : (m : MachineValue) → IsMachine m → last_serial m ≡ 0 → m.state ≡ boot_memory m.layout
+at_boot m ok none = ok.history.state ∙ (no_records m.layout m.base m.history (omega (arith, none)) ∙ ok.boots (omega (arith, none)))
+
+-- a seal keeps it
+sealed_machine : (m new : MachineValue) → IsMachine m → new ≡ sealed m → IsMachine new
+unfolding value_of net_of run
+sealed_machine m new ok is =
+    rw is (record {
+      limits = ok.limits;
+      placed = (sound m ok).placed;
+      history = record { legal = λ n r e. absurd cc; state = refl };
+      few = omega arith;
+      boots = at_boot m ok;
+    })
+
+-- and so does one that was out of memory
+pub seal_kept : {V E : Type 0} (m new : MachineValue) (result : Result V E) → IsMachine m → OnErr result (new ≡ m) → OnOk result (new ≡ sealed m) → IsMachine new
+seal_kept m new (Ok v) ok same goes_on = sealed_machine m new ok goes_on
+seal_kept m new (Err e) ok same goes_on = subst IsMachine (sym same) ok
 
 -- the history up to one of its records is legal
 up_to : (m : MachineValue) (h rest : List Record) (r : Record) → IsMachine m → m.history ≡ h ++ r ∷ rest → IsLegal m.layout m.base m.before (h ++ r ∷ [])

@@ -124,7 +124,7 @@ cancel_known : (reply : Reply) (o : Option ℕ) → (reply ≡ Refused NoOp) ⊎
 cancel_known reply o (inl is) = inl (ap (λ (r : Reply). cancel_reply r o) is ∙ cancel_refused NoOp o)
 cancel_known reply o (inr is) = inr (subst (λ (r : Reply). IsCancelReply (cancel_reply r o)) (sym is) (cancel_released o))
 
--- ---- behind any history
+-- ---- after any history
 
 -- a Begin
 begin_step : (l : LayoutParts) (s : Memory) (serial cpu : ℕ) (plan : List Item) → IsBeginReply (step l s serial cpu (Begin plan)).reply

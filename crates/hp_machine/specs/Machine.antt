@@ -8,7 +8,7 @@ use Rattle.hp_units.specs.Placement.{IsWellPlaced}
 use Rattle.hp_units.specs.declared.events.Event.{Event}
 use Rattle.hp_units.specs.declared.replies.Record.{Record}
 use Rattle.hp_units.specs.declared.replies.Receipt.{Receipt}
-use Rattle.hp_replay.specs.Course.{CourseValue, IsAnswered, IsHistory as IsCourseHistory}
+use Rattle.hp_replay.specs.Course.{CourseValue, IsAnswered, IsHistory as IsCourseHistory, started}
 
 -- a course's value: `layout`, `before`, the number of records that were sealed before the history, `base`, the state that the
 -- history began with, `history` and `state`
@@ -38,6 +38,10 @@ is_full m = nat_le m.layout.history (length m.history) || nat_le 184467440737095
 -- the last serial so far
 abbrev pub last_serial : MachineValue → ℕ
 last_serial m = m.before + length m.history
+
+-- the machine after a seal: no records, and the present state as its base
+abbrev pub sealed : MachineValue → MachineValue
+sealed m = started m.layout m.state (last_serial m)
 
 -- the record of a receipt
 abbrev pub record_of : ℕ → Receipt → Record

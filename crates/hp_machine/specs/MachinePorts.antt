@@ -15,7 +15,7 @@ abbrev pub AreCalls : MachineValue → (cpu : ℕ) → List Receipt → MachineV
 AreCalls old cpu [] new = new ≡ old
 AreCalls old cpu (r ∷ rs) new = (next : MachineValue) × (is_full old ≡ false) × IsCalled old cpu r.event r next × AreCalls next cpu rs new
 
--- a call's fault has its cause: the history is full, or memory was wanting where there was room
+-- a call's fault has its cause: the history is full, or memory ran out where there was room
 abbrev pub HasCause : Option CallFault → MachineValue → Type 0
 HasCause None m = ⊤
 HasCause (Some HistoryFull) m = is_full m ≡ true

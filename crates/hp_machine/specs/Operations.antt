@@ -17,7 +17,7 @@ pub record HoldsRows (m : MachineValue) : Type 0 where
   pub held : (place : ℕ) (b : Record) (plan : List Item) → BeginsAt (net_of m.history) place b plan → IsOpenBehind b.serial place (net_of m.history)
       → RowsAre m.state plan (λ item. row_of (state_behind m.layout m.base m.before m.history b).blocks item.block)
 
--- a Commit that is not refused, wherever it stands in the history behind the records h, gives each block its wish, all in one
+-- a Commit that is not refused, wherever it stands in the history after the records h, gives each block its wish, all in one
 -- step: just before it their rows are those that the Begin left
 pub record GrantsWishes (m : MachineValue) : Type 0 where
   pub held : (h rest : List Record) (r : Record) (place : ℕ) (b : Record) (plan : List Item) → m.history ≡ h ++ r ∷ rest → BeginsAt (net_of h) place b plan → r.event ≡ Commit b.serial → is_refused r.reply ≡ false
@@ -25,7 +25,7 @@ pub record GrantsWishes (m : MachineValue) : Type 0 where
   pub granted : (h rest : List Record) (r : Record) (place : ℕ) (b : Record) (plan : List Item) → m.history ≡ h ++ r ∷ rest → BeginsAt (net_of h) place b plan → r.event ≡ Commit b.serial → is_refused r.reply ≡ false
       → RowsAre (value_of m.layout m.base (h ++ r ∷ [])) plan (λ item. wished_row item.wish)
 
--- a Cancel that is not refused, wherever it stands in the history behind the records h, gives each block the row that it had
+-- a Cancel that is not refused, wherever it stands in the history after the records h, gives each block the row that it had
 -- just before the Begin
 abbrev pub GivesRowsBack : MachineValue → Type 0
 GivesRowsBack m =

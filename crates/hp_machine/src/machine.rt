@@ -1,14 +1,15 @@
 //! A machine with its history.
-ghost use Rattle.std.specs.Prelude.{◌≡◌, ◌↔◌, Err, IfOk, OnErr, IsTrue, length, slice_get};
+ghost use Rattle.std.specs.Prelude.{◌≡◌, ◌↔◌, Err, IfOk, OnErr, OnOk, IsTrue, length, slice_get};
 ghost use Rattle.hp_units.specs.Boot.{boot_memory};
 ghost use Rattle.hp_units.specs.History.{net_of};
 ghost use Rattle.hp_units.specs.Memory.{free_list};
 ghost use Rattle.hp_units.specs.Pages.{frame_at};
-ghost use Rattle.hp_machine.specs.Machine.{IsCalled, IsHistory, IsSound, booted, is_full};
+ghost use Rattle.hp_machine.specs.Machine.{IsCalled, IsHistory, IsSound, booted, is_full, last_serial, sealed};
 ghost use Rattle.hp_machine.specs.Operations.{KeepsOperations};
+ghost use Rattle.hp_replay.specs.Volumes.{volume_of};
 
 use hp_plain::Image;
-use hp_replay::Course;
+use hp_replay::{Course, Volume};
 use hp_units::{
     Auto, Block, CallFault, Class, Cpu, Event, Frame, Layout, Order, Owner, Page, Receipt, Record,
     Row,
@@ -35,7 +36,7 @@ impl Model for Machine {
 }
 
 impl Machine {
-    /// The machine of a layout at its start: no records, and the state at boot. An error is want of memory.
+    /// The machine of a layout at its start: no records, and the state at boot. An error is out of memory.
     pub fn boot(alloc: Global, layout: &Layout) -> Result<Machine, AllocError>
         ensures { IfOk result (λ machine. machine ≡ booted layout.now) }
     {
@@ -52,7 +53,7 @@ impl Machine {
     }
 
     /// One call: the event of a processor is answered and recorded (own rule). It answers `HistoryFull` where the history
-    /// holds its limit of records or the last serial is 2^64 - 1, and otherwise `OutOfMemory` where memory is wanting; then
+    /// holds its limit of records or the last serial is 2^64 - 1, and otherwise `OutOfMemory` where it is out of memory; then
     /// all is as before.
     pub fn call(&mut self, alloc: Global, cpu: Cpu, event: &Event) -> Result<Receipt, CallFault>
         ensures full { (result ≡ Err CallFault.HistoryFull) ↔ IsTrue (is_full self.old) }
@@ -66,6 +67,31 @@ impl Machine {
             Ok(receipt) => Ok(receipt),
             Err(AllocError) => Err(CallFault::OutOfMemory),
         }
+    }
+
+    /// Hands out the records with the state that they began with, and goes on without them: the present state becomes the
+    /// base, and no step from before can be undone (own rule). It makes no record. An error is out of memory; then all is
+    /// as before.
+    pub fn seal(&mut self, alloc: Global) -> Result<Volume, AllocError>
+        ensures err { OnErr result (self.new ≡ self.old) }
+        ensures volume { IfOk result (λ volume. volume ≡ volume_of self.old) }
+        ensures goes_on { OnOk result (self.new ≡ sealed self.old) }
+    {
+        self.course.seal(alloc)
+    }
+
+    /// How many records were sealed, in all seals.
+    pub fn sealed(&self) -> u64
+        ensures { result ≡ self.now.before }
+    {
+        self.course.before()
+    }
+
+    /// The state that the history began with: at boot, or as it was last sealed.
+    pub fn base(&self) -> &Image
+        ensures { result.now ≡ record { layout = self.now.layout; memory = self.now.base } }
+    {
+        self.course.base()
     }
 
     /// The layout.
@@ -105,7 +131,7 @@ impl Machine {
         let _ = &self.course;
     }
 
-    /// The present state, as an `Image` of its own. An error is want of memory.
+    /// The present state, as an `Image` of its own. An error is out of memory.
     pub fn image(&self, alloc: Global) -> Result<Image, AllocError>
         ensures { IfOk result (λ image. image ≡ record { layout = self.now.layout; memory = self.now.state }) }
     {
@@ -153,6 +179,13 @@ impl Machine {
         ensures { result ≡ length (net_of self.now.history) }
     {
         self.course.journal_len()
+    }
+
+    /// The last serial so far, which is the number of all records, sealed ones included.
+    pub fn last_serial(&self) -> u64
+        ensures { result ≡ last_serial self.now }
+    {
+        self.course.last_serial()
     }
 
     /// Whether there is no room for a further record.

@@ -3,7 +3,7 @@ use crate::{Machine, MachinePort};
 use hp_ops::run_plan;
 use hp_units::{
     Auto, Block, Boot, CallFault, Class, Cpu, Event, Frame, Item, Layout, OpEnd, Order, Owner,
-    Page, Parts, Plan, Reply, Serial, State, Wish,
+    Page, Parts, Plan, Refusal, Reply, Serial, State, Wish,
 };
 use std::alloc::Global;
 use std::test::Fail;
@@ -65,6 +65,76 @@ fn a_full_history_takes_no_call(rt: HostRuntime) -> Result<(), Fail> {
     let refused = machine.call(rt.alloc(), Cpu(0), &alloc);
     assert_eq!(rt; refused.err(), Some(CallFault::HistoryFull));
     assert_eq!(rt; machine.history().len(), 1);
+    Ok(())
+}
+
+/// Whether a block of the kernel can be taken and given back.
+fn takes_and_gives(alloc: Global, machine: &mut Machine) -> bool {
+    let calls = [
+        (
+            Event::KernelAlloc { order: Order(1) },
+            Reply::Frame(Frame(0)),
+        ),
+        (Event::KernelFree { frame: Frame(0) }, Reply::Done),
+    ];
+    are_answered(alloc, machine, &calls)
+}
+
+/// Whether, after two records were sealed, they can't be undone, an undo of none counts none, and a block can be taken.
+fn goes_on(alloc: Global, machine: &mut Machine) -> bool {
+    let calls = [
+        (
+            Event::UndoAfter { serial: Serial(0) },
+            Reply::Refused(Refusal::Gone),
+        ),
+        (
+            Event::UndoAfter { serial: Serial(2) },
+            Reply::Undone { count: 0 },
+        ),
+        (
+            Event::KernelAlloc { order: Order(1) },
+            Reply::Frame(Frame(0)),
+        ),
+    ];
+    are_answered(alloc, machine, &calls)
+}
+
+/// Whether the processor's calls get these replies.
+fn are_answered(alloc: Global, machine: &mut Machine, calls: &[(Event, Reply)]) -> bool {
+    for (event, reply) in calls {
+        match machine.call(alloc, Cpu(0), event) {
+            Ok(receipt) => {
+                if !receipt.reply.same(reply) {
+                    return false;
+                }
+            }
+            Err(_fault) => return false,
+        }
+    }
+    true
+}
+
+#[test]
+fn a_seal_ends_what_can_be_undone(rt: HostRuntime) -> Result<(), Fail> {
+    let mut machine = booted(rt.alloc(), 3)?;
+    assert!(rt; takes_and_gives(rt.alloc(), &mut machine));
+    let first = machine.seal(rt.alloc())?;
+    assert_eq!(rt; first.records.as_slice().len(), 2);
+    assert!(rt; goes_on(rt.alloc(), &mut machine));
+    let second = machine.seal(rt.alloc())?;
+    assert_eq!(rt; second.before, 2);
+    assert_eq!(rt; second.records.into_vec().len(), 3);
+    Ok(())
+}
+
+#[test]
+fn a_copy_shows_what_was_sealed(rt: HostRuntime) -> Result<(), Fail> {
+    let mut machine = booted(rt.alloc(), 3)?;
+    assert!(rt; takes_and_gives(rt.alloc(), &mut machine));
+    let _sealed = machine.seal(rt.alloc())?;
+    let copy = machine.copy(rt.alloc())?;
+    assert_eq!(rt; copy.sealed(), 2);
+    assert_eq!(rt; copy.base().list(Class::Nu, Order(2)).len(), 1);
     Ok(())
 }
 

@@ -23,11 +23,11 @@ all_push cpus turns plan earlier [] r h e = (subst (λ (xs : List Receipt). next
 all_push cpus turns plan earlier (x ∷ rs) r h e =
     (h.0, all_push cpus turns plan (earlier ++ x ∷ []) rs r h.1 (subst (λ (xs : List Receipt). next_event cpus turns plan xs ≡ Some r.event) (sym (append_assoc earlier (x ∷ []) rs)) e))
 
--- what is next behind one receipt more
+-- what is next after one receipt more
 next_push : (cpus turns : ℕ) (plan : List Item) (rs : List Receipt) (r : Receipt) → next_event cpus turns plan (rs ++ r ∷ []) ≡ next_after cpus turns (rs ++ r ∷ []) r.event r.reply
 next_push cpus turns plan rs r = ap (λ (o : Option Receipt). option_map_or (λ x. next_after cpus turns (rs ++ r ∷ []) x.event x.reply) o (Some (Begin plan))) (last_push None rs r)
 
--- the last refusal, the number of migrations and the operation behind one receipt more
+-- the last refusal, the number of migrations and the operation after one receipt more
 cause_push : (rs : List Receipt) (r : Receipt) → cause_of (rs ++ r ∷ []) ≡ cause_after (cause_of rs) r.event r.reply
 cause_push rs r = fold-append (λ (cause : Option Refusal) (x : Receipt). cause_after cause x.event x.reply) None rs (r ∷ [])
 
@@ -38,7 +38,7 @@ operation_push : (rs : List Receipt) (r : Receipt) (op : ℕ) → operation_of r
 operation_push [] r op h = absurd cc
 operation_push (x ∷ rs) r op h = h
 
--- the end behind one receipt more
+-- the end after one receipt more
 end_push : (rs : List Receipt) (r : Receipt) → end_of (rs ++ r ∷ []) ≡ end_after (cause_after (cause_of rs) r.event r.reply) r.event r.reply
 end_push rs r =
     ap (λ (o : Option Receipt). option_and_then (λ x. end_after (cause_of (rs ++ r ∷ [])) x.event x.reply) o) (last_push None rs r)
@@ -50,7 +50,7 @@ end_push rs r =
 abbrev answer_of : (serial : ℕ) → Event → Reply → Receipt
 answer_of serial event reply = record { serial = serial; event = event; reply = reply }
 
--- a run goes on behind an answer
+-- a run goes on after an answer
 goes_on : (cpus op : ℕ) (c : Course) (tries : ℕ) (why : Option Refusal) (from to : Event) (reply : Reply) (serial : ℕ) (earlier : List Receipt) → StandsAt cpus op c from earlier
     → c.tries + cond (is_migrate from) 1 0 ≡ tries → cause_after c.why from reply ≡ why → ((rs : List Receipt) → tried rs ≡ tries → next_after cpus c.turns rs from reply ≡ Some to)
     → StandsAt cpus op (record { plan = c.plan; turns = c.turns; tries = tries; why = why }) to (earlier ++ answer_of serial from reply ∷ [])
@@ -87,31 +87,31 @@ drained cpus op cpu gained inside a c earlier at =
     (goes_on cpus op c c.tries c.why (DrainFor op cpu) (drain_of cpus op (cpu + 1) c) Done a.0 earlier here (omega arith) refl
     (λ rs counted. ap (λ (n : ℕ). Some (if nat_lt (cpu + 1) cpus then DrainFor op (cpu + 1) else (if nat_lt n c.turns then Migrate op else Cancel op))) counted))
 
--- a page moved: behind it comes a turn
+-- a page moved: after it comes a turn
 pub moved : (cpus op from to : ℕ) (gained : List Receipt) → IsAnswer (Migrate op) (Moved from to) gained → LeadsOn cpus op (λ c. Migrate op) tried_more (turn_of op) gained
 moved cpus op from to gained a c earlier at =
     subst (λ (xs : List Receipt). StandsAt cpus op (tried_more c) (turn_of op (tried_more c)) (earlier ++ xs)) (sym a.1)
     (goes_on cpus op c (c.tries + 1) c.why (Migrate op) (turn_of op (tried_more c)) (Moved from to) a.0 earlier at refl refl
     (λ rs counted. ap (λ (n : ℕ). Some (if nat_lt n c.turns then Migrate op else Cancel op)) counted))
 
--- a round behind a number of migrations
+-- a round after a number of migrations
 round : (cpus op turns tries : ℕ) (rs : List Receipt) → tried rs ≡ tries → Some (next_drain cpus turns op 0 rs) ≡ Some (if nat_lt 0 cpus then DrainFor op 0 else (if nat_lt tries turns then Migrate op else Cancel op))
 round cpus op turns tries rs counted = ap (λ (n : ℕ). Some (if nat_lt 0 cpus then DrainFor op 0 else (if nat_lt n turns then Migrate op else Cancel op))) counted
 
--- no frame could be had: behind it comes a round
+-- no frame could be had: after it comes a round
 pub no_frame : (cpus op : ℕ) (gained : List Receipt) → IsAnswer (Migrate op) (Refused NoFrame) gained → LeadsOn cpus op (λ c. Migrate op) (λ c. refused_by NoFrame (tried_more c)) (drain_of cpus op 0) gained
 no_frame cpus op gained a c earlier at =
     let d = refused_by NoFrame (tried_more c) in
     subst (λ (xs : List Receipt). StandsAt cpus op d (drain_of cpus op 0 d) (earlier ++ xs)) (sym a.1)
     (goes_on cpus op c (c.tries + 1) (Some NoFrame) (Migrate op) (drain_of cpus op 0 d) (Refused NoFrame) a.0 earlier at refl refl (λ rs counted. round cpus op c.turns (c.tries + 1) rs counted))
 
--- no page was left: behind it comes the commit
+-- no page was left: after it comes the commit
 pub nothing_left : (cpus op : ℕ) (gained : List Receipt) → IsAnswer (Migrate op) (Refused NothingToMove) gained → LeadsOn cpus op (λ c. Migrate op) (λ c. refused_by NothingToMove (tried_more c)) (λ c. Commit op) gained
 nothing_left cpus op gained a c earlier at =
     subst (λ (xs : List Receipt). StandsAt cpus op (refused_by NothingToMove (tried_more c)) (Commit op) (earlier ++ xs)) (sym a.1)
     (goes_on cpus op c (c.tries + 1) (Some NothingToMove) (Migrate op) (Commit op) (Refused NothingToMove) a.0 earlier at refl refl (λ rs counted. refl))
 
--- a frame was in use: behind it comes a round
+-- a frame was in use: after it comes a round
 pub not_free : (cpus op frame : ℕ) (gained : List Receipt) → IsAnswer (Commit op) (Refused (NotFree frame)) gained → LeadsOn cpus op (λ c. Commit op) (refused_by (NotFree frame)) (drain_of cpus op 0) gained
 not_free cpus op frame gained a c earlier at =
     let d = refused_by (NotFree frame) c in
@@ -171,7 +171,7 @@ opened cpus op turns serial plan = record { events = (refl, tt); next_is = refl;
 
 -- ---- stretches of a run
 
--- one stretch behind another
+-- one stretch after another
 pub leads_joined : (cpus op : ℕ) (from mid to : Course → Event) (f g : Course → Course) (xs ys : List Receipt) → LeadsOn cpus op from f mid xs → LeadsOn cpus op mid g to ys → LeadsOn cpus op from (λ c. g (f c)) to (xs ++ ys)
 leads_joined cpus op from mid to f g xs ys first second c earlier at =
     subst (λ (rs : List Receipt). StandsAt cpus op (g (f c)) (to (g (f c))) rs) (append_assoc earlier xs ys) (second (f c) (earlier ++ xs) (first c earlier at))

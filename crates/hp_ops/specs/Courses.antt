@@ -87,7 +87,7 @@ abbrev pub EndsAtCancel : (cpus op : ℕ) → Option Refusal → Option CallFaul
 EndsAtCancel cpus op why fault end gained =
     (c : Course) (earlier : List Receipt) → c.why ≡ why → StandsAt cpus op c (Cancel op) earlier → IsDriverRun cpus c.turns c.plan (earlier ++ gained) fault end
 
--- receipts of a turn: a page moved, or why none did, behind which comes a round
+-- receipts of a turn: a page moved, or why none did, after which comes a round
 abbrev pub TakesTurn : (cpus op : ℕ) → Option Refusal → List Receipt → Type 0
 TakesTurn cpus op None gained = LeadsOn cpus op (λ c. Migrate op) tried_more (turn_of op) gained
 TakesTurn cpus op (Some refusal) gained =

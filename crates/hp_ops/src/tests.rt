@@ -188,7 +188,7 @@ fn offline(alloc: Global) -> Result<Plan, Fail> {
     Ok(Plan::new(items))
 }
 
-/// Whether a plan with so many turns ends so, through a port with these answers, behind so many receipts.
+/// Whether a plan with so many turns ends so, through a port with these answers, after so many receipts.
 fn ends_as(
     alloc: Global,
     answers: &[Answer],

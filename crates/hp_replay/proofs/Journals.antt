@@ -53,7 +53,7 @@ journal_push l base net tags images r image tag ok is shows = record {
         let front : take j (net ++ r ∷ []) ≡ net = take-append-le j net (r ∷ []) less ∙ take_all j net (omega (arith, e.0, ok.count)) in
         sym e.1 ∙ (shows ∙ ap (λ (n : List Record). pictured l (run l base n)) (sym front))
 
--- the state where the first steps lead: that of the entry behind them, or the present one
+-- the state where the first steps lead: that of the entry after them, or the present one
 pub journal_back : (l : LayoutParts) (base : Memory) (net : List Record) (tags : List Tag) (images : List Pictured) (k : ℕ) (image : Pictured) → IsJournal l base net tags images → k ≤ length net → image ≡ pictured l (run l base net)
     → unwrap_or (slice_get images k) image ≡ pictured l (run l base (take k net))
 journal_back l base net tags images k image ok le shows = by_entry (slice_get images k) refl

@@ -4,3 +4,4 @@ pub mod Journals
 pub mod Cuts
 pub mod Courses
 pub mod Replays
+pub mod Chains

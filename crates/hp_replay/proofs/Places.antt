@@ -16,7 +16,7 @@ down_more P ts k t pos here holds above i u ge at =
       | inr either ↦ elim either [ inl less ↦ above i u (omega arith) at | inr more ↦ absurd (omega arith) ]
     ]
 
--- the operation's Begin, with nothing but its own work behind it
+-- the operation's Begin, with nothing but its own work after it
 pub sole_found : (op : ℕ) (ts : List Tag) (k : ℕ) (t : Tag) → 0 < k → slice_get ts (k - 1) ≡ Some t → is_opening t.mark ≡ true → (t.serial == op) ≡ true
     → ((i : ℕ) (u : Tag) → k ≤ i → slice_get ts i ≡ Some u → is_work_of op u.mark ≡ true) → Some (k - 1) ≡ sole_at op ts
 sole_found op ts k t pos here opens serial works =
@@ -27,7 +27,7 @@ sole_found op ts k t pos here opens serial works =
       rest = λ i u lt e. works i u (omega arith) e;
     }))
 
--- a step that is neither the operation's Begin nor its own work: what stands behind it doesn't matter
+-- a step that is neither the operation's Begin nor its own work: what stands after it doesn't matter
 sole_missed : (op : ℕ) (ts : List Tag) (k : ℕ) (t : Tag) → 0 < k → slice_get ts (k - 1) ≡ Some t → begins op t ≡ false → is_work_of op t.mark ≡ false
     → ((i : ℕ) (u : Tag) → k ≤ i → slice_get ts i ≡ Some u → is_work_of op u.mark ≡ true) → None ≡ sole_at op ts
 sole_missed op ts k t pos here opens work works =

@@ -87,7 +87,7 @@ follow_one l base before h at r old new here ok next =
         (subst (λ (s : Memory). Follows l s old.before old.history r) ok.base
         (subst (λ (m : LayoutParts). Follows m old.base old.before old.history r) ok.layout next.follows)))
 
--- a fault of the record behind a course is one of the list
+-- a fault of the record after a course is one of the list
 pub fault_at : (l : LayoutParts) (base : Memory) (before : ℕ) (h : List Record) (at : ℕ) (r : Record) (c : CourseValue) (fault : ReplayFault) → slice_get h at ≡ Some r → IsCourseOf l base before (take at h) c → IsFaultHere c at r fault
     → IsFault l base before h fault
 fault_at l base before h at r c (WrongSerial place) here ok wrong =

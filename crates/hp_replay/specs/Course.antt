@@ -15,7 +15,7 @@ pub record CourseValue : Type 0 where
   pub history : List Record
   pub state : Memory
 
--- the course of no records, over a base state and behind earlier records
+-- the course of no records, over a base state and after earlier records
 abbrev pub started : LayoutParts → Memory → (before : ℕ) → CourseValue
 started l base before = record { layout = l; before = before; base = base; history = []; state = base }
 

@@ -3,3 +3,4 @@ pub mod Entries
 pub mod Kept
 pub mod Replay
 pub mod Seen
+pub mod Volumes

@@ -36,7 +36,7 @@ Refutes l base before h (WrongSerial at) = IsLegal l base before h → ⊥
 Refutes l base before h (WrongReply serial) = IsLegal l base before h → ⊥
 Refutes l base before h OutOfMemory = Unit {0}
 
--- the course of records behind a base state and earlier records
+-- the course of records after a base state and earlier records
 pub record IsCourseOf (l : LayoutParts) (start : Memory) (earlier : ℕ) (h : List Record) (c : CourseValue) : Type 0 where
   pub layout : c.layout ≡ l
   pub before : c.before ≡ earlier
@@ -45,7 +45,7 @@ pub record IsCourseOf (l : LayoutParts) (start : Memory) (earlier : ℕ) (h : Li
   pub legal : IsLegal l start earlier h
   pub state : c.state ≡ value_of l start h
 
--- the record may stand behind those of the old course, and the new one is the course with it
+-- the record may stand after those of the old course, and the new one is the course with it
 pub record IsFollowed (old : CourseValue) (r : Record) (new : CourseValue) : Type 0 where
   pub follows : Follows old.layout old.base old.before old.history r
   pub history : new.history ≡ old.history ++ r ∷ []
@@ -54,7 +54,7 @@ pub record IsFollowed (old : CourseValue) (r : Record) (new : CourseValue) : Typ
   pub before : new.before ≡ old.before
   pub base : new.base ≡ old.base
 
--- the fault of a record that stands at a place behind those of a course: its serial is not the next one, or its reply is not
+-- the fault of a record that stands at a place after those of a course: its serial is not the next one, or its reply is not
 -- the one that the definitions give
 abbrev pub IsFaultHere : CourseValue → (at : ℕ) → Record → ReplayFault → Type 0
 IsFaultHere c at r (WrongSerial place) = (place ≡ at) × (r.serial ≢ last_serial c + 1)

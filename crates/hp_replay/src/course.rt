@@ -1,5 +1,5 @@
 //! The course of a history: the state that its records lead to, and a journal of its steps, kept from record to record.
-ghost use Rattle.std.specs.Prelude.{◌≡◌, ◌↔◌, ◌+◌, false, true, IfOk, IfNone, IfSome, OnErr, IsTrue, length};
+ghost use Rattle.std.specs.Prelude.{◌≡◌, ◌≢◌, ◌↔◌, ◌+◌, false, true, MatchBool, IfOk, IfNone, IfSome, OnErr, OnOk, IsTrue, length};
 ghost use Rattle.hp_units.specs.Boot.{boot_memory};
 ghost use Rattle.hp_units.specs.History.{net_of};
 ghost use Rattle.hp_units.specs.LayoutParts.{IsLayout};
@@ -8,15 +8,18 @@ ghost use Rattle.hp_units.specs.declared.events.Event.TheVariants.{Cancel, UndoA
 ghost use Rattle.hp_units.specs.declared.replies.Reply.TheVariants.{Restored};
 ghost use Rattle.hp_replay.specs.Course.{IsAnswered, IsHistory, is_spent, last_serial, started};
 ghost use Rattle.hp_replay.specs.Kept.{IsCut, IsStep, is_gone};
+ghost use Rattle.hp_replay.specs.Volumes.{volume_of};
 
 use crate::journal::{Entry, copy_entries, cut, keep_step, kept_len, sole_place};
-use crate::records::copy_records;
+use crate::records::{Records, copy_records};
+use crate::volumes::Volume;
 use hp_plain::Image;
 use hp_units::{
     Cpu, Event, Layout, Receipt, Record, Refusal, Reply, Serial, Tag, is_step, mark_of,
 };
 use std::alloc::{AllocError, Global};
 use std::marker::Model;
+use std::mem::replace;
 
 /// A plain machine with its history and its journal: an Image for the base, for the present state, and for the state before each
 /// step that is not undone. Every course keeps its history legal, and its state that of the history.
@@ -44,7 +47,7 @@ impl Model for Course {
 }
 
 impl Course {
-    /// The course of no records over a base state, behind `before` earlier records. An error is want of memory.
+    /// The course of no records over a base state, after `before` earlier records. An error is out of memory.
     pub fn start(alloc: Global, base: &Image, before: u64) -> Result<Course, AllocError>
         ensures { IfOk result (λ course. course ≡ started base.now.layout base.now.memory before) }
     {
@@ -52,7 +55,7 @@ impl Course {
         Course::starting(alloc, own, before)
     }
 
-    /// The course of no records over the state at boot. An error is want of memory.
+    /// The course of no records over the state at boot. An error is out of memory.
     pub fn boot(alloc: Global, layout: &Layout) -> Result<Course, AllocError>
         ensures start { IfOk result (λ course. course ≡ started layout.now (boot_memory layout.now) 0) }
         ensures limits { IfOk result (λ _. IsLayout layout.now) }
@@ -79,7 +82,7 @@ impl Course {
     }
 
     /// Answers and records an event of a processor, where there is a further serial. An undo goes back, and so does a Cancel
-    /// where nothing but its operation's own work stands behind its Begin; any other event makes a step. An error is want of
+    /// where nothing but its operation's own work stands after its Begin; any other event makes a step. An error is want of
     /// memory; then all is as before.
     pub fn answer(&mut self, alloc: Global, cpu: Cpu, event: &Event) -> Result<Receipt, AllocError>
         requires free { is_spent self.old ≡ false }
@@ -102,11 +105,23 @@ impl Course {
         }
     }
 
+    /// Hands out the base and the records, and goes on from the present state without them: it becomes the base, and no step
+    /// from before can be undone (own rule). It makes no record. An error is out of memory; then all is as before.
+    pub fn seal(&mut self, alloc: Global) -> Result<Volume, AllocError>
+        ensures err { OnErr result (self.new ≡ self.old) }
+        ensures volume { IfOk result (λ volume. volume ≡ volume_of self.old) }
+        ensures goes_on { OnOk result (self.new ≡ started self.old.layout self.old.state (last_serial self.old)) }
+    {
+        let next = Course::start(alloc, self.image(), self.last_serial())?;
+        let sealed = replace(self, next);
+        Ok(sealed.into_volume())
+    }
+
     /// Whether there is no further serial: the last one is 2^64 - 1.
     pub fn is_spent(&self) -> bool
         ensures { result ≡ is_spent self.now }
     {
-        self.before + self.history.len() as u64 >= u64::MAX
+        self.last_serial() >= u64::MAX
     }
 
     /// Whether a serial is the next one.
@@ -115,6 +130,13 @@ impl Course {
         ensures free { result ≡ true → is_spent self.now ≡ false }
     {
         !self.is_spent() && serial == self.next_serial()
+    }
+
+    /// The last serial so far, which is the number of all records, earlier ones included.
+    pub fn last_serial(&self) -> u64
+        ensures { result ≡ last_serial self.now }
+    {
+        self.before + self.history.len() as u64
     }
 
     /// How many earlier records there are, before those of the history.
@@ -138,12 +160,37 @@ impl Course {
         &self.image
     }
 
+    /// Whether the present state is that of an Image.
+    pub fn is_at(&self, image: &Image) -> bool
+        ensures { MatchBool result (image.now.memory ≡ self.now.state) (image.now.memory ≢ self.now.state) }
+    {
+        image.same(&self.image)
+    }
+
     /// The present state alone.
     pub fn into_image(self) -> Image
         ensures { result ≡ record { layout = self.layout; memory = self.state } }
     {
         let Course { image, .. } = self;
         image
+    }
+
+    /// The base and the records alone.
+    fn into_volume(self) -> Volume
+        ensures { result ≡ volume_of self }
+    {
+        let Course {
+            before,
+            base,
+            history,
+            ..
+        } = self;
+        let records = Records::new(history);
+        Volume {
+            before,
+            base,
+            records,
+        }
     }
 
     /// The records, oldest first. Every course keeps its history legal, and its state that of the history.
@@ -180,7 +227,7 @@ impl Course {
         requires { is_spent self.now ≡ false }
         ensures { result ≡ last_serial self.now + 1 }
     {
-        Serial(self.before + self.history.len() as u64 + 1)
+        Serial(self.last_serial() + 1)
     }
 
     /// How many steps an undo to a serial keeps, and its reply.
@@ -202,7 +249,7 @@ impl Course {
     fn is_gone(&self, serial: Serial) -> bool
         ensures { result ≡ is_gone self.now serial }
     {
-        serial.0 > self.before + self.history.len() as u64 || serial.0 < self.before
+        serial.0 > self.last_serial() || serial.0 < self.before
     }
 
     /// The reply that a step of the event would get.

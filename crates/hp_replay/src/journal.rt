@@ -75,7 +75,7 @@ fn is_work_of(mark: Mark, op: Serial) -> bool
     }
 }
 
-/// The place where an operation begins, if nothing but its own work stands behind it.
+/// The place where an operation begins, if nothing but its own work stands after it.
 pub(crate) fn sole_place(journal: &[Entry], op: Serial) -> Option<usize>
     ensures { result ≡ sole_at op (tags_of journal.now) }
 {

@@ -7,6 +7,9 @@ mod records;
 mod replaying;
 #[cfg(test)]
 mod tests;
+mod volumes;
 
 pub use course::Course;
+pub use records::Records;
 pub use replaying::{ReplayFault, replay, replay_from};
+pub use volumes::{ChainFault, Volume, audit_chain};

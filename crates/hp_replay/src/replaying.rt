@@ -4,14 +4,14 @@ ghost use Rattle.hp_units.specs.Boot.{boot_memory};
 ghost use Rattle.hp_units.specs.History.{IsLegal, value_of};
 ghost use Rattle.hp_units.specs.LayoutParts.{IsLayout};
 ghost use Rattle.hp_units.specs.Placement.{IsWellPlaced};
-ghost use Rattle.hp_replay.specs.Replay.{IsFault, IsFaultHere, IsFollowed, Refutes};
+ghost use Rattle.hp_replay.specs.Replay.{IsCourseOf, IsFault, IsFaultHere, IsFollowed, Refutes};
 
 use crate::course::Course;
 use hp_plain::Image;
 use hp_units::{Layout, Record, Serial};
 use std::alloc::{AllocError, Global};
 
-/// Why records are no legal history: the first record at fault, its serial looked at before its reply; or want of memory,
+/// Why records are no legal history: the first record at fault, its serial looked at before its reply; or out of memory,
 /// which may come in place of any answer.
 #[derive(Clone, Copy, Debug, PartialEq, Eq, Drop)]
 pub enum ReplayFault {
@@ -61,14 +61,29 @@ pub fn replay_from(
     ensures fault { IfErr result (IsFault base.now.layout base.now.memory before records.now) }
     ensures only { IfErr result (Refutes base.now.layout base.now.memory before records.now) }
 {
+    let course = course_of(alloc, base, before, records)?;
+    Ok(course.into_image())
+}
+
+/// The course of the records over a base state and after so many earlier records, if they are a legal history.
+pub(crate) fn course_of(
+    alloc: Global,
+    base: &Image,
+    before: u64,
+    records: &[Record],
+) -> Result<Course, ReplayFault>
+    ensures course { IfOk result (IsCourseOf base.now.layout base.now.memory before records.now) }
+    ensures fault { IfErr result (IsFault base.now.layout base.now.memory before records.now) }
+    ensures only { IfErr result (Refutes base.now.layout base.now.memory before records.now) }
+{
     let mut course = Course::start(alloc, base, before)?;
     for (place, record) in records.iter().enumerate() {
         follow(alloc, &mut course, place as u64, record)?;
     }
-    Ok(course.into_image())
+    Ok(course)
 }
 
-/// Goes on by the record at a place, if it may stand behind those of the course.
+/// Goes on by the record at a place, if it may stand after those of the course.
 fn follow(alloc: Global, course: &mut Course, at: u64, next: &Record) -> Result<(), ReplayFault>
     ensures ok { OnOk result (IsFollowed course.old next.now course.new) }
     ensures err { IfErr result (IsFaultHere course.old at next.now) }

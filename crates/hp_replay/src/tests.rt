@@ -1,9 +1,9 @@
 //! Worked replays: a block of the kernel that is taken, given back and undone, and an operation that is cancelled.
-use crate::{Course, ReplayFault, replay, replay_from};
+use crate::{ChainFault, Course, Records, ReplayFault, Volume, audit_chain, replay, replay_from};
 use hp_plain::Image;
 use hp_units::{
     Block, Boot, Class, Cpu, Event, Frame, Item, Layout, LayoutFault, Order, Parts, Plan, Record,
-    Reply, Serial, Wish,
+    Refusal, Reply, Serial, Wish,
 };
 use std::alloc::{AllocError, Global};
 use std::test::Fail;
@@ -157,5 +157,109 @@ fn a_course_shows_what_it_keeps(rt: HostRuntime) -> Result<(), Fail> {
     assert_eq!(rt; course.journal_len(), 0);
     assert_eq!(rt; course.history().len(), 0);
     assert!(rt; course.base().same(course.image()));
+    Ok(())
+}
+
+/// A volume that was sealed after so many records.
+fn volume(before: u64, base: Image, records: Vec<Record>) -> Volume {
+    Volume {
+        before,
+        base,
+        records: Records::new(records),
+    }
+}
+
+/// The records that took a block of the kernel and gave it back.
+fn taken_and_given(alloc: Global) -> Result<Vec<Record>, AllocError> {
+    let mut records = Vec::new(alloc);
+    records.push(take())?;
+    records.push(give())?;
+    Ok(records)
+}
+
+/// The volume of these records, from boot on.
+fn first_volume(alloc: Global) -> Result<Volume, Fail> {
+    let base = Image::boot(alloc, &small(alloc)?)?;
+    Ok(volume(0, base, taken_and_given(alloc)?))
+}
+
+/// The state that they lead to.
+fn sealed_state(alloc: Global) -> Result<Image, Fail> {
+    let layout = small(alloc)?;
+    Ok(replay(alloc, &layout, &taken_and_given(alloc)?)?)
+}
+
+/// The volume after it over a base: undos of sealed and of no records, and a block that is taken with this reply.
+fn second_volume(alloc: Global, base: Image, reply: Reply) -> Result<Volume, Fail> {
+    let gone = Event::UndoAfter { serial: Serial(0) };
+    let none = Event::UndoAfter { serial: Serial(2) };
+    let take = Event::KernelAlloc { order: Order(1) };
+    let mut records = Vec::new(alloc);
+    records.push(record_of(3, gone, Reply::Refused(Refusal::Gone)))?;
+    records.push(record_of(4, none, Reply::Undone { count: 0 }))?;
+    records.push(record_of(5, take, reply))?;
+    Ok(volume(2, base, records))
+}
+
+/// The fault of the first volume and one after it.
+fn fault_after_first(alloc: Global, second: Volume) -> Result<Option<ChainFault>, Fail> {
+    let mut volumes = Vec::new(alloc);
+    volumes.push(first_volume(alloc)?)?;
+    volumes.push(second)?;
+    let layout = small(alloc)?;
+    Ok(audit_chain(alloc, &layout, &volumes).err())
+}
+
+#[test]
+fn volumes_that_follow_one_another_are_accepted(rt: HostRuntime) -> Result<(), Fail> {
+    let base = sealed_state(rt.alloc())?;
+    let second = second_volume(rt.alloc(), base, Reply::Frame(Frame(0)))?;
+    assert_eq!(rt; fault_after_first(rt.alloc(), second)?, None);
+    let layout = small(rt.alloc())?;
+    let image = audit_chain(rt.alloc(), &layout, &[])?;
+    assert_eq!(rt; image.list(Class::Nm, Order(2)).len(), 1);
+    Ok(())
+}
+
+#[test]
+fn the_first_volume_at_fault_is_named(rt: HostRuntime) -> Result<(), Fail> {
+    let again = first_volume(rt.alloc())?;
+    let counted = Some(ChainFault::WrongCount { at: 1 });
+    assert_eq!(rt; fault_after_first(rt.alloc(), again)?, counted);
+    let boot = Image::boot(rt.alloc(), &small(rt.alloc())?)?;
+    let over_boot = second_volume(rt.alloc(), boot, Reply::Frame(Frame(0)))?;
+    let based = Some(ChainFault::WrongBase { at: 1 });
+    assert_eq!(rt; fault_after_first(rt.alloc(), over_boot)?, based);
+    let base = sealed_state(rt.alloc())?;
+    let replied = second_volume(rt.alloc(), base, Reply::Frame(Frame(2)))?;
+    let serial = Serial(5);
+    let fault = ReplayFault::WrongReply { serial };
+    let replayed = Some(ChainFault::Replay { at: 1, fault });
+    assert_eq!(rt; fault_after_first(rt.alloc(), replied)?, replayed);
+    Ok(())
+}
+
+#[test]
+fn a_volume_whose_earlier_ones_are_missing_is_named(rt: HostRuntime) -> Result<(), Fail> {
+    let base = sealed_state(rt.alloc())?;
+    let second = second_volume(rt.alloc(), base, Reply::Frame(Frame(0)))?;
+    let layout = small(rt.alloc())?;
+    let audited = audit_chain(rt.alloc(), &layout, &[second]);
+    assert_eq!(rt; audited.err(), Some(ChainFault::WrongCount { at: 0 }));
+    Ok(())
+}
+
+#[test]
+fn a_sealed_course_goes_on_from_its_state(rt: HostRuntime) -> Result<(), Fail> {
+    let layout = small(rt.alloc())?;
+    let mut course = Course::boot(rt.alloc(), &layout)?;
+    let event = Event::KernelAlloc { order: Order(1) };
+    let _taken = course.answer(rt.alloc(), Cpu(0), &event)?;
+    let sealed = course.seal(rt.alloc())?;
+    assert_eq!(rt; sealed.records.into_vec().len(), 1);
+    assert_eq!(rt; course.history().len(), 0);
+    assert_eq!(rt; course.last_serial(), 1);
+    let copy = course.copy(rt.alloc())?;
+    assert_eq!(rt; copy.before(), 1);
     Ok(())
 }

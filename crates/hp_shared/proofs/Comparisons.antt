@@ -114,8 +114,8 @@ unmarked seats marks latest none history are p s there =
 
 -- ---- beginnings of the history
 
-next_taken : (history : List Record) (at : ℕ) (r : Record) → slice_get history at ≡ Some r → take (at + 1) history ≡ take at history ++ r ∷ []
-next_taken history at r get = ap (λ (k : ℕ). take k history) (add-one at) ∙ take_next history at r get
+pub next_taken : {X : Type 0} (xs : List X) (at : ℕ) (x : X) → slice_get xs at ≡ Some x → take (at + 1) xs ≡ take at xs ++ x ∷ []
+next_taken xs at x get = ap (λ (k : ℕ). take k xs) (add-one at) ∙ take_next xs at x get
 
 -- after no records, and after one more of them
 pub marks_none : (history : List Record) (seats : List SeatValue) (marks : List Mark) → AreMarks history seats marks → AreMarks (history ++ []) seats marks
@@ -167,6 +167,29 @@ strays_next history seats at r o here low get is found before =
     (λ n s. (s.0, s.1, get_left h (r ∷ []) s.0 (slice_get_within h s.0 s.1 s.2) ∙ s.2, s.3))
     (λ n s. (length h, r, get_end h r, s))
     (λ n s. elim (get_push_cases h r s.1 s.0 s.2) [ inl e ↦ inl (s.0, s.1, e, s.3) | inr e ↦ inr (subst (λ (y : Record). StraysHere seats y n) (sym e.1) s.3) ])))
+
+-- an entry of two lists one after the other stands in the one or in the other
+either : {X : Type 0} (xs ys : List X) (k : ℕ) (x : X) → slice_get (xs ++ ys) k ≡ Some x → (slice_get xs k ≡ Some x) ⊎ ((j : ℕ) × (slice_get ys j ≡ Some x))
+either [] ys k x get = inr (k, get)
+either (z ∷ zs) ys zero x get = inl get
+either (z ∷ zs) ys (suc k) x get = either zs ys k x get
+
+second_at : {X : Type 0} (xs ys : List X) (k : ℕ) → (j : ℕ) × (slice_get (xs ++ ys) j ≡ slice_get ys k)
+second_at [] ys k = (k, refl)
+second_at (x ∷ xs) ys k = let rest = second_at xs ys k in (suc rest.0, rest.1)
+
+-- records after records
+pub strays_both : (xs ys : List Record) (seats : List SeatValue) (o q low : Option ℕ) → low ≡ lower o q → IsOutcome (AreSeated xs seats) (StraysAt xs seats) o → IsOutcome (AreSeated ys seats) (StraysAt ys seats) q
+    → IsOutcome (AreSeated (xs ++ ys) seats) (StraysAt (xs ++ ys) seats) low
+strays_both xs ys seats o q low is first second =
+    subst (IsOutcome (AreSeated (xs ++ ys) seats) (StraysAt (xs ++ ys) seats)) (sym is)
+    (joined (AreSeated xs seats) (AreSeated ys seats) (AreSeated (xs ++ ys) seats) (StraysAt xs seats) (StraysAt ys seats) (StraysAt (xs ++ ys) seats) o q first second
+    (seated_never_stray xs seats)
+    (seated_never_stray ys seats)
+    (λ seated more k x there. elim (either xs ys k x there) [ inl e ↦ seated k x e | inr e ↦ more e.0 x e.1 ])
+    (λ n s. (s.0, s.1, get_left xs ys s.0 (slice_get_within xs s.0 s.1 s.2) ∙ s.2, s.3))
+    (λ n s. let there = second_at xs ys s.0 in (there.0, s.1, there.1 ∙ s.2, s.3))
+    (λ n s. elim (either xs ys s.0 s.1 s.2) [ inl e ↦ inl (s.0, s.1, e, s.3) | inr e ↦ inr (e.0, s.1, e.1, s.3) ]))
 
 -- ---- seats
 

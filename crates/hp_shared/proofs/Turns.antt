@@ -1,15 +1,18 @@
--- A recorded call keeps what every lock shows.
-use Rattle.std.proofs.Common.{◌≡◌, ℕ, ◌+◌, List, [], ◌∷◌, length, Some, slice_get, take, ap, sym, subst, ◌∙◌, arith}
+-- A recorded call keeps what every lock shows, and so does a seal.
+use Rattle.std.proofs.Common.{◌≡◌, ℕ, ◌+◌, List, [], ◌∷◌, ◌++◌, length, Some, slice_get, take, refl, ap, sym, subst, ◌∙◌, arith}
 use Rattle.std.proofs.lemmas.List.{length-append}
 use Rattle.hp_units.specs.LayoutParts.{LayoutParts}
 use Rattle.hp_units.specs.Boot.{boot_memory}
 use Rattle.hp_units.specs.Memory.{Memory}
-use Rattle.hp_units.specs.History.{IsLegal, reply_of, value_of}
+use Rattle.hp_units.specs.History.{IsLegal, net_of, reply_of, run, value_of}
 use Rattle.hp_units.specs.declared.events.Event.{Event}
 use Rattle.hp_units.specs.declared.replies.Receipt.{Receipt}
 use Rattle.hp_units.specs.declared.replies.Record.{Record}
 use Rattle.hp_laws.proofs.Lists.{get_end}
-use Rattle.hp_machine.specs.Machine.{IsCalled, IsHistory, MachineValue, last_serial, record_of}
+use Rattle.hp_replay.specs.Volumes.{FollowsVolumes, records_in, state_after, volume_of}
+use Rattle.hp_replay.proofs.Chains.{chain_more, count_more, state_more}
+use Rattle.hp_replay.specs.declared.volumes.Volume.{Volume}
+use Rattle.hp_machine.specs.Machine.{IsCalled, IsHistory, MachineValue, last_serial, record_of, sealed}
 use Rattle.hp_shared.specs.Shared.{IsFresh, IsLastOf, IsShared}
 
 -- the machine that a call made has a legal history again, and the state of that history
@@ -35,8 +38,7 @@ pub turned : (l : LayoutParts) (old new : MachineValue) (was total : ℕ) (cpu :
     → IsShared l (record { machine = new; total = total })
 turned l old new was total cpu event r shared called more = record {
   layout = called.layout ∙ shared.layout;
-  before = called.before ∙ shared.before;
-  base = called.base ∙ shared.base;
+  sealed = (shared.sealed.0, shared.sealed.1, called.before ∙ shared.sealed.2, called.base ∙ shared.sealed.3);
   history = called_history old new cpu event r called;
   total = more ∙ (ap (λ (n : ℕ). n + 1) shared.total ∙ sym (called_serial old new cpu event r called));
 }
@@ -45,11 +47,46 @@ turned l old new was total cpu event r shared called more = record {
 pub begun : (l : LayoutParts) (m : MachineValue) (total : ℕ) → IsFresh l m → (m.before ≡ 0 → m.base ≡ boot_memory m.layout) → IsHistory m → total ≡ 0 → IsShared l (record { machine = m; total = total })
 begun l m total fresh boots kept none = record {
   layout = fresh.layout;
-  before = fresh.before;
-  base = boots fresh.before ∙ ap boot_memory fresh.layout;
+  sealed = ([], λ at v none. absurd cc, fresh.before, boots fresh.before ∙ ap boot_memory fresh.layout);
   history = kept;
   total = omega (arith, none, fresh.before, ap (λ (h : List Record). length h) fresh.history);
 }
+
+-- no records lead to the base itself
+stands_at_base : (l : LayoutParts) (base : Memory) → base ≡ value_of l base []
+unfolding value_of net_of run
+stands_at_base l base = refl
+
+-- what was sealed may lie under the lock, with the same total
+pub sealed_on : (l : LayoutParts) (old new : MachineValue) (was total : ℕ) → IsShared l (record { machine = old; total = was }) → new ≡ sealed old → total ≡ was → IsShared l (record { machine = new; total = total })
+sealed_on l old new was total shared is same =
+    subst (λ (m : MachineValue). IsShared l (record { machine = m; total = total })) (sym is) (record {
+      layout = shared.layout;
+      sealed = (volumes ++ volume_of old ∷ [], chain_more l volumes (volume_of old) shared.sealed.1 follows, count, base);
+      history = record { legal = λ at r none. absurd cc; state = stands_at_base old.layout old.state };
+      total = omega (arith, same, shared.total);
+    })
+  where
+    volumes : List Volume
+    volumes = shared.sealed.0
+
+    legal : IsLegal l (state_after l volumes) (records_in volumes) old.history
+    legal =
+        subst (λ (s : Memory). IsLegal l s (records_in volumes) old.history) shared.sealed.3
+        (subst (λ (n : ℕ). IsLegal l old.base n old.history) shared.sealed.2
+        (subst (λ (parts : LayoutParts). IsLegal parts old.base old.before old.history) shared.layout shared.history.legal))
+
+    follows : FollowsVolumes l volumes (volume_of old)
+    follows = record { count = shared.sealed.2; base = shared.sealed.3; legal = legal }
+
+    count : last_serial old ≡ records_in (volumes ++ volume_of old ∷ [])
+    count = ap (λ (n : ℕ). n + length old.history) shared.sealed.2 ∙ sym (count_more volumes (volume_of old))
+
+    base : old.state ≡ state_after l (volumes ++ volume_of old ∷ [])
+    base =
+        shared.history.state
+        ∙ (ap (λ (parts : LayoutParts). value_of parts old.base old.history) shared.layout
+        ∙ (ap (λ (s : Memory). value_of l s old.history) shared.sealed.3 ∙ sym (state_more l volumes (volume_of old))))
 
 -- and the receipt is that of its last record
 pub called_last : (old new : MachineValue) (cpu : ℕ) (event : Event) (r : Receipt) → IsCalled old cpu event r new → IsLastOf new cpu r

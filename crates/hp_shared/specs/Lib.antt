@@ -3,3 +3,4 @@ pub mod Comparing
 pub mod Marks
 pub mod SeatPorts
 pub mod Shared
+pub mod Volumes

@@ -1,5 +1,5 @@
 -- How far a seat's receipts were compared with its processor's records.
-use Rattle.std.specs.Prelude.{◌≡◌, ◌≢◌, ℕ, ◌<◌, ◌≤◌, ◌⊎◌, List, length, Option, Some, None, if◌then◌else◌, nat_le, slice_get}
+use Rattle.std.specs.Prelude.{◌≡◌, ◌≢◌, ℕ, ◌+◌, ◌^◌, ◌<◌, ◌≤◌, ◌⊎◌, List, ◌++◌, length, Option, Some, None, if◌then◌else◌, nat_le, slice_get}
 use Rattle.hp_units.specs.Receipts.{DifferAt, receipts_of}
 use Rattle.hp_units.specs.declared.replies.Receipt.{Receipt}
 use Rattle.hp_units.specs.declared.replies.Record.{Record}
@@ -44,9 +44,21 @@ abbrev pub AreMarks : List Record → List SeatValue → List Mark → Type 0
 AreMarks history seats marks =
     (place : ℕ) (seat : SeatValue) → slice_get seats place ≡ Some seat → (m : Mark) × (slice_get marks place ≡ Some m) × IsMark seat.receipts (receipts_of seat.cpu history) m
 
+-- there is room for so many more records: after some that were marked they are fewer than 2^64
+abbrev pub HasRoom : ℕ → List SeatValue → List Mark → Type 0
+HasRoom more seats marks = (history : List Record) × (length history + more < 2 ^ 64) × AreMarks history seats marks
+
+-- the records, after any that were marked, are marked
+abbrev pub AreMarkedOn : List Record → List SeatValue → List Mark → List Mark → Type 0
+AreMarkedOn records seats old new = (history : List Record) → AreMarks history seats old → AreMarks (history ++ records) seats new
+
 -- each record is of some seat
 abbrev pub AreSeated : List Record → List SeatValue → Type 0
 AreSeated history seats = (at : ℕ) (r : Record) → slice_get history at ≡ Some r → IsSeatOf seats r.cpu
+
+-- the outcome of looking for records of no seat
+abbrev pub AreStrays : List Record → List SeatValue → Option ℕ → Type 0
+AreStrays records seats = IsOutcome (AreSeated records seats) (StraysAt records seats)
 
 -- the seats before a place have exactly their processors' records
 abbrev pub AreSettledBefore : List Record → List SeatValue → ℕ → Type 0

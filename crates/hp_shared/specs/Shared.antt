@@ -2,10 +2,12 @@
 use Rattle.std.specs.Prelude.{ℕ, ◌≡◌, ◌<◌, ◌≤◌, List, [], ◌∷◌, ◌++◌, length, map}
 use Rattle.std.specs.List.{range_with_len}
 use Rattle.hp_units.specs.LayoutParts.{LayoutParts}
-use Rattle.hp_units.specs.Boot.{boot_memory}
+use Rattle.hp_units.specs.Memory.{Memory}
 use Rattle.hp_units.specs.declared.events.Event.{Event}
 use Rattle.hp_units.specs.declared.replies.Receipt.{Receipt}
 use Rattle.hp_units.specs.declared.replies.Record.{Record}
+use Rattle.hp_replay.specs.Volumes.{IsChain, records_in, state_after}
+use Rattle.hp_replay.specs.declared.volumes.Volume.{Volume}
 use Rattle.hp_machine.specs.Machine.{IsHistory, MachineValue, last_serial, record_of}
 
 -- what lies under the lock: a machine, and how many records it has made
@@ -19,12 +21,15 @@ pub record IsFresh (l : LayoutParts) (m : MachineValue) : Type 0 where
   pub before : m.before ≡ 0
   pub history : m.history ≡ []
 
--- what every lock shows: the layout's machine, from boot on, with a legal history and the state that the history leads to; the
--- total is the number of its records
+-- some volumes, each of which follows those before it, lead from the layout's boot to a state, and hold so many records
+abbrev pub IsSealedFromBoot : LayoutParts → Memory → ℕ → Type 0
+IsSealedFromBoot l base before = (volumes : List Volume) × IsChain l volumes × (before ≡ records_in volumes) × (base ≡ state_after l volumes)
+
+-- what every lock shows: the layout's machine, whose base and whose count of sealed records came from boot by some volumes, with
+-- a legal history and the state that the history leads to; the total is the number of all records
 pub record IsShared (l : LayoutParts) (v : LockedValue) : Type 0 where
   pub layout : v.machine.layout ≡ l
-  pub before : v.machine.before ≡ 0
-  pub base : v.machine.base ≡ boot_memory l
+  pub sealed : IsSealedFromBoot l v.machine.base v.machine.before
   pub history : IsHistory v.machine
   pub total : v.total ≡ last_serial v.machine
 

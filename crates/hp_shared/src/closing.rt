@@ -6,7 +6,9 @@ use crate::comparing::{compare, has_each};
 use crate::job::Job;
 use crate::seat::Seat;
 use crate::shared::Shared;
+use crate::volumes::wrong_volume;
 use hp_machine::Machine;
+use hp_replay::Volume;
 use hp_units::Serial;
 use std::alloc::{AllocError, Global};
 
@@ -15,6 +17,9 @@ use std::alloc::{AllocError, Global};
 pub enum CloseFault {
     /// There is not one seat for each processor.
     SeatMissing,
+    /// The place, from 0, of the first volume whose `before` is not the number of records in the volumes before it; the number of
+    /// volumes where together they do not hold all sealed records.
+    WrongVolume { at: u64 },
     /// The lowest serial at which a seat's receipts and its processor's records differ, or a record is of no seat.
     Mismatch { serial: Serial },
     /// Out of memory.
@@ -26,7 +31,9 @@ pub enum CloseFault {
 pub struct Closed {
     /// The machine, under no lock any more.
     pub machine: Machine,
-    /// How many records it holds.
+    /// Its sealed records, in order.
+    pub volumes: Vec<Volume>,
+    /// How many records there are, in the volumes and in the machine.
     pub records: u64,
 }
 
@@ -39,54 +46,64 @@ pub struct CloseRefused<L: Job> {
     pub shared: Shared<L>,
     /// The seats, in the order in which they came.
     pub seats: Vec<Seat<L>>,
+    /// The volumes, in the order in which they came.
+    pub volumes: Vec<Volume>,
 }
 
 /// Closes a shared machine, where each seat's receipts are exactly its processor's records, in order, and there are no others
-/// (own rule). It waits for nobody: no other thread has a part in it any more. Its time is linear in the records and receipts,
-/// its memory one mark for each seat.
+/// (own rule). The records are those of the volumes, which are all that the machine sealed, and then the machine's own. It waits
+/// for nobody: no other thread has a part in it any more. Its time is linear in the records and receipts, its memory one mark for
+/// each seat.
 ///
-/// Errors, in this order: `SeatMissing`, `Mismatch`; `OutOfMemory` may come in place of `Mismatch` or of `Ok`. Each hands the
-/// machine and all seats back.
+/// Errors, in this order: `SeatMissing`, `WrongVolume`, `Mismatch`; `OutOfMemory` may come in place of `Mismatch` or of `Ok`. Each
+/// hands the machine, all seats and all volumes back.
 pub fn close<L: Job>(
     alloc: Global,
     shared: Shared<L>,
     seats: Vec<Seat<L>>,
+    volumes: Vec<Volume>,
 ) -> Result<Closed, CloseRefused<L>>
-    ensures ok { IfOk result (λ closed. IsClosed L.layout seats.items closed.machine closed.records) }
-    ensures seats { IfErr result (λ refused. refused.seats.items ≡ seats.items) }
-    ensures err { IfErr result (λ refused. HasCause L.layout seats.items refused.fault) }
+    ensures ok { IfOk result (λ closed. IsClosed L.layout seats.items volumes.items closed.machine closed.records) }
+    ensures volumes { IfOk result (λ closed. closed.volumes.items ≡ volumes.items) }
+    ensures back { IfErr result (λ refused. (refused.seats.items ≡ seats.items) × (refused.volumes.items ≡ volumes.items)) }
+    ensures err { IfErr result (λ refused. HasCause L.layout seats.items volumes.items refused.fault) }
 {
     let cpus = shared.cpus();
     let locked = shared.into_locked();
-    match check(alloc, locked.machine(), &seats, cpus) {
+    match check(alloc, locked.machine(), &seats, &volumes, cpus) {
         Ok(records) => Ok(Closed {
             machine: locked.into_machine(),
+            volumes,
             records,
         }),
         Err(fault) => Err(CloseRefused {
             fault,
             shared: Shared::again(locked, cpus),
             seats,
+            volumes,
         }),
     }
 }
 
-/// Compares the receipts of all seats with a machine's history, and answers the number of its records.
+/// Compares the receipts of all seats with the records of volumes and a machine, and answers how many records there are.
 fn check<L: Job>(
     alloc: Global,
     machine: &Machine,
     seats: &Vec<Seat<L>>,
+    volumes: &Vec<Volume>,
     cpus: u32,
 ) -> Result<u64, CloseFault>
-    ensures ok { IfOk result (λ records. IsChecked machine.now cpus seats.now.items records) }
-    ensures err { IfErr result (HasFault machine.now cpus seats.now.items) }
+    ensures ok { IfOk result (λ records. IsChecked machine.now cpus seats.now.items volumes.now.items records) }
+    ensures err { IfErr result (HasFault machine.now cpus seats.now.items volumes.now.items) }
 {
     if !has_each(seats, cpus) {
         return Err(CloseFault::SeatMissing);
     }
-    let history = machine.history();
-    match compare(alloc, history, seats) {
-        Ok(None) => Ok(history.len() as u64),
+    if let Some(at) = wrong_volume(volumes, machine.sealed()) {
+        return Err(CloseFault::WrongVolume { at });
+    }
+    match compare(alloc, volumes, machine, seats) {
+        Ok(None) => Ok(machine.last_serial()),
         Ok(Some(serial)) => Err(CloseFault::Mismatch { serial }),
         Err(AllocError) => Err(CloseFault::OutOfMemory),
     }

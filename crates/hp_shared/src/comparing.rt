@@ -1,12 +1,15 @@
-//! The comparison of all seats' receipts with a history: one pass over the history, and one over the receipts.
-ghost use Rattle.std.specs.Prelude.{ℕ, ◌≡◌, ◌+◌, ◌<◌, ◌^◌, ◌-◌, ◌++◌, ◌∷◌, [], List, true, false, IfOk, IfSome, IfNone, Some, length, slice_get, vec_len};
-ghost use Rattle.hp_units.specs.declared.replies.Record.{Record};
-ghost use Rattle.hp_shared.specs.Marks.{AreMarks, AreSeated};
-ghost use Rattle.hp_shared.specs.Comparing.{HasEach, IsCompared, IsOutcome, IsSeatAt, IsSeatOf, IsTwinless, IsUnseated, StraysAt, StraysHere};
+//! The comparison of all seats' receipts with all records: one pass over the records, and one over the receipts.
+ghost use Rattle.std.specs.Prelude.{ℕ, ◌≡◌, ◌<◌, ◌^◌, ◌∷◌, [], true, false, IfOk, IfSome, IfNone, length, vec_len};
+ghost use Rattle.hp_shared.specs.Marks.{AreMarkedOn, AreMarks, AreStrays, HasRoom};
+ghost use Rattle.hp_shared.specs.Comparing.{HasEach, IsCompared, IsOutcome, IsSeatAt, IsSeatOf, IsTwinless, IsUnseated, StraysHere};
+ghost use Rattle.hp_replay.specs.Volumes.{records_in};
+ghost use Rattle.hp_shared.specs.Volumes.{ReachSealed, all_records, sealed_records};
 
 use crate::job::Job;
 use crate::marks::{Mark, lower};
 use crate::seat::Seat;
+use hp_machine::Machine;
+use hp_replay::Volume;
 use hp_units::{Cpu, Record, Serial};
 use std::alloc::{AllocError, Global};
 
@@ -58,25 +61,53 @@ fn place_of<L: Job>(seats: &Vec<Seat<L>>, cpu: Cpu) -> Option<usize>
     None
 }
 
-/// Compares the receipts of all seats, no two of which are of the same processor, with the records of a history. None where each
-/// seat's receipts are its processor's records and there are no others; else the lowest serial at which they differ. An error is
-/// out of memory.
+/// Compares the receipts of all seats, no two of which are of the same processor, with all records: those of the volumes, which
+/// are all that the machine sealed, and then the machine's own. None where each seat's receipts are its processor's records and
+/// there are no others; else the lowest serial at which they differ. An error is out of memory.
 pub fn compare<L: Job>(
     alloc: Global,
-    history: &[Record],
+    volumes: &Vec<Volume>,
+    machine: &Machine,
     seats: &Vec<Seat<L>>,
 ) -> Result<Option<Serial>, AllocError>
-    requires { (place : ℕ) → IsTwinless seats.now.items place }
-    ensures { IfOk result (IsCompared history.now seats.now.items) }
+    requires apart { (place : ℕ) → IsTwinless seats.now.items place }
+    requires reach { ReachSealed volumes.now.items machine.now.before }
+    ensures { IfOk result (IsCompared (all_records volumes.now.items machine.now) seats.now.items) }
 {
+    // No effect at run time: the proof reads the bound on the number of all records from this call.
+    let _ = machine.last_serial();
     let mut marks = vec![in alloc; Mark::start(); seats.len()]?;
-    // No effect at run time: the proof reads the bound on the history's length from this call.
-    let _ = history.len();
-    let mut lowest = mark_records(seats, &mut marks, history);
+    let sealed = mark_volumes(seats, &mut marks, volumes);
+    let latest = mark_records(seats, &mut marks, machine.history());
+    let strays = lower(sealed, latest);
+    let mut lowest = strays;
     for place in 0..seats.len() {
         lowest = lower(lowest, marks[place].finish(seats[place].receipts()));
     }
     Ok(lowest)
+}
+
+/// Marks the records of volumes, before any others. The lowest serial of a record of no seat.
+fn mark_volumes<L: Job>(
+    seats: &Vec<Seat<L>>,
+    marks: &mut Vec<Mark>,
+    volumes: &Vec<Volume>,
+) -> Option<Serial>
+    requires apart { (place : ℕ) → IsTwinless seats.now.items place }
+    requires few { records_in volumes.now.items < 2 ^ 64 }
+    requires start { AreMarks [] seats.now.items marks.old.items }
+    ensures marks { AreMarks (sealed_records volumes.now.items) seats.now.items marks.new.items }
+    ensures len { vec_len marks.new ≡ vec_len marks.old }
+    ensures strays { AreStrays (sealed_records volumes.now.items) seats.now.items result }
+{
+    let mut lowest = None;
+    for at in 0..volumes.len() {
+        lowest = lower(
+            lowest,
+            mark_records(seats, marks, volumes[at].records.as_slice()),
+        );
+    }
+    lowest
 }
 
 /// Marks more records, each at its seat. The lowest serial of a record of no seat.
@@ -86,10 +117,10 @@ fn mark_records<L: Job>(
     records: &[Record],
 ) -> Option<Serial>
     requires apart { (place : ℕ) → IsTwinless seats.now.items place }
-    requires room { (history : List Record) × (length history + length records.now < 2 ^ 64) × AreMarks history seats.now.items marks.old.items }
-    ensures marks { (history : List Record) → AreMarks history seats.now.items marks.old.items → AreMarks (history ++ records.now) seats.now.items marks.new.items }
+    requires room { HasRoom (length records.now) seats.now.items marks.old.items }
+    ensures marks { AreMarkedOn records.now seats.now.items marks.old.items marks.new.items }
     ensures len { vec_len marks.new ≡ vec_len marks.old }
-    ensures strays { IsOutcome (AreSeated records.now seats.now.items) (StraysAt records.now seats.now.items) result }
+    ensures strays { AreStrays records.now seats.now.items result }
 {
     let mut lowest = None;
     for at in 0..records.len() {
@@ -105,8 +136,8 @@ fn mark_record<L: Job>(
     latest: &Record,
 ) -> Option<Serial>
     requires apart { (place : ℕ) → IsTwinless seats.now.items place }
-    requires room { (history : List Record) × (length history < 2 ^ 64 - 1) × AreMarks history seats.now.items marks.old.items }
-    ensures marks { (history : List Record) → AreMarks history seats.now.items marks.old.items → AreMarks (history ++ latest.now ∷ []) seats.now.items marks.new.items }
+    requires room { HasRoom 1 seats.now.items marks.old.items }
+    ensures marks { AreMarkedOn (latest.now ∷ []) seats.now.items marks.old.items marks.new.items }
     ensures len { vec_len marks.new ≡ vec_len marks.old }
     ensures stray { IsOutcome (IsSeatOf seats.now.items latest.now.cpu) (StraysHere seats.now.items latest.now) result }
 {

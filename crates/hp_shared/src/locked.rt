@@ -1,13 +1,15 @@
 //! What lies under the lock.
 ghost use Rattle.std.specs.Prelude.{◌≡◌, ◌↔◌, ◌+◌, ◌≤◌, ◌<◌, Err, IfOk, OnErr, OnOk, IsTrue};
 ghost use Rattle.hp_units.specs.declared.replies.CallFault.TheVariants.{HistoryFull};
-ghost use Rattle.hp_machine.specs.Machine.{IsCalled, is_full};
+ghost use Rattle.hp_machine.specs.Machine.{IsCalled, is_full, sealed};
+ghost use Rattle.hp_replay.specs.Volumes.{volume_of};
 ghost use Rattle.hp_shared.specs.Shared.{IsFresh, IsShared};
 
 use crate::job::Job;
 use hp_machine::Machine;
+use hp_replay::Volume;
 use hp_units::{CallFault, Cpu, Event, Receipt};
-use std::alloc::Global;
+use std::alloc::{AllocError, Global};
 use std::marker::Model;
 use std::sync::ledger::{Book, Share};
 
@@ -64,6 +66,25 @@ impl<L: Job> Locked<L> {
         let receipt = self.machine.call(alloc, cpu, event)?;
         self.book.add(share, 1);
         Ok(receipt)
+    }
+
+    /// Hands out the records since the last seal, with the state before them (own rule). It makes no record: total and share stay
+    /// as they were. It waits for nobody.
+    ///
+    /// An error is out of memory; then all is as it was.
+    pub fn seal(&mut self, alloc: Global, share: &mut Share<L>) -> Result<Volume, AllocError>
+        ensures err { OnErr result (self.new ≡ self.old) }
+        ensures volume { IfOk result (λ volume. volume ≡ volume_of self.old.machine) }
+        ensures goes_on { OnOk result (self.new.machine ≡ sealed self.old.machine) }
+        ensures total { self.new.total ≡ self.old.total }
+        ensures share { (share.new.amount ≡ share.old.amount) × (share.new.parts ≡ share.old.parts) }
+        ensures within { share.new.amount ≤ self.new.total }
+        ensures shown { IsShared L.layout self.old }
+        ensures kept { IsShared L.layout self.new }
+    {
+        self.book.audit(share);
+        let volume = self.machine.seal(alloc)?;
+        Ok(volume)
     }
 
     /// The machine.

@@ -1,11 +1,13 @@
 //! A processor's access to the shared machine.
 ghost use Rattle.std.specs.Prelude.{◌≡◌, ◌+◌, ◌<◌, ◌≤◌, ◌++◌, ◌∷◌, [], IfOk, OnErr, OnOk, length, vec_len, vec_capacity};
 ghost use Rattle.hp_shared.specs.Shared.{IsSeated, first_seat};
+ghost use Rattle.hp_shared.specs.Volumes.{IsSealOf};
 
 use crate::job::Job;
 use crate::shared::Shared;
+use hp_replay::Volume;
 use hp_units::{CallFault, Cpu, Event, Receipt};
-use std::alloc::Global;
+use std::alloc::{AllocError, Global};
 use std::marker::Model;
 use std::sync::Wait;
 use std::sync::ledger::Share;
@@ -72,6 +74,22 @@ impl<L: Job> Seat<L> {
             reply: receipt.reply,
         });
         Ok(receipt)
+    }
+
+    /// Hands out the shared machine's records since its last seal, with the state before them, under one holding of the lock, for
+    /// which it may wait. It makes no record and no receipt.
+    ///
+    /// An error is out of memory; it leaves the machine as it was.
+    pub fn seal(
+        &mut self,
+        rt: &impl Wait,
+        alloc: Global,
+        shared: &Shared<L>,
+    ) -> Result<Volume, AllocError>
+        ensures ok { IfOk result (λ volume. IsSealOf L.layout volume (length self.old.receipts)) }
+        ensures seat { self.new ≡ self.old }
+    {
+        shared.seal(rt, alloc, &mut self.share)
     }
 
     /// The processor's number, below the layout's number of processors.

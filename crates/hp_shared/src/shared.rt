@@ -1,13 +1,15 @@
 //! The lock round the machine.
 ghost use Rattle.std.specs.Prelude.{◌≡◌, ◌+◌, ◌<◌, ◌≤◌, IfErr, IfOk, OnErr, OnOk};
 ghost use Rattle.hp_shared.specs.Shared.{IsFresh, IsTurn, first_seats};
+ghost use Rattle.hp_shared.specs.Volumes.{IsSealOf};
 
 use crate::job::Job;
 use crate::locked::Locked;
 use crate::seat::Seat;
 use hp_machine::Machine;
+use hp_replay::Volume;
 use hp_units::{CallFault, Cpu, Event, Receipt};
-use std::alloc::Global;
+use std::alloc::{AllocError, Global};
 use std::sync::ledger::{Blank, Share};
 use std::sync::{Mutex, Wait};
 
@@ -73,6 +75,19 @@ impl<L: Job> Shared<L> {
         ensures parts { share.new.parts ≡ share.old.parts }
     {
         self.locked.lock(rt).turn(alloc, share, cpu, event)
+    }
+
+    /// One seal under the lock, for which it may wait.
+    pub(crate) fn seal(
+        &self,
+        rt: &impl Wait,
+        alloc: Global,
+        share: &mut Share<L>,
+    ) -> Result<Volume, AllocError>
+        ensures ok { IfOk result (λ volume. IsSealOf L.layout volume share.new.amount) }
+        ensures share { (share.new.amount ≡ share.old.amount) × (share.new.parts ≡ share.old.parts) }
+    {
+        self.locked.lock(rt).seal(alloc, share)
     }
 
     /// A machine under a lock again.

@@ -98,10 +98,11 @@ fn two_maps<L: Job + Send + Sync, R: Threads + Wait + Sync>(
         fault,
         shared,
         seats,
-    } = close(alloc, shared, seats).err()?;
+        volumes,
+    } = close(alloc, shared, seats, Vec::new(alloc)).err()?;
     let mut seats = seats;
     seats.push(second).ok()?;
-    let closed = close(alloc, shared, seats).ok()?;
+    let closed = close(alloc, shared, seats, Vec::new(alloc)).ok()?;
     Some((fault, receipts, closed.records))
 }
 
@@ -114,6 +115,52 @@ fn two_threads_map_a_page_each(rt: HostRuntime) -> Result<(), Fail> {
     assert_eq!(rt; ends.0, CloseFault::SeatMissing);
     assert_eq!(rt; ends.1, 11);
     assert_eq!(rt; ends.2, 2);
+    Ok(())
+}
+
+/// A record is sealed and another follows. Why a close without the volume is refused, and how many records one with it finds.
+fn one_sealed<L: Job, R: Wait>(
+    rt: &R,
+    alloc: Global,
+    blank: Blank,
+    machine: Machine,
+) -> Option<(CloseFault, u64)>
+    requires machine { IsFresh L.layout machine }
+    requires name { blank.name ≡ L.name }
+    requires parts { blank.parts ≡ L.parts }
+    requires one_each { blank.parts ≡ L.layout.cpus }
+{
+    let Ok((shared, seats)) = Shared::<L>::new(alloc, blank, machine) else {
+        return None;
+    };
+    let mut seats = seats;
+    let second = seats.pop()?;
+    let first = seats.pop()?;
+    let mut first = mapped(rt, alloc, &shared, first, 0);
+    let volume = first.seal(rt, alloc, &shared).ok()?;
+    let second = mapped(rt, alloc, &shared, second, 1);
+    seats.push(first).ok()?;
+    seats.push(second).ok()?;
+    let CloseRefused {
+        fault,
+        shared,
+        seats,
+        volumes,
+    } = close(alloc, shared, seats, Vec::new(alloc)).err()?;
+    let mut volumes = volumes;
+    volumes.push(volume).ok()?;
+    let closed = close(alloc, shared, seats, volumes).ok()?;
+    Some((fault, closed.records))
+}
+
+#[test]
+fn sealed_records_come_first(rt: HostRuntime) -> Result<(), Fail> {
+    let layout = layout(rt.alloc())?;
+    let machine = Machine::boot(rt.alloc(), &layout)?;
+    let blank = Blank::new(layout.cpus() as u64);
+    let ends = one_sealed::<Brand, _>(&rt, rt.alloc(), blank, machine).ok_or("no end")?;
+    assert_eq!(rt; ends.0, CloseFault::WrongVolume { at: 0 });
+    assert_eq!(rt; ends.1, 2);
     Ok(())
 }
 
@@ -162,7 +209,7 @@ fn page_moved<L: Job, R: Wait>(
     let (first, end) = planned(rt, alloc, &shared, first, plan);
     seats.push(second).ok()?;
     seats.push(first).ok()?;
-    let closed = close(alloc, shared, seats).ok()?;
+    let closed = close(alloc, shared, seats, Vec::new(alloc)).ok()?;
     Some((end, closed.records))
 }
 

@@ -67,7 +67,7 @@ fn run_scripts<L: Job + Send + Sync, G: Gate + Sync, R: Threads + Wait + Sync>(
     if fault.is_some() {
         return None;
     }
-    let closed = close(alloc, shared, seats).ok()?;
+    let closed = close(alloc, shared, seats, Vec::new(alloc)).ok()?;
     Some(Outcome {
         ends,
         records: closed.records,

@@ -49,7 +49,7 @@ fn run_scripts<L: Job + Send + Sync, R: Threads + Wait + Sync>(
         return false;
     }
     let receipts = count_receipts(&seats);
-    match close(alloc, shared, seats) {
+    match close(alloc, shared, seats, Vec::new(alloc)) {
         Ok(closed) => Some(closed.records) == receipts,
         Err(_) => false,
     }

@@ -1,34 +1,25 @@
--- The course goes on by each record that is not at fault; in the end it is that of all records.
-use Rattle.std.proofs.lemmas.Option.{slice_get_read}
+-- The course of all records shows the state that they lead to.
 use Rattle.std.proofs.lemmas.Result.{err_from_is_err_and}
-use Rattle.std.proofs.Common.{◌∙◌, length, refl}
-use Rattle.hp_replay.proofs.Replays.{fault_at, follow_one, placed, refutes, shown, whole}
+use Rattle.std.proofs.Common.{◌∙◌}
+use Rattle.hp_replay.proofs.Replays.{placed, shown}
 use Rattle.hp_replay.proofs.replaying.replay_from.Goals as goal
 
-pub loop-place-preserved : goal.loop-place-preserved
-loop-place-preserved c = record {
-  course = follow_one c.args.base.now.layout c.args.base.now.memory c.args.before c.args.records.now c.loop-place.place c.index-records-place.result c.loop-place.course c.follow.new.course (slice_get_read c.args.records.now (length c.args.records.now) c.loop-place.place c.index-records-place.result refl c.loop-place-test.true c.index-records-place.is) c.loop-place.invariant.course c.in_ok-follow.ensures.ok;
-}
-
 pub returns-clause-legal : goal.returns-clause-legal
-returns-clause-legal c =
-    (whole c.args.base.now.layout c.args.base.now.memory c.args.before c.args.records.now c.loop-place.place c.loop-place.course c.loop-place-test.false c.loop-place.invariant.course).legal
+returns-clause-legal c = c.in_ok-course.ensures.course.legal
 
 pub returns-clause-value : goal.returns-clause-value
 returns-clause-value c =
-    c.into_image.ensures ∙ shown c.args.base.now.layout c.args.base.now.memory c.args.before c.args.records.now c.loop-place.course
-    (whole c.args.base.now.layout c.args.base.now.memory c.args.before c.args.records.now c.loop-place.place c.loop-place.course c.loop-place-test.false c.loop-place.invariant.course)
+    c.into_image.ensures ∙ shown c.args.base.now.layout c.args.base.now.memory c.args.before c.args.records.now c.in_ok-course.course c.in_ok-course.ensures.course
 
 pub returns-clause-placed : goal.returns-clause-placed
 returns-clause-placed c = λ limits start. placed c.args.base.now.layout c.args.base.now.memory c.args.before c.args.records.now c.into_image.result (returns-clause-value c) limits start
 
-pub returns-in_err-follow-clause-fault : goal.returns-in_err-follow-clause-fault
-returns-in_err-follow-clause-fault c =
-    let p = err_from_is_err_and c.from_residual-in_err-follow.result c.from_residual-in_err-follow.ensures.1 in
-    rw (p.1, p.2) (fault_at c.args.base.now.layout c.args.base.now.memory c.args.before c.args.records.now c.loop-place.place c.index-records-place.result c.loop-place.course _ (slice_get_read c.args.records.now (length c.args.records.now) c.loop-place.place c.index-records-place.result refl c.loop-place-test.true c.index-records-place.is) c.loop-place.invariant.course c.in_err-follow.ensures.err)
+pub returns-in_err-course-clause-fault : goal.returns-in_err-course-clause-fault
+returns-in_err-course-clause-fault c =
+    let p = err_from_is_err_and c.from_residual.result c.from_residual.ensures.1 in
+    rw (p.1, p.2) c.in_err-course.ensures.fault
 
-pub returns-in_err-follow-clause-only : goal.returns-in_err-follow-clause-only
-returns-in_err-follow-clause-only c =
-    let p = err_from_is_err_and c.from_residual-in_err-follow.result c.from_residual-in_err-follow.ensures.1 in
-    rw (p.1, p.2) (refutes c.args.base.now.layout c.args.base.now.memory c.args.before c.args.records.now _
-    (fault_at c.args.base.now.layout c.args.base.now.memory c.args.before c.args.records.now c.loop-place.place c.index-records-place.result c.loop-place.course _ (slice_get_read c.args.records.now (length c.args.records.now) c.loop-place.place c.index-records-place.result refl c.loop-place-test.true c.index-records-place.is) c.loop-place.invariant.course c.in_err-follow.ensures.err))
+pub returns-in_err-course-clause-only : goal.returns-in_err-course-clause-only
+returns-in_err-course-clause-only c =
+    let p = err_from_is_err_and c.from_residual.result c.from_residual.ensures.1 in
+    rw (p.1, p.2) c.in_err-course.ensures.only

@@ -1,5 +1,5 @@
 -- A copy keeps what every machine keeps.
-use Rattle.std.proofs.Common.{sym, subst, ◌∙◌}
+use Rattle.std.proofs.Common.{sym, subst}
 use Rattle.hp_machine.specs.Kept.{IsMachine}
 use Rattle.hp_machine.proofs.machine.Machine.copy.Goals as goal
 

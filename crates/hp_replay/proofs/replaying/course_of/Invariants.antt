@@ -1,7 +1,7 @@
 -- The course is that of the records so far.
 use Rattle.std.proofs.Common.{take}
 use Rattle.hp_replay.specs.Replay.{IsCourseOf}
-use Rattle.hp_replay.proofs.replaying.replay_from.Given as goal
+use Rattle.hp_replay.proofs.replaying.course_of.Given as goal
 
 abbrev pub invariant-loop-place : goal.invariant-loop-place
 invariant-loop-place l = record {

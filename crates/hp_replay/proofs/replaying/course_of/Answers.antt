@@ -1,0 +1,26 @@
+-- The course goes on by each record that is not at fault; in the end it is that of all records.
+use Rattle.std.proofs.lemmas.Option.{slice_get_read}
+use Rattle.std.proofs.lemmas.Result.{err_from_is_err_and}
+use Rattle.std.proofs.Common.{length, refl}
+use Rattle.hp_replay.proofs.Replays.{fault_at, follow_one, refutes, whole}
+use Rattle.hp_replay.proofs.replaying.course_of.Goals as goal
+
+pub loop-place-preserved : goal.loop-place-preserved
+loop-place-preserved c = record {
+  course = follow_one c.args.base.now.layout c.args.base.now.memory c.args.before c.args.records.now c.loop-place.place c.index-records-place.result c.loop-place.course c.follow.new.course (slice_get_read c.args.records.now (length c.args.records.now) c.loop-place.place c.index-records-place.result refl c.loop-place-test.true c.index-records-place.is) c.loop-place.invariant.course c.in_ok-follow.ensures.ok;
+}
+
+pub returns-clause-course : goal.returns-clause-course
+returns-clause-course c =
+    whole c.args.base.now.layout c.args.base.now.memory c.args.before c.args.records.now c.loop-place.place c.loop-place.course c.loop-place-test.false c.loop-place.invariant.course
+
+pub returns-in_err-follow-clause-fault : goal.returns-in_err-follow-clause-fault
+returns-in_err-follow-clause-fault c =
+    let p = err_from_is_err_and c.from_residual-in_err-follow.result c.from_residual-in_err-follow.ensures.1 in
+    rw (p.1, p.2) (fault_at c.args.base.now.layout c.args.base.now.memory c.args.before c.args.records.now c.loop-place.place c.index-records-place.result c.loop-place.course _ (slice_get_read c.args.records.now (length c.args.records.now) c.loop-place.place c.index-records-place.result refl c.loop-place-test.true c.index-records-place.is) c.loop-place.invariant.course c.in_err-follow.ensures.err)
+
+pub returns-in_err-follow-clause-only : goal.returns-in_err-follow-clause-only
+returns-in_err-follow-clause-only c =
+    let p = err_from_is_err_and c.from_residual-in_err-follow.result c.from_residual-in_err-follow.ensures.1 in
+    rw (p.1, p.2) (refutes c.args.base.now.layout c.args.base.now.memory c.args.before c.args.records.now _
+    (fault_at c.args.base.now.layout c.args.base.now.memory c.args.before c.args.records.now c.loop-place.place c.index-records-place.result c.loop-place.course _ (slice_get_read c.args.records.now (length c.args.records.now) c.loop-place.place c.index-records-place.result refl c.loop-place-test.true c.index-records-place.is) c.loop-place.invariant.course c.in_err-follow.ensures.err))

@@ -1,0 +1,104 @@
+-- Volumes of sealed records, and which volume of a list is the first that does not follow those before it.
+use Rattle.std.specs.Prelude.{ℕ, ◌≡◌, ◌≢◌, List, Some, fold, length, slice_get, sum_by, take}
+use Rattle.hp_units.specs.Boot.{boot_memory}
+use Rattle.hp_units.specs.LayoutParts.{LayoutParts}
+use Rattle.hp_units.specs.Memory.{Memory}
+use Rattle.hp_units.specs.History.{IsLegal, value_of}
+use Rattle.hp_replay.specs.Course.{CourseValue, last_serial}
+use Rattle.hp_replay.specs.Kept.{pictured}
+use Rattle.hp_replay.specs.Replay.{IsFault}
+use Rattle.hp_replay.specs.declared.replaying.ReplayFault.{ReplayFault}
+use Rattle.hp_replay.specs.declared.replaying.ReplayFault.TheVariants.{WrongReply, WrongSerial, OutOfMemory as ReplayOutOfMemory}
+use Rattle.hp_replay.specs.declared.volumes.ChainFault.{ChainFault}
+use Rattle.hp_replay.specs.declared.volumes.ChainFault.TheVariants.{WrongCount, WrongBase, Replay, OutOfMemory}
+use Rattle.hp_replay.specs.declared.volumes.Volume.{Volume}
+
+-- the volume of all records of a course
+abbrev pub volume_of : CourseValue → Volume
+volume_of c = record { before = c.before; base = pictured c.layout c.base; records = c.history }
+
+-- how many records volumes hold, and the state that they lead to from the state at boot
+abbrev pub records_in : List Volume → ℕ
+records_in volumes = sum_by (λ v. length v.records) volumes
+
+abbrev pub state_after : LayoutParts → List Volume → Memory
+state_after l volumes = fold (λ s v. value_of l s v.records) (boot_memory l) volumes
+
+-- a volume follows the earlier ones: it was sealed after as many records as they hold, its base is the state that they lead
+-- to, and its records are a legal history over it (own rule)
+pub record FollowsVolumes (l : LayoutParts) (earlier : List Volume) (v : Volume) : Type 0 where
+  pub count : v.before ≡ records_in earlier
+  pub base : v.base.memory ≡ state_after l earlier
+  pub legal : IsLegal l (state_after l earlier) (records_in earlier) v.records
+
+-- each volume follows those before it
+abbrev pub IsChain : LayoutParts → List Volume → Type 0
+IsChain l volumes = (at : ℕ) (v : Volume) → slice_get volumes at ≡ Some v → FollowsVolumes l (take at volumes) v
+
+-- ---- faults
+
+-- the volume stands at the place, and those before it follow one another
+pub record StandsAfter (l : LayoutParts) (volumes : List Volume) (at : ℕ) (v : Volume) : Type 0 where
+  pub here : slice_get volumes at ≡ Some v
+  pub chain : IsChain l (take at volumes)
+
+-- its count is wrong
+pub record HasWrongCount (l : LayoutParts) (volumes : List Volume) (at : ℕ) (v : Volume) : Type 0 where
+  pub first : StandsAfter l volumes at v
+  pub count : v.before ≢ records_in (take at volumes)
+
+-- its count is right, and its base is wrong
+pub record HasWrongBase (l : LayoutParts) (volumes : List Volume) (at : ℕ) (v : Volume) : Type 0 where
+  pub first : StandsAfter l volumes at v
+  pub count : v.before ≡ records_in (take at volumes)
+  pub base : v.base.memory ≢ state_after l (take at volumes)
+
+-- its count and its base are right, and its records are at fault
+pub record HasWrongRecords (l : LayoutParts) (volumes : List Volume) (at : ℕ) (v : Volume) (fault : ReplayFault) : Type 0 where
+  pub first : StandsAfter l volumes at v
+  pub count : v.before ≡ records_in (take at volumes)
+  pub base : v.base.memory ≡ state_after l (take at volumes)
+  pub records : IsFault l (state_after l (take at volumes)) (records_in (take at volumes)) v.records fault
+  pub known : fault ≢ ReplayOutOfMemory
+
+-- the first volume at fault is the one that the fault names
+abbrev pub IsChainFault : LayoutParts → List Volume → ChainFault → Type 0
+IsChainFault l volumes (WrongCount at) = (v : Volume) × HasWrongCount l volumes at v
+IsChainFault l volumes (WrongBase at) = (v : Volume) × HasWrongBase l volumes at v
+IsChainFault l volumes (Replay at fault) = (v : Volume) × HasWrongRecords l volumes at v fault
+IsChainFault l volumes OutOfMemory = Unit {0}
+
+-- the volumes do not follow one another, memory aside
+abbrev pub RefutesChain : LayoutParts → List Volume → ChainFault → Type 0
+RefutesChain l volumes (WrongCount at) = IsChain l volumes → ⊥
+RefutesChain l volumes (WrongBase at) = IsChain l volumes → ⊥
+RefutesChain l volumes (Replay at fault) = IsChain l volumes → ⊥
+RefutesChain l volumes OutOfMemory = Unit {0}
+
+-- ---- after the course of the volume before
+
+-- the course ends where volumes lead to
+pub record EndsVolumes (l : LayoutParts) (volumes : List Volume) (end : CourseValue) : Type 0 where
+  pub layout : end.layout ≡ l
+  pub count : last_serial end ≡ records_in volumes
+  pub state : end.state ≡ state_after l volumes
+  pub chain : IsChain l volumes
+
+-- a volume's count and base are those of a course's end
+pub record FollowsEnd (end : CourseValue) (v : Volume) : Type 0 where
+  pub count : v.before ≡ last_serial end
+  pub base : v.base.memory ≡ end.state
+
+-- the fault of a volume that stands at a place after a course's end
+abbrev pub IsFaultAfter : CourseValue → (at : ℕ) → Volume → ChainFault → Type 0
+IsFaultAfter end at v (WrongCount place) = (place ≡ at) × (v.before ≢ last_serial end)
+IsFaultAfter end at v (WrongBase place) = (place ≡ at) × (v.before ≡ last_serial end) × (v.base.memory ≢ end.state)
+IsFaultAfter end at v (Replay place fault) =
+    (place ≡ at) × FollowsEnd end v × IsFault end.layout end.state (last_serial end) v.records fault × (fault ≢ ReplayOutOfMemory)
+IsFaultAfter end at v OutOfMemory = Unit {0}
+
+-- the fault of a volume whose records are at fault
+abbrev pub chain_fault : ℕ → ReplayFault → ChainFault
+chain_fault at (WrongReply serial) = Replay at (WrongReply serial)
+chain_fault at (WrongSerial place) = Replay at (WrongSerial place)
+chain_fault at ReplayOutOfMemory = OutOfMemory

@@ -1,0 +1,45 @@
+-- What seals handed out, beside the machine.
+use Rattle.std.specs.Prelude.{ℕ, ◌≡◌, ◌≢◌, ◌<◌, ◌≤◌, ◌⊎◌, List, [], ◌∷◌, ◌++◌, Some, length, slice_get, take}
+use Rattle.hp_units.specs.LayoutParts.{LayoutParts}
+use Rattle.hp_units.specs.declared.replies.Record.{Record}
+use Rattle.hp_replay.specs.Volumes.{records_in, volume_of}
+use Rattle.hp_replay.specs.declared.volumes.Volume.{Volume}
+use Rattle.hp_machine.specs.Machine.{MachineValue, last_serial}
+use Rattle.hp_shared.specs.Shared.{IsShared, LockedValue}
+
+-- the records of all volumes, in order
+abbrev pub sealed_records : List Volume → List Record
+sealed_records [] = []
+sealed_records (v ∷ vs) = v.records ++ sealed_records vs
+
+-- all records: those of the volumes, and then the machine's own
+abbrev pub all_records : List Volume → MachineValue → List Record
+all_records volumes m = sealed_records volumes ++ m.history
+
+-- each volume before a place says how many records there are in the volumes before it
+abbrev pub AreCountedBefore : List Volume → ℕ → Type 0
+AreCountedBefore volumes end =
+    (at : ℕ) (v : Volume) → at < end → slice_get volumes at ≡ Some v → v.before ≡ records_in (take at volumes)
+
+-- each volume says so, and together they hold so many records
+pub record ReachSealed (volumes : List Volume) (sealed : ℕ) : Type 0 where
+  pub counted : AreCountedBefore volumes (length volumes)
+  pub sealed_all : records_in volumes ≡ sealed
+
+-- the volume at a place does not say how many records there are in the volumes before it
+abbrev pub IsMiscounted : List Volume → ℕ → Type 0
+IsMiscounted volumes at = (v : Volume) × (slice_get volumes at ≡ Some v) × (v.before ≢ records_in (take at volumes))
+
+-- the place is that of the first volume that does not say so; where all do, it is their number, and they do not hold so many
+-- records
+pub record IsWrongAt (volumes : List Volume) (sealed at : ℕ) : Type 0 where
+  pub counted : AreCountedBefore volumes at
+  pub wrong : IsMiscounted volumes at ⊎ ((at ≡ length volumes) × (records_in volumes ≢ sealed))
+
+-- a volume is what some state of the shared machine held since its last seal; its last serial is at least the number of the
+-- seat's receipts
+pub record IsSealOf (l : LayoutParts) (v : Volume) (receipts : ℕ) : Type 0 where
+  pub seen : LockedValue
+  pub shared : IsShared l seen
+  pub is : v ≡ volume_of seen.machine
+  pub within : receipts ≤ last_serial seen.machine

@@ -1,0 +1,25 @@
+//! Whether volumes are all that a shared machine sealed.
+ghost use Rattle.std.specs.Prelude.{IfNone, IfSome};
+ghost use Rattle.hp_shared.specs.Volumes.{IsWrongAt, ReachSealed};
+
+use hp_replay::Volume;
+
+/// The place, from 0, of the first volume whose `before` is not the number of records in the volumes before it; the number of
+/// volumes where each is right and together they do not hold `sealed` records. None where they do.
+pub fn wrong_volume(volumes: &Vec<Volume>, sealed: u64) -> Option<u64>
+    ensures wrong { IfSome result (λ at. IsWrongAt volumes.now.items sealed at) }
+    ensures right { IfNone result (ReachSealed volumes.now.items sealed) }
+{
+    let mut count: u128 = 0;
+    for at in 0..volumes.len() {
+        let volume = &volumes[at];
+        if volume.before as u128 != count {
+            return Some(at as u64);
+        }
+        count += volume.records.as_slice().len() as u128;
+    }
+    if sealed as u128 != count {
+        return Some(volumes.len() as u64);
+    }
+    None
+}
