@@ -17,7 +17,7 @@ use Rattle.hotplug.specs.Audits.{HasAuditFault, IsAudited}
 use Rattle.hotplug.specs.Faults.{IsFaultOf, replay_fault_from}
 use Rattle.hotplug.specs.Runs.{IsRunOf}
 use Rattle.hotplug.specs.declared.fault.ProgramFault.{ProgramFault}
-use Rattle.hotplug.specs.declared.fault.ProgramFault.TheVariants.{ReadFailed, TooLong, NotJson, BadShape, Layout, BadLine, NotForRun, OutOfMemory, NotStarted, SeatMissing, Mismatch, WrongReply, WrongSerial, AuditDiffers, WriteFailed}
+use Rattle.hotplug.specs.declared.fault.ProgramFault.TheVariants.{ReadFailed, TooLong, NotJson, BadShape, Layout, BadLine, NotForRun, OutOfMemory, NotStarted, SeatMissing, Mismatch, WrongReply, WrongSerial, AuditDiffers, WriteFailed, BrokenChain}
 use Rattle.hotplug.specs.declared.words.Command.TheVariants.{Run, Audit}
 
 -- ---- the replay of a machine's history
@@ -58,13 +58,11 @@ replay_refused m l h fault at same here only =
 -- ---- a machine of a run
 
 -- its history is legal from boot on, and leads to its state
-shared_is_audited : (l : LayoutParts) (m : MachineValue) (count : ℕ) → IsShared l (record { machine = m; total = count }) → IsAudited m
-shared_is_audited l m count shared =
-    let base : m.base ≡ boot_memory m.layout = shared.base ∙ ap boot_memory (sym shared.layout) in
-    record {
-      legal = subst (λ (b : Memory). IsLegal m.layout b 0 m.history) base (subst (λ (n : ℕ). IsLegal m.layout m.base n m.history) shared.before shared.history.legal);
-      state = shared.history.state ∙ ap (λ (b : Memory). value_of m.layout b m.history) base;
-    }
+shared_is_audited : (l : LayoutParts) (m : MachineValue) (count : ℕ) → m.before ≡ 0 → m.base ≡ boot_memory m.layout → IsShared l (record { machine = m; total = count }) → IsAudited m
+shared_is_audited l m count before base shared = record {
+  legal = subst (λ (b : Memory). IsLegal m.layout b 0 m.history) base (subst (λ (n : ℕ). IsLegal m.layout m.base n m.history) before shared.history.legal);
+  state = shared.history.state ∙ ap (λ (b : Memory). value_of m.layout b m.history) base;
+}
 
 never : (m : MachineValue) (fault : ProgramFault) (input : List ℕ) → IsAudited m → HasAuditFault m fault → IsFaultOf Audit (Some input) ⊥ ⊥ fault
 never m ReadFailed input sound h = absurd h
@@ -82,10 +80,11 @@ never m (WrongReply n) input sound h = absurd (h.1 sound)
 never m (WrongSerial n) input sound h = absurd (h.1 sound)
 never m AuditDiffers input sound h = absurd (h sound)
 never m WriteFailed input sound h = absurd h
+never m (BrokenChain n) input sound h = absurd h
 
 -- so it is never found wrong
 pub audit_fails : (input : List ℕ) (ends : List (List LineEnd)) (m : MachineValue) (count : ℕ) (fault : ProgramFault) → IsRunOf input ends m count → HasAuditFault m fault → IsFaultOf Audit (Some input) ⊥ ⊥ fault
-audit_fails input ends m count fault ran h = never m fault input (shared_is_audited ran.scenario.layout m count ran.worked.closed.shared) h
+audit_fails input ends m count fault ran h = never m fault input (shared_is_audited ran.scenario.layout m count ran.worked.before ran.worked.base ran.worked.closed.shared) h
 
 -- what a run can fail of, an audit can
 pub audit_too : (input : List ℕ) (fault : ProgramFault) → IsFaultOf Run (Some input) ⊥ ⊥ fault → IsFaultOf Audit (Some input) ⊥ ⊥ fault
@@ -104,3 +103,4 @@ audit_too input (WrongReply n) h = h
 audit_too input (WrongSerial n) h = h
 audit_too input AuditDiffers h = h
 audit_too input WriteFailed h = h
+audit_too input (BrokenChain n) h = h

@@ -28,7 +28,7 @@ event_is m cpu event text new h (inl w) = subst IsUpToDate (sym w.1) (event_next
 event_is m cpu event text new h (inr w) = subst IsUpToDate (sym w.2) h
 
 -- want of memory makes a text that isn't whole
-wanting_is_not_whole : (b : List ℕ) → IsWhole (unrecorded_line OutOfMemory ++ b) → ⊥
+pub wanting_is_not_whole : (b : List ℕ) → IsWhole (unrecorded_line OutOfMemory ++ b) → ⊥
 wanting_is_not_whole b whole = not_whole (unrecorded_line OutOfMemory ++ b) (codes "-: fault ") b refl whole
 
 -- in a whole text an event wrote what is due

@@ -5,6 +5,7 @@ pub mod Known
 pub mod Lines
 pub mod PlansDue
 pub mod Ran
+pub mod SealsDue
 pub mod Seated
 pub mod Served
 pub mod Unfit

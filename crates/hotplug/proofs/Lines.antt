@@ -11,6 +11,7 @@ use Rattle.hotplug.specs.Serial.{GrowsBy, IsWhole, WritesLine, WritesLines, Writ
 use Rattle.hotplug.proofs.EventsDue.{IsUpToDate, event_due, event_is}
 use Rattle.hotplug.proofs.FilesDue.{cat_due, echo_due, echo_is}
 use Rattle.hotplug.proofs.PlansDue.{plan_due, plan_is}
+use Rattle.hotplug.proofs.SealsDue.{seal_due, seal_is}
 use Rattle.hotplug.proofs.Whole.{whole_back}
 
 -- no line yet
@@ -47,6 +48,7 @@ work_is m cpu (work.Event event) text new h ran = event_is m cpu event text new 
 work_is m cpu (work.Plan plan turns) text new h ran = plan_is m cpu turns plan text new h ran
 work_is m cpu (work.Echo path word) text new h ran = echo_is m cpu path word text new h ran
 work_is m cpu (work.Cat path) text new h ran = subst IsUpToDate (sym ran.1) h
+work_is m cpu work.Seal text new h ran = seal_is m text new h ran
 
 lines_are : (xs : List Line) (m new : MachineValue) (text : List ℕ) → IsUpToDate m → WritesLines m xs text new → IsUpToDate new
 unfolding WritesLines
@@ -77,6 +79,7 @@ work_due m cpu (work.Event event) text new rest ran whole = event_due m cpu even
 work_due m cpu (work.Plan plan turns) text new rest ran whole = plan_due m cpu turns plan text new rest ran whole
 work_due m cpu (work.Echo path word) text new rest ran whole = echo_due m cpu path word text new rest ran whole
 work_due m cpu (work.Cat path) text new rest ran whole = (cat_due m path text rest ran.0 whole, ran.1)
+work_due m cpu work.Seal text new rest ran whole = seal_due m text new rest ran whole
 
 -- a line in front that wrote what is due, since the text is whole
 line_due : (x : Line) (xs : List Line) (m next new : MachineValue) (text written rest end : List ℕ) → WritesLine m x written next → text ≡ written ++ rest → (IsWhole (rest ++ end) → AreDue next xs rest new) → IsWhole (written ++ (rest ++ end)) → AreDue m (x ∷ xs) text new

@@ -1,7 +1,9 @@
 -- From the parts of a run to the whole: what was read, how its lines were parted and worked off, and why not.
-use Rattle.std.proofs.Common.{◌≡◌, ℕ, List, length, Option, Some, None, Result, Ok, sym, ap, subst, ◌∙◌, inl, inr}
+use Rattle.std.proofs.Common.{◌≡◌, ℕ, List, [], length, Option, Some, None, Result, Ok, sym, ap, subst, ◌∙◌, inl, inr}
+use Rattle.hp_units.specs.Boot.{boot_memory}
 use Rattle.hp_units.specs.LayoutParts.{LayoutParts}
 use Rattle.hp_machine.specs.Machine.{MachineValue}
+use Rattle.hp_history.specs.declared.volumes.Volume.{Volume}
 use Rattle.hp_scenario.specs.declared.fault.ScenarioFault.{ScenarioFault}
 use Rattle.hp_scenario.specs.declared.fault.ScenarioFault.TheVariants as scenario
 use Rattle.hp_scenario.specs.declared.lines.Line.{Line}
@@ -19,7 +21,7 @@ use Rattle.hp_workers.specs.Workers.{AreWorkers, IsRunEnd}
 use Rattle.hotplug.specs.Faults.{IsFaultOf, IsWorkFault, close_fault_from, fault_from, run_fault_from}
 use Rattle.hotplug.specs.Runs.{IsRunOf, IsWorkedOff}
 use Rattle.hotplug.specs.declared.fault.ProgramFault.{ProgramFault}
-use Rattle.hotplug.specs.declared.fault.ProgramFault.TheVariants.{ReadFailed, TooLong, NotJson, BadShape, Layout, BadLine, NotForRun, OutOfMemory, NotStarted, SeatMissing, Mismatch, WrongReply, WrongSerial, AuditDiffers, WriteFailed}
+use Rattle.hotplug.specs.declared.fault.ProgramFault.TheVariants.{ReadFailed, TooLong, NotJson, BadShape, Layout, BadLine, NotForRun, OutOfMemory, NotStarted, SeatMissing, Mismatch, WrongReply, WrongSerial, AuditDiffers, WriteFailed, BrokenChain}
 use Rattle.hotplug.specs.declared.words.Command.TheVariants.{Run}
 use Rattle.hotplug.proofs.Seated.{has_each}
 use Rattle.hotplug.proofs.Unfit.{only_not_for_run}
@@ -50,10 +52,11 @@ unstarted (running.NotStarted cpu) = tt
 unstarted running.OutOfMemory = tt
 
 -- the machine was not closed: no seat is missing
-pub unclosed : (l : LayoutParts) (scripts : List (List Line)) (seats : List SeatValue) (ends : List (List LineEnd)) (fault : CloseFault) → length scripts ≡ l.cpus → AreWorkers l (first_seats l.cpus) scripts seats ends None → HasCause l seats fault → IsWorkFault (close_fault_from fault)
-unclosed l scripts seats ends closing.SeatMissing count workers cause = absurd (cause.fault (has_each l scripts seats ends None count workers))
-unclosed l scripts seats ends (closing.Mismatch serial) count workers cause = tt
-unclosed l scripts seats ends closing.OutOfMemory count workers cause = tt
+pub unclosed : (l : LayoutParts) (scripts : List (List Line)) (seats : List SeatValue) (ends : List (List LineEnd)) (volumes : List Volume) (fault : CloseFault) → length scripts ≡ l.cpus → AreWorkers l (first_seats l.cpus) scripts seats ends None → HasCause l seats volumes fault → IsWorkFault (close_fault_from fault)
+unclosed l scripts seats ends volumes closing.SeatMissing count workers cause = absurd (cause.fault (has_each l scripts seats ends None count workers))
+unclosed l scripts seats ends volumes (closing.WrongVolume at) count workers cause = tt
+unclosed l scripts seats ends volumes (closing.Mismatch serial) count workers cause = tt
+unclosed l scripts seats ends volumes closing.OutOfMemory count workers cause = tt
 
 -- so the command fails
 pub work_fails : (input : List ℕ) (fault : ProgramFault) → IsWorkFault fault → IsFaultOf Run (Some input) ⊥ ⊥ fault
@@ -72,6 +75,7 @@ work_fails input (WrongReply serial) h = absurd h
 work_fails input (WrongSerial at) h = absurd h
 work_fails input AuditDiffers h = absurd h
 work_fails input WriteFailed h = absurd h
+work_fails input (BrokenChain at) h = tt
 
 -- ---- the run
 
@@ -81,8 +85,11 @@ all_ran l olds scripts news ends fault first none (inl unstarted) = let bad : No
 all_ran l olds scripts news ends fault first none (inr workers) =
     subst (λ (f : Option RunFault). AreWorkers l (first_seats l.cpus) scripts news ends f) none (subst (λ (xs : List SeatValue). AreWorkers l xs scripts news ends fault) first workers)
 
-pub worked_off : (l : LayoutParts) (scripts : List (List Line)) (seats : List SeatValue) (ends : List (List LineEnd)) (m : MachineValue) (count : ℕ) → AreWorkers l (first_seats l.cpus) scripts seats ends None → IsClosed l seats m count → IsWorkedOff l scripts ends m count
-worked_off l scripts seats ends m count workers closed = record { seats = seats; workers = workers; closed = closed }
+pub worked_off : (l : LayoutParts) (scripts : List (List Line)) (seats : List SeatValue) (volumes : List Volume) (ends : List (List LineEnd)) (m : MachineValue) (count : ℕ) → AreWorkers l (first_seats l.cpus) scripts seats ends None → volumes ≡ [] → IsClosed l seats volumes m count → (m.before ≡ 0 → m.base ≡ boot_memory m.layout) → IsWorkedOff l scripts ends m count
+worked_off l scripts seats volumes ends m count workers none closed boots =
+    let at_boot : IsClosed l seats [] m count = subst (λ (vs : List Volume). IsClosed l seats vs m count) none closed in
+    let before : m.before ≡ 0 = sym at_boot.checked.reach.sealed_all in
+    record { seats = seats; workers = workers; closed = at_boot; before = before; base = boots before }
 
 pub run_is : (input : List ℕ) (s : ScenarioValue) (scripts : List (List Line)) (ends : List (List LineEnd)) (m : MachineValue) (count : ℕ) → scenario_in input ≡ Ok s → scripts_of s ≡ Ok scripts → IsWorkedOff s.layout scripts ends m count → IsRunOf input ends m count
 run_is input s scripts ends m count read parted worked = record { scenario = s; read = read; scripts = scripts; parted = parted; worked = worked }

@@ -17,7 +17,7 @@ use Rattle.hotplug.specs.Runs.{IsAuditTextOf, IsRunTextOf, scripts_in}
 use Rattle.hotplug.specs.Served.{IsTextOf, ReadsAll, Serves, WritesTextOf}
 use Rattle.hotplug.specs.Faults.{IsReadFault, IsFaultOf, fault_from, limit}
 use Rattle.hotplug.specs.declared.fault.ProgramFault.{ProgramFault}
-use Rattle.hotplug.specs.declared.fault.ProgramFault.TheVariants.{ReadFailed, TooLong, NotJson, BadShape, Layout, BadLine, NotForRun, OutOfMemory, NotStarted, SeatMissing, Mismatch, WrongReply, WrongSerial, AuditDiffers, WriteFailed}
+use Rattle.hotplug.specs.declared.fault.ProgramFault.TheVariants.{ReadFailed, TooLong, NotJson, BadShape, Layout, BadLine, NotForRun, OutOfMemory, NotStarted, SeatMissing, Mismatch, WrongReply, WrongSerial, AuditDiffers, WriteFailed, BrokenChain}
 use Rattle.hotplug.specs.declared.words.Command.{Command}
 use Rattle.hotplug.specs.declared.words.Command.TheVariants.{Serial, Run, Audit}
 use Rattle.hotplug.proofs.Unfit.{never_not_for_run}
@@ -49,6 +49,7 @@ read_fault command known read written (WrongReply n) h = absurd h
 read_fault command known read written (WrongSerial n) h = absurd h
 read_fault command known read written AuditDiffers h = absurd h
 read_fault command known read written WriteFailed h = absurd h
+read_fault command known read written (BrokenChain n) h = absurd h
 
 -- a fault of the bytes is one of the reader that gave them all
 input_fault_of : (command : Command) (a b : Option (List ℕ)) (input : List ℕ) (read written : Type 0) (fault : ProgramFault) → Consumes a b input → IsAtEnd b → IsFaultOf command (Some input) ⊥ ⊥ fault → IsFaultOf command a read written fault
@@ -67,6 +68,7 @@ input_fault_of command a b input read written (WrongReply n) p end h = absurd h
 input_fault_of command a b input read written (WrongSerial n) p end h = absurd h
 input_fault_of command a b input read written AuditDiffers p end h = absurd h
 input_fault_of command a b input read written WriteFailed p end h = absurd h
+input_fault_of command a b input read written (BrokenChain n) p end h = h
 
 -- `seen` is the slice that was passed on
 pub input_fault : (command : Command) (a b : Option (List ℕ)) (input seen : List ℕ) (read written : Type 0) (fault : ProgramFault) → seen ≡ input → Consumes a b input → IsAtEnd b → IsFaultOf command (Some seen) ⊥ ⊥ fault → IsFaultOf command a read written fault

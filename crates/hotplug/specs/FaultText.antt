@@ -3,7 +3,7 @@ use Rattle.std.specs.Prelude.{ℕ, List, ◌++◌, codes}
 use Rattle.std.specs.Fmt.{decimal}
 use Rattle.hp_units.specs.Texts.{layout_fault_text}
 use Rattle.hotplug.specs.declared.fault.ProgramFault.{ProgramFault}
-use Rattle.hotplug.specs.declared.fault.ProgramFault.TheVariants.{ReadFailed, TooLong, NotJson, BadShape, Layout, BadLine, NotForRun, OutOfMemory, NotStarted, SeatMissing, Mismatch, WrongReply, WrongSerial, AuditDiffers, WriteFailed}
+use Rattle.hotplug.specs.declared.fault.ProgramFault.TheVariants.{ReadFailed, TooLong, NotJson, BadShape, Layout, BadLine, NotForRun, OutOfMemory, NotStarted, SeatMissing, Mismatch, WrongReply, WrongSerial, AuditDiffers, WriteFailed, BrokenChain}
 
 abbrev pub fault_text : ProgramFault → List ℕ
 fault_text ReadFailed = codes "hotplug: reading failed"
@@ -21,3 +21,4 @@ fault_text (WrongReply serial) = codes "hotplug: audit fault at record " ++ deci
 fault_text (WrongSerial at) = codes "hotplug: audit fault at position " ++ decimal at
 fault_text AuditDiffers = codes "hotplug: audit differs"
 fault_text WriteFailed = codes "hotplug: writing failed"
+fault_text (BrokenChain at) = codes "hotplug: volume " ++ decimal at ++ codes " does not follow"

@@ -10,7 +10,7 @@ use Rattle.hp_shared.specs.declared.closing.CloseFault.TheVariants as closing
 use Rattle.hp_workers.specs.declared.fault.RunFault.{RunFault}
 use Rattle.hp_workers.specs.declared.fault.RunFault.TheVariants as running
 use Rattle.hotplug.specs.declared.fault.ProgramFault.{ProgramFault}
-use Rattle.hotplug.specs.declared.fault.ProgramFault.TheVariants.{ReadFailed, TooLong, NotJson, BadShape, Layout, BadLine, NotForRun, OutOfMemory, NotStarted, SeatMissing, Mismatch, WrongReply, WrongSerial, AuditDiffers, WriteFailed}
+use Rattle.hotplug.specs.declared.fault.ProgramFault.TheVariants.{ReadFailed, TooLong, NotJson, BadShape, Layout, BadLine, NotForRun, OutOfMemory, NotStarted, SeatMissing, Mismatch, WrongReply, WrongSerial, AuditDiffers, WriteFailed, BrokenChain}
 use Rattle.hotplug.specs.declared.words.Command.{Command}
 use Rattle.hotplug.specs.declared.words.Command.TheVariants.{Serial, Run, Audit}
 use Rattle.hotplug.specs.Runs.{scripts_in}
@@ -29,6 +29,7 @@ run_fault_from running.OutOfMemory = OutOfMemory
 
 abbrev pub close_fault_from : CloseFault → ProgramFault
 close_fault_from closing.SeatMissing = SeatMissing
+close_fault_from (closing.WrongVolume at) = BrokenChain at
 close_fault_from (closing.Mismatch serial) = Mismatch serial
 close_fault_from closing.OutOfMemory = OutOfMemory
 
@@ -68,6 +69,7 @@ IsFaultOf command known read written (WrongReply serial) = ⊥
 IsFaultOf command known read written (WrongSerial at) = ⊥
 IsFaultOf command known read written AuditDiffers = ⊥
 IsFaultOf command known read written WriteFailed = written
+IsFaultOf command known read written (BrokenChain at) = HasWorkers command
 
 -- of reading alone
 abbrev pub IsReadFault : (known : Option (List ℕ)) (read : Type 0) → ProgramFault → Type 0
@@ -81,4 +83,5 @@ abbrev pub IsWorkFault : ProgramFault → Type 0
 IsWorkFault OutOfMemory = Unit {0}
 IsWorkFault (NotStarted cpu) = Unit {0}
 IsWorkFault (Mismatch serial) = Unit {0}
+IsWorkFault (BrokenChain at) = Unit {0}
 IsWorkFault _ = ⊥

@@ -6,6 +6,7 @@ pub mod Files
 pub mod Outcomes
 pub mod Plans
 pub mod Runs
+pub mod Seals
 pub mod Serial
 pub mod Served
 pub mod Streams

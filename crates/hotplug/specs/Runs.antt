@@ -2,6 +2,7 @@
 use Rattle.std.specs.Prelude.{◌≡◌, ℕ, List, [], ◌++◌, codes, length, slice_get, Option, Some, None, Result, Ok}
 use Rattle.std.specs.Fmt.{decimal}
 use Rattle.std.specs.List.{flat_map}
+use Rattle.hp_units.specs.Boot.{boot_memory}
 use Rattle.hp_units.specs.LayoutParts.{LayoutParts}
 use Rattle.hp_machine.specs.Machine.{MachineValue}
 use Rattle.hp_scenario.specs.declared.fault.ScenarioFault.{ScenarioFault}
@@ -48,11 +49,13 @@ abbrev pub scripts_in : List ℕ → Result (List (List Line)) ScenarioFault
 scripts_in input = scenario_in input >>= scripts_of
 
 -- each processor's seat ran its script to the end, which left these ends; and the machine's records are exactly those of the
--- seats' receipts, in one legal history
+-- seats' receipts, in one legal history from boot on, of which nothing was sealed
 pub record IsWorkedOff (l : LayoutParts) (scripts : List (List Line)) (ends : List (List LineEnd)) (m : MachineValue) (count : ℕ) : Type 0 where
   pub seats : List SeatValue
   pub workers : AreWorkers l (first_seats l.cpus) scripts seats ends None
-  pub closed : IsClosed l seats m count
+  pub closed : IsClosed l seats [] m count
+  pub before : m.before ≡ 0
+  pub base : m.base ≡ boot_memory m.layout
 
 -- the bytes are a scenario whose scripts were worked off
 pub record IsRunOf (input : List ℕ) (ends : List (List LineEnd)) (m : MachineValue) (count : ℕ) : Type 0 where

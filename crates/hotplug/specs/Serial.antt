@@ -1,7 +1,7 @@
 -- The text that a scenario makes.
 use Rattle.std.specs.Prelude.{◌≡◌, ℕ, List, [], ◌∷◌, ◌++◌, codes, Result, Ok}
 use Rattle.hp_units.specs.History.{value_of}
-use Rattle.hp_machine.specs.Machine.{MachineValue, booted}
+use Rattle.hp_machine.specs.Machine.{MachineValue, booted, sealed}
 use Rattle.hp_control.specs.Writes.{echo_request}
 use Rattle.hp_scenario.specs.declared.fault.ScenarioFault.{ScenarioFault}
 use Rattle.hp_scenario.specs.declared.lines.Line.{Line}
@@ -12,6 +12,7 @@ use Rattle.hp_scenario.specs.Scenario.{ScenarioValue, scenario_in}
 use Rattle.hotplug.specs.Events.{WritesEvent, event_text, machine_after_event}
 use Rattle.hotplug.specs.Files.{WritesEcho, WritesFile, cat_text, machine_after_request, request_text}
 use Rattle.hotplug.specs.Plans.{WritesPlan, plan_run, plan_text}
+use Rattle.hotplug.specs.Seals.{WritesSeal, seal_text}
 use Rattle.hp_text.specs.State.{state_text}
 
 -- ---- one line
@@ -22,12 +23,14 @@ work_text m cpu (work.Event event) = event_text m cpu event
 work_text m cpu (work.Plan plan turns) = plan_text m cpu turns plan
 work_text m cpu (work.Echo path word) = request_text m cpu (echo_request path word)
 work_text m cpu (work.Cat path) = cat_text m path
+work_text m cpu work.Seal = seal_text m
 
 abbrev pub machine_after_work : MachineValue → (cpu : ℕ) → Work → MachineValue
 machine_after_work m cpu (work.Event event) = machine_after_event m cpu event
 machine_after_work m cpu (work.Plan plan turns) = (plan_run m cpu turns plan).machine
 machine_after_work m cpu (work.Echo path word) = machine_after_request m cpu (echo_request path word)
 machine_after_work m cpu (work.Cat path) = m
+machine_after_work m cpu work.Seal = sealed m
 
 abbrev pub line_text : MachineValue → Line → List ℕ
 line_text m line = work_text m line.cpu line.work
@@ -70,6 +73,7 @@ WritesWork m cpu (work.Event event) text new = WritesEvent m cpu event text new
 WritesWork m cpu (work.Plan plan turns) text new = WritesPlan m cpu turns plan text new
 WritesWork m cpu (work.Echo path word) text new = WritesEcho m cpu path word text new
 WritesWork m cpu (work.Cat path) text new = WritesFile m path text × (new ≡ m)
+WritesWork m cpu work.Seal text new = WritesSeal m text new
 
 -- a line was run
 abbrev pub WritesLine : MachineValue → Line → (text : List ℕ) → (new : MachineValue) → Type 0

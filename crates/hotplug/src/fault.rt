@@ -27,7 +27,7 @@ pub enum ProgramFault {
     Layout(LayoutFault),
     /// A text of `calls` is no line; lines are counted from 1.
     BadLine { line: u64 },
-    /// A line that no worker may run: it reads a control file, or its processor is not in the layout; lines are counted from 1.
+    /// A line that no worker may run: it reads a control file or seals, or its processor is not in the layout; lines are counted from 1.
     NotForRun { line: u64 },
     /// Out of memory.
     OutOfMemory,
@@ -45,6 +45,8 @@ pub enum ProgramFault {
     AuditDiffers,
     /// The writer failed.
     WriteFailed,
+    /// The volume at this place, counted from 0, does not follow those before it.
+    BrokenChain { at: u64 },
 }
 
 impl fmt::Display for ProgramFault {
@@ -73,6 +75,7 @@ impl fmt::Display for ProgramFault {
             ProgramFault::WrongSerial { at } => write!(f, "hotplug: audit fault at position {at}"),
             ProgramFault::AuditDiffers => write!(f, "hotplug: audit differs"),
             ProgramFault::WriteFailed => write!(f, "hotplug: writing failed"),
+            ProgramFault::BrokenChain { at } => write!(f, "hotplug: volume {at} does not follow"),
         }
     }
 }
@@ -128,6 +131,7 @@ impl From<CloseFault> for ProgramFault {
     fn from(fault: CloseFault) -> ProgramFault {
         match fault {
             CloseFault::SeatMissing => ProgramFault::SeatMissing,
+            CloseFault::WrongVolume { at } => ProgramFault::BrokenChain { at },
             CloseFault::Mismatch { serial } => ProgramFault::Mismatch { serial },
             CloseFault::OutOfMemory => ProgramFault::OutOfMemory,
         }

@@ -14,6 +14,7 @@ mod files;
 mod outcome;
 mod plans;
 mod runs;
+mod seals;
 mod serial;
 mod serve;
 mod streams;

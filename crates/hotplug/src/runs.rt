@@ -84,8 +84,11 @@ fn run_scripts<L: Job + Send + Sync, R: Threads + Wait + Sync>(
     if let Some(fault) = fault {
         return Err(ProgramFault::from(fault));
     }
-    match close(alloc, shared, seats) {
-        Ok(closed) => Ok(Worked { closed, ends }),
+    match close(alloc, shared, seats, Vec::new(alloc)) {
+        Ok(closed) => {
+            closed.machine.begins_at_boot();
+            Ok(Worked { closed, ends })
+        }
         Err(refused) => Err(ProgramFault::from(refused.fault)),
     }
 }

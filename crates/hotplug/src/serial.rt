@@ -7,6 +7,7 @@ ghost use Rattle.hotplug.specs.Served.{IsTextOf};
 use crate::events::write_event;
 use crate::files::{write_echo, write_file};
 use crate::plans::write_plan;
+use crate::seals::write_seal;
 use hp_machine::Machine;
 use hp_scenario::{Line, Scenario, ScenarioFault, Work};
 use hp_text::write_state;
@@ -55,5 +56,6 @@ fn write_line(
         Work::Plan { plan, turns } => write_plan(out, alloc, machine, line.cpu, plan, *turns),
         Work::Echo { path, text } => write_echo(out, alloc, machine, line.cpu, path, text),
         Work::Cat { path } => write_file(out, alloc, machine, path),
+        Work::Seal => write_seal(out, alloc, machine),
     }
 }

@@ -11,6 +11,7 @@ mod layouts;
 mod plans_and_files;
 mod runs;
 mod scenarios;
+mod seals;
 
 /// Gives bytes in pieces, and fails at one of its calls, counted from 1; at none where that is 0.
 #[derive(Drop)]
@@ -445,6 +446,11 @@ fn ends_of_runs_have_their_status_and_text(rt: HostRuntime) -> Result<(), Fail> 
             Outcome::Failed(ProgramFault::AuditDiffers),
             1,
             "hotplug: audit differs",
+        ),
+        (
+            Outcome::Failed(ProgramFault::BrokenChain { at: 2 }),
+            1,
+            "hotplug: volume 2 does not follow",
         ),
     ] {
         assert!(rt; is_said(rt.alloc(), outcome, status, text)?, "{text}");

@@ -7,7 +7,7 @@ use Rattle.hp_units.specs.declared.rows.Wish.{Wish}
 use Rattle.hp_units.specs.declared.rows.Wish.TheVariants as wish
 use Rattle.hp_units.specs.declared.rows.Zone.{Zone}
 use Rattle.hp_units.specs.declared.rows.Zone.TheVariants as zone
-use Rattle.hp_scenario.specs.Lines.{Request, plain, named, Said, words_say, request_of, event_of, only_number, zone_of, wish_of, item_of, items_of, text_of, kalloc_of, kfree_of, map_of, unmap_of, write_of, read_of, drain_of, online_of, begin_of, drainfor_of, migrate_of, commit_of, cancel_of, undo_of, remove_of, plan_of, echo_of, cat_of}
+use Rattle.hp_scenario.specs.Lines.{Request, plain, named, Said, words_say, request_of, event_of, only_number, zone_of, wish_of, item_of, items_of, text_of, kalloc_of, kfree_of, map_of, unmap_of, write_of, read_of, drain_of, online_of, begin_of, drainfor_of, migrate_of, commit_of, cancel_of, undo_of, remove_of, plan_of, echo_of, cat_of, seal_of}
 use Rattle.hp_scenario.specs.Spelling.{zone_word, wish_word, item_words, request_words, FitItems, FitsRequest, IsText, CanBeSaid, is_spaceless}
 use Rattle.hp_units.specs.NumberWords.{number_of}
 use Rattle.hp_scenario.specs.Words.{name_of, is_name}
@@ -51,7 +51,7 @@ read_items [] fit = refl
 read_items (item ∷ items) fit = rw (read_item item fit.0, read_items items fit.1) refl
 
 pub read_request : (r : Request) → FitsRequest r → request_of (request_words r) ≡ Some r
-unfolding request_of event_of only_number kalloc_of kfree_of map_of unmap_of write_of read_of drain_of online_of begin_of drainfor_of migrate_of commit_of cancel_of undo_of remove_of plan_of echo_of cat_of
+unfolding request_of event_of only_number kalloc_of kfree_of map_of unmap_of write_of read_of drain_of online_of begin_of drainfor_of migrate_of commit_of cancel_of undo_of remove_of plan_of echo_of cat_of seal_of
 read_request (plain (work.Event (KernelAlloc order))) fits = rw (read32 order fits) refl
 read_request (plain (work.Event (KernelFree frame))) fits = rw (read32 frame fits) refl
 read_request (plain (work.Event (Map owner page))) fits = absurd fits
@@ -72,6 +72,7 @@ read_request (plain (work.Event (SetAuto auto))) fits = absurd fits
 read_request (plain (work.Plan items turns)) fits = rw (read32 turns fits.0, read_items items fits.1) refl
 read_request (plain (work.Echo path text)) fits = rw (read_text text fits.0, read_text path fits.1) refl
 read_request (plain (work.Cat path)) fits = rw (read_text path fits) refl
+read_request (plain work.Seal) fits = refl
 read_request (named name (access.Map page)) fits = rw (read_name name fits.0, read32 page fits.1) refl
 read_request (named name (access.Unmap page)) fits = rw (read_name name fits.0, read32 page fits.1) refl
 read_request (named name (access.Write page index value)) fits = rw (read_name name fits.0, read32 page fits.1.0, read32 index fits.1.1, read64 value fits.1.2) refl
@@ -120,6 +121,7 @@ spaceless_request (plain (work.Event (SetAuto auto))) fits = absurd fits
 spaceless_request (plain (work.Plan items turns)) fits = (refl, (small turns fits.0, spaceless_items items fits.1))
 spaceless_request (plain (work.Echo path text)) fits = (refl, (fits.0.0, (fits.1.0, tt)))
 spaceless_request (plain (work.Cat path)) fits = (refl, (fits.0, tt))
+spaceless_request (plain work.Seal) fits = (refl, tt)
 spaceless_request (named name (access.Map page)) fits = (refl, (name_spaceless name fits.0, (small page fits.1, tt)))
 spaceless_request (named name (access.Unmap page)) fits = (refl, (name_spaceless name fits.0, (small page fits.1, tt)))
 spaceless_request (named name (access.Write page index value)) fits = (refl, (name_spaceless name fits.0, (small page fits.1.0, (small index fits.1.1, (decimal_spaceless value fits.1.2, tt)))))

@@ -8,7 +8,7 @@ use Rattle.hp_units.specs.declared.rows.Wish.{Wish}
 use Rattle.hp_units.specs.declared.rows.Wish.TheVariants as wish
 use Rattle.hp_units.specs.declared.rows.Zone.{Zone}
 use Rattle.hp_units.specs.declared.rows.Zone.TheVariants as zone
-use Rattle.hp_scenario.specs.Lines.{Request, plain, named, event, Said, words_say, request_of, event_of, only_number, zone_of, wish_of, item_of, items_of, text_of, kalloc_of, kfree_of, map_of, unmap_of, write_of, read_of, drain_of, online_of, begin_of, drainfor_of, migrate_of, commit_of, cancel_of, undo_of, remove_of, plan_of, echo_of, cat_of}
+use Rattle.hp_scenario.specs.Lines.{Request, plain, named, event, Said, words_say, request_of, event_of, only_number, zone_of, wish_of, item_of, items_of, text_of, kalloc_of, kfree_of, map_of, unmap_of, write_of, read_of, drain_of, online_of, begin_of, drainfor_of, migrate_of, commit_of, cancel_of, undo_of, remove_of, plan_of, echo_of, cat_of, seal_of}
 use Rattle.hp_scenario.specs.Spelling.{zone_word, wish_word, item_words, request_words, FitItems, FitsRequest, IsText, CanBeSaid, is_spaceless}
 use Rattle.hp_units.specs.NumberWords.{number_of}
 use Rattle.hp_scenario.specs.Words.{name_of, is_name}
@@ -290,6 +290,11 @@ cat_spelled (path ∷ []) r h e =
     subst (λ (q : Request). IsSpelled (codes "cat" ∷ path ∷ []) q) m.2 (same1 (codes "cat") _ _ p.0, p.1)
 cat_spelled (path ∷ next ∷ rest) r h e = absurd cc
 
+seal_spelled : (args : List (List ℕ)) (r : Request) → seal_of args ≡ Some r → IsSpelled (codes "seal" ∷ args) r
+unfolding seal_of
+seal_spelled [] r e = along _ (plain work.Seal) r e (refl, tt)
+seal_spelled (word ∷ rest) r e = absurd cc
+
 -- ---- lines
 
 -- the verb is this word, or the rest of the verbs decide
@@ -309,7 +314,7 @@ pub request_spelled : (words : List (List ℕ)) (r : Request) → AreSpaceless w
 unfolding request_of
 request_spelled [] r h e = absurd cc
 request_spelled (verb ∷ args) r h e =
-    choose verb (codes "begin") args (begin_of args) _ r (begin_spelled args r) (choose verb (codes "plan") args (plan_of args) _ r (plan_spelled args r) (choose verb (codes "echo") args (echo_of args) _ r (echo_spelled args r h.1) (choose verb (codes "cat") args (cat_of args) _ r (cat_spelled args r h.1) (event_spelled verb args r)))) e
+    choose verb (codes "begin") args (begin_of args) _ r (begin_spelled args r) (choose verb (codes "plan") args (plan_of args) _ r (plan_spelled args r) (choose verb (codes "echo") args (echo_of args) _ r (echo_spelled args r h.1) (choose verb (codes "cat") args (cat_of args) _ r (cat_spelled args r h.1) (choose verb (codes "seal") args (seal_of args) _ r (seal_spelled args r) (event_spelled verb args r))))) e
 
 pub said_spelled : (words : List (List ℕ)) (said : Said) → AreSpaceless words → words_say words ≡ Some said → (words ≡ decimal said.cpu ∷ request_words said.request) × CanBeSaid said
 unfolding words_say

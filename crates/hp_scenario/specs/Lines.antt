@@ -163,6 +163,10 @@ unfoldable pub cat_of : List (List ℕ) → Option Request
 cat_of (path ∷ []) = option_map (λ p. plain (work.Cat p)) (text_of path)
 cat_of _ = None
 
+unfoldable pub seal_of : List (List ℕ) → Option Request
+seal_of [] = Some (plain work.Seal)
+seal_of _ = None
+
 -- ---- a line
 
 -- the event that a verb and the words behind it ask for, where it has no list
@@ -192,7 +196,8 @@ request_of (verb ∷ args) =
     else (if bytes_eq verb (codes "plan") then plan_of args
     else (if bytes_eq verb (codes "echo") then echo_of args
     else (if bytes_eq verb (codes "cat") then cat_of args
-    else event_of verb args)))
+    else (if bytes_eq verb (codes "seal") then seal_of args
+    else event_of verb args))))
 
 -- a processor and what it asks for
 pub record Said : Type 0 where

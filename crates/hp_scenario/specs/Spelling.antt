@@ -56,6 +56,7 @@ work_words (work.Event event) = event_words event
 work_words (work.Plan items turns) = codes "plan" ∷ decimal turns ∷ item_words items
 work_words (work.Echo path text) = codes "echo" ∷ text ∷ path ∷ []
 work_words (work.Cat path) = codes "cat" ∷ path ∷ []
+work_words work.Seal = codes "seal" ∷ []
 
 abbrev pub request_words : Request → List (List ℕ)
 request_words (plain w) = work_words w
@@ -102,6 +103,7 @@ FitsWork (work.Event event) = FitsEvent event
 FitsWork (work.Plan items turns) = (turns < 2 ^ 32) × FitItems items
 FitsWork (work.Echo path text) = IsText text × IsText path
 FitsWork (work.Cat path) = IsText path
+FitsWork work.Seal = Unit {0}
 
 abbrev pub FitsRequest : Request → Type 0
 FitsRequest (plain w) = FitsWork w

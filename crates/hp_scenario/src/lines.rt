@@ -15,6 +15,8 @@ pub enum Work {
     Echo { path: Text, text: Text },
     /// A control file read.
     Cat { path: Text },
+    /// The records since the last seal handed out.
+    Seal,
 }
 
 /// One line: a processor and what it asks for.

@@ -5,7 +5,7 @@ ghost use Rattle.hp_scenario.specs.Seen.{request_seen, said_seen};
 ghost use Rattle.hp_scenario.specs.Words.{words_of};
 
 use crate::lines::Work;
-use crate::verbs::{begin, cat, echo, event_from, plan};
+use crate::verbs::{begin, cat, echo, event_from, plan, seal};
 use hp_units::{Cpu, Event, Page, number32};
 use std::alloc::{AllocError, Global};
 
@@ -84,6 +84,7 @@ fn request_from<'a>(alloc: Global, words: &[&'a str]) -> Result<Option<Request<'
         "plan" => plan(alloc, args),
         "echo" => echo(alloc, args),
         "cat" => cat(alloc, args),
+        "seal" => Ok(seal(args)),
         _ => Ok(event_from(verb, args)),
     }
 }

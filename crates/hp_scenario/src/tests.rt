@@ -34,10 +34,10 @@ fn reads_a_scenario(rt: HostRuntime) -> Result<(), Fail> {
 #[test]
 fn reads_plans_and_files(rt: HostRuntime) -> Result<(), Fail> {
     let calls =
-        r#""0 plan 5 off 2 movable 3","1 echo offline memory2/state","0 cat buddyinfo","0 remove 3""#;
+        r#""0 plan 5 off 2 movable 3","1 echo offline memory2/state","0 cat buddyinfo","0 remove 3","7 seal""#;
     let text = text_of(rt.alloc(), LAYOUT, calls)?;
     let scenario = Scenario::read(rt.alloc(), text.as_bytes())?;
-    let [plan, echo, cat, remove] = scenario.lines.as_slice() else {
+    let [plan, echo, cat, remove, seal] = scenario.lines.as_slice() else {
         return Err(Fail::from(AllocError));
     };
     assert!(rt; matches!(&plan.work, Work::Plan { plan, turns: 5 } if plan.as_slice().len() == 2));
@@ -48,6 +48,8 @@ fn reads_plans_and_files(rt: HostRuntime) -> Result<(), Fail> {
     );
     assert!(rt; matches!(&cat.work, Work::Cat { path } if path.as_str() == "buddyinfo"));
     assert!(rt; matches!(&remove.work, Work::Event(Event::Remove { block: b }) if *b == Block(3)));
+    assert!(rt; matches!(&seal.work, Work::Seal));
+    assert_eq!(rt; seal.cpu, Cpu(7));
     Ok(())
 }
 
@@ -125,7 +127,9 @@ fn refuses_other_lines(rt: HostRuntime) -> Result<(), Fail> {
         "0 cat ",
         "0 cat memory3/state now",
         "0 remove 03",
-        "0 seal",
+        "0 seal 1",
+        "0 seal ",
+        "seal",
     ];
     for line in lines {
         let calls = format!(in rt.alloc(); "\"{line}\"")?;

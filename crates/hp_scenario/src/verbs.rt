@@ -277,6 +277,16 @@ pub(crate) fn cat<'a>(alloc: Global, args: &[&'a str]) -> Result<Option<Request<
     Ok(Some(Request::Plain(Work::Cat { path })))
 }
 
+#[tactic(auto, unfolding(crate::specs::Lines::seal_of))]
+pub(crate) fn seal<'a>(args: &[&'a str]) -> Option<Request<'a>>
+    ensures { option_map request_seen result ≡ says.seal_of (map (λ w. w.now) args.now) }
+{
+    match args {
+        [] => Some(Request::Plain(Work::Seal)),
+        [_, ..] => None,
+    }
+}
+
 /// The text of a word of one byte or more.
 fn text_from(alloc: Global, word: &str) -> Result<Option<Text>, AllocError>
     ensures { IfOk result (λ text. text ≡ says.text_of word.now) }

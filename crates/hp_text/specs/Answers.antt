@@ -21,3 +21,7 @@ fault_line fault = codes "fault " ++ call_fault_text fault ++ newline
 -- a dash in place of a serial, and why there is none
 abbrev pub unrecorded_line : CallFault → List ℕ
 unrecorded_line fault = codes "-: fault " ++ call_fault_text fault ++ newline
+
+-- how many records a seal handed out
+abbrev pub sealed_line : ℕ → List ℕ
+sealed_line count = codes "sealed " ++ decimal count ++ newline

@@ -1,6 +1,6 @@
 //! The answer to an event.
 ghost use Rattle.std.specs.Prelude.{◌≡◌, ◌++◌, OnOk, string_bytes};
-ghost use Rattle.hp_text.specs.Answers.{bare_reply_line, fault_line, reply_line, unrecorded_line};
+ghost use Rattle.hp_text.specs.Answers.{bare_reply_line, fault_line, reply_line, sealed_line, unrecorded_line};
 
 use hp_units::{CallFault, Receipt, Reply};
 use std::alloc::AllocError;
@@ -34,4 +34,11 @@ pub fn write_call_fault(out: &mut String, fault: CallFault) -> Result<(), AllocE
     ensures { OnOk result (string_bytes out.new ≡ string_bytes out.old ++ fault_line fault) }
 {
     writeln!(out, "fault {fault}")
+}
+
+/// Writes how many records a seal handed out, as `sealed 3` (own rule).
+pub fn write_sealed(out: &mut String, count: u64) -> Result<(), AllocError>
+    ensures { OnOk result (string_bytes out.new ≡ string_bytes out.old ++ sealed_line count) }
+{
+    writeln!(out, "sealed {count}")
 }

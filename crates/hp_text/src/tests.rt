@@ -1,7 +1,7 @@
 //! Each writer once, and a state with a page.
 use crate::{
     write_call_fault, write_echo_fault, write_plan_end, write_read_fault, write_receipt,
-    write_reply, write_state, write_unrecorded,
+    write_reply, write_sealed, write_state, write_unrecorded,
 };
 use hp_control::ControlFault;
 use hp_machine::Machine;
@@ -15,7 +15,7 @@ use std::alloc::{AllocError, Global};
 use std::test::Fail;
 
 const ANSWERS: &str =
-    "3: frame 8\nrefused Busy 2\n-: fault HistoryFull\nfault OutOfMemory\ncat: fault NoFile\necho: fault BadText\nplan: cancelled NoFrame restored\nplan: left - HistoryFull\n";
+    "3: frame 8\nrefused Busy 2\n-: fault HistoryFull\nfault OutOfMemory\ncat: fault NoFile\necho: fault BadText\nplan: cancelled NoFrame restored\nplan: left - HistoryFull\nsealed 7\n";
 
 /// The text of an answer of each kind.
 fn answers(alloc: Global) -> Result<String, AllocError> {
@@ -45,6 +45,7 @@ fn answers(alloc: Global) -> Result<String, AllocError> {
             fault: CallFault::HistoryFull,
         },
     )?;
+    write_sealed(&mut out, 7)?;
     Ok(out)
 }
 

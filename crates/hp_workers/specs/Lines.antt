@@ -52,7 +52,7 @@ IsRequestRun cpus (Err fault) = IsUntaken fault
 abbrev pub IsEchoRun : (cpus : ℕ) → (path word : List ℕ) → Run
 IsEchoRun cpus path word gained end = IsRequestRun cpus (echo_request path word) gained end ⊎ IsUntaken OutOfMemory gained end
 
--- no line is run that reads a control file
+-- no line is run that reads a control file, or seals
 abbrev pub IsNoRun : Run
 IsNoRun gained end = ⊥
 
@@ -62,6 +62,7 @@ IsLine cpus (work.Event event) = IsEventRun event
 IsLine cpus (work.Plan plan turns) = IsPlanRun cpus turns plan
 IsLine cpus (work.Echo path word) = IsEchoRun cpus path word
 IsLine cpus (work.Cat path) = IsNoRun
+IsLine cpus work.Seal = IsNoRun
 
 -- it was run through a port, of whose calls at most the last left a fault
 pub record IsPortRun {S : Type 0} (shows : S → PortValue) (makes : S → List Receipt → S → Type 0) (leaves : S → CallFault → S → Type 0) (old : S) (Ran : Run) (end : LineEnd) (new : S) : Type 0 where

@@ -1,6 +1,6 @@
 //! One line of a worker, and what became of it.
 ghost use Rattle.std.specs.Prelude.{◌≡◌, false, None};
-ghost use Rattle.hp_scenario.specs.Scripts.{IsForRun, is_cat};
+ghost use Rattle.hp_scenario.specs.Scripts.{IsForRun, is_for_serial};
 ghost use Rattle.hp_workers.specs.Lines.{IsEchoRun, IsEventRun, IsLine, IsLineRun, IsPlanRun, IsPortRun};
 
 use crate::gate::Gate;
@@ -81,14 +81,14 @@ pub(crate) fn run_line<'a, L: Job, G: Gate, R: Wait>(
 /// Does through a port what a line asks for.
 fn run_work<P: Port>(alloc: Global, port: &mut P, work: &Work) -> LineEnd
     requires clear { (P.shows port.old).fault ≡ None }
-    requires run { is_cat work.now ≡ false }
+    requires run { is_for_serial work.now ≡ false }
     ensures { IsPortRun P.shows P.makes P.leaves port.old (IsLine (P.shows port.old).cpus work.now) result port.new }
 {
     match work {
         Work::Event(event) => ask(alloc, port, event),
         Work::Plan { plan, turns } => carry_out(alloc, port, plan, *turns),
         Work::Echo { path, text } => echo(alloc, port, path, text),
-        Work::Cat { path: _ } => unreachable!(),
+        Work::Cat { path: _ } | Work::Seal => unreachable!(),
     }
 }
 

@@ -1,0 +1,14 @@
+-- What a seal writes, and what it makes of the machine.
+use Rattle.std.specs.Prelude.{◌≡◌, ◌⊎◌, ℕ, List, length}
+use Rattle.hp_units.specs.declared.replies.CallFault.TheVariants.{OutOfMemory}
+use Rattle.hp_machine.specs.Machine.{MachineValue, sealed}
+use Rattle.hp_text.specs.Answers.{sealed_line, unrecorded_line}
+
+-- how many records there were since the last seal
+abbrev pub seal_text : MachineValue → List ℕ
+seal_text m = sealed_line (length m.history)
+
+-- a seal handed the records out, and the machine goes on with none; or memory was wanting, which is said in place of it, and the
+-- machine is as it was
+abbrev pub WritesSeal : MachineValue → (text : List ℕ) → (new : MachineValue) → Type 0
+WritesSeal m text new = ((text ≡ seal_text m) × (new ≡ sealed m)) ⊎ ((text ≡ unrecorded_line OutOfMemory) × (new ≡ m))
