@@ -142,7 +142,7 @@ fn a_missing_record_is_named_by_its_place(rt: HostRuntime) -> Result<(), Fail> {
 #[test]
 fn no_record_comes_after_the_last_serial(rt: HostRuntime) -> Result<(), Fail> {
     let layout = small(rt.alloc())?;
-    let base = Image::boot(rt.alloc(), &layout)?;
+    let base = replay(rt.alloc(), &layout, &[])?;
     let records = worked(rt.alloc(), 2)?;
     let replayed = replay_from(rt.alloc(), &base, u64::MAX, &records);
     assert_eq!(rt; replayed.err(), Some(ReplayFault::WrongSerial { at: 0 }));
