@@ -3,9 +3,9 @@ use crate::{Machine, MachinePort};
 use hp_ops::run_plan;
 use hp_units::{
     Auto, Block, Boot, CallFault, Class, Cpu, Event, Frame, Item, Layout, OpEnd, Order, Owner,
-    Page, Parts, Plan, Refusal, Reply, Serial, State, Wish,
+    Page, Parts, Plan, Refusal, Reply, Row, Serial, State, Wish, Zone,
 };
-use std::alloc::Global;
+use std::alloc::{AllocError, Global};
 use std::test::Fail;
 
 /// A machine with one block of one pageblock, online in zone Normal, and a limit of records.
@@ -28,142 +28,158 @@ fn booted(alloc: Global, history: u64) -> Result<Machine, Fail> {
     Ok(machine)
 }
 
+/// Whether an event of processor 0 gets this reply.
+fn is_answered(alloc: Global, machine: &mut Machine, event: &Event, reply: &Reply) -> bool {
+    match machine.call(alloc, Cpu(0), event) {
+        Ok(receipt) => receipt.reply.same(reply),
+        Err(_fault) => false,
+    }
+}
+
+/// Whether a block of the kernel is taken.
+fn takes(alloc: Global, machine: &mut Machine) -> bool {
+    let take = Event::KernelAlloc { order: Order(1) };
+    is_answered(alloc, machine, &take, &Reply::Frame(Frame(0)))
+}
+
+/// Whether it is given back.
+fn gives(alloc: Global, machine: &mut Machine) -> bool {
+    let give = Event::KernelFree { frame: Frame(0) };
+    is_answered(alloc, machine, &give, &Reply::Done)
+}
+
+/// Whether an undo to a serial gets this reply.
+fn undoes(alloc: Global, machine: &mut Machine, serial: Serial, reply: &Reply) -> bool {
+    is_answered(alloc, machine, &Event::UndoAfter { serial }, reply)
+}
+
+/// Whether a block that is given back joins its buddy.
+fn joins(alloc: Global, machine: &mut Machine) -> bool {
+    takes(alloc, machine)
+        && machine.front(Class::Nu, Order(1)) == Some(Frame(2))
+        && gives(alloc, machine)
+        && machine.list_len(Class::Nu, Order(2)) == 1
+}
+
 #[test]
 fn free_blocks_join(rt: HostRuntime) -> Result<(), Fail> {
     let mut machine = booted(rt.alloc(), 9)?;
-    let alloc = Event::KernelAlloc { order: Order(1) };
-    let taken = machine.call(rt.alloc(), Cpu(0), &alloc)?;
-    assert_eq!(rt; taken.reply, Reply::Frame(Frame(0)));
-    assert_eq!(rt; machine.front(Class::Nu, Order(1)), Some(Frame(2)));
-    let free = Event::KernelFree { frame: Frame(0) };
-    let given = machine.call(rt.alloc(), Cpu(0), &free)?;
-    assert_eq!(rt; given.reply, Reply::Done);
-    assert_eq!(rt; machine.list_len(Class::Nu, Order(2)), 1);
+    assert!(rt; joins(rt.alloc(), &mut machine));
     Ok(())
+}
+
+/// Whether a block that was stolen goes back to its list, and its step leaves the journal.
+fn returns_a_block(alloc: Global, machine: &mut Machine) -> bool {
+    takes(alloc, machine)
+        && machine.journal_len() == 1
+        && machine.entry(0).is_some()
+        && undoes(alloc, machine, Serial(0), &Reply::Undone { count: 1 })
+        && machine.front(Class::Nm, Order(2)) == Some(Frame(0))
+        && machine.journal_len() == 0
+        && machine.last_serial() == 2
 }
 
 #[test]
 fn undo_returns_a_stolen_pageblock(rt: HostRuntime) -> Result<(), Fail> {
     let mut machine = booted(rt.alloc(), 9)?;
-    let alloc = Event::KernelAlloc { order: Order(1) };
-    let taken = machine.call(rt.alloc(), Cpu(0), &alloc)?;
-    assert_eq!(rt; taken.serial, Serial(1));
-    assert_eq!(rt; machine.journal_len(), 1);
-    let undo = Event::UndoAfter { serial: Serial(0) };
-    let undone = machine.call(rt.alloc(), Cpu(0), &undo)?;
-    assert_eq!(rt; undone.reply, Reply::Undone { count: 1 });
-    assert_eq!(rt; machine.front(Class::Nm, Order(2)), Some(Frame(0)));
-    assert_eq!(rt; machine.journal_len(), 0);
+    assert!(rt; returns_a_block(rt.alloc(), &mut machine));
     Ok(())
+}
+
+/// Whether a machine with a limit of one record takes one call and no more.
+fn takes_one_call(alloc: Global, machine: &mut Machine) -> bool {
+    let first = takes(alloc, machine);
+    let give = Event::KernelFree { frame: Frame(0) };
+    let full = match machine.call(alloc, Cpu(0), &give) {
+        Ok(_receipt) => false,
+        Err(fault) => fault == CallFault::HistoryFull,
+    };
+    first && full && machine.history().len() == 1
 }
 
 #[test]
 fn a_full_history_takes_no_call(rt: HostRuntime) -> Result<(), Fail> {
     let mut machine = booted(rt.alloc(), 1)?;
-    let alloc = Event::KernelAlloc { order: Order(0) };
-    let _taken = machine.call(rt.alloc(), Cpu(0), &alloc)?;
-    let refused = machine.call(rt.alloc(), Cpu(0), &alloc);
-    assert_eq!(rt; refused.err(), Some(CallFault::HistoryFull));
-    assert_eq!(rt; machine.history().len(), 1);
+    assert!(rt; takes_one_call(rt.alloc(), &mut machine));
     Ok(())
 }
 
-/// Whether a block of the kernel can be taken and given back.
-fn takes_and_gives(alloc: Global, machine: &mut Machine) -> bool {
-    let calls = [
-        (
-            Event::KernelAlloc { order: Order(1) },
-            Reply::Frame(Frame(0)),
-        ),
-        (Event::KernelFree { frame: Frame(0) }, Reply::Done),
-    ];
-    are_answered(alloc, machine, &calls)
+/// Whether a seal hands out so many records, after so many that were sealed before.
+fn seals(
+    alloc: Global,
+    machine: &mut Machine,
+    before: u64,
+    count: usize,
+) -> Result<bool, AllocError> {
+    let volume = machine.seal(alloc)?;
+    Ok(volume.before == before && volume.records.as_slice().len() == count)
 }
 
 /// Whether, after two records were sealed, they can't be undone, an undo of none counts none, and a block can be taken.
 fn goes_on(alloc: Global, machine: &mut Machine) -> bool {
-    let calls = [
-        (
-            Event::UndoAfter { serial: Serial(0) },
-            Reply::Refused(Refusal::Gone),
-        ),
-        (
-            Event::UndoAfter { serial: Serial(2) },
-            Reply::Undone { count: 0 },
-        ),
-        (
-            Event::KernelAlloc { order: Order(1) },
-            Reply::Frame(Frame(0)),
-        ),
-    ];
-    are_answered(alloc, machine, &calls)
+    undoes(alloc, machine, Serial(0), &Reply::Refused(Refusal::Gone))
+        && undoes(alloc, machine, Serial(2), &Reply::Undone { count: 0 })
+        && takes(alloc, machine)
 }
 
-/// Whether the processor's calls get these replies.
-fn are_answered(alloc: Global, machine: &mut Machine, calls: &[(Event, Reply)]) -> bool {
-    for (event, reply) in calls {
-        match machine.call(alloc, Cpu(0), event) {
-            Ok(receipt) => {
-                if !receipt.reply.same(reply) {
-                    return false;
-                }
-            }
-            Err(_fault) => return false,
-        }
-    }
-    true
+/// Whether two records are sealed.
+fn seals_two(alloc: Global, machine: &mut Machine) -> Result<bool, AllocError> {
+    let two = takes(alloc, machine) && gives(alloc, machine);
+    Ok(seals(alloc, machine, 0, 2)? && two)
 }
 
 #[test]
 fn a_seal_ends_what_can_be_undone(rt: HostRuntime) -> Result<(), Fail> {
     let mut machine = booted(rt.alloc(), 3)?;
-    assert!(rt; takes_and_gives(rt.alloc(), &mut machine));
-    let first = machine.seal(rt.alloc())?;
-    assert_eq!(rt; first.records.as_slice().len(), 2);
+    assert!(rt; seals_two(rt.alloc(), &mut machine)?);
     assert!(rt; goes_on(rt.alloc(), &mut machine));
-    let second = machine.seal(rt.alloc())?;
-    assert_eq!(rt; second.before, 2);
-    assert_eq!(rt; second.records.into_vec().len(), 3);
+    assert!(rt; seals(rt.alloc(), &mut machine, 2, 3)?);
     Ok(())
+}
+
+/// Whether a copy has two sealed records, and a free block in its base.
+fn copy_shows_seals(alloc: Global, machine: &Machine) -> Result<bool, AllocError> {
+    let copy = machine.copy(alloc)?;
+    Ok(copy.sealed() == 2 && copy.base().list(Class::Nu, Order(2)).len() == 1)
 }
 
 #[test]
 fn a_copy_shows_what_was_sealed(rt: HostRuntime) -> Result<(), Fail> {
     let mut machine = booted(rt.alloc(), 3)?;
-    assert!(rt; takes_and_gives(rt.alloc(), &mut machine));
-    let _sealed = machine.seal(rt.alloc())?;
-    let copy = machine.copy(rt.alloc())?;
-    assert_eq!(rt; copy.sealed(), 2);
-    assert_eq!(rt; copy.base().list(Class::Nu, Order(2)).len(), 1);
+    assert!(rt; seals_two(rt.alloc(), &mut machine)?);
+    assert!(rt; copy_shows_seals(rt.alloc(), &machine)?);
     Ok(())
+}
+
+/// Whether the queries show the state at boot.
+fn shows_boot(machine: &Machine) -> bool {
+    let online = Row {
+        state: State::Online,
+        zone: Some(Zone::Normal),
+        claim: None,
+    };
+    machine.row(Block(0)) == Some(online)
+        && machine.frame_at(Owner(0), Page(0)).is_none()
+        && machine.auto() == Auto::Offline
+        && machine.layout().frames() == 4
+}
+
+/// Whether the Image of the state has so many free blocks of order 2.
+fn image_has(alloc: Global, machine: &Machine, count: usize) -> Result<bool, AllocError> {
+    let image = machine.image(alloc)?;
+    Ok(image.list(Class::Nm, Order(2)).len() == count)
 }
 
 #[test]
 fn queries_show_the_state_at_boot(rt: HostRuntime) -> Result<(), Fail> {
     let machine = booted(rt.alloc(), 1)?;
-    let row = machine.row(Block(0)).ok_or("no row")?;
-    assert_eq!(rt; row.state, State::Online);
-    assert_eq!(rt; machine.frame_at(Owner(0), Page(0)), None);
-    assert_eq!(rt; machine.auto(), Auto::Offline);
-    assert_eq!(rt; machine.layout().frames(), 4);
-    let image = machine.image(rt.alloc())?;
-    assert_eq!(rt; image.list(Class::Nm, Order(2)).len(), 1);
+    assert!(rt; shows_boot(&machine));
+    assert!(rt; image_has(rt.alloc(), &machine, 1)?);
     Ok(())
 }
 
-/// The plan that takes block 2 offline.
-fn offline(alloc: Global) -> Result<Plan, Fail> {
-    let items = vec![in alloc;
-        Item {
-            block: Block(2),
-            wish: Wish::Off
-        },
-    ]?;
-    Ok(Plan::new(items))
-}
-
-#[test]
-fn a_mapped_block_goes_offline(rt: HostRuntime) -> Result<(), Fail> {
+/// A machine with four blocks, of which the third is movable and the fourth offline.
+fn wide(alloc: Global) -> Result<Machine, Fail> {
     let parts = Parts {
         order: 2,
         pageblocks: 1,
@@ -177,19 +193,48 @@ fn a_mapped_block_goes_offline(rt: HostRuntime) -> Result<(), Fail> {
         history: 1000,
         boot: &[Boot::Normal, Boot::Normal, Boot::Movable, Boot::Offline],
     };
-    let layout = Layout::new(rt.alloc(), &parts)?;
-    let mut machine = Machine::boot(rt.alloc(), &layout)?;
-    let map = Event::Map {
-        owner: Owner(0),
-        page: Page(0),
+    let layout = Layout::new(alloc, &parts)?;
+    let machine = Machine::boot(alloc, &layout)?;
+    Ok(machine)
+}
+
+/// The plan that takes block 2 offline.
+fn offline(alloc: Global) -> Result<Plan, AllocError> {
+    let items = vec![in alloc;
+        Item {
+            block: Block(2),
+            wish: Wish::Off
+        },
+    ]?;
+    Ok(Plan::new(items))
+}
+
+/// Whether a page is mapped, and then its block goes offline by the driver of a plan.
+fn goes_offline(alloc: Global, machine: &mut Machine) -> Result<bool, AllocError> {
+    let (owner, page) = (Owner(0), Page(0));
+    let mapped = is_answered(alloc, machine, &Event::Map { owner, page }, &Reply::Done);
+    let plan = offline(alloc)?;
+    let mut port = MachinePort::new(machine, Cpu(0));
+    let end = run_plan(alloc, &mut port, plan, 1024);
+    Ok(mapped && end == OpEnd::Done)
+}
+
+/// Whether the page has moved, and its block is offline, after seven records.
+fn has_moved(machine: &Machine) -> bool {
+    let gone = Row {
+        state: State::Offline,
+        zone: None,
+        claim: None,
     };
-    let _mapped = machine.call(rt.alloc(), Cpu(0), &map)?;
-    let mut port = MachinePort::new(&mut machine, Cpu(0));
-    let end = run_plan(rt.alloc(), &mut port, offline(rt.alloc())?, 1024);
-    assert_eq!(rt; end, OpEnd::Done);
-    let row = machine.row(Block(2)).ok_or("no row")?;
-    assert_eq!(rt; row.state, State::Offline);
-    assert_eq!(rt; machine.frame_at(Owner(0), Page(0)), Some(Frame(0)));
-    assert_eq!(rt; machine.history().len(), 7);
+    machine.row(Block(2)) == Some(gone)
+        && machine.frame_at(Owner(0), Page(0)) == Some(Frame(0))
+        && machine.history().len() == 7
+}
+
+#[test]
+fn a_mapped_block_goes_offline(rt: HostRuntime) -> Result<(), Fail> {
+    let mut machine = wide(rt.alloc())?;
+    assert!(rt; goes_offline(rt.alloc(), &mut machine)?);
+    assert!(rt; has_moved(&machine));
     Ok(())
 }
