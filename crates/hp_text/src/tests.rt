@@ -79,16 +79,23 @@ fn small(alloc: Global) -> Result<Layout, LayoutFault> {
     )
 }
 
+/// Whether an event of processor 0 gets this reply.
+fn is_answered(alloc: Global, machine: &mut Machine, event: &Event, reply: &Reply) -> bool {
+    match machine.call(alloc, Cpu(0), event) {
+        Ok(receipt) => receipt.reply.same(reply),
+        Err(_fault) => false,
+    }
+}
+
 /// Maps the first owner's first page twice; whether the first was done and the second refused.
-fn maps_once(alloc: Global, machine: &mut Machine) -> Result<bool, CallFault> {
+fn maps_once(alloc: Global, machine: &mut Machine) -> bool {
     let event = Event::Map {
         owner: Owner(0),
         page: Page(0),
     };
     let refused = Reply::Refused(Refusal::AlreadyMapped);
-    let first = machine.call(alloc, Cpu(0), &event)?;
-    let second = machine.call(alloc, Cpu(0), &event)?;
-    Ok(first.reply == Reply::Done && second.reply == refused)
+    is_answered(alloc, machine, &event, &Reply::Done)
+        && is_answered(alloc, machine, &event, &refused)
 }
 
 /// The text of a state whose only owner is called `db`.
@@ -101,13 +108,24 @@ fn text_of(alloc: Global, image: &Image) -> Result<String, AllocError> {
     Ok(out)
 }
 
+/// Whether the text of a machine's state is that of the mapped page.
+fn shows_the_page(alloc: Global, machine: &Machine) -> Result<bool, AllocError> {
+    let image = machine.image(alloc)?;
+    let text = text_of(alloc, &image)?;
+    Ok(text.as_str() == MAPPED)
+}
+
+/// A machine of the small layout, at boot.
+fn booted(alloc: Global) -> Result<Machine, Fail> {
+    let layout = small(alloc)?;
+    let machine = Machine::boot(alloc, &layout)?;
+    Ok(machine)
+}
+
 #[test]
 fn a_state_names_its_owners(rt: HostRuntime) -> Result<(), Fail> {
-    let layout = small(rt.alloc())?;
-    let mut machine = Machine::boot(rt.alloc(), &layout)?;
-    assert!(rt; maps_once(rt.alloc(), &mut machine)?);
-    let image = machine.image(rt.alloc())?;
-    let text = text_of(rt.alloc(), &image)?;
-    assert!(rt; text.as_str() == MAPPED);
+    let mut machine = booted(rt.alloc())?;
+    assert!(rt; maps_once(rt.alloc(), &mut machine));
+    assert!(rt; shows_the_page(rt.alloc(), &machine)?);
     Ok(())
 }
