@@ -14,6 +14,6 @@ returns-in-Err-clause-err g c =
     let l = g.L.Job.layout in
     let seated : c.in-Ok.seats.items ≡ first_seats l.cpus = search rules in
     let none : c.run_workers-seats.result.fault ≡ None = search rules in
-    let ran = all_ran l c.in-Ok.seats.items c.args.scripts.items c.run_workers-seats.result.seats.items c.run_workers-seats.result.ends.items c.run_workers-seats.result.fault seated none c.run_workers-seats.ensures in
+    let ran = all_ran l c.in-Ok.seats.items c.args.scripts.items c.run_workers-seats.result.seats.items c.run_workers-seats.result.volumes.items c.run_workers-seats.result.ends.items c.run_workers-seats.result.fault seated none c.run_workers-seats.ensures in
     rw (c.from-in-Err.ensures)
-    (unclosed l c.args.scripts.items c.run_workers-seats.result.seats.items c.run_workers-seats.result.ends.items c.new-2.result.items c.in-Err.refused.fault c.requires.scripts ran c.in-Err.ensures.err)
+    (unclosed l c.args.scripts.items c.run_workers-seats.result.seats.items c.run_workers-seats.result.ends.items c.run_workers-seats.result.volumes.items c.in-Err.refused.fault c.requires.scripts ran c.in-Err.ensures.err)
