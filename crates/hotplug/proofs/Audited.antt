@@ -63,6 +63,50 @@ replay_refused volumes m (replaying.WrongReply serial) here only = (inr here, λ
 replay_refused volumes m (replaying.WrongSerial at) here only = (inr here, λ sound. only sound.legal)
 replay_refused volumes m replaying.OutOfMemory here only = tt
 
+-- what a chain of volumes leads to, where that is a machine's base
+base_layout : (volumes : List Volume) (m : MachineValue) (base : Pictured) → base ≡ record { layout = m.layout; memory = state_after m.layout volumes } → base.layout ≡ m.layout
+base_layout volumes m base is = ap (λ (p : Pictured). p.layout) is
+
+base_memory : (volumes : List Volume) (m : MachineValue) (base : Pictured) → base ≡ record { layout = m.layout; memory = state_after m.layout volumes } → base.memory ≡ state_after m.layout volumes
+base_memory volumes m base is = ap (λ (p : Pictured). p.memory) is
+
+replayed_memory : (m : MachineValue) (base replayed : Pictured) → base.layout ≡ m.layout → base.memory ≡ m.base → replayed ≡ record { layout = base.layout; memory = value_of base.layout base.memory m.history } → replayed.memory ≡ value_of m.layout m.base m.history
+replayed_memory m base replayed layout same is =
+    ap (λ (p : Pictured). p.memory) is
+    ∙ ap (λ (l : LayoutParts). value_of l base.memory m.history) layout
+    ∙ ap (λ (b : Memory). value_of m.layout b m.history) same
+
+-- the volumes lead to another state than the machine's base
+pub base_differs : (volumes : List Volume) (m : MachineValue) (base theirs : Pictured) → base ≡ record { layout = m.layout; memory = state_after m.layout volumes } → theirs ≡ record { layout = m.layout; memory = m.base } → (base.memory ≡ theirs.memory → ⊥) → IsAudited volumes m → ⊥
+base_differs volumes m base theirs is their_is other sound = other (base_memory volumes m base is ∙ sym sound.base ∙ sym (ap (λ (p : Pictured). p.memory) their_is))
+
+-- a replay from that base finds the history at fault
+pub history_refused : (volumes : List Volume) (m : MachineValue) (base theirs : Pictured) (fault : ReplayFault) → base ≡ record { layout = m.layout; memory = state_after m.layout volumes } → theirs ≡ record { layout = m.layout; memory = m.base } → base.memory ≡ theirs.memory → IsFault base.layout base.memory m.before m.history fault → Refutes base.layout base.memory m.before m.history fault → HasAuditFault volumes m (replay_fault_from fault)
+history_refused volumes m base theirs fault is their_is same here only =
+    let layout = base_layout volumes m base is in
+    let start : base.memory ≡ m.base = same ∙ ap (λ (p : Pictured). p.memory) their_is in
+    replay_refused volumes m fault
+    (subst (λ (l : LayoutParts). IsFault l m.base m.before m.history fault) layout (subst (λ (b : Memory). IsFault base.layout b m.before m.history fault) start here))
+    (subst (λ (l : LayoutParts). Refutes l m.base m.before m.history fault) layout (subst (λ (b : Memory). Refutes base.layout b m.before m.history fault) start only))
+
+-- it leads to another state than the machine's
+pub state_differs : (volumes : List Volume) (m : MachineValue) (base theirs replayed image : Pictured) → base ≡ record { layout = m.layout; memory = state_after m.layout volumes } → theirs ≡ record { layout = m.layout; memory = m.base } → base.memory ≡ theirs.memory → replayed ≡ record { layout = base.layout; memory = value_of base.layout base.memory m.history } → image ≡ record { layout = m.layout; memory = m.state } → (replayed.memory ≡ image.memory → ⊥) → IsAudited volumes m → ⊥
+state_differs volumes m base theirs replayed image is their_is same replayed_is image_is other sound =
+    let start : base.memory ≡ m.base = same ∙ ap (λ (p : Pictured). p.memory) their_is in
+    other (replayed_memory m base replayed (base_layout volumes m base is) start replayed_is ∙ sym sound.state ∙ sym (ap (λ (p : Pictured). p.memory) image_is))
+
+-- all is as it should be
+pub audited : (volumes : List Volume) (m : MachineValue) (base theirs replayed image : Pictured) → IsChain m.layout volumes → base ≡ record { layout = m.layout; memory = state_after m.layout volumes } → theirs ≡ record { layout = m.layout; memory = m.base } → base.memory ≡ theirs.memory → IsLegal base.layout base.memory m.before m.history → replayed ≡ record { layout = base.layout; memory = value_of base.layout base.memory m.history } → image ≡ record { layout = m.layout; memory = m.state } → replayed.memory ≡ image.memory → IsAudited volumes m
+audited volumes m base theirs replayed image chain is their_is same legal replayed_is image_is alike =
+    let layout = base_layout volumes m base is in
+    let start : base.memory ≡ m.base = same ∙ ap (λ (p : Pictured). p.memory) their_is in
+    record {
+      chain = chain;
+      base = sym start ∙ base_memory volumes m base is;
+      legal = subst (λ (l : LayoutParts). IsLegal l m.base m.before m.history) layout (subst (λ (b : Memory). IsLegal base.layout b m.before m.history) start legal);
+      state = sym (ap (λ (p : Pictured). p.memory) image_is) ∙ sym alike ∙ replayed_memory m base replayed layout start replayed_is;
+    }
+
 -- ---- a machine of a run
 
 -- where nothing was handed out, its history is legal from boot on, and leads to its state

@@ -7,8 +7,8 @@ ghost use Rattle.hotplug.specs.declared.words.Command.TheVariants.{Audit};
 
 use crate::fault::ProgramFault;
 use crate::runs::{work_off, write_records};
-use hp_machine::Machine;
 use hp_history::{Volume, audit_chain, replay_from};
+use hp_machine::Machine;
 use std::alloc::Global;
 use std::sync::Wait;
 use std::thread::Threads;
@@ -45,7 +45,8 @@ fn check_records(
     if !base.same(machine.base()) {
         return Err(ProgramFault::AuditDiffers);
     }
-    let replayed = replay_from(alloc, machine.base(), machine.sealed(), machine.history())?;
+    machine.stays_sound();
+    let replayed = replay_from(alloc, &base, machine.sealed(), machine.history())?;
     let image = machine.image(alloc)?;
     if !replayed.same(&image) {
         return Err(ProgramFault::AuditDiffers);
