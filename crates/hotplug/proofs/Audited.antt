@@ -63,48 +63,83 @@ replay_refused volumes m (replaying.WrongReply serial) here only = (inr here, λ
 replay_refused volumes m (replaying.WrongSerial at) here only = (inr here, λ sound. only sound.legal)
 replay_refused volumes m replaying.OutOfMemory here only = tt
 
--- what a chain of volumes leads to, where that is a machine's base
-base_layout : (volumes : List Volume) (m : MachineValue) (base : Pictured) → base ≡ record { layout = m.layout; memory = state_after m.layout volumes } → base.layout ≡ m.layout
-base_layout volumes m base is = ap (λ (p : Pictured). p.layout) is
+-- what was read of volumes and of a machine: their list, its layout, the number of its earlier records, its base and its history
+pub record IsReadOf (volumes : List Volume) (m : MachineValue) (vs : List Volume) (l : LayoutParts) (before : ℕ) (theirs : Pictured) (h : List Record) : Type 0 where
+  pub volumes_are : vs ≡ volumes
+  pub layout_is : l ≡ m.layout
+  pub before_is : before ≡ m.before
+  pub base_is : theirs ≡ record { layout = m.layout; memory = m.base }
+  pub history_is : h ≡ m.history
 
-base_memory : (volumes : List Volume) (m : MachineValue) (base : Pictured) → base ≡ record { layout = m.layout; memory = state_after m.layout volumes } → base.memory ≡ state_after m.layout volumes
-base_memory volumes m base is = ap (λ (p : Pictured). p.memory) is
+-- where the volumes lead to, which is the base that was read
+record LeadsTo (volumes : List Volume) (m : MachineValue) (base : Pictured) : Type 0 where
+  layout : base.layout ≡ m.layout
+  after : base.memory ≡ state_after m.layout volumes
 
-replayed_memory : (m : MachineValue) (base replayed : Pictured) → base.layout ≡ m.layout → base.memory ≡ m.base → replayed ≡ record { layout = base.layout; memory = value_of base.layout base.memory m.history } → replayed.memory ≡ value_of m.layout m.base m.history
-replayed_memory m base replayed layout same is =
+leads_to : (volumes : List Volume) (m : MachineValue) (vs : List Volume) (l : LayoutParts) (base : Pictured) → vs ≡ volumes → l ≡ m.layout → base ≡ record { layout = l; memory = state_after l vs } → LeadsTo volumes m base
+leads_to volumes m vs l base same there is = record {
+  layout = ap (λ (p : Pictured). p.layout) is ∙ there;
+  after = ap (λ (p : Pictured). p.memory) is ∙ ap (λ (k : LayoutParts). state_after k vs) there ∙ ap (λ (xs : List Volume). state_after m.layout xs) same;
+}
+
+-- the state that the history leads to from that base
+replayed_memory : (m : MachineValue) (h : List Record) (base replayed : Pictured) → h ≡ m.history → base.layout ≡ m.layout → base.memory ≡ m.base → replayed ≡ record { layout = base.layout; memory = value_of base.layout base.memory h } → replayed.memory ≡ value_of m.layout m.base m.history
+replayed_memory m h base replayed records layout same is =
     ap (λ (p : Pictured). p.memory) is
-    ∙ ap (λ (l : LayoutParts). value_of l base.memory m.history) layout
-    ∙ ap (λ (b : Memory). value_of m.layout b m.history) same
+    ∙ ap (λ (l : LayoutParts). value_of l base.memory h) layout
+    ∙ ap (λ (b : Memory). value_of m.layout b h) same
+    ∙ ap (λ (g : List Record). value_of m.layout m.base g) records
+
+-- a volume is at fault
+pub volumes_refused : (volumes : List Volume) (m : MachineValue) (vs : List Volume) (l : LayoutParts) (fault : ChainFault) → vs ≡ volumes → l ≡ m.layout → IsChainFault l vs fault → RefutesChain l vs fault → HasAuditFault volumes m (chain_fault_from fault)
+volumes_refused volumes m vs l fault same there here only =
+    chain_refused volumes m fault
+        (subst (λ (k : LayoutParts). IsChainFault k volumes fault) there (subst (λ (xs : List Volume). IsChainFault l xs fault) same here))
+        (subst (λ (k : LayoutParts). RefutesChain k volumes fault) there (subst (λ (xs : List Volume). RefutesChain l xs fault) same only))
 
 -- the volumes lead to another state than the machine's base
-pub base_differs : (volumes : List Volume) (m : MachineValue) (base theirs : Pictured) → base ≡ record { layout = m.layout; memory = state_after m.layout volumes } → theirs ≡ record { layout = m.layout; memory = m.base } → (base.memory ≡ theirs.memory → ⊥) → IsAudited volumes m → ⊥
-base_differs volumes m base theirs is their_is other sound = other (base_memory volumes m base is ∙ sym sound.base ∙ sym (ap (λ (p : Pictured). p.memory) their_is))
+pub base_differs : (volumes : List Volume) (m : MachineValue) (vs : List Volume) (l : LayoutParts) (base theirs : Pictured) → vs ≡ volumes → l ≡ m.layout → theirs ≡ record { layout = m.layout; memory = m.base } → base ≡ record { layout = l; memory = state_after l vs } → (base.memory ≡ theirs.memory → ⊥) → IsAudited volumes m → ⊥
+base_differs volumes m vs l base theirs same there their_is is other sound =
+    other ((leads_to volumes m vs l base same there is).after ∙ sym sound.base ∙ sym (ap (λ (p : Pictured). p.memory) their_is))
 
 -- a replay from that base finds the history at fault
-pub history_refused : (volumes : List Volume) (m : MachineValue) (base theirs : Pictured) (fault : ReplayFault) → base ≡ record { layout = m.layout; memory = state_after m.layout volumes } → theirs ≡ record { layout = m.layout; memory = m.base } → base.memory ≡ theirs.memory → IsFault base.layout base.memory m.before m.history fault → Refutes base.layout base.memory m.before m.history fault → HasAuditFault volumes m (replay_fault_from fault)
-history_refused volumes m base theirs fault is their_is same here only =
-    let layout = base_layout volumes m base is in
-    let start : base.memory ≡ m.base = same ∙ ap (λ (p : Pictured). p.memory) their_is in
+pub history_refused : (volumes : List Volume) (m : MachineValue) (vs : List Volume) (l : LayoutParts) (before : ℕ) (h : List Record) (base theirs : Pictured) (fault : ReplayFault) → IsReadOf volumes m vs l before theirs h → base ≡ record { layout = l; memory = state_after l vs } → base.memory ≡ theirs.memory
+    → IsFault base.layout base.memory before h fault → Refutes base.layout base.memory before h fault → HasAuditFault volumes m (replay_fault_from fault)
+history_refused volumes m vs l before h base theirs fault read is same here only =
+    let layout = (leads_to volumes m vs l base read.volumes_are read.layout_is is).layout in
+    let start : base.memory ≡ m.base = same ∙ ap (λ (p : Pictured). p.memory) read.base_is in
     replay_refused volumes m fault
-    (subst (λ (l : LayoutParts). IsFault l m.base m.before m.history fault) layout (subst (λ (b : Memory). IsFault base.layout b m.before m.history fault) start here))
-    (subst (λ (l : LayoutParts). Refutes l m.base m.before m.history fault) layout (subst (λ (b : Memory). Refutes base.layout b m.before m.history fault) start only))
+        (subst (λ (k : LayoutParts). IsFault k m.base m.before m.history fault) layout
+        (subst (λ (b : Memory). IsFault base.layout b m.before m.history fault) start
+        (subst (λ (n : ℕ). IsFault base.layout base.memory n m.history fault) read.before_is
+        (subst (λ (g : List Record). IsFault base.layout base.memory before g fault) read.history_is here))))
+        (subst (λ (k : LayoutParts). Refutes k m.base m.before m.history fault) layout
+        (subst (λ (b : Memory). Refutes base.layout b m.before m.history fault) start
+        (subst (λ (n : ℕ). Refutes base.layout base.memory n m.history fault) read.before_is
+        (subst (λ (g : List Record). Refutes base.layout base.memory before g fault) read.history_is only))))
 
 -- it leads to another state than the machine's
-pub state_differs : (volumes : List Volume) (m : MachineValue) (base theirs replayed image : Pictured) → base ≡ record { layout = m.layout; memory = state_after m.layout volumes } → theirs ≡ record { layout = m.layout; memory = m.base } → base.memory ≡ theirs.memory → replayed ≡ record { layout = base.layout; memory = value_of base.layout base.memory m.history } → image ≡ record { layout = m.layout; memory = m.state } → (replayed.memory ≡ image.memory → ⊥) → IsAudited volumes m → ⊥
-state_differs volumes m base theirs replayed image is their_is same replayed_is image_is other sound =
-    let start : base.memory ≡ m.base = same ∙ ap (λ (p : Pictured). p.memory) their_is in
-    other (replayed_memory m base replayed (base_layout volumes m base is) start replayed_is ∙ sym sound.state ∙ sym (ap (λ (p : Pictured). p.memory) image_is))
+pub state_differs : (volumes : List Volume) (m : MachineValue) (vs : List Volume) (l : LayoutParts) (before : ℕ) (h : List Record) (base theirs replayed image : Pictured) → IsReadOf volumes m vs l before theirs h → base ≡ record { layout = l; memory = state_after l vs } → base.memory ≡ theirs.memory
+    → replayed ≡ record { layout = base.layout; memory = value_of base.layout base.memory h } → image ≡ record { layout = m.layout; memory = m.state } → (replayed.memory ≡ image.memory → ⊥) → IsAudited volumes m → ⊥
+state_differs volumes m vs l before h base theirs replayed image read is same replayed_is image_is other sound =
+    let layout = (leads_to volumes m vs l base read.volumes_are read.layout_is is).layout in
+    let start : base.memory ≡ m.base = same ∙ ap (λ (p : Pictured). p.memory) read.base_is in
+    other (replayed_memory m h base replayed read.history_is layout start replayed_is ∙ sym sound.state ∙ sym (ap (λ (p : Pictured). p.memory) image_is))
 
 -- all is as it should be
-pub audited : (volumes : List Volume) (m : MachineValue) (base theirs replayed image : Pictured) → IsChain m.layout volumes → base ≡ record { layout = m.layout; memory = state_after m.layout volumes } → theirs ≡ record { layout = m.layout; memory = m.base } → base.memory ≡ theirs.memory → IsLegal base.layout base.memory m.before m.history → replayed ≡ record { layout = base.layout; memory = value_of base.layout base.memory m.history } → image ≡ record { layout = m.layout; memory = m.state } → replayed.memory ≡ image.memory → IsAudited volumes m
-audited volumes m base theirs replayed image chain is their_is same legal replayed_is image_is alike =
-    let layout = base_layout volumes m base is in
-    let start : base.memory ≡ m.base = same ∙ ap (λ (p : Pictured). p.memory) their_is in
+pub audited : (volumes : List Volume) (m : MachineValue) (vs : List Volume) (l : LayoutParts) (before : ℕ) (h : List Record) (base theirs replayed image : Pictured) → IsReadOf volumes m vs l before theirs h → IsChain l vs → base ≡ record { layout = l; memory = state_after l vs } → base.memory ≡ theirs.memory
+    → IsLegal base.layout base.memory before h → replayed ≡ record { layout = base.layout; memory = value_of base.layout base.memory h } → image ≡ record { layout = m.layout; memory = m.state } → replayed.memory ≡ image.memory → IsAudited volumes m
+audited volumes m vs l before h base theirs replayed image read chain is same legal replayed_is image_is alike =
+    let leads = leads_to volumes m vs l base read.volumes_are read.layout_is is in
+    let start : base.memory ≡ m.base = same ∙ ap (λ (p : Pictured). p.memory) read.base_is in
     record {
-      chain = chain;
-      base = sym start ∙ base_memory volumes m base is;
-      legal = subst (λ (l : LayoutParts). IsLegal l m.base m.before m.history) layout (subst (λ (b : Memory). IsLegal base.layout b m.before m.history) start legal);
-      state = sym (ap (λ (p : Pictured). p.memory) image_is) ∙ sym alike ∙ replayed_memory m base replayed layout start replayed_is;
+      chain = subst (λ (k : LayoutParts). IsChain k volumes) read.layout_is (subst (λ (xs : List Volume). IsChain l xs) read.volumes_are chain);
+      base = sym start ∙ leads.after;
+      legal = subst (λ (k : LayoutParts). IsLegal k m.base m.before m.history) leads.layout
+        (subst (λ (b : Memory). IsLegal base.layout b m.before m.history) start
+        (subst (λ (n : ℕ). IsLegal base.layout base.memory n m.history) read.before_is
+        (subst (λ (g : List Record). IsLegal base.layout base.memory before g) read.history_is legal)));
+      state = sym (ap (λ (p : Pictured). p.memory) image_is) ∙ sym alike ∙ replayed_memory m h base replayed read.history_is leads.layout start replayed_is;
     }
 
 -- ---- a machine of a run

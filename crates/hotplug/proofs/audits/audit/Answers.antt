@@ -1,8 +1,17 @@
+use Rattle.std.proofs.Common.{◌≡◌, ◌++◌, codes, rules, string_bytes}
 use Rattle.std.proofs.lemmas.Result.{err_from_is_err_and}
+use Rattle.hp_text.specs.State.{newline}
 use Rattle.hotplug.proofs.Audited.{audit_fails}
+use Rattle.hotplug.specs.Runs.{records_line}
 use Rattle.hotplug.proofs.audits.audit.Goals as goal
 
 pub returns-in_err-check_records-clause-err : goal.returns-in_err-check_records-clause-err
 returns-in_err-check_records-clause-err g c =
     let p = err_from_is_err_and c.from_residual-in_err-check_records.result c.from_residual-in_err-check_records.ensures.1 in
     rw (p.1, p.2) (audit_fails c.args.input.now _ _ _ _ _ c.in_ok-worked.ensures.ok c.in_err-check_records.ensures.err)
+
+pub returns-clause-ok : goal.returns-clause-ok
+returns-clause-ok g c =
+    let worked = c.in_ok-worked.worked in
+    let text : string_bytes c.push_str.new.self ≡ records_line worked.closed.records ++ codes "audit ok" ++ newline = search rules in
+    record { ends = worked.ends.items; volumes = worked.closed.volumes.items; machine = worked.closed.machine; count = worked.closed.records; run = c.in_ok-worked.ensures.ok; audited = c.in_ok-check_records.ensures.ok; written = text }
