@@ -1,5 +1,5 @@
 -- A machine whose volumes and history are read again.
-use Rattle.std.proofs.Common.{◌≡◌, ℕ, zero, suc, ◌≤◌, ◌⊎◌, inl, inr, Bool, true, false, List, [], ◌∷◌, length, Some, Result, Ok, slice_get, take, refl, sym, ap, subst, ◌∙◌, arith}
+use Rattle.std.proofs.Common.{◌≡◌, ℕ, zero, suc, ◌≤◌, ◌⊎◌, inl, inr, Bool, true, false, List, [], ◌∷◌, ◌++◌, codes, length, Some, Result, Ok, slice_get, take, refl, sym, ap, subst, ◌∙◌, arith}
 use Rattle.std.specs.Prelude.{MatchBool, get_or}
 use Rattle.std.specs.List.{All}
 use Rattle.std.proofs.lemmas.List.{nil_from_length}
@@ -28,11 +28,12 @@ use Rattle.hp_scenario.specs.Scenario.{ScenarioValue}
 use Rattle.hp_scenario.specs.Scripts.{scripts_of}
 use Rattle.hp_shared.specs.Shared.{IsShared}
 use Rattle.hp_shared.specs.Volumes.{IsSealOf}
+use Rattle.hp_text.specs.State.{newline}
 use Rattle.hp_workers.specs.Seals.{AreSealed, seals_in_all}
 use Rattle.hp_workers.specs.declared.lines.LineEnd.{LineEnd}
 use Rattle.hotplug.specs.Audits.{HasAuditFault, HasWrongRecord, IsAudited}
 use Rattle.hotplug.specs.Faults.{IsFaultOf, chain_fault_from, replay_fault_from}
-use Rattle.hotplug.specs.Runs.{IsRunOf, IsWorkedOff, SealsSome, scripts_in}
+use Rattle.hotplug.specs.Runs.{IsRunOf, IsWorkedOff, SealsSome, records_line, scripts_in}
 use Rattle.hotplug.specs.declared.fault.ProgramFault.{ProgramFault}
 use Rattle.hotplug.specs.declared.fault.ProgramFault.TheVariants.{ReadFailed, TooLong, NotJson, BadShape, Layout, BadLine, NotForRun, OutOfMemory, NotStarted, SeatMissing, Mismatch, WrongReply, WrongSerial, AuditDiffers, WriteFailed, BrokenChain}
 use Rattle.hotplug.specs.declared.words.Command.TheVariants.{Run, Audit}
@@ -229,3 +230,8 @@ audit_too input (WrongSerial n) h = h
 audit_too input AuditDiffers h = (tt, h.1)
 audit_too input WriteFailed h = h
 audit_too input (BrokenChain n) h = h
+
+-- ---- the text of an audit
+
+pub audit_text : (start grown text : List ℕ) (count : ℕ) → start ≡ [] → grown ≡ start ++ records_line count → text ≡ grown ++ codes "audit ok" ++ newline → text ≡ records_line count ++ codes "audit ok" ++ newline
+audit_text start grown text count none more last = last ∙ ap (λ (xs : List ℕ). xs ++ codes "audit ok" ++ newline) (more ∙ ap (λ (xs : List ℕ). xs ++ records_line count) none)
