@@ -1,5 +1,5 @@
 -- A machine whose volumes and history are read again.
-use Rattle.std.proofs.Common.{◌≡◌, ℕ, zero, suc, ◌≤◌, ◌⊎◌, inl, inr, Bool, true, false, List, [], ◌∷◌, ◌++◌, codes, length, Some, Result, Ok, slice_get, take, refl, sym, ap, subst, ◌∙◌, arith}
+use Rattle.std.proofs.Common.{◌≡◌, ℕ, zero, suc, ◌≤◌, ◌⊎◌, inl, inr, Bool, true, false, List, [], ◌∷◌, ◌++◌, append_assoc, codes, length, Some, Result, Ok, slice_get, take, refl, sym, ap, subst, ◌∙◌, arith}
 use Rattle.std.specs.Prelude.{MatchBool, get_or}
 use Rattle.std.specs.List.{All}
 use Rattle.std.proofs.lemmas.List.{nil_from_length}
@@ -233,5 +233,8 @@ audit_too input (BrokenChain n) h = h
 
 -- ---- the text of an audit
 
-pub audit_text : (start grown text : List ℕ) (count : ℕ) → start ≡ [] → grown ≡ start ++ records_line count → text ≡ grown ++ codes "audit ok" ++ newline → text ≡ records_line count ++ codes "audit ok" ++ newline
-audit_text start grown text count none more last = last ∙ ap (λ (xs : List ℕ). xs ++ codes "audit ok" ++ newline) (more ∙ ap (λ (xs : List ℕ). xs ++ records_line count) none)
+pub audit_text : (start grown text : List ℕ) (count : ℕ) → start ≡ [] → grown ≡ start ++ records_line count → text ≡ grown ++ (codes "audit ok" ++ newline) → text ≡ records_line count ++ codes "audit ok" ++ newline
+audit_text start grown text count none more last =
+    last
+    ∙ ap (λ (xs : List ℕ). xs ++ (codes "audit ok" ++ newline)) (more ∙ ap (λ (xs : List ℕ). xs ++ records_line count) none)
+    ∙ sym (append_assoc (records_line count) (codes "audit ok") newline)
