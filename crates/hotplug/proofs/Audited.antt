@@ -1,6 +1,11 @@
--- A machine whose history is read again.
-use Rattle.std.proofs.Common.{◌≡◌, ℕ, Bool, true, false, List, Some, sym, ap, subst, ◌∙◌}
-use Rattle.std.specs.Prelude.{MatchBool}
+-- A machine whose volumes and history are read again.
+use Rattle.std.proofs.Common.{◌≡◌, ℕ, zero, suc, ◌≤◌, ◌⊎◌, inl, inr, Bool, true, false, List, [], ◌∷◌, ◌++◌, append_assoc, codes, length, Some, Result, Ok, slice_get, take, refl, sym, ap, subst, ◌∙◌, arith}
+use Rattle.std.specs.Prelude.{MatchBool, get_or}
+use Rattle.std.specs.List.{All}
+use Rattle.std.proofs.lemmas.List.{nil_from_length}
+use Rattle.std.proofs.lemmas.List.Elements.{All-get_or}
+use Rattle.std.proofs.lemmas.List.Sorted.{All-permutation}
+use Rattle.std.proofs.lemmas.Option.{slice_get_within}
 use Rattle.hp_units.specs.Boot.{boot_memory}
 use Rattle.hp_units.specs.History.{IsLegal, value_of}
 use Rattle.hp_units.specs.LayoutParts.{LayoutParts}
@@ -9,82 +14,203 @@ use Rattle.hp_units.specs.declared.replies.Record.{Record}
 use Rattle.hp_machine.specs.Machine.{MachineValue}
 use Rattle.hp_plain.specs.Image.{Pictured}
 use Rattle.hp_history.specs.Replay.{IsFault, Refutes}
+use Rattle.hp_history.specs.Volumes.{HasWrongRecords, IsChain, IsChainFault, RefutesChain, records_in, state_after}
 use Rattle.hp_history.specs.declared.replaying.ReplayFault.{ReplayFault}
 use Rattle.hp_history.specs.declared.replaying.ReplayFault.TheVariants as replaying
+use Rattle.hp_history.specs.declared.volumes.ChainFault.{ChainFault}
+use Rattle.hp_history.specs.declared.volumes.ChainFault.TheVariants as chain
+use Rattle.hp_history.specs.declared.volumes.Volume.{Volume}
+use Rattle.hp_history.proofs.Replays.{refutes}
+use Rattle.hp_scenario.specs.declared.fault.ScenarioFault.{ScenarioFault}
+use Rattle.hp_scenario.specs.declared.lines.Line.{Line}
+use Rattle.hp_scenario.specs.Gives.{◌>>=◌}
+use Rattle.hp_scenario.specs.Scenario.{ScenarioValue}
+use Rattle.hp_scenario.specs.Scripts.{scripts_of}
 use Rattle.hp_shared.specs.Shared.{IsShared}
+use Rattle.hp_shared.specs.Volumes.{IsSealOf}
+use Rattle.hp_text.specs.State.{newline}
+use Rattle.hp_workers.specs.Seals.{AreSealed, seals_in_all}
 use Rattle.hp_workers.specs.declared.lines.LineEnd.{LineEnd}
-use Rattle.hotplug.specs.Audits.{HasAuditFault, IsAudited}
-use Rattle.hotplug.specs.Faults.{IsFaultOf, replay_fault_from}
-use Rattle.hotplug.specs.Runs.{IsRunOf}
+use Rattle.hotplug.specs.Audits.{HasAuditFault, HasWrongRecord, IsAudited}
+use Rattle.hotplug.specs.Faults.{IsFaultOf, chain_fault_from, replay_fault_from}
+use Rattle.hotplug.specs.Runs.{IsRunOf, IsWorkedOff, SealsSome, records_line, scripts_in}
 use Rattle.hotplug.specs.declared.fault.ProgramFault.{ProgramFault}
 use Rattle.hotplug.specs.declared.fault.ProgramFault.TheVariants.{ReadFailed, TooLong, NotJson, BadShape, Layout, BadLine, NotForRun, OutOfMemory, NotStarted, SeatMissing, Mismatch, WrongReply, WrongSerial, AuditDiffers, WriteFailed, BrokenChain}
 use Rattle.hotplug.specs.declared.words.Command.TheVariants.{Run, Audit}
 
--- ---- the replay of a machine's history
+-- ---- the replay of volumes and of a machine's history
 
--- the first of two cases
+-- the first of two cases, and the second
 pub first_case : (b : Bool) (P Q : Type 0) → MatchBool b P Q → b ≡ true → P
 first_case true P Q h is = h
 first_case false P Q h is = absurd cc
 
--- it leads to the machine's state
-pub audited : (m : MachineValue) (l : LayoutParts) (h : List Record) (replayed image : Pictured) → l ≡ m.layout → h ≡ m.history → IsLegal l (boot_memory l) 0 h → replayed ≡ record { layout = l; memory = value_of l (boot_memory l) h } → image ≡ record { layout = m.layout; memory = m.state } → replayed.memory ≡ image.memory → IsAudited m
-audited m l h replayed image at same legal led pictured equal = record {
-  legal = subst (λ (k : LayoutParts). IsLegal k (boot_memory k) 0 m.history) at (subst (λ (rs : List Record). IsLegal l (boot_memory l) 0 rs) same legal);
-  state =
-      sym (ap (λ (p : Pictured). p.memory) pictured) ∙ sym equal ∙ ap (λ (p : Pictured). p.memory) led
-      ∙ ap (λ (rs : List Record). value_of l (boot_memory l) rs) same ∙ ap (λ (k : LayoutParts). value_of k (boot_memory k) m.history) at;
+pub second_case : (b : Bool) (P Q : Type 0) → MatchBool b P Q → b ≡ false → Q
+second_case true P Q h is = absurd cc
+second_case false P Q h is = h
+
+-- volumes are at fault
+pub chain_refused : (volumes : List Volume) (m : MachineValue) (fault : ChainFault) → IsChainFault m.layout volumes fault → RefutesChain m.layout volumes fault → HasAuditFault volumes m (chain_fault_from fault)
+chain_refused volumes m (chain.WrongCount at) here only = (inl here, λ sound. only sound.chain)
+chain_refused volumes m (chain.WrongBase at) here only = (inr here, λ sound. only sound.chain)
+chain_refused volumes m (chain.Replay at (replaying.WrongReply serial)) here only = (inl (at, here), λ sound. only sound.chain)
+chain_refused volumes m (chain.Replay at (replaying.WrongSerial place)) here only = (inl (at, here), λ sound. only sound.chain)
+chain_refused volumes m (chain.Replay at replaying.OutOfMemory) here only = tt
+chain_refused volumes m chain.OutOfMemory here only = tt
+
+-- a record of the history is at fault
+pub replay_refused : (volumes : List Volume) (m : MachineValue) (fault : ReplayFault) → IsFault m.layout m.base m.before m.history fault → Refutes m.layout m.base m.before m.history fault → HasAuditFault volumes m (replay_fault_from fault)
+replay_refused volumes m (replaying.WrongReply serial) here only = (inr here, λ sound. only sound.legal)
+replay_refused volumes m (replaying.WrongSerial at) here only = (inr here, λ sound. only sound.legal)
+replay_refused volumes m replaying.OutOfMemory here only = tt
+
+-- what was read of volumes and of a machine: their list, its layout, the number of its earlier records, its base and its history
+pub record IsReadOf (volumes : List Volume) (m : MachineValue) (vs : List Volume) (l : LayoutParts) (before : ℕ) (theirs : Pictured) (h : List Record) : Type 0 where
+  pub volumes_are : vs ≡ volumes
+  pub layout_is : l ≡ m.layout
+  pub before_is : before ≡ m.before
+  pub base_is : theirs ≡ record { layout = m.layout; memory = m.base }
+  pub history_is : h ≡ m.history
+
+-- where the volumes lead to, which is the base that was read
+record LeadsTo (volumes : List Volume) (m : MachineValue) (base : Pictured) : Type 0 where
+  layout : base.layout ≡ m.layout
+  after : base.memory ≡ state_after m.layout volumes
+
+leads_to : (volumes : List Volume) (m : MachineValue) (vs : List Volume) (l : LayoutParts) (base : Pictured) → vs ≡ volumes → l ≡ m.layout → base ≡ record { layout = l; memory = state_after l vs } → LeadsTo volumes m base
+leads_to volumes m vs l base same there is = record {
+  layout = ap (λ (p : Pictured). p.layout) is ∙ there;
+  after = ap (λ (p : Pictured). p.memory) is ∙ ap (λ (k : LayoutParts). state_after k vs) there ∙ ap (λ (xs : List Volume). state_after m.layout xs) same;
 }
 
--- it leads to another state
-pub differs : (m : MachineValue) (l : LayoutParts) (h : List Record) (replayed image : Pictured) → l ≡ m.layout → h ≡ m.history → replayed ≡ record { layout = l; memory = value_of l (boot_memory l) h } → image ≡ record { layout = m.layout; memory = m.state } → (replayed.memory ≡ image.memory → ⊥) → HasAuditFault m AuditDiffers
-differs m l h replayed image at same led pictured other sound =
-    other
-    (ap (λ (p : Pictured). p.memory) led ∙ ap (λ (rs : List Record). value_of l (boot_memory l) rs) same ∙ ap (λ (k : LayoutParts). value_of k (boot_memory k) m.history) at
-    ∙ sym sound.state ∙ sym (ap (λ (p : Pictured). p.memory) pictured))
+-- the state that the history leads to from that base
+replayed_memory : (m : MachineValue) (h : List Record) (base replayed : Pictured) → h ≡ m.history → base.layout ≡ m.layout → base.memory ≡ m.base → replayed ≡ record { layout = base.layout; memory = value_of base.layout base.memory h } → replayed.memory ≡ value_of m.layout m.base m.history
+replayed_memory m h base replayed records layout same is =
+    ap (λ (p : Pictured). p.memory) is
+    ∙ ap (λ (l : LayoutParts). value_of l base.memory h) layout
+    ∙ ap (λ (b : Memory). value_of m.layout b h) same
+    ∙ ap (λ (g : List Record). value_of m.layout m.base g) records
 
--- a record is at fault
-refuted : (m : MachineValue) (fault : ReplayFault) → IsFault m.layout (boot_memory m.layout) 0 m.history fault → Refutes m.layout (boot_memory m.layout) 0 m.history fault → HasAuditFault m (replay_fault_from fault)
-refuted m (replaying.WrongReply serial) here only = (here, λ sound. only sound.legal)
-refuted m (replaying.WrongSerial at) here only = (here, λ sound. only sound.legal)
-refuted m replaying.OutOfMemory here only = tt
+-- a volume is at fault
+pub volumes_refused : (volumes : List Volume) (m : MachineValue) (vs : List Volume) (l : LayoutParts) (fault : ChainFault) → vs ≡ volumes → l ≡ m.layout → IsChainFault l vs fault → RefutesChain l vs fault → HasAuditFault volumes m (chain_fault_from fault)
+volumes_refused volumes m vs l fault same there here only =
+    chain_refused volumes m fault
+        (subst (λ (k : LayoutParts). IsChainFault k volumes fault) there (subst (λ (xs : List Volume). IsChainFault l xs fault) same here))
+        (subst (λ (k : LayoutParts). RefutesChain k volumes fault) there (subst (λ (xs : List Volume). RefutesChain l xs fault) same only))
 
-pub replay_refused : (m : MachineValue) (l : LayoutParts) (h : List Record) (fault : ReplayFault) → l ≡ m.layout → h ≡ m.history → IsFault l (boot_memory l) 0 h fault → Refutes l (boot_memory l) 0 h fault → HasAuditFault m (replay_fault_from fault)
-replay_refused m l h fault at same here only =
-    refuted m fault
-    (subst (λ (k : LayoutParts). IsFault k (boot_memory k) 0 m.history fault) at (subst (λ (rs : List Record). IsFault l (boot_memory l) 0 rs fault) same here))
-    (subst (λ (k : LayoutParts). Refutes k (boot_memory k) 0 m.history fault) at (subst (λ (rs : List Record). Refutes l (boot_memory l) 0 rs fault) same only))
+-- the volumes lead to another state than the machine's base
+pub base_differs : (volumes : List Volume) (m : MachineValue) (vs : List Volume) (l : LayoutParts) (base theirs : Pictured) → vs ≡ volumes → l ≡ m.layout → theirs ≡ record { layout = m.layout; memory = m.base } → base ≡ record { layout = l; memory = state_after l vs } → (base.memory ≡ theirs.memory → ⊥) → IsAudited volumes m → ⊥
+base_differs volumes m vs l base theirs same there their_is is other sound =
+    other ((leads_to volumes m vs l base same there is).after ∙ sym sound.base ∙ sym (ap (λ (p : Pictured). p.memory) their_is))
+
+-- a replay from that base finds the history at fault
+pub history_refused : (volumes : List Volume) (m : MachineValue) (vs : List Volume) (l : LayoutParts) (before : ℕ) (h : List Record) (base theirs : Pictured) (fault : ReplayFault) → IsReadOf volumes m vs l before theirs h → base ≡ record { layout = l; memory = state_after l vs } → base.memory ≡ theirs.memory
+    → IsFault base.layout base.memory before h fault → Refutes base.layout base.memory before h fault → HasAuditFault volumes m (replay_fault_from fault)
+history_refused volumes m vs l before h base theirs fault read is same here only =
+    let layout = (leads_to volumes m vs l base read.volumes_are read.layout_is is).layout in
+    let start : base.memory ≡ m.base = same ∙ ap (λ (p : Pictured). p.memory) read.base_is in
+    replay_refused volumes m fault
+        (subst (λ (k : LayoutParts). IsFault k m.base m.before m.history fault) layout
+        (subst (λ (b : Memory). IsFault base.layout b m.before m.history fault) start
+        (subst (λ (n : ℕ). IsFault base.layout base.memory n m.history fault) read.before_is
+        (subst (λ (g : List Record). IsFault base.layout base.memory before g fault) read.history_is here))))
+        (subst (λ (k : LayoutParts). Refutes k m.base m.before m.history fault) layout
+        (subst (λ (b : Memory). Refutes base.layout b m.before m.history fault) start
+        (subst (λ (n : ℕ). Refutes base.layout base.memory n m.history fault) read.before_is
+        (subst (λ (g : List Record). Refutes base.layout base.memory before g fault) read.history_is only))))
+
+-- it leads to another state than the machine's
+pub state_differs : (volumes : List Volume) (m : MachineValue) (vs : List Volume) (l : LayoutParts) (before : ℕ) (h : List Record) (base theirs replayed image : Pictured) → IsReadOf volumes m vs l before theirs h → base ≡ record { layout = l; memory = state_after l vs } → base.memory ≡ theirs.memory
+    → replayed ≡ record { layout = base.layout; memory = value_of base.layout base.memory h } → image ≡ record { layout = m.layout; memory = m.state } → (replayed.memory ≡ image.memory → ⊥) → IsAudited volumes m → ⊥
+state_differs volumes m vs l before h base theirs replayed image read is same replayed_is image_is other sound =
+    let layout = (leads_to volumes m vs l base read.volumes_are read.layout_is is).layout in
+    let start : base.memory ≡ m.base = same ∙ ap (λ (p : Pictured). p.memory) read.base_is in
+    other (replayed_memory m h base replayed read.history_is layout start replayed_is ∙ sym sound.state ∙ sym (ap (λ (p : Pictured). p.memory) image_is))
+
+-- all is as it should be
+pub audited : (volumes : List Volume) (m : MachineValue) (vs : List Volume) (l : LayoutParts) (before : ℕ) (h : List Record) (base theirs replayed image : Pictured) → IsReadOf volumes m vs l before theirs h → IsChain l vs → base ≡ record { layout = l; memory = state_after l vs } → base.memory ≡ theirs.memory
+    → IsLegal base.layout base.memory before h → replayed ≡ record { layout = base.layout; memory = value_of base.layout base.memory h } → image ≡ record { layout = m.layout; memory = m.state } → replayed.memory ≡ image.memory → IsAudited volumes m
+audited volumes m vs l before h base theirs replayed image read chain is same legal replayed_is image_is alike =
+    let leads = leads_to volumes m vs l base read.volumes_are read.layout_is is in
+    let start : base.memory ≡ m.base = same ∙ ap (λ (p : Pictured). p.memory) read.base_is in
+    record {
+      chain = subst (λ (k : LayoutParts). IsChain k volumes) read.layout_is (subst (λ (xs : List Volume). IsChain l xs) read.volumes_are chain);
+      base = sym start ∙ leads.after;
+      legal = subst (λ (k : LayoutParts). IsLegal k m.base m.before m.history) leads.layout
+        (subst (λ (b : Memory). IsLegal base.layout b m.before m.history) start
+        (subst (λ (n : ℕ). IsLegal base.layout base.memory n m.history) read.before_is
+        (subst (λ (g : List Record). IsLegal base.layout base.memory before g) read.history_is legal)));
+      state = sym (ap (λ (p : Pictured). p.memory) image_is) ∙ sym alike ∙ replayed_memory m h base replayed read.history_is leads.layout start replayed_is;
+    }
 
 -- ---- a machine of a run
 
--- its history is legal from boot on, and leads to its state
-shared_is_audited : (l : LayoutParts) (m : MachineValue) (count : ℕ) → m.before ≡ 0 → m.base ≡ boot_memory m.layout → IsShared l (record { machine = m; total = count }) → IsAudited m
-shared_is_audited l m count before base shared = record {
-  legal = subst (λ (b : Memory). IsLegal m.layout b 0 m.history) base (subst (λ (n : ℕ). IsLegal m.layout m.base n m.history) before shared.history.legal);
-  state = shared.history.state ∙ ap (λ (b : Memory). value_of m.layout b m.history) base;
+-- where nothing was handed out, its history is legal from boot on, and leads to its state
+unsealed_is_audited : (l : LayoutParts) (scripts : List (List Line)) (ends : List (List LineEnd)) (m : MachineValue) (count : ℕ) → IsWorkedOff l scripts ends [] m count → IsAudited [] m
+unsealed_is_audited l scripts ends m count worked = record {
+  chain = λ at v here. absurd cc;
+  base = worked.boots (sym worked.closed.checked.reach.sealed_all);
+  legal = worked.closed.shared.history.legal;
+  state = worked.closed.shared.history.state;
 }
 
-never : (m : MachineValue) (fault : ProgramFault) (input : List ℕ) → IsAudited m → HasAuditFault m fault → IsFaultOf Audit (Some input) ⊥ ⊥ fault
-never m ReadFailed input sound h = absurd h
-never m TooLong input sound h = absurd h
-never m NotJson input sound h = absurd h
-never m BadShape input sound h = absurd h
-never m (Layout f) input sound h = absurd h
-never m (BadLine n) input sound h = absurd h
-never m (NotForRun n) input sound h = absurd h
-never m OutOfMemory input sound h = tt
-never m (NotStarted c) input sound h = absurd h
-never m SeatMissing input sound h = absurd h
-never m (Mismatch n) input sound h = absurd h
-never m (WrongReply n) input sound h = absurd (h.1 sound)
-never m (WrongSerial n) input sound h = absurd (h.1 sound)
-never m AuditDiffers input sound h = absurd (h sound)
-never m WriteFailed input sound h = absurd h
-never m (BrokenChain n) input sound h = absurd h
+-- a volume that a seal handed out has no record at fault
+seal_is_legal : (l : LayoutParts) (volumes : List Volume) (at : ℕ) (v : Volume) (fault : ReplayFault) → IsSealOf l v 0 → HasWrongRecords l volumes at v fault → ⊥
+seal_is_legal l volumes at v fault seal wrong = by_fault fault wrong.known (refutes l (state_after l (take at volumes)) (records_in (take at volumes)) v.records fault wrong.records)
+  where
+    legal : IsLegal l (state_after l (take at volumes)) (records_in (take at volumes)) v.records
+    legal =
+        let m = seal.seen.machine in
+        subst (λ (h : List Record). IsLegal l (state_after l (take at volumes)) (records_in (take at volumes)) h) (sym (ap (λ (x : Volume). x.records) seal.is))
+        (subst (λ (n : ℕ). IsLegal l (state_after l (take at volumes)) n m.history) (sym (ap (λ (x : Volume). x.before) seal.is) ∙ wrong.count)
+        (subst (λ (b : Memory). IsLegal l b m.before m.history) (sym (ap (λ (x : Volume). x.base.memory) seal.is) ∙ wrong.base)
+        (subst (λ (k : LayoutParts). IsLegal k m.base m.before m.history) seal.shared.layout seal.shared.history.legal)))
 
--- so it is never found wrong
-pub audit_fails : (input : List ℕ) (ends : List (List LineEnd)) (m : MachineValue) (count : ℕ) (fault : ProgramFault) → IsRunOf input ends m count → HasAuditFault m fault → IsFaultOf Audit (Some input) ⊥ ⊥ fault
-audit_fails input ends m count fault ran h = never m fault input (shared_is_audited ran.scenario.layout m count ran.worked.before ran.worked.base ran.worked.closed.shared) h
+    by_fault : (f : ReplayFault) → (f ≡ replaying.OutOfMemory → ⊥) → Refutes l (state_after l (take at volumes)) (records_in (take at volumes)) v.records f → ⊥
+    by_fault (replaying.WrongReply serial) known only = only legal
+    by_fault (replaying.WrongSerial place) known only = only legal
+    by_fault replaying.OutOfMemory known only = known refl
+
+-- so no record of a run is at fault
+no_record : (l : LayoutParts) (scripts : List (List Line)) (ends : List (List LineEnd)) (volumes : List Volume) (m : MachineValue) (count : ℕ) (fault : ReplayFault) → (fault ≡ replaying.OutOfMemory → ⊥) → IsWorkedOff l scripts ends volumes m count → HasWrongRecord volumes m fault → ⊥
+no_record l scripts ends volumes m count fault known worked (inl (at, (v, wrong))) =
+    let sealed : AreSealed m.layout volumes = subst (λ (k : LayoutParts). AreSealed k volumes) (sym worked.closed.shared.layout) (All-permutation (λ (x : Volume). IsSealOf l x 0) worked.handed volumes worked.same worked.workers.sealed) in
+    seal_is_legal m.layout volumes at v fault (subst (λ (x : Volume). IsSealOf m.layout x 0) (here_is volumes at v wrong.first.here) (All-get_or (λ (x : Volume). IsSealOf m.layout x 0) volumes at v (slice_get_within volumes at v wrong.first.here) sealed)) wrong
+  where
+    here_is : (vs : List Volume) (k : ℕ) (x : Volume) → slice_get vs k ≡ Some x → get_or vs k x ≡ x
+    here_is [] k x e = absurd cc
+    here_is (y ∷ vs) zero x e = cc
+    here_is (y ∷ vs) (suc k) x e = here_is vs k x e
+no_record l scripts ends volumes m count (replaying.WrongReply serial) known worked (inr wrong) = refutes m.layout m.base m.before m.history (replaying.WrongReply serial) wrong worked.closed.shared.history.legal
+no_record l scripts ends volumes m count (replaying.WrongSerial at) known worked (inr wrong) = refutes m.layout m.base m.before m.history (replaying.WrongSerial at) wrong worked.closed.shared.history.legal
+no_record l scripts ends volumes m count replaying.OutOfMemory known worked (inr wrong) = known refl
+
+-- and where states differ, some line seals
+differing : (input : List ℕ) (l : LayoutParts) (scripts : List (List Line)) (ends : List (List LineEnd)) (volumes : List Volume) (m : MachineValue) (count : ℕ) → scripts_in input ≡ Ok scripts → IsWorkedOff l scripts ends volumes m count → (IsAudited volumes m → ⊥) → SealsSome input
+differing input l scripts ends [] m count parted worked other = absurd (other (unsealed_is_audited l scripts ends m count worked))
+differing input l scripts ends (v ∷ volumes) m count parted worked other = (scripts, parted, λ none. absurd (omega (arith, worked.few, none)))
+
+never : (input : List ℕ) (l : LayoutParts) (scripts : List (List Line)) (ends : List (List LineEnd)) (volumes : List Volume) (m : MachineValue) (count : ℕ) (fault : ProgramFault) → scripts_in input ≡ Ok scripts → IsWorkedOff l scripts ends volumes m count → HasAuditFault volumes m fault → IsFaultOf Audit (Some input) ⊥ ⊥ fault
+never input l scripts ends volumes m count ReadFailed parted worked h = absurd h
+never input l scripts ends volumes m count TooLong parted worked h = absurd h
+never input l scripts ends volumes m count NotJson parted worked h = absurd h
+never input l scripts ends volumes m count BadShape parted worked h = absurd h
+never input l scripts ends volumes m count (Layout f) parted worked h = absurd h
+never input l scripts ends volumes m count (BadLine n) parted worked h = absurd h
+never input l scripts ends volumes m count (NotForRun n) parted worked h = absurd h
+never input l scripts ends volumes m count OutOfMemory parted worked h = tt
+never input l scripts ends volumes m count (NotStarted c) parted worked h = absurd h
+never input l scripts ends volumes m count SeatMissing parted worked h = absurd h
+never input l scripts ends volumes m count (Mismatch n) parted worked h = absurd h
+never input l scripts ends volumes m count (WrongReply n) parted worked h = absurd (no_record l scripts ends volumes m count (replaying.WrongReply n) (λ e. absurd cc) worked h.0)
+never input l scripts ends volumes m count (WrongSerial n) parted worked h = absurd (no_record l scripts ends volumes m count (replaying.WrongSerial n) (λ e. absurd cc) worked h.0)
+never input l scripts ends volumes m count AuditDiffers parted worked h = (tt, differing input l scripts ends volumes m count parted worked h)
+never input l scripts ends volumes m count WriteFailed parted worked h = absurd h
+never input l scripts ends volumes m count (BrokenChain n) parted worked h = tt
+
+pub audit_fails : (input : List ℕ) (ends : List (List LineEnd)) (volumes : List Volume) (m : MachineValue) (count : ℕ) (fault : ProgramFault) → IsRunOf input ends volumes m count → HasAuditFault volumes m fault → IsFaultOf Audit (Some input) ⊥ ⊥ fault
+audit_fails input ends volumes m count fault ran h =
+    never input ran.scenario.layout ran.scripts ends volumes m count fault (ap (λ (r : Result ScenarioValue ScenarioFault). r >>= scripts_of) ran.read ∙ ran.parted) ran.worked h
 
 -- what a run can fail of, an audit can
 pub audit_too : (input : List ℕ) (fault : ProgramFault) → IsFaultOf Run (Some input) ⊥ ⊥ fault → IsFaultOf Audit (Some input) ⊥ ⊥ fault
@@ -101,6 +227,14 @@ audit_too input SeatMissing h = h
 audit_too input (Mismatch n) h = h
 audit_too input (WrongReply n) h = h
 audit_too input (WrongSerial n) h = h
-audit_too input AuditDiffers h = h
+audit_too input AuditDiffers h = (tt, h.1)
 audit_too input WriteFailed h = h
 audit_too input (BrokenChain n) h = h
+
+-- ---- the text of an audit
+
+pub audit_text : (start grown text : List ℕ) (count : ℕ) → start ≡ [] → grown ≡ start ++ records_line count → text ≡ grown ++ (codes "audit ok" ++ newline) → text ≡ records_line count ++ codes "audit ok" ++ newline
+audit_text start grown text count none more last =
+    last
+    ∙ ap (λ (xs : List ℕ). xs ++ (codes "audit ok" ++ newline)) (more ∙ ap (λ (xs : List ℕ). xs ++ records_line count) none)
+    ∙ sym (append_assoc (records_line count) (codes "audit ok") newline)

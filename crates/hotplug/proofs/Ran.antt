@@ -1,5 +1,5 @@
 -- From the parts of a run to the whole: what was read, how its lines were parted and worked off, and why not.
-use Rattle.std.proofs.Common.{◌≡◌, ℕ, List, [], length, Option, Some, None, Result, Ok, sym, ap, subst, ◌∙◌, inl, inr}
+use Rattle.std.proofs.Common.{◌≡◌, ℕ, List, length, Option, Some, None, Result, Ok, sym, ap, subst, ◌∙◌, inl, inr}
 use Rattle.hp_units.specs.Boot.{boot_memory}
 use Rattle.hp_units.specs.LayoutParts.{LayoutParts}
 use Rattle.hp_machine.specs.Machine.{MachineValue}
@@ -17,7 +17,7 @@ use Rattle.hp_shared.specs.Shared.{SeatValue, first_seats}
 use Rattle.hp_workers.specs.declared.fault.RunFault.{RunFault}
 use Rattle.hp_workers.specs.declared.fault.RunFault.TheVariants as running
 use Rattle.hp_workers.specs.declared.lines.LineEnd.{LineEnd}
-use Rattle.hp_workers.specs.Workers.{AreWorkers, IsRunEnd}
+use Rattle.hp_workers.specs.Workers.{AreGathered, IsRunEnd}
 use Rattle.hotplug.specs.Faults.{IsFaultOf, IsWorkFault, close_fault_from, fault_from, run_fault_from}
 use Rattle.hotplug.specs.Runs.{IsRunOf, IsWorkedOff}
 use Rattle.hotplug.specs.declared.fault.ProgramFault.{ProgramFault}
@@ -52,11 +52,11 @@ unstarted (running.NotStarted cpu) = tt
 unstarted running.OutOfMemory = tt
 
 -- the machine was not closed: no seat is missing
-pub unclosed : (l : LayoutParts) (scripts : List (List Line)) (seats : List SeatValue) (ends : List (List LineEnd)) (volumes : List Volume) (fault : CloseFault) → length scripts ≡ l.cpus → AreWorkers l (first_seats l.cpus) scripts seats ends None → HasCause l seats volumes fault → IsWorkFault (close_fault_from fault)
-unclosed l scripts seats ends volumes closing.SeatMissing count workers cause = absurd (cause.fault (has_each l scripts seats ends None count workers))
-unclosed l scripts seats ends volumes (closing.WrongVolume at) count workers cause = tt
-unclosed l scripts seats ends volumes (closing.Mismatch serial) count workers cause = tt
-unclosed l scripts seats ends volumes closing.OutOfMemory count workers cause = tt
+pub unclosed : (l : LayoutParts) (scripts : List (List Line)) (seats : List SeatValue) (ends : List (List LineEnd)) (volumes : List Volume) (fault : CloseFault) → length scripts ≡ l.cpus → AreGathered l (first_seats l.cpus) scripts seats volumes ends None → HasCause l seats volumes fault → IsWorkFault (close_fault_from fault)
+unclosed l scripts seats ends volumes closing.SeatMissing count all cause = absurd (cause.fault (has_each l scripts seats all.handed ends None count all.workers))
+unclosed l scripts seats ends volumes (closing.WrongVolume at) count all cause = tt
+unclosed l scripts seats ends volumes (closing.Mismatch serial) count all cause = tt
+unclosed l scripts seats ends volumes closing.OutOfMemory count all cause = tt
 
 -- so the command fails
 pub work_fails : (input : List ℕ) (fault : ProgramFault) → IsWorkFault fault → IsFaultOf Run (Some input) ⊥ ⊥ fault
@@ -80,16 +80,15 @@ work_fails input (BrokenChain at) h = tt
 -- ---- the run
 
 -- without a fault all workers ran their scripts
-pub all_ran : (l : LayoutParts) (olds : List SeatValue) (scripts : List (List Line)) (news : List SeatValue) (ends : List (List LineEnd)) (fault : Option RunFault) → olds ≡ first_seats l.cpus → fault ≡ None → IsRunEnd l olds scripts news ends fault → AreWorkers l (first_seats l.cpus) scripts news ends None
-all_ran l olds scripts news ends fault first none (inl unstarted) = let bad : None ≡ Some running.OutOfMemory = sym none ∙ unstarted.2 in absurd cc
-all_ran l olds scripts news ends fault first none (inr workers) =
-    subst (λ (f : Option RunFault). AreWorkers l (first_seats l.cpus) scripts news ends f) none (subst (λ (xs : List SeatValue). AreWorkers l xs scripts news ends fault) first workers)
+pub all_ran : (l : LayoutParts) (olds : List SeatValue) (scripts : List (List Line)) (news : List SeatValue) (volumes : List Volume) (ends : List (List LineEnd)) (fault : Option RunFault) → olds ≡ first_seats l.cpus → fault ≡ None → IsRunEnd l olds scripts news volumes ends fault → AreGathered l (first_seats l.cpus) scripts news volumes ends None
+all_ran l olds scripts news volumes ends fault first none (inl unstarted) = let bad : None ≡ Some running.OutOfMemory = sym none ∙ unstarted.fault_is in absurd cc
+all_ran l olds scripts news volumes ends fault first none (inr all) =
+    subst (λ (f : Option RunFault). AreGathered l (first_seats l.cpus) scripts news volumes ends f) none (subst (λ (xs : List SeatValue). AreGathered l xs scripts news volumes ends fault) first all)
 
-pub worked_off : (l : LayoutParts) (scripts : List (List Line)) (seats : List SeatValue) (volumes : List Volume) (ends : List (List LineEnd)) (m : MachineValue) (count : ℕ) → AreWorkers l (first_seats l.cpus) scripts seats ends None → volumes ≡ [] → IsClosed l seats volumes m count → (m.before ≡ 0 → m.base ≡ boot_memory m.layout) → IsWorkedOff l scripts ends m count
-worked_off l scripts seats volumes ends m count workers none closed boots =
-    let at_boot : IsClosed l seats [] m count = subst (λ (vs : List Volume). IsClosed l seats vs m count) none closed in
-    let before : m.before ≡ 0 = sym at_boot.checked.reach.sealed_all in
-    record { seats = seats; workers = workers; closed = at_boot; before = before; base = boots before }
+pub worked_off : (l : LayoutParts) (scripts : List (List Line)) (seats : List SeatValue) (volumes back : List Volume) (ends : List (List LineEnd)) (m : MachineValue) (count : ℕ) → AreGathered l (first_seats l.cpus) scripts seats volumes ends None → back ≡ volumes → IsClosed l seats volumes m count → (m.before ≡ 0 → m.base ≡ boot_memory m.layout) → IsWorkedOff l scripts ends back m count
+worked_off l scripts seats volumes back ends m count all same closed boots =
+    subst (λ (vs : List Volume). IsWorkedOff l scripts ends vs m count) (sym same)
+    (record { seats = seats; handed = all.handed; workers = all.workers; same = all.same; order = all.order; few = all.few; closed = closed; boots = boots })
 
-pub run_is : (input : List ℕ) (s : ScenarioValue) (scripts : List (List Line)) (ends : List (List LineEnd)) (m : MachineValue) (count : ℕ) → scenario_in input ≡ Ok s → scripts_of s ≡ Ok scripts → IsWorkedOff s.layout scripts ends m count → IsRunOf input ends m count
-run_is input s scripts ends m count read parted worked = record { scenario = s; read = read; scripts = scripts; parted = parted; worked = worked }
+pub run_is : (input : List ℕ) (s : ScenarioValue) (scripts : List (List Line)) (ends : List (List LineEnd)) (volumes : List Volume) (m : MachineValue) (count : ℕ) → scenario_in input ≡ Ok s → scripts_of s ≡ Ok scripts → IsWorkedOff s.layout scripts ends volumes m count → IsRunOf input ends volumes m count
+run_is input s scripts ends volumes m count read parted worked = record { scenario = s; read = read; scripts = scripts; parted = parted; worked = worked }

@@ -4,6 +4,7 @@ use Rattle.std.proofs.lemmas.List.FromFn.{get_or-map-range_with_len, length-map-
 use Rattle.std.proofs.lemmas.Option.{slice_get-get_or, slice_get_within}
 use Rattle.hp_units.specs.LayoutParts.{LayoutParts}
 use Rattle.hp_units.specs.declared.replies.Receipt.{Receipt}
+use Rattle.hp_history.specs.declared.volumes.Volume.{Volume}
 use Rattle.hp_scenario.specs.declared.lines.Line.{Line}
 use Rattle.hp_shared.specs.Comparing.{HasEach}
 use Rattle.hp_shared.specs.SeatPorts.{AreTurns}
@@ -30,18 +31,18 @@ record IsOwn (cpus : ℕ) (place : ℕ) (seat : SeatValue) : Type 0 where
   inside : place < cpus
   own : seat.cpu ≡ place
 
-seat_is_own : (l : LayoutParts) (scripts : List (List Line)) (seats : List SeatValue) (ends : List (List LineEnd)) (fault : Option RunFault) → length scripts ≡ l.cpus → AreWorkers l (first_seats l.cpus) scripts seats ends fault
+seat_is_own : (l : LayoutParts) (scripts : List (List Line)) (seats : List SeatValue) (handed : List Volume) (ends : List (List LineEnd)) (fault : Option RunFault) → length scripts ≡ l.cpus → AreWorkers l (first_seats l.cpus) scripts seats handed ends fault
     → (place : ℕ) (seat : SeatValue) → slice_get seats place ≡ Some seat → IsOwn l.cpus place seat
-seat_is_own l scripts seats ends fault count workers place seat here =
+seat_is_own l scripts seats handed ends fault count workers place seat here =
     let inside : place < l.cpus = omega (arith, slice_get_within seats place seat here, workers.seats, length-map-range_with_len first_seat 0 l.cpus) in
     let script = slice_get-get_or scripts place [] (omega (arith, inside, count)) in
     let found = workers.each place (first_seat place) (get_or scripts place []) (first_seat_at l.cpus place inside) script in
     let same : found.new ≡ seat = same_seat (slice_get seats place) found.new seat found.seat here in
     record { inside = inside; own = sym (ap (λ (s : SeatValue). s.cpu) same) ∙ turns_cpu found.worker.worked.gained l (first_seat place) found.new found.worker.worked.turns }
 
-pub has_each : (l : LayoutParts) (scripts : List (List Line)) (seats : List SeatValue) (ends : List (List LineEnd)) (fault : Option RunFault) → length scripts ≡ l.cpus → AreWorkers l (first_seats l.cpus) scripts seats ends fault → HasEach l.cpus seats
-has_each l scripts seats ends fault count workers =
-    let own = seat_is_own l scripts seats ends fault count workers in
+pub has_each : (l : LayoutParts) (scripts : List (List Line)) (seats : List SeatValue) (handed : List Volume) (ends : List (List LineEnd)) (fault : Option RunFault) → length scripts ≡ l.cpus → AreWorkers l (first_seats l.cpus) scripts seats handed ends fault → HasEach l.cpus seats
+has_each l scripts seats handed ends fault count workers =
+    let own = seat_is_own l scripts seats handed ends fault count workers in
     record {
       count = workers.seats ∙ length-map-range_with_len first_seat 0 l.cpus;
       inside = λ place seat here. (let is = own place seat here in omega (arith, is.inside, is.own));

@@ -13,7 +13,7 @@ use Rattle.hp_scenario.specs.Scenario.{ScenarioValue, scenario_in}
 use Rattle.hp_text.specs.State.{state_text}
 use Rattle.hotplug.specs.Serial.{GrowsBy, IsWhole, WritesLines, end_text, lines_text, scenario_text, serial_text}
 use Rattle.hotplug.proofs.Lines.{AreDue, lines_due, run_is}
-use Rattle.hotplug.specs.Runs.{IsAuditTextOf, IsRunTextOf, scripts_in}
+use Rattle.hotplug.specs.Runs.{IsAuditTextOf, IsRunTextOf, SealsSome, scripts_in}
 use Rattle.hotplug.specs.Served.{IsTextOf, ReadsAll, Serves, WritesTextOf}
 use Rattle.hotplug.specs.Faults.{IsReadFault, IsFaultOf, fault_from, limit}
 use Rattle.hotplug.specs.declared.fault.ProgramFault.{ProgramFault}
@@ -66,7 +66,7 @@ input_fault_of command a b input read written SeatMissing p end h = absurd h
 input_fault_of command a b input read written (Mismatch n) p end h = h
 input_fault_of command a b input read written (WrongReply n) p end h = absurd h
 input_fault_of command a b input read written (WrongSerial n) p end h = absurd h
-input_fault_of command a b input read written AuditDiffers p end h = absurd h
+input_fault_of command a b input read written AuditDiffers p end h = (h.0, given a b input p end SealsSome h.1)
 input_fault_of command a b input read written WriteFailed p end h = absurd h
 input_fault_of command a b input read written (BrokenChain n) p end h = h
 

@@ -1,22 +1,36 @@
--- When a machine's history is found to lead to its state.
-use Rattle.std.specs.Prelude.{◌≡◌}
-use Rattle.hp_units.specs.Boot.{boot_memory}
+-- When volumes and a machine's history are found to lead to its state.
+use Rattle.std.specs.Prelude.{ℕ, ◌≡◌, ◌⊎◌, List}
 use Rattle.hp_units.specs.History.{IsLegal, value_of}
 use Rattle.hp_machine.specs.Machine.{MachineValue}
 use Rattle.hp_history.specs.Replay.{IsFault}
+use Rattle.hp_history.specs.Volumes.{IsChain, IsChainFault, state_after}
+use Rattle.hp_history.specs.declared.replaying.ReplayFault.{ReplayFault}
 use Rattle.hp_history.specs.declared.replaying.ReplayFault.TheVariants as replaying
+use Rattle.hp_history.specs.declared.volumes.ChainFault.TheVariants as chain
+use Rattle.hp_history.specs.declared.volumes.Volume.{Volume}
 use Rattle.hotplug.specs.declared.fault.ProgramFault.{ProgramFault}
-use Rattle.hotplug.specs.declared.fault.ProgramFault.TheVariants.{OutOfMemory, WrongReply, WrongSerial, AuditDiffers}
+use Rattle.hotplug.specs.declared.fault.ProgramFault.TheVariants.{OutOfMemory, WrongReply, WrongSerial, AuditDiffers, BrokenChain}
 
--- the history is legal from boot on, and leads to the state
-pub record IsAudited (m : MachineValue) : Type 0 where
-  pub legal : IsLegal m.layout (boot_memory m.layout) 0 m.history
-  pub state : m.state ≡ value_of m.layout (boot_memory m.layout) m.history
+-- the volumes follow one another from boot on and lead to the machine's base; its history is legal from there on, and leads to
+-- its state
+pub record IsAudited (volumes : List Volume) (m : MachineValue) : Type 0 where
+  pub chain : IsChain m.layout volumes
+  pub base : m.base ≡ state_after m.layout volumes
+  pub legal : IsLegal m.layout m.base m.before m.history
+  pub state : m.state ≡ value_of m.layout m.base m.history
 
--- why not: the first record at fault, or the state that the history leads to is another one
-abbrev pub HasAuditFault : MachineValue → ProgramFault → Type 0
-HasAuditFault m (WrongReply serial) = IsFault m.layout (boot_memory m.layout) 0 m.history (replaying.WrongReply serial) × (IsAudited m → ⊥)
-HasAuditFault m (WrongSerial at) = IsFault m.layout (boot_memory m.layout) 0 m.history (replaying.WrongSerial at) × (IsAudited m → ⊥)
-HasAuditFault m AuditDiffers = IsAudited m → ⊥
-HasAuditFault m OutOfMemory = Unit {0}
-HasAuditFault m _ = ⊥
+-- the first record at fault, in a volume or in the machine's history
+abbrev pub HasWrongRecord : List Volume → MachineValue → ReplayFault → Type 0
+HasWrongRecord volumes m fault =
+    ((at : ℕ) × IsChainFault m.layout volumes (chain.Replay at fault)) ⊎ IsFault m.layout m.base m.before m.history fault
+
+-- why not: the first volume that does not follow those before it, the first record at fault, or a state is another one than that
+-- which the records before it lead to
+abbrev pub HasAuditFault : List Volume → MachineValue → ProgramFault → Type 0
+HasAuditFault volumes m (WrongReply serial) = HasWrongRecord volumes m (replaying.WrongReply serial) × (IsAudited volumes m → ⊥)
+HasAuditFault volumes m (WrongSerial at) = HasWrongRecord volumes m (replaying.WrongSerial at) × (IsAudited volumes m → ⊥)
+HasAuditFault volumes m AuditDiffers = IsAudited volumes m → ⊥
+HasAuditFault volumes m (BrokenChain at) =
+    (IsChainFault m.layout volumes (chain.WrongCount at) ⊎ IsChainFault m.layout volumes (chain.WrongBase at)) × (IsAudited volumes m → ⊥)
+HasAuditFault volumes m OutOfMemory = Unit {0}
+HasAuditFault volumes m _ = ⊥

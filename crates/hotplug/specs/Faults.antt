@@ -2,6 +2,8 @@
 use Rattle.std.specs.Prelude.{◌≡◌, ℕ, ◌<◌, List, length, Option, Err, IfSome}
 use Rattle.hp_history.specs.declared.replaying.ReplayFault.{ReplayFault}
 use Rattle.hp_history.specs.declared.replaying.ReplayFault.TheVariants as replaying
+use Rattle.hp_history.specs.declared.volumes.ChainFault.{ChainFault}
+use Rattle.hp_history.specs.declared.volumes.ChainFault.TheVariants as chain
 use Rattle.hp_scenario.specs.declared.fault.ScenarioFault.{ScenarioFault}
 use Rattle.hp_scenario.specs.declared.fault.ScenarioFault.TheVariants as scenario
 use Rattle.hp_scenario.specs.Scenario.{scenario_in}
@@ -13,7 +15,7 @@ use Rattle.hotplug.specs.declared.fault.ProgramFault.{ProgramFault}
 use Rattle.hotplug.specs.declared.fault.ProgramFault.TheVariants.{ReadFailed, TooLong, NotJson, BadShape, Layout, BadLine, NotForRun, OutOfMemory, NotStarted, SeatMissing, Mismatch, WrongReply, WrongSerial, AuditDiffers, WriteFailed, BrokenChain}
 use Rattle.hotplug.specs.declared.words.Command.{Command}
 use Rattle.hotplug.specs.declared.words.Command.TheVariants.{Serial, Run, Audit}
-use Rattle.hotplug.specs.Runs.{scripts_in}
+use Rattle.hotplug.specs.Runs.{SealsSome, scripts_in}
 
 abbrev pub fault_from : ScenarioFault → ProgramFault
 fault_from scenario.NotJson = NotJson
@@ -37,6 +39,12 @@ abbrev pub replay_fault_from : ReplayFault → ProgramFault
 replay_fault_from (replaying.WrongReply serial) = WrongReply serial
 replay_fault_from (replaying.WrongSerial at) = WrongSerial at
 replay_fault_from replaying.OutOfMemory = OutOfMemory
+
+abbrev pub chain_fault_from : ChainFault → ProgramFault
+chain_fault_from (chain.WrongCount at) = BrokenChain at
+chain_fault_from (chain.WrongBase at) = BrokenChain at
+chain_fault_from (chain.Replay at fault) = replay_fault_from fault
+chain_fault_from chain.OutOfMemory = OutOfMemory
 
 abbrev pub limit : ℕ
 limit = 16777216
@@ -67,7 +75,7 @@ IsFaultOf command known read written SeatMissing = ⊥
 IsFaultOf command known read written (Mismatch serial) = HasWorkers command
 IsFaultOf command known read written (WrongReply serial) = ⊥
 IsFaultOf command known read written (WrongSerial at) = ⊥
-IsFaultOf command known read written AuditDiffers = ⊥
+IsFaultOf command known read written AuditDiffers = HasWorkers command × IfSome known SealsSome
 IsFaultOf command known read written WriteFailed = written
 IsFaultOf command known read written (BrokenChain at) = HasWorkers command
 

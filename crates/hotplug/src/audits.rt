@@ -1,4 +1,4 @@
-//! A run whose history is read again.
+//! A run whose records are read again.
 ghost use Rattle.std.specs.Prelude.{Some, IfErr, IfOk, OnOk, string_bytes};
 ghost use Rattle.hotplug.specs.Audits.{HasAuditFault, IsAudited};
 ghost use Rattle.hotplug.specs.Faults.{IsFaultOf};
@@ -7,13 +7,14 @@ ghost use Rattle.hotplug.specs.declared.words.Command.TheVariants.{Audit};
 
 use crate::fault::ProgramFault;
 use crate::runs::{work_off, write_records};
+use hp_history::{Volume, audit_chain, replay_from};
 use hp_machine::Machine;
-use hp_history::replay;
 use std::alloc::Global;
 use std::sync::Wait;
 use std::thread::Threads;
 
-/// The text of an audit: the scenario that the bytes are is run as `run` does it, and then the history of its machine is replayed.
+/// The text of an audit: the scenario that the bytes are is run as `run` does it, and then its sealed records and the history of
+/// its machine are replayed.
 pub fn audit<R: Threads + Wait + Sync>(
     rt: &R,
     alloc: Global,
@@ -23,19 +24,29 @@ pub fn audit<R: Threads + Wait + Sync>(
     ensures err { IfErr result (IsFaultOf Audit (Some input.now) ⊥ ⊥) }
 {
     let worked = work_off(rt, alloc, input)?;
-    check_history(alloc, &worked.closed.machine)?;
+    check_records(alloc, &worked.closed.volumes, &worked.closed.machine)?;
     let mut out = String::new(alloc);
     write_records(&mut out, worked.closed.records)?;
     out.push_str("audit ok\n")?;
     Ok(out)
 }
 
-/// Replays a machine's history from boot on, and compares the state that it leads to with the machine's.
-fn check_history(alloc: Global, machine: &Machine) -> Result<(), ProgramFault>
-    ensures ok { OnOk result (IsAudited machine.now) }
-    ensures err { IfErr result (HasAuditFault machine.now) }
+/// Replays volumes from boot on, and compares the state that they lead to with a machine's base; then replays the machine's
+/// history from its base on, and compares the state that it leads to with the machine's.
+fn check_records(
+    alloc: Global,
+    volumes: &Vec<Volume>,
+    machine: &Machine,
+) -> Result<(), ProgramFault>
+    ensures ok { OnOk result (IsAudited volumes.now.items machine.now) }
+    ensures err { IfErr result (HasAuditFault volumes.now.items machine.now) }
 {
-    let replayed = replay(alloc, machine.layout(), machine.history())?;
+    let base = audit_chain(alloc, machine.layout(), volumes.as_slice())?;
+    if !base.same(machine.base()) {
+        return Err(ProgramFault::AuditDiffers);
+    }
+    machine.stays_sound();
+    let replayed = replay_from(alloc, &base, machine.sealed(), machine.history())?;
     let image = machine.image(alloc)?;
     if !replayed.same(&image) {
         return Err(ProgramFault::AuditDiffers);

@@ -3,7 +3,7 @@
 ghost use Rattle.std.specs.Prelude.{◌≡◌, Some};
 ghost use Rattle.hotplug.specs.declared.fault.ProgramFault.TheVariants.{OutOfMemory};
 
-use hp_history::ReplayFault;
+use hp_history::{ChainFault, ReplayFault};
 use hp_scenario::ScenarioFault;
 use hp_shared::CloseFault;
 use hp_units::{Cpu, LayoutFault, Serial};
@@ -27,7 +27,7 @@ pub enum ProgramFault {
     Layout(LayoutFault),
     /// A text of `calls` is no line; lines are counted from 1.
     BadLine { line: u64 },
-    /// A line that no worker may run: it reads a control file or seals, or its processor is not in the layout; lines are counted from 1.
+    /// A line that no worker may run: it reads a control file, or its processor is not in the layout; lines are counted from 1.
     NotForRun { line: u64 },
     /// Out of memory.
     OutOfMemory,
@@ -149,6 +149,22 @@ impl From<ReplayFault> for ProgramFault {
             ReplayFault::WrongReply { serial } => ProgramFault::WrongReply { serial },
             ReplayFault::WrongSerial { at } => ProgramFault::WrongSerial { at },
             ReplayFault::OutOfMemory => ProgramFault::OutOfMemory,
+        }
+    }
+}
+
+impl From<ChainFault> for ProgramFault {
+    ghost use Rattle.std.specs.Prelude.{◌≡◌};
+    ghost use Rattle.hotplug.specs.Faults.{chain_fault_from};
+
+    ghost from_gives = { λ f e. e ≡ chain_fault_from f };
+
+    fn from(fault: ChainFault) -> ProgramFault {
+        match fault {
+            ChainFault::WrongCount { at } => ProgramFault::BrokenChain { at },
+            ChainFault::WrongBase { at } => ProgramFault::BrokenChain { at },
+            ChainFault::Replay { at: _, fault } => ProgramFault::from(fault),
+            ChainFault::OutOfMemory => ProgramFault::OutOfMemory,
         }
     }
 }

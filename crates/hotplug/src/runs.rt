@@ -11,7 +11,7 @@ use crate::fault::ProgramFault;
 use hp_machine::Machine;
 use hp_scenario::{Scenario, Script};
 use hp_shared::{Closed, Job, Shared, close};
-use hp_text::{write_call_fault, write_echo_fault, write_plan_end, write_reply};
+use hp_text::{write_call_fault, write_echo_fault, write_plan_end, write_reply, write_sealed};
 use hp_workers::{Ends, LineEnd, OpenGate, RunEnd, run_workers};
 use std::alloc::{AllocError, Global};
 use std::marker::Brand;
@@ -22,7 +22,7 @@ use std::thread::Threads;
 /// What workers leave: the closed machine, and what became of each processor's lines.
 #[derive(Drop)]
 pub struct Worked {
-    /// The machine, and how many records it made.
+    /// The machine, its sealed records, and how many records it made.
     pub closed: Closed,
     /// The ends of the lines, by processor from 0.
     pub ends: Vec<Ends>,
@@ -50,7 +50,7 @@ pub fn work_off<R: Threads + Wait + Sync>(
     alloc: Global,
     input: &[u8],
 ) -> Result<Worked, ProgramFault>
-    ensures ok { IfOk result (λ worked. IsRunOf input.now worked.ends.items worked.closed.machine worked.closed.records) }
+    ensures ok { IfOk result (λ worked. IsRunOf input.now worked.ends.items worked.closed.volumes.items worked.closed.machine worked.closed.records) }
     ensures err { IfErr result (IsFaultOf Run (Some input.now) ⊥ ⊥) }
 {
     let scenario = Scenario::read(alloc, input)?;
@@ -74,17 +74,22 @@ fn run_scripts<L: Job + Send + Sync, R: Threads + Wait + Sync>(
     requires one_each { blank.parts ≡ L.layout.cpus }
     requires scripts { length scripts.items ≡ L.layout.cpus }
     requires run { AreForRun scripts.items }
-    ensures ok { IfOk result (λ worked. IsWorkedOff L.layout scripts.items worked.ends.items worked.closed.machine worked.closed.records) }
+    ensures ok { IfOk result (λ worked. IsWorkedOff L.layout scripts.items worked.ends.items worked.closed.volumes.items worked.closed.machine worked.closed.records) }
     ensures err { IfErr result IsWorkFault }
 {
     let Ok((shared, seats)) = Shared::<L>::new(alloc, blank, machine) else {
         return Err(ProgramFault::OutOfMemory);
     };
-    let RunEnd { seats, ends, fault } = run_workers(rt, alloc, &shared, seats, scripts, &OpenGate);
+    let RunEnd {
+        seats,
+        volumes,
+        ends,
+        fault,
+    } = run_workers(rt, alloc, &shared, seats, scripts, &OpenGate);
     if let Some(fault) = fault {
         return Err(ProgramFault::from(fault));
     }
-    match close(alloc, shared, seats, Vec::new(alloc)) {
+    match close(alloc, shared, seats, volumes) {
         Ok(closed) => {
             closed.machine.begins_at_boot();
             Ok(Worked { closed, ends })
@@ -131,6 +136,7 @@ fn write_line_end(out: &mut String, end: LineEnd) -> Result<(), AllocError>
         LineEnd::Fault(fault) => write_call_fault(out, fault),
         LineEnd::Plan(end) => write_plan_end(out, end),
         LineEnd::Control(fault) => write_echo_fault(out, fault),
+        LineEnd::Sealed(count) => write_sealed(out, count),
     }
 }
 

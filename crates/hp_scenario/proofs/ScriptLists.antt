@@ -9,7 +9,7 @@ use Rattle.std.proofs.lemmas.List.FromFn.{get_or-map-range_with_len, length-map-
 use Rattle.std.proofs.lemmas.List.Sums.{AllPass-from_list_all, fails_before_first, list_all-from_AllPass}
 use Rattle.std.proofs.lemmas.Bool.{eqb-false, eqb-true, ltb-false, ltb-true}
 use Rattle.std.proofs.lemmas.Grind.{get_or-set_at}
-use Rattle.hp_scenario.specs.Scripts.{AreForRun, IsForRun, first_unfit, is_for_serial, is_for_run, script_of}
+use Rattle.hp_scenario.specs.Scripts.{AreForRun, IsForRun, first_unfit, is_cat, is_for_run, script_of}
 use Rattle.hp_scenario.specs.declared.lines.Line.{Line}
 
 -- what the lines that are left, of which the last goes next, add to the scripts so far, makes the scripts of all lines
@@ -90,7 +90,7 @@ reached cpus lines none = by_test (nat_lt (position_or_len (λ line. not (is_for
 
 -- a line that may be run reads no control file
 reads_none : (cpus : ℕ) (line : Line) → is_for_run cpus line ≡ true → IsForRun line
-reads_none cpus line fits = no_cat (is_for_serial line.work) (and_both (nat_lt line.cpu cpus) (not (is_for_serial line.work)) fits).1
+reads_none cpus line fits = no_cat (is_cat line.work) (and_both (nat_lt line.cpu cpus) (not (is_cat line.work)) fits).1
   where
     no_cat : (t : Bool) → not t ≡ true → t ≡ false
     no_cat true e = absurd cc
@@ -101,7 +101,7 @@ pub all_but_last : (cpus : ℕ) (old left : List Line) (line : Line) → old ≡
 all_but_last cpus old left line old_is all =
     let both = and_both (list_all (is_for_run cpus) left) (list_all (is_for_run cpus) (line ∷ [])) (sym (list_all-append (is_for_run cpus) left (line ∷ [])) ∙ (ap (list_all (is_for_run cpus)) (sym old_is) ∙ all)) in
     let last = and_both (is_for_run cpus line) true both.1 in
-    (both.0, ltb-true line.cpu cpus (and_both (nat_lt line.cpu cpus) (not (is_for_serial line.work)) last.0).0)
+    (both.0, ltb-true line.cpu cpus (and_both (nat_lt line.cpu cpus) (not (is_cat line.work)) last.0).0)
 
 -- lines that all may be run, in the other order
 pub all_reversed : (cpus : ℕ) (lines : List Line) → list_all (is_for_run cpus) lines ≡ true → list_all (is_for_run cpus) (reverse lines) ≡ true

@@ -8,24 +8,32 @@ use Rattle.hp_scenario.specs.declared.lines.Line.{Line}
 use Rattle.hp_scenario.specs.declared.lines.Work.{Work}
 use Rattle.hp_scenario.specs.declared.lines.Work.TheVariants as work
 
--- whether it is for `serial` alone: it reads a control file, or seals
-abbrev pub is_for_serial : Work → Bool
-is_for_serial (work.Event event) = false
-is_for_serial (work.Plan plan turns) = false
-is_for_serial (work.Echo path text) = false
-is_for_serial (work.Cat path) = true
-is_for_serial work.Seal = true
+-- whether it reads a control file
+abbrev pub is_cat : Work → Bool
+is_cat (work.Event event) = false
+is_cat (work.Plan plan turns) = false
+is_cat (work.Echo path text) = false
+is_cat (work.Cat path) = true
+is_cat work.Seal = false
 
--- no line of any script is for `serial` alone
+-- whether it seals
+abbrev pub is_seal : Work → Bool
+is_seal (work.Event event) = false
+is_seal (work.Plan plan turns) = false
+is_seal (work.Echo path text) = false
+is_seal (work.Cat path) = false
+is_seal work.Seal = true
+
+-- no line of any script reads a control file
 abbrev pub IsForRun : Line → Type 0
-IsForRun line = is_for_serial line.work ≡ false
+IsForRun line = is_cat line.work ≡ false
 
 abbrev pub AreForRun : List (List Line) → Type 0
 AreForRun scripts = All (λ script. All IsForRun script) scripts
 
 -- whether a worker may run the line, with so many processors
 abbrev pub is_for_run : (cpus : ℕ) → Line → Bool
-is_for_run cpus line = nat_lt line.cpu cpus && not (is_for_serial line.work)
+is_for_run cpus line = nat_lt line.cpu cpus && not (is_cat line.work)
 
 -- the lines of a processor, in order
 abbrev pub script_of : List Line → (cpu : ℕ) → List Line

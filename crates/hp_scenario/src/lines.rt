@@ -1,5 +1,6 @@
 //! The lines of a scenario.
 ghost use Rattle.std.specs.Prelude.{◌≡◌};
+ghost use Rattle.hp_scenario.specs.Scripts.{is_seal};
 
 use hp_units::{Cpu, Event, Plan, Text};
 use std::marker::Model;
@@ -17,6 +18,15 @@ pub enum Work {
     Cat { path: Text },
     /// The records since the last seal handed out.
     Seal,
+}
+
+impl Work {
+    /// Whether it seals.
+    pub fn is_seal(&self) -> bool
+        ensures { result ≡ is_seal self.now }
+    {
+        matches!(self, Work::Seal)
+    }
 }
 
 /// One line: a processor and what it asks for.

@@ -56,7 +56,7 @@ impl Scenario {
     /// The lines by processor: one script for each processor of the layout, in order from 0. It takes the scenario, whose lines
     /// move into the scripts.
     ///
-    /// Errors: NotForRun with the first line, counted from 1, that reads a control file or seals, or whose processor is not in the layout;
+    /// Errors: NotForRun with the first line, counted from 1, that reads a control file or whose processor is not in the layout;
     /// OutOfMemory, which may come in place of any answer.
     #[tactic(auto, unfolding(crate::specs::Scripts::scripts_of))]
     pub fn scripts(self, alloc: Global) -> Result<Vec<Script>, ScenarioFault>
@@ -114,10 +114,10 @@ impl Line {
         self.cpu.0 as usize
     }
 
-    /// Whether a worker may run the line: its processor is one of so many, and it neither reads a control file nor seals.
+    /// Whether a worker may run the line: its processor is one of so many, and it does not read a control file.
     fn is_for_run(&self, cpus: u32) -> bool
         ensures { result ≡ is_for_run cpus self.now }
     {
-        self.cpu.0 < cpus && !matches!(&self.work, Work::Cat { .. } | Work::Seal)
+        self.cpu.0 < cpus && !matches!(&self.work, Work::Cat { .. })
     }
 }

@@ -1,3 +1,4 @@
 pub mod Echoes
 pub mod LineRuns
+pub mod SealRuns
 pub mod WorkerLists

@@ -9,10 +9,12 @@ use Rattle.hp_ops.specs.Ports.{AreMade}
 use Rattle.hp_laws.proofs.Lists.{take_next}
 use Rattle.hp_scenario.specs.declared.lines.Line.{Line}
 use Rattle.hp_scenario.specs.declared.lines.Work.{Work}
+use Rattle.hp_history.specs.declared.volumes.Volume.{Volume}
+use Rattle.hp_scenario.specs.declared.lines.Work.TheVariants as work
 use Rattle.hp_shared.specs.Shared.{SeatValue}
 use Rattle.hp_shared.specs.SeatPorts.{AreTurns, turns_joined}
 use Rattle.hp_workers.specs.declared.lines.LineEnd.{LineEnd}
-use Rattle.hp_workers.specs.Lines.{AreLines, IsLine, IsLineRun, IsWorked}
+use Rattle.hp_workers.specs.Lines.{AreLines, IsCallsRun, IsLine, IsLineRun, IsWorkRun, IsWorked}
 
 -- what a port's calls made of its seat
 pub seat_made : {S N : Type 0} (l : LayoutParts) (makes : S → List Receipt → S → Type 0) (leaves : S → CallFault → S → Type 0) (old new : S) (gained : List Receipt) (fault : Option CallFault) → AreMade makes leaves old gained fault new
@@ -27,43 +29,74 @@ seat_made l makes leaves old new gained (Some fault) made name seat as_turns as_
     (left.0 ∙ turns.0, subst (λ (s : SeatValue). AreTurns l (seat old) gained s) (sym left.1) turns.1)
 
 -- a line was run by the seat that a port had
-pub line_run : (l : LayoutParts) (old first last new : SeatValue) (asked : Work) (gained : List Receipt) (end : LineEnd) → first ≡ old → new ≡ last → AreTurns l first gained last → IsLine l.cpus asked gained end → IsLineRun l old asked end new
+pub line_run : (l : LayoutParts) (old first last new : SeatValue) (asked : Work) (gained : List Receipt) (end : LineEnd) → first ≡ old → new ≡ last → AreTurns l first gained last → IsWorkRun l.cpus asked gained end → IsCallsRun l old asked end new
 line_run l old first last new asked gained end first_is new_is turns ran =
-    subst (λ (s : SeatValue). IsLineRun l s asked end new) first_is
-    (subst (λ (s : SeatValue). IsLineRun l first asked end s) (sym new_is) (record { gained = gained; turns = turns; line = ran }))
+    subst (λ (s : SeatValue). IsCallsRun l s asked end new) first_is
+    (subst (λ (s : SeatValue). IsCallsRun l first asked end s) (sym new_is) (record { gained = gained; turns = turns; line = ran }))
+
+-- what calls did hands nothing out
+by_calls : (l : LayoutParts) (asked : Work) (gained : List Receipt) (end : LineEnd) → IsWorkRun l.cpus asked gained end → IsLine l asked gained [] end
+by_calls l (work.Event event) gained end ran = (refl, ran)
+by_calls l (work.Plan plan turns) gained end ran = (refl, ran)
+by_calls l (work.Echo path word) gained end ran = (refl, ran)
+by_calls l (work.Cat path) gained end ran = absurd ran
+by_calls l work.Seal gained end ran = absurd ran
+
+pub line_called : (l : LayoutParts) (old new : SeatValue) (before after : List Volume) (asked : Work) (end : LineEnd) → after ≡ before → IsCallsRun l old asked end new → IsLineRun l old before asked end new after
+line_called l old new before after asked end same run = record {
+  gained = run.gained;
+  handed = [];
+  turns = run.turns;
+  line = by_calls l asked run.gained end run.line;
+  kept = same ∙ sym (append-nil before);
+}
 
 -- one more line
-lines_more : (cpus : ℕ) (lines : List Line) (line : Line) (gained more : List Receipt) (ends : List LineEnd) (end : LineEnd) → AreLines cpus lines gained ends → IsLine cpus line.work more end → AreLines cpus (lines ++ line ∷ []) (gained ++ more) (ends ++ end ∷ [])
-lines_more cpus [] line gained more ends end none ran =
-    (more, end, [], [], ap (λ (rs : List Receipt). rs ++ more) none.0 ∙ sym (append-nil more), ap (λ (es : List LineEnd). es ++ end ∷ []) none.1, ran, (refl, refl))
-lines_more cpus (x ∷ lines) line gained more ends end before ran =
-    let later = lines_more cpus lines line before.2 more before.3 end before.7 ran in (
+lines_more : (l : LayoutParts) (lines : List Line) (line : Line) (gained more : List Receipt) (handed out : List Volume) (ends : List LineEnd) (end : LineEnd) → AreLines l lines gained handed ends → IsLine l line.work more out end → AreLines l (lines ++ line ∷ []) (gained ++ more) (handed ++ out) (ends ++ end ∷ [])
+lines_more l [] line gained more handed out ends end none ran = (
+  more,
+  out,
+  end,
+  [],
+  [],
+  [],
+  ap (λ (rs : List Receipt). rs ++ more) none.0 ∙ sym (append-nil more),
+  ap (λ (vs : List Volume). vs ++ out) none.1 ∙ sym (append-nil out),
+  ap (λ (es : List LineEnd). es ++ end ∷ []) none.2,
+  (ran, (refl, refl, refl)),
+)
+lines_more l (x ∷ lines) line gained more handed out ends end before ran =
+    let later = lines_more l lines line before.3 more before.4 out before.5 end before.9.1 ran in (
       before.0,
       before.1,
-      before.2 ++ more,
-      before.3 ++ end ∷ [],
-      ap (λ (rs : List Receipt). rs ++ more) before.4 ∙ append_assoc before.0 before.2 more,
-      ap (λ (es : List LineEnd). es ++ end ∷ []) before.5,
-      before.6,
-      later,
+      before.2,
+      before.3 ++ more,
+      before.4 ++ out,
+      before.5 ++ end ∷ [],
+      ap (λ (rs : List Receipt). rs ++ more) before.6 ∙ append_assoc before.0 before.3 more,
+      ap (λ (vs : List Volume). vs ++ out) before.7 ∙ append_assoc before.1 before.4 out,
+      ap (λ (es : List LineEnd). es ++ end ∷ []) before.8,
+      (before.9.0, later),
     )
 
 -- no line yet
-pub worked_none : (l : LayoutParts) (seat : SeatValue) (lines : List Line) (ends : List LineEnd) → ends ≡ [] → IsWorked l seat lines seat ends
-worked_none l seat lines ends none =
-    subst (IsWorked l seat lines seat) (sym none) (record { gained = []; turns = refl; ran = (refl, refl); within = omega arith })
+pub worked_none : (l : LayoutParts) (seat : SeatValue) (lines : List Line) (handed : List Volume) (ends : List LineEnd) → handed ≡ [] → ends ≡ [] → IsWorked l seat lines seat handed ends
+worked_none l seat lines handed ends empty none =
+    subst (λ (vs : List Volume). IsWorked l seat lines seat vs ends) (sym empty)
+    (subst (IsWorked l seat lines seat []) (sym none) (record { gained = []; turns = refl; ran = (refl, refl, refl); within = omega arith }))
 
 -- one more line of a script
-pub worked_next : (l : LayoutParts) (old mid new : SeatValue) (lines : List Line) (line : Line) (ends more : List LineEnd) (end : LineEnd) → slice_get lines (length ends) ≡ Some line → more ≡ ends ++ end ∷ [] → IsWorked l old lines mid ends → IsLineRun l mid line.work end new → IsWorked l old lines new more
-worked_next l old mid new lines line ends more end here is worked run =
-    subst (IsWorked l old lines new) (sym is) (record {
+pub worked_next : (l : LayoutParts) (old mid new : SeatValue) (lines : List Line) (line : Line) (before after : List Volume) (ends more : List LineEnd) (end : LineEnd) → slice_get lines (length ends) ≡ Some line → more ≡ ends ++ end ∷ [] → IsWorked l old lines mid before ends → IsLineRun l mid before line.work end new after → IsWorked l old lines new after more
+worked_next l old mid new lines line before after ends more end here is worked run =
+    subst (λ (vs : List Volume). IsWorked l old lines new vs more) (sym run.kept)
+    (subst (IsWorked l old lines new (before ++ run.handed)) (sym is) (record {
       gained = worked.gained ++ run.gained;
       turns = turns_joined l worked.gained run.gained old mid new worked.turns run.turns;
       ran =
-          subst (λ (ls : List Line). AreLines l.cpus ls (worked.gained ++ run.gained) (ends ++ end ∷ [])) (sym taken)
-          (lines_more l.cpus (take (length ends) lines) line worked.gained run.gained ends end worked.ran run.line);
+          subst (λ (ls : List Line). AreLines l ls (worked.gained ++ run.gained) (before ++ run.handed) (ends ++ end ∷ [])) (sym taken)
+          (lines_more l (take (length ends) lines) line worked.gained run.gained before run.handed ends end worked.ran run.line);
       within = (let inside = slice_get_within lines (length ends) line here in omega (arith, length-append ends (end ∷ []), inside));
-    })
+    }))
   where
     taken : take (length (ends ++ end ∷ [])) lines ≡ take (length ends) lines ++ line ∷ []
     taken = ap (λ (k : ℕ). take k lines) (omega (arith, length-append ends (end ∷ [])) ∙ add-one (length ends)) ∙ take_next lines (length ends) line here

@@ -1,32 +1,58 @@
 -- What workers make of their seats.
-use Rattle.std.specs.Prelude.{◌≡◌, ◌⊎◌, ℕ, List, [], Option, Some, None, length, slice_get}
+use Rattle.std.specs.Prelude.{◌≡◌, ◌⊎◌, ℕ, ◌≤◌, List, [], Option, Some, None, length, slice_get}
+use Rattle.std.specs.List.{All}
+use Rattle.std.specs.List.Sorted.{IsPermutation}
 use Rattle.hp_units.specs.LayoutParts.{LayoutParts}
+use Rattle.hp_history.specs.declared.volumes.Volume.{Volume}
 use Rattle.hp_shared.specs.Shared.{SeatValue}
 use Rattle.hp_scenario.specs.declared.lines.Line.{Line}
 use Rattle.hp_workers.specs.declared.lines.LineEnd.{LineEnd}
 use Rattle.hp_workers.specs.declared.fault.RunFault.{RunFault}
 use Rattle.hp_workers.specs.declared.fault.RunFault.TheVariants.{OutOfMemory}
 use Rattle.hp_workers.specs.Lines.{IsWorked}
+use Rattle.hp_workers.specs.Seals.{AreInOrder, AreSealed, joined, seals_in_all}
 
--- a worker ran a beginning of its lines by a seat; without a fault it ran all
-pub record IsWorker (l : LayoutParts) (old : SeatValue) (lines : List Line) (new : SeatValue) (ends : List LineEnd) (fault : Option RunFault) : Type 0 where
-  pub worked : IsWorked l old lines new ends
+-- a worker ran a beginning of its lines by a seat, which handed out these volumes; without a fault it ran all
+pub record IsWorker (l : LayoutParts) (old : SeatValue) (lines : List Line) (new : SeatValue) (handed : List Volume) (ends : List LineEnd) (fault : Option RunFault) : Type 0 where
+  pub worked : IsWorked l old lines new handed ends
   pub whole : fault ≡ None → length ends ≡ length lines
 
 -- the worker of the seat and the script at a place
-pub record HasWorker (l : LayoutParts) (old : SeatValue) (lines : List Line) (news : List SeatValue) (ends : List (List LineEnd)) (fault : Option RunFault) (place : ℕ) : Type 0 where
+pub record HasWorker (l : LayoutParts) (old : SeatValue) (lines : List Line) (news : List SeatValue) (lists : List (List Volume)) (ends : List (List LineEnd)) (fault : Option RunFault) (place : ℕ) : Type 0 where
   pub new : SeatValue
+  pub handed : List Volume
   pub own : List LineEnd
   pub seat : slice_get news place ≡ Some new
+  pub out : slice_get lists place ≡ Some handed
   pub end : slice_get ends place ≡ Some own
-  pub worker : IsWorker l old lines new own fault
+  pub worker : IsWorker l old lines new handed own fault
 
--- all seats are back, each after the lines that its worker ran; without a fault these are all lines
-pub record AreWorkers (l : LayoutParts) (olds : List SeatValue) (scripts : List (List Line)) (news : List SeatValue) (lists : List (List LineEnd)) (fault : Option RunFault) : Type 0 where
+-- all seats are back, each after the lines that its worker ran, and the volumes are those that these handed out, seat by seat;
+-- without a fault these are all lines
+pub record AreWorkers (l : LayoutParts) (olds : List SeatValue) (scripts : List (List Line)) (news : List SeatValue) (volumes : List Volume) (lists : List (List LineEnd)) (fault : Option RunFault) : Type 0 where
+  pub handed : List (List Volume)
   pub seats : length news ≡ length olds
+  pub outs : length handed ≡ length olds
   pub ends : length lists ≡ length olds
-  pub each : (place : ℕ) (seat : SeatValue) (lines : List Line) → slice_get olds place ≡ Some seat → slice_get scripts place ≡ Some lines → HasWorker l seat lines news lists fault place
+  pub all : volumes ≡ joined handed
+  pub sealed : AreSealed l volumes
+  pub each : (place : ℕ) (seat : SeatValue) (lines : List Line) → slice_get olds place ≡ Some seat → slice_get scripts place ≡ Some lines → HasWorker l seat lines news handed lists fault place
 
--- the end of a run: the seats as they were, where memory was refused before any thread; or all after their workers
-abbrev pub IsRunEnd : LayoutParts → List SeatValue → List (List Line) → List SeatValue → List (List LineEnd) → Option RunFault → Type 0
-IsRunEnd l olds scripts news lists fault = ((news ≡ olds) × (lists ≡ []) × (fault ≡ Some OutOfMemory)) ⊎ AreWorkers l olds scripts news lists fault
+-- the seats as they were, where memory was refused before any thread
+pub record AreUnstarted (olds news : List SeatValue) (volumes : List Volume) (lists : List (List LineEnd)) (fault : Option RunFault) : Type 0 where
+  pub seats : news ≡ olds
+  pub volumes_none : volumes ≡ []
+  pub ends : lists ≡ []
+  pub fault_is : fault ≡ Some OutOfMemory
+
+-- all after their workers; the volumes are in order, and no more than lines seal
+pub record AreGathered (l : LayoutParts) (olds : List SeatValue) (scripts : List (List Line)) (news : List SeatValue) (volumes : List Volume) (lists : List (List LineEnd)) (fault : Option RunFault) : Type 0 where
+  pub handed : List Volume
+  pub workers : AreWorkers l olds scripts news handed lists fault
+  pub same : IsPermutation handed volumes
+  pub order : AreInOrder volumes
+  pub few : length volumes ≤ seals_in_all scripts
+
+-- the end of a run
+abbrev pub IsRunEnd : LayoutParts → List SeatValue → List (List Line) → List SeatValue → List Volume → List (List LineEnd) → Option RunFault → Type 0
+IsRunEnd l olds scripts news volumes lists fault = AreUnstarted olds news volumes lists fault ⊎ AreGathered l olds scripts news volumes lists fault

@@ -8,6 +8,7 @@
 //! Read `threads` first: `run_workers` is what the crate is for.
 #![tactic(auto)]
 
+mod counts;
 mod fault;
 mod gate;
 mod lines;

@@ -1,12 +1,13 @@
 //! One line of a worker, and what became of it.
 ghost use Rattle.std.specs.Prelude.{◌≡◌, false, None};
-ghost use Rattle.hp_scenario.specs.Scripts.{IsForRun, is_for_serial};
-ghost use Rattle.hp_workers.specs.Lines.{IsEchoRun, IsEventRun, IsLine, IsLineRun, IsPlanRun, IsPortRun};
+ghost use Rattle.hp_scenario.specs.Scripts.{IsForRun, is_cat, is_seal};
+ghost use Rattle.hp_workers.specs.Lines.{IsCallsRun, IsEchoRun, IsEventRun, IsLineRun, IsPlanRun, IsPortRun, IsWorkRun};
 
 use crate::gate::Gate;
 use crate::port::GatedPort;
 use hp_control::{CONTROL_TURNS, ControlFault, Request, parse_echo};
 use hp_ops::{Port, run_plan};
+use hp_history::Volume;
 use hp_scenario::{Line, Work};
 use hp_shared::{Job, Seat, Shared};
 use hp_units::{CallFault, Event, OpEnd, Plan, Reply, Text};
@@ -25,6 +26,8 @@ pub enum LineEnd {
     Plan(OpEnd),
     /// Why a control file did not take its text; or out of memory before the file was asked.
     Control(ControlFault),
+    /// How many records its seal handed out.
+    Sealed(u64),
 }
 
 /// What became of lines, in order.
@@ -58,7 +61,7 @@ impl Ends {
     }
 }
 
-/// Runs one line by a seat. `calls` counts the seat's calls.
+/// Runs one line by a seat. `calls` counts the seat's calls and seals; what a seal hands out goes to the end of `volumes`.
 pub(crate) fn run_line<'a, L: Job, G: Gate, R: Wait>(
     rt: &'a R,
     alloc: Global,
@@ -66,13 +69,78 @@ pub(crate) fn run_line<'a, L: Job, G: Gate, R: Wait>(
     gate: &'a G,
     seat: &'a mut Seat<L>,
     calls: &'a mut u64,
+    volumes: &mut Vec<Volume>,
     line: &Line,
 ) -> LineEnd
     requires { IsForRun line.now }
-    ensures { IsLineRun L.layout seat.old line.now.work result seat.new }
+    ensures { IsLineRun L.layout seat.old volumes.old.items line.now.work result seat.new volumes.new.items }
+{
+    if line.work.is_seal() {
+        seal(rt, alloc, shared, gate, seat, calls, volumes)
+    } else {
+        run_calls(rt, alloc, shared, gate, seat, calls, &line.work)
+    }
+}
+
+/// Seals by a seat, with the gate round it as round a call.
+fn seal<L: Job, G: Gate, R: Wait>(
+    rt: &R,
+    alloc: Global,
+    shared: &Shared<L>,
+    gate: &G,
+    seat: &mut Seat<L>,
+    calls: &mut u64,
+    volumes: &mut Vec<Volume>,
+) -> LineEnd
+    ensures { IsLineRun L.layout seat.old volumes.old.items Work.Seal result seat.new volumes.new.items }
+{
+    let cpu = seat.cpu();
+    *calls = calls.saturating_add(1);
+    gate.before(cpu, *calls);
+    let end = take_volume(rt, alloc, shared, seat, volumes);
+    gate.after(cpu, *calls);
+    end
+}
+
+/// Seals by a seat, and keeps the volume, for which room is made before.
+fn take_volume<L: Job, R: Wait>(
+    rt: &R,
+    alloc: Global,
+    shared: &Shared<L>,
+    seat: &mut Seat<L>,
+    volumes: &mut Vec<Volume>,
+) -> LineEnd
+    ensures { IsLineRun L.layout seat.old volumes.old.items Work.Seal result seat.new volumes.new.items }
+{
+    let Ok(()) = volumes.reserve(1) else {
+        return LineEnd::Fault(CallFault::OutOfMemory);
+    };
+    match seat.seal(rt, alloc, shared) {
+        Ok(volume) => {
+            let count = volume.records.as_slice().len() as u64;
+            volumes.push_reserved(volume);
+            LineEnd::Sealed(count)
+        }
+        Err(AllocError) => LineEnd::Fault(CallFault::OutOfMemory),
+    }
+}
+
+/// Does by calls of a seat what a line asks for.
+fn run_calls<'a, L: Job, G: Gate, R: Wait>(
+    rt: &'a R,
+    alloc: Global,
+    shared: &'a Shared<L>,
+    gate: &'a G,
+    seat: &'a mut Seat<L>,
+    calls: &'a mut u64,
+    work: &Work,
+) -> LineEnd
+    requires run { is_cat work.now ≡ false }
+    requires calls { is_seal work.now ≡ false }
+    ensures { IsCallsRun L.layout seat.old work.now result seat.new }
 {
     let mut port = GatedPort::new(rt, seat, shared, gate, calls);
-    let end = run_work(alloc, &mut port, &line.work);
+    let end = run_work(alloc, &mut port, work);
     // No effect at run time: the proof reads what the seat is from this use.
     let _ = &*port.seat;
     end
@@ -81,8 +149,9 @@ pub(crate) fn run_line<'a, L: Job, G: Gate, R: Wait>(
 /// Does through a port what a line asks for.
 fn run_work<P: Port>(alloc: Global, port: &mut P, work: &Work) -> LineEnd
     requires clear { (P.shows port.old).fault ≡ None }
-    requires run { is_for_serial work.now ≡ false }
-    ensures { IsPortRun P.shows P.makes P.leaves port.old (IsLine (P.shows port.old).cpus work.now) result port.new }
+    requires run { is_cat work.now ≡ false }
+    requires calls { is_seal work.now ≡ false }
+    ensures { IsPortRun P.shows P.makes P.leaves port.old (IsWorkRun (P.shows port.old).cpus work.now) result port.new }
 {
     match work {
         Work::Event(event) => ask(alloc, port, event),

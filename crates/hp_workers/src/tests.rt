@@ -30,6 +30,8 @@ const DONE: LineEnd = LineEnd::Reply(Reply::Done);
 struct Outcome {
     ends: Vec<Ends>,
     records: u64,
+    /// How many of them seals handed out.
+    sealed: u64,
     /// Where page 0 of owner 0 lies.
     frame: Option<Frame>,
 }
@@ -63,14 +65,20 @@ fn run_scripts<L: Job + Send + Sync, G: Gate + Sync, R: Threads + Wait + Sync>(
     if seats.len() != scripts.len() {
         return None;
     }
-    let RunEnd { seats, ends, fault } = run_workers(rt, alloc, &shared, seats, scripts, gate);
+    let RunEnd {
+        seats,
+        volumes,
+        ends,
+        fault,
+    } = run_workers(rt, alloc, &shared, seats, scripts, gate);
     if fault.is_some() {
         return None;
     }
-    let closed = close(alloc, shared, seats, Vec::new(alloc)).ok()?;
+    let closed = close(alloc, shared, seats, volumes).ok()?;
     Some(Outcome {
         ends,
         records: closed.records,
+        sealed: closed.machine.sealed(),
         frame: closed.machine.frame_at(Owner(0), Page(0)),
     })
 }
@@ -119,5 +127,15 @@ fn texts_are_written_to_control_files(rt: HostRuntime) -> Result<(), Fail> {
     let outcome = run_lines(&rt, rt.alloc(), calls, &OpenGate)?;
     let refused = LineEnd::Control(ControlFault::BadText);
     assert!(rt; outcome.is(&[LineEnd::Plan(OpEnd::Done), refused], &[DONE], 6));
+    Ok(())
+}
+
+#[test]
+fn seals_of_two_workers_are_in_order(rt: HostRuntime) -> Result<(), Fail> {
+    let calls =
+        r#""0 kalloc 1","0 seal","0 kalloc 1","0 seal","0 seal","1 map db 0","1 seal","1 kalloc 3""#;
+    let outcome = run_lines(&rt, rt.alloc(), calls, &OpenGate)?;
+    assert_eq!(rt; outcome.records, 4);
+    assert!(rt; outcome.sealed < 5);
     Ok(())
 }

@@ -1,15 +1,19 @@
 //! Workers in threads, one for each seat.
-ghost use Rattle.std.specs.Prelude.{◌≡◌, ◌≤◌, [], None, Some, vec_len, vec_capacity};
+ghost use Rattle.std.specs.Prelude.{◌≡◌, ◌+◌, ◌*◌, ◌≤◌, [], None, Some, length, take, vec_len, vec_capacity};
 ghost use Rattle.std.specs.List.{All};
+ghost use Rattle.std.specs.List.Sorted.{IsPermutation};
 ghost use Rattle.std.specs.Thread.{IsSend, IsSync};
 ghost use Rattle.hp_scenario.specs.Scripts.{AreForRun, IsForRun};
+ghost use Rattle.hp_workers.specs.Seals.{AreInOrder, rank, seals_in_all};
 ghost use Rattle.hp_workers.specs.Workers.{AreWorkers, IsRunEnd, IsWorker};
 ghost use Rattle.hp_workers.specs.declared.fault.RunFault.TheVariants.{OutOfMemory};
 
+use crate::counts::count_all;
 use crate::fault::RunFault;
 use crate::gate::Gate;
 use crate::lines::Ends;
 use crate::worker::{Worked, run_script};
+use hp_history::Volume;
 use hp_scenario::Script;
 use hp_shared::{Job, Seat, Shared};
 use std::alloc::Global;
@@ -29,7 +33,7 @@ pub struct Task<L: Job> {
 impl<L: Job> Promise<Worked<L>> for Task<L> {
     ghost use Rattle.hp_workers.specs.Workers.{IsWorker};
 
-    ghost kept_by = { λ t w. IsWorker L.layout t.seat.value t.script.value w.seat w.ends w.fault };
+    ghost kept_by = { λ t w. IsWorker L.layout t.seat.value t.script.value w.seat w.volumes.items w.ends w.fault };
 }
 
 /// What a run of workers leaves.
@@ -37,6 +41,8 @@ impl<L: Job> Promise<Worked<L>> for Task<L> {
 pub struct RunEnd<L: Job> {
     /// All seats, in the order in which they came, each after the lines that it ran.
     pub seats: Vec<Seat<L>>,
+    /// What all seals handed out, ordered by the number of earlier records, and then by the number of their own.
+    pub volumes: Vec<Volume>,
     /// For each seat the ends of the lines that it ran; no item at all where memory was refused before any line.
     pub ends: Vec<Ends>,
     /// None where all lines were run.
@@ -46,7 +52,7 @@ pub struct RunEnd<L: Job> {
 /// Runs each script by the seat at its place, each in a thread of its own, and waits for all (own rule). Each call of a seat takes
 /// the machine's lock anew, with the gate before and after it.
 ///
-/// All seats come back in every case, with the receipts of the lines that they ran, in order. Without a fault these are all lines;
+/// All volumes that the lines' seals handed out come back in every case. All seats come back in every case, with the receipts of the lines that they ran, in order. Without a fault these are all lines;
 /// with one, a beginning of each script. A worker for which no thread can be made runs no line: NotStarted. OutOfMemory: memory was
 /// refused before a worker's first line. Out of memory in a line is that line's end and no fault of the run.
 pub fn run_workers<L: Job + Send + Sync, G: Gate + Sync, R: Threads + Wait + Sync>(
@@ -59,8 +65,14 @@ pub fn run_workers<L: Job + Send + Sync, G: Gate + Sync, R: Threads + Wait + Syn
 ) -> RunEnd<L>
     requires one_each { vec_len seats ≡ vec_len scripts }
     requires run { AreForRun scripts.items }
-    ensures { IsRunEnd L.layout seats.items scripts.items result.seats.items result.ends.items result.fault }
+    ensures { IsRunEnd L.layout seats.items scripts.items result.seats.items result.volumes.items result.ends.items result.fault }
 {
+    let Some(seals) = count_all(&scripts) else {
+        return unstarted(alloc, seats);
+    };
+    let Ok(volumes) = Vec::with_capacity(alloc, seals) else {
+        return unstarted(alloc, seats);
+    };
     let Ok(backs) = Vec::with_capacity(alloc, seats.len()) else {
         return unstarted(alloc, seats);
     };
@@ -69,20 +81,56 @@ pub fn run_workers<L: Job + Send + Sync, G: Gate + Sync, R: Threads + Wait + Syn
     };
     let room = RunEnd {
         seats: backs,
+        volumes,
         ends,
         fault: None,
     };
-    run_rest(rt, alloc, shared, gate, seats, &scripts, room)
+    in_order(run_rest(rt, alloc, shared, gate, seats, &scripts, room))
+}
+
+/// The end of a run with its volumes in order.
+fn in_order<L: Job>(end: RunEnd<L>) -> RunEnd<L>
+    ensures seats { result.seats.items ≡ end.seats.items }
+    ensures ends { result.ends.items ≡ end.ends.items }
+    ensures fault { result.fault ≡ end.fault }
+    ensures same { IsPermutation end.volumes.items result.volumes.items }
+    ensures order { AreInOrder result.volumes.items }
+{
+    let RunEnd {
+        seats,
+        volumes,
+        ends,
+        fault,
+    } = end;
+    let mut sorted = volumes;
+    sorted.sort_unstable_by_key(|volume| rank_of(volume));
+    RunEnd {
+        seats,
+        volumes: sorted,
+        ends,
+        fault,
+    }
+}
+
+/// The number by which volumes are in order.
+fn rank_of(volume: &Volume) -> u128
+    ensures { result ≡ rank volume.now }
+{
+    let before = volume.before as u128;
+    let own = volume.records.as_slice().len() as u128;
+    before * 18_446_744_073_709_551_616 + own
 }
 
 /// The seats as they were, since memory was refused.
 fn unstarted<L: Job>(alloc: Global, seats: Vec<Seat<L>>) -> RunEnd<L>
     ensures seats { result.seats.items ≡ seats.items }
+    ensures volumes { result.volumes.items ≡ [] }
     ensures ends { result.ends.items ≡ [] }
     ensures fault { result.fault ≡ Some OutOfMemory }
 {
     RunEnd {
         seats,
+        volumes: Vec::new(alloc),
         ends: Vec::new(alloc),
         fault: Some(RunFault::OutOfMemory),
     }
@@ -102,8 +150,11 @@ fn run_rest<L: Job + Send + Sync, G: Gate + Sync, R: Threads + Wait + Sync>(
     requires run { AreForRun scripts.now.items }
     requires empty { (room.seats.items ≡ []) × (room.ends.items ≡ []) × (room.fault ≡ None) }
     requires room { (vec_len seats ≤ vec_capacity room.seats) × (vec_len seats ≤ vec_capacity room.ends) }
-    ensures workers { AreWorkers L.layout seats.items scripts.now.items result.seats.items result.ends.items result.fault }
+    requires no_volumes { room.volumes.items ≡ [] }
+    requires volumes { seals_in_all (take (length seats.items) scripts.now.items) ≤ vec_capacity room.volumes }
+    ensures workers { AreWorkers L.layout seats.items scripts.now.items result.seats.items result.volumes.items result.ends.items result.fault }
     ensures room { (vec_capacity result.seats ≡ vec_capacity room.seats) × (vec_capacity result.ends ≡ vec_capacity room.ends) }
+    ensures volumes { (length result.volumes.items ≤ seals_in_all (take (length seats.items) scripts.now.items)) × (vec_capacity room.volumes ≤ vec_capacity result.volumes) }
 {
     let mut seats = seats;
     let Some(seat) = seats.pop() else {
@@ -120,14 +171,14 @@ fn run_rest<L: Job + Send + Sync, G: Gate + Sync, R: Threads + Wait + Sync>(
         thread::scope_env(),
         rt,
         move |scope| -> (Worked<L>, RunEnd<L>)
-            requires { IsSend L.row × IsSync L.row × IsSync G.row × IsSync R.row × (task.seat.value ≡ seat) × (task.script.value ≡ script.now) × AreForRun scripts.now.items × All IsForRun script.now × (vec_len seats ≤ vec_len scripts.now) × (room.seats.items ≡ []) × (room.ends.items ≡ []) × (room.fault ≡ None) × (vec_len seats ≤ vec_capacity room.seats) × (vec_len seats ≤ vec_capacity room.ends) }
-            ensures { IsWorker L.layout seat script.entry.now result.0.seat result.0.ends result.0.fault × AreWorkers L.layout seats.items scripts.entry.now.items result.1.seats.items result.1.ends.items result.1.fault × (vec_capacity result.1.seats ≡ vec_capacity room.seats) × (vec_capacity result.1.ends ≡ vec_capacity room.ends) }
+            requires { IsSend L.row × IsSync L.row × IsSync G.row × IsSync R.row × (task.seat.value ≡ seat) × (task.script.value ≡ script.now) × AreForRun scripts.now.items × All IsForRun script.now × (vec_len seats ≤ vec_len scripts.now) × (room.seats.items ≡ []) × (room.ends.items ≡ []) × (room.fault ≡ None) × (vec_len seats ≤ vec_capacity room.seats) × (vec_len seats ≤ vec_capacity room.ends) × (room.volumes.items ≡ []) × (seals_in_all (take (length seats.items) scripts.now.items) ≤ vec_capacity room.volumes) }
+            ensures { IsWorker L.layout seat script.entry.now result.0.seat result.0.volumes.items result.0.ends result.0.fault × AreWorkers L.layout seats.items scripts.entry.now.items result.1.seats.items result.1.volumes.items result.1.ends.items result.1.fault × (vec_capacity result.1.seats ≡ vec_capacity room.seats) × (vec_capacity result.1.ends ≡ vec_capacity room.ends) × (length result.1.volumes.items ≤ seals_in_all (take (length seats.items) scripts.entry.now.items)) × (vec_capacity room.volumes ≤ vec_capacity result.1.volumes) }
         {
             let started = scope.spawn_with(
                 task,
                 move || -> Worked<L>
                     requires { All IsForRun script.now }
-                    ensures { IsWorker L.layout seat script.entry.now result.seat result.ends result.fault }
+                    ensures { IsWorker L.layout seat script.entry.now result.seat result.volumes.items result.ends result.fault }
                 { run_script(rt, alloc, shared, gate, starts, seat, script) },
             );
             match started {
@@ -146,13 +197,23 @@ fn run_rest<L: Job + Send + Sync, G: Gate + Sync, R: Threads + Wait + Sync>(
             }
         },
     );
-    let RunEnd { seats, ends, fault } = done;
+    let RunEnd {
+        seats,
+        volumes,
+        ends,
+        fault,
+    } = done;
     let mut backs = seats;
+    let mut all = volumes;
     let mut ends = ends;
+    let mut handed = worked.volumes;
     backs.push_reserved(worked.seat);
     ends.push_reserved(worked.ends);
+    // There is room: it was made for all lines that seal.
+    let _ = all.append(&mut handed);
     RunEnd {
         seats: backs,
+        volumes: all,
         ends,
         fault: first(fault, worked.fault),
     }

@@ -7,6 +7,7 @@ ghost use Rattle.hp_workers.specs.Workers.{IsWorker};
 use crate::fault::RunFault;
 use crate::gate::Gate;
 use crate::lines::{Ends, run_line};
+use hp_history::Volume;
 use hp_scenario::Script;
 use hp_shared::{Job, Seat, Shared};
 use std::alloc::Global;
@@ -20,6 +21,8 @@ pub struct Worked<L: Job> {
     pub seat: Seat<L>,
     /// An end for each line that was run.
     pub ends: Ends,
+    /// What its seals handed out, in order.
+    pub volumes: Vec<Volume>,
     /// None where all lines were run.
     pub fault: Option<RunFault>,
 }
@@ -35,7 +38,7 @@ pub(crate) fn run_script<L: Job, G: Gate, R: Wait>(
     script: &Script,
 ) -> Worked<L>
     requires { All IsForRun script.now }
-    ensures { IsWorker L.layout seat script.now result.seat result.ends result.fault }
+    ensures { IsWorker L.layout seat script.now result.seat result.volumes.items result.ends result.fault }
 {
     if !starts.load(Ordering::SeqCst) {
         let cpu = seat.cpu();
@@ -47,14 +50,26 @@ pub(crate) fn run_script<L: Job, G: Gate, R: Wait>(
     };
     let mut seat = seat;
     let mut ends = ends;
+    let mut volumes = Vec::new(alloc);
     let mut calls = 0;
     for at in 0..lines.len() {
-        let end = run_line(rt, alloc, shared, gate, &mut seat, &mut calls, &lines[at]);
+        let line = &lines[at];
+        let end = run_line(
+            rt,
+            alloc,
+            shared,
+            gate,
+            &mut seat,
+            &mut calls,
+            &mut volumes,
+            line,
+        );
         ends.push_reserved(end);
     }
     Worked {
         seat,
         ends: Ends::new(ends),
+        volumes,
         fault: None,
     }
 }
@@ -63,11 +78,13 @@ pub(crate) fn run_script<L: Job, G: Gate, R: Wait>(
 fn stopped<L: Job>(alloc: Global, seat: Seat<L>, fault: RunFault) -> Worked<L>
     ensures seat { result.seat ≡ seat }
     ensures ends { result.ends ≡ [] }
+    ensures volumes { result.volumes.items ≡ [] }
     ensures fault { result.fault ≡ Some fault }
 {
     Worked {
         seat,
         ends: Ends::new(Vec::new(alloc)),
+        volumes: Vec::new(alloc),
         fault: Some(fault),
     }
 }

@@ -44,12 +44,17 @@ fn run_scripts<L: Job + Send + Sync, R: Threads + Wait + Sync>(
     if seats.len() != scripts.len() {
         return false;
     }
-    let RunEnd { seats, ends, fault } = run_workers(rt, alloc, &shared, seats, scripts, &OpenGate);
+    let RunEnd {
+        seats,
+        volumes,
+        ends,
+        fault,
+    } = run_workers(rt, alloc, &shared, seats, scripts, &OpenGate);
     if fault.is_some() || ends.len() != seats.len() {
         return false;
     }
     let receipts = count_receipts(&seats);
-    match close(alloc, shared, seats, Vec::new(alloc)) {
+    match close(alloc, shared, seats, volumes) {
         Ok(closed) => Some(closed.records) == receipts,
         Err(_) => false,
     }

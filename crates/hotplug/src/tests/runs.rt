@@ -28,6 +28,10 @@ const TWO_OWNERS: &str =
 /// A page is mapped, and its memory block goes offline.
 const OFFLINE: &str = "\"0 map db 0\",\"0 plan 4 off 2\"";
 
+/// The lines of `TWO_OWNERS`, and a seal by one processor while the other works.
+const SEALED: &str =
+    "\"0 map db 0\",\"0 write db 0 0 7\",\"0 read db 0 0\",\"0 write db 0 1 8\",\"0 read db 0 1\",\"0 seal\",\"0 unmap db 0\",\"0 map db 0\",\"0 read db 0 0\",\"0 write db 0 0 9\",\"0 read db 0 0\",\"1 map web 0\",\"1 write web 0 0 7\",\"1 read web 0 0\",\"1 write web 0 1 8\",\"1 read web 0 1\",\"1 unmap web 0\",\"1 map web 0\",\"1 read web 0 0\",\"1 write web 0 0 9\",\"1 read web 0 0\"";
+
 /// What a run shows, its command, its calls, and its text.
 const RUNS: &[(&str, Command, &str, &str)] = &[
     (
@@ -59,6 +63,24 @@ const RUNS: &[(&str, Command, &str, &str)] = &[
         Command::Run,
         "",
         "cpu 0\ncpu 1\n0 records\n",
+    ),
+    (
+        "a worker's seals are lines of their own, and all records are counted",
+        Command::Run,
+        "\"0 kalloc 1\",\"0 seal\",\"0 kfree 0\",\"0 kalloc 3\",\"0 seal\",\"0 seal\",\"0 undo 1\"",
+        "cpu 0\nframe 0\nsealed 1\ndone\nrefused BadOrder\nsealed 2\nsealed 0\nrefused Gone\ncpu 1\n4 records\n",
+    ),
+    (
+        "what was sealed while two workers ran is replayed",
+        Command::Audit,
+        SEALED,
+        "20 records\naudit ok\n",
+    ),
+    (
+        "volumes of two workers are replayed as one chain",
+        Command::Audit,
+        "\"0 map db 0\",\"0 seal\",\"0 write db 0 0 7\",\"0 seal\",\"0 read db 0 0\",\"1 seal\",\"1 map web 0\",\"1 seal\",\"1 seal\",\"1 write web 0 0 7\"",
+        "5 records\naudit ok\n",
     ),
     (
         "the history of two workers is replayed",

@@ -41,7 +41,6 @@ fn some_lines_are_for_no_worker(rt: HostRuntime) -> Result<(), Fail> {
     let refused = [
         (r#""0 kalloc 1","2 drain 0""#, 2),
         (r#""0 cat buddyinfo","2 drain 0""#, 1),
-        (r#""0 kalloc 1","1 seal""#, 2),
     ];
     for (calls, line) in refused {
         let fault = scenario(rt.alloc(), calls)?.scripts(rt.alloc()).err();

@@ -1,7 +1,7 @@
 use Rattle.std.proofs.Common.{◌≡◌, None, arith, ap, length, rules}
 use Rattle.std.proofs.lemmas.List.FromFn.{length-map-range_with_len}
 use Rattle.hp_shared.specs.Shared.{first_seat, first_seats}
-use Rattle.hotplug.proofs.Ran.{all_ran, unclosed}
+use Rattle.hotplug.proofs.Ran.{all_ran, unclosed, worked_off}
 use Rattle.hotplug.proofs.runs.run_scripts.Goals as goal
 
 pub run_workers-seats-requires-clause-one_each : goal.run_workers-seats-requires-clause-one_each
@@ -14,6 +14,14 @@ returns-in-Err-clause-err g c =
     let l = g.L.Job.layout in
     let seated : c.in-Ok.seats.items ≡ first_seats l.cpus = search rules in
     let none : c.run_workers-seats.result.fault ≡ None = search rules in
-    let ran = all_ran l c.in-Ok.seats.items c.args.scripts.items c.run_workers-seats.result.seats.items c.run_workers-seats.result.ends.items c.run_workers-seats.result.fault seated none c.run_workers-seats.ensures in
+    let ran = all_ran l c.in-Ok.seats.items c.args.scripts.items c.run_workers-seats.result.seats.items c.run_workers-seats.result.volumes.items c.run_workers-seats.result.ends.items c.run_workers-seats.result.fault seated none c.run_workers-seats.ensures in
     rw (c.from-in-Err.ensures)
-    (unclosed l c.args.scripts.items c.run_workers-seats.result.seats.items c.run_workers-seats.result.ends.items c.new-2.result.items c.in-Err.refused.fault c.requires.scripts ran c.in-Err.ensures.err)
+    (unclosed l c.args.scripts.items c.run_workers-seats.result.seats.items c.run_workers-seats.result.ends.items c.run_workers-seats.result.volumes.items c.in-Err.refused.fault c.requires.scripts ran c.in-Err.ensures.err)
+
+pub returns-in-Ok-close-clause-ok : goal.returns-in-Ok-close-clause-ok
+returns-in-Ok-close-clause-ok g c =
+    let l = g.L.Job.layout in
+    let seated : c.in-Ok.seats.items ≡ first_seats l.cpus = search rules in
+    let none : c.run_workers-seats.result.fault ≡ None = search rules in
+    let ran = all_ran l c.in-Ok.seats.items c.args.scripts.items c.run_workers-seats.result.seats.items c.run_workers-seats.result.volumes.items c.run_workers-seats.result.ends.items c.run_workers-seats.result.fault seated none c.run_workers-seats.ensures in
+    worked_off l c.args.scripts.items c.run_workers-seats.result.seats.items c.run_workers-seats.result.volumes.items c.in-Ok-close.closed.volumes.items c.run_workers-seats.result.ends.items c.in-Ok-close.closed.machine c.in-Ok-close.closed.records ran c.in-Ok-close.ensures.volumes c.in-Ok-close.ensures.ok c.begins_at_boot.ensures

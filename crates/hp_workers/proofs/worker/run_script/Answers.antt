@@ -15,5 +15,5 @@ loop-at-preserved g c =
     ap (λ (ws : List Line). slice_get ws (length c.loop-at.ends.items)) (sym c.as_slice-lines.ensures) ∙ (ap (λ k. slice_get lines k) (sym count) ∙ read) in (
       omega (arith, i.0, c.push_reserved.ensures.len),
       omega (arith, i.1, c.push_reserved.ensures.capacity),
-      worked_next g.L.Job.layout c.args.seat c.loop-at.seat c.run_line-end.new.seat c.args.script.now c.index-lines-at.result c.loop-at.ends.items c.push_reserved.new.self.items c.run_line-end.result here c.push_reserved.ensures.items i.2 c.run_line-end.ensures,
+      worked_next g.L.Job.layout c.args.seat c.loop-at.seat c.run_line-end.new.seat c.args.script.now c.index-lines-at.result c.loop-at.volumes.items c.run_line-end.new.volumes.items c.loop-at.ends.items c.push_reserved.new.self.items c.run_line-end.result here c.push_reserved.ensures.items i.2 c.run_line-end.ensures,
     )

@@ -1,0 +1,37 @@
+-- How many volumes lines can hand out, and in which order all come.
+use Rattle.std.specs.Prelude.{ℕ, ◌+◌, ◌*◌, Bool, true, false, List, [], ◌∷◌, ◌++◌, length, sum_by}
+use Rattle.std.specs.List.{All}
+use Rattle.std.specs.List.Sorted.{IsNonDecreasingBy}
+use Rattle.hp_units.specs.LayoutParts.{LayoutParts}
+use Rattle.hp_history.specs.declared.volumes.Volume.{Volume}
+use Rattle.hp_scenario.specs.Scripts.{is_seal}
+use Rattle.hp_scenario.specs.declared.lines.Line.{Line}
+use Rattle.hp_shared.specs.Volumes.{IsSealOf}
+
+-- one where the test holds
+abbrev pub one_if : Bool → ℕ
+one_if true = 1
+one_if false = 0
+
+-- how many lines seal, of a script and of all scripts
+abbrev pub seals_in : List Line → ℕ
+seals_in lines = sum_by (λ line. one_if (is_seal line.work)) lines
+
+abbrev pub seals_in_all : List (List Line) → ℕ
+seals_in_all scripts = sum_by seals_in scripts
+
+-- each volume is what a state of the shared machine held since its last seal
+abbrev pub AreSealed : LayoutParts → List Volume → Type 0
+AreSealed l volumes = All (λ v. IsSealOf l v 0) volumes
+
+-- lists one after another
+abbrev pub joined : List (List Volume) → List Volume
+joined [] = []
+joined (volumes ∷ lists) = volumes ++ joined lists
+
+-- by the number of earlier records, and then by the number of their own, which is below 2^64
+abbrev pub rank : Volume → ℕ
+rank v = v.before * 18446744073709551616 + length v.records
+
+abbrev pub AreInOrder : List Volume → Type 0
+AreInOrder volumes = IsNonDecreasingBy rank volumes
