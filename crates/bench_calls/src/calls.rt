@@ -1,4 +1,6 @@
 //! Calls that are made again and timed.
+ghost use Rattle.std.specs.Prelude.{◌<◌};
+
 use crate::checksum::mix;
 use crate::generator::{Generator, called};
 use crate::mixes::Mix;

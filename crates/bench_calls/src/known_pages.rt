@@ -14,7 +14,7 @@ pub struct Place {
 
 impl Place {
     /// Whether the page is mapped.
-    pub fn is_mapped(self, machine: &Machine) -> bool {
+    pub fn is_mapped(&self, machine: &Machine) -> bool {
         machine.frame_at(self.owner, self.page).is_some()
     }
 }
@@ -74,14 +74,13 @@ impl KnownPages {
     /// A page that is not mapped, if one of eight is; any page otherwise.
     pub fn choose_free(&self, machine: &Machine, random: &mut Random) -> Place {
         let owners = machine.layout().owners();
-        let mut place = self.any(owners, random);
         for _try in 0..7 {
+            let place = self.any(owners, random);
             if !place.is_mapped(machine) {
                 return place;
             }
-            place = self.any(owners, random);
         }
-        place
+        self.any(owners, random)
     }
 
     /// A page that is mapped, if one of four known ones is; any page otherwise. One that is taken is known no longer.
@@ -91,23 +90,27 @@ impl KnownPages {
                 break;
             }
             let at = random.below(self.mapped.len() as u32) as usize;
-            if let Some(place) = self.mapped.get(at).copied() {
-                let there = place.is_mapped(machine);
-                if take || !there {
-                    self.forget(at);
-                }
-                if there {
-                    return place;
-                }
+            if let Some(place) = self.known(machine, at, take) {
+                return place;
             }
         }
         self.any(machine.layout().owners(), random)
     }
 
-    /// The page at a place among the mapped ones is known no longer.
-    fn forget(&mut self, at: usize) {
-        if at < self.mapped.len() {
+    /// The page at a place among those known, if it is mapped. It is known no longer if it is taken or not mapped.
+    fn known(&mut self, machine: &Machine, at: usize, take: bool) -> Option<Place> {
+        if at >= self.mapped.len() {
+            return None;
+        }
+        let Place { owner, page } = self.mapped[at];
+        let there = machine.frame_at(owner, page).is_some();
+        if take || !there {
             let _forgotten = self.mapped.swap_remove(at);
+        }
+        if there {
+            Some(Place { owner, page })
+        } else {
+            None
         }
     }
 }
