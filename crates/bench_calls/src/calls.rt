@@ -1,13 +1,12 @@
 //! Calls that are made again and timed.
-ghost use Rattle.std.specs.Prelude.{◌<◌};
-
 use crate::checksum::mix;
 use crate::generator::{Generator, called};
 use crate::mixes::Mix;
 use anyhow::Result;
+use hp_history::Volume;
 use hp_machine::Machine;
 use hp_units::{Cpu, Event, Layout};
-use std::alloc::Global;
+use std::alloc::{AllocError, Global};
 use std::time::{Duration, Instant};
 
 /// One call.
@@ -24,11 +23,110 @@ pub struct Calls {
     pub sum: u64,
 }
 
-/// What a run of calls took: the calls, and the seals between them.
+/// What a run of calls gave: how many were made, the checksum of the replies, and the time that the calls and the seals took.
 #[derive(Clone, Copy, Drop)]
-pub struct Times {
+pub struct Figures {
+    made: usize,
+    pub sum: u64,
     pub calls: Duration,
     pub seals: Duration,
+}
+
+impl Figures {
+    /// Of no calls.
+    fn none() -> Figures {
+        Figures {
+            made: 0,
+            sum: 0,
+            calls: Duration::ZERO,
+            seals: Duration::ZERO,
+        }
+    }
+
+    /// Makes calls.
+    fn make(&mut self, rt: &HostRuntime, machine: &mut Machine, calls: &[Call]) -> Result<()> {
+        let start = Instant::now(rt)?;
+        self.sum = make_calls(rt.alloc(), machine, calls, self.sum)?;
+        let took = start.elapsed(rt)?;
+        self.made = self.made.saturating_add(calls.len());
+        self.calls = self.calls.saturating_add(took);
+        Ok(())
+    }
+
+    /// Seals the machine, and lets go of what was sealed.
+    fn seal(&mut self, rt: &HostRuntime, machine: &mut Machine) -> Result<()> {
+        let start = Instant::now(rt)?;
+        let_go(machine.seal(rt.alloc()))?;
+        let took = start.elapsed(rt)?;
+        self.seals = self.seals.saturating_add(took);
+        Ok(())
+    }
+
+    /// Makes the next of the calls, at most so many, and seals the machine.
+    fn make_part(
+        &mut self,
+        rt: &HostRuntime,
+        machine: &mut Machine,
+        calls: &[Call],
+        part: usize,
+    ) -> Result<()> {
+        let rest = calls.get(self.made..).unwrap_or(&[]);
+        let some = rest.get(..part).unwrap_or(rest);
+        self.make(rt, machine, some)?;
+        self.seal(rt, machine)
+    }
+
+    /// Makes calls, and seals the machine after every so many.
+    fn make_parts(
+        &mut self,
+        rt: &HostRuntime,
+        machine: &mut Machine,
+        calls: &[Call],
+        part: usize,
+    ) -> Result<()> {
+        for _part in 0..calls.len() {
+            if self.made >= calls.len() {
+                break;
+            }
+            self.make_part(rt, machine, calls, part)?;
+        }
+        Ok(())
+    }
+}
+
+/// Lets go of what a seal handed out.
+fn let_go(sealed: Result<Volume, AllocError>) -> Result<(), AllocError> {
+    match sealed {
+        Ok(_volume) => Ok(()),
+        Err(error) => Err(error),
+    }
+}
+
+/// Makes calls on a machine at its start, which is sealed after every so many; where that is 0 it is not sealed.
+pub fn time_calls(
+    rt: &HostRuntime,
+    layout: &Layout,
+    calls: &[Call],
+    part: usize,
+) -> Result<Figures> {
+    let mut machine = Machine::boot(rt.alloc(), layout)?;
+    time_on(rt, &mut machine, calls, part)
+}
+
+/// The same on a machine.
+fn time_on(
+    rt: &HostRuntime,
+    machine: &mut Machine,
+    calls: &[Call],
+    part: usize,
+) -> Result<Figures> {
+    let mut figures = Figures::none();
+    if part == 0 {
+        figures.make(rt, machine, calls)?;
+    } else {
+        figures.make_parts(rt, machine, calls, part)?;
+    }
+    Ok(figures)
 }
 
 /// The first calls of a mix, so many, and the checksum of their replies.
@@ -40,13 +138,19 @@ pub fn choose_calls(
     seed: u64,
 ) -> Result<Calls> {
     let mut generator = Generator::new(alloc, layout, mix, seed)?;
+    chosen_calls(alloc, &mut generator, count)
+}
+
+/// The same of a generator.
+fn chosen_calls(alloc: Global, generator: &mut Generator, count: usize) -> Result<Calls> {
+    generator.read_each(alloc)?;
     for _step in 0..count {
         if generator.records().len() >= count {
             break;
         }
         generator.step(alloc)?;
     }
-    first_calls(alloc, &generator, count)
+    first_calls(alloc, generator, count)
 }
 
 /// The first calls that a generator made.
@@ -65,49 +169,11 @@ fn first_calls(alloc: Global, generator: &Generator, count: usize) -> Result<Cal
 }
 
 /// Makes calls on a machine, and answers the checksum of their replies, after one of earlier replies.
-pub fn make_calls(alloc: Global, machine: &mut Machine, calls: &[Call], sum: u64) -> Result<u64> {
+fn make_calls(alloc: Global, machine: &mut Machine, calls: &[Call], sum: u64) -> Result<u64> {
     let mut sum = sum;
     for call in calls {
         let receipt = called(alloc, machine, call.cpu, &call.event)?;
         sum = mix(sum, &receipt.reply);
     }
     Ok(sum)
-}
-
-/// How long calls take on a machine at its start that keeps its history, and the checksum of their replies.
-pub fn time_kept(rt: &HostRuntime, layout: &Layout, calls: &[Call]) -> Result<(Times, u64)> {
-    let mut machine = Machine::boot(rt.alloc(), layout)?;
-    let start = Instant::now(rt)?;
-    let sum = make_calls(rt.alloc(), &mut machine, calls, 0)?;
-    let times = Times {
-        calls: start.elapsed(rt)?,
-        seals: Duration::ZERO,
-    };
-    Ok((times, sum))
-}
-
-/// How long calls take on a machine at its start that is sealed after every so many, and the checksum of their replies.
-pub fn time_sealed(
-    rt: &HostRuntime,
-    layout: &Layout,
-    calls: &[Call],
-    part: usize,
-) -> Result<(Times, u64)>
-    requires { 0 < part }
-{
-    let mut machine = Machine::boot(rt.alloc(), layout)?;
-    let mut times = Times {
-        calls: Duration::ZERO,
-        seals: Duration::ZERO,
-    };
-    let mut sum = 0;
-    for some in calls.chunks(part) {
-        let start = Instant::now(rt)?;
-        sum = make_calls(rt.alloc(), &mut machine, some, sum)?;
-        times.calls = times.calls.saturating_add(start.elapsed(rt)?);
-        let sealing = Instant::now(rt)?;
-        let _volume = machine.seal(rt.alloc())?;
-        times.seals = times.seals.saturating_add(sealing.elapsed(rt)?);
-    }
-    Ok((times, sum))
 }

@@ -3,7 +3,7 @@ use crate::kernel_frames::KernelFrames;
 use crate::known_pages::{KnownPages, Place};
 use crate::mixes::{Kind, Mix};
 use crate::operations::Operation;
-use crate::random::Random;
+use crate::random::{Random, count_of};
 use anyhow::{Result, anyhow};
 use hp_machine::{Machine, MachinePort};
 use hp_ops::run_plan;
@@ -40,26 +40,31 @@ pub struct Generator {
 }
 
 impl Generator {
-    /// The generator of a seed on the layout, with a refused read of each owner as the first calls.
-    pub fn new(alloc: Global, layout: &Layout, mix: Mix, seed: u64) -> Result<Generator> {
-        let machine = Machine::boot(alloc, layout)?;
+    /// The generator of a seed on the layout.
+    pub fn new(
+        alloc: Global,
+        layout: &Layout,
+        mix: Mix,
+        seed: u64,
+    ) -> Result<Generator, AllocError> {
         let kernel = KernelFrames::new(alloc, layout.frames())?;
         let size = layout.block_size() as u64;
         let normal_frames = blocks_in(layout, Zone::Normal).saturating_mul(size);
         let movable_frames = blocks_in(layout, Zone::Movable).saturating_mul(size);
-        let online = (layout.boot().len() as u64 - blocks_at(layout, Boot::Offline)) * size;
-        let mut generator = Generator {
+        let offline = blocks_at(layout, Boot::Offline);
+        let online = (layout.boot().len() as u64).saturating_sub(offline);
+        let frames = online.saturating_mul(size);
+        let machine = Machine::boot(alloc, layout)?;
+        Ok(Generator {
             random: Random::new(seed),
             mix,
             machine,
             kernel,
-            pages: KnownPages::new(alloc, known_pages(layout, online)),
+            pages: KnownPages::new(alloc, known_pages(layout, frames)),
             operation: None,
             normal_frames,
             movable_frames,
-        };
-        generator.read_each(alloc)?;
-        Ok(generator)
+        })
     }
 
     /// The calls so far.
@@ -80,8 +85,8 @@ impl Generator {
         }
     }
 
-    /// A read past the last page of each owner.
-    fn read_each(&mut self, alloc: Global) -> Result<()> {
+    /// Makes a read past the last page of each owner, to be made first.
+    pub fn read_each(&mut self, alloc: Global) -> Result<()> {
         let page = Page(self.machine.layout().pages());
         for owner in 0..self.machine.layout().owners() {
             let event = Event::Read {
@@ -384,10 +389,11 @@ fn blocks_at(layout: &Layout, boot: Boot) -> u64 {
 }
 
 /// How many pages of each owner are chosen from: three quarters of the frames that are online at boot, and no more than there are.
-fn known_pages(layout: &Layout, online: u64) -> u32 {
-    let owners = layout.owners() as u64;
-    let each = (online * 3 / 4 / owners) as u32;
-    each.clamp(1, layout.pages())
+fn known_pages(layout: &Layout, frames: u64) -> u32 {
+    let owners = (layout.owners() as u64).max(1);
+    let each = frames.saturating_mul(3) / 4 / owners;
+    let most = layout.pages();
+    count_of(each as usize).max(1).min(most)
 }
 
 /// The zone that a memory block was in at boot; Normal for one that was offline.

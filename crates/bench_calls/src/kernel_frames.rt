@@ -1,5 +1,5 @@
 //! The kernel's blocks that a generator knows.
-use crate::random::Random;
+use crate::random::{Random, count_of};
 use hp_units::{Frame, Serial};
 use std::alloc::{AllocError, Global};
 use std::mem::replace;
@@ -38,9 +38,7 @@ impl KernelFrames {
     pub fn free(&mut self, serial: Serial, frame: Frame) -> Result<(), AllocError> {
         self.turn(frame);
         self.changes.push((serial, frame))?;
-        self.freed.truncate(63);
-        self.freed.insert(0, frame)?;
-        Ok(())
+        remember(&mut self.freed, frame)
     }
 
     /// All steps after one were undone: those freed last that are there again are held.
@@ -63,15 +61,25 @@ impl KernelFrames {
             if self.held.is_empty() {
                 return None;
             }
-            let at = random.below(self.held.len() as u32) as usize;
-            if at < self.held.len() {
-                let frame = self.held.swap_remove(at);
-                if self.is_there(frame) {
-                    return Some(frame);
-                }
+            let at = random.below(count_of(self.held.len())) as usize;
+            if let Some(frame) = self.taken(at) {
+                return Some(frame);
             }
         }
         None
+    }
+
+    /// The block at a place among those held, if it is there still. It is held no longer.
+    fn taken(&mut self, at: usize) -> Option<Frame> {
+        if at >= self.held.len() {
+            return None;
+        }
+        let frame = self.held.swap_remove(at);
+        if self.is_there(frame) {
+            Some(frame)
+        } else {
+            None
+        }
     }
 
     /// Whether a block starts at a frame.
@@ -92,16 +100,29 @@ impl KernelFrames {
     /// Turns back what the steps after one turned, latest first.
     fn undo_changes(&mut self, serial: Serial) {
         for _change in 0..self.changes.len() {
-            match self.changes.pop() {
-                Some((step, frame)) => {
-                    if step <= serial {
-                        let _ = self.changes.push((step, frame));
-                        return;
-                    }
-                    self.turn(frame);
-                }
-                None => return,
+            if !self.undo_change(serial) {
+                return;
             }
         }
     }
+
+    /// Turns back what the last step turned, if it came after one.
+    fn undo_change(&mut self, serial: Serial) -> bool {
+        let Some((step, frame)) = self.changes.last().copied() else {
+            return false;
+        };
+        if step.0 <= serial.0 {
+            return false;
+        }
+        let _undone = self.changes.pop();
+        self.turn(frame);
+        true
+    }
+}
+
+/// A block was freed last; the last 64 are remembered.
+fn remember(freed: &mut Vec<Frame>, frame: Frame) -> Result<(), AllocError> {
+    freed.truncate(63);
+    freed.insert(0, frame)?;
+    Ok(())
 }

@@ -1,5 +1,5 @@
 //! The mapped pages that a generator knows.
-use crate::random::Random;
+use crate::random::{Random, count_of};
 use hp_machine::Machine;
 use hp_units::{Owner, Page};
 use std::alloc::{AllocError, Global};
@@ -89,7 +89,7 @@ impl KnownPages {
             if self.mapped.is_empty() {
                 break;
             }
-            let at = random.below(self.mapped.len() as u32) as usize;
+            let at = random.below(count_of(self.mapped.len())) as usize;
             if let Some(place) = self.known(machine, at, take) {
                 return place;
             }

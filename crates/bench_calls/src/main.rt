@@ -19,10 +19,11 @@ mod random;
 mod tests;
 
 use anyhow::{Context, Result, anyhow};
-use calls::{Calls, Times, choose_calls, time_kept, time_sealed};
+use calls::{Calls, Figures, choose_calls, time_calls};
 use hp_units::Layout;
 use layouts::layout_of;
 use mixes::{Mix, mix_of};
+use std::alloc::Global;
 use std::env;
 
 /// The mixes by name.
@@ -35,30 +36,65 @@ struct Asked {
     layout: Layout,
     calls: usize,
     seed: u64,
-    runs: u32,
+    runs: u64,
     part: usize,
 }
 
 fn main(rt: HostRuntime) -> Result<()> {
-    let words: Vec<String> = env::args(&rt)?.skip(1).collect(rt.alloc())?;
-    if words.is_empty() {
-        return print_sums(&rt);
-    }
-    let asked = asked_for(&rt, words.as_slice())?;
-    print_times(&rt, &asked)
+    let words = words_of(&rt)?;
+    run(&rt, words.as_slice())
 }
 
-/// The checksums of 2,000 calls of each mix on the small layout.
+/// The words after the program's name.
+fn words_of(rt: &HostRuntime) -> Result<Vec<String>> {
+    let mut words = Vec::new(rt.alloc());
+    for word in env::args(rt)? {
+        words.push(word)?;
+    }
+    Ok(words)
+}
+
+/// Does what the words ask for, the program's name first.
+fn run(rt: &HostRuntime, words: &[String]) -> Result<()> {
+    match words {
+        [] | [_] => print_sums(rt),
+        [_, asked @ ..] => print_times(rt, &asked_for(rt, asked)?),
+    }
+}
+
+/// The checksums of 2,000 calls of each mix on the small layout, when they are made again and when they were chosen.
 fn print_sums(rt: &HostRuntime) -> Result<()> {
     for name in MIXES {
-        let mix = mix_of(name).context("no such mix")?;
-        let layout = layout_of(rt.alloc(), "small")?.context("no such layout")?;
-        let chosen = choose_calls(rt.alloc(), &layout, mix, 2_000, 1)?;
-        let (_times, sum) = time_kept(rt, &layout, chosen.calls.as_slice())?;
-        let first = chosen.sum;
-        println!(rt; "{name} {sum:016x} {first:016x}")?;
+        print_sum(rt, name)?;
     }
     Ok(())
+}
+
+/// One line: the checksums of a mix.
+fn print_sum(rt: &HostRuntime, name: &str) -> Result<()> {
+    let asked = few_calls(rt.alloc(), name)?;
+    let (first, again) = sums_of(rt, &asked)?;
+    println!(rt; "{name} {again:016x} {first:016x}")?;
+    Ok(())
+}
+
+/// The checksums of calls, when they were chosen and when they are made again.
+fn sums_of(rt: &HostRuntime, asked: &Asked) -> Result<(u64, u64)> {
+    let chosen = chosen_calls(rt, asked)?;
+    let timed = timed_calls(rt, asked, &chosen)?;
+    Ok((chosen.sum, timed.sum))
+}
+
+/// 2,000 calls of a mix on the small layout.
+fn few_calls(alloc: Global, name: &str) -> Result<Asked> {
+    Ok(Asked {
+        mix: mix_of(name).context("no such mix")?,
+        layout: layout_of(alloc, "small")?.context("no such layout")?,
+        calls: 2_000,
+        seed: 1,
+        runs: 1,
+        part: 0,
+    })
 }
 
 /// What the words ask for.
@@ -71,7 +107,7 @@ fn asked_for(rt: &HostRuntime, words: &[String]) -> Result<Asked> {
         layout: layout_of(rt.alloc(), layout.as_str())?.context("no such layout")?,
         calls: calls.parse().context("CALLS is a number")?,
         seed: number_or(words, 3, 1)?,
-        runs: number_or(words, 4, 3)? as u32,
+        runs: number_or(words, 4, 3)?,
         part: number_or(words, 5, 0)? as usize,
     })
 }
@@ -86,41 +122,58 @@ fn number_or(words: &[String], at: usize, other: u64) -> Result<u64> {
 
 /// Times the calls so often, and prints a line for each run.
 fn print_times(rt: &HostRuntime, asked: &Asked) -> Result<()> {
-    let chosen = choose_calls(
+    let chosen = chosen_calls(rt, asked)?;
+    print_runs(rt, asked, &chosen)
+}
+
+/// The same of calls that are chosen.
+fn print_runs(rt: &HostRuntime, asked: &Asked, chosen: &Calls) -> Result<()> {
+    for _run in 0..asked.runs {
+        print_run(rt, asked, chosen)?;
+    }
+    let sum = chosen.sum;
+    println!(rt; "checksum {sum:016x}")?;
+    Ok(())
+}
+
+/// Times the calls once.
+fn print_run(rt: &HostRuntime, asked: &Asked, chosen: &Calls) -> Result<()> {
+    let timed = timed_calls(rt, asked, chosen)?;
+    check_replies(asked, chosen, &timed)?;
+    print_line(rt, chosen.calls.len(), &timed)
+}
+
+/// The calls that are asked for.
+fn chosen_calls(rt: &HostRuntime, asked: &Asked) -> Result<Calls> {
+    choose_calls(
         rt.alloc(),
         &asked.layout,
         asked.mix,
         asked.calls,
         asked.seed,
-    )?;
-    for _run in 0..asked.runs {
-        print_run(rt, asked, &chosen)?;
+    )
+}
+
+/// A run of the calls.
+fn timed_calls(rt: &HostRuntime, asked: &Asked, chosen: &Calls) -> Result<Figures> {
+    time_calls(rt, &asked.layout, chosen.calls.as_slice(), asked.part)
+}
+
+/// Where nothing is sealed the replies are those of when the calls were chosen.
+fn check_replies(asked: &Asked, chosen: &Calls, timed: &Figures) -> Result<()> {
+    if asked.part == 0 && timed.sum != chosen.sum {
+        return Err(anyhow!("the replies differ"));
     }
-    println!(rt; "checksum {:016x}", chosen.sum)?;
     Ok(())
 }
 
-/// Times the calls once. Where nothing is sealed the replies are those of when the calls were chosen.
-fn print_run(rt: &HostRuntime, asked: &Asked, chosen: &Calls) -> Result<()> {
-    let calls = chosen.calls.as_slice();
-    if asked.part == 0 {
-        let (times, sum) = time_kept(rt, &asked.layout, calls)?;
-        if sum != chosen.sum {
-            return Err(anyhow!("the replies differ"));
-        }
-        print_line(rt, calls.len(), &times, sum)
-    } else {
-        let (times, sum) = time_sealed(rt, &asked.layout, calls, asked.part)?;
-        print_line(rt, calls.len(), &times, sum)
-    }
-}
-
 /// One line: a run of so many calls.
-fn print_line(rt: &HostRuntime, count: usize, times: &Times, sum: u64) -> Result<()> {
-    let each = times.calls.as_nanos() * 10 / (count as u128).max(1);
+fn print_line(rt: &HostRuntime, count: usize, timed: &Figures) -> Result<()> {
+    let each = timed.calls.as_nanos().saturating_mul(10) / (count as u128).max(1);
     let tenths = each % 10;
     let whole = each / 10;
-    let seals = times.seals.as_micros();
+    let seals = timed.seals.as_micros();
+    let sum = timed.sum;
     println!(rt; "{count} calls: {whole}.{tenths} ns each, seals {seals} us, replies {sum:016x}")?;
     Ok(())
 }

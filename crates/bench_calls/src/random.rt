@@ -23,13 +23,18 @@ impl Random {
 
     /// The next number, brought below a bound: the upper half of the number's product with the bound.
     pub fn below(&mut self, bound: u32) -> u32 {
-        let upper = self.next() / 0x1_0000_0000;
-        let scaled = upper.wrapping_mul(bound as u64) / 0x1_0000_0000;
-        scaled as u32
+        let upper = self.next() >> 32;
+        let scaled = upper.wrapping_mul(bound as u64) >> 32;
+        (scaled & 0xffff_ffff) as u32
     }
 
     /// Whether the next number is 0 below a bound.
     pub fn one_in(&mut self, bound: u32) -> bool {
         self.below(bound) == 0
     }
+}
+
+/// A number of things, as a bound for random numbers.
+pub fn count_of(length: usize) -> u32 {
+    u32::try_from(length).unwrap_or(u32::MAX)
 }
