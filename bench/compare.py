@@ -73,7 +73,8 @@ def least(runs, time):
 
 
 def heading(text):
-    print(f"\n{text}\n{'':24} {'ours':>10} {'peer':>10} {'':3}{'ratio':>7}   {'ours':>9} {'peer':>9} {'':3} {'ratio':>7}")
+    print(f"\n{text}")
+    print(f"{'':24} {'ours':>10} {'peer':>10} {'':3}{'ratio':>7}   {'ours':>9} {'peer':>9} {'':3} {'ratio':>7}")
 
 
 def nanoseconds(run):
@@ -83,7 +84,9 @@ def nanoseconds(run):
 
 
 def checksum(run):
-    return run.out.decode().split("checksum ")[1][:16]
+    """The checksum of the replies that were timed."""
+    text = run.out.decode()
+    return text.split("replies " if "replies " in text else "checksum ")[1][:16]
 
 
 def calls(choice, layouts, count, part=None):
