@@ -1,0 +1,180 @@
+#!/usr/bin/env python3
+"""Times the program and the machine's calls against hand-written Rust of the same meaning (peer/).
+
+    bench/compare.py [PART..] [--runs N] [--calls N] [--layouts A,B] [--ours FOLDER]
+
+PART is calls, sealed, serial, growth, offline or maps; with none it does all of them. It builds the
+peer (cargo, no network), and runs what `rt run` built in crates/bench_calls and crates/hotplug
+(--ours takes the crates of another folder). Ours and the peer run in turn, --runs times each, and
+every answer is compared. Of each the least time counts, and the peak memory of that run.
+
+- calls: the calls of each mix on each layout (--layouts, else small and medium), history kept.
+- sealed: the mixes that undo nothing, sealed after every 100,000 calls, without the seals' time;
+  the peer keeps no records.
+- serial: `hotplug serial` on scenarios of 16 MiB of each mix, on the medium layout.
+- growth: `serial` of 20,000 and of 320,000 lines: how much more time each takes.
+- offline: a plan on 24 frames of 512 words that 8 processors' drains can't help, 4,096 turns.
+- maps: 6,000 lines of map and unmap on 1,024 frames of 512 words.
+"""
+import argparse
+import hashlib
+import json
+import resource
+import subprocess
+import sys
+import tempfile
+from pathlib import Path
+
+HERE = Path(__file__).resolve().parent
+PEER = HERE / "peer" / "target" / "release"
+MIXES = ["kernel", "pages", "offline", "undo", "mixed"]
+SEED = "1"
+GIB = 1 << 30
+
+
+def limit():
+    """A run that takes more than 6 GiB ends itself and not the machine."""
+    resource.setrlimit(resource.RLIMIT_AS, (6 * GIB, 6 * GIB))
+
+
+class Run:
+    """One run of a command: seconds by the clock and of processor, MiB at most, and what it wrote."""
+
+    def __init__(self, command, stdin=None):
+        with tempfile.NamedTemporaryFile("r") as said, tempfile.TemporaryFile() as out:
+            source = open(stdin, "rb") if stdin else subprocess.DEVNULL
+            subprocess.run([PEER / "peak", said.name, *map(str, command)], stdin=source, stdout=out,
+                           preexec_fn=limit, check=True)
+            if stdin:
+                source.close()
+            wall, busy, peak, status = map(int, said.read().split())
+            out.seek(0)
+            self.out = out.read()
+        if status != 0:
+            sys.exit(f"{command}: status {status}")
+        self.wall, self.busy, self.peak = wall / 1e6, busy / 1e6, peak / 1024
+        self.hash = hashlib.sha256(self.out).hexdigest()
+
+
+def in_turn(runs, ours, peer, stdin=None):
+    """The runs of both commands, made in turn."""
+    pairs = [(Run(ours, stdin), Run(peer, stdin)) for _ in range(runs)]
+    return [a for a, _ in pairs], [b for _, b in pairs]
+
+
+def line(name, time, unit, ours, peer, peaks):
+    """One line of figures: a time and a peak of each, and their ratios."""
+    print(f"{name:24} {time(ours):10.2f} {time(peer):10.2f} {unit:3}{time(ours) / time(peer):6.2f}x"
+          f"   {peaks[0]:9.1f} {peaks[1]:9.1f} MiB {peaks[0] / peaks[1]:6.2f}x", flush=True)
+
+
+def least(runs, time):
+    return min(runs, key=time)
+
+
+def heading(text):
+    print(f"\n{text}")
+    print(f"{'':24} {'ours':>10} {'peer':>10} {'':3}{'ratio':>7}   {'ours':>9} {'peer':>9} {'':3} {'ratio':>7}")
+
+
+def nanoseconds(run):
+    """The least nanoseconds a call that a run of bench_calls printed."""
+    words = [text.split(" ns each")[0].split()[-1] for text in run.out.decode().split("\n") if " ns each" in text]
+    return min(map(float, words))
+
+
+def checksum(run):
+    """The checksum of the replies that were timed."""
+    text = run.out.decode()
+    return text.split("replies " if "replies " in text else "checksum ")[1][:16]
+
+
+def calls(choice, layouts, count, part=None):
+    """The mixes' calls, without any text."""
+    for layout in layouts:
+        heading(f"calls on the layout {layout}, {count} of each mix" + (f", sealed every {part}" if part else ""))
+        for mix in ["kernel", "pages"] if part else MIXES:
+            words = [mix, layout, count, SEED]
+            ours, peer = in_turn(
+                choice.runs, [choice.ours / "bench_calls/out/bench_calls", *words, 3, *([part] if part else [])],
+                [PEER / "bench_calls", *words, "--reps", 3, *(["--no-history"] if part else [])])
+            if {checksum(run) for run in ours} != {checksum(run) for run in peer}:
+                sys.exit(f"{mix}: the replies differ")
+            ours, peer = least(ours, nanoseconds), least(peer, nanoseconds)
+            line(mix, nanoseconds, "ns", ours, peer, (ours.peak, peer.peak))
+
+
+def serial(choice, name, scenario):
+    """`hotplug serial` of one scenario; answers both least times."""
+    ours, peer = in_turn(choice.runs, [choice.ours / "hotplug/out/hotplug", "serial"], [PEER / "hotplug", "serial"],
+                         scenario)
+    if len({run.hash for run in ours + peer}) != 1:
+        sys.exit(f"{name}: the answers differ")
+    ours, peer = least(ours, lambda run: run.wall), least(peer, lambda run: run.wall)
+    line(name, lambda run: run.wall * 1e3, "ms", ours, peer, (ours.peak, peer.peak))
+    return ours.wall, peer.wall
+
+
+def generated(folder, mix, layout, lines):
+    """A scenario of so many lines, and of at most 16 MiB."""
+    path = Path(folder) / f"{mix}-{layout}-{lines}.json"
+    with open(path, "wb") as out:
+        subprocess.run([PEER / "gen_big", mix, layout, str(lines), SEED], stdout=out, check=True)
+    return path
+
+
+def written(folder, name, layout, calls):
+    """A scenario of our own."""
+    path = Path(folder) / f"{name}.json"
+    path.write_text(json.dumps({"layout": layout, "calls": calls}))
+    return path
+
+
+def failing_offline(folder):
+    layout = {"order": 2, "pageblocks": 1, "blocks": 6, "cpus": 8, "batch": 1, "high": 1, "owners": 1, "pages": 24,
+              "words": 512, "history": 1 << 24, "boot": ["normal"] * 3 + ["movable"] * 3}
+    return written(folder, "offline", layout, [f"0 map db {page}" for page in range(24)] + ["0 plan 4096 off 5"])
+
+
+def maps(folder):
+    layout = {"order": 5, "pageblocks": 4, "blocks": 8, "cpus": 1, "batch": 8, "high": 16, "owners": 1, "pages": 1024,
+              "words": 512, "history": 1 << 24, "boot": ["movable"] * 8}
+    verbs = ["map", "unmap"]
+    return written(folder, "maps", layout, [f"0 {verbs[at % 2]} db {at // 2 % 1024}" for at in range(6000)])
+
+
+def main():
+    parser = argparse.ArgumentParser(description=__doc__, formatter_class=argparse.RawDescriptionHelpFormatter)
+    parser.add_argument("parts", nargs="*", metavar="PART")
+    parser.add_argument("--runs", type=int, default=5)
+    parser.add_argument("--calls", type=int, default=500_000)
+    parser.add_argument("--layouts", default="small,medium")
+    parser.add_argument("--ours", type=Path, default=HERE.parent / "crates")
+    choice = parser.parse_args()
+    subprocess.run(["cargo", "build", "--release", "--offline", "--quiet"], cwd=HERE / "peer", check=True)
+    parts = choice.parts or ["calls", "sealed", "serial", "growth", "offline", "maps"]
+    layouts = choice.layouts.split(",")
+    with tempfile.TemporaryDirectory() as folder:
+        if "calls" in parts:
+            calls(choice, layouts, choice.calls)
+        if "sealed" in parts:
+            calls(choice, layouts, choice.calls, 100_000)
+        if "serial" in parts:
+            heading("serial of 16 MiB on the layout medium")
+            for mix in MIXES:
+                serial(choice, mix, generated(folder, mix, "medium", 10_000_000))
+        if "growth" in parts:
+            heading("serial of mixed lines on the layout medium")
+            few = serial(choice, "20,000 lines", generated(folder, "mixed", "medium", 20_000))
+            many = serial(choice, "320,000 lines", generated(folder, "mixed", "medium", 320_000))
+            print(f"16 times the lines: ours {many[0] / few[0]:.1f} times the time, the peer {many[1] / few[1]:.1f}")
+        if "offline" in parts:
+            heading("serial of a plan that fails")
+            serial(choice, "offline", failing_offline(folder))
+        if "maps" in parts:
+            heading("serial of map and unmap")
+            serial(choice, "maps", maps(folder))
+
+
+if __name__ == "__main__":
+    main()

@@ -1,0 +1,179 @@
+//! Calls that are made again and timed.
+use crate::checksum::mix;
+use crate::generator::{Generator, called};
+use crate::mixes::Mix;
+use anyhow::Result;
+use hp_history::Volume;
+use hp_machine::Machine;
+use hp_units::{Cpu, Event, Layout};
+use std::alloc::{AllocError, Global};
+use std::time::{Duration, Instant};
+
+/// One call.
+#[derive(Drop)]
+pub struct Call {
+    cpu: Cpu,
+    event: Event,
+}
+
+/// Calls, and the checksum of their replies.
+#[derive(Drop)]
+pub struct Calls {
+    pub calls: Vec<Call>,
+    pub sum: u64,
+}
+
+/// What a run of calls gave: how many were made, the checksum of the replies, and the time that the calls and the seals took.
+#[derive(Clone, Copy, Drop)]
+pub struct Figures {
+    made: usize,
+    pub sum: u64,
+    pub calls: Duration,
+    pub seals: Duration,
+}
+
+impl Figures {
+    /// Of no calls.
+    fn none() -> Figures {
+        Figures {
+            made: 0,
+            sum: 0,
+            calls: Duration::ZERO,
+            seals: Duration::ZERO,
+        }
+    }
+
+    /// Makes calls.
+    fn make(&mut self, rt: &HostRuntime, machine: &mut Machine, calls: &[Call]) -> Result<()> {
+        let start = Instant::now(rt)?;
+        self.sum = make_calls(rt.alloc(), machine, calls, self.sum)?;
+        let took = start.elapsed(rt)?;
+        self.made = self.made.saturating_add(calls.len());
+        self.calls = self.calls.saturating_add(took);
+        Ok(())
+    }
+
+    /// Seals the machine, and lets go of what was sealed.
+    fn seal(&mut self, rt: &HostRuntime, machine: &mut Machine) -> Result<()> {
+        let start = Instant::now(rt)?;
+        let_go(machine.seal(rt.alloc()))?;
+        let took = start.elapsed(rt)?;
+        self.seals = self.seals.saturating_add(took);
+        Ok(())
+    }
+
+    /// Makes the next of the calls, at most so many, and seals the machine.
+    fn make_part(
+        &mut self,
+        rt: &HostRuntime,
+        machine: &mut Machine,
+        calls: &[Call],
+        part: usize,
+    ) -> Result<()> {
+        let rest = calls.get(self.made..).unwrap_or(&[]);
+        let some = rest.get(..part).unwrap_or(rest);
+        self.make(rt, machine, some)?;
+        self.seal(rt, machine)
+    }
+
+    /// Makes calls, and seals the machine after every so many.
+    fn make_parts(
+        &mut self,
+        rt: &HostRuntime,
+        machine: &mut Machine,
+        calls: &[Call],
+        part: usize,
+    ) -> Result<()> {
+        for _part in 0..calls.len() {
+            if self.made >= calls.len() {
+                break;
+            }
+            self.make_part(rt, machine, calls, part)?;
+        }
+        Ok(())
+    }
+}
+
+/// Lets go of what a seal handed out.
+fn let_go(sealed: Result<Volume, AllocError>) -> Result<(), AllocError> {
+    match sealed {
+        Ok(_volume) => Ok(()),
+        Err(error) => Err(error),
+    }
+}
+
+/// Makes calls on a machine at its start, which is sealed after every so many; where that is 0 it is not sealed.
+pub fn time_calls(
+    rt: &HostRuntime,
+    layout: &Layout,
+    calls: &[Call],
+    part: usize,
+) -> Result<Figures> {
+    let mut machine = Machine::boot(rt.alloc(), layout)?;
+    time_on(rt, &mut machine, calls, part)
+}
+
+/// The same on a machine.
+fn time_on(
+    rt: &HostRuntime,
+    machine: &mut Machine,
+    calls: &[Call],
+    part: usize,
+) -> Result<Figures> {
+    let mut figures = Figures::none();
+    if part == 0 {
+        figures.make(rt, machine, calls)?;
+    } else {
+        figures.make_parts(rt, machine, calls, part)?;
+    }
+    Ok(figures)
+}
+
+/// The first calls of a mix, so many, and the checksum of their replies.
+pub fn choose_calls(
+    alloc: Global,
+    layout: &Layout,
+    mix: Mix,
+    count: usize,
+    seed: u64,
+) -> Result<Calls> {
+    let mut generator = Generator::new(alloc, layout, mix, seed)?;
+    chosen_calls(alloc, &mut generator, count)
+}
+
+/// The same of a generator.
+fn chosen_calls(alloc: Global, generator: &mut Generator, count: usize) -> Result<Calls> {
+    generator.read_each(alloc)?;
+    for _step in 0..count {
+        if generator.records().len() >= count {
+            break;
+        }
+        generator.step(alloc)?;
+    }
+    first_calls(alloc, generator, count)
+}
+
+/// The first calls that a generator made.
+fn first_calls(alloc: Global, generator: &Generator, count: usize) -> Result<Calls> {
+    let mut sum = 0;
+    let mut calls = Vec::with_capacity(alloc, count)?;
+    for record in generator.records().iter().take(count) {
+        let event = record.event.copy(alloc)?;
+        calls.push(Call {
+            cpu: record.cpu,
+            event,
+        })?;
+        sum = mix(sum, &record.reply);
+    }
+    Ok(Calls { calls, sum })
+}
+
+/// Makes calls on a machine, and answers the checksum of their replies, after one of earlier replies.
+fn make_calls(alloc: Global, machine: &mut Machine, calls: &[Call], sum: u64) -> Result<u64> {
+    let mut sum = sum;
+    for call in calls {
+        let receipt = called(alloc, machine, call.cpu, &call.event)?;
+        sum = mix(sum, &receipt.reply);
+    }
+    Ok(sum)
+}
