@@ -95,8 +95,8 @@ replayed_memory m h base replayed records layout same is =
 pub volumes_refused : (volumes : List Volume) (m : MachineValue) (vs : List Volume) (l : LayoutParts) (fault : ChainFault) → vs ≡ volumes → l ≡ m.layout → IsChainFault l vs fault → RefutesChain l vs fault → HasAuditFault volumes m (chain_fault_from fault)
 volumes_refused volumes m vs l fault same there here only =
     chain_refused volumes m fault
-        (subst (λ (k : LayoutParts). IsChainFault k volumes fault) there (subst (λ (xs : List Volume). IsChainFault l xs fault) same here))
-        (subst (λ (k : LayoutParts). RefutesChain k volumes fault) there (subst (λ (xs : List Volume). RefutesChain l xs fault) same only))
+    (subst (λ (k : LayoutParts). IsChainFault k volumes fault) there (subst (λ (xs : List Volume). IsChainFault l xs fault) same here))
+    (subst (λ (k : LayoutParts). RefutesChain k volumes fault) there (subst (λ (xs : List Volume). RefutesChain l xs fault) same only))
 
 -- the volumes lead to another state than the machine's base
 pub base_differs : (volumes : List Volume) (m : MachineValue) (vs : List Volume) (l : LayoutParts) (base theirs : Pictured) → vs ≡ volumes → l ≡ m.layout → theirs ≡ record { layout = m.layout; memory = m.base } → base ≡ record { layout = l; memory = state_after l vs } → (base.memory ≡ theirs.memory → ⊥) → IsAudited volumes m → ⊥
@@ -110,14 +110,14 @@ history_refused volumes m vs l before h base theirs fault read is same here only
     let layout = (leads_to volumes m vs l base read.volumes_are read.layout_is is).layout in
     let start : base.memory ≡ m.base = same ∙ ap (λ (p : Pictured). p.memory) read.base_is in
     replay_refused volumes m fault
-        (subst (λ (k : LayoutParts). IsFault k m.base m.before m.history fault) layout
-        (subst (λ (b : Memory). IsFault base.layout b m.before m.history fault) start
-        (subst (λ (n : ℕ). IsFault base.layout base.memory n m.history fault) read.before_is
-        (subst (λ (g : List Record). IsFault base.layout base.memory before g fault) read.history_is here))))
-        (subst (λ (k : LayoutParts). Refutes k m.base m.before m.history fault) layout
-        (subst (λ (b : Memory). Refutes base.layout b m.before m.history fault) start
-        (subst (λ (n : ℕ). Refutes base.layout base.memory n m.history fault) read.before_is
-        (subst (λ (g : List Record). Refutes base.layout base.memory before g fault) read.history_is only))))
+    (subst (λ (k : LayoutParts). IsFault k m.base m.before m.history fault) layout
+    (subst (λ (b : Memory). IsFault base.layout b m.before m.history fault) start
+    (subst (λ (n : ℕ). IsFault base.layout base.memory n m.history fault) read.before_is
+    (subst (λ (g : List Record). IsFault base.layout base.memory before g fault) read.history_is here))))
+    (subst (λ (k : LayoutParts). Refutes k m.base m.before m.history fault) layout
+    (subst (λ (b : Memory). Refutes base.layout b m.before m.history fault) start
+    (subst (λ (n : ℕ). Refutes base.layout base.memory n m.history fault) read.before_is
+    (subst (λ (g : List Record). Refutes base.layout base.memory before g fault) read.history_is only))))
 
 -- it leads to another state than the machine's
 pub state_differs : (volumes : List Volume) (m : MachineValue) (vs : List Volume) (l : LayoutParts) (before : ℕ) (h : List Record) (base theirs replayed image : Pictured) → IsReadOf volumes m vs l before theirs h → base ≡ record { layout = l; memory = state_after l vs } → base.memory ≡ theirs.memory
@@ -137,9 +137,9 @@ audited volumes m vs l before h base theirs replayed image read chain is same le
       chain = subst (λ (k : LayoutParts). IsChain k volumes) read.layout_is (subst (λ (xs : List Volume). IsChain l xs) read.volumes_are chain);
       base = sym start ∙ leads.after;
       legal = subst (λ (k : LayoutParts). IsLegal k m.base m.before m.history) leads.layout
-        (subst (λ (b : Memory). IsLegal base.layout b m.before m.history) start
-        (subst (λ (n : ℕ). IsLegal base.layout base.memory n m.history) read.before_is
-        (subst (λ (g : List Record). IsLegal base.layout base.memory before g) read.history_is legal)));
+          (subst (λ (b : Memory). IsLegal base.layout b m.before m.history) start
+          (subst (λ (n : ℕ). IsLegal base.layout base.memory n m.history) read.before_is
+          (subst (λ (g : List Record). IsLegal base.layout base.memory before g) read.history_is legal)));
       state = sym (ap (λ (p : Pictured). p.memory) image_is) ∙ sym alike ∙ replayed_memory m h base replayed read.history_is leads.layout start replayed_is;
     }
 

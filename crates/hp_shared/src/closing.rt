@@ -7,8 +7,8 @@ use crate::job::Job;
 use crate::seat::Seat;
 use crate::shared::Shared;
 use crate::volumes::wrong_volume;
-use hp_machine::Machine;
 use hp_history::Volume;
+use hp_machine::Machine;
 use hp_units::Serial;
 use std::alloc::{AllocError, Global};
 

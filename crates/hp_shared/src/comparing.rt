@@ -8,8 +8,8 @@ ghost use Rattle.hp_shared.specs.Volumes.{ReachSealed, all_records, sealed_recor
 use crate::job::Job;
 use crate::marks::{Mark, lower};
 use crate::seat::Seat;
-use hp_machine::Machine;
 use hp_history::Volume;
+use hp_machine::Machine;
 use hp_units::{Cpu, Record, Serial};
 use std::alloc::{AllocError, Global};
 

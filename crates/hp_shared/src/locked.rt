@@ -6,8 +6,8 @@ ghost use Rattle.hp_history.specs.Volumes.{volume_of};
 ghost use Rattle.hp_shared.specs.Shared.{IsFresh, IsShared};
 
 use crate::job::Job;
-use hp_machine::Machine;
 use hp_history::Volume;
+use hp_machine::Machine;
 use hp_units::{CallFault, Cpu, Event, Receipt};
 use std::alloc::{AllocError, Global};
 use std::marker::Model;

@@ -3,6 +3,7 @@ ghost use Rattle.std.specs.Prelude.{◌≡◌};
 ghost use Rattle.hp_shared.specs.Shared.{IsFresh};
 
 use crate::{CloseFault, CloseRefused, Job, Seat, SeatPort, Shared, close};
+use hp_history::Volume;
 use hp_machine::Machine;
 use hp_ops::run_plan;
 use hp_units::{Block, Boot, Cpu, Event, Item, Layout, OpEnd, Owner, Page, Parts, Plan, Wish};
@@ -72,8 +73,43 @@ fn both_mapped<L: Job + Send + Sync, R: Threads + Wait + Sync>(
     })
 }
 
-/// Two threads map a page each, each by a seat of its own. Why a close with the one seat is refused, how many receipts the seats
-/// have, and how many records a close with both finds.
+/// Two threads map a page each, each by a seat of its own. The seats but one, that one, and how many receipts they have.
+fn mapped_by_two<L: Job + Send + Sync, R: Threads + Wait + Sync>(
+    rt: &R,
+    alloc: Global,
+    shared: &Shared<L>,
+    seats: Vec<Seat<L>>,
+) -> Option<(Vec<Seat<L>>, Seat<L>, usize)> {
+    let mut seats = seats;
+    let second = seats.pop()?;
+    let first = seats.pop()?;
+    let (first, second) = both_mapped(rt, alloc, shared, first, second);
+    let receipts = first.receipts().len() * 10 + second.receipts().len();
+    seats.push(first).ok()?;
+    Some((seats, second, receipts))
+}
+
+/// Why a close without a seat is refused, and how many records one with it finds.
+fn closed_with_one_more<L: Job>(
+    alloc: Global,
+    shared: Shared<L>,
+    seats: Vec<Seat<L>>,
+    second: Seat<L>,
+) -> Option<(CloseFault, u64)> {
+    let CloseRefused {
+        fault,
+        shared,
+        seats,
+        volumes,
+    } = close(alloc, shared, seats, Vec::new(alloc)).err()?;
+    let mut seats = seats;
+    seats.push(second).ok()?;
+    let closed = close(alloc, shared, seats, volumes).ok()?;
+    Some((fault, closed.records))
+}
+
+/// Two threads map a page each. Why a close with the one seat is refused, how many receipts the seats have, and how many records a
+/// close with both finds.
 fn two_maps<L: Job + Send + Sync, R: Threads + Wait + Sync>(
     rt: &R,
     alloc: Global,
@@ -88,22 +124,9 @@ fn two_maps<L: Job + Send + Sync, R: Threads + Wait + Sync>(
     let Ok((shared, seats)) = Shared::<L>::new(alloc, blank, machine) else {
         return None;
     };
-    let mut seats = seats;
-    let second = seats.pop()?;
-    let first = seats.pop()?;
-    let (first, second) = both_mapped(rt, alloc, &shared, first, second);
-    let receipts = first.receipts().len() * 10 + second.receipts().len();
-    seats.push(first).ok()?;
-    let CloseRefused {
-        fault,
-        shared,
-        seats,
-        volumes,
-    } = close(alloc, shared, seats, Vec::new(alloc)).err()?;
-    let mut seats = seats;
-    seats.push(second).ok()?;
-    let closed = close(alloc, shared, seats, Vec::new(alloc)).ok()?;
-    Some((fault, receipts, closed.records))
+    let (seats, second, receipts) = mapped_by_two(rt, alloc, &shared, seats)?;
+    let (fault, records) = closed_with_one_more(alloc, shared, seats, second)?;
+    Some((fault, receipts, records))
 }
 
 #[test]
@@ -116,6 +139,43 @@ fn two_threads_map_a_page_each(rt: HostRuntime) -> Result<(), Fail> {
     assert_eq!(rt; ends.1, 11);
     assert_eq!(rt; ends.2, 2);
     Ok(())
+}
+
+/// A record is sealed and another follows: the seats, and the volume.
+fn sealed_between<L: Job, R: Wait>(
+    rt: &R,
+    alloc: Global,
+    shared: &Shared<L>,
+    seats: Vec<Seat<L>>,
+) -> Option<(Vec<Seat<L>>, Volume)> {
+    let mut seats = seats;
+    let second = seats.pop()?;
+    let first = seats.pop()?;
+    let mut first = mapped(rt, alloc, shared, first, 0);
+    let volume = first.seal(rt, alloc, shared).ok()?;
+    let second = mapped(rt, alloc, shared, second, 1);
+    seats.push(first).ok()?;
+    seats.push(second).ok()?;
+    Some((seats, volume))
+}
+
+/// Why a close without a volume is refused, and how many records one with it finds.
+fn closed_with_volume<L: Job>(
+    alloc: Global,
+    shared: Shared<L>,
+    seats: Vec<Seat<L>>,
+    volume: Volume,
+) -> Option<(CloseFault, u64)> {
+    let CloseRefused {
+        fault,
+        shared,
+        seats,
+        volumes,
+    } = close(alloc, shared, seats, Vec::new(alloc)).err()?;
+    let mut volumes = volumes;
+    volumes.push(volume).ok()?;
+    let closed = close(alloc, shared, seats, volumes).ok()?;
+    Some((fault, closed.records))
 }
 
 /// A record is sealed and another follows. Why a close without the volume is refused, and how many records one with it finds.
@@ -133,24 +193,8 @@ fn one_sealed<L: Job, R: Wait>(
     let Ok((shared, seats)) = Shared::<L>::new(alloc, blank, machine) else {
         return None;
     };
-    let mut seats = seats;
-    let second = seats.pop()?;
-    let first = seats.pop()?;
-    let mut first = mapped(rt, alloc, &shared, first, 0);
-    let volume = first.seal(rt, alloc, &shared).ok()?;
-    let second = mapped(rt, alloc, &shared, second, 1);
-    seats.push(first).ok()?;
-    seats.push(second).ok()?;
-    let CloseRefused {
-        fault,
-        shared,
-        seats,
-        volumes,
-    } = close(alloc, shared, seats, Vec::new(alloc)).err()?;
-    let mut volumes = volumes;
-    volumes.push(volume).ok()?;
-    let closed = close(alloc, shared, seats, volumes).ok()?;
-    Some((fault, closed.records))
+    let (seats, volume) = sealed_between(rt, alloc, &shared, seats)?;
+    closed_with_volume(alloc, shared, seats, volume)
 }
 
 #[test]
@@ -187,6 +231,23 @@ fn planned<L: Job, R: Wait>(
     (seat, end)
 }
 
+/// A seat maps a page and takes its block offline: the seats in another order, and the plan's end.
+fn moved_by_one<L: Job, R: Wait>(
+    rt: &R,
+    alloc: Global,
+    shared: &Shared<L>,
+    seats: Vec<Seat<L>>,
+    plan: Plan,
+) -> Option<(Vec<Seat<L>>, OpEnd)> {
+    let mut seats = seats;
+    let second = seats.pop()?;
+    let first = seats.pop()?;
+    let (first, end) = planned(rt, alloc, shared, first, plan);
+    seats.push(second).ok()?;
+    seats.push(first).ok()?;
+    Some((seats, end))
+}
+
 /// A seat maps a page and takes its block offline. The plan's end, and how many records a close finds, with the seats in another order.
 fn page_moved<L: Job, R: Wait>(
     rt: &R,
@@ -203,12 +264,7 @@ fn page_moved<L: Job, R: Wait>(
     let Ok((shared, seats)) = Shared::<L>::new(alloc, blank, machine) else {
         return None;
     };
-    let mut seats = seats;
-    let second = seats.pop()?;
-    let first = seats.pop()?;
-    let (first, end) = planned(rt, alloc, &shared, first, plan);
-    seats.push(second).ok()?;
-    seats.push(first).ok()?;
+    let (seats, end) = moved_by_one(rt, alloc, &shared, seats, plan)?;
     let closed = close(alloc, shared, seats, Vec::new(alloc)).ok()?;
     Some((end, closed.records))
 }

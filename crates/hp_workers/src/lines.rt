@@ -6,8 +6,8 @@ ghost use Rattle.hp_workers.specs.Lines.{IsCallsRun, IsEchoRun, IsEventRun, IsLi
 use crate::gate::Gate;
 use crate::port::GatedPort;
 use hp_control::{CONTROL_TURNS, ControlFault, Request, parse_echo};
-use hp_ops::{Port, run_plan};
 use hp_history::Volume;
+use hp_ops::{Port, run_plan};
 use hp_scenario::{Line, Work};
 use hp_shared::{Job, Seat, Shared};
 use hp_units::{CallFault, Event, OpEnd, Plan, Reply, Text};

@@ -14,5 +14,5 @@ pub returns-clause-ok : goal.returns-clause-ok
 returns-clause-ok g c =
     let worked = c.in_ok-worked.worked in
     let text : string_bytes c.push_str.new.self ≡ records_line worked.closed.records ++ codes "audit ok" ++ newline =
-        audit_text (string_bytes c.new-out.result) (string_bytes c.write_records.new.out) (string_bytes c.push_str.new.self) worked.closed.records c.new-out.ensures.bytes c.in_ok-write_records.ensures c.in_ok-push_str.ensures.bytes in
+    audit_text (string_bytes c.new-out.result) (string_bytes c.write_records.new.out) (string_bytes c.push_str.new.self) worked.closed.records c.new-out.ensures.bytes c.in_ok-write_records.ensures c.in_ok-push_str.ensures.bytes in
     record { ends = worked.ends.items; volumes = worked.closed.volumes.items; machine = worked.closed.machine; count = worked.closed.records; run = c.in_ok-worked.ensures.ok; audited = c.in_ok-check_records.ensures.ok; written = text }
