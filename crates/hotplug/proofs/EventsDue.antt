@@ -1,4 +1,4 @@
--- An event's line: the state behind it, and when its text is the one that is due.
+-- An event's line: the state after it, and when its text is the one that is due.
 use Rattle.std.proofs.Common.{◌≡◌, ℕ, Bool, true, false, List, ◌++◌, codes, if◌then◌else◌, refl, sym, subst, inl, inr}
 use Rattle.hp_units.specs.History.{value_of}
 use Rattle.hp_units.specs.declared.events.Event.{Event}
@@ -27,7 +27,7 @@ pub event_is : (m : MachineValue) (cpu : ℕ) (event : Event) (text : List ℕ) 
 event_is m cpu event text new h (inl w) = subst IsUpToDate (sym w.1) (event_next m cpu event h)
 event_is m cpu event text new h (inr w) = subst IsUpToDate (sym w.2) h
 
--- want of memory makes a text that isn't whole
+-- out of memory makes a text that isn't whole
 pub wanting_is_not_whole : (b : List ℕ) → IsWhole (unrecorded_line OutOfMemory ++ b) → ⊥
 wanting_is_not_whole b whole = not_whole (unrecorded_line OutOfMemory ++ b) (codes "-: fault ") b refl whole
 

@@ -1,4 +1,4 @@
--- Lines on control files: the state behind them, and when their text is the one that is due.
+-- Lines on control files: the state after them, and when their text is the one that is due.
 use Rattle.std.proofs.Common.{◌≡◌, ℕ, List, ◌++◌, codes, Result, Ok, Err, refl, sym, subst, inl, inr}
 use Rattle.hp_machine.specs.Machine.{MachineValue}
 use Rattle.hp_control.specs.declared.fault.ControlFault.{ControlFault}
@@ -26,7 +26,7 @@ echo_is m cpu path word text new h (inr w) = subst IsUpToDate (sym w.1) h
 
 -- ---- the text
 
--- want of memory makes a text that isn't whole
+-- out of memory makes a text that isn't whole
 echo_is_not_whole : (b : List ℕ) → IsWhole (write_fault_line OutOfMemory ++ b) → ⊥
 echo_is_not_whole b whole = not_whole (write_fault_line OutOfMemory ++ b) (codes "echo: fault ") b refl whole
 

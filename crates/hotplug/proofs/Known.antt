@@ -12,7 +12,7 @@ to_end i xs = take_all _ _ (omega (arith, length-drop i xs))
 next : (i n : ℕ) (bytes : List ℕ) → take i bytes ++ take n (take (length bytes - i) (drop i bytes)) ≡ take (i + n) bytes
 next i n bytes = ap (λ (l : List ℕ). take i bytes ++ take n l) (to_end i bytes) ∙ sym (take-add i n bytes)
 
--- a write behind others
+-- a write after others
 pub Appends-more : (a b c : Option (List ℕ)) (bytes : List ℕ) (i n : ℕ) → Appends a b (take i bytes) → Appends b c (take n (take (length bytes - i) (drop i bytes))) → Appends a c (take (i + n) bytes)
 Appends-more None b c bytes i n p q = tt
 Appends-more (Some x) None c bytes i n p q = absurd p

@@ -61,7 +61,7 @@ run_is l xs text new ran = lines_are xs (booted l) new text (booted_is l) ran
 
 -- ---- a text with no line that wanted memory
 
--- the text is the one that is due, and so is the machine behind it
+-- the text is the one that is due, and so is the machine after it
 abbrev pub AreDue : MachineValue → List Line → List ℕ → MachineValue → Type 0
 AreDue m xs text new = (text ≡ lines_text m xs) × (new ≡ machine_after_lines m xs)
 

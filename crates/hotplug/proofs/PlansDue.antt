@@ -1,4 +1,4 @@
--- The run of a plan's driver: the state behind it, and when it is the one that is due.
+-- The run of a plan's driver: the state after it, and when it is the one that is due.
 use Rattle.std.proofs.Common.{◌≡◌, ℕ, zero, suc, ◌+◌, ◌≤◌, Bool, true, false, ◌||◌, List, [], ◌∷◌, ◌++◌, length, codes, Option, Some, None, nat_le, refl, sym, ap, subst, ◌∙◌, arith, append_assoc, append-nil, le-leb}
 use Rattle.std.proofs.lemmas.List.{length_push}
 use Rattle.std.specs.Prelude.{◌-◌, unwrap_or, ⊤}
@@ -26,7 +26,7 @@ use Rattle.hp_text.specs.State.{newline}
 use Rattle.hotplug.proofs.EventsDue.{IsUpToDate}
 use Rattle.hotplug.proofs.Whole.{not_whole}
 
--- ---- the state behind a run
+-- ---- the state after a run
 
 -- one call, and calls one after another
 called_is : (m next : MachineValue) (cpu : ℕ) (event : Event) (r : Receipt) → IsCalled m cpu event r next → IsUpToDate next
@@ -148,7 +148,7 @@ end_is receipts None (Some fault) end ends = absurd ends
 end_is receipts (Some event) None end ends = absurd ends
 end_is receipts (Some event) (Some fault) end ends = ends
 
--- want of memory makes a text that isn't whole
+-- out of memory makes a text that isn't whole
 left_is_not_whole : (op : Option ℕ) (b : List ℕ) → IsWhole (plan_line (Left op OutOfMemory) ++ b) → ⊥
 left_is_not_whole op b whole =
     not_whole (plan_line (Left op OutOfMemory) ++ b) (codes "plan: left " ++ (operation_text op ++ codes " ")) b

@@ -1,4 +1,4 @@
--- The line of a seal: the state behind it, and when its text is the one that is due.
+-- The line of a seal: the state after it, and when its text is the one that is due.
 use Rattle.std.proofs.Common.{◌≡◌, ℕ, List, ◌++◌, refl, sym, subst, inl, inr}
 use Rattle.hp_units.specs.History.{value_of, net_of, run}
 use Rattle.hp_machine.specs.Machine.{MachineValue, sealed}

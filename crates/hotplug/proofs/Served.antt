@@ -138,7 +138,7 @@ unfolding serial_text
 whole_is input s text read e =
     ap (λ (q : Result ScenarioValue ScenarioFault). q >>= λ t. Ok (scenario_text t)) read ∙ ap Ok (sym e)
 
--- a run of the lines, and the state behind it
+-- a run of the lines, and the state after it
 text_of : (input : List ℕ) (s : ScenarioValue) (m : MachineValue) (lines text : List ℕ) → scenario_in input ≡ Ok s → WritesLines (booted s.layout) s.lines lines m → text ≡ lines ++ end_text s.names m → IsTextOf input text
 text_of input s m lines text read ran e = record {
   scenario = s;
@@ -150,7 +150,7 @@ text_of input s m lines text read ran e = record {
   whole = λ whole. whole_is input s text read (due_is s m lines text (lines_due s.lines (booted s.layout) m lines (end_text s.names m) ran (subst IsWhole e whole)) e);
 }
 
--- from the parts of the program's run: the machine at its start, its lines, and the state's text behind them
+-- from the parts of the program's run: the machine at its start, its lines, and the state's text after them
 pub ran_text : (input : List ℕ) (s : ScenarioValue) (first m : MachineValue) (xs : List Line) (image : Pictured) (old out text : List ℕ) → scenario_in input ≡ Ok s → first ≡ booted s.layout → xs ≡ s.lines → old ≡ [] → GrowsBy old out (λ (lines : List ℕ). WritesLines first xs lines m) → image ≡ record { layout = m.layout; memory = m.state } → text ≡ out ++ state_text image.layout s.names image.memory → IsTextOf input text
 ran_text input s first m xs image old out text read start same none ran pictured e =
     let run : WritesLines (booted s.layout) s.lines ran.text m = subst (λ (k : MachineValue). WritesLines k s.lines ran.text m) start (subst (λ (l : List Line). WritesLines first l ran.text m) same ran.is) in

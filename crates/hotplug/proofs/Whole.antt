@@ -2,7 +2,7 @@
 use Rattle.std.proofs.Common.{◌≡◌, ℕ, List, ◌∷◌, ◌++◌, codes, sym, ap, ◌∙◌, append_assoc}
 use Rattle.hotplug.specs.Serial.{IsWhole}
 
--- what is behind the front of a whole text is whole
+-- what is after the front of a whole text is whole
 pub whole_back : (a b : List ℕ) → IsWhole (a ++ b) → IsWhole b
 unfolding IsWhole
 whole_back a b whole front rest e = whole (a ++ front) rest (ap (λ (l : List ℕ). a ++ l) e ∙ sym (append_assoc a front (codes "OutOfMemory" ++ 10 ∷ rest)))

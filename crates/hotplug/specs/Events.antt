@@ -7,7 +7,7 @@ use Rattle.hp_units.specs.History.{reply_of, value_of}
 use Rattle.hp_machine.specs.Machine.{MachineValue, is_full, last_serial}
 use Rattle.hp_text.specs.Answers.{reply_line, unrecorded_line}
 
--- the record that an event of a processor makes behind a machine's history
+-- the record that an event of a processor makes after a machine's history
 abbrev pub next_record : MachineValue → (cpu : ℕ) → Event → Record
 next_record m cpu event =
     record { serial = last_serial m + 1; cpu = cpu; event = event; reply = reply_of m.layout m.base m.before m.history cpu event }
@@ -16,7 +16,7 @@ next_record m cpu event =
 abbrev pub with_record : MachineValue → Record → MachineValue
 with_record m r = record m { history = m.history ++ r ∷ []; state = value_of m.layout m.base (m.history ++ r ∷ []) }
 
--- what an event writes, and the machine behind it
+-- what an event writes, and the machine after it
 unfoldable pub event_text : MachineValue → (cpu : ℕ) → Event → List ℕ
 event_text m cpu event = if is_full m then unrecorded_line HistoryFull else reply_line (next_record m cpu event).serial (next_record m cpu event).reply
 

@@ -27,7 +27,7 @@ WritesFile m path text = (text ≡ cat_text m path) ⊎ (text ≡ read_fault_lin
 
 -- ---- a text written
 
--- what is written for what is asked, and the machine behind it
+-- what is written for what is asked, and the machine after it
 abbrev pub request_text : MachineValue → (cpu : ℕ) → Result Request ControlFault → List ℕ
 request_text m cpu (Ok (request.Event event)) = event_text m cpu event
 request_text m cpu (Ok (request.Plan plan)) = plan_text m cpu control_turns plan

@@ -16,7 +16,7 @@ use Rattle.hp_text.specs.Plans.{plan_line}
 
 -- ---- a run where no memory is wanting
 
--- what a run gives: its receipts, the machine behind them, and the fault of its last call
+-- what a run gives: its receipts, the machine after them, and the fault of its last call
 pub record PlanRun : Type 0 where
   pub receipts : List Receipt
   pub machine : MachineValue

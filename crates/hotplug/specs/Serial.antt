@@ -17,7 +17,7 @@ use Rattle.hp_text.specs.State.{state_text}
 
 -- ---- one line
 
--- what a line's work writes, and the machine behind it
+-- what a line's work writes, and the machine after it
 abbrev pub work_text : MachineValue → (cpu : ℕ) → Work → List ℕ
 work_text m cpu (work.Event event) = event_text m cpu event
 work_text m cpu (work.Plan plan turns) = plan_text m cpu turns plan
@@ -40,7 +40,7 @@ machine_after m line = machine_after_work m line.cpu line.work
 
 -- ---- the whole text
 
--- what the lines write, one after another, and the machine behind them
+-- what the lines write, one after another, and the machine after them
 unfoldable pub lines_text : MachineValue → List Line → List ℕ
 lines_text m [] = []
 lines_text m (line ∷ lines) = line_text m line ++ lines_text (machine_after m line) lines
@@ -79,7 +79,7 @@ WritesWork m cpu work.Seal text new = WritesSeal m text new
 abbrev pub WritesLine : MachineValue → Line → (text : List ℕ) → (new : MachineValue) → Type 0
 WritesLine m line text new = WritesWork m line.cpu line.work text new
 
--- the lines were run one after another: each wrote its text and led to the machine behind it
+-- the lines were run one after another: each wrote its text and led to the machine after it
 unfoldable pub WritesLines : MachineValue → List Line → (text : List ℕ) → (new : MachineValue) → Type 0
 WritesLines m [] text new = (text ≡ []) × (new ≡ m)
 WritesLines m (line ∷ lines) text new =

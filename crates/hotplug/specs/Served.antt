@@ -9,7 +9,7 @@ use Rattle.hotplug.specs.Faults.{limit}
 use Rattle.hotplug.specs.Runs.{IsAuditTextOf, IsRunTextOf}
 use Rattle.hotplug.specs.Serial.{serial_text, end_text, WritesLines, IsWhole}
 
--- the bytes are a scenario, and the text is that of a run of its lines with the state behind them; where no line of it ends in
+-- the bytes are a scenario, and the text is that of a run of its lines with the state after them; where no line of it ends in
 -- `OutOfMemory`, it is the scenario's text
 pub record IsTextOf (input text : List ℕ) : Type 0 where
   pub scenario : ScenarioValue

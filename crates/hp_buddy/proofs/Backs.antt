@@ -21,7 +21,7 @@ use Rattle.hp_buddy.proofs.Notes.{Seen, IsUnlinked, unlink-areas}
 
 -- ---- a frame that was put on a list leaves it
 
--- a frame behind another is on the list
+-- a frame after another is on the list
 pub behind-on : (after : Option ℕ) (f : ℕ) (xs : List ℕ) → is_behind after f xs ≡ true → is_on f xs ≡ true
 behind-on after f [] h = cc
 behind-on None f (x ∷ xs) h = or_left (x == f) (is_on f xs) h
@@ -56,12 +56,12 @@ link-undone v l links new kinds delta list class order f after before s is list_
 
 -- ---- a frame that left its list comes back
 
--- what a test of a frame behind says
+-- what a test of a frame after says
 pub after-true : (after : Option ℕ) (xs : List ℕ) → option_map_or (λ first. is_on first xs) after true ≡ true → (a : ℕ) → after ≡ Some a → is_on a xs ≡ true
 after-true None xs h a e = cc
 after-true (Some b) xs h a e = let same : b ≡ a = cc in subst (λ (n : ℕ). is_on n xs ≡ true) same h
 
--- what it is put behind is on the list
+-- what it is put after is on the list
 pub unlinked-after : (v : BuddyValue) (l : LayoutParts) (links : LinkedLists) (kinds : List Kind) (delta : Delta) (list : ListId) (class : Class) (order f n : ℕ) (after : Option ℕ)
     → Seen v l links kinds → delta ≡ Unlink list f after → list ≡ Area class order → FitsAreas delta v.areas → n ≡ 5 * order + class_index class
     → ForSome after (λ a. IsOn links n a)

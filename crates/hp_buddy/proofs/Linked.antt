@@ -80,7 +80,7 @@ without-same f (x ∷ xs) off = step (x == f) f x xs refl off (without-same f xs
     step true f x xs e off rest = sym (is_on-none f xs off)
     step false f x xs e off rest = ap (λ (ys : List ℕ). x ∷ ys) (rest (rw e at off))
 
--- both say the same of a frame put behind another
+-- both say the same of a frame put after another
 pub put_behind-same : (after : Option ℕ) (f : ℕ) (xs : List ℕ) → put_behind after f xs ≡ with_behind after f xs
 put_behind-same None f xs = refl
 put_behind-same (Some after) f [] = refl
@@ -93,7 +93,7 @@ abbrev pub AreDistinct : List ℕ → Type 0
 AreDistinct [] = Unit {0}
 AreDistinct (x ∷ xs) = (is_on x xs ≡ false) × AreDistinct xs
 
--- a frame that stands last on a list, behind a first one
+-- a frame that stands last on a list, after a first one
 record IsLast (found : Option ℕ) (xs : List ℕ) : Type 0 where
   pub frame : ℕ
   pub is : found ≡ Some frame
@@ -106,7 +106,7 @@ last-is x (y ∷ ys) =
     let rest = last-is y ys in
     record { frame = rest.frame; is = rest.is; on = on_tail rest.frame x (y ∷ ys) rest.on }
 
--- behind the last frame
+-- after the last frame
 behind-last_from : (x f : ℕ) (xs : List ℕ) → AreDistinct (x ∷ xs) → is_behind (last_from (Some x) xs) f (x ∷ (xs ++ f ∷ [])) ≡ true
 behind-last_from x f [] d = cond-true (x == x) (f == f) _ (eq-eqb x x refl) ∙ eq-eqb f f refl
 behind-last_from x f (y ∷ ys) d =
@@ -117,7 +117,7 @@ behind-last_from x f (y ∷ ys) d =
     ∙ ap (λ (o : Option ℕ). is_behind o f (y ∷ (ys ++ f ∷ []))) (sym rest.is)
     ∙ behind-last_from y f ys d.1
 
--- a frame at the back stands behind the last one
+-- a frame at the back stands after the last one
 pub behind-last : (f : ℕ) (xs : List ℕ) → AreDistinct xs → is_behind (last xs) f (xs ++ f ∷ []) ≡ true
 behind-last f [] d = eq-eqb f f refl
 behind-last f (x ∷ xs) d = behind-last_from x f xs d

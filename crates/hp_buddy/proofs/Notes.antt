@@ -66,7 +66,7 @@ unlink-areas l links new kinds class order f after h low on u =
     let off : is_on f (without_first f xs) ≡ false = subst (λ (ys : List ℕ). is_on f ys ≡ false) here (off_list new f n u.free) in
     ap (λ (k : LinkedLists). areas_of k kinds) is ∙ ap (λ (ys : List ℕ). areas_of (with_list links n ys) kinds) (without-same f xs off)
 
--- a test of a frame behind
+-- a test of a frame after
 pub after-on : (after : Option ℕ) (xs : List ℕ) → ((b : ℕ) → after ≡ Some b → is_on b xs ≡ true) → option_map_or (λ first. is_on first xs) after true ≡ true
 after-on None xs h = refl
 after-on (Some b) xs h = h b refl

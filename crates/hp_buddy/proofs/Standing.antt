@@ -116,7 +116,7 @@ seen-free v l links kinds f k n class s on same is =
     (subst (λ (c : Class). is_on f (get_or links.lists (5 * (n / 5) + class_index c) []) ≡ true) (sym is)
     (subst (λ (m : ℕ). is_on f (get_or links.lists m []) ≡ true) (sym (number_back n ∙ same)) (contains_on f (get_or links.lists k []) on)))
 
--- the frame behind a frame on a list
+-- the frame after a frame on a list
 pub seen-next : (v : BuddyValue) (l : LayoutParts) (links : LinkedLists) (kinds : List Kind) (f k : ℕ) (next : Option ℕ) → Seen v l links kinds → IsOn links k f → IsApart links
     → next ≡ successor f (list_at links k) → next ≡ next_of v.areas f
 seen-next v l links kinds f k next s on apart is =

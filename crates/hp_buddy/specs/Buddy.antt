@@ -49,7 +49,7 @@ place_from frame number (frames ∷ lists) =
 abbrev pub place_of : FreeAreas → ℕ → Option (Class × ℕ)
 place_of a frame = place_from frame 0 a.lists
 
--- the frame behind a frame on the list that it is on
+-- the frame after a frame on the list that it is on
 abbrev pub next_from : ℕ → List (List ℕ) → Option ℕ
 next_from frame [] = None
 next_from frame (frames ∷ lists) = if is_on frame frames then successor frame frames else next_from frame lists

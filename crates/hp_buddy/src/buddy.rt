@@ -110,7 +110,7 @@ impl Buddy {
         self.links.front(list_number(class, order))
     }
 
-    /// The free block behind the one that starts at a frame of the layout, on its list.
+    /// The free block after the one that starts at a frame of the layout, on its list.
     pub fn next(&self, frame: Frame) -> Option<Frame>
         requires { frame < frame_count self.now.layout }
         ensures { result ≡ next_of self.now.areas frame }

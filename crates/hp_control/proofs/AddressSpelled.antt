@@ -11,7 +11,7 @@ use Rattle.std.proofs.lemmas.Slice.Eq.{starts_is}
 use Rattle.hp_control.specs.Words.{address_of, hex_after, hex_number}
 use Rattle.hp_units.proofs.NumbersSpelled.{chosen}
 
--- hexadecimal digits behind a number make the number that they write behind it
+-- hexadecimal digits after a number make the number that they write after it
 digits_make : (number : ℕ) (bytes : List ℕ) → AllDigits 16 bytes → hex_after number bytes ≡ Some (digits_value_after 16 number bytes)
 digits_make number [] h = refl
 digits_make number (byte ∷ bytes) h =

@@ -35,7 +35,7 @@ digits_no_slash (byte ∷ bytes) h = (digit_no_slash byte (digit_from_value byte
 directory_no_slash : (block : ℕ) → block < 2 ^ 64 → AllByRecursion (λ byte. eqb byte 47 ≡ false) (codes "memory" ++ decimal block)
 directory_no_slash block small = (refl, (refl, (refl, (refl, (refl, (refl, digits_no_slash (decimal block) (decimal_is_IsNumeral block small).0.1))))))
 
--- the first slash stands behind a text that has none
+-- the first slash stands after a text that has none
 slash_at : (front rest : List ℕ) → AllByRecursion (λ byte. eqb byte 47 ≡ false) front → position_or_len (λ byte. eqb byte 47) (front ++ 47 ∷ rest) ≡ length front
 slash_at [] rest h = refl
 slash_at (byte ∷ front) rest h = rw h.0 (omega (arith, slash_at front rest h.1))
@@ -58,12 +58,12 @@ abbrev before : Option (List ℕ × List ℕ) → List ℕ
 before None = []
 before (Some halves) = halves.0
 
--- the text behind the slash
+-- the text after the slash
 abbrev behind : Option (List ℕ × List ℕ) → List ℕ
 behind None = []
 behind (Some halves) = halves.1
 
--- a list is what stands before a place, the element there and what stands behind it
+-- a list is what stands before a place, the element there and what stands after it
 whole : (path : List ℕ) (n byte : ℕ) → n < length path → get_or path n 0 ≡ byte → path ≡ take n path ++ byte ∷ drop (n + 1) path
 whole path n byte within there =
     sym (take-append-drop n path) ∙ ap (λ (bytes : List ℕ). take n path ++ bytes) (drop-cons path n 0 within)

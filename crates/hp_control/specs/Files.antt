@@ -6,7 +6,7 @@ use Rattle.std.specs.Str.{bytes_eq}
 use Rattle.hp_control.specs.Words.{block_named}
 use Rattle.hp_control.specs.Names.{File, BlockSizeBytes, Buddyinfo, Probe, AutoOnlineBlocks, OfBlock, BlockFile, StateFile, OnlineFile, ZonesFile, RemovableFile}
 
--- the text before the first slash, and the text behind it
+-- the text before the first slash, and the text after it
 unfoldable pub halves_of : List ℕ → Option (List ℕ × List ℕ)
 halves_of path =
     if nat_lt (position_or_len (λ b. b == 47) path) (length path) then Some (before_first (λ b. b == 47) path, after_first (λ b. b == 47) path)

@@ -13,7 +13,7 @@ abbrev pub ◌>>=◌ : {A B : Type 0} → Result A ControlFault → (A → Resul
 (Ok x) >>= f = f x
 (Err fault) >>= f = Err fault
 
--- want of memory may come in place of any answer, and each other fault only where it is the answer
+-- out of memory may come in place of any answer, and each other fault only where it is the answer
 abbrev pub Fails : {A : Type 0} → ControlFault → Result A ControlFault → Type 0
 Fails OutOfMemory answer = Unit {0}
 Fails fault answer = answer ≡ Err fault

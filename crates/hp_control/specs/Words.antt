@@ -13,7 +13,7 @@ block_named name = if starts_with nat_eq name (codes "memory") then number_of 32
 abbrev pub hex_digit : ℕ → Option ℕ
 hex_digit byte = if nat_lt (digit_value byte) 16 then Some (digit_value byte) else None
 
--- the number that hexadecimal digits write behind those of another number
+-- the number that hexadecimal digits write after those of another number
 abbrev pub hex_after : ℕ → List ℕ → Option ℕ
 hex_after number [] = Some number
 hex_after number (byte ∷ bytes) = option_and_then (λ digit. hex_after (number * 16 + digit) bytes) (hex_digit byte)

@@ -23,7 +23,7 @@ abbrev pub zone_count : FreeAreas → Zone → ℕ → ℕ
 zone_count a NormalZone order = free_count a Nu order + free_count a Nm order + free_count a IsoN order
 zone_count a MovableZone order = free_count a Mm order + free_count a IsoM order
 
--- a count as it stands behind the one before it
+-- a count as it stands after the one before it
 unfoldable pub count_text : ℕ → List ℕ
 count_text count = codes " " ++ aligned 6 (decimal count)
 

@@ -6,7 +6,7 @@ use std::alloc::AllocError;
 use std::error::Error;
 use std::fmt;
 
-/// The first fault of reading or writing a control file. Want of memory may come in place of any answer.
+/// The first fault of reading or writing a control file. Out of memory may come in place of any answer.
 #[derive(Clone, Copy, Debug, PartialEq, Eq, Drop)]
 pub enum ControlFault {
     /// There is no such file: the path is none, or the memory block is not in the layout or is absent.

@@ -50,7 +50,7 @@ pub(crate) fn file_at(path: &str) -> Option<File>
     }
 }
 
-/// The text before the first slash, and the text behind it.
+/// The text before the first slash, and the text after it.
 fn halves(path: &str) -> Option<(&str, &str)>
     ensures { option_map (λ p. (p.0.now, p.1.now)) result ≡ means.halves_of path.now }
 {

@@ -47,7 +47,7 @@ fn write_counts(text: &mut String, machine: &Machine, zone: Zone) -> Result<(), 
     Ok(())
 }
 
-/// A count as it stands behind the one before it.
+/// A count as it stands after the one before it.
 #[tactic(auto, unfolding(crate::specs::Zones::count_text))]
 fn write_count(text: &mut String, count: u64) -> Result<(), AllocError>
     ensures { OnOk result (string_bytes text.new ≡ string_bytes text.old ++ means.count_text count) }

@@ -47,7 +47,7 @@ link-undone v l links new delta list cpu pool f after before given s is list_is 
 
 -- ---- a frame that left its list comes back
 
--- what it is put behind is on the list
+-- what it is put after is on the list
 pub unlinked-after : (v : CpusValue) (l : LayoutParts) (links : LinkedLists) (delta : Delta) (list : ListId) (cpu : ℕ) (pool : Pool) (f n : ℕ) (after : Option ℕ) (given : FreeAreas)
     → Seen v l links → delta ≡ Unlink list f after → list ≡ CpuList cpu pool → FitsCached delta (frames_of given v) → n ≡ 3 * cpu + pool_index pool
     → ForSome after (λ a. IsOn links n a)

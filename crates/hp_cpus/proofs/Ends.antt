@@ -94,7 +94,7 @@ left : (v new : CpusValue) (cpu : ℕ) (pool : Pool) (f : ℕ) → HasLists v �
     → list_of new cpu pool ≡ without f (list_of v cpu pool)
 left v new cpu pool f size low is = ap (λ (w : CpusValue). list_of w cpu pool) is ∙ list_of-same v cpu pool (without f (list_of v cpu pool)) low size
 
--- the others stand behind the first one
+-- the others stand after the first one
 pub first-left : (v new : CpusValue) (cpu : ℕ) (pool : Pool) (f : ℕ) → HasLists v → cpu < v.layout.cpus → ((o : ℕ) → places_in v o ≤ 1) → IsFirst f (list_of v cpu pool)
     → new ≡ with_list_of v cpu pool (without f (list_of v cpu pool)) → list_of v cpu pool ≡ f ∷ list_of new cpu pool
 first-left v new cpu pool f size low once end is =

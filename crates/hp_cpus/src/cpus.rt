@@ -73,7 +73,7 @@ impl Cpus {
         self.links.front(list_number(cpu, pool))
     }
 
-    /// The frame behind a frame of the layout, on the processor's list that it is on.
+    /// The frame after a frame of the layout, on the processor's list that it is on.
     pub fn next(&self, frame: Frame) -> Option<Frame>
         requires { frame < frame_count self.now.layout }
         ensures { result ≡ next_from frame self.now.cached }

@@ -86,7 +86,7 @@ partly-off f n rest frames wanted now low partly off = ap (λ (b : Bool). b && t
 
 -- ---- the free blocks
 
--- the blocks behind one on a list are fewer
+-- the blocks after one on a list are fewer
 later-places : (f order at : ℕ) (xs : List ℕ) → at < length xs → get_or xs at 0 ≡ f → 1 + list_places f order (drop (suc at) xs) ≤ list_places f order xs
 later-places f order at [] low is = absurd (omega arith)
 later-places f order zero (x ∷ xs) low is =
@@ -102,7 +102,7 @@ off_areas a f n size none j = elim (cases_lt j (length a.lists)) [
   | inr past ↦ ap (λ (xs : List ℕ). is_on f xs) (get_or_past a.lists j [] past)
 ]
 
--- a free block may come in front of those behind it
+-- a free block may come in front of those after it
 pub fits-free : (l : LayoutParts) (s : Memory) (class : Class) (order number at frame : ℕ) (lists : List (List ℕ)) (frames : List ℕ) → IsWellPlaced l s → order ≤ l.order
     → number < length (free_list s.free.areas class order) → at ≡ length (free_list s.free.areas class order) - 1 - number → frame ≡ get_or (free_list s.free.areas class order) at 0
     → ArePartly s.free.areas.lists lists
@@ -136,7 +136,7 @@ off_cached lists f none j = elim (cases_lt j (length lists)) [
   | inr past ↦ ap (λ (xs : List ℕ). is_on f xs) (get_or_past lists j [] past)
 ]
 
--- a frame may come in front of those behind it
+-- a frame may come in front of those after it
 pub fits-cached : (l : LayoutParts) (s : Memory) (cpu : ℕ) (pool : Pool) (number at frame : ℕ) (lists : List (List ℕ)) (frames : List ℕ) → IsWellPlaced l s → cpu < l.cpus
     → number < length (cached_list s.free cpu pool) → at ≡ length (cached_list s.free cpu pool) - 1 - number → frame ≡ get_or (cached_list s.free cpu pool) at 0 → ArePartly s.free.cached lists
     → may_go_behind (set lists (3 * cpu + pool_index pool) (drop (length (cached_list s.free cpu pool) - number) (cached_list s.free cpu pool))) None frame frames ≡ true

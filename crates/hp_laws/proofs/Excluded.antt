@@ -93,7 +93,7 @@ stale_excluded h = let flag : true ≡ false = h.isolated 2 in cc
 
 -- ---- histories
 
--- the record that an event makes behind earlier ones, if it is answered as told
+-- the record that an event makes after earlier ones, if it is answered as told
 abbrev record_of : List Record → (cpu : ℕ) → Event → Reply → Record
 record_of earlier cpu event reply = record { serial = length earlier + 1; cpu = cpu; event = event; reply = reply }
 

@@ -26,7 +26,7 @@ pub run-push : (l : LayoutParts) (s : Memory) (a : List Record) (r : Record) →
 unfolding run
 run-push l s a r = run-append l s a (r ∷ [])
 
--- a record that may stand behind a legal history makes a longer one
+-- a record that may stand after a legal history makes a longer one
 pub legal_push : (l : LayoutParts) (base : Memory) (before : ℕ) (h : List Record) (r : Record) → IsLegal l base before h → Follows l base before h r → IsLegal l base before (h ++ r ∷ [])
 legal_push l base before h r legal next n x e =
     elim (get_push_cases h r x n e) [

@@ -206,7 +206,7 @@ ready_done l s serial cpu op layout low r moved =
 
 -- ---- in a history
 
--- the place behind the first of two lists
+-- the place after the first of two lists
 get_middle : (xs ys : List Record) (y : Record) → slice_get (xs ++ y ∷ ys) (length xs) ≡ Some y
 get_middle [] ys y = refl
 get_middle (x ∷ xs) ys y = get_middle xs ys y

@@ -24,7 +24,7 @@ use Rattle.hp_laws.proofs.OperationPhases.{AreBegun, IsEndOf, HoldsOrIsOver, IsB
 
 -- ---- the states around a Begin of the net
 
--- the state just before the Begin at a place, and the one just behind it
+-- the state just before the Begin at a place, and the one just after it
 abbrev old_at : LayoutParts → Memory → List Record → ℕ → Memory
 old_at l base h place = run l base (take place (net_of h))
 
@@ -75,7 +75,7 @@ is_begin l base before h place b plan legal at =
           ∙ ap (run l base) (net-push (take m h) b ∙ begin_reply l base before (take m h) b plan (legal m b stands) at.opens good ∙ ap (λ (n : List Record). n ++ b ∷ []) (sym comes) ∙ sym (take_next (net_of h) place b at.here));
     }
 
--- the state behind all steps, from the one behind the Begin
+-- the state after all steps, from the one after the Begin
 rest_of : (l : LayoutParts) (base : Memory) (h : List Record) (place : ℕ) → value_of l base h ≡ run l (new_at l base h place) (drop (suc place) (net_of h))
 unfolding value_of
 rest_of l base h place =
@@ -115,7 +115,7 @@ held l base before h place b plan layout p legal at stays =
     (run-held l (new_at l base h place) b.serial (old_at l base h place) plan (drop (suc place) (net_of h)) layout (run-placed l base (take (suc place) (net_of h)) layout p) stays
     (new_begun l base before h place b plan layout p legal at)))
 
--- the operation holds its rows or is over, behind all steps
+-- the operation holds its rows or is over, after all steps
 phase : (l : LayoutParts) (base : Memory) (before : ℕ) (h : List Record) (place : ℕ) (b : Record) (plan : List Item) → IsLayout l → IsWellPlaced l base → IsLegal l base before h → BeginsAt (net_of h) place b plan
     → HoldsOrIsOver b.serial (old_at l base h place) (value_of l base h) plan
 phase l base before h place b plan layout p legal at =

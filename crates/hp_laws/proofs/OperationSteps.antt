@@ -68,7 +68,7 @@ rows_trans op serial event old mid new h k = record {
 without_claim : (row : Row) → is_claimed row ≡ false → row.claim ≡ None
 without_claim row e = not_there row.claim e
 
--- one row is set, which has no claim before and behind
+-- one row is set, which has no claim before and after
 set_free : (op serial : ℕ) (event : Event) (rows : List Row) (at block : ℕ) (row : Row) → block < length rows → (get_or rows at offline_row).claim ≡ None → row.claim ≡ None
     → IsRowStep op serial event (get_or rows block offline_row) (get_or (set rows at row) block offline_row)
 set_free op serial event rows at block row short was is = elim (cases_eq block at) [

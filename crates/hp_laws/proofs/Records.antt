@@ -17,7 +17,7 @@ use Rattle.hp_laws.proofs.Earlier.{numbered_net}
 use Rattle.hp_laws.proofs.NetContents.{added_good}
 use Rattle.hp_laws.proofs.Steps.{steps}
 
--- the record has the step's reply, and the state behind it is the one after the step
+-- the record has the step's reply, and the state after it is the one after the step
 pub record IsStep (l : LayoutParts) (base : Memory) (h : List Record) (r : Record) : Type 0 where
   pub reply : r.reply ≡ (step l (value_of l base h) r.serial r.cpu r.event).reply
   pub memory : value_of l base (h ++ r ∷ []) ≡ (step l (value_of l base h) r.serial r.cpu r.event).memory
@@ -27,7 +27,7 @@ pub with_good : (n : List Record) (r : Record) → is_refused r.reply ≡ false 
 unfolding net_with
 with_good n r good = ap (λ (b : Bool). cond b n (net_with_effect n r (effect_of r.event))) good
 
--- the state behind one record more, by the net with it
+-- the state after one record more, by the net with it
 value-push : (l : LayoutParts) (base : Memory) (h : List Record) (r : Record) → value_of l base (h ++ r ∷ []) ≡ run l base (net_with (net_of h) r)
 unfolding value_of
 value-push l base h r = ap (run l base) (net-push h r)

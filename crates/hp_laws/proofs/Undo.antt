@@ -74,7 +74,7 @@ split_place before last s (r ∷ n) ok =
 pub steps_until_is_take : (before last s : ℕ) (n : List Record) → Numbered before last n → (k : ℕ) × (k ≤ length n) × (steps_until s n ≡ take k n)
 steps_until_is_take before last s n ok = let p = split_place before last s n ok in (p.0, p.1, steps_until_at s n p.0 p.1 p.2 p.3)
 
--- the operation begins at the place, and nothing but its own steps stands behind it
+-- the operation begins at the place, and nothing but its own steps stands after it
 pub record IsSole (op : ℕ) (ts : List Tag) (k : ℕ) : Type 0 where
   pub tag : Tag
   pub here : slice_get ts k ≡ Some tag

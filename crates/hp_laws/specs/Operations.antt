@@ -25,11 +25,11 @@ ends op (Commit other) = other == op
 ends op (Cancel other) = other == op
 ends op event = false
 
--- no step behind a place ends the operation
+-- no step after a place ends the operation
 abbrev pub IsOpenBehind : (op place : ℕ) → List Record → Type 0
 IsOpenBehind op place steps = AllByRecursion (λ r. ends op r.event ≡ false) (drop (suc place) steps)
 
--- the states just before a record of a history, and just behind it
+-- the states just before a record of a history, and just after it
 abbrev pub state_before : LayoutParts → Memory → ℕ → List Record → Record → Memory
 state_before l base before h r = value_of l base (take (r.serial - before - 1) h)
 

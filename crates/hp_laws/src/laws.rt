@@ -24,7 +24,7 @@ pub fn restored_state()
         → (b : Record) × (plan : List Item) × (slice_get h (op - before - 1) ≡ Some b) × (b.serial ≡ op) × (b.event ≡ Begin plan) × (value_of l base (h ++ r ∷ []) ≡ value_of l base (take (op - before - 1) h)) }
 {}
 
-/// Each prefix of the steps is what some undo keeps, and its state was there just before the step that comes behind it
+/// Each prefix of the steps is what some undo keeps, and its state was there just before the step that comes after it
 /// (own rule).
 pub fn earlier_states()
     ensures prefix { (l : LayoutParts) (base : Memory) (before k : ℕ) (h : List Record) → IsLegal l base before h

@@ -120,7 +120,7 @@ back_from f y (x ∷ xs) m d =
           ∙ ap (λ ys. y ∷ ys) rest)
     ]
 
--- a frame put behind what stood before it
+-- a frame put after what stood before it
 pub back : (f : ℕ) (xs : List ℕ) → Member f xs → Distinct xs → with_behind (predecessor f xs) f (without f xs) ≡ xs
 back f [] m d = absurd m
 back f (x ∷ xs) m d =

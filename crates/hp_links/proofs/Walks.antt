@@ -13,7 +13,7 @@ pub record IsWalked (xs walked : List ℕ) (next : Option ℕ) : Type 0 where
   pub is : xs ≡ walked ++ rest
   pub next_is : next ≡ first rest
 
--- a frame that is next, and those behind it
+-- a frame that is next, and those after it
 record Meets (xs walked : List ℕ) (frame : ℕ) : Type 0 where
   pub behind : List ℕ
   pub is : xs ≡ walked ++ frame ∷ behind

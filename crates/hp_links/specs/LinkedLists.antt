@@ -57,12 +57,12 @@ predecessor_from before frame (x ∷ xs) = cond (x == frame) before (predecessor
 abbrev pub predecessor : ℕ → List ℕ → Option ℕ
 predecessor frame xs = predecessor_from None frame xs
 
--- the frame that stands behind a frame
+-- the frame that stands after a frame
 abbrev pub successor : ℕ → List ℕ → Option ℕ
 successor frame [] = None
 successor frame (x ∷ xs) = cond (x == frame) (first xs) (successor frame xs)
 
--- the frames with one more, behind `after`, or in front
+-- the frames with one more, after `after`, or in front
 abbrev pub with_behind : Option ℕ → ℕ → List ℕ → List ℕ
 with_behind None frame xs = frame ∷ xs
 with_behind (Some after) frame [] = []

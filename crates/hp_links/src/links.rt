@@ -73,7 +73,7 @@ impl Links {
         self.rings.list(place_of(frame))
     }
 
-    /// The frame behind a frame on its list.
+    /// The frame after a frame on its list.
     pub fn next(&self, frame: Frame) -> Option<Frame>
         requires { frame < self.now.frame_count }
         ensures on { (list : ℕ) → IsOn self.now list frame → result ≡ successor frame (list_at self.now list) }
@@ -112,7 +112,7 @@ impl Links {
         self.rings.insert(list, head, place_of(frame), after);
     }
 
-    /// Puts a frame that is on no list behind a list.
+    /// Puts a frame that is on no list after a list.
     pub fn push_back(&mut self, list: ListNumber, frame: Frame)
         requires list_in { list < length self.old.lists }
         requires frame_in { frame < self.old.frame_count }
@@ -144,7 +144,7 @@ impl Links {
         self.rings.frame_at(before)
     }
 
-    /// Puts a frame behind another one of a list.
+    /// Puts a frame after another one of a list.
     fn insert_behind(&mut self, list: ListNumber, frame: Frame, after: Frame)
         requires frame_in { frame < self.old.frame_count }
         requires free { IsUnlisted self.old frame }
@@ -156,7 +156,7 @@ impl Links {
         self.rings.insert(list, before, place_of(frame), next);
     }
 
-    /// Puts a frame behind `after`, or in front where that is `None`. It undoes an `unlink` that answered `after`.
+    /// Puts a frame after `after`, or in front where that is `None`. It undoes an `unlink` that answered `after`.
     pub fn relink_after(&mut self, list: ListNumber, frame: Frame, after: Option<Frame>)
         requires list_in { list < length self.old.lists }
         requires frame_in { frame < self.old.frame_count }

@@ -22,7 +22,7 @@ pub struct Node {
     pub list: Option<ListNumber>,
 }
 
-/// The frames' places, and behind them the heads.
+/// The frames' places, and after them the heads.
 #[derive(Drop)]
 pub struct Rings {
     pub frames: u32,

@@ -51,7 +51,7 @@ source-mapped m from holds = elim (cases_lt 0 (holders m.pages.pages.table from)
 pub source-inside : (m : Layers) (from : ℕ) → ArePlaced m → is_some (page_at (state_of m).pages from) ≡ true → from < frame_count m.layout
 source-inside m from p holds = in_frames m.layout (state_of m) from p.one.layout p.placed (let some = source-mapped m from holds in omega (arith, some))
 
--- behind the target's taking its frame may still come back
+-- after the target's taking its frame may still come back
 pub source-returns : (m : Layers) (wanted : Option Handed) (most : ℕ) (f : Frames) (was now : TapeValue) (from to : ℕ) → ArePlaced m → is_some (page_at (state_of m).pages from) ≡ true
     → IsTaken wanted 0 most m.frames f was now (Some to) → MayReturn f 0 from
 source-returns m wanted most f was now from to p holds t = record {

@@ -61,7 +61,7 @@ pub state_back : (l : LayoutParts) (s : Memory) → IsLayout l → IsWellPlaced 
 state_back l s layout p =
     ap (λ (contents : List (List (Option (List ℕ)))). record s { pages = record { table = s.pages.table; contents = contents } }) (contents_back l s layout p)
 
--- ---- the layers behind a step
+-- ---- the layers after a step
 
 -- layers that keep the frame view of a well placed state
 pub are-placed : (m new : Layers) (s : Memory) → AreLedTo m s new → IsWellPlaced m.layout s → (ArePlaced new) × (state_of new ≡ s)
@@ -108,7 +108,7 @@ pub kept_placed : (m new : Layers) (event : Event) (serial cpu : ℕ) (before no
 kept_placed m new event serial cpu before now (Ok reply) p a same = (kept m new event serial cpu before now reply p a).placed
 kept_placed m new event serial cpu before now (Err e) p a same = subst ArePlaced (sym same) p
 
--- ---- the layers behind an undo
+-- ---- the layers after an undo
 
 pub led_back : (m new : Layers) (deltas : List Delta) (s : Memory) → ArePlaced m → AreOfOneLayout new → new.layout ≡ m.layout → view_of new ≡ undo_all undo deltas (view_of m)
     → LeadsBack m.layout deltas (state_of m) s → (ArePlaced new) × (state_of new ≡ s)

@@ -11,7 +11,7 @@ use crate::port::Port;
 use hp_units::{Cpu, Event, OpEnd, Plan, Refusal, Reply, Serial};
 use std::alloc::Global;
 
-/// Carries out a plan through a port, with at most `turns` migrations (Linux, memory hotplug: offlining; own rule). Behind a
+/// Carries out a plan through a port, with at most `turns` migrations (Linux, memory hotplug: offlining; own rule). After a
 /// Begin it drains each processor's lists, then migrates page after page; where no page is left to move it commits. Where no frame
 /// can be had, or the commit finds a frame in use, it drains again. When its turns are used up it cancels.
 ///

@@ -20,7 +20,7 @@ text_at : (xs : List (Bor (List ℕ))) (i : ℕ) (d : Bor (List ℕ)) → i < le
 text_at xs i d lt =
     drop-map _ i xs ∙ ap bytes_of (drop-cons xs i d lt) ∙ ap (λ (r : List (List ℕ)). (get_or xs i d).now ∷ r) (sym (drop-map _ (suc i) xs)) ∙ ap (λ (n : ℕ). (get_or xs i d).now ∷ drop n (bytes_of xs)) (sym (add-one i))
 
--- a text that is a line: what is left goes on behind it
+-- a text that is a line: what is left goes on after it
 pub line_goes_on : (xs : List (Bor (List ℕ))) (i : ℕ) (d : Bor (List ℕ)) (script : Script) (o : Option Line) (line : Line) (names : List (List ℕ)) (lines : List Line) (total : Result Script ScenarioFault) → i < length xs
     → option_map (with_names names) o ≡ line_in script.names (get_or xs i d).now → o ≡ Some line → lines ≡ script.lines ++ line ∷ []
     → lines_from (i + 1) script (drop i (bytes_of xs)) ≡ total → lines_from ((i + 1) + 1) (record { names = names; lines = lines }) (drop (i + 1) (bytes_of xs)) ≡ total

@@ -12,7 +12,7 @@ abbrev pub or_fault : {A : Type 0} → ScenarioFault → Option A → Result A S
 or_fault fault None = Err fault
 or_fault fault (Some x) = Ok x
 
--- want of memory may come in place of any answer
+-- out of memory may come in place of any answer
 abbrev pub Fails : {A : Type 0} → ScenarioFault → Result A ScenarioFault → Type 0
 Fails OutOfMemory read = Unit {0}
 Fails fault read = read ≡ Err fault

@@ -71,7 +71,7 @@ abbrev pub text_of : List ℕ → Option (List ℕ)
 text_of [] = None
 text_of (b ∷ bs) = Some (b ∷ bs)
 
--- ---- each verb, by the words behind it
+-- ---- each verb, by the words after it
 
 unfoldable pub kalloc_of : List (List ℕ) → Option Request
 kalloc_of args = option_map (λ n. event (KernelAlloc n)) (only_number 32 args)
@@ -169,7 +169,7 @@ seal_of _ = None
 
 -- ---- a line
 
--- the event that a verb and the words behind it ask for, where it has no list
+-- the event that a verb and the words after it ask for, where it has no list
 unfoldable pub event_of : List ℕ → List (List ℕ) → Option Request
 event_of verb args =
     if bytes_eq verb (codes "kalloc") then kalloc_of args
@@ -188,7 +188,7 @@ event_of verb args =
     else (if bytes_eq verb (codes "remove") then remove_of args
     else None)))))))))))))
 
--- what the words behind the processor ask for
+-- what the words after the processor ask for
 unfoldable pub request_of : List (List ℕ) → Option Request
 request_of [] = None
 request_of (verb ∷ args) =

@@ -6,7 +6,7 @@ use hp_units::LayoutFault;
 use std::alloc::{AllocError, AllocFailed};
 use thiserror::Error;
 
-/// The first fault of a scenario, in this order. Want of memory may come in place of any.
+/// The first fault of a scenario, in this order. Out of memory may come in place of any.
 #[derive(Clone, Copy, Debug, PartialEq, Eq, Error)]
 pub enum ScenarioFault {
     /// The text is no JSON.
@@ -24,7 +24,7 @@ pub enum ScenarioFault {
     /// A line that no worker may run: it reads a control file, or its processor is not in the layout; lines are counted from 1.
     #[error("line {line} not for run")]
     NotForRun { line: u64 },
-    /// Want of memory.
+    /// Out of memory.
     #[error("out of memory")]
     OutOfMemory,
 }

@@ -71,7 +71,7 @@ fn words_say<'a>(alloc: Global, words: &[&'a str]) -> Result<Option<Said<'a>>, A
     Ok(Some(Said { cpu, request }))
 }
 
-/// What the words behind the processor ask for.
+/// What the words after the processor ask for.
 #[tactic(auto, unfolding(crate::specs::Lines::request_of))]
 fn request_from<'a>(alloc: Global, words: &[&'a str]) -> Result<Option<Request<'a>>, AllocError>
     ensures { IfOk result (λ request. option_map request_seen request ≡ says.request_of (map (λ w. w.now) words.now)) }

@@ -1,4 +1,4 @@
-//! The verbs of a line: each makes a request of the words behind it.
+//! The verbs of a line: each makes a request of the words after it.
 ghost use Rattle.std.specs.Prelude.{◌≡◌, map, IfOk, option_map};
 ghost use Rattle.hp_scenario.specs.Lines as says;
 ghost use Rattle.hp_scenario.specs.Seen.{request_seen};
@@ -12,7 +12,7 @@ use hp_units::{
 };
 use std::alloc::{AllocError, Global};
 
-/// The event that a verb and the words behind it ask for, where it has no list.
+/// The event that a verb and the words after it ask for, where it has no list.
 #[tactic(auto, unfolding(crate::specs::Lines::event_of))]
 pub(crate) fn event_from<'a>(verb: &str, args: &[&'a str]) -> Option<Request<'a>>
     ensures { option_map request_seen result ≡ says.event_of verb.now (map (λ w. w.now) args.now) }

@@ -12,7 +12,7 @@ pub undo_all-append : {S : Type 0} (one : Delta → S → S) (ds es : List Delta
 undo_all-append one [] es v = refl
 undo_all-append one (d ∷ ds) es v = ap (one d) (undo_all-append one ds es v)
 
--- deltas of which each fits, behind others of which each fits
+-- deltas of which each fits, after others of which each fits
 pub all_fit-append : {S : Type 0} (Fit : Delta → S → Type 0) (one : Delta → S → S) (ds es : List Delta) (v : S) → AllFit Fit one es v → AllFit Fit one ds (undo_all one es v)
     → AllFit Fit one (ds ++ es) v
 all_fit-append Fit one [] es v later earlier = later

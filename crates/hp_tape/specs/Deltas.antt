@@ -43,7 +43,7 @@ frame_view_of l s = record { free = s.free; pages = page_frames_of l s.pages; ke
 
 -- ---- the opposite of a delta, on each part of the state (own rule)
 
--- a list with a frame put behind another, or at the front
+-- a list with a frame put after another, or at the front
 abbrev pub put_behind : Option ℕ → ℕ → List ℕ → List ℕ
 put_behind None frame frames = frame ∷ frames
 put_behind (Some after) frame [] = []
@@ -102,13 +102,13 @@ back deltas v = undo_all undo deltas v
 
 -- ---- a delta fits a state: the state is as the delta left it (own rule)
 
--- a frame stands behind another on a list, or at its front
+-- a frame stands after another on a list, or at its front
 abbrev pub is_behind : Option ℕ → ℕ → List ℕ → Bool
 is_behind after frame [] = false
 is_behind None frame (first ∷ frames) = first == frame
 is_behind (Some after) frame (first ∷ frames) = if first == after then is_behind None frame frames else is_behind (Some after) frame frames
 
--- a frame is on none of the lists, and may be put behind another on one of them
+-- a frame is on none of the lists, and may be put after another on one of them
 abbrev pub may_go_behind : List (List ℕ) → Option ℕ → ℕ → List ℕ → Bool
 may_go_behind lists after frame frames = list_all (λ other. not (is_on frame other)) lists && option_map_or (λ first. is_on first frames) after true
 

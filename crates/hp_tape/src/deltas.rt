@@ -15,13 +15,13 @@ pub enum ListId {
 /// One small change of the state, with what its opposite needs (own rule). None holds a list of frames or a state.
 #[derive(Debug, Drop)]
 pub enum Delta {
-    /// A frame was put behind another, or at the front.
+    /// A frame was put after another, or at the front.
     Link {
         list: ListId,
         frame: Frame,
         after: Option<Frame>,
     },
-    /// A frame left its place behind another, or at the front.
+    /// A frame left its place after another, or at the front.
     Unlink {
         list: ListId,
         frame: Frame,

@@ -1,4 +1,4 @@
-//! The deltas of one step: what was done to the state, so that it can be undone.
+//! Deltas: what steps did to the state, so that it can be undone, and how many each step may note.
 #![tactic(auto)]
 
 mod deltas;

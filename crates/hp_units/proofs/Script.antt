@@ -20,7 +20,7 @@ use Rattle.hp_units.specs.Step.{kernel_takes, kernel_gives, map_step, unmap_step
 use Rattle.hp_units.specs.Marks.{sole_at}
 use Rattle.hp_units.specs.History.{steps_until, count_above, net_with, net_of, run, value_of, reply_of}
 
--- the serial behind the earlier records
+-- the serial after the earlier records
 abbrev pub next_serial : (before : ℕ) → List Record → ℕ
 next_serial before earlier = before + length earlier + 1
 
@@ -83,7 +83,7 @@ value_on l calls = let base = boot_memory l in value_of l base (played l base 0 
 abbrev pub replies_on : LayoutParts → List (ℕ × Event) → List Reply
 replies_on l calls = replies_of (played l (boot_memory l) 0 [] calls)
 
--- the same after a seal: the calls behind it start from the state that the first calls lead to
+-- the same after a seal: the calls after it start from the state that the first calls lead to
 abbrev pub sealed_history : LayoutParts → List (ℕ × Event) → List (ℕ × Event) → List Record
 sealed_history l first calls = played l (value_on l first) (length first) [] calls
 

@@ -74,7 +74,7 @@ no_processor : replies_on small ((2, UndoAfter 99) ∷ (2, Cancel 1) ∷ (2, Rea
 unfolding everything
 no_processor = refl
 
--- texts: words, and behind them numbers in decimal
+-- texts: words, and after them numbers in decimal
 refusal_is_written : (frame : ℕ) → reply_text (Refused (NotFree frame)) ≡ codes "refused NotFree " ++ decimal frame
 refusal_is_written frame = refl
 

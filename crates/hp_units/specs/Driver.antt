@@ -17,12 +17,12 @@ tried receipts = count_by (λ r. is_migrate r.event) receipts
 abbrev pub migrate_or_cancel : (turns : ℕ) (op : Serial) → List Receipt → Event
 migrate_or_cancel turns op receipts = if nat_lt (tried receipts) turns then Migrate op else Cancel op
 
--- the drain of a round for a processor, or behind the last one a turn
+-- the drain of a round for a processor, or after the last one a turn
 abbrev pub next_drain : (cpus turns : ℕ) (op : Serial) (cpu : Cpu) → List Receipt → Event
 next_drain cpus turns op cpu receipts = if nat_lt cpu cpus then DrainFor op cpu else migrate_or_cancel turns op receipts
 
--- the event behind one that was answered, if the run goes on: behind Opened, NoFrame and NotFree a round of drains,
--- behind a full round and Moved a turn, and behind NothingToMove a commit (own rule)
+-- the event after one that was answered, if the run goes on: after Opened, NoFrame and NotFree a round of drains,
+-- after a full round and Moved a turn, and after NothingToMove a commit (own rule)
 abbrev pub next_after : (cpus turns : ℕ) → List Receipt → Event → Reply → Option Event
 next_after cpus turns receipts (Begin plan) (Opened op) = Some (next_drain cpus turns op 0 receipts)
 next_after cpus turns receipts (DrainFor op cpu) Done = Some (next_drain cpus turns op (cpu + 1) receipts)
@@ -32,7 +32,7 @@ next_after cpus turns receipts (Migrate op) (Refused NothingToMove) = Some (Comm
 next_after cpus turns receipts (Commit op) (Refused (NotFree frame)) = Some (next_drain cpus turns op 0 receipts)
 next_after cpus turns receipts event reply = None
 
--- the event behind the receipts so far
+-- the event after the receipts so far
 abbrev pub next_event : (cpus turns : ℕ) → List Item → List Receipt → Option Event
 next_event cpus turns plan receipts =
     option_map_or (λ r. next_after cpus turns receipts r.event r.reply) (last_or None receipts) (Some (Begin plan))
@@ -67,7 +67,7 @@ abbrev pub operation_of : List Receipt → Option Serial
 operation_of [] = None
 operation_of (r ∷ rs) = opened_by r.reply
 
--- each receipt, behind the earlier ones, has the event that is next
+-- each receipt, after the earlier ones, has the event that is next
 abbrev pub AllNext : (cpus turns : ℕ) → List Item → List Receipt → List Receipt → Type 0
 AllNext cpus turns plan earlier [] = Unit {0}
 AllNext cpus turns plan earlier (r ∷ rs) =

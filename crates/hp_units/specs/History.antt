@@ -103,17 +103,17 @@ effect_reply l before last net s serial cpu event (Cancels op) =
     cancel_reply (step l s serial cpu event).reply (sole_at op (map tag_of net))
 effect_reply l before last net s serial cpu event Acts = (step l s serial cpu event).reply
 
--- the reply that an event must have behind the earlier records
+-- the reply that an event must have after the earlier records
 unfoldable pub reply_of : LayoutParts → Memory → (before : Serial) → List Record → (cpu : Cpu) → Event → Reply
 reply_of l base before earlier cpu event =
     effect_reply l before (before + length earlier) (net_of earlier) (value_of l base earlier) (before + length earlier + 1) cpu event (effect_of event)
 
--- a record may stand behind the earlier ones
+-- a record may stand after the earlier ones
 pub record Follows (l : LayoutParts) (base : Memory) (before : ℕ) (earlier : List Record) (r : Record) : Type 0 where
   pub serial : r.serial ≡ before + length earlier + 1
   pub reply : r.reply ≡ reply_of l base before earlier r.cpu r.event
 
--- the history of a machine since its base state: each record may stand behind those before it
+-- the history of a machine since its base state: each record may stand after those before it
 abbrev pub IsLegal : LayoutParts → Memory → ℕ → List Record → Type 0
 IsLegal l base before history =
     (at : ℕ) (r : Record) → slice_get history at ≡ Some r → Follows l base before (take at history) r

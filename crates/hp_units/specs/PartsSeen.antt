@@ -21,7 +21,7 @@ parts_seen p = record {
   boot = p.boot.now;
 }
 
--- a fault is the first of the parts; want of memory comes only where they have none
+-- a fault is the first of the parts; out of memory comes only where they have none
 abbrev pub IsLayoutFault : LayoutParts → LayoutFault → Type 0
 IsLayoutFault l OutOfMemory = layout_fault l ≡ None
 IsLayoutFault l fault = layout_fault l ≡ Some fault

@@ -116,7 +116,7 @@ impl Model for Layout {
 }
 
 impl Layout {
-    /// The layout of these parts, or the first fault of them. Want of memory comes last.
+    /// The layout of these parts, or the first fault of them. Out of memory comes last.
     pub fn new(alloc: Global, parts: &Parts<'_>) -> Result<Layout, LayoutFault>
         ensures ok { IfOk result (λ layout. layout ≡ parts_seen parts.now) }
         ensures within { OnOk result (layout_fault (parts_seen parts.now) ≡ None) }

@@ -70,7 +70,7 @@ pub enum Reply {
     Opened { op: Serial },
     /// The operation's steps are dropped: the state is that before its Begin.
     Restored,
-    /// The operation ended, and the steps behind its Begin stay.
+    /// The operation ended, and the steps after its Begin stay.
     Released,
     /// So many steps are undone.
     Undone { count: u64 },

@@ -26,7 +26,7 @@ pub struct Memory {
     pub buddy: Buddy,
 }
 
-/// The layout of sizes, with one processor; want of memory where there is none.
+/// The layout of sizes, with one processor; out of memory where there is none.
 fn layout_of(alloc: Global, sizes: &Sizes) -> Result<Layout, AllocError> {
     let boot = match sizes.boot.get(..sizes.blocks) {
         Some(boot) => boot,

@@ -72,7 +72,7 @@ impl Buddy {
     }
 }
 
-/// The delta of a free block that was put behind another one.
+/// The delta of a free block that was put after another one.
 fn link_delta(class: Class, order: Order, frame: Frame, after: Option<Frame>) -> Delta
     ensures { result ≡ Link (Area class order) frame after }
 {
@@ -83,7 +83,7 @@ fn link_delta(class: Class, order: Order, frame: Frame, after: Option<Frame>) ->
     }
 }
 
-/// The delta of a free block that left its place behind another one.
+/// The delta of a free block that left its place after another one.
 fn unlink_delta(class: Class, order: Order, frame: Frame, after: Option<Frame>) -> Delta
     ensures { result ≡ Unlink (Area class order) frame after }
 {

@@ -97,7 +97,7 @@ impl Cpus {
     }
 }
 
-/// The delta of a frame that was put behind another one on a processor's list.
+/// The delta of a frame that was put after another one on a processor's list.
 fn link_delta(cpu: Cpu, pool: Pool, frame: Frame, after: Option<Frame>) -> Delta
     ensures { result ≡ Link (CpuList cpu pool) frame after }
 {
@@ -108,7 +108,7 @@ fn link_delta(cpu: Cpu, pool: Pool, frame: Frame, after: Option<Frame>) -> Delta
     }
 }
 
-/// The delta of a frame that left its place behind another one on a processor's list.
+/// The delta of a frame that left its place after another one on a processor's list.
 fn unlink_delta(cpu: Cpu, pool: Pool, frame: Frame, after: Option<Frame>) -> Delta
     ensures { result ≡ Unlink (CpuList cpu pool) frame after }
 {
