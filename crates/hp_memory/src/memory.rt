@@ -86,9 +86,9 @@ impl Memory {
         self.layers.blocks.is_live(op)
     }
 
-    /// One step of the definitions: what the step did to the layers is noted on the tape, after the deltas that are there, and
-    /// nothing of a refusal or a look. A Cancel is the release here, and an UndoAfter does nothing. It takes its memory before
-    /// it changes anything; an error is out of memory.
+    /// One step of the definitions: what the step did to the layers is noted on the tape, after the deltas that are there. A
+    /// Cancel is the release here, and an UndoAfter does nothing. It takes its memory before it changes anything; an error is
+    /// out of memory.
     pub fn step(
         &mut self,
         alloc: Global,
