@@ -32,7 +32,7 @@ use Rattle.hp_text.specs.State.{newline}
 use Rattle.hp_workers.specs.Seals.{AreSealed, seals_in_all}
 use Rattle.hp_workers.specs.declared.lines.LineEnd.{LineEnd}
 use Rattle.hotplug.specs.Audits.{HasAuditFault, HasWrongRecord, IsAudited}
-use Rattle.hotplug.specs.Faults.{IsFaultOf, chain_fault_from, replay_fault_from}
+use Rattle.hotplug.specs.Faults.{IsAudit, IsFaultOf, IsRefuted, IsUnfinished, chain_fault_from, replay_fault_from}
 use Rattle.hotplug.specs.Runs.{IsRunOf, IsWorkedOff, SealsSome, records_line, scripts_in}
 use Rattle.hotplug.specs.declared.fault.ProgramFault.{ProgramFault}
 use Rattle.hotplug.specs.declared.fault.ProgramFault.TheVariants.{ReadFailed, TooLong, NotJson, BadShape, Layout, BadLine, NotForRun, OutOfMemory, NotStarted, SeatMissing, Mismatch, WrongReply, WrongSerial, AuditDiffers, WriteFailed, BrokenChain}
@@ -190,29 +190,36 @@ differing : (input : List ℕ) (l : LayoutParts) (scripts : List (List Line)) (e
 differing input l scripts ends [] m count parted worked other = absurd (other (unsealed_is_audited l scripts ends m count worked))
 differing input l scripts ends (v ∷ volumes) m count parted worked other = (scripts, parted, λ none. absurd (omega (arith, worked.few, none)))
 
-never : (input : List ℕ) (l : LayoutParts) (scripts : List (List Line)) (ends : List (List LineEnd)) (volumes : List Volume) (m : MachineValue) (count : ℕ) (fault : ProgramFault) → scripts_in input ≡ Ok scripts → IsWorkedOff l scripts ends volumes m count → HasAuditFault volumes m fault → IsFaultOf Audit (Some input) ⊥ ⊥ fault
-never input l scripts ends volumes m count ReadFailed parted worked h = absurd h
-never input l scripts ends volumes m count TooLong parted worked h = absurd h
-never input l scripts ends volumes m count NotJson parted worked h = absurd h
-never input l scripts ends volumes m count BadShape parted worked h = absurd h
-never input l scripts ends volumes m count (Layout f) parted worked h = absurd h
-never input l scripts ends volumes m count (BadLine n) parted worked h = absurd h
-never input l scripts ends volumes m count (NotForRun n) parted worked h = absurd h
-never input l scripts ends volumes m count OutOfMemory parted worked h = tt
-never input l scripts ends volumes m count (NotStarted c) parted worked h = absurd h
-never input l scripts ends volumes m count SeatMissing parted worked h = absurd h
-never input l scripts ends volumes m count (Mismatch n) parted worked h = absurd h
-never input l scripts ends volumes m count (WrongReply n) parted worked h = absurd (no_record l scripts ends volumes m count (replaying.WrongReply n) (λ e. absurd cc) worked h.0)
-never input l scripts ends volumes m count (WrongSerial n) parted worked h = absurd (no_record l scripts ends volumes m count (replaying.WrongSerial n) (λ e. absurd cc) worked h.0)
-never input l scripts ends volumes m count AuditDiffers parted worked h = (tt, differing input l scripts ends volumes m count parted worked h)
-never input l scripts ends volumes m count WriteFailed parted worked h = absurd h
-never input l scripts ends volumes m count (BrokenChain n) parted worked h = tt
+-- the records of a run of the scenario are at fault
+refuted : (input : List ℕ) (ends : List (List LineEnd)) (volumes : List Volume) (m : MachineValue) (count : ℕ) (fault : ProgramFault) → IsRunOf input ends volumes m count → HasAuditFault volumes m fault → IsRefuted input fault
+refuted input ends volumes m count fault ran h = record { ends = ends; volumes = volumes; machine = m; count = count; run = ran; why = h }
 
+-- so an audit of the scenario fails
 pub audit_fails : (input : List ℕ) (ends : List (List LineEnd)) (volumes : List Volume) (m : MachineValue) (count : ℕ) (fault : ProgramFault) → IsRunOf input ends volumes m count → HasAuditFault volumes m fault → IsFaultOf Audit (Some input) ⊥ ⊥ fault
-audit_fails input ends volumes m count fault ran h =
-    never input ran.scenario.layout ran.scripts ends volumes m count fault (ap (λ (r : Result ScenarioValue ScenarioFault). r >>= scripts_of) ran.read ∙ ran.parted) ran.worked h
+audit_fails input ends volumes m count ReadFailed ran h = absurd h
+audit_fails input ends volumes m count TooLong ran h = absurd h
+audit_fails input ends volumes m count NotJson ran h = absurd h
+audit_fails input ends volumes m count BadShape ran h = absurd h
+audit_fails input ends volumes m count (Layout f) ran h = absurd h
+audit_fails input ends volumes m count (BadLine n) ran h = absurd h
+audit_fails input ends volumes m count (NotForRun n) ran h = absurd h
+audit_fails input ends volumes m count OutOfMemory ran h = tt
+audit_fails input ends volumes m count (NotStarted c) ran h = absurd h
+audit_fails input ends volumes m count SeatMissing ran h = absurd h
+audit_fails input ends volumes m count (Mismatch n) ran h = absurd h
+audit_fails input ends volumes m count (WrongReply n) ran h = absurd (no_record ran.scenario.layout ran.scripts ends volumes m count (replaying.WrongReply n) (λ e. absurd cc) ran.worked h.0)
+audit_fails input ends volumes m count (WrongSerial n) ran h = absurd (no_record ran.scenario.layout ran.scripts ends volumes m count (replaying.WrongSerial n) (λ e. absurd cc) ran.worked h.0)
+audit_fails input ends volumes m count AuditDiffers ran h =
+    let parted = ap (λ (r : Result ScenarioValue ScenarioFault). r >>= scripts_of) ran.read ∙ ran.parted in
+    (tt, (differing input ran.scenario.layout ran.scripts ends volumes m count parted ran.worked h, refuted input ends volumes m count AuditDiffers ran h))
+audit_fails input ends volumes m count WriteFailed ran h = absurd h
+audit_fails input ends volumes m count (BrokenChain n) ran h = (tt, inr (tt, refuted input ends volumes m count (BrokenChain n) ran h))
 
 -- what a run can fail of, an audit can
+broken_too : (input : List ℕ) (fault : ProgramFault) → IsUnfinished input fault ⊎ (IsAudit Run × IsRefuted input fault) → IsUnfinished input fault ⊎ (IsAudit Audit × IsRefuted input fault)
+broken_too input fault (inl h) = inl h
+broken_too input fault (inr h) = absurd h.0
+
 pub audit_too : (input : List ℕ) (fault : ProgramFault) → IsFaultOf Run (Some input) ⊥ ⊥ fault → IsFaultOf Audit (Some input) ⊥ ⊥ fault
 audit_too input ReadFailed h = h
 audit_too input TooLong h = h
@@ -227,9 +234,9 @@ audit_too input SeatMissing h = h
 audit_too input (Mismatch n) h = h
 audit_too input (WrongReply n) h = h
 audit_too input (WrongSerial n) h = h
-audit_too input AuditDiffers h = (tt, h.1)
+audit_too input AuditDiffers h = absurd h.0
 audit_too input WriteFailed h = h
-audit_too input (BrokenChain n) h = h
+audit_too input (BrokenChain n) h = (tt, broken_too input (BrokenChain n) h.1)
 
 -- ---- the text of an audit
 

@@ -18,7 +18,7 @@ use Rattle.hp_workers.specs.declared.fault.RunFault.{RunFault}
 use Rattle.hp_workers.specs.declared.fault.RunFault.TheVariants as running
 use Rattle.hp_workers.specs.declared.lines.LineEnd.{LineEnd}
 use Rattle.hp_workers.specs.Workers.{AreGathered, IsRunEnd}
-use Rattle.hotplug.specs.Faults.{IsFaultOf, IsWorkFault, close_fault_from, fault_from, run_fault_from}
+use Rattle.hotplug.specs.Faults.{IsFaultOf, IsUnfinished, IsWorkFault, close_fault_from, fault_from, run_fault_from}
 use Rattle.hotplug.specs.Runs.{IsRunOf, IsWorkedOff}
 use Rattle.hotplug.specs.declared.fault.ProgramFault.{ProgramFault}
 use Rattle.hotplug.specs.declared.fault.ProgramFault.TheVariants.{ReadFailed, TooLong, NotJson, BadShape, Layout, BadLine, NotForRun, OutOfMemory, NotStarted, SeatMissing, Mismatch, WrongReply, WrongSerial, AuditDiffers, WriteFailed, BrokenChain}
@@ -46,36 +46,50 @@ unfit input s (scenario.BadLine line) read h = absurd (only_not_for_run s (scena
 unfit input s (scenario.NotForRun line) read h = (tt, ap (λ (r : Result ScenarioValue ScenarioFault). r >>= scripts_of) read ∙ h)
 unfit input s scenario.OutOfMemory read h = tt
 
--- a worker was not started, or memory was wanting
-pub unstarted : (fault : RunFault) → IsWorkFault (run_fault_from fault)
-unstarted (running.NotStarted cpu) = tt
-unstarted running.OutOfMemory = tt
+-- a worker was not started, or it was out of memory
+pub unstarted : (l : LayoutParts) (olds : List SeatValue) (scripts : List (List Line)) (news : List SeatValue) (volumes : List Volume) (ends : List (List LineEnd)) (ended : Option RunFault) (fault : RunFault) → olds ≡ first_seats l.cpus → ended ≡ Some fault → IsRunEnd l olds scripts news volumes ends ended → IsWorkFault l scripts (run_fault_from fault)
+unstarted l olds scripts news volumes ends ended (running.NotStarted cpu) first is run = record {
+  seats = news;
+  volumes = volumes;
+  ends = ends;
+  run =
+      subst (λ (f : Option RunFault). IsRunEnd l (first_seats l.cpus) scripts news volumes ends f) is
+      (subst (λ (xs : List SeatValue). IsRunEnd l xs scripts news volumes ends ended) first run);
+}
+unstarted l olds scripts news volumes ends ended running.OutOfMemory first is run = tt
 
 -- the machine was not closed: no seat is missing
-pub unclosed : (l : LayoutParts) (scripts : List (List Line)) (seats : List SeatValue) (ends : List (List LineEnd)) (volumes : List Volume) (fault : CloseFault) → length scripts ≡ l.cpus → AreGathered l (first_seats l.cpus) scripts seats volumes ends None → HasCause l seats volumes fault → IsWorkFault (close_fault_from fault)
+pub unclosed : (l : LayoutParts) (scripts : List (List Line)) (seats : List SeatValue) (ends : List (List LineEnd)) (volumes : List Volume) (fault : CloseFault) → length scripts ≡ l.cpus → AreGathered l (first_seats l.cpus) scripts seats volumes ends None → HasCause l seats volumes fault → IsWorkFault l scripts (close_fault_from fault)
 unclosed l scripts seats ends volumes closing.SeatMissing count all cause = absurd (cause.fault (has_each l scripts seats all.handed ends None count all.workers))
-unclosed l scripts seats ends volumes (closing.WrongVolume at) count all cause = tt
-unclosed l scripts seats ends volumes (closing.Mismatch serial) count all cause = tt
+unclosed l scripts seats ends volumes (closing.WrongVolume at) count all cause = record { seats = seats; volumes = volumes; ends = ends; workers = all; cause = cause }
+unclosed l scripts seats ends volumes (closing.Mismatch serial) count all cause = record { seats = seats; volumes = volumes; ends = ends; workers = all; cause = cause }
 unclosed l scripts seats ends volumes closing.OutOfMemory count all cause = tt
 
 -- so the command fails
-pub work_fails : (input : List ℕ) (fault : ProgramFault) → IsWorkFault fault → IsFaultOf Run (Some input) ⊥ ⊥ fault
-work_fails input ReadFailed h = absurd h
-work_fails input TooLong h = absurd h
-work_fails input NotJson h = absurd h
-work_fails input BadShape h = absurd h
-work_fails input (Layout fault) h = absurd h
-work_fails input (BadLine line) h = absurd h
-work_fails input (NotForRun line) h = absurd h
-work_fails input OutOfMemory h = tt
-work_fails input (NotStarted cpu) h = tt
-work_fails input SeatMissing h = absurd h
-work_fails input (Mismatch serial) h = tt
-work_fails input (WrongReply serial) h = absurd h
-work_fails input (WrongSerial at) h = absurd h
-work_fails input AuditDiffers h = absurd h
-work_fails input WriteFailed h = absurd h
-work_fails input (BrokenChain at) h = tt
+unfinished : (input : List ℕ) (s : ScenarioValue) (scripts : List (List Line)) (fault : ProgramFault) → scenario_in input ≡ Ok s → scripts_of s ≡ Ok scripts → IsWorkFault s.layout scripts fault → IsUnfinished input fault
+unfinished input s scripts fault read parted h = record { scenario = s; read = read; scripts = scripts; parted = parted; why = h }
+
+pub work_fails : (input : List ℕ) (s : ScenarioValue) (scripts : List (List Line)) (fault : ProgramFault) → scenario_in input ≡ Ok s → scripts_of s ≡ Ok scripts → IsWorkFault s.layout scripts fault → IsFaultOf Run (Some input) ⊥ ⊥ fault
+work_fails input s scripts ReadFailed read parted h = absurd h
+work_fails input s scripts TooLong read parted h = absurd h
+work_fails input s scripts NotJson read parted h = absurd h
+work_fails input s scripts BadShape read parted h = absurd h
+work_fails input s scripts (Layout fault) read parted h = absurd h
+work_fails input s scripts (BadLine line) read parted h = absurd h
+work_fails input s scripts (NotForRun line) read parted h = absurd h
+work_fails input s scripts OutOfMemory read parted h = tt
+work_fails input s scripts (NotStarted cpu) read parted h = (tt, unfinished input s scripts (NotStarted cpu) read parted h)
+work_fails input s scripts SeatMissing read parted h = absurd h
+work_fails input s scripts (Mismatch serial) read parted h = (tt, unfinished input s scripts (Mismatch serial) read parted h)
+work_fails input s scripts (WrongReply serial) read parted h = absurd h
+work_fails input s scripts (WrongSerial at) read parted h = absurd h
+work_fails input s scripts AuditDiffers read parted h = absurd h
+work_fails input s scripts WriteFailed read parted h = absurd h
+work_fails input s scripts (BrokenChain at) read parted h = (tt, inl (unfinished input s scripts (BrokenChain at) read parted h))
+
+-- in the layout of the machine that was booted
+pub work_fails_at : (input : List ℕ) (s : ScenarioValue) (l : LayoutParts) (scripts : List (List Line)) (fault : ProgramFault) → l ≡ s.layout → scenario_in input ≡ Ok s → scripts_of s ≡ Ok scripts → IsWorkFault l scripts fault → IsFaultOf Run (Some input) ⊥ ⊥ fault
+work_fails_at input s l scripts fault same read parted h = work_fails input s scripts fault read parted (subst (λ (k : LayoutParts). IsWorkFault k scripts fault) same h)
 
 -- ---- the run
 

@@ -1,6 +1,6 @@
 -- From the parts to the whole: what was read, what was made of it, and what was written.
 use Rattle.std.proofs.Common.{◌≡◌, ℕ, ◌<◌, ◌≤◌, List, [], ◌++◌, length, Option, Some, None, Result, Ok, Err, sym, ap, subst, ◌∙◌, append-nil}
-use Rattle.std.specs.Prelude.{IfSome}
+use Rattle.std.specs.Prelude.{◌⊎◌, IfSome}
 use Rattle.std.specs.Io.KnownBytes.{Appends, Consumes, IsAtEnd}
 use Rattle.hp_units.specs.Memory.{Memory}
 use Rattle.hp_machine.specs.Machine.{MachineValue, booted}
@@ -15,7 +15,7 @@ use Rattle.hotplug.specs.Serial.{GrowsBy, IsWhole, WritesLines, end_text, lines_
 use Rattle.hotplug.proofs.Lines.{AreDue, lines_due, run_is}
 use Rattle.hotplug.specs.Runs.{IsAuditTextOf, IsRunTextOf, SealsSome, scripts_in}
 use Rattle.hotplug.specs.Served.{IsTextOf, ReadsAll, Serves, WritesTextOf}
-use Rattle.hotplug.specs.Faults.{IsReadFault, IsFaultOf, fault_from, limit}
+use Rattle.hotplug.specs.Faults.{IsAudit, IsFaultOf, IsReadFault, IsRefuted, IsUnfinished, fault_from, limit}
 use Rattle.hotplug.specs.declared.fault.ProgramFault.{ProgramFault}
 use Rattle.hotplug.specs.declared.fault.ProgramFault.TheVariants.{ReadFailed, TooLong, NotJson, BadShape, Layout, BadLine, NotForRun, OutOfMemory, NotStarted, SeatMissing, Mismatch, WrongReply, WrongSerial, AuditDiffers, WriteFailed, BrokenChain}
 use Rattle.hotplug.specs.declared.words.Command.{Command}
@@ -61,14 +61,15 @@ input_fault_of command a b input read written (Layout f) p end h = given a b inp
 input_fault_of command a b input read written (BadLine n) p end h = given a b input p end (λ (i : List ℕ). scenario_in i ≡ Err (scenario.BadLine n)) h
 input_fault_of command a b input read written (NotForRun n) p end h = (h.0, given a b input p end (λ (i : List ℕ). scripts_in i ≡ Err (scenario.NotForRun n)) h.1)
 input_fault_of command a b input read written OutOfMemory p end h = tt
-input_fault_of command a b input read written (NotStarted c) p end h = h
+input_fault_of command a b input read written (NotStarted c) p end h = (h.0, given a b input p end (λ (i : List ℕ). IsUnfinished i (NotStarted c)) h.1)
 input_fault_of command a b input read written SeatMissing p end h = absurd h
-input_fault_of command a b input read written (Mismatch n) p end h = h
+input_fault_of command a b input read written (Mismatch n) p end h = (h.0, given a b input p end (λ (i : List ℕ). IsUnfinished i (Mismatch n)) h.1)
 input_fault_of command a b input read written (WrongReply n) p end h = absurd h
 input_fault_of command a b input read written (WrongSerial n) p end h = absurd h
-input_fault_of command a b input read written AuditDiffers p end h = (h.0, given a b input p end SealsSome h.1)
+input_fault_of command a b input read written AuditDiffers p end h = (h.0, given a b input p end (λ (i : List ℕ). SealsSome i × IsRefuted i AuditDiffers) h.1)
 input_fault_of command a b input read written WriteFailed p end h = absurd h
-input_fault_of command a b input read written (BrokenChain n) p end h = h
+input_fault_of command a b input read written (BrokenChain n) p end h =
+    (h.0, given a b input p end (λ (i : List ℕ). IsUnfinished i (BrokenChain n) ⊎ (IsAudit command × IsRefuted i (BrokenChain n))) h.1)
 
 -- `seen` is the slice that was passed on
 pub input_fault : (command : Command) (a b : Option (List ℕ)) (input seen : List ℕ) (read written : Type 0) (fault : ProgramFault) → seen ≡ input → Consumes a b input → IsAtEnd b → IsFaultOf command (Some seen) ⊥ ⊥ fault → IsFaultOf command a read written fault

@@ -75,7 +75,7 @@ fn run_scripts<L: Job + Send + Sync, R: Threads + Wait + Sync>(
     requires scripts { length scripts.items ≡ L.layout.cpus }
     requires run { AreForRun scripts.items }
     ensures ok { IfOk result (λ worked. IsWorkedOff L.layout scripts.items worked.ends.items worked.closed.volumes.items worked.closed.machine worked.closed.records) }
-    ensures err { IfErr result IsWorkFault }
+    ensures err { IfErr result (IsWorkFault L.layout scripts.items) }
 {
     let Ok((shared, seats)) = Shared::<L>::new(alloc, blank, machine) else {
         return Err(ProgramFault::OutOfMemory);

@@ -12,4 +12,5 @@ pub mod Scripts
 pub mod Searches
 pub mod Splits
 pub mod Standing
+pub mod Strides
 pub mod Undoes

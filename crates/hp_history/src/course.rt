@@ -92,6 +92,7 @@ impl Course {
     /// Answers and records an event of a processor, where there is a further serial. An undo goes back, and so does a Cancel
     /// where nothing but its operation's own work stands after its Begin; any other event makes a step. An error is out of
     /// memory; then all is as before.
+    #[inline(always)]
     pub fn answer(&mut self, alloc: Global, cpu: Cpu, event: &Event) -> Result<Receipt, AllocError>
         requires free { is_spent self.old ≡ false }
         ensures err { OnErr result (self.new ≡ self.old) }
@@ -321,6 +322,7 @@ impl Course {
     }
 
     /// Goes back to the first steps, and records the answer. It takes its memory before it changes anything.
+    #[inline(always)]
     fn go_back(
         &mut self,
         alloc: Global,
@@ -356,6 +358,7 @@ impl Course {
     }
 
     /// Makes a step of the event, and records the answer. It takes its memory before it changes anything.
+    #[inline(always)]
     fn act(&mut self, alloc: Global, cpu: Cpu, event: &Event) -> Result<Receipt, AllocError>
         requires free { is_spent self.old ≡ false }
         requires step { IsStep self.old cpu event.now }

@@ -1,4 +1,6 @@
 //! Worked calls on one memory block of four frames, and a whole offline by the driver of a plan.
+mod undo_each;
+
 use crate::{Machine, MachinePort};
 use hp_ops::run_plan;
 use hp_units::{

@@ -60,6 +60,7 @@ impl Layers {
     }
 
     /// Does the opposite of a delta of the layout that fits.
+    #[inline(always)]
     fn back(&mut self, delta: Delta)
         requires one { AreOfOneLayout self.old }
         requires fits { Fits delta (view_of self.old) }

@@ -1,6 +1,7 @@
 //! Worked examples, on four memory blocks of one pageblock of four frames.
 ghost use Rattle.std.specs.Prelude.{◌≡◌};
 
+mod image_steps;
 mod single_blocks;
 
 use super::Memory;

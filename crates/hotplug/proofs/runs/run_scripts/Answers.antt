@@ -1,13 +1,22 @@
-use Rattle.std.proofs.Common.{◌≡◌, None, arith, ap, length, rules}
+use Rattle.std.proofs.Common.{◌≡◌, None, Some, arith, ap, length, rules}
 use Rattle.std.proofs.lemmas.List.FromFn.{length-map-range_with_len}
 use Rattle.hp_shared.specs.Shared.{first_seat, first_seats}
-use Rattle.hotplug.proofs.Ran.{all_ran, unclosed, worked_off}
+use Rattle.hotplug.proofs.Ran.{all_ran, unclosed, unstarted, worked_off}
 use Rattle.hotplug.proofs.runs.run_scripts.Goals as goal
 
 pub run_workers-seats-requires-clause-one_each : goal.run_workers-seats-requires-clause-one_each
 run_workers-seats-requires-clause-one_each g c κs within =
     let seated : c.in-Ok.seats.items ≡ first_seats g.L.Job.layout.cpus = search rules in
     omega (arith, c.in-Ok.seats.ok.0, c.args.scripts.ok.0, c.requires.scripts, ap (λ xs. length xs) seated, length-map-range_with_len first_seat 0 g.L.Job.layout.cpus)
+
+pub returns-in-Some-clause-err : goal.returns-in-Some-clause-err
+returns-in-Some-clause-err g c =
+    let l = g.L.Job.layout in
+    let end = c.run_workers-seats.result in
+    let seated : c.in-Ok.seats.items ≡ first_seats l.cpus = search rules in
+    let is : end.fault ≡ Some c.in-Some.fault = search rules in
+    rw (c.from.ensures)
+    (unstarted l c.in-Ok.seats.items c.args.scripts.items end.seats.items end.volumes.items end.ends.items end.fault c.in-Some.fault seated is c.run_workers-seats.ensures)
 
 pub returns-in-Err-clause-err : goal.returns-in-Err-clause-err
 returns-in-Err-clause-err g c =
