@@ -25,7 +25,6 @@ use std::mem::replace;
 
 /// A memory with its history and its journal. Every course keeps its history legal, its state that of the history, and a way
 /// back over each step that is not undone.
-#[derive(Drop)]
 pub struct Course {
     before: u64,
     base: Image,
@@ -33,6 +32,20 @@ pub struct Course {
     history: Vec<Record>,
     entries: Vec<Entry>,
     deltas: Tape,
+}
+
+/// A function of its own, so that no proof of a caller takes the fields apart.
+impl Drop for Course {
+    fn drop(self) {
+        let Course {
+            before: _before,
+            base: _base,
+            memory: _memory,
+            history: _history,
+            entries: _entries,
+            deltas: _deltas,
+        } = self;
+    }
 }
 
 impl Model for Course {
@@ -182,7 +195,14 @@ impl Course {
     pub fn into_base(self) -> Image
         ensures { result ≡ record { layout = self.layout; memory = self.base } }
     {
-        let Course { base, .. } = self;
+        let Course {
+            before: _,
+            base,
+            memory: _memory,
+            history: _history,
+            entries: _entries,
+            deltas: _deltas,
+        } = self;
         base
     }
 

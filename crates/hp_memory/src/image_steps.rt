@@ -34,6 +34,20 @@ pub fn step_of_image(
     ensures reply { IfOk result (λ s. s.reply ≡ (step image.now.layout image.now.memory serial cpu event.now).reply) }
 {
     let mut memory = Memory::from_image(alloc, image)?;
+    step_into_image(alloc, &mut memory, serial, cpu, event)
+}
+
+/// One step of a memory, and the Image of its state after it.
+fn step_into_image(
+    alloc: Global,
+    memory: &mut Memory,
+    serial: Serial,
+    cpu: Cpu,
+    event: &Event,
+) -> Result<ImageStep, AllocError>
+    ensures image { IfOk result (λ s. s.image ≡ record { layout = memory.old.layout; memory = (step memory.old.layout memory.old.state serial cpu event.now).memory }) }
+    ensures reply { IfOk result (λ s. s.reply ≡ (step memory.old.layout memory.old.state serial cpu event.now).reply) }
+{
     let mut tape = Tape::with_room(alloc, 0)?;
     let reply = memory.step(alloc, serial, cpu, event, &mut tape)?;
     let image = memory.image(alloc)?;
