@@ -13,4 +13,3 @@ pub mod Searches
 pub mod Splits
 pub mod Standing
 pub mod Strides
-pub mod Undoes

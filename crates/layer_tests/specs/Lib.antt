@@ -1,0 +1,2 @@
+pub mod AreaScripts
+pub mod FrameScripts

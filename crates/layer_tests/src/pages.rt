@@ -1,0 +1,66 @@
+ghost use Rattle.std.specs.Prelude.{◌≡◌};
+ghost use Rattle.std.specs.List.{AllByRecursion};
+ghost use Rattle.hp_tape.specs.Deltas.{AllFit, FitsPages, IsDeltaOf, pages_undo, undo_all};
+
+use crate::layouts::two_blocks;
+use hp_pages::{Pages, fresh_words};
+use hp_tape::Tape;
+use hp_units::{Frame, Owner, Page};
+use std::test::Fail;
+
+/// Takes back what a tape notes, the latest first.
+fn go_back(pages: &mut Pages, mut tape: Tape)
+    requires numbers { AllByRecursion (IsDeltaOf pages.old.layout) tape.deltas }
+    requires fit { AllFit FitsPages pages_undo tape.deltas pages.old.pages }
+    ensures back { pages.new.pages ≡ undo_all pages_undo tape.deltas pages.old.pages }
+    ensures layout { pages.new.layout ≡ pages.old.layout }
+{
+    while let Some(delta) = tape.latest() {
+        pages.back(delta);
+    }
+}
+
+#[test]
+fn starts_unmapped(rt: HostRuntime) -> Result<(), Fail> {
+    let pages = Pages::new(rt.alloc(), &two_blocks(rt.alloc())?)?;
+    assert!(rt; pages.frame_at(Owner(0), Page(1)).is_none());
+    assert!(rt; pages.words(Owner(0), Page(1)).is_none());
+    assert!(rt; pages.page_at(Frame(3)).is_none());
+    assert!(rt; pages.lowest_mapped(Frame(0), 4).is_none());
+    Ok(())
+}
+
+#[test]
+fn maps_and_reads(rt: HostRuntime) -> Result<(), Fail> {
+    let layout = two_blocks(rt.alloc())?;
+    let mut pages = Pages::new(rt.alloc(), &layout)?;
+    let words = fresh_words(rt.alloc(), &layout)?;
+    let mut tape = Tape::with_room(rt.alloc(), 1)?;
+    pages.map(Owner(0), Page(1), Frame(2), words, &mut tape);
+    assert_eq!(rt; pages.frame_at(Owner(0), Page(1)), Some(Frame(2)));
+    assert_eq!(rt; pages.page_at(Frame(2)), Some((Owner(0), Page(1))));
+    assert_eq!(rt; pages.lowest_mapped(Frame(1), 3), Some(Frame(2)));
+    assert_eq!(rt; pages.read(Owner(0), Page(1), 1), 0);
+    Ok(())
+}
+
+#[test]
+fn goes_back(rt: HostRuntime) -> Result<(), Fail> {
+    let layout = two_blocks(rt.alloc())?;
+    let mut pages = Pages::new(rt.alloc(), &layout)?;
+    let words = fresh_words(rt.alloc(), &layout)?;
+    let mut first = Tape::with_room(rt.alloc(), 2)?;
+    pages.map(Owner(0), Page(1), Frame(2), words, &mut first);
+    pages.write(Owner(0), Page(1), 1, 7, &mut first);
+    let mut second = Tape::with_room(rt.alloc(), 4)?;
+    pages.move_page(Frame(2), Frame(3), &mut second);
+    assert!(rt; matches!(pages.words(Owner(0), Page(1)), Some([0, 7])));
+    assert_eq!(rt; pages.unmap(Owner(0), Page(1), &mut second), Frame(3));
+    go_back(&mut pages, second);
+    assert_eq!(rt; pages.frame_at(Owner(0), Page(1)), Some(Frame(2)));
+    assert!(rt; matches!(pages.words(Owner(0), Page(1)), Some([0, 7])));
+    go_back(&mut pages, first);
+    assert!(rt; pages.frame_at(Owner(0), Page(1)).is_none());
+    assert!(rt; pages.words(Owner(0), Page(1)).is_none());
+    Ok(())
+}
