@@ -6,6 +6,7 @@ use Rattle.hp_units.specs.LayoutParts.{LayoutParts}
 use Rattle.hp_tape.specs.Deltas.{AllFit, FitsPages, IsDeltaOf, IsOfPages, PageFrames, pages_undo, undo_all}
 use Rattle.hp_tape.specs.Tapes.{NotesPages, TapeValue}
 use Rattle.hp_tape.proofs.Leads.{notes-append}
+use Rattle.hp_pages.specs.Pages.{PagesValue}
 
 -- what a tape of two calls that was empty before them leads back to
 pub record LeadsBack (l : LayoutParts) (tape : TapeValue) (later earlier : PageFrames) : Type 0 where
@@ -24,3 +25,8 @@ leads_back l m a b was mid now last between first none same earlier later =
       fit = subst (λ (ds : List Delta). AllFit FitsPages pages_undo ds last) (sym deltas) both.lead.fit;
       back = ap (λ (ds : List Delta). undo_all pages_undo ds last) deltas ∙ both.lead.back;
     }
+
+-- values with the same parts
+pub same_pages : (v w : PagesValue) → v.layout ≡ w.layout → v.pages ≡ w.pages → v ≡ w
+same_pages v w layout pages =
+    ap (λ (l : LayoutParts). record { layout = l; pages = v.pages }) layout ∙ ap (λ (p : PageFrames). record { layout = w.layout; pages = p }) pages

@@ -11,11 +11,24 @@ ghost use Rattle.layer_tests.specs.AreaScripts.{turn_bound};
 use crate::layouts::one_pageblock;
 use hp_buddy::Buddy;
 use hp_tape::Tape;
-use hp_units::{Class, Frame, Mobility, Order, Pageblock, Zone};
+use hp_units::{Class, Frame, Layout, Mobility, Order, Pageblock, Zone};
 use std::alloc::{AllocError, Global};
 use std::test::Fail;
 
-/// A buddy of one pageblock, which is one free block of zone Normal.
+/// The free areas of a layout with one pageblock, which is one free block of zone Normal.
+pub(crate) fn one_free_pageblock(alloc: Global, layout: &Layout) -> Result<Buddy, AllocError>
+    requires pageblocks { layout.now.pageblocks ≡ 1 }
+    requires blocks { layout.now.blocks ≡ 1 }
+    ensures layout { IfOk result (λ b. b.layout ≡ layout.now) }
+    ensures apart { IfOk result (λ b. AreApart b.layout b.areas) }
+{
+    let mut buddy = Buddy::new(alloc, layout)?;
+    let mut tape = Tape::with_room(alloc, 1)?;
+    buddy.add_pageblock(Zone::Normal, Pageblock(0), &mut tape);
+    Ok(buddy)
+}
+
+/// A buddy of one pageblock of sixteen frames, which is one free block of zone Normal.
 fn small_buddy(alloc: Global) -> Result<Buddy, AllocError>
     ensures order { IfOk result (λ b. b.layout.order ≡ 4) }
     ensures pageblocks { IfOk result (λ b. b.layout.pageblocks ≡ 1) }
@@ -23,10 +36,7 @@ fn small_buddy(alloc: Global) -> Result<Buddy, AllocError>
     ensures apart { IfOk result (λ b. AreApart b.layout b.areas) }
 {
     let layout = one_pageblock(alloc, 4, 1, 1)?;
-    let mut buddy = Buddy::new(alloc, &layout)?;
-    let mut tape = Tape::with_room(alloc, 1)?;
-    buddy.add_pageblock(Zone::Normal, Pageblock(0), &mut tape);
-    Ok(buddy)
+    one_free_pageblock(alloc, &layout)
 }
 
 /// Undoes what a tape notes, latest first.

@@ -1,13 +1,22 @@
 //! Small layouts.
-ghost use Rattle.std.specs.Prelude.{◌≡◌, [], ◌∷◌, IfOk};
-ghost use Rattle.hp_units.specs.declared.rows.Boot.TheVariants.{Offline};
+ghost use Rattle.std.specs.Prelude.{◌≡◌, IfOk};
+ghost use Rattle.hp_units.specs.PartsSeen.{parts_seen};
+ghost use Rattle.layer_tests.specs.SmallLayouts.{two_blocks};
 
-use hp_units::{Boot, Layout, LayoutFault, Parts};
+use hp_units::{Boot, Layout, Parts};
 use std::alloc::{AllocError, Global};
 
-const BOOT: &[Boot] = &[Boot::Offline];
+/// The layout of these parts.
+pub(crate) fn layout_of(alloc: Global, parts: &Parts<'_>) -> Result<Layout, AllocError>
+    ensures { IfOk result (λ layout. layout ≡ parts_seen parts.now) }
+{
+    match Layout::new(alloc, parts) {
+        Ok(layout) => Ok(layout),
+        Err(_) => Err(AllocError),
+    }
+}
 
-/// A layout of one pageblock of an order, so many processors, and batches of so many frames.
+/// One pageblock of an order, so many processors, and batches of so many frames.
 pub(crate) fn one_pageblock(
     alloc: Global,
     order: u64,
@@ -31,32 +40,27 @@ pub(crate) fn one_pageblock(
         pages: 1,
         words: 1,
         history: 1,
-        boot: BOOT,
+        boot: &[Boot::Offline],
     };
-    match Layout::new(alloc, &parts) {
-        Ok(layout) => Ok(layout),
-        Err(_) => Err(AllocError),
-    }
+    layout_of(alloc, &parts)
 }
 
 /// Two memory blocks of two frames of two words, and one owner with two pages.
-pub(crate) fn two_blocks(alloc: Global) -> Result<Layout, LayoutFault>
-    ensures { IfOk result (λ l. l ≡ record { order = 1; pageblocks = 1; blocks = 2; cpus = 1; batch = 1; high = 1; owners = 1; pages = 2; words = 2; history = 1; boot = Offline ∷ Offline ∷ [] }) }
+pub(crate) fn two_blocks(alloc: Global) -> Result<Layout, AllocError>
+    ensures { IfOk result (λ layout. layout ≡ two_blocks) }
 {
-    Layout::new(
-        alloc,
-        &Parts {
-            order: 1,
-            pageblocks: 1,
-            blocks: 2,
-            cpus: 1,
-            batch: 1,
-            high: 1,
-            owners: 1,
-            pages: 2,
-            words: 2,
-            history: 1,
-            boot: &[Boot::Offline, Boot::Offline],
-        },
-    )
+    let parts = Parts {
+        order: 1,
+        pageblocks: 1,
+        blocks: 2,
+        cpus: 1,
+        batch: 1,
+        high: 1,
+        owners: 1,
+        pages: 2,
+        words: 2,
+        history: 1,
+        boot: &[Boot::Offline, Boot::Offline],
+    };
+    layout_of(alloc, &parts)
 }

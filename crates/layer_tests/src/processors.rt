@@ -8,6 +8,7 @@ ghost use Rattle.hp_tape.specs.Tapes.{HasRoom, NotesFree};
 ghost use Rattle.hp_cpus.specs.Cpus.{AreTogether, MayBePut, frames_of, places_among};
 ghost use Rattle.layer_tests.specs.FrameScripts.{IsSmall, is_of_cpus, short_drain_bound, turn_bound};
 
+use crate::areas::one_free_pageblock;
 use crate::layouts::one_pageblock;
 use hp_buddy::Buddy;
 use hp_cpus::Cpus;
@@ -16,36 +17,23 @@ use hp_units::{Class, Cpu, Frame, Mobility, Order, Pageblock, Pool, Zone};
 use std::alloc::{AllocError, Global};
 use std::test::Fail;
 
-/// Empty lists of one processor beside one free pageblock of zone Normal.
+/// A processor's lists beside free areas.
 struct Small {
     cpus: Cpus,
     buddy: Buddy,
 }
 
-fn small_memory(alloc: Global) -> Result<Small, AllocError>
-    ensures { IfOk result (λ m. IsSmall m.cpus m.buddy) }
-{
-    let layout = one_pageblock(alloc, 2, 1, 1)?;
-    let cpus = Cpus::new(alloc, &layout)?;
-    let mut buddy = Buddy::new(alloc, &layout)?;
-    let mut tape = Tape::with_room(alloc, 1)?;
-    buddy.add_pageblock(Zone::Normal, Pageblock(0), &mut tape);
-    Ok(Small { cpus, buddy })
-}
-
-/// Empty lists, with batches of two frames, beside one free pageblock of sixteen frames of zone Normal.
-fn script_memory(alloc: Global) -> Result<Small, AllocError>
+/// Empty lists of one processor, with batches of so many frames, beside one free pageblock of an order of zone Normal.
+fn small_memory(alloc: Global, order: u64, batch: u64) -> Result<Small, AllocError>
     ensures together { IfOk result (λ m. AreTogether m.cpus m.buddy) }
-    ensures order { IfOk result (λ m. m.cpus.layout.order ≡ 4) }
-    ensures batch { IfOk result (λ m. m.cpus.layout.batch ≡ 2) }
+    ensures order { IfOk result (λ m. m.cpus.layout.order ≡ order) }
+    ensures batch { IfOk result (λ m. m.cpus.layout.batch ≡ batch) }
     ensures cpus { IfOk result (λ m. m.cpus.layout.cpus ≡ 1) }
     ensures pageblocks { IfOk result (λ m. pageblock_count m.cpus.layout ≡ 1) }
 {
-    let layout = one_pageblock(alloc, 4, 1, 2)?;
+    let layout = one_pageblock(alloc, order, 1, batch)?;
+    let buddy = one_free_pageblock(alloc, &layout)?;
     let cpus = Cpus::new(alloc, &layout)?;
-    let mut buddy = Buddy::new(alloc, &layout)?;
-    let mut tape = Tape::with_room(alloc, 1)?;
-    buddy.add_pageblock(Zone::Normal, Pageblock(0), &mut tape);
     Ok(Small { cpus, buddy })
 }
 
@@ -314,7 +302,7 @@ fn spills(rt: HostRuntime) -> Result<(), Fail> {
     let Small {
         mut cpus,
         mut buddy,
-    } = small_memory(rt.alloc())?;
+    } = small_memory(rt.alloc(), 2, 1)?;
     spill(&mut cpus, &mut buddy, rt.alloc())?;
     assert_eq!(rt; cpus.len(Cpu(0), Pool::Nm), 1);
     assert_eq!(rt; cpus.front(Cpu(0), Pool::Nm), Some(Frame(0)));
@@ -327,7 +315,7 @@ fn drains(rt: HostRuntime) -> Result<(), Fail> {
     let Small {
         mut cpus,
         mut buddy,
-    } = small_memory(rt.alloc())?;
+    } = small_memory(rt.alloc(), 2, 1)?;
     spill(&mut cpus, &mut buddy, rt.alloc())?;
     drain(&mut cpus, &mut buddy, rt.alloc())?;
     assert_eq!(rt; cpus.len(Cpu(0), Pool::Nm), 0);
@@ -340,7 +328,7 @@ fn comes_back(rt: HostRuntime) -> Result<(), Fail> {
     let Small {
         mut cpus,
         mut buddy,
-    } = script_memory(rt.alloc())?;
+    } = small_memory(rt.alloc(), 4, 2)?;
     let mut tape = Tape::with_room(rt.alloc(), 129_000)?;
     let noted = played_and_back(&mut cpus, 1_000, &mut buddy, &mut tape);
     assert!(rt; noted > 1_500);
@@ -355,7 +343,7 @@ fn takes_the_first(rt: HostRuntime) -> Result<(), Fail> {
     let Small {
         mut cpus,
         mut buddy,
-    } = small_memory(rt.alloc())?;
+    } = small_memory(rt.alloc(), 2, 1)?;
     if let Some(frame) = take(&mut cpus, &mut buddy, rt.alloc())? {
         assert_eq!(rt; frame, Frame(0));
         assert_eq!(rt; cpus.next(frame), None);

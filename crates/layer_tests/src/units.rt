@@ -1,3 +1,4 @@
+use crate::layouts::layout_of;
 use hp_units::{
     Auto, Block, Boot, CallFault, Class, Cpu, Event, Frame, Item, Kind, Layout, LayoutFault, Mark,
     Mobility, Order, Page, Pageblock, Parts, Plan, Pool, Refusal, Reply, Row, Serial, State, Text,
@@ -24,16 +25,9 @@ fn small() -> Parts<'static> {
     }
 }
 
-fn small_layout(alloc: Global) -> Result<Layout, AllocError> {
-    match Layout::new(alloc, &small()) {
-        Ok(layout) => Ok(layout),
-        Err(_) => Err(AllocError),
-    }
-}
-
 #[test]
 fn layout_has_its_parts(rt: HostRuntime) -> Result<(), Fail> {
-    let layout = small_layout(rt.alloc())?;
+    let layout = layout_of(rt.alloc(), &small())?;
     let layout = layout.copy(rt.alloc())?;
     let parts = [
         (layout.order(), 2),
@@ -57,7 +51,7 @@ fn layout_has_its_parts(rt: HostRuntime) -> Result<(), Fail> {
 
 #[test]
 fn numbers_of_frames(rt: HostRuntime) -> Result<(), Fail> {
-    let layout = small_layout(rt.alloc())?;
+    let layout = layout_of(rt.alloc(), &small())?;
     assert_eq!(rt; buddy(Frame(4), Order(1)), Frame(6));
     assert_eq!(rt; pageblock_of(&layout, Frame(11)), Pageblock(2));
     assert_eq!(rt; block_of(&layout, Frame(12)), Block(3));
@@ -191,23 +185,33 @@ fn first_fault_is_named(rt: HostRuntime) -> Result<(), Fail> {
     Ok(())
 }
 
-#[test]
-fn copies_are_the_same(rt: HostRuntime) -> Result<(), Fail> {
+/// Whether a plan of one item and its copy in an event are the same, and no plan of nothing.
+fn plans_are_copied(alloc: Global) -> Result<bool, AllocError> {
     let item = Item {
         block: Block(2),
         wish: Wish::Off,
     };
-    let plan = Plan::new(vec![in rt.alloc(); item]?);
-    assert_eq!(rt; plan.as_slice().len(), 1);
+    let plan = Plan::new(vec![in alloc; item]?);
     let event = Event::Begin {
-        plan: plan.copy(rt.alloc())?,
+        plan: plan.copy(alloc)?,
     };
-    assert!(rt; event.same(&event.copy(rt.alloc())?));
-    assert!(rt; !plan.same(&Plan::new(Vec::new(rt.alloc()))));
-    let mut words = Words::new(vec![in rt.alloc(); 7, 9]?);
+    let same = event.same(&event.copy(alloc)?);
+    let other = plan.same(&Plan::new(Vec::new(alloc)));
+    Ok(plan.as_slice().len() == 1 && same && !other)
+}
+
+/// Whether words that were changed and their copy are the same.
+fn words_are_copied(alloc: Global) -> Result<bool, AllocError> {
+    let mut words = Words::new(vec![in alloc; 7, 9]?);
     words.set(1, 8);
-    assert!(rt; words.same(&words.copy(rt.alloc())?));
-    assert_eq!(rt; words.as_slice(), [7, 8].as_slice());
+    let same = words.same(&words.copy(alloc)?);
+    Ok(same && matches!(words.as_slice(), [7, 8]))
+}
+
+#[test]
+fn copies_are_the_same(rt: HostRuntime) -> Result<(), Fail> {
+    assert!(rt; plans_are_copied(rt.alloc())?);
+    assert!(rt; words_are_copied(rt.alloc())?);
     let text = Text::new(String::from_str(rt.alloc(), "db")?);
     assert_eq!(rt; text.copy(rt.alloc())?.as_str(), "db");
     Ok(())
