@@ -2,6 +2,7 @@ pub mod Apart
 pub mod Backs
 pub mod Blocks
 pub mod Calls
+pub mod Empty
 pub mod Gives
 pub mod Linked
 pub mod Moves
@@ -13,4 +14,3 @@ pub mod Searches
 pub mod Splits
 pub mod Standing
 pub mod Strides
-pub mod Undoes

@@ -1,0 +1,4 @@
+pub mod AreaScripts
+pub mod FrameScripts
+pub mod SmallLayouts
+pub mod SmallPages
