@@ -1,6 +1,6 @@
 //! The memory of one machine, drawn after each of a few calls.
-use crate::{Place, picture_of, places_of};
 use hp_machine::Machine;
+use hp_map::{Place, picture_of, places_of};
 use hp_units::{
     Block, Boot, Cpu, Event, Item, Layout, Order, Owner, Page, Parts, Plan, Text, Wish,
 };

@@ -1,17 +1,11 @@
-use super::*;
+//! Texts that are a scenario, and others.
+use super::{LAYOUT, text_of};
+use hp_scenario::{Scenario, ScenarioFault, Work};
 use hp_units::{Block, Cpu, Event, LayoutFault, Serial};
 use std::alloc::{AllocError, Global};
 use std::test::Fail;
 
-const LAYOUT: &str =
-    r#"{"order":2,"pageblocks":1,"blocks":4,"cpus":2,"batch":2,"high":2,"owners":2,"pages":8,"words":2,"history":1000,"boot":["normal","normal","movable","offline"]}"#;
-
 const CALLS: &str = r#""0 kalloc 1","0 kfree 0","0 undo 0""#;
-
-/// A scenario's text.
-fn text_of(alloc: Global, layout: &str, calls: &str) -> Result<String, Fail> {
-    Ok(format!(in alloc; "{{\"layout\":{layout},\"calls\":[{calls}]}}")?)
-}
 
 /// The fault of a text, if it is no scenario.
 fn fault_of(alloc: Global, text: &str) -> Option<ScenarioFault> {

@@ -1,29 +1,10 @@
-use super::*;
+//! What each control file shows, what written bytes ask for, and what is refused.
+use crate::layouts::{LAST_ABSENT, LAST_OFFLINE, booted};
+use hp_control::{ControlFault, Request, buddyinfo, parse_write, read_file, read_text};
 use hp_machine::Machine;
-use hp_units::{Auto, Block, Boot, Cpu, Event, Item, Layout, Owner, Page, Parts, Plan, Wish, Zone};
+use hp_units::{Auto, Block, Cpu, Event, Item, Owner, Page, Plan, Wish, Zone};
 use std::alloc::{AllocError, Global};
 use std::test::Fail;
-
-/// A machine of four blocks: two in Normal, one in Movable, and the last as given.
-fn booted(alloc: Global, last: Boot) -> Result<Machine, AllocError> {
-    let parts = Parts {
-        order: 2,
-        pageblocks: 1,
-        blocks: 4,
-        cpus: 2,
-        batch: 2,
-        high: 2,
-        owners: 2,
-        pages: 8,
-        words: 2,
-        history: 1000,
-        boot: &[Boot::Normal, Boot::Normal, Boot::Movable, last],
-    };
-    match Layout::new(alloc, &parts) {
-        Ok(layout) => Machine::boot(alloc, &layout),
-        Err(_) => Err(AllocError),
-    }
-}
 
 /// Whether a file reads as the text.
 fn is_shown(alloc: Global, machine: &Machine, path: &str, wanted: &str) -> bool {
@@ -72,7 +53,7 @@ fn buddyinfo_has(alloc: Global, machine: &Machine, bytes: usize) -> Result<bool,
 
 #[test]
 fn files_are_read(rt: HostRuntime) -> Result<(), Fail> {
-    let machine = booted(rt.alloc(), Boot::Absent)?;
+    let machine = booted(rt.alloc(), LAST_ABSENT)?;
     assert_eq!(rt; first_misread(rt.alloc(), &machine, BOOTED), None);
     assert!(rt; buddyinfo_has(rt.alloc(), &machine, 86)?);
     Ok(())
@@ -113,7 +94,7 @@ fn begins_to_go(alloc: Global, machine: &mut Machine) -> Result<bool, AllocError
 
 #[test]
 fn a_going_block_is_shown(rt: HostRuntime) -> Result<(), Fail> {
-    let mut machine = booted(rt.alloc(), Boot::Offline)?;
+    let mut machine = booted(rt.alloc(), LAST_OFFLINE)?;
     assert!(rt; begins_to_go(rt.alloc(), &mut machine)?);
     assert_eq!(rt; first_misread(rt.alloc(), &machine, GOING), None);
     Ok(())
@@ -144,7 +125,7 @@ fn first_read<'a>(
 
 #[test]
 fn other_files_are_not_read(rt: HostRuntime) -> Result<(), Fail> {
-    let machine = booted(rt.alloc(), Boot::Absent)?;
+    let machine = booted(rt.alloc(), LAST_ABSENT)?;
     assert_eq!(rt; first_read(rt.alloc(), &machine, UNREAD), None);
     Ok(())
 }
@@ -274,7 +255,7 @@ fn first_taken<'a>(
 
 #[test]
 fn hostile_paths_and_texts_are_refused(rt: HostRuntime) -> Result<(), Fail> {
-    let machine = booted(rt.alloc(), Boot::Absent)?;
+    let machine = booted(rt.alloc(), LAST_ABSENT)?;
     assert_eq!(rt; first_taken(rt.alloc(), &machine, HOSTILE), None);
     let digits = "9".repeat(rt.alloc(), 5000)?;
     let path = format!(in rt.alloc(); "memory{digits}/state")?;
