@@ -33,18 +33,26 @@ fn boot_puts_pageblocks_on_their_lists(rt: HostRuntime) -> Result<(), Fail> {
     Ok(())
 }
 
+/// Whether an added block is on its list, and tells the image from what it was.
+fn adds_a_block(alloc: Global, image: &mut Image) -> Result<bool, AllocError>
+    requires order { image.old.layout.order ≡ 2 }
+    requires frames { frame_count image.old.layout ≡ 16 }
+{
+    let empty = image.copy(alloc)?;
+    let block = Part::Free {
+        class: Class::Nm,
+        order: Order(1),
+        frame: Frame(4),
+    };
+    let added = image.add(block).is_ok();
+    Ok(added && image.list(Class::Nm, Order(1)) == [Frame(4)].as_slice() && !image.same(&empty))
+}
+
 #[test]
 fn a_free_block_is_added(rt: HostRuntime) -> Result<(), Fail> {
     let layout = four_blocks(rt.alloc(), LAST_OFFLINE)?;
     let mut image = Image::empty(rt.alloc(), &layout)?;
-    let empty = image.copy(rt.alloc())?;
-    image.add(Part::Free {
-        class: Class::Nm,
-        order: Order(1),
-        frame: Frame(4),
-    })?;
-    assert_eq!(rt; image.list(Class::Nm, Order(1)), [Frame(4)].as_slice());
-    assert!(rt; !image.same(&empty));
+    assert!(rt; adds_a_block(rt.alloc(), &mut image)?);
     Ok(())
 }
 

@@ -1,11 +1,9 @@
-//! Two small layouts, and a machine at boot.
+//! Two small layouts.
 ghost use Rattle.std.specs.Prelude.{◌≡◌, IfOk};
 ghost use Rattle.hp_units.specs.Arithmetic.{frame_count, pageblock_count};
 
-use hp_machine::Machine;
 use hp_units::{Boot, Layout, LayoutFault, Parts};
 use std::alloc::Global;
-use std::test::Fail;
 
 /// Two memory blocks that are offline at boot.
 const BOTH_OFFLINE: &[Boot] = &[Boot::Offline, Boot::Offline];
@@ -74,11 +72,4 @@ pub(crate) fn four_blocks(alloc: Global, boot: &[Boot]) -> Result<Layout, Layout
         boot,
     };
     Layout::new(alloc, &parts)
-}
-
-/// A machine of those four blocks.
-pub(crate) fn booted(alloc: Global, boot: &[Boot]) -> Result<Machine, Fail> {
-    let layout = four_blocks(alloc, boot)?;
-    let machine = Machine::boot(alloc, &layout)?;
-    Ok(machine)
 }

@@ -1,6 +1,7 @@
 //! Worked examples of the crates that stand beside a machine: of a state as a value (`areas`, `rows`,
 //! `images`), of a plan's driver (`plans`), and of what is read and written (`controls`, `scenarios`,
-//! `texts`, `maps`). What several of them work on stands in `layouts`.
+//! `texts`, `maps`). What several of them work on stands in `layouts` and
+//! `machines`.
 //!
 //! `rt test` in this folder runs them.
 #![tactic(auto)]
@@ -13,6 +14,8 @@ mod controls;
 mod images;
 #[cfg(test)]
 mod layouts;
+#[cfg(test)]
+mod machines;
 #[cfg(test)]
 mod maps;
 #[cfg(test)]

@@ -1,5 +1,6 @@
 //! Each writer once, and a state with a page.
-use crate::layouts::{LAST_OFFLINE, booted};
+use crate::layouts::{LAST_OFFLINE, four_blocks};
+use crate::machines::{Look, finds_at_boot};
 use hp_control::ControlFault;
 use hp_machine::Machine;
 use hp_plain::Image;
@@ -95,10 +96,19 @@ fn shows_the_page(alloc: Global, machine: &Machine) -> Result<bool, AllocError> 
     Ok(text.as_str() == MAPPED)
 }
 
+/// The text of a state with a page.
+#[derive(Clone, Copy)]
+struct Mapped;
+
+impl Look for Mapped {
+    fn finds(&self, alloc: Global, machine: &mut Machine) -> bool {
+        maps_once(alloc, machine) && shows_the_page(alloc, machine) == Ok(true)
+    }
+}
+
 #[test]
 fn a_state_names_its_owners(rt: HostRuntime) -> Result<(), Fail> {
-    let mut machine = booted(rt.alloc(), LAST_OFFLINE)?;
-    assert!(rt; maps_once(rt.alloc(), &mut machine));
-    assert!(rt; shows_the_page(rt.alloc(), &machine)?);
+    let layout = four_blocks(rt.alloc(), LAST_OFFLINE)?;
+    assert!(rt; finds_at_boot(rt.alloc(), &layout, &Mapped));
     Ok(())
 }
