@@ -9,8 +9,6 @@ mod map;
 mod marks;
 mod picture;
 mod places;
-#[cfg(test)]
-mod tests;
 
 pub use map::places_of;
 pub use picture::picture_of;

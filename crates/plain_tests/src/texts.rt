@@ -1,14 +1,15 @@
 //! Each writer once, and a state with a page.
-use crate::{
-    write_call_fault, write_echo_fault, write_plan_end, write_read_fault, write_receipt,
-    write_reply, write_sealed, write_state, write_unrecorded,
-};
+use crate::layouts::{LAST_OFFLINE, four_blocks};
+use crate::machines::{Look, finds_at_boot};
 use hp_control::ControlFault;
 use hp_machine::Machine;
 use hp_plain::Image;
+use hp_text::{
+    write_call_fault, write_echo_fault, write_plan_end, write_read_fault, write_receipt,
+    write_reply, write_sealed, write_state, write_unrecorded,
+};
 use hp_units::{
-    Block, Boot, CallFault, Cpu, Event, Frame, Layout, LayoutFault, OpEnd, Owner, Page, Parts,
-    Receipt, Refusal, Reply, Serial, Text,
+    Block, CallFault, Cpu, Event, Frame, OpEnd, Owner, Page, Receipt, Refusal, Reply, Serial, Text,
 };
 use indexmap::IndexSet;
 use std::alloc::{AllocError, Global};
@@ -59,26 +60,6 @@ fn answers_have_their_texts(rt: HostRuntime) -> Result<(), Fail> {
 const MAPPED: &str =
     "state\nblock 0 online normal\nblock 1 online normal\nblock 2 online movable\nblock 3 offline\nNM 2: 0 4\nMM 1: 10\ncpu 0 MM: 9\npage db 0 at 8: 0 0\n";
 
-/// Four memory blocks, of which the third is movable and the fourth offline.
-fn small(alloc: Global) -> Result<Layout, LayoutFault> {
-    Layout::new(
-        alloc,
-        &Parts {
-            order: 2,
-            pageblocks: 1,
-            blocks: 4,
-            cpus: 2,
-            batch: 2,
-            high: 2,
-            owners: 2,
-            pages: 8,
-            words: 2,
-            history: 1000,
-            boot: &[Boot::Normal, Boot::Normal, Boot::Movable, Boot::Offline],
-        },
-    )
-}
-
 /// Whether an event of processor 0 gets this reply.
 fn is_answered(alloc: Global, machine: &mut Machine, event: &Event, reply: &Reply) -> bool {
     match machine.call(alloc, Cpu(0), event) {
@@ -115,17 +96,19 @@ fn shows_the_page(alloc: Global, machine: &Machine) -> Result<bool, AllocError> 
     Ok(text.as_str() == MAPPED)
 }
 
-/// A machine of the small layout, at boot.
-fn booted(alloc: Global) -> Result<Machine, Fail> {
-    let layout = small(alloc)?;
-    let machine = Machine::boot(alloc, &layout)?;
-    Ok(machine)
+/// The text of a state with a page.
+#[derive(Clone, Copy)]
+struct Mapped;
+
+impl Look for Mapped {
+    fn finds(&self, alloc: Global, machine: &mut Machine) -> bool {
+        maps_once(alloc, machine) && shows_the_page(alloc, machine) == Ok(true)
+    }
 }
 
 #[test]
 fn a_state_names_its_owners(rt: HostRuntime) -> Result<(), Fail> {
-    let mut machine = booted(rt.alloc())?;
-    assert!(rt; maps_once(rt.alloc(), &mut machine));
-    assert!(rt; shows_the_page(rt.alloc(), &machine)?);
+    let layout = four_blocks(rt.alloc(), LAST_OFFLINE)?;
+    assert!(rt; finds_at_boot(rt.alloc(), &layout, &Mapped));
     Ok(())
 }

@@ -6,8 +6,7 @@ ghost use Rattle.hp_units.specs.declared.replies.Refusal.TheVariants.{NoOp};
 ghost use Rattle.hp_units.specs.declared.replies.Reply.TheVariants.{Done, Refused};
 ghost use Rattle.hp_ops.specs.Ports.{IsBeginReply, IsCancelReply, IsCommitReply, IsDriverReply, IsMigrateReply};
 
-use crate::port::Port;
-use crate::run_plan;
+use hp_ops::{Port, run_plan};
 use hp_units::{
     Block, CallFault, Event, Frame, Item, OpEnd, Plan, Receipt, Refusal, Reply, Serial, Wish,
 };

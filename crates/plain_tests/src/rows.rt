@@ -1,13 +1,12 @@
 //! Worked examples: each public function once, on two memory blocks and one owner of two pages.
-ghost use Rattle.std.specs.Prelude.{◌≡◌, IfOk};
 
-use super::{Blocks, Pages, wish_of};
-use hp_units::{
-    Auto, Block, Boot, Frame, Item, Layout, LayoutFault, Owner, Page, Parts, Row, State, Wish,
-    Words, Zone,
-};
-use std::alloc::Global;
+use crate::layouts::two_blocks;
+use hp_rows::{Blocks, Pages, wish_of};
+use hp_units::{Auto, Block, Frame, Item, Owner, Page, Row, State, Wish, Words, Zone};
+use std::alloc::{AllocError, Global};
 use std::test::Fail;
+
+const ONE_WORD: &[u64] = &[7];
 
 const ONLINE: Row = Row {
     state: State::Online,
@@ -15,33 +14,9 @@ const ONLINE: Row = Row {
     claim: None,
 };
 
-/// Two memory blocks of two frames, and one owner of two pages of one word.
-fn small(alloc: Global) -> Result<Layout, LayoutFault>
-    ensures blocks { IfOk result (λ l. l.blocks ≡ 2) }
-    ensures owners { IfOk result (λ l. l.owners ≡ 1) }
-    ensures pages { IfOk result (λ l. l.pages ≡ 2) }
-{
-    Layout::new(
-        alloc,
-        &Parts {
-            order: 1,
-            pageblocks: 1,
-            blocks: 2,
-            cpus: 1,
-            batch: 1,
-            high: 1,
-            owners: 1,
-            pages: 2,
-            words: 1,
-            history: 1,
-            boot: &[Boot::Offline, Boot::Offline],
-        },
-    )
-}
-
 #[test]
 fn a_row_is_set(rt: HostRuntime) -> Result<(), Fail> {
-    let layout = small(rt.alloc())?;
+    let layout = two_blocks(rt.alloc())?;
     let mut blocks = Blocks::empty(rt.alloc(), &layout)?;
     blocks.set_row(Block(1), ONLINE);
     assert_eq!(rt; blocks.row(Block(1)), Some(ONLINE));
@@ -50,7 +25,7 @@ fn a_row_is_set(rt: HostRuntime) -> Result<(), Fail> {
 
 #[test]
 fn what_added_blocks_become_is_set(rt: HostRuntime) -> Result<(), Fail> {
-    let layout = small(rt.alloc())?;
+    let layout = two_blocks(rt.alloc())?;
     let mut blocks = Blocks::empty(rt.alloc(), &layout)?;
     let before = blocks.copy(rt.alloc())?;
     assert!(rt; blocks.same(&before));
@@ -69,7 +44,7 @@ fn a_plan_wishes(rt: HostRuntime) -> Result<(), Fail> {
 
 #[test]
 fn a_page_is_mapped(rt: HostRuntime) -> Result<(), Fail> {
-    let layout = small(rt.alloc())?;
+    let layout = two_blocks(rt.alloc())?;
     let mut pages = Pages::empty(rt.alloc(), &layout)?;
     let before = pages.copy(rt.alloc())?;
     pages.map(Owner(0), Page(1), Frame(3), one_word(rt.alloc())?);
@@ -88,6 +63,6 @@ fn item(block: u32, wish: Wish) -> Item {
 }
 
 /// One word.
-fn one_word(alloc: Global) -> Result<Words, Fail> {
-    Ok(Words::new(vec![in alloc; 7]?))
+fn one_word(alloc: Global) -> Result<Words, AllocError> {
+    Ok(Words::new(Vec::from_slice(alloc, ONE_WORD)?))
 }

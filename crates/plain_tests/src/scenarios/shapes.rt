@@ -1,17 +1,11 @@
-use super::*;
+//! Texts that are a scenario, and others.
+use super::{LAYOUT, text_of};
+use hp_scenario::{Line, Scenario, ScenarioFault, Work};
 use hp_units::{Block, Cpu, Event, LayoutFault, Serial};
-use std::alloc::{AllocError, Global};
+use std::alloc::Global;
 use std::test::Fail;
 
-const LAYOUT: &str =
-    r#"{"order":2,"pageblocks":1,"blocks":4,"cpus":2,"batch":2,"high":2,"owners":2,"pages":8,"words":2,"history":1000,"boot":["normal","normal","movable","offline"]}"#;
-
 const CALLS: &str = r#""0 kalloc 1","0 kfree 0","0 undo 0""#;
-
-/// A scenario's text.
-fn text_of(alloc: Global, layout: &str, calls: &str) -> Result<String, Fail> {
-    Ok(format!(in alloc; "{{\"layout\":{layout},\"calls\":[{calls}]}}")?)
-}
 
 /// The fault of a text, if it is no scenario.
 fn fault_of(alloc: Global, text: &str) -> Option<ScenarioFault> {
@@ -31,25 +25,39 @@ fn reads_a_scenario(rt: HostRuntime) -> Result<(), Fail> {
     Ok(())
 }
 
+/// Whether lines are a plan of two blocks and an echo, both as a text says.
+fn are_plan_and_echo(plan: &Line, echo: &Line) -> bool {
+    let is_plan = matches!(&plan.work, Work::Plan { plan, turns: 5 } if plan.as_slice().len() == 2);
+    let is_echo = matches!(&echo.work, Work::Echo { path, text }
+        if path.as_str() == "memory2/state" && text.as_str() == "offline");
+    is_plan && echo.cpu == Cpu(1) && is_echo
+}
+
+/// Whether lines are a file that is read, a block that is removed, and a seal.
+fn are_cat_remove_and_seal(cat: &Line, remove: &Line, seal: &Line) -> bool {
+    let is_cat = matches!(&cat.work, Work::Cat { path } if path.as_str() == "buddyinfo");
+    let is_remove =
+        matches!(&remove.work, Work::Event(Event::Remove { block: b }) if *b == Block(3));
+    is_cat && is_remove && matches!(&seal.work, Work::Seal) && seal.cpu == Cpu(7)
+}
+
+/// Whether lines are those five, in order.
+fn are_plans_and_files(lines: &[Line]) -> bool {
+    match lines {
+        [plan, echo, cat, remove, seal] => {
+            are_plan_and_echo(plan, echo) && are_cat_remove_and_seal(cat, remove, seal)
+        }
+        _ => false,
+    }
+}
+
 #[test]
 fn reads_plans_and_files(rt: HostRuntime) -> Result<(), Fail> {
     let calls =
         r#""0 plan 5 off 2 movable 3","1 echo offline memory2/state","0 cat buddyinfo","0 remove 3","7 seal""#;
     let text = text_of(rt.alloc(), LAYOUT, calls)?;
     let scenario = Scenario::read(rt.alloc(), text.as_bytes())?;
-    let [plan, echo, cat, remove, seal] = scenario.lines.as_slice() else {
-        return Err(Fail::from(AllocError));
-    };
-    assert!(rt; matches!(&plan.work, Work::Plan { plan, turns: 5 } if plan.as_slice().len() == 2));
-    assert_eq!(rt; echo.cpu, Cpu(1));
-    assert!(rt;
-        matches!(&echo.work, Work::Echo { path, text }
-            if path.as_str() == "memory2/state" && text.as_str() == "offline")
-    );
-    assert!(rt; matches!(&cat.work, Work::Cat { path } if path.as_str() == "buddyinfo"));
-    assert!(rt; matches!(&remove.work, Work::Event(Event::Remove { block: b }) if *b == Block(3)));
-    assert!(rt; matches!(&seal.work, Work::Seal));
-    assert_eq!(rt; seal.cpu, Cpu(7));
+    assert!(rt; are_plans_and_files(scenario.lines.as_slice()));
     Ok(())
 }
 

@@ -1,14 +1,34 @@
 //! The memory of one machine, drawn after each of a few calls.
-use crate::{Place, picture_of, places_of};
+use crate::machines::{Look, finds_at_boot};
 use hp_machine::Machine;
+use hp_map::{Place, picture_of, places_of};
 use hp_units::{
-    Block, Boot, Cpu, Event, Item, Layout, Order, Owner, Page, Parts, Plan, Text, Wish,
+    Block, Boot, Cpu, Event, Item, Layout, LayoutFault, Order, Owner, Page, Parts, Plan, Text, Wish,
 };
 use std::alloc::{AllocError, Global};
 use std::test::Fail;
 
-/// A machine with blocks of two pageblocks of two frames: online in both zones, offline and absent.
-fn booted(alloc: Global) -> Result<Machine, Fail> {
+/// What a test looks for: the picture after each of a few calls, and the place of each frame at boot.
+#[derive(Clone, Copy)]
+enum Case {
+    Drawn,
+    Places,
+}
+
+impl Look for Case {
+    fn finds(&self, alloc: Global, machine: &mut Machine) -> bool {
+        match self {
+            Case::Drawn => draws_use(alloc, machine) && draws_plan(alloc, machine),
+            Case::Places => starts_free(alloc, machine, 16),
+        }
+    }
+}
+
+/// One block of each kind: online in both zones, offline and absent.
+const BOOT: &[Boot] = &[Boot::Normal, Boot::Movable, Boot::Offline, Boot::Absent];
+
+/// A layout of four blocks of two pageblocks of two frames.
+fn four_pairs(alloc: Global) -> Result<Layout, LayoutFault> {
     let parts = Parts {
         order: 1,
         pageblocks: 2,
@@ -20,11 +40,9 @@ fn booted(alloc: Global) -> Result<Machine, Fail> {
         pages: 2,
         words: 1,
         history: 9,
-        boot: &[Boot::Normal, Boot::Movable, Boot::Offline, Boot::Absent],
+        boot: BOOT,
     };
-    let layout = Layout::new(alloc, &parts)?;
-    let machine = Machine::boot(alloc, &layout)?;
-    Ok(machine)
+    Layout::new(alloc, &parts)
 }
 
 /// Whether memory blocks are drawn as these texts, one after another.
@@ -102,13 +120,18 @@ fn begin(alloc: Global) -> Result<Event, AllocError> {
     })
 }
 
+/// Whether that operation is drawn.
+fn draws_plan(alloc: Global, machine: &mut Machine) -> bool {
+    match begin(alloc) {
+        Ok(begin) => draws_operation(alloc, machine, &begin),
+        Err(AllocError) => false,
+    }
+}
+
 #[test]
 fn memory_is_drawn(rt: HostRuntime) -> Result<(), Fail> {
-    let begin = begin(rt.alloc())?;
-    let mut machine = booted(rt.alloc())?;
-    let is_drawn = draws_use(rt.alloc(), &mut machine)
-        && draws_operation(rt.alloc(), &mut machine, &begin);
-    assert!(rt; is_drawn);
+    let layout = four_pairs(rt.alloc())?;
+    assert!(rt; finds_at_boot(rt.alloc(), &layout, &Case::Drawn));
     Ok(())
 }
 
@@ -122,7 +145,7 @@ fn starts_free(alloc: Global, machine: &Machine, count: usize) -> bool {
 
 #[test]
 fn each_frame_has_a_place(rt: HostRuntime) -> Result<(), Fail> {
-    let machine = booted(rt.alloc())?;
-    assert!(rt; starts_free(rt.alloc(), &machine, 16));
+    let layout = four_pairs(rt.alloc())?;
+    assert!(rt; finds_at_boot(rt.alloc(), &layout, &Case::Places));
     Ok(())
 }

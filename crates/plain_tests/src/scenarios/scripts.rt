@@ -1,15 +1,13 @@
 //! The lines of each processor.
-use crate::{Line, Scenario, ScenarioFault, Work};
+use super::{LAYOUT, text_of};
+use hp_scenario::{Line, Scenario, ScenarioFault, Work};
 use hp_units::{Cpu, Event};
 use std::alloc::Global;
 use std::test::Fail;
 
-const LAYOUT: &str =
-    r#"{"order":2,"pageblocks":1,"blocks":4,"cpus":2,"batch":2,"high":2,"owners":2,"pages":8,"words":2,"history":1000,"boot":["normal","normal","movable","offline"]}"#;
-
 /// A scenario of lines on two processors.
 fn scenario(alloc: Global, calls: &str) -> Result<Scenario, Fail> {
-    let text = format!(in alloc; "{{\"layout\":{LAYOUT},\"calls\":[{calls}]}}")?;
+    let text = text_of(alloc, LAYOUT, calls)?;
     Ok(Scenario::read(alloc, text.as_bytes())?)
 }
 
