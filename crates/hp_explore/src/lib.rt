@@ -12,8 +12,6 @@ mod laws;
 mod runs;
 mod scripts;
 mod tally;
-#[cfg(test)]
-mod tests;
 mod walk;
 
 pub use exploring::{ExploreFault, explore};

@@ -18,6 +18,3 @@ mod parts;
 
 pub use image_steps::{ImageStep, step_of_image};
 pub use memory::Memory;
-
-#[cfg(test)]
-mod tests;

@@ -1,37 +1,17 @@
-//! Worked examples, on four memory blocks of one pageblock of four frames.
+//! Worked steps of a memory in layers.
 ghost use Rattle.std.specs.Prelude.{◌≡◌};
 
 mod image_steps;
 mod single_blocks;
 
-use super::Memory;
+use crate::layouts::four_blocks;
+use hp_memory::Memory;
 use hp_tape::Tape;
 use hp_units::{
-    Block, Boot, Cpu, Event, Frame, Item, Layout, LayoutFault, Order, Owner, Page, Parts, Plan,
-    Refusal, Reply, Serial, Wish,
+    Block, Cpu, Event, Frame, Item, Order, Owner, Page, Plan, Refusal, Reply, Serial, Wish,
 };
 use std::alloc::{AllocError, Global};
 use std::test::Fail;
-
-/// Four memory blocks, of which the third is movable and the fourth offline.
-fn small(alloc: Global) -> Result<Layout, LayoutFault> {
-    Layout::new(
-        alloc,
-        &Parts {
-            order: 2,
-            pageblocks: 1,
-            blocks: 4,
-            cpus: 2,
-            batch: 2,
-            high: 2,
-            owners: 2,
-            pages: 8,
-            words: 2,
-            history: 1000,
-            boot: &[Boot::Normal, Boot::Normal, Boot::Movable, Boot::Offline],
-        },
-    )
-}
 
 /// Runs events in turn, on one tape; whether each is answered as it is to be.
 fn answers(
@@ -52,7 +32,7 @@ fn answers(
 #[test]
 fn a_block_goes_offline_once_its_page_has_moved(rt: HostRuntime) -> Result<(), Fail> {
     let alloc = rt.alloc();
-    let mut memory = Memory::boot(alloc, &small(alloc)?)?;
+    let mut memory = Memory::boot(alloc, &four_blocks(alloc)?)?;
     let mut tape = Tape::with_room(alloc, 0)?;
     let (owner, page, op) = (Owner(0), Page(0), Serial(2));
     let leave = Item {
@@ -95,7 +75,7 @@ fn stepped_and_back(
 #[test]
 fn a_step_goes_back(rt: HostRuntime) -> Result<(), Fail> {
     let alloc = rt.alloc();
-    let layout = small(alloc)?;
+    let layout = four_blocks(alloc)?;
     let mut memory = Memory::boot(alloc, &layout)?;
     let mut tape = Tape::with_room(alloc, 0)?;
     let take = Event::KernelAlloc { order: Order(1) };

@@ -3,8 +3,8 @@ use Rattle.std.proofs.Common.{◌∙◌, drop}
 use Rattle.hp_tape.specs.Bounds.{delta_bound}
 use Rattle.hp_memory.specs.Memory.{LeadsBack}
 use Rattle.hp_memory.proofs.Steps.{same_memory, step-leads}
-use Rattle.hp_memory.proofs.tests.stepped_and_back.Goals as goal
-use Rattle.hp_memory.proofs.tests.stepped_and_back.Goals.{In_ok-reply}
+use Rattle.machine_tests.proofs.memories.stepped_and_back.Goals as goal
+use Rattle.machine_tests.proofs.memories.stepped_and_back.Goals.{In_ok-reply}
 
 leads : (c : In_ok-reply) → LeadsBack c.step.new.self.layout (drop c.len-mark.result c.step.new.tape.deltas) c.step.new.self.state c.args.memory.now.state
 leads c =

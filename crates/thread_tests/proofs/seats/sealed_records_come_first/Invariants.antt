@@ -1,4 +1,4 @@
-use Rattle.hp_shared.proofs.tests.sealed_records_come_first.Given as goal
+use Rattle.thread_tests.proofs.seats.sealed_records_come_first.Given as goal
 
 -- the machine's own layout, and the ledger that was just made
 abbrev pub ghosts-one_sealed-L-Job : goal.ghosts-one_sealed-L-Job

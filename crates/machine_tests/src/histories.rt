@@ -1,33 +1,15 @@
 //! Worked replays: a block of the kernel that is taken, given back and undone, and an operation that is cancelled.
-use crate::{ChainFault, Course, Records, ReplayFault, Volume, audit_chain, replay, replay_from};
+use crate::layouts::one_block;
+use hp_history::{
+    ChainFault, Course, Records, ReplayFault, Volume, audit_chain, replay, replay_from,
+};
 use hp_plain::Image;
 use hp_tape::Delta;
 use hp_units::{
-    Block, Boot, Class, Cpu, Event, Frame, Item, Layout, LayoutFault, Order, Parts, Plan, Record,
-    Refusal, Reply, Serial, Wish,
+    Block, Class, Cpu, Event, Frame, Item, Order, Plan, Record, Refusal, Reply, Serial, Wish,
 };
 use std::alloc::{AllocError, Global};
 use std::test::Fail;
-
-/// One memory block of four frames, online in zone Normal.
-fn small(alloc: Global) -> Result<Layout, LayoutFault> {
-    Layout::new(
-        alloc,
-        &Parts {
-            order: 2,
-            pageblocks: 1,
-            blocks: 1,
-            cpus: 1,
-            batch: 1,
-            high: 1,
-            owners: 1,
-            pages: 1,
-            words: 1,
-            history: 9,
-            boot: &[Boot::Normal],
-        },
-    )
-}
 
 /// A record of the one processor.
 fn record_of(serial: u64, event: Event, reply: Reply) -> Record {
@@ -85,13 +67,13 @@ fn worked(alloc: Global, count: u64) -> Result<Vec<Record>, AllocError> {
 
 /// What a replay of the records finds wrong.
 fn fault_of(alloc: Global, records: &[Record]) -> Result<Option<ReplayFault>, Fail> {
-    let layout = small(alloc)?;
+    let layout = one_block(alloc, 9)?;
     Ok(replay(alloc, &layout, records).err())
 }
 
 /// Whether a replay of the records leads back to the state at boot.
 fn leads_back(alloc: Global, records: &[Record]) -> Result<bool, Fail> {
-    let layout = small(alloc)?;
+    let layout = one_block(alloc, 9)?;
     let image = replay(alloc, &layout, records)?;
     Ok(image.same(&Image::boot(alloc, &layout)?))
 }
@@ -110,14 +92,22 @@ fn a_cancelled_operation_leads_back_to_boot(rt: HostRuntime) -> Result<(), Fail>
     Ok(())
 }
 
+/// The state after the block was taken.
+fn taken(alloc: Global) -> Result<Image, Fail> {
+    let layout = one_block(alloc, 9)?;
+    Ok(replay(alloc, &layout, &[take()])?)
+}
+
+/// How many blocks of order 2 are free after the block was given back from that state on.
+fn free_after_give(alloc: Global, base: &Image) -> Result<usize, Fail> {
+    let image = replay_from(alloc, base, 1, &[give()])?;
+    Ok(image.list(Class::Nu, Order(2)).len())
+}
+
 #[test]
 fn a_history_goes_on_from_a_base(rt: HostRuntime) -> Result<(), Fail> {
-    let layout = small(rt.alloc())?;
-    let first = vec![in rt.alloc(); take()]?;
-    let base = replay(rt.alloc(), &layout, &first)?;
-    let second = vec![in rt.alloc(); give()]?;
-    let image = replay_from(rt.alloc(), &base, 1, &second)?;
-    assert_eq!(rt; image.list(Class::Nu, Order(2)).len(), 1);
+    let base = taken(rt.alloc())?;
+    assert_eq!(rt; free_after_give(rt.alloc(), &base)?, 1);
     Ok(())
 }
 
@@ -141,7 +131,7 @@ fn a_missing_record_is_named_by_its_place(rt: HostRuntime) -> Result<(), Fail> {
 
 #[test]
 fn no_record_comes_after_the_last_serial(rt: HostRuntime) -> Result<(), Fail> {
-    let layout = small(rt.alloc())?;
+    let layout = one_block(rt.alloc(), 9)?;
     let base = replay(rt.alloc(), &layout, &[])?;
     let records = worked(rt.alloc(), 2)?;
     let replayed = replay_from(rt.alloc(), &base, u64::MAX, &records);
@@ -149,19 +139,35 @@ fn no_record_comes_after_the_last_serial(rt: HostRuntime) -> Result<(), Fail> {
     Ok(())
 }
 
+/// A course of the one memory block.
+fn booted(alloc: Global) -> Result<Course, Fail> {
+    let layout = one_block(alloc, 9)?;
+    Ok(Course::boot(alloc, &layout)?)
+}
+
+/// Whether a course shows that nothing was answered yet.
+fn is_fresh(course: &Course) -> bool {
+    !course.is_spent()
+        && course.expects(Serial(1))
+        && course.before() == 0
+        && course.journal_len() == 0
+        && course.history().len() == 0
+        && course.memory().layout().cpus() == 1
+}
+
+/// Whether the base of a course, shown and handed out, is its state.
+fn is_at_its_base(alloc: Global, course: Course) -> Result<bool, AllocError> {
+    let image = course.image(alloc)?;
+    let is_shown = course.base().same(&image);
+    let base = course.into_base();
+    Ok(is_shown && base.same(&image))
+}
+
 #[test]
 fn a_course_shows_what_it_keeps(rt: HostRuntime) -> Result<(), Fail> {
-    let layout = small(rt.alloc())?;
-    let course = Course::boot(rt.alloc(), &layout)?;
-    assert!(rt; !course.is_spent());
-    assert!(rt; course.expects(Serial(1)));
-    assert_eq!(rt; course.before(), 0);
-    assert_eq!(rt; course.journal_len(), 0);
-    assert_eq!(rt; course.history().len(), 0);
-    let image = course.image(rt.alloc())?;
-    assert!(rt; course.base().same(&image));
-    assert_eq!(rt; course.memory().layout().cpus(), 1);
-    assert!(rt; course.into_base().same(&image));
+    let course = booted(rt.alloc())?;
+    assert!(rt; is_fresh(&course));
+    assert!(rt; is_at_its_base(rt.alloc(), course)?);
     Ok(())
 }
 
@@ -193,8 +199,22 @@ fn shows_two_steps(course: &Course) -> bool {
         && both - first == second
 }
 
+/// Whether a course shows two steps once they are made.
+fn makes_two_steps(alloc: Global, course: &mut Course) -> Result<bool, AllocError> {
+    take_and_give(alloc, course)?;
+    Ok(shows_two_steps(course))
+}
+
+#[test]
+fn an_entry_holds_what_its_step_did(rt: HostRuntime) -> Result<(), Fail> {
+    let mut course = booted(rt.alloc())?;
+    assert!(rt; makes_two_steps(rt.alloc(), &mut course)?);
+    Ok(())
+}
+
 /// Whether an undo of the second of two steps leaves the deltas of the first alone.
 fn undoes_the_second(alloc: Global, course: &mut Course) -> Result<bool, AllocError> {
+    take_and_give(alloc, course)?;
     let first = count_of(course.entry(0));
     let serial = Serial(1);
     act(alloc, course, &Event::UndoAfter { serial })?;
@@ -202,19 +222,8 @@ fn undoes_the_second(alloc: Global, course: &mut Course) -> Result<bool, AllocEr
 }
 
 #[test]
-fn an_entry_holds_what_its_step_did(rt: HostRuntime) -> Result<(), Fail> {
-    let layout = small(rt.alloc())?;
-    let mut course = Course::boot(rt.alloc(), &layout)?;
-    take_and_give(rt.alloc(), &mut course)?;
-    assert!(rt; shows_two_steps(&course));
-    Ok(())
-}
-
-#[test]
 fn an_undo_leaves_the_deltas_of_earlier_steps(rt: HostRuntime) -> Result<(), Fail> {
-    let layout = small(rt.alloc())?;
-    let mut course = Course::boot(rt.alloc(), &layout)?;
-    take_and_give(rt.alloc(), &mut course)?;
+    let mut course = booted(rt.alloc())?;
     assert!(rt; undoes_the_second(rt.alloc(), &mut course)?);
     Ok(())
 }
@@ -246,13 +255,13 @@ fn taken_and_given(alloc: Global) -> Result<Vec<Record>, AllocError> {
 
 /// The volume of these records, from boot on.
 fn first_volume(alloc: Global) -> Result<Volume, Fail> {
-    let base = Image::boot(alloc, &small(alloc)?)?;
+    let base = Image::boot(alloc, &one_block(alloc, 9)?)?;
     Ok(volume(0, base, taken_and_given(alloc)?))
 }
 
 /// The state that they lead to.
 fn sealed_state(alloc: Global) -> Result<Image, Fail> {
-    let layout = small(alloc)?;
+    let layout = one_block(alloc, 9)?;
     Ok(replay(alloc, &layout, &taken_and_given(alloc)?)?)
 }
 
@@ -273,46 +282,73 @@ fn fault_after_first(alloc: Global, second: Volume) -> Result<Option<ChainFault>
     let mut volumes = Vec::new(alloc);
     volumes.push(first_volume(alloc)?)?;
     volumes.push(second)?;
-    let layout = small(alloc)?;
+    let layout = one_block(alloc, 9)?;
     Ok(audit_chain(alloc, &layout, &volumes).err())
+}
+
+/// The fault of the first volume twice.
+fn fault_of_twice(alloc: Global) -> Result<Option<ChainFault>, Fail> {
+    let again = first_volume(alloc)?;
+    fault_after_first(alloc, again)
+}
+
+/// The fault where the second volume is over the state at boot.
+fn fault_over_boot(alloc: Global) -> Result<Option<ChainFault>, Fail> {
+    let boot = Image::boot(alloc, &one_block(alloc, 9)?)?;
+    let over_boot = second_volume(alloc, boot, Reply::Frame(Frame(0)))?;
+    fault_after_first(alloc, over_boot)
+}
+
+/// The fault where the second volume is over the state that the first leads to.
+fn fault_over_sealed(alloc: Global, reply: Reply) -> Result<Option<ChainFault>, Fail> {
+    let base = sealed_state(alloc)?;
+    let second = second_volume(alloc, base, reply)?;
+    fault_after_first(alloc, second)
+}
+
+/// How many blocks of order 2 no volumes at all lead to.
+fn free_after_none(alloc: Global) -> Result<usize, Fail> {
+    let layout = one_block(alloc, 9)?;
+    let image = audit_chain(alloc, &layout, &[])?;
+    Ok(image.list(Class::Nm, Order(2)).len())
 }
 
 #[test]
 fn volumes_that_follow_one_another_are_accepted(rt: HostRuntime) -> Result<(), Fail> {
-    let base = sealed_state(rt.alloc())?;
-    let second = second_volume(rt.alloc(), base, Reply::Frame(Frame(0)))?;
-    assert_eq!(rt; fault_after_first(rt.alloc(), second)?, None);
-    let layout = small(rt.alloc())?;
-    let image = audit_chain(rt.alloc(), &layout, &[])?;
-    assert_eq!(rt; image.list(Class::Nm, Order(2)).len(), 1);
+    let accepted = fault_over_sealed(rt.alloc(), Reply::Frame(Frame(0)))?;
+    assert_eq!(rt; accepted, None);
+    assert_eq!(rt; free_after_none(rt.alloc())?, 1);
     Ok(())
 }
 
 #[test]
 fn the_first_volume_at_fault_is_named(rt: HostRuntime) -> Result<(), Fail> {
-    let again = first_volume(rt.alloc())?;
     let counted = Some(ChainFault::WrongCount { at: 1 });
-    assert_eq!(rt; fault_after_first(rt.alloc(), again)?, counted);
-    let boot = Image::boot(rt.alloc(), &small(rt.alloc())?)?;
-    let over_boot = second_volume(rt.alloc(), boot, Reply::Frame(Frame(0)))?;
+    assert_eq!(rt; fault_of_twice(rt.alloc())?, counted);
     let based = Some(ChainFault::WrongBase { at: 1 });
-    assert_eq!(rt; fault_after_first(rt.alloc(), over_boot)?, based);
-    let base = sealed_state(rt.alloc())?;
-    let replied = second_volume(rt.alloc(), base, Reply::Frame(Frame(2)))?;
+    assert_eq!(rt; fault_over_boot(rt.alloc())?, based);
     let serial = Serial(5);
     let fault = ReplayFault::WrongReply { serial };
     let replayed = Some(ChainFault::Replay { at: 1, fault });
-    assert_eq!(rt; fault_after_first(rt.alloc(), replied)?, replayed);
+    assert_eq!(rt;
+        fault_over_sealed(rt.alloc(), Reply::Frame(Frame(2)))?,
+        replayed
+    );
     Ok(())
+}
+
+/// The fault of the second volume alone.
+fn fault_without_first(alloc: Global) -> Result<Option<ChainFault>, Fail> {
+    let base = sealed_state(alloc)?;
+    let second = second_volume(alloc, base, Reply::Frame(Frame(0)))?;
+    let layout = one_block(alloc, 9)?;
+    Ok(audit_chain(alloc, &layout, &[second]).err())
 }
 
 #[test]
 fn a_volume_whose_earlier_ones_are_missing_is_named(rt: HostRuntime) -> Result<(), Fail> {
-    let base = sealed_state(rt.alloc())?;
-    let second = second_volume(rt.alloc(), base, Reply::Frame(Frame(0)))?;
-    let layout = small(rt.alloc())?;
-    let audited = audit_chain(rt.alloc(), &layout, &[second]);
-    assert_eq!(rt; audited.err(), Some(ChainFault::WrongCount { at: 0 }));
+    let counted = Some(ChainFault::WrongCount { at: 0 });
+    assert_eq!(rt; fault_without_first(rt.alloc())?, counted);
     Ok(())
 }
 
@@ -330,11 +366,14 @@ fn copies(alloc: Global, course: &Course) -> Result<bool, AllocError> {
     Ok(copy.before() == course.before())
 }
 
+/// Whether both hold.
+fn goes_on(alloc: Global, course: &mut Course) -> Result<bool, AllocError> {
+    Ok(seals_one(alloc, course)? && copies(alloc, course)?)
+}
+
 #[test]
 fn a_sealed_course_goes_on_from_its_state(rt: HostRuntime) -> Result<(), Fail> {
-    let layout = small(rt.alloc())?;
-    let mut course = Course::boot(rt.alloc(), &layout)?;
-    assert!(rt; seals_one(rt.alloc(), &mut course)?);
-    assert!(rt; copies(rt.alloc(), &course)?);
+    let mut course = booted(rt.alloc())?;
+    assert!(rt; goes_on(rt.alloc(), &mut course)?);
     Ok(())
 }

@@ -2,10 +2,10 @@
 ghost use Rattle.std.specs.Prelude.{◌≡◌};
 ghost use Rattle.hp_shared.specs.Shared.{IsFresh};
 
-use crate::{CloseFault, CloseRefused, Job, Seat, SeatPort, Shared, close};
 use hp_history::Volume;
 use hp_machine::Machine;
 use hp_ops::run_plan;
+use hp_shared::{CloseFault, CloseRefused, Job, Seat, SeatPort, Shared, close};
 use hp_units::{Block, Boot, Cpu, Event, Item, Layout, OpEnd, Owner, Page, Parts, Plan, Wish};
 use std::alloc::{AllocError, Global};
 use std::marker::Brand;

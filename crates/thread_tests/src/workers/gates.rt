@@ -1,6 +1,6 @@
 //! Gates that hold workers until others have come as far. A gate waits for a limit of turns at most, and then notes that it did.
-use crate::Gate;
 use hp_units::Cpu;
+use hp_workers::Gate;
 use std::sync::atomic::{AtomicBool, AtomicU64, Ordering};
 use std::thread;
 

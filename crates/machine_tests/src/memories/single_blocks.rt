@@ -1,6 +1,6 @@
 //! Memory blocks that come and go.
 use super::answers;
-use crate::Memory;
+use hp_memory::Memory;
 use hp_tape::Tape;
 use hp_units::{Auto, Block, Boot, Event, Layout, LayoutFault, Parts, Refusal, Reply, Zone};
 use std::alloc::Global;

@@ -5,13 +5,13 @@ ghost use Rattle.hp_shared.specs.Shared.{IsFresh};
 
 mod gates;
 
-use crate::{Ends, Gate, LineEnd, OpenGate, RunEnd, run_workers};
 use gates::{Between, Meeting};
 use hp_control::ControlFault;
 use hp_machine::Machine;
 use hp_scenario::{Scenario, Script};
 use hp_shared::{Job, Shared, close};
 use hp_units::{Frame, OpEnd, Owner, Page, Reply};
+use hp_workers::{Ends, Gate, LineEnd, OpenGate, RunEnd, run_workers};
 use std::alloc::Global;
 use std::marker::Brand;
 use std::sync::Wait;

@@ -1,4 +1,4 @@
-use Rattle.hp_workers.proofs.tests.run_lines.Given as goal
+use Rattle.thread_tests.proofs.workers.run_lines.Given as goal
 
 -- the machine's own layout, and the ledger that was just made
 abbrev pub ghosts-run_scripts-L-Job : goal.ghosts-run_scripts-L-Job

@@ -1,6 +1,6 @@
 //! A step of every event that changes a machine, and each undone in turn.
 use super::is_answered;
-use crate::Machine;
+use hp_machine::Machine;
 use hp_plain::Image;
 use hp_units::{
     Auto, Block, Boot, Cpu, Event, Frame, Item, Layout, Order, Owner, Page, Parts, Plan, Reply,

@@ -1,31 +1,19 @@
 //! Worked calls on one memory block of four frames, and a whole offline by the driver of a plan.
 mod undo_each;
 
-use crate::{Machine, MachinePort};
+use crate::layouts::{four_blocks, one_block};
+use hp_machine::{Machine, MachinePort};
 use hp_ops::run_plan;
 use hp_units::{
-    Auto, Block, Boot, CallFault, Class, Cpu, Event, Frame, Item, Layout, OpEnd, Order, Owner,
-    Page, Parts, Plan, Refusal, Reply, Row, Serial, State, Wish, Zone,
+    Auto, Block, CallFault, Class, Cpu, Event, Frame, Item, OpEnd, Order, Owner, Page, Plan,
+    Refusal, Reply, Row, Serial, State, Wish, Zone,
 };
 use std::alloc::{AllocError, Global};
 use std::test::Fail;
 
 /// A machine with one block of one pageblock, online in zone Normal, and a limit of records.
 fn booted(alloc: Global, history: u64) -> Result<Machine, Fail> {
-    let parts = Parts {
-        order: 2,
-        pageblocks: 1,
-        blocks: 1,
-        cpus: 1,
-        batch: 1,
-        high: 1,
-        owners: 1,
-        pages: 1,
-        words: 1,
-        history,
-        boot: &[Boot::Normal],
-    };
-    let layout = Layout::new(alloc, &parts)?;
+    let layout = one_block(alloc, history)?;
     let machine = Machine::boot(alloc, &layout)?;
     Ok(machine)
 }
@@ -182,20 +170,7 @@ fn queries_show_the_state_at_boot(rt: HostRuntime) -> Result<(), Fail> {
 
 /// A machine with four blocks, of which the third is movable and the fourth offline.
 fn wide(alloc: Global) -> Result<Machine, Fail> {
-    let parts = Parts {
-        order: 2,
-        pageblocks: 1,
-        blocks: 4,
-        cpus: 2,
-        batch: 2,
-        high: 2,
-        owners: 2,
-        pages: 8,
-        words: 2,
-        history: 1000,
-        boot: &[Boot::Normal, Boot::Normal, Boot::Movable, Boot::Offline],
-    };
-    let layout = Layout::new(alloc, &parts)?;
+    let layout = four_blocks(alloc)?;
     let machine = Machine::boot(alloc, &layout)?;
     Ok(machine)
 }
