@@ -6,7 +6,8 @@ use hp_history::{
 use hp_plain::Image;
 use hp_tape::Delta;
 use hp_units::{
-    Block, Class, Cpu, Event, Frame, Item, Order, Plan, Record, Refusal, Reply, Serial, Wish,
+    Block, Class, Cpu, Event, Frame, Item, Layout, Order, Plan, Record, Refusal, Reply, Serial,
+    Wish,
 };
 use std::alloc::{AllocError, Global};
 use std::test::Fail;
@@ -71,11 +72,21 @@ fn fault_of(alloc: Global, records: &[Record]) -> Result<Option<ReplayFault>, Fa
     Ok(replay(alloc, &layout, records).err())
 }
 
+/// Whether a state is that at boot.
+fn is_at_boot(alloc: Global, layout: &Layout, image: &Image) -> Result<bool, AllocError> {
+    let boot = Image::boot(alloc, layout)?;
+    let is_same = image.same(&boot);
+    drop(boot);
+    Ok(is_same)
+}
+
 /// Whether a replay of the records leads back to the state at boot.
 fn leads_back(alloc: Global, records: &[Record]) -> Result<bool, Fail> {
     let layout = one_block(alloc, 9)?;
     let image = replay(alloc, &layout, records)?;
-    Ok(image.same(&Image::boot(alloc, &layout)?))
+    let is_back = is_at_boot(alloc, &layout, &image);
+    drop(image);
+    Ok(is_back?)
 }
 
 #[test]
@@ -92,22 +103,21 @@ fn a_cancelled_operation_leads_back_to_boot(rt: HostRuntime) -> Result<(), Fail>
     Ok(())
 }
 
-/// The state after the block was taken.
-fn taken(alloc: Global) -> Result<Image, Fail> {
+/// How many blocks of order 2 are free where the block is given back over the state in which it was taken.
+fn free_after_give(alloc: Global) -> Result<usize, Fail> {
     let layout = one_block(alloc, 9)?;
-    Ok(replay(alloc, &layout, &[take()])?)
-}
-
-/// How many blocks of order 2 are free after the block was given back from that state on.
-fn free_after_give(alloc: Global, base: &Image) -> Result<usize, Fail> {
-    let image = replay_from(alloc, base, 1, &[give()])?;
-    Ok(image.list(Class::Nu, Order(2)).len())
+    let base = replay(alloc, &layout, &[take()])?;
+    let replayed = replay_from(alloc, &base, 1, &[give()]);
+    drop(base);
+    let image = replayed?;
+    let free = image.list(Class::Nu, Order(2)).len();
+    drop(image);
+    Ok(free)
 }
 
 #[test]
 fn a_history_goes_on_from_a_base(rt: HostRuntime) -> Result<(), Fail> {
-    let base = taken(rt.alloc())?;
-    assert_eq!(rt; free_after_give(rt.alloc(), &base)?, 1);
+    assert_eq!(rt; free_after_give(rt.alloc())?, 1);
     Ok(())
 }
 
@@ -129,13 +139,20 @@ fn a_missing_record_is_named_by_its_place(rt: HostRuntime) -> Result<(), Fail> {
     Ok(())
 }
 
+/// What a replay of records finds wrong where the last serial was used before.
+fn fault_after_last(alloc: Global, records: &[Record]) -> Result<Option<ReplayFault>, Fail> {
+    let layout = one_block(alloc, 9)?;
+    let base = replay(alloc, &layout, &[])?;
+    let replayed = replay_from(alloc, &base, u64::MAX, records);
+    drop(base);
+    Ok(replayed.err())
+}
+
 #[test]
 fn no_record_comes_after_the_last_serial(rt: HostRuntime) -> Result<(), Fail> {
-    let layout = one_block(rt.alloc(), 9)?;
-    let base = replay(rt.alloc(), &layout, &[])?;
     let records = worked(rt.alloc(), 2)?;
-    let replayed = replay_from(rt.alloc(), &base, u64::MAX, &records);
-    assert_eq!(rt; replayed.err(), Some(ReplayFault::WrongSerial { at: 0 }));
+    let wanted = ReplayFault::WrongSerial { at: 0 };
+    assert_eq!(rt; fault_after_last(rt.alloc(), &records)?, Some(wanted));
     Ok(())
 }
 
@@ -155,19 +172,37 @@ fn is_fresh(course: &Course) -> bool {
         && course.memory().layout().cpus() == 1
 }
 
-/// Whether the base of a course, shown and handed out, is its state.
-fn is_at_its_base(alloc: Global, course: Course) -> Result<bool, AllocError> {
-    let image = course.image(alloc)?;
-    let is_shown = course.base().same(&image);
+/// Whether the base of a course, shown and handed out, is this state.
+fn has_base(course: Course, image: &Image) -> bool {
+    let is_shown = course.base().same(image);
     let base = course.into_base();
-    Ok(is_shown && base.same(&image))
+    let is_handed_out = base.same(image);
+    drop(base);
+    is_shown && is_handed_out
+}
+
+/// Whether the base of a course is its state.
+fn is_at_its_base(alloc: Global, course: Course) -> Result<bool, AllocError> {
+    match course.image(alloc) {
+        Ok(image) => {
+            let is_so = has_base(course, &image);
+            drop(image);
+            Ok(is_so)
+        }
+        Err(fault) => {
+            drop(course);
+            Err(fault)
+        }
+    }
 }
 
 #[test]
 fn a_course_shows_what_it_keeps(rt: HostRuntime) -> Result<(), Fail> {
     let course = booted(rt.alloc())?;
-    assert!(rt; is_fresh(&course));
-    assert!(rt; is_at_its_base(rt.alloc(), course)?);
+    let fresh = is_fresh(&course);
+    let at_base = is_at_its_base(rt.alloc(), course);
+    assert!(rt; fresh);
+    assert!(rt; at_base?);
     Ok(())
 }
 
@@ -208,7 +243,9 @@ fn makes_two_steps(alloc: Global, course: &mut Course) -> Result<bool, AllocErro
 #[test]
 fn an_entry_holds_what_its_step_did(rt: HostRuntime) -> Result<(), Fail> {
     let mut course = booted(rt.alloc())?;
-    assert!(rt; makes_two_steps(rt.alloc(), &mut course)?);
+    let shown = makes_two_steps(rt.alloc(), &mut course);
+    drop(course);
+    assert!(rt; shown?);
     Ok(())
 }
 
@@ -224,7 +261,9 @@ fn undoes_the_second(alloc: Global, course: &mut Course) -> Result<bool, AllocEr
 #[test]
 fn an_undo_leaves_the_deltas_of_earlier_steps(rt: HostRuntime) -> Result<(), Fail> {
     let mut course = booted(rt.alloc())?;
-    assert!(rt; undoes_the_second(rt.alloc(), &mut course)?);
+    let undone = undoes_the_second(rt.alloc(), &mut course);
+    drop(course);
+    assert!(rt; undone?);
     Ok(())
 }
 
@@ -265,8 +304,8 @@ fn sealed_state(alloc: Global) -> Result<Image, Fail> {
     Ok(replay(alloc, &layout, &taken_and_given(alloc)?)?)
 }
 
-/// The volume after it over a base: undos of sealed and of no records, and a block that is taken with this reply.
-fn second_volume(alloc: Global, base: Image, reply: Reply) -> Result<Volume, Fail> {
+/// The records after these: undos of sealed and of no records, and a block that is taken with this reply.
+fn second_records(alloc: Global, reply: Reply) -> Result<Vec<Record>, AllocError> {
     let gone = Event::UndoAfter { serial: Serial(0) };
     let none = Event::UndoAfter { serial: Serial(2) };
     let take = Event::KernelAlloc { order: Order(1) };
@@ -274,14 +313,34 @@ fn second_volume(alloc: Global, base: Image, reply: Reply) -> Result<Volume, Fai
     records.push(record_of(3, gone, Reply::Refused(Refusal::Gone)))?;
     records.push(record_of(4, none, Reply::Undone { count: 0 }))?;
     records.push(record_of(5, take, reply))?;
+    Ok(records)
+}
+
+/// The volume of these over the state at boot.
+fn second_over_boot(alloc: Global) -> Result<Volume, Fail> {
+    let records = second_records(alloc, Reply::Frame(Frame(0)))?;
+    let base = Image::boot(alloc, &one_block(alloc, 9)?)?;
     Ok(volume(2, base, records))
 }
 
-/// The fault of the first volume and one after it.
-fn fault_after_first(alloc: Global, second: Volume) -> Result<Option<ChainFault>, Fail> {
+/// The volume of these over the state that the first volume leads to.
+fn second_over_sealed(alloc: Global, reply: Reply) -> Result<Volume, Fail> {
+    let records = second_records(alloc, reply)?;
+    let base = sealed_state(alloc)?;
+    Ok(volume(2, base, records))
+}
+
+/// The first volume and one after it.
+fn chain(alloc: Global, second: Volume) -> Result<Vec<Volume>, Fail> {
     let mut volumes = Vec::new(alloc);
     volumes.push(first_volume(alloc)?)?;
     volumes.push(second)?;
+    Ok(volumes)
+}
+
+/// The fault of both.
+fn fault_after_first(alloc: Global, second: Volume) -> Result<Option<ChainFault>, Fail> {
+    let volumes = chain(alloc, second)?;
     let layout = one_block(alloc, 9)?;
     Ok(audit_chain(alloc, &layout, &volumes).err())
 }
@@ -294,15 +353,13 @@ fn fault_of_twice(alloc: Global) -> Result<Option<ChainFault>, Fail> {
 
 /// The fault where the second volume is over the state at boot.
 fn fault_over_boot(alloc: Global) -> Result<Option<ChainFault>, Fail> {
-    let boot = Image::boot(alloc, &one_block(alloc, 9)?)?;
-    let over_boot = second_volume(alloc, boot, Reply::Frame(Frame(0)))?;
-    fault_after_first(alloc, over_boot)
+    let second = second_over_boot(alloc)?;
+    fault_after_first(alloc, second)
 }
 
 /// The fault where the second volume is over the state that the first leads to.
 fn fault_over_sealed(alloc: Global, reply: Reply) -> Result<Option<ChainFault>, Fail> {
-    let base = sealed_state(alloc)?;
-    let second = second_volume(alloc, base, reply)?;
+    let second = second_over_sealed(alloc, reply)?;
     fault_after_first(alloc, second)
 }
 
@@ -310,13 +367,22 @@ fn fault_over_sealed(alloc: Global, reply: Reply) -> Result<Option<ChainFault>, 
 fn free_after_none(alloc: Global) -> Result<usize, Fail> {
     let layout = one_block(alloc, 9)?;
     let image = audit_chain(alloc, &layout, &[])?;
-    Ok(image.list(Class::Nm, Order(2)).len())
+    let free = image.list(Class::Nm, Order(2)).len();
+    drop(image);
+    Ok(free)
+}
+
+/// Whether a volume over the state that the first leads to is accepted after it.
+fn follows_the_first(alloc: Global) -> Result<bool, Fail> {
+    let second = second_over_sealed(alloc, Reply::Frame(Frame(0)))?;
+    let volumes = chain(alloc, second)?;
+    let layout = one_block(alloc, 9)?;
+    Ok(audit_chain(alloc, &layout, &volumes).is_ok())
 }
 
 #[test]
 fn volumes_that_follow_one_another_are_accepted(rt: HostRuntime) -> Result<(), Fail> {
-    let accepted = fault_over_sealed(rt.alloc(), Reply::Frame(Frame(0)))?;
-    assert_eq!(rt; accepted, None);
+    assert!(rt; follows_the_first(rt.alloc())?);
     assert_eq!(rt; free_after_none(rt.alloc())?, 1);
     Ok(())
 }
@@ -339,9 +405,8 @@ fn the_first_volume_at_fault_is_named(rt: HostRuntime) -> Result<(), Fail> {
 
 /// The fault of the second volume alone.
 fn fault_without_first(alloc: Global) -> Result<Option<ChainFault>, Fail> {
-    let base = sealed_state(alloc)?;
-    let second = second_volume(alloc, base, Reply::Frame(Frame(0)))?;
     let layout = one_block(alloc, 9)?;
+    let second = second_over_sealed(alloc, Reply::Frame(Frame(0)))?;
     Ok(audit_chain(alloc, &layout, &[second]).err())
 }
 
@@ -363,7 +428,9 @@ fn seals_one(alloc: Global, course: &mut Course) -> Result<bool, AllocError> {
 /// Whether a copy has as many earlier records.
 fn copies(alloc: Global, course: &Course) -> Result<bool, AllocError> {
     let copy = course.copy(alloc)?;
-    Ok(copy.before() == course.before())
+    let before = copy.before();
+    drop(copy);
+    Ok(before == course.before())
 }
 
 /// Whether both hold.
@@ -374,6 +441,8 @@ fn goes_on(alloc: Global, course: &mut Course) -> Result<bool, AllocError> {
 #[test]
 fn a_sealed_course_goes_on_from_its_state(rt: HostRuntime) -> Result<(), Fail> {
     let mut course = booted(rt.alloc())?;
-    assert!(rt; goes_on(rt.alloc(), &mut course)?);
+    let went_on = goes_on(rt.alloc(), &mut course);
+    drop(course);
+    assert!(rt; went_on?);
     Ok(())
 }

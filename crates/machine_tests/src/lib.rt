@@ -6,6 +6,8 @@
 #![tactic(auto)]
 
 #[cfg(test)]
+mod explorations;
+#[cfg(test)]
 mod histories;
 #[cfg(test)]
 mod layouts;

@@ -54,7 +54,9 @@ fn joins(alloc: Global, machine: &mut Machine) -> bool {
 #[test]
 fn free_blocks_join(rt: HostRuntime) -> Result<(), Fail> {
     let mut machine = booted(rt.alloc(), 9)?;
-    assert!(rt; joins(rt.alloc(), &mut machine));
+    let joined = joins(rt.alloc(), &mut machine);
+    drop(machine);
+    assert!(rt; joined);
     Ok(())
 }
 
@@ -72,7 +74,9 @@ fn returns_a_block(alloc: Global, machine: &mut Machine) -> bool {
 #[test]
 fn undo_returns_a_stolen_pageblock(rt: HostRuntime) -> Result<(), Fail> {
     let mut machine = booted(rt.alloc(), 9)?;
-    assert!(rt; returns_a_block(rt.alloc(), &mut machine));
+    let returned = returns_a_block(rt.alloc(), &mut machine);
+    drop(machine);
+    assert!(rt; returned);
     Ok(())
 }
 
@@ -90,7 +94,9 @@ fn takes_one_call(alloc: Global, machine: &mut Machine) -> bool {
 #[test]
 fn a_full_history_takes_no_call(rt: HostRuntime) -> Result<(), Fail> {
     let mut machine = booted(rt.alloc(), 1)?;
-    assert!(rt; takes_one_call(rt.alloc(), &mut machine));
+    let took = takes_one_call(rt.alloc(), &mut machine);
+    drop(machine);
+    assert!(rt; took);
     Ok(())
 }
 
@@ -121,23 +127,32 @@ fn seals_two(alloc: Global, machine: &mut Machine) -> Result<bool, AllocError> {
 #[test]
 fn a_seal_ends_what_can_be_undone(rt: HostRuntime) -> Result<(), Fail> {
     let mut machine = booted(rt.alloc(), 3)?;
-    assert!(rt; seals_two(rt.alloc(), &mut machine)?);
-    assert!(rt; goes_on(rt.alloc(), &mut machine));
-    assert!(rt; seals(rt.alloc(), &mut machine, 2, 3)?);
+    let sealed = seals_two(rt.alloc(), &mut machine);
+    let went_on = goes_on(rt.alloc(), &mut machine);
+    let sealed_again = seals(rt.alloc(), &mut machine, 2, 3);
+    drop(machine);
+    assert!(rt; sealed?);
+    assert!(rt; went_on);
+    assert!(rt; sealed_again?);
     Ok(())
 }
 
 /// Whether a copy has two sealed records, and a free block in its base.
 fn copy_shows_seals(alloc: Global, machine: &Machine) -> Result<bool, AllocError> {
     let copy = machine.copy(alloc)?;
-    Ok(copy.sealed() == 2 && copy.base().list(Class::Nu, Order(2)).len() == 1)
+    let shows = copy.sealed() == 2 && copy.base().list(Class::Nu, Order(2)).len() == 1;
+    drop(copy);
+    Ok(shows)
 }
 
 #[test]
 fn a_copy_shows_what_was_sealed(rt: HostRuntime) -> Result<(), Fail> {
     let mut machine = booted(rt.alloc(), 3)?;
-    assert!(rt; seals_two(rt.alloc(), &mut machine)?);
-    assert!(rt; copy_shows_seals(rt.alloc(), &machine)?);
+    let sealed = seals_two(rt.alloc(), &mut machine);
+    let shown = copy_shows_seals(rt.alloc(), &machine);
+    drop(machine);
+    assert!(rt; sealed?);
+    assert!(rt; shown?);
     Ok(())
 }
 
@@ -157,14 +172,19 @@ fn shows_boot(machine: &Machine) -> bool {
 /// Whether the Image of the state has so many free blocks of order 2.
 fn image_has(alloc: Global, machine: &Machine, count: usize) -> Result<bool, AllocError> {
     let image = machine.image(alloc)?;
-    Ok(image.list(Class::Nm, Order(2)).len() == count)
+    let has = image.list(Class::Nm, Order(2)).len() == count;
+    drop(image);
+    Ok(has)
 }
 
 #[test]
 fn queries_show_the_state_at_boot(rt: HostRuntime) -> Result<(), Fail> {
     let machine = booted(rt.alloc(), 1)?;
-    assert!(rt; shows_boot(&machine));
-    assert!(rt; image_has(rt.alloc(), &machine, 1)?);
+    let shown = shows_boot(&machine);
+    let in_image = image_has(rt.alloc(), &machine, 1);
+    drop(machine);
+    assert!(rt; shown);
+    assert!(rt; in_image?);
     Ok(())
 }
 
@@ -211,7 +231,10 @@ fn has_moved(machine: &Machine) -> bool {
 #[test]
 fn a_mapped_block_goes_offline(rt: HostRuntime) -> Result<(), Fail> {
     let mut machine = wide(rt.alloc())?;
-    assert!(rt; goes_offline(rt.alloc(), &mut machine)?);
-    assert!(rt; has_moved(&machine));
+    let gone = goes_offline(rt.alloc(), &mut machine);
+    let moved = has_moved(&machine);
+    drop(machine);
+    assert!(rt; gone?);
+    assert!(rt; moved);
     Ok(())
 }

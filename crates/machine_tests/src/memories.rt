@@ -29,11 +29,20 @@ fn answers(
     Ok(true)
 }
 
-#[test]
-fn a_block_goes_offline_once_its_page_has_moved(rt: HostRuntime) -> Result<(), Fail> {
-    let alloc = rt.alloc();
-    let mut memory = Memory::boot(alloc, &four_blocks(alloc)?)?;
+/// Runs events in turn on a tape of their own; whether each is answered as it is to be.
+fn all_answered(
+    alloc: Global,
+    memory: &mut Memory,
+    calls: &[(u64, Event, Reply)],
+) -> Result<bool, AllocError> {
     let mut tape = Tape::with_room(alloc, 0)?;
+    let answered = answers(alloc, memory, &mut tape, calls);
+    drop(tape);
+    answered
+}
+
+/// Whether a block goes offline once its page has moved.
+fn goes_offline(alloc: Global, memory: &mut Memory) -> Result<bool, AllocError> {
     let (owner, page, op) = (Owner(0), Page(0), Serial(2));
     let leave = Item {
         block: Block(2),
@@ -50,7 +59,21 @@ fn a_block_goes_offline_once_its_page_has_moved(rt: HostRuntime) -> Result<(), F
         (5, Event::Drain { cpu }, Reply::Done),
         (6, Event::Commit { op }, Reply::Done),
     ];
-    assert!(rt; answers(alloc, &mut memory, &mut tape, &calls)?);
+    all_answered(alloc, memory, &calls)
+}
+
+/// A memory of the four blocks.
+fn booted(alloc: Global) -> Result<Memory, Fail> {
+    let layout = four_blocks(alloc)?;
+    Ok(Memory::boot(alloc, &layout)?)
+}
+
+#[test]
+fn a_block_goes_offline_once_its_page_has_moved(rt: HostRuntime) -> Result<(), Fail> {
+    let mut memory = booted(rt.alloc())?;
+    let gone = goes_offline(rt.alloc(), &mut memory);
+    drop(memory);
+    assert!(rt; gone?);
     Ok(())
 }
 
@@ -72,17 +95,29 @@ fn stepped_and_back(
     Ok(reply)
 }
 
-#[test]
-fn a_step_goes_back(rt: HostRuntime) -> Result<(), Fail> {
-    let alloc = rt.alloc();
-    let layout = four_blocks(alloc)?;
-    let mut memory = Memory::boot(alloc, &layout)?;
-    let mut tape = Tape::with_room(alloc, 0)?;
+/// Whether a block is taken alike before and after a step that took it and was taken back.
+fn takes_twice(alloc: Global, memory: &mut Memory, tape: &mut Tape) -> Result<bool, AllocError> {
     let take = Event::KernelAlloc { order: Order(1) };
     let frame = Reply::Frame(Frame(0));
-    let answer = stepped_and_back(alloc, &mut memory, &mut tape, Serial(1), &take)?;
-    assert!(rt; answer.same(&frame));
+    let answer = stepped_and_back(alloc, memory, tape, Serial(1), &take)?;
+    let first = answer.same(&frame);
     let again = [(1, take, frame)];
-    assert!(rt; answers(alloc, &mut memory, &mut tape, &again)?);
+    Ok(first && answers(alloc, memory, tape, &again)?)
+}
+
+/// Whether that holds on a tape of its own.
+fn goes_back(alloc: Global, memory: &mut Memory) -> Result<bool, AllocError> {
+    let mut tape = Tape::with_room(alloc, 0)?;
+    let took = takes_twice(alloc, memory, &mut tape);
+    drop(tape);
+    took
+}
+
+#[test]
+fn a_step_goes_back(rt: HostRuntime) -> Result<(), Fail> {
+    let mut memory = booted(rt.alloc())?;
+    let was_back = goes_back(rt.alloc(), &mut memory);
+    drop(memory);
+    assert!(rt; was_back?);
     Ok(())
 }

@@ -125,6 +125,22 @@ fn keeps_states(
     Ok(true)
 }
 
+/// Whether the machine is in the state that was kept after so many calls.
+fn is_in_state(
+    alloc: Global,
+    machine: &Machine,
+    states: &[Image],
+    after: usize,
+) -> Result<bool, AllocError> {
+    let now = machine.image(alloc)?;
+    let is_same = match states.get(after) {
+        Some(state) => state.same(&now),
+        None => false,
+    };
+    drop(now);
+    Ok(is_same)
+}
+
 /// Whether an undo of all after so many calls gives the state that was kept after them.
 fn is_back(
     alloc: Global,
@@ -133,17 +149,11 @@ fn is_back(
     after: usize,
 ) -> Result<bool, AllocError> {
     let serial = Serial(after as u64);
-    if machine
-        .call(alloc, Cpu(0), &Event::UndoAfter { serial })
-        .is_err()
-    {
+    let undo = Event::UndoAfter { serial };
+    if machine.call(alloc, Cpu(0), &undo).is_err() {
         return Ok(false);
     }
-    let now = machine.image(alloc)?;
-    Ok(match states.get(after) {
-        Some(state) => state.same(&now),
-        None => false,
-    })
+    is_in_state(alloc, machine, states, after)
 }
 
 /// Whether one call undone after the other gives each state that was kept, down to the first.
@@ -156,18 +166,33 @@ fn undoes_each(alloc: Global, machine: &mut Machine, states: &[Image]) -> Result
     Ok(states.len() == 17)
 }
 
+/// Makes every call and keeps the state after each; whether each has its reply.
+fn goes_there(
+    alloc: Global,
+    machine: &mut Machine,
+    states: &mut Vec<Image>,
+) -> Result<bool, AllocError> {
+    Ok(
+        keeps_states(alloc, machine, &accesses(alloc)?, states)?
+            && keeps_states(alloc, machine, &removal(alloc)?, states)?
+            && keeps_states(alloc, machine, &blocks(alloc)?, states)?,
+    )
+}
+
 /// Whether every call has its reply and can be undone in turn.
 fn goes_there_and_back(alloc: Global, machine: &mut Machine) -> Result<bool, AllocError> {
     let mut states = vec![in alloc; machine.image(alloc)?]?;
-    let answered = keeps_states(alloc, machine, &accesses(alloc)?, &mut states)?
-        && keeps_states(alloc, machine, &removal(alloc)?, &mut states)?
-        && keeps_states(alloc, machine, &blocks(alloc)?, &mut states)?;
-    Ok(answered && undoes_each(alloc, machine, &states)?)
+    let answered = goes_there(alloc, machine, &mut states);
+    let undone = undoes_each(alloc, machine, &states);
+    drop(states);
+    Ok(answered? && undone?)
 }
 
 #[test]
 fn each_call_can_be_undone_in_turn(rt: HostRuntime) -> Result<(), Fail> {
     let mut machine = with_an_absent_block(rt.alloc())?;
-    assert!(rt; goes_there_and_back(rt.alloc(), &mut machine)?);
+    let was_there = goes_there_and_back(rt.alloc(), &mut machine);
+    drop(machine);
+    assert!(rt; was_there?);
     Ok(())
 }

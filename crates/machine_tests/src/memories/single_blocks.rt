@@ -1,9 +1,8 @@
 //! Memory blocks that come and go.
-use super::answers;
+use super::all_answered;
 use hp_memory::Memory;
-use hp_tape::Tape;
 use hp_units::{Auto, Block, Boot, Event, Layout, LayoutFault, Parts, Refusal, Reply, Zone};
-use std::alloc::Global;
+use std::alloc::{AllocError, Global};
 use std::test::Fail;
 
 /// Four memory blocks of 32 bytes: one online, two offline, and the third absent.
@@ -26,11 +25,8 @@ fn scattered(alloc: Global) -> Result<Layout, LayoutFault> {
     )
 }
 
-#[test]
-fn blocks_come_and_go(rt: HostRuntime) -> Result<(), Fail> {
-    let alloc = rt.alloc();
-    let mut memory = Memory::boot(alloc, &scattered(alloc)?)?;
-    let mut tape = Tape::with_room(alloc, 0)?;
+/// Whether blocks come and go.
+fn come_and_go(alloc: Global, memory: &mut Memory) -> Result<bool, AllocError> {
     let (zone, auto) = (Zone::Movable, Auto::OnlineMovable);
     let (first, last) = (Block(1), Block(3));
     let calls = [
@@ -45,6 +41,15 @@ fn blocks_come_and_go(rt: HostRuntime) -> Result<(), Fail> {
             Reply::Refused(Refusal::NotOffline { block: last }),
         ),
     ];
-    assert!(rt; answers(alloc, &mut memory, &mut tape, &calls)?);
+    all_answered(alloc, memory, &calls)
+}
+
+#[test]
+fn blocks_come_and_go(rt: HostRuntime) -> Result<(), Fail> {
+    let layout = scattered(rt.alloc())?;
+    let mut memory = Memory::boot(rt.alloc(), &layout)?;
+    let went = come_and_go(rt.alloc(), &mut memory);
+    drop(memory);
+    assert!(rt; went?);
     Ok(())
 }
