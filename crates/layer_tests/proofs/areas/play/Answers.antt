@@ -1,8 +1,8 @@
 -- Each turn has room, and its notes join those before.
-use Rattle.std.proofs.Common.{◌≡◌, ℕ, ◌+◌, ◌*◌, ◌<◌, ◌≤◌, sym, ◌∙◌, subst, arith}
+use Rattle.std.proofs.Common.{◌+◌, ◌*◌, ◌<◌, ◌≤◌, sym, ◌∙◌, subst, arith}
 use Rattle.hp_units.specs.LayoutParts.{LayoutParts}
 use Rattle.hp_units.specs.Arithmetic.{pageblock_count}
-use Rattle.hp_tape.specs.Tapes.{HasRoom, NotesAreas}
+use Rattle.hp_tape.specs.Tapes.{HasRoom}
 use Rattle.layer_tests.specs.AreaScripts.{turn_bound}
 use Rattle.hp_buddy.proofs.Calls.{notes-then, room_left}
 use Rattle.hp_buddy.proofs.Scripts.{room_for_one, one_done}

@@ -1,5 +1,5 @@
 -- What was noted is undone.
-use Rattle.std.proofs.Common.{◌≡◌, ◌*◌, sym, ◌∙◌, subst}
+use Rattle.std.proofs.Common.{◌*◌, sym, ◌∙◌, subst}
 use Rattle.std.specs.List.{AllByRecursion}
 use Rattle.hp_units.specs.LayoutParts.{LayoutParts}
 use Rattle.hp_tape.specs.Deltas.{IsDeltaOf}

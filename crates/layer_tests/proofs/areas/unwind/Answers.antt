@@ -1,9 +1,9 @@
 -- Each delta is undone when its turn comes.
-use Rattle.std.proofs.Common.{◌≡◌, List, [], subst, sym, ◌∙◌, ap}
+use Rattle.std.proofs.Common.{List, subst, sym, ◌∙◌, ap}
 use Rattle.hp_units.specs.LayoutParts.{LayoutParts}
 use Rattle.hp_tape.specs.declared.deltas.Delta.{Delta}
 use Rattle.hp_tape.specs.Deltas.{IsDeltaOf, undo_all, areas_undo}
-use Rattle.layer_tests.proofs.AreaUndoes.{IsUnwound, latest, unwound}
+use Rattle.layer_tests.proofs.AreaUndoes.{latest, unwound}
 use Rattle.layer_tests.proofs.areas.unwind.Goals as goal
 
 pub back-requires-clause-fits : goal.back-requires-clause-fits

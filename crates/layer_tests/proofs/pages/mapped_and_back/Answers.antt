@@ -2,7 +2,7 @@
 use Rattle.std.proofs.Common.{subst, sym, ◌∙◌, ap}
 use Rattle.std.specs.List.{AllByRecursion}
 use Rattle.hp_units.specs.LayoutParts.{LayoutParts}
-use Rattle.hp_tape.specs.Deltas.{AllFit, FitsPages, IsDeltaOf, PageFrames, pages_undo}
+use Rattle.hp_tape.specs.Deltas.{AllFit, FitsPages, IsDeltaOf, pages_undo}
 use Rattle.hp_pages.specs.Pages.{PagesValue}
 use Rattle.layer_tests.proofs.PageUndoes.{leads_back}
 use Rattle.layer_tests.proofs.pages.mapped_and_back.Goals as goal

@@ -1,5 +1,5 @@
 -- Short lists note few deltas.
-use Rattle.std.proofs.Common.{◌≡◌, ℕ, ◌+◌, ◌*◌, ◌≤◌, arith}
+use Rattle.std.proofs.Common.{◌+◌, arith}
 use Rattle.std.proofs.Math.Nat.{mul-le-mul_right}
 use Rattle.hp_tape.specs.Bounds.{cached_frames, drain_bound}
 use Rattle.hp_cpus.specs.Cpus.{frames_of}

@@ -1,6 +1,6 @@
-use Rattle.std.proofs.Common.{◌≡◌, sym, ◌∙◌, ap, subst}
+use Rattle.std.proofs.Common.{sym, ◌∙◌, ap, subst}
 use Rattle.hp_units.specs.LayoutParts.{LayoutParts}
-use Rattle.hp_units.specs.Memory.{FreeAreas, FreeFrames}
+use Rattle.hp_units.specs.Memory.{FreeAreas}
 use Rattle.hp_tape.specs.Deltas.{IsDeltaOf, areas_undo, cached_undo}
 use Rattle.hp_cpus.specs.Cpus.{frames_of}
 use Rattle.layer_tests.proofs.FrameUndoes.{areas-kept, cached-kept}

@@ -1,5 +1,5 @@
 -- A pageblock that moves leaves every frame in as many free blocks.
-use Rattle.std.proofs.Common.{◌≡◌, ◌≤◌, sym, subst, arith}
+use Rattle.std.proofs.Common.{subst, arith}
 use Rattle.hp_units.specs.LayoutParts.{LayoutParts}
 use Rattle.hp_tape.specs.Bounds.{move_bound}
 use Rattle.hp_tape.specs.Tapes.{NotesAreas}

@@ -1,8 +1,8 @@
 -- Each turn has room, and its notes join those before.
-use Rattle.std.proofs.Common.{◌≡◌, ℕ, ◌+◌, ◌*◌, ◌<◌, ◌≤◌, sym, ◌∙◌, subst, arith}
+use Rattle.std.proofs.Common.{◌+◌, ◌*◌, ◌<◌, ◌≤◌, sym, ◌∙◌, subst, arith}
 use Rattle.hp_units.specs.LayoutParts.{LayoutParts}
 use Rattle.hp_units.specs.Arithmetic.{pageblock_count}
-use Rattle.hp_tape.specs.Tapes.{HasRoom, NotesFree}
+use Rattle.hp_tape.specs.Tapes.{HasRoom}
 use Rattle.hp_cpus.specs.Cpus.{frames_of}
 use Rattle.layer_tests.specs.FrameScripts.{turn_bound}
 use Rattle.hp_cpus.proofs.Besides.{notes-then, room_left}

@@ -1,5 +1,5 @@
 -- What the areas note leads back beside the lists.
-use Rattle.std.proofs.Common.{◌≡◌, subst}
+use Rattle.std.proofs.Common.{subst}
 use Rattle.hp_units.specs.LayoutParts.{LayoutParts}
 use Rattle.hp_tape.specs.Bounds.{steal_bound}
 use Rattle.hp_tape.specs.Tapes.{NotesAreas}

@@ -1,5 +1,5 @@
 -- There is room, and a frame that is out stays out.
-use Rattle.std.proofs.Common.{◌≡◌, ◌≤◌, List, [], length, ap, arith}
+use Rattle.std.proofs.Common.{◌≡◌, List, length, ap, arith}
 use Rattle.hp_units.specs.declared.rows.Pool.TheVariants.{Nm}
 use Rattle.hp_tape.specs.declared.deltas.Delta.{Delta}
 use Rattle.hp_cpus.specs.Cpus.{frames_of}

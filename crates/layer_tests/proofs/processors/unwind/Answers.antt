@@ -1,5 +1,5 @@
 -- Each delta is undone when its turn comes.
-use Rattle.std.proofs.Common.{◌≡◌, List, [], subst, sym, ◌∙◌, ap}
+use Rattle.std.proofs.Common.{List, subst, sym, ◌∙◌, ap}
 use Rattle.hp_units.specs.LayoutParts.{LayoutParts}
 use Rattle.hp_tape.specs.declared.deltas.Delta.{Delta}
 use Rattle.hp_tape.specs.Deltas.{IsDeltaOf, undo_all, free_undo}
