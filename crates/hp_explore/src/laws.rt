@@ -14,11 +14,13 @@ pub fn counts_are_unique()
 /// Where each line of each script is one call, the complete schedules are those in which each processor stands as often as its
 /// script has lines (own rule).
 pub fn schedules_are_interleavings()
-    ensures { (g : Setting) (s : List ℕ) → AreOneCalls g.scripts → (IsComplete g s ↔ IsInterleaving g.scripts s) }
+    ensures { (g : Setting) (s : List ℕ) → AreOneCalls g.scripts
+        → (IsComplete g s ↔ IsInterleaving g.scripts s) }
 {}
 
 /// Where each line of each script is one call, there are as many complete schedules as the multinomial coefficient of the scripts'
 /// lengths says (Knuth 1, 1.2.6).
 pub fn interleavings_are_counted()
-    ensures { (g : Setting) (m : ℕ) → AreOneCalls g.scripts → HasCount (IsComplete g) m → IsCountOfLengths g.scripts m }
+    ensures { (g : Setting) (m : ℕ) → AreOneCalls g.scripts
+        → HasCount (IsComplete g) m → IsCountOfLengths g.scripts m }
 {}

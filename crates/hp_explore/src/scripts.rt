@@ -97,7 +97,8 @@ impl Line {
         receipts: &[Receipt],
     ) -> Result<Option<usize>, AllocError>
         ensures within { IfOk result (λ at. IfSome at (λ n. n ≤ length receipts.now)) }
-        ensures over { IfOk result (λ at. after_line cpus op self.now [] receipts.now ≡ rest_at receipts.now at) }
+        ensures over { IfOk result (λ at. after_line cpus op self.now [] receipts.now
+            ≡ rest_at receipts.now at) }
     {
         for at in 0..receipts.len() {
             if self.next(alloc, cpus, op, &receipts[..at])?.is_none() {

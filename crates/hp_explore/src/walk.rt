@@ -129,7 +129,8 @@ fn note_end(
     tally: &mut Tally,
 ) -> Result<(), ExploreFault>
     requires { length start.now.history ≤ length machine.now.history }
-    ensures ok { OnOk result (IsEndNoted processors start.now machine.now tally.old.ends tally.new.ends) }
+    ensures ok { OnOk result
+        (IsEndNoted processors start.now machine.now tally.old.ends tally.new.ends) }
     ensures limit { tally.new.limit ≡ tally.old.limit }
     ensures err { IfErr result (IsNoteCause tally.old) }
 {
