@@ -13,7 +13,8 @@ use Rattle.hp_units.specs.declared.replies.Record.{Record}
 use Rattle.hp_machine.specs.Machine.{MachineValue, is_full}
 use Rattle.hp_explore.specs.declared.tally.Ending.{Ending}
 use Rattle.hp_explore.specs.Ends.{AreCounted}
-use Rattle.hp_explore.specs.Faults.{FillsHistory, IsCallCause, IsCause, IsNoteCause, is_full_after}
+use Rattle.hp_explore.specs.Faults.{FillsHistory, IsCallCause, IsCause, IsNoteCause, IsWalkCause, is_full_after}
+use Rattle.hp_explore.specs.Interleavings.{IsNotKnownTooMany}
 use Rattle.hp_explore.specs.Notes.{IsNoted, TallyValue, fault_of}
 use Rattle.hp_explore.specs.declared.exploring.ExploreFault.{ExploreFault}
 use Rattle.hp_explore.specs.declared.exploring.ExploreFault.TheVariants.{TooMany, HistoryFull, OutOfMemory}
@@ -85,7 +86,7 @@ leaf start m scripts limit cpu is_over tally new all none here so_far adds =
     g = setting start scripts
 
 -- why one more could not be counted
-pub leaf_fault : (g : Setting) (m : MachineValue) (limit cpu : ℕ) (is_over : Bool) (tally : TallyValue) (fault : ExploreFault) → cpu ≡ length g.scripts → is_over ≡ true → IsReached g m → IsWalked g m limit cpu is_over tally → IsNoteCause tally fault → IsCause g limit fault
+pub leaf_fault : (g : Setting) (m : MachineValue) (limit cpu : ℕ) (is_over : Bool) (tally : TallyValue) (fault : ExploreFault) → cpu ≡ length g.scripts → is_over ≡ true → IsReached g m → IsWalked g m limit cpu is_over tally → IsNoteCause tally fault → IsWalkCause g limit fault
 leaf_fault g m limit cpu is_over tally TooMany all none here so_far cause =
     walk_exceeds g (place_of g m) (news_in g m) tally.ends limit here.played
     (over_all g (news_in g m) (subst (λ (n : ℕ). IsOverBelow g (news_in g m) n true) all (subst (IsOverBelow g (news_in g m) cpu) none so_far.over)))
@@ -110,10 +111,16 @@ call_fills g m next result CallFull here same is full = fills g m here (subst (�
 call_fills g m next result CallMemory here same is full = tt
 
 -- a call's fault is one of the exploration
-pub call_cause : (g : Setting) (limit : ℕ) (fault : ExploreFault) → IsCallCause g fault → IsCause g limit fault
+pub call_cause : (g : Setting) (limit : ℕ) (fault : ExploreFault) → IsCallCause g fault → IsWalkCause g limit fault
 call_cause g limit TooMany cause = absurd cause
 call_cause g limit HistoryFull cause = cause
 call_cause g limit OutOfMemory cause = cause
+
+-- and the walk's is one where the limit was not known to be exceeded
+pub walk_cause : (g : Setting) (limit : ℕ) (fault : ExploreFault) → IsNotKnownTooMany g.scripts limit → IsWalkCause g limit fault → IsCause g limit fault
+walk_cause g limit TooMany known cause = cause
+walk_cause g limit HistoryFull known cause = (cause, known)
+walk_cause g limit OutOfMemory known cause = cause
 
 -- ---- one schedule
 

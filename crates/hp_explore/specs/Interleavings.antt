@@ -1,8 +1,8 @@
 -- Complete schedules of scripts without plans, in plain terms.
-use Rattle.std.specs.Prelude.{◌≡◌, ℕ, ◌<◌, Bool, true, false, List, length, map, slice_get}
+use Rattle.std.specs.Prelude.{◌≡◌, ℕ, ◌<◌, ◌≤◌, ◌^◌, Bool, true, false, List, length, map, slice_get}
 use Rattle.std.specs.List.{list_all}
 use Rattle.std.specs.Option.{option_map_or}
-use Rattle.hp_explore.specs.Multinomials.{IsMultinomial, turns_of}
+use Rattle.hp_explore.specs.Multinomials.{IsMultinomial, sum, turns_of}
 use Rattle.hp_explore.specs.declared.scripts.Line.{Line}
 use Rattle.hp_explore.specs.declared.scripts.Line.TheVariants.{Ask, Own, Carry}
 
@@ -37,3 +37,7 @@ IsCountOfLengths scripts m = IsMultinomial (script_lengths scripts) m
 -- each line is one call, and there are more interleavings than a limit
 abbrev pub AreTooMany : List (List Line) → (limit : ℕ) → Type 0
 AreTooMany scripts limit = AreOneCalls scripts × ((m : ℕ) → IsCountOfLengths scripts m → limit < m)
+
+-- it is not known before any call that there are: not so, or the scripts have 2^64 lines or more
+abbrev pub IsNotKnownTooMany : List (List Line) → (limit : ℕ) → Type 0
+IsNotKnownTooMany scripts limit = AreTooMany scripts limit → 2 ^ 64 ≤ sum (script_lengths scripts)

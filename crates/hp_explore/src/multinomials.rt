@@ -1,23 +1,30 @@
 //! How many interleavings of scripts there are, known before any is played.
-ghost use Rattle.std.specs.Prelude.{◌≡◌, ◌↔◌, ◌+◌, ◌^◌, ◌<◌, ℕ, IfNone, IfOk, IfSome, IsTrue};
+ghost use Rattle.std.specs.Prelude.{◌≡◌, ◌↔◌, ◌+◌, ◌^◌, ◌<◌, ℕ, IfNone, IfOk, IfSome, IsTrue, false};
 ghost use Rattle.std.specs.List.{list_all};
-ghost use Rattle.hp_explore.specs.Interleavings.{AreTooMany, holds_no_plan, script_lengths};
+ghost use Rattle.hp_explore.specs.Interleavings.{AreTooMany, IsNotKnownTooMany, holds_no_plan, script_lengths};
 ghost use Rattle.hp_explore.specs.Multinomials.{ExceedsWith, IsMultinomial, IsMultinomialWith, sum};
 
 use crate::scripts::Script;
 use std::alloc::{AllocError, Global};
 
-/// Whether each line of the scripts is one call and there are more interleavings than the limit. It says yes only then; it says no
-/// also where the scripts have 2^64 lines or more. An error is out of memory.
+/// Whether each line of the scripts is one call and there are more interleavings than the limit. Where the scripts have 2^64
+/// lines or more it may say no. An error is out of memory.
 pub(crate) fn are_too_many(
     alloc: Global,
     scripts: &[Script],
     limit: u64,
 ) -> Result<bool, AllocError>
-    ensures { IfOk result (λ many. IsTrue many → AreTooMany scripts.now limit) }
+    ensures yes { IfOk result (λ many. IsTrue many → AreTooMany scripts.now limit) }
+    ensures no { IfOk result (λ many. many ≡ false → IsNotKnownTooMany scripts.now limit) }
 {
+    if !hold_no_plan(scripts) {
+        return Ok(false);
+    }
     let lengths = lengths(alloc, scripts)?;
-    Ok(hold_no_plan(scripts) && fit(lengths.as_slice()) && exceed(lengths.as_slice(), limit))
+    if !fit(lengths.as_slice()) {
+        return Ok(false);
+    }
+    Ok(exceed(lengths.as_slice(), limit))
 }
 
 /// The number of lines of each script. An error is out of memory.

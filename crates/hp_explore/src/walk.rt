@@ -1,6 +1,6 @@
 //! The walk over all schedules, depth first and processor 0 first.
 ghost use Rattle.std.specs.Prelude.{◌≡◌, ◌^◌, ◌<◌, ◌≤◌, IfErr, IfOk, OnOk, drop, length};
-ghost use Rattle.hp_explore.specs.Faults.{IsCallCause, IsCause, IsNoteCause};
+ghost use Rattle.hp_explore.specs.Faults.{IsCallCause, IsNoteCause, IsWalkCause};
 ghost use Rattle.hp_explore.specs.Outcomes.{ended_rows_below, replies_below};
 ghost use Rattle.hp_explore.specs.Schedules.{setting};
 ghost use Rattle.hp_explore.specs.Walks.{CountsBefore, CountsThrough, IsChild, IsEndNoted, IsPlayed, IsPlayedOn, IsReached};
@@ -26,7 +26,7 @@ pub(crate) fn visit(
     requires counted { CountsBefore (setting start.now scripts.now) machine.now tally.old.ends }
     ensures ok { OnOk result (CountsThrough (setting start.now scripts.now) machine.now tally.new.ends) }
     ensures limit { tally.new.limit ≡ tally.old.limit }
-    ensures err { IfErr result (IsCause (setting start.now scripts.now) tally.old.limit) }
+    ensures err { IfErr result (IsWalkCause (setting start.now scripts.now) tally.old.limit) }
 {
     let mut is_over = true;
     for cpu in 0..scripts.len() as u32 {
