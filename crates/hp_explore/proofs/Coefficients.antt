@@ -149,15 +149,15 @@ all_summed ns total at past so_far fits = (λ told. omega (arith, fits, so_far, 
 
 -- and where it does not fit it is 2^64 or more
 pub not_summed : (ns : List ℕ) (fits : Bool) → (IsTrue fits ↔ sum ns < 18446744073709551616) → fits ≡ false → 18446744073709551616 ≤ sum ns
-not_summed ns fits exact no =
+not_summed ns fits exact unset =
     elim (cases_lt (sum ns) 18446744073709551616) [
-      | inl less ↦ absurd (let told : fits ≡ true = exact.1 less in let both : true ≡ false = sym told ∙ no in cc)
+      | inl less ↦ absurd (let told : fits ≡ true = exact.1 less in let both : true ≡ false = sym told ∙ unset in cc)
       | inr past ↦ past
     ]
 
 -- a coefficient that is not above the limit
 pub not_above : (ns : List ℕ) (limit : ℕ) (above : Bool) → ((m : ℕ) → IsMultinomial ns m → IsTrue above ↔ limit < m) → above ≡ false → ((m : ℕ) → IsMultinomial ns m → limit < m) → ⊥
-not_above ns limit above exact no all =
+not_above ns limit above exact unset all =
     let one : AreInterleaved ns = interleaved (sum ns) ns refl in
     let told : above ≡ true = (exact one.0 one.2).1 (all one.0 one.2) in
-    let both : true ≡ false = sym told ∙ no in cc
+    let both : true ≡ false = sym told ∙ unset in cc

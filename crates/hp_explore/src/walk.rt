@@ -171,9 +171,9 @@ fn ended_rows(alloc: Global, machine: &Machine) -> Result<Vec<Row>, AllocError>
     ensures { IfOk result (λ rows. rows.items ≡ ended_rows_below machine.now.layout.blocks machine.now.state) }
 {
     let mut rows = Vec::new(alloc);
-    let unclaimed: Option<Claim> = None;
     for block in 0..machine.layout().blocks() {
         rows.reserve(1)?;
+        let unclaimed: Option<Claim> = None;
         rows.push_reserved(claimed_row(machine.row(Block(block)), unclaimed));
     }
     Ok(rows)
