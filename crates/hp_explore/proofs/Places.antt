@@ -1,28 +1,30 @@
--- The end with some replies, in the ends up to a place.
+-- The end with an outcome, in the ends up to a place.
 use Rattle.std.proofs.Common.{◌≡◌, ℕ, ◌+◌, ◌<◌, ◌≤◌, List, [], ◌∷◌, ◌++◌, length, take, set, get_or, Some, slice_get, refl, ap, sym, subst, ◌∙◌, arith, inl, inr}
 use Rattle.std.specs.Prelude.{sum_by}
 use Rattle.std.proofs.lemmas.List.{take_all}
 use Rattle.std.proofs.lemmas.List.FromFn.{map-range_with_len_more}
 use Rattle.std.proofs.lemmas.List.Sums.{get_or-le-sum_by, sum_by-set, sum_by_push}
 use Rattle.std.proofs.lemmas.Option.{get_or_from_slice_get, slice_get_within}
+use Rattle.hp_units.specs.Memory.{Memory}
 use Rattle.hp_units.specs.declared.replies.Record.{Record}
 use Rattle.hp_units.specs.declared.replies.Reply.{Reply}
+use Rattle.hp_units.specs.declared.rows.Row.{Row}
 use Rattle.hp_laws.proofs.Lists.{get_push_cases}
 use Rattle.hp_laws.proofs.Replays.{take_one}
 use Rattle.hp_explore.specs.declared.tally.Ending.{Ending}
 use Rattle.hp_explore.specs.Notes.{HasEndAt, HasNoEnd, IsNoted}
-use Rattle.hp_explore.specs.Schedules.{replies_below, replies_to}
+use Rattle.hp_explore.specs.Outcomes.{OutcomeValue, ended_row, ended_rows_below, replies_below, replies_to}
 
--- no end up to the next place has the replies
-pub none_more : (ends : List Ending) (x : List (List Reply)) (at : ℕ) (e : Ending) → HasNoEnd (take at ends) x → slice_get ends at ≡ Some e → (e.replies.items ≡ x → ⊥) → HasNoEnd (take (at + 1) ends) x
+-- no end up to the next place has the outcome
+pub none_more : (ends : List Ending) (x : OutcomeValue) (at : ℕ) (e : Ending) → HasNoEnd (take at ends) x → slice_get ends at ≡ Some e → (e.outcome ≡ x → ⊥) → HasNoEnd (take (at + 1) ends) x
 none_more ends x at e none here differs k f h same =
     elim (get_push_cases (take at ends) e f k (subst (λ (xs : List Ending). slice_get xs k ≡ Some f) (take_one ends at e here) h)) [
       | inl old ↦ none k f old same
-      | inr new ↦ differs (ap (λ (g : Ending). g.replies.items) new.1 ∙ same)
+      | inr new ↦ differs (ap (λ (g : Ending). g.outcome) new.1 ∙ same)
     ]
 
 -- none at all
-pub none_all : (ends : List Ending) (x : List (List Reply)) (at : ℕ) → length ends ≤ at → HasNoEnd (take at ends) x → HasNoEnd ends x
+pub none_all : (ends : List Ending) (x : OutcomeValue) (at : ℕ) → length ends ≤ at → HasNoEnd (take at ends) x → HasNoEnd ends x
 none_all ends x at le none = subst (λ (xs : List Ending). HasNoEnd xs x) (take_all at ends le) none
 
 -- the replies of one processor more
@@ -31,19 +33,27 @@ replies_more all answers news cpu so_far is =
     ap (λ (xs : List (List Reply)). xs ++ answers ∷ []) so_far
     ∙ (ap (λ (y : List Reply). replies_below cpu news ++ y ∷ []) is ∙ sym (map-range_with_len_more (λ (c : ℕ). replies_to c news) 0 cpu cpu (omega arith)))
 
+-- the blocks' rows with one block more
+pub rows_more : (all : List Row) (s : Memory) (row : Row) (block : ℕ) → all ≡ ended_rows_below block s → row ≡ ended_row (slice_get s.blocks.rows block)
+    → all ++ row ∷ [] ≡ ended_rows_below (block + 1) s
+rows_more all s row block so_far is =
+    ap (λ (xs : List Row). xs ++ row ∷ []) so_far
+    ∙ (ap (λ (y : Row). ended_rows_below block s ++ y ∷ []) is
+    ∙ sym (map-range_with_len_more (λ (b : ℕ). ended_row (slice_get s.blocks.rows b)) 0 block block (omega arith)))
+
 -- ---- one schedule more
 
 -- an end with one schedule more
 abbrev pub bumped : Ending → Ending
-bumped e = record { replies = e.replies; count = e.count + 1; first = e.first }
+bumped e = record { outcome = e.outcome; count = e.count + 1; first = e.first }
 
 -- the end that was read is the one at the place
 was_read : (ends : List Ending) (place : ℕ) (e x : Ending) → slice_get ends place ≡ Some x → e ≡ get_or ends place e → e ≡ x
 was_read ends place e x here read = read ∙ get_or_from_slice_get ends place x e here
 
 -- the end at a place counts one more
-pub added_again : (ends shown : List Ending) (place : ℕ) (e : Ending) (answers : List (List Reply)) (schedule : List ℕ) → shown ≡ ends → HasEndAt shown answers place → e ≡ get_or ends place e → IsNoted ends answers schedule (set ends place (bumped e))
-added_again ends shown place e answers schedule same at read =
+pub added_again : (ends shown : List Ending) (place : ℕ) (e : Ending) (x : OutcomeValue) (schedule : List ℕ) → shown ≡ ends → HasEndAt shown x place → e ≡ get_or ends place e → IsNoted ends x schedule (set ends place (bumped e))
+added_again ends shown place e x schedule same at read =
     let here : slice_get ends place ≡ Some at.0 = subst (λ (xs : List Ending). slice_get xs place ≡ Some at.0) same at.1 in
     let is : e ≡ at.0 = was_read ends place e at.0 here read in
     inl (record {
@@ -52,42 +62,42 @@ added_again ends shown place e answers schedule same at read =
       more = bumped e;
       here = here;
       same = at.2;
-      replies = ap (λ (x : Ending). x.replies.items) is;
-      count = ap (λ (x : Ending). x.count + 1) is;
-      first = ap (λ (x : Ending). x.first.items) is;
+      outcome_is = ap (λ (f : Ending). f.outcome) is;
+      count = ap (λ (f : Ending). f.count + 1) is;
+      first = ap (λ (f : Ending). f.first.items) is;
       new_is = refl;
     })
 
 -- the total is one more, within the limit
-pub total_again : (ends shown : List Ending) (place total limit : ℕ) (e : Ending) (answers : List (List Reply)) → shown ≡ ends → HasEndAt shown answers place → e ≡ get_or ends place e → total ≡ sum_by (λ (x : Ending). x.count) ends → total < limit
-    → (total + 1 ≡ sum_by (λ (x : Ending). x.count) (set ends place (bumped e))) × (total + 1 ≤ limit)
-total_again ends shown place total limit e answers same at read is less =
+pub total_again : (ends shown : List Ending) (place total limit : ℕ) (e : Ending) (x : OutcomeValue) → shown ≡ ends → HasEndAt shown x place → e ≡ get_or ends place e → total ≡ sum_by (λ (f : Ending). f.count) ends → total < limit
+    → (total + 1 ≡ sum_by (λ (f : Ending). f.count) (set ends place (bumped e))) × (total + 1 ≤ limit)
+total_again ends shown place total limit e x same at read is less =
     let here : slice_get ends place ≡ Some at.0 = subst (λ (xs : List Ending). slice_get xs place ≡ Some at.0) same at.1 in
     let within : place < length ends = slice_get_within ends place at.0 here in
-    let was = ap (λ (x : Ending). x.count) read in
-    (omega (arith, sum_by-set (λ (x : Ending). x.count) ends place (bumped e) e within, was, is), omega arith)
+    let was = ap (λ (f : Ending). f.count) read in
+    (omega (arith, sum_by-set (λ (f : Ending). f.count) ends place (bumped e) e within, was, is), omega arith)
 
 -- the end at a place counts no more than all
-pub count_below : (ends shown : List Ending) (place total limit : ℕ) (e : Ending) (answers : List (List Reply)) → shown ≡ ends → HasEndAt shown answers place → e ≡ get_or ends place e → total ≡ sum_by (λ (x : Ending). x.count) ends → total < limit → e.count + 1 ≤ limit
-count_below ends shown place total limit e answers same at read is less =
+pub count_below : (ends shown : List Ending) (place total limit : ℕ) (e : Ending) (x : OutcomeValue) → shown ≡ ends → HasEndAt shown x place → e ≡ get_or ends place e → total ≡ sum_by (λ (f : Ending). f.count) ends → total < limit → e.count + 1 ≤ limit
+count_below ends shown place total limit e x same at read is less =
     let here : slice_get ends place ≡ Some at.0 = subst (λ (xs : List Ending). slice_get xs place ≡ Some at.0) same at.1 in
     let within : place < length ends = slice_get_within ends place at.0 here in
-    let was = ap (λ (x : Ending). x.count) read in
-    omega (arith, get_or-le-sum_by (λ (x : Ending). x.count) ends place e within, was, is)
+    let was = ap (λ (f : Ending). f.count) read in
+    omega (arith, get_or-le-sum_by (λ (f : Ending). f.count) ends place e within, was, is)
 
 -- an end is added
-pub added_first : (ends shown : List Ending) (entry : Ending) (new : List Ending) (answers shown_answers : List (List Reply)) (schedule : List ℕ) → shown ≡ ends → shown_answers ≡ answers → HasNoEnd shown shown_answers → entry.replies.items ≡ answers → entry.count ≡ 1 → entry.first.items ≡ schedule
-    → new ≡ ends ++ entry ∷ [] → IsNoted ends answers schedule new
-added_first ends shown entry new answers shown_answers schedule same same_answers none replies count first is =
+pub added_first : (ends shown : List Ending) (entry : Ending) (new : List Ending) (x shown_x : OutcomeValue) (schedule : List ℕ) → shown ≡ ends → shown_x ≡ x → HasNoEnd shown shown_x → entry.outcome ≡ x → entry.count ≡ 1 → entry.first.items ≡ schedule
+    → new ≡ ends ++ entry ∷ [] → IsNoted ends x schedule new
+added_first ends shown entry new x shown_x schedule same same_x none outcome_is count first is =
     inr (record {
       entry = entry;
-      none = subst (λ (xs : List Ending). HasNoEnd xs answers) same (subst (HasNoEnd shown) same_answers none);
-      replies = replies;
+      none = subst (λ (xs : List Ending). HasNoEnd xs x) same (subst (HasNoEnd shown) same_x none);
+      outcome_is = outcome_is;
       count = count;
       first = first;
       new_is = is;
     })
 
-pub total_first : (ends new : List Ending) (entry : Ending) (total limit : ℕ) → entry.count ≡ 1 → new ≡ ends ++ entry ∷ [] → total ≡ sum_by (λ (x : Ending). x.count) ends → total < limit → (total + 1 ≡ sum_by (λ (x : Ending). x.count) new) × (total + 1 ≤ limit)
+pub total_first : (ends new : List Ending) (entry : Ending) (total limit : ℕ) → entry.count ≡ 1 → new ≡ ends ++ entry ∷ [] → total ≡ sum_by (λ (f : Ending). f.count) ends → total < limit → (total + 1 ≡ sum_by (λ (f : Ending). f.count) new) × (total + 1 ≤ limit)
 total_first ends new entry total limit one is sum less =
-    (omega (arith, ap (sum_by (λ (x : Ending). x.count)) is, sum_by_push (λ (x : Ending). x.count) ends entry, one, sum), omega arith)
+    (omega (arith, ap (sum_by (λ (f : Ending). f.count)) is, sum_by_push (λ (f : Ending). f.count) ends entry, one, sum), omega arith)

@@ -1,8 +1,11 @@
 -- The steps of the walk, by the machine that stands at a place.
-use Rattle.std.proofs.Common.{◌≡◌, ℕ, ◌+◌, ◌<◌, ◌≤◌, Bool, true, false, List, [], ◌∷◌, ◌++◌, length, Option, Some, None, refl, ap, sym, subst, ◌∙◌, arith, inl, inr}
+use Rattle.std.proofs.Common.{◌≡◌, ℕ, ◌+◌, ◌<◌, ◌≤◌, Bool, true, false, List, [], ◌∷◌, ◌++◌, length, drop, get_or, Option, Some, None, refl, ap, sym, subst, ◌∙◌, arith, inl, inr}
 use Rattle.std.proofs.lemmas.Bool.{cases_lt}
+use Rattle.std.proofs.lemmas.List.{append-nil, append_assoc}
 use Rattle.std.specs.Prelude.{◌⊎◌, ◌||◌, Result, Err, IsTrue, nat_le}
+use Rattle.hp_units.specs.History.{value_of}
 use Rattle.hp_units.specs.LayoutParts.{LayoutParts}
+use Rattle.hp_units.specs.Memory.{Memory}
 use Rattle.hp_units.specs.declared.replies.CallFault.{CallFault}
 use Rattle.hp_units.specs.declared.replies.CallFault.TheVariants.{HistoryFull as CallFull, OutOfMemory as CallMemory}
 use Rattle.hp_units.specs.declared.replies.Receipt.{Receipt}
@@ -10,13 +13,16 @@ use Rattle.hp_units.specs.declared.replies.Record.{Record}
 use Rattle.hp_machine.specs.Machine.{MachineValue, is_full}
 use Rattle.hp_explore.specs.declared.tally.Ending.{Ending}
 use Rattle.hp_explore.specs.Ends.{AreCounted}
-use Rattle.hp_explore.specs.Faults.{FillsHistory, IsCallCause, IsCause, IsNoteCause, is_full_after}
+use Rattle.hp_explore.specs.Faults.{FillsHistory, IsCallCause, IsNoteCause, IsWalkCause, is_full_after}
 use Rattle.hp_explore.specs.Notes.{IsNoted, TallyValue, fault_of}
 use Rattle.hp_explore.specs.declared.exploring.ExploreFault.{ExploreFault}
 use Rattle.hp_explore.specs.declared.exploring.ExploreFault.TheVariants.{TooMany, HistoryFull, OutOfMemory}
-use Rattle.hp_explore.specs.Schedules.{Setting, all_replies, next_call, replies_below}
-use Rattle.hp_explore.specs.Walks.{Before, IsChild, IsFurther, IsOverBelow, IsReached, Through, news_in, place_of}
-use Rattle.hp_explore.proofs.Plays.{over_all, walk_exceeds, walk_notes, walk_over, walk_past, walk_up}
+use Rattle.hp_explore.specs.Outcomes.{OutcomeValue, outcome}
+use Rattle.hp_explore.specs.declared.scripts.Line.{Line}
+use Rattle.hp_explore.specs.Schedules.{Setting, next_call, outcome_after, plays, setting}
+use Rattle.hp_explore.specs.Walks.{Before, CountsThrough, IsChild, IsEndNoted, IsFurther, IsOverBelow, IsPlayed, IsPlayedOn, IsReached, Through, news_in, outcome_since, place_of}
+use Rattle.hp_explore.proofs.Machines.{start_place}
+use Rattle.hp_explore.proofs.Plays.{over_all, stops, walk_exceeds, walk_notes, walk_over, walk_past, walk_up}
 
 -- what the loop over the processors keeps
 pub record IsWalked (g : Setting) (m : MachineValue) (limit : ℕ) (cpu : ℕ) (is_over : Bool) (tally : TallyValue) : Type 0 where
@@ -57,17 +63,29 @@ walked g m limit cpu is_over tally all some here so_far =
     let over : IsOverBelow g (news_in g m) cpu false = subst (IsOverBelow g (news_in g m) cpu) some so_far.over in
     walk_up g (place_of g m) (news_in g m) over.0 over.1 tally.ends here.played over.2 (subst (λ (n : ℕ). AreCounted (Before g (place_of g m ++ n ∷ [])) tally.ends) all so_far.counted)
 
+-- the outcome where a machine is, is that of the schedule that led there
+outcome_here : (g : Setting) (start m : MachineValue) → g.start ≡ start.history → IsReached g m → outcome_since (length g.scripts) start m ≡ outcome_after g (news_in g m)
+unfolding outcome_after
+outcome_here g start m same here =
+    ap (λ (h : List Record). outcome (length g.scripts) (drop (length h) m.history) m.layout (value_of m.layout m.base m.history)) (sym same)
+    ∙ (ap (λ (l : LayoutParts). outcome (length g.scripts) (news_in g m) l (value_of l m.base m.history)) here.layout
+    ∙ (ap (λ (s : Memory). outcome (length g.scripts) (news_in g m) g.layout (value_of g.layout s m.history)) here.base
+    ∙ ap (λ (h : List Record). outcome (length g.scripts) (news_in g m) g.layout (value_of g.layout g.base h)) here.history))
+
 -- where all scripts are at their ends
-pub leaf : (g : Setting) (m : MachineValue) (limit cpu : ℕ) (is_over : Bool) (tally : TallyValue) (new : List Ending) → cpu ≡ length g.scripts → is_over ≡ true → IsReached g m → IsWalked g m limit cpu is_over tally
-    → IsNoted tally.ends (replies_below (length g.scripts) (news_in g m)) (place_of g m) new → AreCounted (Through g (place_of g m)) new
-unfolding all_replies
-leaf g m limit cpu is_over tally new all none here so_far adds =
+pub leaf : (start m : MachineValue) (scripts : List (List Line)) (limit cpu : ℕ) (is_over : Bool) (tally : TallyValue) (new : List Ending) → cpu ≡ length scripts → is_over ≡ true → IsReached (setting start scripts) m → IsWalked (setting start scripts) m limit cpu is_over tally
+    → IsEndNoted (length scripts) start m tally.ends new → CountsThrough (setting start scripts) m new
+leaf start m scripts limit cpu is_over tally new all none here so_far adds =
     walk_notes g (place_of g m) (news_in g m) tally.ends new here.played
     (over_all g (news_in g m) (subst (λ (n : ℕ). IsOverBelow g (news_in g m) n true) all (subst (IsOverBelow g (news_in g m) cpu) none so_far.over)))
-    (subst (λ (n : ℕ). AreCounted (Before g (place_of g m ++ n ∷ [])) tally.ends) all so_far.counted) adds
+    (subst (λ (n : ℕ). AreCounted (Before g (place_of g m ++ n ∷ [])) tally.ends) all so_far.counted)
+    (subst (λ (x : OutcomeValue). IsNoted tally.ends x (place_of g m) new) (outcome_here g start m refl here) adds)
+  where
+    g : Setting
+    g = setting start scripts
 
 -- why one more could not be counted
-pub leaf_fault : (g : Setting) (m : MachineValue) (limit cpu : ℕ) (is_over : Bool) (tally : TallyValue) (fault : ExploreFault) → cpu ≡ length g.scripts → is_over ≡ true → IsReached g m → IsWalked g m limit cpu is_over tally → IsNoteCause tally fault → IsCause g limit fault
+pub leaf_fault : (g : Setting) (m : MachineValue) (limit cpu : ℕ) (is_over : Bool) (tally : TallyValue) (fault : ExploreFault) → cpu ≡ length g.scripts → is_over ≡ true → IsReached g m → IsWalked g m limit cpu is_over tally → IsNoteCause tally fault → IsWalkCause g limit fault
 leaf_fault g m limit cpu is_over tally TooMany all none here so_far cause =
     walk_exceeds g (place_of g m) (news_in g m) tally.ends limit here.played
     (over_all g (news_in g m) (subst (λ (n : ℕ). IsOverBelow g (news_in g m) n true) all (subst (IsOverBelow g (news_in g m) cpu) none so_far.over)))
@@ -92,7 +110,35 @@ call_fills g m next result CallFull here same is full = fills g m here (subst (�
 call_fills g m next result CallMemory here same is full = tt
 
 -- a call's fault is one of the exploration
-pub call_cause : (g : Setting) (limit : ℕ) (fault : ExploreFault) → IsCallCause g fault → IsCause g limit fault
+pub call_cause : (g : Setting) (limit : ℕ) (fault : ExploreFault) → IsCallCause g fault → IsWalkCause g limit fault
 call_cause g limit TooMany cause = absurd cause
 call_cause g limit HistoryFull cause = cause
 call_cause g limit OutOfMemory cause = cause
+
+-- ---- one schedule
+
+-- where the next processor asks for nothing
+pub played_over : (g : Setting) (m : MachineValue) (child : Option MachineValue) (cpu : ℕ) (rest : List ℕ) → 1 ≤ length rest → cpu ≡ get_or rest 0 cpu → IsReached g m → child ≡ None → IsChild g m cpu child → IsPlayedOn g m rest None
+played_over g m child cpu [] some first here none is = absurd (omega arith)
+played_over g m child cpu (c ∷ rest) some first here none is =
+    ap (λ (d : ℕ). plays g (place_of g m ++ d ∷ rest)) (sym first) ∙ stops g (place_of g m) rest (news_in g m) cpu here.played (subst (IsChild g m cpu) none is)
+
+-- and after its call
+pub played_on : (g : Setting) (m next : MachineValue) (child : Option MachineValue) (cpu : ℕ) (rest : List ℕ) → 1 ≤ length rest → cpu ≡ get_or rest 0 cpu → child ≡ Some next → IsChild g m cpu child → (end : Option MachineValue) → IsPlayedOn g next (drop 1 rest) end → IsPlayedOn g m rest end
+played_on g m next child cpu [] some first is child_is end on = absurd (omega arith)
+played_on g m next child cpu (c ∷ rest) some first is child_is end on = by_end end on
+  where
+    one : IsFurther g m cpu next
+    one = subst (IsChild g m cpu) is child_is
+
+    place : place_of g next ++ rest ≡ place_of g m ++ c ∷ rest
+    place = ap (λ (p : List ℕ). p ++ rest) one.place ∙ (append_assoc (place_of g m) (cpu ∷ []) rest ∙ ap (λ (d : ℕ). place_of g m ++ d ∷ rest) first)
+
+    by_end : (end : Option MachineValue) → IsPlayedOn g next rest end → IsPlayedOn g m (c ∷ rest) end
+    by_end None on = ap (plays g) (sym place) ∙ on
+    by_end (Some n) on = (on.0, on.1 ∙ place)
+
+-- from where the scripts begin
+pub played_all : (m : MachineValue) (scripts : List (List Line)) (schedule : List ℕ) (end : Option MachineValue) → IsPlayedOn (setting m scripts) m schedule end → IsPlayed (setting m scripts) schedule end
+played_all m scripts schedule None on = ap (λ (p : List ℕ). plays (setting m scripts) (p ++ schedule)) (sym (start_place m scripts)) ∙ on
+played_all m scripts schedule (Some n) on = (on.0, on.1 ∙ ap (λ (p : List ℕ). p ++ schedule) (start_place m scripts))

@@ -3,6 +3,7 @@ use Rattle.std.specs.Prelude.{◌≡◌, ℕ, ◌+◌, Bool, ◌||◌, true, Lis
 use Rattle.hp_units.specs.declared.replies.Record.{Record}
 use Rattle.hp_explore.specs.declared.exploring.ExploreFault.{ExploreFault}
 use Rattle.hp_explore.specs.declared.exploring.ExploreFault.TheVariants.{TooMany, HistoryFull, OutOfMemory}
+use Rattle.hp_explore.specs.Interleavings.{IsNotKnownTooMany}
 use Rattle.hp_explore.specs.Notes.{TallyValue}
 use Rattle.hp_explore.specs.Schedules.{IsComplete, Setting, plays}
 
@@ -21,13 +22,18 @@ is_full_after g news = nat_le g.layout.history (length (g.start ++ news)) || nat
 abbrev pub FillsHistory : Setting → Type 0
 FillsHistory g = (s : List ℕ) × (news : List Record) × (plays g s ≡ Some news) × (is_full_after g news ≡ true)
 
--- the cause of a fault
+-- the cause of a fault: a full history is one only where the limit was not known to be exceeded before any call
 abbrev pub IsCause : Setting → (limit : ℕ) → ExploreFault → Type 0
 IsCause g limit TooMany = HasMoreThan (IsComplete g) limit
-IsCause g limit HistoryFull = FillsHistory g
+IsCause g limit HistoryFull = FillsHistory g × IsNotKnownTooMany g.scripts limit
 IsCause g limit OutOfMemory = Unit {0}
 
--- the cause of a call's fault, and of one in counting
+-- the cause of a walk's fault, of a call's, and of one in counting
+abbrev pub IsWalkCause : Setting → (limit : ℕ) → ExploreFault → Type 0
+IsWalkCause g limit TooMany = HasMoreThan (IsComplete g) limit
+IsWalkCause g limit HistoryFull = FillsHistory g
+IsWalkCause g limit OutOfMemory = Unit {0}
+
 abbrev pub IsCallCause : Setting → ExploreFault → Type 0
 IsCallCause g TooMany = ⊥
 IsCallCause g HistoryFull = FillsHistory g

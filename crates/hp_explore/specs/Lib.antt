@@ -1,8 +1,10 @@
 pub mod Ends
 pub mod Faults
+pub mod Interleavings
+pub mod Multinomials
 pub mod Notes
 pub mod Orders
-pub mod Plain
+pub mod Outcomes
 pub mod Schedules
 pub mod Scripts
 pub mod Walks

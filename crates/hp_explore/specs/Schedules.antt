@@ -1,16 +1,14 @@
 -- What a schedule of scripts does on a machine, and which schedules are complete.
-use Rattle.std.specs.Prelude.{◌≡◌, ℕ, ◌+◌, ◌==◌, List, [], ◌∷◌, ◌++◌, Option, Some, None, length, map, filter, fold, slice_get, option_map, option_and_then}
-use Rattle.std.specs.List.{range_with_len}
+use Rattle.std.specs.Prelude.{◌≡◌, ℕ, ◌+◌, List, [], ◌∷◌, ◌++◌, Option, Some, None, length, map, fold, slice_get, option_map, option_and_then}
 use Rattle.hp_units.specs.LayoutParts.{LayoutParts}
 use Rattle.hp_units.specs.Memory.{Memory}
-use Rattle.hp_units.specs.History.{reply_of}
+use Rattle.hp_units.specs.History.{reply_of, value_of}
 use Rattle.hp_units.specs.Receipts.{receipts_of}
 use Rattle.hp_units.specs.declared.events.Event.{Event}
 use Rattle.hp_units.specs.declared.replies.Record.{Record}
-use Rattle.hp_units.specs.declared.replies.Reply.{Reply}
-use Rattle.hp_units.specs.declared.replies.Reply.TheVariants.{Opened}
 use Rattle.hp_machine.specs.Machine.{MachineValue}
 use Rattle.hp_explore.specs.declared.scripts.Line.{Line}
+use Rattle.hp_explore.specs.Outcomes.{OutcomeValue, outcome}
 use Rattle.hp_explore.specs.Scripts.{next_of}
 
 -- where the scripts begin: the layout, the base state with the number of records before it, and the records since; and each
@@ -52,30 +50,18 @@ plays g schedule = fold (play_one g) (Some []) schedule
 abbrev pub schedule_of : List Record → List ℕ
 schedule_of news = map (λ r. r.cpu) news
 
--- a reply but for the number of the operation that it opened, which is only how many calls came before: 0 stands in its place
-abbrev pub told : Reply → Reply
-told (Opened op) = Opened 0
-told reply = reply
+-- how it ends after the new records: what the scripts' processors were answered, and the blocks' rows then
+unfoldable pub outcome_after : Setting → List Record → OutcomeValue
+outcome_after g news = outcome (length g.scripts) news g.layout (value_of g.layout g.base (g.start ++ news))
 
--- the replies that a processor had, in its own order
-abbrev pub replies_to : (cpu : ℕ) → List Record → List Reply
-replies_to cpu news = map (λ r. told r.reply) (filter (λ r. r.cpu == cpu) news)
-
--- those of the processors below a number
-abbrev pub replies_below : (processors : ℕ) → List Record → List (List Reply)
-replies_below processors news = map (λ cpu. replies_to cpu news) (range_with_len 0 processors)
-
-unfoldable pub all_replies : Setting → List Record → List (List Reply)
-all_replies g news = replies_below (length g.scripts) news
-
--- the schedule is complete, with these replies: each of its processors has a call to make in its turn, and in the end all
+-- the schedule is complete, with this outcome: each of its processors has a call to make in its turn, and in the end all
 -- scripts are at their ends
-pub record EndsWith (g : Setting) (schedule : List ℕ) (replies : List (List Reply)) : Type 0 where
+pub record EndsWith (g : Setting) (schedule : List ℕ) (x : OutcomeValue) : Type 0 where
   pub news : List Record
   pub played : plays g schedule ≡ Some news
   pub over : (cpu : ℕ) → next_call g cpu news ≡ None
-  pub answers : all_replies g news ≡ replies
+  pub ends : outcome_after g news ≡ x
 
 -- the schedule is complete
 abbrev pub IsComplete : Setting → List ℕ → Type 0
-IsComplete g schedule = (replies : List (List Reply)) × EndsWith g schedule replies
+IsComplete g schedule = (x : OutcomeValue) × EndsWith g schedule x

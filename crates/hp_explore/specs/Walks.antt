@@ -1,14 +1,15 @@
 -- How far the walk over all schedules is.
 use Rattle.std.specs.Prelude.{◌≡◌, ℕ, ◌+◌, ◌<◌, ◌⊎◌, Bool, true, false, List, [], ◌∷◌, ◌++◌, Option, Some, None, length, drop}
+use Rattle.hp_units.specs.History.{value_of}
 use Rattle.hp_units.specs.declared.events.Event.{Event}
 use Rattle.hp_units.specs.declared.replies.Record.{Record}
-use Rattle.hp_units.specs.declared.replies.Reply.{Reply}
 use Rattle.hp_machine.specs.Machine.{MachineValue}
 use Rattle.hp_explore.specs.declared.tally.Ending.{Ending}
 use Rattle.hp_explore.specs.Ends.{AreCounted}
 use Rattle.hp_explore.specs.Notes.{IsNoted}
 use Rattle.hp_explore.specs.Orders.{Extends, IsBefore}
-use Rattle.hp_explore.specs.Schedules.{EndsWith, Setting, next_call, plays, replies_below, schedule_of}
+use Rattle.hp_explore.specs.Outcomes.{OutcomeValue, outcome}
+use Rattle.hp_explore.specs.Schedules.{EndsWith, Setting, next_call, plays, schedule_of}
 
 -- the records of a machine since another, and since the scripts began; and the schedule that the latter came from
 abbrev pub news_since : MachineValue → MachineValue → List Record
@@ -43,10 +44,10 @@ IsChild g m cpu None = next_call g cpu (news_in g m) ≡ None
 IsChild g m cpu (Some n) = IsFurther g m cpu n
 
 -- the complete schedules that stand before a place of the walk, and those up to its last continuation
-abbrev pub Before : Setting → List ℕ → List ℕ → List (List Reply) → Type 0
+abbrev pub Before : Setting → List ℕ → List ℕ → OutcomeValue → Type 0
 Before g place s x = IsBefore s place × EndsWith g s x
 
-abbrev pub Through : Setting → List ℕ → List ℕ → List (List Reply) → Type 0
+abbrev pub Through : Setting → List ℕ → List ℕ → OutcomeValue → Type 0
 Through g place s x = (IsBefore s place ⊎ Extends s place) × EndsWith g s x
 
 -- the ends are those of the schedules before where a machine is, and up to the last one that goes on from there
@@ -56,11 +57,24 @@ CountsBefore g m ends = AreCounted (Before g (place_of g m)) ends
 abbrev pub CountsThrough : Setting → MachineValue → List Ending → Type 0
 CountsThrough g m ends = AreCounted (Through g (place_of g m)) ends
 
--- the schedule that led from one machine to another is noted, with the replies of so many processors
+-- the outcome for so many processors where a machine started from another, and the schedule that led there is noted with it
+abbrev pub outcome_since : (processors : ℕ) → (start m : MachineValue) → OutcomeValue
+outcome_since processors start m = outcome processors (news_since start m) m.layout (value_of m.layout m.base m.history)
+
 abbrev pub IsEndNoted : (processors : ℕ) → (start m : MachineValue) → List Ending → List Ending → Type 0
-IsEndNoted processors start m old new = IsNoted old (replies_below processors (news_since start m)) (schedule_of (news_since start m)) new
+IsEndNoted processors start m old new = IsNoted old (outcome_since processors start m) (schedule_of (news_since start m)) new
 
 -- whether the scripts of the processors so far ask for nothing after the new records, or one asks for an event
 abbrev pub IsOverBelow : Setting → List Record → (below : ℕ) → Bool → Type 0
 IsOverBelow g news below true = (cpu : ℕ) → cpu < below → next_call g cpu news ≡ None
 IsOverBelow g news below false = (cpu : ℕ) × (event : Event) × (next_call g cpu news ≡ Some event)
+
+-- where the rest of a schedule leads to from where a machine is; none where it can't be played
+abbrev pub IsPlayedOn : Setting → MachineValue → List ℕ → Option MachineValue → Type 0
+IsPlayedOn g m rest None = plays g (place_of g m ++ rest) ≡ None
+IsPlayedOn g m rest (Some n) = IsReached g n × (place_of g n ≡ place_of g m ++ rest)
+
+-- where a schedule leads to
+abbrev pub IsPlayed : Setting → List ℕ → Option MachineValue → Type 0
+IsPlayed g schedule None = plays g schedule ≡ None
+IsPlayed g schedule (Some n) = IsReached g n × (place_of g n ≡ schedule)

@@ -4,6 +4,7 @@ ghost use Rattle.hp_explore.specs.Ends.{AreEnds};
 ghost use Rattle.hp_explore.specs.Faults.{IsCause};
 ghost use Rattle.hp_explore.specs.Schedules.{setting};
 
+use crate::multinomials::are_too_many;
 use crate::scripts::Script;
 use crate::tally::{Ending, Tally};
 use crate::walk::visit;
@@ -56,7 +57,7 @@ impl From<CallFault> for ExploreFault {
 /// that of processor k. The machine stays as it is.
 ///
 /// An error is `TooMany` where there are more schedules than the limit, `HistoryFull` where the layout's history has no room for
-/// all calls of a schedule, and `OutOfMemory`.
+/// all calls of a schedule, and `OutOfMemory`. Where no script holds a plan `TooMany` comes before any call is played.
 pub fn explore(
     alloc: Global,
     machine: &Machine,
@@ -67,6 +68,10 @@ pub fn explore(
     ensures ok { IfOk result (λ ends. AreEnds (setting machine.now scripts.now) ends.items) }
     ensures err { IfErr result (IsCause (setting machine.now scripts.now) limit) }
 {
+    let many = are_too_many(alloc, scripts, limit)?;
+    if many {
+        return Err(ExploreFault::TooMany);
+    }
     let mut tally = Tally::new(alloc, limit);
     visit(alloc, machine, scripts, machine, &mut tally)?;
     Ok(tally.into_ends())

@@ -9,12 +9,16 @@
 
 mod exploring;
 mod laws;
+mod multinomials;
+mod outcomes;
 mod runs;
 mod scripts;
 mod tally;
 mod walk;
 
 pub use exploring::{ExploreFault, explore};
-pub use laws::{counts_are_unique, schedules_are_interleavings};
+pub use laws::{counts_are_unique, interleavings_are_counted, schedules_are_interleavings};
+pub use outcomes::{Answers, Outcome};
 pub use scripts::{Line, Script, Work};
-pub use tally::{Answers, Ending};
+pub use tally::Ending;
+pub use walk::play;

@@ -1,6 +1,7 @@
 //! Scripts: what each processor asks for, one line after another.
 ghost use Rattle.std.specs.Prelude.{◌≡◌, ◌≤◌, [], IfOk, IfSome, length};
 ghost use Rattle.hp_units.specs.Receipts.{receipts_of};
+ghost use Rattle.hp_explore.specs.Interleavings.{holds_no_plan, is_one_call};
 ghost use Rattle.hp_explore.specs.Scripts.{after_line, line_next, next_in, next_of, once, own_operation, rest_at, work_of};
 
 use crate::runs::next_of_run;
@@ -62,6 +63,13 @@ impl Work {
 }
 
 impl Line {
+    /// Whether the line is one call.
+    fn is_one_call(&self) -> bool
+        ensures { result ≡ is_one_call self.now }
+    {
+        !matches!(self, Line::Carry { .. })
+    }
+
     /// The event that a line asks for after its own receipts, where the processor's last operation is known; none where the
     /// line is over. An error is out of memory.
     fn next(
@@ -89,7 +97,8 @@ impl Line {
         receipts: &[Receipt],
     ) -> Result<Option<usize>, AllocError>
         ensures within { IfOk result (λ at. IfSome at (λ n. n ≤ length receipts.now)) }
-        ensures over { IfOk result (λ at. after_line cpus op self.now [] receipts.now ≡ rest_at receipts.now at) }
+        ensures over { IfOk result (λ at. after_line cpus op self.now [] receipts.now
+            ≡ rest_at receipts.now at) }
     {
         for at in 0..receipts.len() {
             if self.next(alloc, cpus, op, &receipts[..at])?.is_none() {
@@ -109,6 +118,20 @@ impl Script {
         ensures { result ≡ lines.items }
     {
         Script { lines }
+    }
+
+    /// The number of lines.
+    pub(crate) fn len(&self) -> usize
+        ensures { result ≡ length self.now }
+    {
+        self.lines.len()
+    }
+
+    /// Whether each line is one call.
+    pub(crate) fn holds_no_plan(&self) -> bool
+        ensures { result ≡ holds_no_plan self.now }
+    {
+        self.lines.iter().all(|line| line.is_one_call())
     }
 
     /// The event that a processor asks for after records, its own among them; none at the script's end. An error is out of memory.

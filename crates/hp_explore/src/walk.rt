@@ -1,14 +1,16 @@
 //! The walk over all schedules, depth first and processor 0 first.
 ghost use Rattle.std.specs.Prelude.{◌≡◌, ◌^◌, ◌<◌, ◌≤◌, IfErr, IfOk, OnOk, drop, length};
-ghost use Rattle.hp_explore.specs.Faults.{IsCallCause, IsCause, IsNoteCause};
-ghost use Rattle.hp_explore.specs.Schedules.{replies_below, setting};
-ghost use Rattle.hp_explore.specs.Walks.{CountsBefore, CountsThrough, IsChild, IsEndNoted, IsReached, news_since};
+ghost use Rattle.hp_explore.specs.Faults.{IsCallCause, IsNoteCause, IsWalkCause};
+ghost use Rattle.hp_explore.specs.Outcomes.{ended_rows_below, replies_below};
+ghost use Rattle.hp_explore.specs.Schedules.{setting};
+ghost use Rattle.hp_explore.specs.Walks.{CountsBefore, CountsThrough, IsChild, IsEndNoted, IsPlayed, IsPlayedOn, IsReached};
 
 use crate::exploring::ExploreFault;
+use crate::outcomes::{Answers, Outcome, answers_to, claimed_row};
 use crate::scripts::Script;
-use crate::tally::{Answers, Tally, answers_to, schedule_of};
+use crate::tally::{Tally, schedule_of};
 use hp_machine::Machine;
-use hp_units::{Cpu, Record};
+use hp_units::{Block, Claim, Cpu, Record, Row};
 use std::alloc::{AllocError, Global};
 
 /// Counts the complete schedules that go on from where a machine is, each under its end.
@@ -24,7 +26,7 @@ pub(crate) fn visit(
     requires counted { CountsBefore (setting start.now scripts.now) machine.now tally.old.ends }
     ensures ok { OnOk result (CountsThrough (setting start.now scripts.now) machine.now tally.new.ends) }
     ensures limit { tally.new.limit ≡ tally.old.limit }
-    ensures err { IfErr result (IsCause (setting start.now scripts.now) tally.old.limit) }
+    ensures err { IfErr result (IsWalkCause (setting start.now scripts.now) tally.old.limit) }
 {
     let mut is_over = true;
     for cpu in 0..scripts.len() as u32 {
@@ -37,6 +39,60 @@ pub(crate) fn visit(
         note_end(alloc, start, scripts.len() as u32, machine, tally)
     } else {
         Ok(())
+    }
+}
+
+/// The machine that a schedule of the scripts leads to, on a copy; none where it asks a processor for a call when its script is
+/// over. So the records of an end's first schedule can be read. Errors come as those of `explore`, but never `TooMany`.
+pub fn play(
+    alloc: Global,
+    machine: &Machine,
+    scripts: &[Script],
+    schedule: &[Cpu],
+) -> Result<Option<Machine>, ExploreFault>
+    ensures ok { IfOk result (IsPlayed (setting machine.now scripts.now) schedule.now) }
+    ensures err { IfErr result (IsCallCause (setting machine.now scripts.now)) }
+{
+    play_on(alloc, machine, scripts, machine, schedule)
+}
+
+/// The machine that the rest of a schedule leads to from where a machine is, if it can be played.
+fn play_on(
+    alloc: Global,
+    start: &Machine,
+    scripts: &[Script],
+    machine: &Machine,
+    rest: &[Cpu],
+) -> Result<Option<Machine>, ExploreFault>
+    requires { IsReached (setting start.now scripts.now) machine.now }
+    ensures ok { IfOk result (IsPlayedOn (setting start.now scripts.now) machine.now rest.now) }
+    ensures err { IfErr result (IsCallCause (setting start.now scripts.now)) }
+{
+    match rest {
+        [cpu, rest @ ..] => match child_of(alloc, start, scripts, machine, *cpu)? {
+            Some(next) => play_on(alloc, start, scripts, &next, rest),
+            None => Ok(None),
+        },
+        [] => Ok(Some(machine.copy(alloc)?)),
+    }
+}
+
+/// A copy of the machine after a processor's next call, or none where it has no script or its script asks for nothing.
+fn child_of(
+    alloc: Global,
+    start: &Machine,
+    scripts: &[Script],
+    machine: &Machine,
+    cpu: Cpu,
+) -> Result<Option<Machine>, ExploreFault>
+    requires { IsReached (setting start.now scripts.now) machine.now }
+    ensures ok { IfOk result (IsChild (setting start.now scripts.now) machine.now cpu) }
+    ensures err { IfErr result (IsCallCause (setting start.now scripts.now)) }
+{
+    if (cpu.0 as usize) < scripts.len() {
+        child(alloc, start, scripts, machine, cpu.0)
+    } else {
+        Ok(None)
     }
 }
 
@@ -73,14 +129,16 @@ fn note_end(
     tally: &mut Tally,
 ) -> Result<(), ExploreFault>
     requires { length start.now.history ≤ length machine.now.history }
-    ensures ok { OnOk result (IsEndNoted processors start.now machine.now tally.old.ends tally.new.ends) }
+    ensures ok { OnOk result
+        (IsEndNoted processors start.now machine.now tally.old.ends tally.new.ends) }
     ensures limit { tally.new.limit ≡ tally.old.limit }
     ensures err { IfErr result (IsNoteCause tally.old) }
 {
     let news = records_from(machine.history(), start.history().len());
     let replies = all_answers(alloc, processors, news)?;
+    let blocks = ended_rows(alloc, machine)?;
     let schedule = schedule_of(alloc, news)?;
-    tally.note(replies, schedule)
+    tally.note(Outcome::new(replies, blocks), schedule)
 }
 
 /// The records from a place on.
@@ -106,4 +164,17 @@ fn all_answers(
         all.push_reserved(answers);
     }
     Ok(all)
+}
+
+/// Each memory block's row on a machine, without the operation that may hold it. An error is out of memory.
+fn ended_rows(alloc: Global, machine: &Machine) -> Result<Vec<Row>, AllocError>
+    ensures { IfOk result (λ rows. rows.items ≡ ended_rows_below machine.now.layout.blocks machine.now.state) }
+{
+    let mut rows = Vec::new(alloc);
+    for block in 0..machine.layout().blocks() {
+        rows.reserve(1)?;
+        let unclaimed: Option<Claim> = None;
+        rows.push_reserved(claimed_row(machine.row(Block(block)), unclaimed));
+    }
+    Ok(rows)
 }

@@ -3,12 +3,12 @@ ghost use Rattle.std.specs.Prelude.{◌≡◌, IfOk, length};
 
 use hp_explore::{
     Answers, Ending, ExploreFault, Line, Script, Work, counts_are_unique, explore,
-    schedules_are_interleavings,
+    interleavings_are_counted, play, schedules_are_interleavings,
 };
 use hp_machine::Machine;
 use hp_units::{
     Block, Boot, Cpu, Event, Frame, Item, Layout, Order, Owner, Page, Parts, Plan, Refusal, Reply,
-    Wish,
+    State, Wish,
 };
 use std::alloc::{AllocError, Global};
 use std::test::Fail;
@@ -53,7 +53,7 @@ fn is_sole(answers: &Answers, reply: &Reply) -> bool {
 
 /// Whether one schedule ends so: the processors were answered one reply each, and in this order.
 fn is_sole_end(end: &Ending, replies: (&Reply, &Reply), first: u32) -> bool {
-    let answered = match end.replies.as_slice() {
+    let answered = match end.outcome.replies() {
         [zero, one] => is_sole(zero, replies.0) && is_sole(one, replies.1),
         _ => false,
     };
@@ -210,16 +210,60 @@ fn counts_of_both(alloc: Global, machine: &Machine) -> Result<bool, AllocError> 
     )
 }
 
-/// Whether an exploration has too many schedules just where there are more than the limit.
+/// Whether the schedules are too many for a limit that is one too low: by hand, and by the driver of a plan.
 fn is_limited(alloc: Global, machine: &Machine) -> Result<bool, AllocError> {
-    let both = scripts(offline_by_hand(alloc)?, use_a_page(alloc)?, alloc)?;
-    Ok(faults(alloc, machine, both.as_slice(), 55, ExploreFault::TooMany))
+    let by_hand = scripts(offline_by_hand(alloc)?, use_a_page(alloc)?, alloc)?;
+    let by_plan = scripts(offline_by_plan(alloc)?, use_a_page(alloc)?, alloc)?;
+    let many = ExploreFault::TooMany;
+    Ok(
+        faults(alloc, machine, by_hand.as_slice(), 55, many)
+            && faults(alloc, machine, by_plan.as_slice(), 83, many),
+    )
 }
 
-/// Whether both hold on a machine that is prepared for them.
+/// Whether an end says that block 1 is offline.
+fn shows_offline(end: &Ending) -> bool {
+    match end.outcome.blocks() {
+        [_, one, _] => one.state == State::Offline,
+        _ => false,
+    }
+}
+
+/// Whether a schedule can be played, in so many calls.
+fn is_played(
+    alloc: Global,
+    machine: &Machine,
+    scripts: &[Script],
+    schedule: &[Cpu],
+    calls: usize,
+) -> bool {
+    match play(alloc, machine, scripts, schedule) {
+        Ok(Some(played)) => played.history().len() == calls,
+        _ => false,
+    }
+}
+
+/// Whether the first schedule by hand takes block 1 offline in eight calls.
+fn takes_offline(alloc: Global, machine: &Machine) -> Result<bool, AllocError> {
+    let by_hand = scripts(offline_by_hand(alloc)?, use_a_page(alloc)?, alloc)?;
+    Ok(match explore(alloc, machine, by_hand.as_slice(), 56) {
+        Ok(ends) => match ends.as_slice() {
+            [end, ..] => {
+                let schedule = end.first.as_slice();
+                shows_offline(end) && is_played(alloc, machine, by_hand.as_slice(), schedule, 8)
+            }
+            [] => false,
+        },
+        Err(_fault) => false,
+    })
+}
+
+/// Whether all of these hold on a machine that is prepared for them.
 fn explores_an_offline(alloc: Global, machine: &mut Machine) -> Result<bool, AllocError> {
     let is_ready = prepares(alloc, machine);
-    Ok(is_ready && counts_of_both(alloc, machine)? && is_limited(alloc, machine)?)
+    let are_counted = counts_of_both(alloc, machine)?;
+    let are_limited = is_limited(alloc, machine)?;
+    Ok(is_ready && are_counted && are_limited && takes_offline(alloc, machine)?)
 }
 
 #[test]
@@ -234,5 +278,6 @@ fn an_offline_ends_in_several_ways(rt: HostRuntime) -> Result<(), Fail> {
 #[test]
 fn laws_are_called() {
     counts_are_unique();
+    interleavings_are_counted();
     schedules_are_interleavings();
 }

@@ -32,7 +32,7 @@ pub returns-then-is_over-clause-ok : goal.returns-then-is_over-clause-ok
 returns-then-is_over-clause-ok t c =
     let all : c.loop-cpu.cpu ≡ length c.args.scripts.now = omega arith in
     on_ok_weaker c.note_end.result
-    (λ adds. leaf (setting c.args.start.now c.args.scripts.now) c.args.machine.now c.args.tally.now.limit c.loop-cpu.cpu c.loop-cpu.is_over c.loop-cpu.tally c.note_end.new.tally.ends all c.if-is_over.true c.requires.reached c.loop-cpu.invariant adds)
+    (λ adds. leaf c.args.start.now c.args.machine.now c.args.scripts.now c.args.tally.now.limit c.loop-cpu.cpu c.loop-cpu.is_over c.loop-cpu.tally c.note_end.new.tally.ends all c.if-is_over.true c.requires.reached c.loop-cpu.invariant adds)
     c.note_end.ensures.ok
 
 pub returns-else-is_over-clause-ok : goal.returns-else-is_over-clause-ok

@@ -1,6 +1,6 @@
 -- The replies of the processors so far.
 use Rattle.std.proofs.Common.{◌≡◌}
-use Rattle.hp_explore.specs.Schedules.{replies_below}
+use Rattle.hp_explore.specs.Outcomes.{replies_below}
 use Rattle.hp_explore.proofs.walk.all_answers.Given as goal
 
 abbrev pub invariant-loop-cpu : goal.invariant-loop-cpu

@@ -1,8 +1,8 @@
 -- Schedules of scripts whose lines are one call each.
-use Rattle.std.proofs.Common.{◌≡◌, ℕ, suc, ◌+◌, ◌<◌, ◌≤◌, Bool, true, false, cond, List, [], ◌∷◌, ◌++◌, length, Option, Some, None, eqb, slice_get, refl, ap, sym, subst, ◌∙◌, arith, inl, inr}
+use Rattle.std.proofs.Common.{◌≡◌, ℕ, zero, suc, ◌+◌, ◌<◌, ◌≤◌, Bool, true, false, cond, List, [], ◌∷◌, ◌++◌, length, Option, Some, None, eqb, get_or, slice_get, refl, ap, sym, subst, ◌∙◌, arith, inl, inr}
 use Rattle.std.specs.Prelude.{◌↔◌, fold, option_and_then}
 use Rattle.std.specs.Option.{option_map_or}
-use Rattle.std.proofs.lemmas.Bool.{cases_lt, eq-eqb, eqb-true}
+use Rattle.std.proofs.lemmas.Bool.{and_parts, cases_lt, eq-eqb, eqb-true}
 use Rattle.std.proofs.lemmas.List.{append-nil, length_push}
 use Rattle.std.proofs.lemmas.List.Sums.{sum_by-cons}
 use Rattle.std.proofs.lemmas.Option.{none-some, same_Some}
@@ -12,17 +12,29 @@ use Rattle.hp_units.specs.declared.replies.Record.{Record}
 use Rattle.hp_units.specs.declared.replies.Receipt.{Receipt}
 use Rattle.hp_explore.specs.declared.scripts.Line.{Line}
 use Rattle.hp_explore.specs.declared.scripts.Line.TheVariants.{Ask, Own, Carry}
-use Rattle.hp_explore.specs.Plain.{AreOneCalls, is_one_call, script_length, turns_of}
-use Rattle.hp_explore.specs.Schedules.{IsComplete, Setting, all_replies, next_call, play_one, plays, record_of_call}
+use Rattle.hp_explore.specs.Interleavings.{AreOneCalls, AreTooMany, IsInterleaving, holds_no_plan, is_one_call, script_length, script_lengths}
+use Rattle.hp_explore.specs.Multinomials.{IsMultinomial, sum, turns_of}
+use Rattle.hp_explore.specs.Faults.{HasMoreThan}
+use Rattle.hp_explore.specs.Orders.{HasCount}
+use Rattle.hp_explore.specs.Schedules.{IsComplete, Setting, outcome_after, next_call, play_one, plays, record_of_call}
 use Rattle.hp_explore.specs.Scripts.{after_line, line_next, next_in, next_of, own_operation}
+use Rattle.hp_explore.proofs.Counting.{more_listed, same_count}
+use Rattle.hp_explore.proofs.Interleaved.{HasTurns, interleaved, turns_cons}
 use Rattle.hp_explore.proofs.Lines.{over_now}
 use Rattle.hp_explore.proofs.Plays.{plays_one, stays_none}
 use Rattle.hp_explore.proofs.Steps.{receipts_push}
+use Rattle.hp_explore.proofs.Uniqueness.{only_count}
 
 -- ---- lines
 
 abbrev AllOne : List Line → Type 0
-AllOne lines = (k : ℕ) (line : Line) → slice_get lines k ≡ Some line → is_one_call line ≡ true
+AllOne lines = holds_no_plan lines ≡ true
+
+-- a script of such scripts is one
+one_script : (scripts : List (List Line)) (cpu : ℕ) (lines : List Line) → AreOneCalls scripts → slice_get scripts cpu ≡ Some lines → AllOne lines
+one_script [] cpu lines all here = absurd cc
+one_script (first ∷ scripts) zero lines all here = subst AllOne (same_Some first lines here) (and_parts _ _ all).0
+one_script (first ∷ scripts) (suc cpu) lines all here = one_script scripts cpu lines (and_parts _ _ all).1 here
 
 -- a line of one call asks for it, and is over after its receipt
 asks_once : (cpus op : ℕ) (line : Line) → is_one_call line ≡ true → (e : Event) × (line_next cpus op line [] ≡ Some e)
@@ -35,36 +47,30 @@ over_once cpus op (Ask event) r one = refl
 over_once cpus op (Own work) r one = refl
 over_once cpus op (Carry plan turns) r one = absurd cc
 
--- so lines ask for something where there are fewer receipts than lines
+-- so the first line is over after the first receipt
+skips : (cpus op : ℕ) (line : Line) (lines : List Line) (r : Receipt) (rs : List Receipt) → is_one_call line ≡ true → next_in cpus op (line ∷ lines) (r ∷ rs) ≡ next_in cpus op lines rs
+skips cpus op line lines r rs one =
+    let first = asks_once cpus op line one in
+    let over : after_line cpus op line [] (r ∷ rs) ≡ Some rs =
+    ap (λ (o : Option Event). option_map_or (λ event. after_line cpus op line (r ∷ []) rs) o (Some (r ∷ rs))) first.1 ∙ over_now cpus op line (r ∷ []) rs (over_once cpus op line r one) in
+    ap (λ (o : Option (List Receipt)). option_map_or (λ rest. next_in cpus op lines rest) o (line_next cpus op line (r ∷ rs))) over
+
+-- and lines ask for something where there are fewer receipts than lines
 asks : (cpus op : ℕ) (lines : List Line) (rs : List Receipt) → AllOne lines → length rs < length lines → (e : Event) × (next_in cpus op lines rs ≡ Some e)
 asks cpus op [] rs all less = absurd (omega arith)
 asks cpus op (line ∷ lines) [] all less =
-    let first = asks_once cpus op line (all 0 line refl) in
+    let first = asks_once cpus op line (and_parts _ _ all).0 in
     let on : after_line cpus op line [] [] ≡ None = ap (λ (o : Option Event). option_map_or (λ event. None) o (Some [])) first.1 in
     (first.0, ap (λ (o : Option (List Receipt)). option_map_or (λ rest. next_in cpus op lines rest) o (line_next cpus op line [])) on ∙ first.1)
 asks cpus op (line ∷ lines) (r ∷ rs) all less =
-    let later = asks cpus op lines rs (λ k x h. all (suc k) x h) (omega arith) in
-    (later.0, skips cpus op line lines r rs (all 0 line refl) ∙ later.1)
-  where
-    skips : (cpus op : ℕ) (line : Line) (lines : List Line) (r : Receipt) (rs : List Receipt) → is_one_call line ≡ true → next_in cpus op (line ∷ lines) (r ∷ rs) ≡ next_in cpus op lines rs
-    skips cpus op line lines r rs one =
-        let first = asks_once cpus op line one in
-        let over : after_line cpus op line [] (r ∷ rs) ≡ Some rs =
-        ap (λ (o : Option Event). option_map_or (λ event. after_line cpus op line (r ∷ []) rs) o (Some (r ∷ rs))) first.1 ∙ over_now cpus op line (r ∷ []) rs (over_once cpus op line r one) in
-        ap (λ (o : Option (List Receipt)). option_map_or (λ rest. next_in cpus op lines rest) o (line_next cpus op line (r ∷ rs))) over
+    let later = asks cpus op lines rs (and_parts _ _ all).1 (omega arith) in
+    (later.0, skips cpus op line lines r rs (and_parts _ _ all).0 ∙ later.1)
 
 -- and for nothing where there are as many
 asks_none : (cpus op : ℕ) (lines : List Line) (rs : List Receipt) → AllOne lines → length lines ≤ length rs → next_in cpus op lines rs ≡ None
 asks_none cpus op [] rs all le = refl
 asks_none cpus op (line ∷ lines) [] all le = absurd (omega arith)
-asks_none cpus op (line ∷ lines) (r ∷ rs) all le = skips cpus op line lines r rs (all 0 line refl) ∙ asks_none cpus op lines rs (λ k x h. all (suc k) x h) (omega arith)
-  where
-    skips : (cpus op : ℕ) (line : Line) (lines : List Line) (r : Receipt) (rs : List Receipt) → is_one_call line ≡ true → next_in cpus op (line ∷ lines) (r ∷ rs) ≡ next_in cpus op lines rs
-    skips cpus op line lines r rs one =
-        let first = asks_once cpus op line one in
-        let over : after_line cpus op line [] (r ∷ rs) ≡ Some rs =
-        ap (λ (o : Option Event). option_map_or (λ event. after_line cpus op line (r ∷ []) rs) o (Some (r ∷ rs))) first.1 ∙ over_now cpus op line (r ∷ []) rs (over_once cpus op line r one) in
-        ap (λ (o : Option (List Receipt)). option_map_or (λ rest. next_in cpus op lines rest) o (line_next cpus op line (r ∷ rs))) over
+asks_none cpus op (line ∷ lines) (r ∷ rs) all le = skips cpus op line lines r rs (and_parts _ _ all).0 ∙ asks_none cpus op lines rs (and_parts _ _ all).1 (omega arith)
 
 -- ---- scripts
 
@@ -80,7 +86,7 @@ call_asks g cpu news all less = by_script (slice_get g.scripts cpu) refl less
     by_script : (o : Option (List Line)) → slice_get g.scripts cpu ≡ o → made cpu news < option_map_or (λ lines. length lines) o 0 → (e : Event) × (option_and_then (λ lines. next_of g.layout.cpus lines (receipts_of cpu news)) (slice_get g.scripts cpu) ≡ Some e)
     by_script None is h = absurd (omega arith)
     by_script (Some lines) is h =
-        let e = asks g.layout.cpus (own_operation (receipts_of cpu news)) lines (receipts_of cpu news) (λ k line at. all cpu lines k line is at) h in
+        let e = asks g.layout.cpus (own_operation (receipts_of cpu news)) lines (receipts_of cpu news) (one_script g.scripts cpu lines all is) h in
         (e.0, ap (option_and_then (λ (ls : List Line). next_of g.layout.cpus ls (receipts_of cpu news))) is ∙ e.1)
 
 call_none : (g : Setting) (cpu : ℕ) (news : List Record) → AreOneCalls g.scripts → script_length g.scripts cpu ≤ made cpu news → next_call g cpu news ≡ None
@@ -91,7 +97,7 @@ call_none g cpu news all le = by_script (slice_get g.scripts cpu) refl le
     by_script None is h = ap (option_and_then (λ (ls : List Line). next_of g.layout.cpus ls (receipts_of cpu news))) is
     by_script (Some lines) is h =
         ap (option_and_then (λ (ls : List Line). next_of g.layout.cpus ls (receipts_of cpu news))) is
-        ∙ asks_none g.layout.cpus (own_operation (receipts_of cpu news)) lines (receipts_of cpu news) (λ k line at. all cpu lines k line is at) h
+        ∙ asks_none g.layout.cpus (own_operation (receipts_of cpu news)) lines (receipts_of cpu news) (one_script g.scripts cpu lines all is) h
 
 -- a processor's call is one more of its own
 made_more : (g : Setting) (cpu c : ℕ) (news : List Record) (e : Event) (own : Bool) → eqb c cpu ≡ own → made cpu (news ++ record_of_call g news c e ∷ []) ≡ made cpu news + cond own 1 0
@@ -101,10 +107,6 @@ made_more g cpu c news e false own =
     ap length (receipts_push cpu news (record_of_call g news c e) false own) ∙ (ap length (append-nil (receipts_of cpu news)) ∙ omega arith)
 
 -- ---- schedules
-
--- one turn more in front
-turns_cons : (cpu c : ℕ) (s : List ℕ) (own : Bool) → eqb c cpu ≡ own → turns_of cpu (c ∷ s) ≡ cond own 1 0 + turns_of cpu s
-turns_cons cpu c s own is = sum_by-cons (λ (d : ℕ). cond (eqb d cpu) 1 0) c s ∙ ap (λ (b : Bool). cond b 1 0 + turns_of cpu s) is
 
 -- what is played from some records on
 abbrev from_news : Setting → List Record → List ℕ → Option (List Record)
@@ -147,7 +149,7 @@ turns_play g (c ∷ s) news all counts =
     by_owner cpu own which e = omega (arith, counts cpu, turns_cons cpu c s own which, made_more g cpu c news e own which)
 
 -- the complete schedules of such scripts are those in which each processor stands as often as its script has lines
-pub complete_schedules : (g : Setting) (s : List ℕ) → AreOneCalls g.scripts → IsComplete g s ↔ ((cpu : ℕ) → turns_of cpu s ≡ script_length g.scripts cpu)
+pub complete_schedules : (g : Setting) (s : List ℕ) → AreOneCalls g.scripts → IsComplete g s ↔ IsInterleaving g.scripts s
 unfolding plays
 complete_schedules g s all = (to, from)
   where
@@ -162,11 +164,42 @@ complete_schedules g s all = (to, from)
     from : ((cpu : ℕ) → turns_of cpu s ≡ script_length g.scripts cpu) → IsComplete g s
     from counts =
         let end = turns_play g s [] all (λ cpu. omega (arith, counts cpu)) in (
-          all_replies g end.0,
+          outcome_after g end.0,
           record {
             news = end.0;
             played = end.1;
             over = λ cpu. call_none g cpu end.0 all (let m = turns_made g cpu s [] end.0 all end.1 (omega arith) in omega (arith, m.0, counts cpu));
-            answers = refl;
+            ends = refl;
           },
         )
+
+-- ---- how many there are
+
+-- the length of a processor's script
+length_at : (scripts : List (List Line)) (cpu : ℕ) → get_or (script_lengths scripts) cpu 0 ≡ script_length scripts cpu
+length_at [] cpu = refl
+length_at (lines ∷ scripts) zero = refl
+length_at (lines ∷ scripts) (suc cpu) = length_at scripts cpu
+
+-- as many as the multinomial coefficient of the scripts' lengths
+complete_counted : (g : Setting) → AreOneCalls g.scripts → (m : ℕ) × HasCount (IsComplete g) m × IsMultinomial (script_lengths g.scripts) m
+complete_counted g all =
+    let counted = interleaved (sum (script_lengths g.scripts)) (script_lengths g.scripts) refl in
+    (counted.0, same_count (HasTurns (script_lengths g.scripts)) (IsComplete g) counted.0 to from counted.1, counted.2)
+  where
+    to : (s : List ℕ) → HasTurns (script_lengths g.scripts) s → IsComplete g s
+    to s h = (complete_schedules g s all).1 (λ cpu. h cpu ∙ length_at g.scripts cpu)
+
+    from : (s : List ℕ) → IsComplete g s → HasTurns (script_lengths g.scripts) s
+    from s h cpu = (complete_schedules g s all).0 h cpu ∙ sym (length_at g.scripts cpu)
+
+pub counted_by_lengths : (g : Setting) (m : ℕ) → AreOneCalls g.scripts → HasCount (IsComplete g) m → IsMultinomial (script_lengths g.scripts) m
+counted_by_lengths g m all counted =
+    let one = complete_counted g all in
+    subst (IsMultinomial (script_lengths g.scripts)) (only_count (IsComplete g) one.0 m one.1 counted) one.2
+
+-- so there are more than the limit where that coefficient is above it
+pub too_many : (g : Setting) (limit : ℕ) → AreTooMany g.scripts limit → HasMoreThan (IsComplete g) limit
+too_many g limit many =
+    let one = complete_counted g many.0 in
+    more_listed (IsComplete g) one.0 limit (many.1 one.0 one.2) one.1

@@ -1,0 +1,43 @@
+-- Complete schedules of scripts without plans, in plain terms.
+use Rattle.std.specs.Prelude.{◌≡◌, ℕ, ◌<◌, ◌≤◌, ◌^◌, Bool, true, false, List, length, map, slice_get}
+use Rattle.std.specs.List.{list_all}
+use Rattle.std.specs.Option.{option_map_or}
+use Rattle.hp_explore.specs.Multinomials.{IsMultinomial, sum, turns_of}
+use Rattle.hp_explore.specs.declared.scripts.Line.{Line}
+use Rattle.hp_explore.specs.declared.scripts.Line.TheVariants.{Ask, Own, Carry}
+
+-- whether a line is one call
+abbrev pub is_one_call : Line → Bool
+is_one_call (Ask event) = true
+is_one_call (Own work) = true
+is_one_call (Carry plan turns) = false
+
+-- each line of each script is one call
+abbrev pub holds_no_plan : List Line → Bool
+holds_no_plan lines = list_all is_one_call lines
+
+abbrev pub AreOneCalls : List (List Line) → Type 0
+AreOneCalls scripts = list_all holds_no_plan scripts ≡ true
+
+-- how many lines a processor's script has
+abbrev pub script_length : List (List Line) → (cpu : ℕ) → ℕ
+script_length scripts cpu = option_map_or (λ lines. length lines) (slice_get scripts cpu) 0
+
+abbrev pub script_lengths : List (List Line) → List ℕ
+script_lengths scripts = map (λ lines. length lines) scripts
+
+-- each processor stands in a schedule as often as its script has lines
+abbrev pub IsInterleaving : List (List Line) → List ℕ → Type 0
+IsInterleaving scripts schedule = (cpu : ℕ) → turns_of cpu schedule ≡ script_length scripts cpu
+
+-- a number of interleavings is the multinomial coefficient of the scripts' lengths
+abbrev pub IsCountOfLengths : List (List Line) → ℕ → Type 0
+IsCountOfLengths scripts m = IsMultinomial (script_lengths scripts) m
+
+-- each line is one call, and there are more interleavings than a limit
+abbrev pub AreTooMany : List (List Line) → (limit : ℕ) → Type 0
+AreTooMany scripts limit = AreOneCalls scripts × ((m : ℕ) → IsCountOfLengths scripts m → limit < m)
+
+-- it is not known before any call that there are: not so, or the scripts have 2^64 lines or more
+abbrev pub IsNotKnownTooMany : List (List Line) → (limit : ℕ) → Type 0
+IsNotKnownTooMany scripts limit = AreTooMany scripts limit → 2 ^ 64 ≤ sum (script_lengths scripts)
