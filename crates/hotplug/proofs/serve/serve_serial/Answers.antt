@@ -1,3 +1,4 @@
+use Rattle.std.proofs.Common.{refl}
 use Rattle.std.proofs.lemmas.Result.{err_from_is_err_and}
 use Rattle.hotplug.proofs.Served.{scenario_fault}
 use Rattle.hotplug.proofs.serve.serve_serial.Goals as goal
