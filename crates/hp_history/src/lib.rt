@@ -14,8 +14,6 @@ mod course;
 mod journal;
 mod records;
 mod replaying;
-#[cfg(test)]
-mod tests;
 mod volumes;
 
 pub use course::Course;

@@ -11,6 +11,3 @@ mod table;
 
 pub use laws::well_placed_pages_are_settled;
 pub use pages::{Pages, fresh_words};
-
-#[cfg(test)]
-mod tests;

@@ -19,11 +19,22 @@ use std::alloc::{AllocError, Global};
 use std::marker::Model;
 
 /// The owners' pages of a layout: the frame that holds each page, and the words of each mapped frame. No call but `new` takes memory.
-#[derive(Debug, Drop)]
+#[derive(Debug)]
 pub struct Pages {
     layout: Layout,
     table: Table,
     buffers: Buffers,
+}
+
+/// A function of its own, so that no proof of a caller takes the fields apart.
+impl Drop for Pages {
+    fn drop(self) {
+        let Pages {
+            layout: _layout,
+            table: _table,
+            buffers: _buffers,
+        } = self;
+    }
 }
 
 impl Model for Pages {

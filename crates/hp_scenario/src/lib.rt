@@ -11,8 +11,6 @@ mod plans;
 mod requests;
 mod scenario;
 mod scripts;
-#[cfg(test)]
-mod tests;
 mod texts;
 mod verbs;
 mod words;
