@@ -4,7 +4,7 @@ ghost use Rattle.std.specs.Prelude.{◌≡◌};
 mod single_blocks;
 
 use super::Memory;
-use hp_tape::Tape;
+use hp_tape::{Delta, Tape};
 use hp_units::{
     Block, Boot, Cpu, Event, Frame, Item, Layout, LayoutFault, Order, Owner, Page, Parts, Plan,
     Refusal, Reply, Serial, Wish,
@@ -103,5 +103,51 @@ fn a_step_goes_back(rt: HostRuntime) -> Result<(), Fail> {
     assert!(rt; answer.same(&frame));
     let again = [(1, take, frame)];
     assert!(rt; answers(alloc, &mut memory, &mut tape, &again)?);
+    Ok(())
+}
+
+/// A write to the second word of an owner's page.
+fn write_of(owner: Owner, page: Page, value: u64) -> Event {
+    Event::Write {
+        owner,
+        page,
+        index: 1,
+        value,
+    }
+}
+
+/// Whether the last deltas are those of a page that gets a buffer, loses it and is unmapped.
+fn filled_and_emptied(deltas: &[Delta]) -> bool {
+    matches!(
+        deltas,
+        [
+            ..,
+            Delta::Map { .. },
+            Delta::Filled { .. },
+            Delta::Word { .. },
+            Delta::Emptied { .. },
+            Delta::Map { .. },
+            Delta::Link { .. }
+        ]
+    )
+}
+
+#[test]
+fn a_page_of_zeros_has_no_buffer(rt: HostRuntime) -> Result<(), Fail> {
+    let alloc = rt.alloc();
+    let mut memory = Memory::boot(alloc, &small(alloc)?)?;
+    let mut tape = Tape::with_room(alloc, 0)?;
+    let (owner, page, index) = (Owner(0), Page(0), 1);
+    let calls = [
+        (1, Event::Map { owner, page }, Reply::Done),
+        (2, write_of(owner, page, 0), Reply::Done),
+        (3, write_of(owner, page, 7), Reply::Done),
+        (4, write_of(owner, page, 8), Reply::Done),
+        (5, write_of(owner, page, 0), Reply::Done),
+        (6, Event::Read { owner, page, index }, Reply::Word(0)),
+        (7, Event::Unmap { owner, page }, Reply::Done),
+    ];
+    assert!(rt; answers(alloc, &mut memory, &mut tape, &calls)?);
+    assert!(rt; filled_and_emptied(tape.as_slice()));
     Ok(())
 }

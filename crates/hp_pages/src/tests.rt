@@ -57,9 +57,8 @@ fn starts_unmapped(rt: HostRuntime) -> Result<(), Fail> {
 fn maps_and_reads(rt: HostRuntime) -> Result<(), Fail> {
     let layout = small(rt.alloc())?;
     let mut pages = Pages::new(rt.alloc(), &layout)?;
-    let words = fresh_words(rt.alloc(), &layout)?;
     let mut tape = Tape::with_room(rt.alloc(), 1)?;
-    pages.map(Owner(0), Page(1), Frame(2), words, &mut tape);
+    pages.map(Owner(0), Page(1), Frame(2), &mut tape);
     assert_eq!(rt; pages.frame_at(Owner(0), Page(1)), Some(Frame(2)));
     assert_eq!(rt; pages.page_at(Frame(2)), Some((Owner(0), Page(1))));
     assert_eq!(rt; pages.lowest_mapped(Frame(1), 3), Some(Frame(2)));
@@ -71,10 +70,10 @@ fn maps_and_reads(rt: HostRuntime) -> Result<(), Fail> {
 fn goes_back(rt: HostRuntime) -> Result<(), Fail> {
     let layout = small(rt.alloc())?;
     let mut pages = Pages::new(rt.alloc(), &layout)?;
-    let words = fresh_words(rt.alloc(), &layout)?;
     let mut first = Tape::with_room(rt.alloc(), 2)?;
-    pages.map(Owner(0), Page(1), Frame(2), words, &mut first);
-    pages.write(Owner(0), Page(1), 1, 7, &mut first);
+    pages.map(Owner(0), Page(1), Frame(2), &mut first);
+    let spare = pages.spare_for(rt.alloc(), Owner(0), Page(1), 7)?;
+    pages.write(Owner(0), Page(1), 1, 7, spare, &mut first);
     let mut second = Tape::with_room(rt.alloc(), 4)?;
     pages.move_page(Frame(2), Frame(3), &mut second);
     assert!(rt; matches!(pages.words(Owner(0), Page(1)), Some([0, 7])));
