@@ -3,10 +3,11 @@
 
     bench/compare.py [PART..] [--runs N] [--calls N] [--layouts A,B] [--ours FOLDER]
 
-PART is calls, sealed, serial, growth, offline or maps; with none it does all of them. It builds the
-peer (cargo, no network), and runs what `rt run` built in crates/bench_calls and crates/hotplug
-(--ours takes the crates of another folder). Ours and the peer run in turn, --runs times each, and
-every answer is compared. Of each the least time counts, and the peak memory of that run.
+PART is calls, sealed, serial, growth, offline, maps or commands; with none it does all of them. It
+builds the peer (cargo, no network), and runs what `rt run` built in crates/bench_calls and
+crates/hotplug (--ours takes the crates of another folder). Ours and the peer run in turn, --runs
+times each, and every answer is compared. Of each the least time counts, and the peak memory of that
+run.
 
 - calls: the calls of each mix on each layout (--layouts, else small and medium), history kept.
 - sealed: the mixes that undo nothing, sealed after every 100,000 calls, without the seals' time;
@@ -15,10 +16,13 @@ every answer is compared. Of each the least time counts, and the peak memory of 
 - growth: `serial` of 20,000 and of 320,000 lines: how much more time each takes.
 - offline: a plan on 24 frames of 512 words that 8 processors' drains can't help, 4,096 turns.
 - maps: 6,000 lines of map and unmap on 1,024 frames of 512 words.
+- commands: `serial`, `run` and `audit` on 16 MiB of each mix whose lines are all one processor's,
+  on the medium layout: what `run` costs over `serial`, and `audit` over `run`. No peer here.
 """
 import argparse
 import hashlib
 import json
+import re
 import resource
 import subprocess
 import sys
@@ -143,6 +147,25 @@ def maps(folder):
     return written(folder, "maps", layout, [f"0 {verbs[at % 2]} db {at // 2 % 1024}" for at in range(6000)])
 
 
+def of_one_processor(folder, mix):
+    """A generated scenario whose lines are all processor 0's."""
+    path = generated(folder, mix, "medium", 10_000_000)
+    path.write_bytes(re.sub(rb'^"[0-9]+ ', b'"0 ', path.read_bytes(), flags=re.MULTILINE))
+    return path
+
+
+def commands(choice, folder):
+    """The three commands on the same lines."""
+    print("\nserial, run and audit of 16 MiB of one processor's lines on the layout medium")
+    program = choice.ours / "hotplug/out/hotplug"
+    for mix in MIXES:
+        scenario = of_one_processor(folder, mix)
+        rounds = [[Run([program, word], scenario) for word in ("serial", "run", "audit")] for _ in range(choice.runs)]
+        serial, run, audit = (min(row[at].wall for row in rounds) for at in range(3))
+        print(f"{mix:24} {serial * 1e3:10.0f} {run * 1e3:10.0f} {audit * 1e3:10.0f} ms"
+              f"   run {run / serial:.2f}x serial, audit {audit / run:.2f}x run", flush=True)
+
+
 def main():
     parser = argparse.ArgumentParser(description=__doc__, formatter_class=argparse.RawDescriptionHelpFormatter)
     parser.add_argument("parts", nargs="*", metavar="PART")
@@ -152,7 +175,7 @@ def main():
     parser.add_argument("--ours", type=Path, default=HERE.parent / "crates")
     choice = parser.parse_args()
     subprocess.run(["cargo", "build", "--release", "--offline", "--quiet"], cwd=HERE / "peer", check=True)
-    parts = choice.parts or ["calls", "sealed", "serial", "growth", "offline", "maps"]
+    parts = choice.parts or ["calls", "sealed", "serial", "growth", "offline", "maps", "commands"]
     layouts = choice.layouts.split(",")
     with tempfile.TemporaryDirectory() as folder:
         if "calls" in parts:
@@ -174,6 +197,8 @@ def main():
         if "maps" in parts:
             heading("serial of map and unmap")
             serial(choice, "maps", maps(folder))
+        if "commands" in parts:
+            commands(choice, folder)
 
 
 if __name__ == "__main__":

@@ -16,11 +16,13 @@ pub struct Call {
     event: Event,
 }
 
-/// Calls, and the checksum of their replies.
+/// Calls, the checksum of their replies, and the generator that made them. It lives on while the calls are timed, as in the
+/// peer: once memory of its size was given back, the C library copies growing tables in place of moving their pages.
 #[derive(Drop)]
 pub struct Calls {
     pub calls: Vec<Call>,
     pub sum: u64,
+    pub generator: Generator,
 }
 
 /// What a run of calls gave: how many were made, the checksum of the replies, and the time that the calls and the seals took.
@@ -138,11 +140,20 @@ pub fn choose_calls(
     seed: u64,
 ) -> Result<Calls> {
     let mut generator = Generator::new(alloc, layout, mix, seed)?;
-    chosen_calls(alloc, &mut generator, count)
+    let (calls, sum) = chosen_calls(alloc, &mut generator, count)?;
+    Ok(Calls {
+        calls,
+        sum,
+        generator,
+    })
 }
 
-/// The same of a generator.
-fn chosen_calls(alloc: Global, generator: &mut Generator, count: usize) -> Result<Calls> {
+/// The first calls of a generator, so many, and the checksum of their replies.
+fn chosen_calls(
+    alloc: Global,
+    generator: &mut Generator,
+    count: usize,
+) -> Result<(Vec<Call>, u64)> {
     generator.read_each(alloc)?;
     for _step in 0..count {
         if generator.records().len() >= count {
@@ -154,7 +165,7 @@ fn chosen_calls(alloc: Global, generator: &mut Generator, count: usize) -> Resul
 }
 
 /// The first calls that a generator made.
-fn first_calls(alloc: Global, generator: &Generator, count: usize) -> Result<Calls> {
+fn first_calls(alloc: Global, generator: &Generator, count: usize) -> Result<(Vec<Call>, u64)> {
     let mut sum = 0;
     let mut calls = Vec::with_capacity(alloc, count)?;
     for record in generator.records().iter().take(count) {
@@ -165,7 +176,7 @@ fn first_calls(alloc: Global, generator: &Generator, count: usize) -> Result<Cal
         })?;
         sum = mix(sum, &record.reply);
     }
-    Ok(Calls { calls, sum })
+    Ok((calls, sum))
 }
 
 /// Makes calls on a machine, and answers the checksum of their replies, after one of earlier replies.

@@ -2,8 +2,8 @@
 //!
 //! It chooses the calls of a mix once, makes them on machines at their start, and prints nanoseconds a call and the checksum of
 //! the replies. With a part it seals the machine after every so many calls, which keeps no more history than that; a call that
-//! undoes sealed steps is then answered otherwise. With no word it prints the checksums of a few calls of each mix, and no time,
-//! since no two runs take the same.
+//! undoes sealed steps is then answered otherwise. With no word it prints the first random numbers and the checksums of a
+//! few calls of each mix, and no time, since no two runs take the same.
 #![tactic(auto)]
 
 mod calls;
@@ -15,14 +15,13 @@ mod layouts;
 mod mixes;
 mod operations;
 mod random;
-#[cfg(test)]
-mod tests;
 
 use anyhow::{Context, Result, anyhow};
 use calls::{Calls, Figures, choose_calls, time_calls};
 use hp_units::Layout;
 use layouts::layout_of;
 use mixes::{Mix, mix_of};
+use random::Random;
 use std::alloc::Global;
 use std::env;
 
@@ -62,11 +61,23 @@ fn run(rt: &HostRuntime, words: &[String]) -> Result<()> {
     }
 }
 
-/// The checksums of 2,000 calls of each mix on the small layout, when they are made again and when they were chosen.
+/// The first random numbers of seed 1, and the checksums of 2,000 calls of each mix on the small layout, when they are made
+/// again and when they were chosen.
 fn print_sums(rt: &HostRuntime) -> Result<()> {
+    print_numbers(rt)?;
     for name in MIXES {
         print_sum(rt, name)?;
     }
+    Ok(())
+}
+
+/// One line: the first three random numbers of seed 1.
+fn print_numbers(rt: &HostRuntime) -> Result<()> {
+    let mut random = Random::new(1);
+    let first = random.next();
+    let second = random.next();
+    let third = random.next();
+    println!(rt; "splitmix64 {first} {second} {third}")?;
     Ok(())
 }
 

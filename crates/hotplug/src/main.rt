@@ -1,36 +1,19 @@
-//! Runs scenarios of the memory machine, bytes in to bytes out.
+//! Runs scenarios of the memory machine: `hotplug serial`, `hotplug run` or `hotplug audit`, standard input to standard output.
 //!
-//! Each command reads a scenario from standard input and writes to standard output. `hotplug serial` runs the lines in order and
-//! writes what each answers, and then the state. `hotplug run` runs the lines of each processor in a thread of its own, and writes
-//! what became of them by processor, and the number of records. `hotplug audit` runs as `run` does, replays the history, and
-//! writes the number of records and `audit ok`. The exit status is 0; or 1 after a fault, which standard error names; or 2 where the command line names no
-//! command. It is the same where standard error takes no text.
+//! What the commands write stands in hp_commands. The exit status is 0; or 1 after a fault, which standard error names; or 2 where
+//! the command line names no command. It is the same where standard error takes no text.
 #![tactic(auto)]
 
-mod audits;
-mod events;
-mod fault;
-mod files;
-mod outcome;
-mod plans;
-mod runs;
-mod seals;
-mod serial;
-mod serve;
-mod streams;
 mod words;
 
-use fault::ProgramFault;
-use outcome::Outcome;
-use serve::serve;
+use hp_commands::{Command, Counted, Outcome, ProgramFault, serve};
 use std::alloc::{AllocError, Global};
 use std::io::{Read, Write};
 use std::process::ExitCode;
 use std::sync::Wait;
 use std::thread::Threads;
 use std::{env, io};
-use streams::Counted;
-use words::{Command, command_from};
+use words::command_from;
 
 /// The command that the program was called with, where there is one.
 fn command(rt: &HostRuntime) -> Result<Option<Command>, AllocError> {

@@ -1,18 +1,8 @@
 //! The words that the program is called with.
 
 use clap::error::ErrorKind;
+use hp_commands::Command;
 use std::alloc::{AllocError, Global};
-
-/// What the program is to do.
-#[derive(Clone, Copy, Debug, PartialEq, Eq)]
-pub enum Command {
-    /// Runs the lines of a scenario in order on one machine, and writes its state.
-    Serial,
-    /// Runs the lines of a scenario by a worker for each processor, in threads.
-    Run,
-    /// Runs as `Run` does, and replays the history.
-    Audit,
-}
 
 /// The command that the words name, the program's own name first; none where they name none, or ask for help.
 pub fn command_from(alloc: Global, words: &[String]) -> Result<Option<Command>, AllocError> {

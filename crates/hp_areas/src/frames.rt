@@ -17,10 +17,19 @@ use std::marker::Model;
 /// The free frames: the free areas, and in front of them each processor's lists of single frames,
 /// one a pool (Gorman, chapter 6: per-cpu lists). A list's number is three times its processor's,
 /// and its pool's.
-#[derive(Drop)]
 pub struct FreeFrames {
     areas: Areas,
     cached: Vec<FrameList>,
+}
+
+/// A function of its own, so that no proof of a caller takes the fields apart.
+impl Drop for FreeFrames {
+    fn drop(self) {
+        let FreeFrames {
+            areas: _areas,
+            cached: _cached,
+        } = self;
+    }
 }
 
 impl Model for FreeFrames {

@@ -5,8 +5,6 @@
 mod areas;
 mod frames;
 mod lists;
-#[cfg(test)]
-mod tests;
 
 pub use areas::Areas;
 pub use frames::FreeFrames;

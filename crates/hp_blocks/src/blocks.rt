@@ -14,11 +14,22 @@ use std::marker::Model;
 use std::mem::replace;
 
 /// The rows of the memory blocks of a layout, and what a block that is added becomes. No call but `new` takes memory.
-#[derive(Debug, Drop)]
+#[derive(Debug)]
 pub struct Blocks {
     layout: Layout,
     rows: Vec<Row>,
     auto: Auto,
+}
+
+/// A function of its own, so that no proof of a caller takes the fields apart.
+impl Drop for Blocks {
+    fn drop(self) {
+        let Blocks {
+            layout: _layout,
+            rows: _rows,
+            auto: _auto,
+        } = self;
+    }
 }
 
 impl Model for Blocks {

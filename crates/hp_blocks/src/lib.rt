@@ -4,6 +4,3 @@
 mod blocks;
 
 pub use blocks::Blocks;
-
-#[cfg(test)]
-mod tests;

@@ -2,6 +2,7 @@ pub mod Apart
 pub mod Backs
 pub mod Blocks
 pub mod Calls
+pub mod Empty
 pub mod Gives
 pub mod Linked
 pub mod Moves
@@ -12,4 +13,4 @@ pub mod Scripts
 pub mod Searches
 pub mod Splits
 pub mod Standing
-pub mod Undoes
+pub mod Strides

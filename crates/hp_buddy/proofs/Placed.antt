@@ -1,5 +1,5 @@
 -- In a well placed state the free blocks lie apart, and blocks in use may come back.
-use Rattle.std.proofs.Common.{◌≡◌, ℕ, ◌+◌, ◌≤◌, Some, arith}
+use Rattle.std.proofs.Common.{ℕ, arith}
 use Rattle.hp_units.specs.LayoutParts.{LayoutParts, IsLayout}
 use Rattle.hp_units.specs.Memory.{Memory}
 use Rattle.hp_units.specs.Placement.{IsWellPlaced}

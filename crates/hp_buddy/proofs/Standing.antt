@@ -142,7 +142,7 @@ get_none n i = elim (cases_lt i n) [
 ]
 
 -- no frame is in a free block
-none-places : (f number n : ℕ) → places_from f number (replicate n []) ≡ 0
+pub none-places : (f number n : ℕ) → places_from f number (replicate n []) ≡ 0
 none-places f number zero = refl
 none-places f number (suc n) = omega (arith, none-places f (number + 1) n)
 

@@ -1,3 +1,2 @@
 pub mod Buddy
 pub mod Moves
-pub mod Scripts

@@ -27,11 +27,21 @@ use std::alloc::{AllocError, Global};
 use std::marker::Model;
 
 /// The free areas of a layout. No call but `new` and `list` takes memory.
-#[derive(Drop)]
 pub struct Buddy {
     layout: Layout,
     links: Links,
     kinds: Vec<Kind>,
+}
+
+/// A function of its own, so that no proof of a caller takes the fields apart.
+impl Drop for Buddy {
+    fn drop(self) {
+        let Buddy {
+            layout: _layout,
+            links: _links,
+            kinds: _kinds,
+        } = self;
+    }
 }
 
 impl Model for Buddy {

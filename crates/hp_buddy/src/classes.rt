@@ -21,3 +21,12 @@ pub fn upper_half(frame: Frame, order: Order) -> Frame
 {
     Frame(frame.0 + (1 << order.0))
 }
+
+/// The first frame of a block of an order that stands after so many others from a frame on.
+pub fn nth_block(first: Frame, order: Order, at: u32) -> Frame
+    requires order { order < 32 }
+    requires frame { first + at * 2 ^ order < 2 ^ 32 }
+    ensures { result ≡ first + at * 2 ^ order }
+{
+    Frame(first.0 + at * (1 << order.0))
+}

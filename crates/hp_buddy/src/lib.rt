@@ -7,6 +7,3 @@ mod laws;
 
 pub use buddy::Buddy;
 pub use laws::{blocks_in_use_may_be_given, well_placed_blocks_are_apart};
-
-#[cfg(test)]
-mod tests;

@@ -14,6 +14,3 @@ pub use laws::{addresses_are_spelled, auto_is_written_back, block_paths_are_spel
 pub use reads::{read_file, read_text};
 pub use writes::{CONTROL_TURNS, Request, parse_echo, parse_write};
 pub use zones::buddyinfo;
-
-#[cfg(test)]
-mod tests;

@@ -7,7 +7,6 @@ pub mod Ends
 pub mod Loops
 pub mod Placed
 pub mod Refills
-pub mod Scripts
 pub mod Spills
 pub mod Standing
 pub mod Together

@@ -7,6 +7,3 @@ mod pools;
 
 pub use cpus::Cpus;
 pub use laws::{frames_in_use_may_be_put, well_placed_frames_are_together};
-
-#[cfg(test)]
-mod tests;

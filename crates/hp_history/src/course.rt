@@ -24,7 +24,6 @@ use std::mem::replace;
 
 /// A memory with its history and its journal. Every course keeps its history legal, its state that of the history, and a way
 /// back over each step that is not undone.
-#[derive(Drop)]
 pub struct Course {
     before: u64,
     base: Image,
@@ -32,6 +31,20 @@ pub struct Course {
     history: Vec<Record>,
     entries: Vec<Entry>,
     deltas: Tape,
+}
+
+/// A function of its own, so that no proof of a caller takes the fields apart.
+impl Drop for Course {
+    fn drop(self) {
+        let Course {
+            before: _before,
+            base: _base,
+            memory: _memory,
+            history: _history,
+            entries: _entries,
+            deltas: _deltas,
+        } = self;
+    }
 }
 
 impl Model for Course {
@@ -91,6 +104,7 @@ impl Course {
     /// Answers and records an event of a processor, where there is a further serial. An undo goes back, and so does a Cancel
     /// where nothing but its operation's own work stands after its Begin; any other event makes a step. An error is out of
     /// memory; then all is as before.
+    #[inline(always)]
     pub fn answer(&mut self, alloc: Global, cpu: Cpu, event: &Event) -> Result<Receipt, AllocError>
         requires free { is_spent self.old ≡ false }
         ensures err { OnErr result (self.new ≡ self.old) }
@@ -180,7 +194,14 @@ impl Course {
     pub fn into_base(self) -> Image
         ensures { result ≡ record { layout = self.layout; memory = self.base } }
     {
-        let Course { base, .. } = self;
+        let Course {
+            before: _,
+            base,
+            memory: _memory,
+            history: _history,
+            entries: _entries,
+            deltas: _deltas,
+        } = self;
         base
     }
 
@@ -320,6 +341,7 @@ impl Course {
     }
 
     /// Goes back to the first steps, and records the answer. It takes its memory before it changes anything.
+    #[inline(always)]
     fn go_back(
         &mut self,
         alloc: Global,
@@ -355,6 +377,7 @@ impl Course {
     }
 
     /// Makes a step of the event, and records the answer. It takes its memory before it changes anything.
+    #[inline(always)]
     fn act(&mut self, alloc: Global, cpu: Cpu, event: &Event) -> Result<Receipt, AllocError>
         requires free { is_spent self.old ≡ false }
         requires step { IsStep self.old cpu event.now }

@@ -118,6 +118,7 @@ pub(crate) fn between(deltas: &[Delta], start: usize, end: usize) -> &[Delta]
 
 /// Keeps the entry of what is a step, for which there is room. What is none changed nothing, and what it noted is taken off
 /// the tape.
+#[inline(always)]
 pub(crate) fn keep_step(
     entries: &mut Vec<Entry>,
     memory: &mut Memory,

@@ -13,8 +13,6 @@ mod course;
 mod journal;
 mod records;
 mod replaying;
-#[cfg(test)]
-mod tests;
 mod volumes;
 
 pub use course::Course;

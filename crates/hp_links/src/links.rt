@@ -170,6 +170,3 @@ impl Links {
         }
     }
 }
-
-#[cfg(test)]
-mod tests;

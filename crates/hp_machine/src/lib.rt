@@ -5,8 +5,6 @@
 
 mod machine;
 mod machine_port;
-#[cfg(test)]
-mod tests;
 
 pub use machine::Machine;
 pub use machine_port::MachinePort;

@@ -29,13 +29,25 @@ use hp_tape::{Delta, Tape};
 use hp_units::{Frame, Layout, Zone, block_of};
 
 /// The layers, and the order of the kernel's block that starts at each frame.
-#[derive(Drop)]
 pub(crate) struct Layers {
     pub(crate) layout: Layout,
     pub(crate) frames: Frames,
     pub(crate) pages: Pages,
     pub(crate) kernel: KernelBlocks,
     pub(crate) blocks: Blocks,
+}
+
+/// A function of its own, so that no proof of a caller takes the fields apart.
+impl Drop for Layers {
+    fn drop(self) {
+        let Layers {
+            layout: _layout,
+            frames: _frames,
+            pages: _pages,
+            kernel: _kernel,
+            blocks: _blocks,
+        } = self;
+    }
 }
 
 impl Layers {
@@ -60,6 +72,7 @@ impl Layers {
     }
 
     /// Does the opposite of a delta of the layout that fits.
+    #[inline(always)]
     fn back(&mut self, delta: Delta)
         requires one { AreOfOneLayout self.old }
         requires fits { Fits delta (view_of self.old) }

@@ -7,6 +7,3 @@ mod port;
 
 pub use driver::run_plan;
 pub use port::Port;
-
-#[cfg(test)]
-mod tests;

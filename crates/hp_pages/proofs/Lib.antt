@@ -4,5 +4,4 @@ mod PageCalls
 pub mod PageParts
 pub mod Places
 mod Tables
-mod Unwinding
 pub mod Views

@@ -12,6 +12,3 @@ mod table;
 pub use buffers::is_blank;
 pub use laws::well_placed_pages_are_settled;
 pub use pages::Pages;
-
-#[cfg(test)]
-mod tests;

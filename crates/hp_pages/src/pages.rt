@@ -19,12 +19,24 @@ use std::marker::Model;
 
 /// The owners' pages of a layout: the frame that holds each page, and the words of each mapped frame. A page whose words are all 0
 /// has no buffer of its own: one page of zeros serves all of them. No call but `new` and `spare_for` takes memory.
-#[derive(Debug, Drop)]
+#[derive(Debug)]
 pub struct Pages {
     layout: Layout,
     table: Table,
     buffers: Buffers,
     zeros: Words,
+}
+
+/// A function of its own, so that no proof of a caller takes the fields apart.
+impl Drop for Pages {
+    fn drop(self) {
+        let Pages {
+            layout: _layout,
+            table: _table,
+            buffers: _buffers,
+            zeros: _zeros,
+        } = self;
+    }
 }
 
 impl Model for Pages {

@@ -21,13 +21,25 @@ use std::alloc::{AllocError, Global};
 use std::marker::Model;
 
 /// A layout, and a whole state of it as plain lists. Its numbers are always those of the layout.
-#[derive(Drop)]
 pub struct Image {
     layout: Layout,
     free: FreeFrames,
     pages: Pages,
     kernel: Vec<Option<Order>>,
     blocks: Blocks,
+}
+
+/// A function of its own, so that no proof of a caller takes the fields apart.
+impl Drop for Image {
+    fn drop(self) {
+        let Image {
+            layout: _layout,
+            free: _free,
+            pages: _pages,
+            kernel: _kernel,
+            blocks: _blocks,
+        } = self;
+    }
 }
 
 impl Model for Image {

@@ -4,8 +4,6 @@
 
 mod image;
 mod parts;
-#[cfg(test)]
-mod tests;
 
 pub use image::Image;
 pub use parts::Part;

@@ -4,8 +4,6 @@
 
 mod blocks;
 mod pages;
-#[cfg(test)]
-mod tests;
 
 pub use blocks::Blocks;
 pub use blocks::plans::wish_of;

@@ -173,10 +173,19 @@ fn copy_of(alloc: Global, words: &Option<Words>) -> Result<Option<Words>, AllocE
 }
 
 /// The pages of all owners.
-#[derive(Drop)]
 pub struct Pages {
     table: Vec<OwnerFrames>,
     contents: Vec<OwnerWords>,
+}
+
+/// A function of its own, so that no proof of a caller takes the fields apart.
+impl Drop for Pages {
+    fn drop(self) {
+        let Pages {
+            table: _table,
+            contents: _contents,
+        } = self;
+    }
 }
 
 impl Model for Pages {

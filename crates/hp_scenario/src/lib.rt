@@ -10,8 +10,6 @@ mod plans;
 mod requests;
 mod scenario;
 mod scripts;
-#[cfg(test)]
-mod tests;
 mod verbs;
 mod words;
 

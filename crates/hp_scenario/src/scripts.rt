@@ -5,9 +5,6 @@ ghost use Rattle.hp_scenario.specs.Gives.{Gives};
 ghost use Rattle.hp_scenario.specs.Scripts.{AreForRun, first_unfit as unfit, is_for_run, script_of, scripts_of};
 ghost use Rattle.hp_scenario.specs.Seen.{scenario_seen};
 
-#[cfg(test)]
-mod tests;
-
 use crate::fault::ScenarioFault;
 use crate::lines::{Line, Lines, Work};
 use crate::scenario::Scenario;

@@ -26,6 +26,3 @@ pub use locked::Locked;
 pub use seat::Seat;
 pub use seat_port::SeatPort;
 pub use shared::Shared;
-
-#[cfg(test)]
-mod tests;

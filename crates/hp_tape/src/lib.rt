@@ -8,6 +8,3 @@ mod tapes;
 pub use deltas::{Delta, ListId};
 pub use packed_rows::PackedRow;
 pub use tapes::Tape;
-
-#[cfg(test)]
-mod tests;

@@ -10,8 +10,6 @@ mod answers;
 mod files;
 mod plans;
 mod state;
-#[cfg(test)]
-mod tests;
 
 pub use answers::{write_call_fault, write_receipt, write_reply, write_sealed, write_unrecorded};
 pub use files::{write_echo_fault, write_read_fault};

@@ -92,6 +92,7 @@ pub enum Event {
 
 impl Event {
     /// An equal event.
+    #[inline(always)]
     pub fn copy(&self, alloc: Global) -> Result<Event, AllocError>
         ensures { IfOk result (λ event. event ≡ self.now) }
     {

@@ -22,6 +22,3 @@ pub use plans::{Item, Plan, Words};
 pub use replies::{CallFault, OpEnd, Receipt, Record, Refusal, Reply};
 pub use rows::{Auto, Boot, Claim, Class, Kind, Mobility, Pool, Row, State, Wish, Zone};
 pub use text::Text;
-
-#[cfg(test)]
-mod tests;

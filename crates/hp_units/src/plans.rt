@@ -46,6 +46,7 @@ impl Plan {
     }
 
     /// An equal plan.
+    #[inline(never)]
     pub fn copy(&self, alloc: Global) -> Result<Plan, AllocError>
         ensures { IfOk result (λ plan. plan ≡ self.now) }
     {

@@ -1,7 +1,7 @@
 -- Seals: what one hands out, and how many volumes there can be.
 use Rattle.std.proofs.Common.{◌≡◌, ℕ, ◌+◌, ◌<◌, ◌≤◌, true, false, List, [], ◌∷◌, ◌++◌, length, take, get_or, Option, Some, slice_get, refl, sym, ap, subst, ◌∙◌, append-nil, arith, add-one, is_ok, if◌then◌else◌, Result, Ok, Err}
 use Rattle.std.specs.Prelude.{IsOk}
-use Rattle.std.proofs.lemmas.List.{length-append, take_more}
+use Rattle.std.proofs.lemmas.List.{length-append, take-take, take_more}
 use Rattle.std.specs.List.{All}
 use Rattle.std.specs.List.Sorted.{IsPermutation}
 use Rattle.std.proofs.lemmas.List.Elements.{All-append, All-cons}
@@ -124,6 +124,18 @@ pub scripts_more : (scripts : List (List Line)) (i : ℕ) (script : List Line) �
 scripts_more scripts i script here =
     let taken : take (i + 1) scripts ≡ take i scripts ++ script ∷ [] = ap (λ (k : ℕ). take k scripts) (add-one i) ∙ take_next scripts i script here in
     ap seals_in_all taken ∙ omega (arith, sum_by-append seals_in (take i scripts) (script ∷ []), sum_by-cons seals_in script [])
+
+-- fewer scripts seal no more
+pub fewer_seal_less : (scripts : List (List Line)) (i j : ℕ) → i ≤ j → seals_in_all (take i scripts) ≤ seals_in_all (take j scripts)
+fewer_seal_less scripts i j le = omega (arith, sum_by-take-le seals_in (take j scripts) i, ap seals_in_all (take-take i j scripts le))
+
+-- the volumes of one more worker, after those of the others
+pub one_more_few : (l : LayoutParts) (all seats : List SeatValue) (seat : SeatValue) (scripts : List (List Line)) (lines : List Line) (new : SeatValue) (earlier handed : List Volume) (ends : List LineEnd) (fault : Option RunFault)
+    → all ≡ seats ++ seat ∷ [] → slice_get scripts (length seats) ≡ Some lines → IsWorker l seat lines new handed ends fault → length earlier ≤ seals_in_all (take (length seats) scripts) → length earlier + length handed ≤ seals_in_all (take (length all) scripts)
+one_more_few l all seats seat scripts lines new earlier handed ends fault all_is here worker few =
+    let one : length all ≡ length seats + 1 = omega (arith, ap (λ (xs : List SeatValue). length xs) all_is, length-append seats (seat ∷ [])) in
+    let total : seals_in_all (take (length all) scripts) ≡ seals_in_all (take (length seats) scripts) + seals_in lines = ap (λ (k : ℕ). seals_in_all (take k scripts)) one ∙ scripts_more scripts (length seats) lines here in
+    omega (arith, few, total, worker_few l seat lines new handed ends fault worker)
 
 -- ---- room
 

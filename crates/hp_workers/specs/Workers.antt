@@ -2,41 +2,63 @@
 use Rattle.std.specs.Prelude.{◌≡◌, ◌⊎◌, ℕ, ◌≤◌, List, [], Option, Some, None, length, slice_get}
 use Rattle.std.specs.List.{All}
 use Rattle.std.specs.List.Sorted.{IsPermutation}
+use Rattle.hp_units.specs.Choices.{first_some}
 use Rattle.hp_units.specs.LayoutParts.{LayoutParts}
 use Rattle.hp_history.specs.declared.volumes.Volume.{Volume}
 use Rattle.hp_shared.specs.Shared.{SeatValue}
 use Rattle.hp_scenario.specs.declared.lines.Line.{Line}
 use Rattle.hp_workers.specs.declared.lines.LineEnd.{LineEnd}
 use Rattle.hp_workers.specs.declared.fault.RunFault.{RunFault}
-use Rattle.hp_workers.specs.declared.fault.RunFault.TheVariants.{OutOfMemory}
+use Rattle.hp_workers.specs.declared.fault.RunFault.TheVariants.{NotStarted, OutOfMemory}
 use Rattle.hp_workers.specs.Lines.{IsWorked}
 use Rattle.hp_workers.specs.Seals.{AreInOrder, AreSealed, joined, seals_in_all}
 
--- a worker ran a beginning of its lines by a seat, which handed out these volumes; without a fault it ran all
+-- how a worker ended: without a fault it ran all its lines; with one it ran none, and NotStarted names its processor
+abbrev pub HasEnded : (cpu : ℕ) → List Line → List LineEnd → Option RunFault → Type 0
+HasEnded cpu lines ends None = length ends ≡ length lines
+HasEnded cpu lines ends (Some (NotStarted named)) = (named ≡ cpu) × (ends ≡ [])
+HasEnded cpu lines ends (Some OutOfMemory) = ends ≡ []
+
+-- a worker ran a beginning of its lines by a seat, which handed out these volumes: all lines, or with a fault none
 pub record IsWorker (l : LayoutParts) (old : SeatValue) (lines : List Line) (new : SeatValue) (handed : List Volume) (ends : List LineEnd) (fault : Option RunFault) : Type 0 where
   pub worked : IsWorked l old lines new handed ends
-  pub whole : fault ≡ None → length ends ≡ length lines
+  pub ended : HasEnded old.cpu lines ends fault
+
+-- no worker is back yet
+abbrev pub IsBare : List SeatValue → List Volume → List (List LineEnd) → Option RunFault → Type 0
+IsBare news volumes lists fault = (news ≡ []) × (volumes ≡ []) × (lists ≡ []) × (fault ≡ None)
+
+-- a worker of the script at a place
+pub record IsWorkerAt (l : LayoutParts) (old : SeatValue) (scripts : List (List Line)) (place : ℕ) (new : SeatValue) (handed : List Volume) (ends : List LineEnd) (fault : Option RunFault) : Type 0 where
+  pub lines : List Line
+  pub script : slice_get scripts place ≡ Some lines
+  pub worker : IsWorker l old lines new handed ends fault
 
 -- the worker of the seat and the script at a place
-pub record HasWorker (l : LayoutParts) (old : SeatValue) (lines : List Line) (news : List SeatValue) (lists : List (List Volume)) (ends : List (List LineEnd)) (fault : Option RunFault) (place : ℕ) : Type 0 where
+pub record HasWorker (l : LayoutParts) (old : SeatValue) (lines : List Line) (news : List SeatValue) (lists : List (List Volume)) (ends : List (List LineEnd)) (faults : List (Option RunFault)) (place : ℕ) : Type 0 where
   pub new : SeatValue
   pub handed : List Volume
   pub own : List LineEnd
+  pub fault : Option RunFault
   pub seat : slice_get news place ≡ Some new
   pub out : slice_get lists place ≡ Some handed
   pub end : slice_get ends place ≡ Some own
+  pub why : slice_get faults place ≡ Some fault
   pub worker : IsWorker l old lines new handed own fault
 
 -- all seats are back, each after the lines that its worker ran, and the volumes are those that these handed out, seat by seat;
--- without a fault these are all lines
+-- the fault is that of the first worker that has one: without one all lines were run
 pub record AreWorkers (l : LayoutParts) (olds : List SeatValue) (scripts : List (List Line)) (news : List SeatValue) (volumes : List Volume) (lists : List (List LineEnd)) (fault : Option RunFault) : Type 0 where
   pub handed : List (List Volume)
+  pub faults : List (Option RunFault)
   pub seats : length news ≡ length olds
   pub outs : length handed ≡ length olds
   pub ends : length lists ≡ length olds
+  pub causes : length faults ≡ length olds
   pub all : volumes ≡ joined handed
   pub sealed : AreSealed l volumes
-  pub each : (place : ℕ) (seat : SeatValue) (lines : List Line) → slice_get olds place ≡ Some seat → slice_get scripts place ≡ Some lines → HasWorker l seat lines news handed lists fault place
+  pub first : fault ≡ first_some faults
+  pub each : (place : ℕ) (seat : SeatValue) (lines : List Line) → slice_get olds place ≡ Some seat → slice_get scripts place ≡ Some lines → HasWorker l seat lines news handed lists faults place
 
 -- the seats as they were, where memory was refused before any thread
 pub record AreUnstarted (olds news : List SeatValue) (volumes : List Volume) (lists : List (List LineEnd)) (fault : Option RunFault) : Type 0 where

@@ -20,6 +20,3 @@ pub use fault::RunFault;
 pub use gate::{Gate, OpenGate};
 pub use lines::{Ends, LineEnd};
 pub use threads::{RunEnd, run_workers};
-
-#[cfg(test)]
-mod tests;

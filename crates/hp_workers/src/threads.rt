@@ -1,11 +1,12 @@
 //! Workers in threads, one for each seat.
-ghost use Rattle.std.specs.Prelude.{◌≡◌, ◌+◌, ◌*◌, ◌≤◌, [], None, Some, length, take, vec_len, vec_capacity};
+ghost use Rattle.std.specs.Prelude.{◌≡◌, ◌+◌, ◌*◌, ◌<◌, ◌≤◌, ◌++◌, ◌∷◌, [], None, Some, length, take, vec_len, vec_capacity};
 ghost use Rattle.std.specs.List.{All};
 ghost use Rattle.std.specs.List.Sorted.{IsPermutation};
+ghost use Rattle.std.specs.Option.{option_or};
 ghost use Rattle.std.specs.Thread.{IsSend, IsSync};
 ghost use Rattle.hp_scenario.specs.Scripts.{AreForRun, IsForRun};
 ghost use Rattle.hp_workers.specs.Seals.{AreInOrder, rank, seals_in_all};
-ghost use Rattle.hp_workers.specs.Workers.{AreWorkers, IsRunEnd, IsWorker};
+ghost use Rattle.hp_workers.specs.Workers.{AreWorkers, IsBare, IsRunEnd, IsWorker, IsWorkerAt};
 ghost use Rattle.hp_workers.specs.declared.fault.RunFault.TheVariants.{OutOfMemory};
 
 use crate::counts::count_all;
@@ -33,7 +34,21 @@ pub struct Task<L: Job> {
 impl<L: Job> Promise<Worked<L>> for Task<L> {
     ghost use Rattle.hp_workers.specs.Workers.{IsWorker};
 
-    ghost kept_by = { λ t w. IsWorker L.layout t.seat.value t.script.value w.seat w.volumes.items w.ends w.fault };
+    ghost kept_by = { λ t w. IsWorker L.layout t.seat.value t.script.value w.seat
+        w.volumes.items w.ends w.fault };
+}
+
+impl<L: Job> Task<L> {
+    /// That of a seat and a script as they are now.
+    fn of(seat: &Seat<L>, script: &Script) -> Task<L>
+        ensures seat { result.seat.value ≡ seat.now }
+        ensures script { result.script.value ≡ script.now }
+    {
+        Task {
+            seat: Snapshot::of(seat),
+            script: Snapshot::of(script),
+        }
+    }
 }
 
 /// What a run of workers leaves.
@@ -49,12 +64,14 @@ pub struct RunEnd<L: Job> {
     pub fault: Option<RunFault>,
 }
 
-/// Runs each script by the seat at its place, each in a thread of its own, and waits for all (own rule). Each call of a seat takes
-/// the machine's lock anew, with the gate before and after it.
+/// Runs each script by the seat at its place, each in a thread of its own, and waits for all (own rule).
+/// Each call of a seat takes the machine's lock anew, with the gate before and after it.
 ///
-/// All volumes that the lines' seals handed out come back in every case. All seats come back in every case, with the receipts of the lines that they ran, in order. Without a fault these are all lines;
-/// with one, a beginning of each script. A worker for which no thread can be made runs no line: NotStarted. OutOfMemory: memory was
-/// refused before a worker's first line. Out of memory in a line is that line's end and no fault of the run.
+/// In every case all seats come back, with the receipts of the lines that they ran, in order, and all
+/// volumes that the lines' seals handed out. A worker runs all its lines, or none: where no thread can be
+/// made for it, NotStarted with its processor, and where memory is refused before its first line,
+/// OutOfMemory. The fault is that of the first seat that has one; without a fault all lines were run. Out of
+/// memory in a line is that line's end and no fault of the run.
 pub fn run_workers<L: Job + Send + Sync, G: Gate + Sync, R: Threads + Wait + Sync>(
     rt: &R,
     alloc: Global,
@@ -65,7 +82,8 @@ pub fn run_workers<L: Job + Send + Sync, G: Gate + Sync, R: Threads + Wait + Syn
 ) -> RunEnd<L>
     requires one_each { vec_len seats ≡ vec_len scripts }
     requires run { AreForRun scripts.items }
-    ensures { IsRunEnd L.layout seats.items scripts.items result.seats.items result.volumes.items result.ends.items result.fault }
+    ensures { IsRunEnd L.layout seats.items scripts.items result.seats.items result.volumes.items
+        result.ends.items result.fault }
 {
     let Some(seals) = count_all(&scripts) else {
         return unstarted(alloc, seats);
@@ -136,7 +154,8 @@ fn unstarted<L: Job>(alloc: Global, seats: Vec<Seat<L>>) -> RunEnd<L>
     }
 }
 
-/// Runs a worker for each seat, each in a thread beside those of the seats before it. The end has room for all.
+/// Runs a worker for each seat, each in a thread beside those of the seats before it. There is room for all.
+#[cycle(workers)]
 fn run_rest<L: Job + Send + Sync, G: Gate + Sync, R: Threads + Wait + Sync>(
     rt: &R,
     alloc: Global,
@@ -148,83 +167,125 @@ fn run_rest<L: Job + Send + Sync, G: Gate + Sync, R: Threads + Wait + Sync>(
 ) -> RunEnd<L>
     requires scripts { vec_len seats ≤ vec_len scripts.now }
     requires run { AreForRun scripts.now.items }
-    requires empty { (room.seats.items ≡ []) × (room.ends.items ≡ []) × (room.fault ≡ None) }
+    requires bare { IsBare room.seats.items room.volumes.items room.ends.items room.fault }
     requires room { (vec_len seats ≤ vec_capacity room.seats) × (vec_len seats ≤ vec_capacity room.ends) }
-    requires no_volumes { room.volumes.items ≡ [] }
-    requires volumes { seals_in_all (take (length seats.items) scripts.now.items) ≤ vec_capacity room.volumes }
-    ensures workers { AreWorkers L.layout seats.items scripts.now.items result.seats.items result.volumes.items result.ends.items result.fault }
-    ensures room { (vec_capacity result.seats ≡ vec_capacity room.seats) × (vec_capacity result.ends ≡ vec_capacity room.ends) }
-    ensures volumes { (length result.volumes.items ≤ seals_in_all (take (length seats.items) scripts.now.items)) × (vec_capacity room.volumes ≤ vec_capacity result.volumes) }
+    requires volumes { seals_in_all (take (length seats.items) scripts.now.items)
+        ≤ vec_capacity room.volumes }
+    ensures workers { AreWorkers L.layout seats.items scripts.now.items result.seats.items
+        result.volumes.items result.ends.items result.fault }
+    ensures seats { vec_capacity result.seats ≡ vec_capacity room.seats }
+    ensures ends { vec_capacity result.ends ≡ vec_capacity room.ends }
+    ensures room { vec_capacity room.volumes ≤ vec_capacity result.volumes }
+    ensures few { length result.volumes.items ≤ seals_in_all (take (length seats.items) scripts.now.items) }
 {
     let mut seats = seats;
     let Some(seat) = seats.pop() else {
         return room;
     };
-    let script = &scripts[seats.len()];
-    let task = Task {
-        seat: Snapshot::of(&seat),
-        script: Snapshot::of(script),
-    };
+    let (worked, done) = run_beside(rt, alloc, shared, gate, seat, seats, scripts, room);
+    gather(worked, done)
+}
+
+/// Runs the worker of the seat after others in a thread beside those of the others.
+#[cycle(workers)]
+fn run_beside<L: Job + Send + Sync, G: Gate + Sync, R: Threads + Wait + Sync>(
+    rt: &R,
+    alloc: Global,
+    shared: &Shared<L>,
+    gate: &G,
+    seat: Seat<L>,
+    others: Vec<Seat<L>>,
+    scripts: &Vec<Script>,
+    room: RunEnd<L>,
+) -> (Worked<L>, RunEnd<L>)
+    requires scripts { vec_len others < vec_len scripts.now }
+    requires run { AreForRun scripts.now.items }
+    requires bare { IsBare room.seats.items room.volumes.items room.ends.items room.fault }
+    requires room { (vec_len others ≤ vec_capacity room.seats) × (vec_len others ≤ vec_capacity room.ends) }
+    requires volumes { seals_in_all (take (length others.items) scripts.now.items)
+        ≤ vec_capacity room.volumes }
+    ensures worker { IsWorkerAt L.layout seat scripts.now.items (length others.items) result.0.seat
+        result.0.volumes.items result.0.ends result.0.fault }
+    ensures workers { AreWorkers L.layout others.items scripts.now.items result.1.seats.items
+        result.1.volumes.items result.1.ends.items result.1.fault }
+    ensures seats { vec_capacity result.1.seats ≡ vec_capacity room.seats }
+    ensures ends { vec_capacity result.1.ends ≡ vec_capacity room.ends }
+    ensures room { vec_capacity room.volumes ≤ vec_capacity result.1.volumes }
+    ensures few { length result.1.volumes.items
+        ≤ seals_in_all (take (length others.items) scripts.now.items) }
+{
+    let script = &scripts[others.len()];
+    let task = Task::of(&seat, script);
     let flag = AtomicBool::new(true);
     let starts = &flag;
-    let (worked, done) = thread::scope(
+    thread::scope(
         thread::scope_env(),
         rt,
         move |scope| -> (Worked<L>, RunEnd<L>)
-            requires { IsSend L.row × IsSync L.row × IsSync G.row × IsSync R.row × (task.seat.value ≡ seat) × (task.script.value ≡ script.now) × AreForRun scripts.now.items × All IsForRun script.now × (vec_len seats ≤ vec_len scripts.now) × (room.seats.items ≡ []) × (room.ends.items ≡ []) × (room.fault ≡ None) × (vec_len seats ≤ vec_capacity room.seats) × (vec_len seats ≤ vec_capacity room.ends) × (room.volumes.items ≡ []) × (seals_in_all (take (length seats.items) scripts.now.items) ≤ vec_capacity room.volumes) }
-            ensures { IsWorker L.layout seat script.entry.now result.0.seat result.0.volumes.items result.0.ends result.0.fault × AreWorkers L.layout seats.items scripts.entry.now.items result.1.seats.items result.1.volumes.items result.1.ends.items result.1.fault × (vec_capacity result.1.seats ≡ vec_capacity room.seats) × (vec_capacity result.1.ends ≡ vec_capacity room.ends) × (length result.1.volumes.items ≤ seals_in_all (take (length seats.items) scripts.entry.now.items)) × (vec_capacity room.volumes ≤ vec_capacity result.1.volumes) }
+            requires threads { IsSend L.row × IsSync L.row × IsSync G.row × IsSync R.row }
+            requires task { (task.seat.value ≡ seat) × (task.script.value ≡ script.now) }
+            requires script { All IsForRun script.now }
+            requires scripts { (vec_len others < vec_len scripts.now) × AreForRun scripts.now.items }
+            requires bare { IsBare room.seats.items room.volumes.items room.ends.items room.fault }
+            requires room { (vec_len others ≤ vec_capacity room.seats)
+                × (vec_len others ≤ vec_capacity room.ends) }
+            requires volumes { seals_in_all (take (length others.items) scripts.now.items)
+                ≤ vec_capacity room.volumes }
+            ensures worker { IsWorker L.layout seat script.entry.now result.0.seat result.0.volumes.items
+                result.0.ends result.0.fault }
+            ensures workers { AreWorkers L.layout others.items scripts.entry.now.items result.1.seats.items
+                result.1.volumes.items result.1.ends.items result.1.fault }
+            ensures seats { vec_capacity result.1.seats ≡ vec_capacity room.seats }
+            ensures ends { vec_capacity result.1.ends ≡ vec_capacity room.ends }
+            ensures room { vec_capacity room.volumes ≤ vec_capacity result.1.volumes }
+            ensures few { length result.1.volumes.items
+                ≤ seals_in_all (take (length others.items) scripts.entry.now.items) }
         {
             let started = scope.spawn_with(
                 task,
                 move || -> Worked<L>
                     requires { All IsForRun script.now }
-                    ensures { IsWorker L.layout seat script.entry.now result.seat result.volumes.items result.ends result.fault }
                 { run_script(rt, alloc, shared, gate, starts, seat, script) },
             );
+            if started.is_err() {
+                starts.store(false, Ordering::SeqCst);
+            }
+            let done = run_rest(rt, alloc, shared, gate, others, scripts, room);
             match started {
-                Ok(child) => {
-                    let done = run_rest(rt, alloc, shared, gate, seats, scripts, room);
-                    (child.join(rt), done)
-                }
-                Err(refused) => {
-                    starts.store(false, Ordering::SeqCst);
-                    let worked = (refused.value)();
-                    (
-                        worked,
-                        run_rest(rt, alloc, shared, gate, seats, scripts, room),
-                    )
-                }
+                Ok(child) => (child.join(rt), done),
+                Err(refused) => ((refused.value)(), done),
             }
         },
-    );
+    )
+}
+
+/// The end of a run with that of one more worker, for which there is room. The fault is the first.
+fn gather<L: Job>(worked: Worked<L>, done: RunEnd<L>) -> RunEnd<L>
+    requires seats { vec_len done.seats < vec_capacity done.seats }
+    requires ends { vec_len done.ends < vec_capacity done.ends }
+    requires volumes { vec_len done.volumes + vec_len worked.volumes ≤ vec_capacity done.volumes }
+    ensures seats { result.seats.items ≡ done.seats.items ++ worked.seat ∷ [] }
+    ensures volumes { result.volumes.items ≡ done.volumes.items ++ worked.volumes.items }
+    ensures ends { result.ends.items ≡ done.ends.items ++ worked.ends ∷ [] }
+    ensures fault { result.fault ≡ option_or done.fault worked.fault }
+    ensures seat_room { vec_capacity result.seats ≡ vec_capacity done.seats }
+    ensures end_room { vec_capacity result.ends ≡ vec_capacity done.ends }
+    ensures volume_room { vec_capacity done.volumes ≤ vec_capacity result.volumes }
+{
     let RunEnd {
+        mut seats,
+        mut volumes,
+        mut ends,
+        fault,
+    } = done;
+    let mut handed = worked.volumes;
+    seats.push_reserved(worked.seat);
+    ends.push_reserved(worked.ends);
+    let _ = volumes.append(&mut handed);
+    RunEnd {
         seats,
         volumes,
         ends,
-        fault,
-    } = done;
-    let mut backs = seats;
-    let mut all = volumes;
-    let mut ends = ends;
-    let mut handed = worked.volumes;
-    backs.push_reserved(worked.seat);
-    ends.push_reserved(worked.ends);
-    // There is room: it was made for all lines that seal.
-    let _ = all.append(&mut handed);
-    RunEnd {
-        seats: backs,
-        volumes: all,
-        ends,
-        fault: first(fault, worked.fault),
-    }
-}
-
-/// The first of two faults, where there is one.
-fn first(one: Option<RunFault>, other: Option<RunFault>) -> Option<RunFault>
-    ensures { result ≡ None → (one ≡ None) × (other ≡ None) }
-{
-    match one {
-        Some(_) => one,
-        None => other,
+        fault: fault.or(worked.fault),
     }
 }

@@ -4,9 +4,10 @@ ghost use Rattle.hp_scenario.specs.Scripts.{AreForRun};
 ghost use Rattle.hp_shared.specs.Shared.{IsFresh};
 
 use anyhow::Result;
+use hp_history::{audit_chain, replay_from};
 use hp_machine::Machine;
 use hp_scenario::{Scenario, Script};
-use hp_shared::{Job, Seat, Shared, close};
+use hp_shared::{Closed, Job, Seat, Shared, close};
 use hp_workers::{OpenGate, RunEnd, run_workers};
 use std::alloc::Global;
 use std::marker::Brand;
@@ -14,9 +15,14 @@ use std::sync::Wait;
 use std::sync::ledger::Blank;
 use std::thread::Threads;
 
-/// Runs a scenario's lines by workers and closes the machine. Whether the run closed with as many records as the seats have
-/// receipts.
-pub fn run_scenario<R: Threads + Wait + Sync>(rt: &R, alloc: Global, text: &[u8]) -> Result<bool> {
+/// Runs a scenario's lines by workers, closes the machine and replays its records. How many records there
+/// are; none where a step fails, where the seats have not as many receipts, or where the replay leads to
+/// another state.
+pub fn run_scenario<R: Threads + Wait + Sync>(
+    rt: &R,
+    alloc: Global,
+    text: &[u8],
+) -> Result<Option<u64>> {
     let scenario = Scenario::read(alloc, text)?;
     let machine = Machine::boot(alloc, &scenario.layout)?;
     let blank = Blank::new(scenario.layout.cpus() as u64);
@@ -31,7 +37,7 @@ fn run_scripts<L: Job + Send + Sync, R: Threads + Wait + Sync>(
     blank: Blank,
     machine: Machine,
     scripts: Vec<Script>,
-) -> bool
+) -> Option<u64>
     requires machine { IsFresh L.layout machine }
     requires name { blank.name ≡ L.name }
     requires parts { blank.parts ≡ L.parts }
@@ -39,10 +45,10 @@ fn run_scripts<L: Job + Send + Sync, R: Threads + Wait + Sync>(
     requires run { AreForRun scripts.items }
 {
     let Ok((shared, seats)) = Shared::<L>::new(alloc, blank, machine) else {
-        return false;
+        return None;
     };
     if seats.len() != scripts.len() {
-        return false;
+        return None;
     }
     let RunEnd {
         seats,
@@ -51,13 +57,33 @@ fn run_scripts<L: Job + Send + Sync, R: Threads + Wait + Sync>(
         fault,
     } = run_workers(rt, alloc, &shared, seats, scripts, &OpenGate);
     if fault.is_some() || ends.len() != seats.len() {
-        return false;
+        return None;
     }
     let receipts = count_receipts(&seats);
     match close(alloc, shared, seats, volumes) {
-        Ok(closed) => Some(closed.records) == receipts,
-        Err(_) => false,
+        Ok(closed) => if is_audited(alloc, &closed) && Some(closed.records) == receipts {
+            receipts
+        } else {
+            None
+        },
+        Err(_) => None,
     }
+}
+
+/// Whether the sealed records lead from boot to the machine's base, and its history from there to its state.
+fn is_audited(alloc: Global, closed: &Closed) -> bool {
+    let machine = &closed.machine;
+    let Ok(base) = audit_chain(alloc, machine.layout(), closed.volumes.as_slice()) else {
+        return false;
+    };
+    machine.stays_sound();
+    let Ok(replayed) = replay_from(alloc, &base, machine.sealed(), machine.history()) else {
+        return false;
+    };
+    let Ok(image) = machine.image(alloc) else {
+        return false;
+    };
+    base.same(machine.base()) && replayed.same(&image)
 }
 
 /// The number of all seats' receipts.

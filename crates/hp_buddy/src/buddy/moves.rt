@@ -1,12 +1,14 @@
 //! Pageblocks whose free blocks change their class.
-ghost use Rattle.std.specs.Prelude.{◌≡◌, ◌+◌, ◌*◌, ◌<◌, ◌≤◌};
+ghost use Rattle.std.specs.Prelude.{◌≡◌, ◌+◌, ◌-◌, ◌*◌, ◌^◌, ◌<◌, ◌≤◌};
 ghost use Rattle.hp_units.specs.Arithmetic.{frame_count, pageblock_count, pageblock_size};
 ghost use Rattle.hp_units.specs.Isolation.{move_free, move_free_below};
+ghost use Rattle.hp_units.specs.LayoutParts.{IsLayout};
 ghost use Rattle.hp_tape.specs.Tapes.{HasRoom, NotesAreas};
 ghost use Rattle.hp_buddy.specs.Buddy.{AreApart};
 ghost use Rattle.hp_buddy.specs.Moves.{free_count, free_one, move_one};
 
 use super::Buddy;
+use crate::classes::nth_block;
 use hp_tape::Tape;
 use hp_units::{Class, Frame, Order, Pageblock};
 
@@ -25,7 +27,16 @@ impl Buddy {
         }
     }
 
-    /// Moves the free blocks of one order of a pageblock, by rising number.
+    /// How many blocks of an order a pageblock has.
+    fn blocks_of_order(&self, order: Order) -> u32
+        requires { order ≤ self.now.layout.order }
+        ensures is { result ≡ 2 ^ (self.now.layout.order - order) }
+        ensures layout { IsLayout self.now.layout }
+    {
+        1 << (self.layout.order() - order.0)
+    }
+
+    /// Moves the free blocks of one order of a pageblock, by rising number: each starts at a multiple of its size.
     fn move_order(
         &mut self,
         from: Class,
@@ -43,9 +54,10 @@ impl Buddy {
         ensures notes { NotesAreas self.old.layout (2 * free_count self.old.areas from order (pageblock * pageblock_size self.old.layout) (pageblock_size self.old.layout)) tape.old tape.new self.new.areas self.old.areas }
     {
         let first = self.first_frame(pageblock);
-        let size = self.pageblock_size();
-        for at in 0..size {
-            self.move_block(from, to, order, Frame(first.0 + at), tape);
+        let count = self.blocks_of_order(order);
+        for at in 0..count {
+            let frame = nth_block(first, order, at);
+            self.move_block(from, to, order, frame, tape);
         }
     }
 

@@ -1,0 +1,26 @@
+//! Tests of the commands: scenarios with the text that each must write, inputs that are refused, streams that fail.
+//!
+//! They stand in a crate of their own, as integration tests do, so that the gate does not prove hp_commands once more with them.
+//! `rt test` in this folder runs them.
+#![tactic(auto)]
+
+#[cfg(test)]
+mod ends;
+#[cfg(test)]
+mod events;
+#[cfg(test)]
+mod inputs;
+#[cfg(test)]
+mod layouts;
+#[cfg(test)]
+mod pieces;
+#[cfg(test)]
+mod plans_and_files;
+#[cfg(test)]
+mod runs;
+#[cfg(test)]
+mod scenarios;
+#[cfg(test)]
+mod seals;
+#[cfg(test)]
+mod streams;

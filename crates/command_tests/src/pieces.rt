@@ -1,0 +1,52 @@
+//! Streams that give and take pieces, and streams that fail.
+use super::streams::{Collected, LAYOUT, Scripted, scenario};
+use hp_commands::{ProgramFault, serve_serial};
+use std::test::Fail;
+
+const UNDONE: &str =
+    "1: frame 0\n2: done\n3: undone 2\nstate\nblock 0 online normal\nblock 1 online normal\nblock 2 online movable\nblock 3 offline\nNM 2: 0 4\nMM 2: 8\n";
+
+#[test]
+fn pieces_are_joined(rt: HostRuntime) -> Result<(), Fail> {
+    let input = scenario(
+        rt.alloc(),
+        LAYOUT,
+        "\"0 kalloc 1\",\"0 kfree 0\",\"0 undo 0\"",
+    )?;
+    for (read, written) in [(1, 4096), (5, 30), (4096, 1)] {
+        let mut reader = Scripted::new(input.as_bytes(), read, 0);
+        let mut writer = Collected::new(rt.alloc(), written, 0);
+        let result = serve_serial(rt.alloc(), &mut reader, &mut writer);
+        assert!(rt; result == Ok(()), "{read} {written}");
+        assert!(rt;
+            writer.bytes.as_slice() == UNDONE.as_bytes(),
+            "{read} {written}"
+        );
+    }
+    Ok(())
+}
+
+#[test]
+fn failed_reads_write_nothing(rt: HostRuntime) -> Result<(), Fail> {
+    let input = scenario(rt.alloc(), LAYOUT, "\"0 kalloc 1\"")?;
+    for fails_at in [1, 2, 3] {
+        let mut reader = Scripted::new(input.as_bytes(), 100, fails_at);
+        let mut writer = Collected::new(rt.alloc(), 4096, 0);
+        let result = serve_serial(rt.alloc(), &mut reader, &mut writer);
+        assert!(rt; result == Err(ProgramFault::ReadFailed), "{fails_at}");
+        assert!(rt; writer.bytes.is_empty(), "{fails_at}");
+    }
+    Ok(())
+}
+
+#[test]
+fn failed_writes_are_named(rt: HostRuntime) -> Result<(), Fail> {
+    let input = scenario(rt.alloc(), LAYOUT, "\"0 kalloc 1\"")?;
+    for fails_at in [1, 2, 3] {
+        let mut reader = Scripted::new(input.as_bytes(), 4096, 0);
+        let mut writer = Collected::new(rt.alloc(), 30, fails_at);
+        let result = serve_serial(rt.alloc(), &mut reader, &mut writer);
+        assert!(rt; result == Err(ProgramFault::WriteFailed), "{fails_at}");
+    }
+    Ok(())
+}

@@ -1,0 +1,37 @@
+-- An event's line: the state after it, and when its text is the one that is due.
+use Rattle.std.proofs.Common.{◌≡◌, ℕ, Bool, true, false, List, ◌++◌, codes, if◌then◌else◌, refl, sym, subst, inl, inr}
+use Rattle.hp_units.specs.History.{value_of}
+use Rattle.hp_units.specs.declared.events.Event.{Event}
+use Rattle.hp_units.specs.declared.replies.CallFault.TheVariants.{OutOfMemory}
+use Rattle.hp_units.specs.declared.replies.Record.{Record}
+use Rattle.hp_machine.specs.Machine.{MachineValue, is_full}
+use Rattle.hp_commands.specs.Events.{WritesEvent, event_text, machine_after_event, next_record, with_record}
+use Rattle.hp_text.specs.Answers.{unrecorded_line}
+use Rattle.hp_commands.specs.Serial.{IsWhole}
+use Rattle.hp_commands.proofs.Whole.{not_whole}
+
+-- the state is the one that the history leads to
+abbrev pub IsUpToDate : MachineValue → Type 0
+IsUpToDate m = m.state ≡ value_of m.layout m.base m.history
+
+-- one more record, or none
+choice_is : (b : Bool) (m : MachineValue) (r : Record) → IsUpToDate m → IsUpToDate (if b then m else with_record m r)
+choice_is true m r h = h
+choice_is false m r h = refl
+
+event_next : (m : MachineValue) (cpu : ℕ) (event : Event) → IsUpToDate m → IsUpToDate (machine_after_event m cpu event)
+unfolding machine_after_event
+event_next m cpu event h = choice_is (is_full m) m (next_record m cpu event) h
+
+pub event_is : (m : MachineValue) (cpu : ℕ) (event : Event) (text : List ℕ) (new : MachineValue) → IsUpToDate m → WritesEvent m cpu event text new → IsUpToDate new
+event_is m cpu event text new h (inl w) = subst IsUpToDate (sym w.1) (event_next m cpu event h)
+event_is m cpu event text new h (inr w) = subst IsUpToDate (sym w.2) h
+
+-- out of memory makes a text that isn't whole
+pub wanting_is_not_whole : (b : List ℕ) → IsWhole (unrecorded_line OutOfMemory ++ b) → ⊥
+wanting_is_not_whole b whole = not_whole (unrecorded_line OutOfMemory ++ b) (codes "-: fault ") b refl whole
+
+-- in a whole text an event wrote what is due
+pub event_due : (m : MachineValue) (cpu : ℕ) (event : Event) (text : List ℕ) (new : MachineValue) (rest : List ℕ) → WritesEvent m cpu event text new → IsWhole (text ++ rest) → (text ≡ event_text m cpu event) × (new ≡ machine_after_event m cpu event)
+event_due m cpu event text new rest (inl w) whole = w
+event_due m cpu event text new rest (inr w) whole = absurd (wanting_is_not_whole rest (subst (λ (l : List ℕ). IsWhole (l ++ rest)) w.1 whole))

@@ -1,0 +1,10 @@
+use Rattle.std.proofs.Common.{◌∙◌}
+use Rattle.hp_commands.proofs.Known.{Appends-more, within_end}
+use Rattle.hp_commands.proofs.serving.write_all.Goals as goal
+
+pub loop-at-preserved : goal.loop-at-preserved
+loop-at-preserved g c = record {
+  kept = Appends-more _ _ _ _ _ _ c.loop-at.invariant.kept c.in_ok-at.ensures.bytes;
+  same = c.in_ok-at.ensures.ok ∙ c.loop-at.invariant.same;
+  within = within_end _ _ _ c.loop-at.invariant.within c.in_ok-at.ensures.bound.0;
+}

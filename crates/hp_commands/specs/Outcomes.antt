@@ -1,0 +1,17 @@
+-- What the program says of its end, and its exit status.
+use Rattle.std.specs.Prelude.{ℕ, List, [], codes}
+use Rattle.hp_commands.specs.FaultText.{fault_text}
+use Rattle.hp_commands.specs.declared.outcome.Outcome.{Outcome}
+use Rattle.hp_commands.specs.declared.outcome.Outcome.TheVariants.{Done, NoCommand, Failed}
+
+-- the exit status
+abbrev pub status_of : Outcome → ℕ
+status_of Done = 0
+status_of NoCommand = 2
+status_of (Failed fault) = 1
+
+-- the line for standard error
+abbrev pub outcome_text : Outcome → List ℕ
+outcome_text Done = []
+outcome_text NoCommand = codes "hotplug: serial, run or audit"
+outcome_text (Failed fault) = fault_text fault

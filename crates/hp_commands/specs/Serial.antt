@@ -1,0 +1,93 @@
+-- The text that a scenario makes.
+use Rattle.std.specs.Prelude.{◌≡◌, ℕ, List, [], ◌∷◌, ◌++◌, codes, Result, Ok}
+use Rattle.hp_units.specs.History.{value_of}
+use Rattle.hp_machine.specs.Machine.{MachineValue, booted, sealed}
+use Rattle.hp_control.specs.Writes.{echo_request}
+use Rattle.hp_scenario.specs.declared.fault.ScenarioFault.{ScenarioFault}
+use Rattle.hp_scenario.specs.declared.lines.Line.{Line}
+use Rattle.hp_scenario.specs.declared.lines.Work.{Work}
+use Rattle.hp_scenario.specs.declared.lines.Work.TheVariants as work
+use Rattle.hp_scenario.specs.Gives.{◌>>=◌}
+use Rattle.hp_scenario.specs.Scenario.{ScenarioValue, scenario_in}
+use Rattle.hp_commands.specs.Events.{WritesEvent, event_text, machine_after_event}
+use Rattle.hp_commands.specs.Files.{WritesEcho, WritesFile, cat_text, machine_after_request, request_text}
+use Rattle.hp_commands.specs.Plans.{WritesPlan, plan_run, plan_text}
+use Rattle.hp_commands.specs.Seals.{WritesSeal, seal_text}
+use Rattle.hp_text.specs.State.{state_text}
+
+-- ---- one line
+
+-- what a line's work writes, and the machine after it
+abbrev pub work_text : MachineValue → (cpu : ℕ) → Work → List ℕ
+work_text m cpu (work.Event event) = event_text m cpu event
+work_text m cpu (work.Plan plan turns) = plan_text m cpu turns plan
+work_text m cpu (work.Echo path word) = request_text m cpu (echo_request path word)
+work_text m cpu (work.Cat path) = cat_text m path
+work_text m cpu work.Seal = seal_text m
+
+abbrev pub machine_after_work : MachineValue → (cpu : ℕ) → Work → MachineValue
+machine_after_work m cpu (work.Event event) = machine_after_event m cpu event
+machine_after_work m cpu (work.Plan plan turns) = (plan_run m cpu turns plan).machine
+machine_after_work m cpu (work.Echo path word) = machine_after_request m cpu (echo_request path word)
+machine_after_work m cpu (work.Cat path) = m
+machine_after_work m cpu work.Seal = sealed m
+
+abbrev pub line_text : MachineValue → Line → List ℕ
+line_text m line = work_text m line.cpu line.work
+
+abbrev pub machine_after : MachineValue → Line → MachineValue
+machine_after m line = machine_after_work m line.cpu line.work
+
+-- ---- the whole text
+
+-- what the lines write, one after another, and the machine after them
+unfoldable pub lines_text : MachineValue → List Line → List ℕ
+lines_text m [] = []
+lines_text m (line ∷ lines) = line_text m line ++ lines_text (machine_after m line) lines
+
+unfoldable pub machine_after_lines : MachineValue → List Line → MachineValue
+machine_after_lines m [] = m
+machine_after_lines m (line ∷ lines) = machine_after_lines (machine_after m line) lines
+
+-- the state that a machine's history leads to
+abbrev pub end_text : (names : List (List ℕ)) → MachineValue → List ℕ
+end_text names m = state_text m.layout names (value_of m.layout m.base m.history)
+
+-- the lines, and then the state
+unfoldable pub scenario_text : ScenarioValue → List ℕ
+scenario_text s = lines_text (booted s.layout) s.lines ++ end_text s.names (machine_after_lines (booted s.layout) s.lines)
+
+-- the text of the bytes of a scenario, or why they are none
+unfoldable pub serial_text : List ℕ → Result (List ℕ) ScenarioFault
+serial_text input = scenario_in input >>= λ s. Ok (scenario_text s)
+
+-- no line ends in `OutOfMemory`
+unfoldable pub IsWhole : List ℕ → Type 0
+IsWhole text = (front rest : List ℕ) → text ≡ front ++ (codes "OutOfMemory" ++ 10 ∷ rest) → ⊥
+
+-- ---- lines as they are run
+
+-- a line's work was done
+abbrev pub WritesWork : MachineValue → (cpu : ℕ) → Work → (text : List ℕ) → (new : MachineValue) → Type 0
+WritesWork m cpu (work.Event event) text new = WritesEvent m cpu event text new
+WritesWork m cpu (work.Plan plan turns) text new = WritesPlan m cpu turns plan text new
+WritesWork m cpu (work.Echo path word) text new = WritesEcho m cpu path word text new
+WritesWork m cpu (work.Cat path) text new = WritesFile m path text × (new ≡ m)
+WritesWork m cpu work.Seal text new = WritesSeal m text new
+
+-- a line was run
+abbrev pub WritesLine : MachineValue → Line → (text : List ℕ) → (new : MachineValue) → Type 0
+WritesLine m line text new = WritesWork m line.cpu line.work text new
+
+-- the lines were run one after another: each wrote its text and led to the machine after it
+unfoldable pub WritesLines : MachineValue → List Line → (text : List ℕ) → (new : MachineValue) → Type 0
+WritesLines m [] text new = (text ≡ []) × (new ≡ m)
+WritesLines m (line ∷ lines) text new =
+    (written : List ℕ) × (next : MachineValue) × (rest : List ℕ)
+    × WritesLine m line written next × (text ≡ written ++ rest) × WritesLines next lines rest new
+
+-- bytes grew by a text of which P holds
+pub record GrowsBy (old new : List ℕ) (P : List ℕ → Type 0) : Type 0 where
+  pub text : List ℕ
+  pub grown : new ≡ old ++ text
+  pub is : P text

@@ -1,0 +1,36 @@
+-- What the program has written.
+use Rattle.std.specs.Prelude.{◌≡◌, ◌≤◌, ℕ, List, ◌++◌, length, Option, Ok, IfSome}
+use Rattle.std.specs.Io.KnownBytes.{Appends, IsAtEnd}
+use Rattle.hp_machine.specs.Machine.{MachineValue, booted}
+use Rattle.hp_scenario.specs.Scenario.{ScenarioValue, scenario_in}
+use Rattle.hp_commands.specs.declared.commands.Command.{Command}
+use Rattle.hp_commands.specs.declared.commands.Command.TheVariants.{Serial, Run, Audit}
+use Rattle.hp_commands.specs.Faults.{limit}
+use Rattle.hp_commands.specs.Runs.{IsAuditTextOf, IsRunTextOf}
+use Rattle.hp_commands.specs.Serial.{serial_text, end_text, WritesLines, IsWhole}
+
+-- the bytes are a scenario, and the text is that of a run of its lines with the state after them; where no line of it ends in
+-- `OutOfMemory`, it is the scenario's text
+pub record IsTextOf (input text : List ℕ) : Type 0 where
+  pub scenario : ScenarioValue
+  pub read : scenario_in input ≡ Ok scenario
+  pub lines : List ℕ
+  pub machine : MachineValue
+  pub run : WritesLines (booted scenario.layout) scenario.lines lines machine
+  pub end : text ≡ lines ++ end_text scenario.names machine
+  pub whole : IsWhole text → serial_text input ≡ Ok text
+
+-- a reader gave up all that it had, and that was at most the limit
+pub record ReadsAll (old new : Option (List ℕ)) : Type 0 where
+  pub within : IfSome old (λ input. length input ≤ limit)
+  pub end : IsAtEnd new
+
+-- the text of the bytes that were read, and nothing else
+abbrev pub WritesTextOf : (known old new : Option (List ℕ)) → Type 0
+WritesTextOf known old new = IfSome known (λ input. (text : List ℕ) × Appends old new text × IsTextOf input text)
+
+-- what a command has written: of the bytes that were read its text, and nothing else
+abbrev pub Serves : Command → (known old new : Option (List ℕ)) → Type 0
+Serves Serial known old new = WritesTextOf known old new
+Serves Run known old new = IfSome known (λ input. (text : List ℕ) × Appends old new text × IsRunTextOf input text)
+Serves Audit known old new = IfSome known (λ input. (text : List ℕ) × Appends old new text × IsAuditTextOf input text)

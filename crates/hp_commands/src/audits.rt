@@ -1,0 +1,55 @@
+//! A run whose records are read again.
+ghost use Rattle.std.specs.Prelude.{Some, IfErr, IfOk, OnOk, string_bytes};
+ghost use Rattle.hp_commands.specs.Audits.{HasAuditFault, IsAudited};
+ghost use Rattle.hp_commands.specs.Faults.{IsFaultOf};
+ghost use Rattle.hp_commands.specs.Runs.{IsAuditTextOf};
+ghost use Rattle.hp_commands.specs.declared.commands.Command.TheVariants.{Audit};
+
+use crate::fault::ProgramFault;
+use crate::runs::{work_off, write_records};
+use hp_history::{Volume, audit_chain, replay_from};
+use hp_machine::Machine;
+use std::alloc::Global;
+use std::sync::Wait;
+use std::thread::Threads;
+
+/// The text of an audit: the scenario that the bytes are is run as `run` does it, and then its sealed records and the history of
+/// its machine are replayed.
+pub fn audit<R: Threads + Wait + Sync>(
+    rt: &R,
+    alloc: Global,
+    input: &[u8],
+) -> Result<String, ProgramFault>
+    ensures ok { IfOk result (λ out. IsAuditTextOf input.now (string_bytes out)) }
+    ensures err { IfErr result (IsFaultOf Audit (Some input.now) ⊥ ⊥) }
+{
+    let worked = work_off(rt, alloc, input)?;
+    check_records(alloc, &worked.closed.volumes, &worked.closed.machine)?;
+    let mut out = String::new(alloc);
+    write_records(&mut out, worked.closed.records)?;
+    out.push_str("audit ok\n")?;
+    Ok(out)
+}
+
+/// Replays volumes from boot on, and compares the state that they lead to with a machine's base; then replays the machine's
+/// history from its base on, and compares the state that it leads to with the machine's.
+fn check_records(
+    alloc: Global,
+    volumes: &Vec<Volume>,
+    machine: &Machine,
+) -> Result<(), ProgramFault>
+    ensures ok { OnOk result (IsAudited volumes.now.items machine.now) }
+    ensures err { IfErr result (HasAuditFault volumes.now.items machine.now) }
+{
+    let base = audit_chain(alloc, machine.layout(), volumes.as_slice())?;
+    if !base.same(machine.base()) {
+        return Err(ProgramFault::AuditDiffers);
+    }
+    machine.stays_sound();
+    let replayed = replay_from(alloc, &base, machine.sealed(), machine.history())?;
+    let image = machine.image(alloc)?;
+    if !replayed.same(&image) {
+        return Err(ProgramFault::AuditDiffers);
+    }
+    Ok(())
+}

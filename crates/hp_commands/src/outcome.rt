@@ -1,0 +1,45 @@
+//! How a call of the program ends.
+ghost use Rattle.std.specs.Prelude.{◌≡◌, Some};
+ghost use Rattle.hp_commands.specs.Outcomes.{status_of};
+
+use crate::fault::ProgramFault;
+use std::fmt;
+
+/// How a call of the program ended.
+#[derive(Clone, Copy, Debug, PartialEq, Eq)]
+pub enum Outcome {
+    /// All is written.
+    Done,
+    /// The command line names no command.
+    NoCommand,
+    /// The command failed.
+    Failed(ProgramFault),
+}
+
+impl Outcome {
+    /// The exit status: 0, or 1 after a fault, or 2 where there was no command.
+    pub fn status(self) -> u8
+        ensures { result ≡ status_of self }
+    {
+        match self {
+            Outcome::Done => 0,
+            Outcome::NoCommand => 2,
+            Outcome::Failed(_) => 1,
+        }
+    }
+}
+
+/// The line for standard error, where there is one.
+impl fmt::Display for Outcome {
+    ghost use Rattle.hp_commands.specs.Outcomes.{outcome_text};
+
+    ghost output = { λ outcome. Some (outcome_text outcome) };
+
+    fn fmt<W: fmt::Write>(&self, f: &mut fmt::Formatter<W>) -> fmt::Result {
+        match self {
+            Outcome::Done => Ok(()),
+            Outcome::NoCommand => write!(f, "hotplug: serial, run or audit"),
+            Outcome::Failed(fault) => write!(f, "{fault}"),
+        }
+    }
+}

@@ -1,0 +1,148 @@
+//! A scenario that workers run: a thread for each processor, on one machine that they share.
+ghost use Rattle.std.specs.Prelude.{◌≡◌, ◌++◌, Some, IfErr, IfOk, OnOk, length, string_bytes};
+ghost use Rattle.std.specs.List.{flat_map};
+ghost use Rattle.hp_shared.specs.Shared.{IsFresh};
+ghost use Rattle.hp_scenario.specs.Scripts.{AreForRun};
+ghost use Rattle.hp_commands.specs.Faults.{IsFaultOf, IsWorkFault};
+ghost use Rattle.hp_commands.specs.Runs.{IsRunOf, IsRunTextOf, IsWorkedOff, line_end_text, processor_text, processors_text, records_line};
+ghost use Rattle.hp_commands.specs.declared.commands.Command.TheVariants.{Run};
+
+use crate::fault::ProgramFault;
+use hp_machine::Machine;
+use hp_scenario::{Scenario, Script};
+use hp_shared::{Closed, Job, Shared, close};
+use hp_text::{write_call_fault, write_echo_fault, write_plan_end, write_reply, write_sealed};
+use hp_workers::{Ends, LineEnd, OpenGate, RunEnd, run_workers};
+use std::alloc::{AllocError, Global};
+use std::marker::Brand;
+use std::sync::Wait;
+use std::sync::ledger::Blank;
+use std::thread::Threads;
+
+/// What workers leave: the closed machine, and what became of each processor's lines.
+#[derive(Drop)]
+pub struct Worked {
+    /// The machine, its sealed records, and how many records it made.
+    pub closed: Closed,
+    /// The ends of the lines, by processor from 0.
+    pub ends: Vec<Ends>,
+}
+
+/// The text of a run of the scenario that the bytes are: what became of each processor's lines, and then the number of records.
+pub fn run<R: Threads + Wait + Sync>(
+    rt: &R,
+    alloc: Global,
+    input: &[u8],
+) -> Result<String, ProgramFault>
+    ensures ok { IfOk result (λ out. IsRunTextOf input.now (string_bytes out)) }
+    ensures err { IfErr result (IsFaultOf Run (Some input.now) ⊥ ⊥) }
+{
+    let worked = work_off(rt, alloc, input)?;
+    let mut out = String::new(alloc);
+    write_processors(&mut out, &worked.ends)?;
+    write_records(&mut out, worked.closed.records)?;
+    Ok(out)
+}
+
+/// Runs the scenario that the bytes are by a worker for each processor, and closes the machine.
+pub fn work_off<R: Threads + Wait + Sync>(
+    rt: &R,
+    alloc: Global,
+    input: &[u8],
+) -> Result<Worked, ProgramFault>
+    ensures ok { IfOk result (λ worked. IsRunOf input.now worked.ends.items worked.closed.volumes.items worked.closed.machine worked.closed.records) }
+    ensures err { IfErr result (IsFaultOf Run (Some input.now) ⊥ ⊥) }
+{
+    let scenario = Scenario::read(alloc, input)?;
+    let machine = Machine::boot(alloc, &scenario.layout)?;
+    let blank = Blank::new(scenario.layout.cpus() as u64);
+    let scripts = scenario.scripts(alloc)?;
+    run_scripts::<Brand, R>(rt, alloc, blank, machine, scripts)
+}
+
+/// Runs a script for each processor of a machine at its start, each in a thread of its own, and closes the machine.
+fn run_scripts<L: Job + Send + Sync, R: Threads + Wait + Sync>(
+    rt: &R,
+    alloc: Global,
+    blank: Blank,
+    machine: Machine,
+    scripts: Vec<Script>,
+) -> Result<Worked, ProgramFault>
+    requires machine { IsFresh L.layout machine }
+    requires name { blank.name ≡ L.name }
+    requires parts { blank.parts ≡ L.parts }
+    requires one_each { blank.parts ≡ L.layout.cpus }
+    requires scripts { length scripts.items ≡ L.layout.cpus }
+    requires run { AreForRun scripts.items }
+    ensures ok { IfOk result (λ worked. IsWorkedOff L.layout scripts.items worked.ends.items worked.closed.volumes.items worked.closed.machine worked.closed.records) }
+    ensures err { IfErr result (IsWorkFault L.layout scripts.items) }
+{
+    let Ok((shared, seats)) = Shared::<L>::new(alloc, blank, machine) else {
+        return Err(ProgramFault::OutOfMemory);
+    };
+    let RunEnd {
+        seats,
+        volumes,
+        ends,
+        fault,
+    } = run_workers(rt, alloc, &shared, seats, scripts, &OpenGate);
+    if let Some(fault) = fault {
+        return Err(ProgramFault::from(fault));
+    }
+    match close(alloc, shared, seats, volumes) {
+        Ok(closed) => {
+            closed.machine.begins_at_boot();
+            Ok(Worked { closed, ends })
+        }
+        Err(refused) => Err(ProgramFault::from(refused.fault)),
+    }
+}
+
+/// Writes what became of each processor's lines, by rising number.
+#[tactic(auto, unfolding(crate::specs::Runs::processors_text))]
+fn write_processors(out: &mut String, lists: &Vec<Ends>) -> Result<(), AllocError>
+    ensures { OnOk result (string_bytes out.new ≡ string_bytes out.old ++ processors_text lists.now.items) }
+{
+    for cpu in 0..lists.len() {
+        write_processor(out, cpu, &lists[cpu])?;
+    }
+    Ok(())
+}
+
+/// Writes a processor's number, and what became of each of its lines.
+fn write_processor(out: &mut String, cpu: usize, ends: &Ends) -> Result<(), AllocError>
+    ensures { OnOk result (string_bytes out.new ≡ string_bytes out.old ++ processor_text cpu (Some ends.now)) }
+{
+    writeln!(out, "cpu {cpu}")?;
+    write_ends(out, ends.as_slice())
+}
+
+/// Writes what became of each line.
+fn write_ends(out: &mut String, ends: &[LineEnd]) -> Result<(), AllocError>
+    ensures { OnOk result (string_bytes out.new ≡ string_bytes out.old ++ flat_map line_end_text ends.now) }
+{
+    for end in ends {
+        write_line_end(out, *end)?;
+    }
+    Ok(())
+}
+
+/// Writes what became of a line.
+fn write_line_end(out: &mut String, end: LineEnd) -> Result<(), AllocError>
+    ensures { OnOk result (string_bytes out.new ≡ string_bytes out.old ++ line_end_text end) }
+{
+    match end {
+        LineEnd::Reply(reply) => write_reply(out, reply),
+        LineEnd::Fault(fault) => write_call_fault(out, fault),
+        LineEnd::Plan(end) => write_plan_end(out, end),
+        LineEnd::Control(fault) => write_echo_fault(out, fault),
+        LineEnd::Sealed(count) => write_sealed(out, count),
+    }
+}
+
+/// Writes how many records a machine made.
+pub fn write_records(out: &mut String, count: u64) -> Result<(), AllocError>
+    ensures { OnOk result (string_bytes out.new ≡ string_bytes out.old ++ records_line count) }
+{
+    writeln!(out, "{count} records")
+}

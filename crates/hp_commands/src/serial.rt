@@ -1,0 +1,61 @@
+//! The text of a scenario.
+ghost use Rattle.std.specs.Prelude.{OnOk, IfOk, IfErr, string_bytes};
+ghost use Rattle.hp_scenario.specs.Gives.{Fails};
+ghost use Rattle.hp_commands.specs.Serial.{GrowsBy, WritesLine, WritesLines, serial_text};
+ghost use Rattle.hp_commands.specs.Served.{IsTextOf};
+
+use crate::events::write_event;
+use crate::files::{write_echo, write_file};
+use crate::plans::write_plan;
+use crate::seals::write_seal;
+use hp_machine::Machine;
+use hp_scenario::{Line, Scenario, ScenarioFault, Work};
+use hp_text::write_state;
+use std::alloc::{AllocError, Global};
+
+/// The text of a scenario: what each line writes, and then the state.
+pub fn serial(alloc: Global, input: &[u8]) -> Result<String, ScenarioFault>
+    ensures ok { IfOk result (λ out. IsTextOf input.now (string_bytes out)) }
+    ensures err { IfErr result (λ fault. Fails fault (serial_text input.now)) }
+{
+    let scenario = Scenario::read(alloc, input)?;
+    let mut machine = Machine::boot(alloc, &scenario.layout)?;
+    let mut out = String::new(alloc);
+    write_lines(&mut out, alloc, &mut machine, scenario.lines.as_slice())?;
+    let image = machine.image(alloc)?;
+    write_state(&mut out, alloc, &image, &scenario.names)?;
+    Ok(out)
+}
+
+/// Runs lines one after another, and writes what each answers.
+fn write_lines(
+    out: &mut String,
+    alloc: Global,
+    machine: &mut Machine,
+    lines: &[Line],
+) -> Result<(), AllocError>
+    ensures { OnOk result (GrowsBy (string_bytes out.old) (string_bytes out.new) (λ text. WritesLines machine.old lines.now text machine.new)) }
+{
+    for line in lines {
+        write_line(out, alloc, machine, line)?;
+    }
+    Ok(())
+}
+
+/// Runs a line, and writes what it answers.
+fn write_line(
+    out: &mut String,
+    alloc: Global,
+    machine: &mut Machine,
+    line: &Line,
+) -> Result<(), AllocError>
+    ensures { OnOk result (GrowsBy (string_bytes out.old) (string_bytes out.new) (λ text. WritesLine machine.old line.now text machine.new)) }
+{
+    match &line.work {
+        Work::Event(event) => write_event(out, alloc, machine, line.cpu, event),
+        Work::Plan { plan, turns } => write_plan(out, alloc, machine, line.cpu, plan, *turns),
+        Work::Echo { path, text } => write_echo(out, alloc, machine, line.cpu, path, text),
+        Work::Cat { path } => write_file(out, alloc, machine, path),
+        Work::Seal => write_seal(out, alloc, machine),
+    }
+}

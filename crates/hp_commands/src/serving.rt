@@ -1,0 +1,155 @@
+//! Bytes in to bytes out.
+
+ghost use Rattle.std.specs.Prelude.{◌≡◌, ◌≢◌, ◌<◌, ◌≤◌, ◌-◌, ◌^◌, length, IfOk, IfErr, OnOk, OnErr, vec_len};
+ghost use Rattle.std.specs.Io.KnownBytes.{Appends, Consumes, IsAtEnd, Keeps};
+ghost use Rattle.hp_commands.specs.Served.{ReadsAll, Serves, WritesTextOf};
+ghost use Rattle.hp_commands.specs.Faults.{IsReadFault, IsFaultOf, limit};
+ghost use Rattle.hp_commands.specs.declared.commands.Command.TheVariants.{Serial, Run, Audit};
+
+use crate::audits::audit;
+use crate::commands::Command;
+use crate::fault::ProgramFault;
+use crate::runs::run;
+use crate::serial::serial;
+use crate::streams::{Failed, Sink, Source};
+use std::alloc::Global;
+use std::sync::Wait;
+use std::thread::Threads;
+
+/// The greatest length of an input, in bytes.
+pub const LIMIT: usize = 16_777_216;
+
+/// Reads all there is, unless it is longer than the limit.
+pub fn read_all<R: Source>(alloc: Global, reader: &mut R) -> Result<Vec<u8>, ProgramFault>
+    requires { R.failures reader.old < 2 ^ 64 - 1 }
+    ensures bytes { IfOk result (λ v. Consumes (R.remaining reader.old) (R.remaining reader.new) v.items) }
+    ensures limit { IfOk result (λ v. length v.items ≤ limit) }
+    ensures end { OnOk result (IsAtEnd (R.remaining reader.new)) }
+    ensures err { IfErr result (IsReadFault (R.remaining reader.old) (R.failures reader.old < R.failures reader.new)) }
+{
+    let mut bytes = Vec::new(alloc);
+    let mut buffer = [0u8; 8192];
+    while bytes.len() <= LIMIT {
+        let Ok(count) = reader.read(&mut buffer) else {
+            return Err(ProgramFault::ReadFailed);
+        };
+        if count == 0 {
+            return Ok(bytes);
+        }
+        bytes.extend_from_slice(&buffer[..count])?;
+    }
+    Err(ProgramFault::TooLong)
+}
+
+/// Writes all the bytes.
+pub fn write_all<W: Sink>(writer: &mut W, bytes: &[u8]) -> Result<(), Failed>
+    requires { W.failures writer.old < 2 ^ 64 - 1 }
+    ensures ok { OnOk result (Appends (W.contents writer.old) (W.contents writer.new) bytes.now) }
+    ensures err { OnErr result (W.failures writer.old < W.failures writer.new) }
+{
+    let mut at = 0;
+    while at < bytes.len() {
+        at += writer.write(&bytes[at..])?;
+    }
+    Ok(())
+}
+
+/// Writes a text.
+fn write_text<W: Sink>(writer: &mut W, text: &str) -> Result<(), ProgramFault>
+    requires { W.failures writer.old < 2 ^ 64 - 1 }
+    ensures ok { OnOk result (Appends (W.contents writer.old) (W.contents writer.new) text.now) }
+    ensures err { IfErr result (λ fault. (fault ≡ ProgramFault.WriteFailed) × (W.failures writer.old < W.failures writer.new)) }
+{
+    match write_all(writer, text.as_bytes()) {
+        Ok(()) => Ok(()),
+        Err(Failed) => Err(ProgramFault::WriteFailed),
+    }
+}
+
+/// Runs a command on what the reader gives, and writes its text. `Run` and `Audit` may wait for their workers.
+pub fn serve<R: Source, W: Sink, T: Threads + Wait + Sync>(
+    rt: &T,
+    command: Command,
+    alloc: Global,
+    reader: &mut R,
+    writer: &mut W,
+) -> Result<(), ProgramFault>
+    requires reader { R.failures reader.old < 2 ^ 64 - 1 }
+    requires writer { W.failures writer.old < 2 ^ 64 - 1 }
+
+    // The reader gave all that it had, at most the limit.
+    ensures read { OnOk result (ReadsAll (R.remaining reader.old) (R.remaining reader.new)) }
+    // The command's text of the bytes that were read, and nothing else.
+    ensures ok { OnOk result (Serves command (R.remaining reader.old) (W.contents writer.old) (W.contents writer.new)) }
+    // After another fault nothing was written.
+    ensures silent { IfErr result (λ fault. fault ≢ ProgramFault.WriteFailed → Keeps (W.contents writer.old) (W.contents writer.new)) }
+    // Each fault comes only where it has a cause.
+    ensures err { IfErr result (IsFaultOf command (R.remaining reader.old) (R.failures reader.old < R.failures reader.new) (W.failures writer.old < W.failures writer.new)) }
+{
+    match command {
+        Command::Serial => serve_serial(alloc, reader, writer),
+        Command::Run => serve_run(rt, alloc, reader, writer),
+        Command::Audit => serve_audit(rt, alloc, reader, writer),
+    }
+}
+
+/// Runs the scenario that the reader gives, and writes its text.
+pub fn serve_serial<R: Source, W: Sink>(
+    alloc: Global,
+    reader: &mut R,
+    writer: &mut W,
+) -> Result<(), ProgramFault>
+    requires reader { R.failures reader.old < 2 ^ 64 - 1 }
+    requires writer { W.failures writer.old < 2 ^ 64 - 1 }
+
+    // The reader gave all that it had, at most the limit.
+    ensures read { OnOk result (ReadsAll (R.remaining reader.old) (R.remaining reader.new)) }
+    // The text of the bytes that were read, and nothing else.
+    ensures ok { OnOk result (WritesTextOf (R.remaining reader.old) (W.contents writer.old) (W.contents writer.new)) }
+    // After another fault nothing was written.
+    ensures silent { IfErr result (λ fault. fault ≢ ProgramFault.WriteFailed → Keeps (W.contents writer.old) (W.contents writer.new)) }
+    // Each fault comes only where it has a cause.
+    ensures err { IfErr result (IsFaultOf Serial (R.remaining reader.old) (R.failures reader.old < R.failures reader.new) (W.failures writer.old < W.failures writer.new)) }
+{
+    let input = read_all(alloc, reader)?;
+    let text = serial(alloc, &input)?;
+    write_text(writer, &text)
+}
+
+/// Writes the text of a run of the scenario that the reader gives.
+fn serve_run<R: Source, W: Sink, T: Threads + Wait + Sync>(
+    rt: &T,
+    alloc: Global,
+    reader: &mut R,
+    writer: &mut W,
+) -> Result<(), ProgramFault>
+    requires reader { R.failures reader.old < 2 ^ 64 - 1 }
+    requires writer { W.failures writer.old < 2 ^ 64 - 1 }
+    ensures read { OnOk result (ReadsAll (R.remaining reader.old) (R.remaining reader.new)) }
+    ensures ok { OnOk result (Serves Run (R.remaining reader.old) (W.contents writer.old) (W.contents writer.new)) }
+    ensures silent { IfErr result (λ fault. fault ≢ ProgramFault.WriteFailed → Keeps (W.contents writer.old) (W.contents writer.new)) }
+    ensures err { IfErr result (IsFaultOf Run (R.remaining reader.old) (R.failures reader.old < R.failures reader.new) (W.failures writer.old < W.failures writer.new)) }
+{
+    let input = read_all(alloc, reader)?;
+    let text = run(rt, alloc, &input)?;
+    write_text(writer, &text)
+}
+
+/// Writes the text of an audit of the scenario that the reader gives.
+fn serve_audit<R: Source, W: Sink, T: Threads + Wait + Sync>(
+    rt: &T,
+    alloc: Global,
+    reader: &mut R,
+    writer: &mut W,
+) -> Result<(), ProgramFault>
+    requires reader { R.failures reader.old < 2 ^ 64 - 1 }
+    requires writer { W.failures writer.old < 2 ^ 64 - 1 }
+    ensures read { OnOk result (ReadsAll (R.remaining reader.old) (R.remaining reader.new)) }
+    ensures ok { OnOk result (Serves Audit (R.remaining reader.old) (W.contents writer.old) (W.contents writer.new)) }
+    ensures silent { IfErr result (λ fault. fault ≢ ProgramFault.WriteFailed → Keeps (W.contents writer.old) (W.contents writer.new)) }
+    ensures err { IfErr result (IsFaultOf Audit (R.remaining reader.old) (R.failures reader.old < R.failures reader.new) (W.failures writer.old < W.failures writer.new)) }
+{
+    let input = read_all(alloc, reader)?;
+    let text = audit(rt, alloc, &input)?;
+    write_text(writer, &text)
+}

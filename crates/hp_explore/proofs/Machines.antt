@@ -1,0 +1,109 @@
+-- A machine that is a call further than another, and the one where the scripts begin.
+use Rattle.std.proofs.Common.{◌≡◌, ℕ, ◌+◌, Bool, true, false, List, [], ◌∷◌, ◌++◌, length, drop, Option, Some, slice_get, refl, ap, sym, subst, ◌∙◌, arith}
+use Rattle.std.specs.Prelude.{Result, Ok, Err, IsTrue, option_and_then}
+use Rattle.std.proofs.lemmas.List.{append-nil, append_assoc, length_push, map-append}
+use Rattle.std.proofs.Math.Seq.{drop-length}
+use Rattle.hp_units.specs.LayoutParts.{LayoutParts}
+use Rattle.hp_units.specs.Memory.{Memory}
+use Rattle.hp_units.specs.History.{reply_of}
+use Rattle.hp_units.specs.Receipts.{receipts_of}
+use Rattle.hp_units.specs.declared.events.Event.{Event}
+use Rattle.hp_units.specs.declared.replies.Receipt.{Receipt}
+use Rattle.hp_units.specs.declared.replies.Record.{Record}
+use Rattle.hp_units.specs.declared.replies.Reply.{Reply}
+use Rattle.hp_machine.specs.Machine.{IsCalled, MachineValue, is_full, record_of}
+use Rattle.hp_machine.proofs.Machines.{room}
+use Rattle.hp_explore.specs.declared.scripts.Line.{Line}
+use Rattle.hp_explore.specs.Schedules.{Setting, next_call, plays, record_of_call, schedule_of, setting}
+use Rattle.hp_explore.specs.Scripts.{next_of}
+use Rattle.hp_explore.specs.Walks.{IsFurther, IsReached, news_in, place_of}
+use Rattle.hp_explore.proofs.Plays.{plays_push}
+
+-- a record of its parts
+abbrev recorded : (serial cpu : ℕ) → Event → Reply → Record
+recorded serial cpu event reply = record { serial = serial; cpu = cpu; event = event; reply = reply }
+
+-- the event that a processor's script asks for
+pub asked_is : (g : Setting) (news : List Record) (cpus cpu : ℕ) (lines : List Line) (next : Option Event) → cpus ≡ g.layout.cpus → slice_get g.scripts cpu ≡ Some lines → next ≡ next_of cpus lines (receipts_of cpu news) → next_call g cpu news ≡ next
+unfolding next_call
+asked_is g news cpus cpu lines next same here is =
+    ap (option_and_then (λ (xs : List Line). next_of g.layout.cpus xs (receipts_of cpu news))) here ∙ (ap (λ (n : ℕ). next_of n lines (receipts_of cpu news)) (sym same) ∙ sym is)
+
+-- what stands after the start
+after_start : (start news : List Record) → drop (length start) (start ++ news) ≡ news
+after_start [] news = refl
+after_start (r ∷ start) news = after_start start news
+
+-- the record of the call is the one that the schedule makes
+same_record : (g : Setting) (m n : MachineValue) (cpu : ℕ) (event : Event) (a : Receipt) → IsReached g m → IsCalled m cpu event a n → record_of cpu a ≡ record_of_call g (news_in g m) cpu event
+unfolding record_of_call
+same_record g m n cpu event a here call =
+    ap (λ (k : ℕ). recorded k cpu a.event a.reply) (omega (arith, call.serial, here.before, ap length here.history))
+    ∙ (ap (λ (e : Event). recorded (g.before + length (g.start ++ news_in g m) + 1) cpu e a.reply) call.asked
+    ∙ ap (recorded (g.before + length (g.start ++ news_in g m) + 1) cpu event) (call.reply ∙ reply))
+  where
+    reply : reply_of m.layout m.base m.before m.history cpu event ≡ reply_of g.layout g.base g.before (g.start ++ news_in g m) cpu event
+    reply =
+        ap (λ (l : LayoutParts). reply_of l m.base m.before m.history cpu event) here.layout
+        ∙ (ap (λ (s : Memory). reply_of g.layout s m.before m.history cpu event) here.base
+        ∙ (ap (λ (k : ℕ). reply_of g.layout g.base k m.history cpu event) here.before
+        ∙ ap (λ (h : List Record). reply_of g.layout g.base g.before h cpu event) here.history))
+
+-- the machine after the call
+pub further : (g : Setting) (m n : MachineValue) (cpu : ℕ) (event : Event) (a : Receipt) → IsReached g m → next_call g cpu (news_in g m) ≡ Some event → is_full m ≡ false → IsCalled m cpu event a n → IsFurther g m cpu n
+further g m n cpu event a here asked free call = record {
+  event = event;
+  asked = asked;
+  reached = record {
+    layout = call.layout ∙ here.layout;
+    base = call.base ∙ here.base;
+    before = call.before ∙ here.before;
+    history = longer ∙ ap (λ (xs : List Record). g.start ++ xs) (sym news);
+    played =
+        ap (plays g) place
+        ∙ (plays_push g (place_of g m) (news_in g m) cpu event here.played asked
+        ∙ ap Some (ap (λ (x : Record). news_in g m ++ x ∷ []) (sym (same_record g m n cpu event a here call)) ∙ sym news));
+  };
+  place = place;
+  longer = ap length call.history ∙ length_push m.history (record_of cpu a);
+  room = (room m free).0;
+}
+  where
+    longer : n.history ≡ g.start ++ (news_in g m ++ record_of cpu a ∷ [])
+    longer = call.history ∙ (ap (λ (h : List Record). h ++ record_of cpu a ∷ []) here.history ∙ append_assoc g.start (news_in g m) (record_of cpu a ∷ []))
+
+    news : news_in g n ≡ news_in g m ++ record_of cpu a ∷ []
+    news = ap (drop (length g.start)) longer ∙ after_start g.start (news_in g m ++ record_of cpu a ∷ [])
+
+    place : place_of g n ≡ place_of g m ++ cpu ∷ []
+    place = ap schedule_of news ∙ map-append (λ (r : Record). r.cpu) (news_in g m) (record_of cpu a ∷ [])
+
+-- a call that was answered found room
+pub had_room : {E : Type 0} (m : MachineValue) (result : Result Receipt E) (fault : E) (a : Receipt) → result ≡ Ok a → (IsTrue (is_full m) → result ≡ Err fault) → is_full m ≡ false
+had_room m result fault a ok full = by_test (is_full m) refl
+  where
+    by_test : (b : Bool) → is_full m ≡ b → is_full m ≡ false
+    by_test true e = absurd (let h : Ok a ≡ Err fault = sym ok ∙ full (rw e refl) in cc)
+    by_test false e = e
+
+-- the machine where the scripts begin
+pub reached_start : (m : MachineValue) (scripts : List (List Line)) → IsReached (setting m scripts) m
+unfolding plays
+reached_start m scripts = record {
+  layout = refl;
+  base = refl;
+  before = refl;
+  history = sym (append-nil m.history) ∙ ap (λ (h : List Record). m.history ++ h) (sym none);
+  played = subst (λ (h : List Record). plays (setting m scripts) (schedule_of h) ≡ Some h) (sym none) refl;
+}
+  where
+    none : drop (length m.history) m.history ≡ []
+    none = drop-length m.history
+
+-- the place where they begin
+pub start_place : (m : MachineValue) (scripts : List (List Line)) → place_of (setting m scripts) m ≡ []
+start_place m scripts = ap schedule_of (drop-length m.history)
+
+-- the records after the start, as they are read
+pub news_shown : (start m : MachineValue) (scripts : List (List Line)) (first all news : List Record) → first ≡ start.history → all ≡ m.history → news ≡ drop (length first) all → news ≡ news_in (setting start scripts) m
+news_shown start m scripts first all news is_first is_all is = is ∙ (ap (λ (h : List Record). drop (length h) all) is_first ∙ ap (drop (length start.history)) is_all)

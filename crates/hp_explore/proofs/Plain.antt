@@ -1,0 +1,172 @@
+-- Schedules of scripts whose lines are one call each.
+use Rattle.std.proofs.Common.{◌≡◌, ℕ, suc, ◌+◌, ◌<◌, ◌≤◌, Bool, true, false, cond, List, [], ◌∷◌, ◌++◌, length, Option, Some, None, eqb, slice_get, refl, ap, sym, subst, ◌∙◌, arith, inl, inr}
+use Rattle.std.specs.Prelude.{◌↔◌, fold, option_and_then}
+use Rattle.std.specs.Option.{option_map_or}
+use Rattle.std.proofs.lemmas.Bool.{cases_lt, eq-eqb, eqb-true}
+use Rattle.std.proofs.lemmas.List.{append-nil, length_push}
+use Rattle.std.proofs.lemmas.List.Sums.{sum_by-cons}
+use Rattle.std.proofs.lemmas.Option.{none-some, same_Some}
+use Rattle.hp_units.specs.Receipts.{receipt_of, receipts_of}
+use Rattle.hp_units.specs.declared.events.Event.{Event}
+use Rattle.hp_units.specs.declared.replies.Record.{Record}
+use Rattle.hp_units.specs.declared.replies.Receipt.{Receipt}
+use Rattle.hp_explore.specs.declared.scripts.Line.{Line}
+use Rattle.hp_explore.specs.declared.scripts.Line.TheVariants.{Ask, Own, Carry}
+use Rattle.hp_explore.specs.Plain.{AreOneCalls, is_one_call, script_length, turns_of}
+use Rattle.hp_explore.specs.Schedules.{IsComplete, Setting, all_replies, next_call, play_one, plays, record_of_call}
+use Rattle.hp_explore.specs.Scripts.{after_line, line_next, next_in, next_of, own_operation}
+use Rattle.hp_explore.proofs.Lines.{over_now}
+use Rattle.hp_explore.proofs.Plays.{plays_one, stays_none}
+use Rattle.hp_explore.proofs.Steps.{receipts_push}
+
+-- ---- lines
+
+abbrev AllOne : List Line → Type 0
+AllOne lines = (k : ℕ) (line : Line) → slice_get lines k ≡ Some line → is_one_call line ≡ true
+
+-- a line of one call asks for it, and is over after its receipt
+asks_once : (cpus op : ℕ) (line : Line) → is_one_call line ≡ true → (e : Event) × (line_next cpus op line [] ≡ Some e)
+asks_once cpus op (Ask event) one = (event, refl)
+asks_once cpus op (Own work) one = (_, refl)
+asks_once cpus op (Carry plan turns) one = absurd cc
+
+over_once : (cpus op : ℕ) (line : Line) (r : Receipt) → is_one_call line ≡ true → line_next cpus op line (r ∷ []) ≡ None
+over_once cpus op (Ask event) r one = refl
+over_once cpus op (Own work) r one = refl
+over_once cpus op (Carry plan turns) r one = absurd cc
+
+-- so lines ask for something where there are fewer receipts than lines
+asks : (cpus op : ℕ) (lines : List Line) (rs : List Receipt) → AllOne lines → length rs < length lines → (e : Event) × (next_in cpus op lines rs ≡ Some e)
+asks cpus op [] rs all less = absurd (omega arith)
+asks cpus op (line ∷ lines) [] all less =
+    let first = asks_once cpus op line (all 0 line refl) in
+    let on : after_line cpus op line [] [] ≡ None = ap (λ (o : Option Event). option_map_or (λ event. None) o (Some [])) first.1 in
+    (first.0, ap (λ (o : Option (List Receipt)). option_map_or (λ rest. next_in cpus op lines rest) o (line_next cpus op line [])) on ∙ first.1)
+asks cpus op (line ∷ lines) (r ∷ rs) all less =
+    let later = asks cpus op lines rs (λ k x h. all (suc k) x h) (omega arith) in
+    (later.0, skips cpus op line lines r rs (all 0 line refl) ∙ later.1)
+  where
+    skips : (cpus op : ℕ) (line : Line) (lines : List Line) (r : Receipt) (rs : List Receipt) → is_one_call line ≡ true → next_in cpus op (line ∷ lines) (r ∷ rs) ≡ next_in cpus op lines rs
+    skips cpus op line lines r rs one =
+        let first = asks_once cpus op line one in
+        let over : after_line cpus op line [] (r ∷ rs) ≡ Some rs =
+        ap (λ (o : Option Event). option_map_or (λ event. after_line cpus op line (r ∷ []) rs) o (Some (r ∷ rs))) first.1 ∙ over_now cpus op line (r ∷ []) rs (over_once cpus op line r one) in
+        ap (λ (o : Option (List Receipt)). option_map_or (λ rest. next_in cpus op lines rest) o (line_next cpus op line (r ∷ rs))) over
+
+-- and for nothing where there are as many
+asks_none : (cpus op : ℕ) (lines : List Line) (rs : List Receipt) → AllOne lines → length lines ≤ length rs → next_in cpus op lines rs ≡ None
+asks_none cpus op [] rs all le = refl
+asks_none cpus op (line ∷ lines) [] all le = absurd (omega arith)
+asks_none cpus op (line ∷ lines) (r ∷ rs) all le = skips cpus op line lines r rs (all 0 line refl) ∙ asks_none cpus op lines rs (λ k x h. all (suc k) x h) (omega arith)
+  where
+    skips : (cpus op : ℕ) (line : Line) (lines : List Line) (r : Receipt) (rs : List Receipt) → is_one_call line ≡ true → next_in cpus op (line ∷ lines) (r ∷ rs) ≡ next_in cpus op lines rs
+    skips cpus op line lines r rs one =
+        let first = asks_once cpus op line one in
+        let over : after_line cpus op line [] (r ∷ rs) ≡ Some rs =
+        ap (λ (o : Option Event). option_map_or (λ event. after_line cpus op line (r ∷ []) rs) o (Some (r ∷ rs))) first.1 ∙ over_now cpus op line (r ∷ []) rs (over_once cpus op line r one) in
+        ap (λ (o : Option (List Receipt)). option_map_or (λ rest. next_in cpus op lines rest) o (line_next cpus op line (r ∷ rs))) over
+
+-- ---- scripts
+
+-- how many calls a processor has made
+abbrev made : (cpu : ℕ) → List Record → ℕ
+made cpu news = length (receipts_of cpu news)
+
+-- a processor asks where it has made fewer calls than its script has lines
+call_asks : (g : Setting) (cpu : ℕ) (news : List Record) → AreOneCalls g.scripts → made cpu news < script_length g.scripts cpu → (e : Event) × (next_call g cpu news ≡ Some e)
+unfolding next_call
+call_asks g cpu news all less = by_script (slice_get g.scripts cpu) refl less
+  where
+    by_script : (o : Option (List Line)) → slice_get g.scripts cpu ≡ o → made cpu news < option_map_or (λ lines. length lines) o 0 → (e : Event) × (option_and_then (λ lines. next_of g.layout.cpus lines (receipts_of cpu news)) (slice_get g.scripts cpu) ≡ Some e)
+    by_script None is h = absurd (omega arith)
+    by_script (Some lines) is h =
+        let e = asks g.layout.cpus (own_operation (receipts_of cpu news)) lines (receipts_of cpu news) (λ k line at. all cpu lines k line is at) h in
+        (e.0, ap (option_and_then (λ (ls : List Line). next_of g.layout.cpus ls (receipts_of cpu news))) is ∙ e.1)
+
+call_none : (g : Setting) (cpu : ℕ) (news : List Record) → AreOneCalls g.scripts → script_length g.scripts cpu ≤ made cpu news → next_call g cpu news ≡ None
+unfolding next_call
+call_none g cpu news all le = by_script (slice_get g.scripts cpu) refl le
+  where
+    by_script : (o : Option (List Line)) → slice_get g.scripts cpu ≡ o → option_map_or (λ lines. length lines) o 0 ≤ made cpu news → option_and_then (λ lines. next_of g.layout.cpus lines (receipts_of cpu news)) (slice_get g.scripts cpu) ≡ None
+    by_script None is h = ap (option_and_then (λ (ls : List Line). next_of g.layout.cpus ls (receipts_of cpu news))) is
+    by_script (Some lines) is h =
+        ap (option_and_then (λ (ls : List Line). next_of g.layout.cpus ls (receipts_of cpu news))) is
+        ∙ asks_none g.layout.cpus (own_operation (receipts_of cpu news)) lines (receipts_of cpu news) (λ k line at. all cpu lines k line is at) h
+
+-- a processor's call is one more of its own
+made_more : (g : Setting) (cpu c : ℕ) (news : List Record) (e : Event) (own : Bool) → eqb c cpu ≡ own → made cpu (news ++ record_of_call g news c e ∷ []) ≡ made cpu news + cond own 1 0
+unfolding record_of_call
+made_more g cpu c news e true own = ap length (receipts_push cpu news (record_of_call g news c e) true own) ∙ length_push (receipts_of cpu news) (receipt_of (record_of_call g news c e))
+made_more g cpu c news e false own =
+    ap length (receipts_push cpu news (record_of_call g news c e) false own) ∙ (ap length (append-nil (receipts_of cpu news)) ∙ omega arith)
+
+-- ---- schedules
+
+-- one turn more in front
+turns_cons : (cpu c : ℕ) (s : List ℕ) (own : Bool) → eqb c cpu ≡ own → turns_of cpu (c ∷ s) ≡ cond own 1 0 + turns_of cpu s
+turns_cons cpu c s own is = sum_by-cons (λ (d : ℕ). cond (eqb d cpu) 1 0) c s ∙ ap (λ (b : Bool). cond b 1 0 + turns_of cpu s) is
+
+-- what is played from some records on
+abbrev from_news : Setting → List Record → List ℕ → Option (List Record)
+from_news g news s = fold (play_one g) (Some news) s
+
+-- each processor has made the calls of its turns, and no more than its script has
+turns_made : (g : Setting) (cpu : ℕ) (s : List ℕ) (news end : List Record) → AreOneCalls g.scripts → from_news g news s ≡ Some end → made cpu news ≤ script_length g.scripts cpu
+    → (made cpu end ≡ made cpu news + turns_of cpu s) × (made cpu end ≤ script_length g.scripts cpu)
+turns_made g cpu [] news end all is le =
+    let same : news ≡ end = same_Some news end is in
+    (ap (made cpu) (sym same) ∙ omega arith, subst (λ (h : List Record). made cpu h ≤ script_length g.scripts cpu) same le)
+turns_made g cpu (c ∷ s) news end all is le = by_next (next_call g c news) refl (eqb c cpu) refl (λ later on few. turns_made g cpu s later end all on few)
+  where
+    by_next : (o : Option Event) → next_call g c news ≡ o → (own : Bool) → eqb c cpu ≡ own → ((later : List Record) → from_news g later s ≡ Some end → made cpu later ≤ script_length g.scripts cpu → (made cpu end ≡ made cpu later + turns_of cpu s) × (made cpu end ≤ script_length g.scripts cpu)) → (made cpu end ≡ made cpu news + turns_of cpu (c ∷ s)) × (made cpu end ≤ script_length g.scripts cpu)
+    by_next None next own which rest = absurd (none-some end (sym (ap (λ (x : Option (List Record)). fold (play_one g) x s) (plays_one g news c None next) ∙ stays_none g s) ∙ is))
+    by_next (Some e) next own which rest =
+        let more = made_more g cpu c news e own which in
+        let on : from_news g (news ++ record_of_call g news c e ∷ []) s ≡ Some end = sym (ap (λ (x : Option (List Record)). fold (play_one g) x s) (plays_one g news c (Some e) next)) ∙ is in
+        let later = rest (news ++ record_of_call g news c e ∷ []) on (room own which more) in
+        (omega (arith, later.0, more, turns_cons cpu c s own which), later.1)
+      where
+        room : (own : Bool) → eqb c cpu ≡ own → made cpu (news ++ record_of_call g news c e ∷ []) ≡ made cpu news + cond own 1 0 → made cpu (news ++ record_of_call g news c e ∷ []) ≤ script_length g.scripts cpu
+        room false which more = omega (arith, more, le)
+        room true which more =
+            let same : c ≡ cpu = eqb-true c cpu which in
+            elim (cases_lt (made cpu news) (script_length g.scripts cpu)) [
+              | inl less ↦ omega (arith, more, less)
+              | inr past ↦ absurd (none-some e (sym (subst (λ (d : ℕ). next_call g d news ≡ None) (sym same) (call_none g cpu news all past)) ∙ next))
+            ]
+
+-- a schedule in which each processor stands as often as its script has lines can be played
+turns_play : (g : Setting) (s : List ℕ) (news : List Record) → AreOneCalls g.scripts → ((cpu : ℕ) → made cpu news + turns_of cpu s ≡ script_length g.scripts cpu) → (end : List Record) × (from_news g news s ≡ Some end)
+turns_play g [] news all counts = (news, refl)
+turns_play g (c ∷ s) news all counts =
+    let asked = call_asks g c news all (omega (arith, counts c, turns_cons c c s true (eq-eqb c c refl))) in
+    let later = turns_play g s (news ++ record_of_call g news c asked.0 ∷ []) all (λ cpu. by_owner cpu (eqb c cpu) refl asked.0) in
+    (later.0, ap (λ (x : Option (List Record)). fold (play_one g) x s) (plays_one g news c (Some asked.0) asked.1) ∙ later.1)
+  where
+    by_owner : (cpu : ℕ) (own : Bool) → eqb c cpu ≡ own → (e : Event) → made cpu (news ++ record_of_call g news c e ∷ []) + turns_of cpu s ≡ script_length g.scripts cpu
+    by_owner cpu own which e = omega (arith, counts cpu, turns_cons cpu c s own which, made_more g cpu c news e own which)
+
+-- the complete schedules of such scripts are those in which each processor stands as often as its script has lines
+pub complete_schedules : (g : Setting) (s : List ℕ) → AreOneCalls g.scripts → IsComplete g s ↔ ((cpu : ℕ) → turns_of cpu s ≡ script_length g.scripts cpu)
+unfolding plays
+complete_schedules g s all = (to, from)
+  where
+    to : IsComplete g s → (cpu : ℕ) → turns_of cpu s ≡ script_length g.scripts cpu
+    to h cpu =
+        let made_all = turns_made g cpu s [] h.1.news all h.1.played (omega arith) in
+        elim (cases_lt (made cpu h.1.news) (script_length g.scripts cpu)) [
+          | inl less ↦ absurd (let e = call_asks g cpu h.1.news all less in none-some e.0 (sym (h.1.over cpu) ∙ e.1))
+          | inr past ↦ omega (arith, made_all.0, made_all.1, past)
+        ]
+
+    from : ((cpu : ℕ) → turns_of cpu s ≡ script_length g.scripts cpu) → IsComplete g s
+    from counts =
+        let end = turns_play g s [] all (λ cpu. omega (arith, counts cpu)) in (
+          all_replies g end.0,
+          record {
+            news = end.0;
+            played = end.1;
+            over = λ cpu. call_none g cpu end.0 all (let m = turns_made g cpu s [] end.0 all end.1 (omega arith) in omega (arith, m.0, counts cpu));
+            answers = refl;
+          },
+        )

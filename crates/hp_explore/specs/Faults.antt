@@ -1,0 +1,39 @@
+-- Why the schedules were not all counted.
+use Rattle.std.specs.Prelude.{◌≡◌, ℕ, ◌+◌, Bool, ◌||◌, true, List, ◌++◌, Some, length, nat_le, slice_get, sum_by}
+use Rattle.hp_units.specs.declared.replies.Record.{Record}
+use Rattle.hp_explore.specs.declared.exploring.ExploreFault.{ExploreFault}
+use Rattle.hp_explore.specs.declared.exploring.ExploreFault.TheVariants.{TooMany, HistoryFull, OutOfMemory}
+use Rattle.hp_explore.specs.Notes.{TallyValue}
+use Rattle.hp_explore.specs.Schedules.{IsComplete, Setting, plays}
+
+-- there are more schedules of a kind than so many: a list of one more, each of the kind and each once
+pub record AreSome (P : List ℕ → Type 0) (all : List (List ℕ)) : Type 0 where
+  pub each : (i : ℕ) (s : List ℕ) → slice_get all i ≡ Some s → P s
+  pub once : (i j : ℕ) (s : List ℕ) → slice_get all i ≡ Some s → slice_get all j ≡ Some s → i ≡ j
+
+abbrev pub HasMoreThan : (List ℕ → Type 0) → ℕ → Type 0
+HasMoreThan P n = (all : List (List ℕ)) × AreSome P all × (length all ≡ n + 1)
+
+-- some schedule of the scripts leaves no room in the history, or no further serial
+abbrev pub is_full_after : Setting → List Record → Bool
+is_full_after g news = nat_le g.layout.history (length (g.start ++ news)) || nat_le 18446744073709551615 (g.before + length (g.start ++ news))
+
+abbrev pub FillsHistory : Setting → Type 0
+FillsHistory g = (s : List ℕ) × (news : List Record) × (plays g s ≡ Some news) × (is_full_after g news ≡ true)
+
+-- the cause of a fault
+abbrev pub IsCause : Setting → (limit : ℕ) → ExploreFault → Type 0
+IsCause g limit TooMany = HasMoreThan (IsComplete g) limit
+IsCause g limit HistoryFull = FillsHistory g
+IsCause g limit OutOfMemory = Unit {0}
+
+-- the cause of a call's fault, and of one in counting
+abbrev pub IsCallCause : Setting → ExploreFault → Type 0
+IsCallCause g TooMany = ⊥
+IsCallCause g HistoryFull = FillsHistory g
+IsCallCause g OutOfMemory = Unit {0}
+
+abbrev pub IsNoteCause : TallyValue → ExploreFault → Type 0
+IsNoteCause t TooMany = sum_by (λ e. e.count) t.ends ≡ t.limit
+IsNoteCause t HistoryFull = ⊥
+IsNoteCause t OutOfMemory = Unit {0}

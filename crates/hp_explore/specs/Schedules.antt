@@ -1,0 +1,81 @@
+-- What a schedule of scripts does on a machine, and which schedules are complete.
+use Rattle.std.specs.Prelude.{◌≡◌, ℕ, ◌+◌, ◌==◌, List, [], ◌∷◌, ◌++◌, Option, Some, None, length, map, filter, fold, slice_get, option_map, option_and_then}
+use Rattle.std.specs.List.{range_with_len}
+use Rattle.hp_units.specs.LayoutParts.{LayoutParts}
+use Rattle.hp_units.specs.Memory.{Memory}
+use Rattle.hp_units.specs.History.{reply_of}
+use Rattle.hp_units.specs.Receipts.{receipts_of}
+use Rattle.hp_units.specs.declared.events.Event.{Event}
+use Rattle.hp_units.specs.declared.replies.Record.{Record}
+use Rattle.hp_units.specs.declared.replies.Reply.{Reply}
+use Rattle.hp_units.specs.declared.replies.Reply.TheVariants.{Opened}
+use Rattle.hp_machine.specs.Machine.{MachineValue}
+use Rattle.hp_explore.specs.declared.scripts.Line.{Line}
+use Rattle.hp_explore.specs.Scripts.{next_of}
+
+-- where the scripts begin: the layout, the base state with the number of records before it, and the records since; and each
+-- processor's script, from processor 0 on
+pub record Setting : Type 0 where
+  pub layout : LayoutParts
+  pub base : Memory
+  pub before : ℕ
+  pub start : List Record
+  pub scripts : List (List Line)
+
+-- the scripts on a machine as it is
+abbrev pub setting : MachineValue → List (List Line) → Setting
+setting m scripts = record { layout = m.layout; base = m.base; before = m.before; start = m.history; scripts = scripts }
+
+-- the event that a processor's script asks for after the new records; none where it is at its end, or has no script
+unfoldable pub next_call : Setting → (cpu : ℕ) → List Record → Option Event
+next_call g cpu news = option_and_then (λ lines. next_of g.layout.cpus lines (receipts_of cpu news)) (slice_get g.scripts cpu)
+
+-- the record of a processor's event after the new records: its serial is the next, and its reply that of the definitions
+unfoldable pub record_of_call : Setting → List Record → (cpu : ℕ) → Event → Record
+record_of_call g news cpu event = record {
+  serial = g.before + length (g.start ++ news) + 1;
+  cpu = cpu;
+  event = event;
+  reply = reply_of g.layout g.base g.before (g.start ++ news) cpu event;
+}
+
+-- a processor makes the next call of its script; None where it has none
+abbrev pub play_one : Setting → Option (List Record) → (cpu : ℕ) → Option (List Record)
+play_one g None cpu = None
+play_one g (Some news) cpu = option_map (λ event. news ++ record_of_call g news cpu event ∷ []) (next_call g cpu news)
+
+-- the new records that a schedule leads to, each processor in turn making the next call of its script
+unfoldable pub plays : Setting → List ℕ → Option (List Record)
+plays g schedule = fold (play_one g) (Some []) schedule
+
+-- the schedule that new records came from
+abbrev pub schedule_of : List Record → List ℕ
+schedule_of news = map (λ r. r.cpu) news
+
+-- a reply but for the number of the operation that it opened, which is only how many calls came before: 0 stands in its place
+abbrev pub told : Reply → Reply
+told (Opened op) = Opened 0
+told reply = reply
+
+-- the replies that a processor had, in its own order
+abbrev pub replies_to : (cpu : ℕ) → List Record → List Reply
+replies_to cpu news = map (λ r. told r.reply) (filter (λ r. r.cpu == cpu) news)
+
+-- those of the processors below a number
+abbrev pub replies_below : (processors : ℕ) → List Record → List (List Reply)
+replies_below processors news = map (λ cpu. replies_to cpu news) (range_with_len 0 processors)
+
+unfoldable pub all_replies : Setting → List Record → List (List Reply)
+all_replies g news = replies_below (length g.scripts) news
+
+-- the schedule is complete, with these replies: each of its processors has a call to make in its turn, and in the end all
+-- scripts are at their ends
+pub record EndsWith (g : Setting) (schedule : List ℕ) (replies : List (List Reply)) : Type 0 where
+  pub news : List Record
+  pub played : plays g schedule ≡ Some news
+  pub over : (cpu : ℕ) → next_call g cpu news ≡ None
+  pub answers : all_replies g news ≡ replies
+
+-- the schedule is complete
+abbrev pub IsComplete : Setting → List ℕ → Type 0
+IsComplete g schedule = (replies : List (List Reply)) × EndsWith g schedule replies

@@ -1,0 +1,73 @@
+//! The exploration of scripts on a machine.
+ghost use Rattle.std.specs.Prelude.{◌^◌, ◌<◌, IfErr, IfOk, length};
+ghost use Rattle.hp_explore.specs.Ends.{AreEnds};
+ghost use Rattle.hp_explore.specs.Faults.{IsCause};
+ghost use Rattle.hp_explore.specs.Schedules.{setting};
+
+use crate::scripts::Script;
+use crate::tally::{Ending, Tally};
+use crate::walk::visit;
+use hp_machine::Machine;
+use hp_units::CallFault;
+use std::alloc::{AllocError, Global};
+use thiserror::Error;
+
+/// Why the schedules were not all counted.
+#[derive(Error, Clone, Copy, Debug, PartialEq, Eq, Drop)]
+pub enum ExploreFault {
+    /// There are more complete schedules than the limit.
+    #[error("more schedules than the limit")]
+    TooMany,
+    /// The layout's history has no room for all calls of a schedule.
+    #[error("no room in the history for all calls of a schedule")]
+    HistoryFull,
+    /// Memory was refused.
+    #[error("out of memory")]
+    OutOfMemory,
+}
+
+impl From<AllocError> for ExploreFault {
+    ghost use Rattle.std.specs.Prelude.{◌≡◌};
+    ghost use Rattle.hp_explore.specs.declared.exploring.ExploreFault.TheVariants.{OutOfMemory};
+
+    ghost from_gives = { λ _ e. e ≡ OutOfMemory };
+
+    fn from(_error: AllocError) -> ExploreFault {
+        ExploreFault::OutOfMemory
+    }
+}
+
+impl From<CallFault> for ExploreFault {
+    ghost use Rattle.std.specs.Prelude.{◌≡◌};
+    ghost use Rattle.hp_explore.specs.Notes.{fault_of};
+
+    ghost from_gives = { λ fault e. e ≡ fault_of fault };
+
+    fn from(fault: CallFault) -> ExploreFault {
+        match fault {
+            CallFault::HistoryFull => ExploreFault::HistoryFull,
+            CallFault::OutOfMemory => ExploreFault::OutOfMemory,
+        }
+    }
+}
+
+/// The ends of all complete schedules of the processors' scripts on a machine as it stands (own rule): what each processor was
+/// answered, how many schedules end so, and the first of them in the order of a walk that takes processor 0 first. Script k is
+/// that of processor k. The machine stays as it is.
+///
+/// An error is `TooMany` where there are more schedules than the limit, `HistoryFull` where the layout's history has no room for
+/// all calls of a schedule, and `OutOfMemory`.
+pub fn explore(
+    alloc: Global,
+    machine: &Machine,
+    scripts: &[Script],
+    limit: u64,
+) -> Result<Vec<Ending>, ExploreFault>
+    requires { length scripts.now < 2 ^ 32 }
+    ensures ok { IfOk result (λ ends. AreEnds (setting machine.now scripts.now) ends.items) }
+    ensures err { IfErr result (IsCause (setting machine.now scripts.now) limit) }
+{
+    let mut tally = Tally::new(alloc, limit);
+    visit(alloc, machine, scripts, machine, &mut tally)?;
+    Ok(tally.into_ends())
+}

@@ -1,0 +1,20 @@
+//! The explorer: every interleaving of short scripts on a machine, each counted once under its end.
+//!
+//! A script is what one processor asks for, line after line. A schedule says whose call comes next; it is complete when all
+//! scripts are over. The crate owns scripts, schedules and their ends. It changes no machine of its caller: each branch works
+//! on a copy. It knows nothing of scenarios and of texts.
+//!
+//! Read specs/Scripts first, then specs/Schedules and specs/Ends, and `explore` in `exploring`.
+#![tactic(auto)]
+
+mod exploring;
+mod laws;
+mod runs;
+mod scripts;
+mod tally;
+mod walk;
+
+pub use exploring::{ExploreFault, explore};
+pub use laws::{counts_are_unique, schedules_are_interleavings};
+pub use scripts::{Line, Script, Work};
+pub use tally::{Answers, Ending};

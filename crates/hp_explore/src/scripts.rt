@@ -1,0 +1,200 @@
+//! Scripts: what each processor asks for, one line after another.
+ghost use Rattle.std.specs.Prelude.{◌≡◌, ◌≤◌, [], IfOk, IfSome, length};
+ghost use Rattle.hp_units.specs.Receipts.{receipts_of};
+ghost use Rattle.hp_explore.specs.Scripts.{after_line, line_next, next_in, next_of, once, own_operation, rest_at, work_of};
+
+use crate::runs::next_of_run;
+use hp_units::{Cpu, Event, Plan, Receipt, Record, Serial};
+use std::alloc::{AllocError, Global};
+use std::marker::Model;
+
+/// What is asked of the operation that the processor itself began last.
+#[derive(Clone, Copy, Debug, PartialEq, Eq, Drop)]
+pub enum Work {
+    /// Drains a processor's lists.
+    DrainFor { cpu: Cpu },
+    /// Moves one page.
+    Migrate,
+    /// Commits the operation.
+    Commit,
+    /// Cancels the operation.
+    Cancel,
+}
+
+/// One line of a script.
+#[derive(Debug, Drop)]
+pub enum Line {
+    /// The processor asks for an event.
+    Ask(Event),
+    /// It asks for work on the operation that it began last.
+    Own(Work),
+    /// It lets the driver carry a plan out, with at most so many migrations; the driver's calls are the processor's.
+    Carry { plan: Plan, turns: u32 },
+}
+
+/// What a processor asks for, in this order. A contract sees it as the list of its lines.
+#[derive(Debug, Drop)]
+pub struct Script {
+    lines: Vec<Line>,
+}
+
+impl Model for Script {
+    ghost use Rattle.std.specs.Prelude.{List};
+    ghost use Rattle.hp_explore.specs.declared.scripts.Line.{Line};
+
+    ghost Value = { List Line };
+
+    ghost view = { λ s. s.lines.items };
+}
+
+impl Work {
+    /// The event of the work on an operation.
+    fn event(self, op: Serial) -> Event
+        ensures { result ≡ work_of op self }
+    {
+        match self {
+            Work::DrainFor { cpu } => Event::DrainFor { op, cpu },
+            Work::Migrate => Event::Migrate { op },
+            Work::Commit => Event::Commit { op },
+            Work::Cancel => Event::Cancel { op },
+        }
+    }
+}
+
+impl Line {
+    /// The event that a line asks for after its own receipts, where the processor's last operation is known; none where the
+    /// line is over. An error is out of memory.
+    fn next(
+        &self,
+        alloc: Global,
+        cpus: u32,
+        op: Serial,
+        receipts: &[Receipt],
+    ) -> Result<Option<Event>, AllocError>
+        ensures { IfOk result (λ next. next ≡ line_next cpus op self.now receipts.now) }
+    {
+        match self {
+            Line::Ask(event) => next_once(alloc, event, receipts),
+            Line::Own(work) => next_once(alloc, &work.event(op), receipts),
+            Line::Carry { plan, turns } => next_of_run(alloc, cpus, *turns, plan, receipts),
+        }
+    }
+
+    /// How many of the receipts are the line's own, if it is over. An error is out of memory.
+    fn over_at(
+        &self,
+        alloc: Global,
+        cpus: u32,
+        op: Serial,
+        receipts: &[Receipt],
+    ) -> Result<Option<usize>, AllocError>
+        ensures within { IfOk result (λ at. IfSome at (λ n. n ≤ length receipts.now)) }
+        ensures over { IfOk result (λ at. after_line cpus op self.now [] receipts.now ≡ rest_at receipts.now at) }
+    {
+        for at in 0..receipts.len() {
+            if self.next(alloc, cpus, op, &receipts[..at])?.is_none() {
+                return Ok(Some(at));
+            }
+        }
+        match self.next(alloc, cpus, op, receipts)? {
+            Some(_) => Ok(None),
+            None => Ok(Some(receipts.len())),
+        }
+    }
+}
+
+impl Script {
+    /// The script of these lines, with no memory taken.
+    pub fn new(lines: Vec<Line>) -> Self
+        ensures { result ≡ lines.items }
+    {
+        Script { lines }
+    }
+
+    /// The event that a processor asks for after records, its own among them; none at the script's end. An error is out of memory.
+    pub(crate) fn next_event(
+        &self,
+        alloc: Global,
+        cpus: u32,
+        cpu: Cpu,
+        records: &[Record],
+    ) -> Result<Option<Event>, AllocError>
+        ensures { IfOk result (λ next. next ≡ next_of cpus self.now (receipts_of cpu records.now)) }
+    {
+        let receipts = receipts_to(alloc, cpu, records)?;
+        let op = own_operation(receipts.as_slice());
+        next_in(alloc, cpus, op, self.lines.as_slice(), receipts.as_slice())
+    }
+}
+
+/// The receipts that a processor has of records. An error is out of memory.
+fn receipts_to(alloc: Global, cpu: Cpu, records: &[Record]) -> Result<Vec<Receipt>, AllocError>
+    ensures { IfOk result (λ receipts. receipts.items ≡ receipts_of cpu records.now) }
+{
+    let mut receipts = Vec::new(alloc);
+    for record in records {
+        if record.cpu == cpu {
+            let event = record.event.copy(alloc)?;
+            receipts.reserve(1)?;
+            receipts.push_reserved(Receipt {
+                serial: record.serial,
+                event,
+                reply: record.reply,
+            });
+        }
+    }
+    Ok(receipts)
+}
+
+/// The serial of the last Begin, and 0 where there is none.
+fn own_operation(receipts: &[Receipt]) -> Serial
+    ensures { result ≡ own_operation receipts.now }
+{
+    let mut op = Serial(0);
+    for receipt in receipts {
+        if is_begin(&receipt.event) {
+            op = receipt.serial;
+        }
+    }
+    op
+}
+
+/// Whether an event begins an operation.
+fn is_begin(event: &Event) -> bool
+    ensures { result ≡ Rattle.hp_explore.specs.Scripts.is_begin event.now }
+{
+    matches!(event, Event::Begin { .. })
+}
+
+/// The event that lines ask for after the receipts since the first of them began. An error is out of memory.
+fn next_in(
+    alloc: Global,
+    cpus: u32,
+    op: Serial,
+    lines: &[Line],
+    receipts: &[Receipt],
+) -> Result<Option<Event>, AllocError>
+    ensures { IfOk result (λ next. next ≡ next_in cpus op lines.now receipts.now) }
+{
+    match lines {
+        [line, lines @ ..] => match line.over_at(alloc, cpus, op, receipts)? {
+            Some(at) => next_in(alloc, cpus, op, lines, &receipts[at..]),
+            None => line.next(alloc, cpus, op, receipts),
+        },
+        [] => Ok(None),
+    }
+}
+
+/// An event that is asked for once: none after its receipt.
+fn next_once(
+    alloc: Global,
+    event: &Event,
+    receipts: &[Receipt],
+) -> Result<Option<Event>, AllocError>
+    ensures { IfOk result (λ next. next ≡ once event.now receipts.now) }
+{
+    match receipts {
+        [] => Ok(Some(event.copy(alloc)?)),
+        _ => Ok(None),
+    }
+}

@@ -1,0 +1,4 @@
+pub mod Marks
+pub mod Names
+pub mod Pictures
+pub mod Places

@@ -1,0 +1,39 @@
+-- Where a frame is (own rule).
+use Rattle.std.specs.Prelude.{ℕ, ◌≡◌, ◌+◌, ◌%◌, true, false, List, [], ◌∷◌, codes, length, Some, slice_get, IfSome}
+use Rattle.std.specs.Fmt.{decimal}
+use Rattle.hp_units.specs.Arithmetic.{block_of, frame_count, pageblock_of}
+use Rattle.hp_units.specs.FreeAreas.{is_on}
+use Rattle.hp_units.specs.LayoutParts.{LayoutParts}
+use Rattle.hp_units.specs.Memory.{Memory, cached_list, kernel_order, kind_of, row_of}
+use Rattle.hp_map.specs.Names.{Pool}
+use Rattle.hp_units.specs.Pages.{frame_at}
+use Rattle.hp_units.specs.Placement.{covers, free_places}
+use Rattle.hp_units.specs.Rows.{is_absent, is_offline}
+use Rattle.hp_map.specs.declared.places.Place.{Place}
+use Rattle.hp_map.specs.declared.places.Place.TheVariants.{Absent, Offline, Free, Isolated, Kernel, Cached, Page}
+
+-- the frame is in that place: its memory block is absent or offline; it is in one free block, whose pageblock is isolated or
+-- not; a kernel's block has it; it is on a list of the processor; it holds a page of the owner
+abbrev pub IsPlaceOf : LayoutParts → Memory → (frame : ℕ) → Place → Type 0
+IsPlaceOf l s frame Absent = is_absent (row_of s.blocks (block_of l frame)) ≡ true
+IsPlaceOf l s frame Offline = is_offline (row_of s.blocks (block_of l frame)) ≡ true
+IsPlaceOf l s frame Free = (free_places s.free.areas frame ≡ 1) × ((kind_of s.free.areas (pageblock_of l frame)).isolated ≡ false)
+IsPlaceOf l s frame Isolated = (free_places s.free.areas frame ≡ 1) × ((kind_of s.free.areas (pageblock_of l frame)).isolated ≡ true)
+IsPlaceOf l s frame Kernel = (first : ℕ) × (order : ℕ) × (kernel_order s first ≡ Some order) × (covers frame order first ≡ true)
+IsPlaceOf l s frame (Cached cpu) = (pool : Pool) × (is_on frame (cached_list s.free cpu pool) ≡ true)
+IsPlaceOf l s frame (Page owner) = (page : ℕ) × (frame_at s.pages owner page ≡ Some frame)
+
+-- the place of each frame of the layout, by its number
+pub record ArePlacesOf (l : LayoutParts) (s : Memory) (places : List Place) : Type 0 where
+  pub count : length places ≡ frame_count l
+  pub each : (frame : ℕ) → IfSome (slice_get places frame) (IsPlaceOf l s frame)
+
+-- the character of a place
+abbrev pub place_text : Place → List ℕ
+place_text Absent = codes " "
+place_text Offline = codes "-"
+place_text Free = codes "."
+place_text Isolated = codes ":"
+place_text Kernel = codes "K"
+place_text (Cached cpu) = decimal (cpu % 10)
+place_text (Page owner) = (97 + owner % 26) ∷ []

@@ -1,0 +1,51 @@
+//! Where a frame is.
+ghost use Rattle.std.specs.Prelude.{Some};
+
+use hp_units::{Cpu, Owner};
+use std::fmt;
+
+/// Where a frame is: in exactly one of these places.
+#[derive(Clone, Copy, Debug, PartialEq, Eq)]
+pub enum Place {
+    /// In a memory block that is not there.
+    Absent,
+    /// In a memory block that is offline.
+    Offline,
+    /// In a free block.
+    Free,
+    /// In a free block that is isolated.
+    Isolated,
+    /// In a block of the kernel.
+    Kernel,
+    /// On a list of a processor.
+    Cached(Cpu),
+    /// A page of an owner.
+    Page(Owner),
+}
+
+/// One character: a space, `-`, `.`, `:`, `K`, the last digit of a processor's number, and `a` to `z` for an owner's, which
+/// begin again after 26 (own rule).
+#[tactic(auto, using(std::proofs::lemmas::Str::encode_ascii))]
+impl fmt::Display for Place {
+    ghost use Rattle.hp_map.specs.Places.{place_text};
+
+    ghost output = { λ place. Some (place_text place) };
+
+    fn fmt<W: fmt::Write>(&self, f: &mut fmt::Formatter<W>) -> fmt::Result {
+        match self {
+            Place::Absent => write!(f, " "),
+            Place::Offline => write!(f, "-"),
+            Place::Free => write!(f, "."),
+            Place::Isolated => write!(f, ":"),
+            Place::Kernel => write!(f, "K"),
+            Place::Cached(cpu) => {
+                let digit = cpu.0 % 10;
+                write!(f, "{digit}")
+            }
+            Place::Page(owner) => {
+                let letter = char::from(b'a' + (owner.0 % 26) as u8);
+                write!(f, "{letter}")
+            }
+        }
+    }
+}

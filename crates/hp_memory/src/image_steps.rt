@@ -1,0 +1,55 @@
+//! One step from an Image to an Image.
+ghost use Rattle.std.specs.Prelude.{◌≡◌, IfOk};
+ghost use Rattle.hp_units.specs.LayoutParts.{IsLayout};
+ghost use Rattle.hp_units.specs.Placement.{IsWellPlaced};
+ghost use Rattle.hp_units.specs.Step.{step};
+
+use crate::memory::Memory;
+use hp_plain::Image;
+use hp_tape::Tape;
+use hp_units::{Cpu, Event, Reply, Serial};
+use std::alloc::{AllocError, Global};
+
+/// What a step makes of an Image.
+#[derive(Drop)]
+pub struct ImageStep {
+    /// The state after the step.
+    pub image: Image,
+    /// The reply.
+    pub reply: Reply,
+}
+
+/// One step of the definitions from an Image, whose state must be well placed, to another. A Cancel is the release here, and an
+/// UndoAfter does nothing, as in `Memory::step`. An error is out of memory.
+pub fn step_of_image(
+    alloc: Global,
+    image: &Image,
+    serial: Serial,
+    cpu: Cpu,
+    event: &Event,
+) -> Result<ImageStep, AllocError>
+    requires limits { IsLayout image.now.layout }
+    requires placed { IsWellPlaced image.now.layout image.now.memory }
+    ensures image { IfOk result (λ s. s.image ≡ record { layout = image.now.layout; memory = (step image.now.layout image.now.memory serial cpu event.now).memory }) }
+    ensures reply { IfOk result (λ s. s.reply ≡ (step image.now.layout image.now.memory serial cpu event.now).reply) }
+{
+    let mut memory = Memory::from_image(alloc, image)?;
+    step_into_image(alloc, &mut memory, serial, cpu, event)
+}
+
+/// One step of a memory, and the Image of its state after it.
+fn step_into_image(
+    alloc: Global,
+    memory: &mut Memory,
+    serial: Serial,
+    cpu: Cpu,
+    event: &Event,
+) -> Result<ImageStep, AllocError>
+    ensures image { IfOk result (λ s. s.image ≡ record { layout = memory.old.layout; memory = (step memory.old.layout memory.old.state serial cpu event.now).memory }) }
+    ensures reply { IfOk result (λ s. s.reply ≡ (step memory.old.layout memory.old.state serial cpu event.now).reply) }
+{
+    let mut tape = Tape::with_room(alloc, 0)?;
+    let reply = memory.step(alloc, serial, cpu, event, &mut tape)?;
+    let image = memory.image(alloc)?;
+    Ok(ImageStep { image, reply })
+}

@@ -1,0 +1,4 @@
+mod AreaUndoes
+mod FrameScripts
+mod FrameUndoes
+mod PageUndoes

@@ -1,0 +1,5 @@
+pub mod AreaScripts
+pub mod FrameScripts
+pub mod SmallLayouts
+pub mod SmallLinks
+pub mod SmallPages

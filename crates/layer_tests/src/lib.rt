@@ -1,0 +1,23 @@
+//! Tests of the layers below a memory: of the public calls of hp_units (units), hp_tape (tapes),
+//! hp_links (links), hp_blocks (blocks), hp_pages (pages), hp_buddy (areas) and hp_cpus (processors).
+//!
+//! `rt test` in this folder proves and runs them. They stand here since a crate with tests is proved
+//! once more together with them.
+#![tactic(auto)]
+
+#[cfg(test)]
+mod areas;
+#[cfg(test)]
+mod blocks;
+#[cfg(test)]
+mod layouts;
+#[cfg(test)]
+mod links;
+#[cfg(test)]
+mod pages;
+#[cfg(test)]
+mod processors;
+#[cfg(test)]
+mod tapes;
+#[cfg(test)]
+mod units;

@@ -1,0 +1,369 @@
+ghost use Rattle.std.specs.Prelude.{◌≡◌, ◌≢◌, ℕ, true, ◌+◌, ◌*◌, ◌<◌, ◌≤◌, [], IfOk, IfSome};
+ghost use Rattle.std.specs.List.{AllByRecursion};
+ghost use Rattle.hp_units.specs.Arithmetic.{pageblock_count};
+ghost use Rattle.hp_units.specs.Memory.{FreeAreas};
+ghost use Rattle.hp_tape.specs.Bounds.{batch_bound, cached_frames, give_bound, move_bound, steal_bound};
+ghost use Rattle.hp_tape.specs.Deltas.{AllFit, FitsFree, IsDeltaOf, free_undo, undo_all};
+ghost use Rattle.hp_tape.specs.Tapes.{HasRoom, NotesFree};
+ghost use Rattle.hp_cpus.specs.Cpus.{AreTogether, MayBePut, frames_of, places_among};
+ghost use Rattle.layer_tests.specs.FrameScripts.{IsSmall, is_of_cpus, short_drain_bound, turn_bound};
+
+use crate::areas::one_free_pageblock;
+use crate::layouts::one_pageblock;
+use hp_buddy::Buddy;
+use hp_cpus::Cpus;
+use hp_tape::{Delta, ListId, Tape};
+use hp_units::{Class, Cpu, Frame, Mobility, Order, Pageblock, Pool, Zone};
+use std::alloc::{AllocError, Global};
+use std::test::Fail;
+
+/// A processor's lists beside free areas.
+struct Small {
+    cpus: Cpus,
+    buddy: Buddy,
+}
+
+/// Empty lists of one processor, with batches of so many frames, beside one free pageblock of an order of zone Normal.
+fn small_memory(alloc: Global, order: u64, batch: u64) -> Result<Small, AllocError>
+    ensures together { IfOk result (λ m. AreTogether m.cpus m.buddy) }
+    ensures order { IfOk result (λ m. m.cpus.layout.order ≡ order) }
+    ensures batch { IfOk result (λ m. m.cpus.layout.batch ≡ batch) }
+    ensures cpus { IfOk result (λ m. m.cpus.layout.cpus ≡ 1) }
+    ensures pageblocks { IfOk result (λ m. pageblock_count m.cpus.layout ≡ 1) }
+{
+    let layout = one_pageblock(alloc, order, 1, batch)?;
+    let buddy = one_free_pageblock(alloc, &layout)?;
+    let cpus = Cpus::new(alloc, &layout)?;
+    Ok(Small { cpus, buddy })
+}
+
+/// Whether a delta is of a processor's list.
+fn is_of_cpus(delta: &Delta) -> bool
+    ensures { result ≡ is_of_cpus delta.now }
+{
+    match delta {
+        Delta::Link { list, .. } | Delta::Unlink { list, .. } => matches!(list, ListId::Cpu { .. }),
+        _ => false,
+    }
+}
+
+/// Does the opposite of a delta on the lists that it is of.
+fn go_back(cpus: &mut Cpus, buddy: &mut Buddy, delta: Delta)
+    requires same { buddy.old.layout ≡ cpus.old.layout }
+    requires fits { FitsFree delta (frames_of buddy.old.areas cpus.old) }
+    requires numbers { IsDeltaOf cpus.old.layout delta }
+    ensures back { frames_of buddy.new.areas cpus.new ≡ free_undo delta (frames_of buddy.old.areas cpus.old) }
+    ensures layout { cpus.new.layout ≡ cpus.old.layout }
+    ensures same { buddy.new.layout ≡ buddy.old.layout }
+{
+    if is_of_cpus(&delta) {
+        cpus.back(delta);
+    } else {
+        buddy.back(delta);
+    }
+}
+
+/// Undoes what a tape notes, latest first.
+fn unwind(cpus: &mut Cpus, buddy: &mut Buddy, tape: &mut Tape)
+    requires same { buddy.old.layout ≡ cpus.old.layout }
+    requires fits { AllFit FitsFree free_undo tape.old.deltas (frames_of buddy.old.areas cpus.old) }
+    requires numbers { AllByRecursion (IsDeltaOf cpus.old.layout) tape.old.deltas }
+    ensures back { frames_of buddy.new.areas cpus.new ≡ undo_all free_undo tape.old.deltas (frames_of buddy.old.areas cpus.old) }
+    ensures layout { cpus.new.layout ≡ cpus.old.layout }
+    ensures same { buddy.new.layout ≡ buddy.old.layout }
+{
+    while let Some(delta) = tape.latest() {
+        go_back(cpus, buddy, delta);
+    }
+}
+
+/// Isolates or releases the first pageblock.
+fn isolate(cpus: &Cpus, isolated: bool, buddy: &mut Buddy, tape: &mut Tape)
+    requires pageblocks { 0 < pageblock_count cpus.now.layout }
+    requires together { AreTogether cpus.now buddy.old }
+    requires room { HasRoom tape.old (move_bound cpus.now.layout) }
+    ensures together { AreTogether cpus.now buddy.new }
+    ensures fewer { (other : ℕ) → places_among buddy.new.areas cpus.now other ≤ places_among buddy.old.areas cpus.now other }
+    ensures notes { NotesFree cpus.now.layout (move_bound cpus.now.layout) tape.old tape.new (frames_of buddy.new.areas cpus.now) (frames_of buddy.old.areas cpus.now) }
+{
+    buddy.move_pageblock(Zone::Normal, Pageblock(0), isolated, tape);
+}
+
+/// Steals a frame for good.
+fn steal(cpus: &Cpus, wanted: Mobility, buddy: &mut Buddy, tape: &mut Tape)
+    requires together { AreTogether cpus.now buddy.old }
+    requires room { HasRoom tape.old (steal_bound cpus.now.layout) }
+    ensures together { AreTogether cpus.now buddy.new }
+    ensures fewer { (other : ℕ) → places_among buddy.new.areas cpus.now other ≤ places_among buddy.old.areas cpus.now other }
+    ensures notes { NotesFree cpus.now.layout (steal_bound cpus.now.layout) tape.old tape.new (frames_of buddy.new.areas cpus.now) (frames_of buddy.old.areas cpus.now) }
+{
+    let _ = buddy.steal(wanted, Order(0), tape);
+}
+
+/// Whether the first processor's lists have few frames.
+fn is_short(cpus: &Cpus) -> bool
+    requires { 0 < cpus.now.layout.cpus }
+    ensures { result ≡ true → (areas : FreeAreas) → cached_frames (frames_of areas cpus.now) 0 ≤ 12 }
+{
+    let cpu = Cpu(0);
+    cpus.len(cpu, Pool::Nu) <= 4 && cpus.len(cpu, Pool::Nm) <= 4 && cpus.len(cpu, Pool::Mm) <= 4
+}
+
+/// Drains the lists of the first processor, if they are short.
+fn drain_short(cpus: &mut Cpus, buddy: &mut Buddy, tape: &mut Tape)
+    requires cpu { 0 < cpus.old.layout.cpus }
+    requires together { AreTogether cpus.old buddy.old }
+    requires room { HasRoom tape.old (short_drain_bound cpus.old.layout) }
+    ensures layout { cpus.new.layout ≡ cpus.old.layout }
+    ensures together { AreTogether cpus.new buddy.new }
+    ensures fewer { (other : ℕ) → places_among buddy.new.areas cpus.new other ≤ places_among buddy.old.areas cpus.old other }
+    ensures notes { NotesFree cpus.old.layout (short_drain_bound cpus.old.layout) tape.old tape.new (frames_of buddy.new.areas cpus.new) (frames_of buddy.old.areas cpus.old) }
+{
+    if is_short(cpus) {
+        cpus.drain(Cpu(0), buddy, tape);
+    }
+}
+
+/// Puts the frame that is held, or else takes one.
+fn put_or_take(
+    cpus: &mut Cpus,
+    held: Option<Frame>,
+    pool: Pool,
+    buddy: &mut Buddy,
+    tape: &mut Tape,
+) -> Option<Frame>
+    requires cpu { 0 < cpus.old.layout.cpus }
+    requires together { AreTogether cpus.old buddy.old }
+    requires held { IfSome held (MayBePut cpus.old buddy.old) }
+    requires room { HasRoom tape.old (batch_bound cpus.old.layout + give_bound cpus.old.layout) }
+    ensures layout { cpus.new.layout ≡ cpus.old.layout }
+    ensures together { AreTogether cpus.new buddy.new }
+    ensures held { IfSome result (MayBePut cpus.new buddy.new) }
+    ensures notes { NotesFree cpus.old.layout (batch_bound cpus.old.layout + give_bound cpus.old.layout) tape.old tape.new (frames_of buddy.new.areas cpus.new) (frames_of buddy.old.areas cpus.old) }
+{
+    match held {
+        Some(frame) => {
+            cpus.put_one(Cpu(0), Zone::Normal, frame, buddy, tape);
+            None
+        }
+        None => cpus.take_one(Cpu(0), pool, buddy, tape),
+    }
+}
+
+/// One turn, as a number says: the pageblock is isolated or released, the lists are drained, a frame is stolen for good, or
+/// one is taken or put.
+fn play_one(
+    cpus: &mut Cpus,
+    held: Option<Frame>,
+    number: u32,
+    buddy: &mut Buddy,
+    tape: &mut Tape,
+) -> Option<Frame>
+    requires cpu { 0 < cpus.old.layout.cpus }
+    requires pageblocks { 0 < pageblock_count cpus.old.layout }
+    requires together { AreTogether cpus.old buddy.old }
+    requires held { IfSome held (MayBePut cpus.old buddy.old) }
+    requires room { HasRoom tape.old (turn_bound cpus.old.layout) }
+    ensures layout { cpus.new.layout ≡ cpus.old.layout }
+    ensures together { AreTogether cpus.new buddy.new }
+    ensures held { IfSome result (MayBePut cpus.new buddy.new) }
+    ensures notes { NotesFree cpus.old.layout (turn_bound cpus.old.layout) tape.old tape.new (frames_of buddy.new.areas cpus.new) (frames_of buddy.old.areas cpus.old) }
+{
+    if number % 8 == 0 {
+        isolate(cpus, number / 8 % 4 == 0, buddy, tape);
+        return held;
+    }
+    if number % 8 == 1 {
+        drain_short(cpus, buddy, tape);
+        return held;
+    }
+    if number % 64 == 2 {
+        steal(cpus, Mobility::Unmovable, buddy, tape);
+        return held;
+    }
+    let pool = if number / 8 % 2 == 0 {
+        Pool::Nu
+    } else {
+        Pool::Nm
+    };
+    put_or_take(cpus, held, pool, buddy, tape)
+}
+
+/// So many turns, each by a number that looks random (Knuth, volume 2, section 3.2.1: the linear congruential method).
+fn play(cpus: &mut Cpus, turns: u32, buddy: &mut Buddy, tape: &mut Tape)
+    requires cpu { 0 < cpus.old.layout.cpus }
+    requires pageblocks { 0 < pageblock_count cpus.old.layout }
+    requires together { AreTogether cpus.old buddy.old }
+    requires room { HasRoom tape.old (turns * turn_bound cpus.old.layout) }
+    ensures layout { cpus.new.layout ≡ cpus.old.layout }
+    ensures together { AreTogether cpus.new buddy.new }
+    ensures notes { NotesFree cpus.old.layout (turns * turn_bound cpus.old.layout) tape.old tape.new (frames_of buddy.new.areas cpus.new) (frames_of buddy.old.areas cpus.old) }
+{
+    let mut held: Option<Frame> = None;
+    let mut number: u32 = 1;
+    for _turn in 0..turns {
+        number = number.wrapping_mul(1_664_525).wrapping_add(1_013_904_223);
+        held = play_one(cpus, held, number >> 8, buddy, tape);
+    }
+}
+
+/// Whatever so many turns did, the opposites of their deltas lead back to exactly what was before. How many deltas there were.
+fn played_and_back(cpus: &mut Cpus, turns: u32, buddy: &mut Buddy, tape: &mut Tape) -> usize
+    requires cpu { 0 < cpus.old.layout.cpus }
+    requires pageblocks { 0 < pageblock_count cpus.old.layout }
+    requires together { AreTogether cpus.old buddy.old }
+    requires none { tape.old.deltas ≡ [] }
+    requires room { HasRoom tape.old (turns * turn_bound cpus.old.layout) }
+    ensures cpus { cpus.new ≡ cpus.old }
+    ensures buddy { buddy.new ≡ buddy.old }
+{
+    play(cpus, turns, buddy, tape);
+    let noted = tape.len();
+    unwind(cpus, buddy, tape);
+    noted
+}
+
+/// Takes a frame of the movable pool of zone Normal.
+fn take(cpus: &mut Cpus, buddy: &mut Buddy, alloc: Global) -> Result<Option<Frame>, AllocError>
+    requires small { IsSmall cpus.old buddy.old }
+    ensures small { IsSmall cpus.new buddy.new }
+    ensures frame { IfOk result (λ taken. IfSome taken (MayBePut cpus.new buddy.new)) }
+    ensures others { (other : ℕ) → MayBePut cpus.old buddy.old other → MayBePut cpus.new buddy.new other }
+{
+    let mut tape = Tape::with_room(alloc, 16)?;
+    Ok(cpus.take_one(Cpu(0), Pool::Nm, buddy, &mut tape))
+}
+
+/// Puts a frame of zone Normal.
+fn put(cpus: &mut Cpus, buddy: &mut Buddy, frame: Frame, alloc: Global) -> Result<(), AllocError>
+    requires small { IsSmall cpus.old buddy.old }
+    requires frame { MayBePut cpus.old buddy.old frame }
+    ensures small { IsSmall cpus.new buddy.new }
+    ensures others { (other : ℕ) → frame ≢ other → MayBePut cpus.old buddy.old other → MayBePut cpus.new buddy.new other }
+{
+    let mut tape = Tape::with_room(alloc, 16)?;
+    cpus.put_one(Cpu(0), Zone::Normal, frame, buddy, &mut tape);
+    Ok(())
+}
+
+/// Drains the lists of the first processor, if they are short.
+fn drain(cpus: &mut Cpus, buddy: &mut Buddy, alloc: Global) -> Result<(), AllocError>
+    requires small { IsSmall cpus.old buddy.old }
+    ensures small { IsSmall cpus.new buddy.new }
+{
+    let mut tape = Tape::with_room(alloc, 16)?;
+    let cpu = Cpu(0);
+    if cpus.len(cpu, Pool::Nu) <= 1
+        && cpus.len(cpu, Pool::Nm) <= 1
+        && cpus.len(cpu, Pool::Mm) <= 1
+    {
+        cpus.drain(cpu, buddy, &mut tape);
+    }
+    Ok(())
+}
+
+/// Puts two frames, the second one first.
+fn put_two(
+    cpus: &mut Cpus,
+    buddy: &mut Buddy,
+    first: Frame,
+    second: Frame,
+    alloc: Global,
+) -> Result<(), AllocError>
+    requires small { IsSmall cpus.old buddy.old }
+    requires first { MayBePut cpus.old buddy.old first }
+    requires second { MayBePut cpus.old buddy.old second }
+    ensures small { IsSmall cpus.new buddy.new }
+{
+    if second.0 == first.0 {
+        return Ok(());
+    }
+    put(cpus, buddy, second, alloc)?;
+    put(cpus, buddy, first, alloc)
+}
+
+/// Takes two frames and puts them back, so that the list gives one to the areas.
+fn spill(cpus: &mut Cpus, buddy: &mut Buddy, alloc: Global) -> Result<(), AllocError>
+    requires { IsSmall cpus.old buddy.old }
+    ensures small { IsSmall cpus.new buddy.new }
+{
+    let Some(first) = take(cpus, buddy, alloc)? else {
+        return Ok(());
+    };
+    let Some(second) = take(cpus, buddy, alloc)? else {
+        return Ok(());
+    };
+    put_two(cpus, buddy, first, second, alloc)
+}
+
+/// The list keeps the frame that was put last.
+#[test]
+fn spills(rt: HostRuntime) -> Result<(), Fail> {
+    let Small {
+        mut cpus,
+        mut buddy,
+    } = small_memory(rt.alloc(), 2, 1)?;
+    spill(&mut cpus, &mut buddy, rt.alloc())?;
+    assert_eq!(rt; cpus.len(Cpu(0), Pool::Nm), 1);
+    assert_eq!(rt; cpus.front(Cpu(0), Pool::Nm), Some(Frame(0)));
+    Ok(())
+}
+
+/// All frames that went in join to one block again.
+#[test]
+fn drains(rt: HostRuntime) -> Result<(), Fail> {
+    let Small {
+        mut cpus,
+        mut buddy,
+    } = small_memory(rt.alloc(), 2, 1)?;
+    spill(&mut cpus, &mut buddy, rt.alloc())?;
+    drain(&mut cpus, &mut buddy, rt.alloc())?;
+    assert_eq!(rt; cpus.len(Cpu(0), Pool::Nm), 0);
+    assert_eq!(rt; buddy.len(Class::Nm, Order(2)), 1);
+    Ok(())
+}
+
+#[test]
+fn comes_back(rt: HostRuntime) -> Result<(), Fail> {
+    let Small {
+        mut cpus,
+        mut buddy,
+    } = small_memory(rt.alloc(), 4, 2)?;
+    let mut tape = Tape::with_room(rt.alloc(), 129_000)?;
+    let noted = played_and_back(&mut cpus, 1_000, &mut buddy, &mut tape);
+    assert!(rt; noted > 1_500);
+    assert_eq!(rt; tape.len(), 0);
+    assert_eq!(rt; cpus.len(Cpu(0), Pool::Nm), 0);
+    assert_eq!(rt; buddy.len(Class::Nm, Order(4)), 1);
+    Ok(())
+}
+
+#[test]
+fn takes_the_first(rt: HostRuntime) -> Result<(), Fail> {
+    let Small {
+        mut cpus,
+        mut buddy,
+    } = small_memory(rt.alloc(), 2, 1)?;
+    if let Some(frame) = take(&mut cpus, &mut buddy, rt.alloc())? {
+        assert_eq!(rt; frame, Frame(0));
+        assert_eq!(rt; cpus.next(frame), None);
+    }
+    Ok(())
+}
+
+#[test]
+fn made_for_one_processor(rt: HostRuntime) -> Result<(), Fail> {
+    let layout = one_pageblock(rt.alloc(), 2, 1, 1)?;
+    let cpus = Cpus::new(rt.alloc(), &layout)?;
+    assert_eq!(rt; cpus.len(Cpu(0), Pool::Mm), 0);
+    Ok(())
+}
+
+/// It asks for memory as often as for one processor: the same allocations fail in both, one after another.
+#[test]
+fn made_for_many_processors(rt: HostRuntime) -> Result<(), Fail> {
+    let layout = one_pageblock(rt.alloc(), 2, 64, 1)?;
+    let cpus = Cpus::new(rt.alloc(), &layout)?;
+    assert_eq!(rt; cpus.len(Cpu(63), Pool::Mm), 0);
+    Ok(())
+}

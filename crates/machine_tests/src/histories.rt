@@ -1,0 +1,448 @@
+//! Worked replays: a block of the kernel that is taken, given back and undone, and an operation that is cancelled.
+use crate::layouts::one_block;
+use hp_history::{
+    ChainFault, Course, Records, ReplayFault, Volume, audit_chain, replay, replay_from,
+};
+use hp_plain::Image;
+use hp_tape::Delta;
+use hp_units::{
+    Block, Class, Cpu, Event, Frame, Item, Layout, Order, Plan, Record, Refusal, Reply, Serial,
+    Wish,
+};
+use std::alloc::{AllocError, Global};
+use std::test::Fail;
+
+/// A record of the one processor.
+fn record_of(serial: u64, event: Event, reply: Reply) -> Record {
+    Record {
+        serial: Serial(serial),
+        cpu: Cpu(0),
+        event,
+        reply,
+    }
+}
+
+/// A block of the kernel is taken.
+fn take() -> Record {
+    let event = Event::KernelAlloc { order: Order(1) };
+    record_of(1, event, Reply::Frame(Frame(0)))
+}
+
+/// It is given back.
+fn give() -> Record {
+    let event = Event::KernelFree { frame: Frame(0) };
+    record_of(2, event, Reply::Done)
+}
+
+/// So many steps are undone, which are all.
+fn undo(serial: u64, count: u64) -> Record {
+    let event = Event::UndoAfter { serial: Serial(0) };
+    record_of(serial, event, Reply::Undone { count })
+}
+
+/// The block is to go offline; after a drain the operation is cancelled, and nothing of it stays to be undone.
+fn cancelled(alloc: Global) -> Result<Vec<Record>, AllocError> {
+    let op = Serial(1);
+    let item = Item {
+        block: Block(0),
+        wish: Wish::Off,
+    };
+    let plan = Plan::new(vec![in alloc; item]?);
+    let drain = Event::DrainFor { op, cpu: Cpu(0) };
+    let mut records = Vec::new(alloc);
+    records.push(record_of(1, Event::Begin { plan }, Reply::Opened { op }))?;
+    records.push(record_of(2, drain, Reply::Done))?;
+    records.push(record_of(3, Event::Cancel { op }, Reply::Restored))?;
+    records.push(undo(4, 0))?;
+    Ok(records)
+}
+
+/// Three records, the last of which undoes so many steps.
+fn worked(alloc: Global, count: u64) -> Result<Vec<Record>, AllocError> {
+    let mut records = Vec::new(alloc);
+    records.push(take())?;
+    records.push(give())?;
+    records.push(undo(3, count))?;
+    Ok(records)
+}
+
+/// What a replay of the records finds wrong.
+fn fault_of(alloc: Global, records: &[Record]) -> Result<Option<ReplayFault>, Fail> {
+    let layout = one_block(alloc, 9)?;
+    Ok(replay(alloc, &layout, records).err())
+}
+
+/// Whether a state is that at boot.
+fn is_at_boot(alloc: Global, layout: &Layout, image: &Image) -> Result<bool, AllocError> {
+    let boot = Image::boot(alloc, layout)?;
+    let is_same = image.same(&boot);
+    drop(boot);
+    Ok(is_same)
+}
+
+/// Whether a replay of the records leads back to the state at boot.
+fn leads_back(alloc: Global, records: &[Record]) -> Result<bool, Fail> {
+    let layout = one_block(alloc, 9)?;
+    let image = replay(alloc, &layout, records)?;
+    let is_back = is_at_boot(alloc, &layout, &image);
+    drop(image);
+    Ok(is_back?)
+}
+
+#[test]
+fn a_history_leads_back_to_boot(rt: HostRuntime) -> Result<(), Fail> {
+    let records = worked(rt.alloc(), 2)?;
+    assert!(rt; leads_back(rt.alloc(), &records)?);
+    Ok(())
+}
+
+#[test]
+fn a_cancelled_operation_leads_back_to_boot(rt: HostRuntime) -> Result<(), Fail> {
+    let records = cancelled(rt.alloc())?;
+    assert!(rt; leads_back(rt.alloc(), &records)?);
+    Ok(())
+}
+
+/// How many blocks of order 2 are free where the block is given back over the state in which it was taken.
+fn free_after_give(alloc: Global) -> Result<usize, Fail> {
+    let layout = one_block(alloc, 9)?;
+    let base = replay(alloc, &layout, &[take()])?;
+    let replayed = replay_from(alloc, &base, 1, &[give()]);
+    drop(base);
+    let image = replayed?;
+    let free = image.list(Class::Nu, Order(2)).len();
+    drop(image);
+    Ok(free)
+}
+
+#[test]
+fn a_history_goes_on_from_a_base(rt: HostRuntime) -> Result<(), Fail> {
+    assert_eq!(rt; free_after_give(rt.alloc())?, 1);
+    Ok(())
+}
+
+#[test]
+fn another_reply_is_named_by_its_serial(rt: HostRuntime) -> Result<(), Fail> {
+    let records = worked(rt.alloc(), 1)?;
+    let wanted = ReplayFault::WrongReply { serial: Serial(3) };
+    assert_eq!(rt; fault_of(rt.alloc(), &records)?, Some(wanted));
+    Ok(())
+}
+
+#[test]
+fn a_missing_record_is_named_by_its_place(rt: HostRuntime) -> Result<(), Fail> {
+    let mut records = Vec::new(rt.alloc());
+    records.push(take())?;
+    records.push(undo(3, 2))?;
+    let wanted = ReplayFault::WrongSerial { at: 1 };
+    assert_eq!(rt; fault_of(rt.alloc(), &records)?, Some(wanted));
+    Ok(())
+}
+
+/// What a replay of records finds wrong where the last serial was used before.
+fn fault_after_last(alloc: Global, records: &[Record]) -> Result<Option<ReplayFault>, Fail> {
+    let layout = one_block(alloc, 9)?;
+    let base = replay(alloc, &layout, &[])?;
+    let replayed = replay_from(alloc, &base, u64::MAX, records);
+    drop(base);
+    Ok(replayed.err())
+}
+
+#[test]
+fn no_record_comes_after_the_last_serial(rt: HostRuntime) -> Result<(), Fail> {
+    let records = worked(rt.alloc(), 2)?;
+    let wanted = ReplayFault::WrongSerial { at: 0 };
+    assert_eq!(rt; fault_after_last(rt.alloc(), &records)?, Some(wanted));
+    Ok(())
+}
+
+/// A course of the one memory block.
+fn booted(alloc: Global) -> Result<Course, Fail> {
+    let layout = one_block(alloc, 9)?;
+    Ok(Course::boot(alloc, &layout)?)
+}
+
+/// Whether a course shows that nothing was answered yet.
+fn is_fresh(course: &Course) -> bool {
+    !course.is_spent()
+        && course.expects(Serial(1))
+        && course.before() == 0
+        && course.journal_len() == 0
+        && course.history().len() == 0
+        && course.memory().layout().cpus() == 1
+}
+
+/// Whether the base of a course, shown and handed out, is this state.
+fn has_base(course: Course, image: &Image) -> bool {
+    let is_shown = course.base().same(image);
+    let base = course.into_base();
+    let is_handed_out = base.same(image);
+    drop(base);
+    is_shown && is_handed_out
+}
+
+/// Whether the base of a course is its state.
+fn is_at_its_base(alloc: Global, course: Course) -> Result<bool, AllocError> {
+    match course.image(alloc) {
+        Ok(image) => {
+            let is_so = has_base(course, &image);
+            drop(image);
+            Ok(is_so)
+        }
+        Err(fault) => {
+            drop(course);
+            Err(fault)
+        }
+    }
+}
+
+#[test]
+fn a_course_shows_what_it_keeps(rt: HostRuntime) -> Result<(), Fail> {
+    let course = booted(rt.alloc())?;
+    let fresh = is_fresh(&course);
+    let at_base = is_at_its_base(rt.alloc(), course);
+    assert!(rt; fresh);
+    assert!(rt; at_base?);
+    Ok(())
+}
+
+/// Answers an event of processor 0, where there is a further serial.
+fn act(alloc: Global, course: &mut Course, event: &Event) -> Result<(), AllocError> {
+    if !course.is_spent() {
+        let _receipt = course.answer(alloc, Cpu(0), event)?;
+    }
+    Ok(())
+}
+
+/// Takes a block, is refused another, and gives the first back: two steps.
+fn take_and_give(alloc: Global, course: &mut Course) -> Result<(), AllocError> {
+    act(alloc, course, &Event::KernelAlloc { order: Order(1) })?;
+    act(alloc, course, &Event::KernelFree { frame: Frame(9) })?;
+    act(alloc, course, &Event::KernelFree { frame: Frame(0) })
+}
+
+/// Whether each of two steps has deltas, a third none, and the way back over both those of both.
+fn shows_two_steps(course: &Course) -> bool {
+    let first = count_of(course.entry(0));
+    let second = count_of(course.entry(1));
+    let both = count_of(course.way_back(0));
+    course.journal_len() == 2
+        && first > 0
+        && second > 0
+        && count_of(course.entry(2)) == 0
+        && both >= first
+        && both - first == second
+}
+
+/// Whether a course shows two steps once they are made.
+fn makes_two_steps(alloc: Global, course: &mut Course) -> Result<bool, AllocError> {
+    take_and_give(alloc, course)?;
+    Ok(shows_two_steps(course))
+}
+
+#[test]
+fn an_entry_holds_what_its_step_did(rt: HostRuntime) -> Result<(), Fail> {
+    let mut course = booted(rt.alloc())?;
+    let shown = makes_two_steps(rt.alloc(), &mut course);
+    drop(course);
+    assert!(rt; shown?);
+    Ok(())
+}
+
+/// Whether an undo of the second of two steps leaves the deltas of the first alone.
+fn undoes_the_second(alloc: Global, course: &mut Course) -> Result<bool, AllocError> {
+    take_and_give(alloc, course)?;
+    let first = count_of(course.entry(0));
+    let serial = Serial(1);
+    act(alloc, course, &Event::UndoAfter { serial })?;
+    Ok(course.journal_len() == 1 && count_of(course.way_back(0)) == first)
+}
+
+#[test]
+fn an_undo_leaves_the_deltas_of_earlier_steps(rt: HostRuntime) -> Result<(), Fail> {
+    let mut course = booted(rt.alloc())?;
+    let undone = undoes_the_second(rt.alloc(), &mut course);
+    drop(course);
+    assert!(rt; undone?);
+    Ok(())
+}
+
+/// How many deltas there are.
+fn count_of(deltas: Option<&[Delta]>) -> usize {
+    match deltas {
+        Some(deltas) => deltas.len(),
+        None => 0,
+    }
+}
+
+/// A volume that was sealed after so many records.
+fn volume(before: u64, base: Image, records: Vec<Record>) -> Volume {
+    Volume {
+        before,
+        base,
+        records: Records::new(records),
+    }
+}
+
+/// The records that took a block of the kernel and gave it back.
+fn taken_and_given(alloc: Global) -> Result<Vec<Record>, AllocError> {
+    let mut records = Vec::new(alloc);
+    records.push(take())?;
+    records.push(give())?;
+    Ok(records)
+}
+
+/// The volume of these records, from boot on.
+fn first_volume(alloc: Global) -> Result<Volume, Fail> {
+    let base = Image::boot(alloc, &one_block(alloc, 9)?)?;
+    Ok(volume(0, base, taken_and_given(alloc)?))
+}
+
+/// The state that they lead to.
+fn sealed_state(alloc: Global) -> Result<Image, Fail> {
+    let layout = one_block(alloc, 9)?;
+    Ok(replay(alloc, &layout, &taken_and_given(alloc)?)?)
+}
+
+/// The records after these: undos of sealed and of no records, and a block that is taken with this reply.
+fn second_records(alloc: Global, reply: Reply) -> Result<Vec<Record>, AllocError> {
+    let gone = Event::UndoAfter { serial: Serial(0) };
+    let none = Event::UndoAfter { serial: Serial(2) };
+    let take = Event::KernelAlloc { order: Order(1) };
+    let mut records = Vec::new(alloc);
+    records.push(record_of(3, gone, Reply::Refused(Refusal::Gone)))?;
+    records.push(record_of(4, none, Reply::Undone { count: 0 }))?;
+    records.push(record_of(5, take, reply))?;
+    Ok(records)
+}
+
+/// The volume of these over the state at boot.
+fn second_over_boot(alloc: Global) -> Result<Volume, Fail> {
+    let records = second_records(alloc, Reply::Frame(Frame(0)))?;
+    let base = Image::boot(alloc, &one_block(alloc, 9)?)?;
+    Ok(volume(2, base, records))
+}
+
+/// The volume of these over the state that the first volume leads to.
+fn second_over_sealed(alloc: Global, reply: Reply) -> Result<Volume, Fail> {
+    let records = second_records(alloc, reply)?;
+    let base = sealed_state(alloc)?;
+    Ok(volume(2, base, records))
+}
+
+/// The first volume and one after it.
+fn chain(alloc: Global, second: Volume) -> Result<Vec<Volume>, Fail> {
+    let mut volumes = Vec::new(alloc);
+    volumes.push(first_volume(alloc)?)?;
+    volumes.push(second)?;
+    Ok(volumes)
+}
+
+/// The fault of both.
+fn fault_after_first(alloc: Global, second: Volume) -> Result<Option<ChainFault>, Fail> {
+    let volumes = chain(alloc, second)?;
+    let layout = one_block(alloc, 9)?;
+    Ok(audit_chain(alloc, &layout, &volumes).err())
+}
+
+/// The fault of the first volume twice.
+fn fault_of_twice(alloc: Global) -> Result<Option<ChainFault>, Fail> {
+    let again = first_volume(alloc)?;
+    fault_after_first(alloc, again)
+}
+
+/// The fault where the second volume is over the state at boot.
+fn fault_over_boot(alloc: Global) -> Result<Option<ChainFault>, Fail> {
+    let second = second_over_boot(alloc)?;
+    fault_after_first(alloc, second)
+}
+
+/// The fault where the second volume is over the state that the first leads to.
+fn fault_over_sealed(alloc: Global, reply: Reply) -> Result<Option<ChainFault>, Fail> {
+    let second = second_over_sealed(alloc, reply)?;
+    fault_after_first(alloc, second)
+}
+
+/// How many blocks of order 2 no volumes at all lead to.
+fn free_after_none(alloc: Global) -> Result<usize, Fail> {
+    let layout = one_block(alloc, 9)?;
+    let image = audit_chain(alloc, &layout, &[])?;
+    let free = image.list(Class::Nm, Order(2)).len();
+    drop(image);
+    Ok(free)
+}
+
+/// Whether a volume over the state that the first leads to is accepted after it.
+fn follows_the_first(alloc: Global) -> Result<bool, Fail> {
+    let second = second_over_sealed(alloc, Reply::Frame(Frame(0)))?;
+    let volumes = chain(alloc, second)?;
+    let layout = one_block(alloc, 9)?;
+    Ok(audit_chain(alloc, &layout, &volumes).is_ok())
+}
+
+#[test]
+fn volumes_that_follow_one_another_are_accepted(rt: HostRuntime) -> Result<(), Fail> {
+    assert!(rt; follows_the_first(rt.alloc())?);
+    assert_eq!(rt; free_after_none(rt.alloc())?, 1);
+    Ok(())
+}
+
+#[test]
+fn the_first_volume_at_fault_is_named(rt: HostRuntime) -> Result<(), Fail> {
+    let counted = Some(ChainFault::WrongCount { at: 1 });
+    assert_eq!(rt; fault_of_twice(rt.alloc())?, counted);
+    let based = Some(ChainFault::WrongBase { at: 1 });
+    assert_eq!(rt; fault_over_boot(rt.alloc())?, based);
+    let serial = Serial(5);
+    let fault = ReplayFault::WrongReply { serial };
+    let replayed = Some(ChainFault::Replay { at: 1, fault });
+    assert_eq!(rt;
+        fault_over_sealed(rt.alloc(), Reply::Frame(Frame(2)))?,
+        replayed
+    );
+    Ok(())
+}
+
+/// The fault of the second volume alone.
+fn fault_without_first(alloc: Global) -> Result<Option<ChainFault>, Fail> {
+    let layout = one_block(alloc, 9)?;
+    let second = second_over_sealed(alloc, Reply::Frame(Frame(0)))?;
+    Ok(audit_chain(alloc, &layout, &[second]).err())
+}
+
+#[test]
+fn a_volume_whose_earlier_ones_are_missing_is_named(rt: HostRuntime) -> Result<(), Fail> {
+    let counted = Some(ChainFault::WrongCount { at: 0 });
+    assert_eq!(rt; fault_without_first(rt.alloc())?, counted);
+    Ok(())
+}
+
+/// Whether a seal after one record hands it out, and the course goes on after it.
+fn seals_one(alloc: Global, course: &mut Course) -> Result<bool, AllocError> {
+    act(alloc, course, &Event::KernelAlloc { order: Order(1) })?;
+    let volume = course.seal(alloc)?;
+    let records = volume.records.into_vec();
+    Ok(records.len() == 1 && course.history().is_empty() && course.last_serial() == 1)
+}
+
+/// Whether a copy has as many earlier records.
+fn copies(alloc: Global, course: &Course) -> Result<bool, AllocError> {
+    let copy = course.copy(alloc)?;
+    let before = copy.before();
+    drop(copy);
+    Ok(before == course.before())
+}
+
+/// Whether both hold.
+fn goes_on(alloc: Global, course: &mut Course) -> Result<bool, AllocError> {
+    Ok(seals_one(alloc, course)? && copies(alloc, course)?)
+}
+
+#[test]
+fn a_sealed_course_goes_on_from_its_state(rt: HostRuntime) -> Result<(), Fail> {
+    let mut course = booted(rt.alloc())?;
+    let went_on = goes_on(rt.alloc(), &mut course);
+    drop(course);
+    assert!(rt; went_on?);
+    Ok(())
+}

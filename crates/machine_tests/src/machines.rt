@@ -1,0 +1,240 @@
+//! Worked calls on one memory block of four frames, and a whole offline by the driver of a plan.
+mod undo_each;
+
+use crate::layouts::{four_blocks, one_block};
+use hp_machine::{Machine, MachinePort};
+use hp_ops::run_plan;
+use hp_units::{
+    Auto, Block, CallFault, Class, Cpu, Event, Frame, Item, OpEnd, Order, Owner, Page, Plan,
+    Refusal, Reply, Row, Serial, State, Wish, Zone,
+};
+use std::alloc::{AllocError, Global};
+use std::test::Fail;
+
+/// A machine with one block of one pageblock, online in zone Normal, and a limit of records.
+fn booted(alloc: Global, history: u64) -> Result<Machine, Fail> {
+    let layout = one_block(alloc, history)?;
+    let machine = Machine::boot(alloc, &layout)?;
+    Ok(machine)
+}
+
+/// Whether an event of processor 0 gets this reply.
+fn is_answered(alloc: Global, machine: &mut Machine, event: &Event, reply: &Reply) -> bool {
+    match machine.call(alloc, Cpu(0), event) {
+        Ok(receipt) => receipt.reply.same(reply),
+        Err(_fault) => false,
+    }
+}
+
+/// Whether a block of the kernel is taken.
+fn takes(alloc: Global, machine: &mut Machine) -> bool {
+    let take = Event::KernelAlloc { order: Order(1) };
+    is_answered(alloc, machine, &take, &Reply::Frame(Frame(0)))
+}
+
+/// Whether it is given back.
+fn gives(alloc: Global, machine: &mut Machine) -> bool {
+    let give = Event::KernelFree { frame: Frame(0) };
+    is_answered(alloc, machine, &give, &Reply::Done)
+}
+
+/// Whether an undo to a serial gets this reply.
+fn undoes(alloc: Global, machine: &mut Machine, serial: Serial, reply: &Reply) -> bool {
+    is_answered(alloc, machine, &Event::UndoAfter { serial }, reply)
+}
+
+/// Whether a block that is given back joins its buddy.
+fn joins(alloc: Global, machine: &mut Machine) -> bool {
+    takes(alloc, machine)
+        && machine.front(Class::Nu, Order(1)) == Some(Frame(2))
+        && gives(alloc, machine)
+        && machine.list_len(Class::Nu, Order(2)) == 1
+}
+
+#[test]
+fn free_blocks_join(rt: HostRuntime) -> Result<(), Fail> {
+    let mut machine = booted(rt.alloc(), 9)?;
+    let joined = joins(rt.alloc(), &mut machine);
+    drop(machine);
+    assert!(rt; joined);
+    Ok(())
+}
+
+/// Whether a block that was stolen goes back to its list, and its step leaves the journal.
+fn returns_a_block(alloc: Global, machine: &mut Machine) -> bool {
+    takes(alloc, machine)
+        && machine.journal_len() == 1
+        && machine.entry(0).is_some()
+        && undoes(alloc, machine, Serial(0), &Reply::Undone { count: 1 })
+        && machine.front(Class::Nm, Order(2)) == Some(Frame(0))
+        && machine.journal_len() == 0
+        && machine.last_serial() == 2
+}
+
+#[test]
+fn undo_returns_a_stolen_pageblock(rt: HostRuntime) -> Result<(), Fail> {
+    let mut machine = booted(rt.alloc(), 9)?;
+    let returned = returns_a_block(rt.alloc(), &mut machine);
+    drop(machine);
+    assert!(rt; returned);
+    Ok(())
+}
+
+/// Whether a machine with a limit of one record takes one call and no more.
+fn takes_one_call(alloc: Global, machine: &mut Machine) -> bool {
+    let first = takes(alloc, machine);
+    let give = Event::KernelFree { frame: Frame(0) };
+    let full = match machine.call(alloc, Cpu(0), &give) {
+        Ok(_receipt) => false,
+        Err(fault) => fault == CallFault::HistoryFull,
+    };
+    first && full && machine.history().len() == 1
+}
+
+#[test]
+fn a_full_history_takes_no_call(rt: HostRuntime) -> Result<(), Fail> {
+    let mut machine = booted(rt.alloc(), 1)?;
+    let took = takes_one_call(rt.alloc(), &mut machine);
+    drop(machine);
+    assert!(rt; took);
+    Ok(())
+}
+
+/// Whether a seal hands out so many records, after so many that were sealed before.
+fn seals(
+    alloc: Global,
+    machine: &mut Machine,
+    before: u64,
+    count: usize,
+) -> Result<bool, AllocError> {
+    let volume = machine.seal(alloc)?;
+    Ok(volume.before == before && volume.records.as_slice().len() == count)
+}
+
+/// Whether, after two records were sealed, they can't be undone, an undo of none counts none, and a block can be taken.
+fn goes_on(alloc: Global, machine: &mut Machine) -> bool {
+    undoes(alloc, machine, Serial(0), &Reply::Refused(Refusal::Gone))
+        && undoes(alloc, machine, Serial(2), &Reply::Undone { count: 0 })
+        && takes(alloc, machine)
+}
+
+/// Whether two records are sealed.
+fn seals_two(alloc: Global, machine: &mut Machine) -> Result<bool, AllocError> {
+    let two = takes(alloc, machine) && gives(alloc, machine);
+    Ok(seals(alloc, machine, 0, 2)? && two)
+}
+
+#[test]
+fn a_seal_ends_what_can_be_undone(rt: HostRuntime) -> Result<(), Fail> {
+    let mut machine = booted(rt.alloc(), 3)?;
+    let sealed = seals_two(rt.alloc(), &mut machine);
+    let went_on = goes_on(rt.alloc(), &mut machine);
+    let sealed_again = seals(rt.alloc(), &mut machine, 2, 3);
+    drop(machine);
+    assert!(rt; sealed?);
+    assert!(rt; went_on);
+    assert!(rt; sealed_again?);
+    Ok(())
+}
+
+/// Whether a copy has two sealed records, and a free block in its base.
+fn copy_shows_seals(alloc: Global, machine: &Machine) -> Result<bool, AllocError> {
+    let copy = machine.copy(alloc)?;
+    let shows = copy.sealed() == 2 && copy.base().list(Class::Nu, Order(2)).len() == 1;
+    drop(copy);
+    Ok(shows)
+}
+
+#[test]
+fn a_copy_shows_what_was_sealed(rt: HostRuntime) -> Result<(), Fail> {
+    let mut machine = booted(rt.alloc(), 3)?;
+    let sealed = seals_two(rt.alloc(), &mut machine);
+    let shown = copy_shows_seals(rt.alloc(), &machine);
+    drop(machine);
+    assert!(rt; sealed?);
+    assert!(rt; shown?);
+    Ok(())
+}
+
+/// Whether the queries show the state at boot.
+fn shows_boot(machine: &Machine) -> bool {
+    let online = Row {
+        state: State::Online,
+        zone: Some(Zone::Normal),
+        claim: None,
+    };
+    machine.row(Block(0)) == Some(online)
+        && machine.frame_at(Owner(0), Page(0)).is_none()
+        && machine.auto() == Auto::Offline
+        && machine.layout().frames() == 4
+}
+
+/// Whether the Image of the state has so many free blocks of order 2.
+fn image_has(alloc: Global, machine: &Machine, count: usize) -> Result<bool, AllocError> {
+    let image = machine.image(alloc)?;
+    let has = image.list(Class::Nm, Order(2)).len() == count;
+    drop(image);
+    Ok(has)
+}
+
+#[test]
+fn queries_show_the_state_at_boot(rt: HostRuntime) -> Result<(), Fail> {
+    let machine = booted(rt.alloc(), 1)?;
+    let shown = shows_boot(&machine);
+    let in_image = image_has(rt.alloc(), &machine, 1);
+    drop(machine);
+    assert!(rt; shown);
+    assert!(rt; in_image?);
+    Ok(())
+}
+
+/// A machine with four blocks, of which the third is movable and the fourth offline.
+fn wide(alloc: Global) -> Result<Machine, Fail> {
+    let layout = four_blocks(alloc)?;
+    let machine = Machine::boot(alloc, &layout)?;
+    Ok(machine)
+}
+
+/// The plan that takes block 2 offline.
+fn offline(alloc: Global) -> Result<Plan, AllocError> {
+    let items = vec![in alloc;
+        Item {
+            block: Block(2),
+            wish: Wish::Off
+        },
+    ]?;
+    Ok(Plan::new(items))
+}
+
+/// Whether a page is mapped, and then its block goes offline by the driver of a plan.
+fn goes_offline(alloc: Global, machine: &mut Machine) -> Result<bool, AllocError> {
+    let (owner, page) = (Owner(0), Page(0));
+    let mapped = is_answered(alloc, machine, &Event::Map { owner, page }, &Reply::Done);
+    let plan = offline(alloc)?;
+    let mut port = MachinePort::new(machine, Cpu(0));
+    let end = run_plan(alloc, &mut port, plan, 1024);
+    Ok(mapped && end == OpEnd::Done)
+}
+
+/// Whether the page has moved, and its block is offline, after seven records.
+fn has_moved(machine: &Machine) -> bool {
+    let gone = Row {
+        state: State::Offline,
+        zone: None,
+        claim: None,
+    };
+    machine.row(Block(2)) == Some(gone)
+        && machine.frame_at(Owner(0), Page(0)) == Some(Frame(0))
+        && machine.history().len() == 7
+}
+
+#[test]
+fn a_mapped_block_goes_offline(rt: HostRuntime) -> Result<(), Fail> {
+    let mut machine = wide(rt.alloc())?;
+    let gone = goes_offline(rt.alloc(), &mut machine);
+    let moved = has_moved(&machine);
+    drop(machine);
+    assert!(rt; gone?);
+    assert!(rt; moved);
+    Ok(())
+}

@@ -1,0 +1,151 @@
+//! The memory of one machine, drawn after each of a few calls.
+use crate::machines::{Look, finds_at_boot};
+use hp_machine::Machine;
+use hp_map::{Place, picture_of, places_of};
+use hp_units::{
+    Block, Boot, Cpu, Event, Item, Layout, LayoutFault, Order, Owner, Page, Parts, Plan, Text, Wish,
+};
+use std::alloc::{AllocError, Global};
+use std::test::Fail;
+
+/// What a test looks for: the picture after each of a few calls, and the place of each frame at boot.
+#[derive(Clone, Copy)]
+enum Case {
+    Drawn,
+    Places,
+}
+
+impl Look for Case {
+    fn finds(&self, alloc: Global, machine: &mut Machine) -> bool {
+        match self {
+            Case::Drawn => draws_use(alloc, machine) && draws_plan(alloc, machine),
+            Case::Places => starts_free(alloc, machine, 16),
+        }
+    }
+}
+
+/// One block of each kind: online in both zones, offline and absent.
+const BOOT: &[Boot] = &[Boot::Normal, Boot::Movable, Boot::Offline, Boot::Absent];
+
+/// A layout of four blocks of two pageblocks of two frames.
+fn four_pairs(alloc: Global) -> Result<Layout, LayoutFault> {
+    let parts = Parts {
+        order: 1,
+        pageblocks: 2,
+        blocks: 4,
+        cpus: 2,
+        batch: 2,
+        high: 2,
+        owners: 2,
+        pages: 2,
+        words: 1,
+        history: 9,
+        boot: BOOT,
+    };
+    Layout::new(alloc, &parts)
+}
+
+/// Whether memory blocks are drawn as these texts, one after another.
+fn are_drawn(blocks: &[Text], texts: &[&str]) -> bool {
+    if blocks.len() != texts.len() {
+        return false;
+    }
+    for (block, text) in blocks.iter().zip(texts) {
+        if block.as_str() != *text {
+            return false;
+        }
+    }
+    true
+}
+
+/// Whether a machine's memory is drawn so.
+fn draws(alloc: Global, machine: &Machine, texts: &[&str]) -> bool {
+    match picture_of(alloc, machine) {
+        Ok(blocks) => are_drawn(&blocks, texts),
+        Err(AllocError) => false,
+    }
+}
+
+/// Whether an event of processor 1 is recorded.
+fn is_called(alloc: Global, machine: &mut Machine, event: &Event) -> bool {
+    machine.call(alloc, Cpu(1), event).is_ok()
+}
+
+/// Whether a page of owner 1 and a block of the kernel are drawn.
+fn draws_use(alloc: Global, machine: &mut Machine) -> bool {
+    let owner = Owner(1);
+    let page = Page(0);
+    is_called(alloc, machine, &Event::Map { owner, page })
+        && is_called(alloc, machine, &Event::KernelAlloc { order: Order(1) })
+        && draws(
+            alloc,
+            machine,
+            &[
+                "0:N[KK|..]",
+                "1:M[b1|..]",
+                "2:off[--|--]",
+                "3:absent[  |  ]",
+            ],
+        )
+}
+
+/// Whether a block that an operation takes offline is drawn.
+fn draws_operation(alloc: Global, machine: &mut Machine, begin: &Event) -> bool {
+    is_called(alloc, machine, begin)
+        && draws(
+            alloc,
+            machine,
+            &[
+                "0:N[KK|..]",
+                "1:M>off[b1|::]",
+                "2:off>N[--|--]",
+                "3:absent[  |  ]",
+            ],
+        )
+}
+
+/// An operation that takes block 1 offline, and block 2 online in zone Normal.
+fn begin(alloc: Global) -> Result<Event, AllocError> {
+    let off = Item {
+        block: Block(1),
+        wish: Wish::Off,
+    };
+    let normal = Item {
+        block: Block(2),
+        wish: Wish::Normal,
+    };
+    let items = vec![in alloc; off, normal]?;
+    Ok(Event::Begin {
+        plan: Plan::new(items),
+    })
+}
+
+/// Whether that operation is drawn.
+fn draws_plan(alloc: Global, machine: &mut Machine) -> bool {
+    match begin(alloc) {
+        Ok(begin) => draws_operation(alloc, machine, &begin),
+        Err(AllocError) => false,
+    }
+}
+
+#[test]
+fn memory_is_drawn(rt: HostRuntime) -> Result<(), Fail> {
+    let layout = four_pairs(rt.alloc())?;
+    assert!(rt; finds_at_boot(rt.alloc(), &layout, &Case::Drawn));
+    Ok(())
+}
+
+/// Whether the first frame of a machine is free, and there are so many.
+fn starts_free(alloc: Global, machine: &Machine, count: usize) -> bool {
+    match places_of(alloc, machine) {
+        Ok(places) => places.len() == count && places.get(0).copied() == Some(Place::Free),
+        Err(AllocError) => false,
+    }
+}
+
+#[test]
+fn each_frame_has_a_place(rt: HostRuntime) -> Result<(), Fail> {
+    let layout = four_pairs(rt.alloc())?;
+    assert!(rt; finds_at_boot(rt.alloc(), &layout, &Case::Places));
+    Ok(())
+}

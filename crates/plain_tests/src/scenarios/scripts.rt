@@ -1,0 +1,48 @@
+//! The lines of each processor.
+use super::{LAYOUT, text_of};
+use hp_scenario::{Line, Scenario, ScenarioFault, Work};
+use hp_units::{Cpu, Event};
+use std::alloc::Global;
+use std::test::Fail;
+
+/// A scenario of lines on two processors.
+fn scenario(alloc: Global, calls: &str) -> Result<Scenario, Fail> {
+    let text = text_of(alloc, LAYOUT, calls)?;
+    Ok(Scenario::read(alloc, text.as_bytes())?)
+}
+
+/// Whether a line drains a processor's lists.
+fn is_drain_of(line: &Line, drained: u32) -> bool {
+    match &line.work {
+        Work::Event(Event::Drain { cpu: Cpu(cpu) }) => *cpu == drained,
+        _ => false,
+    }
+}
+
+#[test]
+fn lines_go_to_their_processors(rt: HostRuntime) -> Result<(), Fail> {
+    let calls = r#""1 drain 0","0 kalloc 1","1 drain 1""#;
+    let scripts = scenario(rt.alloc(), calls)?.scripts(rt.alloc())?;
+    let [first, second] = scripts.as_slice() else {
+        return Err(Fail::from("not two scripts"));
+    };
+    assert_eq!(rt; first.as_slice().len(), 1);
+    let [one, other] = second.as_slice() else {
+        return Err(Fail::from("not two lines"));
+    };
+    assert!(rt; is_drain_of(one, 0) && is_drain_of(other, 1));
+    Ok(())
+}
+
+#[test]
+fn some_lines_are_for_no_worker(rt: HostRuntime) -> Result<(), Fail> {
+    let refused = [
+        (r#""0 kalloc 1","2 drain 0""#, 2),
+        (r#""0 cat buddyinfo","2 drain 0""#, 1),
+    ];
+    for (calls, line) in refused {
+        let fault = scenario(rt.alloc(), calls)?.scripts(rt.alloc()).err();
+        assert_eq!(rt; fault, Some(ScenarioFault::NotForRun { line }));
+    }
+    Ok(())
+}

@@ -1,0 +1,149 @@
+//! Texts that are a scenario, and others.
+use super::{LAYOUT, text_of};
+use hp_scenario::{Line, Scenario, ScenarioFault, Work};
+use hp_units::{Block, Cpu, Event, LayoutFault, Serial};
+use std::alloc::Global;
+use std::test::Fail;
+
+const CALLS: &str = r#""0 kalloc 1","0 kfree 0","0 undo 0""#;
+
+/// The fault of a text, if it is no scenario.
+fn fault_of(alloc: Global, text: &str) -> Option<ScenarioFault> {
+    Scenario::read(alloc, text.as_bytes()).err()
+}
+
+#[test]
+fn reads_a_scenario(rt: HostRuntime) -> Result<(), Fail> {
+    let text = text_of(rt.alloc(), LAYOUT, CALLS)?;
+    let scenario = Scenario::read(rt.alloc(), text.as_bytes())?;
+    let lines = scenario.lines.as_slice();
+    assert_eq!(rt; lines.len(), 3);
+    let serial = Serial(0);
+    assert!(rt;
+        matches!(&lines[2].work, Work::Event(Event::UndoAfter { serial: s }) if *s == serial)
+    );
+    Ok(())
+}
+
+/// Whether lines are a plan of two blocks and an echo, both as a text says.
+fn are_plan_and_echo(plan: &Line, echo: &Line) -> bool {
+    let is_plan = matches!(&plan.work, Work::Plan { plan, turns: 5 } if plan.as_slice().len() == 2);
+    let is_echo = matches!(&echo.work, Work::Echo { path, text }
+        if path.as_str() == "memory2/state" && text.as_str() == "offline");
+    is_plan && echo.cpu == Cpu(1) && is_echo
+}
+
+/// Whether lines are a file that is read, a block that is removed, and a seal.
+fn are_cat_remove_and_seal(cat: &Line, remove: &Line, seal: &Line) -> bool {
+    let is_cat = matches!(&cat.work, Work::Cat { path } if path.as_str() == "buddyinfo");
+    let is_remove =
+        matches!(&remove.work, Work::Event(Event::Remove { block: b }) if *b == Block(3));
+    is_cat && is_remove && matches!(&seal.work, Work::Seal) && seal.cpu == Cpu(7)
+}
+
+/// Whether lines are those five, in order.
+fn are_plans_and_files(lines: &[Line]) -> bool {
+    match lines {
+        [plan, echo, cat, remove, seal] => {
+            are_plan_and_echo(plan, echo) && are_cat_remove_and_seal(cat, remove, seal)
+        }
+        _ => false,
+    }
+}
+
+#[test]
+fn reads_plans_and_files(rt: HostRuntime) -> Result<(), Fail> {
+    let calls =
+        r#""0 plan 5 off 2 movable 3","1 echo offline memory2/state","0 cat buddyinfo","0 remove 3","7 seal""#;
+    let text = text_of(rt.alloc(), LAYOUT, calls)?;
+    let scenario = Scenario::read(rt.alloc(), text.as_bytes())?;
+    assert!(rt; are_plans_and_files(scenario.lines.as_slice()));
+    Ok(())
+}
+
+#[test]
+fn refuses_each_prefix(rt: HostRuntime) -> Result<(), Fail> {
+    let text = text_of(rt.alloc(), LAYOUT, CALLS)?;
+    let bytes = text.as_bytes();
+    for end in 0..bytes.len() {
+        let fault = Scenario::read(rt.alloc(), &bytes[..end]).err();
+        assert_eq!(rt; fault, Some(ScenarioFault::NotJson), "{end}");
+    }
+    Ok(())
+}
+
+#[test]
+fn refuses_other_shapes(rt: HostRuntime) -> Result<(), Fail> {
+    let shapes = [
+        ("\"order\":2", "\"order\":2,\"other\":2"),
+        ("\"order\":2,", ""),
+        ("\"order\":2", "\"order\":-1"),
+        (
+            "[\"normal\",\"normal\",\"movable\",\"offline\"]",
+            "[\"on\"]",
+        ),
+    ];
+    for (old, new) in shapes {
+        let layout = LAYOUT.replace(rt.alloc(), old, new)?;
+        let text = text_of(rt.alloc(), layout.as_str(), "")?;
+        assert_eq!(rt;
+            fault_of(rt.alloc(), text.as_str()),
+            Some(ScenarioFault::BadShape),
+            "{new}"
+        );
+    }
+    Ok(())
+}
+
+#[test]
+fn refuses_other_texts(rt: HostRuntime) -> Result<(), Fail> {
+    let left = "[".repeat(rt.alloc(), 200)?;
+    let right = "]".repeat(rt.alloc(), 200)?;
+    let deep = format!(in rt.alloc(); "{left}{right}")?;
+    let layout = LAYOUT.replace(rt.alloc(), "\"order\":2", "\"order\":11")?;
+    let high = text_of(rt.alloc(), layout.as_str(), "")?;
+    let faults = [
+        (deep.as_str(), ScenarioFault::NotJson),
+        (high.as_str(), ScenarioFault::Layout(LayoutFault::BadOrder)),
+    ];
+    for (text, fault) in faults {
+        assert_eq!(rt; fault_of(rt.alloc(), text), Some(fault), "{text}");
+    }
+    Ok(())
+}
+
+#[test]
+fn refuses_other_lines(rt: HostRuntime) -> Result<(), Fail> {
+    let lines = [
+        "",
+        " 0 kalloc 1",
+        "0  kalloc 1",
+        "00 kalloc 1",
+        "0 kalloc 4294967296",
+        "0 write db 0 0 18446744073709551616",
+        "0 map Db 0",
+        "0 map a23456789_123456789_123456789_123 0",
+        "0 begin off",
+        "0 plan",
+        "0 plan 4294967296 off 2",
+        "0 plan 5 off",
+        "0 plan 5 gone 2",
+        "0 echo online",
+        "0 echo  memory3/state",
+        "0 echo online memory3/state now",
+        "0 cat",
+        "0 cat ",
+        "0 cat memory3/state now",
+        "0 remove 03",
+        "0 seal 1",
+        "0 seal ",
+        "seal",
+    ];
+    for line in lines {
+        let calls = format!(in rt.alloc(); "\"{line}\"")?;
+        let text = text_of(rt.alloc(), LAYOUT, calls.as_str())?;
+        let fault = ScenarioFault::BadLine { line: 1 };
+        assert_eq!(rt; fault_of(rt.alloc(), text.as_str()), Some(fault), "{line}");
+    }
+    Ok(())
+}

@@ -1,0 +1,114 @@
+//! Each writer once, and a state with a page.
+use crate::layouts::{LAST_OFFLINE, four_blocks};
+use crate::machines::{Look, finds_at_boot};
+use hp_control::ControlFault;
+use hp_machine::Machine;
+use hp_plain::Image;
+use hp_text::{
+    write_call_fault, write_echo_fault, write_plan_end, write_read_fault, write_receipt,
+    write_reply, write_sealed, write_state, write_unrecorded,
+};
+use hp_units::{
+    Block, CallFault, Cpu, Event, Frame, OpEnd, Owner, Page, Receipt, Refusal, Reply, Serial, Text,
+};
+use indexmap::IndexSet;
+use std::alloc::{AllocError, Global};
+use std::test::Fail;
+
+const ANSWERS: &str =
+    "3: frame 8\nrefused Busy 2\n-: fault HistoryFull\nfault OutOfMemory\ncat: fault NoFile\necho: fault BadText\nplan: cancelled NoFrame restored\nplan: left - HistoryFull\nsealed 7\n";
+
+/// The text of an answer of each kind.
+fn answers(alloc: Global) -> Result<String, AllocError> {
+    let mut out = String::new(alloc);
+    let receipt = Receipt {
+        serial: Serial(3),
+        event: Event::Drain { cpu: Cpu(0) },
+        reply: Reply::Frame(Frame(8)),
+    };
+    write_receipt(&mut out, &receipt)?;
+    write_reply(&mut out, Reply::Refused(Refusal::Busy { block: Block(2) }))?;
+    write_unrecorded(&mut out, CallFault::HistoryFull)?;
+    write_call_fault(&mut out, CallFault::OutOfMemory)?;
+    write_read_fault(&mut out, ControlFault::NoFile)?;
+    write_echo_fault(&mut out, ControlFault::BadText)?;
+    write_plan_end(
+        &mut out,
+        OpEnd::Cancelled {
+            why: Some(Refusal::NoFrame),
+            restored: true,
+        },
+    )?;
+    write_plan_end(
+        &mut out,
+        OpEnd::Left {
+            op: None,
+            fault: CallFault::HistoryFull,
+        },
+    )?;
+    write_sealed(&mut out, 7)?;
+    Ok(out)
+}
+
+#[test]
+fn answers_have_their_texts(rt: HostRuntime) -> Result<(), Fail> {
+    let text = answers(rt.alloc())?;
+    assert!(rt; text.as_str() == ANSWERS);
+    Ok(())
+}
+
+const MAPPED: &str =
+    "state\nblock 0 online normal\nblock 1 online normal\nblock 2 online movable\nblock 3 offline\nNM 2: 0 4\nMM 1: 10\ncpu 0 MM: 9\npage db 0 at 8: 0 0\n";
+
+/// Whether an event of processor 0 gets this reply.
+fn is_answered(alloc: Global, machine: &mut Machine, event: &Event, reply: &Reply) -> bool {
+    match machine.call(alloc, Cpu(0), event) {
+        Ok(receipt) => receipt.reply.same(reply),
+        Err(_fault) => false,
+    }
+}
+
+/// Maps the first owner's first page twice; whether the first was done and the second refused.
+fn maps_once(alloc: Global, machine: &mut Machine) -> bool {
+    let event = Event::Map {
+        owner: Owner(0),
+        page: Page(0),
+    };
+    let refused = Reply::Refused(Refusal::AlreadyMapped);
+    is_answered(alloc, machine, &event, &Reply::Done)
+        && is_answered(alloc, machine, &event, &refused)
+}
+
+/// The text of a state whose only owner is called `db`.
+fn text_of(alloc: Global, image: &Image) -> Result<String, AllocError> {
+    let mut names = IndexSet::new(alloc);
+    let name = Text::new(String::from_str(alloc, "db")?);
+    let _ = names.insert_full(name)?;
+    let mut out = String::new(alloc);
+    write_state(&mut out, alloc, image, &names)?;
+    Ok(out)
+}
+
+/// Whether the text of a machine's state is that of the mapped page.
+fn shows_the_page(alloc: Global, machine: &Machine) -> Result<bool, AllocError> {
+    let image = machine.image(alloc)?;
+    let text = text_of(alloc, &image)?;
+    Ok(text.as_str() == MAPPED)
+}
+
+/// The text of a state with a page.
+#[derive(Clone, Copy)]
+struct Mapped;
+
+impl Look for Mapped {
+    fn finds(&self, alloc: Global, machine: &mut Machine) -> bool {
+        maps_once(alloc, machine) && shows_the_page(alloc, machine) == Ok(true)
+    }
+}
+
+#[test]
+fn a_state_names_its_owners(rt: HostRuntime) -> Result<(), Fail> {
+    let layout = four_blocks(rt.alloc(), LAST_OFFLINE)?;
+    assert!(rt; finds_at_boot(rt.alloc(), &layout, &Mapped));
+    Ok(())
+}

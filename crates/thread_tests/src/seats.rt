@@ -1,0 +1,282 @@
+//! Two threads that share a machine, a plan through a seat, and a record of no seat.
+ghost use Rattle.std.specs.Prelude.{◌≡◌};
+ghost use Rattle.hp_shared.specs.Shared.{IsFresh};
+
+use hp_history::Volume;
+use hp_machine::Machine;
+use hp_ops::run_plan;
+use hp_shared::{CloseFault, CloseRefused, Job, Seat, SeatPort, Shared, close};
+use hp_units::{Block, Boot, Cpu, Event, Item, Layout, OpEnd, Owner, Page, Parts, Plan, Wish};
+use std::alloc::{AllocError, Global};
+use std::marker::Brand;
+use std::sync::Wait;
+use std::sync::ledger::Blank;
+use std::test::Fail;
+use std::thread;
+use std::thread::Threads;
+
+/// A layout of four memory blocks and two processors.
+fn layout(alloc: Global) -> Result<Layout, Fail> {
+    let parts = Parts {
+        order: 2,
+        pageblocks: 1,
+        blocks: 4,
+        cpus: 2,
+        batch: 2,
+        high: 2,
+        owners: 2,
+        pages: 8,
+        words: 2,
+        history: 1000,
+        boot: &[Boot::Normal, Boot::Normal, Boot::Movable, Boot::Offline],
+    };
+    let layout = Layout::new(alloc, &parts)?;
+    Ok(layout)
+}
+
+/// The event that maps an owner's first page.
+fn map(owner: u32) -> Event {
+    Event::Map {
+        owner: Owner(owner),
+        page: Page(0),
+    }
+}
+
+/// A seat that mapped an owner's first page.
+fn mapped<L: Job, R: Wait>(
+    rt: &R,
+    alloc: Global,
+    shared: &Shared<L>,
+    seat: Seat<L>,
+    owner: u32,
+) -> Seat<L> {
+    let mut seat = seat;
+    let _ = seat.call(rt, alloc, shared, &map(owner));
+    seat
+}
+
+/// Two seats, each of which mapped an owner's first page in a thread of its own.
+fn both_mapped<L: Job + Send + Sync, R: Threads + Wait + Sync>(
+    rt: &R,
+    alloc: Global,
+    shared: &Shared<L>,
+    first: Seat<L>,
+    second: Seat<L>,
+) -> (Seat<L>, Seat<L>) {
+    thread::scope(thread::scope_env(), rt, move |scope| {
+        let there = scope.spawn(move || mapped(rt, alloc, shared, second, 1));
+        let first = mapped(rt, alloc, shared, first, 0);
+        match there {
+            Ok(child) => (first, child.join(rt)),
+            Err(refused) => (first, (refused.value)()),
+        }
+    })
+}
+
+/// Two threads map a page each, each by a seat of its own. The seats but one, that one, and how many receipts they have.
+fn mapped_by_two<L: Job + Send + Sync, R: Threads + Wait + Sync>(
+    rt: &R,
+    alloc: Global,
+    shared: &Shared<L>,
+    seats: Vec<Seat<L>>,
+) -> Option<(Vec<Seat<L>>, Seat<L>, usize)> {
+    let mut seats = seats;
+    let second = seats.pop()?;
+    let first = seats.pop()?;
+    let (first, second) = both_mapped(rt, alloc, shared, first, second);
+    let receipts = first.receipts().len() * 10 + second.receipts().len();
+    seats.push(first).ok()?;
+    Some((seats, second, receipts))
+}
+
+/// Why a close without a seat is refused, and how many records one with it finds.
+fn closed_with_one_more<L: Job>(
+    alloc: Global,
+    shared: Shared<L>,
+    seats: Vec<Seat<L>>,
+    second: Seat<L>,
+) -> Option<(CloseFault, u64)> {
+    let CloseRefused {
+        fault,
+        shared,
+        seats,
+        volumes,
+    } = close(alloc, shared, seats, Vec::new(alloc)).err()?;
+    let mut seats = seats;
+    seats.push(second).ok()?;
+    let closed = close(alloc, shared, seats, volumes).ok()?;
+    Some((fault, closed.records))
+}
+
+/// Two threads map a page each. Why a close with the one seat is refused, how many receipts the seats have, and how many records a
+/// close with both finds.
+fn two_maps<L: Job + Send + Sync, R: Threads + Wait + Sync>(
+    rt: &R,
+    alloc: Global,
+    blank: Blank,
+    machine: Machine,
+) -> Option<(CloseFault, usize, u64)>
+    requires machine { IsFresh L.layout machine }
+    requires name { blank.name ≡ L.name }
+    requires parts { blank.parts ≡ L.parts }
+    requires one_each { blank.parts ≡ L.layout.cpus }
+{
+    let Ok((shared, seats)) = Shared::<L>::new(alloc, blank, machine) else {
+        return None;
+    };
+    let (seats, second, receipts) = mapped_by_two(rt, alloc, &shared, seats)?;
+    let (fault, records) = closed_with_one_more(alloc, shared, seats, second)?;
+    Some((fault, receipts, records))
+}
+
+#[test]
+fn two_threads_map_a_page_each(rt: HostRuntime) -> Result<(), Fail> {
+    let layout = layout(rt.alloc())?;
+    let machine = Machine::boot(rt.alloc(), &layout)?;
+    let blank = Blank::new(layout.cpus() as u64);
+    let ends = two_maps::<Brand, _>(&rt, rt.alloc(), blank, machine).ok_or("no end")?;
+    assert_eq!(rt; ends.0, CloseFault::SeatMissing);
+    assert_eq!(rt; ends.1, 11);
+    assert_eq!(rt; ends.2, 2);
+    Ok(())
+}
+
+/// A record is sealed and another follows: the seats, and the volume.
+fn sealed_between<L: Job, R: Wait>(
+    rt: &R,
+    alloc: Global,
+    shared: &Shared<L>,
+    seats: Vec<Seat<L>>,
+) -> Option<(Vec<Seat<L>>, Volume)> {
+    let mut seats = seats;
+    let second = seats.pop()?;
+    let first = seats.pop()?;
+    let mut first = mapped(rt, alloc, shared, first, 0);
+    let volume = first.seal(rt, alloc, shared).ok()?;
+    let second = mapped(rt, alloc, shared, second, 1);
+    seats.push(first).ok()?;
+    seats.push(second).ok()?;
+    Some((seats, volume))
+}
+
+/// Why a close without a volume is refused, and how many records one with it finds.
+fn closed_with_volume<L: Job>(
+    alloc: Global,
+    shared: Shared<L>,
+    seats: Vec<Seat<L>>,
+    volume: Volume,
+) -> Option<(CloseFault, u64)> {
+    let CloseRefused {
+        fault,
+        shared,
+        seats,
+        volumes,
+    } = close(alloc, shared, seats, Vec::new(alloc)).err()?;
+    let mut volumes = volumes;
+    volumes.push(volume).ok()?;
+    let closed = close(alloc, shared, seats, volumes).ok()?;
+    Some((fault, closed.records))
+}
+
+/// A record is sealed and another follows. Why a close without the volume is refused, and how many records one with it finds.
+fn one_sealed<L: Job, R: Wait>(
+    rt: &R,
+    alloc: Global,
+    blank: Blank,
+    machine: Machine,
+) -> Option<(CloseFault, u64)>
+    requires machine { IsFresh L.layout machine }
+    requires name { blank.name ≡ L.name }
+    requires parts { blank.parts ≡ L.parts }
+    requires one_each { blank.parts ≡ L.layout.cpus }
+{
+    let Ok((shared, seats)) = Shared::<L>::new(alloc, blank, machine) else {
+        return None;
+    };
+    let (seats, volume) = sealed_between(rt, alloc, &shared, seats)?;
+    closed_with_volume(alloc, shared, seats, volume)
+}
+
+#[test]
+fn sealed_records_come_first(rt: HostRuntime) -> Result<(), Fail> {
+    let layout = layout(rt.alloc())?;
+    let machine = Machine::boot(rt.alloc(), &layout)?;
+    let blank = Blank::new(layout.cpus() as u64);
+    let ends = one_sealed::<Brand, _>(&rt, rt.alloc(), blank, machine).ok_or("no end")?;
+    assert_eq!(rt; ends.0, CloseFault::WrongVolume { at: 0 });
+    assert_eq!(rt; ends.1, 2);
+    Ok(())
+}
+
+/// A plan that takes the third memory block offline.
+fn offline(alloc: Global) -> Result<Plan, AllocError> {
+    let item = Item {
+        block: Block(2),
+        wish: Wish::Off,
+    };
+    Ok(Plan::new(vec![in alloc; item]?))
+}
+
+/// A seat that mapped a page and then carried a plan out, and the plan's end.
+fn planned<L: Job, R: Wait>(
+    rt: &R,
+    alloc: Global,
+    shared: &Shared<L>,
+    seat: Seat<L>,
+    plan: Plan,
+) -> (Seat<L>, OpEnd) {
+    let mut seat = mapped(rt, alloc, shared, seat, 0);
+    let mut port = SeatPort::new(rt, &mut seat, shared);
+    let end = run_plan(alloc, &mut port, plan, 1024);
+    (seat, end)
+}
+
+/// A seat maps a page and takes its block offline: the seats in another order, and the plan's end.
+fn moved_by_one<L: Job, R: Wait>(
+    rt: &R,
+    alloc: Global,
+    shared: &Shared<L>,
+    seats: Vec<Seat<L>>,
+    plan: Plan,
+) -> Option<(Vec<Seat<L>>, OpEnd)> {
+    let mut seats = seats;
+    let second = seats.pop()?;
+    let first = seats.pop()?;
+    let (first, end) = planned(rt, alloc, shared, first, plan);
+    seats.push(second).ok()?;
+    seats.push(first).ok()?;
+    Some((seats, end))
+}
+
+/// A seat maps a page and takes its block offline. The plan's end, and how many records a close finds, with the seats in another order.
+fn page_moved<L: Job, R: Wait>(
+    rt: &R,
+    alloc: Global,
+    blank: Blank,
+    machine: Machine,
+    plan: Plan,
+) -> Option<(OpEnd, u64)>
+    requires machine { IsFresh L.layout machine }
+    requires name { blank.name ≡ L.name }
+    requires parts { blank.parts ≡ L.parts }
+    requires one_each { blank.parts ≡ L.layout.cpus }
+{
+    let Ok((shared, seats)) = Shared::<L>::new(alloc, blank, machine) else {
+        return None;
+    };
+    let (seats, end) = moved_by_one(rt, alloc, &shared, seats, plan)?;
+    let closed = close(alloc, shared, seats, Vec::new(alloc)).ok()?;
+    Some((end, closed.records))
+}
+
+#[test]
+fn a_mapped_block_goes_offline(rt: HostRuntime) -> Result<(), Fail> {
+    let layout = layout(rt.alloc())?;
+    let machine = Machine::boot(rt.alloc(), &layout)?;
+    let blank = Blank::new(layout.cpus() as u64);
+    let plan = offline(rt.alloc())?;
+    let ends = page_moved::<Brand, _>(&rt, rt.alloc(), blank, machine, plan).ok_or("no end")?;
+    assert_eq!(rt; ends.0, OpEnd::Done);
+    assert_eq!(rt; ends.1, 7);
+    Ok(())
+}

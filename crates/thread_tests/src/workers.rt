@@ -1,0 +1,141 @@
+//! Workers that meet, a call between those of a plan, and texts written to control files.
+ghost use Rattle.std.specs.Prelude.{◌≡◌};
+ghost use Rattle.hp_scenario.specs.Scripts.{AreForRun};
+ghost use Rattle.hp_shared.specs.Shared.{IsFresh};
+
+mod gates;
+
+use gates::{Between, Meeting};
+use hp_control::ControlFault;
+use hp_machine::Machine;
+use hp_scenario::{Scenario, Script};
+use hp_shared::{Job, Shared, close};
+use hp_units::{Frame, OpEnd, Owner, Page, Reply};
+use hp_workers::{Ends, Gate, LineEnd, OpenGate, RunEnd, run_workers};
+use std::alloc::Global;
+use std::marker::Brand;
+use std::sync::Wait;
+use std::sync::ledger::Blank;
+use std::test::Fail;
+use std::thread::Threads;
+
+const LAYOUT: &str =
+    r#"{"order":2,"pageblocks":1,"blocks":4,"cpus":2,"batch":2,"high":2,"owners":2,"pages":8,"words":2,"history":1000,"boot":["normal","normal","movable","offline"]}"#;
+
+/// The end of a line that was done.
+const DONE: LineEnd = LineEnd::Reply(Reply::Done);
+
+/// What two processors did.
+#[derive(Drop)]
+struct Outcome {
+    ends: Vec<Ends>,
+    records: u64,
+    /// How many of them seals handed out.
+    sealed: u64,
+    /// Where page 0 of owner 0 lies.
+    frame: Option<Frame>,
+}
+
+impl Outcome {
+    /// Whether the lines of both processors ended so, with so many records.
+    fn is(&self, first: &[LineEnd], second: &[LineEnd], records: u64) -> bool {
+        let [left, right] = self.ends.as_slice() else {
+            return false;
+        };
+        left.as_slice() == first && right.as_slice() == second && self.records == records
+    }
+}
+
+/// Runs a script for each processor of a machine, and closes.
+fn run_scripts<L: Job + Send + Sync, G: Gate + Sync, R: Threads + Wait + Sync>(
+    rt: &R,
+    alloc: Global,
+    blank: Blank,
+    machine: Machine,
+    scripts: Vec<Script>,
+    gate: &G,
+) -> Option<Outcome>
+    requires machine { IsFresh L.layout machine }
+    requires name { blank.name ≡ L.name }
+    requires parts { blank.parts ≡ L.parts }
+    requires one_each { blank.parts ≡ L.layout.cpus }
+    requires run { AreForRun scripts.items }
+{
+    let (shared, seats) = Shared::<L>::new(alloc, blank, machine).ok()?;
+    if seats.len() != scripts.len() {
+        return None;
+    }
+    let RunEnd {
+        seats,
+        volumes,
+        ends,
+        fault,
+    } = run_workers(rt, alloc, &shared, seats, scripts, gate);
+    if fault.is_some() {
+        return None;
+    }
+    let closed = close(alloc, shared, seats, volumes).ok()?;
+    Some(Outcome {
+        ends,
+        records: closed.records,
+        sealed: closed.machine.sealed(),
+        frame: closed.machine.frame_at(Owner(0), Page(0)),
+    })
+}
+
+/// Runs lines on two processors, with a gate round their calls.
+fn run_lines<G: Gate + Sync, R: Threads + Wait + Sync>(
+    rt: &R,
+    alloc: Global,
+    calls: &str,
+    gate: &G,
+) -> Result<Outcome, Fail> {
+    let text = format!(in alloc; "{{\"layout\":{LAYOUT},\"calls\":[{calls}]}}")?;
+    let scenario = Scenario::read(alloc, text.as_bytes())?;
+    let machine = Machine::boot(alloc, &scenario.layout)?;
+    let blank = Blank::new(scenario.layout.cpus() as u64);
+    let scripts = scenario.scripts(alloc)?;
+    let outcome = run_scripts::<Brand, _, _>(rt, alloc, blank, machine, scripts, gate);
+    Ok(outcome.ok_or("no outcome")?)
+}
+
+#[test]
+fn two_workers_meet(rt: HostRuntime) -> Result<(), Fail> {
+    let gate = Meeting::new();
+    let outcome = run_lines(&rt, rt.alloc(), r#""0 map db 0","1 map web 0""#, &gate)?;
+    assert!(rt; outcome.is(&[DONE], &[DONE], 2));
+    assert!(rt; gate.was_met());
+    Ok(())
+}
+
+#[test]
+fn a_page_is_written_between_the_calls_of_a_plan(rt: HostRuntime) -> Result<(), Fail> {
+    let gate = Between::new();
+    let calls = r#""1 map db 0","0 plan 8 off 2","1 write db 0 1 5","1 read db 0 1""#;
+    let outcome = run_lines(&rt, rt.alloc(), calls, &gate)?;
+    let word = LineEnd::Reply(Reply::Word(5));
+    assert!(rt; outcome.is(&[LineEnd::Plan(OpEnd::Done)], &[DONE, DONE, word], 9));
+    assert_eq!(rt; outcome.frame, Some(Frame(0)));
+    assert!(rt; gate.was_met());
+    Ok(())
+}
+
+#[test]
+fn texts_are_written_to_control_files(rt: HostRuntime) -> Result<(), Fail> {
+    let calls =
+        r#""0 echo offline memory2/state","1 echo online memory3/state","0 echo onlin memory3/state""#;
+    let outcome = run_lines(&rt, rt.alloc(), calls, &OpenGate)?;
+    let refused = LineEnd::Control(ControlFault::BadText);
+    assert!(rt; outcome.is(&[LineEnd::Plan(OpEnd::Done), refused], &[DONE], 6));
+    Ok(())
+}
+
+#[test]
+fn seals_of_two_workers_are_in_order(rt: HostRuntime) -> Result<(), Fail> {
+    let calls =
+        r#""0 kalloc 1","0 seal","0 kalloc 1","0 seal","0 seal","1 map db 0","1 seal","1 kalloc 3""#;
+    let outcome = run_lines(&rt, rt.alloc(), calls, &OpenGate)?;
+    assert_eq!(rt; outcome.records, 4);
+    assert!(rt; outcome.sealed < 5);
+    Ok(())
+}
