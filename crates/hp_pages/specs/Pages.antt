@@ -29,8 +29,8 @@ pub record IsNeeded (v : PageFrames) (frame : ℕ) (words : List ℕ) : Type 0 w
   pub held : holders v.table frame ≡ 1
   pub some : is_blank words ≡ false
 
--- a frame holds at most one page, and only the frame of a page has a buffer, where a word of the page is not 0: each call but
--- the opposite of a delta keeps this (own rule)
+-- a frame holds at most one page, and only the frame of a page has a buffer, where a word of the page is not 0:
+-- each call but the opposite of a delta keeps this (own rule)
 pub record AreSettled (v : PageFrames) : Type 0 where
   pub once : (frame : ℕ) → holders v.table frame ≤ 1
   pub buffers : (frame : ℕ) → IfSome (buffer_of v frame) (IsNeeded v frame)
@@ -71,7 +71,8 @@ write_at l v frame index value = with_buffer v frame (buffer_for (slice_set (wor
 abbrev pub write_frame : LayoutParts → PageFrames → (owner page index value : ℕ) → PageFrames
 write_frame l v owner page index value = option_map_or (λ frame. write_at l v frame index value) (entry_of v.table owner page) v
 
--- the buffer of a page's frame, and the one that a write of a value asks for: zeros, where the frame has none and the value is not 0
+-- the buffer of a page's frame, and the one that a write of a value asks for: zeros, where the frame has none and
+-- the value is not 0
 abbrev pub buffer_at : PageFrames → (owner page : ℕ) → Option (List ℕ)
 buffer_at v owner page = option_and_then (buffer_of v) (entry_of v.table owner page)
 

@@ -17,8 +17,9 @@ use hp_units::{Frame, Layout, Owner, Page, Words};
 use std::alloc::{AllocError, Global};
 use std::marker::Model;
 
-/// The owners' pages of a layout: the frame that holds each page, and the words of each mapped frame. A page whose words are all 0
-/// has no buffer of its own: one page of zeros serves all of them. No call but `new` and `spare_for` takes memory.
+/// The owners' pages of a layout: the frame that holds each page, and the words of each mapped frame. A page
+/// whose words are all 0 has no buffer of its own: one page of zeros serves all of them. No call but `new` and
+/// `spare_for` takes memory.
 #[derive(Debug)]
 pub struct Pages {
     layout: Layout,
@@ -129,7 +130,8 @@ impl Pages {
         words[index as usize]
     }
 
-    /// Maps a page of the layout that is not mapped to a frame that holds no page. Its words are 0, and take no memory. One delta.
+    /// Maps a page of the layout that is not mapped to a frame that holds no page. Its words are 0, and take no
+    /// memory. One delta.
     pub fn map(&mut self, owner: Owner, page: Page, frame: Frame, tape: &mut Tape)
         requires owner { owner < self.old.layout.owners }
         requires page { page < self.old.layout.pages }
@@ -152,8 +154,8 @@ impl Pages {
         });
     }
 
-    /// Unmaps a mapped page of the layout; its frame is answered, and the frame's buffer, if it has one, moves into the tape.
-    /// One or two deltas.
+    /// Unmaps a mapped page of the layout; its frame is answered, and the frame's buffer, if it has one, moves
+    /// into the tape. One or two deltas.
     pub fn unmap(&mut self, owner: Owner, page: Page, tape: &mut Tape) -> Frame
         requires owner { owner < self.old.layout.owners }
         requires page { page < self.old.layout.pages }
@@ -205,8 +207,8 @@ impl Pages {
         });
     }
 
-    /// The buffer that a write to a page of the layout asks for: zeros, where its frame has no buffer and the value is not 0.
-    /// Takes memory for it; an error is out of memory.
+    /// The buffer that a write to a page of the layout asks for: zeros, where its frame has no buffer and the
+    /// value is not 0. Takes memory for it; an error is out of memory.
     pub fn spare_for(
         &self,
         alloc: Global,
@@ -216,7 +218,8 @@ impl Pages {
     ) -> Result<Option<Words>, AllocError>
         requires owner { owner < self.now.layout.owners }
         requires page { page < self.now.layout.pages }
-        ensures { IfOk result (λ spare. spare ≡ spare_for self.now.layout (buffer_at self.now.pages owner page) value) }
+        ensures { IfOk result (λ spare. spare
+            ≡ spare_for self.now.layout (buffer_at self.now.pages owner page) value) }
     {
         if value == 0 || self.has_buffer(owner, page) {
             return Ok(None);
@@ -237,8 +240,9 @@ impl Pages {
         }
     }
 
-    /// Changes one word of a mapped page of the layout; words are counted from 0. It takes no memory but the buffer that it asks
-    /// for (`spare_for`). One delta, and none where the word of a frame without a buffer stays 0.
+    /// Changes one word of a mapped page of the layout; words are counted from 0. It takes no memory, but the
+    /// buffer that it asks for (`spare_for`). One delta, and none where the word of a frame without a buffer
+    /// stays 0.
     pub fn write(
         &mut self,
         owner: Owner,
@@ -289,8 +293,8 @@ impl Pages {
         });
     }
 
-    /// A word changes in a frame of the layout, which has a buffer unless the word stays 0. A buffer whose words are all 0 then
-    /// moves into the tape, as it was.
+    /// A word changes in a frame of the layout, which has a buffer unless the word stays 0. A buffer whose words
+    /// are all 0 then moves into the tape, as it was.
     fn overwrite(&mut self, frame: Frame, index: u32, value: u64, tape: &mut Tape)
         requires frame { IsFrame self.old.layout frame }
         requires index { index < self.old.layout.words }

@@ -61,13 +61,15 @@ pub enum Delta {
         was: u64,
         now: u64,
     },
-    /// A frame without a buffer got one, with the first word of its page that is not 0; words are counted from 0.
+    /// A frame without a buffer got one, with the first word of its page that is not 0 in it; words are counted
+    /// from 0.
     Filled {
         frame: Frame,
         index: u32,
         now: u64,
     },
-    /// The buffer of a frame moved into the journal: its page was unmapped, or the last word that is not 0 became 0.
+    /// The buffer of a frame moved into the journal: its page was unmapped, or its last word that was not 0
+    /// became 0.
     Emptied {
         frame: Frame,
         words: Words,

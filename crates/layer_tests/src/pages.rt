@@ -20,7 +20,8 @@ fn small_pages(alloc: Global) -> Result<Pages, AllocError>
     ensures settled { IfOk result (λ p. AreSettled p.pages) }
 {
     let layout = two_blocks(alloc)?;
-    Pages::new(alloc, &layout)
+    let pages = Pages::new(alloc, &layout)?;
+    Ok(pages)
 }
 
 /// Takes back what a tape notes, the latest first.
