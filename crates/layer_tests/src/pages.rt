@@ -124,12 +124,7 @@ fn moved_and_back(pages: &mut Pages, mut tape: Tape) -> bool
 }
 
 /// Maps and writes the page, moves it and back, and takes the rest back: whether all is found as it was each time.
-fn mapped_and_back(
-    pages: &mut Pages,
-    spare: Option<Words>,
-    mut first: Tape,
-    second: Tape,
-) -> bool
+fn mapped_and_back(pages: &mut Pages, spare: Option<Words>, mut first: Tape, second: Tape) -> bool
     requires layout { pages.old.layout ≡ two_blocks }
     requires pages { pages.old.pages ≡ no_pages }
     requires settled { AreSettled pages.old.pages }
