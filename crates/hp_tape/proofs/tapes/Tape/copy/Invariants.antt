@@ -1,6 +1,6 @@
 -- The deltas so far, with room for all.
 use Rattle.std.proofs.Common.{◌≡◌, length, take}
-use Rattle.hp_history.proofs.copies.copy_deltas.Given as goal
+use Rattle.hp_tape.proofs.tapes.Tape.copy.Given as goal
 
 abbrev pub invariant-loop-delta : goal.invariant-loop-delta
 invariant-loop-delta l = record {
