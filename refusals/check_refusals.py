@@ -1,11 +1,13 @@
 #!/usr/bin/env python3
-"""Refuses each request for memory, each read and each write of `hotplug` in turn, and gives it
-hostile texts and small stacks. `check` at the top runs it after the gate, on the program that the
-gate built; alone it takes a program:
+"""Refuses each request for memory, each read and each write of the programs in turn, and gives
+them hostile texts and small stacks. `check` at the top runs it after the gate, on the programs that
+the gate built; alone it is
 
-    python3 refusals/check_refusals.py [PROGRAM]     without PROGRAM: crates/hotplug/out/hotplug
+    python3 refusals/check_refusals.py
 
 What is checked:
+- each case of crates/refusals ends as with ample memory, whichever request is refused; and the
+  calls that take no memory make no request where every one would be refused;
 - `hotplug serial`, `run` and `audit` on worked scenarios: where one request for memory is refused,
   each run ends with its whole output, or with a fault's text, status 1 and nothing on standard
   output, or with `fault OutOfMemory` in place of one line's answer and all else as without it;
@@ -13,7 +15,7 @@ What is checked:
   single byte, or each does, they print all;
 - hostile texts have their faults, and deep nesting ends as `not JSON` on the usual stack of 8 MiB.
 refuse.c, built with the toolchain's clang and loaded before the C library, does the refusing.
-A line for each command and scenario has how many were refused. The last line is
+A line for each case, command and scenario has how many were refused. The last line is
 'refusals: N passed, M failed'; the exit status is 0 where nothing failed, else 1.
 """
 import os
@@ -21,8 +23,8 @@ import subprocess
 import sys
 import tempfile
 from concurrent.futures import ThreadPoolExecutor
-from pathlib import Path
 
+from cases import check_cases
 from hostile import FULL, NESTED, hostile_texts, scenario_text
 from refusing import ROOT, WORKERS, Checks, Refused, Refuser, run, run_on_stack
 
@@ -246,21 +248,22 @@ def check_stacks(checks, program):
     print(f"stack: {least} KiB are enough (ulimit -s {least})")
 
 
-def check_all(checks, program):
-    if not os.access(program, os.X_OK):
-        checks.holds("refusals", False, f"no program at {program}: README.md says how to build it")
+def check_all(checks):
+    if not os.access(HOTPLUG, os.X_OK):
+        checks.holds("refusals", False, f"no program at {HOTPLUG}: README.md says how to build it")
         return
     with tempfile.TemporaryDirectory() as folder:
-        check_commands(checks, Commands(program, Refuser(folder)))
-    check_hostile(checks, program)
-    check_stacks(checks, program)
+        refuser = Refuser(folder)
+        check_cases(checks, refuser)
+        check_commands(checks, Commands(HOTPLUG, refuser))
+    check_hostile(checks, HOTPLUG)
+    check_stacks(checks, HOTPLUG)
 
 
 def main():
-    program = Path(sys.argv[1]).resolve() if len(sys.argv) > 1 else HOTPLUG
     checks = Checks()
     try:
-        check_all(checks, program)
+        check_all(checks)
     except (ValueError, LookupError, OSError, subprocess.SubprocessError) as error:
         checks.holds("refusals", False, f"cannot be checked: {error!r}")
     checks.report()

@@ -26,13 +26,16 @@ class Ran:
 
 @dataclass(frozen=True)
 class Refused:
-    """Which requests are refused: a kind, the first, and the last (0: all further ones)."""
+    """Which requests are refused: a kind, the first, the last (0: all further ones), and after how
+    many writes they are counted."""
     kind: str
     first: int
     last: int
+    after: int = 0
 
     def settings(self):
-        return {"REFUSE": self.kind, "FROM": str(self.first), "TO": str(self.last)}
+        return {"REFUSE": self.kind, "FROM": str(self.first), "TO": str(self.last),
+                "AFTER": str(self.after)}
 
 
 class Checks:
