@@ -1,8 +1,9 @@
 //! The buffers of words, by frame.
 ghost use Rattle.std.specs.Prelude.{◌≡◌, ◌<◌, IfOk, IfSome, None, Some, length, option_map, replicate, slice_index_or, slice_set};
+ghost use Rattle.hp_units.specs.Pages.{fresh_words};
 ghost use Rattle.hp_tape.specs.Deltas.{is_blank};
 
-use hp_units::{Frame, Words};
+use hp_units::{Frame, Layout, Words};
 use std::alloc::{AllocError, Global};
 use std::marker::Model;
 use std::mem::replace;
@@ -104,4 +105,12 @@ pub(crate) fn is_blank_beside(words: &[u64], index: u32) -> bool
 {
     let at = index as usize;
     is_blank(&words[..at]) && is_blank(&words[at + 1..])
+}
+
+/// The words of a new page of a layout. Takes memory for them.
+pub(crate) fn zeros(alloc: Global, layout: &Layout) -> Result<Words, AllocError>
+    ensures { IfOk result (λ words. words ≡ fresh_words layout.now) }
+{
+    let words = vec![in alloc; 0; layout.words() as usize]?;
+    Ok(Words::new(words))
 }

@@ -10,16 +10,15 @@ ghost use Rattle.hp_tape.specs.Tapes.{HasRoom, NotesPages};
 ghost use Rattle.hp_pages.specs.Pages.{ArePageFramesOf, AreSettled, IsInPlace, buffer_at, map_frame, move_frame, spare_for, unmap_frame, words_in, words_of, write_at, write_frame};
 ghost use Rattle.hp_pages.specs.Places.{holders};
 
-use crate::buffers::{Buffers, is_blank_beside};
+use crate::buffers::{Buffers, is_blank_beside, zeros};
 use crate::table::Table;
 use hp_tape::{Delta, Tape};
 use hp_units::{Frame, Layout, Owner, Page, Words};
 use std::alloc::{AllocError, Global};
 use std::marker::Model;
 
-/// The owners' pages of a layout: the frame that holds each page, and the words of each mapped frame. A page
-/// whose words are all 0 has no buffer of its own: one page of zeros serves all of them. No call but `new` and
-/// `spare_for` takes memory.
+/// The owners' pages of a layout: the frame of each page, and the words of each mapped frame. A page whose words
+/// are all 0 has no buffer: one page of zeros serves all of them. No call but `new` and `spare_for` takes memory.
 #[derive(Debug)]
 pub struct Pages {
     layout: Layout,
@@ -130,8 +129,7 @@ impl Pages {
         words[index as usize]
     }
 
-    /// Maps a page of the layout that is not mapped to a frame that holds no page. Its words are 0, and take no
-    /// memory. One delta.
+    /// Maps an unmapped page of the layout to a frame that holds no page; its words are 0. One delta.
     pub fn map(&mut self, owner: Owner, page: Page, frame: Frame, tape: &mut Tape)
         requires owner { owner < self.old.layout.owners }
         requires page { page < self.old.layout.pages }
@@ -241,8 +239,7 @@ impl Pages {
     }
 
     /// Changes one word of a mapped page of the layout; words are counted from 0. It takes no memory, but the
-    /// buffer that it asks for (`spare_for`). One delta, and none where the word of a frame without a buffer
-    /// stays 0.
+    /// buffer that it asks for. One delta, and none where the word of a frame without a buffer stays 0.
     pub fn write(
         &mut self,
         owner: Owner,
@@ -399,12 +396,4 @@ impl Pages {
             _ => {}
         }
     }
-}
-
-/// The words of a new page of a layout. Takes memory for them.
-fn zeros(alloc: Global, layout: &Layout) -> Result<Words, AllocError>
-    ensures { IfOk result (λ words. words ≡ fresh_words layout.now) }
-{
-    let words = vec![in alloc; 0; layout.words() as usize]?;
-    Ok(Words::new(words))
 }
