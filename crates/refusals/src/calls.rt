@@ -113,7 +113,7 @@ fn ended(
     Err(Trouble::OutOfMemory)
 }
 
-/// The end of a plan. One that is left for want of memory can be cancelled, which restores the state.
+/// The end of a plan. One that was left out of memory can be cancelled, which restores the state.
 fn kept_plan(
     case: &mut Case,
     before: &Machine,
