@@ -1,4 +1,4 @@
-//! Texts: how a call's answer, the end of a plan, the fault of a control file and a whole state are written. Each function appends
+//! Texts: how a call, its answer, the end of a plan, the fault of a control file and a whole state are written. Each function appends
 //! to a `String` exactly the text that specs/ gives for its value, and changes nothing else; what it answers is `AllocError`, want
 //! of memory, where the text may be there in part.
 //!
@@ -9,9 +9,11 @@
 mod answers;
 mod files;
 mod plans;
+mod spelling;
 mod state;
 
 pub use answers::{write_call_fault, write_receipt, write_reply, write_sealed, write_unrecorded};
 pub use files::{write_echo_fault, write_read_fault};
 pub use plans::write_plan_end;
-pub use state::write_state;
+pub use spelling::write_call;
+pub use state::{write_row, write_state};

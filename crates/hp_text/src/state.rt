@@ -5,6 +5,7 @@ ghost use Rattle.hp_text.specs.State.{auto_line, block_line, blocks_text, class_
 
 mod pages;
 
+pub(crate) use self::pages::name_of;
 use self::pages::write_pages;
 use hp_plain::Image;
 use hp_units::{
@@ -109,9 +110,10 @@ fn write_block(out: &mut String, block: Block, row: Option<Row>) -> Result<(), A
     Ok(())
 }
 
-/// Writes the line of a memory block.
+/// Writes the line of a memory block: its state, its zone where it is online or going, and the operation that holds it, as
+/// `block 2 going movable op 3` (own rule).
 #[tactic(auto, unfolding(crate::specs::State::row_line))]
-fn write_row(out: &mut String, block: Block, row: Row) -> Result<(), AllocError>
+pub fn write_row(out: &mut String, block: Block, row: Row) -> Result<(), AllocError>
     ensures { OnOk result (string_bytes out.new ≡ string_bytes out.old ++ row_line block row) }
 {
     write!(out, "block {block} ")?;

@@ -48,7 +48,7 @@ fn write_owner(
 }
 
 /// The name of an owner by its number, and an empty one for a number that has no name.
-fn name_of<'a>(names: &'a IndexSet<Text>, owner: Owner) -> &'a str
+pub(crate) fn name_of<'a>(names: &'a IndexSet<Text>, owner: Owner) -> &'a str
     ensures { result.now ≡ name_of names.now.keys owner }
 {
     match names.get_index(owner.0 as usize) {

@@ -1,0 +1,54 @@
+//! Why the program failed.
+ghost use Rattle.std.specs.Prelude.{◌≡◌};
+ghost use Rattle.hp_lab.specs.declared.fault.LabFault.TheVariants.{OutOfMemory};
+ghost use Rattle.hotplug_lab.specs.declared.fault.ProgramFault.TheVariants.{Lab};
+
+use hp_lab::LabFault;
+use std::alloc::AllocError;
+use std::error::Error;
+use std::fmt;
+
+/// Why the program failed. But for `WriteFailed`, after which some of the text may be out, nothing was written.
+#[derive(Clone, Copy, Debug, PartialEq, Eq, Drop)]
+pub enum ProgramFault {
+    /// The file could not be opened.
+    NotOpened,
+    /// The reader failed.
+    ReadFailed,
+    /// There are more than 16,777,216 bytes of input.
+    TooLong,
+    /// The word failed.
+    Lab(LabFault),
+    /// The writer failed.
+    WriteFailed,
+}
+
+impl fmt::Display for ProgramFault {
+    fn fmt<W: fmt::Write>(&self, f: &mut fmt::Formatter<W>) -> fmt::Result {
+        match self {
+            ProgramFault::NotOpened => write!(f, "hotplug_lab: file not opened"),
+            ProgramFault::ReadFailed => write!(f, "hotplug_lab: reading failed"),
+            ProgramFault::TooLong => write!(f, "hotplug_lab: input too long"),
+            ProgramFault::Lab(fault) => write!(f, "hotplug_lab: {fault}"),
+            ProgramFault::WriteFailed => write!(f, "hotplug_lab: writing failed"),
+        }
+    }
+}
+
+impl Error for ProgramFault {}
+
+impl From<AllocError> for ProgramFault {
+    ghost from_gives = { λ _ e. e ≡ Lab OutOfMemory };
+
+    fn from(_e: AllocError) -> ProgramFault {
+        ProgramFault::Lab(LabFault::OutOfMemory)
+    }
+}
+
+impl From<LabFault> for ProgramFault {
+    ghost from_gives = { λ fault e. e ≡ Lab fault };
+
+    fn from(fault: LabFault) -> ProgramFault {
+        ProgramFault::Lab(fault)
+    }
+}

@@ -1,0 +1,81 @@
+-- From what the parts of an exploration say to what the whole promises.
+use Rattle.std.proofs.Common.{◌≡◌, ℕ, ◌<◌, ◌^◌, List, length, take, drop, Ok, ap, subst, ◌∙◌, arith}
+use Rattle.std.proofs.lemmas.List.FromFn.{length-map-range_with_len}
+use Rattle.hp_scenario.specs.declared.lines.Line.{Line}
+use Rattle.hp_scenario.specs.Scenario.{ScenarioValue, scenario_in}
+use Rattle.hp_explore.specs.declared.exploring.ExploreFault.{ExploreFault}
+use Rattle.hp_explore.specs.declared.exploring.ExploreFault.TheVariants as search
+use Rattle.hp_explore.specs.declared.scripts.Line.{Line as Step}
+use Rattle.hp_lab.specs.declared.fault.LabFault.{LabFault}
+use Rattle.hp_lab.specs.declared.fault.LabFault.TheVariants.{NotJson, BadShape, Layout, BadLine, NotForScript, TooMany, HistoryFull, OutOfMemory}
+use Rattle.hp_lab.specs.declared.fault.Unfit.{Unfit}
+use Rattle.hp_lab.specs.Checks.{AreFit, IsFirstUnfit, IsUnfit}
+use Rattle.hp_lab.specs.Explorations.{IsExplorationOf, IsExploredAfter, IsFaultOf, IsStopped, IsStoppedAfter, IsUnexplored, IsUnfitAfter}
+use Rattle.hp_lab.specs.Faults.{search_fault_from}
+use Rattle.hp_lab.specs.Scripts.{script_of, scripts_of}
+
+-- the lines of a scenario in two parts, and the number of its processors
+pub record AreParts (s : ScenarioValue) (setup cpus : ℕ) (before after : List Line) : Type 0 where
+  pub processors : cpus ≡ s.layout.cpus
+  pub front : before ≡ take setup s.lines
+  pub rest : after ≡ drop setup s.lines
+
+pub parted : (s : ScenarioValue) (setup cpus : ℕ) (lines before after : List Line) → cpus ≡ s.layout.cpus → lines ≡ s.lines → before ≡ take setup lines → after ≡ drop setup lines → AreParts s setup cpus before after
+parted s setup cpus lines before after processors all front rest =
+    record { processors = processors; front = front ∙ ap (take setup) all; rest = rest ∙ ap (drop setup) all }
+
+-- ---- a line that cannot stand in a script
+
+unfit_at : (s : ScenarioValue) (setup cpus : ℕ) (before after : List Line) (place : ℕ) (why : Unfit) → AreParts s setup cpus before after → IsFirstUnfit cpus (length before) after place why → IsUnfitAfter setup place why s
+unfit_at s setup cpus before after place why parts h =
+    subst (λ (xs : List Line). IsFirstUnfit s.layout.cpus (length (take setup s.lines)) xs place why) parts.rest
+    (subst (λ (xs : List Line). IsFirstUnfit s.layout.cpus (length xs) after place why) parts.front
+    (subst (λ (k : ℕ). IsFirstUnfit k (length before) after place why) parts.processors h))
+
+pub unfit_known : (input : List ℕ) (s : ScenarioValue) (setup limit cpus : ℕ) (before after : List Line) (fault : LabFault) → scenario_in input ≡ Ok s → AreParts s setup cpus before after → IsUnfit cpus (length before) after fault → IsFaultOf input setup limit fault
+unfit_known input s setup limit cpus before after NotJson read parts h = absurd h
+unfit_known input s setup limit cpus before after BadShape read parts h = absurd h
+unfit_known input s setup limit cpus before after (Layout f) read parts h = absurd h
+unfit_known input s setup limit cpus before after (BadLine n) read parts h = absurd h
+unfit_known input s setup limit cpus before after (NotForScript place why) read parts h = (s, read, unfit_at s setup cpus before after place why parts h)
+unfit_known input s setup limit cpus before after TooMany read parts h = absurd h
+unfit_known input s setup limit cpus before after HistoryFull read parts h = absurd h
+unfit_known input s setup limit cpus before after OutOfMemory read parts h = tt
+
+-- ---- the search
+
+fit_after : (s : ScenarioValue) (setup cpus : ℕ) (before after : List Line) → AreParts s setup cpus before after → AreFit cpus after (length after) → AreFit s.layout.cpus (drop setup s.lines) (length (drop setup s.lines))
+fit_after s setup cpus before after parts h =
+    subst (λ (xs : List Line). AreFit s.layout.cpus xs (length xs)) parts.rest (subst (λ (k : ℕ). AreFit k after (length after)) parts.processors h)
+
+scripts_are : (s : ScenarioValue) (setup cpus : ℕ) (before after : List Line) (scripts : List (List Step)) → AreParts s setup cpus before after → scripts ≡ scripts_of cpus after → scripts ≡ scripts_of s.layout.cpus (drop setup s.lines)
+scripts_are s setup cpus before after scripts parts h = h ∙ (ap (λ (k : ℕ). scripts_of k after) parts.processors ∙ ap (scripts_of s.layout.cpus) parts.rest)
+
+stopped_after : (s : ScenarioValue) (setup limit cpus : ℕ) (before after : List Line) (scripts : List (List Step)) (fault : ExploreFault) → AreParts s setup cpus before after → AreFit cpus after (length after) → scripts ≡ scripts_of cpus after
+    → IsStopped s.layout before scripts limit fault → IsStoppedAfter setup limit fault s
+stopped_after s setup limit cpus before after scripts fault parts fit are h = (
+  fit_after s setup cpus before after parts fit,
+  subst (λ (xs : List (List Step)). IsStopped s.layout (take setup s.lines) xs limit fault) (scripts_are s setup cpus before after scripts parts are)
+      (subst (λ (xs : List Line). IsStopped s.layout xs scripts limit fault) parts.front h),
+)
+
+pub stopped_known : (input : List ℕ) (s : ScenarioValue) (setup limit cpus : ℕ) (before after : List Line) (scripts : List (List Step)) (fault : ExploreFault) → scenario_in input ≡ Ok s → AreParts s setup cpus before after → AreFit cpus after (length after)
+    → scripts ≡ scripts_of cpus after → IsUnexplored s.layout before scripts limit fault → IsFaultOf input setup limit (search_fault_from fault)
+stopped_known input s setup limit cpus before after scripts search.TooMany read parts fit are h = (s, read, stopped_after s setup limit cpus before after scripts search.TooMany parts fit are h)
+stopped_known input s setup limit cpus before after scripts search.HistoryFull read parts fit are h = (s, read, stopped_after s setup limit cpus before after scripts search.HistoryFull parts fit are h)
+stopped_known input s setup limit cpus before after scripts search.OutOfMemory read parts fit are h = tt
+
+pub explored_known : (input : List ℕ) (s : ScenarioValue) (setup cpus : ℕ) (before after : List Line) (scripts : List (List Step)) (text : List ℕ) → scenario_in input ≡ Ok s → AreParts s setup cpus before after → AreFit cpus after (length after)
+    → scripts ≡ scripts_of cpus after → IsExploredAfter s.layout s.names before scripts text → IsExplorationOf input setup text
+explored_known input s setup cpus before after scripts text read parts fit are h = record {
+  scenario = s;
+  read = read;
+  fit = fit_after s setup cpus before after parts fit;
+  explored = subst (λ (xs : List (List Step)). IsExploredAfter s.layout s.names (take setup s.lines) xs text) (scripts_are s setup cpus before after scripts parts are)
+      (subst (λ (xs : List Line). IsExploredAfter s.layout s.names xs scripts text) parts.front h);
+}
+
+-- ---- the number of scripts
+
+pub scripts_fit : (cpus : ℕ) (lines : List Line) (scripts : List (List Step)) → cpus < 2 ^ 32 → scripts ≡ scripts_of cpus lines → length scripts < 2 ^ 32
+scripts_fit cpus lines scripts fits are = omega (arith, fits, ap (λ (xs : List (List Step)). length xs) are, length-map-range_with_len (script_of lines) 0 cpus)

@@ -1,0 +1,4 @@
+pub mod Driven
+pub mod Known
+pub mod Lists
+pub mod Written

@@ -1,0 +1,26 @@
+-- What is said of a fault.
+use Rattle.std.specs.Prelude.{ℕ, List, ◌++◌, codes}
+use Rattle.std.specs.Fmt.{decimal}
+use Rattle.hp_units.specs.Texts.{layout_fault_text}
+use Rattle.hp_control.specs.FaultName.{fault_name}
+use Rattle.hp_lab.specs.declared.fault.LabFault.{LabFault}
+use Rattle.hp_lab.specs.declared.fault.LabFault.TheVariants.{NotJson, BadShape, Layout, BadLine, NotForScript, TooMany, HistoryFull, OutOfMemory}
+use Rattle.hp_lab.specs.declared.fault.Unfit.{Unfit}
+use Rattle.hp_lab.specs.declared.fault.Unfit.TheVariants.{Processor, Cat, Seal, Echo}
+
+-- why a line cannot stand in a script
+abbrev pub unfit_text : Unfit → List ℕ
+unfit_text Processor = codes "its processor is not in the layout"
+unfit_text Cat = codes "cat makes no call"
+unfit_text Seal = codes "seal makes no call"
+unfit_text (Echo fault) = codes "echo: fault " ++ fault_name fault
+
+abbrev pub fault_text : LabFault → List ℕ
+fault_text NotJson = codes "not JSON"
+fault_text BadShape = codes "wrong shape"
+fault_text (Layout fault) = codes "layout fault " ++ layout_fault_text fault
+fault_text (BadLine line) = codes "line " ++ decimal line ++ codes " not understood"
+fault_text (NotForScript line why) = codes "line " ++ decimal line ++ codes " not for a script: " ++ unfit_text why
+fault_text TooMany = codes "more interleavings than the limit"
+fault_text HistoryFull = codes "no room in the history for all calls of an interleaving"
+fault_text OutOfMemory = codes "out of memory"

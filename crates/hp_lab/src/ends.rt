@@ -1,0 +1,198 @@
+//! How the ends of an exploration are written.
+ghost use Rattle.std.specs.Prelude.{◌≡◌, ◌++◌, IfErr, OnOk, option_map, string_bytes, sum_by};
+ghost use Rattle.std.specs.List.{flat_map};
+ghost use Rattle.hp_text.specs.Answers.{bare_reply_line};
+ghost use Rattle.hp_text.specs.State.{block_line};
+ghost use Rattle.hp_explore.specs.Faults.{IsCallCause};
+ghost use Rattle.hp_explore.specs.Schedules.{setting};
+ghost use Rattle.hp_lab.specs.Texts.{answers_text, blocks_text, calls_text, counts_text, end_before, end_text, exploration_text, first_text, heading_text, outcome_text, processors_text, quoted};
+
+use hp_explore::{Answers, Ending, ExploreFault, Outcome, Script, play};
+use hp_machine::Machine;
+use hp_text::{write_call, write_reply, write_row};
+use hp_units::{Block, Cpu, Layout, Record, Reply, Row, Text};
+use indexmap::IndexSet;
+use std::alloc::{AllocError, Global};
+
+/// Writes how many interleavings and ends there are, and then each end. Owners are written by their names. A fault is that of a
+/// call: the first interleaving of each end is played once more.
+pub(crate) fn write_ends(
+    out: &mut String,
+    alloc: Global,
+    names: &IndexSet<Text>,
+    machine: &Machine,
+    scripts: &[Script],
+    ends: &[Ending],
+) -> Result<(), ExploreFault>
+    ensures ok { OnOk result (string_bytes out.new ≡ string_bytes out.old ++ exploration_text names.now.keys (setting machine.now scripts.now) ends.now) }
+    ensures err { IfErr result (IsCallCause (setting machine.now scripts.now)) }
+{
+    write_counts(out, ends)?;
+    for index in 0..ends.len() {
+        write_heading(out, index + 1)?;
+        write_end(out, alloc, names, machine, scripts, &ends[index])?;
+    }
+    Ok(())
+}
+
+/// Writes how many interleavings and ends there are.
+fn write_counts(out: &mut String, ends: &[Ending]) -> Result<(), AllocError>
+    ensures { OnOk result (string_bytes out.new ≡ string_bytes out.old ++ counts_text ends.now) }
+{
+    let total = total_of(ends);
+    let count = ends.len();
+    writeln!(out, "interleavings: {total}\nends: {count}")
+}
+
+/// The sum of the counts.
+fn total_of(ends: &[Ending]) -> u128
+    ensures { result ≡ sum_by (λ e. e.count) ends.now }
+{
+    let mut total: u128 = 0;
+    for end in ends {
+        total += u128::from(end.count);
+    }
+    total
+}
+
+/// Writes the number of an end after an empty line.
+fn write_heading(out: &mut String, number: usize) -> Result<(), AllocError>
+    ensures { OnOk result (string_bytes out.new ≡ string_bytes out.old ++ heading_text number) }
+{
+    writeln!(out, "\nend {number}")
+}
+
+/// Writes how many interleavings lead to an end, what the processors were answered, what became of the memory blocks, and the
+/// calls of the first interleaving.
+fn write_end(
+    out: &mut String,
+    alloc: Global,
+    names: &IndexSet<Text>,
+    machine: &Machine,
+    scripts: &[Script],
+    end: &Ending,
+) -> Result<(), ExploreFault>
+    ensures ok { OnOk result (string_bytes out.new ≡ string_bytes out.old ++ end_text names.now.keys (setting machine.now scripts.now) end.now) }
+    ensures err { IfErr result (IsCallCause (setting machine.now scripts.now)) }
+{
+    let count = end.count;
+    writeln!(out, "interleavings: {count}")?;
+    write_outcome(out, machine.layout(), &end.outcome)?;
+    out.push_str("first:\n")?;
+    write_first(out, alloc, names, machine, scripts, end.first.as_slice())
+}
+
+/// Writes what the processors were answered, and what became of the memory blocks.
+fn write_outcome(out: &mut String, layout: &Layout, outcome: &Outcome) -> Result<(), AllocError>
+    ensures { OnOk result (string_bytes out.new ≡ string_bytes out.old ++ outcome_text layout.now outcome.now) }
+{
+    write_processors(out, layout.cpus(), outcome.replies())?;
+    write_blocks(out, layout.blocks(), outcome.blocks())
+}
+
+/// Writes what each processor was answered, from processor 0 on.
+fn write_processors(out: &mut String, cpus: u32, replies: &[Answers]) -> Result<(), AllocError>
+    ensures { OnOk result (string_bytes out.new ≡ string_bytes out.old ++ processors_text cpus replies.now) }
+{
+    for number in 0..cpus {
+        write_answers(out, Cpu(number), replies.get(number as usize))?;
+    }
+    Ok(())
+}
+
+/// Writes a processor's number and what it was answered.
+fn write_answers(out: &mut String, cpu: Cpu, answers: Option<&Answers>) -> Result<(), AllocError>
+    ensures { OnOk result (string_bytes out.new ≡ string_bytes out.old ++ answers_text cpu (option_map (λ a. a.now) answers.entry)) }
+{
+    match answers {
+        Some(answers) => {
+            writeln!(out, "cpu {cpu}")?;
+            write_replies(out, answers.as_slice())
+        }
+        None => Ok(()),
+    }
+}
+
+/// Writes replies without their serials.
+fn write_replies(out: &mut String, replies: &[Reply]) -> Result<(), AllocError>
+    ensures { OnOk result (string_bytes out.new ≡ string_bytes out.old ++ flat_map bare_reply_line replies.now) }
+{
+    for reply in replies {
+        write_reply(out, *reply)?;
+    }
+    Ok(())
+}
+
+/// Writes what became of each memory block, from block 0 on.
+fn write_blocks(out: &mut String, blocks: u32, rows: &[Row]) -> Result<(), AllocError>
+    ensures { OnOk result (string_bytes out.new ≡ string_bytes out.old ++ blocks_text blocks rows.now) }
+{
+    for number in 0..blocks {
+        write_block(out, Block(number), rows.get(number as usize).copied())?;
+    }
+    Ok(())
+}
+
+/// Writes what became of a memory block.
+fn write_block(out: &mut String, block: Block, row: Option<Row>) -> Result<(), AllocError>
+    ensures { OnOk result (string_bytes out.new ≡ string_bytes out.old ++ block_line block row) }
+{
+    match row {
+        Some(row) => write_row(out, block, row),
+        None => Ok(()),
+    }
+}
+
+/// Writes the calls that a schedule makes, with the numbers that operations have in it.
+fn write_first(
+    out: &mut String,
+    alloc: Global,
+    names: &IndexSet<Text>,
+    machine: &Machine,
+    scripts: &[Script],
+    schedule: &[Cpu],
+) -> Result<(), ExploreFault>
+    ensures ok { OnOk result (string_bytes out.new ≡ string_bytes out.old ++ first_text names.now.keys (setting machine.now scripts.now) schedule.now) }
+    ensures err { IfErr result (IsCallCause (setting machine.now scripts.now)) }
+{
+    if let Some(played) = play(alloc, machine, scripts, schedule)? {
+        let start = machine.history().len();
+        write_calls(out, names, &played.history()[start..])?;
+    }
+    Ok(())
+}
+
+/// Writes calls as texts of a scenario's `calls`, one a line, with a comma between two.
+fn write_calls(out: &mut String, names: &IndexSet<Text>, calls: &[Record]) -> Result<(), AllocError>
+    ensures { OnOk result (string_bytes out.new ≡ string_bytes out.old ++ calls_text names.now.keys calls.now) }
+{
+    match calls {
+        [call, rest @ ..] => {
+            write_quoted(out, names, call, end_before(rest))?;
+            write_calls(out, names, rest)
+        }
+        [] => Ok(()),
+    }
+}
+
+/// The end of a line before other calls: a comma where there are any.
+fn end_before(rest: &[Record]) -> &'static str
+    ensures { result.now ≡ end_before rest.now }
+{
+    if rest.is_empty() { "\n" } else { ",\n" }
+}
+
+/// Writes a call between quotation marks, and what comes after it.
+fn write_quoted(
+    out: &mut String,
+    names: &IndexSet<Text>,
+    call: &Record,
+    end: &str,
+) -> Result<(), AllocError>
+    ensures { OnOk result (string_bytes out.new ≡ string_bytes out.old ++ quoted names.now.keys call.now ++ end.now) }
+{
+    out.push_str("\"")?;
+    write_call(out, names, call.cpu, &call.event)?;
+    out.push_str("\"")?;
+    out.push_str(end)
+}

@@ -1,0 +1,127 @@
+//! Why a scenario is not explored.
+ghost use Rattle.std.specs.Prelude.{◌≡◌, Some};
+ghost use Rattle.hp_lab.specs.declared.fault.LabFault.TheVariants.{OutOfMemory};
+
+use hp_control::ControlFault;
+use hp_explore::ExploreFault;
+use hp_scenario::ScenarioFault;
+use hp_units::LayoutFault;
+use std::alloc::AllocError;
+use std::error::Error;
+use std::fmt;
+
+/// Why a line cannot stand in a script.
+#[derive(Clone, Copy, Debug, PartialEq, Eq, Drop)]
+pub enum Unfit {
+    /// Its processor is not in the layout.
+    Processor,
+    /// It reads a control file, which is no call.
+    Cat,
+    /// It seals, which is no call.
+    Seal,
+    /// It writes to a control file a text that the file does not take, which is no call.
+    Echo(ControlFault),
+}
+
+impl fmt::Display for Unfit {
+    ghost use Rattle.hp_lab.specs.FaultText.{unfit_text};
+
+    ghost output = { λ why. Some (unfit_text why) };
+
+    fn fmt<W: fmt::Write>(&self, f: &mut fmt::Formatter<W>) -> fmt::Result {
+        match self {
+            Unfit::Processor => write!(f, "its processor is not in the layout"),
+            Unfit::Cat => write!(f, "cat makes no call"),
+            Unfit::Seal => write!(f, "seal makes no call"),
+            Unfit::Echo(fault) => write!(f, "echo: fault {fault}"),
+        }
+    }
+}
+
+/// Why a scenario is not explored. Out of memory may come in place of any.
+#[derive(Clone, Copy, Debug, PartialEq, Eq, Drop)]
+pub enum LabFault {
+    /// The input is no JSON.
+    NotJson,
+    /// The input is no scenario: its keys, kinds or words differ.
+    BadShape,
+    /// The scenario's layout is out of its limits.
+    Layout(LayoutFault),
+    /// A text of `calls` is no line; lines are counted from 1.
+    BadLine { line: u64 },
+    /// A line after the setup cannot stand in a script; lines are counted from 1.
+    NotForScript { line: u64, why: Unfit },
+    /// There are more interleavings than the limit.
+    TooMany,
+    /// The layout's history has no room for all calls of an interleaving.
+    HistoryFull,
+    /// Out of memory.
+    OutOfMemory,
+}
+
+impl fmt::Display for LabFault {
+    ghost use Rattle.hp_lab.specs.FaultText.{fault_text};
+
+    ghost output = { λ f. Some (fault_text f) };
+
+    fn fmt<W: fmt::Write>(&self, f: &mut fmt::Formatter<W>) -> fmt::Result {
+        match self {
+            LabFault::NotJson => write!(f, "not JSON"),
+            LabFault::BadShape => write!(f, "wrong shape"),
+            LabFault::Layout(fault) => write!(f, "layout fault {fault}"),
+            LabFault::BadLine { line } => write!(f, "line {line} not understood"),
+            LabFault::NotForScript { line, why } => {
+                write!(f, "line {line} not for a script: ")?;
+                write!(f, "{why}")
+            }
+            LabFault::TooMany => write!(f, "more interleavings than the limit"),
+            LabFault::HistoryFull => {
+                write!(f, "no room in the history for all calls of an interleaving")
+            }
+            LabFault::OutOfMemory => write!(f, "out of memory"),
+        }
+    }
+}
+
+impl Error for LabFault {}
+
+impl From<AllocError> for LabFault {
+    ghost from_gives = { λ _ e. e ≡ OutOfMemory };
+
+    fn from(_e: AllocError) -> LabFault {
+        LabFault::OutOfMemory
+    }
+}
+
+impl From<ScenarioFault> for LabFault {
+    ghost use Rattle.std.specs.Prelude.{◌≡◌};
+    ghost use Rattle.hp_lab.specs.Faults.{fault_from};
+
+    ghost from_gives = { λ f e. e ≡ fault_from f };
+
+    fn from(fault: ScenarioFault) -> LabFault {
+        match fault {
+            ScenarioFault::NotJson => LabFault::NotJson,
+            ScenarioFault::BadShape => LabFault::BadShape,
+            ScenarioFault::Layout(fault) => LabFault::Layout(fault),
+            ScenarioFault::BadLine { line } => LabFault::BadLine { line },
+            ScenarioFault::NotForRun { line } => LabFault::BadLine { line },
+            ScenarioFault::OutOfMemory => LabFault::OutOfMemory,
+        }
+    }
+}
+
+impl From<ExploreFault> for LabFault {
+    ghost use Rattle.std.specs.Prelude.{◌≡◌};
+    ghost use Rattle.hp_lab.specs.Faults.{search_fault_from};
+
+    ghost from_gives = { λ f e. e ≡ search_fault_from f };
+
+    fn from(fault: ExploreFault) -> LabFault {
+        match fault {
+            ExploreFault::TooMany => LabFault::TooMany,
+            ExploreFault::HistoryFull => LabFault::HistoryFull,
+            ExploreFault::OutOfMemory => LabFault::OutOfMemory,
+        }
+    }
+}

@@ -1,0 +1,115 @@
+//! The lines after the setup, as a script for each processor.
+ghost use Rattle.std.specs.Prelude.{◌≡◌, ◌++◌, IfOk, OnOk};
+ghost use Rattle.hp_lab.specs.Scripts.{asked, explored, line_for, own_if_last, own_work, requested, script_of, scripts_of};
+
+use crate::requests::request_of;
+use hp_control::{CONTROL_TURNS, Request};
+use hp_explore::{Line as Step, Script, Work as OwnWork};
+use hp_scenario::{Line, Work};
+use hp_units::{Cpu, Event, Plan, Serial};
+use std::alloc::{AllocError, Global};
+
+/// The script of each processor, from 0 on. A line that cannot stand in a script is left out. An error is out of memory.
+pub(crate) fn scripts_of(
+    alloc: Global,
+    cpus: u32,
+    lines: &[Line],
+) -> Result<Vec<Script>, AllocError>
+    ensures { IfOk result (λ scripts. scripts.items ≡ scripts_of cpus lines.now) }
+{
+    let mut scripts = Vec::new(alloc);
+    for cpu in 0..cpus {
+        scripts.reserve(1)?;
+        let script = script_of(alloc, Cpu(cpu), lines)?;
+        scripts.push_reserved(script);
+    }
+    Ok(scripts)
+}
+
+/// The script of a processor: its lines in order. An error is out of memory.
+fn script_of(alloc: Global, cpu: Cpu, lines: &[Line]) -> Result<Script, AllocError>
+    ensures { IfOk result (λ script. script ≡ script_of lines.now cpu) }
+{
+    let mut steps = Vec::new(alloc);
+    for line in lines {
+        push_line(&mut steps, alloc, cpu, line)?;
+    }
+    Ok(Script::new(steps))
+}
+
+/// Adds a line to the steps of a processor, if it is the processor's.
+fn push_line(steps: &mut Vec<Step>, alloc: Global, cpu: Cpu, line: &Line) -> Result<(), AllocError>
+    ensures { OnOk result (steps.new.items ≡ steps.old.items ++ line_for cpu line.now) }
+{
+    if line.cpu != cpu {
+        return Ok(());
+    }
+    if let Some(step) = explored(alloc, &line.work)? {
+        steps.push(step)?;
+    }
+    Ok(())
+}
+
+/// What a line asks for as a step of a script, if it can stand in one. An error is out of memory.
+fn explored(alloc: Global, work: &Work) -> Result<Option<Step>, AllocError>
+    ensures { IfOk result (λ step. step ≡ explored work.now) }
+{
+    match work {
+        Work::Event(event) => Ok(Some(asked(alloc, event)?)),
+        Work::Plan { plan, turns } => Ok(Some(carried(alloc, plan, *turns)?)),
+        Work::Echo { path, text } => match request_of(alloc, path, text)? {
+            Ok(request) => Ok(Some(requested(alloc, &request)?)),
+            Err(_fault) => Ok(None),
+        },
+        Work::Cat { path: _ } => Ok(None),
+        Work::Seal => Ok(None),
+    }
+}
+
+/// What a control file asks for as a step. An error is out of memory.
+fn requested(alloc: Global, request: &Request) -> Result<Step, AllocError>
+    ensures { IfOk result (λ step. step ≡ requested request.now) }
+{
+    match request {
+        Request::Event(event) => asked(alloc, event),
+        Request::Plan(plan) => carried(alloc, plan, CONTROL_TURNS),
+    }
+}
+
+/// An event as a step. Where it works on operation 0, that is the one that the processor began last. An error is out of memory.
+fn asked(alloc: Global, event: &Event) -> Result<Step, AllocError>
+    ensures { IfOk result (λ step. step ≡ asked event.now) }
+{
+    match own_work(event) {
+        Some(work) => Ok(Step::Own(work)),
+        None => Ok(Step::Ask(event.copy(alloc)?)),
+    }
+}
+
+/// A plan as a step. An error is out of memory.
+fn carried(alloc: Global, plan: &Plan, turns: u32) -> Result<Step, AllocError>
+    ensures { IfOk result (λ step. step ≡ Step.Carry plan.now turns) }
+{
+    let plan = plan.copy(alloc)?;
+    Ok(Step::Carry { plan, turns })
+}
+
+/// What an event asks of operation 0, if it works on that.
+fn own_work(event: &Event) -> Option<OwnWork>
+    ensures { result ≡ own_work event.now }
+{
+    match event {
+        Event::DrainFor { op, cpu } => own_if_last(*op, OwnWork::DrainFor { cpu: *cpu }),
+        Event::Migrate { op } => own_if_last(*op, OwnWork::Migrate),
+        Event::Commit { op } => own_if_last(*op, OwnWork::Commit),
+        Event::Cancel { op } => own_if_last(*op, OwnWork::Cancel),
+        _ => None,
+    }
+}
+
+/// The work, where the operation's number is 0.
+fn own_if_last(op: Serial, work: OwnWork) -> Option<OwnWork>
+    ensures { result ≡ own_if_last op work }
+{
+    if op == Serial(0) { Some(work) } else { None }
+}

@@ -1,0 +1,127 @@
+//! The setup: lines that are run in order on one machine, as `hotplug serial` runs them.
+ghost use Rattle.std.specs.Prelude.{◌≡◌, IfOk, OnOk, Ok};
+ghost use Rattle.hp_lab.specs.Setup.{IsPlanRun, RunsEvent, RunsLines, RunsPlan, RunsRequest, RunsSeal, RunsWork, is_out_of_memory};
+
+use crate::requests::request_of;
+use hp_control::{CONTROL_TURNS, Request};
+use hp_machine::{Machine, MachinePort};
+use hp_ops::run_plan;
+use hp_scenario::{Line, Work};
+use hp_units::{CallFault, Cpu, Event, OpEnd, Plan};
+use std::alloc::{AllocError, Global};
+
+/// Runs lines one after another. An error is out of memory.
+pub(crate) fn run_lines(
+    alloc: Global,
+    machine: &mut Machine,
+    lines: &[Line],
+) -> Result<(), AllocError>
+    ensures { OnOk result (RunsLines machine.old lines.now machine.new) }
+{
+    for line in lines {
+        run_work(alloc, machine, line.cpu, &line.work)?;
+    }
+    Ok(())
+}
+
+/// Does what a line asks for.
+fn run_work(alloc: Global, machine: &mut Machine, cpu: Cpu, work: &Work) -> Result<(), AllocError>
+    ensures { OnOk result (RunsWork machine.old cpu work.now machine.new) }
+{
+    match work {
+        Work::Event(event) => run_event(alloc, machine, cpu, event),
+        Work::Plan { plan, turns } => carry_out(alloc, machine, cpu, plan, *turns),
+        Work::Echo { path, text } => match request_of(alloc, path, text)? {
+            Ok(request) => run_request(alloc, machine, cpu, &request),
+            Err(_fault) => Ok(()),
+        },
+        Work::Cat { path: _ } => Ok(()),
+        Work::Seal => seal(alloc, machine),
+    }
+}
+
+/// Does what a control file asks for.
+fn run_request(
+    alloc: Global,
+    machine: &mut Machine,
+    cpu: Cpu,
+    request: &Request,
+) -> Result<(), AllocError>
+    ensures { OnOk result (RunsRequest machine.old cpu (Ok request.now) machine.new) }
+{
+    match request {
+        Request::Event(event) => run_event(alloc, machine, cpu, event),
+        Request::Plan(plan) => carry_out(alloc, machine, cpu, plan, CONTROL_TURNS),
+    }
+}
+
+/// Calls the machine with an event, which leaves no record where the history is full.
+fn run_event(
+    alloc: Global,
+    machine: &mut Machine,
+    cpu: Cpu,
+    event: &Event,
+) -> Result<(), AllocError>
+    ensures { OnOk result (RunsEvent machine.old cpu event.now machine.new) }
+{
+    match machine.call(alloc, cpu, event) {
+        Ok(_receipt) => Ok(()),
+        Err(CallFault::HistoryFull) => Ok(()),
+        Err(CallFault::OutOfMemory) => Err(AllocError),
+    }
+}
+
+/// Runs a plan's driver with at most `turns` migrations.
+fn carry_out(
+    alloc: Global,
+    machine: &mut Machine,
+    cpu: Cpu,
+    plan: &Plan,
+    turns: u32,
+) -> Result<(), AllocError>
+    ensures { OnOk result (RunsPlan machine.old cpu turns plan.now machine.new) }
+{
+    let plan = plan.copy(alloc)?;
+    let end = drive(alloc, machine, cpu, plan, turns);
+    if is_out_of_memory(end) {
+        return Err(AllocError);
+    }
+    Ok(())
+}
+
+/// Runs a plan's driver on the machine.
+fn drive(alloc: Global, machine: &mut Machine, cpu: Cpu, plan: Plan, turns: u32) -> OpEnd
+    ensures { IsPlanRun machine.old cpu turns plan result machine.new }
+{
+    let mut port = MachinePort::new(machine, cpu);
+    let end = run_plan(alloc, &mut port, plan, turns);
+    // No effect at run time: the proof reads what the machine holds from this use.
+    let _ = &*port.machine;
+    end
+}
+
+/// Whether a driver's run was left because it was out of memory.
+fn is_out_of_memory(end: OpEnd) -> bool
+    ensures { result ≡ is_out_of_memory end }
+{
+    match end {
+        OpEnd::Left { op: _, fault } => match fault {
+            CallFault::OutOfMemory => true,
+            CallFault::HistoryFull => false,
+        },
+        OpEnd::Done => false,
+        OpEnd::Refused(_) => false,
+        OpEnd::Cancelled { .. } => false,
+        OpEnd::Undone => false,
+    }
+}
+
+/// Hands the machine's records out and drops them.
+fn seal(alloc: Global, machine: &mut Machine) -> Result<(), AllocError>
+    ensures { OnOk result (RunsSeal machine.old machine.new) }
+{
+    match machine.seal(alloc) {
+        Ok(_volume) => Ok(()),
+        Err(AllocError) => Err(AllocError),
+    }
+}

@@ -1,0 +1,96 @@
+//! A call as the line of a scenario that makes it.
+ghost use Rattle.std.specs.Prelude.{◌≡◌, ◌++◌, OnOk, codes, string_bytes};
+ghost use Rattle.std.specs.List.{flat_map};
+ghost use Rattle.hp_text.specs.Spelling.{access_text, call_text, event_text, item_word};
+
+use crate::state::name_of;
+use hp_units::{Cpu, Event, Item, Owner, Page, Text, Wish};
+use indexmap::IndexSet;
+use std::alloc::AllocError;
+
+/// Writes the line of a scenario that makes the call of a processor, as `0 map db 3`, with no newline (own rule). What a control
+/// file alone can ask for is written as an `echo` (Linux guide: probe, auto_online_blocks).
+pub fn write_call(
+    out: &mut String,
+    names: &IndexSet<Text>,
+    cpu: Cpu,
+    event: &Event,
+) -> Result<(), AllocError>
+    ensures { OnOk result (string_bytes out.new ≡ string_bytes out.old ++ call_text names.now.keys cpu event.now) }
+{
+    write!(out, "{cpu} ")?;
+    write_event(out, names, event)
+}
+
+/// Writes what the words after the processor are.
+fn write_event(out: &mut String, names: &IndexSet<Text>, event: &Event) -> Result<(), AllocError>
+    ensures { OnOk result (string_bytes out.new ≡ string_bytes out.old ++ event_text names.now.keys event.now) }
+{
+    match event {
+        Event::KernelAlloc { order } => write!(out, "kalloc {order}"),
+        Event::KernelFree { frame } => write!(out, "kfree {frame}"),
+        Event::Map { owner, page } => write_access(out, "map", names, *owner, *page),
+        Event::Unmap { owner, page } => write_access(out, "unmap", names, *owner, *page),
+        Event::Write {
+            owner,
+            page,
+            index,
+            value,
+        } => {
+            write_access(out, "write", names, *owner, *page)?;
+            write!(out, " {index} {value}")
+        }
+        Event::Read { owner, page, index } => {
+            write_access(out, "read", names, *owner, *page)?;
+            write!(out, " {index}")
+        }
+        Event::Drain { cpu } => write!(out, "drain {cpu}"),
+        Event::Online { block, zone } => write!(out, "online {block} {zone}"),
+        Event::Begin { plan } => write_begin(out, plan.as_slice()),
+        Event::DrainFor { op, cpu } => write!(out, "drainfor {op} {cpu}"),
+        Event::Migrate { op } => write!(out, "migrate {op}"),
+        Event::Commit { op } => write!(out, "commit {op}"),
+        Event::Cancel { op } => write!(out, "cancel {op}"),
+        Event::UndoAfter { serial } => write!(out, "undo {serial}"),
+        Event::Probe { address } => write!(out, "echo 0x{address:x} probe"),
+        Event::Remove { block } => write!(out, "remove {block}"),
+        Event::SetAuto { auto } => write!(out, "echo {auto} auto_online_blocks"),
+    }
+}
+
+/// Writes the words of an access to a page of an owner, whose name is written.
+fn write_access(
+    out: &mut String,
+    verb: &str,
+    names: &IndexSet<Text>,
+    owner: Owner,
+    page: Page,
+) -> Result<(), AllocError>
+    ensures { OnOk result (string_bytes out.new ≡ string_bytes out.old ++ access_text verb.now names.now.keys owner page) }
+{
+    let name = name_of(names, owner);
+    write!(out, "{verb} {name} {page}")
+}
+
+/// Writes the words of a Begin.
+fn write_begin(out: &mut String, items: &[Item]) -> Result<(), AllocError>
+    ensures { OnOk result (string_bytes out.new ≡ string_bytes out.old ++ codes "begin" ++ flat_map item_word items.now) }
+{
+    out.push_str("begin")?;
+    for item in items {
+        write_item(out, *item)?;
+    }
+    Ok(())
+}
+
+/// Writes an item of a plan after a space.
+fn write_item(out: &mut String, item: Item) -> Result<(), AllocError>
+    ensures { OnOk result (string_bytes out.new ≡ string_bytes out.old ++ item_word item) }
+{
+    let block = item.block;
+    match item.wish {
+        Wish::Off => write!(out, " off {block}"),
+        Wish::Normal => write!(out, " normal {block}"),
+        Wish::Movable => write!(out, " movable {block}"),
+    }
+}
