@@ -7,8 +7,8 @@ prints, byte by byte. `check` at the top runs it after the gate; alone it takes 
 What is checked, in each *.md file at the top, in docs/ and in examples/:
 - what `hotplug serial` prints for examples/NAME.json is examples/NAME.out, and examples/README.md
   names it;
-- a code block marked `console`: each line `$ COMMAND` is run by bash at the top, with `hotplug` on
-  the path, and prints the lines below it, standard error included;
+- a code block marked `console`: each line `$ COMMAND` is run by bash at the top, with `hotplug` and
+  `hotplug_lab` on the path, and prints the lines below it, standard error included;
 - a code block marked `lines FILE`: lines and their answers in two columns, on the layout of the
   scenario FILE; a further line of an answer begins with spaces;
 - a code block marked `json FILE` is that file, and one marked `state FILE` the state it prints;
@@ -32,6 +32,7 @@ import tempfile
 from pathlib import Path
 
 ROOT = Path(__file__).resolve().parent.parent
+LAB = ROOT / "crates/hotplug_lab/out/hotplug_lab"
 WIDTH = 100
 SECONDS = 60
 
@@ -113,6 +114,7 @@ def commands_of(body):
 def check_console(checks, where, body, program):
     with tempfile.TemporaryDirectory() as directory:
         (Path(directory) / "hotplug").symlink_to(program)
+        (Path(directory) / "hotplug_lab").symlink_to(LAB)
         path = directory + os.pathsep + os.environ["PATH"]
         for command, expected in commands_of(body):
             ran = subprocess.run(["bash", "-c", command], cwd=ROOT, stdout=subprocess.PIPE,

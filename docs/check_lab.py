@@ -1,0 +1,264 @@
+#!/usr/bin/env python3
+"""Compares what `hotplug_lab explore` prints with `hotplug`. `check` at the top runs it after the gate;
+alone it takes the folder of the crates:
+
+    python3 docs/check_lab.py [CRATES]        without CRATES: crates
+
+What is compared:
+- the ends and counts of an offline against map, write and read of another processor
+  (examples/last-frame.json) with those of `hotplug serial` on each order of the calls;
+- on each file of examples/, with a setup that leaves at most six lines for scripts: the first
+  interleaving of each end, pasted after the setup's lines, has that end in `hotplug serial`; and the
+  first line that cannot stand in a script is refused by its place;
+- 50 runs of `hotplug run` on each of three small scenarios: each outcome is one of the ends.
+The last line is 'lab: N passed, M failed'; the exit status is 0 where nothing failed, else 1.
+"""
+import json
+import subprocess
+import sys
+from pathlib import Path
+
+ROOT = Path(__file__).resolve().parent.parent
+SECONDS = 60
+RUNS = 50
+TAIL = 6
+
+
+class Checks:
+    """What was checked, and what failed."""
+
+    def __init__(self):
+        self.passed, self.failures = 0, []
+
+    def holds(self, where, is_right, message):
+        if is_right:
+            self.passed += 1
+        else:
+            self.failures.append(f"{where}: {message}")
+
+
+class Programs:
+    """The two programs."""
+
+    def __init__(self, crates):
+        self.hotplug = crates / "hotplug/out/hotplug"
+        self.lab = crates / "hotplug_lab/out/hotplug_lab"
+
+    def call(self, words, scenario):
+        ran = subprocess.run(words, input=json.dumps(scenario).encode(), stdout=subprocess.PIPE,
+                             stderr=subprocess.STDOUT, timeout=SECONDS)
+        return ran.stdout.decode()
+
+    def serial(self, layout, calls):
+        return self.call([self.hotplug, "serial"], {"layout": layout, "calls": calls})
+
+    def run(self, scenario):
+        return self.call([self.hotplug, "run"], scenario)
+
+    def explore(self, scenario, setup, limit=100000):
+        words = [self.lab, "explore", "--setup", str(setup), "--limit", str(limit)]
+        return self.call(words, scenario)
+
+
+# What is printed
+
+def told(reply):
+    """A reply without the number of the operation that it opened."""
+    return "opened 0" if reply.startswith("opened ") else reply
+
+
+def end_of(part):
+    """The count, the processors' answers with the blocks, and the first calls of one end."""
+    lines = part.split("\n")
+    at = lines.index("first:")
+    answers, blocks = [], []
+    for line in lines[2:at]:
+        if line.startswith("cpu "):
+            answers.append([])
+        elif line.startswith("block "):
+            blocks.append(line)
+        else:
+            answers[-1].append(line)
+    first = json.loads("[" + "".join(lines[at + 1:]) + "]")
+    count = int(lines[1].removeprefix("interleavings: "))
+    return count, (tuple(map(tuple, answers)), tuple(blocks)), first
+
+
+def ends_of(text):
+    """The number of interleavings, and all ends."""
+    head, *parts = text.split("\n\n")
+    total = int(head.split("\n")[0].removeprefix("interleavings: "))
+    return total, [end_of(part.rstrip("\n")) for part in parts]
+
+
+def end_in_serial(programs, layout, setup, calls):
+    """The end that calls have after a setup, as `hotplug serial` prints it."""
+    before = programs.serial(layout, setup).rpartition("state\nblock 0 ")[0]
+    answered, _, state = programs.serial(layout, setup + calls).rpartition("state\nblock 0 ")
+    lines = answered[len(before):].splitlines()
+    answers = [[] for _ in range(layout["cpus"])]
+    for call, line in zip(calls, lines):
+        answers[int(call.split()[0])].append(told(line.partition(": ")[2]))
+    rows = [line for line in ("block 0 " + state).split("\n") if line.startswith("block ")]
+    return tuple(map(tuple, answers)), tuple(row.partition(" op ")[0] for row in rows)
+
+
+# By brute force
+
+def orders(scripts):
+    """Each interleaving of scripts, as processors with their texts."""
+    if not any(scripts):
+        yield []
+    for cpu, script in enumerate(scripts):
+        if script:
+            rest = scripts[:cpu] + [script[1:]] + scripts[cpu + 1:]
+            for order in orders(rest):
+                yield [(cpu, script[0])] + order
+
+
+def numbered(order, before):
+    """The calls of an interleaving, with the number of each processor's own operation for 0."""
+    calls, last = [], {}
+    for cpu, text in order:
+        words = text.split()
+        if words[0] == "begin":
+            last[cpu] = before + len(calls) + 1
+        if words[0] in ("drainfor", "migrate", "commit", "cancel") and words[1] == "0":
+            words[1] = str(last.get(cpu, 0))
+        calls.append(" ".join([str(cpu)] + words))
+    return calls
+
+
+def check_by_force(checks, programs):
+    scenario = json.loads((ROOT / "examples/last-frame.json").read_text())
+    layout, setup, lines = scenario["layout"], scenario["calls"][:3], scenario["calls"][3:]
+    scripts = [[line[2:] for line in lines if line[0] == str(cpu)] for cpu in range(2)]
+    counts = {}
+    for order in orders(scripts):
+        end = end_in_serial(programs, layout, setup, numbered(order, len(setup)))
+        counts[end] = counts.get(end, 0) + 1
+    total, ends = ends_of(programs.explore(scenario, 3))
+    found = {end: count for count, end, _ in ends}
+    checks.holds("last-frame.json", total == sum(counts.values()), "another number of orders")
+    checks.holds("last-frame.json", found == counts, f"{found} in place of {counts}")
+    checks.holds("last-frame.json", len(ends) == len(found), "an end comes twice")
+
+
+# The examples
+
+def unfit(line):
+    """Why a line of the examples cannot stand in a script."""
+    word = line.split()[1]
+    return f"{word} makes no call" if word in ("cat", "seal") else None
+
+
+def check_example(checks, programs, file):
+    scenario = json.loads(file.read_text())
+    calls = scenario["calls"]
+    for setup in range(max(0, len(calls) - TAIL), len(calls) + 1):
+        bad = [at for at in range(setup, len(calls)) if unfit(calls[at])]
+        text = programs.explore(scenario, setup)
+        if bad:
+            line = f"hotplug_lab: line {bad[0] + 1} not for a script: {unfit(calls[bad[0]])}\n"
+            checks.holds(f"{file.name} --setup {setup}", text == line, f"says {text!r}")
+            continue
+        for _, end, first in ends_of(text)[1]:
+            played = end_in_serial(programs, scenario["layout"], calls[:setup], first)
+            checks.holds(f"{file.name} --setup {setup}", end == played, f"{first} ends as {played}")
+
+
+# Runs in threads
+
+def run_end(replies, turns, cpus):
+    """The end of the plan whose replies come next, which are taken away."""
+    reply = replies.pop(0)
+    if not reply.startswith("opened "):
+        return f"plan: {reply}"
+    cause, drains, step = "-", cpus, "drain"
+    while True:
+        if step == "drain" and drains > 0:
+            drains, reply = drains - 1, replies.pop(0)
+        elif step == "commit":
+            reply, step = replies.pop(0), "drain"
+            if reply == "done":
+                return "plan: done"
+            cause, drains = reply.removeprefix("refused "), cpus
+        elif turns > 0:
+            turns, step, reply = turns - 1, "turn", replies.pop(0)
+            if reply.startswith("refused "):
+                cause = reply.removeprefix("refused ")
+                step = "commit" if cause == "NothingToMove" else "drain"
+                drains = cpus
+        else:
+            return f"plan: cancelled {cause} {replies.pop(0)}"
+        if reply == "refused NoOp":
+            return "plan: undone"
+
+
+def as_run(scenario, answers):
+    """What `hotplug run` prints of each processor's lines where these were its replies."""
+    cpus, printed = scenario["layout"]["cpus"], []
+    for cpu, replies in enumerate(map(list, answers)):
+        lines = []
+        for call in scenario["calls"]:
+            words = call.split()
+            if words[0] != str(cpu):
+                continue
+            if words[1] in ("plan", "echo"):
+                turns = int(words[2]) if words[1] == "plan" else 1024
+                lines.append(run_end(replies, turns, cpus))
+            else:
+                lines.append(replies.pop(0))
+        printed.append(tuple(lines))
+    return tuple(printed)
+
+
+def parsed_run(text):
+    """The answers of each processor in what `hotplug run` printed."""
+    printed = []
+    for line in text.splitlines()[:-1]:
+        if line.startswith("cpu "):
+            printed.append([])
+        else:
+            printed[-1].append(told(line))
+    return tuple(map(tuple, printed))
+
+
+LAYOUT = {"order": 1, "pageblocks": 1, "blocks": 3, "cpus": 2, "batch": 1, "high": 1, "owners": 2,
+          "pages": 2, "words": 1, "history": 40, "boot": ["normal", "movable", "movable"]}
+RACES = [["0 map db 0", "0 write db 0 0 7", "0 kalloc 0", "1 map web 0", "1 kalloc 1", "1 drain 0"],
+         ["0 map db 0", "0 plan 2 off 1", "1 map web 0", "1 read web 0 0", "1 unmap web 0"],
+         ["0 echo offline memory2/state", "0 read db 0 0", "1 map db 0", "1 write db 0 0 5"]]
+
+
+def check_runs(checks, programs):
+    for number, calls in enumerate(RACES, 1):
+        scenario = {"layout": LAYOUT, "calls": calls}
+        ends = ends_of(programs.explore(scenario, 0))[1]
+        known = {as_run(scenario, answers) for _, (answers, _), _ in ends}
+        for _ in range(RUNS):
+            outcome = parsed_run(programs.run(scenario))
+            checks.holds(f"run of race {number}", outcome in known, f"{outcome} is no end")
+
+
+def check_all(checks, programs):
+    check_by_force(checks, programs)
+    for file in sorted((ROOT / "examples").glob("*.json")):
+        check_example(checks, programs, file)
+    check_runs(checks, programs)
+
+
+def main(words):
+    checks = Checks()
+    try:
+        check_all(checks, Programs(Path(words[0] if words else ROOT / "crates").resolve()))
+    except (ValueError, LookupError, OSError, subprocess.SubprocessError) as error:
+        checks.holds("lab", False, f"cannot be checked: {error!r}")
+    for failure in checks.failures:
+        print(failure)
+    print(f"lab: {checks.passed} passed, {len(checks.failures)} failed")
+    return 1 if checks.failures else 0
+
+
+if __name__ == "__main__":
+    sys.exit(main(sys.argv[1:]))
