@@ -26,7 +26,13 @@ fn options_are_read(alloc: Global) -> Result<bool, AllocError> {
         limit: 40,
     };
     let words = [
-        "hotplug_lab", "explore", "--limit", "40", "--setup", "3", "tour.json",
+        "hotplug_lab",
+        "explore",
+        "--limit",
+        "40",
+        "--setup",
+        "3",
+        "tour.json",
     ];
     Ok(
         asked_by(alloc, &["hotplug_lab", "explore"])? == Some((false, plain))

@@ -41,7 +41,11 @@ fn explore_command<'a>(alloc: Global) -> Result<Command<'a>, AllocError> {
     Command::new(alloc, "explore")
         .about("Plays every interleaving of the processors' calls, and tells the ends apart")
         .arg(number(alloc, "setup", "Runs so many lines in order first (0)"))?
-        .arg(number(alloc, "limit", "Plays at most so many interleavings (10000000)"))?
+        .arg(number(
+            alloc,
+            "limit",
+            "Plays at most so many interleavings (10000000)",
+        ))?
         .arg(file)
 }
 
