@@ -1,8 +1,9 @@
 //! The ends so far, with their counts.
-ghost use Rattle.std.specs.Prelude.{◌≡◌, [], IfErr, IfOk, IfSome, IfNone, OnOk};
+ghost use Rattle.std.specs.Prelude.{◌≡◌, ◌<◌, ◌≤◌, [], ◌∷◌, IfErr, IfOk, IfSome, IfNone, OnOk, length, map};
 ghost use Rattle.hp_explore.specs.Faults.{IsNoteCause};
 ghost use Rattle.hp_explore.specs.Notes.{HasEndAt, HasNoEnd, IsNoted};
 ghost use Rattle.hp_explore.specs.Schedules.{schedule_of};
+ghost use Rattle.hp_explore.specs.Seen.{AddsAt, AddsCounts, AreNoMore, AreSince, IsAddCause};
 
 use crate::exploring::ExploreFault;
 use crate::outcomes::Outcome;
@@ -83,6 +84,57 @@ impl Tally {
             }
         }
         self.total += 1;
+        Ok(())
+    }
+
+    /// The count of each end, by its place. An error is out of memory.
+    pub(crate) fn counts(&self, alloc: Global) -> Result<Vec<u64>, AllocError>
+        ensures { IfOk result (λ counts. counts.items ≡ map (λ e. e.count) self.now.ends) }
+    {
+        self.ends.iter().map(|e| e.count).collect(alloc)
+    }
+
+    /// What each end counts more than it did, by its place; an end that was not there did not count. An error is out of memory.
+    pub(crate) fn since(&self, alloc: Global, earlier: &[u64]) -> Result<Vec<u64>, AllocError>
+        requires { AreNoMore earlier.now self.now.ends }
+        ensures { IfOk result (λ counts. AreSince earlier.now self.now.ends counts.items) }
+    {
+        let mut counts = Vec::new(alloc);
+        for (place, end) in self.ends.iter().enumerate() {
+            counts.reserve(1)?;
+            let was = earlier.get(place).copied().unwrap_or(0);
+            counts.push_reserved(end.count - was);
+        }
+        Ok(counts)
+    }
+
+    /// Counts so many schedules more under each end, by its place. An error is that there would be more than the limit; then some
+    /// may be counted.
+    pub(crate) fn add(&mut self, counts: &[u64]) -> Result<(), ExploreFault>
+        requires { length counts.now ≤ length self.old.ends }
+        ensures ok { OnOk result (AddsCounts self.old.ends counts.now self.new.ends) }
+        ensures limit { self.new.limit ≡ self.old.limit }
+        ensures err { IfErr result (IsAddCause self.old counts.now) }
+    {
+        for (place, count) in counts.iter().enumerate() {
+            self.add_at(place, *count)?;
+        }
+        Ok(())
+    }
+
+    /// Counts so many schedules more under the end at a place. An error is that there would be more than the limit.
+    fn add_at(&mut self, place: usize, count: u64) -> Result<(), ExploreFault>
+        requires { place < length self.old.ends }
+        ensures ok { OnOk result (AddsAt self.old.ends place count self.new.ends) }
+        ensures limit { self.new.limit ≡ self.old.limit }
+        ensures err { IfErr result (IsAddCause self.old (count ∷ [])) }
+    {
+        if count > self.limit - self.total {
+            return Err(ExploreFault::TooMany);
+        }
+        let end = &mut self.ends[place];
+        end.count += count;
+        self.total += count;
         Ok(())
     }
 
