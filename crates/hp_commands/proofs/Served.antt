@@ -87,17 +87,13 @@ unfolding serial_text
 no_scenario input fault e = refused (scenario_in input) fault scenario_text e
 
 -- a fault of the scenario is one of the program
-scenario_fault_of : (a b : Option (List ℕ)) (input : List ℕ) (read written : Type 0) (fault : ScenarioFault) → Consumes a b input → IsAtEnd b → Fails fault (serial_text input) → IsFaultOf Serial a read written (fault_from fault)
-scenario_fault_of a b input read written scenario.NotJson p end h = given a b input p end (λ i. scenario_in i ≡ Err scenario.NotJson) (no_scenario input _ h)
-scenario_fault_of a b input read written scenario.BadShape p end h = given a b input p end (λ i. scenario_in i ≡ Err scenario.BadShape) (no_scenario input _ h)
-scenario_fault_of a b input read written (scenario.Layout f) p end h = given a b input p end (λ i. scenario_in i ≡ Err (scenario.Layout f)) (no_scenario input _ h)
-scenario_fault_of a b input read written (scenario.BadLine n) p end h = given a b input p end (λ i. scenario_in i ≡ Err (scenario.BadLine n)) (no_scenario input _ h)
-scenario_fault_of a b input read written (scenario.NotForRun n) p end h = absurd (never_not_for_run input n (no_scenario input _ h))
-scenario_fault_of a b input read written scenario.OutOfMemory p end h = tt
-
--- `seen` is the slice that was passed on
-pub scenario_fault : (a b : Option (List ℕ)) (input seen : List ℕ) (read written : Type 0) (fault : ScenarioFault) → seen ≡ input → Consumes a b input → IsAtEnd b → Fails fault (serial_text seen) → IsFaultOf Serial a read written (fault_from fault)
-scenario_fault a b input seen read written fault same p end h = scenario_fault_of a b input read written fault p end (subst (λ (i : List ℕ). Fails fault (serial_text i)) same h)
+pub scenario_fault : (a b : Option (List ℕ)) (input : List ℕ) (read written : Type 0) (fault : ScenarioFault) → Consumes a b input → IsAtEnd b → Fails fault (serial_text input) → IsFaultOf Serial a read written (fault_from fault)
+scenario_fault a b input read written scenario.NotJson p end h = given a b input p end (λ i. scenario_in i ≡ Err scenario.NotJson) (no_scenario input _ h)
+scenario_fault a b input read written scenario.BadShape p end h = given a b input p end (λ i. scenario_in i ≡ Err scenario.BadShape) (no_scenario input _ h)
+scenario_fault a b input read written (scenario.Layout f) p end h = given a b input p end (λ i. scenario_in i ≡ Err (scenario.Layout f)) (no_scenario input _ h)
+scenario_fault a b input read written (scenario.BadLine n) p end h = given a b input p end (λ i. scenario_in i ≡ Err (scenario.BadLine n)) (no_scenario input _ h)
+scenario_fault a b input read written (scenario.NotForRun n) p end h = absurd (never_not_for_run input n (no_scenario input _ h))
+scenario_fault a b input read written scenario.OutOfMemory p end h = tt
 
 -- what was read, its text, and what was written
 pub all_written : (a b old new : Option (List ℕ)) (input text : List ℕ) → Consumes a b input → IsAtEnd b → IsTextOf input text → Appends old new text → WritesTextOf a old new

@@ -14,7 +14,7 @@ use Rattle.hp_machine.specs.MachinePorts.{AreCalls, HasCause}
 use Rattle.hp_commands.specs.Events.{next_record, with_record}
 use Rattle.hp_text.specs.Plans.{plan_line}
 
--- ---- a run where no memory is wanting
+-- ---- a run that is never out of memory
 
 -- what a run gives: its receipts, the machine after them, and the fault of its last call
 pub record PlanRun : Type 0 where

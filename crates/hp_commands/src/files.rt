@@ -7,6 +7,7 @@ use crate::events::write_event;
 use crate::plans::write_plan;
 use hp_control::{CONTROL_TURNS, Request, parse_echo, read_text};
 use hp_machine::Machine;
+use hp_scenario::BoxedText;
 use hp_text::{write_echo_fault, write_read_fault};
 use hp_units::{Cpu, Text};
 use std::alloc::{AllocError, Global};
@@ -32,8 +33,8 @@ pub fn write_echo(
     alloc: Global,
     machine: &mut Machine,
     cpu: Cpu,
-    path: &Text,
-    word: &Text,
+    path: &BoxedText,
+    word: &BoxedText,
 ) -> Result<(), AllocError>
     ensures { OnOk result (GrowsBy (string_bytes out.old) (string_bytes out.new) (λ text. WritesEcho machine.old cpu path.now word.now text machine.new)) }
 {

@@ -1,6 +1,8 @@
 //! The text of a scenario.
-ghost use Rattle.std.specs.Prelude.{OnOk, IfOk, IfErr, string_bytes};
-ghost use Rattle.hp_scenario.specs.Gives.{Fails};
+ghost use Rattle.std.specs.Prelude.{◌≡◌, [], OnOk, IfOk, IfErr, string_bytes};
+ghost use Rattle.hp_scenario.specs.Gives.{Fails, Gives};
+ghost use Rattle.hp_scenario.specs.Scenario.{scenario_in};
+ghost use Rattle.hp_scenario.specs.Seen.{scenario_seen};
 ghost use Rattle.hp_commands.specs.Serial.{GrowsBy, WritesLine, WritesLines, serial_text};
 ghost use Rattle.hp_commands.specs.Served.{IsTextOf};
 
@@ -13,18 +15,33 @@ use hp_scenario::{Line, Scenario, ScenarioFault, Work};
 use hp_text::write_state;
 use std::alloc::{AllocError, Global};
 
-/// The text of a scenario: what each line writes, and then the state.
-pub fn serial(alloc: Global, input: &[u8]) -> Result<String, ScenarioFault>
-    ensures ok { IfOk result (λ out. IsTextOf input.now (string_bytes out)) }
-    ensures err { IfErr result (λ fault. Fails fault (serial_text input.now)) }
+/// The text of a scenario: what each line writes, and then the state. It takes the input, which is dropped once it is read.
+pub fn serial(alloc: Global, input: Vec<u8>) -> Result<String, ScenarioFault>
+    ensures ok { IfOk result (λ out. IsTextOf input.items (string_bytes out)) }
+    ensures err { IfErr result (λ fault. Fails fault (serial_text input.items)) }
 {
-    let scenario = Scenario::read(alloc, input)?;
+    let scenario = read_scenario(alloc, input)?;
     let mut machine = Machine::boot(alloc, &scenario.layout)?;
-    let mut out = String::new(alloc);
-    write_lines(&mut out, alloc, &mut machine, scenario.lines.as_slice())?;
+    let lines = scenario.lines.as_slice();
+    let mut out = room_for(alloc, lines.len())?;
+    write_lines(&mut out, alloc, &mut machine, lines)?;
     let image = machine.image(alloc)?;
     write_state(&mut out, alloc, &image, &scenario.names)?;
     Ok(out)
+}
+
+/// The scenario that the input is, which is dropped.
+fn read_scenario(alloc: Global, input: Vec<u8>) -> Result<Scenario, ScenarioFault>
+    ensures { Gives scenario_seen result (scenario_in input.items) }
+{
+    Scenario::read(alloc, &input)
+}
+
+/// An empty text with room for the answers of so many lines, most of which have no more than 16 bytes.
+fn room_for(alloc: Global, lines: usize) -> Result<String, AllocError>
+    ensures { IfOk result (λ out. string_bytes out ≡ []) }
+{
+    String::with_capacity(alloc, lines.saturating_mul(16))
 }
 
 /// Runs lines one after another, and writes what each answers.

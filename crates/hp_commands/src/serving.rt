@@ -112,7 +112,7 @@ pub fn serve_serial<R: Source, W: Sink>(
     ensures err { IfErr result (IsFaultOf Serial (R.remaining reader.old) (R.failures reader.old < R.failures reader.new) (W.failures writer.old < W.failures writer.new)) }
 {
     let input = read_all(alloc, reader)?;
-    let text = serial(alloc, &input)?;
+    let text = serial(alloc, input)?;
     write_text(writer, &text)
 }
 

@@ -5,7 +5,7 @@ use Rattle.std.proofs.lemmas.List.{length-append}
 use Rattle.hp_units.specs.LayoutParts.{LayoutParts}
 use Rattle.hp_units.specs.Memory.{FreeAreas, FreeFrames}
 use Rattle.hp_tape.specs.declared.deltas.Delta.{Delta}
-use Rattle.hp_tape.specs.declared.deltas.Delta.TheVariants.{Link, Unlink, Kind as KindDelta, Kernel as KernelDelta, Map as MapDelta, Swap, Word as WordDelta, Emptied, Row as RowDelta, Auto as AutoDelta}
+use Rattle.hp_tape.specs.declared.deltas.Delta.TheVariants.{Link, Unlink, Kind as KindDelta, Kernel as KernelDelta, Map as MapDelta, Swap, Word as WordDelta, Filled, Emptied, Row as RowDelta, Auto as AutoDelta}
 use Rattle.hp_tape.specs.declared.deltas.ListId.TheVariants.{Area, Cpu}
 use Rattle.hp_tape.specs.Deltas.{AllFit, FitsAreas, FitsFree, IsOfAreas, IsOfFree, areas_undo, free_undo, undo_all}
 use Rattle.hp_tape.specs.Tapes.{TapeValue, HasRoom, NotesAreas, NotesFree}
@@ -27,6 +27,7 @@ undo-beside (KernelDelta frame was now) cached a own = absurd own
 undo-beside (MapDelta owner page was now) cached a own = absurd own
 undo-beside (Swap one other) cached a own = absurd own
 undo-beside (WordDelta frame index was now) cached a own = absurd own
+undo-beside (Filled frame index now) cached a own = absurd own
 undo-beside (Emptied frame words) cached a own = absurd own
 undo-beside (RowDelta block was now) cached a own = absurd own
 undo-beside (AutoDelta was now) cached a own = absurd own
@@ -41,6 +42,7 @@ fits-beside (KernelDelta frame was now) cached a own h = absurd own
 fits-beside (MapDelta owner page was now) cached a own h = absurd own
 fits-beside (Swap one other) cached a own h = absurd own
 fits-beside (WordDelta frame index was now) cached a own h = absurd own
+fits-beside (Filled frame index now) cached a own h = absurd own
 fits-beside (Emptied frame words) cached a own h = absurd own
 fits-beside (RowDelta block was now) cached a own h = absurd own
 fits-beside (AutoDelta was now) cached a own h = absurd own
@@ -53,6 +55,7 @@ own-beside (KernelDelta frame was now) own = own
 own-beside (MapDelta owner page was now) own = own
 own-beside (Swap one other) own = own
 own-beside (WordDelta frame index was now) own = own
+own-beside (Filled frame index now) own = own
 own-beside (Emptied frame words) own = own
 own-beside (RowDelta block was now) own = own
 own-beside (AutoDelta was now) own = own

@@ -1,9 +1,9 @@
 -- Multinomial coefficients, one turn more at a time.
-use Rattle.std.proofs.Common.{◌≡◌, ℕ, zero, suc, Bool, true, false, ◌+◌, ◌*◌, ◌/◌, ◌-◌, ◌<◌, ◌≤◌, List, [], ◌∷◌, ◌++◌, length, take, drop, get_or, refl, ap, sym, subst, ◌∙◌, arith, inl, inr}
+use Rattle.std.proofs.Common.{◌≡◌, ℕ, zero, suc, Bool, true, false, ◌+◌, ◌*◌, ◌/◌, ◌-◌, ◌<◌, ◌≤◌, List, [], ◌∷◌, ◌++◌, length, take, drop, get_or, refl, ap, sym, subst, ◌∙◌, arith}
 use Rattle.std.specs.Prelude.{◌↔◌, IsTrue, nat_lt, sum_by}
 use Rattle.std.proofs.Math.Nat.{mul_assoc, mul_comm, mul_left_comm, mul_right_comm, mul-pos, mul-le-mul_left, le_of_mul-le-mul_right, eq_of_mul-eq-mul_left, div-eq_of_eq-mul_left}
 use Rattle.std.proofs.lemmas.List.{append-nil, append_assoc, take-append-drop, take_all, take_more}
-use Rattle.std.proofs.lemmas.Bool.{cases_lt, lt-ltb, ltb-true}
+use Rattle.std.proofs.lemmas.Bool.{lt-ltb, ltb-true}
 use Rattle.std.proofs.lemmas.List.Sums.{sum_by_push}
 use Rattle.hp_explore.specs.Multinomials.{ExceedsWith, IsMultinomial, IsMultinomialWith, factorial, factorials, sum}
 use Rattle.hp_explore.proofs.Interleaved.{AreInterleaved, interleaved}
@@ -146,14 +146,6 @@ all_counted ns count at limit past so_far m is =
 -- and their sum fits
 pub all_summed : (ns : List ℕ) (total at : ℕ) → length ns ≤ at → total ≡ sum (take at ns) → total < 18446744073709551616 → IsTrue true ↔ sum ns < 18446744073709551616
 all_summed ns total at past so_far fits = (λ told. omega (arith, fits, so_far, ap sum (take_all at ns past)), λ less. refl)
-
--- and where it does not fit it is 2^64 or more
-pub not_summed : (ns : List ℕ) (fits : Bool) → (IsTrue fits ↔ sum ns < 18446744073709551616) → fits ≡ false → 18446744073709551616 ≤ sum ns
-not_summed ns fits exact unset =
-    elim (cases_lt (sum ns) 18446744073709551616) [
-      | inl less ↦ absurd (let told : fits ≡ true = exact.1 less in let both : true ≡ false = sym told ∙ unset in cc)
-      | inr past ↦ past
-    ]
 
 -- a coefficient that is not above the limit
 pub not_above : (ns : List ℕ) (limit : ℕ) (above : Bool) → ((m : ℕ) → IsMultinomial ns m → IsTrue above ↔ limit < m) → above ≡ false → ((m : ℕ) → IsMultinomial ns m → limit < m) → ⊥

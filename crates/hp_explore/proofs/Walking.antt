@@ -13,8 +13,7 @@ use Rattle.hp_units.specs.declared.replies.Record.{Record}
 use Rattle.hp_machine.specs.Machine.{MachineValue, is_full}
 use Rattle.hp_explore.specs.declared.tally.Ending.{Ending}
 use Rattle.hp_explore.specs.Ends.{AreCounted}
-use Rattle.hp_explore.specs.Faults.{FillsHistory, IsCallCause, IsCause, IsNoteCause, IsWalkCause, is_full_after}
-use Rattle.hp_explore.specs.Interleavings.{IsNotKnownTooMany}
+use Rattle.hp_explore.specs.Faults.{FillsHistory, IsCallCause, IsNoteCause, IsWalkCause, is_full_after}
 use Rattle.hp_explore.specs.Notes.{IsNoted, TallyValue, fault_of}
 use Rattle.hp_explore.specs.declared.exploring.ExploreFault.{ExploreFault}
 use Rattle.hp_explore.specs.declared.exploring.ExploreFault.TheVariants.{TooMany, HistoryFull, OutOfMemory}
@@ -115,12 +114,6 @@ pub call_cause : (g : Setting) (limit : ℕ) (fault : ExploreFault) → IsCallCa
 call_cause g limit TooMany cause = absurd cause
 call_cause g limit HistoryFull cause = cause
 call_cause g limit OutOfMemory cause = cause
-
--- and the walk's is one where the limit was not known to be exceeded
-pub walk_cause : (g : Setting) (limit : ℕ) (fault : ExploreFault) → IsNotKnownTooMany g.scripts limit → IsWalkCause g limit fault → IsCause g limit fault
-walk_cause g limit TooMany known cause = cause
-walk_cause g limit HistoryFull known cause = (cause, known)
-walk_cause g limit OutOfMemory known cause = cause
 
 -- ---- one schedule
 

@@ -11,7 +11,6 @@ ghost use Rattle.hp_history.specs.Entries.{IsEntry, IsWayBack};
 ghost use Rattle.hp_history.specs.Kept.{IsCut, IsStep, is_gone, may_cancel};
 ghost use Rattle.hp_history.specs.Volumes.{volume_of};
 
-use crate::copies::copy_deltas;
 use crate::journal::{Entry, between, keep_step, kept_len, sole_place, start_of};
 use crate::records::{Records, copy_records};
 use crate::volumes::Volume;
@@ -91,7 +90,7 @@ impl Course {
         let memory = self.memory.copy(alloc)?;
         let history = copy_records(alloc, &self.history)?;
         let entries = Vec::from_slice(alloc, self.entries.as_slice())?;
-        let deltas = copy_deltas(alloc, self.deltas.as_slice())?;
+        let deltas = self.deltas.copy(alloc)?;
         Ok(Course {
             before: self.before,
             base,

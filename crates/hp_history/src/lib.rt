@@ -9,7 +9,6 @@
 //! Read first: specs/Course (what a caller sees), specs/Kept (what every course keeps), then `course`.
 #![tactic(auto)]
 
-mod copies;
 mod course;
 mod journal;
 mod records;

@@ -1,19 +1,19 @@
 -- Tables of pages that are copied entry by entry.
 use Rattle.std.proofs.Common.{ℕ, zero, suc, ◌≡◌, ◌+◌, ◌<◌, ◌≤◌, List, [], ◌∷◌, Option, Some, None, length, get_or, set, map, replicate, sym, ◌∙◌, ap, subst, arith}
 use Rattle.std.specs.List.{AllByRecursion}
-use Rattle.std.specs.Option.{option_and_then}
+use Rattle.std.specs.Option.{option_and_then, option_map}
 use Rattle.std.proofs.lemmas.List.{get_or-map, get_or-set_same, length-map, length-set, set-get_or, set-set}
 use Rattle.hp_units.specs.LayoutParts.{LayoutParts, IsLayout}
 use Rattle.hp_units.specs.Arithmetic.{IsFrame, frame_count}
 use Rattle.hp_units.specs.Boot.{empty_pages}
 use Rattle.hp_units.specs.Memory.{Memory, Pages, with_entry}
-use Rattle.hp_units.specs.Pages.{frame_at, page_from, words_at}
+use Rattle.hp_units.specs.Pages.{frame_at, page_from}
 use Rattle.hp_units.specs.Placement.{IsWellPlaced}
 use Rattle.hp_tape.specs.Deltas.{PageFrames, buffer_of, page_frames_of, with_buffer}
 use Rattle.hp_lemmas.proofs.Placed.{page-in_use}
-use Rattle.hp_pages.specs.Pages.{ArePageFramesOf, PagesValue, words_of}
+use Rattle.hp_pages.specs.Pages.{ArePageFramesOf, PagesValue, words_in, words_of}
 use Rattle.hp_pages.proofs.PageParts.{no_pages_is}
-use Rattle.hp_pages.proofs.Views.{buffer_by, buffer_is}
+use Rattle.hp_pages.proofs.Views.{buffer_by, buffer_is, page_buffer}
 use Rattle.hp_images.specs.Pages.{pages_of, words_row}
 use Rattle.hp_images.specs.Tables.{AreCopied}
 use Rattle.hp_images.proofs.Tables.{copied-all, copied-next, copied-none}
@@ -87,9 +87,9 @@ buffer-some l ps v new frame words inside e layout is =
 
 -- the page of a frame, and its words
 pub words-by : (ps : Pages) (table : List (List (Option ℕ))) (frame : ℕ) (found : Option (ℕ × ℕ)) → table ≡ ps.table → found ≡ page_from 0 table frame
-    → buffer_by ps frame ≡ option_and_then (λ page. words_at ps page.0 page.1) found
+    → buffer_by ps frame ≡ option_and_then (page_buffer ps) found
 words-by ps table frame found same is =
-    ap (option_and_then (λ page. words_at ps page.0 page.1)) (ap (λ (t : List (List (Option ℕ))). page_from 0 t frame) (sym same) ∙ sym is)
+    ap (option_and_then (page_buffer ps)) (ap (λ (t : List (List (Option ℕ))). page_from 0 t frame) (sym same) ∙ sym is)
 
 -- no buffer is there yet
 pub no-buffers : (l : LayoutParts) (wanted : List (Option (List ℕ))) (now : PageFrames) → length wanted ≡ frame_count l → now.buffers ≡ (page_frames_of l (empty_pages l)).buffers
@@ -104,17 +104,17 @@ same_tables v w table contents =
     ap (λ (t : List (List (Option ℕ))). record { table = t; contents = v.contents }) table ∙ ap (λ (t : List (List (Option (List ℕ)))). record { table = w.table; contents = t }) contents
 
 -- how many rows and how many pages there are
-pub contents-count : (v : PageFrames) → length (pages_of v).contents ≡ length v.table
-contents-count v = length-map v.table (λ row. map (option_and_then (buffer_of v)) row)
+pub contents-count : (l : LayoutParts) (v : PageFrames) → length (pages_of l v).contents ≡ length v.table
+contents-count l v = length-map v.table (λ row. map (option_map (words_in l v)) row)
 
 pub row-of : (l : LayoutParts) (v : PageFrames) (owner : ℕ) → ArePageFramesOf l v → owner < l.owners → length (get_or v.table owner []) ≡ l.pages
 row-of l v owner are low = row_length l.pages v.table owner are.pages (omega (arith, low, are.owners))
 
-pub row-words : (l : LayoutParts) (v : PageFrames) (owner : ℕ) → ArePageFramesOf l v → owner < l.owners → length (words_row v owner) ≡ l.pages
-row-words l v owner are low = length-map (get_or v.table owner []) (option_and_then (buffer_of v)) ∙ row-of l v owner are low
+pub row-words : (l : LayoutParts) (v : PageFrames) (owner : ℕ) → ArePageFramesOf l v → owner < l.owners → length (words_row l v owner) ≡ l.pages
+row-words l v owner are low = length-map (get_or v.table owner []) (option_map (words_in l v)) ∙ row-of l v owner are low
 
 -- the words of a page, by its row
-pub words-entry : (v : PageFrames) (now new : List (List (Option (List ℕ)))) (owner page : ℕ) → page < length (get_or v.table owner []) → new ≡ with_entry now owner page (words_of v owner page)
-    → new ≡ with_entry now owner page (get_or (words_row v owner) page None)
-words-entry v now new owner page low e =
-    e ∙ ap (λ (words : Option (List ℕ)). with_entry now owner page words) (sym (get_or-map (option_and_then (buffer_of v)) (get_or v.table owner []) page None None low))
+pub words-entry : (l : LayoutParts) (v : PageFrames) (now new : List (List (Option (List ℕ)))) (owner page : ℕ) → page < length (get_or v.table owner []) → new ≡ with_entry now owner page (words_of l v owner page)
+    → new ≡ with_entry now owner page (get_or (words_row l v owner) page None)
+words-entry l v now new owner page low e =
+    e ∙ ap (λ (words : Option (List ℕ)). with_entry now owner page words) (sym (get_or-map (option_map (words_in l v)) (get_or v.table owner []) page None None low))

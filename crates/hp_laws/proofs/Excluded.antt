@@ -149,7 +149,7 @@ moved_contents : entry_of (contents_of_net small booted.pages.contents (net_of m
 unfolding everything
 moved_contents = refl
 
--- a migration that leaves the words behind
+-- a migration that does not take the words along
 words_lost : (s : Memory) → s.pages.contents ≡ contents_of_net small booted.pages.contents (net_of migrated) → entry_of s.pages.contents 0 0 ≡ Some (0 ∷ 0 ∷ []) → ⊥
 words_lost s same zeros =
     two_contents (entry_of s.pages.contents 0 0) zeros (ap (λ (c : List (List (Option (List ℕ)))). entry_of c 0 0) same ∙ moved_contents)

@@ -1,18 +1,19 @@
 -- The events of owners' pages.
-use Rattle.std.proofs.Common.{◌≡◌, ℕ, ◌<◌, List, Option, Some, None, refl, sym, ◌∙◌, ap, subst, arith}
+use Rattle.std.proofs.Common.{◌≡◌, ℕ, ◌<◌, List, [], Option, Some, None, refl, sym, ◌∙◌, ap, subst, arith}
+use Rattle.std.specs.Prelude.{slice_index, unwrap_or}
 use Rattle.std.proofs.lemmas.Bool.{lt-leb}
 use Rattle.hp_units.specs.declared.rows.Zone.{Zone}
 use Rattle.hp_units.specs.LayoutParts.{LayoutParts}
 use Rattle.hp_units.specs.Arithmetic.{frame_count}
 use Rattle.hp_units.specs.InLayout.{ArePagesOf}
 use Rattle.hp_units.specs.Memory.{FreeFrames, Memory, entry_of}
-use Rattle.hp_units.specs.Pages.{frame_at, fresh_words, map_page, unmap_page, write_word}
+use Rattle.hp_units.specs.Pages.{frame_at, fresh_words, map_page, read_word, unmap_page, write_word}
 use Rattle.hp_units.specs.ProcessorLists.{Handed, page_frame}
 use Rattle.hp_units.specs.Rows.{zone_of}
 use Rattle.hp_units.specs.Step.{Answered, done, give_back, map_step, unmap_step, with_free, with_pages}
-use Rattle.hp_units.specs.declared.events.Event.TheVariants.{Map, Unmap, Write}
+use Rattle.hp_units.specs.declared.events.Event.TheVariants.{Map, Read, Unmap, Write}
 use Rattle.hp_units.specs.declared.replies.Refusal.TheVariants.{NoFrame}
-use Rattle.hp_units.specs.declared.replies.Reply.TheVariants.{Done, Refused}
+use Rattle.hp_units.specs.declared.replies.Reply.TheVariants.{Done, Refused, Word}
 use Rattle.hp_tape.specs.declared.deltas.Delta.{Delta}
 use Rattle.hp_tape.specs.Deltas.{FrameView, PageFrames, page_frames_of}
 use Rattle.hp_tape.specs.Tapes.{NotesFree, NotesPages, TapeValue}
@@ -20,15 +21,16 @@ use Rattle.hp_cpus.proofs.Undoes.{take-few}
 use Rattle.hp_units.specs.declared.rows.Pool.TheVariants.{Mm as MmPool}
 use Rattle.hp_lemmas.proofs.Lists.{covered-self}
 use Rattle.hp_laws.proofs.Fitting.{placed-fits}
-use Rattle.hp_pages.specs.Pages.{AreSettled, PagesValue, map_frame, unmap_frame, write_frame}
+use Rattle.hp_pages.specs.Pages.{AreSettled, PagesValue, map_frame, unmap_frame, words_of, write_frame}
 use Rattle.hp_pages.specs.Places.{holders}
-use Rattle.hp_pages.proofs.Views.{AreOnce, once_placed, settled_placed, view-map_page, view-unmap_page, view-write_word}
+use Rattle.hp_pages.proofs.Blanks.{zeros-blank}
+use Rattle.hp_pages.proofs.Views.{AreOnce, once_placed, settled_placed, view-map_page, view-read_word, view-unmap_page, view-write_word}
 use Rattle.hp_plain.specs.Asked.{asked}
 use Rattle.hp_memory.specs.declared.frames.Frames.{Frames}
 use Rattle.hp_memory.specs.declared.layers.Layers.{Layers}
 use Rattle.hp_memory.specs.Frames.{IsGiven, IsTaken, free_of, give_back_bound, given_back, page_frame_bound}
 use Rattle.hp_memory.specs.Layers.{AreOfOneLayout, ArePlaced, IsAnswered, state_of, view_of}
-use Rattle.hp_memory.proofs.Answers.{frames-one, give_back-few, give_back-is, hands-none, hands-some, noted, notes-then}
+use Rattle.hp_memory.proofs.Answers.{frames-one, give_back-few, give_back-is, hands-none, hands-some, noted, notes-then, unchanged}
 use Rattle.hp_memory.proofs.Lifts.{notes-free, notes-pages}
 use Rattle.hp_memory.proofs.Placed.{page-returns}
 
@@ -89,12 +91,12 @@ both-one m f ps p same buddy pages =
     let one = frames-one m f p.one same buddy in
     record { layout = one.layout; buddy = one.buddy; cpus = one.cpus; pages = pages ∙ p.one.pages; kernel = one.kernel; blocks = one.blocks }
 
-pub map-done : {before : List Delta} (m : Layers) (f : Frames) (ps : PagesValue) (cpu owner page frame : ℕ) (words : List ℕ) (was mid now : TapeValue) → ArePlaced m → owner < m.layout.owners → page < m.layout.pages
-    → entry_of m.pages.pages.table owner page ≡ None → was.deltas ≡ before → words ≡ fresh_words m.layout
+pub map-done : {before : List Delta} (m : Layers) (f : Frames) (ps : PagesValue) (cpu owner page frame : ℕ) (was mid now : TapeValue) → ArePlaced m → owner < m.layout.owners → page < m.layout.pages
+    → entry_of m.pages.pages.table owner page ≡ None → was.deltas ≡ before
     → IsTaken (page_frame m.frames.cpus.layout (free_of m.frames) cpu) 0 (page_frame_bound m.frames.cpus.layout (free_of m.frames) cpu) m.frames f was mid (Some frame)
-    → ps.layout ≡ m.pages.layout → ps.pages ≡ map_frame m.pages.pages owner page frame words → NotesPages m.pages.layout 1 mid now ps.pages m.pages.pages
+    → ps.layout ≡ m.pages.layout → ps.pages ≡ map_frame m.pages.pages owner page frame → NotesPages m.pages.layout 1 mid now ps.pages m.pages.pages
     → IsAnswered m (Map owner page) (asked m.layout (state_of m) cpu (Map owner page)) (record m { frames = f; pages = ps }) before now.deltas Done
-map-done {before} m f ps cpu owner page frame words was mid now p low small unmapped none fresh t layout_is set_is notes =
+map-done {before} m f ps cpu owner page frame was mid now p low small unmapped none t layout_is set_is notes =
     let l = m.layout in
     let s = state_of m in
     let v = view_of m in
@@ -103,8 +105,9 @@ map-done {before} m f ps cpu owner page frame words was mid now p low small unma
     let is : page_frame l fs cpu ≡ Some (record { free = free_of f; frame = frame }) =
     subst (λ (k : LayoutParts). page_frame k fs cpu ≡ Some (record { free = free_of f; frame = frame })) same (hands-some _ _ _ frame t.handed) in
     let seen : ps.pages ≡ page_frames_of l (map_page s.pages owner page frame (fresh_words l)) =
-    set_is ∙ (ap (λ (ws : List ℕ). map_frame m.pages.pages owner page frame ws) fresh ∙ (ap (λ (q : PageFrames). map_frame q owner page frame (fresh_words l)) (pages_seen m p)
-    ∙ sym (view-map_page l s.pages owner page frame (fresh_words l) (pages_once m p) low small (taken-inside m _ _ f was mid frame p t) unmapped (taken-free m _ _ f was mid frame p t)))) in
+    set_is ∙ (ap (λ (q : PageFrames). map_frame q owner page frame) (pages_seen m p)
+    ∙ sym (view-map_page l s.pages owner page frame (fresh_words l) (pages_once m p) low small (taken-inside m _ _ f was mid frame p t) unmapped (taken-free m _ _ f was mid frame p t)
+    (zeros-blank l.words))) in
     let first = notes-free v l (page_frame_bound l fs cpu) was mid (free_of f) fs (subst (λ (k : LayoutParts). NotesFree k (page_frame_bound k fs cpu) was mid (free_of f) fs) same t.notes) in
     let second = notes-pages (record v { free = free_of f }) l 1 mid now ps.pages m.pages.pages (subst (λ (k : LayoutParts). NotesPages k 1 mid now ps.pages m.pages.pages) p.one.pages notes) in
     subst (λ (a : Answered). IsAnswered m (Map owner page) a (record m { frames = f; pages = ps }) before now.deltas Done) (sym (mapped l s cpu owner page _ low small unmapped is)) (record {
@@ -174,7 +177,7 @@ unmap-done m f ps cpu owner page frame zone was mid now p low small is none layo
 
 pub write-done : {before : List Delta} (m : Layers) (ps : PagesValue) (owner page index value frame : ℕ) (was now : TapeValue) → ArePlaced m → owner < m.layout.owners → page < m.layout.pages → index < m.layout.words
     → entry_of m.pages.pages.table owner page ≡ Some frame → was.deltas ≡ before
-    → ps.layout ≡ m.pages.layout → ps.pages ≡ write_frame m.pages.pages owner page index value → NotesPages m.pages.layout 1 was now ps.pages m.pages.pages
+    → ps.layout ≡ m.pages.layout → ps.pages ≡ write_frame m.pages.layout m.pages.pages owner page index value → NotesPages m.pages.layout 1 was now ps.pages m.pages.pages
     → IsAnswered m (Write owner page index value) (asked m.layout (state_of m) 0 (Write owner page index value)) (record m { pages = ps }) before now.deltas Done
 write-done {before} m ps owner page index value frame was now p low small within is none layout_is set_is notes =
     let l = m.layout in
@@ -183,7 +186,8 @@ write-done {before} m ps owner page index value frame was now p low small within
     let answers : asked l s 0 (Write owner page index value) ≡ done (with_pages s (write_word s.pages owner page index value)) =
     rw (lt-leb l.owners owner low, lt-leb l.pages page small, lt-leb l.words index within, is) refl in
     let seen : ps.pages ≡ page_frames_of l (write_word s.pages owner page index value) =
-    set_is ∙ (ap (λ (q : PageFrames). write_frame q owner page index value) (pages_seen m p) ∙ sym (view-write_word l s.pages owner page frame index value (pages_once m p) low small is)) in
+    set_is ∙ (ap (λ (k : LayoutParts). write_frame k m.pages.pages owner page index value) p.one.pages
+    ∙ ap (λ (q : PageFrames). write_frame l q owner page index value) (pages_seen m p) ∙ sym (view-write_word l s.pages owner page frame index value (pages_once m p) low small is)) in
     let first = notes-pages v l 1 was now ps.pages m.pages.pages (subst (λ (k : LayoutParts). NotesPages k 1 was now ps.pages m.pages.pages) p.one.pages notes) in
     subst (λ (a : Answered). IsAnswered m (Write owner page index value) a (record m { pages = ps }) before now.deltas Done) (sym answers) (record {
       led = record {
@@ -194,3 +198,18 @@ write-done {before} m ps owner page index value frame was now p low small within
       reply = refl;
       noted = noted l _ _ was now _ _ none (omega arith) first;
     })
+
+-- ---- Read
+
+pub read-done : (m : Layers) (owner page index frame word : ℕ) (deltas : List Delta) → ArePlaced m → owner < m.layout.owners → page < m.layout.pages → index < m.layout.words
+    → entry_of m.pages.pages.table owner page ≡ Some frame → word ≡ slice_index (unwrap_or (words_of m.pages.layout m.pages.pages owner page) []) index
+    → IsAnswered m (Read owner page index) (asked m.layout (state_of m) 0 (Read owner page index)) m deltas deltas (Word word)
+read-done m owner page index frame word deltas p low small within is read =
+    let l = m.layout in
+    let s = state_of m in
+    let value : word ≡ read_word s.pages owner page index =
+    read ∙ (ap (λ (k : LayoutParts). slice_index (unwrap_or (words_of k m.pages.pages owner page) []) index) p.one.pages
+    ∙ (ap (λ (q : PageFrames). slice_index (unwrap_or (words_of l q owner page) []) index) (pages_seen m p) ∙ view-read_word l s.pages owner page frame index (pages_once m p) is)) in
+    let answers : asked l s 0 (Read owner page index) ≡ record { memory = s; reply = Word (read_word s.pages owner page index) } =
+    rw (lt-leb l.owners owner low, lt-leb l.pages page small, lt-leb l.words index within, is) refl in
+    unchanged m (Read owner page index) _ deltas deltas (Word word) p (answers ∙ ap (λ (n : ℕ). record { memory = s; reply = Word n }) (sym value)) refl

@@ -16,10 +16,11 @@ use Rattle.hp_cpus.specs.Cpus.{list_of}
 use Rattle.hp_pages.specs.Pages.{ArePageFramesOf, AreSettled}
 use Rattle.hp_pages.proofs.Views.{are_page_frames, settled_placed}
 use Rattle.hp_plain.specs.Image.{Pictured}
+use Rattle.hp_images.specs.Pages.{pages_of}
 use Rattle.hp_images.specs.Tables.{AreCopied}
 use Rattle.hp_images.proofs.Tables.{copied-none}
 use Rattle.hp_memory.specs.declared.layers.Layers.{Layers}
-use Rattle.hp_memory.specs.Layers.{ArePlaced, pages_of, state_of}
+use Rattle.hp_memory.specs.Layers.{ArePlaced, state_of}
 
 -- ---- an Image with one part changed
 
@@ -126,10 +127,14 @@ table-none m table p e =
     (copied-none [] (replicate m.layout.pages None) m.layout.owners m.pages.pages.table table e p.placed.in_order.shape.owners)
 
 pub contents-none : (m : Layers) (contents : List (List (Option (List ℕ)))) → ArePlaced m → contents ≡ replicate m.layout.owners (replicate m.layout.pages None)
-    → AreCopied [] (replicate m.pages.layout.pages None) 0 (pages_of m.pages.pages).contents contents
+    → AreCopied [] (replicate m.pages.layout.pages None) 0 (pages_of m.pages.layout m.pages.pages).contents contents
 contents-none m contents p e =
-    subst (λ (k : LayoutParts). AreCopied [] (replicate k.pages None) 0 (pages_of m.pages.pages).contents contents) (sym p.one.pages)
-    (copied-none [] (replicate m.layout.pages None) m.layout.owners (pages_of m.pages.pages).contents contents e p.placed.in_order.shape.content_owners)
+    subst (λ (k : LayoutParts). AreCopied [] (replicate k.pages None) 0 (pages_of k m.pages.pages).contents contents) (sym p.one.pages)
+    (copied-none [] (replicate m.layout.pages None) m.layout.owners (pages_of m.layout m.pages.pages).contents contents e p.placed.in_order.shape.content_owners)
+
+-- the pages that come in are those of the state
+pub pages-put : (m : Layers) (i new : Pictured) → ArePlaced m → new ≡ with_pages i (pages_of m.pages.layout m.pages.pages) → new ≡ with_pages i (state_of m).pages
+pages-put m i new p e = e ∙ ap (λ (k : LayoutParts). with_pages i (pages_of k m.pages.pages)) p.one.pages
 
 pub kernel-size : (m : Layers) (k : LayoutParts) → ArePlaced m → k ≡ m.layout → length m.kernel ≡ frame_count k
 kernel-size m k p same = p.one.kernel ∙ ap (λ (j : LayoutParts). frame_count j) (sym same)

@@ -1,7 +1,7 @@
 -- The state of a frame view, and the frame view of a state.
 use Rattle.std.proofs.Common.{◌≡◌, ℕ, zero, suc, ◌<◌, List, [], ◌∷◌, length, get_or, map, Option, Some, None, Result, Ok, Err, IfOk, OnOk, OnErr, refl, sym, ◌∙◌, ap, subst, arith}
 use Rattle.std.specs.List.{AllByRecursion}
-use Rattle.std.specs.Option.{option_and_then}
+use Rattle.std.specs.Option.{option_map}
 use Rattle.std.proofs.lemmas.List.{ext_get_or, get_or-map, length-map}
 use Rattle.hp_units.specs.LayoutParts.{LayoutParts, IsLayout}
 use Rattle.hp_units.specs.Memory.{Memory, Pages}
@@ -12,14 +12,15 @@ use Rattle.hp_units.specs.declared.replies.Reply.{Reply}
 use Rattle.hp_tape.specs.declared.deltas.Delta.{Delta}
 use Rattle.hp_tape.specs.Bounds.{delta_bound}
 use Rattle.hp_units.specs.declared.events.Event.{Event}
-use Rattle.hp_tape.specs.Deltas.{FrameView, buffer_of, frame_view_of, page_frames_of, undo, undo_all}
+use Rattle.hp_tape.specs.Deltas.{FrameView, frame_view_of, page_frames_of, undo, undo_all}
 use Rattle.hp_laws.proofs.EventSteps.{step-placed}
 use Rattle.hp_laws.proofs.Fitting.{placed-fits}
-use Rattle.hp_pages.specs.Pages.{words_of}
+use Rattle.hp_pages.specs.Pages.{words_in, words_of}
 use Rattle.hp_pages.proofs.Views.{AreOnce, once_placed, view-words_at}
+use Rattle.hp_images.specs.Pages.{pages_of}
 use Rattle.hp_memory.specs.declared.layers.Layers.{Layers}
 use Rattle.hp_memory.specs.Memory.{LeadsBack}
-use Rattle.hp_memory.specs.Layers.{AreLedTo, AreNoted, AreOfOneLayout, ArePlaced, IsAnswered, memory_of, pages_of, state_of, view_of}
+use Rattle.hp_memory.specs.Layers.{AreLedTo, AreNoted, AreOfOneLayout, ArePlaced, IsAnswered, memory_of, state_of, view_of}
 
 -- ---- words by frame, and by page
 
@@ -30,20 +31,20 @@ row_length pages (row ∷ rows) zero all low = all.0
 row_length pages (row ∷ rows) (suc owner) all low = row_length pages rows owner all.1 (omega arith)
 
 words_back : (l : LayoutParts) (ps : Pages) (owner page : ℕ) (entry : Option ℕ) → AreOnce l ps → IsPage l entry (words_at ps owner page) → frame_at ps owner page ≡ entry
-    → words_of (page_frames_of l ps) owner page ≡ words_at ps owner page
-words_back l ps owner page None once is at = ap (option_and_then (buffer_of (page_frames_of l ps))) at ∙ sym (none l (words_at ps owner page) is)
+    → words_of l (page_frames_of l ps) owner page ≡ words_at ps owner page
+words_back l ps owner page None once is at = ap (option_map (words_in l (page_frames_of l ps))) at ∙ sym (none l (words_at ps owner page) is)
   where
     none : (l : LayoutParts) (words : Option (List ℕ)) → IsPage l None words → words ≡ None
     none l None is = refl
     none l (Some words) is = absurd is
 words_back l ps owner page (Some frame) once is at = view-words_at l ps owner page frame once at
 
-contents_back : (l : LayoutParts) (s : Memory) → IsLayout l → IsWellPlaced l s → (pages_of (page_frames_of l s.pages)).contents ≡ s.pages.contents
+contents_back : (l : LayoutParts) (s : Memory) → IsLayout l → IsWellPlaced l s → (pages_of l (page_frames_of l s.pages)).contents ≡ s.pages.contents
 contents_back l s layout p =
     let fits = (placed-fits l s layout p).pages in
     let once = once_placed l s p fits in
     let ps = s.pages in
-    let words = option_and_then (buffer_of (page_frames_of l ps)) in
+    let words = option_map (words_in l (page_frames_of l ps)) in
     let row = λ (entries : List (Option ℕ)). map words entries in
     let tall : length (map row ps.table) ≡ length ps.contents = length-map ps.table row ∙ (fits.owners ∙ sym fits.content_owners) in
     ext_get_or [] (map row ps.table) ps.contents tall (λ owner below.
@@ -57,7 +58,7 @@ contents_back l s layout p =
     ∙ words_back l ps owner page (frame_at ps owner page) once (p.in_order.words owner page) refl))
 
 -- the state of a well placed state's frame view is that state
-pub state_back : (l : LayoutParts) (s : Memory) → IsLayout l → IsWellPlaced l s → memory_of (frame_view_of l s) ≡ s
+pub state_back : (l : LayoutParts) (s : Memory) → IsLayout l → IsWellPlaced l s → memory_of l (frame_view_of l s) ≡ s
 state_back l s layout p =
     ap (λ (contents : List (List (Option (List ℕ)))). record s { pages = record { table = s.pages.table; contents = contents } }) (contents_back l s layout p)
 
@@ -67,7 +68,7 @@ state_back l s layout p =
 pub are-placed : (m new : Layers) (s : Memory) → AreLedTo m s new → IsWellPlaced m.layout s → (ArePlaced new) × (state_of new ≡ s)
 are-placed m new s led p =
     let layout = subst IsLayout led.layout led.one.layout in
-    let is : state_of new ≡ s = ap memory_of led.view ∙ state_back m.layout s layout p in (
+    let is : state_of new ≡ s = ap (memory_of new.layout) led.view ∙ (ap (λ (l : LayoutParts). memory_of l (frame_view_of m.layout s)) led.layout ∙ state_back m.layout s layout p) in (
       record {
         one = led.one;
         placed = subst (λ (l : LayoutParts). IsWellPlaced l (state_of new)) (sym led.layout) (subst (λ (t : Memory). IsWellPlaced m.layout t) (sym is) p);

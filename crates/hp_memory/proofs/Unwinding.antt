@@ -4,7 +4,7 @@ use Rattle.std.proofs.lemmas.List.{drop-append-le, drop_all, length-append, take
 use Rattle.std.specs.List.{AllByRecursion}
 use Rattle.hp_units.specs.LayoutParts.{LayoutParts}
 use Rattle.hp_tape.specs.declared.deltas.Delta.{Delta}
-use Rattle.hp_tape.specs.declared.deltas.Delta.TheVariants.{Link, Unlink, Kind as KindDelta, Kernel as KernelDelta, Map as MapDelta, Swap, Word as WordDelta, Emptied, Row as RowDelta, Auto as AutoDelta}
+use Rattle.hp_tape.specs.declared.deltas.Delta.TheVariants.{Link, Unlink, Kind as KindDelta, Kernel as KernelDelta, Map as MapDelta, Swap, Word as WordDelta, Filled, Emptied, Row as RowDelta, Auto as AutoDelta}
 use Rattle.hp_tape.specs.declared.deltas.ListId.TheVariants.{Area, Cpu}
 use Rattle.hp_tape.specs.Deltas.{AllFit, Fits, FrameView, IsDeltaOf, undo, undo_all}
 use Rattle.hp_tape.proofs.Leads.{all-latest, all_fit-latest, undo_all-append}
@@ -21,6 +21,7 @@ undo-part (KernelDelta frame was now) v = refl
 undo-part (MapDelta owner page was now) v = refl
 undo-part (Swap a b) v = refl
 undo-part (WordDelta frame index was now) v = refl
+undo-part (Filled frame index now) v = refl
 undo-part (Emptied frame words) v = refl
 undo-part (RowDelta block was now) v = refl
 undo-part (AutoDelta was now) v = refl

@@ -1,18 +1,18 @@
 -- All layers together: the state that they keep, and what each step does to them and notes.
-use Rattle.std.specs.Prelude.{ℕ, ◌≡◌, ◌≤◌, List, ◌++◌, length, map}
+use Rattle.std.specs.Prelude.{ℕ, ◌≡◌, ◌≤◌, List, ◌++◌, length}
 use Rattle.std.specs.List.{AllByRecursion}
-use Rattle.std.specs.Option.{option_and_then}
 use Rattle.hp_units.specs.LayoutParts.{LayoutParts, IsLayout}
 use Rattle.hp_units.specs.Arithmetic.{frame_count}
-use Rattle.hp_units.specs.Memory.{Memory, Pages}
+use Rattle.hp_units.specs.Memory.{Memory}
 use Rattle.hp_units.specs.Placement.{IsWellPlaced}
 use Rattle.hp_units.specs.Step.{Answered}
 use Rattle.hp_units.specs.declared.events.Event.{Event}
 use Rattle.hp_units.specs.declared.replies.Reply.{Reply}
 use Rattle.hp_tape.specs.Bounds.{delta_bound}
 use Rattle.hp_tape.specs.declared.deltas.Delta.{Delta}
-use Rattle.hp_tape.specs.Deltas.{FrameView, PageFrames, Fits, IsDeltaOf, buffer_of, frame_view_of, undo}
+use Rattle.hp_tape.specs.Deltas.{FrameView, Fits, IsDeltaOf, frame_view_of, undo}
 use Rattle.hp_tape.specs.Tapes.{LeadBack, Notes, TapeValue}
+use Rattle.hp_images.specs.Pages.{pages_of}
 use Rattle.hp_memory.specs.declared.layers.Layers.{Layers}
 use Rattle.hp_memory.specs.Frames.{free_of}
 
@@ -22,16 +22,12 @@ use Rattle.hp_memory.specs.Frames.{free_of}
 abbrev pub view_of : Layers → FrameView
 view_of m = record { free = free_of m.frames; pages = m.pages.pages; kernel = m.kernel; blocks = m.blocks.blocks }
 
--- the pages of a frame view: each has the words in the buffer of its frame
-abbrev pub pages_of : PageFrames → Pages
-pages_of v = record { table = v.table; contents = map (λ row. map (option_and_then (buffer_of v)) row) v.table }
-
 -- the state of a frame view
-abbrev pub memory_of : FrameView → Memory
-memory_of v = record { free = v.free; pages = pages_of v.pages; kernel = v.kernel; blocks = v.blocks }
+abbrev pub memory_of : LayoutParts → FrameView → Memory
+memory_of l v = record { free = v.free; pages = pages_of l v.pages; kernel = v.kernel; blocks = v.blocks }
 
 abbrev pub state_of : Layers → Memory
-state_of m = memory_of (view_of m)
+state_of m = memory_of m.layout (view_of m)
 
 -- all layers are of one layout
 pub record AreOfOneLayout (m : Layers) : Type 0 where

@@ -1,3 +1,4 @@
+pub mod Blanks
 mod FrameSets
 mod PageCalls
 pub mod PageParts

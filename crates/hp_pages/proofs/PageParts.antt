@@ -1,10 +1,10 @@
 -- Parts of the layer's view: buffers, pages, tapes, and the view without pages.
-use Rattle.std.proofs.Common.{◌≡◌, ℕ, zero, suc, ◌<◌, ◌+◌, true, false, List, [], ◌∷◌, ◌++◌, length, get_or, set, map, replicate, Option, Some, None, refl, sym, ap, ◌∙◌, subst, inl, inr, arith}
-use Rattle.std.specs.Prelude.{IfSome, IsSome, is_some, option_map, slice_get, slice_index, unwrap_or}
+use Rattle.std.proofs.Common.{◌≡◌, ℕ, zero, suc, ◌<◌, ◌+◌, List, [], ◌∷◌, ◌++◌, length, get_or, set, map, replicate, Option, Some, None, refl, sym, ap, ◌∙◌, subst, arith}
+use Rattle.std.specs.Prelude.{IfSome, slice_get}
 use Rattle.std.specs.List.{AllByRecursion, range_with_len}
 use Rattle.std.specs.Option.{option_and_then}
-use Rattle.std.proofs.lemmas.Bool.{cases_eq, cases_lt, eq-eqb, ne_eqb, lt-ltb, le-ltb, cond-true, cond-false}
-use Rattle.std.proofs.lemmas.List.{append_assoc, get_or-set_same, get_or-set_other, length-set, set-set, set_comm, set-get_or, set_past}
+use Rattle.std.proofs.lemmas.Bool.{eq-eqb, ne_eqb, cond-true, cond-false}
+use Rattle.std.proofs.lemmas.List.{append_assoc, get_or-set_same, get_or-set_other, length-set, set-set, set_comm, set-get_or}
 use Rattle.std.proofs.lemmas.Option.{slice_get-get_or}
 use Rattle.hp_units.specs.LayoutParts.{LayoutParts}
 use Rattle.hp_units.specs.Arithmetic.{frame_count}
@@ -12,11 +12,11 @@ use Rattle.hp_units.specs.Boot.{empty_pages}
 use Rattle.hp_units.specs.Memory.{entry_of}
 use Rattle.hp_units.specs.Pages.{page_at, page_from, words_at}
 use Rattle.hp_tape.specs.declared.deltas.Delta.{Delta}
-use Rattle.hp_tape.specs.Deltas.{PageFrames, buffer_of, page_frames_of}
+use Rattle.hp_tape.specs.Deltas.{PageFrames, buffer_for, buffer_of, page_frames_of}
 use Rattle.hp_tape.specs.Tapes.{TapeValue}
-use Rattle.hp_pages.specs.Pages.{AreLayerOf, ArePageFramesOf, AreSettled, PagesValue, words_of}
+use Rattle.hp_pages.specs.Pages.{AreLayerOf, ArePageFramesOf, AreSettled, IsNeeded, PagesValue}
 use Rattle.hp_pages.specs.Places.{IsTable, TableValue, held, holders}
-use Rattle.hp_pages.proofs.Places.{IsIn, holds_some, page_from-None, page_from-Some}
+use Rattle.hp_pages.proofs.Places.{IsIn, page_from-None, page_from-Some}
 use Rattle.hp_pages.proofs.Tables.{empty_first, page_in, row_length}
 
 -- ---- parts of a view
@@ -37,8 +37,8 @@ same_frames table other buffers others e f =
     ap (λ (t : List (List (Option ℕ))). view_of t buffers) e ∙ ap (λ (b : List (Option (List ℕ))). view_of other b) f
 
 -- the numbers of a layer's parts
-pub are_of : (l : LayoutParts) (t : TableValue) (buffers : List (Option (List ℕ))) → AreLayerOf l t buffers → IsTable t → ArePageFramesOf l (view_of t.rows buffers)
-are_of l t buffers layer table = record {
+pub are_of : (l : LayoutParts) (t : TableValue) (buffers : List (Option (List ℕ))) (zeros : List ℕ) → AreLayerOf l t buffers zeros → IsTable t → ArePageFramesOf l (view_of t.rows buffers)
+are_of l t buffers zeros layer table = record {
   owners = layer.owners;
   pages = subst (λ (n : ℕ). AllByRecursion (λ row. length row ≡ n) t.rows) layer.pages table.rows;
   mapped = λ owner page. subst (λ (n : ℕ). IfSome (entry_of t.rows owner page) (λ frame. frame < n)) layer.frames (table.mapped owner page);
@@ -46,31 +46,25 @@ are_of l t buffers layer table = record {
   words = layer.words;
 }
 
+-- the buffers are of the layout's frames and words
+pub record AreSized (l : LayoutParts) (v : PageFrames) : Type 0 where
+  pub frames : length v.buffers ≡ frame_count l
+  pub words : (frame : ℕ) → IfSome (buffer_of v frame) (λ words. length words ≡ l.words)
+
+pub sized_of : (l : LayoutParts) (t : TableValue) (buffers : List (Option (List ℕ))) (zeros : List ℕ) → AreLayerOf l t buffers zeros → AreSized l (view_of t.rows buffers)
+sized_of l t buffers zeros layer = record { frames = layer.buffers_of; words = layer.words }
+
 -- a page of the layout
 pub page_of : (l : LayoutParts) (v : PageFrames) (owner page : ℕ) → ArePageFramesOf l v → owner < l.owners → page < l.pages → IsIn v.table owner page
 page_of l v owner page are in_owners in_pages = page_in l.pages v.table owner page are.pages (omega (arith, are.owners)) in_pages
 
--- a frame with a page has a buffer of the layout's words, and one without has none
-pub some_of : {X : Type 0} (o : Option X) → is_some o ≡ true → (x : X) × (o ≡ Some x)
-some_of (Some x) e = (x, refl)
-some_of None e = cc
-
-pub none_of : {X : Type 0} (o : Option X) → is_some o ≡ false → o ≡ None
-none_of None e = refl
-none_of (Some x) e = cc
-
-pub has_buffer : (v : PageFrames) (owner page frame : ℕ) → AreSettled v → entry_of v.table owner page ≡ Some frame → IsSome (buffer_of v frame)
-has_buffer v owner page frame settled e = settled.buffers frame ∙ lt-ltb 0 _ (holds_some v.table owner page frame e)
-
+-- a frame without a page has no buffer
 pub has_none : (v : PageFrames) (frame : ℕ) → AreSettled v → holders v.table frame ≡ 0 → buffer_of v frame ≡ None
-has_none v frame settled none = none_of (buffer_of v frame) (settled.buffers frame ∙ le-ltb 0 _ (omega (arith, none)))
-
--- what the words of a page read
-pub read_is : (v : PageFrames) (owner page frame index : ℕ) (words : List ℕ) → entry_of v.table owner page ≡ Some frame → buffer_of v frame ≡ Some words
-    → slice_index (unwrap_or (words_of v owner page) []) index ≡ slice_index words index
-read_is v owner page frame index words mapped there =
-    ap (λ (entry : Option ℕ). slice_index (unwrap_or (option_and_then (buffer_of v) entry) []) index) mapped
-    ∙ ap (λ (b : Option (List ℕ)). slice_index (unwrap_or b []) index) there
+has_none v frame settled none = needless (buffer_of v frame) (settled.buffers frame)
+  where
+    needless : (b : Option (List ℕ)) → IfSome b (IsNeeded v frame) → b ≡ None
+    needless None needed = refl
+    needless (Some words) needed = absurd (omega (arith, needed.held, none))
 
 -- the first page of a frame, in a layout
 pub record IsFirstPage (l : LayoutParts) (v : PageFrames) (frame : ℕ) (page : ℕ × ℕ) : Type 0 where
@@ -111,25 +105,6 @@ held_no frame f ne = cond-false _ _ _ (ne_eqb frame f ne)
 pub get_set : {X : Type 0} (xs : List X) (i : ℕ) (x : X) → i < length xs → slice_get (set xs i x) i ≡ Some x
 get_set xs i x lt = slice_get-get_or (set xs i x) i x (rw length-set lt) ∙ ap (λ y. Some y) (get_or-set_same xs i x x lt)
 
--- which frames have a buffer once a word has changed
-pub mapped_some : (b : Option (List ℕ)) (index value : ℕ) → is_some (option_map (λ ws. set ws index value) b) ≡ is_some b
-mapped_some None index value = refl
-mapped_some (Some ws) index value = refl
-
-pub some_kept : (buffers : List (Option (List ℕ))) (frame f index value : ℕ)
-    → is_some (get_or (set buffers frame (option_map (λ ws. set ws index value) (get_or buffers frame None))) f None) ≡ is_some (get_or buffers f None)
-some_kept buffers frame f index value =
-    let new = option_map (λ ws. set ws index value) (get_or buffers frame None) in
-    elim (cases_lt frame (length buffers)) [
-      | inl within ↦ elim (cases_eq f frame) [
-        | inl same ↦ ap (λ (n : ℕ). is_some (get_or (set buffers frame new) n None)) same
-            ∙ (ap (λ (b : Option (List ℕ)). is_some b) (get_or-set_same buffers frame new None within)
-            ∙ (mapped_some (get_or buffers frame None) index value ∙ ap (λ (n : ℕ). is_some (get_or buffers n None)) (sym same)))
-        | inr other ↦ ap (λ (b : Option (List ℕ)). is_some b) (get_or-set_other buffers frame f new None other)
-      ]
-      | inr past ↦ ap (λ (bs : List (Option (List ℕ))). is_some (get_or bs f None)) (set_past buffers frame new past)
-    ]
-
 -- two places of a list after a swap
 pub swapped_a : (buffers : List (Option (List ℕ))) (a b : ℕ) (x y : Option (List ℕ)) → (a ≡ b → ⊥) → a < length buffers → get_or (set (set buffers a y) b x) a None ≡ y
 swapped_a buffers a b x y apart a_in = get_or-set_other (set buffers a y) b a x None apart ∙ get_or-set_same buffers a y None a_in
@@ -168,8 +143,8 @@ no_pages l = record { table = replicate l.owners (replicate l.pages None); buffe
 pub no_pages_is : (l : LayoutParts) → page_frames_of l (empty_pages l) ≡ no_pages l
 no_pages_is l =
     ap (λ (b : List (Option (List ℕ))). record { table = replicate l.owners (replicate l.pages None); buffers = b })
-    (map_none (λ frame. option_and_then (λ page. words_at (empty_pages l) page.0 page.1) (page_at (empty_pages l) frame))
-    (λ frame. ap (option_and_then (λ page. words_at (empty_pages l) page.0 page.1)) (empty_first l.owners l.pages frame)) 0 (frame_count l))
+    (map_none (λ frame. option_and_then (λ page. option_and_then buffer_for (words_at (empty_pages l) page.0 page.1)) (page_at (empty_pages l) frame))
+    (λ frame. ap (option_and_then (λ page. option_and_then buffer_for (words_at (empty_pages l) page.0 page.1))) (empty_first l.owners l.pages frame)) 0 (frame_count l))
 
 -- no buffer
 abbrev pub no_buffer : Option (List ℕ)
@@ -185,9 +160,7 @@ none_read (suc count) (suc frame) = none_read count frame
 pub settled_no_pages : (l : LayoutParts) → AreSettled (no_pages l)
 settled_no_pages l = record {
   once = λ frame. omega (arith, page_from-None 0 (replicate l.owners (replicate l.pages None)) frame (empty_first l.owners l.pages frame));
-  buffers = λ frame.
-      ap (λ (b : Option (List ℕ)). is_some b) (none_read (frame_count l) frame)
-      ∙ sym (le-ltb 0 _ (omega (arith, page_from-None 0 (replicate l.owners (replicate l.pages None)) frame (empty_first l.owners l.pages frame))));
+  buffers = λ frame. subst (λ (b : Option (List ℕ)). IfSome b (IsNeeded (no_pages l) frame)) (sym (none_read (frame_count l) frame)) tt;
 }
 
 -- the new layer

@@ -1,21 +1,22 @@
 -- The calls of the layer and the definitions of the rules: the frame view of the pages after a rule is what the call makes of the
 -- frame view before, where no frame holds two pages.
-use Rattle.std.proofs.Common.{◌≡◌, ℕ, ◌<◌, ◌≤◌, ltb, List, [], length, get_or, set, map, Option, Some, None, refl, sym, ap, ◌∙◌, subst, inl, inr, arith}
+use Rattle.std.proofs.Common.{◌≡◌, ℕ, ◌<◌, ◌≤◌, true, false, List, [], length, get_or, set, map, Option, Some, None, refl, sym, ap, ◌∙◌, subst, inl, inr, arith}
 use Rattle.std.specs.Prelude.{IfSome, is_some, option_map, slice_index, unwrap_or}
 use Rattle.std.specs.List.{range_with_len}
 use Rattle.std.specs.Option.{option_and_then, option_map_or}
-use Rattle.std.proofs.lemmas.Bool.{cases_eq, cases_lt, cases_Bool, lt-ltb, le-ltb, cond-false, cond-true}
-use Rattle.std.proofs.lemmas.List.{ext_get_or, get_or_past, get_or-set_same, get_or-set_other, length-set}
+use Rattle.std.proofs.lemmas.Bool.{cases_eq, cases_lt, cases_Bool, cond-false, cond-true}
+use Rattle.std.proofs.lemmas.List.{ext_get_or, get_or_past, get_or-set_same, get_or-set_other, length-set, set-get_or}
 use Rattle.std.proofs.lemmas.List.FromFn.{get_or-map-range_with_len, length-map-range_with_len}
 use Rattle.hp_units.specs.LayoutParts.{LayoutParts}
 use Rattle.hp_units.specs.Arithmetic.{IsFrame, frame_count, all_frames}
 use Rattle.hp_units.specs.InLayout.{ArePagesOf}
 use Rattle.hp_units.specs.Memory.{Memory, Pages, entry_of, with_entry}
-use Rattle.hp_units.specs.Pages.{frame_at, holds, map_page, move_page, page_at, page_from, read_word, unmap_page, words_at, write_word}
+use Rattle.hp_units.specs.Pages.{frame_at, fresh_words, holds, map_page, move_page, page_at, page_from, read_word, unmap_page, words_at, write_word}
 use Rattle.hp_units.specs.Placement.{IsPage, IsWellPlaced, mapped_places}
-use Rattle.hp_tape.specs.Deltas.{buffer_of, page_frames_of}
-use Rattle.hp_pages.specs.Pages.{ArePageFramesOf, AreSettled, map_frame, move_entry, move_frame, unmap_frame, unmap_from, words_of, write_at, write_frame}
+use Rattle.hp_tape.specs.Deltas.{PageFrames, buffer_for, buffer_of, is_blank, page_frames_of}
+use Rattle.hp_pages.specs.Pages.{ArePageFramesOf, AreSettled, IsNeeded, map_frame, move_entry, move_frame, unmap_frame, unmap_from, words_in, words_of, write_at, write_frame}
 use Rattle.hp_pages.specs.Places.{held, holders}
+use Rattle.hp_pages.proofs.Blanks.{none-needed, some-needed, buffer-words}
 use Rattle.hp_pages.proofs.Places.{IsIn, entry-other, entry-same, entry_in, holders-entry, holds_is, holds_some, is_held, only_page, page_from-None, page_from-Some}
 use Rattle.hp_pages.proofs.PageParts.{same_frames}
 use Rattle.hp_pages.proofs.Tables.{page_in}
@@ -67,9 +68,12 @@ first_kept table owner page x f is_in once was now = kept_found table owner page
 
 -- ---- the buffers of a frame view
 
--- the buffer of a frame by the definitions
+-- the buffer of a page, and of a frame, by the definitions
+abbrev pub page_buffer : Pages → ℕ × ℕ → Option (List ℕ)
+page_buffer ps page = option_and_then buffer_for (words_at ps page.0 page.1)
+
 abbrev pub buffer_by : Pages → ℕ → Option (List ℕ)
-buffer_by ps frame = option_and_then (λ page. words_at ps page.0 page.1) (page_at ps frame)
+buffer_by ps frame = option_and_then (page_buffer ps) (page_at ps frame)
 
 pub buffer_is : (l : LayoutParts) (ps : Pages) (frame : ℕ) → IsFrame l frame → buffer_of (page_frames_of l ps) frame ≡ buffer_by ps frame
 buffer_is l ps frame in_frames = get_or-map-range_with_len (buffer_by ps) 0 (frame_count l) frame frame None in_frames (omega arith)
@@ -117,21 +121,36 @@ two_changed b c n at also x y lt also_lt apart here there others =
 
 -- a frame whose first page and its words are the same has the same buffer
 kept_by : (ps new : Pages) (found : Option (ℕ × ℕ)) → ((page : ℕ × ℕ) → found ≡ Some page → words_at new page.0 page.1 ≡ words_at ps page.0 page.1)
-    → option_and_then (λ page. words_at new page.0 page.1) found ≡ option_and_then (λ page. words_at ps page.0 page.1) found
+    → option_and_then (page_buffer new) found ≡ option_and_then (page_buffer ps) found
 kept_by ps new None words = refl
-kept_by ps new (Some page) words = words page refl
+kept_by ps new (Some page) words = ap (option_and_then buffer_for) (words page refl)
 
 buffer_kept : (ps new : Pages) (f : ℕ) → page_at new f ≡ page_at ps f → ((page : ℕ × ℕ) → page_at ps f ≡ Some page → words_at new page.0 page.1 ≡ words_at ps page.0 page.1)
     → buffer_by new f ≡ buffer_by ps f
 buffer_kept ps new f first words =
-    ap (option_and_then (λ page. words_at new page.0 page.1)) first ∙ kept_by ps new (page_at ps f) words
+    ap (option_and_then (page_buffer new)) first ∙ kept_by ps new (page_at ps f) words
 
 -- ---- the rules
 
--- what the rules and the calls have in common: numbers of the layout, and no frame holds two pages
+-- what the rules and the calls have in common: numbers of the layout, no frame holds two pages, and a page has words where it has a frame
 pub record AreOnce (l : LayoutParts) (ps : Pages) : Type 0 where
   pub pages_of : ArePagesOf l ps
   pub once : (frame : ℕ) → holders ps.table frame ≤ 1
+  pub words : (owner page : ℕ) → is_some (words_at ps owner page) ≡ is_some (frame_at ps owner page)
+
+-- the words of a mapped page
+pub record HasWords (l : LayoutParts) (ps : Pages) (owner page : ℕ) : Type 0 where
+  pub words : List ℕ
+  pub are : words_at ps owner page ≡ Some words
+  pub size : length words ≡ l.words
+
+mapped_words : (l : LayoutParts) (ps : Pages) (owner page frame : ℕ) → AreOnce l ps → frame_at ps owner page ≡ Some frame → HasWords l ps owner page
+mapped_words l ps owner page frame once mapped =
+    some_words (words_at ps owner page) refl (once.words owner page ∙ ap (λ (entry : Option ℕ). is_some entry) mapped) (once.pages_of.words owner page)
+  where
+    some_words : (o : Option (List ℕ)) → words_at ps owner page ≡ o → is_some o ≡ true → IfSome o (λ words. length words ≡ l.words) → HasWords l ps owner page
+    some_words None is some size = absurd cc
+    some_words (Some words) is some size = record { words = words; are = is; size = size }
 
 in_table : (l : LayoutParts) (ps : Pages) (owner page : ℕ) → AreOnce l ps → owner < l.owners → page < l.pages → IsIn ps.table owner page
 in_table l ps owner page are in_owners in_pages = page_in l.pages ps.table owner page are.pages_of.pages (omega (arith, are.pages_of.owners)) in_pages
@@ -145,11 +164,11 @@ other_words : (ps : Pages) (owner page : ℕ) (words : Option (List ℕ)) (f : �
 other_words ps owner page words f found is_in apart first =
     entry-other ps.contents owner page words found.0 found.1 is_in (λ a b. apart (rw (← a, ← b) (entry_at ps.table f found first)))
 
--- a page is mapped
+-- a page is mapped, with words that are all 0
 pub view-map_page : (l : LayoutParts) (ps : Pages) (owner page frame : ℕ) (words : List ℕ) → AreOnce l ps → owner < l.owners → page < l.pages → IsFrame l frame
-    → frame_at ps owner page ≡ None → holders ps.table frame ≡ 0
-    → page_frames_of l (map_page ps owner page frame words) ≡ map_frame (page_frames_of l ps) owner page frame words
-view-map_page l ps owner page frame words are in_owners in_pages in_frames unmapped free =
+    → frame_at ps owner page ≡ None → holders ps.table frame ≡ 0 → is_blank words ≡ true
+    → page_frames_of l (map_page ps owner page frame words) ≡ map_frame (page_frames_of l ps) owner page frame
+view-map_page l ps owner page frame words are in_owners in_pages in_frames unmapped free blank =
     let is_in = in_table l ps owner page are in_owners in_pages in
     let has_words = in_contents l ps owner page are in_owners in_pages in
     let new = map_page ps owner page frame words in
@@ -157,11 +176,15 @@ view-map_page l ps owner page frame words are in_owners in_pages in_frames unmap
     let unmapped_from : (f : ℕ) → entry_of ps.table owner page ≡ Some f → ⊥ = λ f e. let n : None ≡ Some f = sym unmapped ∙ e in cc in
     let first : page_at new frame ≡ Some (owner, page) =
     only_page new.table owner page frame (omega (arith, counts, held_le frame (Some frame), free)) (entry-same ps.table owner page (Some frame) is_in) in
-    same_frames _ _ _ _ refl (one_changed (buffer_by ps) (buffer_by new) (frame_count l) frame (Some words) in_frames
-    (ap (option_and_then (λ p. words_at new p.0 p.1)) first ∙ entry-same ps.contents owner page (Some words) has_words)
+    let before : buffer_of (page_frames_of l ps) frame ≡ None =
+    buffer_is l ps frame in_frames ∙ ap (option_and_then (page_buffer ps)) (first_none ps.table frame free) in
+    same_frames _ _ _ _ refl (one_changed (buffer_by ps) (buffer_by new) (frame_count l) frame None in_frames
+    (ap (option_and_then (page_buffer new)) first
+    ∙ (ap (option_and_then buffer_for) (entry-same ps.contents owner page (Some words) has_words) ∙ none-needed words blank))
     (λ f lt other. buffer_kept ps new f
     (first_kept ps.table owner page (Some frame) f is_in (are.once f) (unmapped_from f) (λ e. let n : frame ≡ f = cc in other (sym n)))
-    (λ found e. other_words ps owner page (Some words) f found has_words (unmapped_from f) e)))
+    (λ found e. other_words ps owner page (Some words) f found has_words (unmapped_from f) e))
+    ∙ (ap (λ (b : Option (List ℕ)). set (page_frames_of l ps).buffers frame b) (sym before) ∙ set-get_or (page_frames_of l ps).buffers frame None))
 
 -- the frame of a page that is mapped
 frame_in : (l : LayoutParts) (ps : Pages) (owner page frame : ℕ) → AreOnce l ps → frame_at ps owner page ≡ Some frame → IsFrame l frame
@@ -185,15 +208,25 @@ view-unmap_page l ps owner page frame are in_owners in_pages mapped =
     let gone : holders new.table frame ≡ 0 = omega (arith, counts, held_self frame, are.once frame) in
     let view = page_frames_of l ps in
     same_frames _ _ _ _ refl (one_changed (buffer_by ps) (buffer_by new) (frame_count l) frame None in_frames
-    (ap (option_and_then (λ p. words_at new p.0 p.1)) (first_none new.table frame gone))
+    (ap (option_and_then (page_buffer new)) (first_none new.table frame gone))
     (λ f lt other. buffer_kept ps new f
     (first_kept ps.table owner page None f is_in (are.once f) (apart_from ps owner page frame mapped f other) (λ e. cc))
     (λ found e. other_words ps owner page None f found has_words (apart_from ps owner page frame mapped f other) e)))
     ∙ sym (ap (λ (entry : Option ℕ). option_map_or (unmap_from view owner page) entry view) mapped)
 
+-- the words in the frame of a mapped page
+frame_words : (l : LayoutParts) (ps : Pages) (owner page frame : ℕ) (are : AreOnce l ps) (mapped : frame_at ps owner page ≡ Some frame)
+    → words_in l (page_frames_of l ps) frame ≡ (mapped_words l ps owner page frame are mapped).words
+frame_words l ps owner page frame are mapped =
+    let has = mapped_words l ps owner page frame are mapped in
+    let first = only_page ps.table owner page frame (are.once frame) mapped in
+    ap (λ (b : Option (List ℕ)). unwrap_or b (fresh_words l))
+    (buffer_is l ps frame (frame_in l ps owner page frame are mapped) ∙ (ap (option_and_then (page_buffer ps)) first ∙ ap (option_and_then buffer_for) has.are))
+    ∙ buffer-words l.words has.words has.size
+
 -- one word is written
 pub view-write_word : (l : LayoutParts) (ps : Pages) (owner page frame index value : ℕ) → AreOnce l ps → owner < l.owners → page < l.pages → frame_at ps owner page ≡ Some frame
-    → page_frames_of l (write_word ps owner page index value) ≡ write_frame (page_frames_of l ps) owner page index value
+    → page_frames_of l (write_word ps owner page index value) ≡ write_frame l (page_frames_of l ps) owner page index value
 view-write_word l ps owner page frame index value are in_owners in_pages mapped =
     let has_words = in_contents l ps owner page are in_owners in_pages in
     let in_frames = frame_in l ps owner page frame are mapped in
@@ -201,13 +234,15 @@ view-write_word l ps owner page frame index value are in_owners in_pages mapped 
     let view = page_frames_of l ps in
     let first = only_page ps.table owner page frame (are.once frame) mapped in
     let write : Option (List ℕ) → Option (List ℕ) = option_map (λ words. set words index value) in
-    let buffer : buffer_of view frame ≡ words_at ps owner page =
-    buffer_is l ps frame in_frames ∙ ap (option_and_then (λ p. words_at ps p.0 p.1)) first in
-    same_frames _ _ _ _ refl (one_changed (buffer_by ps) (buffer_by new) (frame_count l) frame (write (buffer_of view frame)) in_frames
-    (ap (option_and_then (λ p. words_at new p.0 p.1)) first ∙ (entry-same ps.contents owner page (write (words_at ps owner page)) has_words ∙ ap write (sym buffer)))
+    let before = mapped_words l ps owner page frame are mapped in
+    let there = frame_words l ps owner page frame are mapped in
+    same_frames _ _ _ _ refl (one_changed (buffer_by ps) (buffer_by new) (frame_count l) frame (buffer_for (set (words_in l view frame) index value)) in_frames
+    (ap (option_and_then (page_buffer new)) first
+    ∙ (ap (option_and_then buffer_for) (entry-same ps.contents owner page (write (words_at ps owner page)) has_words ∙ ap write before.are)
+    ∙ ap (λ (ws : List ℕ). buffer_for (set ws index value)) (sym there)))
     (λ f lt other. buffer_kept ps new f refl
     (λ found e. other_words ps owner page (write (words_at ps owner page)) f found has_words (apart_from ps owner page frame mapped f other) e)))
-    ∙ sym (ap (λ (entry : Option ℕ). option_map_or (λ n. write_at view n index value) entry view) mapped)
+    ∙ sym (ap (λ (entry : Option ℕ). option_map_or (λ n. write_at l view n index value) entry view) mapped)
 
 -- a page moves
 pub view-move_page : (l : LayoutParts) (ps : Pages) (owner page from to : ℕ) → AreOnce l ps → IsFrame l to → page_at ps from ≡ Some (owner, page) → holders ps.table to ≡ 0
@@ -225,8 +260,8 @@ view-move_page l ps owner page from to are to_in first free =
     omega (arith, from_counts, held_self from, not_held from (Some to) (λ e. let same : from ≡ to = cc in apart same), are.once from) in
     let arrived : page_at new to ≡ Some (owner, page) =
     only_page new.table owner page to (omega (arith, to_counts, held_le to (Some to), free)) (entry-same ps.table owner page (Some to) is_in) in
-    let words = λ (p : ℕ × ℕ). words_at ps p.0 p.1 in
-    let from_buffer : buffer_of view from ≡ words_at ps owner page = buffer_is l ps from from_in ∙ ap (option_and_then words) first in
+    let words = page_buffer ps in
+    let from_buffer : buffer_of view from ≡ page_buffer ps (owner, page) = buffer_is l ps from from_in ∙ ap (option_and_then words) first in
     let to_buffer : buffer_of view to ≡ None = buffer_is l ps to to_in ∙ ap (option_and_then words) (first_none ps.table to free) in
     ap (λ (p : Option (ℕ × ℕ)). page_frames_of l (option_map_or (λ page. record ps { table = with_entry ps.table page.0 page.1 (Some to) }) p ps)) first
     ∙ (same_frames _ _ _ _ refl (two_changed (buffer_by ps) (buffer_by new) (frame_count l) from to (buffer_of view to) (buffer_of view from) from_in to_in apart
@@ -239,25 +274,34 @@ view-move_page l ps owner page from to are to_in first free =
 
 -- one word is read, and all words of a page
 pub view-words_at : (l : LayoutParts) (ps : Pages) (owner page frame : ℕ) → AreOnce l ps → frame_at ps owner page ≡ Some frame
-    → words_of (page_frames_of l ps) owner page ≡ words_at ps owner page
+    → words_of l (page_frames_of l ps) owner page ≡ words_at ps owner page
 view-words_at l ps owner page frame are mapped =
-    let view = page_frames_of l ps in
-    ap (option_and_then (buffer_of view)) mapped
-    ∙ (buffer_is l ps frame (frame_in l ps owner page frame are mapped)
-    ∙ ap (option_and_then (λ p. words_at ps p.0 p.1)) (only_page ps.table owner page frame (are.once frame) mapped))
+    ap (option_map (words_in l (page_frames_of l ps))) mapped
+    ∙ (ap (λ (ws : List ℕ). Some ws) (frame_words l ps owner page frame are mapped) ∙ sym (mapped_words l ps owner page frame are mapped).are)
 
 pub view-read_word : (l : LayoutParts) (ps : Pages) (owner page frame index : ℕ) → AreOnce l ps → frame_at ps owner page ≡ Some frame
-    → slice_index (unwrap_or (words_of (page_frames_of l ps) owner page) []) index ≡ read_word ps owner page index
+    → slice_index (unwrap_or (words_of l (page_frames_of l ps) owner page) []) index ≡ read_word ps owner page index
 view-read_word l ps owner page frame index are mapped =
     ap (λ (words : Option (List ℕ)). slice_index (unwrap_or words []) index) (view-words_at l ps owner page frame are mapped)
 
 -- ---- the conditions of the calls
 
 -- the numbers of a frame view are those of the layout
+kept_words : (P : List ℕ → Type 0) (words : Option (List ℕ)) → IfSome words (λ ws. is_blank ws ≡ false → P ws) → IfSome (option_and_then buffer_for words) P
+kept_words P None have = tt
+kept_words P (Some words) have = elim (cases_Bool (is_blank words)) [
+  | inl blank ↦ subst (λ (b : Option (List ℕ)). IfSome b P) (sym (none-needed words blank)) tt
+  | inr some ↦ subst (λ (b : Option (List ℕ)). IfSome b P) (sym (some-needed words some)) (have some)
+]
+
+any_words : (l : LayoutParts) (words : Option (List ℕ)) → IfSome words (λ ws. length ws ≡ l.words) → IfSome words (λ ws. is_blank ws ≡ false → length ws ≡ l.words)
+any_words l None have = tt
+any_words l (Some words) have = λ some. have
+
 buffer_words : (l : LayoutParts) (ps : Pages) (found : Option (ℕ × ℕ)) → ArePagesOf l ps
-    → IfSome (option_and_then (λ page. words_at ps page.0 page.1) found) (λ words. length words ≡ l.words)
+    → IfSome (option_and_then (page_buffer ps) found) (λ words. length words ≡ l.words)
 buffer_words l ps None are = tt
-buffer_words l ps (Some page) are = are.words page.0 page.1
+buffer_words l ps (Some page) are = kept_words (λ ws. length ws ≡ l.words) (words_at ps page.0 page.1) (any_words l (words_at ps page.0 page.1) (are.words page.0 page.1))
 
 pub are_page_frames : (l : LayoutParts) (ps : Pages) → ArePagesOf l ps → ArePageFramesOf l (page_frames_of l ps)
 are_page_frames l ps are = record {
@@ -271,28 +315,25 @@ are_page_frames l ps are = record {
   ];
 }
 
--- pages have words exactly where they have a frame: then the frame view is settled
-found_words : (ps : Pages) (f : ℕ) (found : Option (ℕ × ℕ)) → ((owner page : ℕ) → is_some (words_at ps owner page) ≡ is_some (frame_at ps owner page)) → page_at ps f ≡ found
-    → is_some (option_and_then (λ page. words_at ps page.0 page.1) found) ≡ ltb 0 (holders ps.table f)
-found_words ps f None words first = sym (le-ltb 0 _ (omega (arith, page_from-None 0 ps.table f first)))
-found_words ps f (Some page) words first =
-    words page.0 page.1 ∙ (ap (λ (entry : Option ℕ). is_some entry) (entry_at ps.table f page first)
-    ∙ sym (lt-ltb 0 _ (holds_some ps.table page.0 page.1 f (entry_at ps.table f page first))))
+-- the frame view is settled
+needed_words : (v : PageFrames) (frame : ℕ) (words : Option (List ℕ)) → holders v.table frame ≡ 1 → IfSome words (λ ws. is_blank ws ≡ false → IsNeeded v frame ws)
+needed_words v frame None one = tt
+needed_words v frame (Some words) one = λ some. record { held = one; some = some }
 
-holders_past : (l : LayoutParts) (ps : Pages) (frame : ℕ) (found : Option (ℕ × ℕ)) → ArePagesOf l ps → frame_count l ≤ frame → page_at ps frame ≡ found → holders ps.table frame ≡ 0
-holders_past l ps frame None are past first = page_from-None 0 ps.table frame first
-holders_past l ps frame (Some page) are past first =
-    let within = subst (λ (entry : Option ℕ). IfSome entry (IsFrame l)) (entry_at ps.table frame page first) (are.mapped page.0 page.1) in
-    absurd (omega (arith, within, past))
+needed_found : (l : LayoutParts) (ps : Pages) (frame : ℕ) (found : Option (ℕ × ℕ)) → holders ps.table frame ≤ 1 → page_at ps frame ≡ found
+    → IfSome (option_and_then (page_buffer ps) found) (IsNeeded (page_frames_of l ps) frame)
+needed_found l ps frame None once first = tt
+needed_found l ps frame (Some page) once first =
+    let one : holders ps.table frame ≡ 1 = omega (arith, once, holds_some ps.table page.0 page.1 frame (entry_at ps.table frame page first)) in
+    kept_words (IsNeeded (page_frames_of l ps) frame) (words_at ps page.0 page.1) (needed_words (page_frames_of l ps) frame (words_at ps page.0 page.1) one)
 
-pub settled_view : (l : LayoutParts) (ps : Pages) → AreOnce l ps → ((owner page : ℕ) → is_some (words_at ps owner page) ≡ is_some (frame_at ps owner page))
-    → AreSettled (page_frames_of l ps)
-settled_view l ps are words = record {
+pub settled_view : (l : LayoutParts) (ps : Pages) → AreOnce l ps → AreSettled (page_frames_of l ps)
+settled_view l ps are = record {
   once = are.once;
   buffers = λ frame. elim (cases_lt frame (frame_count l)) [
-    | inl within ↦ ap (λ (b : Option (List ℕ)). is_some b) (buffer_is l ps frame within) ∙ found_words ps frame (page_at ps frame) words refl
-    | inr past ↦ ap (λ (b : Option (List ℕ)). is_some b) (no_buffer_past l ps frame past)
-        ∙ sym (le-ltb 0 _ (omega (arith, holders_past l ps frame (page_at ps frame) are.pages_of past refl)))
+    | inl within ↦ subst (λ (b : Option (List ℕ)). IfSome b (IsNeeded (page_frames_of l ps) frame)) (sym (buffer_is l ps frame within))
+        (needed_found l ps frame (page_at ps frame) (are.once frame) refl)
+    | inr past ↦ subst (λ (b : Option (List ℕ)). IfSome b (IsNeeded (page_frames_of l ps) frame)) (sym (no_buffer_past l ps frame past)) tt
   ];
 }
 
@@ -310,8 +351,11 @@ page_words l (Some frame) (Some words) is = refl
 
 -- in a well placed state no frame holds two pages, and the frame view of its pages is settled
 pub once_placed : (l : LayoutParts) (s : Memory) → IsWellPlaced l s → ArePagesOf l s.pages → AreOnce l s.pages
-once_placed l s placed are = record { pages_of = are; once = λ frame. omega (arith, placed.once frame) }
+once_placed l s placed are = record {
+  pages_of = are;
+  once = λ frame. omega (arith, placed.once frame);
+  words = λ owner page. page_words l (frame_at s.pages owner page) (words_at s.pages owner page) (placed.in_order.words owner page);
+}
 
 pub settled_placed : (l : LayoutParts) (s : Memory) → IsWellPlaced l s → ArePagesOf l s.pages → AreSettled (page_frames_of l s.pages)
-settled_placed l s placed are =
-    settled_view l s.pages (once_placed l s placed are) (λ owner page. page_words l (frame_at s.pages owner page) (words_at s.pages owner page) (placed.in_order.words owner page))
+settled_placed l s placed are = settled_view l s.pages (once_placed l s placed are)

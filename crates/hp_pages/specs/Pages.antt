@@ -1,14 +1,14 @@
 -- What a contract sees of the layer of pages, and what its calls do to it.
-use Rattle.std.specs.Prelude.{◌≡◌, ℕ, ◌≤◌, List, Option, Some, None, IfSome, is_some, length, nat_lt, option_map, slice_index_or, slice_set}
+use Rattle.std.specs.Prelude.{◌≡◌, ℕ, ◌≤◌, ◌==◌, false, List, Option, Some, None, IfSome, length, option_map, slice_index_or, slice_set, unwrap_or, if◌then◌else◌}
 use Rattle.std.specs.List.{AllByRecursion}
 use Rattle.std.specs.Option.{option_and_then, option_map_or}
 use Rattle.hp_units.specs.LayoutParts.{LayoutParts}
 use Rattle.hp_units.specs.Arithmetic.{IsFrame, frame_count}
 use Rattle.hp_units.specs.Memory.{entry_of, with_entry}
-use Rattle.hp_units.specs.Pages.{page_from}
+use Rattle.hp_units.specs.Pages.{fresh_words, page_from}
 use Rattle.hp_tape.specs.declared.deltas.Delta.{Delta}
 use Rattle.hp_tape.specs.declared.deltas.Delta.TheVariants.{Emptied}
-use Rattle.hp_tape.specs.Deltas.{PageFrames, buffer_of, with_buffer}
+use Rattle.hp_tape.specs.Deltas.{PageFrames, buffer_for, buffer_of, is_blank, with_buffer}
 use Rattle.hp_pages.specs.Places.{TableValue, holders}
 
 -- the layout, and the pages with their words by frame
@@ -24,28 +24,39 @@ pub record ArePageFramesOf (l : LayoutParts) (v : PageFrames) : Type 0 where
   pub frames : length v.buffers ≡ frame_count l
   pub words : (frame : ℕ) → IfSome (buffer_of v frame) (λ words. length words ≡ l.words)
 
--- a frame holds at most one page, and exactly the frames of pages have a buffer: each call but the opposite of a delta keeps this (own rule)
+-- a buffer is that of a page, and one of its words is not 0
+pub record IsNeeded (v : PageFrames) (frame : ℕ) (words : List ℕ) : Type 0 where
+  pub held : holders v.table frame ≡ 1
+  pub some : is_blank words ≡ false
+
+-- a frame holds at most one page, and only the frame of a page has a buffer, where a word of the page is not 0:
+-- each call but the opposite of a delta keeps this (own rule)
 pub record AreSettled (v : PageFrames) : Type 0 where
   pub once : (frame : ℕ) → holders v.table frame ≤ 1
-  pub buffers : (frame : ℕ) → is_some (buffer_of v frame) ≡ nat_lt 0 (holders v.table frame)
+  pub buffers : (frame : ℕ) → IfSome (buffer_of v frame) (IsNeeded v frame)
 
--- the table and the buffers as the layer has them
-pub record AreLayerOf (l : LayoutParts) (t : TableValue) (buffers : List (Option (List ℕ))) : Type 0 where
+-- the table, the buffers and the zeros as the layer has them
+pub record AreLayerOf (l : LayoutParts) (t : TableValue) (buffers : List (Option (List ℕ))) (words_of_none : List ℕ) : Type 0 where
   pub frames : t.frames ≡ frame_count l
   pub pages : t.pages ≡ l.pages
   pub owners : length t.rows ≡ l.owners
   pub buffers_of : length buffers ≡ frame_count l
   pub words : (frame : ℕ) → IfSome (slice_index_or buffers frame None) (λ words. length words ≡ l.words)
+  pub zeros : words_of_none ≡ fresh_words l
 
 -- ---- what the calls answer and do (own rule)
 
--- the words of a page: those in the buffer of its frame
-abbrev pub words_of : PageFrames → (owner page : ℕ) → Option (List ℕ)
-words_of v owner page = option_and_then (buffer_of v) (entry_of v.table owner page)
+-- the words in a frame: those of its buffer, and zeros where it has none
+abbrev pub words_in : LayoutParts → PageFrames → (frame : ℕ) → List ℕ
+words_in l v frame = unwrap_or (buffer_of v frame) (fresh_words l)
 
--- a page is mapped to a frame, whose buffer has the page's words; it is unmapped, and the buffer leaves
-abbrev pub map_frame : PageFrames → (owner page frame : ℕ) → List ℕ → PageFrames
-map_frame v owner page frame words = record { table = with_entry v.table owner page (Some frame); buffers = slice_set v.buffers frame (Some words) }
+-- the words of a page: those in its frame
+abbrev pub words_of : LayoutParts → PageFrames → (owner page : ℕ) → Option (List ℕ)
+words_of l v owner page = option_map (words_in l v) (entry_of v.table owner page)
+
+-- a page is mapped to a frame; it is unmapped, and the frame's buffer leaves
+abbrev pub map_frame : PageFrames → (owner page frame : ℕ) → PageFrames
+map_frame v owner page frame = record v { table = with_entry v.table owner page (Some frame) }
 
 abbrev pub unmap_from : PageFrames → (owner page frame : ℕ) → PageFrames
 unmap_from v owner page frame = record { table = with_entry v.table owner page None; buffers = slice_set v.buffers frame None }
@@ -53,12 +64,21 @@ unmap_from v owner page frame = record { table = with_entry v.table owner page N
 abbrev pub unmap_frame : PageFrames → (owner page : ℕ) → PageFrames
 unmap_frame v owner page = option_map_or (unmap_from v owner page) (entry_of v.table owner page) v
 
--- one word changes in the buffer of a frame, and of a page's frame
-abbrev pub write_at : PageFrames → (frame index value : ℕ) → PageFrames
-write_at v frame index value = with_buffer v frame (option_map (λ words. slice_set words index value) (buffer_of v frame))
+-- one word changes in a frame, and in a page's frame; a frame keeps a buffer only where a word is not 0
+abbrev pub write_at : LayoutParts → PageFrames → (frame index value : ℕ) → PageFrames
+write_at l v frame index value = with_buffer v frame (buffer_for (slice_set (words_in l v frame) index value))
 
-abbrev pub write_frame : PageFrames → (owner page index value : ℕ) → PageFrames
-write_frame v owner page index value = option_map_or (λ frame. write_at v frame index value) (entry_of v.table owner page) v
+abbrev pub write_frame : LayoutParts → PageFrames → (owner page index value : ℕ) → PageFrames
+write_frame l v owner page index value = option_map_or (λ frame. write_at l v frame index value) (entry_of v.table owner page) v
+
+-- the buffer of a page's frame, and the one that a write of a value asks for: zeros, where the frame has none and
+-- the value is not 0
+abbrev pub buffer_at : PageFrames → (owner page : ℕ) → Option (List ℕ)
+buffer_at v owner page = option_and_then (buffer_of v) (entry_of v.table owner page)
+
+abbrev pub spare_for : LayoutParts → Option (List ℕ) → (value : ℕ) → Option (List ℕ)
+spare_for l None value = if value == 0 then None else Some (fresh_words l)
+spare_for l (Some words) value = None
 
 -- the buffers of two frames change places, and a page moves from one frame to another (Linux, memory hotplug: migration)
 abbrev pub swap_buffers : PageFrames → (a b : ℕ) → PageFrames
@@ -69,11 +89,6 @@ move_entry v owner page from to = record (swap_buffers v from to) { table = with
 
 abbrev pub move_frame : PageFrames → (from to : ℕ) → PageFrames
 move_frame v from to = option_map_or (λ page. move_entry v page.0 page.1 from to) (page_from 0 v.table from) v
-
--- a new page's frame loses its buffer again
-abbrev pub without_new : (was now : Option ℕ) → List (Option (List ℕ)) → List (Option (List ℕ))
-without_new None (Some frame) buffers = slice_set buffers frame None
-without_new was now buffers = buffers
 
 -- a delta that moves no buffer out of the journal
 abbrev pub IsInPlace : Delta → Type 0

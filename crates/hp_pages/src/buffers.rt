@@ -1,8 +1,9 @@
 //! The buffers of words, by frame.
 ghost use Rattle.std.specs.Prelude.{◌≡◌, ◌<◌, IfOk, IfSome, None, Some, length, option_map, replicate, slice_index_or, slice_set};
-ghost use Rattle.hp_pages.specs.Pages.{without_new};
+ghost use Rattle.hp_units.specs.Pages.{fresh_words};
+ghost use Rattle.hp_tape.specs.Deltas.{is_blank};
 
-use hp_units::{Frame, Words};
+use hp_units::{Frame, Layout, Words};
 use std::alloc::{AllocError, Global};
 use std::marker::Model;
 use std::mem::replace;
@@ -61,14 +62,12 @@ impl Buffers {
         replace(&mut self.frames[frame.0 as usize], None)
     }
 
-    /// Lets the frame of a page that had none before lose its buffer.
-    pub(crate) fn clear_new(&mut self, was: Option<Frame>, now: Option<Frame>)
-        requires { IfSome now (λ frame. frame < length self.old) }
-        ensures { self.new ≡ without_new was now self.old }
+    /// Drops a frame's buffer, if it has one.
+    pub(crate) fn clear(&mut self, frame: Frame)
+        requires { frame < length self.old }
+        ensures { self.new ≡ slice_set self.old frame None }
     {
-        if let (None, Some(frame)) = (was, now) {
-            self.frames[frame.0 as usize] = None;
-        }
+        self.frames[frame.0 as usize] = None;
     }
 
     /// Lets the buffers of two frames change places; no word is copied.
@@ -90,4 +89,28 @@ impl Buffers {
             words.set(index, value);
         }
     }
+}
+
+/// Whether words are all 0. A page of such words needs no buffer.
+pub fn is_blank(words: &[u64]) -> bool
+    ensures { result ≡ is_blank words.now }
+{
+    words.iter().all(|word| *word == 0)
+}
+
+/// Whether words are all 0 but for one, which may be any.
+pub(crate) fn is_blank_beside(words: &[u64], index: u32) -> bool
+    requires { index < length words.now }
+    ensures { result ≡ is_blank (slice_set words.now index 0) }
+{
+    let at = index as usize;
+    is_blank(&words[..at]) && is_blank(&words[at + 1..])
+}
+
+/// The words of a new page of a layout. Takes memory for them.
+pub(crate) fn zeros(alloc: Global, layout: &Layout) -> Result<Words, AllocError>
+    ensures { IfOk result (λ words. words ≡ fresh_words layout.now) }
+{
+    let words = vec![in alloc; 0; layout.words() as usize]?;
+    Ok(Words::new(words))
 }

@@ -9,5 +9,6 @@ mod pages;
 mod place_sums;
 mod table;
 
+pub use buffers::is_blank;
 pub use laws::well_placed_pages_are_settled;
-pub use pages::{Pages, fresh_words};
+pub use pages::Pages;

@@ -1,29 +1,30 @@
 //! Owners' pages and their words.
-ghost use Rattle.std.specs.Prelude.{◌≡◌, ◌+◌, ◌<◌, ◌≤◌, [], IfOk, IfSome, IsSome, None, Some, find, is_some, length, option_map, slice_index, unwrap_or};
+ghost use Rattle.std.specs.Prelude.{◌≡◌, ◌≢◌, ◌+◌, ◌<◌, ◌≤◌, [], IfOk, IfSome, IsSome, None, Some, find, is_some, length, option_map, slice_get, slice_index, slice_set, unwrap_or};
 ghost use Rattle.std.specs.List.{range_with_len};
 ghost use Rattle.hp_units.specs.Arithmetic.{IsFrame, frame_count};
 ghost use Rattle.hp_units.specs.Boot.{empty_pages};
-ghost use Rattle.hp_units.specs.Memory.{entry_of};
+ghost use Rattle.hp_units.specs.Memory.{entry_of, with_entry};
 ghost use Rattle.hp_units.specs.Pages.{fresh_words, page_from};
-ghost use Rattle.hp_tape.specs.declared.deltas.Delta.TheVariants.{Map as MapDelta};
-ghost use Rattle.hp_tape.specs.Deltas.{FitsPages, IsDeltaOf, page_frames_of, pages_undo};
+ghost use Rattle.hp_tape.specs.Deltas.{FitsPages, IsDeltaOf, buffer_of, page_frames_of, pages_undo, with_buffer};
 ghost use Rattle.hp_tape.specs.Tapes.{HasRoom, NotesPages};
-ghost use Rattle.hp_pages.specs.Pages.{ArePageFramesOf, AreSettled, IsInPlace, map_frame, move_frame, unmap_frame, words_of, write_frame};
+ghost use Rattle.hp_pages.specs.Pages.{ArePageFramesOf, AreSettled, IsInPlace, buffer_at, map_frame, move_frame, spare_for, unmap_frame, words_in, words_of, write_at, write_frame};
 ghost use Rattle.hp_pages.specs.Places.{holders};
 
-use crate::buffers::Buffers;
+use crate::buffers::{Buffers, is_blank_beside, zeros};
 use crate::table::Table;
 use hp_tape::{Delta, Tape};
 use hp_units::{Frame, Layout, Owner, Page, Words};
 use std::alloc::{AllocError, Global};
 use std::marker::Model;
 
-/// The owners' pages of a layout: the frame that holds each page, and the words of each mapped frame. No call but `new` takes memory.
+/// The owners' pages of a layout: the frame of each page, and the words of each mapped frame. A page whose words
+/// are all 0 has no buffer: one page of zeros serves all of them. No call but `new` and `spare_for` takes memory.
 #[derive(Debug)]
 pub struct Pages {
     layout: Layout,
     table: Table,
     buffers: Buffers,
+    zeros: Words,
 }
 
 /// A function of its own, so that no proof of a caller takes the fields apart.
@@ -33,6 +34,7 @@ impl Drop for Pages {
             layout: _layout,
             table: _table,
             buffers: _buffers,
+            zeros: _zeros,
         } = self;
     }
 }
@@ -44,7 +46,7 @@ impl Model for Pages {
 
     ghost view = { λ p. record { layout = p.layout; pages = record { table = p.table.rows; buffers = p.buffers } } };
 
-    ghost invariant = { λ p. AreLayerOf p.layout p.table p.buffers };
+    ghost invariant = { λ p. AreLayerOf p.layout p.table p.buffers p.zeros };
 }
 
 impl Pages {
@@ -58,6 +60,7 @@ impl Pages {
             layout: layout.copy(alloc)?,
             table: Table::empty(alloc, layout.owners(), layout.pages(), frames)?,
             buffers: Buffers::none(alloc, frames)?,
+            zeros: zeros(alloc, layout)?,
         })
     }
 
@@ -93,11 +96,24 @@ impl Pages {
     pub fn words(&self, owner: Owner, page: Page) -> Option<&[u64]>
         requires owner { owner < self.now.layout.owners }
         requires page { page < self.now.layout.pages }
-        ensures { option_map (λ words. words.now) result ≡ words_of self.now.pages owner page }
+        ensures words { option_map (λ words. words.now) result ≡ words_of self.now.layout self.now.pages owner page }
+        ensures size { IfSome result (λ words. length words.now ≡ self.now.layout.words) }
     {
         match self.frame_at(owner, page) {
-            Some(frame) => self.buffers.words(frame),
+            Some(frame) => Some(self.words_in(frame)),
             None => None,
+        }
+    }
+
+    /// The words in a frame of the layout: zeros where it has no buffer.
+    fn words_in(&self, frame: Frame) -> &[u64]
+        requires { IsFrame self.now.layout frame }
+        ensures words { result.now ≡ words_in self.now.layout self.now.pages frame }
+        ensures size { length result.now ≡ self.now.layout.words }
+    {
+        match self.buffers.words(frame) {
+            Some(words) => words,
+            None => self.zeros.as_slice(),
         }
     }
 
@@ -107,31 +123,27 @@ impl Pages {
         requires page { page < self.now.layout.pages }
         requires index { index < self.now.layout.words }
         requires mapped { IsSome (entry_of self.now.pages.table owner page) }
-        requires settled { AreSettled self.now.pages }
-        ensures { result ≡ slice_index (unwrap_or (words_of self.now.pages owner page) []) index }
+        ensures { result ≡ slice_index (unwrap_or (words_of self.now.layout self.now.pages owner page) []) index }
     {
-        let frame = self.frame_at(owner, page).unwrap();
-        let words = self.buffers.words(frame).unwrap();
+        let words = self.words(owner, page).unwrap();
         words[index as usize]
     }
 
-    /// Maps a page of the layout that is not mapped to a frame that holds no page, with words that become the frame's buffer. One delta.
-    pub fn map(&mut self, owner: Owner, page: Page, frame: Frame, words: Words, tape: &mut Tape)
+    /// Maps an unmapped page of the layout to a frame that holds no page; its words are 0. One delta.
+    pub fn map(&mut self, owner: Owner, page: Page, frame: Frame, tape: &mut Tape)
         requires owner { owner < self.old.layout.owners }
         requires page { page < self.old.layout.pages }
         requires frame { IsFrame self.old.layout frame }
-        requires words { length words ≡ self.old.layout.words }
         requires unmapped { entry_of self.old.pages.table owner page ≡ None }
         requires free { holders self.old.pages.table frame ≡ 0 }
         requires settled { AreSettled self.old.pages }
         requires room { HasRoom tape.old 1 }
-        ensures mapped { self.new.pages ≡ map_frame self.old.pages owner page frame words }
+        ensures mapped { self.new.pages ≡ map_frame self.old.pages owner page frame }
         ensures layout { self.new.layout ≡ self.old.layout }
         ensures settled { AreSettled self.new.pages }
         ensures notes { NotesPages self.old.layout 1 tape.old tape.new self.new.pages self.old.pages }
     {
         self.table.set(owner, page, Some(frame));
-        self.buffers.put(frame, words);
         tape.note(Delta::Map {
             owner,
             page,
@@ -140,7 +152,8 @@ impl Pages {
         });
     }
 
-    /// Unmaps a mapped page of the layout; its frame is answered, and the frame's buffer moves into the tape. Two deltas.
+    /// Unmaps a mapped page of the layout; its frame is answered, and the frame's buffer, if it has one, moves
+    /// into the tape. One or two deltas.
     pub fn unmap(&mut self, owner: Owner, page: Page, tape: &mut Tape) -> Frame
         requires owner { owner < self.old.layout.owners }
         requires page { page < self.old.layout.pages }
@@ -154,8 +167,35 @@ impl Pages {
         ensures notes { NotesPages self.old.layout 2 tape.old tape.new self.new.pages self.old.pages }
     {
         let frame = self.frame_at(owner, page).unwrap();
-        let words = self.buffers.take(frame).unwrap();
-        tape.note(Delta::Emptied { frame, words });
+        self.empty(frame, tape);
+        self.clear_entry(owner, page, frame, tape);
+        frame
+    }
+
+    /// The buffer of a frame of the layout, if it has one, moves into the tape.
+    fn empty(&mut self, frame: Frame, tape: &mut Tape)
+        requires frame { IsFrame self.old.layout frame }
+        requires room { HasRoom tape.old 1 }
+        ensures emptied { self.new.pages ≡ with_buffer self.old.pages frame None }
+        ensures layout { self.new.layout ≡ self.old.layout }
+        ensures notes { NotesPages self.old.layout 1 tape.old tape.new self.new.pages self.old.pages }
+    {
+        if let Some(words) = self.buffers.take(frame) {
+            tape.note(Delta::Emptied { frame, words });
+        }
+    }
+
+    /// A page of the layout loses its frame, which has no buffer.
+    fn clear_entry(&mut self, owner: Owner, page: Page, frame: Frame, tape: &mut Tape)
+        requires owner { owner < self.old.layout.owners }
+        requires page { page < self.old.layout.pages }
+        requires frame { IsFrame self.old.layout frame }
+        requires mapped { entry_of self.old.pages.table owner page ≡ Some frame }
+        requires room { HasRoom tape.old 1 }
+        ensures cleared { self.new.pages ≡ record self.old.pages { table = with_entry self.old.pages.table owner page None } }
+        ensures layout { self.new.layout ≡ self.old.layout }
+        ensures notes { NotesPages self.old.layout 1 tape.old tape.new self.new.pages self.old.pages }
+    {
         self.table.set(owner, page, None);
         tape.note(Delta::Map {
             owner,
@@ -163,30 +203,131 @@ impl Pages {
             was: Some(frame),
             now: None,
         });
-        frame
     }
 
-    /// Changes one word of a mapped page of the layout; words are counted from 0. One delta.
-    pub fn write(&mut self, owner: Owner, page: Page, index: u32, value: u64, tape: &mut Tape)
+    /// The buffer that a write to a page of the layout asks for: zeros, where its frame has no buffer and the
+    /// value is not 0. Takes memory for it; an error is out of memory.
+    pub fn spare_for(
+        &self,
+        alloc: Global,
+        owner: Owner,
+        page: Page,
+        value: u64,
+    ) -> Result<Option<Words>, AllocError>
+        requires owner { owner < self.now.layout.owners }
+        requires page { page < self.now.layout.pages }
+        ensures { IfOk result (λ spare. spare
+            ≡ spare_for self.now.layout (buffer_at self.now.pages owner page) value) }
+    {
+        if value == 0 || self.has_buffer(owner, page) {
+            return Ok(None);
+        }
+        let words = zeros(alloc, &self.layout)?;
+        Ok(Some(words))
+    }
+
+    /// Whether the frame of a page of the layout has a buffer.
+    fn has_buffer(&self, owner: Owner, page: Page) -> bool
+        requires owner { owner < self.now.layout.owners }
+        requires page { page < self.now.layout.pages }
+        ensures { result ≡ is_some (buffer_at self.now.pages owner page) }
+    {
+        match self.frame_at(owner, page) {
+            Some(frame) => self.buffers.words(frame).is_some(),
+            None => false,
+        }
+    }
+
+    /// Changes one word of a mapped page of the layout; words are counted from 0. It takes no memory, but the
+    /// buffer that it asks for. One delta, and none where the word of a frame without a buffer stays 0.
+    pub fn write(
+        &mut self,
+        owner: Owner,
+        page: Page,
+        index: u32,
+        value: u64,
+        spare: Option<Words>,
+        tape: &mut Tape,
+    )
         requires owner { owner < self.old.layout.owners }
         requires page { page < self.old.layout.pages }
         requires index { index < self.old.layout.words }
         requires mapped { IsSome (entry_of self.old.pages.table owner page) }
+        requires spare { spare ≡ spare_for self.old.layout (buffer_at self.old.pages owner page) value }
         requires settled { AreSettled self.old.pages }
         requires room { HasRoom tape.old 1 }
-        ensures written { self.new.pages ≡ write_frame self.old.pages owner page index value }
+        ensures written { self.new.pages ≡ write_frame self.old.layout self.old.pages owner page index value }
         ensures layout { self.new.layout ≡ self.old.layout }
         ensures settled { AreSettled self.new.pages }
         ensures notes { NotesPages self.old.layout 1 tape.old tape.new self.new.pages self.old.pages }
     {
         let frame = self.frame_at(owner, page).unwrap();
-        let was = self.read(owner, page, index);
-        self.buffers.set_word(frame, index, value);
+        match spare {
+            Some(words) => self.fill(frame, words, index, value, tape),
+            None => self.overwrite(frame, index, value, tape),
+        }
+    }
+
+    /// The first word that is not 0 comes into a frame of the layout without a buffer, with one of zeros.
+    fn fill(&mut self, frame: Frame, words: Words, index: u32, value: u64, tape: &mut Tape)
+        requires frame { IsFrame self.old.layout frame }
+        requires index { index < self.old.layout.words }
+        requires none { buffer_of self.old.pages frame ≡ None }
+        requires words { words ≡ fresh_words self.old.layout }
+        requires some { value ≢ 0 }
+        requires room { HasRoom tape.old 1 }
+        ensures written { self.new.pages ≡ write_at self.old.layout self.old.pages frame index value }
+        ensures layout { self.new.layout ≡ self.old.layout }
+        ensures notes { NotesPages self.old.layout 1 tape.old tape.new self.new.pages self.old.pages }
+    {
+        let mut buffer = words;
+        buffer.set(index, value);
+        self.buffers.put(frame, buffer);
+        tape.note(Delta::Filled {
+            frame,
+            index,
+            now: value,
+        });
+    }
+
+    /// A word changes in a frame of the layout, which has a buffer unless the word stays 0. A buffer whose words
+    /// are all 0 then moves into the tape, as it was.
+    fn overwrite(&mut self, frame: Frame, index: u32, value: u64, tape: &mut Tape)
+        requires frame { IsFrame self.old.layout frame }
+        requires index { index < self.old.layout.words }
+        requires none { buffer_of self.old.pages frame ≡ None → value ≡ 0 }
+        requires room { HasRoom tape.old 1 }
+        ensures written { self.new.pages ≡ write_at self.old.layout self.old.pages frame index value }
+        ensures layout { self.new.layout ≡ self.old.layout }
+        ensures notes { NotesPages self.old.layout 1 tape.old tape.new self.new.pages self.old.pages }
+    {
+        let Some(words) = self.buffers.words(frame) else {
+            return;
+        };
+        if value == 0 && is_blank_beside(words, index) {
+            self.empty(frame, tape);
+        } else {
+            let was = words[index as usize];
+            self.set_word(frame, index, was, value, tape);
+        }
+    }
+
+    /// A word changes in the buffer of a frame of the layout.
+    fn set_word(&mut self, frame: Frame, index: u32, was: u64, now: u64, tape: &mut Tape)
+        requires frame { IsFrame self.old.layout frame }
+        requires index { index < self.old.layout.words }
+        requires was { slice_get (unwrap_or (buffer_of self.old.pages frame) []) index ≡ Some was }
+        requires room { HasRoom tape.old 1 }
+        ensures set { self.new.pages ≡ with_buffer self.old.pages frame (option_map (λ words. slice_set words index now) (buffer_of self.old.pages frame)) }
+        ensures layout { self.new.layout ≡ self.old.layout }
+        ensures notes { NotesPages self.old.layout 1 tape.old tape.new self.new.pages self.old.pages }
+    {
+        self.buffers.set_word(frame, index, now);
         tape.note(Delta::Word {
             frame,
             index,
             was,
-            now: value,
+            now,
         });
     }
 
@@ -242,8 +383,8 @@ impl Pages {
                 owner,
                 page,
                 was,
-                now,
-            } => self.back_entry(*owner, *page, *was, *now),
+                ..
+            } => self.table.set(*owner, *page, *was),
             Delta::Swap { a, b } => self.buffers.swap(*a, *b),
             Delta::Word {
                 frame,
@@ -251,29 +392,8 @@ impl Pages {
                 was,
                 ..
             } => self.buffers.set_word(*frame, *index, *was),
+            Delta::Filled { frame, .. } => self.buffers.clear(*frame),
             _ => {}
         }
     }
-
-    /// The opposite of a changed entry: the frame of a page that had none loses its buffer.
-    fn back_entry(&mut self, owner: Owner, page: Page, was: Option<Frame>, now: Option<Frame>)
-        requires owner { owner < self.old.layout.owners }
-        requires page { page < self.old.layout.pages }
-        requires was { IfSome was (IsFrame self.old.layout) }
-        requires now { IfSome now (IsFrame self.old.layout) }
-        ensures back { self.new.pages ≡ pages_undo (MapDelta owner page was now) self.old.pages }
-        ensures layout { self.new.layout ≡ self.old.layout }
-    {
-        let entry = was; // a copy, since two calls take the entry
-        self.table.set(owner, page, entry);
-        self.buffers.clear_new(was, now);
-    }
-}
-
-/// The words of a new page of a layout: zeros. Takes memory for them.
-pub fn fresh_words(alloc: Global, layout: &Layout) -> Result<Words, AllocError>
-    ensures { IfOk result (λ words. words ≡ fresh_words layout.now) }
-{
-    let words = vec![in alloc; 0; layout.words() as usize]?;
-    Ok(Words::new(words))
 }

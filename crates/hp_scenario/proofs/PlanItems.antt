@@ -1,10 +1,12 @@
 -- A loop over the words of a plan's items, two by two.
-use Rattle.std.proofs.Common.{◌≡◌, ℕ, ◌-◌, ◌<◌, ◌≤◌, List, [], ◌∷◌, ◌++◌, length, get_or, eqb, false, take, drop, Bor, Option, Some, None, refl, sym, ap, ◌∙◌, arith, option_and_then, length-drop}
+use Rattle.std.proofs.Common.{◌≡◌, ℕ, ◌-◌, ◌<◌, ◌≤◌, List, [], ◌∷◌, ◌++◌, length, get_or, eqb, false, take, drop, map, Bor, Option, Some, None, refl, sym, ap, ◌∙◌, arith, option_and_then, length-drop}
 use Rattle.std.proofs.lemmas.List.{append-nil, take_all}
 use Rattle.hp_units.specs.declared.plans.Item.{Item}
 use Rattle.hp_scenario.specs.Lines.{item_of, items_of}
 use Rattle.hp_scenario.proofs.Each.{after_front, after_front_step}
-use Rattle.hp_scenario.proofs.LineLoop.{bytes_of}
+
+abbrev pub bytes_of : List (Bor (List ℕ)) → List (List ℕ)
+bytes_of words = map (λ w. w.now) words
 
 -- the first two words, and the rest
 two_words : (xs : List (Bor (List ℕ))) (d e : Bor (List ℕ)) → 2 ≤ length xs → bytes_of xs ≡ (get_or xs 0 d).now ∷ (get_or xs 1 e).now ∷ bytes_of (drop 2 xs)

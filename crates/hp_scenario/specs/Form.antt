@@ -1,9 +1,11 @@
 -- The form of a scenario, over the values that `serde_json` reads (own rule).
-use Rattle.std.specs.Prelude.{ℕ, ◌==◌, List, [], ◌∷◌, codes, Bool, false, Option, Some, None, if◌then◌else◌, option_and_then}
+use Rattle.std.specs.Prelude.{ℕ, ◌==◌, List, [], ◌∷◌, codes, Bool, false, Option, Some, None, is_some, unwrap_or, if◌then◌else◌, option_and_then}
 use Rattle.std.specs.Str.{bytes_eq}
 use Rattle.serde_json.specs.Data.{Data, Items, no_items, item, Members}
 use Rattle.serde_json.specs.Events.{members_len}
 use Rattle.serde_json.specs.Find.{get, as_number, as_u64, as_str, as_array, as_object}
+use Rattle.serde_json.specs.View.{view}
+use Rattle.serde_json.specs.declared.value.Value.{Value}
 use Rattle.hp_units.specs.LayoutParts.{LayoutParts}
 use Rattle.hp_units.specs.declared.rows.Boot.{Boot}
 use Rattle.hp_units.specs.declared.rows.Boot.TheVariants.{Offline, Normal, Movable, Absent}
@@ -45,6 +47,13 @@ each_in f (item d ds) = do
 -- what a block is at boot, by the text that a value is
 abbrev pub boot_at : Data → Option Boot
 boot_at d = option_and_then boot_of (as_str d)
+
+-- whether a value is a text, and which
+abbrev pub is_text : Value → Bool
+is_text v = is_some (as_str (view v))
+
+abbrev pub text_of : Value → List ℕ
+text_of v = unwrap_or (as_str (view v)) []
 
 -- the texts at a key, and what the blocks are at boot
 unfoldable pub texts_at : List ℕ → Data → Option (List (List ℕ))

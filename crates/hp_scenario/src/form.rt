@@ -1,13 +1,13 @@
 //! The form of a scenario: its keys, and the kinds of their values.
 
-ghost use Rattle.std.specs.Prelude.{◌≡◌, map, option_map, IfOk};
-ghost use Rattle.serde_json.specs.Find.{as_str};
+ghost use Rattle.std.specs.Prelude.{◌≡◌, option_map};
 ghost use Rattle.serde_json.specs.View.{view, items_view};
 ghost use Rattle.hp_units.specs.PartsSeen.{parts_seen};
 ghost use Rattle.hp_scenario.specs.Gives.{Gives, or_fault};
 ghost use Rattle.hp_scenario.specs.Form.{has_keys as keys, number_at as number, boot_of, boot_at as boot_in, each_in, texts_at as texts, boots_at as boots, parts_with as with_boot};
 
 use crate::fault::ScenarioFault;
+use crate::texts::Texts;
 use hp_units::{Boot, Parts};
 use serde_json::Value;
 use std::alloc::Global;
@@ -42,19 +42,6 @@ fn boot_from(word: &str) -> Option<Boot>
     }
 }
 
-fn texts_from<'a>(alloc: Global, values: &'a Vec<Value>) -> Result<Vec<&'a str>, ScenarioFault>
-    ensures { Gives (λ v. map (λ t. t.now) v.items) result (or_fault ScenarioFault.BadShape (each_in as_str (items_view values.now.items))) }
-{
-    let mut texts = Vec::new(alloc);
-    for value in values {
-        let Some(text) = value.as_str() else {
-            return Err(ScenarioFault::BadShape);
-        };
-        texts.push(text)?;
-    }
-    Ok(texts)
-}
-
 #[tactic(auto, unfolding(crate::specs::Form::boot_of))]
 fn boot_at(value: &Value) -> Option<Boot>
     ensures { result ≡ boot_in (view value.now) }
@@ -76,16 +63,12 @@ fn boots_from(alloc: Global, values: &Vec<Value>) -> Result<Vec<Boot>, ScenarioF
 }
 
 #[tactic(auto, unfolding(crate::specs::Form::texts_at))]
-pub(crate) fn texts_at<'a>(
-    alloc: Global,
-    value: &'a Value,
-    key: &str,
-) -> Result<Vec<&'a str>, ScenarioFault>
-    ensures { Gives (λ v. map (λ t. t.now) v.items) result (or_fault ScenarioFault.BadShape (texts key.now (view value.now))) }
+pub(crate) fn texts_at<'a>(value: &'a Value, key: &str) -> Option<Texts<'a>>
+    ensures { result ≡ texts key.now (view value.now) }
 {
     match value.get(key).and_then(Value::as_array) {
-        Some(values) => texts_from(alloc, values),
-        None => Err(ScenarioFault::BadShape),
+        Some(values) => Texts::new(values),
+        None => None,
     }
 }
 

@@ -1,6 +1,7 @@
 //! Scenarios: a layout and the lines that run on it, read from JSON.
 #![tactic(auto)]
 
+mod boxed_text;
 mod fault;
 mod form;
 mod laws;
@@ -10,9 +11,11 @@ mod plans;
 mod requests;
 mod scenario;
 mod scripts;
+mod texts;
 mod verbs;
 mod words;
 
+pub use boxed_text::BoxedText;
 pub use fault::ScenarioFault;
 pub use laws::lines_are_spelled;
 pub use lines::{Line, Lines, Work};

@@ -2,8 +2,10 @@
 ghost use Rattle.std.specs.Prelude.{◌≡◌};
 ghost use Rattle.hp_scenario.specs.Scripts.{is_seal};
 
+use crate::boxed_text::BoxedText;
 use hp_units::{Cpu, Event, Plan, Text};
 use std::marker::Model;
+use std::mem::size_of;
 
 /// What a line asks for.
 #[derive(Debug, Drop)]
@@ -13,7 +15,7 @@ pub enum Work {
     /// A plan's driver, with the most migrations that it may make.
     Plan { plan: Plan, turns: u32 },
     /// A text written to a control file.
-    Echo { path: Text, text: Text },
+    Echo { path: BoxedText, text: BoxedText },
     /// A control file read.
     Cat { path: Text },
     /// The records since the last seal handed out.
@@ -37,6 +39,9 @@ pub struct Line {
     /// What it asks for.
     pub work: Work,
 }
+
+/// Bytes of a line decide what a long scenario takes (own rule).
+const _: () = prove!(size_of::<Line>() <= 48);
 
 /// Lines in order, seen as a list.
 #[derive(Debug, Drop)]

@@ -1,5 +1,6 @@
 //! Names are numbered in the order in which they first occur.
-ghost use Rattle.std.specs.Prelude.{◌≡◌, IfOk, OnOk, option_map};
+ghost use Rattle.std.specs.Prelude.{◌≡◌, IfOk, IfSome, OnOk, Some, option_map};
+ghost use Rattle.std.specs.List.{position};
 ghost use Rattle.std.specs.Str.{bytes_eq};
 ghost use Rattle.indexmap.specs.IndexSet.{insert_key};
 ghost use Rattle.hp_scenario.specs.Names.{access_event, line_in, names_with, owner_of, work_of};
@@ -53,12 +54,42 @@ fn owner_of(alloc: Global, names: &mut IndexSet<Text>, name: &str) -> Result<Own
     ensures names { OnOk result (names.new.keys ≡ insert_key bytes_eq names.old.keys name.now) }
     ensures owner { IfOk result (λ owner. owner ≡ owner_of names.old.keys name.now) }
 {
-    let name = Text::new(String::from_str(alloc, name)?);
-    let (index, _) = names.insert_full(name)?;
+    let index = index_of(alloc, names, name)?;
     let Ok(index) = u32::try_from(index) else {
         return Err(AllocError);
     };
     Ok(Owner(index))
+}
+
+/// The place of a name, which becomes the last one where it is new. It takes memory only for a name that is new or one of many.
+#[tactic(auto, using(crate::proofs::KnownNames::known_place, crate::proofs::KnownNames::known_stays))]
+fn index_of(alloc: Global, names: &mut IndexSet<Text>, name: &str) -> Result<usize, AllocError>
+    ensures names { OnOk result (names.new.keys ≡ insert_key bytes_eq names.old.keys name.now) }
+    ensures index { IfOk result (λ index. index ≡ owner_of names.old.keys name.now) }
+{
+    if let Some(index) = known_index(names, name) {
+        return Ok(index);
+    }
+    let name = Text::new(String::from_str(alloc, name)?);
+    let (index, _) = names.insert_full(name)?;
+    Ok(index)
+}
+
+/// The place of a name among a few names, no more than a layout has owners; none where it is not there, or where there are more.
+fn known_index(names: &IndexSet<Text>, name: &str) -> Option<usize>
+    ensures { IfSome result (λ index. position (bytes_eq name.now) names.now.keys ≡ Some index) }
+{
+    if names.len() > 64 {
+        return None;
+    }
+    place_of(names.as_slice(), name)
+}
+
+/// Where a name stands.
+fn place_of(names: &[Text], name: &str) -> Option<usize>
+    ensures { result ≡ position (bytes_eq name.now) names.now }
+{
+    names.iter().position(|known| name == known.as_str())
 }
 
 /// The event of an owner's access.

@@ -1,5 +1,5 @@
 //! A scenario.
-ghost use Rattle.std.specs.Prelude.{◌≡◌, map};
+ghost use Rattle.std.specs.Prelude.{◌≡◌};
 ghost use Rattle.serde_json.specs.View.{view};
 ghost use Rattle.hp_units.specs.LayoutParts.{layout_fault};
 ghost use Rattle.hp_units.specs.PartsSeen.{parts_seen};
@@ -12,6 +12,7 @@ use crate::fault::ScenarioFault;
 use crate::form::{boots_at, has_keys, parts_with, texts_at};
 use crate::lines::{Line, Lines};
 use crate::names::line_from;
+use crate::texts::Texts;
 use hp_units::{Layout, LayoutFault, Parts, Text};
 use indexmap::IndexSet;
 use serde_json::Value;
@@ -77,7 +78,7 @@ fn scenario_from(alloc: Global, value: &Value) -> Result<Scenario, ScenarioFault
     }
     let boot = boots_at(alloc, layout, "boot")?;
     let parts = parts_with(layout, &boot).ok_or(ScenarioFault::BadShape)?;
-    let calls = texts_at(alloc, value, "calls")?;
+    let calls = texts_at(value, "calls").ok_or(ScenarioFault::BadShape)?;
     scenario_with(alloc, &parts, &calls)
 }
 
@@ -86,9 +87,9 @@ fn scenario_from(alloc: Global, value: &Value) -> Result<Scenario, ScenarioFault
 fn scenario_with(
     alloc: Global,
     parts: &Parts<'_>,
-    calls: &[&str],
+    calls: &Texts<'_>,
 ) -> Result<Scenario, ScenarioFault>
-    ensures { Gives scenario_seen result (scenario_with (record { parts = parts_seen parts.now; calls = map (λ t. t.now) calls.now })) }
+    ensures { Gives scenario_seen result (scenario_with (record { parts = parts_seen parts.now; calls = calls.now })) }
 {
     let layout = layout_from(alloc, parts)?;
     let script = read_lines(alloc, calls)?;
@@ -111,18 +112,18 @@ fn layout_from(alloc: Global, parts: &Parts<'_>) -> Result<Layout, ScenarioFault
 }
 
 /// The lines of the texts.
-fn read_lines(alloc: Global, texts: &[&str]) -> Result<Script, ScenarioFault>
-    ensures { Gives script_seen result (lines_from 1 nothing (map (λ t. t.now) texts.now)) }
+fn read_lines(alloc: Global, texts: &Texts<'_>) -> Result<Script, ScenarioFault>
+    ensures { Gives script_seen result (lines_from 1 nothing texts.now) }
 {
     let mut names = IndexSet::new(alloc);
-    let mut lines = Vec::new(alloc);
+    let mut lines = Vec::with_capacity(alloc, texts.len())?;
     let mut words = Vec::new(alloc);
-    for (index, text) in texts.iter().enumerate() {
-        let Some(line) = line_from(alloc, &mut names, &mut words, text)? else {
+    for index in 0..texts.len() {
+        let Some(line) = line_from(alloc, &mut names, &mut words, texts.at(index))? else {
             let line = index as u64 + 1;
             return Err(ScenarioFault::BadLine { line });
         };
-        lines.push(line)?;
+        lines.push_reserved(line);
     }
     Ok(Script { names, lines })
 }

@@ -3,6 +3,7 @@ ghost use Rattle.std.specs.Prelude.{◌≡◌, map, IfOk, option_map};
 ghost use Rattle.hp_scenario.specs.Lines as says;
 ghost use Rattle.hp_scenario.specs.Seen.{request_seen};
 
+use crate::boxed_text::BoxedText;
 use crate::lines::Work;
 use crate::plans::items_from;
 use crate::requests::{Access, Request};
@@ -261,6 +262,8 @@ pub(crate) fn echo<'a>(alloc: Global, args: &[&'a str]) -> Result<Option<Request
     let Some(path) = text_from(alloc, path)? else {
         return Ok(None);
     };
+    let path = BoxedText::new(alloc, path)?;
+    let text = BoxedText::new(alloc, text)?;
     Ok(Some(Request::Plain(Work::Echo { path, text })))
 }
 

@@ -1,9 +1,9 @@
 -- What a delta undoes, and the state as the journal sees it: with the words of a page in a buffer of its frame.
-use Rattle.std.specs.Prelude.{◌≡◌, ◌<◌, ◌≤◌, ℕ, length, IfSome, Bool, true, false, not, ◌&&◌, List, [], ◌∷◌, Option, Some, None, ◌==◌, map, slice_get, slice_index_or, slice_set, unwrap_or, IsSome, if◌then◌else◌}
+use Rattle.std.specs.Prelude.{◌≡◌, ◌<◌, ◌≤◌, ℕ, length, IfSome, Bool, true, false, not, ◌&&◌, List, [], ◌∷◌, Option, Some, None, ◌==◌, map, replicate, slice_get, slice_index_or, slice_set, unwrap_or, if◌then◌else◌}
 use Rattle.std.specs.List.{list_all, AllByRecursion}
 use Rattle.std.specs.Option.{option_map, option_map_or, option_and_then}
 use Rattle.hp_tape.specs.declared.deltas.Delta.{Delta}
-use Rattle.hp_tape.specs.declared.deltas.Delta.TheVariants.{Link, Unlink, Kind as KindDelta, Kernel as KernelDelta, Map as MapDelta, Swap, Word as WordDelta, Emptied, Row as RowDelta, Auto as AutoDelta}
+use Rattle.hp_tape.specs.declared.deltas.Delta.TheVariants.{Link, Unlink, Kind as KindDelta, Kernel as KernelDelta, Map as MapDelta, Swap, Word as WordDelta, Filled, Emptied, Row as RowDelta, Auto as AutoDelta}
 use Rattle.hp_tape.specs.declared.deltas.ListId.{ListId}
 use Rattle.hp_tape.specs.declared.deltas.ListId.TheVariants.{Area, Cpu}
 use Rattle.hp_units.specs.LayoutParts.{LayoutParts}
@@ -31,11 +31,18 @@ buffer_of v frame = slice_index_or v.buffers frame None
 abbrev pub with_buffer : PageFrames → ℕ → Option (List ℕ) → PageFrames
 with_buffer v frame buffer = record v { buffers = slice_set v.buffers frame buffer }
 
--- a mapped frame has its page's words, and no other frame has a buffer
+-- words that are all 0 need no buffer
+abbrev pub is_blank : List ℕ → Bool
+is_blank words = list_all (λ word. word == 0) words
+
+abbrev pub buffer_for : List ℕ → Option (List ℕ)
+buffer_for words = if is_blank words then None else Some words
+
+-- a frame has its page's words in a buffer where one of them is not 0, and no other frame has a buffer
 abbrev pub page_frames_of : LayoutParts → Pages → PageFrames
 page_frames_of l ps = record {
   table = ps.table;
-  buffers = map (λ frame. option_and_then (λ page. words_at ps page.0 page.1) (page_at ps frame)) (all_frames l);
+  buffers = map (λ frame. option_and_then (λ page. option_and_then buffer_for (words_at ps page.0 page.1)) (page_at ps frame)) (all_frames l);
 }
 
 abbrev pub frame_view_of : LayoutParts → Memory → FrameView
@@ -63,15 +70,11 @@ cached_undo delta fs = fs
 abbrev pub free_undo : Delta → FreeFrames → FreeFrames
 free_undo delta fs = cached_undo delta (record fs { areas = areas_undo delta fs.areas })
 
--- an entry that was none takes the buffer of its frame away
-abbrev pub without_new_buffer : (was now : Option ℕ) → PageFrames → PageFrames
-without_new_buffer None (Some frame) v = with_buffer v frame None
-without_new_buffer was now v = v
-
 abbrev pub pages_undo : Delta → PageFrames → PageFrames
-pages_undo (MapDelta owner page was now) v = without_new_buffer was now (record v { table = with_entry v.table owner page was })
+pages_undo (MapDelta owner page was now) v = record v { table = with_entry v.table owner page was }
 pages_undo (Swap a b) v = with_buffer (with_buffer v a (buffer_of v b)) b (buffer_of v a)
 pages_undo (WordDelta frame index was now) v = with_buffer v frame (option_map (λ words. slice_set words index was) (buffer_of v frame))
+pages_undo (Filled frame index now) v = with_buffer v frame None
 pages_undo (Emptied frame words) v = with_buffer v frame (Some words)
 pages_undo delta v = v
 
@@ -127,13 +130,20 @@ FitsCached delta fs = Unit {0}
 abbrev pub FitsFree : Delta → FreeFrames → Type 0
 FitsFree delta fs = FitsAreas delta fs.areas × FitsCached delta fs
 
-abbrev pub HasNewBuffer : (was now : Option ℕ) → PageFrames → Type 0
-HasNewBuffer None (Some frame) v = IsSome (buffer_of v frame)
-HasNewBuffer was now v = Unit {0}
+-- the frame of a new page has no buffer
+abbrev pub IsFresh : (was now : Option ℕ) → PageFrames → Type 0
+IsFresh None (Some frame) v = buffer_of v frame ≡ None
+IsFresh was now v = Unit {0}
+
+-- a buffer's words are 0 but for one
+abbrev pub HasOneWord : (index value : ℕ) → Option (List ℕ) → Type 0
+HasOneWord index value None = ⊥
+HasOneWord index value (Some words) = words ≡ slice_set (replicate (length words) 0) index value
 
 abbrev pub FitsPages : Delta → PageFrames → Type 0
-FitsPages (MapDelta owner page was now) v = (entry_of v.table owner page ≡ now) × HasNewBuffer was now v
+FitsPages (MapDelta owner page was now) v = (entry_of v.table owner page ≡ now) × IsFresh was now v
 FitsPages (WordDelta frame index was now) v = slice_get (unwrap_or (buffer_of v frame) []) index ≡ Some now
+FitsPages (Filled frame index now) v = HasOneWord index now (buffer_of v frame)
 FitsPages (Emptied frame words) v = buffer_of v frame ≡ None
 FitsPages delta v = Unit {0}
 
@@ -171,6 +181,7 @@ IsDeltaOf l (KernelDelta frame was now) = IsFrame l frame
 IsDeltaOf l (MapDelta owner page was now) = (owner < l.owners) × (page < l.pages) × IfSome was (IsFrame l) × IfSome now (IsFrame l)
 IsDeltaOf l (Swap a b) = IsFrame l a × IsFrame l b
 IsDeltaOf l (WordDelta frame index was now) = IsFrame l frame × (index < l.words)
+IsDeltaOf l (Filled frame index now) = IsFrame l frame × (index < l.words)
 IsDeltaOf l (Emptied frame words) = IsFrame l frame × (length words ≡ l.words)
 IsDeltaOf l (RowDelta block was now) = block < l.blocks
 IsDeltaOf l (AutoDelta was now) = Unit {0}
@@ -196,6 +207,7 @@ abbrev pub IsOfPages : Delta → Type 0
 IsOfPages (MapDelta owner page was now) = Unit {0}
 IsOfPages (Swap a b) = Unit {0}
 IsOfPages (WordDelta frame index was now) = Unit {0}
+IsOfPages (Filled frame index now) = Unit {0}
 IsOfPages (Emptied frame words) = Unit {0}
 IsOfPages delta = ⊥
 

@@ -1,6 +1,9 @@
 //! What was done to the state, so that it can be undone.
+ghost use Rattle.std.specs.Prelude.{◌≡◌, IfOk};
+
 use crate::packed_rows::PackedRow;
 use hp_units::{Auto, Block, Class, Cpu, Frame, Kind, Order, Owner, Page, Pageblock, Pool, Words};
+use std::alloc::{AllocError, Global};
 use std::mem::size_of;
 
 /// A list of frames.
@@ -58,7 +61,15 @@ pub enum Delta {
         was: u64,
         now: u64,
     },
-    /// The buffer of a frame moved into the journal.
+    /// A frame without a buffer got one, with the first word of its page that is not 0 in it; words are counted
+    /// from 0.
+    Filled {
+        frame: Frame,
+        index: u32,
+        now: u64,
+    },
+    /// The buffer of a frame moved into the journal: its page was unmapped, or its last word that was not 0
+    /// became 0.
     Emptied {
         frame: Frame,
         words: Words,
@@ -78,3 +89,78 @@ pub enum Delta {
 
 /// Bytes of a delta decide what a journal costs (own rule).
 const _: () = prove!(size_of::<Delta>() <= 32);
+
+impl Delta {
+    /// An equal delta. Takes memory for the words that it holds, if it holds any; an error is out of memory.
+    pub fn copy(&self, alloc: Global) -> Result<Delta, AllocError>
+        ensures { IfOk result (λ copy. copy ≡ self.now) }
+    {
+        Ok(match self {
+            Delta::Link { list, frame, after } => Delta::Link {
+                list: *list,
+                frame: *frame,
+                after: *after,
+            },
+            Delta::Unlink { list, frame, after } => Delta::Unlink {
+                list: *list,
+                frame: *frame,
+                after: *after,
+            },
+            Delta::Kind {
+                pageblock,
+                was,
+                now,
+            } => Delta::Kind {
+                pageblock: *pageblock,
+                was: *was,
+                now: *now,
+            },
+            Delta::Kernel { frame, was, now } => Delta::Kernel {
+                frame: *frame,
+                was: *was,
+                now: *now,
+            },
+            Delta::Map {
+                owner,
+                page,
+                was,
+                now,
+            } => Delta::Map {
+                owner: *owner,
+                page: *page,
+                was: *was,
+                now: *now,
+            },
+            Delta::Swap { a, b } => Delta::Swap { a: *a, b: *b },
+            Delta::Word {
+                frame,
+                index,
+                was,
+                now,
+            } => Delta::Word {
+                frame: *frame,
+                index: *index,
+                was: *was,
+                now: *now,
+            },
+            Delta::Filled { frame, index, now } => Delta::Filled {
+                frame: *frame,
+                index: *index,
+                now: *now,
+            },
+            Delta::Emptied { frame, words } => Delta::Emptied {
+                frame: *frame,
+                words: words.copy(alloc)?,
+            },
+            Delta::Row { block, was, now } => Delta::Row {
+                block: *block,
+                was: PackedRow::new(was.row()),
+                now: PackedRow::new(now.row()),
+            },
+            Delta::Auto { was, now } => Delta::Auto {
+                was: *was,
+                now: *now,
+            },
+        })
+    }
+}

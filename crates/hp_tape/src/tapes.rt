@@ -31,6 +31,19 @@ impl Tape {
         Ok(Tape { deltas })
     }
 
+    /// A tape of equal deltas, with room for no more. An error is out of memory.
+    pub fn copy(&self, alloc: Global) -> Result<Tape, AllocError>
+        ensures deltas { IfOk result (λ copy. copy.deltas ≡ self.now.deltas) }
+        ensures room { IfOk result (λ copy. copy.room ≡ length self.now.deltas) }
+    {
+        let deltas = self.as_slice();
+        let mut copy = Tape::with_room(alloc, deltas.len())?;
+        for delta in deltas {
+            copy.note(delta.copy(alloc)?);
+        }
+        Ok(copy)
+    }
+
     /// Makes room for `n` more deltas. The room grows by a factor, so that many small calls copy each delta few times.
     ///
     /// Fails only where that room was missing, and then the tape is as before.

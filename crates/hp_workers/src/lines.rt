@@ -8,9 +8,9 @@ use crate::port::GatedPort;
 use hp_control::{CONTROL_TURNS, ControlFault, Request, parse_echo};
 use hp_history::Volume;
 use hp_ops::{Port, run_plan};
-use hp_scenario::{Line, Work};
+use hp_scenario::{BoxedText, Line, Work};
 use hp_shared::{Job, Seat, Shared};
-use hp_units::{CallFault, Event, OpEnd, Plan, Reply, Text};
+use hp_units::{CallFault, Event, OpEnd, Plan, Reply};
 use std::alloc::{AllocError, Global};
 use std::marker::Model;
 use std::sync::Wait;
@@ -186,7 +186,7 @@ fn carry_out<P: Port>(alloc: Global, port: &mut P, plan: &Plan, turns: u32) -> L
 }
 
 /// Does through a port what a word asks for that is written to a control file.
-fn echo<P: Port>(alloc: Global, port: &mut P, path: &Text, word: &Text) -> LineEnd
+fn echo<P: Port>(alloc: Global, port: &mut P, path: &BoxedText, word: &BoxedText) -> LineEnd
     requires { (P.shows port.old).fault ≡ None }
     ensures { IsPortRun P.shows P.makes P.leaves port.old (IsEchoRun (P.shows port.old).cpus path.now word.now) result port.new }
 {

@@ -4,7 +4,7 @@ use Rattle.std.specs.List.{AllByRecursion}
 use Rattle.hp_units.specs.LayoutParts.{LayoutParts}
 use Rattle.hp_units.specs.Memory.{FreeAreas, FreeFrames}
 use Rattle.hp_tape.specs.declared.deltas.Delta.{Delta}
-use Rattle.hp_tape.specs.declared.deltas.Delta.TheVariants.{Link, Unlink, Kind as KindDelta, Kernel as KernelDelta, Map as MapDelta, Swap, Word as WordDelta, Emptied, Row as RowDelta, Auto as AutoDelta}
+use Rattle.hp_tape.specs.declared.deltas.Delta.TheVariants.{Link, Unlink, Kind as KindDelta, Kernel as KernelDelta, Map as MapDelta, Swap, Word as WordDelta, Filled, Emptied, Row as RowDelta, Auto as AutoDelta}
 use Rattle.hp_tape.specs.declared.deltas.ListId.TheVariants.{Area, Cpu as CpuList}
 use Rattle.hp_tape.specs.Deltas.{AllFit, FitsFree, IsDeltaOf, areas_undo, cached_undo, free_undo, undo_all}
 use Rattle.hp_tape.specs.Tapes.{TapeValue, NotesFree}
@@ -26,6 +26,7 @@ areas-kept (KernelDelta frame was now) a is = refl
 areas-kept (MapDelta owner page was now) a is = refl
 areas-kept (Swap one other) a is = refl
 areas-kept (WordDelta frame index was now) a is = refl
+areas-kept (Filled frame index now) a is = refl
 areas-kept (Emptied frame words) a is = refl
 areas-kept (RowDelta block was now) a is = refl
 areas-kept (AutoDelta was now) a is = refl
@@ -41,6 +42,7 @@ cached-kept (KernelDelta frame was now) fs is = refl
 cached-kept (MapDelta owner page was now) fs is = refl
 cached-kept (Swap one other) fs is = refl
 cached-kept (WordDelta frame index was now) fs is = refl
+cached-kept (Filled frame index now) fs is = refl
 cached-kept (Emptied frame words) fs is = refl
 cached-kept (RowDelta block was now) fs is = refl
 cached-kept (AutoDelta was now) fs is = refl

@@ -1,4 +1,4 @@
-ghost use Rattle.std.specs.Prelude.{◌≡◌, [], ◌∷◌, IfOk};
+ghost use Rattle.std.specs.Prelude.{◌≡◌, [], ◌∷◌, IfOk, None, Some};
 ghost use Rattle.std.specs.List.{AllByRecursion};
 ghost use Rattle.hp_tape.specs.Deltas.{AllFit, FitsPages, IsDeltaOf, pages_undo, undo_all};
 ghost use Rattle.hp_tape.specs.Tapes.{HasRoom, NotesPages};
@@ -7,28 +7,21 @@ ghost use Rattle.layer_tests.specs.SmallLayouts.{two_blocks};
 ghost use Rattle.layer_tests.specs.SmallPages.{no_pages, second_page};
 
 use crate::layouts::two_blocks;
-use hp_pages::{Pages, fresh_words};
+use hp_pages::Pages;
 use hp_tape::Tape;
 use hp_units::{Frame, Owner, Page, Words};
 use std::alloc::{AllocError, Global};
 use std::test::Fail;
 
-/// The pages of four frames, none mapped, and the words of a new page.
-struct Small {
-    pages: Pages,
-    words: Words,
-}
-
-fn small_pages(alloc: Global) -> Result<Small, AllocError>
-    ensures layout { IfOk result (λ s. s.pages.layout ≡ two_blocks) }
-    ensures pages { IfOk result (λ s. s.pages.pages ≡ no_pages) }
-    ensures settled { IfOk result (λ s. AreSettled s.pages.pages) }
-    ensures words { IfOk result (λ s. s.words ≡ 0 ∷ 0 ∷ []) }
+/// The pages of four frames, none mapped.
+fn small_pages(alloc: Global) -> Result<Pages, AllocError>
+    ensures layout { IfOk result (λ p. p.layout ≡ two_blocks) }
+    ensures pages { IfOk result (λ p. p.pages ≡ no_pages) }
+    ensures settled { IfOk result (λ p. AreSettled p.pages) }
 {
     let layout = two_blocks(alloc)?;
     let pages = Pages::new(alloc, &layout)?;
-    let words = fresh_words(alloc, &layout)?;
-    Ok(Small { pages, words })
+    Ok(pages)
 }
 
 /// Takes back what a tape notes, the latest first.
@@ -60,31 +53,29 @@ fn is_empty(pages: &Pages) -> bool
 
 #[test]
 fn starts_unmapped(rt: HostRuntime) -> Result<(), Fail> {
-    let layout = two_blocks(rt.alloc())?;
-    let pages = Pages::new(rt.alloc(), &layout)?;
+    let pages = small_pages(rt.alloc())?;
     assert!(rt; is_unmapped(&pages) && is_empty(&pages));
     Ok(())
 }
 
 /// Maps the second page to the third frame.
-fn map_page(pages: &mut Pages, words: Words, tape: &mut Tape)
+fn map_page(pages: &mut Pages, tape: &mut Tape)
     requires layout { pages.old.layout ≡ two_blocks }
     requires pages { pages.old.pages ≡ no_pages }
     requires settled { AreSettled pages.old.pages }
-    requires words { words ≡ 0 ∷ 0 ∷ [] }
     requires room { HasRoom tape.old 1 }
     ensures layout { pages.new.layout ≡ pages.old.layout }
-    ensures pages { pages.new.pages ≡ second_page (0 ∷ 0 ∷ []) }
+    ensures pages { pages.new.pages ≡ second_page None }
     ensures settled { AreSettled pages.new.pages }
     ensures notes { NotesPages pages.old.layout 1 tape.old tape.new pages.new.pages pages.old.pages }
 {
-    pages.map(Owner(0), Page(1), Frame(2), words, tape);
+    pages.map(Owner(0), Page(1), Frame(2), tape);
 }
 
 /// Whether the page is found by its number and by its frame, and has zeros.
 fn is_mapped(pages: &Pages) -> bool
     requires layout { pages.now.layout ≡ two_blocks }
-    requires pages { pages.now.pages ≡ second_page (0 ∷ 0 ∷ []) }
+    requires pages { pages.now.pages ≡ second_page None }
     requires settled { AreSettled pages.now.pages }
 {
     pages.frame_at(Owner(0), Page(1)) == Some(Frame(2))
@@ -95,9 +86,9 @@ fn is_mapped(pages: &Pages) -> bool
 
 #[test]
 fn maps_and_reads(rt: HostRuntime) -> Result<(), Fail> {
-    let Small { mut pages, words } = small_pages(rt.alloc())?;
+    let mut pages = small_pages(rt.alloc())?;
     let mut tape = Tape::with_room(rt.alloc(), 1)?;
-    map_page(&mut pages, words, &mut tape);
+    map_page(&mut pages, &mut tape);
     assert!(rt; is_mapped(&pages));
     Ok(())
 }
@@ -119,7 +110,7 @@ fn is_found(pages: &Pages) -> bool
 /// Moves the page to the last frame, unmaps it there, and takes both back: whether its words moved along.
 fn moved_and_back(pages: &mut Pages, mut tape: Tape) -> bool
     requires layout { pages.old.layout ≡ two_blocks }
-    requires pages { pages.old.pages ≡ second_page (0 ∷ 7 ∷ []) }
+    requires pages { pages.old.pages ≡ second_page (Some (0 ∷ 7 ∷ [])) }
     requires settled { AreSettled pages.old.pages }
     requires none { tape.deltas ≡ [] }
     requires room { HasRoom tape 4 }
@@ -133,18 +124,18 @@ fn moved_and_back(pages: &mut Pages, mut tape: Tape) -> bool
 }
 
 /// Maps and writes the page, moves it and back, and takes the rest back: whether all is found as it was each time.
-fn mapped_and_back(pages: &mut Pages, words: Words, mut first: Tape, second: Tape) -> bool
+fn mapped_and_back(pages: &mut Pages, spare: Option<Words>, mut first: Tape, second: Tape) -> bool
     requires layout { pages.old.layout ≡ two_blocks }
     requires pages { pages.old.pages ≡ no_pages }
     requires settled { AreSettled pages.old.pages }
-    requires words { words ≡ 0 ∷ 0 ∷ [] }
+    requires spare { spare ≡ Some (0 ∷ 0 ∷ []) }
     requires none { first.deltas ≡ [] }
     requires room { HasRoom first 2 }
     requires none_then { second.deltas ≡ [] }
     requires room_then { HasRoom second 4 }
 {
-    map_page(pages, words, &mut first);
-    pages.write(Owner(0), Page(1), 1, 7, &mut first);
+    map_page(pages, &mut first);
+    pages.write(Owner(0), Page(1), 1, 7, spare, &mut first);
     let moved = moved_and_back(pages, second);
     let found = is_found(pages);
     go_back(pages, first);
@@ -153,9 +144,10 @@ fn mapped_and_back(pages: &mut Pages, words: Words, mut first: Tape, second: Tap
 
 #[test]
 fn goes_back(rt: HostRuntime) -> Result<(), Fail> {
-    let Small { mut pages, words } = small_pages(rt.alloc())?;
+    let mut pages = small_pages(rt.alloc())?;
+    let spare = pages.spare_for(rt.alloc(), Owner(0), Page(1), 7)?;
     let first = Tape::with_room(rt.alloc(), 2)?;
     let second = Tape::with_room(rt.alloc(), 4)?;
-    assert!(rt; mapped_and_back(&mut pages, words, first, second));
+    assert!(rt; mapped_and_back(&mut pages, spare, first, second));
     Ok(())
 }

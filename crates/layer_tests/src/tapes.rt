@@ -47,3 +47,23 @@ fn reserves_more_room(rt: HostRuntime) -> Result<(), Fail> {
     assert_eq!(rt; tape.len(), 1);
     Ok(())
 }
+
+#[test]
+fn copies_a_tape(rt: HostRuntime) -> Result<(), Fail> {
+    let mut tape = Tape::with_room(rt.alloc(), 2)?;
+    let filled = Delta::Filled {
+        frame: Frame(1),
+        index: 0,
+        now: 7,
+    };
+    tape.note(filled.copy(rt.alloc())?);
+    tape.note(filled);
+    let copy = tape.copy(rt.alloc())?;
+    assert!(rt;
+        matches!(
+            copy.as_slice(),
+            [Delta::Filled { now: 7, .. }, Delta::Filled { now: 7, .. }]
+        )
+    );
+    Ok(())
+}

@@ -6,7 +6,7 @@ mod single_blocks;
 
 use crate::layouts::four_blocks;
 use hp_memory::Memory;
-use hp_tape::Tape;
+use hp_tape::{Delta, Tape};
 use hp_units::{
     Block, Cpu, Event, Frame, Item, Order, Owner, Page, Plan, Refusal, Reply, Serial, Wish,
 };
@@ -119,5 +119,68 @@ fn a_step_goes_back(rt: HostRuntime) -> Result<(), Fail> {
     let was_back = goes_back(rt.alloc(), &mut memory);
     drop(memory);
     assert!(rt; was_back?);
+    Ok(())
+}
+
+/// A write to the second word of an owner's page.
+fn write_of(owner: Owner, page: Page, value: u64) -> Event {
+    Event::Write {
+        owner,
+        page,
+        index: 1,
+        value,
+    }
+}
+
+/// Whether the last deltas are those of a page that gets a buffer, loses it and is unmapped.
+fn filled_and_emptied(deltas: &[Delta]) -> bool {
+    matches!(
+        deltas,
+        [
+            ..,
+            Delta::Map { .. },
+            Delta::Filled { .. },
+            Delta::Word { .. },
+            Delta::Emptied { .. },
+            Delta::Map { .. },
+            Delta::Link { .. }
+        ]
+    )
+}
+
+/// Whether the events are answered, and the last deltas are those.
+fn fills_and_empties(
+    alloc: Global,
+    memory: &mut Memory,
+    tape: &mut Tape,
+) -> Result<bool, AllocError> {
+    let (owner, page, index) = (Owner(0), Page(0), 1);
+    let calls = [
+        (1, Event::Map { owner, page }, Reply::Done),
+        (2, write_of(owner, page, 0), Reply::Done),
+        (3, write_of(owner, page, 7), Reply::Done),
+        (4, write_of(owner, page, 8), Reply::Done),
+        (5, write_of(owner, page, 0), Reply::Done),
+        (6, Event::Read { owner, page, index }, Reply::Word(0)),
+        (7, Event::Unmap { owner, page }, Reply::Done),
+    ];
+    let answered = answers(alloc, memory, tape, &calls)?;
+    Ok(answered && filled_and_emptied(tape.as_slice()))
+}
+
+/// Whether that holds on a tape of its own.
+fn keeps_no_zeros(alloc: Global, memory: &mut Memory) -> Result<bool, AllocError> {
+    let mut tape = Tape::with_room(alloc, 0)?;
+    let noted = fills_and_empties(alloc, memory, &mut tape);
+    drop(tape);
+    noted
+}
+
+#[test]
+fn a_page_of_zeros_has_no_buffer(rt: HostRuntime) -> Result<(), Fail> {
+    let mut memory = booted(rt.alloc())?;
+    let noted = keeps_no_zeros(rt.alloc(), &mut memory);
+    drop(memory);
+    assert!(rt; noted?);
     Ok(())
 }

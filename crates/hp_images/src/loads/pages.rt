@@ -7,7 +7,7 @@ ghost use Rattle.hp_units.specs.Placement.{IsWellPlaced};
 ghost use Rattle.hp_tape.specs.Deltas.{buffer_of, page_frames_of, with_buffer};
 ghost use Rattle.hp_images.specs.Tables.{AreCopied};
 
-use hp_pages::Pages;
+use hp_pages::{Pages, is_blank};
 use hp_plain::Image;
 use hp_tape::Delta;
 use hp_units::{Frame, Owner, Page, Words};
@@ -91,7 +91,7 @@ fn load_buffers(alloc: Global, pages: &mut Pages, image: &Image) -> Result<(), A
     Ok(())
 }
 
-/// The words of one frame's page come into its buffer, where there is none.
+/// The words of one frame's page come into its buffer, where there is none. Words that are all 0 need none.
 fn load_buffer(
     alloc: Global,
     pages: &mut Pages,
@@ -109,9 +109,13 @@ fn load_buffer(
     let Some(place) = pages.page_at(frame) else {
         return Ok(());
     };
-    if let Some(slice) = image.words(place.0, place.1) {
-        let words = Words::new(Vec::from_slice(alloc, slice)?);
-        pages.back(Delta::Emptied { frame, words });
+    let Some(slice) = image.words(place.0, place.1) else {
+        return Ok(());
+    };
+    if is_blank(slice) {
+        return Ok(());
     }
+    let words = Words::new(Vec::from_slice(alloc, slice)?);
+    pages.back(Delta::Emptied { frame, words });
     Ok(())
 }

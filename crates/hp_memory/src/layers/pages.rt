@@ -6,17 +6,15 @@ ghost use Rattle.hp_plain.specs.Asked.{asked};
 ghost use Rattle.hp_memory.specs.Layers.{ArePlaced, IsAnswered, state_of};
 
 use super::Layers;
-use hp_pages::fresh_words;
 use hp_tape::Tape;
 use hp_units::{Cpu, Order, Owner, Page, Refusal, Reply};
 use std::alloc::{AllocError, Global};
 
 impl Layers {
-    /// A page is mapped to a frame, with zeros in it.
+    /// A page is mapped to a frame, with zeros in it. They take no memory.
     #[tactic(auto, using(crate::proofs::Answers::refused, crate::proofs::Answers::refused_none))]
     pub(crate) fn map(
         &mut self,
-        alloc: Global,
         cpu: Cpu,
         owner: Owner,
         page: Page,
@@ -37,12 +35,11 @@ impl Layers {
         if self.pages.frame_at(owner, page).is_some() {
             return Ok(Reply::Refused(Refusal::AlreadyMapped));
         }
-        let words = fresh_words(alloc, &self.layout)?;
         let room = self.frames.page_frame_room(&self.layout, cpu);
         tape.reserve(room + 1)?;
         match self.frames.page_frame(cpu, tape) {
             Some(frame) => {
-                self.pages.map(owner, page, frame, words, tape);
+                self.pages.map(owner, page, frame, tape);
                 Ok(Reply::Done)
             }
             None => Ok(Reply::Refused(Refusal::NoFrame)),
@@ -84,10 +81,11 @@ impl Layers {
         Ok(Reply::Done)
     }
 
-    /// One word of a mapped page changes.
+    /// One word of a mapped page changes. The first that is not 0 takes memory for all words of the page.
     #[tactic(auto, using(crate::proofs::Answers::refused))]
     pub(crate) fn write(
         &mut self,
+        alloc: Global,
         owner: Owner,
         page: Page,
         index: u32,
@@ -111,8 +109,9 @@ impl Layers {
         let Some(_frame) = self.pages.frame_at(owner, page) else {
             return Ok(Reply::Refused(Refusal::NotMapped));
         };
+        let spare = self.pages.spare_for(alloc, owner, page, value)?;
         tape.reserve(1)?;
-        self.pages.write(owner, page, index, value, tape);
+        self.pages.write(owner, page, index, value, spare, tape);
         Ok(Reply::Done)
     }
 

@@ -29,14 +29,14 @@ impl Layers {
         match event {
             Event::KernelAlloc { order } => self.kernel_alloc(cpu, *order, tape),
             Event::KernelFree { frame } => self.kernel_free(cpu, *frame, tape),
-            Event::Map { owner, page } => self.map(alloc, cpu, *owner, *page, tape),
+            Event::Map { owner, page } => self.map(cpu, *owner, *page, tape),
             Event::Unmap { owner, page } => self.unmap(cpu, *owner, *page, tape),
             Event::Write {
                 owner,
                 page,
                 index,
                 value,
-            } => self.write(*owner, *page, *index, *value, tape),
+            } => self.write(alloc, *owner, *page, *index, *value, tape),
             Event::Read { owner, page, index } => Ok(self.read(*owner, *page, *index)),
             Event::Migrate { op } => self.migrate(*op, tape),
             Event::Drain { cpu: drained } => self.drain(*drained, tape),

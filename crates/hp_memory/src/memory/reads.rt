@@ -76,7 +76,8 @@ impl Memory {
         &self.layers.frames.cpus
     }
 
-    /// The owners' pages by their frames: each mapped frame has its page's words, and no other frame has any.
+    /// The owners' pages by their frames: a mapped frame has its page's words in a buffer where one of them
+    /// is not 0, and no other frame has one.
     pub fn pages(&self) -> &Pages
         ensures value { result.now ≡ record { layout = self.now.layout; pages = page_frames_of self.now.layout self.now.state.pages } }
         ensures settled { AreSettled result.now.pages }

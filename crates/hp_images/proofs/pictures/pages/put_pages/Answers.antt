@@ -11,7 +11,7 @@ put_row-requires-clause-table_size c =
 
 pub put_row-requires-clause-contents_size : goal.put_row-requires-clause-contents_size
 put_row-requires-clause-contents_size c =
-    let count = contents-count c.args.pages.now.pages in
+    let count = contents-count c.args.pages.now.layout c.args.pages.now.pages in
     omega (arith, c.loop-number-test.true, c.owners-number-end.ensures.is, ap (λ l. l.owners) (c.layout.ensures ∙ c.requires.layout), c.loop-number.invariant.contents.size, count, c.requires.pages.owners)
 
 pub put_row-requires-clause-table : goal.put_row-requires-clause-table
@@ -21,15 +21,15 @@ put_row-requires-clause-table c =
 
 pub put_row-requires-clause-contents : goal.put_row-requires-clause-contents
 put_row-requires-clause-contents c =
-    let count = contents-count c.args.pages.now.pages in
+    let count = contents-count c.args.pages.now.layout c.args.pages.now.pages in
     c.loop-number.invariant.contents.later c.loop-number.number (omega arith)
     (omega (arith, c.loop-number-test.true, c.owners-number-end.ensures.is, ap (λ l. l.owners) (c.layout.ensures ∙ c.requires.layout), count, c.requires.pages.owners))
 
 pub returns : goal.returns
 returns c =
-    let wanted = pages_of c.args.pages.now.pages in
+    let wanted = pages_of c.args.pages.now.layout c.args.pages.now.pages in
     let now = c.loop-number.image.memory.pages in
-    let count = contents-count c.args.pages.now.pages in
+    let count = contents-count c.args.pages.now.layout c.args.pages.now.pages in
     c.loop-number.invariant.same
     ∙ ap (with_pages c.args.image.now)
     (same_tables now wanted

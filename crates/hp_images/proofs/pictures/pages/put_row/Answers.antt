@@ -10,7 +10,7 @@ loop-number-init c =
     let v = c.args.pages.now.pages in
     let i = c.args.image.now.memory.pages in
     let row = row-none i.table c.args.owner l.pages (get_or v.table c.args.owner []) c.requires.table (row-of l v c.args.owner c.requires.pages c.requires.owner) in
-    let words = row-none i.contents c.args.owner l.pages (words_row v c.args.owner) c.requires.contents (row-words l v c.args.owner c.requires.pages c.requires.owner) in
+    let words = row-none i.contents c.args.owner l.pages (words_row l v c.args.owner) c.requires.contents (row-words l v c.args.owner c.requires.pages c.requires.owner) in
     record { row = row.row; words = words.row; table = row.table; contents = words.table; same = refl }
 
 pub loop-number-preserved : goal.loop-number-preserved
@@ -26,9 +26,9 @@ loop-number-preserved c =
     let row = entry-more i.table now.table new.table c.args.owner c.loop-number.number (get_or v.table c.args.owner []) c.requires.table_size
     (omega (arith, c.loop-number-test.true, c.pages-number-end.ensures.is, end, row_size)) (record { row = c.loop-number.invariant.row; table = c.loop-number.invariant.table })
     (ap (λ p. p.memory.pages.table) c.in_ok-put_page.ensures) in
-    let words = entry-more i.contents now.contents new.contents c.args.owner c.loop-number.number (words_row v c.args.owner) c.requires.contents_size
+    let words = entry-more i.contents now.contents new.contents c.args.owner c.loop-number.number (words_row l v c.args.owner) c.requires.contents_size
     (omega (arith, c.loop-number-test.true, c.pages-number-end.ensures.is, end, words_size)) (record { row = c.loop-number.invariant.words; table = c.loop-number.invariant.contents })
-    (words-entry v now.contents new.contents c.args.owner c.loop-number.number (omega (arith, c.loop-number-test.true, c.pages-number-end.ensures.is, end, row_size))
+    (words-entry l v now.contents new.contents c.args.owner c.loop-number.number (omega (arith, c.loop-number-test.true, c.pages-number-end.ensures.is, end, row_size))
     (ap (λ p. p.memory.pages.contents) c.in_ok-put_page.ensures)) in
     record {
       row = row.row;
@@ -52,5 +52,5 @@ returns c =
     (same_tables now _
     (row-all i.table now.table c.args.owner c.loop-number.number (get_or v.table c.args.owner []) (omega (arith, c.loop-number-test.false, c.pages-number-end.ensures.is, end, row_size))
     (record { row = c.loop-number.invariant.row; table = c.loop-number.invariant.table }))
-    (row-all i.contents now.contents c.args.owner c.loop-number.number (words_row v c.args.owner) (omega (arith, c.loop-number-test.false, c.pages-number-end.ensures.is, end, words_size))
+    (row-all i.contents now.contents c.args.owner c.loop-number.number (words_row l v c.args.owner) (omega (arith, c.loop-number-test.false, c.pages-number-end.ensures.is, end, words_size))
     (record { row = c.loop-number.invariant.words; table = c.loop-number.invariant.contents })))

@@ -1,7 +1,7 @@
 -- Each part of the state in its turn.
 use Rattle.std.proofs.Common.{sym, ◌∙◌, ap}
 use Rattle.hp_memory.specs.Layers.{state_of}
-use Rattle.hp_memory.proofs.Pictured.{areas-is, areas-limits, areas-within, blocks-is, blocks-within, cached-none, contents-none, cpus-limits, cpus-size, cpus-within, free-is, kernel-is, kernel-none, kernel-orders, kernel-size, kinds-none, lists-none, none-is, pages-is, pages-limits, pages-settled, pages-within, rows-none, table-none}
+use Rattle.hp_memory.proofs.Pictured.{areas-is, areas-limits, areas-within, blocks-is, blocks-within, cached-none, contents-none, cpus-limits, cpus-size, cpus-within, free-is, kernel-is, kernel-none, kernel-orders, kernel-size, kinds-none, lists-none, none-is, pages-is, pages-limits, pages-put, pages-settled, pages-within, rows-none, table-none}
 use Rattle.hp_memory.proofs.layers.Layers.image.Goals as goal
 
 pub put_areas-requires-clause-limits : goal.put_areas-requires-clause-limits
@@ -70,19 +70,19 @@ put_pages-requires-clause-contents c =
 
 pub put-requires-clause-size : goal.put-requires-clause-size
 put-requires-clause-size c =
-    kernel-size c.args.self.now _ c.requires.placed (ap (λ i. i.layout) (pages-is c.args.self.now.layout (state_of c.args.self.now).free (state_of c.args.self.now).pages c.put_cpus.new.image c.put_pages.new.image (free-is c.args.self.now.layout (state_of c.args.self.now).free c.put_areas.new.image c.put_cpus.new.image (areas-is c.args.self.now.layout c.args.self.now.frames.buddy.areas c.in_ok-image.image c.put_areas.new.image (none-is c.args.self.now.layout c.in_ok-image.image c.in_ok-image.ensures.layout c.in_ok-image.ensures.memory) c.in_ok-put_areas.ensures) c.in_ok-put_cpus.ensures) c.in_ok-put_pages.ensures))
+    kernel-size c.args.self.now _ c.requires.placed (ap (λ i. i.layout) (pages-is c.args.self.now.layout (state_of c.args.self.now).free (state_of c.args.self.now).pages c.put_cpus.new.image c.put_pages.new.image (free-is c.args.self.now.layout (state_of c.args.self.now).free c.put_areas.new.image c.put_cpus.new.image (areas-is c.args.self.now.layout c.args.self.now.frames.buddy.areas c.in_ok-image.image c.put_areas.new.image (none-is c.args.self.now.layout c.in_ok-image.image c.in_ok-image.ensures.layout c.in_ok-image.ensures.memory) c.in_ok-put_areas.ensures) c.in_ok-put_cpus.ensures) (pages-put c.args.self.now c.put_cpus.new.image c.put_pages.new.image c.requires.placed c.in_ok-put_pages.ensures)))
 
 pub put-requires-clause-orders : goal.put-requires-clause-orders
 put-requires-clause-orders c =
-    kernel-orders c.args.self.now _ c.requires.placed (ap (λ i. i.layout) (pages-is c.args.self.now.layout (state_of c.args.self.now).free (state_of c.args.self.now).pages c.put_cpus.new.image c.put_pages.new.image (free-is c.args.self.now.layout (state_of c.args.self.now).free c.put_areas.new.image c.put_cpus.new.image (areas-is c.args.self.now.layout c.args.self.now.frames.buddy.areas c.in_ok-image.image c.put_areas.new.image (none-is c.args.self.now.layout c.in_ok-image.image c.in_ok-image.ensures.layout c.in_ok-image.ensures.memory) c.in_ok-put_areas.ensures) c.in_ok-put_cpus.ensures) c.in_ok-put_pages.ensures))
+    kernel-orders c.args.self.now _ c.requires.placed (ap (λ i. i.layout) (pages-is c.args.self.now.layout (state_of c.args.self.now).free (state_of c.args.self.now).pages c.put_cpus.new.image c.put_pages.new.image (free-is c.args.self.now.layout (state_of c.args.self.now).free c.put_areas.new.image c.put_cpus.new.image (areas-is c.args.self.now.layout c.args.self.now.frames.buddy.areas c.in_ok-image.image c.put_areas.new.image (none-is c.args.self.now.layout c.in_ok-image.image c.in_ok-image.ensures.layout c.in_ok-image.ensures.memory) c.in_ok-put_areas.ensures) c.in_ok-put_cpus.ensures) (pages-put c.args.self.now c.put_cpus.new.image c.put_pages.new.image c.requires.placed c.in_ok-put_pages.ensures)))
 
 pub put-requires-clause-none : goal.put-requires-clause-none
 put-requires-clause-none c =
-    kernel-none c.args.self.now _ c.requires.placed (ap (λ i. i.memory.kernel) (pages-is c.args.self.now.layout (state_of c.args.self.now).free (state_of c.args.self.now).pages c.put_cpus.new.image c.put_pages.new.image (free-is c.args.self.now.layout (state_of c.args.self.now).free c.put_areas.new.image c.put_cpus.new.image (areas-is c.args.self.now.layout c.args.self.now.frames.buddy.areas c.in_ok-image.image c.put_areas.new.image (none-is c.args.self.now.layout c.in_ok-image.image c.in_ok-image.ensures.layout c.in_ok-image.ensures.memory) c.in_ok-put_areas.ensures) c.in_ok-put_cpus.ensures) c.in_ok-put_pages.ensures))
+    kernel-none c.args.self.now _ c.requires.placed (ap (λ i. i.memory.kernel) (pages-is c.args.self.now.layout (state_of c.args.self.now).free (state_of c.args.self.now).pages c.put_cpus.new.image c.put_pages.new.image (free-is c.args.self.now.layout (state_of c.args.self.now).free c.put_areas.new.image c.put_cpus.new.image (areas-is c.args.self.now.layout c.args.self.now.frames.buddy.areas c.in_ok-image.image c.put_areas.new.image (none-is c.args.self.now.layout c.in_ok-image.image c.in_ok-image.ensures.layout c.in_ok-image.ensures.memory) c.in_ok-put_areas.ensures) c.in_ok-put_cpus.ensures) (pages-put c.args.self.now c.put_cpus.new.image c.put_pages.new.image c.requires.placed c.in_ok-put_pages.ensures)))
 
 pub put_blocks-requires-clause-layout : goal.put_blocks-requires-clause-layout
 put_blocks-requires-clause-layout c =
-    ap (λ i. i.layout) (kernel-is c.args.self.now.layout (state_of c.args.self.now).free (state_of c.args.self.now).pages c.args.self.now.kernel c.put_pages.new.image c.put.new.image (pages-is c.args.self.now.layout (state_of c.args.self.now).free (state_of c.args.self.now).pages c.put_cpus.new.image c.put_pages.new.image (free-is c.args.self.now.layout (state_of c.args.self.now).free c.put_areas.new.image c.put_cpus.new.image (areas-is c.args.self.now.layout c.args.self.now.frames.buddy.areas c.in_ok-image.image c.put_areas.new.image (none-is c.args.self.now.layout c.in_ok-image.image c.in_ok-image.ensures.layout c.in_ok-image.ensures.memory) c.in_ok-put_areas.ensures) c.in_ok-put_cpus.ensures) c.in_ok-put_pages.ensures) c.in_ok-put.ensures) ∙ sym c.requires.placed.one.blocks
+    ap (λ i. i.layout) (kernel-is c.args.self.now.layout (state_of c.args.self.now).free (state_of c.args.self.now).pages c.args.self.now.kernel c.put_pages.new.image c.put.new.image (pages-is c.args.self.now.layout (state_of c.args.self.now).free (state_of c.args.self.now).pages c.put_cpus.new.image c.put_pages.new.image (free-is c.args.self.now.layout (state_of c.args.self.now).free c.put_areas.new.image c.put_cpus.new.image (areas-is c.args.self.now.layout c.args.self.now.frames.buddy.areas c.in_ok-image.image c.put_areas.new.image (none-is c.args.self.now.layout c.in_ok-image.image c.in_ok-image.ensures.layout c.in_ok-image.ensures.memory) c.in_ok-put_areas.ensures) c.in_ok-put_cpus.ensures) (pages-put c.args.self.now c.put_cpus.new.image c.put_pages.new.image c.requires.placed c.in_ok-put_pages.ensures)) c.in_ok-put.ensures) ∙ sym c.requires.placed.one.blocks
 
 pub put_blocks-requires-clause-rows : goal.put_blocks-requires-clause-rows
 put_blocks-requires-clause-rows c =
@@ -90,8 +90,8 @@ put_blocks-requires-clause-rows c =
 
 pub put_blocks-requires-clause-none : goal.put_blocks-requires-clause-none
 put_blocks-requires-clause-none c =
-    rows-none c.args.self.now _ c.requires.placed (ap (λ i. i.memory.blocks.rows) (kernel-is c.args.self.now.layout (state_of c.args.self.now).free (state_of c.args.self.now).pages c.args.self.now.kernel c.put_pages.new.image c.put.new.image (pages-is c.args.self.now.layout (state_of c.args.self.now).free (state_of c.args.self.now).pages c.put_cpus.new.image c.put_pages.new.image (free-is c.args.self.now.layout (state_of c.args.self.now).free c.put_areas.new.image c.put_cpus.new.image (areas-is c.args.self.now.layout c.args.self.now.frames.buddy.areas c.in_ok-image.image c.put_areas.new.image (none-is c.args.self.now.layout c.in_ok-image.image c.in_ok-image.ensures.layout c.in_ok-image.ensures.memory) c.in_ok-put_areas.ensures) c.in_ok-put_cpus.ensures) c.in_ok-put_pages.ensures) c.in_ok-put.ensures))
+    rows-none c.args.self.now _ c.requires.placed (ap (λ i. i.memory.blocks.rows) (kernel-is c.args.self.now.layout (state_of c.args.self.now).free (state_of c.args.self.now).pages c.args.self.now.kernel c.put_pages.new.image c.put.new.image (pages-is c.args.self.now.layout (state_of c.args.self.now).free (state_of c.args.self.now).pages c.put_cpus.new.image c.put_pages.new.image (free-is c.args.self.now.layout (state_of c.args.self.now).free c.put_areas.new.image c.put_cpus.new.image (areas-is c.args.self.now.layout c.args.self.now.frames.buddy.areas c.in_ok-image.image c.put_areas.new.image (none-is c.args.self.now.layout c.in_ok-image.image c.in_ok-image.ensures.layout c.in_ok-image.ensures.memory) c.in_ok-put_areas.ensures) c.in_ok-put_cpus.ensures) (pages-put c.args.self.now c.put_cpus.new.image c.put_pages.new.image c.requires.placed c.in_ok-put_pages.ensures)) c.in_ok-put.ensures))
 
 pub returns : goal.returns
 returns c =
-    blocks-is c.args.self.now.layout (state_of c.args.self.now) c.put.new.image c.put_blocks.new.image (kernel-is c.args.self.now.layout (state_of c.args.self.now).free (state_of c.args.self.now).pages c.args.self.now.kernel c.put_pages.new.image c.put.new.image (pages-is c.args.self.now.layout (state_of c.args.self.now).free (state_of c.args.self.now).pages c.put_cpus.new.image c.put_pages.new.image (free-is c.args.self.now.layout (state_of c.args.self.now).free c.put_areas.new.image c.put_cpus.new.image (areas-is c.args.self.now.layout c.args.self.now.frames.buddy.areas c.in_ok-image.image c.put_areas.new.image (none-is c.args.self.now.layout c.in_ok-image.image c.in_ok-image.ensures.layout c.in_ok-image.ensures.memory) c.in_ok-put_areas.ensures) c.in_ok-put_cpus.ensures) c.in_ok-put_pages.ensures) c.in_ok-put.ensures) c.in_ok-put_blocks.ensures
+    blocks-is c.args.self.now.layout (state_of c.args.self.now) c.put.new.image c.put_blocks.new.image (kernel-is c.args.self.now.layout (state_of c.args.self.now).free (state_of c.args.self.now).pages c.args.self.now.kernel c.put_pages.new.image c.put.new.image (pages-is c.args.self.now.layout (state_of c.args.self.now).free (state_of c.args.self.now).pages c.put_cpus.new.image c.put_pages.new.image (free-is c.args.self.now.layout (state_of c.args.self.now).free c.put_areas.new.image c.put_cpus.new.image (areas-is c.args.self.now.layout c.args.self.now.frames.buddy.areas c.in_ok-image.image c.put_areas.new.image (none-is c.args.self.now.layout c.in_ok-image.image c.in_ok-image.ensures.layout c.in_ok-image.ensures.memory) c.in_ok-put_areas.ensures) c.in_ok-put_cpus.ensures) (pages-put c.args.self.now c.put_cpus.new.image c.put_pages.new.image c.requires.placed c.in_ok-put_pages.ensures)) c.in_ok-put.ensures) c.in_ok-put_blocks.ensures

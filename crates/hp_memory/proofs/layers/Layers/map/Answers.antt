@@ -18,9 +18,9 @@ map-requires-clause-settled c = settled c.args.self.now c.requires.placed
 
 pub returns-in-Some-clause-ok : goal.returns-in-Some-clause-ok
 returns-in-Some-clause-ok c =
-    map-done c.args.self.now c.page_frame.new.self c.map.new.self c.args.cpu c.args.owner c.args.page c.in-Some.frame c.in_ok-words.words c.reserve.new.self c.page_frame.new.tape c.map.new.tape c.requires.placed
+    map-done c.args.self.now c.page_frame.new.self c.map.new.self c.args.cpu c.args.owner c.args.page c.in-Some.frame c.reserve.new.self c.page_frame.new.tape c.map.new.tape c.requires.placed
     (omega (arith, c.if-owner-owners.false, c.owners.ensures.is, c.owner.view_is)) (omega (arith, c.if-page-pages.false, c.pages.ensures.is, c.page.view_is))
-    (sym c.frame_at.ensures.frame ∙ not_there c.frame_at.result (sym c.is_some.ensures ∙ c.if-is_some.false)) c.reserve.ensures.deltas c.in_ok-words.ensures c.in-Some.ensures c.map.ensures.layout c.map.ensures.mapped c.map.ensures.notes
+    (sym c.frame_at.ensures.frame ∙ not_there c.frame_at.result (sym c.is_some.ensures ∙ c.if-is_some.false)) c.reserve.ensures.deltas c.in-Some.ensures c.map.ensures.layout c.map.ensures.mapped c.map.ensures.notes
 
 pub returns-in-None-clause-ok : goal.returns-in-None-clause-ok
 returns-in-None-clause-ok c =

@@ -1,0 +1,68 @@
+//! The texts of a JSON array.
+ghost use Rattle.std.specs.Prelude.{◌≡◌, ◌<◌, Some, length, slice_get};
+ghost use Rattle.std.specs.List.{list_all};
+ghost use Rattle.serde_json.specs.Find.{as_str};
+ghost use Rattle.serde_json.specs.View.{items_view};
+ghost use Rattle.hp_scenario.specs.Form.{each_in, is_text};
+
+use serde_json::Value;
+use std::marker::Model;
+
+/// Values all of which are texts, seen as the list of these.
+#[derive(Drop)]
+pub(crate) struct Texts<'a> {
+    values: &'a [Value],
+}
+
+impl<'a> Model for Texts<'a> {
+    ghost use Rattle.std.specs.Prelude.{◌≡◌, true, List, ℕ, map};
+    ghost use Rattle.std.specs.List.{list_all};
+    ghost use Rattle.hp_scenario.specs.Form.{is_text, text_of};
+
+    ghost Value = { List (List ℕ) };
+
+    ghost view = { λ t. map text_of t.values.now };
+
+    ghost invariant = { λ t. list_all is_text t.values.now ≡ true };
+}
+
+/// Whether each value is a text.
+fn are_texts(values: &[Value]) -> bool
+    ensures { result ≡ list_all is_text values.now }
+{
+    values.iter().all(|value| value.is_string())
+}
+
+impl<'a> Texts<'a> {
+    /// The texts of the values; none where some value is no text.
+    #[tactic(auto, using(crate::proofs::TextLists::all_texts, crate::proofs::TextLists::not_all_texts))]
+    pub(crate) fn new(values: &'a Vec<Value>) -> Option<Texts<'a>>
+        ensures { result ≡ each_in as_str (items_view values.now.items) }
+    {
+        let values = values.as_slice();
+        if !are_texts(values) {
+            return None;
+        }
+        Some(Texts { values })
+    }
+
+    /// How many there are.
+    pub(crate) fn len(&self) -> usize
+        ensures { result ≡ length self.now }
+    {
+        self.values.len()
+    }
+
+    /// The text at a place.
+    #[tactic(auto, using(crate::proofs::TextLists::text_there, crate::proofs::TextLists::text_lacks))]
+    pub(crate) fn at(&self, place: usize) -> &'a str
+        requires { place < length self.now }
+        ensures { slice_get self.now place ≡ Some result.now }
+    {
+        let values = self.values;
+        match values[place].as_str() {
+            Some(text) => text,
+            None => unreachable!(),
+        }
+    }
+}

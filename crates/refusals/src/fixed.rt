@@ -1,0 +1,118 @@
+//! Calls that take no memory. All that they need is made before; then a line is written, after which every request for memory
+//! may be refused.
+ghost use Rattle.std.specs.Prelude.{◌<◌, length};
+
+use crate::calls::is_full;
+use crate::trouble::Trouble;
+use crate::values::{layout_of, offline};
+use hp_machine::{Machine, MachinePort};
+use hp_ops::Port;
+use hp_plain::Image;
+use hp_tape::{Delta, Tape};
+use hp_units::{
+    Auto, Block, Class, Cpu, Event, Frame, Layout, Order, Owner, Page, Pageblock, Plan, Pool,
+    Serial, Words, block_of, buddy, pageblock_of,
+};
+use std::alloc::Global;
+
+/// Makes what the calls need, says so, and makes the calls.
+pub fn run(rt: &HostRuntime, alloc: Global) -> Result<bool, Trouble> {
+    let layout = layout_of(alloc, 2)?;
+    let mut machine = mapped(alloc, &layout)?;
+    let image = machine.image(alloc)?;
+    let mut tape = Tape::with_room(alloc, 1)?;
+    let plan = offline(alloc)?;
+    let words = Words::new(vec![in alloc; 7, 9]?);
+    let _said = eprintln!(rt; "set up");
+    Ok(
+        is_counted(&layout)
+            && is_read(&machine)
+            && is_image(&image)
+            && is_noted(&mut tape)
+            && is_listed(plan, words)
+            && is_refused(alloc, &mut machine),
+    )
+}
+
+/// A machine whose history is full, with a page mapped.
+fn mapped(alloc: Global, layout: &Layout) -> Result<Machine, Trouble> {
+    let mut machine = Machine::boot(alloc, layout)?;
+    let _first = machine.call(alloc, Cpu(0), &map(0))?;
+    let _second = machine.call(alloc, Cpu(1), &map(1))?;
+    Ok(machine)
+}
+
+/// The event that maps the first page of an owner.
+fn map(owner: u32) -> Event {
+    Event::Map {
+        owner: Owner(owner),
+        page: Page(0),
+    }
+}
+
+/// Numbers of a layout.
+fn is_counted(layout: &Layout) -> bool {
+    layout.frames() == 16
+        && layout.boot().len() == 4
+        && layout.block_bytes() == 64
+        && buddy(Frame(8), Order(1)) == Frame(10)
+        && pageblock_of(layout, Frame(9)) == Pageblock(2)
+        && block_of(layout, Frame(9)) == Block(2)
+}
+
+/// Readers of a machine.
+fn is_read(machine: &Machine) -> bool {
+    machine.front(Class::Nm, Order(2)) == Some(Frame(0))
+        && machine.list_len(Class::Nm, Order(2)) == 2
+        && machine.row(Block(3)).is_some()
+        && machine.frame_at(Owner(0), Page(0)) == Some(Frame(8))
+        && machine.auto() == Auto::Offline
+        && machine.journal_len() == 2
+        && machine.entry(1).is_some()
+        && machine.history().len() == 2
+        && machine.sealed() == 0
+        && machine.last_serial() == 2
+        && machine.base().list(Class::Mm, Order(2)) == [Frame(8)].as_slice()
+}
+
+/// Readers of a state.
+fn is_image(image: &Image) -> bool {
+    image.same(image)
+        && image.list(Class::Nm, Order(2)).len() == 2
+        && image.cpu_list(Cpu(0), Pool::Mm) == [Frame(9)].as_slice()
+        && image.frame_at(Owner(0), Page(0)) == Some(Frame(8))
+        && image.words(Owner(0), Page(0)).is_some()
+        && image.kernel_at(Frame(0)).is_none()
+        && image.kind(Pageblock(0)).is_some()
+        && image.row(Block(0)).is_some()
+}
+
+/// A delta is noted and taken back.
+fn is_noted(tape: &mut Tape) -> bool
+    requires { length tape.old.deltas < tape.old.room }
+{
+    tape.note(Delta::Auto {
+        was: Auto::Offline,
+        now: Auto::Online,
+    });
+    tape.as_slice().len() == 1
+        && tape.len() == 1
+        && matches!(tape.latest(), Some(Delta::Auto { .. }))
+        && tape.len() == 0
+}
+
+/// Lists that were made of vectors.
+fn is_listed(plan: Plan, words: Words) -> bool {
+    let event = Event::Begin { plan };
+    event.same(&event) && words.same(&words) && words.as_slice() == [7, 9].as_slice()
+}
+
+/// A call where the history is full, by the machine and by a port.
+fn is_refused(alloc: Global, machine: &mut Machine) -> bool {
+    let undo = Event::UndoAfter { serial: Serial(0) };
+    if !is_full(machine, alloc, Cpu(0), &undo) {
+        return false;
+    }
+    let mut port = MachinePort::new(machine, Cpu(0));
+    port.cpus() == 2 && port.call(alloc, &undo).is_err() && port.fault.is_some()
+}

@@ -1,0 +1,57 @@
+//! The places of a machine's frames, and their picture.
+use crate::trouble::Trouble;
+use crate::values::layout_of;
+use hp_machine::Machine;
+use hp_map::{Place, picture_of, places_of};
+use hp_units::Text;
+use std::alloc::Global;
+
+/// The memory blocks at boot.
+const DRAWN: &[&str] = &["0:N[....]", "1:N[....]", "2:M[....]", "3:off[----]"];
+
+/// Looks for the places of all frames at boot, and for their picture.
+pub fn run(alloc: Global) -> Result<bool, Trouble> {
+    let layout = layout_of(alloc, 10)?;
+    let machine = Machine::boot(alloc, &layout)?;
+    Ok(are_placed(alloc, &machine)? && is_drawn(alloc, &machine)?)
+}
+
+/// Whether twelve frames are free, and four offline.
+fn are_placed(alloc: Global, machine: &Machine) -> Result<bool, Trouble> {
+    let places = places_of(alloc, machine)?;
+    Ok(
+        places.len() == 16
+            && count_of(&places, Place::Free) == 12
+            && count_of(&places, Place::Offline) == 4,
+    )
+}
+
+/// How many frames are in this place.
+fn count_of(places: &[Place], wanted: Place) -> u32 {
+    let mut count = 0u32;
+    for place in places {
+        if *place == wanted {
+            count = count.saturating_add(1);
+        }
+    }
+    count
+}
+
+/// Whether the memory blocks are drawn as at boot.
+fn is_drawn(alloc: Global, machine: &Machine) -> Result<bool, Trouble> {
+    let texts = picture_of(alloc, machine)?;
+    Ok(are_same(&texts, DRAWN))
+}
+
+/// Whether texts are these, in this order.
+fn are_same(texts: &[Text], wanted: &[&str]) -> bool {
+    if texts.len() != wanted.len() {
+        return false;
+    }
+    for (text, other) in texts.iter().zip(wanted) {
+        if text.as_str() != *other {
+            return false;
+        }
+    }
+    true
+}

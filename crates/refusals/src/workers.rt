@@ -1,0 +1,162 @@
+//! Workers in threads. Where one is out of memory all seats come back, and the machine closes with as many records as receipts.
+ghost use Rattle.std.specs.Prelude.{◌≡◌};
+ghost use Rattle.hp_scenario.specs.Scripts.{AreForRun};
+ghost use Rattle.hp_shared.specs.Shared.{IsFresh};
+
+use crate::situations::scenario_of;
+use crate::trouble::{Case, Trouble, holds};
+use hp_control::ControlFault;
+use hp_history::Volume;
+use hp_machine::Machine;
+use hp_scenario::Script;
+use hp_shared::{CloseFault, Job, Seat, Shared, close};
+use hp_units::{CallFault, OpEnd, Reply};
+use hp_workers::{Ends, LineEnd, OpenGate, RunEnd, run_workers};
+use std::alloc::Global;
+use std::marker::Brand;
+use std::sync::Wait;
+use std::sync::ledger::Blank;
+use std::thread::Threads;
+
+/// Lines of both processors, whose answers do not depend on one another.
+const CALLS: &str =
+    r#""0 map db 0","0 write db 0 1 7","0 plan 8 off 2","0 read db 0 1","0 seal","1 echo online memory3/state","1 map web 0","1 write web 0 0 5","1 read web 0 0""#;
+
+/// Has workers run the lines, and closes.
+pub fn run<R: Threads + Wait + Sync>(rt: &R, case: &mut Case) -> Result<bool, Trouble> {
+    let scenario = scenario_of(case.alloc, CALLS)?;
+    let machine = Machine::boot(case.alloc, &scenario.layout)?;
+    let blank = Blank::new(scenario.layout.cpus() as u64);
+    let scripts = scenario.scripts(case.alloc)?;
+    run_scripts::<Brand, R>(rt, case.alloc, blank, machine, scripts)
+}
+
+/// Has workers run a script for each processor, and closes.
+fn run_scripts<L: Job + Send + Sync, R: Threads + Wait + Sync>(
+    rt: &R,
+    alloc: Global,
+    blank: Blank,
+    machine: Machine,
+    scripts: Vec<Script>,
+) -> Result<bool, Trouble>
+    requires machine { IsFresh L.layout machine }
+    requires name { blank.name ≡ L.name }
+    requires parts { blank.parts ≡ L.parts }
+    requires one_each { blank.parts ≡ L.layout.cpus }
+    requires run { AreForRun scripts.items }
+{
+    let Ok((shared, seats)) = Shared::<L>::new(alloc, blank, machine) else {
+        return Err(Trouble::OutOfMemory);
+    };
+    if seats.len() != scripts.len() {
+        return Ok(false);
+    }
+    let RunEnd {
+        seats,
+        volumes,
+        ends,
+        fault,
+    } = run_workers(rt, alloc, &shared, seats, scripts, &OpenGate);
+    let receipts = count_receipts(&seats);
+    holds(seats.len() == 2)?;
+    let records = close_all(alloc, shared, seats, volumes)?;
+    holds(records == receipts)?;
+    if fault.is_some() || is_any_refused(&ends) {
+        return Err(Trouble::OutOfMemory);
+    }
+    Ok(are_right(&ends))
+}
+
+/// The number of all seats' receipts.
+fn count_receipts<L: Job>(seats: &[Seat<L>]) -> u64 {
+    let mut count = 0u64;
+    for seat in seats {
+        count = count.saturating_add(seat.receipts().len() as u64);
+    }
+    count
+}
+
+/// The number of records of a machine that is closed. Out of memory, the whole case is run again.
+fn close_all<L: Job>(
+    alloc: Global,
+    shared: Shared<L>,
+    seats: Vec<Seat<L>>,
+    volumes: Vec<Volume>,
+) -> Result<u64, Trouble> {
+    match close(alloc, shared, seats, volumes) {
+        Ok(closed) => Ok(closed.records),
+        Err(refused) => {
+            holds(refused.fault == CloseFault::OutOfMemory)?;
+            Err(Trouble::OutOfMemory)
+        }
+    }
+}
+
+/// Whether a line of any worker was out of memory.
+fn is_any_refused(lists: &Vec<Ends>) -> bool {
+    for ends in lists {
+        for end in ends.as_slice() {
+            if is_refused(*end) {
+                return true;
+            }
+        }
+    }
+    false
+}
+
+/// Whether a line was out of memory.
+fn is_refused(end: LineEnd) -> bool {
+    match end {
+        LineEnd::Fault(fault) => matches!(fault, CallFault::OutOfMemory),
+        LineEnd::Control(fault) => matches!(fault, ControlFault::OutOfMemory),
+        LineEnd::Plan(end) => matches!(end, OpEnd::Left { .. }),
+        _ => false,
+    }
+}
+
+/// Whether the lines ended as they do with ample memory.
+fn are_right(lists: &Vec<Ends>) -> bool {
+    match lists.as_slice() {
+        [first, second] => is_first(first.as_slice()) && is_second(second.as_slice()),
+        _ => false,
+    }
+}
+
+/// Whether the lines of processor 0 ended so.
+fn is_first(ends: &[LineEnd]) -> bool {
+    match ends {
+        [
+            map,
+            write,
+            LineEnd::Plan(OpEnd::Done),
+            read,
+            LineEnd::Sealed(_),
+        ] => {
+            is_reply(*map, Reply::Done)
+                && is_reply(*write, Reply::Done)
+                && is_reply(*read, Reply::Word(7))
+        }
+        _ => false,
+    }
+}
+
+/// Whether the lines of processor 1 ended so.
+fn is_second(ends: &[LineEnd]) -> bool {
+    match ends {
+        [online, map, write, read] => {
+            is_reply(*online, Reply::Done)
+                && is_reply(*map, Reply::Done)
+                && is_reply(*write, Reply::Done)
+                && is_reply(*read, Reply::Word(5))
+        }
+        _ => false,
+    }
+}
+
+/// Whether a line got this reply.
+fn is_reply(end: LineEnd, wanted: Reply) -> bool {
+    match end {
+        LineEnd::Reply(reply) => reply.same(&wanted),
+        _ => false,
+    }
+}

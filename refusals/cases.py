@@ -1,0 +1,51 @@
+"""The cases of crates/refusals: calls that may be out of memory, and calls that take none."""
+import os
+
+from refusing import ROOT, Refused, run
+
+CASES = ROOT / "crates" / "refusals" / "out" / "refusals"
+FIXED = ["fixed", "steps-in-room", "undo-in-room"]
+AS_WITH_AMPLE = "as with ample memory\n"
+
+
+def check_case(checks, refuser, name):
+    """A case, with each request for memory refused in turn. The last line on standard error says
+    how many calls were out of memory."""
+    answered, whole = 0, 0
+    for number, ran in refuser.each("memory", [CASES, name]):
+        noted = ran.err.splitlines()[-1:]
+        is_right = (ran.status, ran.out) == (0, AS_WITH_AMPLE) and noted in (["0"], ["1"])
+        checks.holds(f"case {name}, request {number}", is_right, f"ended with {ran}")
+        whole += noted == ["0"]
+        answered += noted != ["0"]
+    checks.holds(f"case {name}", answered > 0, "was never out of memory")
+    print(f"case {name}: {answered + whole} requests for memory refused: {answered} answered, "
+          f"{whole} not needed")
+    return answered + whole
+
+
+def check_fixed(checks, refuser, name):
+    """A case of calls that take no memory, with every request after the first write refused."""
+    ran = refuser.run(Refused("memory", 1, 0, after=1), [CASES, name])
+    checks.holds(f"case {name}", ran.ends_as(0, AS_WITH_AMPLE, "set up\n0\n") and not ran.refused,
+                 f"ended with {ran}")
+    print(f"case {name}: {len(ran.refused)} requests where every one would be refused")
+
+
+def check_refusing(checks, refuser):
+    """That requests after the first write are refused where there are any: all cases in turn."""
+    ran = refuser.run(Refused("memory", 1, 0, after=1), [CASES])
+    checks.holds("all cases", ran.status == 1 and ran.refused, f"ended with {ran}")
+
+
+def check_cases(checks, refuser):
+    if not os.access(CASES, os.X_OK):
+        checks.holds("cases", False, f"no program at {CASES}: `rt run` in its crate builds it")
+        return
+    names = run([CASES, "names"]).out.removesuffix(AS_WITH_AMPLE).split()
+    checks.holds("cases", len(names) > 1, "there are none")
+    memory = sum(check_case(checks, refuser, name) for name in names)
+    for name in FIXED:
+        check_fixed(checks, refuser, name)
+    check_refusing(checks, refuser)
+    print(f"{len(names)} cases: {memory} requests for memory refused")
