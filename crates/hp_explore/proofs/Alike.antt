@@ -20,7 +20,7 @@ use Rattle.hp_units.specs.declared.replies.Reply.{Reply}
 use Rattle.hp_laws.proofs.Net.{net-push, run-append}
 use Rattle.hp_laws.proofs.Records.{with_good}
 use Rattle.hp_laws.proofs.Replays.{net_bad}
-use Rattle.hp_explore.specs.Alike.{AreAlike, AreJoined, IsClosed, UndoNothing, exchanges, leaves_lines, leaves_steps, unnumbered}
+use Rattle.hp_explore.specs.Alike.{AreAlike, AreJoined, UndoNothing, exchanges, leaves_lines, leaves_steps, unnumbered}
 use Rattle.hp_explore.specs.Outcomes.{OutcomeValue, ended_rows_below, replies_below, replies_to, told}
 use Rattle.hp_explore.specs.Schedules.{EndsWith, Setting, next_call, outcome_after, play_one, plays, record_of_call}
 use Rattle.hp_explore.specs.Scripts.{later_operation, next_in, next_of, own_operation}

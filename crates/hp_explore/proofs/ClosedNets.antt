@@ -1,5 +1,5 @@
 -- Nets that no later Cancel can drop.
-use Rattle.std.proofs.Common.{◌≡◌, ℕ, zero, suc, ◌+◌, Bool, true, false, cond, eqb, List, [], ◌∷◌, ◌++◌, length, map, Option, Some, None, refl, ap, sym, subst, ◌∙◌, arith}
+use Rattle.std.proofs.Common.{◌≡◌, ℕ, suc, ◌+◌, Bool, true, false, cond, eqb, List, [], ◌∷◌, ◌++◌, length, map, Option, Some, None, refl, ap, sym, subst, ◌∙◌, arith}
 use Rattle.std.specs.Prelude.{◌&&◌, fold, option_map}
 use Rattle.std.proofs.lemmas.List.{append_assoc, length_push}
 use Rattle.hp_units.specs.History.{effect_of, is_refused, net_of, net_with, net_with_effect}

@@ -1,5 +1,5 @@
 -- Ends that grow, and what is kept of places while they do.
-use Rattle.std.proofs.Common.{◌≡◌, ℕ, zero, suc, ◌+◌, ◌<◌, ◌≤◌, List, [], ◌∷◌, ◌++◌, length, set, take, get_or, Some, slice_get, refl, ap, sym, subst, ◌∙◌, arith, inl, inr}
+use Rattle.std.proofs.Common.{◌≡◌, ℕ, zero, suc, ◌+◌, ◌<◌, ◌≤◌, List, [], ◌∷◌, ◌++◌, length, set, take, get_or, Some, slice_get, ap, sym, subst, ◌∙◌, arith, inl, inr}
 use Rattle.std.specs.Prelude.{◌⊎◌, sum_by}
 use Rattle.std.proofs.lemmas.Bool.{cases_lt}
 use Rattle.std.proofs.lemmas.List.{get_or_past, length_push, length-set, take_all}
@@ -7,9 +7,9 @@ use Rattle.std.proofs.lemmas.List.Sums.{sum_by_more}
 use Rattle.std.proofs.lemmas.Option.{get_or_from_slice_get, same_Some, slice_get_within}
 use Rattle.hp_laws.proofs.Lists.{get_push_cases, get_some}
 use Rattle.hp_explore.specs.Notes.{AddsEnd, AddsOne, HasNoEnd, IsNoted}
-use Rattle.hp_explore.specs.Orders.{Extends, HasCount}
+use Rattle.hp_explore.specs.Orders.{HasCount}
 use Rattle.hp_explore.specs.Outcomes.{OutcomeValue}
-use Rattle.hp_explore.specs.Schedules.{EndsWith, Setting, outcome_after, plays, schedule_of}
+use Rattle.hp_explore.specs.Schedules.{EndsWith, Setting, outcome_after, schedule_of}
 use Rattle.hp_explore.specs.Seen.{AddsCounts, AllSeen, GoesOn, Grow, IsSeen, SeenValue}
 use Rattle.hp_explore.specs.declared.tally.Ending.{Ending}
 use Rattle.hp_explore.proofs.Counting.{either_listed, get_longer, none_listed, same_count}

@@ -1,9 +1,9 @@
 -- What the walk keeps of a place, and what it adds where it is found again.
-use Rattle.std.proofs.Common.{◌≡◌, ℕ, zero, suc, ◌+◌, ◌<◌, ◌≤◌, true, List, [], ◌∷◌, ◌++◌, length, map, set, take, get_or, Option, Some, slice_get, refl, ap, sym, subst, ◌∙◌, arith, inl, inr}
+use Rattle.std.proofs.Common.{◌≡◌, ℕ, zero, suc, ◌+◌, ◌-◌, ◌<◌, ◌≤◌, true, List, [], ◌∷◌, ◌++◌, length, map, get_or, Option, Some, slice_get, refl, ap, sym, subst, ◌∙◌, arith, inl, inr}
 use Rattle.std.specs.Prelude.{sum, sum_by}
 use Rattle.std.proofs.lemmas.Bool.{cases_lt}
-use Rattle.std.proofs.lemmas.List.{get_or_past, length-map, length-set, take_all, take_more}
-use Rattle.std.proofs.lemmas.Option.{get_or_from_slice_get, same_Some, slice_get_within}
+use Rattle.std.proofs.lemmas.List.{get_or_append_left, get_or_past, get_or_push, length-map, length_push}
+use Rattle.std.proofs.lemmas.Option.{same_Some, slice_get_read}
 use Rattle.hp_laws.proofs.Lists.{get_some}
 use Rattle.hp_units.specs.History.{net_of, value_of}
 use Rattle.hp_units.specs.Memory.{Memory}
@@ -11,16 +11,17 @@ use Rattle.hp_units.specs.declared.replies.Record.{Record}
 use Rattle.hp_machine.specs.Machine.{MachineValue}
 use Rattle.hp_explore.specs.Alike.{IsClosed}
 use Rattle.hp_explore.specs.Ends.{AreCounted}
-use Rattle.hp_explore.specs.Faults.{HasMoreThan}
+use Rattle.hp_explore.specs.Faults.{HasMoreThan, IsWalkCause}
+use Rattle.hp_explore.specs.Notes.{TallyValue}
 use Rattle.hp_explore.specs.Outcomes.{OutcomeValue}
 use Rattle.hp_explore.specs.Schedules.{IsComplete, Setting, plays, schedule_of}
-use Rattle.hp_explore.specs.Seen.{AddsAt, AddsCounts, AreNoMore, AreSince, Grow, IsLike, IsLikeAmong, IsMemo, IsSeen, MemoValue, SeenValue}
+use Rattle.hp_explore.specs.Seen.{AddsCounts, AreNoMore, AreSince, Grow, IsAddCause, IsLike, IsLikeAmong, IsMemo, IsSeen, MemoValue, SeenValue}
 use Rattle.hp_explore.specs.Walks.{Before, IsReached, Through, news_in, place_of}
+use Rattle.hp_explore.specs.declared.exploring.ExploreFault.{ExploreFault}
 use Rattle.hp_explore.specs.declared.tally.Ending.{Ending}
 use Rattle.hp_explore.proofs.Adding.{added_sums}
 use Rattle.hp_explore.proofs.Counting.{more_listed}
-use Rattle.hp_explore.proofs.Counts.{get_set_cases}
-use Rattle.hp_explore.proofs.Grown.{all_grow, all_more, grow_added}
+use Rattle.hp_explore.proofs.Grown.{all_grow, all_more}
 use Rattle.hp_explore.proofs.Merges.{like_alike, merged, state_here, walked_seen}
 
 -- ---- counts that were read
@@ -45,6 +46,36 @@ grown_no_more old new earlier is grow = subst (λ (ks : List ℕ). AreNoMore ks 
         elim (cases_lt k (length old)) [
           | inl less ↦ (let e = get_some old k less in omega (arith, count_read old k e.0 e.1, (grow.kept k e.0 f e.1 h).1))
           | inr past ↦ omega (arith, count_past old k past)
+        ]
+
+-- an end counts no less than it did
+pub was_below : (ends shown : List Ending) (earlier : List ℕ) (place was : ℕ) (e : Ending) → shown ≡ ends → place < length shown → e ≡ get_or shown place e → AreNoMore earlier ends → was ≡ get_or earlier place 0 → was ≤ e.count
+was_below ends shown earlier place was e is within read no_more was_is = omega (arith, was_is, no_more place e here)
+  where
+    here : slice_get ends place ≡ Some e
+    here = subst (λ (es : List Ending). slice_get es place ≡ Some e) is (slice_get_read shown (length shown) place e refl within read)
+
+-- what one end more counts more
+pub since_more : (ends : List Ending) (earlier before after : List ℕ) (place was : ℕ) (e : Ending) → slice_get ends place ≡ Some e → AreNoMore earlier ends → was ≡ get_or earlier place 0 → after ≡ before ++ (e.count - was) ∷ [] → length before ≡ place
+    → ((k : ℕ) (f : Ending) → k < place → slice_get ends k ≡ Some f → get_or earlier k 0 + get_or before k 0 ≡ f.count)
+    → (length after ≡ place + 1) × ((k : ℕ) (f : Ending) → k < place + 1 → slice_get ends k ≡ Some f → get_or earlier k 0 + get_or after k 0 ≡ f.count)
+since_more ends earlier before after place was e here no_more was_is after_is many so_far = (
+  omega (arith, ap (λ (ks : List ℕ). length ks) after_is, length_push before (e.count - was), many),
+  each,
+)
+  where
+    last : get_or after place 0 ≡ e.count - was
+    last =
+        ap (λ (ks : List ℕ). get_or ks place 0) after_is
+        ∙ get_or_push before (e.count - was) 0 place many
+
+    each : (k : ℕ) (f : Ending) → k < place + 1 → slice_get ends k ≡ Some f → get_or earlier k 0 + get_or after k 0 ≡ f.count
+    each k f less h =
+        elim (cases_lt k place) [
+          | inl earlier_one ↦ omega (arith, so_far k f earlier_one h, ap (λ (ks : List ℕ). get_or ks k 0) after_is, get_or_append_left before ((e.count - was) ∷ []) 0 k (omega (arith, many)))
+          | inr past ↦ (let same : k ≡ place = omega (arith, less, past) in
+              let end : e ≡ f = same_Some e f (sym here ∙ (ap (slice_get ends) (sym same) ∙ h)) in
+              omega (arith, last, was_is, no_more place e here, ap (λ (y : Ending). y.count) end, ap (λ (n : ℕ). get_or earlier n 0) same, ap (λ (n : ℕ). get_or after n 0) same))
         ]
 
 -- ---- a place that was walked
@@ -134,3 +165,11 @@ found_exceeds g q ends counts limit few counted above = (
     more : HasMoreThan (λ s. (x : OutcomeValue) × Through g q s x) limit
     more =
         more_listed (λ s. (x : OutcomeValue) × Through g q s x) (sum_by (λ (e : Ending). e.count) (added_to ends counts)) limit (omega (arith, above, added_sums ends (added_to ends counts) counts few (adds_counts ends counts))) (counted (added_to ends counts) (adds_counts ends counts)).total
+
+-- the fault where what was found could not be added
+pub found_fault : (g : Setting) (m : MachineValue) (memo : MemoValue) (tally : TallyValue) (memory : Memory) (news : List Record) (cpus : ℕ) (counts : List ℕ) (fault : ExploreFault) → IsReached g m → IsMemo g tally.ends memo → memo.is_on ≡ true → IsClosed (net_of m.history) → m.state ≡ value_of m.layout m.base m.history
+    → memory ≡ m.state → news ≡ news_in g m → cpus ≡ length g.scripts → IsLikeAmong memo.seen memory news cpus counts → AreCounted (Before g (place_of g m)) tally.ends → IsAddCause tally counts fault → IsWalkCause g tally.limit fault
+found_fault g m memo tally memory news cpus counts fault here kept on closed state memory_is news_is cpus_is like before cause =
+    subst (IsWalkCause g tally.limit) (sym cause.0)
+    (found_exceeds g (place_of g m) tally.ends counts tally.limit (found_few g memo tally.ends memory news cpus counts kept like)
+    (λ new adds. found_counted g m memo tally.ends new memory news cpus counts here kept on closed state memory_is news_is cpus_is like before adds) cause.1)

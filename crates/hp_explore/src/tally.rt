@@ -1,5 +1,5 @@
 //! The ends so far, with their counts.
-ghost use Rattle.std.specs.Prelude.{◌≡◌, ◌<◌, ◌≤◌, [], ◌∷◌, IfErr, IfOk, IfSome, IfNone, OnOk, length, map};
+ghost use Rattle.std.specs.Prelude.{◌≡◌, ◌<◌, ◌≤◌, [], ◌∷◌, IfErr, IfOk, IfSome, IfNone, OnOk, length, map, slice_index_or};
 ghost use Rattle.hp_explore.specs.Faults.{IsNoteCause};
 ghost use Rattle.hp_explore.specs.Notes.{HasEndAt, HasNoEnd, IsNoted};
 ghost use Rattle.hp_explore.specs.Schedules.{schedule_of};
@@ -102,7 +102,7 @@ impl Tally {
         let mut counts = Vec::new(alloc);
         for (place, end) in self.ends.iter().enumerate() {
             counts.reserve(1)?;
-            let was = earlier.get(place).copied().unwrap_or(0);
+            let was = count_at(earlier, place);
             counts.push_reserved(end.count - was);
         }
         Ok(counts)
@@ -145,6 +145,13 @@ impl Tally {
         let Tally { ends, .. } = self;
         ends
     }
+}
+
+/// The count at a place, and 0 where there is none.
+fn count_at(counts: &[u64], place: usize) -> u64
+    ensures { result ≡ slice_index_or counts.now place 0 }
+{
+    counts.get(place).copied().unwrap_or(0)
 }
 
 /// The place of the end with this outcome.

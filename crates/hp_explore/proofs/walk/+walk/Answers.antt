@@ -1,12 +1,17 @@
 -- From continuation to continuation of a place; after the last all that go on from it are counted. What is found again is added.
-use Rattle.std.proofs.Common.{◌≡◌, ◌+◌, Bool, List, arith, length, refl, sym, subst, ◌∙◌}
+use Rattle.std.proofs.Common.{◌≡◌, ℕ, ◌+◌, Bool, Bor, true, List, Option, ap, arith, length, refl, sym, subst, ◌∙◌}
+use Rattle.std.specs.Option.{IfSome}
 use Rattle.std.proofs.lemmas.Result.{IfErr-weaker, on_ok_weaker}
+use Rattle.hp_plain.specs.Image.{Pictured}
 use Rattle.hp_explore.specs.Notes.{TallyValue}
 use Rattle.hp_explore.specs.Schedules.{setting}
-use Rattle.hp_explore.specs.Seen.{Grow, IsMemo, MemoValue}
+use Rattle.hp_explore.specs.Alike.{is_closed}
+use Rattle.hp_explore.specs.Seen.{AreSince, Grow, IsLikeAmong, IsMemo, MemoValue, SeenValue}
 use Rattle.hp_explore.specs.Walks.{place_of}
 use Rattle.hp_explore.proofs.Grown.{grow_added, grow_none, grow_noted, grow_twice}
-use Rattle.hp_explore.proofs.Kept.{grown_no_more, memo_added}
+use Rattle.hp_explore.proofs.ClosedNets.{closed_told}
+use Rattle.hp_explore.proofs.Kept.{found_counted, found_fault, grown_no_more, memo_added, memo_more, place_kept}
+use Rattle.hp_explore.proofs.Machines.{news_shown}
 use Rattle.hp_explore.proofs.Plays.{walk_down}
 use Rattle.hp_explore.proofs.Walking.{IsWalked, leaf, leaf_fault, step_over, step_walked, walked}
 use Rattle.hp_explore.proofs.walk.+walk.Goals as goal
@@ -92,11 +97,39 @@ visit-returns-in-Some-clause-memo t c =
 pub visit-since-requires : goal.visit-since-requires
 visit-since-requires t c = grown_no_more c.args.tally.now.ends c.walk_on-2.new.tally.ends c.as_slice.result.now (c.as_slice.ensures.value ∙ c.in_ok-earlier.ensures) c.in_ok-walk_on.ensures.grows
 
+-- what is found again is like the place, so that its counts are those of what goes on from here
 pub visit-returns-in-Some-clause-ok : goal.visit-returns-in-Some-clause-ok
-visit-returns-in-Some-clause-ok t c = ?
+visit-returns-in-Some-clause-ok t c =
+    let g = setting c.args.start.now c.args.scripts.now in
+    let news = news_shown c.args.start.now c.args.machine.now c.args.scripts.now _ _ c.records_from-news.result.now c.history-3.ensures.records c.history-2.ensures.records c.records_from-news.ensures in
+    let told : is_closed c.args.machine.now.history ≡ true = sym (c.is_closed.ensures ∙ ap is_closed c.history.ensures.records) ∙ c.if-not-is_closed.false in
+    let like =
+    subst (λ (counts : Option (Bor (List ℕ))). IfSome counts (λ counts. IsLikeAmong c.args.memo.now.seen c.in_ok-image.image.memory c.records_from-news.result.now (length c.args.scripts.now) counts.now)) c.in-Some.is c.in_ok-counts.ensures in
+    on_ok_weaker c.add.result
+    (λ adds. found_counted g c.args.machine.now c.args.memo.now c.args.tally.now.ends c.add.new.self.ends c.in_ok-image.image.memory c.records_from-news.result.now (length c.args.scripts.now) c.in-Some.counts.now c.requires.reached c.requires.memo
+    (sym c.is_on.ensures ∙ c.if-not-is_on.false) (closed_told c.args.machine.now.history told) c.history.ensures.kept.state (ap (λ (i : Pictured). i.memory) c.in_ok-image.ensures) news refl like c.requires.counted adds)
+    c.add.ensures.ok
 
 pub visit-returns-in-Some-clause-err : goal.visit-returns-in-Some-clause-err
-visit-returns-in-Some-clause-err t c = ?
+visit-returns-in-Some-clause-err t c =
+    let g = setting c.args.start.now c.args.scripts.now in
+    let news = news_shown c.args.start.now c.args.machine.now c.args.scripts.now _ _ c.records_from-news.result.now c.history-3.ensures.records c.history-2.ensures.records c.records_from-news.ensures in
+    let told : is_closed c.args.machine.now.history ≡ true = sym (c.is_closed.ensures ∙ ap is_closed c.history.ensures.records) ∙ c.if-not-is_closed.false in
+    let like =
+    subst (λ (counts : Option (Bor (List ℕ))). IfSome counts (λ counts. IsLikeAmong c.args.memo.now.seen c.in_ok-image.image.memory c.records_from-news.result.now (length c.args.scripts.now) counts.now)) c.in-Some.is c.in_ok-counts.ensures in
+    IfErr-weaker c.add.result _ _
+    (λ fault cause. found_fault g c.args.machine.now c.args.memo.now c.args.tally.now c.in_ok-image.image.memory c.records_from-news.result.now (length c.args.scripts.now) c.in-Some.counts.now fault c.requires.reached c.requires.memo
+    (sym c.is_on.ensures ∙ c.if-not-is_on.false) (closed_told c.args.machine.now.history told) c.history.ensures.kept.state (ap (λ (i : Pictured). i.memory) c.in_ok-image.ensures) news refl like c.requires.counted cause)
+    c.add.ensures.err
 
 pub visit-returns-clause-memo : goal.visit-returns-clause-memo
-visit-returns-clause-memo t c = ?
+visit-returns-clause-memo t c =
+    let g = setting c.args.start.now c.args.scripts.now in
+    let news = news_shown c.args.start.now c.args.machine.now c.args.scripts.now _ _ c.records_from-news.result.now c.history-3.ensures.records c.history-2.ensures.records c.records_from-news.ensures in
+    let told : is_closed c.args.machine.now.history ≡ true = sym (c.is_closed.ensures ∙ ap is_closed c.history.ensures.records) ∙ c.if-not-is_closed.false in
+    let one =
+    place_kept g c.args.machine.now c.new.result c.args.tally.now.ends c.walk_on-2.new.tally.ends c.as_slice.result.now c.requires.reached (ap (λ (s : SeenValue). s.memory) c.new.ensures ∙ ap (λ (i : Pictured). i.memory) c.in_ok-image.ensures)
+    (ap (λ (s : SeenValue). s.news) c.new.ensures ∙ (c.in_ok-news.ensures ∙ news)) (closed_told c.args.machine.now.history told) c.history.ensures.kept.state (c.as_slice.ensures.value ∙ c.in_ok-earlier.ensures)
+    (subst (λ (counts : List ℕ). AreSince c.as_slice.result.now c.walk_on-2.new.tally.ends counts) (sym (ap (λ (s : SeenValue). s.counts) c.new.ensures)) c.in_ok-counts-2.ensures) c.in_ok-walk_on.ensures.grows c.requires.counted
+    c.in_ok-walk_on.ensures.ok in
+    memo_more g c.walk_on-2.new.tally.ends c.walk_on-2.new.memo c.add-2.new.self c.new.result c.in_ok-add.ensures.ok c.in_ok-walk_on.ensures.memo one
