@@ -1,5 +1,5 @@
 //! The ends so far, with their counts.
-ghost use Rattle.std.specs.Prelude.{◌≡◌, ◌<◌, ◌≤◌, [], ◌∷◌, IfErr, IfOk, IfSome, IfNone, OnOk, length, map, slice_index_or};
+ghost use Rattle.std.specs.Prelude.{◌≡◌, ◌↔◌, ◌<◌, ◌≤◌, [], ◌∷◌, IfErr, IfOk, IfSome, IfNone, IsTrue, OnOk, length, map, slice_index_or};
 ghost use Rattle.hp_explore.specs.Faults.{IsNoteCause};
 ghost use Rattle.hp_explore.specs.Notes.{HasEndAt, HasNoEnd, IsNoted};
 ghost use Rattle.hp_explore.specs.Schedules.{schedule_of};
@@ -28,6 +28,9 @@ pub(crate) fn schedule_of(alloc: Global, records: &[Record]) -> Result<Vec<Cpu>,
 {
     records.iter().map(|r| r.cpu).collect(alloc)
 }
+
+/// How many ends there may be for a place's counts to be kept (own rule).
+const FEW: usize = 1024;
 
 /// The ends so far, and the limit of how many schedules may be counted.
 #[derive(Drop)]
@@ -85,6 +88,13 @@ impl Tally {
         }
         self.total += 1;
         Ok(())
+    }
+
+    /// Whether there are too many ends for a place's counts to be kept.
+    pub(crate) fn has_many_ends(&self) -> bool
+        ensures { IsTrue result ↔ FEW < length self.now.ends }
+    {
+        self.ends.len() > FEW
     }
 
     /// The count of each end, by its place. An error is out of memory.

@@ -18,7 +18,8 @@ use hp_units::{Block, Claim, Cpu, Record, Row};
 use std::alloc::{AllocError, Global};
 
 /// Counts the complete schedules that go on from where a machine is, each under its end. Where they go on as from a place that was
-/// walked before, what was counted there is counted once more, and nothing is played.
+/// walked before, what was counted there is counted once more, and nothing is played. A place that was walked is kept as long as
+/// there are few ends, since each place holds a count for each end.
 #[cycle(walk)]
 pub(crate) fn visit(
     alloc: Global,
@@ -46,6 +47,9 @@ pub(crate) fn visit(
     let image = machine.image(alloc)?;
     if let Some(counts) = memo.counts_like(alloc, digest, &image, news, scripts.len() as u32)? {
         return tally.add(counts);
+    }
+    if tally.has_many_ends() {
+        return walk_on(alloc, start, scripts, machine, tally, memo);
     }
     let earlier = tally.counts(alloc)?;
     walk_on(alloc, start, scripts, machine, tally, memo)?;
