@@ -327,12 +327,20 @@ fn are_replies(answers: &Answers, cpu: Cpu, records: &[Record]) -> bool {
     place == answers.as_slice().len()
 }
 
+/// Whether a row has the state of a machine's block.
+fn is_state(row: &Row, now: Option<Row>) -> bool {
+    match now {
+        Some(now) => now.state == row.state,
+        None => false,
+    }
+}
+
 /// Whether the rows have the states of a machine's blocks.
 fn are_states(rows: &[Row], machine: &Machine) -> bool {
-    for (block, row) in rows.iter().enumerate() {
-        match machine.row(Block(block as u32)) {
-            Some(now) => {
-                if now.state != row.state {
+    for block in 0..machine.layout().blocks() {
+        match rows.get(block as usize) {
+            Some(row) => {
+                if !is_state(row, machine.row(Block(block))) {
                     return false;
                 }
             }
