@@ -1,6 +1,6 @@
 -- Multinomial coefficients, one turn more at a time.
 use Rattle.std.proofs.Common.{◌≡◌, ℕ, zero, suc, Bool, true, false, ◌+◌, ◌*◌, ◌/◌, ◌-◌, ◌<◌, ◌≤◌, List, [], ◌∷◌, ◌++◌, length, take, drop, get_or, refl, ap, sym, subst, ◌∙◌, arith}
-use Rattle.std.specs.Prelude.{◌↔◌, IsTrue, nat_lt, sum_by}
+use Rattle.std.specs.Prelude.{◌↔◌, IsTrue, nat_lt}
 use Rattle.std.proofs.Math.Nat.{mul_assoc, mul_comm, mul_left_comm, mul_right_comm, mul-pos, mul-le-mul_left, le_of_mul-le-mul_right, eq_of_mul-eq-mul_left, div-eq_of_eq-mul_left}
 use Rattle.std.proofs.lemmas.List.{append-nil, append_assoc, take-append-drop, take_all, take_more}
 use Rattle.std.proofs.lemmas.Bool.{lt-ltb, ltb-true}

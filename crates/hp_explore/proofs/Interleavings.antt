@@ -4,7 +4,6 @@ use Rattle.std.specs.Prelude.{◌↔◌, fold, option_and_then}
 use Rattle.std.specs.Option.{option_map_or}
 use Rattle.std.proofs.lemmas.Bool.{and_parts, cases_lt, eq-eqb, eqb-true}
 use Rattle.std.proofs.lemmas.List.{append-nil, length_push}
-use Rattle.std.proofs.lemmas.List.Sums.{sum_by-cons}
 use Rattle.std.proofs.lemmas.Option.{none-some, same_Some}
 use Rattle.hp_units.specs.Receipts.{receipt_of, receipts_of}
 use Rattle.hp_units.specs.declared.events.Event.{Event}

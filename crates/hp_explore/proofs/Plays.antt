@@ -24,7 +24,7 @@ use Rattle.hp_explore.proofs.Regions.{before_all, before_first, before_later, be
 -- ---- one call more
 
 -- a longer schedule goes on from where the shorter one leads to
-plays_on : (g : Setting) (p q : List ℕ) → plays g (p ++ q) ≡ fold (play_one g) (plays g p) q
+pub plays_on : (g : Setting) (p q : List ℕ) → plays g (p ++ q) ≡ fold (play_one g) (plays g p) q
 unfolding plays
 plays_on g p q = fold-append (play_one g) (Some []) p q
 

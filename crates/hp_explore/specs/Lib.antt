@@ -1,3 +1,4 @@
+pub mod Alike
 pub mod Ends
 pub mod Faults
 pub mod Interleavings
@@ -7,4 +8,5 @@ pub mod Orders
 pub mod Outcomes
 pub mod Schedules
 pub mod Scripts
+pub mod Seen
 pub mod Walks

@@ -4,8 +4,9 @@ ghost use Rattle.hp_explore.specs.Ends.{AreEnds};
 ghost use Rattle.hp_explore.specs.Faults.{IsCause};
 ghost use Rattle.hp_explore.specs.Schedules.{setting};
 
+use crate::memo::Memo;
 use crate::multinomials::are_too_many;
-use crate::scripts::Script;
+use crate::scripts::{Script, undo_nothing};
 use crate::tally::{Ending, Tally};
 use crate::walk::visit;
 use hp_machine::Machine;
@@ -73,6 +74,7 @@ pub fn explore(
         return Err(ExploreFault::TooMany);
     }
     let mut tally = Tally::new(alloc, limit);
-    visit(alloc, machine, scripts, machine, &mut tally)?;
+    let mut memo = Memo::new(alloc, undo_nothing(scripts));
+    visit(alloc, machine, scripts, machine, &mut tally, &mut memo)?;
     Ok(tally.into_ends())
 }

@@ -1,9 +1,16 @@
 //! Laws of schedules, each the contract of a function with an empty body.
-ghost use Rattle.std.specs.Prelude.{◌↔◌, ℕ, List};
+ghost use Rattle.std.specs.Prelude.{◌≡◌, ◌↔◌, ◌++◌, true, ℕ, List, Some};
+ghost use Rattle.hp_units.specs.History.{net_of};
+ghost use Rattle.hp_units.specs.declared.replies.Record.{Record};
+ghost use Rattle.hp_explore.specs.Alike.{AreAlike, IsClosed, UndoNothing, is_closed};
+ghost use Rattle.hp_explore.specs.Ends.{AreCounted};
 ghost use Rattle.hp_explore.specs.Orders.{HasCount, HasOneCount};
 ghost use Rattle.hp_explore.specs.Outcomes.{OutcomeValue};
 ghost use Rattle.hp_explore.specs.Interleavings.{AreOneCalls, IsCountOfLengths, IsInterleaving};
-ghost use Rattle.hp_explore.specs.Schedules.{EndsWith, IsComplete, Setting};
+ghost use Rattle.hp_explore.specs.Schedules.{EndsWith, IsComplete, Setting, plays, schedule_of};
+ghost use Rattle.hp_explore.specs.Seen.{AddsCounts, Grow, IsSeen, SeenValue};
+ghost use Rattle.hp_explore.specs.Walks.{Before, Through};
+ghost use Rattle.hp_explore.specs.declared.tally.Ending.{Ending};
 
 /// There is only one number of complete schedules, and one of those with an end (own rule).
 pub fn counts_are_unique()
@@ -23,4 +30,20 @@ pub fn schedules_are_interleavings()
 pub fn interleavings_are_counted()
     ensures { (g : Setting) (m : ℕ) → AreOneCalls g.scripts
         → HasCount (IsComplete g) m → IsCountOfLengths g.scripts m }
+{}
+
+/// Where no script undoes steps by their serials, two schedules with alike records have the same continuations, with the same
+/// outcomes (own rule).
+pub fn alike_places_go_on_alike()
+    ensures { (g : Setting) (p q rest : List ℕ) (h k : List Record) (x : OutcomeValue) → UndoNothing g.scripts
+        → plays g p ≡ Some h → plays g q ≡ Some k → AreAlike g h k
+        → EndsWith g (p ++ rest) x → EndsWith g (q ++ rest) x }
+{}
+
+/// What is kept of a walked place counts the schedules that go on from a place that is alike (own rule).
+pub fn kept_counts_are_added()
+    ensures closed { (h : List Record) → is_closed h ≡ true → IsClosed (net_of h) }
+    ensures merged { (g : Setting) (q : List ℕ) (k : List Record) (seen : SeenValue) (old new : List Ending) → UndoNothing g.scripts
+        → plays g q ≡ Some k → AreAlike g seen.news k → IsSeen g old seen
+        → AreCounted (Before g q) old → AddsCounts old seen.counts new → AreCounted (Through g q) new }
 {}

@@ -7,8 +7,11 @@
 //! Read specs/Scripts first, then specs/Schedules and specs/Ends, and `explore` in `exploring`.
 #![tactic(auto)]
 
+mod closed;
+mod digests;
 mod exploring;
 mod laws;
+mod memo;
 mod multinomials;
 mod outcomes;
 mod runs;
@@ -17,7 +20,10 @@ mod tally;
 mod walk;
 
 pub use exploring::{ExploreFault, explore};
-pub use laws::{counts_are_unique, interleavings_are_counted, schedules_are_interleavings};
+pub use laws::{
+    alike_places_go_on_alike, counts_are_unique, interleavings_are_counted, kept_counts_are_added,
+    schedules_are_interleavings,
+};
 pub use outcomes::{Answers, Outcome};
 pub use scripts::{Line, Script, Work};
 pub use tally::Ending;

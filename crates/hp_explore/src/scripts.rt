@@ -1,6 +1,9 @@
 //! Scripts: what each processor asks for, one line after another.
 ghost use Rattle.std.specs.Prelude.{◌≡◌, ◌≤◌, [], IfOk, IfSome, length};
+ghost use Rattle.std.specs.List.{list_all};
+ghost use Rattle.hp_units.specs.History.{effect_of};
 ghost use Rattle.hp_units.specs.Receipts.{receipts_of};
+ghost use Rattle.hp_explore.specs.Alike.{leaves_lines, leaves_script, leaves_steps};
 ghost use Rattle.hp_explore.specs.Interleavings.{holds_no_plan, is_one_call};
 ghost use Rattle.hp_explore.specs.Scripts.{after_line, line_next, next_in, next_of, once, own_operation, rest_at, work_of};
 
@@ -70,6 +73,16 @@ impl Line {
         !matches!(self, Line::Carry { .. })
     }
 
+    /// Whether the line undoes no steps by their serials.
+    fn leaves_steps(&self) -> bool
+        ensures { result ≡ leaves_lines self.now }
+    {
+        match self {
+            Line::Ask(event) => leaves_steps(event),
+            _ => true,
+        }
+    }
+
     /// The event that a line asks for after its own receipts, where the processor's last operation is known; none where the
     /// line is over. An error is out of memory.
     fn next(
@@ -134,6 +147,13 @@ impl Script {
         self.lines.iter().all(|line| line.is_one_call())
     }
 
+    /// Whether no line undoes steps by their serials.
+    fn leaves_steps(&self) -> bool
+        ensures { result ≡ leaves_script self.now }
+    {
+        self.lines.iter().all(|line| line.leaves_steps())
+    }
+
     /// The event that a processor asks for after records, its own among them; none at the script's end. An error is out of memory.
     pub(crate) fn next_event(
         &self,
@@ -151,7 +171,11 @@ impl Script {
 }
 
 /// The receipts that a processor has of records. An error is out of memory.
-fn receipts_to(alloc: Global, cpu: Cpu, records: &[Record]) -> Result<Vec<Receipt>, AllocError>
+pub(crate) fn receipts_to(
+    alloc: Global,
+    cpu: Cpu,
+    records: &[Record],
+) -> Result<Vec<Receipt>, AllocError>
     ensures { IfOk result (λ receipts. receipts.items ≡ receipts_of cpu records.now) }
 {
     let mut receipts = Vec::new(alloc);
@@ -170,7 +194,7 @@ fn receipts_to(alloc: Global, cpu: Cpu, records: &[Record]) -> Result<Vec<Receip
 }
 
 /// The serial of the last Begin, and 0 where there is none.
-fn own_operation(receipts: &[Receipt]) -> Serial
+pub(crate) fn own_operation(receipts: &[Receipt]) -> Serial
     ensures { result ≡ own_operation receipts.now }
 {
     let mut op = Serial(0);
@@ -180,6 +204,20 @@ fn own_operation(receipts: &[Receipt]) -> Serial
         }
     }
     op
+}
+
+/// Whether scripts undo no steps by their serials.
+pub(crate) fn undo_nothing(scripts: &[Script]) -> bool
+    ensures { result ≡ list_all leaves_script scripts.now }
+{
+    scripts.iter().all(|script| script.leaves_steps())
+}
+
+/// Whether an event undoes no steps by their serials.
+fn leaves_steps(event: &Event) -> bool
+    ensures { result ≡ leaves_steps (effect_of event.now) }
+{
+    !matches!(event, Event::UndoAfter { .. })
 }
 
 /// Whether an event begins an operation.

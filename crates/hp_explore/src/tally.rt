@@ -1,8 +1,9 @@
 //! The ends so far, with their counts.
-ghost use Rattle.std.specs.Prelude.{◌≡◌, [], IfErr, IfOk, IfSome, IfNone, OnOk};
+ghost use Rattle.std.specs.Prelude.{◌≡◌, ◌↔◌, ◌<◌, ◌≤◌, [], ◌∷◌, IfErr, IfOk, IfSome, IfNone, IsTrue, OnOk, length, map, slice_index_or};
 ghost use Rattle.hp_explore.specs.Faults.{IsNoteCause};
 ghost use Rattle.hp_explore.specs.Notes.{HasEndAt, HasNoEnd, IsNoted};
 ghost use Rattle.hp_explore.specs.Schedules.{schedule_of};
+ghost use Rattle.hp_explore.specs.Seen.{AddsAt, AddsCounts, AreNoMore, AreSince, IsAddCause};
 
 use crate::exploring::ExploreFault;
 use crate::outcomes::Outcome;
@@ -27,6 +28,9 @@ pub(crate) fn schedule_of(alloc: Global, records: &[Record]) -> Result<Vec<Cpu>,
 {
     records.iter().map(|r| r.cpu).collect(alloc)
 }
+
+/// How many ends there may be for a place's counts to be kept (own rule).
+const FEW: usize = 1024;
 
 /// The ends so far, and the limit of how many schedules may be counted.
 #[derive(Drop)]
@@ -86,6 +90,64 @@ impl Tally {
         Ok(())
     }
 
+    /// Whether there are too many ends for a place's counts to be kept.
+    pub(crate) fn has_many_ends(&self) -> bool
+        ensures { IsTrue result ↔ FEW < length self.now.ends }
+    {
+        self.ends.len() > FEW
+    }
+
+    /// The count of each end, by its place. An error is out of memory.
+    pub(crate) fn counts(&self, alloc: Global) -> Result<Vec<u64>, AllocError>
+        ensures { IfOk result (λ counts. counts.items ≡ map (λ e. e.count) self.now.ends) }
+    {
+        self.ends.iter().map(|e| e.count).collect(alloc)
+    }
+
+    /// What each end counts more than it did, by its place; an end that was not there did not count. An error is out of memory.
+    pub(crate) fn since(&self, alloc: Global, earlier: &[u64]) -> Result<Vec<u64>, AllocError>
+        requires { AreNoMore earlier.now self.now.ends }
+        ensures { IfOk result (λ counts. AreSince earlier.now self.now.ends counts.items) }
+    {
+        let mut counts = Vec::new(alloc);
+        for (place, end) in self.ends.iter().enumerate() {
+            counts.reserve(1)?;
+            let was = count_at(earlier, place);
+            counts.push_reserved(end.count - was);
+        }
+        Ok(counts)
+    }
+
+    /// Counts so many schedules more under each end, by its place. An error is that there would be more than the limit; then some
+    /// may be counted.
+    pub(crate) fn add(&mut self, counts: &[u64]) -> Result<(), ExploreFault>
+        requires { length counts.now ≤ length self.old.ends }
+        ensures ok { OnOk result (AddsCounts self.old.ends counts.now self.new.ends) }
+        ensures limit { self.new.limit ≡ self.old.limit }
+        ensures err { IfErr result (IsAddCause self.old counts.now) }
+    {
+        for (place, count) in counts.iter().enumerate() {
+            self.add_at(place, *count)?;
+        }
+        Ok(())
+    }
+
+    /// Counts so many schedules more under the end at a place. An error is that there would be more than the limit.
+    fn add_at(&mut self, place: usize, count: u64) -> Result<(), ExploreFault>
+        requires { place < length self.old.ends }
+        ensures ok { OnOk result (AddsAt self.old.ends place count self.new.ends) }
+        ensures limit { self.new.limit ≡ self.old.limit }
+        ensures err { IfErr result (IsAddCause self.old (count ∷ [])) }
+    {
+        if count > self.limit - self.total {
+            return Err(ExploreFault::TooMany);
+        }
+        let end = &mut self.ends[place];
+        end.count += count;
+        self.total += count;
+        Ok(())
+    }
+
     /// The ends with their counts.
     pub(crate) fn into_ends(self) -> Vec<Ending>
         ensures { result.items ≡ self.ends }
@@ -93,6 +155,13 @@ impl Tally {
         let Tally { ends, .. } = self;
         ends
     }
+}
+
+/// The count at a place, and 0 where there is none.
+fn count_at(counts: &[u64], place: usize) -> u64
+    ensures { result ≡ slice_index_or counts.now place 0 }
+{
+    counts.get(place).copied().unwrap_or(0)
 }
 
 /// The place of the end with this outcome.

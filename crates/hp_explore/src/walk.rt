@@ -3,9 +3,13 @@ ghost use Rattle.std.specs.Prelude.{◌≡◌, ◌^◌, ◌<◌, ◌≤◌, IfEr
 ghost use Rattle.hp_explore.specs.Faults.{IsCallCause, IsNoteCause, IsWalkCause};
 ghost use Rattle.hp_explore.specs.Outcomes.{ended_rows_below, replies_below};
 ghost use Rattle.hp_explore.specs.Schedules.{setting};
+ghost use Rattle.hp_explore.specs.Seen.{Grow, IsMemo};
 ghost use Rattle.hp_explore.specs.Walks.{CountsBefore, CountsThrough, IsChild, IsEndNoted, IsPlayed, IsPlayedOn, IsReached};
 
+use crate::closed::is_closed;
+use crate::digests::digest_of;
 use crate::exploring::ExploreFault;
+use crate::memo::{Memo, Seen};
 use crate::outcomes::{Answers, Outcome, answers_to, claimed_row};
 use crate::scripts::Script;
 use crate::tally::{Tally, schedule_of};
@@ -13,18 +17,65 @@ use hp_machine::Machine;
 use hp_units::{Block, Claim, Cpu, Record, Row};
 use std::alloc::{AllocError, Global};
 
-/// Counts the complete schedules that go on from where a machine is, each under its end.
+/// Counts the complete schedules that go on from where a machine is, each under its end. Where they go on as from a place that was
+/// walked before, what was counted there is counted once more, and nothing is played. A place that was walked is kept as long as
+/// there are few ends, since each place holds a count for each end.
+#[cycle(walk)]
 pub(crate) fn visit(
     alloc: Global,
     start: &Machine,
     scripts: &[Script],
     machine: &Machine,
     tally: &mut Tally,
+    memo: &mut Memo,
 ) -> Result<(), ExploreFault>
     requires few { length scripts.now < 2 ^ 32 }
     requires reached { IsReached (setting start.now scripts.now) machine.now }
     requires counted { CountsBefore (setting start.now scripts.now) machine.now tally.old.ends }
+    requires memo { IsMemo (setting start.now scripts.now) tally.old.ends memo.old }
     ensures ok { OnOk result (CountsThrough (setting start.now scripts.now) machine.now tally.new.ends) }
+    ensures grows { OnOk result (Grow tally.old.ends tally.new.ends) }
+    ensures memo { OnOk result (IsMemo (setting start.now scripts.now) tally.new.ends memo.new) }
+    ensures limit { tally.new.limit ≡ tally.old.limit }
+    ensures err { IfErr result (IsWalkCause (setting start.now scripts.now) tally.old.limit) }
+{
+    if !memo.is_on() || !is_closed(machine.history()) {
+        return walk_on(alloc, start, scripts, machine, tally, memo);
+    }
+    let news = records_from(machine.history(), start.history().len());
+    let digest = digest_of(machine, news);
+    let image = machine.image(alloc)?;
+    if let Some(counts) = memo.counts_like(alloc, digest, &image, news, scripts.len() as u32)? {
+        return tally.add(counts);
+    }
+    if tally.has_many_ends() {
+        return walk_on(alloc, start, scripts, machine, tally, memo);
+    }
+    let earlier = tally.counts(alloc)?;
+    walk_on(alloc, start, scripts, machine, tally, memo)?;
+    let counts = tally.since(alloc, earlier.as_slice())?;
+    let news = copies(alloc, news)?;
+    memo.add(digest, Seen::new(image, news, counts))?;
+    Ok(())
+}
+
+/// Counts them by playing each processor's next call, processor 0 first.
+#[cycle(walk)]
+fn walk_on(
+    alloc: Global,
+    start: &Machine,
+    scripts: &[Script],
+    machine: &Machine,
+    tally: &mut Tally,
+    memo: &mut Memo,
+) -> Result<(), ExploreFault>
+    requires few { length scripts.now < 2 ^ 32 }
+    requires reached { IsReached (setting start.now scripts.now) machine.now }
+    requires counted { CountsBefore (setting start.now scripts.now) machine.now tally.old.ends }
+    requires memo { IsMemo (setting start.now scripts.now) tally.old.ends memo.old }
+    ensures ok { OnOk result (CountsThrough (setting start.now scripts.now) machine.now tally.new.ends) }
+    ensures grows { OnOk result (Grow tally.old.ends tally.new.ends) }
+    ensures memo { OnOk result (IsMemo (setting start.now scripts.now) tally.new.ends memo.new) }
     ensures limit { tally.new.limit ≡ tally.old.limit }
     ensures err { IfErr result (IsWalkCause (setting start.now scripts.now) tally.old.limit) }
 {
@@ -32,7 +83,7 @@ pub(crate) fn visit(
     for cpu in 0..scripts.len() as u32 {
         if let Some(next) = child(alloc, start, scripts, machine, cpu)? {
             is_over = false;
-            visit(alloc, start, scripts, &next, tally)?;
+            visit(alloc, start, scripts, &next, tally, memo)?;
         }
     }
     if is_over {
@@ -147,6 +198,23 @@ fn records_from(records: &[Record], place: usize) -> &[Record]
     ensures { result.now ≡ drop place records.now }
 {
     &records[place..]
+}
+
+/// Copies of records. An error is out of memory.
+fn copies(alloc: Global, records: &[Record]) -> Result<Vec<Record>, AllocError>
+    ensures { IfOk result (λ copies. copies.items ≡ records.now) }
+{
+    let mut copies = Vec::with_capacity(alloc, records.len())?;
+    for record in records {
+        let event = record.event.copy(alloc)?;
+        copies.push_reserved(Record {
+            serial: record.serial,
+            cpu: record.cpu,
+            event,
+            reply: record.reply,
+        });
+    }
+    Ok(copies)
 }
 
 /// The replies of each processor among records. An error is out of memory.

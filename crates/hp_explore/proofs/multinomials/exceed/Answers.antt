@@ -1,6 +1,5 @@
 -- The coefficient of the lengths so far is no more than that of all.
-use Rattle.std.proofs.Common.{arith, refl, length}
-use Rattle.std.proofs.lemmas.Option.{slice_get_read}
+use Rattle.std.proofs.Common.{refl}
 use Rattle.hp_explore.proofs.Coefficients.{all_counted, exceeded}
 use Rattle.hp_explore.proofs.multinomials.exceed.Goals as goal
 

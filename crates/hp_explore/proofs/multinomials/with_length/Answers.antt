@@ -1,5 +1,5 @@
 -- One turn more multiplies the coefficient by the number of all turns, and divides it by that of the processor's.
-use Rattle.std.proofs.Common.{◌≡◌, ◌+◌, ◌*◌, ◌/◌, ◌<◌, ap, arith, sym, ◌∙◌}
+use Rattle.std.proofs.Common.{◌<◌, arith}
 use Rattle.std.proofs.lemmas.Nat.{mul-lt}
 use Rattle.hp_explore.proofs.Coefficients.{with_ended, with_exceeded, with_next, with_none}
 use Rattle.hp_explore.proofs.multinomials.with_length.Goals as goal
