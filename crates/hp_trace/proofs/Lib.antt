@@ -2,3 +2,4 @@ mod Drawings
 mod LinesTraced
 mod PlansTraced
 mod SpelledItems
+mod WorkAdded

@@ -1,4 +1,4 @@
--- What a line asks for, done and drawn (own rule).
+-- The rows that a line makes, and the machine after it (own rule).
 use Rattle.std.specs.Prelude.{ℕ, ◌≡◌, ◌⊎◌, true, false, List, [], ◌∷◌, ◌++◌, codes, length, Option, Some, None, Result, Ok, Err, ⊤}
 use Rattle.std.specs.Fmt.{decimal}
 use Rattle.hp_units.specs.Driver.{IsDriverRun}
@@ -21,7 +21,7 @@ use Rattle.hp_scenario.specs.declared.lines.Work.TheVariants as work
 use Rattle.hp_text.specs.Answers.{sealed_line, unrecorded_line}
 use Rattle.hp_text.specs.Files.{read_fault_line, write_fault_line}
 use Rattle.hp_text.specs.Plans.{plan_line}
-use Rattle.hp_trace.specs.Rows.{IsDrawn, IsNoted, RowsValue, said}
+use Rattle.hp_trace.specs.Rows.{Row, drawing, noted, words}
 use Rattle.hp_trace.specs.Spelling.{spaced}
 
 -- ---- one call
@@ -30,11 +30,11 @@ use Rattle.hp_trace.specs.Spelling.{spaced}
 abbrev pub answer_text : Receipt → List ℕ
 answer_text r = decimal r.serial ++ codes ": " ++ reply_text r.reply
 
--- an event was called, and its row drawn; or the history is full, which is said
-abbrev pub TracesEvent : MachineValue → (cpu : ℕ) → Event → (asked : List ℕ) → (old new : RowsValue) → (after : MachineValue) → Type 0
-TracesEvent m cpu event asked old new after =
-    ((r : Receipt) × (is_full m ≡ false) × IsCalled m cpu event r after × IsDrawn after asked (answer_text r) old new)
-    ⊎ ((is_full m ≡ true) × (after ≡ m) × IsNoted m asked (unrecorded_line HistoryFull) old new)
+-- an event was called; or the history is full, which is said
+abbrev pub MakesEvent : MachineValue → (cpu : ℕ) → Event → (asked : List ℕ) → (rows : List Row) → (after : MachineValue) → Type 0
+MakesEvent m cpu event asked rows after =
+    ((r : Receipt) × (is_full m ≡ false) × IsCalled m cpu event r after × (rows ≡ drawing asked (answer_text r) after ∷ []))
+    ⊎ ((is_full m ≡ true) × (after ≡ m) × (rows ≡ noted m asked (unrecorded_line HistoryFull)))
 
 -- ---- a plan
 
@@ -42,11 +42,11 @@ TracesEvent m cpu event asked old new after =
 abbrev pub step_text : Event → List ℕ
 step_text event = codes "     " ++ spaced (event_words event)
 
--- calls of a processor, one after another, gave these receipts, and each has its row
-abbrev pub AreTraced : (cpu : ℕ) → (old : RowsValue) → MachineValue → List Receipt → (new : RowsValue) → (after : MachineValue) → Type 0
-AreTraced cpu old m [] new after = (after ≡ m) × (new ≡ old)
-AreTraced cpu old m (r ∷ rs) new after =
-    (next : MachineValue) × (rows : RowsValue) × (is_full m ≡ false) × IsCalled m cpu r.event r next × IsDrawn next (step_text r.event) (answer_text r) old rows × AreTraced cpu rows next rs new after
+-- calls of a processor, one after another, gave these receipts
+abbrev pub MakesSteps : (cpu : ℕ) → MachineValue → List Receipt → (rows : List Row) → (after : MachineValue) → Type 0
+MakesSteps cpu m [] rows after = (after ≡ m) × (rows ≡ [])
+MakesSteps cpu m (r ∷ rs) rows after =
+    (next : MachineValue) × (rest : List Row) × (is_full m ≡ false) × IsCalled m cpu r.event r next × (rows ≡ drawing (step_text r.event) (answer_text r) next ∷ rest) × MakesSteps cpu next rs rest after
 
 -- a plan's driver stops early only at a full history
 abbrev pub IsStop : Option CallFault → MachineValue → Type 0
@@ -54,47 +54,45 @@ IsStop None m = ⊤
 IsStop (Some HistoryFull) m = is_full m ≡ true
 IsStop (Some OutOfMemory) m = ⊥
 
--- a run of a plan's driver with this end was carried out, and each of its calls has its row
-pub record IsDriven (m : MachineValue) (cpu turns : ℕ) (plan : List Item) (end : OpEnd) (old new : RowsValue) (after : MachineValue) : Type 0 where
+-- a run of a plan's driver with this end was carried out
+pub record IsDriven (m : MachineValue) (cpu turns : ℕ) (plan : List Item) (end : OpEnd) (rows : List Row) (after : MachineValue) : Type 0 where
   pub receipts : List Receipt
   pub fault : Option CallFault
-  pub traced : AreTraced cpu old m receipts new after
+  pub steps : MakesSteps cpu m receipts rows after
   pub stop : IsStop fault after
   pub run : IsDriverRun m.layout.cpus turns plan receipts fault end
 
 -- a row of the memory before the plan, the rows of its calls, and its end
-pub record TracesPlan (m : MachineValue) (cpu turns : ℕ) (plan : List Item) (asked : List ℕ) (old new : RowsValue) (after : MachineValue) : Type 0 where
-  pub head : RowsValue
-  pub rows : RowsValue
+pub record MakesPlan (m : MachineValue) (cpu turns : ℕ) (plan : List Item) (asked : List ℕ) (rows : List Row) (after : MachineValue) : Type 0 where
+  pub steps : List Row
   pub end : OpEnd
-  pub drawn : IsDrawn m asked [] old head
-  pub driven : IsDriven m cpu turns plan end head rows after
-  pub is : new ≡ said rows (plan_line end)
+  pub driven : IsDriven m cpu turns plan end steps after
+  pub is : rows ≡ drawing asked [] m ∷ (steps ++ words (plan_line end) ∷ [])
 
 -- ---- control files
 
 -- what a control file was asked for was done, or why it does not take the word is said
-abbrev pub TracesRequest : MachineValue → (cpu : ℕ) → Result Request ControlFault → (asked : List ℕ) → (old new : RowsValue) → (after : MachineValue) → Type 0
-TracesRequest m cpu (Ok (request.Event event)) asked old new after = TracesEvent m cpu event asked old new after
-TracesRequest m cpu (Ok (request.Plan plan)) asked old new after = TracesPlan m cpu control_turns plan asked old new after
-TracesRequest m cpu (Err fault) asked old new after = (after ≡ m) × IsNoted m asked (write_fault_line fault) old new
+abbrev pub MakesRequest : MachineValue → (cpu : ℕ) → Result Request ControlFault → (asked : List ℕ) → (rows : List Row) → (after : MachineValue) → Type 0
+MakesRequest m cpu (Ok (request.Event event)) asked rows after = MakesEvent m cpu event asked rows after
+MakesRequest m cpu (Ok (request.Plan plan)) asked rows after = MakesPlan m cpu control_turns plan asked rows after
+MakesRequest m cpu (Err fault) asked rows after = (after ≡ m) × (rows ≡ noted m asked (write_fault_line fault))
 
 -- a control file's text as it is, or why there is none
-abbrev pub NotesFile : MachineValue → Result (List ℕ) ControlFault → (asked : List ℕ) → (old new : RowsValue) → Type 0
-NotesFile m (Ok text) asked old new = IsNoted m asked text old new
-NotesFile m (Err fault) asked old new = IsNoted m asked (read_fault_line fault) old new
+abbrev pub file_rows : MachineValue → Result (List ℕ) ControlFault → (asked : List ℕ) → List Row
+file_rows m (Ok text) asked = noted m asked text
+file_rows m (Err fault) asked = noted m asked (read_fault_line fault)
 
 -- ---- a seal
 
 -- the records were handed out, and how many there were is said
-abbrev pub TracesSeal : MachineValue → (asked : List ℕ) → (old new : RowsValue) → (after : MachineValue) → Type 0
-TracesSeal m asked old new after = (after ≡ sealed m) × IsNoted after asked (sealed_line (length m.history)) old new
+abbrev pub MakesSeal : MachineValue → (asked : List ℕ) → (rows : List Row) → (after : MachineValue) → Type 0
+MakesSeal m asked rows after = (after ≡ sealed m) × (rows ≡ noted after asked (sealed_line (length m.history)))
 
 -- ---- the work of a line
 
-abbrev pub TracesWork : MachineValue → (cpu : ℕ) → Work → (asked : List ℕ) → (old new : RowsValue) → (after : MachineValue) → Type 0
-TracesWork m cpu (work.Event event) asked old new after = TracesEvent m cpu event asked old new after
-TracesWork m cpu (work.Plan plan turns) asked old new after = TracesPlan m cpu turns plan asked old new after
-TracesWork m cpu (work.Echo path word) asked old new after = TracesRequest m cpu (echo_request path word) asked old new after
-TracesWork m cpu (work.Cat path) asked old new after = (after ≡ m) × NotesFile m (file_text m.layout m.state path) asked old new
-TracesWork m cpu work.Seal asked old new after = TracesSeal m asked old new after
+abbrev pub MakesWork : MachineValue → (cpu : ℕ) → Work → (asked : List ℕ) → (rows : List Row) → (after : MachineValue) → Type 0
+MakesWork m cpu (work.Event event) asked rows after = MakesEvent m cpu event asked rows after
+MakesWork m cpu (work.Plan plan turns) asked rows after = MakesPlan m cpu turns plan asked rows after
+MakesWork m cpu (work.Echo path word) asked rows after = MakesRequest m cpu (echo_request path word) asked rows after
+MakesWork m cpu (work.Cat path) asked rows after = (after ≡ m) × (rows ≡ file_rows m (file_text m.layout m.state path) asked)
+MakesWork m cpu work.Seal asked rows after = MakesSeal m asked rows after

@@ -1,12 +1,12 @@
 //! What a line asks for, done and drawn.
 ghost use Rattle.std.specs.Prelude.{◌≡◌, ◌≢◌, IfOk, OnOk, Ok};
 ghost use Rattle.hp_control.specs.declared.fault.ControlFault.TheVariants.{OutOfMemory};
-ghost use Rattle.hp_text.specs.Answers.{unrecorded_line};
+ghost use Rattle.hp_text.specs.Answers.{sealed_line, unrecorded_line};
 ghost use Rattle.hp_text.specs.Files.{read_fault_line, write_fault_line};
 ghost use Rattle.hp_control.specs.Reads.{file_text};
 ghost use Rattle.hp_control.specs.Writes.{echo_request};
-ghost use Rattle.hp_trace.specs.Calls.{NotesFile, TracesEvent, TracesRequest, TracesSeal, TracesWork};
-ghost use Rattle.hp_trace.specs.Rows.{IsNoted};
+ghost use Rattle.hp_trace.specs.Calls.{MakesEvent, MakesRequest, MakesSeal, MakesWork, file_rows};
+ghost use Rattle.hp_trace.specs.Rows.{Adds, AreDrawn, noted};
 
 use crate::plans::{draw_receipt, trace_plan};
 use crate::rows::Rows;
@@ -26,7 +26,7 @@ pub(crate) fn trace_work(
     work: &Work,
     asked: &str,
 ) -> Result<(), AllocError>
-    ensures { OnOk result (TracesWork machine.old cpu work.now asked.now rows.old rows.new machine.new) }
+    ensures { OnOk result (Adds rows.old rows.new (λ list. MakesWork machine.old cpu work.now asked.now list machine.new)) }
 {
     match work {
         Work::Event(event) => trace_event(rows, alloc, machine, cpu, event, asked),
@@ -46,7 +46,7 @@ fn trace_event(
     event: &Event,
     asked: &str,
 ) -> Result<(), AllocError>
-    ensures { OnOk result (TracesEvent machine.old cpu event.now asked.now rows.old rows.new machine.new) }
+    ensures { OnOk result (Adds rows.old rows.new (λ list. MakesEvent machine.old cpu event.now asked.now list machine.new)) }
 {
     match machine.call(alloc, cpu, event) {
         Ok(receipt) => draw_receipt(rows, alloc, machine, asked, &receipt),
@@ -62,7 +62,7 @@ fn note_full(
     machine: &Machine,
     asked: &str,
 ) -> Result<(), AllocError>
-    ensures { OnOk result (IsNoted machine.now asked.now (unrecorded_line CallFault.HistoryFull) rows.old rows.new) }
+    ensures { OnOk result (AreDrawn (noted machine.now asked.now (unrecorded_line CallFault.HistoryFull)) rows.old rows.new) }
 {
     let mut out = String::new(alloc);
     write_unrecorded(&mut out, CallFault::HistoryFull)?;
@@ -79,7 +79,7 @@ fn trace_echo(
     word: &BoxedText,
     asked: &str,
 ) -> Result<(), AllocError>
-    ensures { OnOk result (TracesRequest machine.old cpu (echo_request path.now word.now) asked.now rows.old rows.new machine.new) }
+    ensures { OnOk result (Adds rows.old rows.new (λ list. MakesRequest machine.old cpu (echo_request path.now word.now) asked.now list machine.new)) }
 {
     match parse_echo(alloc, path.as_str(), word.as_str()) {
         Ok(request) => trace_request(rows, alloc, machine, cpu, &request, asked),
@@ -96,7 +96,7 @@ fn trace_request(
     request: &Request,
     asked: &str,
 ) -> Result<(), AllocError>
-    ensures { OnOk result (TracesRequest machine.old cpu (Ok request.now) asked.now rows.old rows.new machine.new) }
+    ensures { OnOk result (Adds rows.old rows.new (λ list. MakesRequest machine.old cpu (Ok request.now) asked.now list machine.new)) }
 {
     match request {
         Request::Event(event) => trace_event(rows, alloc, machine, cpu, event, asked),
@@ -122,7 +122,7 @@ fn note_untaken(
     fault: ControlFault,
     asked: &str,
 ) -> Result<(), AllocError>
-    ensures { OnOk result (IsNoted machine.now asked.now (write_fault_line fault) rows.old rows.new) }
+    ensures { OnOk result (AreDrawn (noted machine.now asked.now (write_fault_line fault)) rows.old rows.new) }
 {
     let mut out = String::new(alloc);
     write_echo_fault(&mut out, fault)?;
@@ -137,7 +137,7 @@ fn trace_file(
     path: &Text,
     asked: &str,
 ) -> Result<(), AllocError>
-    ensures { OnOk result (NotesFile machine.now (file_text machine.now.layout machine.now.state path.now) asked.now rows.old rows.new) }
+    ensures { OnOk result (AreDrawn (file_rows machine.now (file_text machine.now.layout machine.now.state path.now) asked.now) rows.old rows.new) }
 {
     match read_text(alloc, machine, path.as_str()) {
         Ok(text) => rows.note(alloc, machine, asked, text.as_str()),
@@ -153,7 +153,7 @@ fn note_unread(
     fault: ControlFault,
     asked: &str,
 ) -> Result<(), AllocError>
-    ensures { OnOk result (IsNoted machine.now asked.now (read_fault_line fault) rows.old rows.new) }
+    ensures { OnOk result (AreDrawn (noted machine.now asked.now (read_fault_line fault)) rows.old rows.new) }
 {
     let mut out = String::new(alloc);
     write_read_fault(&mut out, fault)?;
@@ -167,10 +167,23 @@ fn trace_seal(
     machine: &mut Machine,
     asked: &str,
 ) -> Result<(), AllocError>
-    ensures { OnOk result (TracesSeal machine.old asked.now rows.old rows.new machine.new) }
+    ensures { OnOk result (Adds rows.old rows.new (λ list. MakesSeal machine.old asked.now list machine.new)) }
 {
     let volume = machine.seal(alloc)?;
     let count = volume.records.as_slice().len() as u64;
+    note_sealed(rows, alloc, machine, count, asked)
+}
+
+/// Notes how many records a seal handed out.
+fn note_sealed(
+    rows: &mut Rows,
+    alloc: Global,
+    machine: &Machine,
+    count: u64,
+    asked: &str,
+) -> Result<(), AllocError>
+    ensures { OnOk result (AreDrawn (noted machine.now asked.now (sealed_line count)) rows.old rows.new) }
+{
     let mut out = String::new(alloc);
     write_sealed(&mut out, count)?;
     rows.note(alloc, machine, asked, out.as_str())

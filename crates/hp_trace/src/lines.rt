@@ -3,8 +3,7 @@ ghost use Rattle.std.specs.Prelude.{◌≡◌, IfErr, IfOk, OnOk, string_bytes};
 ghost use Rattle.hp_scenario.specs.Gives.{Fails};
 ghost use Rattle.hp_scenario.specs.Scenario.{scenario_in};
 ghost use Rattle.hp_scenario.specs.Seen.{scenario_seen};
-ghost use Rattle.hp_trace.specs.Calls.{TracesWork};
-ghost use Rattle.hp_trace.specs.Traces.{IsScenarioTrace, IsStart, IsTraceOf, TracesLines, numbered_text};
+ghost use Rattle.hp_trace.specs.Traces.{IsScenarioTrace, IsStart, IsTraceOf, TracesLine, TracesLines, numbered_text};
 
 use crate::calls::trace_work;
 use crate::rows::Rows;
@@ -44,13 +43,13 @@ fn trace_scenario(alloc: Global, scenario: &Scenario, view: View) -> Result<Stri
 fn start(alloc: Global, machine: &Machine, view: View) -> Result<Rows, AllocError>
     ensures { IfOk result (IsStart view machine.now) }
 {
-    let mut rows = Rows::new(alloc);
+    let mut rows = Rows::new(alloc, true);
     rows.draw(alloc, machine, "   0 boot", "")?;
     rows.fit(view.width);
     Ok(rows)
 }
 
-/// Does lines one after another, and draws those that are shown.
+/// Does lines one after another, and draws the rows of those that are shown.
 fn trace_lines(
     rows: &mut Rows,
     alloc: Global,
@@ -58,30 +57,42 @@ fn trace_lines(
     scenario: &Scenario,
     view: View,
 ) -> Result<(), AllocError>
-    ensures { OnOk result (TracesLines view scenario.now.names.keys 1 machine.old scenario.now.lines rows.old rows.new machine.new) }
+    ensures { OnOk result (TracesLines view scenario.now.names.keys machine.old scenario.now.lines rows.old rows.new machine.new) }
 {
     let lines = scenario.lines.as_slice();
     for (index, line) in lines.iter().enumerate() {
         let number = index as u64 + 1;
-        rows.turn(view.shows(number));
-        trace_line(rows, alloc, machine, &scenario.names, number, line)?;
+        trace_line(rows, alloc, machine, &scenario.names, view, number, line)?;
     }
     Ok(())
 }
 
-/// Does a line, and draws it.
+/// Does a line, and draws its rows where it is shown.
 fn trace_line(
     rows: &mut Rows,
     alloc: Global,
     machine: &mut Machine,
     names: &IndexSet<Text>,
+    view: View,
     number: u64,
     line: &Line,
 ) -> Result<(), AllocError>
-    ensures { OnOk result (TracesWork machine.old line.now.cpu line.now.work (numbered_text names.now.keys number line.now) rows.old rows.new machine.new) }
+    ensures { OnOk result (TracesLine view names.now.keys number machine.old line.now rows.old rows.new machine.new) }
 {
     let asked = numbered_text(alloc, names, number, line)?;
-    trace_work(rows, alloc, machine, line.cpu, &line.work, asked.as_str())
+    if view.shows(number) {
+        trace_work(rows, alloc, machine, line.cpu, &line.work, asked.as_str())
+    } else {
+        let mut unseen = Rows::new(alloc, false);
+        trace_work(
+            &mut unseen,
+            alloc,
+            machine,
+            line.cpu,
+            &line.work,
+            asked.as_str(),
+        )
+    }
 }
 
 /// A line's number and the line.

@@ -1,9 +1,9 @@
 //! A plan, with a row for each of its calls.
-ghost use Rattle.std.specs.Prelude.{◌≡◌, None, IfOk, IsTrue, OnOk, false, string_bytes};
-ghost use Rattle.hp_trace.specs.Calls.{IsDriven, TracesPlan, answer_text, step_text};
+ghost use Rattle.std.specs.Prelude.{◌≡◌, ◌||◌, not, None, IfOk, IsTrue, OnOk, false, string_bytes};
+ghost use Rattle.hp_trace.specs.Calls.{IsDriven, MakesPlan, answer_text, step_text};
 ghost use Rattle.hp_trace.specs.Ports.{is_memory};
 ghost use Rattle.hp_text.specs.Plans.{plan_line};
-ghost use Rattle.hp_trace.specs.Rows.{IsDrawn, said};
+ghost use Rattle.hp_trace.specs.Rows.{Adds, DrawsIf, said};
 
 use crate::rows::Rows;
 use crate::spelling::write_event;
@@ -65,7 +65,7 @@ impl<'a> Port for TracePort<'a> {
         match self.machine.call(alloc, self.cpu, event) {
             Ok(receipt) => {
                 let is_drawn = draw_step(self.rows, alloc, self.machine, &receipt);
-                self.is_lost = self.is_lost || !is_drawn;
+                self.is_lost = is_lost(self.is_lost, is_drawn);
                 self.fault = None;
                 Ok(receipt)
             }
@@ -82,6 +82,13 @@ impl<'a> Port for TracePort<'a> {
     ghost joined = { λ p q r xs ys a b. (b.0 ∙ a.0, b.1 ∙ a.1, b.2 ∙ a.2, traced_joined p.cpu q.cpu xs ys p.rows.now q.rows.now r.rows.now p.is_lost q.is_lost r.is_lost p.machine.now q.machine.now r.machine.now a.2 a.3 b.3) };
 }
 
+/// Whether a call or a row was out of memory, given whether an earlier one was.
+fn is_lost(was_lost: bool, is_drawn: bool) -> bool
+    ensures { result ≡ (was_lost || not is_drawn) }
+{
+    was_lost || !is_drawn
+}
+
 /// Whether a call left no record because it was out of memory.
 fn is_memory(fault: CallFault) -> bool
     ensures { result ≡ is_memory fault }
@@ -94,7 +101,7 @@ fn is_memory(fault: CallFault) -> bool
 
 /// Draws the row of a call of a plan, and answers whether there was memory for it.
 fn draw_step(rows: &mut Rows, alloc: Global, machine: &Machine, receipt: &Receipt) -> bool
-    ensures { IsTrue result → IsDrawn machine.now (step_text receipt.now.event) (answer_text receipt.now) rows.old rows.new }
+    ensures { IsTrue result → DrawsIf rows.old.is_on machine.now (step_text receipt.now.event) (answer_text receipt.now) rows.old rows.new }
 {
     match step_text(alloc, &receipt.event) {
         Ok(asked) => draw_receipt(rows, alloc, machine, asked.as_str(), receipt).is_ok(),
@@ -119,7 +126,7 @@ pub(crate) fn draw_receipt(
     asked: &str,
     receipt: &Receipt,
 ) -> Result<(), AllocError>
-    ensures { OnOk result (IsDrawn machine.now asked.now (answer_text receipt.now) rows.old rows.new) }
+    ensures { OnOk result (DrawsIf rows.old.is_on machine.now asked.now (answer_text receipt.now) rows.old rows.new) }
 {
     let answer = answer_text(alloc, receipt)?;
     rows.draw(alloc, machine, asked, answer.as_str())
@@ -147,7 +154,7 @@ pub(crate) fn trace_plan(
     turns: u32,
     asked: &str,
 ) -> Result<(), AllocError>
-    ensures { OnOk result (TracesPlan machine.old cpu turns plan.now asked.now rows.old rows.new machine.new) }
+    ensures { OnOk result (Adds rows.old rows.new (λ list. MakesPlan machine.old cpu turns plan.now asked.now list machine.new)) }
 {
     rows.draw(alloc, machine, asked, "")?;
     let plan = plan.copy(alloc)?;
@@ -175,7 +182,7 @@ fn drive(
     plan: Plan,
     turns: u32,
 ) -> Result<OpEnd, AllocError>
-    ensures { IfOk result (λ end. IsDriven machine.old cpu turns plan end rows.old rows.new machine.new) }
+    ensures { IfOk result (λ end. Adds rows.old rows.new (λ list. IsDriven machine.old cpu turns plan end list machine.new)) }
 {
     let mut port = TracePort::new(machine, cpu, rows);
     let end = run_plan(alloc, &mut port, plan, turns);

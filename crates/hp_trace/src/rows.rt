@@ -1,6 +1,6 @@
 //! The rows of a trace.
-ghost use Rattle.std.specs.Prelude.{◌≡◌, ◌++◌, ◌&&◌, OnOk, slice_get, string_bytes};
-ghost use Rattle.hp_trace.specs.Rows.{IsDrawn, IsNoted, IsRow, fitted, is_same, memory_text, no_rows, row_text, said, spaced_text};
+ghost use Rattle.std.specs.Prelude.{◌≡◌, ◌++◌, ◌&&◌, IfOk, OnOk, slice_get, string_bytes};
+ghost use Rattle.hp_trace.specs.Rows.{AreDrawn, DrawsIf, IsRow, blocks_text, fitted, is_same, memory_text, no_rows, noted, row_text, said, spaced_text};
 
 use hp_machine::Machine;
 use hp_map::picture_of;
@@ -13,7 +13,7 @@ use std::marker::Model;
 pub(crate) struct Rows {
     text: String,
     shown: Vec<Text>,
-    /// Whether the present line is shown.
+    /// Whether rows are written.
     is_on: bool,
     /// Whether a row has only the memory blocks that changed.
     is_wide: bool,
@@ -29,14 +29,14 @@ impl Model for Rows {
 }
 
 impl Rows {
-    /// No rows yet.
-    pub(crate) fn new(alloc: Global) -> Rows
-        ensures { result ≡ no_rows }
+    /// No rows yet; and none for ever, where they are off.
+    pub(crate) fn new(alloc: Global, is_on: bool) -> Rows
+        ensures { result ≡ no_rows is_on }
     {
         Rows {
             text: String::new(alloc),
             shown: Vec::new(alloc),
-            is_on: true,
+            is_on,
             is_wide: false,
         }
     }
@@ -48,14 +48,7 @@ impl Rows {
         self.is_wide = self.text.len().saturating_sub(1) as u64 > width;
     }
 
-    /// From now on rows are written, or not.
-    pub(crate) fn turn(&mut self, is_on: bool)
-        ensures { self.new ≡ record self.old { is_on = is_on } }
-    {
-        self.is_on = is_on;
-    }
-
-    /// Writes a text where the line is shown. An error is out of memory.
+    /// Writes a text of lines, where rows are on. An error is out of memory.
     pub(crate) fn say(&mut self, text: &str) -> Result<(), AllocError>
         ensures { OnOk result (self.new ≡ said self.old text.now) }
     {
@@ -65,8 +58,7 @@ impl Rows {
         self.text.push_str(text)
     }
 
-    /// Writes a row where the line is shown: what was asked, what was answered, and the machine's memory. An error is out of
-    /// memory.
+    /// Writes a row, where rows are on: what was asked, what was answered, and the machine's memory. An error is out of memory.
     pub(crate) fn draw(
         &mut self,
         alloc: Global,
@@ -74,7 +66,7 @@ impl Rows {
         asked: &str,
         answer: &str,
     ) -> Result<(), AllocError>
-        ensures { OnOk result (IsDrawn machine.now asked.now answer.now self.old self.new) }
+        ensures { OnOk result (DrawsIf self.old.is_on machine.now asked.now answer.now self.old self.new) }
     {
         if !self.is_on {
             return Ok(());
@@ -93,19 +85,18 @@ impl Rows {
         ensures { OnOk result (IsRow machine.now asked.now answer.now self.old self.new) }
     {
         let blocks = picture_of(alloc, machine)?;
-        write_row(
-            &mut self.text,
-            asked,
-            answer,
+        let memory = memory_text(
+            alloc,
             self.is_wide,
             self.shown.as_slice(),
             blocks.as_slice(),
         )?;
+        write_row(&mut self.text, asked, answer, memory.as_str())?;
         self.shown = blocks;
         Ok(())
     }
 
-    /// Writes a row without an answer, and below it a text of lines, where the line is shown. An error is out of memory.
+    /// Writes a row without an answer, and below it a text of lines, where rows are on. An error is out of memory.
     pub(crate) fn note(
         &mut self,
         alloc: Global,
@@ -113,7 +104,7 @@ impl Rows {
         asked: &str,
         text: &str,
     ) -> Result<(), AllocError>
-        ensures { OnOk result (IsNoted machine.now asked.now text.now self.old self.new) }
+        ensures { OnOk result (AreDrawn (noted machine.now asked.now text.now) self.old self.new) }
     {
         self.draw(alloc, machine, asked, "")?;
         self.say(text)
@@ -134,29 +125,37 @@ impl Rows {
 }
 
 /// Writes what was asked, what was answered, and the memory.
-fn write_row(
-    out: &mut String,
-    asked: &str,
-    answer: &str,
+fn write_row(out: &mut String, asked: &str, answer: &str, memory: &str) -> Result<(), AllocError>
+    ensures { OnOk result (string_bytes out.new ≡ string_bytes out.old ++ row_text asked.now answer.now memory.now) }
+{
+    writeln!(out, "{asked:<29} {answer:<25}{memory}")
+}
+
+/// A memory as a row has it: its memory blocks, or a sign where only those that changed are drawn and none did.
+fn memory_text(
+    alloc: Global,
     is_wide: bool,
     before: &[Text],
     blocks: &[Text],
-) -> Result<(), AllocError>
-    ensures { OnOk result (string_bytes out.new ≡ string_bytes out.old ++ row_text asked.now answer.now (memory_text is_wide before.now blocks.now)) }
+) -> Result<String, AllocError>
+    ensures { IfOk result (λ text. string_bytes text ≡ memory_text is_wide before.now blocks.now) }
 {
-    write!(out, "{asked:<29} {answer:<25}")?;
-    write_memory(out, is_wide, before, blocks)?;
-    out.push_str("\n")
+    let mut out = String::new(alloc);
+    write_blocks(&mut out, is_wide, before, blocks)?;
+    if out.is_empty() {
+        out.push_str(" =")?;
+    }
+    Ok(out)
 }
 
 /// Writes memory blocks as they are drawn, each after a space: all of them, or those that changed.
-fn write_memory(
+fn write_blocks(
     out: &mut String,
     is_wide: bool,
     before: &[Text],
     blocks: &[Text],
 ) -> Result<(), AllocError>
-    ensures { OnOk result (string_bytes out.new ≡ string_bytes out.old ++ memory_text is_wide before.now blocks.now) }
+    ensures { OnOk result (string_bytes out.new ≡ string_bytes out.old ++ blocks_text is_wide before.now blocks.now) }
 {
     for (number, block) in blocks.iter().enumerate() {
         write_spaced(out, is_left_out(is_wide, before, number, block), block)?;

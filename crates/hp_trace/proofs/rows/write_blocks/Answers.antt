@@ -1,7 +1,7 @@
 use Rattle.hp_map.proofs.Texts.{text_more}
 use Rattle.hp_trace.specs.Rows.{block_text}
 use Rattle.hp_trace.proofs.Drawings.{block_drawn}
-use Rattle.hp_trace.proofs.rows.write_memory.Goals as goal
+use Rattle.hp_trace.proofs.rows.write_blocks.Goals as goal
 
 pub loop-number-preserved : goal.loop-number-preserved
 loop-number-preserved c =
