@@ -1,6 +1,6 @@
 //! Worked examples of the crates that stand beside a machine: of a state as a value (`areas`, `rows`,
 //! `images`), of a plan's driver (`plans`), and of what is read and written (`controls`, `scenarios`,
-//! `texts`, `maps`). What several of them work on stands in `layouts` and
+//! `texts`, `maps`, `traces`). What several of them work on stands in `layouts` and
 //! `machines`.
 //!
 //! `rt test` in this folder runs them.
@@ -26,3 +26,5 @@ mod rows;
 mod scenarios;
 #[cfg(test)]
 mod texts;
+#[cfg(test)]
+mod traces;

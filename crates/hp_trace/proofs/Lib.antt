@@ -1,0 +1,5 @@
+mod Drawings
+mod LinesTraced
+mod PlansTraced
+mod SpelledItems
+mod WorkAdded

@@ -1,0 +1,98 @@
+-- The rows that a line makes, and the machine after it (own rule).
+use Rattle.std.specs.Prelude.{ℕ, ◌≡◌, ◌⊎◌, true, false, List, [], ◌∷◌, ◌++◌, codes, length, Option, Some, None, Result, Ok, Err, ⊤}
+use Rattle.std.specs.Fmt.{decimal}
+use Rattle.hp_units.specs.Driver.{IsDriverRun}
+use Rattle.hp_units.specs.Texts.{reply_text}
+use Rattle.hp_units.specs.declared.events.Event.{Event}
+use Rattle.hp_units.specs.declared.plans.Item.{Item}
+use Rattle.hp_units.specs.declared.replies.CallFault.{CallFault}
+use Rattle.hp_units.specs.declared.replies.CallFault.TheVariants.{HistoryFull, OutOfMemory}
+use Rattle.hp_units.specs.declared.replies.OpEnd.{OpEnd}
+use Rattle.hp_units.specs.declared.replies.Receipt.{Receipt}
+use Rattle.hp_control.specs.declared.fault.ControlFault.{ControlFault}
+use Rattle.hp_control.specs.declared.writes.Request.{Request}
+use Rattle.hp_control.specs.declared.writes.Request.TheVariants as request
+use Rattle.hp_control.specs.Reads.{file_text}
+use Rattle.hp_control.specs.Writes.{control_turns, echo_request}
+use Rattle.hp_machine.specs.Machine.{MachineValue, IsCalled, is_full, sealed}
+use Rattle.hp_scenario.specs.Spelling.{event_words}
+use Rattle.hp_scenario.specs.declared.lines.Work.{Work}
+use Rattle.hp_scenario.specs.declared.lines.Work.TheVariants as work
+use Rattle.hp_text.specs.Answers.{sealed_line, unrecorded_line}
+use Rattle.hp_text.specs.Files.{read_fault_line, write_fault_line}
+use Rattle.hp_text.specs.Plans.{plan_line}
+use Rattle.hp_trace.specs.Rows.{Row, drawing, noted, words}
+use Rattle.hp_trace.specs.Spelling.{spaced}
+
+-- ---- one call
+
+-- its serial and its reply
+abbrev pub answer_text : Receipt → List ℕ
+answer_text r = decimal r.serial ++ codes ": " ++ reply_text r.reply
+
+-- an event was called; or the history is full, which is said
+abbrev pub MakesEvent : MachineValue → (cpu : ℕ) → Event → (asked : List ℕ) → (rows : List Row) → (after : MachineValue) → Type 0
+MakesEvent m cpu event asked rows after =
+    ((r : Receipt) × (is_full m ≡ false) × IsCalled m cpu event r after × (rows ≡ drawing asked (answer_text r) after ∷ []))
+    ⊎ ((is_full m ≡ true) × (after ≡ m) × (rows ≡ noted m asked (unrecorded_line HistoryFull)))
+
+-- ---- a plan
+
+-- an event of a plan's driver, in the place of a line
+abbrev pub step_text : Event → List ℕ
+step_text event = codes "     " ++ spaced (event_words event)
+
+-- calls of a processor, one after another, gave these receipts
+abbrev pub MakesSteps : (cpu : ℕ) → MachineValue → List Receipt → (rows : List Row) → (after : MachineValue) → Type 0
+MakesSteps cpu m [] rows after = (after ≡ m) × (rows ≡ [])
+MakesSteps cpu m (r ∷ rs) rows after =
+    (next : MachineValue) × (rest : List Row) × (is_full m ≡ false) × IsCalled m cpu r.event r next × (rows ≡ drawing (step_text r.event) (answer_text r) next ∷ rest) × MakesSteps cpu next rs rest after
+
+-- a plan's driver stops early only at a full history
+abbrev pub IsStop : Option CallFault → MachineValue → Type 0
+IsStop None m = ⊤
+IsStop (Some HistoryFull) m = is_full m ≡ true
+IsStop (Some OutOfMemory) m = ⊥
+
+-- a run of a plan's driver with this end was carried out
+pub record IsDriven (m : MachineValue) (cpu turns : ℕ) (plan : List Item) (end : OpEnd) (rows : List Row) (after : MachineValue) : Type 0 where
+  pub receipts : List Receipt
+  pub fault : Option CallFault
+  pub steps : MakesSteps cpu m receipts rows after
+  pub stop : IsStop fault after
+  pub run : IsDriverRun m.layout.cpus turns plan receipts fault end
+
+-- a row of the memory before the plan, the rows of its calls, and its end
+pub record MakesPlan (m : MachineValue) (cpu turns : ℕ) (plan : List Item) (asked : List ℕ) (rows : List Row) (after : MachineValue) : Type 0 where
+  pub steps : List Row
+  pub end : OpEnd
+  pub driven : IsDriven m cpu turns plan end steps after
+  pub is : rows ≡ drawing asked [] m ∷ (steps ++ words (plan_line end) ∷ [])
+
+-- ---- control files
+
+-- what a control file was asked for was done, or why it does not take the word is said
+abbrev pub MakesRequest : MachineValue → (cpu : ℕ) → Result Request ControlFault → (asked : List ℕ) → (rows : List Row) → (after : MachineValue) → Type 0
+MakesRequest m cpu (Ok (request.Event event)) asked rows after = MakesEvent m cpu event asked rows after
+MakesRequest m cpu (Ok (request.Plan plan)) asked rows after = MakesPlan m cpu control_turns plan asked rows after
+MakesRequest m cpu (Err fault) asked rows after = (after ≡ m) × (rows ≡ noted m asked (write_fault_line fault))
+
+-- a control file's text as it is, or why there is none
+abbrev pub file_rows : MachineValue → Result (List ℕ) ControlFault → (asked : List ℕ) → List Row
+file_rows m (Ok text) asked = noted m asked text
+file_rows m (Err fault) asked = noted m asked (read_fault_line fault)
+
+-- ---- a seal
+
+-- the records were handed out, and how many there were is said
+abbrev pub MakesSeal : MachineValue → (asked : List ℕ) → (rows : List Row) → (after : MachineValue) → Type 0
+MakesSeal m asked rows after = (after ≡ sealed m) × (rows ≡ noted after asked (sealed_line (length m.history)))
+
+-- ---- the work of a line
+
+abbrev pub MakesWork : MachineValue → (cpu : ℕ) → Work → (asked : List ℕ) → (rows : List Row) → (after : MachineValue) → Type 0
+MakesWork m cpu (work.Event event) asked rows after = MakesEvent m cpu event asked rows after
+MakesWork m cpu (work.Plan plan turns) asked rows after = MakesPlan m cpu turns plan asked rows after
+MakesWork m cpu (work.Echo path word) asked rows after = MakesRequest m cpu (echo_request path word) asked rows after
+MakesWork m cpu (work.Cat path) asked rows after = (after ≡ m) × (rows ≡ file_rows m (file_text m.layout m.state path) asked)
+MakesWork m cpu work.Seal asked rows after = MakesSeal m asked rows after

@@ -1,0 +1,64 @@
+-- A scenario traced (own rule).
+use Rattle.std.specs.Prelude.{ℕ, ◌≡◌, ◌+◌, ◌-◌, ◌^◌, Bool, true, List, [], ◌∷◌, ◌++◌, codes, Ok, if◌then◌else◌}
+use Rattle.std.specs.Fmt.{format_spec, styled_decimal}
+use Rattle.hp_machine.specs.Machine.{MachineValue, booted}
+use Rattle.hp_scenario.specs.Scenario.{ScenarioValue, scenario_in}
+use Rattle.hp_scenario.specs.declared.lines.Line.{Line}
+use Rattle.hp_trace.specs.Calls.{MakesWork}
+use Rattle.hp_trace.specs.Rows.{AreDrawn, IsRow, Row, RowsValue, fitted, no_rows}
+use Rattle.hp_trace.specs.Spelling.{line_text}
+use Rattle.hp_trace.specs.Views.{shows}
+use Rattle.hp_trace.specs.declared.view.View.{View}
+
+-- a line's number and the line
+abbrev pub numbered_text : (names : List (List ℕ)) → (number : ℕ) → Line → List ℕ
+numbered_text names number line = styled_decimal (format_spec 32 3 0 4 (2 ^ 64 - 1)) number ++ codes " " ++ line_text names line
+
+-- the rows that lines make, one list a line; the first line has this number
+abbrev pub MakesLines : (names : List (List ℕ)) → (number : ℕ) → MachineValue → List Line → (lists : List (List Row)) → (after : MachineValue) → Type 0
+MakesLines names number m [] lists after = (after ≡ m) × (lists ≡ [])
+MakesLines names number m (line ∷ lines) lists after =
+    (next : MachineValue) × (rows : List Row) × (rest : List (List Row))
+    × MakesWork m line.cpu line.work (numbered_text names number line) rows next × (lists ≡ rows ∷ rest) × MakesLines names (number + 1) next lines rest after
+
+-- the rows of a line, where it is shown
+abbrev pub rows_if : (is_shown : Bool) → List Row → List Row
+rows_if is_shown rows = if is_shown then rows else []
+
+-- the rows of the lines that are shown; the first line has this number
+abbrev pub shown_rows : View → (number : ℕ) → (lists : List (List Row)) → List Row
+shown_rows v number [] = []
+shown_rows v number (rows ∷ rest) = rows_if (shows v number) rows ++ shown_rows v (number + 1) rest
+
+-- the row of the memory at boot, which decides whether later rows have only the memory blocks that changed
+pub record IsStart (v : View) (m : MachineValue) (rows : RowsValue) : Type 0 where
+  pub first : RowsValue
+  pub drawn : IsRow m (codes "   0 boot") [] (no_rows true) first
+  pub is : rows ≡ fitted v.width first
+
+-- a line was done, and its rows drawn where it is shown
+pub record TracesLine (v : View) (names : List (List ℕ)) (number : ℕ) (m : MachineValue) (line : Line) (old new : RowsValue) (after : MachineValue) : Type 0 where
+  pub rows : List Row
+  pub made : MakesWork m line.cpu line.work (numbered_text names number line) rows after
+  pub drawn : AreDrawn (rows_if (shows v number) rows) old new
+
+-- lines were done, and the rows of those that are shown drawn
+pub record TracesLines (v : View) (names : List (List ℕ)) (m : MachineValue) (lines : List Line) (old new : RowsValue) (after : MachineValue) : Type 0 where
+  pub lists : List (List Row)
+  pub made : MakesLines names 1 m lines lists after
+  pub drawn : AreDrawn (shown_rows v 1 lists) old new
+
+-- the memory at boot, and below it the lines
+pub record IsScenarioTrace (v : View) (s : ScenarioValue) (text : List ℕ) : Type 0 where
+  pub start : RowsValue
+  pub begun : IsStart v (booted s.layout) start
+  pub rows : RowsValue
+  pub machine : MachineValue
+  pub traced : TracesLines v s.names (booted s.layout) s.lines start rows machine
+  pub written : text ≡ rows.text
+
+-- the trace of the scenario that the bytes are
+pub record IsTraceOf (v : View) (input text : List ℕ) : Type 0 where
+  pub scenario : ScenarioValue
+  pub read : scenario_in input ≡ Ok scenario
+  pub traced : IsScenarioTrace v scenario text

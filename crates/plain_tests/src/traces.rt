@@ -1,0 +1,60 @@
+//! A scenario traced: all of it, and one line on narrow paper.
+use hp_trace::{View, trace};
+use std::alloc::Global;
+use std::test::Fail;
+
+/// A page, a plan that moves it, and a control file.
+const SCENARIO: &[u8] =
+    br#"{"layout":{"order":2,"pageblocks":1,"blocks":3,"cpus":1,"batch":2,"high":2,"owners":1,"pages":4,"words":1,"history":9,"boot":["normal","movable","offline"]},"calls":["0 map db 0","0 plan 4 off 1","0 cat memory1/state"]}"#;
+
+const WHOLE: &str =
+    "   0 boot                                               0:N[....] 1:M[....] 2:off[----]
+   1 0 map db 0               1: done                   0:N[....] 1:M[a0..] 2:off[----]
+   2 0 plan 4 off 1                                     0:N[....] 1:M[a0..] 2:off[----]
+     begin off 1              2: opened 2               0:N[....] 1:M>off[a0::] 2:off[----]
+     drainfor 2 0             3: done                   0:N[....] 1:M>off[a:::] 2:off[----]
+     migrate 2                4: moved 4 0              0:N[a...] 1:M>off[::::] 2:off[----]
+     migrate 2                5: refused NothingToMove  0:N[a...] 1:M>off[::::] 2:off[----]
+     commit 2                 6: done                   0:N[a...] 1:off[----] 2:off[----]
+plan: done
+   3 0 cat memory1/state                                0:N[a...] 1:off[----] 2:off[----]
+offline
+";
+
+const NARROW: &str =
+    "   0 boot                                               0:N[....] 1:M[....] 2:off[----]
+   2 0 plan 4 off 1                                     1:M[a0..]
+     begin off 1              2: opened 2               1:M>off[a0::]
+     drainfor 2 0             3: done                   1:M>off[a:::]
+     migrate 2                4: moved 4 0              0:N[a...] 1:M>off[::::]
+     migrate 2                5: refused NothingToMove  =
+     commit 2                 6: done                   1:off[----]
+plan: done
+";
+
+/// Whether the trace of the scenario is this text.
+fn is_traced(alloc: Global, view: View, text: &str) -> bool {
+    match trace(alloc, SCENARIO, view) {
+        Ok(traced) => traced.as_str() == text,
+        Err(_fault) => false,
+    }
+}
+
+#[test]
+fn lines_are_traced(rt: HostRuntime) -> Result<(), Fail> {
+    let whole = View {
+        from: 1,
+        to: 9,
+        every: 1,
+        width: 120,
+    };
+    let narrow = View {
+        from: 2,
+        to: 2,
+        width: 60,
+        ..whole
+    };
+    assert!(rt; is_traced(rt.alloc(), whole, WHOLE));
+    assert!(rt; is_traced(rt.alloc(), narrow, NARROW));
+    Ok(())
+}
