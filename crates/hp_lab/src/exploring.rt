@@ -18,7 +18,7 @@ use std::alloc::Global;
 
 /// The text of an exploration of the scenario that the bytes are. The first `setup` lines are run in order; each later line goes
 /// to the script of its processor, where 0 for the number of an operation stands for the one that this processor began last. All
-/// interleavings of the scripts' calls are played, at most `limit` of them. The text says how many there are, and for each
+/// interleavings of the scripts' calls are counted, at most `limit` of them. The text says how many there are, and for each
 /// different end how many lead to it, what the processors were answered, what became of the memory blocks, and the calls of the
 /// first that leads to it (own rule).
 ///
