@@ -1,5 +1,5 @@
 -- The rest of a free block, from a frame of it on.
-use Rattle.std.proofs.Common.{◌≡◌, ◌+◌, ◌-◌, ◌*◌, ◌^◌, ◌%◌, ◌<◌, ◌≤◌, ℕ, ◌∙◌, ap, subst, sym, arith}
+use Rattle.std.proofs.Common.{◌≡◌, ◌-◌, ◌*◌, ◌^◌, ◌%◌, ◌<◌, ◌≤◌, ℕ, ◌∙◌, ap, subst, arith}
 use Rattle.std.proofs.Math.Pow.{pow_mono}
 use Rattle.hp_memory.proofs.FreeRuns.{run-is_free, size-computed}
 use Rattle.hp_memory.proofs.frames.Frames.free_from.Goals as goal

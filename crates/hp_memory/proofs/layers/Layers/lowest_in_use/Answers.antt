@@ -1,5 +1,5 @@
 -- The rest of one more free block is passed.
-use Rattle.std.proofs.Common.{ℕ, ◌≡◌, ◌+◌, ◌-◌, ◌≤◌, ◌*◌, ◌<◌, Bool, false, not, sym, ◌∙◌, ap, arith}
+use Rattle.std.proofs.Common.{ℕ, ◌≡◌, ◌+◌, ◌-◌, ◌≤◌, ◌*◌, Bool, not, ◌∙◌, ap, arith}
 use Rattle.std.specs.List.{find, range_with_len}
 use Rattle.hp_memory.specs.Commits.{is_in_use}
 use Rattle.hp_memory.specs.Layers.{state_of}
