@@ -25,7 +25,7 @@ const UNDONE: &str = r#""0 map db 0","0 write db 0 1 7","0 kalloc 1","0 unmap db
 
 /// A cancel that restores what was before its begin, with a map in the net, and lines before it.
 const CANCELLED: &str =
-    r#""0 map db 0","0 write db 0 1 7","0 begin off 2","0 drainfor 3 0","0 migrate 3","0 cancel 3""#;
+    r#""0 map db 0","0 write db 0 1 7","0 begin off 2","0 migrate 3","0 cancel 3""#;
 
 /// How many steps both leave.
 const LEFT: u64 = 2;
