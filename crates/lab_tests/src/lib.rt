@@ -1,4 +1,5 @@
-//! Tests of the laboratory: explorations with the text that each must write, scenarios that are refused, calls as lines.
+//! Tests of the laboratory: explorations with the text that each must write, scenarios that are refused, calls as lines, traces as
+//! pictures.
 //!
 //! They stand in a crate of their own, as integration tests do, so that the gate does not prove hp_lab once more with them.
 //! `rt test` in this folder runs them.
@@ -8,5 +9,7 @@
 mod calls;
 #[cfg(test)]
 mod explorations;
+#[cfg(test)]
+mod pictures;
 #[cfg(test)]
 mod refusals;

@@ -1,0 +1,4 @@
+mod Covering
+mod Entries
+mod Joined
+mod Pieces

@@ -1,0 +1,67 @@
+-- The elements of a picture (own rule): texts, and rectangles for cells. Lengths are in pixels: a letter of a text is 6 wide, a cell 8,
+-- a row 14 high.
+use Rattle.std.specs.Prelude.{ℕ, ◌+◌, ◌*◌, ◌==◌, ◌||◌, nat_lt, Bool, List, [], ◌∷◌, ◌++◌, codes, encode_utf8, if◌then◌else◌}
+use Rattle.std.specs.Fmt.{decimal}
+use Rattle.std.specs.List.{flat_map}
+use Rattle.std.specs.Str.{chars}
+use Rattle.hp_svg.specs.Marks.{fill_of, ink_of, is_lettered}
+use Rattle.hp_svg.specs.declared.runs.Run.{Run}
+
+unfoldable pub position : (x y : ℕ) → List ℕ
+position x y = codes " x='" ++ decimal x ++ codes "' y='" ++ decimal y ++ codes "'"
+
+unfoldable pub extent : (width height : ℕ) → List ℕ
+extent width height = codes " width='" ++ decimal width ++ codes "' height='" ++ decimal height ++ codes "'"
+
+-- ---- texts
+
+-- a character that no XML document may contain, or a tab or a return
+abbrev pub is_unfit : ℕ → Bool
+is_unfit c = nat_lt c 32 || ((c == 65534) || (c == 65535))
+
+-- a character as XML has it, with a question mark for one that is unfit
+abbrev pub escaped : ℕ → List ℕ
+escaped c =
+    if c == 38 then codes "&amp;"
+    else (if c == 60 then codes "&lt;"
+    else (if c == 62 then codes "&gt;"
+    else (if c == 34 then codes "&quot;" else (if is_unfit c then codes "?" else encode_utf8 c))))
+
+unfoldable pub escaped_text : List ℕ → List ℕ
+escaped_text text = flat_map escaped (chars text)
+
+-- made narrower, to the width of so many characters
+unfoldable pub narrowed : (is_narrow : Bool) → (room : ℕ) → List ℕ
+narrowed is_narrow room = if is_narrow then codes " textLength='" ++ decimal (6 * room) ++ codes "' lengthAdjust='spacingAndGlyphs'" else []
+
+unfoldable pub text_element : (x y : ℕ) → (is_narrow : Bool) → (room : ℕ) → (text : List ℕ) → List ℕ
+text_element x y is_narrow room text =
+    codes "<text" ++ position x y ++ narrowed is_narrow room ++ codes ">" ++ escaped_text text ++ codes "</text>"
+
+-- ---- cells
+
+-- the character itself in its ink, where it is written on its cells
+unfoldable pub ink : (mark : ℕ) → List ℕ
+ink mark = ink_of mark ++ codes "'>"
+
+unfoldable pub inked : (mark : ℕ) → List ℕ
+inked mark = codes " font-size='8' fill='" ++ ink mark
+
+unfoldable pub letter_element : (x y mark : ℕ) → List ℕ
+letter_element x y mark = if is_lettered mark then codes "<text" ++ position x y ++ inked mark ++ mark ∷ [] ++ codes "</text>" else []
+
+-- a rectangle
+unfoldable pub box_element : (x y width height : ℕ) → (fill : List ℕ) → List ℕ
+box_element x y width height fill = codes "<rect" ++ position x y ++ extent width height ++ codes " fill='" ++ fill ++ codes "'/>"
+
+-- cells in the colour of their character
+unfoldable pub cell_element : (x y width mark : ℕ) → List ℕ
+cell_element x y width mark = box_element x y width 12 (fill_of mark) ++ letter_element (x + 2) (y + 9) mark
+
+-- a run of cells in a row; a bar is a gap
+unfoldable pub run_text : (left top : ℕ) → Run → List ℕ
+run_text left top run = if run.mark == 124 then [] else cell_element (left + 8 * run.at) top (8 * run.count) run.mark
+
+-- lines between the cells of a block
+unfoldable pub grid_element : (x y width height : ℕ) → List ℕ
+grid_element x y width height = box_element x y width height (codes "url(#grid)")

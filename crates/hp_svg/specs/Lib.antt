@@ -1,0 +1,6 @@
+pub mod Cuts
+pub mod Elements
+pub mod Marks
+pub mod Pictures
+pub mod Runs
+pub mod Sheets

@@ -1,0 +1,69 @@
+-- Where things stand in a picture (own rule). Lengths are in pixels.
+use Rattle.std.specs.Prelude.{ℕ, ◌+◌, ◌-◌, ◌*◌, ◌/◌, ◌%◌, ◌^◌, ◌==◌, not, List, count_by, length, max, min, if◌then◌else◌}
+use Rattle.std.specs.List.{before_first}
+use Rattle.hp_svg.specs.Cuts.{cells_of}
+use Rattle.hp_svg.specs.declared.sheets.Sheet.{Sheet}
+
+-- a count of at most 32 bits
+abbrev pub bounded : ℕ → ℕ
+bounded count = min count (2 ^ 32 - 1)
+
+-- what the first line has: how many blocks, and of the first of them how many characters, and how many of these are frames
+unfoldable pub sheet_of : (text : List ℕ) → Sheet
+sheet_of text =
+    let cells = cells_of (before_first (λ byte. byte == 93) text) in
+    record {
+      blocks = count_by (λ byte. byte == 93) (before_first (λ byte. byte == 10) text);
+      cells = bounded (length cells);
+      frames = bounded (count_by (λ byte. not (byte == 124)) cells);
+    }
+
+-- ---- across: a text of 55 characters, and for each block its head of 8 and its cells
+
+-- where the head of a block begins, and where its cells do
+abbrev pub head_at : Sheet → (block : ℕ) → ℕ
+head_at s block = 336 + block * (48 + 8 * s.cells)
+
+abbrev pub cells_at : Sheet → (block : ℕ) → ℕ
+cells_at s block = 384 + block * (48 + 8 * s.cells)
+
+-- the text before the first block stands in front of all, with the head of that block
+abbrev pub text_at : Sheet → (block : ℕ) → ℕ
+text_at s block = if block == 0 then 8 else head_at s block
+
+-- how many characters it has room for
+abbrev pub room_at : (block : ℕ) → ℕ
+room_at block = if block == 0 then 62 else 7
+
+abbrev pub cells_width : Sheet → ℕ
+cells_width s = 8 * s.cells
+
+-- the number of the first frame of a block
+abbrev pub first_frame : Sheet → (block : ℕ) → ℕ
+first_frame s block = block * s.frames
+
+abbrev pub width_of : Sheet → ℕ
+width_of s = max 820 (head_at s s.blocks)
+
+-- ---- down: the legend, the numbers of the blocks, the rows
+
+-- where an entry of the legend stands, by its place
+abbrev pub legend_left : (place : ℕ) → ℕ
+legend_left place = 8 + 160 * (place % 5)
+
+abbrev pub legend_top : (place : ℕ) → ℕ
+legend_top place = 8 + 16 * (place / 5)
+
+-- where the numbers of the blocks stand below a legend of so many entries, and where the rows begin
+abbrev pub numbers_at : (entries : ℕ) → ℕ
+numbers_at entries = 28 + 16 * ((entries + 4) / 5)
+
+abbrev pub rows_at : (entries : ℕ) → ℕ
+rows_at entries = numbers_at entries + 18
+
+-- a row below the first, by its number, or the end of so many rows
+abbrev pub row_top : (number : ℕ) → ℕ
+row_top number = 14 * number
+
+abbrev pub height_of : (entries lines : ℕ) → ℕ
+height_of entries lines = rows_at entries + row_top lines

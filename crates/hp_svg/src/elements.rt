@@ -1,0 +1,184 @@
+//! The elements of a picture: texts, and rectangles for cells. Lengths are in pixels.
+ghost use Rattle.std.specs.Prelude.{◌≡◌, ◌++◌, ◌<◌, ◌^◌, OnOk, string_bytes};
+ghost use Rattle.hp_svg.specs.Elements.{box_element, cell_element, escaped, escaped_text, extent, grid_element, ink, inked, is_unfit, letter_element, narrowed, position, run_text, text_element};
+
+use crate::marks::{fill_of, ink_of, is_lettered, write_mark};
+use crate::runs::Run;
+use std::alloc::AllocError;
+
+/// Whether no XML document may contain a character, or it is a tab or a return.
+fn is_unfit(c: char) -> bool
+    ensures { result ≡ is_unfit c }
+{
+    c < ' ' || c == '\u{FFFE}' || c == '\u{FFFF}'
+}
+
+/// Writes a character as XML has it, with a question mark for one that is unfit.
+fn write_escaped(out: &mut String, c: char) -> Result<(), AllocError>
+    ensures { OnOk result (string_bytes out.new ≡ string_bytes out.old ++ escaped c) }
+{
+    match c {
+        '&' => out.push_str("&amp;"),
+        '<' => out.push_str("&lt;"),
+        '>' => out.push_str("&gt;"),
+        '"' => out.push_str("&quot;"),
+        _ if is_unfit(c) => out.push_str("?"),
+        _ => out.push(c),
+    }
+}
+
+/// Writes a text as XML has it.
+#[tactic(auto, unfolding(crate::specs::Elements::escaped_text))]
+fn write_escaped_text(out: &mut String, text: &str) -> Result<(), AllocError>
+    ensures { OnOk result (string_bytes out.new ≡ string_bytes out.old ++ escaped_text text.now) }
+{
+    for c in text.chars() {
+        write_escaped(out, c)?;
+    }
+    Ok(())
+}
+
+/// Writes the attributes of a text that is made narrower, to the width of so many characters.
+#[tactic(auto, unfolding(crate::specs::Elements::narrowed))]
+fn write_narrowed(out: &mut String, is_narrow: bool, room: u32) -> Result<(), AllocError>
+    ensures { OnOk result (string_bytes out.new ≡ string_bytes out.old ++ narrowed is_narrow room) }
+{
+    if !is_narrow {
+        return Ok(());
+    }
+    let width = 6 * room as u64;
+    write!(out, " textLength='{width}' lengthAdjust='spacingAndGlyphs'")
+}
+
+/// Writes where an element stands.
+#[tactic(auto, unfolding(crate::specs::Elements::position))]
+fn write_position(out: &mut String, x: u128, y: u128) -> Result<(), AllocError>
+    ensures { OnOk result (string_bytes out.new ≡ string_bytes out.old ++ position x y) }
+{
+    write!(out, " x='{x}' y='{y}'")
+}
+
+/// Writes how large an element is.
+#[tactic(auto, unfolding(crate::specs::Elements::extent))]
+pub(crate) fn write_extent(out: &mut String, width: u128, height: u128) -> Result<(), AllocError>
+    ensures { OnOk result (string_bytes out.new ≡ string_bytes out.old ++ extent width height) }
+{
+    write!(out, " width='{width}' height='{height}'")
+}
+
+/// Writes a text.
+#[tactic(auto, unfolding(crate::specs::Elements::text_element))]
+pub(crate) fn write_text(
+    out: &mut String,
+    x: u128,
+    y: u128,
+    is_narrow: bool,
+    room: u32,
+    text: &str,
+) -> Result<(), AllocError>
+    ensures { OnOk result (string_bytes out.new ≡ string_bytes out.old ++ text_element x y is_narrow room text.now) }
+{
+    out.push_str("<text")?;
+    write_position(out, x, y)?;
+    write_narrowed(out, is_narrow, room)?;
+    out.push_str(">")?;
+    write_escaped_text(out, text)?;
+    out.push_str("</text>")
+}
+
+/// Writes the size and the ink of a character on its cells.
+#[tactic(auto, unfolding(crate::specs::Elements::inked))]
+fn write_inked(out: &mut String, mark: u8) -> Result<(), AllocError>
+    ensures { OnOk result (string_bytes out.new ≡ string_bytes out.old ++ inked mark) }
+{
+    out.push_str(" font-size='8' fill='")?;
+    write_ink(out, mark)
+}
+
+/// Writes the ink of a character.
+#[tactic(auto, unfolding(crate::specs::Elements::ink))]
+fn write_ink(out: &mut String, mark: u8) -> Result<(), AllocError>
+    ensures { OnOk result (string_bytes out.new ≡ string_bytes out.old ++ ink mark) }
+{
+    out.push_str(ink_of(mark))?;
+    out.push_str("'>")
+}
+
+/// Writes the character of cells on them, where it is to be seen there.
+#[tactic(auto, unfolding(crate::specs::Elements::letter_element, crate::specs::Marks::is_lettered))]
+fn write_letter(out: &mut String, x: u128, y: u128, mark: u8) -> Result<(), AllocError>
+    ensures { OnOk result (string_bytes out.new ≡ string_bytes out.old ++ letter_element x y mark) }
+{
+    if !is_lettered(mark) {
+        return Ok(());
+    }
+    out.push_str("<text")?;
+    write_position(out, x, y)?;
+    write_inked(out, mark)?;
+    write_mark(out, mark)?;
+    out.push_str("</text>")
+}
+
+/// Writes a rectangle.
+#[tactic(auto, unfolding(crate::specs::Elements::box_element))]
+fn write_box(
+    out: &mut String,
+    x: u128,
+    y: u128,
+    width: u128,
+    height: u128,
+    fill: &str,
+) -> Result<(), AllocError>
+    ensures { OnOk result (string_bytes out.new ≡ string_bytes out.old ++ box_element x y width height fill.now) }
+{
+    out.push_str("<rect")?;
+    write_position(out, x, y)?;
+    write_extent(out, width, height)?;
+    write!(out, " fill='{fill}'/>")
+}
+
+/// Writes cells in the colour of their character.
+#[tactic(auto, unfolding(crate::specs::Elements::cell_element))]
+pub(crate) fn write_cell(
+    out: &mut String,
+    x: u128,
+    y: u128,
+    width: u128,
+    mark: u8,
+) -> Result<(), AllocError>
+    requires x { x < 2 ^ 102 }
+    requires y { y < 2 ^ 102 }
+    ensures { OnOk result (string_bytes out.new ≡ string_bytes out.old ++ cell_element x y width mark) }
+{
+    write_box(out, x, y, width, 12, fill_of(mark))?;
+    write_letter(out, x + 2, y + 9, mark)
+}
+
+/// Writes a run of cells in a row; a bar is a gap.
+#[tactic(auto, unfolding(crate::specs::Elements::run_text))]
+pub(crate) fn write_run(out: &mut String, left: u128, top: u128, run: Run) -> Result<(), AllocError>
+    requires left { left < 2 ^ 101 }
+    requires top { top < 2 ^ 101 }
+    ensures { OnOk result (string_bytes out.new ≡ string_bytes out.old ++ run_text left top run) }
+{
+    if run.mark == b'|' {
+        return Ok(());
+    }
+    let x = left + 8 * run.at as u128;
+    let width = 8 * run.count as u128;
+    write_cell(out, x, top, width, run.mark)
+}
+
+/// Writes lines between the cells of a block.
+#[tactic(auto, unfolding(crate::specs::Elements::grid_element))]
+pub(crate) fn write_grid(
+    out: &mut String,
+    x: u128,
+    y: u128,
+    width: u128,
+    height: u128,
+) -> Result<(), AllocError>
+    ensures { OnOk result (string_bytes out.new ≡ string_bytes out.old ++ grid_element x y width height) }
+{
+    write_box(out, x, y, width, height, "url(#grid)")
+}
