@@ -23,8 +23,8 @@ event_text m cpu event = if is_full m then unrecorded_line HistoryFull else repl
 unfoldable pub machine_after_event : MachineValue → (cpu : ℕ) → Event → MachineValue
 machine_after_event m cpu event = if is_full m then m else with_record m (next_record m cpu event)
 
--- text and machine became what they are to be; or memory was wanting, with room in the history, which is said in place of it,
--- and the machine is as it was
+-- text and machine became what they are to be; or it was out of memory, with room in the history, which is said in place
+-- of the text, and the machine is as it was
 abbrev pub Writes : MachineValue → (due : List ℕ) → (next : MachineValue) → (text : List ℕ) → (new : MachineValue) → Type 0
 Writes m due next text new = ((text ≡ due) × (new ≡ next)) ⊎ ((is_full m ≡ false) × (text ≡ unrecorded_line OutOfMemory) × (new ≡ m))
 

@@ -21,7 +21,7 @@ read_answer (Err fault) = read_fault_line fault
 abbrev pub cat_text : MachineValue → (path : List ℕ) → List ℕ
 cat_text m path = read_answer (file_text m.layout m.state path)
 
--- a file was read; or memory was wanting, which is said in place of it
+-- a file was read; or it was out of memory, which is said in place of the text
 abbrev pub WritesFile : MachineValue → (path text : List ℕ) → Type 0
 WritesFile m path text = (text ≡ cat_text m path) ⊎ (text ≡ read_fault_line OutOfMemory)
 
@@ -44,6 +44,7 @@ WritesRequest m cpu (Ok (request.Event event)) text new = WritesEvent m cpu even
 WritesRequest m cpu (Ok (request.Plan plan)) text new = WritesPlan m cpu control_turns plan text new
 WritesRequest m cpu (Err fault) text new = (text ≡ write_fault_line fault) × (new ≡ m)
 
--- a word was written to a file; or memory was wanting to tell what it asks for, which is said in place of it
+-- a word was written to a file; or it was out of memory before it knew what that asks for, which is said
+-- in place of the text
 abbrev pub WritesEcho : MachineValue → (cpu : ℕ) → (path word text : List ℕ) → (new : MachineValue) → Type 0
 WritesEcho m cpu path word text new = WritesRequest m cpu (echo_request path word) text new ⊎ ((text ≡ write_fault_line OutOfMemory) × (new ≡ m))

@@ -58,7 +58,7 @@ impl From<CallFault> for ExploreFault {
 /// that of processor k. The machine stays as it is.
 ///
 /// An error is `TooMany` where there are more schedules than the limit, `HistoryFull` where the layout's history has no room for
-/// all calls of a schedule, and `OutOfMemory`. Where no script holds a plan `TooMany` comes before any call is played.
+/// all calls of a schedule, and `OutOfMemory`. Where no script holds a plan `TooMany` comes before any call.
 pub fn explore(
     alloc: Global,
     machine: &Machine,

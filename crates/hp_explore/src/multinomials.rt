@@ -1,4 +1,4 @@
-//! How many interleavings of scripts there are, known before any is played.
+//! How many interleavings of scripts there are, known before any call.
 ghost use Rattle.std.specs.Prelude.{◌≡◌, ◌↔◌, ◌+◌, ◌^◌, ◌<◌, ℕ, IfNone, IfOk, IfSome, IsTrue, false};
 ghost use Rattle.std.specs.List.{list_all};
 ghost use Rattle.hp_explore.specs.Interleavings.{AreTooMany, IsNotKnownTooMany, holds_no_plan, script_lengths};
