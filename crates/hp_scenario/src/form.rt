@@ -42,8 +42,9 @@ fn boot_from(word: &str) -> Option<Boot>
     }
 }
 
+/// What a block is at boot, by the word that a value is; none where it is no text or another word.
 #[tactic(auto, unfolding(crate::specs::Form::boot_of))]
-fn boot_at(value: &Value) -> Option<Boot>
+pub fn boot_at(value: &Value) -> Option<Boot>
     ensures { result ≡ boot_in (view value.now) }
 {
     boot_from(value.as_str()?)
@@ -72,8 +73,9 @@ pub(crate) fn texts_at<'a>(value: &'a Value, key: &str) -> Option<Texts<'a>>
     }
 }
 
+/// What the blocks are at boot, by the words at a key. Errors: BadShape where there is no list of such words; OutOfMemory.
 #[tactic(auto, unfolding(crate::specs::Form::boots_at))]
-pub(crate) fn boots_at(alloc: Global, value: &Value, key: &str) -> Result<Vec<Boot>, ScenarioFault>
+pub fn boots_at(alloc: Global, value: &Value, key: &str) -> Result<Vec<Boot>, ScenarioFault>
     ensures { Gives (λ v. v.items) result (or_fault ScenarioFault.BadShape (boots key.now (view value.now))) }
 {
     match value.get(key).and_then(Value::as_array) {
@@ -82,8 +84,10 @@ pub(crate) fn boots_at(alloc: Global, value: &Value, key: &str) -> Result<Vec<Bo
     }
 }
 
+/// The parts of a layout, with what its blocks are at boot; none where one of its ten numbers is missing or is no integer from 0 up
+/// below 2^64. Nothing is said of other keys, nor of limits.
 #[tactic(auto, unfolding(crate::specs::Form::parts_with))]
-pub(crate) fn parts_with<'a>(layout: &Value, boot: &'a [Boot]) -> Option<Parts<'a>>
+pub fn parts_with<'a>(layout: &Value, boot: &'a [Boot]) -> Option<Parts<'a>>
     ensures { option_map parts_seen result ≡ with_boot boot.now (view layout.now) }
 {
     let order = number_at(layout, "order")?;

@@ -1,5 +1,5 @@
 //! What a line says, with a name as it is written.
-ghost use Rattle.std.specs.Prelude.{◌≡◌, map, IfOk, OnOk, option_map};
+ghost use Rattle.std.specs.Prelude.{◌≡◌, map, IfOk, OnOk, is_some, option_map};
 ghost use Rattle.hp_scenario.specs.Lines as says;
 ghost use Rattle.hp_scenario.specs.Seen.{request_seen, said_seen};
 ghost use Rattle.hp_scenario.specs.Words.{words_of};
@@ -43,6 +43,15 @@ pub(crate) fn line_says<'a>(
 {
     split_words(words, text)?;
     words_say(alloc, words)
+}
+
+/// Whether a text is a line. An error is out of memory.
+pub fn is_line(alloc: Global, text: &str) -> Result<bool, AllocError>
+    ensures { IfOk result (λ is. is ≡ is_some (says.line_says text.now)) }
+{
+    let mut words = Vec::new(alloc);
+    let said = line_says(alloc, &mut words, text)?;
+    Ok(said.is_some())
 }
 
 /// Makes `words` the words between single spaces.

@@ -1,0 +1,12 @@
+mod Agreement
+mod CallsAgree
+mod Each
+mod Fronts
+mod Json
+mod Lines
+mod RangesAgree
+mod Reported
+mod Shapes
+mod Spaces
+mod Values
+mod Warned

@@ -1,0 +1,54 @@
+-- The warnings of lines, one line more after another.
+use Rattle.std.proofs.Common.{◌≡◌, ℕ, ◌+◌, ◌<◌, ◌≤◌, List, [], ◌∷◌, ◌++◌, length, get_or, slice_get, take, Result, Ok, Err, refl, sym, ap, ◌∙◌, arith}
+use Rattle.std.proofs.lemmas.List.{take_more}
+use Rattle.std.proofs.lemmas.List.Sums.{fold_push}
+use Rattle.std.proofs.lemmas.Option.{slice_get_read}
+use Rattle.hp_units.specs.LayoutParts.{LayoutParts}
+use Rattle.hp_control.specs.declared.fault.ControlFault.{ControlFault}
+use Rattle.hp_control.specs.declared.writes.Request.{Request}
+use Rattle.hp_control.specs.declared.writes.Request.TheVariants as request
+use Rattle.hp_control.specs.Writes.{echo_request}
+use Rattle.hp_scenario.specs.declared.lines.Line.{Line}
+use Rattle.hp_scenario.specs.declared.lines.Work.{Work}
+use Rattle.hp_scenario.specs.declared.lines.Work.TheVariants as work
+use Rattle.hp_check.specs.Each.{each_below}
+use Rattle.hp_check.specs.Tally.{TallyValue, after_line, after_request, after_work, no_lines, tally_of}
+use Rattle.hp_check.specs.Warnings.{line_warning, warned, warned_at}
+use Rattle.hp_check.specs.declared.finding.Finding.{Finding}
+use Rattle.hp_check.proofs.Each.{each_more, each_none}
+
+-- the warning of the line at a place
+abbrev pub warning_at : LayoutParts → List Line → ℕ → List Finding
+warning_at l lines place = warned_at l (tally_of (take place lines)) place (slice_get lines place)
+
+pub none_warned : (l : LayoutParts) (lines : List Line) (found : List Finding) → found ≡ [] → found ≡ each_below (warning_at l lines) 0
+none_warned l lines found none = none ∙ each_none (warning_at l lines) []
+
+pub one_warned : (l : LayoutParts) (lines : List Line) (i : ℕ) (line : Line) (t : TallyValue) (found new : List Finding) → i < length lines → line ≡ get_or lines i line → t ≡ tally_of (take i lines)
+    → found ≡ each_below (warning_at l lines) i → new ≡ found ++ warned (i + 1) (line_warning l t line) → new ≡ each_below (warning_at l lines) (i + 1)
+one_warned l lines i line t found new lt at tallied so_far more =
+    let here : warned (i + 1) (line_warning l t line) ≡ warning_at l lines i =
+    ap (λ (u : TallyValue). warned (i + 1) (line_warning l u line)) tallied
+    ∙ ap (warned_at l (tally_of (take i lines)) i) (sym (slice_get_read lines (length lines) i line refl lt at)) in
+    each_more (warning_at l lines) i [] found new (warned (i + 1) (line_warning l t line)) so_far more here
+
+pub one_tallied : (lines : List Line) (i : ℕ) (line : Line) (t after : TallyValue) → i < length lines → line ≡ get_or lines i line → t ≡ tally_of (take i lines) → after ≡ after_work t line.work → after ≡ tally_of (take (i + 1) lines)
+one_tallied lines i line t after lt at so_far is =
+    is ∙ ap (λ (u : TallyValue). after_line u line) so_far
+    ∙ sym (ap tally_of (take_more lines i line lt ∙ ap (λ (x : Line). take i lines ++ x ∷ []) (sym at)) ∙ fold_push after_line no_lines (take i lines) line)
+
+request_used : (t : TallyValue) (r : Result Request ControlFault) → (after_request t r).used ≤ t.used + 1
+request_used t (Ok (request.Event e)) = omega arith
+request_used t (Ok (request.Plan plan)) = omega arith
+request_used t (Err fault) = omega arith
+
+-- a line makes at least one record or none
+pub work_used : (t : TallyValue) (w : Work) → (after_work t w).used ≤ t.used + 1
+work_used t (work.Event e) = omega arith
+work_used t (work.Plan plan turns) = omega arith
+work_used t (work.Echo path word) = request_used t (echo_request path word)
+work_used t (work.Cat path) = omega arith
+work_used t work.Seal = omega arith
+
+pub used_more : (t after : TallyValue) (w : Work) (i : ℕ) → t.used ≤ i → after ≡ after_work t w → after.used ≤ i + 1
+used_more t after w i so_far is = let used : after.used ≡ (after_work t w).used = ap (λ (u : TallyValue). u.used) is in omega (arith, so_far, used, work_used t w)

@@ -1,0 +1,13 @@
+pub mod Calls
+pub mod Checking
+pub mod Each
+pub mod Expected
+pub mod Findings
+pub mod Laws
+pub mod Places
+pub mod Ranges
+pub mod Reports
+pub mod Shape
+pub mod Tally
+pub mod Texts
+pub mod Warnings

@@ -1,0 +1,70 @@
+-- What the lines before a line make of the serials and of the history (own rule).
+use Rattle.std.specs.Prelude.{ℕ, ◌+◌, ◌-◌, ◌==◌, Bool, true, false, List, [], ◌∷◌, ◌++◌, fold, Option, Some, None, Result, Ok, Err, slice_get, if◌then◌else◌}
+use Rattle.hp_units.specs.declared.events.Event.{Event}
+use Rattle.hp_units.specs.declared.events.Event.TheVariants as event
+use Rattle.hp_control.specs.declared.fault.ControlFault.{ControlFault}
+use Rattle.hp_control.specs.declared.writes.Request.{Request}
+use Rattle.hp_control.specs.declared.writes.Request.TheVariants as request
+use Rattle.hp_control.specs.Writes.{echo_request}
+use Rattle.hp_scenario.specs.declared.lines.Line.{Line}
+use Rattle.hp_scenario.specs.declared.lines.Work.{Work}
+use Rattle.hp_scenario.specs.declared.lines.Work.TheVariants as work
+
+-- which of the records begin an operation, up to the first plan; whether there was a plan, of which nobody knows how many records
+-- it makes; and how many records there are since the last seal, one for each plan
+pub record TallyValue : Type 0 where
+  pub begins : List Bool
+  pub has_plan : Bool
+  pub used : ℕ
+
+abbrev pub no_lines : TallyValue
+no_lines = record { begins = []; has_plan = false; used = 0 }
+
+abbrev pub is_begin : Event → Bool
+is_begin (event.Begin plan) = true
+is_begin e = false
+
+-- one record more
+abbrev pub after_record : TallyValue → (begins : Bool) → TallyValue
+after_record t begins = record {
+  begins = if t.has_plan then t.begins else t.begins ++ begins ∷ [];
+  has_plan = t.has_plan;
+  used = t.used + 1;
+}
+
+-- the records of a plan more
+abbrev pub after_plan : TallyValue → TallyValue
+after_plan t = record { begins = t.begins; has_plan = true; used = t.used + 1 }
+
+-- the records handed out
+abbrev pub after_seal : TallyValue → TallyValue
+after_seal t = record { begins = t.begins; has_plan = t.has_plan; used = 0 }
+
+-- a text that a control file does not take makes no record
+abbrev pub after_request : TallyValue → Result Request ControlFault → TallyValue
+after_request t (Ok (request.Event e)) = after_record t (is_begin e)
+after_request t (Ok (request.Plan plan)) = after_plan t
+after_request t (Err fault) = t
+
+-- a line more
+abbrev pub after_work : TallyValue → Work → TallyValue
+after_work t (work.Event e) = after_record t (is_begin e)
+after_work t (work.Plan plan turns) = after_plan t
+after_work t (work.Echo path word) = after_request t (echo_request path word)
+after_work t (work.Cat path) = t
+after_work t work.Seal = after_seal t
+
+abbrev pub after_line : TallyValue → Line → TallyValue
+after_line t line = after_work t line.work
+
+-- what lines make, one after another
+abbrev pub tally_of : List Line → TallyValue
+tally_of lines = fold after_line no_lines lines
+
+-- the record of a serial begins an operation, or after a plan may do so
+abbrev pub begins_or : Bool → Option Bool → Bool
+begins_or unknown None = unknown
+begins_or unknown (Some begins) = begins
+
+abbrev pub may_begin : TallyValue → (op : ℕ) → Bool
+may_begin t op = if op == 0 then false else begins_or t.has_plan (slice_get t.begins (op - 1))

@@ -1,0 +1,122 @@
+-- When a line hardly does what is wanted (own rule): the first that applies.
+use Rattle.std.specs.Prelude.{ℕ, ◌+◌, ◌==◌, Bool, true, false, not, List, [], ◌∷◌, length, find, take, Option, Some, None, Result, Ok, Err, nat_lt, nat_le, slice_get}
+use Rattle.std.specs.Bool.{then_some}
+use Rattle.std.specs.Option.{option_map, option_or}
+use Rattle.hp_units.specs.Arithmetic.{frame_count}
+use Rattle.hp_units.specs.LayoutParts.{LayoutParts}
+use Rattle.hp_units.specs.declared.events.Event.{Event}
+use Rattle.hp_units.specs.declared.events.Event.TheVariants as event
+use Rattle.hp_units.specs.declared.plans.Item.{Item}
+use Rattle.hp_control.specs.declared.fault.ControlFault.{ControlFault}
+use Rattle.hp_control.specs.declared.fault.ControlFault.TheVariants as control
+use Rattle.hp_control.specs.declared.writes.Request.{Request}
+use Rattle.hp_control.specs.declared.writes.Request.TheVariants as request
+use Rattle.hp_control.specs.Writes.{echo_request, request_of}
+use Rattle.hp_scenario.specs.declared.lines.Line.{Line}
+use Rattle.hp_scenario.specs.declared.lines.Work.{Work}
+use Rattle.hp_scenario.specs.declared.lines.Work.TheVariants as work
+use Rattle.hp_check.specs.Each.{each_below}
+use Rattle.hp_check.specs.Tally.{TallyValue, may_begin, tally_of}
+use Rattle.hp_check.specs.declared.finding.Finding.{Finding}
+use Rattle.hp_check.specs.declared.finding.Finding.TheVariants as finding
+use Rattle.hp_check.specs.declared.finding.Warning.{Warning}
+use Rattle.hp_check.specs.declared.finding.Warning.TheVariants.{Past, NoBegin, Turns, Full, Echo, NoFile}
+use Rattle.hp_check.specs.declared.finding.What.{What}
+use Rattle.hp_check.specs.declared.finding.What.TheVariants.{Processor, Owner, Page, Word, Order, Frame, Block}
+
+-- ---- numbers past the layout
+
+abbrev pub past : What → (number count : ℕ) → Option Warning
+past what number count = then_some (not (nat_lt number count)) (Past what number count)
+
+abbrev pub page_past : LayoutParts → (owner page : ℕ) → Option Warning
+page_past l owner page = option_or (past Owner owner l.owners) (past Page page l.pages)
+
+abbrev pub word_past : LayoutParts → (owner page index : ℕ) → Option Warning
+word_past l owner page index = option_or (page_past l owner page) (past Word index l.words)
+
+-- the first item of a plan whose memory block is past the layout
+abbrev pub plan_past : LayoutParts → List Item → Option Warning
+plan_past l plan = option_map (λ item. Past Block item.block l.blocks) (find (λ item. not (nat_lt item.block l.blocks)) plan)
+
+-- ---- operations, plans and histories
+
+-- no line before begins the operation of this number
+abbrev pub no_begin : TallyValue → (op : ℕ) → Option Warning
+no_begin t op = then_some (not (may_begin t op)) (NoBegin op)
+
+-- all turns of a plan, its begin, a round of drains, the last migration and the commit are more than the history takes
+abbrev pub too_many_turns : LayoutParts → (turns : ℕ) → Option Warning
+too_many_turns l turns = then_some (not (nat_le (turns + l.cpus + 3) l.history)) (Turns turns l.history)
+
+-- the lines before fill the history; it is said of the first call that finds it so
+abbrev pub full : LayoutParts → TallyValue → Option Warning
+full l t = then_some (t.used == l.history) (Full l.history)
+
+-- ---- calls
+
+-- what an event names, in the order in which it is refused
+abbrev pub event_warning : LayoutParts → TallyValue → Event → Option Warning
+event_warning l t (event.KernelAlloc order) = past Order order (l.order + 1)
+event_warning l t (event.KernelFree frame) = past Frame frame (frame_count l)
+event_warning l t (event.Map owner page) = page_past l owner page
+event_warning l t (event.Unmap owner page) = page_past l owner page
+event_warning l t (event.Write owner page index value) = word_past l owner page index
+event_warning l t (event.Read owner page index) = word_past l owner page index
+event_warning l t (event.Drain cpu) = past Processor cpu l.cpus
+event_warning l t (event.Online block zone) = past Block block l.blocks
+event_warning l t (event.Begin plan) = plan_past l plan
+event_warning l t (event.DrainFor op cpu) = option_or (past Processor cpu l.cpus) (no_begin t op)
+event_warning l t (event.Migrate op) = no_begin t op
+event_warning l t (event.Commit op) = no_begin t op
+event_warning l t (event.Cancel op) = no_begin t op
+event_warning l t (event.UndoAfter serial) = None
+event_warning l t (event.Probe address) = None
+event_warning l t (event.Remove block) = past Block block l.blocks
+event_warning l t (event.SetAuto auto) = None
+
+-- what is said of every call: a full history, then its processor
+abbrev pub caller_warning : LayoutParts → TallyValue → (cpu : ℕ) → Option Warning
+caller_warning l t cpu = option_or (full l t) (past Processor cpu l.cpus)
+
+abbrev pub call_warning : LayoutParts → TallyValue → (cpu : ℕ) → Event → Option Warning
+call_warning l t cpu e = option_or (caller_warning l t cpu) (event_warning l t e)
+
+abbrev pub carried_warning : LayoutParts → TallyValue → (cpu : ℕ) → List Item → Option Warning
+carried_warning l t cpu plan = option_or (caller_warning l t cpu) (plan_past l plan)
+
+-- what a control file is asked for; a fault is a warning itself
+abbrev pub request_warning : LayoutParts → TallyValue → (cpu : ℕ) → Result Request ControlFault → Option Warning
+request_warning l t cpu (Ok (request.Event e)) = call_warning l t cpu e
+request_warning l t cpu (Ok (request.Plan plan)) = carried_warning l t cpu plan
+request_warning l t cpu (Err fault) = Some (Echo fault)
+
+-- writing to the path would find no file
+abbrev pub is_no_file : Result Request ControlFault → Bool
+is_no_file (Err control.NoFile) = true
+is_no_file answer = false
+
+-- ---- lines
+
+abbrev pub work_warning : LayoutParts → TallyValue → (cpu : ℕ) → Work → Option Warning
+work_warning l t cpu (work.Event e) = call_warning l t cpu e
+work_warning l t cpu (work.Plan plan turns) = option_or (carried_warning l t cpu plan) (too_many_turns l turns)
+work_warning l t cpu (work.Echo path word) = request_warning l t cpu (echo_request path word)
+work_warning l t cpu (work.Cat path) = then_some (is_no_file (request_of path [])) NoFile
+work_warning l t cpu work.Seal = None
+
+-- the warning of a line, after what the lines before it make
+abbrev pub line_warning : LayoutParts → TallyValue → Line → Option Warning
+line_warning l t line = work_warning l t line.cpu line.work
+
+abbrev pub warned : (number : ℕ) → Option Warning → List Finding
+warned number None = []
+warned number (Some w) = finding.Warning number w ∷ []
+
+abbrev pub warned_at : LayoutParts → TallyValue → (place : ℕ) → Option Line → List Finding
+warned_at l t place None = []
+warned_at l t place (Some line) = warned (place + 1) (line_warning l t line)
+
+-- the warnings of all lines; they are counted from 1
+unfoldable pub warnings_of : LayoutParts → List Line → List Finding
+warnings_of l lines = each_below (λ place. warned_at l (tally_of (take place lines)) place (slice_get lines place)) (length lines)

@@ -1,0 +1,159 @@
+//! What may be wrong with a scenario.
+ghost use Rattle.std.specs.Prelude.{◌≡◌};
+ghost use Rattle.hp_check.specs.Findings.{is_fault, key_name};
+
+use hp_control::ControlFault;
+use hp_units::{Serial, Text};
+
+/// One thing that is wrong with a scenario, or that is likely to be. Texts of `calls` are counted from 1.
+#[derive(Debug, Drop)]
+pub enum Finding {
+    /// The text is no JSON; the place is the reader's, counted from 1.
+    NotJson { line: u64, column: u64 },
+    /// Keys, or the kinds of their values, differ from a scenario's.
+    Shape(Shape),
+    /// A part of the layout is out of its range.
+    Layout(OutOfRange),
+    /// A text of `calls` is no line.
+    BadCall { number: u64, text: Text },
+    /// A line that hardly does what is wanted.
+    Warning { number: u64, warning: Warning },
+}
+
+impl Finding {
+    /// Whether it is a fault: else it is a warning.
+    pub fn is_fault(&self) -> bool
+        ensures { result ≡ is_fault self.now }
+    {
+        !matches!(self, Finding::Warning { .. })
+    }
+}
+
+/// An object of a scenario.
+#[derive(Clone, Copy, Debug, PartialEq, Eq, Drop)]
+pub enum Place {
+    /// The whole.
+    Whole,
+    /// The value of `layout`.
+    Layout,
+}
+
+/// A key that a scenario has.
+#[derive(Clone, Copy, Debug, PartialEq, Eq, Drop)]
+pub enum Key {
+    Layout,
+    Calls,
+    Order,
+    Pageblocks,
+    Blocks,
+    Cpus,
+    Batch,
+    High,
+    Owners,
+    Pages,
+    Words,
+    History,
+    Boot,
+}
+
+impl Key {
+    /// The key as it is written.
+    pub fn name(self) -> &'static str
+        ensures { result.now ≡ key_name self }
+    {
+        match self {
+            Key::Layout => "layout",
+            Key::Calls => "calls",
+            Key::Order => "order",
+            Key::Pageblocks => "pageblocks",
+            Key::Blocks => "blocks",
+            Key::Cpus => "cpus",
+            Key::Batch => "batch",
+            Key::High => "high",
+            Key::Owners => "owners",
+            Key::Pages => "pages",
+            Key::Words => "words",
+            Key::History => "history",
+            Key::Boot => "boot",
+        }
+    }
+}
+
+/// A key, or the kind of a value, that is not a scenario's.
+#[derive(Debug, Drop)]
+pub enum Shape {
+    /// No object.
+    NotObject(Place),
+    /// An object of another number of keys.
+    KeyCount { place: Place, count: u64 },
+    /// A key that the object may not have.
+    UnknownKey { place: Place, key: Text },
+    /// A key that the object lacks.
+    MissingKey { place: Place, key: Key },
+    /// A value that is no integer from 0 up, below 2^64.
+    NotNumber(Key),
+    /// A value that is no list.
+    NotList(Key),
+    /// An entry of `boot` that is none of its words; they are counted from 1.
+    NotBoot { number: u64 },
+    /// An entry of `calls` that is no text; they are counted from 1.
+    NotText { number: u64 },
+}
+
+/// A part of a layout that is out of its range, with its value.
+#[derive(Clone, Copy, Debug, PartialEq, Eq, Drop)]
+pub enum OutOfRange {
+    /// The order, above 10.
+    Order(u64),
+    /// Pageblocks of a memory block: no power of two up to 64.
+    Pageblocks(u64),
+    /// Memory blocks: not 1 to 256.
+    Blocks(u64),
+    /// Frames in all, above 2^20, where the three above are in their ranges.
+    Frames(u64),
+    /// Processors: not 1 to 64.
+    Cpus(u64),
+    /// `batch`: not 1 to `high`.
+    Batch { batch: u64, high: u64 },
+    /// `high`, above 1024.
+    High(u64),
+    /// Owners: not 1 to 64.
+    Owners(u64),
+    /// Pages of an owner: not 1 to 65,536.
+    Pages(u64),
+    /// Words of a frame: not 1 to 512.
+    Words(u64),
+    /// Records of a history: not 1 to 16,777,216.
+    History(u64),
+    /// Words of `boot`: not as many as blocks.
+    Boot { words: u64, blocks: u64 },
+}
+
+/// What a layout has a number of.
+#[derive(Clone, Copy, Debug, PartialEq, Eq, Drop)]
+pub enum What {
+    Processor,
+    Owner,
+    Page,
+    Word,
+    Order,
+    Frame,
+    Block,
+}
+
+/// Why a line hardly does what is wanted.
+#[derive(Clone, Copy, Debug, PartialEq, Eq, Drop)]
+pub enum Warning {
+    /// A number past the layout, which has so many, counted from 0: the call is refused.
+    Past { what: What, number: u64, count: u64 },
+    /// A number of an operation that no line before it begins.
+    NoBegin { op: Serial },
+    /// More turns of a plan than the history, of so many records, has room for.
+    Turns { turns: u32, history: u64 },
+    /// The lines before it since the last seal fill the history, of so many records.
+    Full { history: u64 },
+    /// An `echo` that its control file does not take.
+    Echo(ControlFault),
+    /// A `cat` of no control file.
+    NoFile,
+}

@@ -1,0 +1,171 @@
+//! The parts of a layout that are out of their ranges.
+ghost use Rattle.std.specs.Prelude.{◌≡◌, ◌++◌, OnOk};
+ghost use Rattle.std.specs.List.{flat_map};
+ghost use Rattle.serde_json.specs.View.{view};
+ghost use Rattle.hp_units.specs.LayoutParts.{is_pageblock_count, is_within};
+ghost use Rattle.hp_units.specs.PartsSeen.{parts_seen};
+ghost use Rattle.hp_check.specs.Ranges as means;
+
+use crate::finding::{Finding, OutOfRange};
+use hp_scenario::{ScenarioFault, boots_at, parts_with};
+use hp_units::Parts;
+use serde_json::Value;
+use std::alloc::{AllocError, Global};
+
+/// Adds the parts of a scenario's layout that are out of their ranges, where all its parts can be read. An error is out of memory.
+#[tactic(auto, unfolding(crate::specs::Ranges::parts_in))]
+pub(crate) fn push_ranges(
+    found: &mut Vec<Finding>,
+    alloc: Global,
+    value: &Value,
+) -> Result<(), AllocError>
+    ensures { OnOk result (found.new.items ≡ found.old.items ++ means.range_faults_of (means.parts_in (view value.now))) }
+{
+    let Some(layout) = value.get("layout") else {
+        return Ok(());
+    };
+    match boots_at(alloc, layout, "boot") {
+        Ok(boot) => match parts_with(layout, &boot) {
+            Some(parts) => push_parts(found, &parts),
+            None => Ok(()),
+        },
+        Err(ScenarioFault::OutOfMemory) => Err(AllocError),
+        Err(_fault) => Ok(()),
+    }
+}
+
+/// Adds each part that is out of its range. An error is out of memory.
+#[tactic(auto, unfolding(crate::specs::Ranges::range_faults))]
+fn push_parts(found: &mut Vec<Finding>, parts: &Parts<'_>) -> Result<(), AllocError>
+    ensures { OnOk result (found.new.items ≡ found.old.items ++ means.range_faults (parts_seen parts.now)) }
+{
+    let outs = [
+        outside(0, 10, parts.order, OutOfRange::Order(parts.order)),
+        pageblocks_out(parts.pageblocks),
+        outside(1, 256, parts.blocks, OutOfRange::Blocks(parts.blocks)),
+        frames_out(parts),
+        outside(1, 64, parts.cpus, OutOfRange::Cpus(parts.cpus)),
+        batch_out(parts.batch, parts.high),
+        high_out(parts.high),
+        outside(1, 64, parts.owners, OutOfRange::Owners(parts.owners)),
+        outside(1, 1 << 16, parts.pages, OutOfRange::Pages(parts.pages)),
+        outside(1, 512, parts.words, OutOfRange::Words(parts.words)),
+        outside(
+            1,
+            1 << 24,
+            parts.history,
+            OutOfRange::History(parts.history),
+        ),
+        boot_out(parts.boot.len() as u64, parts.blocks),
+    ];
+    push_each(found, &outs)
+}
+
+/// Adds those that are there. An error is out of memory.
+fn push_each(found: &mut Vec<Finding>, outs: &[Option<OutOfRange>]) -> Result<(), AllocError>
+    ensures { OnOk result (found.new.items ≡ found.old.items ++ flat_map means.part_fault outs.now) }
+{
+    for out in outs {
+        push_part(found, *out)?;
+    }
+    Ok(())
+}
+
+/// Adds one that is there. An error is out of memory.
+fn push_part(found: &mut Vec<Finding>, out: Option<OutOfRange>) -> Result<(), AllocError>
+    ensures { OnOk result (found.new.items ≡ found.old.items ++ means.part_fault out) }
+{
+    if let Some(out) = out {
+        found.push(Finding::Layout(out))?;
+    }
+    Ok(())
+}
+
+/// Whether a number lies between two.
+fn is_within(low: u64, high: u64, n: u64) -> bool
+    ensures { result ≡ is_within low high n }
+{
+    low <= n && n <= high
+}
+
+/// Whether a memory block may have so many pageblocks.
+fn is_pageblock_count(n: u64) -> bool
+    ensures { result ≡ is_pageblock_count n }
+{
+    matches!(n, 1 | 2 | 4 | 8 | 16 | 32 | 64)
+}
+
+/// A number that is not within a range.
+fn outside(low: u64, high: u64, n: u64, out: OutOfRange) -> Option<OutOfRange>
+    ensures { result ≡ means.outside low high n out }
+{
+    if is_within(low, high, n) {
+        None
+    } else {
+        Some(out)
+    }
+}
+
+/// A number of pageblocks that a memory block may not have.
+fn pageblocks_out(n: u64) -> Option<OutOfRange>
+    ensures { result ≡ means.pageblocks_out n }
+{
+    if is_pageblock_count(n) {
+        None
+    } else {
+        Some(OutOfRange::Pageblocks(n))
+    }
+}
+
+/// A number of frames by which a list is refilled that is not 1 to what it holds.
+fn batch_out(batch: u64, high: u64) -> Option<OutOfRange>
+    ensures { result ≡ means.outside 1 high batch (OutOfRange.Batch batch high) }
+{
+    outside(1, high, batch, OutOfRange::Batch { batch, high })
+}
+
+/// A number of frames that a list holds, above 1024.
+fn high_out(n: u64) -> Option<OutOfRange>
+    ensures { result ≡ means.high_out n }
+{
+    if n <= 1024 {
+        None
+    } else {
+        Some(OutOfRange::High(n))
+    }
+}
+
+/// Whether the numbers that the frames come of are in their ranges.
+fn has_sizes(parts: &Parts<'_>) -> bool
+    ensures { result ≡ means.has_sizes (parts_seen parts.now) }
+{
+    is_within(0, 10, parts.order)
+        && is_pageblock_count(parts.pageblocks)
+        && is_within(1, 256, parts.blocks)
+}
+
+/// More frames than there may be, where what they come of is in its range.
+fn frames_out(parts: &Parts<'_>) -> Option<OutOfRange>
+    ensures { result ≡ means.frames_out (parts_seen parts.now) }
+{
+    if !has_sizes(parts) {
+        return None;
+    }
+    let frames = parts.blocks * (parts.pageblocks << parts.order);
+    if frames > 1 << 20 {
+        Some(OutOfRange::Frames(frames))
+    } else {
+        None
+    }
+}
+
+/// Not as many words of `boot` as blocks.
+fn boot_out(words: u64, blocks: u64) -> Option<OutOfRange>
+    ensures { result ≡ means.boot_out words blocks }
+{
+    if words == blocks {
+        None
+    } else {
+        Some(OutOfRange::Boot { words, blocks })
+    }
+}

@@ -1,0 +1,329 @@
+//! How findings are written.
+ghost use Rattle.std.specs.Prelude.{◌≡◌, ◌++◌, OnOk, count_by, option_map, string_bytes};
+ghost use Rattle.std.specs.List.{flat_map};
+ghost use Rattle.hp_check.specs.Reports.{IsReport};
+ghost use Rattle.hp_check.specs.Texts as says;
+
+use crate::checking::fault_count;
+use crate::expected::expected;
+use crate::finding::{Finding, Key, OutOfRange, Place, Shape, Warning, What};
+use crate::places::call_lines;
+use crate::shape::keys_of;
+use hp_control::ControlFault;
+use std::alloc::{AllocError, Global};
+
+/// Writes findings on a scenario, one a line, and how many faults and warnings there are (own rule). A finding on a text of `calls`
+/// has its number, and where it is found the line of the scenario's text. An error is out of memory.
+pub fn write_report(
+    out: &mut String,
+    alloc: Global,
+    input: &[u8],
+    findings: &[Finding],
+) -> Result<(), AllocError>
+    ensures { OnOk result (IsReport input.now findings.now (string_bytes out.old) (string_bytes out.new)) }
+{
+    let lines = call_lines(alloc, input)?;
+    write_findings(out, &lines, findings)?;
+    write_counts(out, findings)
+}
+
+/// Writes findings, one a line.
+fn write_findings(out: &mut String, lines: &[u64], findings: &[Finding]) -> Result<(), AllocError>
+    ensures { OnOk result (string_bytes out.new ≡ string_bytes out.old ++ flat_map (says.finding_text lines.now) findings.now) }
+{
+    for finding in findings {
+        write_finding(out, lines, finding)?;
+    }
+    Ok(())
+}
+
+/// Writes how many faults and warnings there are.
+fn write_counts(out: &mut String, findings: &[Finding]) -> Result<(), AllocError>
+    ensures { OnOk result (string_bytes out.new ≡ string_bytes out.old ++ says.counts_text findings.now) }
+{
+    let faults = fault_count(findings);
+    let warnings = warning_count(findings);
+    writeln!(out, "{faults} faults, {warnings} warnings")
+}
+
+/// How many of the findings are warnings.
+fn warning_count(findings: &[Finding]) -> usize
+    ensures { result ≡ count_by says.is_warning findings.now }
+{
+    let mut count = 0;
+    for finding in findings {
+        if !finding.is_fault() {
+            count += 1;
+        }
+    }
+    count
+}
+
+/// Writes a finding.
+fn write_finding(out: &mut String, lines: &[u64], finding: &Finding) -> Result<(), AllocError>
+    ensures { OnOk result (string_bytes out.new ≡ string_bytes out.old ++ says.finding_text lines.now finding.now) }
+{
+    match finding {
+        Finding::NotJson { line, column } => write_no_json(out, *line, *column),
+        Finding::Shape(shape) => write_shape(out, lines, shape),
+        Finding::Layout(part) => write_range(out, *part),
+        Finding::BadCall { number, text } => {
+            write_head(out, lines, *number)?;
+            write_call(out, text.as_str())
+        }
+        Finding::Warning { number, warning } => {
+            write_head(out, lines, *number)?;
+            write_warning(out, *warning)
+        }
+    }
+}
+
+/// Writes that a text is no JSON.
+fn write_no_json(out: &mut String, line: u64, column: u64) -> Result<(), AllocError>
+    ensures { OnOk result (string_bytes out.new ≡ string_bytes out.old ++ says.no_json_text line column) }
+{
+    write!(out, "line {line}, ")?;
+    writeln!(out, "column {column}: not JSON")
+}
+
+/// Writes a text that is no line, and what was expected.
+fn write_call(out: &mut String, text: &str) -> Result<(), AllocError>
+    ensures { OnOk result (string_bytes out.new ≡ string_bytes out.old ++ says.call_text text.now) }
+{
+    let wanted = expected(text);
+    write_quoted(out, text)?;
+    writeln!(out, ": {wanted}")
+}
+
+/// Writes the number of a text of `calls`, and in which line it stands, where that is known.
+fn write_head(out: &mut String, lines: &[u64], number: u64) -> Result<(), AllocError>
+    ensures { OnOk result (string_bytes out.new ≡ string_bytes out.old ++ says.head_text lines.now number) }
+{
+    write!(out, "calls {number}")?;
+    if let Some(line) = line_of(lines, number) {
+        write!(out, " (line {line})")?;
+    }
+    out.push_str(": ")
+}
+
+/// The line in which a text of `calls` stands, by its number.
+fn line_of(lines: &[u64], number: u64) -> Option<u64>
+    ensures { result ≡ says.line_of lines.now number }
+{
+    if number == 0 {
+        return None;
+    }
+    lines.get((number - 1) as usize).copied()
+}
+
+/// Writes a text between backquotes, where it has no control characters.
+fn write_quoted(out: &mut String, text: &str) -> Result<(), AllocError>
+    ensures { OnOk result (string_bytes out.new ≡ string_bytes out.old ++ says.quoted text.now) }
+{
+    if is_plain(text) {
+        write!(out, "`{text}`")
+    } else {
+        out.push_str("a text with control characters")
+    }
+}
+
+/// Whether a text has no control characters of ASCII.
+fn is_plain(text: &str) -> bool
+    ensures { result ≡ says.is_plain text.now }
+{
+    text.as_bytes()
+        .iter()
+        .all(|byte| 32 <= *byte && *byte != 127)
+}
+
+/// Writes what is wrong with a key or a value.
+fn write_shape(out: &mut String, lines: &[u64], shape: &Shape) -> Result<(), AllocError>
+    ensures { OnOk result (string_bytes out.new ≡ string_bytes out.old ++ says.shape_text lines.now shape.now) }
+{
+    match shape {
+        Shape::NotObject(place) => writeln!(out, "{place}: no object"),
+        Shape::KeyCount { place, count } => write_key_count(out, *place, *count),
+        Shape::UnknownKey { place, key } => {
+            write_key(out, *place, key.as_str(), " is no key of it")
+        }
+        Shape::MissingKey { place, key } => write_key(out, *place, key.name(), " is missing"),
+        Shape::NotNumber(key) => {
+            write_key(out, Place::Layout, key.name(), " is no integer from 0 up")
+        }
+        Shape::NotList(key) => {
+            let name = key.name();
+            writeln!(out, "`{name}` is no list")
+        }
+        Shape::NotBoot { number } => write_number(
+            out,
+            "layout: word ",
+            *number,
+            " of `boot` is none of normal, movable, offline, absent",
+        ),
+        Shape::NotText { number } => {
+            write_head(out, lines, *number)?;
+            out.push_str("no text\n")
+        }
+    }
+}
+
+/// Writes how many keys an object has, and how many it must have.
+fn write_key_count(out: &mut String, place: Place, count: u64) -> Result<(), AllocError>
+    ensures { OnOk result (string_bytes out.new ≡ string_bytes out.old ++ says.key_count_text place count) }
+{
+    let wanted = keys_of(place).len();
+    writeln!(out, "{place}: keys: {count}, wanted: {wanted}")
+}
+
+/// Writes a key of an object, and what is to be said of it.
+fn write_key(out: &mut String, place: Place, name: &str, what: &str) -> Result<(), AllocError>
+    ensures { OnOk result (string_bytes out.new ≡ string_bytes out.old ++ says.key_text place name.now what.now) }
+{
+    write!(out, "{place}: ")?;
+    write_quoted(out, name)?;
+    writeln!(out, "{what}")
+}
+
+/// Writes a part of the layout that is out of its range.
+fn write_range(out: &mut String, part: OutOfRange) -> Result<(), AllocError>
+    ensures { OnOk result (string_bytes out.new ≡ string_bytes out.old ++ says.range_text part) }
+{
+    match part {
+        OutOfRange::Order(n) => write_bound(out, Key::Order, n, "0 to 10"),
+        OutOfRange::Pageblocks(n) => {
+            write_bound(out, Key::Pageblocks, n, "1, 2, 4, 8, 16, 32 or 64")
+        }
+        OutOfRange::Blocks(n) => write_bound(out, Key::Blocks, n, "1 to 256"),
+        OutOfRange::Frames(n) => write_number(
+            out,
+            "layout: blocks * pageblocks * 2^order is ",
+            n,
+            " frames, and may be at most 1048576",
+        ),
+        OutOfRange::Cpus(n) => write_bound(out, Key::Cpus, n, "1 to 64"),
+        OutOfRange::Batch { batch, high } => write_batch(out, batch, high),
+        OutOfRange::High(n) => write_bound(out, Key::High, n, "1 to 1024"),
+        OutOfRange::Owners(n) => write_bound(out, Key::Owners, n, "1 to 64"),
+        OutOfRange::Pages(n) => write_bound(out, Key::Pages, n, "1 to 65536"),
+        OutOfRange::Words(n) => write_bound(out, Key::Words, n, "1 to 512"),
+        OutOfRange::History(n) => write_bound(out, Key::History, n, "1 to 16777216"),
+        OutOfRange::Boot { words, blocks } => write_numbers(
+            out,
+            "layout: `boot` has ",
+            words,
+            " words, and `blocks` is ",
+            blocks,
+            "",
+        ),
+    }
+}
+
+/// Writes a number of the layout, before what it may be.
+fn write_bound_front(out: &mut String, key: Key, n: u64) -> Result<(), AllocError>
+    ensures { OnOk result (string_bytes out.new ≡ string_bytes out.old ++ says.bound_front key n) }
+{
+    let name = key.name();
+    write!(out, "layout: `{name}` is {n}, and may be ")
+}
+
+/// Writes a number of the layout, and what it may be.
+fn write_bound(out: &mut String, key: Key, n: u64, range: &str) -> Result<(), AllocError>
+    ensures { OnOk result (string_bytes out.new ≡ string_bytes out.old ++ says.bound_text key n range.now) }
+{
+    write_bound_front(out, key, n)?;
+    writeln!(out, "{range}")
+}
+
+/// Writes a text.
+fn write_line(out: &mut String, text: &str) -> Result<(), AllocError>
+    ensures { OnOk result (string_bytes out.new ≡ string_bytes out.old ++ (text.now ++ says.newline)) }
+{
+    writeln!(out, "{text}")
+}
+
+/// Writes a number in a text.
+fn write_number(out: &mut String, before: &str, n: u64, after: &str) -> Result<(), AllocError>
+    ensures { OnOk result (string_bytes out.new ≡ string_bytes out.old ++ says.number_text before.now n after.now) }
+{
+    writeln!(out, "{before}{n}{after}")
+}
+
+/// Writes two numbers in a text.
+fn write_numbers(
+    out: &mut String,
+    before: &str,
+    n: u64,
+    between: &str,
+    m: u64,
+    after: &str,
+) -> Result<(), AllocError>
+    ensures { OnOk result (string_bytes out.new ≡ string_bytes out.old ++ says.numbers_text before.now n between.now m after.now) }
+{
+    write!(out, "{before}{n}{between}")?;
+    writeln!(out, "{m}{after}")
+}
+
+/// Writes that `batch` is not 1 to `high`.
+fn write_batch(out: &mut String, batch: u64, high: u64) -> Result<(), AllocError>
+    ensures { OnOk result (string_bytes out.new ≡ string_bytes out.old ++ says.batch_text batch high) }
+{
+    write_bound_front(out, Key::Batch, batch)?;
+    writeln!(out, "1 to `high`, which is {high}")
+}
+
+/// Writes a warning.
+fn write_warning(out: &mut String, warning: Warning) -> Result<(), AllocError>
+    ensures { OnOk result (string_bytes out.new ≡ string_bytes out.old ++ says.warning_text warning) }
+{
+    match warning {
+        Warning::Past {
+            what,
+            number,
+            count,
+        } => write_past(out, what, number, count),
+        Warning::NoBegin { op } => write_number(
+            out,
+            "warning: no line before begins operation ",
+            op.0,
+            "",
+        ),
+        Warning::Turns { turns, history } => write_numbers(
+            out,
+            "warning: a history of ",
+            history,
+            " records has no room for ",
+            u64::from(turns),
+            " turns",
+        ),
+        Warning::Full { history } => write_number(
+            out,
+            "warning: the lines before fill the history of ",
+            history,
+            " records",
+        ),
+        Warning::Echo(fault) => write_echo_fault(out, fault),
+        Warning::NoFile => write_line(out, "warning: cat: fault NoFile"),
+    }
+}
+
+/// Writes that a number is past the layout.
+fn write_past(out: &mut String, what: What, number: u64, count: u64) -> Result<(), AllocError>
+    ensures { OnOk result (string_bytes out.new ≡ string_bytes out.old ++ says.past_text what number count) }
+{
+    write!(out, "warning: {what}")?;
+    write_numbers(
+        out,
+        " ",
+        number,
+        " is past the layout, which has ",
+        count,
+        ", counted from 0",
+    )
+}
+
+/// Writes that a control file does not take what is written to it.
+fn write_echo_fault(out: &mut String, fault: ControlFault) -> Result<(), AllocError>
+    ensures { OnOk result (string_bytes out.new ≡ string_bytes out.old ++ says.warning_text (Warning.Echo fault)) }
+{
+    writeln!(out, "warning: echo: fault {fault}")
+}

@@ -1,0 +1,239 @@
+//! Lines that hardly do what is wanted.
+ghost use Rattle.std.specs.Prelude.{◌≡◌, ◌++◌, [], Ok, OnOk, IfOk};
+ghost use Rattle.std.specs.Bool.{then_some};
+ghost use Rattle.hp_control.specs.Writes.{request_of};
+ghost use Rattle.hp_check.specs.Warnings as means;
+
+use crate::finding::{Finding, Warning, What};
+use crate::requests::{is_no_file, request_of};
+use crate::tally::Tally;
+use hp_control::Request;
+use hp_scenario::{Line, Work};
+use hp_units::{Block, Cpu, Event, Layout, Owner, Page, Plan, Serial};
+use std::alloc::{AllocError, Global};
+
+/// The warnings of lines on a layout. An error is out of memory.
+#[tactic(auto, unfolding(crate::specs::Warnings::warnings_of))]
+pub(crate) fn warnings_of(
+    alloc: Global,
+    layout: &Layout,
+    lines: &[Line],
+) -> Result<Vec<Finding>, AllocError>
+    ensures { IfOk result (λ found. found.items ≡ means.warnings_of layout.now lines.now) }
+{
+    let mut found = Vec::new(alloc);
+    let mut tally = Tally::new(alloc);
+    for index in 0..lines.len() {
+        let line = &lines[index];
+        let warning = work_warning(alloc, layout, &tally, line.cpu, &line.work)?;
+        push_warning(&mut found, index as u64 + 1, warning)?;
+        tally.add(alloc, &line.work)?;
+    }
+    Ok(found)
+}
+
+/// Adds a warning of a line, if there is one. An error is out of memory.
+fn push_warning(
+    found: &mut Vec<Finding>,
+    number: u64,
+    warning: Option<Warning>,
+) -> Result<(), AllocError>
+    ensures { OnOk result (found.new.items ≡ found.old.items ++ means.warned number warning) }
+{
+    if let Some(warning) = warning {
+        found.push(Finding::Warning { number, warning })?;
+    }
+    Ok(())
+}
+
+/// The warning of what a line asks for, if there is one. An error is out of memory.
+fn work_warning(
+    alloc: Global,
+    layout: &Layout,
+    tally: &Tally,
+    cpu: Cpu,
+    work: &Work,
+) -> Result<Option<Warning>, AllocError>
+    ensures { IfOk result (λ warning. warning ≡ means.work_warning layout.now tally.now cpu work.now) }
+{
+    match work {
+        Work::Event(event) => Ok(call_warning(layout, tally, cpu, event)),
+        Work::Plan { plan, turns } => Ok(carried_warning(layout, tally, cpu, plan).or(
+            too_many_turns(layout, *turns),
+        )),
+        Work::Echo { path, text } => match request_of(alloc, path, text)? {
+            Ok(request) => Ok(request_warning(layout, tally, cpu, &request)),
+            Err(fault) => Ok(Some(Warning::Echo(fault))),
+        },
+        Work::Cat { path } => cat_warning(alloc, path.as_str()),
+        Work::Seal => Ok(None),
+    }
+}
+
+/// The warning of what a control file is asked for, if there is one.
+fn request_warning(layout: &Layout, tally: &Tally, cpu: Cpu, request: &Request) -> Option<Warning>
+    ensures { result ≡ means.request_warning layout.now tally.now cpu (Ok request.now) }
+{
+    match request {
+        Request::Event(event) => call_warning(layout, tally, cpu, event),
+        Request::Plan(plan) => carried_warning(layout, tally, cpu, plan),
+    }
+}
+
+/// The warning of a path that is read, if there is one. An error is out of memory.
+fn cat_warning(alloc: Global, path: &str) -> Result<Option<Warning>, AllocError>
+    ensures { IfOk result (λ warning. warning ≡ then_some (means.is_no_file (request_of path.now [])) Warning.NoFile) }
+{
+    if is_no_file(alloc, path)? {
+        Ok(Some(Warning::NoFile))
+    } else {
+        Ok(None)
+    }
+}
+
+/// The warning of an event, if there is one.
+fn call_warning(layout: &Layout, tally: &Tally, cpu: Cpu, event: &Event) -> Option<Warning>
+    ensures { result ≡ means.call_warning layout.now tally.now cpu event.now }
+{
+    caller_warning(layout, tally, cpu).or(event_warning(layout, tally, event))
+}
+
+/// The warning of a plan that is carried out, if there is one.
+fn carried_warning(layout: &Layout, tally: &Tally, cpu: Cpu, plan: &Plan) -> Option<Warning>
+    ensures { result ≡ means.carried_warning layout.now tally.now cpu plan.now }
+{
+    caller_warning(layout, tally, cpu).or(plan_past(layout, plan))
+}
+
+/// The warning that any call of a processor has here, if there is one.
+fn caller_warning(layout: &Layout, tally: &Tally, cpu: Cpu) -> Option<Warning>
+    ensures { result ≡ means.caller_warning layout.now tally.now cpu }
+{
+    full(layout, tally).or(cpu_past(layout, cpu))
+}
+
+/// The history, if the lines before fill it.
+fn full(layout: &Layout, tally: &Tally) -> Option<Warning>
+    ensures { result ≡ means.full layout.now tally.now }
+{
+    let history = layout.history();
+    if tally.used() == history {
+        Some(Warning::Full { history })
+    } else {
+        None
+    }
+}
+
+/// The turns of a plan, if the history has no room for them.
+fn too_many_turns(layout: &Layout, turns: u32) -> Option<Warning>
+    ensures { result ≡ means.too_many_turns layout.now turns }
+{
+    let history = layout.history();
+    if u64::from(turns) + u64::from(layout.cpus()) + 3 <= history {
+        None
+    } else {
+        Some(Warning::Turns { turns, history })
+    }
+}
+
+/// A number, if it is past so many.
+fn past(what: What, number: u32, count: u32) -> Option<Warning>
+    ensures { result ≡ means.past what number count }
+{
+    if number < count {
+        return None;
+    }
+    let number = u64::from(number);
+    let count = u64::from(count);
+    Some(Warning::Past {
+        what,
+        number,
+        count,
+    })
+}
+
+/// A processor, if it is past the layout.
+fn cpu_past(layout: &Layout, cpu: Cpu) -> Option<Warning>
+    ensures { result ≡ means.past What.Processor cpu layout.now.cpus }
+{
+    past(What::Processor, cpu.0, layout.cpus())
+}
+
+/// A memory block, if it is past the layout.
+fn block_past(layout: &Layout, block: Block) -> Option<Warning>
+    ensures { result ≡ means.past What.Block block layout.now.blocks }
+{
+    past(What::Block, block.0, layout.blocks())
+}
+
+/// An owner or else a page, if it is past the layout.
+fn page_past(layout: &Layout, owner: Owner, page: Page) -> Option<Warning>
+    ensures { result ≡ means.page_past layout.now owner page }
+{
+    let owner = past(What::Owner, owner.0, layout.owners());
+    owner.or(past(What::Page, page.0, layout.pages()))
+}
+
+/// An owner, a page or else a word, if it is past the layout.
+fn word_past(layout: &Layout, owner: Owner, page: Page, index: u32) -> Option<Warning>
+    ensures { result ≡ means.word_past layout.now owner page index }
+{
+    page_past(layout, owner, page).or(past(What::Word, index, layout.words()))
+}
+
+/// The first memory block of a plan that is past the layout.
+fn plan_past(layout: &Layout, plan: &Plan) -> Option<Warning>
+    ensures { result ≡ means.plan_past layout.now plan.now }
+{
+    let blocks = layout.blocks();
+    let item = plan
+        .as_slice()
+        .iter()
+        .find(|item| !(item.block.0 < blocks))?;
+    Some(Warning::Past {
+        what: What::Block,
+        number: u64::from(item.block.0),
+        count: u64::from(blocks),
+    })
+}
+
+/// The number of an operation, if no line before begins it.
+fn no_begin(tally: &Tally, op: Serial) -> Option<Warning>
+    ensures { result ≡ means.no_begin tally.now op }
+{
+    if tally.may_begin(op) {
+        None
+    } else {
+        Some(Warning::NoBegin { op })
+    }
+}
+
+/// The first thing that an event names and that is not there.
+fn event_warning(layout: &Layout, tally: &Tally, event: &Event) -> Option<Warning>
+    ensures { result ≡ means.event_warning layout.now tally.now event.now }
+{
+    match event {
+        Event::KernelAlloc { order } => past(What::Order, order.0, layout.order() + 1),
+        Event::KernelFree { frame } => past(What::Frame, frame.0, layout.frames()),
+        Event::Map { owner, page } => page_past(layout, *owner, *page),
+        Event::Unmap { owner, page } => page_past(layout, *owner, *page),
+        Event::Write {
+            owner,
+            page,
+            index,
+            value: _,
+        } => word_past(layout, *owner, *page, *index),
+        Event::Read { owner, page, index } => word_past(layout, *owner, *page, *index),
+        Event::Drain { cpu } => cpu_past(layout, *cpu),
+        Event::Online { block, zone: _ } => block_past(layout, *block),
+        Event::Begin { plan } => plan_past(layout, plan),
+        Event::DrainFor { op, cpu } => cpu_past(layout, *cpu).or(no_begin(tally, *op)),
+        Event::Migrate { op } => no_begin(tally, *op),
+        Event::Commit { op } => no_begin(tally, *op),
+        Event::Cancel { op } => no_begin(tally, *op),
+        Event::UndoAfter { serial: _ } => None,
+        Event::Probe { address: _ } => None,
+        Event::Remove { block } => block_past(layout, *block),
+        Event::SetAuto { auto: _ } => None,
+    }
+}

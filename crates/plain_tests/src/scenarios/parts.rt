@@ -1,0 +1,50 @@
+//! The readers of a layout's parts, and the test of a line.
+use super::LAYOUT;
+use hp_scenario::{boot_at, boots_at, is_line, parts_with};
+use hp_units::Boot;
+use serde_json::Value;
+use std::alloc::{AllocError, Global};
+use std::test::Fail;
+
+/// Whether the layout's parts are read as they are written.
+fn are_parts_read(alloc: Global, layout: &Value) -> bool {
+    let Ok(boot) = boots_at(alloc, layout, "boot") else {
+        return false;
+    };
+    let is_boot = boot.len() == 4 && boot[2] == Boot::Movable;
+    match parts_with(layout, &boot) {
+        Some(parts) => is_boot
+            && parts.batch == 2
+            && parts.history == 1000
+            && parts.boot.len() == 4,
+        None => false,
+    }
+}
+
+/// Whether the word at `boot` is read, where there is one.
+fn is_boot_read(value: &Value, boot: Option<Boot>) -> bool {
+    match value.get("boot") {
+        Some(word) => boot_at(word) == boot,
+        None => false,
+    }
+}
+
+#[test]
+fn parts_are_read(rt: HostRuntime) -> Result<(), Fail> {
+    let layout = Value::from_str(rt.alloc(), LAYOUT)?;
+    let one = Value::from_str(rt.alloc(), r#"{"boot":"absent"}"#)?;
+    assert!(rt; are_parts_read(rt.alloc(), &layout));
+    assert!(rt; is_boot_read(&one, Some(Boot::Absent)) && is_boot_read(&layout, None));
+    Ok(())
+}
+
+/// Whether a line is told from what is none.
+fn are_lines_told(alloc: Global) -> Result<bool, AllocError> {
+    Ok(is_line(alloc, "0 map db 1")? && !is_line(alloc, "0 map DB 1")?)
+}
+
+#[test]
+fn lines_are_told(rt: HostRuntime) -> Result<(), Fail> {
+    assert!(rt; are_lines_told(rt.alloc())?);
+    Ok(())
+}
