@@ -28,16 +28,16 @@ use Rattle.hp_explore.proofs.Plays.{plays_push}
 
 -- its reply is that of the history
 plain_reply : (l : LayoutParts) (before last : ℕ) (net : List Record) (s : Memory) (serial cpu : ℕ) (event : Event) (e : Effect) → may_go_back e ≡ false → effect_reply l before last net s serial cpu event e ≡ (step l s serial cpu event).reply
-plain_reply l before last net s serial cpu event Looks no = refl
-plain_reply l before last net s serial cpu event (Undoes kept) no = absurd cc
-plain_reply l before last net s serial cpu event (Cancels op) no = absurd cc
-plain_reply l before last net s serial cpu event Acts no = refl
+plain_reply l before last net s serial cpu event Looks goes = refl
+plain_reply l before last net s serial cpu event (Undoes kept) goes = absurd cc
+plain_reply l before last net s serial cpu event (Cancels op) goes = absurd cc
+plain_reply l before last net s serial cpu event Acts goes = refl
 
 -- and so is its state
 plain_state : (l : LayoutParts) (base : Memory) (h : List Record) (r : Record) → may_go_back (effect_of r.event) ≡ false → r.reply ≡ (step l (value_of l base h) r.serial r.cpu r.event).reply
     → (step l (value_of l base h) r.serial r.cpu r.event).memory ≡ value_of l base (h ++ r ∷ [])
 unfolding value_of
-plain_state l base h r no reply = by_reply (is_refused r.reply) refl ∙ ap (run l base) (sym (net-push h r))
+plain_state l base h r goes reply = by_reply (is_refused r.reply) refl ∙ ap (run l base) (sym (net-push h r))
   where
     law : IsOnward (run l base (net_of h)) r.serial r.event (step l (run l base (net_of h)) r.serial r.cpu r.event)
     law = steps l (run l base (net_of h)) r.serial r.cpu r.event
@@ -49,17 +49,17 @@ plain_state l base h r no reply = by_reply (is_refused r.reply) refl ∙ ap (run
     by_effect Acts is plain = sym (run-push l base (net_of h) r)
 
     by_reply : (b : Bool) → is_refused r.reply ≡ b → (step l (run l base (net_of h)) r.serial r.cpu r.event).memory ≡ run l base (net_with (net_of h) r)
-    by_reply true bad = law.refused (ap is_refused (sym reply) ∙ bad) ∙ ap (run l base) (sym (net_bad (net_of h) r bad))
-    by_reply false good = by_effect (effect_of r.event) refl no ∙ ap (run l base) (sym (with_good (net_of h) r good))
+    by_reply true bad = law.refused (ap is_refused (sym reply) ∙ bad) ∙ ap (run l base) (net_bad (net_of h) r bad)
+    by_reply false good = by_effect (effect_of r.event) refl goes ∙ ap (run l base) (sym (with_good (net_of h) r good))
 
 -- the record of the step is the one that the schedule makes
 step_recorded : (g : Setting) (p : StepsValue) (serial cpu : ℕ) (event : Event) → IsAt g p → may_go_back (effect_of event) ≡ false → serial ≡ g.before + length (g.start ++ p.records) + 1 → record_of_step p.layout p.state serial cpu event ≡ record_of_call g p.records cpu event
 unfolding record_of_call reply_of
-step_recorded g p serial cpu event here no is =
+step_recorded g p serial cpu event here goes is =
     ap (λ (l : LayoutParts). record_of_step l p.state serial cpu event) here.layout
     ∙ (ap (λ (s : Memory). record_of_step g.layout s serial cpu event) here.state
     ∙ (ap (λ (k : ℕ). record_of_step g.layout now k cpu event) is
-    ∙ ap (λ (reply : Reply). recorded reply) (sym (plain_reply g.layout g.before (g.before + length (g.start ++ p.records)) (net_of (g.start ++ p.records)) now next cpu event (effect_of event) no))))
+    ∙ ap (λ (reply : Reply). recorded reply) (sym (plain_reply g.layout g.before (g.before + length (g.start ++ p.records)) (net_of (g.start ++ p.records)) now next cpu event (effect_of event) goes))))
   where
     now : Memory
     now = value_of g.layout g.base (g.start ++ p.records)
@@ -73,7 +73,8 @@ step_recorded g p serial cpu event here no is =
 -- where a step leads to
 pub stepped_at : (g : Setting) (p n : StepsValue) (serial cpu mark : ℕ) (event : Event) → IsAt g p → next_call g cpu p.records ≡ Some event → may_go_back (effect_of event) ≡ false → serial ≡ g.before + length (g.start ++ p.records) + 1 → IsStepped p serial cpu event mark n
     → IsAt g n
-stepped_at g p n serial cpu mark event here asked no is made = record {
+unfolding plays record_of_call
+stepped_at g p n serial cpu mark event here asked goes is made = record {
   layout = made.later.layout ∙ here.layout;
   played =
       ap (λ (h : List Record). plays g (schedule_of h)) longer
@@ -86,7 +87,7 @@ stepped_at g p n serial cpu mark event here asked no is made = record {
     made_record = record_of_step p.layout p.state serial cpu event
 
     longer : n.records ≡ p.records ++ record_of_call g p.records cpu event ∷ []
-    longer = made.later.records ∙ ap (λ (r : Record). p.records ++ r ∷ []) (step_recorded g p serial cpu event here no is)
+    longer = made.later.records ∙ ap (λ (r : Record). p.records ++ r ∷ []) (step_recorded g p serial cpu event here goes is)
 
     told : made_record.reply ≡ (step g.layout (value_of g.layout g.base (g.start ++ p.records)) serial cpu event).reply
     told =
@@ -97,7 +98,7 @@ stepped_at g p n serial cpu mark event here asked no is made = record {
         made.state
         ∙ (ap (λ (l : LayoutParts). (step l p.state serial cpu event).memory) here.layout
         ∙ (ap (λ (s : Memory). (step g.layout s serial cpu event).memory) here.state
-        ∙ (plain_state g.layout g.base (g.start ++ p.records) made_record no told ∙ ap (value_of g.layout g.base) (append_assoc g.start p.records (made_record ∷ [])))))
+        ∙ (plain_state g.layout g.base (g.start ++ p.records) made_record goes told ∙ ap (value_of g.layout g.base) (append_assoc g.start p.records (made_record ∷ [])))))
 
 -- the schedule that led there
 pub stepped_place : (p n : StepsValue) (serial cpu mark : ℕ) (event : Event) → IsStepped p serial cpu event mark n → schedule_of n.records ≡ schedule_of p.records ++ cpu ∷ []

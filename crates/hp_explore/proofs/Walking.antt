@@ -21,7 +21,7 @@ use Rattle.hp_explore.specs.declared.exploring.ExploreFault.{ExploreFault}
 use Rattle.hp_explore.specs.declared.exploring.ExploreFault.TheVariants.{TooMany, HistoryFull, OutOfMemory}
 use Rattle.hp_explore.specs.Outcomes.{OutcomeValue, outcome}
 use Rattle.hp_explore.specs.declared.scripts.Line.{Line}
-use Rattle.hp_explore.specs.Schedules.{Setting, next_call, outcome_after, plays, setting}
+use Rattle.hp_explore.specs.Schedules.{Setting, next_call, outcome_after, plays, schedule_of, setting}
 use Rattle.hp_explore.specs.Walks.{BeforeNext, CountsThrough, IsAt, IsChild, IsEndNoted, IsFurther, IsOverBelow, IsPlayed, IsPlayedOn, IsReached, ThroughNext, news_in, place_of}
 use Rattle.hp_explore.proofs.Machines.{start_place}
 use Rattle.hp_explore.proofs.Plays.{over_all, stops, walk_exceeds, walk_notes, walk_over, walk_past, walk_up}
@@ -54,6 +54,11 @@ step_over g p limit cpu is_over tally here over so_far = record {
     below : (b : Bool) → IsOverBelow g p.records cpu b → IsOverBelow g p.records (cpu + 1) b
     below true before = λ k less. elim (cases_lt k cpu) [ inl under ↦ before k under | inr at ↦ subst (λ (n : ℕ). next_call g n p.records ≡ None) (same k less at) over ]
     below false before = before
+
+-- what a script asks for where the walk stands again
+pub asked_at : (g : Setting) (p now : StepsValue) (cpu : ℕ) (next : Option Event) → now ≡ p → IsAt g p → ((k : Setting) → k.scripts ≡ g.scripts → k.layout ≡ now.layout → next_call k cpu now.records ≡ next) → next_call g cpu p.records ≡ next
+asked_at g p now cpu next is here asks =
+    ap (λ (q : StepsValue). next_call g cpu q.records) (sym is) ∙ asks g refl (sym here.layout ∙ ap (λ (q : StepsValue). q.layout) (sym is))
 
 -- after the last of them
 pub walked : (g : Setting) (p : StepsValue) (limit cpu : ℕ) (is_over : Bool) (tally : TallyValue) → cpu ≡ length g.scripts → is_over ≡ false → IsAt g p → IsWalked g p limit cpu is_over tally → CountsThrough g p tally.ends

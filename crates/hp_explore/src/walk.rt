@@ -1,6 +1,7 @@
 //! The walk over all schedules, depth first and processor 0 first.
 ghost use Rattle.std.specs.Prelude.{◌≡◌, ◌+◌, ◌^◌, ◌<◌, ◌≤◌, [], ◌∷◌, ◌++◌, Some, true, IfErr, IfOk, OnOk, drop, length};
 ghost use Rattle.hp_units.specs.History.{effect_of};
+ghost use Rattle.hp_machine.specs.Machine.{IsHistory};
 ghost use Rattle.hp_explore.specs.Ends.{AreCounted};
 ghost use Rattle.hp_explore.specs.Faults.{IsCallCause, IsNoteCause, IsWalkCause, is_full_after};
 ghost use Rattle.hp_explore.specs.Outcomes.{ended_rows_below, replies_below};
@@ -95,7 +96,9 @@ fn walk_on(
     for cpu in 0..scripts.len() as u32 {
         if let Some(event) = next_at(alloc, scripts, here, cpu)? {
             is_over = false;
-            visit_next(alloc, start, scripts, here, cpu, &event, tally, memo)?;
+            let visited = visit_next(alloc, start, scripts, here, cpu, &event, tally, memo);
+            drop(event);
+            visited?;
         }
     }
     if is_over {
@@ -215,7 +218,8 @@ pub(crate) fn steps_of(
     machine: &Machine,
 ) -> Result<Steps, AllocError>
     requires { length start.now.history ≤ length machine.now.history }
-    ensures { IfOk result (λ steps. steps ≡ record { layout = machine.now.layout; state = machine.now.state; deltas = []; records = news_since start.now machine.now }) }
+    ensures value { IfOk result (λ steps. steps ≡ record { layout = machine.now.layout; state = machine.now.state; deltas = []; records = news_since start.now machine.now }) }
+    ensures kept { IsHistory machine.now }
 {
     machine.stays_sound();
     let news = records_from(machine.history(), start.history().len());
