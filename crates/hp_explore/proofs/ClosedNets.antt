@@ -96,3 +96,8 @@ closed_told history told = on history [] true (λ h. closed_none) told
     on : (rest net : List Record) (was : Bool) → (was ≡ true → IsClosed net) → fold closed_after was rest ≡ true → IsClosed (fold net_with net rest)
     on [] net was so_far is = so_far is
     on (r ∷ rest) net was so_far is = on rest (net_with net r) (closed_after was r) (closed_more net r was so_far) is
+
+-- the test as it was made
+pub told_closed : (history news shown read : List Record) (closed : Bool) → closed ≡ is_closed (shown ++ read) → shown ≡ history → read ≡ news → closed ≡ true → is_closed (history ++ news) ≡ true
+told_closed history news shown read closed is of_history of_news told =
+    sym (is ∙ (ap (λ (h : List Record). is_closed (h ++ read)) of_history ∙ ap (λ (h : List Record). is_closed (history ++ h)) of_news)) ∙ told

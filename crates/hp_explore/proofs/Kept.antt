@@ -8,7 +8,7 @@ use Rattle.hp_laws.proofs.Lists.{get_some}
 use Rattle.hp_units.specs.History.{net_of, value_of}
 use Rattle.hp_units.specs.Memory.{Memory}
 use Rattle.hp_units.specs.declared.replies.Record.{Record}
-use Rattle.hp_machine.specs.Machine.{MachineValue}
+use Rattle.hp_steps.specs.Steps.{StepsValue}
 use Rattle.hp_explore.specs.Alike.{IsClosed}
 use Rattle.hp_explore.specs.Ends.{AreCounted}
 use Rattle.hp_explore.specs.Faults.{HasMoreThan, IsWalkCause}
@@ -16,13 +16,13 @@ use Rattle.hp_explore.specs.Notes.{TallyValue}
 use Rattle.hp_explore.specs.Outcomes.{OutcomeValue}
 use Rattle.hp_explore.specs.Schedules.{IsComplete, Setting, plays, schedule_of}
 use Rattle.hp_explore.specs.Seen.{AddsCounts, AreNoMore, AreSince, Grow, IsAddCause, IsLike, IsLikeAmong, IsMemo, IsSeen, MemoValue, SeenValue}
-use Rattle.hp_explore.specs.Walks.{Before, IsReached, Through, news_in, place_of}
+use Rattle.hp_explore.specs.Walks.{Before, CountsBefore, CountsThrough, IsAt, Through}
 use Rattle.hp_explore.specs.declared.exploring.ExploreFault.{ExploreFault}
 use Rattle.hp_explore.specs.declared.tally.Ending.{Ending}
 use Rattle.hp_explore.proofs.Adding.{added_sums}
 use Rattle.hp_explore.proofs.Counting.{more_listed}
 use Rattle.hp_explore.proofs.Grown.{all_grow, all_more}
-use Rattle.hp_explore.proofs.Merges.{like_alike, merged, state_here, walked_seen}
+use Rattle.hp_explore.proofs.Merges.{like_alike, merged, walked_seen}
 
 -- ---- counts that were read
 
@@ -80,13 +80,13 @@ since_more ends earlier before after place was e here no_more was_is after_is ma
 
 -- ---- a place that was walked
 
-pub place_kept : (g : Setting) (m : MachineValue) (seen : SeenValue) (old new : List Ending) (earlier : List ℕ) → IsReached g m → seen.memory ≡ m.state → seen.news ≡ news_in g m → IsClosed (net_of m.history) → m.state ≡ value_of m.layout m.base m.history
-    → earlier ≡ counts_of old → AreSince earlier new seen.counts → Grow old new → AreCounted (Before g (place_of g m)) old → AreCounted (Through g (place_of g m)) new → IsSeen g new seen
-place_kept g m seen old new earlier here memory news closed state is since grow before through =
+pub place_kept : (g : Setting) (p : StepsValue) (seen : SeenValue) (old new : List Ending) (earlier : List ℕ) → IsAt g p → seen.memory ≡ p.state → seen.news ≡ p.records → IsClosed (net_of (g.start ++ p.records))
+    → earlier ≡ counts_of old → AreSince earlier new seen.counts → Grow old new → CountsBefore g p old → CountsThrough g p new → IsSeen g new seen
+place_kept g p seen old new earlier here memory news closed is since grow before through =
     walked_seen g seen old new
     (ap (λ (h : List Record). plays_of h) news ∙ (here.played ∙ ap Some (sym news)))
-    (memory ∙ (state_here g m here state ∙ ap (λ (h : List Record). value_of g.layout g.base (g.start ++ h)) (sym news)))
-    (subst (λ (h : List Record). IsClosed (net_of (g.start ++ h))) (sym news) (subst (λ (h : List Record). IsClosed (net_of h)) here.history closed))
+    (memory ∙ (here.state ∙ ap (λ (h : List Record). value_of g.layout g.base (g.start ++ h)) (sym news)))
+    (subst (λ (h : List Record). IsClosed (net_of (g.start ++ h))) (sym news) closed)
     (omega (arith, since.as_many)) more all grow
     (subst (λ (h : List Record). AreCounted (Before g (schedule_of h)) old) (sym news) before)
     (subst (λ (h : List Record). AreCounted (Through g (schedule_of h)) new) (sym news) through)
@@ -107,17 +107,17 @@ memo_more g new memo later seen is kept one = subst (IsMemo g new) (sym is) (rec
 -- ---- one that is found again
 
 -- what is added to the ends
-pub found_counted : (g : Setting) (m : MachineValue) (memo : MemoValue) (old new : List Ending) (memory : Memory) (news : List Record) (cpus : ℕ) (counts : List ℕ) → IsReached g m → IsMemo g old memo → memo.is_on ≡ true → IsClosed (net_of m.history) → m.state ≡ value_of m.layout m.base m.history
-    → memory ≡ m.state → news ≡ news_in g m → cpus ≡ length g.scripts → IsLikeAmong memo.seen memory news cpus counts → AreCounted (Before g (place_of g m)) old → AddsCounts old counts new → AreCounted (Through g (place_of g m)) new
-found_counted g m memo old new memory news cpus counts here kept on closed state memory_is news_is cpus_is like before adds =
-    merged g (place_of g m) (news_in g m) like.1 old new (kept.undo on) here.played (like_alike g m old like.1 here seen alike closed state) seen before (subst (λ (ks : List ℕ). AddsCounts old ks new) like.4 adds)
+pub found_counted : (g : Setting) (p : StepsValue) (memo : MemoValue) (old new : List Ending) (memory : Memory) (news : List Record) (cpus : ℕ) (counts : List ℕ) → IsAt g p → IsMemo g old memo → memo.is_on ≡ true → IsClosed (net_of (g.start ++ p.records))
+    → memory ≡ p.state → news ≡ p.records → cpus ≡ length g.scripts → IsLikeAmong memo.seen memory news cpus counts → CountsBefore g p old → AddsCounts old counts new → CountsThrough g p new
+found_counted g p memo old new memory news cpus counts here kept on closed memory_is news_is cpus_is like before adds =
+    merged g (schedule_of p.records) p.records like.1 old new (kept.undo on) here.played (like_alike g p old like.1 here seen alike closed) seen before (subst (λ (ks : List ℕ). AddsCounts old ks new) like.4 adds)
   where
     seen : IsSeen g old like.1
     seen = kept.all like.0 like.1 like.2
 
-    alike : IsLike like.1 m.state (news_in g m) (length g.scripts)
+    alike : IsLike like.1 p.state p.records (length g.scripts)
     alike =
-        subst (λ (s : Memory). IsLike like.1 s (news_in g m) (length g.scripts)) memory_is
+        subst (λ (s : Memory). IsLike like.1 s p.records (length g.scripts)) memory_is
         (subst (λ (h : List Record). IsLike like.1 memory h (length g.scripts)) news_is (subst (λ (n : ℕ). IsLike like.1 memory news n) cpus_is like.3))
 
 pub found_few : (g : Setting) (memo : MemoValue) (ends : List Ending) (memory : Memory) (news : List Record) (cpus : ℕ) (counts : List ℕ) → IsMemo g ends memo → IsLikeAmong memo.seen memory news cpus counts → length counts ≤ length ends
@@ -167,9 +167,9 @@ found_exceeds g q ends counts limit few counted above = (
         more_listed (λ s. (x : OutcomeValue) × Through g q s x) (sum_by (λ (e : Ending). e.count) (added_to ends counts)) limit (omega (arith, above, added_sums ends (added_to ends counts) counts few (adds_counts ends counts))) (counted (added_to ends counts) (adds_counts ends counts)).total
 
 -- the fault where what was found could not be added
-pub found_fault : (g : Setting) (m : MachineValue) (memo : MemoValue) (tally : TallyValue) (memory : Memory) (news : List Record) (cpus : ℕ) (counts : List ℕ) (fault : ExploreFault) → IsReached g m → IsMemo g tally.ends memo → memo.is_on ≡ true → IsClosed (net_of m.history) → m.state ≡ value_of m.layout m.base m.history
-    → memory ≡ m.state → news ≡ news_in g m → cpus ≡ length g.scripts → IsLikeAmong memo.seen memory news cpus counts → AreCounted (Before g (place_of g m)) tally.ends → IsAddCause tally counts fault → IsWalkCause g tally.limit fault
-found_fault g m memo tally memory news cpus counts fault here kept on closed state memory_is news_is cpus_is like before cause =
+pub found_fault : (g : Setting) (p : StepsValue) (memo : MemoValue) (tally : TallyValue) (memory : Memory) (news : List Record) (cpus : ℕ) (counts : List ℕ) (fault : ExploreFault) → IsAt g p → IsMemo g tally.ends memo → memo.is_on ≡ true → IsClosed (net_of (g.start ++ p.records))
+    → memory ≡ p.state → news ≡ p.records → cpus ≡ length g.scripts → IsLikeAmong memo.seen memory news cpus counts → CountsBefore g p tally.ends → IsAddCause tally counts fault → IsWalkCause g tally.limit fault
+found_fault g p memo tally memory news cpus counts fault here kept on closed memory_is news_is cpus_is like before cause =
     subst (IsWalkCause g tally.limit) (sym cause.0)
-    (found_exceeds g (place_of g m) tally.ends counts tally.limit (found_few g memo tally.ends memory news cpus counts kept like)
-    (λ new adds. found_counted g m memo tally.ends new memory news cpus counts here kept on closed state memory_is news_is cpus_is like before adds) cause.1)
+    (found_exceeds g (schedule_of p.records) tally.ends counts tally.limit (found_few g memo tally.ends memory news cpus counts kept like)
+    (λ new adds. found_counted g p memo tally.ends new memory news cpus counts here kept on closed memory_is news_is cpus_is like before adds) cause.1)

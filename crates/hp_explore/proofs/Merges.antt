@@ -11,6 +11,7 @@ use Rattle.hp_units.specs.Memory.{Memory}
 use Rattle.hp_units.specs.Receipts.{receipts_of}
 use Rattle.hp_units.specs.declared.replies.Record.{Record}
 use Rattle.hp_machine.specs.Machine.{MachineValue}
+use Rattle.hp_steps.specs.Steps.{StepsValue}
 use Rattle.hp_explore.specs.Alike.{AreAlike, IsClosed, UndoNothing, exchanges}
 use Rattle.hp_explore.specs.Ends.{AreCounted}
 use Rattle.hp_explore.specs.Orders.{HasCount, IsBefore, IsFirst}
@@ -18,7 +19,7 @@ use Rattle.hp_explore.specs.Outcomes.{OutcomeValue}
 use Rattle.hp_explore.specs.Schedules.{EndsWith, Setting, plays, schedule_of}
 use Rattle.hp_explore.specs.Scripts.{own_operation}
 use Rattle.hp_explore.specs.Seen.{AddsCounts, GoesOn, Grow, IsLike, IsSeen, SeenValue}
-use Rattle.hp_explore.specs.Walks.{Before, IsReached, Through, news_in}
+use Rattle.hp_explore.specs.Walks.{Before, IsAt, IsReached, Through, news_in}
 use Rattle.hp_explore.specs.declared.tally.Ending.{Ending}
 use Rattle.hp_explore.proofs.Alike.{ends_alike}
 use Rattle.hp_explore.proofs.Counting.{either_listed, none_listed, same_count}
@@ -193,8 +194,8 @@ state_here g m here state =
     ∙ (ap (λ (l : LayoutParts). value_of l m.base m.history) here.layout
     ∙ (ap (λ (s : Memory). value_of g.layout s m.history) here.base ∙ ap (λ (h : List Record). value_of g.layout g.base h) here.history))
 
--- a kept place with the machine's state and exchanges goes on like it
-pub like_alike : (g : Setting) (m : MachineValue) (ends : List Ending) (seen : SeenValue) → IsReached g m → IsSeen g ends seen → IsLike seen m.state (news_in g m) (length g.scripts) → IsClosed (net_of m.history) → m.state ≡ value_of m.layout m.base m.history → AreAlike g seen.news (news_in g m)
-like_alike g m ends seen here is like closed state =
-    alike_closed g seen.news (news_in g m) like.calls (λ cpu within. (like.exchanges cpu within).exchanged) (λ cpu within. (like.exchanges cpu within).begun) is.closed
-    (subst (λ (h : List Record). IsClosed (net_of h)) here.history closed) (sym is.state ∙ (like.state ∙ state_here g m here state))
+-- a kept place with the same state and alike exchanges goes on like it
+pub like_alike : (g : Setting) (p : StepsValue) (ends : List Ending) (seen : SeenValue) → IsAt g p → IsSeen g ends seen → IsLike seen p.state p.records (length g.scripts) → IsClosed (net_of (g.start ++ p.records)) → AreAlike g seen.news p.records
+like_alike g p ends seen here is like closed =
+    alike_closed g seen.news p.records like.calls (λ cpu within. (like.exchanges cpu within).exchanged) (λ cpu within. (like.exchanges cpu within).begun) is.closed closed
+    (sym is.state ∙ (like.state ∙ here.state))

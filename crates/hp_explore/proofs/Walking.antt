@@ -1,4 +1,4 @@
--- The steps of the walk, by the machine that stands at a place.
+-- The turns of the walk, by where it stands; and of one schedule, by the machine that it leads to.
 use Rattle.std.proofs.Common.{◌≡◌, ℕ, ◌+◌, ◌<◌, ◌≤◌, Bool, true, false, List, [], ◌∷◌, ◌++◌, length, drop, get_or, Option, Some, None, refl, ap, sym, subst, ◌∙◌, arith, inl, inr}
 use Rattle.std.proofs.lemmas.Bool.{cases_lt}
 use Rattle.std.proofs.lemmas.List.{append_assoc}
@@ -6,11 +6,13 @@ use Rattle.std.specs.Prelude.{◌||◌, Result, Err, IsTrue, nat_le}
 use Rattle.hp_units.specs.History.{value_of}
 use Rattle.hp_units.specs.LayoutParts.{LayoutParts}
 use Rattle.hp_units.specs.Memory.{Memory}
+use Rattle.hp_units.specs.declared.events.Event.{Event}
 use Rattle.hp_units.specs.declared.replies.CallFault.{CallFault}
 use Rattle.hp_units.specs.declared.replies.CallFault.TheVariants.{HistoryFull as CallFull, OutOfMemory as CallMemory}
 use Rattle.hp_units.specs.declared.replies.Receipt.{Receipt}
 use Rattle.hp_units.specs.declared.replies.Record.{Record}
 use Rattle.hp_machine.specs.Machine.{MachineValue, is_full}
+use Rattle.hp_steps.specs.Steps.{StepsValue}
 use Rattle.hp_explore.specs.declared.tally.Ending.{Ending}
 use Rattle.hp_explore.specs.Ends.{AreCounted}
 use Rattle.hp_explore.specs.Faults.{FillsHistory, IsCallCause, IsNoteCause, IsWalkCause, is_full_after}
@@ -19,79 +21,76 @@ use Rattle.hp_explore.specs.declared.exploring.ExploreFault.{ExploreFault}
 use Rattle.hp_explore.specs.declared.exploring.ExploreFault.TheVariants.{TooMany, HistoryFull, OutOfMemory}
 use Rattle.hp_explore.specs.Outcomes.{OutcomeValue, outcome}
 use Rattle.hp_explore.specs.declared.scripts.Line.{Line}
-use Rattle.hp_explore.specs.Schedules.{Setting, next_call, outcome_after, plays, setting}
-use Rattle.hp_explore.specs.Walks.{Before, CountsThrough, IsChild, IsEndNoted, IsFurther, IsOverBelow, IsPlayed, IsPlayedOn, IsReached, Through, news_in, outcome_since, place_of}
+use Rattle.hp_explore.specs.Schedules.{Setting, next_call, outcome_after, plays, schedule_of, setting}
+use Rattle.hp_explore.specs.Walks.{BeforeNext, CountsThrough, IsAt, IsChild, IsEndNoted, IsFurther, IsOverBelow, IsPlayed, IsPlayedOn, IsReached, ThroughNext, news_in, place_of}
 use Rattle.hp_explore.proofs.Machines.{start_place}
 use Rattle.hp_explore.proofs.Plays.{over_all, stops, walk_exceeds, walk_notes, walk_over, walk_past, walk_up}
 
 -- what the loop over the processors keeps
-pub record IsWalked (g : Setting) (m : MachineValue) (limit : ℕ) (cpu : ℕ) (is_over : Bool) (tally : TallyValue) : Type 0 where
-  pub counted : AreCounted (Before g (place_of g m ++ cpu ∷ [])) tally.ends
-  pub over : IsOverBelow g (news_in g m) cpu is_over
+pub record IsWalked (g : Setting) (p : StepsValue) (limit : ℕ) (cpu : ℕ) (is_over : Bool) (tally : TallyValue) : Type 0 where
+  pub counted : AreCounted (BeforeNext g p cpu) tally.ends
+  pub over : IsOverBelow g p.records cpu is_over
   pub limit_is : tally.limit ≡ limit
 
 -- past a processor whose continuations were walked
-pub step_walked : (g : Setting) (m : MachineValue) (limit cpu : ℕ) (child : Option MachineValue) (next : MachineValue) (tally : TallyValue) → child ≡ Some next → IsChild g m cpu child → AreCounted (Through g (place_of g next)) tally.ends → tally.limit ≡ limit → IsWalked g m limit (cpu + 1) false tally
-step_walked g m limit cpu child next tally some child_is walked same =
-    let one : IsFurther g m cpu next = subst (IsChild g m cpu) some child_is in
-    record {
-      counted = walk_past g (place_of g m) cpu tally.ends (subst (λ (p : List ℕ). AreCounted (Through g p) tally.ends) one.place walked);
-      over = (cpu, one.event, one.asked);
-      limit_is = same;
-    }
+pub step_walked : (g : Setting) (p : StepsValue) (limit cpu : ℕ) (event : Event) (tally : TallyValue) → next_call g cpu p.records ≡ Some event → AreCounted (ThroughNext g p cpu) tally.ends → tally.limit ≡ limit → IsWalked g p limit (cpu + 1) false tally
+step_walked g p limit cpu event tally asked walked same = record {
+  counted = walk_past g (schedule_of p.records) cpu tally.ends walked;
+  over = (cpu, event, asked);
+  limit_is = same;
+}
 
 -- past one whose script asks for nothing
-pub step_over : (g : Setting) (m : MachineValue) (limit cpu : ℕ) (is_over : Bool) (child : Option MachineValue) (tally : TallyValue) → IsReached g m → child ≡ None → IsChild g m cpu child → IsWalked g m limit cpu is_over tally → IsWalked g m limit (cpu + 1) is_over tally
-step_over g m limit cpu is_over child tally here none child_is so_far =
-    let over : next_call g cpu (news_in g m) ≡ None = subst (IsChild g m cpu) none child_is in
-    record {
-      counted = walk_over g (place_of g m) (news_in g m) cpu tally.ends here.played over so_far.counted;
-      over = below is_over over so_far.over;
-      limit_is = so_far.limit_is;
-    }
+pub step_over : (g : Setting) (p : StepsValue) (limit cpu : ℕ) (is_over : Bool) (tally : TallyValue) → IsAt g p → next_call g cpu p.records ≡ None → IsWalked g p limit cpu is_over tally → IsWalked g p limit (cpu + 1) is_over tally
+step_over g p limit cpu is_over tally here over so_far = record {
+  counted = walk_over g (schedule_of p.records) p.records cpu tally.ends here.played over so_far.counted;
+  over = below is_over so_far.over;
+  limit_is = so_far.limit_is;
+}
   where
     same : (k : ℕ) → k < cpu + 1 → cpu ≤ k → cpu ≡ k
     same k less at = omega arith
 
-    below : (b : Bool) → next_call g cpu (news_in g m) ≡ None → IsOverBelow g (news_in g m) cpu b → IsOverBelow g (news_in g m) (cpu + 1) b
-    below true over so_far = λ k less. elim (cases_lt k cpu) [ inl under ↦ so_far k under | inr at ↦ subst (λ (n : ℕ). next_call g n (news_in g m) ≡ None) (same k less at) over ]
-    below false over so_far = so_far
+    below : (b : Bool) → IsOverBelow g p.records cpu b → IsOverBelow g p.records (cpu + 1) b
+    below true before = λ k less. elim (cases_lt k cpu) [ inl under ↦ before k under | inr at ↦ subst (λ (n : ℕ). next_call g n p.records ≡ None) (same k less at) over ]
+    below false before = before
+
+-- what a script asks for where the walk stands again
+pub asked_at : (g : Setting) (p now : StepsValue) (cpu : ℕ) (next : Option Event) → now ≡ p → IsAt g p → ((k : Setting) → k.scripts ≡ g.scripts → k.layout ≡ now.layout → next_call k cpu now.records ≡ next) → next_call g cpu p.records ≡ next
+asked_at g p now cpu next is here asks =
+    ap (λ (q : StepsValue). next_call g cpu q.records) (sym is) ∙ asks g refl (sym here.layout ∙ ap (λ (q : StepsValue). q.layout) (sym is))
 
 -- after the last of them
-pub walked : (g : Setting) (m : MachineValue) (limit cpu : ℕ) (is_over : Bool) (tally : TallyValue) → cpu ≡ length g.scripts → is_over ≡ false → IsReached g m → IsWalked g m limit cpu is_over tally → AreCounted (Through g (place_of g m)) tally.ends
-walked g m limit cpu is_over tally all some here so_far =
-    let over : IsOverBelow g (news_in g m) cpu false = subst (IsOverBelow g (news_in g m) cpu) some so_far.over in
-    walk_up g (place_of g m) (news_in g m) over.0 over.1 tally.ends here.played over.2 (subst (λ (n : ℕ). AreCounted (Before g (place_of g m ++ n ∷ [])) tally.ends) all so_far.counted)
+pub walked : (g : Setting) (p : StepsValue) (limit cpu : ℕ) (is_over : Bool) (tally : TallyValue) → cpu ≡ length g.scripts → is_over ≡ false → IsAt g p → IsWalked g p limit cpu is_over tally → CountsThrough g p tally.ends
+walked g p limit cpu is_over tally all some here so_far =
+    let over : IsOverBelow g p.records cpu false = subst (IsOverBelow g p.records cpu) some so_far.over in
+    walk_up g (schedule_of p.records) p.records over.0 over.1 tally.ends here.played over.2 (subst (λ (n : ℕ). AreCounted (BeforeNext g p n) tally.ends) all so_far.counted)
 
--- the outcome where a machine is, is that of the schedule that led there
-outcome_here : (g : Setting) (start m : MachineValue) → g.start ≡ start.history → IsReached g m → outcome_since (length g.scripts) start m ≡ outcome_after g (news_in g m)
+-- no script asks for anything
+over_here : (g : Setting) (p : StepsValue) (cpu : ℕ) (is_over : Bool) → cpu ≡ length g.scripts → is_over ≡ true → IsOverBelow g p.records cpu is_over → (k : ℕ) → next_call g k p.records ≡ None
+over_here g p cpu is_over all none over =
+    over_all g p.records (subst (λ (n : ℕ). IsOverBelow g p.records n true) all (subst (IsOverBelow g p.records cpu) none over))
+
+-- the outcome where the walk stands is that of the schedule that led there
+outcome_here : (g : Setting) (p : StepsValue) → IsAt g p → outcome (length g.scripts) p.records p.layout p.state ≡ outcome_after g p.records
 unfolding outcome_after
-outcome_here g start m same here =
-    ap (λ (h : List Record). outcome (length g.scripts) (drop (length h) m.history) m.layout (value_of m.layout m.base m.history)) (sym same)
-    ∙ (ap (λ (l : LayoutParts). outcome (length g.scripts) (news_in g m) l (value_of l m.base m.history)) here.layout
-    ∙ (ap (λ (s : Memory). outcome (length g.scripts) (news_in g m) g.layout (value_of g.layout s m.history)) here.base
-    ∙ ap (λ (h : List Record). outcome (length g.scripts) (news_in g m) g.layout (value_of g.layout g.base h)) here.history))
+outcome_here g p here =
+    ap (λ (l : LayoutParts). outcome (length g.scripts) p.records l p.state) here.layout ∙ ap (outcome (length g.scripts) p.records g.layout) here.state
 
 -- where all scripts are at their ends
-pub leaf : (start m : MachineValue) (scripts : List (List Line)) (limit cpu : ℕ) (is_over : Bool) (tally : TallyValue) (new : List Ending) → cpu ≡ length scripts → is_over ≡ true → IsReached (setting start scripts) m → IsWalked (setting start scripts) m limit cpu is_over tally
-    → IsEndNoted (length scripts) start m tally.ends new → CountsThrough (setting start scripts) m new
-leaf start m scripts limit cpu is_over tally new all none here so_far adds =
-    walk_notes g (place_of g m) (news_in g m) tally.ends new here.played
-    (over_all g (news_in g m) (subst (λ (n : ℕ). IsOverBelow g (news_in g m) n true) all (subst (IsOverBelow g (news_in g m) cpu) none so_far.over)))
-    (subst (λ (n : ℕ). AreCounted (Before g (place_of g m ++ n ∷ [])) tally.ends) all so_far.counted)
-    (subst (λ (x : OutcomeValue). IsNoted tally.ends x (place_of g m) new) (outcome_here g start m refl here) adds)
-  where
-    g : Setting
-    g = setting start scripts
+pub leaf : (g : Setting) (p : StepsValue) (limit cpu : ℕ) (is_over : Bool) (tally : TallyValue) (new : List Ending) → cpu ≡ length g.scripts → is_over ≡ true → IsAt g p → IsWalked g p limit cpu is_over tally → IsEndNoted (length g.scripts) p tally.ends new → CountsThrough g p new
+leaf g p limit cpu is_over tally new all none here so_far adds =
+    walk_notes g (schedule_of p.records) p.records tally.ends new here.played (over_here g p cpu is_over all none so_far.over)
+    (subst (λ (n : ℕ). AreCounted (BeforeNext g p n) tally.ends) all so_far.counted)
+    (subst (λ (x : OutcomeValue). IsNoted tally.ends x (schedule_of p.records) new) (outcome_here g p here) adds)
 
 -- why one more could not be counted
-pub leaf_fault : (g : Setting) (m : MachineValue) (limit cpu : ℕ) (is_over : Bool) (tally : TallyValue) (fault : ExploreFault) → cpu ≡ length g.scripts → is_over ≡ true → IsReached g m → IsWalked g m limit cpu is_over tally → IsNoteCause tally fault → IsWalkCause g limit fault
-leaf_fault g m limit cpu is_over tally TooMany all none here so_far cause =
-    walk_exceeds g (place_of g m) (news_in g m) tally.ends limit here.played
-    (over_all g (news_in g m) (subst (λ (n : ℕ). IsOverBelow g (news_in g m) n true) all (subst (IsOverBelow g (news_in g m) cpu) none so_far.over)))
-    (subst (λ (n : ℕ). AreCounted (Before g (place_of g m ++ n ∷ [])) tally.ends) all so_far.counted) (cause ∙ so_far.limit_is)
-leaf_fault g m limit cpu is_over tally HistoryFull all none here so_far cause = absurd cause
-leaf_fault g m limit cpu is_over tally OutOfMemory all none here so_far cause = tt
+pub leaf_fault : (g : Setting) (p : StepsValue) (limit cpu : ℕ) (is_over : Bool) (tally : TallyValue) (fault : ExploreFault) → cpu ≡ length g.scripts → is_over ≡ true → IsAt g p → IsWalked g p limit cpu is_over tally → IsNoteCause tally fault → IsWalkCause g limit fault
+leaf_fault g p limit cpu is_over tally TooMany all none here so_far cause =
+    walk_exceeds g (schedule_of p.records) p.records tally.ends limit here.played (over_here g p cpu is_over all none so_far.over)
+    (subst (λ (n : ℕ). AreCounted (BeforeNext g p n) tally.ends) all so_far.counted) (cause ∙ so_far.limit_is)
+leaf_fault g p limit cpu is_over tally HistoryFull all none here so_far cause = absurd cause
+leaf_fault g p limit cpu is_over tally OutOfMemory all none here so_far cause = tt
 
 -- ---- faults of calls
 

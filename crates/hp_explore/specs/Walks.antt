@@ -1,9 +1,10 @@
 -- How far the walk over all schedules is.
 use Rattle.std.specs.Prelude.{◌≡◌, ℕ, ◌+◌, ◌<◌, ◌⊎◌, Bool, true, false, List, [], ◌∷◌, ◌++◌, Option, Some, None, length, drop}
-use Rattle.hp_units.specs.History.{value_of}
+use Rattle.hp_units.specs.History.{Effect, Looks, Undoes, Cancels, Acts, value_of}
 use Rattle.hp_units.specs.declared.events.Event.{Event}
 use Rattle.hp_units.specs.declared.replies.Record.{Record}
 use Rattle.hp_machine.specs.Machine.{MachineValue}
+use Rattle.hp_steps.specs.Steps.{StepsValue}
 use Rattle.hp_explore.specs.declared.tally.Ending.{Ending}
 use Rattle.hp_explore.specs.Ends.{AreCounted}
 use Rattle.hp_explore.specs.Notes.{IsNoted}
@@ -20,6 +21,17 @@ news_in g m = drop (length g.start) m.history
 
 abbrev pub place_of : Setting → MachineValue → List ℕ
 place_of g m = schedule_of (news_in g m)
+
+-- steps are where a schedule of the scripts leads to: their records are the new ones
+pub record IsAt (g : Setting) (p : StepsValue) : Type 0 where
+  pub layout : p.layout ≡ g.layout
+  pub played : plays g (schedule_of p.records) ≡ Some p.records
+  pub state : p.state ≡ value_of g.layout g.base (g.start ++ p.records)
+
+-- where a schedule leads to; none where it can't be played
+abbrev pub LeadsTo : Setting → List ℕ → Option StepsValue → Type 0
+LeadsTo g schedule None = plays g schedule ≡ None
+LeadsTo g schedule (Some p) = IsAt g p × (schedule_of p.records ≡ schedule)
 
 -- a machine is where a schedule of the scripts leads to
 pub record IsReached (g : Setting) (m : MachineValue) : Type 0 where
@@ -50,19 +62,34 @@ Before g place s x = IsBefore s place × EndsWith g s x
 abbrev pub Through : Setting → List ℕ → List ℕ → OutcomeValue → Type 0
 Through g place s x = (IsBefore s place ⊎ Extends s place) × EndsWith g s x
 
--- the ends are those of the schedules before where a machine is, and up to the last one that goes on from there
-abbrev pub CountsBefore : Setting → MachineValue → List Ending → Type 0
-CountsBefore g m ends = AreCounted (Before g (place_of g m)) ends
+-- the same of a processor's next call
+abbrev pub BeforeNext : Setting → StepsValue → (cpu : ℕ) → List ℕ → OutcomeValue → Type 0
+BeforeNext g p cpu = Before g (schedule_of p.records ++ cpu ∷ [])
 
-abbrev pub CountsThrough : Setting → MachineValue → List Ending → Type 0
-CountsThrough g m ends = AreCounted (Through g (place_of g m)) ends
+abbrev pub ThroughNext : Setting → StepsValue → (cpu : ℕ) → List ℕ → OutcomeValue → Type 0
+ThroughNext g p cpu = Through g (schedule_of p.records ++ cpu ∷ [])
 
--- the outcome for so many processors where a machine started from another, and the schedule that led there is noted with it
-abbrev pub outcome_since : (processors : ℕ) → (start m : MachineValue) → OutcomeValue
-outcome_since processors start m = outcome processors (news_since start m) m.layout (value_of m.layout m.base m.history)
+-- the ends are those of the schedules before where the walk stands, and up to the last one that goes on from there
+abbrev pub CountsBefore : Setting → StepsValue → List Ending → Type 0
+CountsBefore g p ends = AreCounted (Before g (schedule_of p.records)) ends
 
-abbrev pub IsEndNoted : (processors : ℕ) → (start m : MachineValue) → List Ending → List Ending → Type 0
-IsEndNoted processors start m old new = IsNoted old (outcome_since processors start m) (schedule_of (news_since start m)) new
+abbrev pub CountsThrough : Setting → StepsValue → List Ending → Type 0
+CountsThrough g p ends = AreCounted (Through g (schedule_of p.records)) ends
+
+-- the schedule that led to where the walk stands is noted, with the outcome there for so many processors
+abbrev pub IsEndNoted : (processors : ℕ) → StepsValue → List Ending → List Ending → Type 0
+IsEndNoted processors p old new = IsNoted old (outcome processors p.records p.layout p.state) (schedule_of p.records) new
+
+-- the serial of the next record after the new ones of a machine, whose history has room for it
+abbrev pub IsNextSerial : (start : MachineValue) → List Record → (serial : ℕ) → Type 0
+IsNextSerial start news serial = (serial ≡ start.before + length (start.history ++ news) + 1) × (length (start.history ++ news) < start.layout.history)
+
+-- whether an event may go back to an earlier state
+abbrev pub may_go_back : Effect → Bool
+may_go_back Looks = false
+may_go_back (Undoes serial) = true
+may_go_back (Cancels op) = true
+may_go_back Acts = false
 
 -- whether the scripts of the processors so far ask for nothing after the new records, or one asks for an event
 abbrev pub IsOverBelow : Setting → List Record → (below : ℕ) → Bool → Type 0

@@ -1,12 +1,12 @@
 //! Digests by which places are found from which all may go on alike. Nothing rests on them: a place that is found is compared.
-use hp_machine::Machine;
+use hp_memory::Memory;
 use hp_units::{Class, Order, Record, Reply};
 
 const CLASSES: [Class; 5] = [Class::Nu, Class::Nm, Class::Mm, Class::IsoN, Class::IsoM];
 
-/// A digest of a machine's free lists and of each processor's replies among records.
-pub(crate) fn digest_of(machine: &Machine, records: &[Record]) -> u64 {
-    let mut digest = free_digest(machine);
+/// A digest of a memory's free lists and of each processor's replies among records.
+pub(crate) fn digest_of(memory: &Memory, records: &[Record]) -> u64 {
+    let mut digest = free_digest(memory);
     for part in &processor_digests(records) {
         digest = mixed(digest, *part);
     }
@@ -24,17 +24,17 @@ fn processor_digests(records: &[Record]) -> [u64; 64] {
 }
 
 /// A digest of the free lists' lengths and fronts.
-fn free_digest(machine: &Machine) -> u64 {
+fn free_digest(memory: &Memory) -> u64 {
     let mut digest = 0;
     for class in &CLASSES {
-        for order in 0..machine.layout().order() + 1 {
+        for order in 0..memory.layout().order() + 1 {
             let order = Order(order);
-            let front = machine
+            let front = memory
                 .front(*class, order)
                 .map_or(0, |frame| u64::from(frame.0) + 1);
             digest = mixed(
                 mixed(digest, front),
-                u64::from(machine.list_len(*class, order)),
+                u64::from(memory.list_len(*class, order)),
             );
         }
     }

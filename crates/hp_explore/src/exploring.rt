@@ -8,7 +8,7 @@ use crate::memo::Memo;
 use crate::multinomials::are_too_many;
 use crate::scripts::{Script, undo_nothing};
 use crate::tally::{Ending, Tally};
-use crate::walk::visit;
+use crate::walk::{steps_of, visit};
 use hp_machine::Machine;
 use hp_units::CallFault;
 use std::alloc::{AllocError, Global};
@@ -75,6 +75,7 @@ pub fn explore(
     }
     let mut tally = Tally::new(alloc, limit);
     let mut memo = Memo::new(alloc, undo_nothing(scripts));
-    visit(alloc, machine, scripts, machine, &mut tally, &mut memo)?;
+    let mut here = steps_of(alloc, machine, machine)?;
+    visit(alloc, machine, scripts, &mut here, &mut tally, &mut memo)?;
     Ok(tally.into_ends())
 }

@@ -1,10 +1,14 @@
 //! The walk over all schedules, depth first and processor 0 first.
-ghost use Rattle.std.specs.Prelude.{◌≡◌, ◌^◌, ◌<◌, ◌≤◌, IfErr, IfOk, OnOk, drop, length};
-ghost use Rattle.hp_explore.specs.Faults.{IsCallCause, IsNoteCause, IsWalkCause};
+ghost use Rattle.std.specs.Prelude.{◌≡◌, ◌+◌, ◌^◌, ◌<◌, ◌≤◌, [], ◌∷◌, ◌++◌, Some, true, IfErr, IfOk, OnOk, drop, length};
+ghost use Rattle.hp_units.specs.History.{effect_of};
+ghost use Rattle.hp_machine.specs.Machine.{IsHistory};
+ghost use Rattle.hp_explore.specs.Ends.{AreCounted};
+ghost use Rattle.hp_explore.specs.Faults.{IsCallCause, IsNoteCause, IsWalkCause, is_full_after};
 ghost use Rattle.hp_explore.specs.Outcomes.{ended_rows_below, replies_below};
-ghost use Rattle.hp_explore.specs.Schedules.{setting};
+ghost use Rattle.hp_explore.specs.Schedules.{Setting, next_call, schedule_of, setting};
 ghost use Rattle.hp_explore.specs.Seen.{Grow, IsMemo};
-ghost use Rattle.hp_explore.specs.Walks.{CountsBefore, CountsThrough, IsChild, IsEndNoted, IsPlayed, IsPlayedOn, IsReached};
+ghost use Rattle.hp_explore.specs.Walks.{BeforeNext, CountsBefore, CountsThrough, IsAt, IsChild, IsEndNoted, IsNextSerial, IsPlayed, IsPlayedOn, IsReached, LeadsTo, ThroughNext, may_go_back, news_since};
+ghost use Rattle.hp_explore.specs.declared.exploring.ExploreFault.TheVariants.{HistoryFull};
 
 use crate::closed::is_closed;
 use crate::digests::digest_of;
@@ -14,66 +18,75 @@ use crate::outcomes::{Answers, Outcome, answers_to, claimed_row};
 use crate::scripts::Script;
 use crate::tally::{Tally, schedule_of};
 use hp_machine::Machine;
-use hp_units::{Block, Claim, Cpu, Record, Row};
+use hp_memory::Memory;
+use hp_steps::Steps;
+use hp_units::{Block, Claim, Cpu, Event, Record, Row, Serial};
 use std::alloc::{AllocError, Global};
 
-/// Counts the complete schedules that go on from where a machine is, each under its end. Where they go on as from a place that was
-/// walked before, what was counted there is counted once more, and nothing is played. A place that was walked is kept as long as
-/// there are few ends, since each place holds a count for each end.
+/// Counts the complete schedules that go on from where the walk stands, each under its end, and comes back there. Where they go on
+/// as from a place that was walked before, what was counted there is counted once more, and nothing is played. A place that was
+/// walked is kept as long as there are few ends, since each place holds a count for each end.
 #[cycle(walk)]
 pub(crate) fn visit(
     alloc: Global,
     start: &Machine,
     scripts: &[Script],
-    machine: &Machine,
+    here: &mut Steps,
     tally: &mut Tally,
     memo: &mut Memo,
 ) -> Result<(), ExploreFault>
     requires few { length scripts.now < 2 ^ 32 }
-    requires reached { IsReached (setting start.now scripts.now) machine.now }
-    requires counted { CountsBefore (setting start.now scripts.now) machine.now tally.old.ends }
+    requires at { IsAt (setting start.now scripts.now) here.old }
+    requires counted { CountsBefore (setting start.now scripts.now) here.old tally.old.ends }
     requires memo { IsMemo (setting start.now scripts.now) tally.old.ends memo.old }
-    ensures ok { OnOk result (CountsThrough (setting start.now scripts.now) machine.now tally.new.ends) }
+    ensures ok { OnOk result (CountsThrough (setting start.now scripts.now) here.old tally.new.ends) }
+    ensures back { OnOk result (here.new ≡ here.old) }
     ensures grows { OnOk result (Grow tally.old.ends tally.new.ends) }
     ensures memo { OnOk result (IsMemo (setting start.now scripts.now) tally.new.ends memo.new) }
     ensures limit { tally.new.limit ≡ tally.old.limit }
     ensures err { IfErr result (IsWalkCause (setting start.now scripts.now) tally.old.limit) }
 {
-    if !memo.is_on() || !is_closed(machine.history()) {
-        return walk_on(alloc, start, scripts, machine, tally, memo);
+    if !memo.is_on() || !is_closed(start.history(), here.records()) {
+        return walk_on(alloc, start, scripts, here, tally, memo);
     }
-    let news = records_from(machine.history(), start.history().len());
-    let digest = digest_of(machine, news);
-    let image = machine.image(alloc)?;
-    if let Some(counts) = memo.counts_like(alloc, digest, &image, news, scripts.len() as u32)? {
+    let digest = digest_of(here.memory(), here.records());
+    let image = here.memory().image(alloc)?;
+    if let Some(counts) = memo.counts_like(
+        alloc,
+        digest,
+        &image,
+        here.records(),
+        scripts.len() as u32,
+    )? {
         return tally.add(counts);
     }
     if tally.has_many_ends() {
-        return walk_on(alloc, start, scripts, machine, tally, memo);
+        return walk_on(alloc, start, scripts, here, tally, memo);
     }
     let earlier = tally.counts(alloc)?;
-    walk_on(alloc, start, scripts, machine, tally, memo)?;
+    walk_on(alloc, start, scripts, here, tally, memo)?;
     let counts = tally.since(alloc, earlier.as_slice())?;
-    let news = copies(alloc, news)?;
+    let news = copies(alloc, here.records())?;
     memo.add(digest, Seen::new(image, news, counts))?;
     Ok(())
 }
 
-/// Counts them by playing each processor's next call, processor 0 first.
+/// Counts them by making each processor's next call, processor 0 first.
 #[cycle(walk)]
 fn walk_on(
     alloc: Global,
     start: &Machine,
     scripts: &[Script],
-    machine: &Machine,
+    here: &mut Steps,
     tally: &mut Tally,
     memo: &mut Memo,
 ) -> Result<(), ExploreFault>
     requires few { length scripts.now < 2 ^ 32 }
-    requires reached { IsReached (setting start.now scripts.now) machine.now }
-    requires counted { CountsBefore (setting start.now scripts.now) machine.now tally.old.ends }
+    requires at { IsAt (setting start.now scripts.now) here.old }
+    requires counted { CountsBefore (setting start.now scripts.now) here.old tally.old.ends }
     requires memo { IsMemo (setting start.now scripts.now) tally.old.ends memo.old }
-    ensures ok { OnOk result (CountsThrough (setting start.now scripts.now) machine.now tally.new.ends) }
+    ensures ok { OnOk result (CountsThrough (setting start.now scripts.now) here.old tally.new.ends) }
+    ensures back { OnOk result (here.new ≡ here.old) }
     ensures grows { OnOk result (Grow tally.old.ends tally.new.ends) }
     ensures memo { OnOk result (IsMemo (setting start.now scripts.now) tally.new.ends memo.new) }
     ensures limit { tally.new.limit ≡ tally.old.limit }
@@ -81,16 +94,138 @@ fn walk_on(
 {
     let mut is_over = true;
     for cpu in 0..scripts.len() as u32 {
-        if let Some(next) = child(alloc, start, scripts, machine, cpu)? {
+        if let Some(event) = next_at(alloc, scripts, here, cpu)? {
             is_over = false;
-            visit(alloc, start, scripts, &next, tally, memo)?;
+            let visited = visit_next(alloc, start, scripts, here, cpu, &event, tally, memo);
+            drop(event);
+            visited?;
         }
     }
     if is_over {
-        note_end(alloc, start, scripts.len() as u32, machine, tally)
+        note_end(alloc, scripts.len() as u32, here, tally)
     } else {
         Ok(())
     }
+}
+
+/// Counts those that go on with a processor's next call. The call is a step that is taken back; only after an undo or a Cancel,
+/// which may go back themselves, the walk goes on from a machine that played all calls again.
+#[cycle(walk)]
+fn visit_next(
+    alloc: Global,
+    start: &Machine,
+    scripts: &[Script],
+    here: &mut Steps,
+    cpu: u32,
+    event: &Event,
+    tally: &mut Tally,
+    memo: &mut Memo,
+) -> Result<(), ExploreFault>
+    requires few { length scripts.now < 2 ^ 32 }
+    requires at { IsAt (setting start.now scripts.now) here.old }
+    requires asked { next_call (setting start.now scripts.now) cpu here.old.records ≡ Some event.now }
+    requires counted { AreCounted (BeforeNext (setting start.now scripts.now) here.old cpu) tally.old.ends }
+    requires memo { IsMemo (setting start.now scripts.now) tally.old.ends memo.old }
+    ensures ok { OnOk result (AreCounted (ThroughNext (setting start.now scripts.now) here.old cpu) tally.new.ends) }
+    ensures back { OnOk result (here.new ≡ here.old) }
+    ensures grows { OnOk result (Grow tally.old.ends tally.new.ends) }
+    ensures memo { OnOk result (IsMemo (setting start.now scripts.now) tally.new.ends memo.new) }
+    ensures limit { tally.new.limit ≡ tally.old.limit }
+    ensures err { IfErr result (IsWalkCause (setting start.now scripts.now) tally.old.limit) }
+{
+    let serial = next_serial(start, here.records())?;
+    if may_go_back(event) {
+        return match steps_after(alloc, start, scripts, here.records(), cpu)? {
+            Some(steps) => {
+                let mut there = steps;
+                visit(alloc, start, scripts, &mut there, tally, memo)
+            }
+            None => Ok(()),
+        };
+    }
+    let mark = here.make(alloc, serial, Cpu(cpu), event)?;
+    visit(alloc, start, scripts, here, tally, memo)?;
+    here.take_back(mark);
+    Ok(())
+}
+
+/// The event that a processor's script asks for where the walk stands. An error is out of memory.
+fn next_at(
+    alloc: Global,
+    scripts: &[Script],
+    here: &Steps,
+    cpu: u32,
+) -> Result<Option<Event>, AllocError>
+    requires { cpu < length scripts.now }
+    ensures { IfOk result (λ next. (g : Setting) → g.scripts ≡ scripts.now → g.layout ≡ here.now.layout → next_call g cpu here.now.records ≡ next) }
+{
+    let script = &scripts[cpu as usize];
+    script.next_event(
+        alloc,
+        here.memory().layout().cpus(),
+        Cpu(cpu),
+        here.records(),
+    )
+}
+
+/// The serial of the next record after the new ones. An error is that the history has no room for it, or that there is none.
+fn next_serial(start: &Machine, news: &[Record]) -> Result<Serial, ExploreFault>
+    ensures ok { IfOk result (λ serial. IsNextSerial start.now news.now serial) }
+    ensures err { IfErr result (λ fault. (fault ≡ HistoryFull) × (is_full_after (setting start.now []) news.now ≡ true)) }
+{
+    let calls = news.len() as u64;
+    let last = start.last_serial();
+    let records = start.history().len() as u64;
+    let room = start.layout().history().saturating_sub(records);
+    if calls >= room || calls >= u64::MAX - last {
+        return Err(ExploreFault::HistoryFull);
+    }
+    Ok(Serial(last + calls + 1))
+}
+
+/// Whether an event may go back to an earlier state.
+fn may_go_back(event: &Event) -> bool
+    ensures { result ≡ may_go_back (effect_of event.now) }
+{
+    matches!(event, Event::UndoAfter { .. } | Event::Cancel { .. })
+}
+
+/// Where a processor's next call after new records leads to, none where its script asks for nothing: on a machine that plays all
+/// calls again. Errors come as those of `play`.
+fn steps_after(
+    alloc: Global,
+    start: &Machine,
+    scripts: &[Script],
+    news: &[Record],
+    cpu: u32,
+) -> Result<Option<Steps>, ExploreFault>
+    ensures ok { IfOk result (LeadsTo (setting start.now scripts.now) (schedule_of news.now ++ cpu ∷ [])) }
+    ensures err { IfErr result (IsCallCause (setting start.now scripts.now)) }
+{
+    let mut schedule = schedule_of(alloc, news)?;
+    schedule.reserve(1)?;
+    schedule.push_reserved(Cpu(cpu));
+    match play(alloc, start, scripts, schedule.as_slice())? {
+        Some(machine) => Ok(Some(steps_of(alloc, start, &machine)?)),
+        None => Ok(None),
+    }
+}
+
+/// Where a machine stands, with its records since another. An error is out of memory.
+pub(crate) fn steps_of(
+    alloc: Global,
+    start: &Machine,
+    machine: &Machine,
+) -> Result<Steps, AllocError>
+    requires { length start.now.history ≤ length machine.now.history }
+    ensures value { IfOk result (λ steps. steps ≡ record { layout = machine.now.layout; state = machine.now.state; deltas = []; records = news_since start.now machine.now }) }
+    ensures kept { IsHistory machine.now }
+{
+    machine.stays_sound();
+    let news = records_from(machine.history(), start.history().len());
+    let news = copies(alloc, news)?;
+    let image = machine.image(alloc)?;
+    Steps::start(alloc, &image, news)
 }
 
 /// The machine that a schedule of the scripts leads to, on a copy; none where it asks a processor for a call when its script is
@@ -104,7 +239,8 @@ pub fn play(
     ensures ok { IfOk result (IsPlayed (setting machine.now scripts.now) schedule.now) }
     ensures err { IfErr result (IsCallCause (setting machine.now scripts.now)) }
 {
-    play_on(alloc, machine, scripts, machine, schedule)
+    let copy = machine.copy(alloc)?;
+    play_on(alloc, machine, scripts, copy, schedule)
 }
 
 /// The machine that the rest of a schedule leads to from where a machine is, if it can be played.
@@ -112,32 +248,32 @@ fn play_on(
     alloc: Global,
     start: &Machine,
     scripts: &[Script],
-    machine: &Machine,
+    machine: Machine,
     rest: &[Cpu],
 ) -> Result<Option<Machine>, ExploreFault>
-    requires { IsReached (setting start.now scripts.now) machine.now }
-    ensures ok { IfOk result (IsPlayedOn (setting start.now scripts.now) machine.now rest.now) }
+    requires { IsReached (setting start.now scripts.now) machine }
+    ensures ok { IfOk result (IsPlayedOn (setting start.now scripts.now) machine rest.now) }
     ensures err { IfErr result (IsCallCause (setting start.now scripts.now)) }
 {
     match rest {
         [cpu, rest @ ..] => match child_of(alloc, start, scripts, machine, *cpu)? {
-            Some(next) => play_on(alloc, start, scripts, &next, rest),
+            Some(next) => play_on(alloc, start, scripts, next, rest),
             None => Ok(None),
         },
-        [] => Ok(Some(machine.copy(alloc)?)),
+        [] => Ok(Some(machine)),
     }
 }
 
-/// A copy of the machine after a processor's next call, or none where it has no script or its script asks for nothing.
+/// The machine after a processor's next call, or none where it has no script or its script asks for nothing.
 fn child_of(
     alloc: Global,
     start: &Machine,
     scripts: &[Script],
-    machine: &Machine,
+    machine: Machine,
     cpu: Cpu,
 ) -> Result<Option<Machine>, ExploreFault>
-    requires { IsReached (setting start.now scripts.now) machine.now }
-    ensures ok { IfOk result (IsChild (setting start.now scripts.now) machine.now cpu) }
+    requires { IsReached (setting start.now scripts.now) machine }
+    ensures ok { IfOk result (IsChild (setting start.now scripts.now) machine cpu) }
     ensures err { IfErr result (IsCallCause (setting start.now scripts.now)) }
 {
     if (cpu.0 as usize) < scripts.len() {
@@ -147,23 +283,23 @@ fn child_of(
     }
 }
 
-/// A copy of the machine after a processor's next call, or none where its script asks for nothing.
+/// The machine after a processor's next call, or none where its script asks for nothing.
 fn child(
     alloc: Global,
     start: &Machine,
     scripts: &[Script],
-    machine: &Machine,
+    machine: Machine,
     cpu: u32,
 ) -> Result<Option<Machine>, ExploreFault>
     requires within { cpu < length scripts.now }
-    requires reached { IsReached (setting start.now scripts.now) machine.now }
-    ensures ok { IfOk result (IsChild (setting start.now scripts.now) machine.now cpu) }
+    requires reached { IsReached (setting start.now scripts.now) machine }
+    ensures ok { IfOk result (IsChild (setting start.now scripts.now) machine cpu) }
     ensures err { IfErr result (IsCallCause (setting start.now scripts.now)) }
 {
     let news = records_from(machine.history(), start.history().len());
     match scripts[cpu as usize].next_event(alloc, machine.layout().cpus(), Cpu(cpu), news)? {
         Some(event) => {
-            let mut next = machine.copy(alloc)?;
+            let mut next = machine;
             next.call(alloc, Cpu(cpu), &event)?;
             Ok(Some(next))
         }
@@ -171,24 +307,20 @@ fn child(
     }
 }
 
-/// Counts the schedule that led to a machine under its end.
+/// Counts the schedule that led to where the walk stands under its end.
 fn note_end(
     alloc: Global,
-    start: &Machine,
     processors: u32,
-    machine: &Machine,
+    here: &Steps,
     tally: &mut Tally,
 ) -> Result<(), ExploreFault>
-    requires { length start.now.history ≤ length machine.now.history }
-    ensures ok { OnOk result
-        (IsEndNoted processors start.now machine.now tally.old.ends tally.new.ends) }
+    ensures ok { OnOk result (IsEndNoted processors here.now tally.old.ends tally.new.ends) }
     ensures limit { tally.new.limit ≡ tally.old.limit }
     ensures err { IfErr result (IsNoteCause tally.old) }
 {
-    let news = records_from(machine.history(), start.history().len());
-    let replies = all_answers(alloc, processors, news)?;
-    let blocks = ended_rows(alloc, machine)?;
-    let schedule = schedule_of(alloc, news)?;
+    let replies = all_answers(alloc, processors, here.records())?;
+    let blocks = ended_rows(alloc, here.memory())?;
+    let schedule = schedule_of(alloc, here.records())?;
     tally.note(Outcome::new(replies, blocks), schedule)
 }
 
@@ -234,15 +366,15 @@ fn all_answers(
     Ok(all)
 }
 
-/// Each memory block's row on a machine, without the operation that may hold it. An error is out of memory.
-fn ended_rows(alloc: Global, machine: &Machine) -> Result<Vec<Row>, AllocError>
-    ensures { IfOk result (λ rows. rows.items ≡ ended_rows_below machine.now.layout.blocks machine.now.state) }
+/// Each memory block's row, without the operation that may hold it. An error is out of memory.
+fn ended_rows(alloc: Global, memory: &Memory) -> Result<Vec<Row>, AllocError>
+    ensures { IfOk result (λ rows. rows.items ≡ ended_rows_below memory.now.layout.blocks memory.now.state) }
 {
     let mut rows = Vec::new(alloc);
-    for block in 0..machine.layout().blocks() {
+    for block in 0..memory.layout().blocks() {
         rows.reserve(1)?;
         let unclaimed: Option<Claim> = None;
-        rows.push_reserved(claimed_row(machine.row(Block(block)), unclaimed));
+        rows.push_reserved(claimed_row(memory.row(Block(block)), unclaimed));
     }
     Ok(rows)
 }

@@ -1,19 +1,24 @@
--- The schedules up to the processors so far are counted; the room that is left in the history becomes less.
-use Rattle.std.proofs.Common.{◌+◌, ◌*◌, ◌-◌, length}
+-- The schedules up to the processors so far are counted, and the walk stands where it stood; the room that is left in the history
+-- becomes less.
+use Rattle.std.proofs.Common.{◌≡◌, ◌+◌, ◌*◌, ◌-◌, length}
 use Rattle.hp_explore.specs.Schedules.{setting}
 use Rattle.hp_explore.specs.Seen.{Grow, IsMemo}
 use Rattle.hp_explore.proofs.Walking.{IsWalked}
 use Rattle.hp_explore.proofs.walk.+walk.Given as goal
 
 abbrev pub decreases-visit : goal.decreases-visit
-decreases-visit l = 2 * (l.machine.now.layout.history - length l.machine.now.history) + 1
+decreases-visit l = 3 * (l.start.now.layout.history - (length l.start.now.history + length l.here.now.records)) + 2
 
 abbrev pub decreases-walk_on : goal.decreases-walk_on
-decreases-walk_on l = 2 * (l.machine.now.layout.history - length l.machine.now.history)
+decreases-walk_on l = 3 * (l.start.now.layout.history - (length l.start.now.history + length l.here.now.records)) + 1
+
+abbrev pub decreases-visit_next : goal.decreases-visit_next
+decreases-visit_next l = 3 * (l.start.now.layout.history - (length l.start.now.history + length l.here.now.records))
 
 abbrev pub invariant-walk_on-loop-cpu : goal.invariant-walk_on-loop-cpu
 invariant-walk_on-loop-cpu l = record {
-  walked : IsWalked (setting l.start l.scripts) l.machine l.initial.tally.limit l.cpu l.is_over l.tally;
+  walked : IsWalked (setting l.start l.scripts) l.initial.here l.initial.tally.limit l.cpu l.is_over l.tally;
+  back : l.here ≡ l.initial.here;
   grown : Grow l.initial.tally.ends l.tally.ends;
   memo : IsMemo (setting l.start l.scripts) l.tally.ends l.memo;
 }
