@@ -12,7 +12,8 @@ What is compared, of `hotplug_lab explore`:
   the first line that cannot stand in a script is refused by its place;
 - 50 runs of `hotplug run` on each of three small scenarios: each outcome is one of the ends.
 Of `hotplug_lab trace`, on each file of examples/: it has all lines in their order, and what they
-answer is what `hotplug serial` prints before the state.
+answer is what `hotplug serial` prints before the state. Of `hotplug_lab check`: it finds no fault
+in any file of examples/, and one where a text that is no line comes last.
 The last line is 'lab: N passed, M failed'; the exit status is 0 where nothing failed, else 1.
 """
 import json
@@ -60,6 +61,9 @@ class Programs:
     def explore(self, scenario, setup, limit=100000):
         words = [self.lab, "explore", "--setup", str(setup), "--limit", str(limit)]
         return self.call(words, scenario)
+
+    def check(self, scenario):
+        return self.call([self.lab, "check"], scenario)
 
     def trace(self, scenario):
         return self.call([self.lab, "trace"], scenario)
@@ -271,11 +275,22 @@ def check_trace(checks, programs, file):
     checks.holds(f"trace of {file.name}", answers == expected, f"{answers} in place of {expected}")
 
 
+def check_findings(checks, programs, file):
+    scenario = json.loads(file.read_text())
+    text = programs.check(scenario)
+    checks.holds(f"{file.name} check", "\n0 faults, " in "\n" + text, f"says {text!r}")
+    scenario["calls"].append("0")
+    text, last = programs.check(scenario), len(scenario["calls"])
+    checks.holds(f"{file.name} check", text == f"calls {last} (line 1): `0`: a verb is missing\n"
+                                               "1 faults, 0 warnings\n", f"says {text!r}")
+
+
 def check_all(checks, programs):
     check_by_force(checks, programs)
     for file in sorted((ROOT / "examples").glob("*.json")):
         check_example(checks, programs, file)
         check_trace(checks, programs, file)
+        check_findings(checks, programs, file)
     check_runs(checks, programs)
 
 

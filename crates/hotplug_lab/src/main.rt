@@ -1,11 +1,12 @@
 //! Looks into scenarios of the memory machine: `hotplug_lab WORD`, a file or standard input to standard output.
 //!
-//! What a word writes stands in a library of its own: `explore` in hp_lab, `trace` in hp_trace. The exit status is 0; or 1 after a
-//! fault, which standard error names; or 2 where the command line is wrong. It is the same where standard error takes no text.
+//! What a word writes stands in a library of its own: `check` in hp_check, `explore` in hp_lab, `trace` in hp_trace. The exit status
+//! is 0; or 1 after a fault, which standard error names, and after a check that finds faults; or 2 where the command line is wrong.
+//! It is the same where standard error takes no text.
 #![tactic(auto)]
 
 ghost use Rattle.std.specs.Prelude.{IfOk, string_bytes};
-ghost use Rattle.hotplug_lab.specs.Words.{IsTextOf};
+ghost use Rattle.hotplug_lab.specs.Words.{IsAnswerOf, IsCheckOf};
 
 mod fault;
 mod streams;
@@ -13,6 +14,7 @@ mod words;
 
 use clap::error::ErrorKind;
 use fault::ProgramFault;
+use hp_check::{check, fault_count, write_report};
 use hp_lab::explore_text;
 use hp_trace::trace;
 use std::alloc::{AllocError, Global};
@@ -32,21 +34,47 @@ fn read_input(rt: &HostRuntime, file: Option<&str>) -> Result<Vec<u8>, ProgramFa
     }
 }
 
-/// The text that a word makes of the bytes of a scenario.
-fn text_of(alloc: Global, input: &[u8], word: Word) -> Result<String, ProgramFault>
-    ensures { IfOk result (λ text. IsTextOf word input.now (string_bytes text)) }
+/// What a word writes, and the exit status.
+#[derive(Debug, Drop)]
+struct Answer {
+    text: String,
+    status: u8,
+}
+
+/// What is wrong with the scenario that the bytes are to be. The status is 0 where nothing is but warnings.
+fn checked(alloc: Global, input: &[u8]) -> Result<Answer, ProgramFault>
+    ensures { IfOk result (λ answer. IsCheckOf input.now (string_bytes answer.text) answer.status) }
+{
+    let found = check(alloc, input)?;
+    let mut text = String::new(alloc);
+    write_report(&mut text, alloc, input, &found)?;
+    let status = if fault_count(&found) == 0 { 0 } else { 1 };
+    Ok(Answer { text, status })
+}
+
+/// What a word makes of the bytes of a scenario.
+fn answer_to(alloc: Global, input: &[u8], word: Word) -> Result<Answer, ProgramFault>
+    ensures { IfOk result (λ answer. IsAnswerOf word input.now (string_bytes answer.text) answer.status) }
 {
     match word {
-        Word::Explore(asked) => Ok(explore_text(alloc, input, asked.setup, asked.limit)?),
-        Word::Trace(view) => Ok(trace(alloc, input, view)?),
+        Word::Check => checked(alloc, input),
+        Word::Explore(asked) => Ok(Answer {
+            text: explore_text(alloc, input, asked.setup, asked.limit)?,
+            status: 0,
+        }),
+        Word::Trace(view) => Ok(Answer {
+            text: trace(alloc, input, view)?,
+            status: 0,
+        }),
     }
 }
 
-/// Does what is asked for, on the file that is named or else on standard input.
-fn serve(rt: &HostRuntime, request: Request<'_>) -> Result<(), ProgramFault> {
+/// Does what is asked for, on the file that is named or else on standard input, and answers the exit status.
+fn serve(rt: &HostRuntime, request: Request<'_>) -> Result<u8, ProgramFault> {
     let input = read_input(rt, request.file)?;
-    let text = text_of(rt.alloc(), &input, request.word)?;
-    write_all(&mut rt.stdout(), text.as_bytes())
+    let answer = answer_to(rt.alloc(), &input, request.word)?;
+    write_all(&mut rt.stdout(), answer.text.as_bytes())?;
+    Ok(answer.status)
 }
 
 /// Does what the words ask for, or says what they may be, and answers the exit status.
@@ -54,10 +82,7 @@ fn run(rt: &HostRuntime, words: &[String]) -> Result<u8, ProgramFault> {
     let command = lab_command(rt.alloc())?;
     match command.try_get_matches_from(words) {
         Ok(matches) => match request_from(&matches) {
-            Some(request) => {
-                serve(rt, request)?;
-                Ok(0)
-            }
+            Some(request) => serve(rt, request),
             None => Ok(2),
         },
         Err(error) if error.kind() == ErrorKind::OutOfMemory => Err(ProgramFault::from(AllocError)),

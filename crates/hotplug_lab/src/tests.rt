@@ -41,6 +41,15 @@ fn explore_is_read(alloc: Global) -> Result<bool, AllocError> {
     )
 }
 
+/// Whether `check` is read, with a file and without.
+fn check_is_read(alloc: Global) -> Result<bool, AllocError> {
+    Ok(
+        asked_by(alloc, &["hotplug_lab", "check"])? == Some((Word::Check, false))
+            && asked_by(alloc, &["hotplug_lab", "check", "tour.json"])?
+                == Some((Word::Check, true)),
+    )
+}
+
 /// Whether each option of `trace` has its place.
 fn trace_is_read(alloc: Global) -> Result<bool, AllocError> {
     let plain = View {
@@ -85,6 +94,7 @@ fn others_ask_for_nothing(alloc: Global) -> Result<bool, AllocError> {
 
 #[test]
 fn options_have_their_places(rt: HostRuntime) -> Result<(), Fail> {
+    assert!(rt; check_is_read(rt.alloc())?);
     assert!(rt; explore_is_read(rt.alloc())?);
     assert!(rt; trace_is_read(rt.alloc())?);
     assert!(rt; others_ask_for_nothing(rt.alloc())?);

@@ -20,6 +20,8 @@ pub struct Exploration {
 /// What is to be made of a scenario.
 #[derive(Clone, Copy, Debug, PartialEq, Eq)]
 pub enum Word {
+    /// What is wrong with it and where.
+    Check,
     /// Every interleaving of its scripts.
     Explore(Exploration),
     /// What each of its lines answers, with the memory after each call.
@@ -39,11 +41,21 @@ pub fn lab_command<'a>(alloc: Global) -> Result<Command<'a>, AllocError> {
         .version("1.0")
         .about("Looks into scenarios of the memory machine")
         .after_help(
-            "Exit status: 0; 1 after a fault, which standard error names; 2 for a wrong command line.",
+            "Exit status: 0; 1 after a fault, which standard error names, and after a check that finds faults (warnings alone: 0); 2 for a wrong command line.",
         )
         .subcommand_required(true)
+        .subcommand(check_command(alloc)?)?
         .subcommand(explore_command(alloc)?)?
         .subcommand(trace_command(alloc)?)
+}
+
+/// The words of `check`.
+fn check_command<'a>(alloc: Global) -> Result<Command<'a>, AllocError> {
+    Command::new(alloc, "check")
+        .about(
+            "Writes what is wrong with a scenario and where; the status is 0 where there are no faults",
+        )
+        .arg(scenario(alloc))
 }
 
 /// The words of `explore`.
@@ -108,6 +120,7 @@ pub fn request_from<'a>(matches: &ArgMatches<'a>) -> Option<Request<'a>> {
 /// What a word asks for with the words after it.
 fn word_from(name: &str, words: &ArgMatches<'_>) -> Option<Word> {
     match name {
+        "check" => Some(Word::Check),
         "explore" => Some(Word::Explore(exploration_from(words))),
         "trace" => Some(Word::Trace(view_from(words))),
         _ => None,
