@@ -1,16 +1,18 @@
 #!/usr/bin/env python3
-"""Compares what `hotplug_lab explore` prints with `hotplug`. `check` at the top runs it after the gate;
+"""Compares what `hotplug_lab` prints with `hotplug`. `check` at the top runs it after the gate;
 alone it takes the folder of the crates:
 
     python3 docs/check_lab.py [CRATES]        without CRATES: crates
 
-What is compared:
+What is compared, of `hotplug_lab explore`:
 - the ends and counts of an offline against map, write and read of another processor
   (examples/last-frame.json) with those of `hotplug serial` on each order of the calls;
 - on each file of examples/, with a setup that leaves at most six lines for scripts: the first
-  interleaving of each end, pasted after the setup's lines, has that end in `hotplug serial`; and the
-  first line that cannot stand in a script is refused by its place;
+  interleaving of each end, pasted after the setup's lines, has that end in `hotplug serial`; and
+  the first line that cannot stand in a script is refused by its place;
 - 50 runs of `hotplug run` on each of three small scenarios: each outcome is one of the ends.
+Of `hotplug_lab trace`, on each file of examples/: it has all lines in their order, and what they
+answer is what `hotplug serial` prints before the state.
 The last line is 'lab: N passed, M failed'; the exit status is 0 where nothing failed, else 1.
 """
 import json
@@ -58,6 +60,9 @@ class Programs:
     def explore(self, scenario, setup, limit=100000):
         words = [self.lab, "explore", "--setup", str(setup), "--limit", str(limit)]
         return self.call(words, scenario)
+
+    def trace(self, scenario):
+        return self.call([self.lab, "trace"], scenario)
 
 
 # What is printed
@@ -241,10 +246,36 @@ def check_runs(checks, programs):
             checks.holds(f"run of race {number}", outcome in known, f"{outcome} is no end")
 
 
+# Traces
+
+def traced(text, calls):
+    """What each line answers in a trace, and the lines that it lacks. A row of a plan's call begins
+    with five spaces, and the memory in a row with block 0."""
+    answers = []
+    lacking = [f"{number:>4} {call}" for number, call in enumerate(calls, 1)]
+    for line in text.splitlines()[1:]:
+        if lacking and line.startswith(lacking[0]):
+            answer = line.removeprefix(lacking.pop(0)).partition(" 0:")[0].strip()
+            answers += [answer] if answer else []
+        elif not line.startswith(" " * 5):
+            answers.append(line)
+    return answers, lacking
+
+
+def check_trace(checks, programs, file):
+    scenario = json.loads(file.read_text())
+    layout, calls = scenario["layout"], scenario["calls"]
+    expected = programs.serial(layout, calls).rpartition("state\nblock 0 ")[0].splitlines()
+    answers, lacking = traced(programs.trace(scenario), calls)
+    checks.holds(f"trace of {file.name}", not lacking, f"lacks {lacking}")
+    checks.holds(f"trace of {file.name}", answers == expected, f"{answers} in place of {expected}")
+
+
 def check_all(checks, programs):
     check_by_force(checks, programs)
     for file in sorted((ROOT / "examples").glob("*.json")):
         check_example(checks, programs, file)
+        check_trace(checks, programs, file)
     check_runs(checks, programs)
 
 

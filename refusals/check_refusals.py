@@ -13,6 +13,8 @@ What is checked:
   output, or with `fault OutOfMemory` in place of one line's answer and all else as without it;
 - where a read or a write fails, they end with its fault and print nothing; where one moves a
   single byte, or each does, they print all;
+- `hotplug_lab explore` and `trace`: where one request for memory is refused, or a read or a write
+  fails, each run ends with its whole output, or with that fault and nothing on standard output;
 - hostile texts have their faults, and deep nesting ends as `not JSON` on the usual stack of 8 MiB.
 refuse.c, built with the toolchain's clang and loaded before the C library, does the refusing.
 A line for each case, command and scenario has how many were refused. The last line is
@@ -26,6 +28,7 @@ from concurrent.futures import ThreadPoolExecutor
 
 from cases import check_cases
 from hostile import FULL, NESTED, hostile_texts, scenario_text
+from lab import check_lab
 from refusing import ROOT, WORKERS, Checks, Refused, Refuser, run, run_on_stack
 
 HOTPLUG = ROOT / "crates" / "hotplug" / "out" / "hotplug"
@@ -256,6 +259,7 @@ def check_all(checks):
         refuser = Refuser(folder)
         check_cases(checks, refuser)
         check_commands(checks, Commands(HOTPLUG, refuser))
+        check_lab(checks, refuser)
     check_hostile(checks, HOTPLUG)
     check_stacks(checks, HOTPLUG)
 

@@ -1,9 +1,10 @@
 //! Why the program failed.
 ghost use Rattle.std.specs.Prelude.{◌≡◌};
 ghost use Rattle.hp_lab.specs.declared.fault.LabFault.TheVariants.{OutOfMemory};
-ghost use Rattle.hotplug_lab.specs.declared.fault.ProgramFault.TheVariants.{Lab};
+ghost use Rattle.hotplug_lab.specs.declared.fault.ProgramFault.TheVariants.{Lab, Scenario};
 
 use hp_lab::LabFault;
+use hp_scenario::ScenarioFault;
 use std::alloc::AllocError;
 use std::error::Error;
 use std::fmt;
@@ -17,8 +18,10 @@ pub enum ProgramFault {
     ReadFailed,
     /// There are more than 16,777,216 bytes of input.
     TooLong,
-    /// The word failed.
+    /// The exploration failed.
     Lab(LabFault),
+    /// The scenario is none.
+    Scenario(ScenarioFault),
     /// The writer failed.
     WriteFailed,
 }
@@ -30,6 +33,7 @@ impl fmt::Display for ProgramFault {
             ProgramFault::ReadFailed => write!(f, "hotplug_lab: reading failed"),
             ProgramFault::TooLong => write!(f, "hotplug_lab: input too long"),
             ProgramFault::Lab(fault) => write!(f, "hotplug_lab: {fault}"),
+            ProgramFault::Scenario(fault) => write!(f, "hotplug_lab: {fault}"),
             ProgramFault::WriteFailed => write!(f, "hotplug_lab: writing failed"),
         }
     }
@@ -50,5 +54,13 @@ impl From<LabFault> for ProgramFault {
 
     fn from(fault: LabFault) -> ProgramFault {
         ProgramFault::Lab(fault)
+    }
+}
+
+impl From<ScenarioFault> for ProgramFault {
+    ghost from_gives = { λ fault e. e ≡ Scenario fault };
+
+    fn from(fault: ScenarioFault) -> ProgramFault {
+        ProgramFault::Scenario(fault)
     }
 }

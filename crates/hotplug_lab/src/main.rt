@@ -1,44 +1,52 @@
-//! Looks into scenarios of the memory machine: `hotplug_lab explore`, a file or standard input to standard output.
+//! Looks into scenarios of the memory machine: `hotplug_lab WORD`, a file or standard input to standard output.
 //!
-//! What a word writes stands in hp_lab. The exit status is 0; or 1 after a fault, which standard error names; or 2 where the
-//! command line is wrong. It is the same where standard error takes no text.
+//! What a word writes stands in a library of its own: `explore` in hp_lab, `trace` in hp_trace. The exit status is 0; or 1 after a
+//! fault, which standard error names; or 2 where the command line is wrong. It is the same where standard error takes no text.
 #![tactic(auto)]
+
+ghost use Rattle.std.specs.Prelude.{IfOk, string_bytes};
+ghost use Rattle.hotplug_lab.specs.Words.{IsTextOf};
 
 mod fault;
 mod streams;
 mod words;
 
+use clap::error::ErrorKind;
 use fault::ProgramFault;
-use hp_lab::{LabFault, explore_text};
-use std::alloc::Global;
-use std::io::{Read, Write};
+use hp_lab::explore_text;
+use hp_trace::trace;
+use std::alloc::{AllocError, Global};
 use std::process::ExitCode;
 use std::{env, fs, io};
 use streams::{read_all, write_all};
-use words::{Exploration, Request, lab_command, request_from};
+use words::{Request, Word, lab_command, request_from};
 
-/// Writes the exploration of the scenario that an input gives.
-fn explore<R: Read + Drop, W: Write + Drop>(
-    alloc: Global,
-    input: R,
-    mut output: W,
-    asked: Exploration,
-) -> Result<(), ProgramFault> {
-    let bytes = read_all(alloc, input)?;
-    let text = explore_text(alloc, &bytes, asked.setup, asked.limit)?;
-    write_all(&mut output, text.as_bytes())
+/// The bytes of the file that is named, or else of standard input.
+fn read_input(rt: &HostRuntime, file: Option<&str>) -> Result<Vec<u8>, ProgramFault> {
+    let Some(path) = file else {
+        return read_all(rt.alloc(), rt.stdin());
+    };
+    match fs::open(rt, path) {
+        Ok(input) => read_all(rt.alloc(), input),
+        Err(_) => Err(ProgramFault::NotOpened),
+    }
+}
+
+/// The text that a word makes of the bytes of a scenario.
+fn text_of(alloc: Global, input: &[u8], word: Word) -> Result<String, ProgramFault>
+    ensures { IfOk result (λ text. IsTextOf word input.now (string_bytes text)) }
+{
+    match word {
+        Word::Explore(asked) => Ok(explore_text(alloc, input, asked.setup, asked.limit)?),
+        Word::Trace(view) => Ok(trace(alloc, input, view)?),
+    }
 }
 
 /// Does what is asked for, on the file that is named or else on standard input.
 fn serve(rt: &HostRuntime, request: Request<'_>) -> Result<(), ProgramFault> {
-    let Request::Explore { file, asked } = request;
-    let Some(path) = file else {
-        return explore(rt.alloc(), rt.stdin(), rt.stdout(), asked);
-    };
-    match fs::open(rt, path) {
-        Ok(input) => explore(rt.alloc(), input, rt.stdout(), asked),
-        Err(_) => Err(ProgramFault::NotOpened),
-    }
+    let input = read_input(rt, request.file)?;
+    let text = text_of(rt.alloc(), &input, request.word)?;
+    write_all(&mut rt.stdout(), text.as_bytes())
 }
 
 /// Does what the words ask for, or says what they may be, and answers the exit status.
@@ -52,6 +60,7 @@ fn run(rt: &HostRuntime, words: &[String]) -> Result<u8, ProgramFault> {
             }
             None => Ok(2),
         },
+        Err(error) if error.kind() == ErrorKind::OutOfMemory => Err(ProgramFault::from(AllocError)),
         Err(error) => {
             let _ = error.print(rt);
             Ok(error.exit_code() as u8)
@@ -67,7 +76,7 @@ fn run_words(rt: &HostRuntime) -> Result<u8, ProgramFault> {
             run(rt, &words)
         }
         Err(error) if error.kind() == io::ErrorKind::OutOfMemory => {
-            Err(ProgramFault::Lab(LabFault::OutOfMemory))
+            Err(ProgramFault::from(AllocError))
         }
         Err(_) => Ok(2),
     }

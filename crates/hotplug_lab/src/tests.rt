@@ -1,22 +1,23 @@
 //! The words of the command line.
-use super::words::{Exploration, Request, lab_command, request_from};
+use super::words::{Exploration, Word, lab_command, request_from};
+use hp_trace::View;
 use std::alloc::{AllocError, Global};
 use std::test::Fail;
 
-/// The file and what is asked of an exploration by these words, where they ask for one.
-fn asked_by(alloc: Global, words: &[&str]) -> Result<Option<(bool, Exploration)>, AllocError> {
+/// What is asked for by these words after the program's name, and whether `tour.json` is named; if they ask for anything.
+fn asked_by(alloc: Global, words: &[&str]) -> Result<Option<(Word, bool)>, AllocError> {
     let command = lab_command(alloc)?;
     match command.try_get_matches_from(words) {
         Ok(matches) => match request_from(&matches) {
-            Some(Request::Explore { file, asked }) => Ok(Some((file == Some("tour.json"), asked))),
+            Some(request) => Ok(Some((request.word, request.file == Some("tour.json")))),
             None => Ok(None),
         },
         Err(_) => Ok(None),
     }
 }
 
-/// Whether each option has its place, and other words ask for nothing.
-fn options_are_read(alloc: Global) -> Result<bool, AllocError> {
+/// Whether each option of `explore` has its place.
+fn explore_is_read(alloc: Global) -> Result<bool, AllocError> {
     let plain = Exploration {
         setup: 0,
         limit: 10_000_000,
@@ -35,15 +36,57 @@ fn options_are_read(alloc: Global) -> Result<bool, AllocError> {
         "tour.json",
     ];
     Ok(
-        asked_by(alloc, &["hotplug_lab", "explore"])? == Some((false, plain))
-            && asked_by(alloc, &words)? == Some((true, given))
-            && asked_by(alloc, &["hotplug_lab"])?.is_none()
-            && asked_by(alloc, &["hotplug_lab", "explore", "--setup", "x"])?.is_none(),
+        asked_by(alloc, &["hotplug_lab", "explore"])? == Some((Word::Explore(plain), false))
+            && asked_by(alloc, &words)? == Some((Word::Explore(given), true)),
+    )
+}
+
+/// Whether each option of `trace` has its place.
+fn trace_is_read(alloc: Global) -> Result<bool, AllocError> {
+    let plain = View {
+        from: 1,
+        to: u64::MAX,
+        every: 1,
+        width: 200,
+    };
+    let given = View {
+        from: 2,
+        to: 9,
+        every: 3,
+        width: 80,
+    };
+    let words = [
+        "hotplug_lab",
+        "trace",
+        "--width",
+        "80",
+        "--every",
+        "3",
+        "--to",
+        "9",
+        "--from",
+        "2",
+        "tour.json",
+    ];
+    Ok(
+        asked_by(alloc, &["hotplug_lab", "trace"])? == Some((Word::Trace(plain), false))
+            && asked_by(alloc, &words)? == Some((Word::Trace(given), true)),
+    )
+}
+
+/// Whether other words ask for nothing.
+fn others_ask_for_nothing(alloc: Global) -> Result<bool, AllocError> {
+    Ok(
+        asked_by(alloc, &["hotplug_lab"])?.is_none()
+            && asked_by(alloc, &["hotplug_lab", "explore", "--setup", "x"])?.is_none()
+            && asked_by(alloc, &["hotplug_lab", "explore", "--every", "2"])?.is_none(),
     )
 }
 
 #[test]
 fn options_have_their_places(rt: HostRuntime) -> Result<(), Fail> {
-    assert!(rt; options_are_read(rt.alloc())?);
+    assert!(rt; explore_is_read(rt.alloc())?);
+    assert!(rt; trace_is_read(rt.alloc())?);
+    assert!(rt; others_ask_for_nothing(rt.alloc())?);
     Ok(())
 }

@@ -1,4 +1,4 @@
--- How a call is written as the line of a scenario that makes it (own rule).
+-- How a call, an event and a plan are written as a scenario has them (own rule).
 use Rattle.std.specs.Prelude.{ℕ, List, ◌++◌, codes, false}
 use Rattle.std.specs.Fmt.{decimal, digits}
 use Rattle.std.specs.List.{flat_map}
@@ -42,6 +42,10 @@ event_text names (UndoAfter serial) = codes "undo" ++ number_word serial
 event_text names (Probe address) = codes "echo 0x" ++ digits 16 false address ++ codes " probe"
 event_text names (Remove block) = codes "remove" ++ number_word block
 event_text names (SetAuto auto) = codes "echo " ++ auto_text auto ++ codes " auto_online_blocks"
+
+-- what a line asks for that has a plan carried out with so many turns
+abbrev pub plan_text : List Item → (turns : ℕ) → List ℕ
+plan_text items turns = codes "plan" ++ number_word turns ++ flat_map item_word items
 
 -- the line: the processor, and what it asks for
 abbrev pub call_text : (names : List (List ℕ)) → (cpu : ℕ) → Event → List ℕ

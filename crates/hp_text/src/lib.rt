@@ -1,6 +1,6 @@
-//! Texts: how a call, its answer, the end of a plan, the fault of a control file and a whole state are written. Each function appends
-//! to a `String` exactly the text that specs/ gives for its value, and changes nothing else; what it answers is `AllocError`, want
-//! of memory, where the text may be there in part.
+//! Texts: how a call, its answer, a plan and its end, the fault of a control file and a whole state are written. Each function
+//! appends to a `String` exactly the text that specs/ gives for its value, and changes nothing else; its error is out of memory, and
+//! then the text may be there in part.
 //!
 //! The crate knows nothing of streams, scenarios or threads. Each program that prints such values stands on it. Read specs/Answers
 //! first, then specs/State.
@@ -15,5 +15,5 @@ mod state;
 pub use answers::{write_call_fault, write_receipt, write_reply, write_sealed, write_unrecorded};
 pub use files::{write_echo_fault, write_read_fault};
 pub use plans::write_plan_end;
-pub use spelling::write_call;
+pub use spelling::{write_call, write_event, write_plan};
 pub use state::{write_row, write_state};

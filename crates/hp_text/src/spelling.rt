@@ -1,10 +1,10 @@
-//! A call as the line of a scenario that makes it.
+//! A call, an event and a plan as a scenario has them.
 ghost use Rattle.std.specs.Prelude.{◌≡◌, ◌++◌, OnOk, codes, string_bytes};
 ghost use Rattle.std.specs.List.{flat_map};
-ghost use Rattle.hp_text.specs.Spelling.{access_text, call_text, event_text, item_word};
+ghost use Rattle.hp_text.specs.Spelling.{access_text, call_text, event_text, item_word, plan_text};
 
 use crate::state::name_of;
-use hp_units::{Cpu, Event, Item, Owner, Page, Text, Wish};
+use hp_units::{Cpu, Event, Item, Owner, Page, Plan, Text, Wish};
 use indexmap::IndexSet;
 use std::alloc::AllocError;
 
@@ -22,8 +22,12 @@ pub fn write_call(
     write_event(out, names, event)
 }
 
-/// Writes what the words after the processor are.
-fn write_event(out: &mut String, names: &IndexSet<Text>, event: &Event) -> Result<(), AllocError>
+/// Writes what a line asks for that makes a call with this event, as `map db 3`: the words after its processor (own rule).
+pub fn write_event(
+    out: &mut String,
+    names: &IndexSet<Text>,
+    event: &Event,
+) -> Result<(), AllocError>
     ensures { OnOk result (string_bytes out.new ≡ string_bytes out.old ++ event_text names.now.keys event.now) }
 {
     match event {
@@ -46,7 +50,7 @@ fn write_event(out: &mut String, names: &IndexSet<Text>, event: &Event) -> Resul
         }
         Event::Drain { cpu } => write!(out, "drain {cpu}"),
         Event::Online { block, zone } => write!(out, "online {block} {zone}"),
-        Event::Begin { plan } => write_begin(out, plan.as_slice()),
+        Event::Begin { plan } => write_begin(out, plan),
         Event::DrainFor { op, cpu } => write!(out, "drainfor {op} {cpu}"),
         Event::Migrate { op } => write!(out, "migrate {op}"),
         Event::Commit { op } => write!(out, "commit {op}"),
@@ -72,11 +76,27 @@ fn write_access(
     write!(out, "{verb} {name} {page}")
 }
 
-/// Writes the words of a Begin.
-fn write_begin(out: &mut String, items: &[Item]) -> Result<(), AllocError>
-    ensures { OnOk result (string_bytes out.new ≡ string_bytes out.old ++ codes "begin" ++ flat_map item_word items.now) }
+/// Writes the words of a Begin of a plan.
+fn write_begin(out: &mut String, plan: &Plan) -> Result<(), AllocError>
+    ensures { OnOk result (string_bytes out.new ≡ string_bytes out.old ++ codes "begin" ++ flat_map item_word plan.now) }
 {
     out.push_str("begin")?;
+    write_items(out, plan.as_slice())
+}
+
+/// Writes what a line asks for that has a plan carried out with at most `turns` migrations, as `plan 8 off 2`: the words after its
+/// processor (own rule).
+pub fn write_plan(out: &mut String, plan: &Plan, turns: u32) -> Result<(), AllocError>
+    ensures { OnOk result (string_bytes out.new ≡ string_bytes out.old ++ plan_text plan.now turns) }
+{
+    write!(out, "plan {turns}")?;
+    write_items(out, plan.as_slice())
+}
+
+/// Writes the items of a plan.
+fn write_items(out: &mut String, items: &[Item]) -> Result<(), AllocError>
+    ensures { OnOk result (string_bytes out.new ≡ string_bytes out.old ++ flat_map item_word items.now) }
+{
     for item in items {
         write_item(out, *item)?;
     }

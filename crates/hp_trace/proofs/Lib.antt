@@ -1,5 +1,4 @@
 mod Drawings
 mod LinesTraced
 mod PlansTraced
-mod SpelledItems
 mod WorkAdded

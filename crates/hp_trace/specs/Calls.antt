@@ -15,14 +15,13 @@ use Rattle.hp_control.specs.declared.writes.Request.TheVariants as request
 use Rattle.hp_control.specs.Reads.{file_text}
 use Rattle.hp_control.specs.Writes.{control_turns, echo_request}
 use Rattle.hp_machine.specs.Machine.{MachineValue, IsCalled, is_full, sealed}
-use Rattle.hp_scenario.specs.Spelling.{event_words}
 use Rattle.hp_scenario.specs.declared.lines.Work.{Work}
 use Rattle.hp_scenario.specs.declared.lines.Work.TheVariants as work
 use Rattle.hp_text.specs.Answers.{sealed_line, unrecorded_line}
 use Rattle.hp_text.specs.Files.{read_fault_line, write_fault_line}
 use Rattle.hp_text.specs.Plans.{plan_line}
+use Rattle.hp_text.specs.Spelling.{event_text}
 use Rattle.hp_trace.specs.Rows.{Row, drawing, noted, words}
-use Rattle.hp_trace.specs.Spelling.{spaced}
 
 -- ---- one call
 
@@ -38,9 +37,9 @@ MakesEvent m cpu event asked rows after =
 
 -- ---- a plan
 
--- an event of a plan's driver, in the place of a line
+-- an event of a plan's driver, which accesses no page, in the place of a line
 abbrev pub step_text : Event → List ℕ
-step_text event = codes "     " ++ spaced (event_words event)
+step_text event = codes "     " ++ event_text [] event
 
 -- calls of a processor, one after another, gave these receipts
 abbrev pub MakesSteps : (cpu : ℕ) → MachineValue → List Receipt → (rows : List Row) → (after : MachineValue) → Type 0

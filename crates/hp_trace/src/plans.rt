@@ -6,11 +6,11 @@ ghost use Rattle.hp_text.specs.Plans.{plan_line};
 ghost use Rattle.hp_trace.specs.Rows.{Adds, DrawsIf, said};
 
 use crate::rows::Rows;
-use crate::spelling::write_event;
 use hp_machine::Machine;
 use hp_ops::{Port, run_plan};
-use hp_text::write_plan_end;
+use hp_text::{write_event, write_plan_end};
 use hp_units::{CallFault, Cpu, Event, OpEnd, Plan, Receipt};
+use indexmap::IndexSet;
 use std::alloc::{AllocError, Global};
 
 /// A processor of a machine, and the rows of its calls. It shows the processor's records of the machine as its receipts.
@@ -109,12 +109,12 @@ fn draw_step(rows: &mut Rows, alloc: Global, machine: &Machine, receipt: &Receip
     }
 }
 
-/// An event of a plan's driver, as a scenario has it, in the place of a line.
+/// An event of a plan's driver, as a scenario has it, in the place of a line. It accesses no page, so it needs no owner's name.
 fn step_text(alloc: Global, event: &Event) -> Result<String, AllocError>
     ensures { IfOk result (λ text. string_bytes text ≡ step_text event.now) }
 {
     let mut out = String::from_str(alloc, "     ")?;
-    write_event(&mut out, event)?;
+    write_event(&mut out, &IndexSet::new(alloc), event)?;
     Ok(out)
 }
 

@@ -1,0 +1,44 @@
+"""The words of hotplug_lab, with requests for memory, reads and writes refused in turn."""
+import os
+
+from hostile import scenario_text
+from refusing import ROOT, run
+
+LAB = ROOT / "crates" / "hotplug_lab" / "out" / "hotplug_lab"
+LAYOUT = {"order": 1, "pageblocks": 1, "blocks": 3, "cpus": 2, "batch": 1, "high": 1,
+          "owners": 2, "pages": 2, "words": 1, "history": 40,
+          "boot": ["normal", "movable", "offline"]}
+SCENARIOS = {
+    "explore": ["0 plan 1 off 1", "1 map db 0"],
+    "trace": ["0 map db 0", "0 write db 0 0 7", "0 plan 4 off 1", "0 cat memory1/state", "0 seal",
+              "0 echo online memory0/state", "1 read db 0 0"],
+}
+FAULTS = {"memory": ["out of memory"], "io": ["reading failed", "writing failed"]}
+
+
+def check_kind(checks, refuser, kind, word, text):
+    """A word with each request of a kind refused in turn: it ends with its fault and nothing on
+    standard output, or, where it can do without the memory, with its whole output."""
+    whole = run([LAB, word], text)
+    faults = [f"hotplug_lab: {fault}\n" for fault in FAULTS[kind]]
+    failed, unneeded = 0, 0
+    for number, ran in refuser.each(kind, [LAB, word], text):
+        is_whole = kind == "memory" and ran.ends_as(0, whole.out, "")
+        is_fault = any(ran.ends_as(1, "", fault) for fault in faults)
+        checks.holds(f"{word}, {kind} {number}", is_whole or is_fault, f"ended with {ran}")
+        unneeded += is_whole
+        failed += not is_whole
+    checks.holds(f"{word}, {kind}", whole.status == 0 and failed > 0, f"ends with {whole}")
+    return failed, unneeded
+
+
+def check_lab(checks, refuser):
+    if not os.access(LAB, os.X_OK):
+        checks.holds("hotplug_lab", False, f"no program at {LAB}: `rt run` in its crate builds it")
+        return
+    for word, calls in SCENARIOS.items():
+        text = scenario_text(LAYOUT, calls)
+        faults, whole = check_kind(checks, refuser, "memory", word, text)
+        streams, _ = check_kind(checks, refuser, "io", word, text)
+        print(f"{word}: {faults + whole} requests for memory refused: {faults} faults, "
+              f"{whole} whole; {streams} reads and writes failed")
