@@ -1,11 +1,12 @@
 //! Looks into scenarios of the memory machine: `hotplug_lab WORD`, a file or standard input to standard output.
 //!
-//! What a word writes stands in a library of its own: `explore` in hp_lab, `trace` in hp_trace. The exit status is 0; or 1 after a
-//! fault, which standard error names; or 2 where the command line is wrong. It is the same where standard error takes no text.
+//! What a word writes stands in a library of its own: `explore` in hp_lab, `trace` in hp_trace, its picture in hp_svg. The exit status
+//! is 0; or 1 after a fault, which standard error names; or 2 where the command line is wrong. It is the same where standard error
+//! takes no text.
 #![tactic(auto)]
 
 ghost use Rattle.std.specs.Prelude.{IfOk, string_bytes};
-ghost use Rattle.hotplug_lab.specs.Words.{IsTextOf};
+ghost use Rattle.hotplug_lab.specs.Words.{IsPictureOf, IsTextOf};
 
 mod fault;
 mod streams;
@@ -14,7 +15,8 @@ mod words;
 use clap::error::ErrorKind;
 use fault::ProgramFault;
 use hp_lab::explore_text;
-use hp_trace::trace;
+use hp_svg::picture_of;
+use hp_trace::{View, trace};
 use std::alloc::{AllocError, Global};
 use std::process::ExitCode;
 use std::{env, fs, io};
@@ -39,7 +41,20 @@ fn text_of(alloc: Global, input: &[u8], word: Word) -> Result<String, ProgramFau
     match word {
         Word::Explore(asked) => Ok(explore_text(alloc, input, asked.setup, asked.limit)?),
         Word::Trace(view) => Ok(trace(alloc, input, view)?),
+        Word::Picture(view) => picture_text(alloc, input, view),
     }
+}
+
+/// The trace of the scenario that the bytes are, with all memory blocks in each row, as a picture.
+fn picture_text(alloc: Global, input: &[u8], view: View) -> Result<String, ProgramFault>
+    ensures { IfOk result (λ text. IsPictureOf view input.now (string_bytes text)) }
+{
+    let whole = View {
+        width: u64::MAX,
+        ..view
+    };
+    let text = trace(alloc, input, whole)?;
+    Ok(picture_of(alloc, text.as_str())?)
 }
 
 /// Does what is asked for, on the file that is named or else on standard input.
