@@ -1,10 +1,11 @@
-"""The cases of crates/refusals: calls that may be out of memory, and calls that take none."""
+"""The cases of crates/refusals: calls that may be out of memory, take none, or ask for it once."""
 import os
 
 from refusing import ROOT, Refused, run
 
 CASES = ROOT / "crates" / "refusals" / "out" / "refusals"
 FIXED = ["fixed", "steps-in-room", "undo-in-room"]
+ONCE = ["undo-after-map", "cancel-after-map"]
 AS_WITH_AMPLE = "as with ample memory\n"
 
 
@@ -32,6 +33,20 @@ def check_fixed(checks, refuser, name):
     print(f"case {name}: {len(ran.refused)} requests where every one would be refused")
 
 
+def check_once(checks, refuser, name):
+    """A case of a call that asks for memory once: no request after its first one is there to be
+    refused, and the first is refused, and the case run again."""
+    further = refuser.run(Refused("memory", 2, 0, after=1), [CASES, name])
+    checks.holds(f"case {name}, further requests",
+                 further.ends_as(0, AS_WITH_AMPLE, "set up\n0\n") and not further.refused,
+                 f"ended with {further}")
+    first = refuser.run(Refused("memory", 1, 1, after=1), [CASES, name])
+    checks.holds(f"case {name}, first request",
+                 first.ends_as(0, AS_WITH_AMPLE, "set up\nset up\n1\n") and first.refused,
+                 f"ended with {first}")
+    print(f"case {name}: one request, and no further one")
+
+
 def check_refusing(checks, refuser):
     """That requests after the first write are refused where there are any: all cases in turn."""
     ran = refuser.run(Refused("memory", 1, 0, after=1), [CASES])
@@ -47,5 +62,7 @@ def check_cases(checks, refuser):
     memory = sum(check_case(checks, refuser, name) for name in names)
     for name in FIXED:
         check_fixed(checks, refuser, name)
+    for name in ONCE:
+        check_once(checks, refuser, name)
     check_refusing(checks, refuser)
     print(f"{len(names)} cases: {memory} requests for memory refused")

@@ -19,6 +19,7 @@ mod Taken
 mod Unwinding
 mod Committed
 mod Frees
+mod FreeRuns
 mod Removed
 mod Plans
 mod Begun

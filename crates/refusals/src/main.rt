@@ -44,6 +44,8 @@ const OTHERS: &[&str] = &[
     "fixed",
     "steps-in-room",
     "undo-in-room",
+    "undo-after-map",
+    "cancel-after-map",
 ];
 
 /// How often a case is run again that was out of memory.
@@ -71,6 +73,8 @@ fn run_case<R: Threads + Wait + Sync>(
         "fixed" => fixed::run(host, case.alloc),
         "steps-in-room" => rooms::steps(host, case.alloc),
         "undo-in-room" => rooms::undo(host, case.alloc),
+        "undo-after-map" => rooms::undo_after_map(host, case.alloc),
+        "cancel-after-map" => rooms::cancel_after_map(host, case.alloc),
         _ => run_situation(case, name),
     }
 }

@@ -1,12 +1,13 @@
-//! Steps and an undo that take no memory, since there is room for all that they note and record. What they need is made before;
-//! then a line is written, after which every request for memory may be refused.
+//! Steps and an undo that take no memory, since there is room for all that they note and record; and calls that go back on a
+//! machine whose tables are full, which ask for memory once, for their record. What they need is made before; then a line is
+//! written, after which requests for memory may be refused.
 use crate::situations::scenario_of;
 use crate::trouble::Trouble;
 use hp_machine::Machine;
 use hp_memory::Memory;
 use hp_scenario::{Line, Scenario, Work};
 use hp_tape::Tape;
-use hp_units::{Class, Cpu, Event, Frame, Order, Serial};
+use hp_units::{Class, Cpu, Event, Frame, Order, Reply, Serial};
 use std::alloc::Global;
 
 /// Lines of three steps, which may take memory: the words of pages are made in them.
@@ -18,6 +19,16 @@ const AFTER: &str =
 
 /// Lines of five records, one of which an undo needs room for beside them.
 const RECORDED: &str = r#""0 map db 0","0 kalloc 1","0 unmap db 0","0 kfree 0","0 kalloc 0""#;
+
+/// An undo that leaves a map in the net, and lines before it.
+const UNDONE: &str = r#""0 map db 0","0 write db 0 1 7","0 kalloc 1","0 unmap db 0","0 undo 2""#;
+
+/// A cancel that restores what was before its begin, with a map in the net, and lines before it.
+const CANCELLED: &str =
+    r#""0 map db 0","0 write db 0 1 7","0 begin off 2","0 migrate 3","0 cancel 3""#;
+
+/// How many steps both leave.
+const LEFT: u64 = 2;
 
 /// More than all the steps note.
 const ROOM: usize = 500;
@@ -75,6 +86,39 @@ pub fn undo(rt: &HostRuntime, alloc: Global) -> Result<bool, Trouble> {
     call_all(alloc, &mut machine, scenario.lines.as_slice())?;
     let _said = eprintln!(rt; "set up");
     Ok(is_undone(alloc, &mut machine))
+}
+
+/// Undoes records on a machine whose tables are full.
+pub fn undo_after_map(rt: &HostRuntime, alloc: Global) -> Result<bool, Trouble> {
+    go_back(rt, alloc, UNDONE)
+}
+
+/// Cancels an operation on a machine whose tables are full.
+pub fn cancel_after_map(rt: &HostRuntime, alloc: Global) -> Result<bool, Trouble> {
+    go_back(rt, alloc, CANCELLED)
+}
+
+/// Makes the calls of the lines, the last one on a copy of the machine: there is no room in the tables of a copy.
+fn go_back(rt: &HostRuntime, alloc: Global, lines: &str) -> Result<bool, Trouble> {
+    let scenario = scenario_of(alloc, lines)?;
+    let Some((last, before)) = scenario.lines.as_slice().split_last() else {
+        return Err(Trouble::Wrong);
+    };
+    let mut machine = Machine::boot(alloc, &scenario.layout)?;
+    call_all(alloc, &mut machine, before)?;
+    let mut copy = machine.copy(alloc)?;
+    let _said = eprintln!(rt; "set up");
+    goes_back(alloc, &mut copy, last)
+}
+
+/// Whether the call of a line goes back to the steps that are to be left.
+fn goes_back(alloc: Global, machine: &mut Machine, line: &Line) -> Result<bool, Trouble> {
+    let Work::Event(event) = &line.work else {
+        return Err(Trouble::Wrong);
+    };
+    let receipt = machine.call(alloc, line.cpu, event)?;
+    let went_back = matches!(receipt.reply, Reply::Undone { .. } | Reply::Restored);
+    Ok(went_back && machine.journal_len() == LEFT)
 }
 
 /// Makes the call of each line.

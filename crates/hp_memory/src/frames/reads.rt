@@ -1,11 +1,13 @@
 //! Whether frames are free: whole memory blocks, and single frames.
-ghost use Rattle.std.specs.Prelude.{◌≡◌, ◌*◌, ◌<◌, ◌==◌, false};
+ghost use Rattle.std.specs.Prelude.{◌≡◌, ◌+◌, ◌*◌, ◌<◌, ◌≤◌, ◌==◌, ℕ, true, false, MatchOption};
 ghost use Rattle.std.specs.Option.{option_map_or};
 ghost use Rattle.std.specs.List.{list_all};
 ghost use Rattle.hp_units.specs.Arithmetic.{frame_count, pageblock_count, pageblock_size, pageblocks_of};
 ghost use Rattle.hp_units.specs.FreeAreas.{is_on};
+ghost use Rattle.hp_units.specs.LayoutParts.{IsLayout};
 ghost use Rattle.hp_units.specs.Memory.{free_list, isolated_class};
 ghost use Rattle.hp_units.specs.Refusals.{is_free_start, is_in_free_block};
+ghost use Rattle.hp_memory.specs.Commits.{IsCovered};
 
 use super::Frames;
 use hp_units::{Block, Class, Frame, Layout, Order, Pageblock, Zone};
@@ -48,19 +50,37 @@ impl Frames {
         }
     }
 
-    /// Whether a frame stands in a free block.
-    pub(crate) fn is_in_free_block(&self, layout: &Layout, frame: Frame) -> bool
+    /// How many frames, from a frame to the end of the free block that it stands in; 0 where it stands in none.
+    pub(crate) fn free_from(&self, layout: &Layout, frame: Frame) -> u32
         requires same { self.now.buddy.layout ≡ layout.now }
         requires frame { frame < frame_count layout.now }
-        ensures { result ≡ is_in_free_block layout.now self.now.buddy.areas frame }
+        ensures used { result ≡ 0 → is_in_free_block layout.now self.now.buddy.areas frame ≡ false }
+        ensures free { (k : ℕ) → k < result → is_in_free_block layout.now self.now.buddy.areas (frame + k) ≡ true }
+        ensures most { result ≤ pageblock_size layout.now }
+    {
+        match self.free_order(layout, frame) {
+            Some(order) => {
+                let size = 1 << order.0;
+                size - frame.0 % size
+            }
+            None => 0,
+        }
+    }
+
+    /// The order of the free block that a frame stands in.
+    fn free_order(&self, layout: &Layout, frame: Frame) -> Option<Order>
+        requires same { self.now.buddy.layout ≡ layout.now }
+        requires frame { frame < frame_count layout.now }
+        ensures is { MatchOption result (is_in_free_block layout.now self.now.buddy.areas frame ≡ false) (IsCovered layout.now self.now.buddy.areas frame) }
+        ensures layout { IsLayout layout.now }
     {
         for number in 0..layout.order() + 1 {
             let order = Order(number);
             if self.is_free_start(order, frame.ancestor(order)) {
-                return true;
+                return Some(order);
             }
         }
-        false
+        None
     }
 
     /// Whether a free block of an order starts at a frame.

@@ -124,11 +124,14 @@ impl Layers {
     {
         let size = self.layout.block_size();
         let first = block.0 * size;
-        for number in 0..size {
+        let mut number = 0;
+        while number < size {
             let frame = Frame(first + number);
-            if !self.frames.is_in_free_block(&self.layout, frame) {
+            let free = self.frames.free_from(&self.layout, frame);
+            if free == 0 {
                 return Some(frame);
             }
+            number += free;
         }
         None
     }

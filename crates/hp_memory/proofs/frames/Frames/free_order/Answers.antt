@@ -1,22 +1,12 @@
 -- One more order is looked at.
-use Rattle.std.proofs.Common.{◌≡◌, ◌+◌, ◌^◌, ◌<◌, ℕ, Bool, true, false, sym, ◌∙◌, ap, subst, arith}
+use Rattle.std.proofs.Common.{◌≡◌, ◌+◌, ◌^◌, ◌<◌, ℕ, Bool, false, sym, ◌∙◌, ap, subst, arith}
 use Rattle.hp_units.specs.Arithmetic.{ancestor}
 use Rattle.hp_units.specs.Refusals.{is_free_start}
 use Rattle.hp_areas.proofs.Ranges.{any-below_step}
 use Rattle.hp_units.specs.Arithmetic.{frame_count}
 use Rattle.hp_units.specs.LayoutParts.{LayoutParts}
 use Rattle.std.proofs.Math.Nat.{div-mul-le_self}
-use Rattle.hp_memory.proofs.frames.Frames.is_in_free_block.Goals as goal
-
-pub returns-then-is_free_start : goal.returns-then-is_free_start
-returns-then-is_free_start c =
-    let l = c.args.layout.now in
-    let a = c.args.self.now.buddy.areas in
-    let n : ℕ = c.loop-number.number in
-    let p : ℕ → Bool = λ (order : ℕ). is_free_start a order (ancestor c.args.frame order) in
-    let below : n < l.order + 1 = omega (arith, c.order-number-end.ensures.is) in
-    let seen : p n ≡ c.is_free_start.result = sym (c.is_free_start.ensures ∙ ap (λ (first : ℕ). is_free_start a n first) c.ancestor.ensures) in
-    sym (c.loop-number.invariant ∙ any-below_step p n (l.order + 1) true below (seen ∙ c.if-is_free_start.true))
+use Rattle.hp_memory.proofs.frames.Frames.free_order.Goals as goal
 
 pub loop-number-preserved : goal.loop-number-preserved
 loop-number-preserved c =

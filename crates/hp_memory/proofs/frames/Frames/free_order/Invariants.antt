@@ -2,7 +2,7 @@ use Rattle.std.proofs.Common.{◌≡◌, ◌+◌, ◌-◌}
 use Rattle.std.specs.List.{list_any, range_with_len}
 use Rattle.hp_units.specs.Arithmetic.{ancestor}
 use Rattle.hp_units.specs.Refusals.{is_free_start, is_in_free_block}
-use Rattle.hp_memory.proofs.frames.Frames.is_in_free_block.Given as goal
+use Rattle.hp_memory.proofs.frames.Frames.free_order.Given as goal
 
 abbrev pub invariant-loop-number : goal.invariant-loop-number
 invariant-loop-number l =
