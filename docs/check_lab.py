@@ -12,14 +12,19 @@ What is compared, of `hotplug_lab explore`:
   the first line that cannot stand in a script is refused by its place;
 - 50 runs of `hotplug run` on each of three small scenarios: each outcome is one of the ends.
 Of `hotplug_lab trace`, on each file of examples/: it has all lines in their order, and what they
-answer is what `hotplug serial` prints before the state. Of `hotplug_lab check`: it finds no fault
+answer is what `hotplug serial` prints before the state. Of `hotplug_lab trace --svg`: it is
+well-formed XML, its rows have the texts of the trace in their order, and as many cells of each
+meaning in the legend as the trace has characters of it. Of `hotplug_lab check`: it finds no fault
 in any file of examples/, and one where a text that is no line comes last.
 The last line is 'lab: N passed, M failed'; the exit status is 0 where nothing failed, else 1.
 """
 import json
+import re
 import subprocess
 import sys
+from collections import Counter
 from pathlib import Path
+from xml.etree import ElementTree
 
 ROOT = Path(__file__).resolve().parent.parent
 SECONDS = 60
@@ -65,8 +70,8 @@ class Programs:
     def check(self, scenario):
         return self.call([self.lab, "check"], scenario)
 
-    def trace(self, scenario):
-        return self.call([self.lab, "trace"], scenario)
+    def trace(self, scenario, *options):
+        return self.call([self.lab, "trace", *options], scenario)
 
 
 # What is printed
@@ -285,12 +290,57 @@ def check_findings(checks, programs, file):
                                                "1 faults, 0 warnings\n", f"says {text!r}")
 
 
+# Pictures
+
+SVG = "{http://www.w3.org/2000/svg}"
+MEANINGS = {".": "free", ":": "free and isolated", "-": "offline", " ": "absent", "K": "the kernel"}
+
+
+def meaning(mark):
+    """What a character of a trace means, as the legend has it."""
+    if mark.isdigit():
+        return f"list of processor {mark}"
+    return MEANINGS.get(mark, f"page of owner {mark}")
+
+
+def texts_in(elements):
+    """The texts that are not written on cells."""
+    texts = [element for element in elements if element.tag == SVG + "text"]
+    return [text.text for text in texts if text.get("font-size") is None]
+
+
+def pictured(svg):
+    """The texts of a picture's rows, and how many cells of each meaning they have."""
+    root = ElementTree.fromstring(svg)
+    rows = root.find(SVG + "g")
+    above = list(root)[:list(root).index(rows)]
+    fills = [element.get("fill") for element in above if element.get("height") == "12"]
+    legend = dict(zip(fills, texts_in(above), strict=True))
+    cells = Counter()
+    for cell in rows.iter(SVG + "rect"):
+        cells[legend[cell.get("fill")]] += int(cell.get("width")) // 8
+    return texts_in(rows), cells
+
+
+def check_picture(checks, programs, file):
+    scenario = json.loads(file.read_text())
+    text = programs.trace(scenario, "--width", "1000000")
+    pieces = [piece for line in text.splitlines() for piece in line.split("]") if piece]
+    heads = [piece.partition("[")[0] for piece in pieces]
+    marks = "".join(re.findall(r"\[([^]]*)\]", text)).replace("|", "")
+    texts, cells = pictured(programs.trace(scenario, "--svg"))
+    checks.holds(f"picture of {file.name}", texts == heads, f"{texts} in place of {heads}")
+    counts = Counter(map(meaning, marks))
+    checks.holds(f"picture of {file.name}", cells == counts, f"{cells} in place of {counts}")
+
+
 def check_all(checks, programs):
     check_by_force(checks, programs)
     for file in sorted((ROOT / "examples").glob("*.json")):
         check_example(checks, programs, file)
         check_trace(checks, programs, file)
         check_findings(checks, programs, file)
+        check_picture(checks, programs, file)
     check_runs(checks, programs)
 
 
@@ -298,7 +348,8 @@ def main(words):
     checks = Checks()
     try:
         check_all(checks, Programs(Path(words[0] if words else ROOT / "crates").resolve()))
-    except (ValueError, LookupError, OSError, subprocess.SubprocessError) as error:
+    except (ValueError, LookupError, OSError, ElementTree.ParseError,
+            subprocess.SubprocessError) as error:
         checks.holds("lab", False, f"cannot be checked: {error!r}")
     for failure in checks.failures:
         print(failure)

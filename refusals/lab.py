@@ -12,6 +12,7 @@ SCENARIOS = {
     "explore": ["0 plan 1 off 1", "1 map db 0"],
     "trace": ["0 map db 0", "0 write db 0 0 7", "0 plan 4 off 1", "0 cat memory1/state", "0 seal",
               "0 echo online memory0/state", "1 read db 0 0"],
+    "trace --svg": ["0 map db 0", "0 plan 4 off 1"],
 }
 FAULTS = {"memory": ["out of memory"], "io": ["reading failed", "writing failed"]}
 
@@ -19,10 +20,11 @@ FAULTS = {"memory": ["out of memory"], "io": ["reading failed", "writing failed"
 def check_kind(checks, refuser, kind, word, text):
     """A word with each request of a kind refused in turn: it ends with its fault and nothing on
     standard output, or, where it can do without the memory, with its whole output."""
-    whole = run([LAB, word], text)
+    command = [LAB, *word.split()]
+    whole = run(command, text)
     faults = [f"hotplug_lab: {fault}\n" for fault in FAULTS[kind]]
     failed, unneeded = 0, 0
-    for number, ran in refuser.each(kind, [LAB, word], text):
+    for number, ran in refuser.each(kind, command, text):
         is_whole = kind == "memory" and ran.ends_as(0, whole.out, "")
         is_fault = any(ran.ends_as(1, "", fault) for fault in faults)
         checks.holds(f"{word}, {kind} {number}", is_whole or is_fault, f"ended with {ran}")

@@ -1,12 +1,12 @@
 //! Looks into scenarios of the memory machine: `hotplug_lab WORD`, a file or standard input to standard output.
 //!
-//! What a word writes stands in a library of its own: `check` in hp_check, `explore` in hp_lab, `trace` in hp_trace. The exit status
-//! is 0; or 1 after a fault, which standard error names, and after a check that finds faults; or 2 where the command line is wrong.
-//! It is the same where standard error takes no text.
+//! What a word writes stands in a library of its own: `check` in hp_check, `explore` in hp_lab, `trace` in hp_trace, its picture in
+//! hp_svg. The exit status is 0; or 1 after a fault, which standard error names, and after a check that finds faults; or 2 where the
+//! command line is wrong. It is the same where standard error takes no text.
 #![tactic(auto)]
 
 ghost use Rattle.std.specs.Prelude.{IfOk, string_bytes};
-ghost use Rattle.hotplug_lab.specs.Words.{IsAnswerOf, IsCheckOf};
+ghost use Rattle.hotplug_lab.specs.Words.{IsAnswerOf, IsCheckOf, IsPictureOf};
 
 mod fault;
 mod streams;
@@ -16,7 +16,8 @@ use clap::error::ErrorKind;
 use fault::ProgramFault;
 use hp_check::{check, fault_count, write_report};
 use hp_lab::explore_text;
-use hp_trace::trace;
+use hp_svg::picture_of;
+use hp_trace::{View, trace};
 use std::alloc::{AllocError, Global};
 use std::process::ExitCode;
 use std::{env, fs, io};
@@ -66,7 +67,23 @@ fn answer_to(alloc: Global, input: &[u8], word: Word) -> Result<Answer, ProgramF
             text: trace(alloc, input, view)?,
             status: 0,
         }),
+        Word::Picture(view) => Ok(Answer {
+            text: picture_text(alloc, input, view)?,
+            status: 0,
+        }),
     }
+}
+
+/// The trace of the scenario that the bytes are, with all memory blocks in each row, as a picture.
+fn picture_text(alloc: Global, input: &[u8], view: View) -> Result<String, ProgramFault>
+    ensures { IfOk result (λ text. IsPictureOf view input.now (string_bytes text)) }
+{
+    let whole = View {
+        width: u64::MAX,
+        ..view
+    };
+    let text = trace(alloc, input, whole)?;
+    Ok(picture_of(alloc, text.as_str())?)
 }
 
 /// Does what is asked for, on the file that is named or else on standard input, and answers the exit status.

@@ -83,6 +83,18 @@ fn trace_is_read(alloc: Global) -> Result<bool, AllocError> {
     )
 }
 
+/// Whether `--svg` asks for a picture of the lines that the other options name.
+fn svg_is_read(alloc: Global) -> Result<bool, AllocError> {
+    let view = View {
+        from: 1,
+        to: 4,
+        every: 1,
+        width: 200,
+    };
+    let words = ["hotplug_lab", "trace", "--svg", "--to", "4", "tour.json"];
+    Ok(asked_by(alloc, &words)? == Some((Word::Picture(view), true)))
+}
+
 /// Whether other words ask for nothing.
 fn others_ask_for_nothing(alloc: Global) -> Result<bool, AllocError> {
     Ok(
@@ -97,6 +109,7 @@ fn options_have_their_places(rt: HostRuntime) -> Result<(), Fail> {
     assert!(rt; check_is_read(rt.alloc())?);
     assert!(rt; explore_is_read(rt.alloc())?);
     assert!(rt; trace_is_read(rt.alloc())?);
+    assert!(rt; svg_is_read(rt.alloc())?);
     assert!(rt; others_ask_for_nothing(rt.alloc())?);
     Ok(())
 }

@@ -1,6 +1,6 @@
 //! The words that the program is called with.
 
-use clap::{Arg, ArgMatches, Command, value_parser};
+use clap::{Arg, ArgAction, ArgMatches, Command, value_parser};
 use hp_trace::View;
 use std::alloc::{AllocError, Global};
 
@@ -26,6 +26,8 @@ pub enum Word {
     Explore(Exploration),
     /// What each of its lines answers, with the memory after each call.
     Trace(View),
+    /// The same as one picture, with all memory blocks in each row.
+    Picture(View),
 }
 
 /// What the program is asked for, and the file that is named.
@@ -91,12 +93,21 @@ fn trace_command<'a>(alloc: Global) -> Result<Command<'a>, AllocError> {
             "width",
             "Where a row takes more columns, shows only the memory blocks that changed (200)",
         ))?
+        .arg(svg(alloc))?
         .arg(scenario(alloc))
 }
 
 /// The argument that names a scenario.
 fn scenario<'a>(alloc: Global) -> Arg<'a> {
     Arg::new(alloc, "FILE").help("A scenario; standard input where none is named")
+}
+
+/// The flag that asks for a picture.
+fn svg<'a>(alloc: Global) -> Arg<'a> {
+    Arg::new(alloc, "svg")
+        .long("svg")
+        .action(ArgAction::SetTrue)
+        .help("Writes one SVG picture, with all memory blocks in each row")
 }
 
 /// An argument that takes a number.
@@ -122,6 +133,7 @@ fn word_from(name: &str, words: &ArgMatches<'_>) -> Option<Word> {
     match name {
         "check" => Some(Word::Check),
         "explore" => Some(Word::Explore(exploration_from(words))),
+        "trace" if words.get_flag("svg") => Some(Word::Picture(view_from(words))),
         "trace" => Some(Word::Trace(view_from(words))),
         _ => None,
     }

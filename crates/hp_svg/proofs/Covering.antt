@@ -1,5 +1,5 @@
 -- The runs of cells cover them.
-use Rattle.std.proofs.Common.{◌≡◌, ℕ, zero, suc, ◌+◌, ◌<◌, ◌==◌, Bool, true, false, cond, List, inl, inr, [], ◌∷◌, ◌++◌, append-nil, drop, length, replicate, take, refl, sym, ap, subst, ◌∙◌, add-one, arith}
+use Rattle.std.proofs.Common.{◌≡◌, ℕ, zero, suc, ◌+◌, ◌<◌, ◌==◌, Bool, cond, List, inl, inr, [], ◌∷◌, ◌++◌, drop, replicate, take, refl, sym, ap, subst, ◌∙◌, add-one, arith}
 use Rattle.std.proofs.lemmas.Bool.{cases_Bool, eqb-true}
 use Rattle.hp_svg.specs.Runs.{Covers, longer, new_run, runs_after, runs_of}
 use Rattle.hp_svg.specs.declared.runs.Run.{Run}

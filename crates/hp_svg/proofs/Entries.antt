@@ -1,5 +1,5 @@
 -- Texts of entries with their places, one more after another.
-use Rattle.std.proofs.Common.{◌≡◌, ℕ, zero, suc, ◌+◌, ◌<◌, List, [], ◌∷◌, ◌++◌, Bor, flat_map, get_or, length, map, take, refl, sym, ap, ◌∙◌, add-one, arith}
+use Rattle.std.proofs.Common.{◌≡◌, ℕ, zero, suc, ◌+◌, ◌<◌, List, [], ◌∷◌, ◌++◌, Bor, flat_map, get_or, length, map, take, sym, ap, ◌∙◌, add-one, arith}
 use Rattle.std.proofs.lemmas.List.{flat_map_more, get_or-map, length-map, length-take-le, take_more}
 use Rattle.std.specs.List.{enumerate_from, range_with_len}
 

@@ -1,5 +1,5 @@
--- The elements of a picture (own rule): texts, and rectangles for cells. Lengths are in pixels: a letter of a text is 6 wide, a cell 8,
--- a row 14 high.
+-- The elements of a picture (own rule): texts, and rectangles for cells. Lengths are in pixels: a letter of a
+-- text is 6 wide, a cell 8, a row 14 high.
 use Rattle.std.specs.Prelude.{ℕ, ◌+◌, ◌*◌, ◌==◌, ◌||◌, nat_lt, Bool, List, [], ◌∷◌, ◌++◌, codes, encode_utf8, if◌then◌else◌}
 use Rattle.std.specs.Fmt.{decimal}
 use Rattle.std.specs.List.{flat_map}
@@ -32,11 +32,13 @@ escaped_text text = flat_map escaped (chars text)
 
 -- made narrower, to the width of so many characters
 unfoldable pub narrowed : (is_narrow : Bool) → (room : ℕ) → List ℕ
-narrowed is_narrow room = if is_narrow then codes " textLength='" ++ decimal (6 * room) ++ codes "' lengthAdjust='spacingAndGlyphs'" else []
+narrowed is_narrow room =
+    if is_narrow then codes " textLength='" ++ decimal (6 * room) ++ codes "' lengthAdjust='spacingAndGlyphs'" else []
 
 unfoldable pub text_element : (x y : ℕ) → (is_narrow : Bool) → (room : ℕ) → (text : List ℕ) → List ℕ
 text_element x y is_narrow room text =
-    codes "<text" ++ position x y ++ narrowed is_narrow room ++ codes ">" ++ escaped_text text ++ codes "</text>"
+    codes "<text" ++ position x y ++ narrowed is_narrow room ++ codes ">" ++ escaped_text text
+    ++ codes "</text>"
 
 -- ---- cells
 
@@ -48,11 +50,13 @@ unfoldable pub inked : (mark : ℕ) → List ℕ
 inked mark = codes " font-size='8' fill='" ++ ink mark
 
 unfoldable pub letter_element : (x y mark : ℕ) → List ℕ
-letter_element x y mark = if is_lettered mark then codes "<text" ++ position x y ++ inked mark ++ mark ∷ [] ++ codes "</text>" else []
+letter_element x y mark =
+    if is_lettered mark then codes "<text" ++ position x y ++ inked mark ++ mark ∷ [] ++ codes "</text>" else []
 
 -- a rectangle
 unfoldable pub box_element : (x y width height : ℕ) → (fill : List ℕ) → List ℕ
-box_element x y width height fill = codes "<rect" ++ position x y ++ extent width height ++ codes " fill='" ++ fill ++ codes "'/>"
+box_element x y width height fill =
+    codes "<rect" ++ position x y ++ extent width height ++ codes " fill='" ++ fill ++ codes "'/>"
 
 -- cells in the colour of their character
 unfoldable pub cell_element : (x y width mark : ℕ) → List ℕ
@@ -60,7 +64,8 @@ cell_element x y width mark = box_element x y width 12 (fill_of mark) ++ letter_
 
 -- a run of cells in a row; a bar is a gap
 unfoldable pub run_text : (left top : ℕ) → Run → List ℕ
-run_text left top run = if run.mark == 124 then [] else cell_element (left + 8 * run.at) top (8 * run.count) run.mark
+run_text left top run =
+    if run.mark == 124 then [] else cell_element (left + 8 * run.at) top (8 * run.count) run.mark
 
 -- lines between the cells of a block
 unfoldable pub grid_element : (x y width height : ℕ) → List ℕ

@@ -1,7 +1,9 @@
--- The characters of cells: their colours, and what they mean (own rule). The owners' colours are those of M. Okabe and K. Ito, "Color
--- Universal Design", without black, and then P. Tol's "Colour Schemes": muted, bright and vibrant.
-use Rattle.std.specs.Prelude.{ℕ, ◌-◌, ◌==◌, ◌&&◌, ◌||◌, nat_le, Bool, List, [], ◌∷◌, ◌++◌, codes, filter, slice_index_or, if◌then◌else◌}
+-- The characters of cells: their colours, and what they mean (own rule). The owners' colours are those of
+-- M. Okabe and K. Ito, "Color Universal Design", without black, and then P. Tol's "Colour Schemes": muted,
+-- bright and vibrant.
+use Rattle.std.specs.Prelude.{ℕ, ◌-◌, ◌==◌, ◌&&◌, ◌||◌, nat_le, not, Bool, true, List, [], ◌∷◌, ◌++◌, codes, filter, slice_index_or, if◌then◌else◌}
 use Rattle.std.specs.List.{list_any}
+use Rattle.std.specs.Str.{bytes_eq}
 use Rattle.hp_svg.specs.Cuts.{cells_of}
 
 abbrev pub is_between : (first last mark : ℕ) → Bool
@@ -22,7 +24,9 @@ is_lettered mark = (mark == 75) || (is_digit mark || is_letter mark)
 
 -- of the owners from a on
 abbrev pub okabe_fills : List (List ℕ)
-okabe_fills = codes "#0072b2" ∷ codes "#e69f00" ∷ codes "#009e73" ∷ codes "#cc79a7" ∷ codes "#56b4e9" ∷ codes "#d55e00" ∷ codes "#f0e442" ∷ []
+okabe_fills =
+    codes "#0072b2" ∷ codes "#e69f00" ∷ codes "#009e73" ∷ codes "#cc79a7" ∷ codes "#56b4e9"
+    ∷ codes "#d55e00" ∷ codes "#f0e442" ∷ []
 
 unfoldable pub okabe_fill : ℕ → List ℕ
 okabe_fill mark = slice_index_or okabe_fills (mark - 97) []
@@ -30,8 +34,8 @@ okabe_fill mark = slice_index_or okabe_fills (mark - 97) []
 -- from h on
 abbrev pub muted_fills : List (List ℕ)
 muted_fills =
-    codes "#332288" ∷ codes "#882255" ∷ codes "#117733" ∷ codes "#44aa99" ∷ codes "#999933" ∷ codes "#aa4499" ∷ codes "#88ccee"
-    ∷ codes "#ddcc77" ∷ codes "#cc6677" ∷ []
+    codes "#332288" ∷ codes "#882255" ∷ codes "#117733" ∷ codes "#44aa99" ∷ codes "#999933"
+    ∷ codes "#aa4499" ∷ codes "#88ccee" ∷ codes "#ddcc77" ∷ codes "#cc6677" ∷ []
 
 unfoldable pub muted_fill : ℕ → List ℕ
 muted_fill mark = slice_index_or muted_fills (mark - 104) []
@@ -39,8 +43,8 @@ muted_fill mark = slice_index_or muted_fills (mark - 104) []
 -- from q on
 abbrev pub bright_fills : List (List ℕ)
 bright_fills =
-    codes "#4477aa" ∷ codes "#ee6677" ∷ codes "#228833" ∷ codes "#ccbb44" ∷ codes "#66ccee" ∷ codes "#aa3377" ∷ codes "#ee7733"
-    ∷ codes "#ee3377" ∷ codes "#cc3311" ∷ codes "#009988" ∷ []
+    codes "#4477aa" ∷ codes "#ee6677" ∷ codes "#228833" ∷ codes "#ccbb44" ∷ codes "#66ccee"
+    ∷ codes "#aa3377" ∷ codes "#ee7733" ∷ codes "#ee3377" ∷ codes "#cc3311" ∷ codes "#009988" ∷ []
 
 unfoldable pub bright_fill : ℕ → List ℕ
 bright_fill mark = slice_index_or bright_fills (mark - 113) []
@@ -48,8 +52,8 @@ bright_fill mark = slice_index_or bright_fills (mark - 113) []
 -- of the processors
 abbrev pub list_fills : List (List ℕ)
 list_fills =
-    codes "#fff4cc" ∷ codes "#ffe9a8" ∷ codes "#f7dc8c" ∷ codes "#efcf73" ∷ codes "#e5c15c" ∷ codes "#f3e0c4" ∷ codes "#e6cda6"
-    ∷ codes "#d9bb8a" ∷ codes "#cba970" ∷ codes "#bd9758" ∷ []
+    codes "#fff4cc" ∷ codes "#ffe9a8" ∷ codes "#f7dc8c" ∷ codes "#efcf73" ∷ codes "#e5c15c"
+    ∷ codes "#f3e0c4" ∷ codes "#e6cda6" ∷ codes "#d9bb8a" ∷ codes "#cba970" ∷ codes "#bd9758" ∷ []
 
 unfoldable pub list_fill : ℕ → List ℕ
 list_fill mark = slice_index_or list_fills (mark - 48) []
@@ -67,7 +71,8 @@ unfoldable pub fill_of : ℕ → List ℕ
 fill_of mark =
     if is_between 97 103 mark then okabe_fill mark
     else (if is_between 104 112 mark then muted_fill mark
-    else (if is_between 113 122 mark then bright_fill mark else (if is_digit mark then list_fill mark else plain_fill mark)))
+    else (if is_between 113 122 mark then bright_fill mark
+    else (if is_digit mark then list_fill mark else plain_fill mark)))
 
 -- the characters whose colours are dark, and the colour of a character on its cells
 abbrev pub dark_marks : List ℕ
@@ -93,7 +98,8 @@ unfoldable pub list_label : ℕ → List ℕ
 list_label mark = codes "list of processor " ++ mark ∷ []
 
 unfoldable pub label_of : ℕ → List ℕ
-label_of mark = if is_letter mark then owner_label mark else (if is_digit mark then list_label mark else plain_label mark)
+label_of mark =
+    if is_letter mark then owner_label mark else (if is_digit mark then list_label mark else plain_label mark)
 
 -- all characters that have a meaning
 abbrev pub known_marks : List ℕ
@@ -109,3 +115,10 @@ occurs pieces mark = list_any (has_mark mark) pieces
 -- those that occur
 unfoldable pub marks_in : (pieces : List (List ℕ)) → List ℕ
 marks_in pieces = filter (occurs pieces) known_marks
+
+-- ---- colours that differ
+
+-- no text stands twice among these
+abbrev pub all_differ : List (List ℕ) → Bool
+all_differ [] = true
+all_differ (text ∷ texts) = not (list_any (bytes_eq text) texts) && all_differ texts

@@ -21,12 +21,14 @@ is_narrow block head cells = nat_lt 0 (length cells) && nat_lt (room_at block) (
 -- the text before a block's cells, where there is one
 unfoldable pub head_text : Sheet → (top block : ℕ) → (head cells : List ℕ) → List ℕ
 head_text s top block [] cells = []
-head_text s top block (c ∷ cs) cells = text_element (text_at s block) (top + 10) (is_narrow block (c ∷ cs) cells) (room_at block) (c ∷ cs)
+head_text s top block (c ∷ cs) cells =
+    text_element (text_at s block) (top + 10) (is_narrow block (c ∷ cs) cells) (room_at block) (c ∷ cs)
 
 -- the head of a block, and its cells
 unfoldable pub piece_text : Sheet → (top : ℕ) → (piece : ℕ × List ℕ) → List ℕ
 piece_text s top piece =
-    head_text s top piece.0 (head_of piece.1) (cells_of piece.1) ++ flat_map (run_text (cells_at s piece.0) top) (runs_of (cells_of piece.1))
+    head_text s top piece.0 (head_of piece.1) (cells_of piece.1)
+    ++ flat_map (run_text (cells_at s piece.0) top) (runs_of (cells_of piece.1))
 
 -- a line by its number: its blocks side by side
 unfoldable pub row_text : Sheet → (line : ℕ × List ℕ) → List ℕ
@@ -48,11 +50,13 @@ entry_text entry =
     cell_element (legend_left entry.0) (legend_top entry.0) 12 entry.1
     ++ text_element (legend_left entry.0 + 18) (legend_top entry.0 + 10) false 0 (label_of entry.1) ++ newline
 
--- the number of a block, that of its first frame, and a grid over its cells, with so many entries in the legend, and so many lines
+-- the number of a block, that of its first frame, and a grid over its cells; the legend has so many entries, and
+-- the trace so many lines
 unfoldable pub block_text : Sheet → (entries lines block : ℕ) → List ℕ
 block_text s entries lines block =
     text_element (cells_at s block) (numbers_at entries) false 0 (codes "block " ++ decimal block)
-    ++ text_element (cells_at s block) (numbers_at entries + 12) false 0 (codes "frame " ++ decimal (first_frame s block))
+    ++ text_element (cells_at s block) (numbers_at entries + 12) false 0
+    (codes "frame " ++ decimal (first_frame s block))
     ++ grid_element (cells_at s block) (rows_at entries) (cells_width s) (row_top lines) ++ newline
 
 -- ---- the whole

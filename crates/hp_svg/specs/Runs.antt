@@ -13,7 +13,8 @@ longer run = record run { count = run.count + 1 }
 abbrev pub runs_after : Run → List ℕ → List Run
 runs_after run [] = run ∷ []
 runs_after run (mark ∷ cells) =
-    if mark == run.mark then runs_after (longer run) cells else run ∷ runs_after (new_run (run.at + run.count) mark) cells
+    if mark == run.mark then runs_after (longer run) cells
+    else run ∷ runs_after (new_run (run.at + run.count) mark) cells
 
 abbrev pub runs_of : List ℕ → List Run
 runs_of [] = []
@@ -23,4 +24,5 @@ runs_of (mark ∷ cells) = runs_after (new_run 0 mark) cells
 abbrev pub Covers : (at : ℕ) → List Run → (cells : List ℕ) → Type 0
 Covers at [] cells = cells ≡ []
 Covers at (run ∷ runs) cells =
-    (run.at ≡ at) × (0 < run.count) × (take run.count cells ≡ replicate run.count run.mark) × Covers (at + run.count) runs (drop run.count cells)
+    (run.at ≡ at) × (0 < run.count) × (take run.count cells ≡ replicate run.count run.mark)
+    × Covers (at + run.count) runs (drop run.count cells)

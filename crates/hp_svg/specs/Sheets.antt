@@ -8,7 +8,8 @@ use Rattle.hp_svg.specs.declared.sheets.Sheet.{Sheet}
 abbrev pub bounded : ℕ → ℕ
 bounded count = min count (2 ^ 32 - 1)
 
--- what the first line has: how many blocks, and of the first of them how many characters, and how many of these are frames
+-- what the first line has: how many blocks, and of the first of them how many characters, and how many of
+-- these are frames
 unfoldable pub sheet_of : (text : List ℕ) → Sheet
 sheet_of text =
     let cells = cells_of (before_first (λ byte. byte == 93) text) in

@@ -12,7 +12,8 @@ pub(crate) fn parts_of<'a>(
     separator: char,
 ) -> Result<Vec<&'a str>, AllocError>
     requires { separator < 128 }
-    ensures { IfOk result (λ parts. map (λ part. part.now) parts.items ≡ slice_split (λ byte. byte == separator) text.now) }
+    ensures { IfOk result (λ parts. map (λ part. part.now) parts.items
+        ≡ slice_split (λ byte. byte == separator) text.now) }
 {
     text.split(separator).collect(alloc)
 }

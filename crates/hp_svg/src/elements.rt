@@ -76,7 +76,8 @@ pub(crate) fn write_text(
     room: u32,
     text: &str,
 ) -> Result<(), AllocError>
-    ensures { OnOk result (string_bytes out.new ≡ string_bytes out.old ++ text_element x y is_narrow room text.now) }
+    ensures { OnOk result (string_bytes out.new ≡ string_bytes out.old
+        ++ text_element x y is_narrow room text.now) }
 {
     out.push_str("<text")?;
     write_position(out, x, y)?;
@@ -129,7 +130,8 @@ fn write_box(
     height: u128,
     fill: &str,
 ) -> Result<(), AllocError>
-    ensures { OnOk result (string_bytes out.new ≡ string_bytes out.old ++ box_element x y width height fill.now) }
+    ensures { OnOk result (string_bytes out.new ≡ string_bytes out.old
+        ++ box_element x y width height fill.now) }
 {
     out.push_str("<rect")?;
     write_position(out, x, y)?;

@@ -1,7 +1,7 @@
 //! The characters of cells: their colours, and what they mean.
 ghost use Rattle.std.specs.Prelude.{◌≡◌, ◌<◌, ◌≤◌, ◌==◌, [], ◌∷◌, ◌++◌, IfOk, IsTrue, OnOk, filter, map, string_bytes};
 ghost use Rattle.std.specs.List.{list_any};
-ghost use Rattle.hp_svg.specs.Marks.{bright_fill, fill_of, has_mark, ink_of, is_lettered, label_of, list_fill, list_label, marks_in, muted_fill, occurs, okabe_fill, owner_label, plain_fill, plain_label};
+ghost use Rattle.hp_svg.specs.Marks.{all_differ, bright_fill, fill_of, has_mark, ink_of, is_lettered, known_marks, label_of, list_fill, list_label, marks_in, muted_fill, occurs, okabe_fill, owner_label, plain_fill, plain_label};
 
 use crate::cuts::cells_of;
 use std::alloc::{AllocError, Global};
@@ -206,3 +206,8 @@ pub(crate) fn marks_in(alloc: Global, pieces: &[&str]) -> Result<Vec<u8>, AllocE
         .filter(|mark| occurs(pieces, *mark))
         .collect(alloc)
 }
+
+/// No two characters that have a meaning have the same colour.
+pub fn colours_differ()
+    ensures { IsTrue (all_differ (map fill_of known_marks)) }
+{}

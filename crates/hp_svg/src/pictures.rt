@@ -15,13 +15,13 @@ use crate::sheets::{
 };
 use std::alloc::{AllocError, Global};
 
-/// The picture of a trace as SVG (own rule): each line of its text is a row, with what was asked and answered as text and a
-/// rectangle for each run of equal characters in the brackets of a memory block; above the rows stand a legend of all characters
-/// that occur, and the numbers of the blocks and of their first frames. How wide a block is, and how many there are, is that of the
-/// first line. An error is out of memory.
+/// The picture of a trace as SVG (own rule): each line of its text is a row, with what was asked and answered
+/// as text, and a rectangle for each run of equal characters in the brackets of a memory block; above the rows
+/// stand a legend of all characters that occur, and the numbers of the blocks and of their first frames. How
+/// wide a block is, and how many there are, is that of the first line. An error is out of memory.
 ///
-/// The text is that of a trace in which each row has all memory blocks. A word with brackets elsewhere in a line is drawn as a block
-/// too.
+/// The text is that of a trace in which each row has all memory blocks. A word with brackets elsewhere in a
+/// line is drawn as a block too.
 pub fn picture_of(alloc: Global, trace: &str) -> Result<String, AllocError>
     ensures { IfOk result (λ picture. string_bytes picture ≡ picture_of trace.now) }
 {
@@ -39,7 +39,8 @@ fn picture_with(
     marks: &[u8],
     lines: &[&str],
 ) -> Result<String, AllocError>
-    ensures { IfOk result (λ picture. string_bytes picture ≡ picture_with sheet marks.now (map (λ line. line.now) lines.now)) }
+    ensures { IfOk result (λ picture. string_bytes picture
+        ≡ picture_with sheet marks.now (map (λ line. line.now) lines.now)) }
 {
     let entries = marks.len();
     let mut out = String::new(alloc);
@@ -146,7 +147,8 @@ fn write_style(out: &mut String) -> Result<(), AllocError>
 
 /// Writes the legend of characters.
 fn write_legend(out: &mut String, alloc: Global, marks: &[u8]) -> Result<(), AllocError>
-    ensures { OnOk result (string_bytes out.new ≡ string_bytes out.old ++ flat_map entry_text (enumerate_from 0 marks.now)) }
+    ensures { OnOk result (string_bytes out.new ≡ string_bytes out.old
+        ++ flat_map entry_text (enumerate_from 0 marks.now)) }
 {
     for (place, mark) in marks.iter().enumerate() {
         write_entry(out, alloc, place, *mark)?;
@@ -176,7 +178,8 @@ fn write_blocks(
     entries: usize,
     lines: usize,
 ) -> Result<(), AllocError>
-    ensures { OnOk result (string_bytes out.new ≡ string_bytes out.old ++ flat_map (block_text sheet entries lines) (range_with_len 0 sheet.blocks)) }
+    ensures { OnOk result (string_bytes out.new ≡ string_bytes out.old
+        ++ flat_map (block_text sheet entries lines) (range_with_len 0 sheet.blocks)) }
 {
     for block in 0..sheet.blocks {
         write_block(out, alloc, sheet, entries, lines, block)?;
@@ -194,7 +197,8 @@ fn write_block(
     lines: usize,
     block: usize,
 ) -> Result<(), AllocError>
-    ensures { OnOk result (string_bytes out.new ≡ string_bytes out.old ++ block_text sheet entries lines block) }
+    ensures { OnOk result (string_bytes out.new ≡ string_bytes out.old
+        ++ block_text sheet entries lines block) }
 {
     let left = sheet.cells_at(block);
     let top = numbers_at(entries);
@@ -230,7 +234,8 @@ fn write_rows(
     top: u128,
     lines: &[&str],
 ) -> Result<(), AllocError>
-    ensures { OnOk result (string_bytes out.new ≡ string_bytes out.old ++ rows_text sheet top (map (λ line. line.now) lines.now)) }
+    ensures { OnOk result (string_bytes out.new ≡ string_bytes out.old
+        ++ rows_text sheet top (map (λ line. line.now) lines.now)) }
 {
     write_rows_opening(out, top)?;
     write_lines(out, alloc, sheet, lines)?;
@@ -244,7 +249,8 @@ fn write_lines(
     sheet: Sheet,
     lines: &[&str],
 ) -> Result<(), AllocError>
-    ensures { OnOk result (string_bytes out.new ≡ string_bytes out.old ++ flat_map (row_text sheet) (enumerate_from 0 (map (λ line. line.now) lines.now))) }
+    ensures { OnOk result (string_bytes out.new ≡ string_bytes out.old
+        ++ flat_map (row_text sheet) (enumerate_from 0 (map (λ line. line.now) lines.now))) }
 {
     for (number, line) in lines.iter().enumerate() {
         write_row(out, alloc, sheet, number, line)?;
@@ -276,7 +282,8 @@ fn write_pieces(
     pieces: &[&str],
 ) -> Result<(), AllocError>
     requires { top < 2 ^ 101 }
-    ensures { OnOk result (string_bytes out.new ≡ string_bytes out.old ++ flat_map (piece_text sheet top) (enumerate_from 0 (map (λ piece. piece.now) pieces.now))) }
+    ensures { OnOk result (string_bytes out.new ≡ string_bytes out.old
+        ++ flat_map (piece_text sheet top) (enumerate_from 0 (map (λ piece. piece.now) pieces.now))) }
 {
     for (block, piece) in pieces.iter().enumerate() {
         write_piece(out, sheet, top, block, piece)?;
@@ -294,7 +301,8 @@ fn write_piece(
     piece: &str,
 ) -> Result<(), AllocError>
     requires { top < 2 ^ 101 }
-    ensures { OnOk result (string_bytes out.new ≡ string_bytes out.old ++ piece_text sheet top (block, piece.now)) }
+    ensures { OnOk result (string_bytes out.new ≡ string_bytes out.old
+        ++ piece_text sheet top (block, piece.now)) }
 {
     let cells = cells_of(piece);
     write_head(out, sheet, top, block, head_of(piece), cells)?;
@@ -312,7 +320,8 @@ fn write_head(
     cells: &str,
 ) -> Result<(), AllocError>
     requires { top < 2 ^ 101 }
-    ensures { OnOk result (string_bytes out.new ≡ string_bytes out.old ++ head_text sheet top block head.now cells.now) }
+    ensures { OnOk result (string_bytes out.new ≡ string_bytes out.old
+        ++ head_text sheet top block head.now cells.now) }
 {
     if head.is_empty() {
         return Ok(());

@@ -33,7 +33,8 @@ pub(crate) fn write_cells(
 ) -> Result<(), AllocError>
     requires left { left < 2 ^ 101 }
     requires top { top < 2 ^ 101 }
-    ensures { OnOk result (string_bytes out.new ≡ string_bytes out.old ++ flat_map (run_text left top) (runs_of cells.now)) }
+    ensures { OnOk result (string_bytes out.new ≡ string_bytes out.old
+        ++ flat_map (run_text left top) (runs_of cells.now)) }
 {
     let [first, rest @ ..] = cells else {
         return Ok(());

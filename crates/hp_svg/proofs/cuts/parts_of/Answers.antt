@@ -1,4 +1,3 @@
-use Rattle.std.proofs.Common.{◌≡◌, Bor, List, ℕ}
 use Rattle.std.proofs.lemmas.Iterator.Consumers.{map_from_collect}
 use Rattle.std.proofs.lemmas.Iterator.Splits.{YieldsList-from_str_split}
 use Rattle.hp_svg.proofs.cuts.parts_of.Goals as goal

@@ -1,4 +1,4 @@
-use Rattle.std.proofs.Common.{◌≡◌, ◌+◌, ◌++◌, ◌≤◌, drop, flat_map, string_bytes}
+use Rattle.std.proofs.Common.{◌≡◌, ◌+◌, ◌++◌, drop, flat_map, string_bytes}
 use Rattle.hp_svg.specs.Elements.{run_text}
 use Rattle.hp_svg.specs.Runs.{runs_after, runs_of}
 use Rattle.hp_svg.proofs.runs.write_cells.Given as goal
