@@ -1,15 +1,15 @@
 -- Lines that are dealt to the scripts of their processors, one after another.
-use Rattle.std.proofs.Common.{◌≡◌, ◌≢◌, ℕ, suc, ◌+◌, ◌<◌, ◌≤◌, Bool, true, false, not, ◌&&◌, List, [], ◌∷◌, ◌++◌, length, map, filter, cond, eqb, get_or, set, reverse, refl, sym, ap, subst, ◌∙◌, arith, Option, Some, None}
+use Rattle.std.proofs.Common.{◌≡◌, ◌≢◌, ◌==◌, ℕ, ◌<◌, ◌≤◌, Bool, true, false, not, ◌&&◌, List, [], ◌∷◌, ◌++◌, length, map, cond, eqb, get_or, set, reverse, refl, sym, ap, subst, ◌∙◌, arith, Some, None}
 use Rattle.std.specs.Bool.{nat_lt}
 use Rattle.std.specs.List.{All, list_all, position_or_len, range_with_len}
-use Rattle.std.proofs.lemmas.List.{append-nil, append_assoc, ext_get_or, get_or_default, get_or-set_other, length-set, reverse-append, reverse-reverse}
+use Rattle.std.proofs.lemmas.List.{append-nil, append_assoc, ext_get_or, get_or-set_other, length-set, reverse-append, reverse-reverse}
 use Rattle.std.proofs.lemmas.List.Elements.{All-filter, All-map}
 use Rattle.std.proofs.lemmas.List.Folds.{list_all-append}
 use Rattle.std.proofs.lemmas.List.FromFn.{get_or-map-range_with_len, length-map-range_with_len}
 use Rattle.std.proofs.lemmas.List.Sums.{AllPass-from_list_all, fails_before_first, list_all-from_AllPass}
-use Rattle.std.proofs.lemmas.Bool.{eqb-false, eqb-true, ltb-false, ltb-true}
+use Rattle.std.proofs.lemmas.Bool.{eqb-false, eqb-true, ltb-false, ltb-true, ne_eqb}
 use Rattle.std.proofs.lemmas.Grind.{get_or-set_at}
-use Rattle.hp_scenario.specs.Scripts.{AreForRun, IsForRun, first_unfit, is_cat, is_for_run, script_of}
+use Rattle.hp_scenario.specs.Scripts.{AreAllOf, AreForRun, IsForRun, first_unfit, is_cat, is_for_run, script_of}
 use Rattle.hp_scenario.specs.declared.lines.Line.{Line}
 
 -- what the lines that are left, of which the last goes next, add to the scripts so far, makes the scripts of all lines
@@ -70,6 +70,55 @@ and_both : (s t : Bool) → (s && t) ≡ true → (s ≡ true) × (t ≡ true)
 and_both true true e = (refl, refl)
 and_both true false e = absurd cc
 and_both false t e = absurd cc
+
+-- the script of the processor whose all lines are
+own_script : (cpu : ℕ) (lines : List Line) → list_all (λ line. line.cpu == cpu) lines ≡ true → script_of lines cpu ≡ lines
+own_script cpu [] all = refl
+own_script cpu (line ∷ lines) all =
+    let both = and_both (eqb line.cpu cpu) (list_all (λ line. line.cpu == cpu) lines) all in
+    ap (λ (t : Bool). cond t (line ∷ script_of lines cpu) (script_of lines cpu)) both.0
+    ∙ ap (λ (xs : List Line). line ∷ xs) (own_script cpu lines both.1)
+
+-- and that of another processor
+other_script : (cpu other : ℕ) (lines : List Line) → other ≢ cpu → list_all (λ line. line.cpu == cpu) lines ≡ true → script_of lines other ≡ []
+other_script cpu other [] apart all = refl
+other_script cpu other (line ∷ lines) apart all =
+    let both = and_both (eqb line.cpu cpu) (list_all (λ line. line.cpu == cpu) lines) all in
+    ap (λ (t : Bool). cond t (line ∷ script_of lines other) (script_of lines other)) (differs (eqb-true line.cpu cpu both.0))
+    ∙ other_script cpu other lines apart both.1
+  where
+    differs : line.cpu ≡ cpu → eqb line.cpu other ≡ false
+    differs same = ne_eqb line.cpu other (λ (e : line.cpu ≡ other). apart (sym e ∙ same))
+
+-- where all lines are one processor's, its number is in the layout
+pub one_within : (cpus cpu : ℕ) (lines : List Line) → AreAllOf lines cpu → list_all (is_for_run cpus) lines ≡ true → cpu < cpus
+one_within cpus cpu [] all fit = absurd (omega (arith, all.0))
+one_within cpus cpu (line ∷ lines) all fit =
+    let same = eqb-true line.cpu cpu (and_both (eqb line.cpu cpu) (list_all (λ line. line.cpu == cpu) lines) all.1).0 in
+    let first = and_both (is_for_run cpus line) (list_all (is_for_run cpus) lines) fit in
+    let within = ltb-true line.cpu cpus (and_both (nat_lt line.cpu cpus) (not (is_cat line.work)) first.0).0 in
+    omega (arith, same, within)
+
+-- the scripts where all lines are one processor's
+pub all_together : (cpus cpu : ℕ) (lines : List Line) (bare : List (List Line)) → bare ≡ map (script_of []) (range_with_len 0 cpus) → AreAllOf lines cpu → cpu < cpus → set bare cpu lines ≡ map (script_of lines) (range_with_len 0 cpus)
+all_together cpus cpu lines bare bare_is all inside =
+    ext_get_or [] (set bare cpu lines) (map (script_of lines) (range_with_len 0 cpus)) (length-set bare cpu lines ∙ (count ∙ sym (length-map-range_with_len (script_of lines) 0 cpus))) (λ at within.
+    let room : at < cpus = omega (arith, within, length-set bare cpu lines, count) in
+    by_place at room (eqb at cpu) refl ∙ sym (get_or-map-range_with_len (script_of lines) 0 cpus at at [] room (omega arith)))
+  where
+    count : length bare ≡ cpus
+    count = ap length bare_is ∙ length-map-range_with_len (script_of []) 0 cpus
+
+    by_place : (at : ℕ) → at < cpus → (is_own : Bool) → eqb at cpu ≡ is_own → get_or (set bare cpu lines) at [] ≡ script_of lines at
+    by_place at room true e =
+        let same : at ≡ cpu = eqb-true at cpu e in
+        get_or-set_at bare cpu at lines [] same (omega (arith, inside, count)) ∙ (sym (own_script cpu lines all.1) ∙ ap (script_of lines) (sym same))
+    by_place at room false e =
+        let apart : at ≢ cpu = eqb-false at cpu e in
+        get_or-set_other bare cpu at lines [] apart
+        ∙ (ap (λ (xs : List (List Line)). get_or xs at []) bare_is
+        ∙ (get_or-map-range_with_len (script_of []) 0 cpus at at [] room (omega arith)
+        ∙ sym (other_script cpu at lines apart all.1)))
 
 both_and : (s t : Bool) → s ≡ true → t ≡ true → (s && t) ≡ true
 both_and true true first second = refl

@@ -1,6 +1,6 @@
 -- The lines of a scenario by processor (own rule).
-use Rattle.std.specs.Prelude.{◌≡◌, ℕ, ◌+◌, ◌==◌, Bool, true, false, ◌&&◌, not, List, filter, map, nat_lt, Option, Some, None, Result, Ok, Err}
-use Rattle.std.specs.List.{All, position, range_with_len}
+use Rattle.std.specs.Prelude.{◌≡◌, ℕ, ◌+◌, ◌<◌, ◌==◌, Bool, true, false, ◌&&◌, not, List, filter, length, map, nat_lt, Option, Some, None, Result, Ok, Err}
+use Rattle.std.specs.List.{All, list_all, position, range_with_len}
 use Rattle.hp_scenario.specs.Scenario.{ScenarioValue}
 use Rattle.hp_scenario.specs.declared.fault.ScenarioFault.{ScenarioFault}
 use Rattle.hp_scenario.specs.declared.fault.ScenarioFault.TheVariants.{NotForRun}
@@ -38,6 +38,10 @@ is_for_run cpus line = nat_lt line.cpu cpus && not (is_cat line.work)
 -- the lines of a processor, in order
 abbrev pub script_of : List Line → (cpu : ℕ) → List Line
 script_of lines cpu = filter (λ line. line.cpu == cpu) lines
+
+-- there are lines, and all of them are one processor's
+abbrev pub AreAllOf : List Line → (cpu : ℕ) → Type 0
+AreAllOf lines cpu = (0 < length lines) × (list_all (λ line. line.cpu == cpu) lines ≡ true)
 
 -- where the first line stands that no worker may run
 abbrev pub first_unfit : (cpus : ℕ) → List Line → Option ℕ

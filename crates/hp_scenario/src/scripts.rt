@@ -1,8 +1,8 @@
 //! The lines of each processor.
-ghost use Rattle.std.specs.Prelude.{◌≡◌, true, ◌++◌, ◌∷◌, [], IfOk, OnOk, length, map};
+ghost use Rattle.std.specs.Prelude.{◌≡◌, true, ◌==◌, ◌++◌, ◌∷◌, [], IfOk, IfSome, OnOk, length, map};
 ghost use Rattle.std.specs.List.{list_all, range_with_len};
 ghost use Rattle.hp_scenario.specs.Gives.{Gives};
-ghost use Rattle.hp_scenario.specs.Scripts.{AreForRun, first_unfit as unfit, is_for_run, script_of, scripts_of};
+ghost use Rattle.hp_scenario.specs.Scripts.{AreAllOf, AreForRun, first_unfit as unfit, is_for_run, script_of, scripts_of};
 ghost use Rattle.hp_scenario.specs.Seen.{scenario_seen};
 
 use crate::fault::ScenarioFault;
@@ -83,7 +83,55 @@ fn dealt(alloc: Global, lines: Vec<Line>, cpus: u32) -> Result<Vec<Script>, Allo
     requires { list_all (is_for_run cpus) lines.items ≡ true }
     ensures { IfOk result (λ scripts. scripts.items ≡ map (script_of lines.items) (range_with_len 0 cpus)) }
 {
-    let mut scripts = no_scripts(alloc, cpus)?;
+    let scripts = no_scripts(alloc, cpus)?;
+    match only_place(&lines) {
+        Some(place) => Ok(left_together(scripts, place, lines, cpus)),
+        None => dealt_singly(scripts, lines, cpus),
+    }
+}
+
+/// The place of the script that all lines belong to; None where they are of several processors, and where there are none.
+fn only_place(lines: &[Line]) -> Option<usize>
+    ensures { IfSome result (AreAllOf lines.now) }
+{
+    let place = lines.first()?.place();
+    if are_all_of(lines, place) {
+        Some(place)
+    } else {
+        None
+    }
+}
+
+/// Whether all lines belong to the script at a place.
+fn are_all_of(lines: &[Line], place: usize) -> bool
+    ensures { result ≡ list_all (λ line. line.cpu == place) lines.now }
+{
+    lines.iter().all(|line| line.place() == place)
+}
+
+/// The scripts of lines that all belong to one of them: they stay where they are, and take no memory.
+fn left_together(scripts: Vec<Script>, place: usize, lines: Vec<Line>, cpus: u32) -> Vec<Script>
+    requires bare { scripts.items ≡ map (script_of []) (range_with_len 0 cpus) }
+    requires fit { list_all (is_for_run cpus) lines.items ≡ true }
+    requires together { AreAllOf lines.items place }
+    ensures { result.items ≡ map (script_of lines.items) (range_with_len 0 cpus) }
+{
+    let mut scripts = scripts;
+    scripts[place] = Script::new(lines);
+    scripts
+}
+
+/// The scripts of lines of several processors: each line moves to the end of its script.
+fn dealt_singly(
+    scripts: Vec<Script>,
+    lines: Vec<Line>,
+    cpus: u32,
+) -> Result<Vec<Script>, AllocError>
+    requires bare { scripts.items ≡ map (script_of []) (range_with_len 0 cpus) }
+    requires fit { list_all (is_for_run cpus) lines.items ≡ true }
+    ensures { IfOk result (λ scripts. scripts.items ≡ map (script_of lines.items) (range_with_len 0 cpus)) }
+{
+    let mut scripts = scripts;
     let mut left = lines;
     left.reverse();
     while let Some(line) = left.pop() {

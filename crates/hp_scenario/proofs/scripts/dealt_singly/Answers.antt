@@ -1,17 +1,17 @@
-use Rattle.std.proofs.Common.{◌≡◌, ◌<◌, ◌++◌, ◌∷◌, [], List, length, true, get_or, ap, ◌∙◌, arith}
+use Rattle.std.proofs.Common.{◌≡◌, ◌<◌, ◌++◌, ◌∷◌, [], List, length, get_or, ap, ◌∙◌, arith}
 use Rattle.std.specs.List.{list_all}
 use Rattle.std.proofs.lemmas.List.{get_or_default, length-set, nil_from_length}
 use Rattle.std.proofs.lemmas.List.FromFn.{length-map-range_with_len}
 use Rattle.hp_scenario.specs.Scripts.{is_for_run, script_of}
 use Rattle.hp_scenario.specs.declared.lines.Line.{Line}
 use Rattle.hp_scenario.proofs.ScriptLists.{none_dealt, one_dealt_at, all_dealt, all_reversed, all_but_last}
-use Rattle.hp_scenario.proofs.scripts.dealt.Goals as goal
+use Rattle.hp_scenario.proofs.scripts.dealt_singly.Goals as goal
 
 pub loop-line-init : goal.loop-line-init
 loop-line-init c = (
-  none_dealt c.args.lines.items c.reverse.new.self.items c.in_ok-scripts.scripts.items c.args.cpus c.reverse.ensures.items c.in_ok-scripts.ensures,
-  ap (λ (scripts : List (List Line)). length scripts) c.in_ok-scripts.ensures ∙ length-map-range_with_len (script_of []) 0 c.args.cpus,
-  ap (list_all (is_for_run c.args.cpus)) c.reverse.ensures.items ∙ all_reversed c.args.cpus c.args.lines.items c.requires,
+  none_dealt c.args.lines.items c.reverse.new.self.items c.args.scripts.items c.args.cpus c.reverse.ensures.items c.requires.bare,
+  ap (λ (scripts : List (List Line)). length scripts) c.requires.bare ∙ length-map-range_with_len (script_of []) 0 c.args.cpus,
+  ap (list_all (is_for_run c.args.cpus)) c.reverse.ensures.items ∙ all_reversed c.args.cpus c.args.lines.items c.requires.fit,
 )
 
 pub index_mut-requires : goal.index_mut-requires
