@@ -1,5 +1,6 @@
 -- A seat's call is a port's.
-use Rattle.std.proofs.Common.{◌≡◌, ℕ, ◌<◌, List, Option, None, ap, sym, subst, ◌∙◌}
+use Rattle.std.specs.Prelude.{IfOk}
+use Rattle.std.proofs.Common.{◌≡◌, ℕ, ◌<◌, List, Option, None, Result, Ok, Err, ap, sym, subst, ◌∙◌}
 use Rattle.hp_units.specs.LayoutParts.{LayoutParts}
 use Rattle.hp_units.specs.History.{reply_of}
 use Rattle.hp_units.specs.declared.events.Event.{Event}
@@ -27,3 +28,8 @@ seated_is_given l old new event r fault seated =
           subst (λ (n : ℕ). IsDriverReply n event r.reply) cpus
           (subst (IsDriverReply m.layout.cpus event) (sym reply) (driver_known m.layout m.base m.before found.0 old.cpu event (subst (λ (n : ℕ). old.cpu < n) (sym cpus) seated.inside)));
     }
+
+-- and where it may have been answered by a fault
+pub answered_is_given : (l : LayoutParts) (old new : SeatValue) (event : Event) (answer : Result Receipt CallFault) (fault : Option CallFault) → IfOk answer (λ r. IsSeated l old event r new) → IfOk answer (λ r. IsGiven (port_value l old fault) event r (port_value l new None))
+answered_is_given l old new event (Ok r) fault seated = seated_is_given l old new event r fault seated
+answered_is_given l old new event (Err why) fault none = none

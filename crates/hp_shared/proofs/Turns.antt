@@ -1,11 +1,13 @@
 -- A recorded call keeps what every lock shows, and so does a seal.
-use Rattle.std.proofs.Common.{◌≡◌, ℕ, ◌+◌, List, [], ◌∷◌, ◌++◌, length, Some, slice_get, take, refl, ap, sym, subst, ◌∙◌, arith}
+use Rattle.std.specs.Prelude.{IfOk, is_ok}
+use Rattle.std.proofs.Common.{◌≡◌, true, Result, Ok, Err, ℕ, ◌+◌, List, [], ◌∷◌, ◌++◌, length, Some, slice_get, take, refl, ap, sym, subst, ◌∙◌, arith}
 use Rattle.std.proofs.lemmas.List.{length-append}
 use Rattle.hp_units.specs.LayoutParts.{LayoutParts}
 use Rattle.hp_units.specs.Boot.{boot_memory}
 use Rattle.hp_units.specs.Memory.{Memory}
 use Rattle.hp_units.specs.History.{IsLegal, net_of, reply_of, run, value_of}
 use Rattle.hp_units.specs.declared.events.Event.{Event}
+use Rattle.hp_units.specs.declared.replies.CallFault.{CallFault}
 use Rattle.hp_units.specs.declared.replies.Receipt.{Receipt}
 use Rattle.hp_units.specs.declared.replies.Record.{Record}
 use Rattle.hp_laws.proofs.Lists.{get_end}
@@ -42,6 +44,12 @@ turned l old new was total cpu event r shared called more = record {
   history = called_history old new cpu event r called;
   total = more ∙ (ap (λ (n : ℕ). n + 1) shared.total ∙ sym (called_serial old new cpu event r called));
 }
+
+-- and where a call that may be answered by a fault is known to have been recorded
+pub turned_ok : (l : LayoutParts) (old new : MachineValue) (was total : ℕ) (cpu : ℕ) (event : Event) (answer : Result Receipt CallFault) → IsShared l (record { machine = old; total = was }) → IfOk answer (λ r. IsCalled old cpu event r new) → is_ok answer ≡ true → total ≡ was + 1
+    → IsShared l (record { machine = new; total = total })
+turned_ok l old new was total cpu event (Ok r) shared called recorded more = turned l old new was total cpu event r shared called more
+turned_ok l old new was total cpu event (Err fault) shared called recorded more = absurd cc
 
 -- a machine with no records that sealed nothing may lie under the lock
 pub begun : (l : LayoutParts) (m : MachineValue) (total : ℕ) → IsFresh l m → (m.before ≡ 0 → m.base ≡ boot_memory m.layout) → IsHistory m → total ≡ 0 → IsShared l (record { machine = m; total = total })

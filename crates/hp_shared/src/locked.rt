@@ -63,9 +63,11 @@ impl<L: Job> Locked<L> {
         ensures kept { IsShared L.layout self.new }
     {
         self.book.audit(share);
-        let receipt = self.machine.call(alloc, cpu, event)?;
-        self.book.add(share, 1);
-        Ok(receipt)
+        let answer = self.machine.call(alloc, cpu, event);
+        if answer.is_ok() {
+            self.book.add(share, 1);
+        }
+        answer
     }
 
     /// Hands out the records since the last seal, with the state before them (own rule). It makes no record: total and share stay

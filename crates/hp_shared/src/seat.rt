@@ -67,13 +67,15 @@ impl<L: Job> Seat<L> {
         let Ok(asked) = event.copy(alloc) else {
             return Err(CallFault::OutOfMemory);
         };
-        let receipt = shared.turn(rt, alloc, &mut self.share, self.cpu, event)?;
-        self.receipts.push_reserved(Receipt {
-            serial: receipt.serial,
-            event: asked,
-            reply: receipt.reply,
-        });
-        Ok(receipt)
+        let answer = shared.turn(rt, alloc, &mut self.share, self.cpu, event);
+        if let Ok(receipt) = &answer {
+            self.receipts.push_reserved(Receipt {
+                serial: receipt.serial,
+                event: asked,
+                reply: receipt.reply,
+            });
+        }
+        answer
     }
 
     /// Hands out the shared machine's records since its last seal, with the state before them, under one holding of the lock, for

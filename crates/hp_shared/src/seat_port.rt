@@ -55,16 +55,12 @@ impl<'a, L: Job, R: Wait> Port for SeatPort<'a, L, R> {
     }
 
     fn call(&mut self, alloc: Global, event: &Event) -> Result<Receipt, CallFault> {
-        match self.seat.call(self.rt, alloc, self.shared, event) {
-            Ok(receipt) => {
-                self.fault = None;
-                Ok(receipt)
-            }
-            Err(fault) => {
-                self.fault = Some(fault);
-                Err(fault)
-            }
+        let answer = self.seat.call(self.rt, alloc, self.shared, event);
+        match &answer {
+            Ok(_) => self.fault = None,
+            Err(fault) => self.fault = Some(*fault),
         }
+        answer
     }
 
     ghost nothing = { λ p. (refl, refl) };

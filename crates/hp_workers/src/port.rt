@@ -64,16 +64,11 @@ impl<'a, L: Job, G: Gate, R: Wait> Port for GatedPort<'a, L, G, R> {
         self.gate.before(cpu, *self.calls);
         let answer = self.seat.call(self.rt, alloc, self.shared, event);
         self.gate.after(cpu, *self.calls);
-        match answer {
-            Ok(receipt) => {
-                self.fault = None;
-                Ok(receipt)
-            }
-            Err(fault) => {
-                self.fault = Some(fault);
-                Err(fault)
-            }
+        match &answer {
+            Ok(_) => self.fault = None,
+            Err(fault) => self.fault = Some(*fault),
         }
+        answer
     }
 
     ghost nothing = { λ p. (refl, refl) };
