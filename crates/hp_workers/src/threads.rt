@@ -1,4 +1,4 @@
-//! Workers in threads, one for each seat.
+//! Workers in threads, one for each seat: that of the first seat is the caller's.
 ghost use Rattle.std.specs.Prelude.{◌≡◌, ◌+◌, ◌*◌, ◌<◌, ◌≤◌, ◌++◌, ◌∷◌, [], None, Some, length, take, vec_len, vec_capacity};
 ghost use Rattle.std.specs.List.{All};
 ghost use Rattle.std.specs.List.Sorted.{IsPermutation};
@@ -64,8 +64,9 @@ pub struct RunEnd<L: Job> {
     pub fault: Option<RunFault>,
 }
 
-/// Runs each script by the seat at its place, each in a thread of its own, and waits for all (own rule).
-/// Each call of a seat takes the machine's lock anew, with the gate before and after it.
+/// Runs each script by the seat at its place, each in a thread of its own, and waits for all (own rule). The
+/// first seat's thread is the caller's, so that a run of one processor's lines costs no memory of a second
+/// thread. Each call of a seat takes the machine's lock anew, with the gate before and after it.
 ///
 /// In every case all seats come back, with the receipts of the lines that they ran, in order, and all
 /// volumes that the lines' seals handed out. A worker runs all its lines, or none: where no thread can be
@@ -154,7 +155,7 @@ fn unstarted<L: Job>(alloc: Global, seats: Vec<Seat<L>>) -> RunEnd<L>
     }
 }
 
-/// Runs a worker for each seat, each in a thread beside those of the seats before it. There is room for all.
+/// Runs a worker for each seat, each beside those of the seats before it. There is room for all.
 #[cycle(workers)]
 fn run_rest<L: Job + Send + Sync, G: Gate + Sync, R: Threads + Wait + Sync>(
     rt: &R,
@@ -186,7 +187,26 @@ fn run_rest<L: Job + Send + Sync, G: Gate + Sync, R: Threads + Wait + Sync>(
     gather(worked, done)
 }
 
-/// Runs the worker of the seat after others in a thread beside those of the others.
+/// Runs the worker of the first seat in the caller's thread, which would only wait.
+fn run_first<L: Job, G: Gate, R: Wait>(
+    rt: &R,
+    alloc: Global,
+    shared: &Shared<L>,
+    gate: &G,
+    seat: Seat<L>,
+    scripts: &Vec<Script>,
+) -> Worked<L>
+    requires scripts { 0 < vec_len scripts.now }
+    requires run { AreForRun scripts.now.items }
+    ensures { IsWorkerAt L.layout seat scripts.now.items 0 result.seat result.volumes.items result.ends
+        result.fault }
+{
+    let starts = AtomicBool::new(true);
+    run_script(rt, alloc, shared, gate, &starts, seat, &scripts[0])
+}
+
+/// Runs the worker of the seat after others in a thread beside those of the others, that of the first seat in
+/// the caller's.
 #[cycle(workers)]
 fn run_beside<L: Job + Send + Sync, G: Gate + Sync, R: Threads + Wait + Sync>(
     rt: &R,
@@ -214,6 +234,10 @@ fn run_beside<L: Job + Send + Sync, G: Gate + Sync, R: Threads + Wait + Sync>(
     ensures few { length result.1.volumes.items
         ≤ seals_in_all (take (length others.items) scripts.now.items) }
 {
+    if others.is_empty() {
+        let worked = run_first(rt, alloc, shared, gate, seat, scripts);
+        return (worked, room);
+    }
     let script = &scripts[others.len()];
     let task = Task::of(&seat, script);
     let flag = AtomicBool::new(true);

@@ -1,5 +1,7 @@
-use Rattle.std.proofs.Common.{◌≡◌, ◌<◌, ◌≤◌, ◌+◌, ◌++◌, ◌∷◌, [], length, get_or, Some, slice_get, refl, ap, ◌∙◌, arith}
+use Rattle.std.specs.Prelude.{vec_len}
+use Rattle.std.proofs.Common.{◌≡◌, ◌<◌, ◌≤◌, ◌+◌, ◌++◌, ◌∷◌, [], length, get_or, Some, slice_get, refl, ap, sym, ◌∙◌, arith}
 use Rattle.std.proofs.lemmas.List.{length-append, nil_from_length}
+use Rattle.std.proofs.lemmas.Bool.{eqb-true}
 use Rattle.std.proofs.lemmas.Option.{slice_get_read}
 use Rattle.hp_workers.proofs.SealRuns.{fewer_seal_less, one_more_few}
 use Rattle.hp_workers.proofs.WorkerLists.{workers_more, workers_none}
@@ -53,3 +55,9 @@ pub run_rest-returns-in_default-clause-workers : goal.run_rest-returns-in_defaul
 run_rest-returns-in_default-clause-workers g t c =
     workers_none g.L.Job.layout c.args.seats.items c.args.scripts.now.items c.args.room.seats.items c.args.room.volumes.items c.args.room.ends.items c.args.room.fault
     (nil_from_length c.args.seats.items (omega (arith, c.in_default.ensures.cases.0, c.args.seats.ok.0))) c.requires.bare.0 c.requires.bare.1 c.requires.bare.2 c.requires.bare.3
+
+pub run_beside-returns-then-is_empty-clause-workers : goal.run_beside-returns-then-is_empty-clause-workers
+run_beside-returns-then-is_empty-clause-workers g t c =
+    let none : vec_len c.args.others ≡ 0 = eqb-true (vec_len c.args.others) 0 (sym c.is_empty.ensures ∙ c.if-is_empty.true) in
+    workers_none g.L.Job.layout c.args.others.items c.args.scripts.now.items c.args.room.seats.items c.args.room.volumes.items c.args.room.ends.items c.args.room.fault
+    (nil_from_length c.args.others.items (omega (arith, none, c.args.others.ok.0))) c.requires.bare.0 c.requires.bare.1 c.requires.bare.2 c.requires.bare.3
