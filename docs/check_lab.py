@@ -283,11 +283,11 @@ def check_trace(checks, programs, file):
 def check_findings(checks, programs, file):
     scenario = json.loads(file.read_text())
     text = programs.check(scenario)
-    checks.holds(f"{file.name} check", "\n0 faults, " in "\n" + text, f"says {text!r}")
+    checks.holds(f"{file.name} check", "\nfaults: 0, " in "\n" + text, f"says {text!r}")
     scenario["calls"].append("0")
     text, last = programs.check(scenario), len(scenario["calls"])
     checks.holds(f"{file.name} check", text == f"calls {last} (line 1): `0`: a verb is missing\n"
-                                               "1 faults, 0 warnings\n", f"says {text!r}")
+                                               "faults: 1, warnings: 0\n", f"says {text!r}")
 
 
 # Pictures

@@ -41,18 +41,31 @@ pub enum Place {
 /// A key that a scenario has.
 #[derive(Clone, Copy, Debug, PartialEq, Eq, Drop)]
 pub enum Key {
+    /// `layout`: the machine that the calls run on.
     Layout,
+    /// `calls`: the lines.
     Calls,
+    /// `order`: the greatest order of a free block.
     Order,
+    /// `pageblocks`: how many a memory block has.
     Pageblocks,
+    /// `blocks`: the number of memory blocks.
     Blocks,
+    /// `cpus`: the number of processors.
     Cpus,
+    /// `batch`: how many frames a processor's list is refilled by and spills.
     Batch,
+    /// `high`: how many frames a processor's list holds before it spills.
     High,
+    /// `owners`: the number of owners.
     Owners,
+    /// `pages`: the number of pages of each owner.
     Pages,
+    /// `words`: the number of 8-byte words in a frame.
     Words,
+    /// `history`: the greatest number of records.
     History,
+    /// `boot`: what each memory block is at boot.
     Boot,
 }
 
@@ -132,12 +145,19 @@ pub enum OutOfRange {
 /// What a layout has a number of.
 #[derive(Clone, Copy, Debug, PartialEq, Eq, Drop)]
 pub enum What {
+    /// Processors.
     Processor,
+    /// Owners.
     Owner,
+    /// Pages of an owner.
     Page,
+    /// 8-byte words of a page.
     Word,
+    /// Orders of free blocks, from 0 to the greatest.
     Order,
+    /// Frames.
     Frame,
+    /// Memory blocks.
     Block,
 }
 
