@@ -4,17 +4,17 @@ ghost use Rattle.hp_units.specs.History.{effect_of};
 ghost use Rattle.hp_machine.specs.Machine.{IsHistory};
 ghost use Rattle.hp_explore.specs.Ends.{AreCounted};
 ghost use Rattle.hp_explore.specs.Faults.{IsCallCause, IsNoteCause, IsWalkCause, is_full_after};
-ghost use Rattle.hp_explore.specs.Outcomes.{ended_rows_below, replies_below};
+ghost use Rattle.hp_explore.specs.Outcomes.{ended_rows_below};
 ghost use Rattle.hp_explore.specs.Schedules.{Setting, next_call, schedule_of, setting};
 ghost use Rattle.hp_explore.specs.Seen.{Grow, IsMemo};
 ghost use Rattle.hp_explore.specs.Walks.{BeforeNext, CountsBefore, CountsThrough, IsAt, IsChild, IsEndNoted, IsNextSerial, IsPlayed, IsPlayedOn, IsReached, LeadsTo, ThroughNext, may_go_back, news_since};
 ghost use Rattle.hp_explore.specs.declared.exploring.ExploreFault.TheVariants.{HistoryFull};
 
 use crate::closed::is_closed;
-use crate::digests::digest_of;
+use crate::digests::place_digest;
 use crate::exploring::ExploreFault;
 use crate::memo::{Memo, Seen};
-use crate::outcomes::{Answers, Outcome, answers_to, claimed_row};
+use crate::outcomes::claimed_row;
 use crate::scripts::Script;
 use crate::tally::{Tally, schedule_of};
 use hp_machine::Machine;
@@ -49,7 +49,7 @@ pub(crate) fn visit(
     if !memo.is_on() || !is_closed(start.history(), here.records()) {
         return walk_on(alloc, start, scripts, here, tally, memo);
     }
-    let digest = digest_of(here.memory(), here.records());
+    let digest = place_digest(here.memory(), here.records());
     let image = here.memory().image(alloc)?;
     if let Some(counts) = memo.counts_like(
         alloc,
@@ -318,10 +318,8 @@ fn note_end(
     ensures limit { tally.new.limit ≡ tally.old.limit }
     ensures err { IfErr result (IsNoteCause tally.old) }
 {
-    let replies = all_answers(alloc, processors, here.records())?;
     let blocks = ended_rows(alloc, here.memory())?;
-    let schedule = schedule_of(alloc, here.records())?;
-    tally.note(Outcome::new(replies, blocks), schedule)
+    tally.note(alloc, processors, here.records(), blocks)
 }
 
 /// The records from a place on.
@@ -347,23 +345,6 @@ fn copies(alloc: Global, records: &[Record]) -> Result<Vec<Record>, AllocError>
         });
     }
     Ok(copies)
-}
-
-/// The replies of each processor among records. An error is out of memory.
-fn all_answers(
-    alloc: Global,
-    processors: u32,
-    records: &[Record],
-) -> Result<Vec<Answers>, AllocError>
-    ensures { IfOk result (λ all. all.items ≡ replies_below processors records.now) }
-{
-    let mut all = Vec::new(alloc);
-    for cpu in 0..processors {
-        all.reserve(1)?;
-        let answers = answers_to(alloc, Cpu(cpu), records)?;
-        all.push_reserved(answers);
-    }
-    Ok(all)
 }
 
 /// Each memory block's row, without the operation that may hold it. An error is out of memory.
