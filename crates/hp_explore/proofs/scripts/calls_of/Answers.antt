@@ -1,5 +1,5 @@
 -- There are no more than records.
-use Rattle.std.proofs.Common.{arith, take, length}
+use Rattle.std.proofs.Common.{arith, take}
 use Rattle.std.proofs.lemmas.List.{length-take-le}
 use Rattle.hp_explore.proofs.OneCalls.{calls_within}
 use Rattle.hp_explore.proofs.scripts.calls_of.Goals as goal
