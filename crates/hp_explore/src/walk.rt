@@ -1,5 +1,5 @@
 //! The walk over all schedules, depth first and processor 0 first.
-ghost use Rattle.std.specs.Prelude.{◌≡◌, ◌+◌, ◌^◌, ◌<◌, ◌≤◌, [], ◌∷◌, ◌++◌, Some, true, IfErr, IfOk, OnOk, drop, length};
+ghost use Rattle.std.specs.Prelude.{◌≡◌, ◌+◌, ◌^◌, ◌<◌, ◌≤◌, [], ◌∷◌, ◌++◌, Some, true, IfErr, IfOk, IsTrue, OnOk, drop, length};
 ghost use Rattle.hp_units.specs.History.{effect_of};
 ghost use Rattle.hp_machine.specs.Machine.{IsHistory};
 ghost use Rattle.hp_explore.specs.Ends.{AreCounted};
@@ -7,7 +7,7 @@ ghost use Rattle.hp_explore.specs.Faults.{IsCallCause, IsNoteCause, IsWalkCause,
 ghost use Rattle.hp_explore.specs.Outcomes.{ended_rows_below};
 ghost use Rattle.hp_explore.specs.Schedules.{Setting, next_call, schedule_of, setting};
 ghost use Rattle.hp_explore.specs.Seen.{Grow, IsMemo};
-ghost use Rattle.hp_explore.specs.Walks.{BeforeNext, CountsBefore, CountsThrough, IsAt, IsChild, IsEndNoted, IsNextSerial, IsPlayed, IsPlayedOn, IsReached, LeadsTo, ThroughNext, may_go_back, news_since};
+ghost use Rattle.hp_explore.specs.Walks.{BeforeNext, CountsBefore, CountsThrough, IsAt, IsChild, IsEndNoted, IsGone, IsNextSerial, IsPlayed, IsPlayedOn, IsReached, LeadsTo, ThroughNext, may_go_back, news_since, with_record};
 ghost use Rattle.hp_explore.specs.declared.exploring.ExploreFault.TheVariants.{HistoryFull};
 
 use crate::closed::is_closed;
@@ -20,7 +20,7 @@ use crate::tally::{Tally, schedule_of};
 use hp_machine::Machine;
 use hp_memory::Memory;
 use hp_steps::Steps;
-use hp_units::{Block, Claim, Cpu, Event, Record, Row, Serial};
+use hp_units::{Block, Claim, Cpu, Event, Record, Refusal, Reply, Row, Serial};
 use std::alloc::{AllocError, Global};
 
 /// Counts the complete schedules that go on from where the walk stands, each under its end, and comes back there. Where they go on
@@ -109,7 +109,7 @@ fn walk_on(
 }
 
 /// Counts those that go on with a processor's next call. The call is a step that is taken back; only after an undo or a Cancel,
-/// which may go back themselves, the walk goes on from a machine that played all calls again.
+/// which may go back themselves, the walk goes on from steps of their own.
 #[cycle(walk)]
 fn visit_next(
     alloc: Global,
@@ -135,7 +135,7 @@ fn visit_next(
 {
     let serial = next_serial(start, here.records())?;
     if may_go_back(event) {
-        return match steps_after(alloc, start, scripts, here.records(), cpu)? {
+        return match steps_after(alloc, start, scripts, here, cpu, serial, event)? {
             Some(steps) => {
                 let mut there = steps;
                 visit(alloc, start, scripts, &mut there, tally, memo)
@@ -190,9 +190,62 @@ fn may_go_back(event: &Event) -> bool
     matches!(event, Event::UndoAfter { .. } | Event::Cancel { .. })
 }
 
+/// Where a processor's next call leads to that may go back. An undo of steps that there are not leaves the state as it is; after any
+/// other all calls are played again.
+fn steps_after(
+    alloc: Global,
+    start: &Machine,
+    scripts: &[Script],
+    here: &Steps,
+    cpu: u32,
+    serial: Serial,
+    event: &Event,
+) -> Result<Option<Steps>, ExploreFault>
+    requires at { IsAt (setting start.now scripts.now) here.now }
+    requires asked { next_call (setting start.now scripts.now) cpu here.now.records ≡ Some event.now }
+    requires serial { IsNextSerial start.now here.now.records serial }
+    ensures ok { IfOk result (LeadsTo (setting start.now scripts.now) (schedule_of here.now.records ++ cpu ∷ [])) }
+    ensures err { IfErr result (IsCallCause (setting start.now scripts.now)) }
+{
+    if !is_gone(start, cpu, serial, event) {
+        return replayed(alloc, start, scripts, here.records(), cpu);
+    }
+    let latest = Record {
+        serial,
+        cpu: Cpu(cpu),
+        event: event.copy(alloc)?,
+        reply: Reply::Refused(Refusal::Gone),
+    };
+    let steps = with_record(alloc, here, latest)?;
+    Ok(Some(steps))
+}
+
+/// Whether an event is an undo of the steps above a serial that is above the last one, by a processor of the layout.
+fn is_gone(start: &Machine, cpu: u32, serial: Serial, event: &Event) -> bool
+    ensures { IsTrue result → IsGone start.now cpu serial event.now }
+{
+    match event {
+        Event::UndoAfter { serial: kept } => kept.0 >= serial.0 && cpu < start.layout().cpus(),
+        _ => false,
+    }
+}
+
+/// The same state after one record more. An error is out of memory.
+fn with_record(alloc: Global, here: &Steps, latest: Record) -> Result<Steps, AllocError>
+    ensures { IfOk result (λ steps. steps ≡ with_record here.now latest) }
+{
+    let memory = here.memory();
+    memory.is_placed();
+    let mut news = copies(alloc, here.records())?;
+    news.reserve(1)?;
+    news.push_reserved(latest);
+    let image = memory.image(alloc)?;
+    Steps::start(alloc, &image, news)
+}
+
 /// Where a processor's next call after new records leads to, none where its script asks for nothing: on a machine that plays all
 /// calls again. Errors come as those of `play`.
-fn steps_after(
+fn replayed(
     alloc: Global,
     start: &Machine,
     scripts: &[Script],
