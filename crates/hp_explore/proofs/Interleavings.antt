@@ -10,16 +10,15 @@ use Rattle.hp_units.specs.declared.events.Event.{Event}
 use Rattle.hp_units.specs.declared.replies.Record.{Record}
 use Rattle.hp_units.specs.declared.replies.Receipt.{Receipt}
 use Rattle.hp_explore.specs.declared.scripts.Line.{Line}
-use Rattle.hp_explore.specs.declared.scripts.Line.TheVariants.{Ask, Own, Carry}
-use Rattle.hp_explore.specs.Interleavings.{AreOneCalls, AreTooMany, IsInterleaving, holds_no_plan, is_one_call, script_length, script_lengths}
+use Rattle.hp_explore.specs.Interleavings.{AreOneCalls, AreTooMany, IsInterleaving, holds_no_plan, script_length, script_lengths}
 use Rattle.hp_explore.specs.Multinomials.{IsMultinomial, sum, turns_of}
 use Rattle.hp_explore.specs.Faults.{HasMoreThan}
 use Rattle.hp_explore.specs.Orders.{HasCount}
 use Rattle.hp_explore.specs.Schedules.{IsComplete, Setting, outcome_after, next_call, play_one, plays, record_of_call}
-use Rattle.hp_explore.specs.Scripts.{after_line, line_next, next_in, next_of, own_operation}
+use Rattle.hp_explore.specs.Scripts.{next_in, next_of, own_operation}
 use Rattle.hp_explore.proofs.Counting.{more_listed, same_count}
 use Rattle.hp_explore.proofs.Interleaved.{HasTurns, interleaved, turns_cons}
-use Rattle.hp_explore.proofs.Lines.{over_now}
+use Rattle.hp_explore.proofs.OneCalls.{asks_once, skips, stays}
 use Rattle.hp_explore.proofs.Plays.{plays_one, stays_none}
 use Rattle.hp_explore.proofs.Steps.{receipts_push}
 use Rattle.hp_explore.proofs.Uniqueness.{only_count}
@@ -35,32 +34,12 @@ one_script [] cpu lines all here = absurd cc
 one_script (first ∷ scripts) zero lines all here = subst AllOne (same_Some first lines here) (and_parts _ _ all).0
 one_script (first ∷ scripts) (suc cpu) lines all here = one_script scripts cpu lines (and_parts _ _ all).1 here
 
--- a line of one call asks for it, and is over after its receipt
-asks_once : (cpus op : ℕ) (line : Line) → is_one_call line ≡ true → (e : Event) × (line_next cpus op line [] ≡ Some e)
-asks_once cpus op (Ask event) one = (event, refl)
-asks_once cpus op (Own work) one = (_, refl)
-asks_once cpus op (Carry plan turns) one = absurd cc
-
-over_once : (cpus op : ℕ) (line : Line) (r : Receipt) → is_one_call line ≡ true → line_next cpus op line (r ∷ []) ≡ None
-over_once cpus op (Ask event) r one = refl
-over_once cpus op (Own work) r one = refl
-over_once cpus op (Carry plan turns) r one = absurd cc
-
--- so the first line is over after the first receipt
-skips : (cpus op : ℕ) (line : Line) (lines : List Line) (r : Receipt) (rs : List Receipt) → is_one_call line ≡ true → next_in cpus op (line ∷ lines) (r ∷ rs) ≡ next_in cpus op lines rs
-skips cpus op line lines r rs one =
-    let first = asks_once cpus op line one in
-    let over : after_line cpus op line [] (r ∷ rs) ≡ Some rs =
-    ap (λ (o : Option Event). option_map_or (λ event. after_line cpus op line (r ∷ []) rs) o (Some (r ∷ rs))) first.1 ∙ over_now cpus op line (r ∷ []) rs (over_once cpus op line r one) in
-    ap (λ (o : Option (List Receipt)). option_map_or (λ rest. next_in cpus op lines rest) o (line_next cpus op line (r ∷ rs))) over
-
--- and lines ask for something where there are fewer receipts than lines
+-- lines ask for something where there are fewer receipts than lines
 asks : (cpus op : ℕ) (lines : List Line) (rs : List Receipt) → AllOne lines → length rs < length lines → (e : Event) × (next_in cpus op lines rs ≡ Some e)
 asks cpus op [] rs all less = absurd (omega arith)
 asks cpus op (line ∷ lines) [] all less =
     let first = asks_once cpus op line (and_parts _ _ all).0 in
-    let on : after_line cpus op line [] [] ≡ None = ap (λ (o : Option Event). option_map_or (λ event. None) o (Some [])) first.1 in
-    (first.0, ap (λ (o : Option (List Receipt)). option_map_or (λ rest. next_in cpus op lines rest) o (line_next cpus op line [])) on ∙ first.1)
+    (first.0, stays cpus op line lines (and_parts _ _ all).0 ∙ first.1)
 asks cpus op (line ∷ lines) (r ∷ rs) all less =
     let later = asks cpus op lines rs (and_parts _ _ all).1 (omega arith) in
     (later.0, skips cpus op line lines r rs (and_parts _ _ all).0 ∙ later.1)

@@ -13,7 +13,7 @@ use Rattle.hp_laws.proofs.Lists.{get_push_cases}
 use Rattle.hp_laws.proofs.Replays.{take_one}
 use Rattle.hp_explore.specs.declared.tally.Ending.{Ending}
 use Rattle.hp_explore.specs.Notes.{HasEndAt, HasNoEnd, IsNoted}
-use Rattle.hp_explore.specs.Outcomes.{OutcomeValue, ended_row, ended_rows_below, replies_below, replies_to}
+use Rattle.hp_explore.specs.Outcomes.{OutcomeValue, ended_row, ended_rows_below, outcome_with, replies_below, replies_to}
 
 -- no end up to the next place has the outcome
 pub none_more : (ends : List Ending) (x : OutcomeValue) (at : ℕ) (e : Ending) → HasNoEnd (take at ends) x → slice_get ends at ≡ Some e → (e.outcome ≡ x → ⊥) → HasNoEnd (take (at + 1) ends) x
@@ -43,12 +43,19 @@ rows_more all s row block so_far is =
 
 -- ---- one schedule more
 
+-- replies and rows are an outcome
+pub outcome_told : (all : List (List Reply)) (rows : List Row) (x : OutcomeValue) (processors : ℕ) (news : List Record) → x ≡ record { replies = all; blocks = rows } → all ≡ replies_below processors news → x ≡ outcome_with processors news rows
+outcome_told all rows x processors news is replies = is ∙ ap (told_so rows) replies
+  where
+    told_so : List Row → List (List Reply) → OutcomeValue
+    told_so rows all = record { replies = all; blocks = rows }
+
 -- an end with one schedule more
 abbrev pub bumped : Ending → Ending
 bumped e = record { outcome = e.outcome; count = e.count + 1; first = e.first }
 
 -- the end that was read is the one at the place
-was_read : (ends : List Ending) (place : ℕ) (e x : Ending) → slice_get ends place ≡ Some x → e ≡ get_or ends place e → e ≡ x
+pub was_read : (ends : List Ending) (place : ℕ) (e x : Ending) → slice_get ends place ≡ Some x → e ≡ get_or ends place e → e ≡ x
 was_read ends place e x here read = read ∙ get_or_from_slice_get ends place x e here
 
 -- the end at a place counts one more

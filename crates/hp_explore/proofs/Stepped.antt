@@ -1,9 +1,7 @@
 -- A step of a call is what the schedule makes of it, where the event may not go back; and where a machine stands.
-use Rattle.std.proofs.Common.{◌≡◌, ℕ, ◌+◌, ◌<◌, ◌≤◌, Bool, true, false, List, [], ◌∷◌, ◌++◌, length, Option, Some, None, refl, ap, sym, subst, ◌∙◌, arith}
-use Rattle.std.specs.Prelude.{◌||◌, nat_le}
-use Rattle.std.proofs.lemmas.Bool.{leb-true}
-use Rattle.std.proofs.lemmas.List.{append_assoc, length-append, length-map, length_push, map-append}
-use Rattle.std.proofs.lemmas.Option.{none-some, same_Some}
+use Rattle.std.proofs.Common.{◌≡◌, ℕ, ◌+◌, Bool, true, false, List, [], ◌∷◌, ◌++◌, length, Some, None, refl, ap, sym, subst, ◌∙◌, arith}
+use Rattle.std.proofs.lemmas.List.{append_assoc, length-map, length_push, map-append}
+use Rattle.std.proofs.lemmas.Option.{none-some}
 use Rattle.hp_units.specs.History.{Effect, Looks, Undoes, Cancels, Acts, effect_of, effect_reply, is_refused, net_of, net_with, net_with_effect, reply_of, run, value_of}
 use Rattle.hp_units.specs.LayoutParts.{LayoutParts}
 use Rattle.hp_units.specs.Memory.{Memory}
@@ -17,10 +15,8 @@ use Rattle.hp_laws.proofs.Replays.{net_bad}
 use Rattle.hp_laws.proofs.Steps.{IsOnward, steps}
 use Rattle.hp_machine.specs.Machine.{MachineValue}
 use Rattle.hp_steps.specs.Steps.{IsStepped, StepsValue, record_of_step}
-use Rattle.hp_explore.specs.Outcomes.{OutcomeValue}
-use Rattle.hp_explore.specs.Schedules.{Setting, next_call, plays, record_of_call, schedule_of, setting}
-use Rattle.hp_explore.specs.Walks.{IsAt, IsPlayed, IsReached, LeadsTo, may_go_back, news_in, place_of}
-use Rattle.hp_explore.specs.declared.scripts.Line.{Line}
+use Rattle.hp_explore.specs.Schedules.{Setting, next_call, plays, record_of_call, schedule_of}
+use Rattle.hp_explore.specs.Walks.{IsAt, IsReached, may_go_back, news_in}
 use Rattle.hp_explore.proofs.Merges.{state_here}
 use Rattle.hp_explore.proofs.Plays.{plays_push}
 

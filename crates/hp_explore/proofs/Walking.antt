@@ -3,9 +3,7 @@ use Rattle.std.proofs.Common.{◌≡◌, ℕ, ◌+◌, ◌<◌, ◌≤◌, Bool,
 use Rattle.std.proofs.lemmas.Bool.{cases_lt}
 use Rattle.std.proofs.lemmas.List.{append_assoc}
 use Rattle.std.specs.Prelude.{◌||◌, Result, Err, IsTrue, nat_le}
-use Rattle.hp_units.specs.History.{value_of}
 use Rattle.hp_units.specs.LayoutParts.{LayoutParts}
-use Rattle.hp_units.specs.Memory.{Memory}
 use Rattle.hp_units.specs.declared.events.Event.{Event}
 use Rattle.hp_units.specs.declared.replies.CallFault.{CallFault}
 use Rattle.hp_units.specs.declared.replies.CallFault.TheVariants.{HistoryFull as CallFull, OutOfMemory as CallMemory}

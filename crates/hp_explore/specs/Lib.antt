@@ -1,4 +1,5 @@
 pub mod Alike
+pub mod Digests
 pub mod Ends
 pub mod Faults
 pub mod Interleavings

@@ -35,6 +35,10 @@ ended_row None = offline_row
 abbrev pub ended_rows_below : (blocks : ℕ) → Memory → List Row
 ended_rows_below blocks s = map (λ block. ended_row (slice_get s.blocks.rows block)) (range_with_len 0 blocks)
 
+-- the outcome of records, for so many processors, with these rows
+abbrev pub outcome_with : (processors : ℕ) → List Record → List Row → OutcomeValue
+outcome_with processors news rows = record { replies = replies_below processors news; blocks = rows }
+
 -- the outcome of records, for so many processors, in a state
 abbrev pub outcome : (processors : ℕ) → List Record → LayoutParts → Memory → OutcomeValue
-outcome processors news l s = record { replies = replies_below processors news; blocks = ended_rows_below l.blocks s }
+outcome processors news l s = outcome_with processors news (ended_rows_below l.blocks s)

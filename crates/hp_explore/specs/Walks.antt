@@ -1,7 +1,8 @@
 -- How far the walk over all schedules is.
-use Rattle.std.specs.Prelude.{◌≡◌, ℕ, ◌+◌, ◌<◌, ◌⊎◌, Bool, true, false, List, [], ◌∷◌, ◌++◌, Option, Some, None, length, drop}
+use Rattle.std.specs.Prelude.{◌≡◌, ℕ, ◌+◌, ◌<◌, ◌≤◌, ◌⊎◌, Bool, true, false, List, [], ◌∷◌, ◌++◌, Option, Some, None, length, drop}
 use Rattle.hp_units.specs.History.{Effect, Looks, Undoes, Cancels, Acts, value_of}
 use Rattle.hp_units.specs.declared.events.Event.{Event}
+use Rattle.hp_units.specs.declared.events.Event.TheVariants.{UndoAfter}
 use Rattle.hp_units.specs.declared.replies.Record.{Record}
 use Rattle.hp_machine.specs.Machine.{MachineValue}
 use Rattle.hp_steps.specs.Steps.{StepsValue}
@@ -83,6 +84,14 @@ IsEndNoted processors p old new = IsNoted old (outcome processors p.records p.la
 -- the serial of the next record after the new ones of a machine, whose history has room for it
 abbrev pub IsNextSerial : (start : MachineValue) → List Record → (serial : ℕ) → Type 0
 IsNextSerial start news serial = (serial ≡ start.before + length (start.history ++ news) + 1) × (length (start.history ++ news) < start.layout.history)
+
+-- an event is an undo of the steps above a serial that is no earlier one, by a processor of the layout
+abbrev pub IsGone : (start : MachineValue) → (cpu serial : ℕ) → Event → Type 0
+IsGone start cpu serial event = (kept : ℕ) × (event ≡ UndoAfter kept) × (serial ≤ kept) × (cpu < start.layout.cpus)
+
+-- the same state after one record more, with no way back
+abbrev pub with_record : StepsValue → Record → StepsValue
+with_record p latest = record { layout = p.layout; state = p.state; deltas = []; records = p.records ++ latest ∷ [] }
 
 -- whether an event may go back to an earlier state
 abbrev pub may_go_back : Effect → Bool

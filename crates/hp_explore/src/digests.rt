@@ -1,11 +1,16 @@
-//! Digests by which places are found from which all may go on alike. Nothing rests on them: a place that is found is compared.
+//! Digests by which places and ends are found. What is found is compared; of ends it is proved that the same have the same digest.
+ghost use Rattle.std.specs.Prelude.{◌≡◌, fold};
+ghost use Rattle.hp_explore.specs.Digests.{digest_of, mixed, mixed_reply, mixed_row, refusal_number, replies_digest, reply_number, row_number, state_number, zone_number};
+ghost use Rattle.hp_explore.specs.Outcomes.{outcome_with, replies_below, replies_to};
+
+use crate::outcomes::told;
 use hp_memory::Memory;
-use hp_units::{Class, Order, Record, Reply};
+use hp_units::{Class, Cpu, Order, Record, Refusal, Reply, Row, State, Zone};
 
 const CLASSES: [Class; 5] = [Class::Nu, Class::Nm, Class::Mm, Class::IsoN, Class::IsoM];
 
 /// A digest of a memory's free lists and of each processor's replies among records.
-pub(crate) fn digest_of(memory: &Memory, records: &[Record]) -> u64 {
+pub(crate) fn place_digest(memory: &Memory, records: &[Record]) -> u64 {
     let mut digest = free_digest(memory);
     for part in &processor_digests(records) {
         digest = mixed(digest, *part);
@@ -18,7 +23,7 @@ fn processor_digests(records: &[Record]) -> [u64; 64] {
     let mut parts = [0u64; 64];
     for record in records {
         let at = (record.cpu.0 % 64) as usize;
-        parts[at] = mixed(parts[at], reply_digest(&record.reply));
+        parts[at] = mixed(parts[at], reply_number(&record.reply));
     }
     parts
 }
@@ -41,24 +46,126 @@ fn free_digest(memory: &Memory) -> u64 {
     digest
 }
 
+/// A digest of how a schedule ends: of the replies of so many processors among records, and of the blocks' rows.
+#[tactic(auto, unfolding(crate::specs::Digests::digest_of))]
+pub(crate) fn digest_of(processors: u32, records: &[Record], blocks: &[Row]) -> u64
+    ensures { result ≡ digest_of (outcome_with processors records.now blocks.now) }
+{
+    let mut digest = replies_digest(processors, records);
+    for row in blocks {
+        digest = mixed(digest, row_number(row));
+    }
+    digest
+}
+
+/// A digest of the replies of so many processors among records.
+fn replies_digest(processors: u32, records: &[Record]) -> u64
+    ensures { result ≡ replies_digest (replies_below processors records.now) }
+{
+    let mut digest = 0;
+    for cpu in 0..processors {
+        digest = mixed(digest, processor_digest(Cpu(cpu), records));
+    }
+    digest
+}
+
+/// A digest of the replies that a processor had among records.
+fn processor_digest(cpu: Cpu, records: &[Record]) -> u64
+    ensures { result ≡ fold mixed_reply 0 (replies_to cpu records.now) }
+{
+    let mut digest = 0;
+    for record in records {
+        if record.cpu == cpu {
+            digest = mixed(digest, reply_number(&told(&record.reply)));
+        }
+    }
+    digest
+}
+
 /// A digest with one number more (own rule).
-fn mixed(digest: u64, number: u64) -> u64 {
+#[tactic(auto, unfolding(crate::specs::Digests::mixed))]
+pub(crate) fn mixed(digest: u64, number: u64) -> u64
+    ensures { result ≡ mixed digest number }
+{
     (digest ^ number)
         .wrapping_mul(0x9e37_79b9_7f4a_7c15)
         .rotate_left(29)
 }
 
 /// A number for a reply, not of it alone.
-fn reply_digest(reply: &Reply) -> u64 {
+fn reply_number(reply: &Reply) -> u64
+    ensures { result ≡ reply_number reply.now }
+{
     match reply {
         Reply::Done => 1,
-        Reply::Frame(frame) => 100 + u64::from(frame.0),
-        Reply::Word(word) => word.wrapping_mul(3),
-        Reply::Moved { from, to } => mixed(u64::from(from.0), u64::from(to.0)),
-        Reply::Opened { op } => op.0.wrapping_mul(5),
         Reply::Restored => 2,
         Reply::Released => 3,
-        Reply::Undone { count } => count.wrapping_mul(7),
-        Reply::Refused(_) => 4,
+        Reply::Frame(frame) => mixed(4, u64::from(frame.0)),
+        Reply::Word(word) => mixed(5, *word),
+        Reply::Moved { from, to } => mixed(mixed(6, u64::from(from.0)), u64::from(to.0)),
+        Reply::Opened { op } => mixed(7, op.0),
+        Reply::Undone { count } => mixed(8, *count),
+        Reply::Refused(refusal) => mixed(9, refusal_number(refusal)),
+    }
+}
+
+/// A number for a refusal, not of it alone.
+fn refusal_number(refusal: &Refusal) -> u64
+    ensures { result ≡ refusal_number refusal.now }
+{
+    match refusal {
+        Refusal::NoOwner => 1,
+        Refusal::NoPage => 2,
+        Refusal::NoWord => 3,
+        Refusal::AlreadyMapped => 4,
+        Refusal::NotMapped => 5,
+        Refusal::BadOrder => 6,
+        Refusal::NoFrame => 7,
+        Refusal::NoSuchFrame => 8,
+        Refusal::NotKernel => 9,
+        Refusal::NoCpu => 10,
+        Refusal::NoBlock => 11,
+        Refusal::EmptyPlan => 12,
+        Refusal::NoOp => 13,
+        Refusal::NothingToMove => 14,
+        Refusal::Gone => 15,
+        Refusal::BadAddress => 16,
+        Refusal::Twice { block } => mixed(17, u64::from(block.0)),
+        Refusal::Busy { block } => mixed(18, u64::from(block.0)),
+        Refusal::NotOnline { block } => mixed(19, u64::from(block.0)),
+        Refusal::NotOffline { block } => mixed(20, u64::from(block.0)),
+        Refusal::Unmovable { frame } => mixed(21, u64::from(frame.0)),
+        Refusal::NotFree { frame } => mixed(22, u64::from(frame.0)),
+        Refusal::NotAbsent { block } => mixed(23, u64::from(block.0)),
+    }
+}
+
+/// A number for a block's row, not of it alone.
+fn row_number(row: &Row) -> u64
+    ensures { result ≡ row_number row.now }
+{
+    4 * zone_number(row.zone) + state_number(row.state)
+}
+
+/// A number for a block's state.
+fn state_number(state: State) -> u64
+    ensures { result ≡ state_number state }
+{
+    match state {
+        State::Offline => 0,
+        State::Online => 1,
+        State::Going => 2,
+        State::Absent => 3,
+    }
+}
+
+/// A number for a block's zone.
+fn zone_number(zone: Option<Zone>) -> u64
+    ensures { result ≡ zone_number zone }
+{
+    match zone {
+        None => 1,
+        Some(Zone::Normal) => 2,
+        Some(Zone::Movable) => 3,
     }
 }

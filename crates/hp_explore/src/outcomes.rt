@@ -1,6 +1,7 @@
 //! How a schedule ends.
-ghost use Rattle.std.specs.Prelude.{◌≡◌, ◌↔◌, IfOk, IsTrue, None};
-ghost use Rattle.hp_explore.specs.Outcomes.{ended_row, replies_to, told};
+ghost use Rattle.std.specs.Prelude.{◌≡◌, ◌↔◌, ◌+◌, ◌<◌, ◌^◌, IfOk, IsTrue, None, length, map};
+ghost use Rattle.std.specs.List.{range_with_len};
+ghost use Rattle.hp_explore.specs.Outcomes.{ended_row, outcome_with, replies_below, replies_to, told};
 
 use hp_units::{Claim, Cpu, Record, Reply, Row, Serial, State};
 use std::alloc::{AllocError, Global};
@@ -70,17 +71,34 @@ impl Outcome {
         rows.as_slice()
     }
 
-    /// Whether the outcomes are the same.
-    pub(crate) fn same(&self, other: &Outcome) -> bool
-        ensures { IsTrue result ↔ (self.now ≡ other.now) }
+    /// Whether it is the outcome of records, for so many processors, with these rows.
+    pub(crate) fn is_of(&self, processors: u32, records: &[Record], blocks: &[Row]) -> bool
+        ensures { IsTrue result ↔ (self.now ≡ outcome_with processors records.now blocks.now) }
     {
-        same_answers(self.replies.as_slice(), other.replies.as_slice())
-            && same_rows(self.blocks.as_slice(), other.blocks.as_slice())
+        are_answers_below(self.replies.as_slice(), processors, records)
+            && same_rows(self.blocks.as_slice(), blocks)
     }
 }
 
+/// The replies of each processor among records. An error is out of memory.
+pub(crate) fn all_answers(
+    alloc: Global,
+    processors: u32,
+    records: &[Record],
+) -> Result<Vec<Answers>, AllocError>
+    ensures { IfOk result (λ all. all.items ≡ replies_below processors records.now) }
+{
+    let mut all = Vec::new(alloc);
+    for cpu in 0..processors {
+        all.reserve(1)?;
+        let answers = answers_to(alloc, Cpu(cpu), records)?;
+        all.push_reserved(answers);
+    }
+    Ok(all)
+}
+
 /// The replies that a processor had among records. An error is out of memory.
-pub(crate) fn answers_to(alloc: Global, cpu: Cpu, records: &[Record]) -> Result<Answers, AllocError>
+fn answers_to(alloc: Global, cpu: Cpu, records: &[Record]) -> Result<Answers, AllocError>
     ensures { IfOk result (λ answers. answers ≡ replies_to cpu records.now) }
 {
     let replies = records
@@ -92,7 +110,7 @@ pub(crate) fn answers_to(alloc: Global, cpu: Cpu, records: &[Record]) -> Result<
 }
 
 /// A reply but for the number of the operation that it opened.
-fn told(reply: &Reply) -> Reply
+pub(crate) fn told(reply: &Reply) -> Reply
     ensures { result ≡ told reply.now }
 {
     match reply {
@@ -119,29 +137,47 @@ pub(crate) fn claimed_row(row: Option<Row>, claim: Option<Claim>) -> Row
     }
 }
 
-/// Whether two lists of replies are the same.
-fn same_replies(replies: &[Reply], others: &[Reply]) -> bool
-    ensures { IsTrue result ↔ (replies.now ≡ others.now) }
+/// Whether lists of replies are those of so many processors.
+fn are_answers_below(answers: &[Answers], processors: u32, records: &[Record]) -> bool
+    ensures { IsTrue result ↔ (answers.now ≡ replies_below processors records.now) }
 {
-    match (replies, others) {
-        ([], []) => true,
-        ([reply, replies @ ..], [other, others @ ..]) => {
-            reply.same(other) && same_replies(replies, others)
+    if answers.len() != processors as usize {
+        return false;
+    }
+    are_answers_from(answers, 0, records)
+}
+
+/// Whether lists of replies are those of the processors from one on.
+fn are_answers_from(answers: &[Answers], cpu: u32, records: &[Record]) -> bool
+    requires { cpu + length answers.now < 2 ^ 32 }
+    ensures { IsTrue result ↔ (answers.now ≡ map (λ c. replies_to c records.now) (range_with_len cpu (length answers.now))) }
+{
+    match answers {
+        [first, answers @ ..] => {
+            are_replies_to(first.as_slice(), Cpu(cpu), records)
+                && are_answers_from(answers, cpu + 1, records)
         }
-        _ => false,
+        [] => true,
     }
 }
 
-/// Whether all processors had the same replies.
-fn same_answers(answers: &[Answers], others: &[Answers]) -> bool
-    ensures { IsTrue result ↔ (answers.now ≡ others.now) }
+/// Whether replies are those that a processor had among records.
+fn are_replies_to(replies: &[Reply], cpu: Cpu, records: &[Record]) -> bool
+    ensures { IsTrue result ↔ (replies.now ≡ replies_to cpu records.now) }
 {
-    match (answers, others) {
-        ([], []) => true,
-        ([first, answers @ ..], [other, others @ ..]) => {
-            same_replies(first.as_slice(), other.as_slice()) && same_answers(answers, others)
+    match records {
+        [record, records @ ..] => {
+            if record.cpu != cpu {
+                return are_replies_to(replies, cpu, records);
+            }
+            match replies {
+                [reply, replies @ ..] => {
+                    told(&record.reply).same(reply) && are_replies_to(replies, cpu, records)
+                }
+                [] => false,
+            }
         }
-        _ => false,
+        [] => replies.is_empty(),
     }
 }
 

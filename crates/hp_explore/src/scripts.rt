@@ -1,5 +1,5 @@
 //! Scripts: what each processor asks for, one line after another.
-ghost use Rattle.std.specs.Prelude.{◌≡◌, ◌≤◌, [], IfOk, IfSome, length};
+ghost use Rattle.std.specs.Prelude.{◌≡◌, ◌≤◌, [], IfOk, IfSome, length, true};
 ghost use Rattle.std.specs.List.{list_all};
 ghost use Rattle.hp_units.specs.History.{effect_of};
 ghost use Rattle.hp_units.specs.Receipts.{receipts_of};
@@ -164,10 +164,56 @@ impl Script {
     ) -> Result<Option<Event>, AllocError>
         ensures { IfOk result (λ next. next ≡ next_of cpus self.now (receipts_of cpu records.now)) }
     {
+        if self.holds_no_plan() {
+            return self.next_line(alloc, cpus, cpu, records);
+        }
         let receipts = receipts_to(alloc, cpu, records)?;
         let op = own_operation(receipts.as_slice());
         next_in(alloc, cpus, op, self.lines.as_slice(), receipts.as_slice())
     }
+
+    /// The same where each line is one call: what the line after those that were asked for asks for. An error is out of memory.
+    fn next_line(
+        &self,
+        alloc: Global,
+        cpus: u32,
+        cpu: Cpu,
+        records: &[Record],
+    ) -> Result<Option<Event>, AllocError>
+        requires { holds_no_plan self.now ≡ true }
+        ensures { IfOk result (λ next. next ≡ next_of cpus self.now (receipts_of cpu records.now)) }
+    {
+        match self.lines.get(calls_of(cpu, records)) {
+            Some(line) => line.next(alloc, cpus, last_operation(cpu, records), &[]),
+            None => Ok(None),
+        }
+    }
+}
+
+/// How many of the records are a processor's.
+fn calls_of(cpu: Cpu, records: &[Record]) -> usize
+    ensures { result ≡ length (receipts_of cpu records.now) }
+{
+    let mut calls = 0;
+    for record in records {
+        if record.cpu == cpu {
+            calls += 1;
+        }
+    }
+    calls
+}
+
+/// The serial of a processor's last Begin among records, and 0 where there is none.
+fn last_operation(cpu: Cpu, records: &[Record]) -> Serial
+    ensures { result ≡ own_operation (receipts_of cpu records.now) }
+{
+    let mut op = Serial(0);
+    for record in records {
+        if record.cpu == cpu && is_begin(&record.event) {
+            op = record.serial;
+        }
+    }
+    op
 }
 
 /// The receipts that a processor has of records. An error is out of memory.

@@ -1,13 +1,18 @@
 //! The ends so far, with their counts.
-ghost use Rattle.std.specs.Prelude.{◌≡◌, ◌↔◌, ◌<◌, ◌≤◌, [], ◌∷◌, IfErr, IfOk, IfSome, IfNone, IsTrue, OnOk, length, map, slice_index_or};
+ghost use Rattle.std.specs.Prelude.{◌≡◌, ◌↔◌, ◌<◌, ◌≤◌, [], ◌∷◌, ℕ, IfErr, IfOk, IfSome, IfNone, IsTrue, OnOk, length, map, nat_eq, slice_index_or};
 ghost use Rattle.hp_explore.specs.Faults.{IsNoteCause};
-ghost use Rattle.hp_explore.specs.Notes.{HasEndAt, HasNoEnd, IsNoted};
+ghost use Rattle.indexmap.specs.IndexMap.{ContainsKey};
+ghost use Rattle.hp_explore.specs.Digests.{digest_of};
+ghost use Rattle.hp_explore.specs.Notes.{AreKnown, HasEndAt, HasNoEnd, IsNoted};
+ghost use Rattle.hp_explore.specs.Outcomes.{outcome_with};
 ghost use Rattle.hp_explore.specs.Schedules.{schedule_of};
 ghost use Rattle.hp_explore.specs.Seen.{AddsAt, AddsCounts, AreNoMore, AreSince, IsAddCause};
 
+use crate::digests::digest_of;
 use crate::exploring::ExploreFault;
-use crate::outcomes::Outcome;
-use hp_units::{Cpu, Record};
+use crate::outcomes::{Outcome, all_answers};
+use hp_units::{Cpu, Record, Row};
+use indexmap::IndexMap;
 use std::alloc::{AllocError, Global};
 use std::marker::Model;
 
@@ -32,23 +37,24 @@ pub(crate) fn schedule_of(alloc: Global, records: &[Record]) -> Result<Vec<Cpu>,
 /// How many ends there may be for a place's counts to be kept (own rule).
 const FEW: usize = 1024;
 
-/// The ends so far, and the limit of how many schedules may be counted.
+/// The ends so far, by a digest of an end the latest place of one that has it, and the limit of how many schedules may be counted.
 #[derive(Drop)]
 pub(crate) struct Tally {
     limit: u64,
     total: u64,
     ends: Vec<Ending>,
+    latest: IndexMap<u64, usize>,
 }
 
 impl Model for Tally {
     ghost use Rattle.std.specs.Prelude.{◌≡◌, ◌≤◌, sum_by};
-    ghost use Rattle.hp_explore.specs.Notes.{TallyValue};
+    ghost use Rattle.hp_explore.specs.Notes.{AreKnown, TallyValue};
 
     ghost Value = { TallyValue };
 
     ghost view = { λ t. record { limit = t.limit; ends = t.ends.items } };
 
-    ghost invariant = { λ t. (t.total ≡ sum_by (λ e. e.count) t.ends.items) × (t.total ≤ t.limit) };
+    ghost invariant = { λ t. (t.total ≡ sum_by (λ e. e.count) t.ends.items) × (t.total ≤ t.limit) × AreKnown t.ends.items t.latest };
 }
 
 impl Tally {
@@ -60,29 +66,48 @@ impl Tally {
             limit,
             total: 0,
             ends: Vec::new(alloc),
+            latest: IndexMap::new(alloc),
         }
     }
 
-    /// Counts a schedule under its end. An error is that the limit is reached, or out of memory; then nothing is counted.
-    pub(crate) fn note(&mut self, outcome: Outcome, schedule: Vec<Cpu>) -> Result<(), ExploreFault>
-        ensures ok { OnOk result (IsNoted self.old.ends outcome schedule.items self.new.ends) }
+    /// Counts the schedule that records came from under its end: that of so many processors' replies, with these rows. An error is
+    /// that the limit is reached, or out of memory; then nothing is counted.
+    pub(crate) fn note(
+        &mut self,
+        alloc: Global,
+        processors: u32,
+        records: &[Record],
+        blocks: Vec<Row>,
+    ) -> Result<(), ExploreFault>
+        ensures ok { OnOk result (IsNoted self.old.ends (outcome_with processors records.now blocks.items) (schedule_of records.now) self.new.ends) }
         ensures limit { self.new.limit ≡ self.old.limit }
         ensures err { IfErr result (IsNoteCause self.old) }
     {
         if self.total >= self.limit {
             return Err(ExploreFault::TooMany);
         }
-        match place_of(self.ends.as_slice(), &outcome) {
+        let digest = digest_of(processors, records, blocks.as_slice());
+        match place_of(
+            self.ends.as_slice(),
+            &self.latest,
+            digest,
+            processors,
+            records,
+            blocks.as_slice(),
+        ) {
             Some(place) => {
                 let end = &mut self.ends[place];
                 end.count += 1;
             }
             None => {
+                let replies = all_answers(alloc, processors, records)?;
+                let first = schedule_of(alloc, records)?;
                 self.ends.reserve(1)?;
+                learn(&mut self.latest, digest, self.ends.len())?;
                 self.ends.push_reserved(Ending {
-                    outcome,
+                    outcome: Outcome::new(replies, blocks),
                     count: 1,
-                    first: schedule,
+                    first,
                 });
             }
         }
@@ -164,13 +189,69 @@ fn count_at(counts: &[u64], place: usize) -> u64
     counts.get(place).copied().unwrap_or(0)
 }
 
-/// The place of the end with this outcome.
-fn place_of(ends: &[Ending], outcome: &Outcome) -> Option<usize>
-    ensures some { IfSome result (HasEndAt ends.now outcome.now) }
-    ensures none { IfNone result (HasNoEnd ends.now outcome.now) }
+/// Notes the place of an end under its digest. An error is out of memory; what was known stays known.
+fn learn(latest: &mut IndexMap<u64, usize>, digest: u64, place: usize) -> Result<(), AllocError>
+    ensures kept { (d : ℕ) → ContainsKey nat_eq latest.old d → ContainsKey nat_eq latest.new d }
+    ensures ok { OnOk result (ContainsKey nat_eq latest.new digest) }
+{
+    match latest.insert(digest, place) {
+        Ok(_earlier) => Ok(()),
+        Err(_failed) => Err(AllocError),
+    }
+}
+
+/// The place of the end that is the outcome of records, for so many processors, with these rows. It is mostly the latest with its
+/// digest; where it is not, all ends are compared.
+fn place_of(
+    ends: &[Ending],
+    latest: &IndexMap<u64, usize>,
+    digest: u64,
+    processors: u32,
+    records: &[Record],
+    blocks: &[Row],
+) -> Option<usize>
+    requires known { AreKnown ends.now latest.now }
+    requires digest { digest ≡ digest_of (outcome_with processors records.now blocks.now) }
+    ensures some { IfSome result (HasEndAt ends.now (outcome_with processors records.now blocks.now)) }
+    ensures none { IfNone result (HasNoEnd ends.now (outcome_with processors records.now blocks.now)) }
+{
+    let Some(place) = latest.get(&digest) else {
+        return None;
+    };
+    if is_end_at(ends, *place, processors, records, blocks) {
+        return Some(*place);
+    }
+    first_place_of(ends, processors, records, blocks)
+}
+
+/// Whether the end at a place is this outcome.
+fn is_end_at(
+    ends: &[Ending],
+    place: usize,
+    processors: u32,
+    records: &[Record],
+    blocks: &[Row],
+) -> bool
+    ensures { IsTrue result → HasEndAt ends.now (outcome_with processors records.now blocks.now) place }
+{
+    match ends.get(place) {
+        Some(end) => end.outcome.is_of(processors, records, blocks),
+        None => false,
+    }
+}
+
+/// The place of the first end that is this outcome.
+fn first_place_of(
+    ends: &[Ending],
+    processors: u32,
+    records: &[Record],
+    blocks: &[Row],
+) -> Option<usize>
+    ensures some { IfSome result (HasEndAt ends.now (outcome_with processors records.now blocks.now)) }
+    ensures none { IfNone result (HasNoEnd ends.now (outcome_with processors records.now blocks.now)) }
 {
     for (place, end) in ends.iter().enumerate() {
-        if end.outcome.same(outcome) {
+        if end.outcome.is_of(processors, records, blocks) {
             return Some(place);
         }
     }

@@ -1,26 +1,26 @@
 //! The walk over all schedules, depth first and processor 0 first.
-ghost use Rattle.std.specs.Prelude.{◌≡◌, ◌+◌, ◌^◌, ◌<◌, ◌≤◌, [], ◌∷◌, ◌++◌, Some, true, IfErr, IfOk, OnOk, drop, length};
+ghost use Rattle.std.specs.Prelude.{◌≡◌, ◌+◌, ◌^◌, ◌<◌, ◌≤◌, [], ◌∷◌, ◌++◌, Some, true, IfErr, IfOk, IsTrue, OnOk, drop, length};
 ghost use Rattle.hp_units.specs.History.{effect_of};
 ghost use Rattle.hp_machine.specs.Machine.{IsHistory};
 ghost use Rattle.hp_explore.specs.Ends.{AreCounted};
 ghost use Rattle.hp_explore.specs.Faults.{IsCallCause, IsNoteCause, IsWalkCause, is_full_after};
-ghost use Rattle.hp_explore.specs.Outcomes.{ended_rows_below, replies_below};
+ghost use Rattle.hp_explore.specs.Outcomes.{ended_rows_below};
 ghost use Rattle.hp_explore.specs.Schedules.{Setting, next_call, schedule_of, setting};
 ghost use Rattle.hp_explore.specs.Seen.{Grow, IsMemo};
-ghost use Rattle.hp_explore.specs.Walks.{BeforeNext, CountsBefore, CountsThrough, IsAt, IsChild, IsEndNoted, IsNextSerial, IsPlayed, IsPlayedOn, IsReached, LeadsTo, ThroughNext, may_go_back, news_since};
+ghost use Rattle.hp_explore.specs.Walks.{BeforeNext, CountsBefore, CountsThrough, IsAt, IsChild, IsEndNoted, IsGone, IsNextSerial, IsPlayed, IsPlayedOn, IsReached, LeadsTo, ThroughNext, may_go_back, news_since, with_record};
 ghost use Rattle.hp_explore.specs.declared.exploring.ExploreFault.TheVariants.{HistoryFull};
 
 use crate::closed::is_closed;
-use crate::digests::digest_of;
+use crate::digests::place_digest;
 use crate::exploring::ExploreFault;
 use crate::memo::{Memo, Seen};
-use crate::outcomes::{Answers, Outcome, answers_to, claimed_row};
+use crate::outcomes::claimed_row;
 use crate::scripts::Script;
 use crate::tally::{Tally, schedule_of};
 use hp_machine::Machine;
 use hp_memory::Memory;
 use hp_steps::Steps;
-use hp_units::{Block, Claim, Cpu, Event, Record, Row, Serial};
+use hp_units::{Block, Claim, Cpu, Event, Record, Refusal, Reply, Row, Serial};
 use std::alloc::{AllocError, Global};
 
 /// Counts the complete schedules that go on from where the walk stands, each under its end, and comes back there. Where they go on
@@ -49,7 +49,7 @@ pub(crate) fn visit(
     if !memo.is_on() || !is_closed(start.history(), here.records()) {
         return walk_on(alloc, start, scripts, here, tally, memo);
     }
-    let digest = digest_of(here.memory(), here.records());
+    let digest = place_digest(here.memory(), here.records());
     let image = here.memory().image(alloc)?;
     if let Some(counts) = memo.counts_like(
         alloc,
@@ -109,7 +109,7 @@ fn walk_on(
 }
 
 /// Counts those that go on with a processor's next call. The call is a step that is taken back; only after an undo or a Cancel,
-/// which may go back themselves, the walk goes on from a machine that played all calls again.
+/// which may go back themselves, the walk goes on from steps of their own.
 #[cycle(walk)]
 fn visit_next(
     alloc: Global,
@@ -135,7 +135,7 @@ fn visit_next(
 {
     let serial = next_serial(start, here.records())?;
     if may_go_back(event) {
-        return match steps_after(alloc, start, scripts, here.records(), cpu)? {
+        return match steps_after(alloc, start, scripts, here, cpu, serial, event)? {
             Some(steps) => {
                 let mut there = steps;
                 visit(alloc, start, scripts, &mut there, tally, memo)
@@ -190,9 +190,62 @@ fn may_go_back(event: &Event) -> bool
     matches!(event, Event::UndoAfter { .. } | Event::Cancel { .. })
 }
 
+/// Where a processor's next call leads to that may go back. An undo of steps that there are not leaves the state as it is; after any
+/// other all calls are played again.
+fn steps_after(
+    alloc: Global,
+    start: &Machine,
+    scripts: &[Script],
+    here: &Steps,
+    cpu: u32,
+    serial: Serial,
+    event: &Event,
+) -> Result<Option<Steps>, ExploreFault>
+    requires at { IsAt (setting start.now scripts.now) here.now }
+    requires asked { next_call (setting start.now scripts.now) cpu here.now.records ≡ Some event.now }
+    requires serial { IsNextSerial start.now here.now.records serial }
+    ensures ok { IfOk result (LeadsTo (setting start.now scripts.now) (schedule_of here.now.records ++ cpu ∷ [])) }
+    ensures err { IfErr result (IsCallCause (setting start.now scripts.now)) }
+{
+    if !is_gone(start, cpu, serial, event) {
+        return replayed(alloc, start, scripts, here.records(), cpu);
+    }
+    let latest = Record {
+        serial,
+        cpu: Cpu(cpu),
+        event: event.copy(alloc)?,
+        reply: Reply::Refused(Refusal::Gone),
+    };
+    let steps = with_record(alloc, here, latest)?;
+    Ok(Some(steps))
+}
+
+/// Whether an event is an undo of the steps above a serial that is above the last one, by a processor of the layout.
+fn is_gone(start: &Machine, cpu: u32, serial: Serial, event: &Event) -> bool
+    ensures { IsTrue result → IsGone start.now cpu serial event.now }
+{
+    match event {
+        Event::UndoAfter { serial: kept } => kept.0 >= serial.0 && cpu < start.layout().cpus(),
+        _ => false,
+    }
+}
+
+/// The same state after one record more. An error is out of memory.
+fn with_record(alloc: Global, here: &Steps, latest: Record) -> Result<Steps, AllocError>
+    ensures { IfOk result (λ steps. steps ≡ with_record here.now latest) }
+{
+    let memory = here.memory();
+    memory.is_placed();
+    let mut news = copies(alloc, here.records())?;
+    news.reserve(1)?;
+    news.push_reserved(latest);
+    let image = memory.image(alloc)?;
+    Steps::start(alloc, &image, news)
+}
+
 /// Where a processor's next call after new records leads to, none where its script asks for nothing: on a machine that plays all
 /// calls again. Errors come as those of `play`.
-fn steps_after(
+fn replayed(
     alloc: Global,
     start: &Machine,
     scripts: &[Script],
@@ -318,10 +371,8 @@ fn note_end(
     ensures limit { tally.new.limit ≡ tally.old.limit }
     ensures err { IfErr result (IsNoteCause tally.old) }
 {
-    let replies = all_answers(alloc, processors, here.records())?;
     let blocks = ended_rows(alloc, here.memory())?;
-    let schedule = schedule_of(alloc, here.records())?;
-    tally.note(Outcome::new(replies, blocks), schedule)
+    tally.note(alloc, processors, here.records(), blocks)
 }
 
 /// The records from a place on.
@@ -347,23 +398,6 @@ fn copies(alloc: Global, records: &[Record]) -> Result<Vec<Record>, AllocError>
         });
     }
     Ok(copies)
-}
-
-/// The replies of each processor among records. An error is out of memory.
-fn all_answers(
-    alloc: Global,
-    processors: u32,
-    records: &[Record],
-) -> Result<Vec<Answers>, AllocError>
-    ensures { IfOk result (λ all. all.items ≡ replies_below processors records.now) }
-{
-    let mut all = Vec::new(alloc);
-    for cpu in 0..processors {
-        all.reserve(1)?;
-        let answers = answers_to(alloc, Cpu(cpu), records)?;
-        all.push_reserved(answers);
-    }
-    Ok(all)
 }
 
 /// Each memory block's row, without the operation that may hold it. An error is out of memory.

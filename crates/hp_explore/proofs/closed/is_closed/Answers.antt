@@ -1,5 +1,5 @@
 -- The new records are told after those of the history.
-use Rattle.std.proofs.Common.{◌≡◌, Bool, ap, true, sym, ◌∙◌}
+use Rattle.std.proofs.Common.{Bool, ap, true, sym, ◌∙◌}
 use Rattle.std.specs.Prelude.{fold}
 use Rattle.std.proofs.lemmas.List.Sums.{fold-append}
 use Rattle.hp_explore.specs.Alike.{closed_after}

@@ -1,5 +1,5 @@
 -- From continuation to continuation of a place; after the last all that go on from it are counted. What is found again is added.
-use Rattle.std.proofs.Common.{◌≡◌, ℕ, ◌+◌, Bool, Bor, [], ◌∷◌, ◌++◌, List, None, Option, Some, ap, arith, length, refl, sym, subst, ◌∙◌}
+use Rattle.std.proofs.Common.{◌≡◌, ℕ, ◌+◌, Bool, Bor, [], ◌∷◌, ◌++◌, List, Option, Some, ap, arith, length, refl, sym, subst, ◌∙◌}
 use Rattle.std.specs.Option.{IfSome}
 use Rattle.std.proofs.lemmas.List.{length-append}
 use Rattle.std.proofs.lemmas.Result.{IfErr-weaker, on_ok_weaker}
@@ -9,7 +9,7 @@ use Rattle.hp_memory.specs.Memory.{MemoryValue}
 use Rattle.hp_steps.specs.Steps.{StepsValue}
 use Rattle.hp_explore.specs.Ends.{AreCounted}
 use Rattle.hp_explore.specs.Notes.{TallyValue}
-use Rattle.hp_explore.specs.Schedules.{plays, schedule_of, setting}
+use Rattle.hp_explore.specs.Schedules.{schedule_of, setting}
 use Rattle.hp_explore.specs.Seen.{AreSince, Grow, IsLikeAmong, IsMemo, MemoValue, SeenValue}
 use Rattle.hp_explore.specs.Walks.{Before, IsEndNoted, IsNextSerial, LeadsTo, ThroughNext}
 use Rattle.hp_explore.proofs.Grown.{grow_added, grow_none, grow_noted, grow_twice}
@@ -110,11 +110,14 @@ pub visit_next-visit-requires : goal.visit_next-visit-requires
 visit_next-visit-requires t c =
     let g = setting c.args.start.now c.args.scripts.now in
     let next = subst (λ (h : List Record). IsNextSerial c.args.start.now h c.in_ok-serial.serial) c.records.ensures c.in_ok-serial.ensures.ok in
-    let there : LeadsTo g (schedule_of c.records-then-may_go_back.result.now ++ c.args.cpu ∷ []) (Some c.in-Some.steps) = subst (LeadsTo g (schedule_of c.records-then-may_go_back.result.now ++ c.args.cpu ∷ [])) c.in-Some.is c.in_ok-steps.ensures.ok in
-    let place : schedule_of c.in-Some.steps.records ≡ schedule_of c.args.here.now.records ++ c.args.cpu ∷ [] = there.1 ∙ ap (λ (h : List Record). schedule_of h ++ c.args.cpu ∷ []) c.records-then-may_go_back.ensures in (
+    let there : LeadsTo g (schedule_of c.args.here.now.records ++ c.args.cpu ∷ []) (Some c.in-Some.steps) = subst (LeadsTo g (schedule_of c.args.here.now.records ++ c.args.cpu ∷ [])) c.in-Some.is c.in_ok-steps.ensures.ok in
+    let place : schedule_of c.in-Some.steps.records ≡ schedule_of c.args.here.now.records ++ c.args.cpu ∷ [] = there.1 in (
       omega (arith, c.decreases, next.1, length-append c.args.start.now.history c.args.here.now.records, one_longer c.args.here.now c.in-Some.steps c.args.cpu place),
       (c.requires.few, (there.0, (subst (λ (p : List ℕ). AreCounted (Before g p) c.args.tally.now.ends) (sym place) c.requires.counted, c.requires.memo))),
     )
+
+pub visit_next-steps_after-requires-clause-serial : goal.visit_next-steps_after-requires-clause-serial
+visit_next-steps_after-requires-clause-serial t c = subst (λ (h : List Record). IsNextSerial c.args.start.now h c.in_ok-serial.serial) c.records.ensures c.in_ok-serial.ensures.ok
 
 -- any other: where its step leads
 pub visit_next-visit-requires-2 : goal.visit_next-visit-requires-2
@@ -130,8 +133,7 @@ pub visit_next-returns-in-None-clause-ok : goal.visit_next-returns-in-None-claus
 visit_next-returns-in-None-clause-ok t c =
     let g = setting c.args.start.now c.args.scripts.now in
     absurd (leads_on g c.args.here.now c.args.cpu c.args.event.now c.requires.at c.requires.asked
-    (subst (λ (h : List Record). plays g (schedule_of h ++ c.args.cpu ∷ []) ≡ None) c.records-then-may_go_back.ensures
-    (subst (LeadsTo g (schedule_of c.records-then-may_go_back.result.now ++ c.args.cpu ∷ [])) c.in-None.is c.in_ok-steps.ensures.ok)))
+    (subst (LeadsTo g (schedule_of c.args.here.now.records ++ c.args.cpu ∷ [])) c.in-None.is c.in_ok-steps.ensures.ok))
 
 -- ---- places that are found again
 

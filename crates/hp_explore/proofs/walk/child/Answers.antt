@@ -1,10 +1,9 @@
 -- The next call is the script's, and the machine after it is one call further.
-use Rattle.std.proofs.Common.{◌≡◌, None, List, ap, false, length, refl, Some, sym, subst, ◌∙◌}
+use Rattle.std.proofs.Common.{◌≡◌, None, List, ap, length, refl, Some, sym, subst, ◌∙◌}
 use Rattle.std.proofs.lemmas.Option.{slice_get_read}
 use Rattle.hp_units.specs.LayoutParts.{LayoutParts}
 use Rattle.hp_units.specs.declared.replies.CallFault.TheVariants.{HistoryFull}
 use Rattle.hp_units.specs.declared.replies.Record.{Record}
-use Rattle.hp_machine.specs.Machine.{IsCalled, MachineValue, is_full}
 use Rattle.hp_explore.specs.Schedules.{next_call, setting}
 use Rattle.hp_explore.proofs.Machines.{asked_is, further, had_room, news_shown}
 use Rattle.hp_explore.proofs.walk.child.Goals as goal
