@@ -1,5 +1,5 @@
 //! The exploration of scripts on a machine.
-ghost use Rattle.std.specs.Prelude.{◌^◌, ◌<◌, IfErr, IfOk, length};
+ghost use Rattle.std.specs.Prelude.{◌^◌, ◌<◌, ◌≤◌, IfErr, IfOk, length, sum_by};
 ghost use Rattle.hp_explore.specs.Ends.{AreEnds};
 ghost use Rattle.hp_explore.specs.Faults.{IsCause};
 ghost use Rattle.hp_explore.specs.Schedules.{setting};
@@ -67,6 +67,7 @@ pub fn explore(
 ) -> Result<Vec<Ending>, ExploreFault>
     requires { length scripts.now < 2 ^ 32 }
     ensures ok { IfOk result (λ ends. AreEnds (setting machine.now scripts.now) ends.items) }
+    ensures within { IfOk result (λ ends. sum_by (λ e. e.count) ends.items ≤ limit) }
     ensures err { IfErr result (IsCause (setting machine.now scripts.now) limit) }
 {
     let many = are_too_many(alloc, scripts, limit)?;

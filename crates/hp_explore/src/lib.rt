@@ -14,6 +14,7 @@ mod laws;
 mod memo;
 mod multinomials;
 mod outcomes;
+mod plays;
 mod runs;
 mod scripts;
 mod tally;
@@ -25,6 +26,6 @@ pub use laws::{
     schedules_are_interleavings,
 };
 pub use outcomes::{Answers, Outcome};
+pub use plays::play;
 pub use scripts::{Line, Script, Work};
 pub use tally::Ending;
-pub use walk::play;

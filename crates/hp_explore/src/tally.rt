@@ -1,5 +1,5 @@
 //! The ends so far, with their counts.
-ghost use Rattle.std.specs.Prelude.{◌≡◌, ◌↔◌, ◌<◌, ◌≤◌, [], ◌∷◌, ℕ, IfErr, IfOk, IfSome, IfNone, IsTrue, OnOk, length, map, nat_eq, slice_index_or};
+ghost use Rattle.std.specs.Prelude.{◌≡◌, ◌↔◌, ◌<◌, ◌≤◌, [], ◌∷◌, ℕ, IfErr, IfOk, IfSome, IfNone, IsTrue, OnOk, length, map, nat_eq, slice_index_or, sum_by};
 ghost use Rattle.hp_explore.specs.Faults.{IsNoteCause};
 ghost use Rattle.indexmap.specs.IndexMap.{ContainsKey};
 ghost use Rattle.hp_explore.specs.Digests.{digest_of};
@@ -175,7 +175,8 @@ impl Tally {
 
     /// The ends with their counts.
     pub(crate) fn into_ends(self) -> Vec<Ending>
-        ensures { result.items ≡ self.ends }
+        ensures is { result.items ≡ self.ends }
+        ensures within { sum_by (λ e. e.count) self.ends ≤ self.limit }
     {
         let Tally { ends, .. } = self;
         ends
