@@ -5,6 +5,7 @@ ghost use Rattle.hotplug_lab.specs.declared.fault.ProgramFault.TheVariants.{Lab,
 
 use hp_lab::LabFault;
 use hp_scenario::ScenarioFault;
+use hp_streams::ReadFault;
 use std::alloc::AllocError;
 use std::error::Error;
 use std::fmt;
@@ -46,6 +47,16 @@ impl From<AllocError> for ProgramFault {
 
     fn from(_e: AllocError) -> ProgramFault {
         ProgramFault::Lab(LabFault::OutOfMemory)
+    }
+}
+
+impl From<ReadFault> for ProgramFault {
+    fn from(fault: ReadFault) -> ProgramFault {
+        match fault {
+            ReadFault::ReadFailed => ProgramFault::ReadFailed,
+            ReadFault::TooLong => ProgramFault::TooLong,
+            ReadFault::OutOfMemory => ProgramFault::Lab(LabFault::OutOfMemory),
+        }
     }
 }
 
