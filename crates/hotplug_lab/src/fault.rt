@@ -1,6 +1,7 @@
 //! Why the program failed.
 ghost use Rattle.std.specs.Prelude.{◌≡◌};
 ghost use Rattle.hp_lab.specs.declared.fault.LabFault.TheVariants.{OutOfMemory};
+ghost use Rattle.hotplug_lab.specs.Faults.{read_fault_from};
 ghost use Rattle.hotplug_lab.specs.declared.fault.ProgramFault.TheVariants.{Lab, Scenario};
 
 use hp_lab::LabFault;
@@ -51,6 +52,8 @@ impl From<AllocError> for ProgramFault {
 }
 
 impl From<ReadFault> for ProgramFault {
+    ghost from_gives = { λ fault e. e ≡ read_fault_from fault };
+
     fn from(fault: ReadFault) -> ProgramFault {
         match fault {
             ReadFault::ReadFailed => ProgramFault::ReadFailed,
