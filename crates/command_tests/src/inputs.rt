@@ -1,6 +1,7 @@
 //! Inputs that are refused.
 use super::streams::{LAYOUT, scenario, served};
-use hp_commands::{LIMIT, ProgramFault};
+use hp_commands::ProgramFault;
+use hp_streams::LIMIT;
 use hp_units::LayoutFault;
 use std::alloc::{AllocError, Global};
 use std::test::Fail;

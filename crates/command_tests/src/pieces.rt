@@ -1,6 +1,8 @@
 //! Streams that give and take pieces, and streams that fail.
 use super::streams::{Collected, LAYOUT, Scripted, scenario};
 use hp_commands::{ProgramFault, serve_serial};
+use hp_streams::{Counted, read_all, write_all};
+use std::alloc::Global;
 use std::test::Fail;
 
 const UNDONE: &str =
@@ -23,6 +25,24 @@ fn pieces_are_joined(rt: HostRuntime) -> Result<(), Fail> {
             "{read} {written}"
         );
     }
+    Ok(())
+}
+
+/// Whether a counted reader of the standard library gives these bytes, and a counted writer takes them.
+fn is_copied(alloc: Global, bytes: &[u8]) -> bool {
+    let mut reader = Counted::new(bytes);
+    let Ok(read) = read_all(alloc, &mut reader) else {
+        return false;
+    };
+    let mut written = Vec::new(alloc);
+    let mut writer = Counted::new(&mut written);
+    write_all(&mut writer, &read) == Ok(()) && written.as_slice() == bytes
+}
+
+#[test]
+fn readers_and_writers_are_streams(rt: HostRuntime) -> Result<(), Fail> {
+    assert!(rt; is_copied(rt.alloc(), b""));
+    assert!(rt; is_copied(rt.alloc(), UNDONE.as_bytes()));
     Ok(())
 }
 

@@ -1,7 +1,8 @@
 //! Streams that fail where they are told to, and scenarios to serve.
 ghost use Rattle.std.specs.Prelude.{◌≡◌, Some};
 
-use hp_commands::{Failed, ProgramFault, Sink, Source, serve_serial};
+use hp_commands::{ProgramFault, serve_serial};
+use hp_streams::{Failed, Sink, Source};
 use std::alloc::{AllocError, Global};
 
 /// Gives bytes in pieces, and fails at one of its calls, counted from 1; at none where that is 0.

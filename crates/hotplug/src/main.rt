@@ -6,7 +6,8 @@
 
 mod words;
 
-use hp_commands::{Command, Counted, Outcome, ProgramFault, serve};
+use hp_commands::{Command, Outcome, ProgramFault, serve};
+use hp_streams::Counted;
 use std::alloc::{AllocError, Global};
 use std::io::{Read, Write};
 use std::process::ExitCode;

@@ -1,10 +1,12 @@
 //! Why the program failed.
 ghost use Rattle.std.specs.Prelude.{◌≡◌};
 ghost use Rattle.hp_lab.specs.declared.fault.LabFault.TheVariants.{OutOfMemory};
+ghost use Rattle.hotplug_lab.specs.Faults.{read_fault_from};
 ghost use Rattle.hotplug_lab.specs.declared.fault.ProgramFault.TheVariants.{Lab, Scenario};
 
 use hp_lab::LabFault;
 use hp_scenario::ScenarioFault;
+use hp_streams::ReadFault;
 use std::alloc::AllocError;
 use std::error::Error;
 use std::fmt;
@@ -46,6 +48,18 @@ impl From<AllocError> for ProgramFault {
 
     fn from(_e: AllocError) -> ProgramFault {
         ProgramFault::Lab(LabFault::OutOfMemory)
+    }
+}
+
+impl From<ReadFault> for ProgramFault {
+    ghost from_gives = { λ fault e. e ≡ read_fault_from fault };
+
+    fn from(fault: ReadFault) -> ProgramFault {
+        match fault {
+            ReadFault::ReadFailed => ProgramFault::ReadFailed,
+            ReadFault::TooLong => ProgramFault::TooLong,
+            ReadFault::OutOfMemory => ProgramFault::Lab(LabFault::OutOfMemory),
+        }
     }
 }
 

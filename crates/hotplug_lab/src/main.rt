@@ -9,30 +9,36 @@ ghost use Rattle.std.specs.Prelude.{IfOk, string_bytes};
 ghost use Rattle.hotplug_lab.specs.Words.{IsAnswerOf, IsCheckOf, IsPictureOf};
 
 mod fault;
-mod streams;
 mod words;
 
 use clap::error::ErrorKind;
 use fault::ProgramFault;
 use hp_check::{check, fault_count, write_report};
 use hp_lab::explore_text;
+use hp_streams::{Counted, Failed, read_all, write_all};
 use hp_svg::picture_of;
 use hp_trace::{View, trace};
 use std::alloc::{AllocError, Global};
+use std::io::Read;
 use std::process::ExitCode;
 use std::{env, fs, io};
-use streams::{read_all, write_all};
 use words::{Request, Word, lab_command, request_from};
 
 /// The bytes of the file that is named, or else of standard input.
 fn read_input(rt: &HostRuntime, file: Option<&str>) -> Result<Vec<u8>, ProgramFault> {
     let Some(path) = file else {
-        return read_all(rt.alloc(), rt.stdin());
+        return read_from(rt.alloc(), rt.stdin());
     };
     match fs::open(rt, path) {
-        Ok(input) => read_all(rt.alloc(), input),
+        Ok(input) => read_from(rt.alloc(), input),
         Err(_) => Err(ProgramFault::NotOpened),
     }
+}
+
+/// All the bytes that a reader has.
+fn read_from<R: Read + Drop>(alloc: Global, reader: R) -> Result<Vec<u8>, ProgramFault> {
+    let mut reader = Counted::new(reader);
+    Ok(read_all(alloc, &mut reader)?)
 }
 
 /// What a word writes, and the exit status.
@@ -90,8 +96,11 @@ fn picture_text(alloc: Global, input: &[u8], view: View) -> Result<String, Progr
 fn serve(rt: &HostRuntime, request: Request<'_>) -> Result<u8, ProgramFault> {
     let input = read_input(rt, request.file)?;
     let answer = answer_to(rt.alloc(), &input, request.word)?;
-    write_all(&mut rt.stdout(), answer.text.as_bytes())?;
-    Ok(answer.status)
+    let mut output = Counted::new(rt.stdout());
+    match write_all(&mut output, answer.text.as_bytes()) {
+        Ok(()) => Ok(answer.status),
+        Err(Failed) => Err(ProgramFault::WriteFailed),
+    }
 }
 
 /// Does what the words ask for, or says what they may be, and answers the exit status.

@@ -1,7 +1,6 @@
 pub mod Audited
 pub mod EventsDue
 pub mod FilesDue
-pub mod Known
 pub mod Lines
 pub mod PlansDue
 pub mod Ran

@@ -10,12 +10,15 @@ use Rattle.hp_scenario.specs.declared.fault.ScenarioFault.{ScenarioFault}
 use Rattle.hp_scenario.specs.declared.fault.ScenarioFault.TheVariants as scenario
 use Rattle.hp_scenario.specs.Gives.{◌>>=◌, Fails}
 use Rattle.hp_scenario.specs.Scenario.{ScenarioValue, scenario_in}
+use Rattle.hp_streams.specs.Reading.{IsReadFault, limit}
+use Rattle.hp_streams.specs.declared.reading.ReadFault.{ReadFault}
+use Rattle.hp_streams.specs.declared.reading.ReadFault.TheVariants as reading
 use Rattle.hp_text.specs.State.{state_text}
 use Rattle.hp_commands.specs.Serial.{GrowsBy, IsWhole, WritesLines, end_text, lines_text, scenario_text, serial_text}
 use Rattle.hp_commands.proofs.Lines.{AreDue, lines_due, run_is}
 use Rattle.hp_commands.specs.Runs.{IsAuditTextOf, IsRunTextOf, SealsSome, scripts_in}
 use Rattle.hp_commands.specs.Served.{IsTextOf, ReadsAll, Serves, WritesTextOf}
-use Rattle.hp_commands.specs.Faults.{IsAudit, IsFaultOf, IsReadFault, IsRefuted, IsUnfinished, fault_from, limit}
+use Rattle.hp_commands.specs.Faults.{IsAudit, IsFaultOf, IsRefuted, IsUnfinished, fault_from, read_fault_from}
 use Rattle.hp_commands.specs.declared.fault.ProgramFault.{ProgramFault}
 use Rattle.hp_commands.specs.declared.fault.ProgramFault.TheVariants.{ReadFailed, TooLong, NotJson, BadShape, Layout, BadLine, NotForRun, OutOfMemory, NotStarted, SeatMissing, Mismatch, WrongReply, WrongSerial, AuditDiffers, WriteFailed, BrokenChain}
 use Rattle.hp_commands.specs.declared.commands.Command.{Command}
@@ -33,23 +36,10 @@ pub all_read : (a b : Option (List ℕ)) (bytes : List ℕ) → Consumes a b byt
 all_read a b bytes p end fits = record { within = given a b bytes p end (λ (i : List ℕ). length i ≤ limit) fits; end = end }
 
 -- a fault of reading is one of the program
-pub read_fault : (command : Command) (known : Option (List ℕ)) (read written : Type 0) (fault : ProgramFault) → IsReadFault known read fault → IsFaultOf command known read written fault
-read_fault command known read written ReadFailed h = h
-read_fault command known read written TooLong h = h
-read_fault command known read written NotJson h = absurd h
-read_fault command known read written BadShape h = absurd h
-read_fault command known read written (Layout f) h = absurd h
-read_fault command known read written (BadLine n) h = absurd h
-read_fault command known read written (NotForRun n) h = absurd h
-read_fault command known read written OutOfMemory h = tt
-read_fault command known read written (NotStarted c) h = absurd h
-read_fault command known read written SeatMissing h = absurd h
-read_fault command known read written (Mismatch n) h = absurd h
-read_fault command known read written (WrongReply n) h = absurd h
-read_fault command known read written (WrongSerial n) h = absurd h
-read_fault command known read written AuditDiffers h = absurd h
-read_fault command known read written WriteFailed h = absurd h
-read_fault command known read written (BrokenChain n) h = absurd h
+pub read_fault : (command : Command) (known : Option (List ℕ)) (read written : Type 0) (fault : ReadFault) → IsReadFault known read fault → IsFaultOf command known read written (read_fault_from fault)
+read_fault command known read written reading.ReadFailed h = h
+read_fault command known read written reading.TooLong h = h
+read_fault command known read written reading.OutOfMemory h = tt
 
 -- a fault of the bytes is one of the reader that gave them all
 input_fault_of : (command : Command) (a b : Option (List ℕ)) (input : List ℕ) (read written : Type 0) (fault : ProgramFault) → Consumes a b input → IsAtEnd b → IsFaultOf command (Some input) ⊥ ⊥ fault → IsFaultOf command a read written fault

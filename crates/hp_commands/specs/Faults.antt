@@ -16,6 +16,9 @@ use Rattle.hp_shared.specs.Closing.{HasCause}
 use Rattle.hp_shared.specs.Shared.{SeatValue, first_seats}
 use Rattle.hp_shared.specs.declared.closing.CloseFault.{CloseFault}
 use Rattle.hp_shared.specs.declared.closing.CloseFault.TheVariants as closing
+use Rattle.hp_streams.specs.Reading.{limit}
+use Rattle.hp_streams.specs.declared.reading.ReadFault.{ReadFault}
+use Rattle.hp_streams.specs.declared.reading.ReadFault.TheVariants as reading
 use Rattle.hp_workers.specs.Workers.{AreGathered, IsRunEnd}
 use Rattle.hp_workers.specs.declared.lines.LineEnd.{LineEnd}
 use Rattle.hp_workers.specs.declared.fault.RunFault.{RunFault}
@@ -26,6 +29,11 @@ use Rattle.hp_commands.specs.declared.commands.Command.{Command}
 use Rattle.hp_commands.specs.declared.commands.Command.TheVariants.{Serial, Run, Audit}
 use Rattle.hp_commands.specs.Audits.{HasAuditFault}
 use Rattle.hp_commands.specs.Runs.{IsRunOf, SealsSome, scripts_in}
+
+abbrev pub read_fault_from : ReadFault → ProgramFault
+read_fault_from reading.ReadFailed = ReadFailed
+read_fault_from reading.TooLong = TooLong
+read_fault_from reading.OutOfMemory = OutOfMemory
 
 abbrev pub fault_from : ScenarioFault → ProgramFault
 fault_from scenario.NotJson = NotJson
@@ -55,9 +63,6 @@ chain_fault_from (chain.WrongCount at) = BrokenChain at
 chain_fault_from (chain.WrongBase at) = BrokenChain at
 chain_fault_from (chain.Replay at fault) = replay_fault_from fault
 chain_fault_from chain.OutOfMemory = OutOfMemory
-
-abbrev pub limit : ℕ
-limit = 16777216
 
 -- the text that was read is no scenario, with this fault
 abbrev pub IsNone : Option (List ℕ) → ScenarioFault → Type 0
@@ -139,10 +144,3 @@ IsFaultOf command known read written AuditDiffers = IsAudit command × IfSome kn
 IsFaultOf command known read written WriteFailed = written
 IsFaultOf command known read written (BrokenChain at) =
     HasWorkers command × IfSome known (λ input. IsUnfinished input (BrokenChain at) ⊎ (IsAudit command × IsRefuted input (BrokenChain at)))
-
--- of reading alone
-abbrev pub IsReadFault : (known : Option (List ℕ)) (read : Type 0) → ProgramFault → Type 0
-IsReadFault known read ReadFailed = read
-IsReadFault known read TooLong = IfSome known (λ input. limit < length input)
-IsReadFault known read OutOfMemory = Unit {0}
-IsReadFault known read _ = ⊥

@@ -9,4 +9,3 @@ pub mod Runs
 pub mod Seals
 pub mod Serial
 pub mod Served
-pub mod Streams

@@ -3,9 +3,9 @@ use Rattle.std.specs.Prelude.{◌≡◌, ◌≤◌, ℕ, List, ◌++◌, length,
 use Rattle.std.specs.Io.KnownBytes.{Appends, IsAtEnd}
 use Rattle.hp_machine.specs.Machine.{MachineValue, booted}
 use Rattle.hp_scenario.specs.Scenario.{ScenarioValue, scenario_in}
+use Rattle.hp_streams.specs.Reading.{limit}
 use Rattle.hp_commands.specs.declared.commands.Command.{Command}
 use Rattle.hp_commands.specs.declared.commands.Command.TheVariants.{Serial, Run, Audit}
-use Rattle.hp_commands.specs.Faults.{limit}
 use Rattle.hp_commands.specs.Runs.{IsAuditTextOf, IsRunTextOf}
 use Rattle.hp_commands.specs.Serial.{serial_text, end_text, WritesLines, IsWhole}
 

@@ -6,6 +6,7 @@ ghost use Rattle.hp_commands.specs.declared.fault.ProgramFault.TheVariants.{OutO
 use hp_history::{ChainFault, ReplayFault};
 use hp_scenario::ScenarioFault;
 use hp_shared::CloseFault;
+use hp_streams::ReadFault;
 use hp_units::{Cpu, LayoutFault, Serial};
 use hp_workers::RunFault;
 use std::alloc::AllocError;
@@ -87,6 +88,21 @@ impl From<AllocError> for ProgramFault {
 
     fn from(_e: AllocError) -> ProgramFault {
         ProgramFault::OutOfMemory
+    }
+}
+
+impl From<ReadFault> for ProgramFault {
+    ghost use Rattle.std.specs.Prelude.{◌≡◌};
+    ghost use Rattle.hp_commands.specs.Faults.{read_fault_from};
+
+    ghost from_gives = { λ f e. e ≡ read_fault_from f };
+
+    fn from(fault: ReadFault) -> ProgramFault {
+        match fault {
+            ReadFault::ReadFailed => ProgramFault::ReadFailed,
+            ReadFault::TooLong => ProgramFault::TooLong,
+            ReadFault::OutOfMemory => ProgramFault::OutOfMemory,
+        }
     }
 }
 

@@ -1,9 +1,9 @@
 //! Bytes in to bytes out.
 
-ghost use Rattle.std.specs.Prelude.{◌≡◌, ◌≢◌, ◌<◌, ◌≤◌, ◌-◌, ◌^◌, length, IfOk, IfErr, OnOk, OnErr, vec_len};
-ghost use Rattle.std.specs.Io.KnownBytes.{Appends, Consumes, IsAtEnd, Keeps};
+ghost use Rattle.std.specs.Prelude.{◌≡◌, ◌≢◌, ◌<◌, ◌-◌, ◌^◌, IfErr, OnOk};
+ghost use Rattle.std.specs.Io.KnownBytes.{Appends, Keeps};
 ghost use Rattle.hp_commands.specs.Served.{ReadsAll, Serves, WritesTextOf};
-ghost use Rattle.hp_commands.specs.Faults.{IsReadFault, IsFaultOf, limit};
+ghost use Rattle.hp_commands.specs.Faults.{IsFaultOf};
 ghost use Rattle.hp_commands.specs.declared.commands.Command.TheVariants.{Serial, Run, Audit};
 
 use crate::audits::audit;
@@ -11,48 +11,10 @@ use crate::commands::Command;
 use crate::fault::ProgramFault;
 use crate::runs::run;
 use crate::serial::serial;
-use crate::streams::{Failed, Sink, Source};
+use hp_streams::{Failed, Sink, Source, read_all, write_all};
 use std::alloc::Global;
 use std::sync::Wait;
 use std::thread::Threads;
-
-/// The greatest length of an input, in bytes.
-pub const LIMIT: usize = 16_777_216;
-
-/// Reads all there is, unless it is longer than the limit.
-pub fn read_all<R: Source>(alloc: Global, reader: &mut R) -> Result<Vec<u8>, ProgramFault>
-    requires { R.failures reader.old < 2 ^ 64 - 1 }
-    ensures bytes { IfOk result (λ v. Consumes (R.remaining reader.old) (R.remaining reader.new) v.items) }
-    ensures limit { IfOk result (λ v. length v.items ≤ limit) }
-    ensures end { OnOk result (IsAtEnd (R.remaining reader.new)) }
-    ensures err { IfErr result (IsReadFault (R.remaining reader.old) (R.failures reader.old < R.failures reader.new)) }
-{
-    let mut bytes = Vec::new(alloc);
-    let mut buffer = [0u8; 8192];
-    while bytes.len() <= LIMIT {
-        let Ok(count) = reader.read(&mut buffer) else {
-            return Err(ProgramFault::ReadFailed);
-        };
-        if count == 0 {
-            return Ok(bytes);
-        }
-        bytes.extend_from_slice(&buffer[..count])?;
-    }
-    Err(ProgramFault::TooLong)
-}
-
-/// Writes all the bytes.
-pub fn write_all<W: Sink>(writer: &mut W, bytes: &[u8]) -> Result<(), Failed>
-    requires { W.failures writer.old < 2 ^ 64 - 1 }
-    ensures ok { OnOk result (Appends (W.contents writer.old) (W.contents writer.new) bytes.now) }
-    ensures err { OnErr result (W.failures writer.old < W.failures writer.new) }
-{
-    let mut at = 0;
-    while at < bytes.len() {
-        at += writer.write(&bytes[at..])?;
-    }
-    Ok(())
-}
 
 /// Writes a text.
 fn write_text<W: Sink>(writer: &mut W, text: &str) -> Result<(), ProgramFault>

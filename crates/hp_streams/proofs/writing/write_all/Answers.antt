@@ -1,6 +1,6 @@
 use Rattle.std.proofs.Common.{◌∙◌}
-use Rattle.hp_commands.proofs.Known.{Appends-more, within_end}
-use Rattle.hp_commands.proofs.serving.write_all.Goals as goal
+use Rattle.hp_streams.proofs.Known.{Appends-more, within_end}
+use Rattle.hp_streams.proofs.writing.write_all.Goals as goal
 
 pub loop-at-preserved : goal.loop-at-preserved
 loop-at-preserved g c = record {

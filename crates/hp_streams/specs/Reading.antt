@@ -1,0 +1,13 @@
+-- When reading fails.
+use Rattle.std.specs.Prelude.{ℕ, ◌<◌, List, length, Option, IfSome}
+use Rattle.hp_streams.specs.declared.reading.ReadFault.{ReadFault}
+use Rattle.hp_streams.specs.declared.reading.ReadFault.TheVariants.{ReadFailed, TooLong, OutOfMemory}
+
+abbrev pub limit : ℕ
+limit = 16777216
+
+-- when each fault comes: `read` says that a reader's call failed
+abbrev pub IsReadFault : (known : Option (List ℕ)) (read : Type 0) → ReadFault → Type 0
+IsReadFault known read ReadFailed = read
+IsReadFault known read TooLong = IfSome known (λ input. limit < length input)
+IsReadFault known read OutOfMemory = Unit {0}
