@@ -14,7 +14,7 @@ mod laws;
 mod memo;
 mod multinomials;
 mod outcomes;
-mod plays;
+mod playing;
 mod runs;
 mod scripts;
 mod tally;
@@ -26,6 +26,6 @@ pub use laws::{
     schedules_are_interleavings,
 };
 pub use outcomes::{Answers, Outcome};
-pub use plays::play;
+pub use playing::play;
 pub use scripts::{Line, Script, Work};
 pub use tally::Ending;

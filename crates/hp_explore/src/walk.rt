@@ -15,7 +15,7 @@ use crate::digests::place_digest;
 use crate::exploring::ExploreFault;
 use crate::memo::{Memo, Seen};
 use crate::outcomes::claimed_row;
-use crate::plays::{play, records_from};
+use crate::playing::{play, records_from};
 use crate::scripts::Script;
 use crate::tally::{Tally, schedule_of};
 use hp_machine::Machine;

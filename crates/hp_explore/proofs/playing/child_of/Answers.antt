@@ -3,7 +3,7 @@ use Rattle.std.proofs.Common.{arith}
 use Rattle.hp_explore.specs.Schedules.{setting}
 use Rattle.hp_explore.specs.Walks.{news_in}
 use Rattle.hp_explore.proofs.Plays.{none_past}
-use Rattle.hp_explore.proofs.plays.child_of.Goals as goal
+use Rattle.hp_explore.proofs.playing.child_of.Goals as goal
 
 pub returns-else-cpu-scripts-clause-ok : goal.returns-else-cpu-scripts-clause-ok
 returns-else-cpu-scripts-clause-ok c =

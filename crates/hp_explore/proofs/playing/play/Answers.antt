@@ -6,7 +6,7 @@ use Rattle.hp_explore.specs.Schedules.{setting}
 use Rattle.hp_explore.specs.Walks.{IsPlayedOn, IsReached}
 use Rattle.hp_explore.proofs.Machines.{reached_start}
 use Rattle.hp_explore.proofs.Walking.{played_all}
-use Rattle.hp_explore.proofs.plays.play.Goals as goal
+use Rattle.hp_explore.proofs.playing.play.Goals as goal
 
 pub play_on-requires : goal.play_on-requires
 play_on-requires c = subst (IsReached (setting c.args.machine.now c.args.scripts.now)) (sym c.in_ok-copy.ensures) (reached_start c.args.machine.now c.args.scripts.now)

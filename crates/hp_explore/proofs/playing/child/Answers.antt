@@ -6,7 +6,7 @@ use Rattle.hp_units.specs.declared.replies.CallFault.TheVariants.{HistoryFull}
 use Rattle.hp_units.specs.declared.replies.Record.{Record}
 use Rattle.hp_explore.specs.Schedules.{next_call, setting}
 use Rattle.hp_explore.proofs.Machines.{asked_is, further, had_room, news_shown}
-use Rattle.hp_explore.proofs.plays.child.Goals as goal
+use Rattle.hp_explore.proofs.playing.child.Goals as goal
 
 pub returns-in_ok-call-in-Some-clause-ok : goal.returns-in_ok-call-in-Some-clause-ok
 returns-in_ok-call-in-Some-clause-ok c =

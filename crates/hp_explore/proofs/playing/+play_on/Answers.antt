@@ -5,7 +5,7 @@ use Rattle.hp_explore.specs.Schedules.{setting}
 use Rattle.hp_explore.specs.Walks.{IsPlayedOn}
 use Rattle.hp_explore.proofs.Lines.{rest_all}
 use Rattle.hp_explore.proofs.Walking.{played_on, played_over}
-use Rattle.hp_explore.proofs.plays.+play_on.Goals as goal
+use Rattle.hp_explore.proofs.playing.+play_on.Goals as goal
 
 pub returns-in-Some-clause-ok : goal.returns-in-Some-clause-ok
 returns-in-Some-clause-ok t c =
