@@ -4,7 +4,7 @@ use crate::known_pages::{KnownPages, Place};
 use crate::mixes::{Kind, Mix};
 use crate::operations::Operation;
 use crate::random::{Random, count_of};
-use anyhow::{Result, anyhow};
+use anyhow::{Error, Result, anyhow};
 use hp_machine::{Machine, MachinePort};
 use hp_ops::run_plan;
 use hp_units::{
@@ -349,11 +349,16 @@ impl Generator {
 }
 
 /// The receipt of a call; a call that leaves no record is an error.
-pub fn called(alloc: Global, machine: &mut Machine, cpu: Cpu, event: &Event) -> Result<Receipt> {
+fn called(alloc: Global, machine: &mut Machine, cpu: Cpu, event: &Event) -> Result<Receipt> {
     match machine.call(alloc, cpu, event) {
         Ok(receipt) => Ok(receipt),
-        Err(_fault) => Err(anyhow!("a call left no record")),
+        Err(_fault) => Err(no_record()),
     }
+}
+
+/// The error of a call that leaves no record.
+pub fn no_record() -> Error {
+    anyhow!("a call left no record")
 }
 
 /// Whether a zone is to be filled further: it is filled up to about two thirds, and then stays so.
