@@ -136,7 +136,7 @@ abbrev pub is_warning : Finding → Bool
 is_warning f = not (is_fault f)
 
 abbrev pub counts_text : List Finding → List ℕ
-counts_text found = codes "faults: " ++ decimal (count_by is_fault found) ++ codes ", warnings: " ++ decimal (count_by is_warning found) ++ newline
+counts_text found = codes "faults: " ++ decimal (count_by is_fault found) ++ codes ", " ++ codes "warnings: " ++ decimal (count_by is_warning found) ++ newline
 
 -- all findings, and how many there are
 abbrev pub report_text : (lines : List ℕ) → List Finding → List ℕ

@@ -43,7 +43,8 @@ fn write_counts(out: &mut String, findings: &[Finding]) -> Result<(), AllocError
 {
     let faults = fault_count(findings);
     let warnings = warning_count(findings);
-    writeln!(out, "faults: {faults}, warnings: {warnings}")
+    write!(out, "faults: {faults}, ")?;
+    writeln!(out, "warnings: {warnings}")
 }
 
 /// How many of the findings are warnings.
