@@ -57,8 +57,6 @@ fn take_and_give(buddy: &mut Buddy, class: Class, order: Order, tape: &mut Tape)
     requires apart { AreApart buddy.old.layout buddy.old.areas }
     requires room { HasRoom tape.old (take_bound buddy.old.layout + give_bound buddy.old.layout) }
     ensures layout { buddy.new.layout ≡ buddy.old.layout }
-    ensures apart { AreApart buddy.new.layout buddy.new.areas }
-    ensures notes { NotesAreas buddy.old.layout (take_bound buddy.old.layout + give_bound buddy.old.layout) tape.old tape.new buddy.new.areas buddy.old.areas }
 {
     if let Some(frame) = buddy.take(class, order, tape) {
         buddy.give(Zone::Normal, frame, order, tape);
@@ -189,30 +187,52 @@ fn comes_back(rt: HostRuntime) -> Result<(), Fail> {
     Ok(())
 }
 
+/// Whether the one block is the first of its list, and nothing follows it.
+fn is_whole(buddy: &Buddy) -> bool
+    requires order { buddy.now.layout.order ≡ 4 }
+    requires pageblocks { buddy.now.layout.pageblocks ≡ 1 }
+    requires blocks { buddy.now.layout.blocks ≡ 1 }
+{
+    buddy.front(Class::Nm, Order(4)) == Some(Frame(0))
+        && buddy.place(Frame(0)) == Some((Class::Nm, Order(4)))
+        && buddy.next(Frame(0)).is_none()
+}
+
 #[test]
 fn splits_and_joins(rt: HostRuntime) -> Result<(), Fail> {
     let mut buddy = small_buddy(rt.alloc())?;
     let mut tape = Tape::with_room(rt.alloc(), 10)?;
-    assert_eq!(rt; buddy.front(Class::Nm, Order(4)), Some(Frame(0)));
+    let was_whole = is_whole(&buddy);
     take_and_give(&mut buddy, Class::Nm, Order(0), &mut tape);
+    assert!(rt; was_whole && is_whole(&buddy));
     assert_eq!(rt; tape.len(), 10);
-    assert_eq!(rt; buddy.place(Frame(0)), Some((Class::Nm, Order(4))));
-    assert_eq!(rt; buddy.next(Frame(0)), None);
     Ok(())
+}
+
+/// Isolates the pageblock and removes it, if it is found whole: whether it was isolated, and its
+/// first frame is gone.
+fn is_isolated_and_removed(buddy: &mut Buddy, tape: &mut Tape) -> bool
+    requires order { buddy.old.layout.order ≡ 4 }
+    requires pageblocks { buddy.old.layout.pageblocks ≡ 1 }
+    requires blocks { buddy.old.layout.blocks ≡ 1 }
+    requires apart { AreApart buddy.old.layout buddy.old.areas }
+    requires room { HasRoom tape.old 35 }
+{
+    buddy.move_pageblock(Zone::Normal, Pageblock(0), true, tape);
+    let isolated = buddy.kind(Pageblock(0)).isolated;
+    if let Some((class, order)) = buddy.place(Frame(0)) {
+        if class == Class::IsoN && order == Order(4) {
+            buddy.remove_pageblock(Zone::Normal, Pageblock(0), tape);
+        }
+    }
+    isolated && buddy.place(Frame(0)).is_none()
 }
 
 #[test]
 fn isolates_and_removes(rt: HostRuntime) -> Result<(), Fail> {
     let mut buddy = small_buddy(rt.alloc())?;
     let mut tape = Tape::with_room(rt.alloc(), 35)?;
-    buddy.move_pageblock(Zone::Normal, Pageblock(0), true, &mut tape);
-    assert!(rt; buddy.kind(Pageblock(0)).isolated);
-    if let Some((class, order)) = buddy.place(Frame(0)) {
-        if class == Class::IsoN && order == Order(4) {
-            buddy.remove_pageblock(Zone::Normal, Pageblock(0), &mut tape);
-        }
-    }
-    assert_eq!(rt; buddy.place(Frame(0)), None);
+    assert!(rt; is_isolated_and_removed(&mut buddy, &mut tape));
     assert_eq!(rt; tape.len(), 5);
     Ok(())
 }

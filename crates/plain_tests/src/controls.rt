@@ -1,6 +1,6 @@
 //! What each control file shows, what written bytes ask for, and what is refused.
-use crate::layouts::{LAST_ABSENT, LAST_OFFLINE, four_blocks};
-use crate::machines::{Look, finds_at_boot};
+use crate::layouts::{LAST_ABSENT, LAST_OFFLINE};
+use crate::machines::{Look, finds_in_four_blocks};
 use hp_control::{ControlFault, Request, buddyinfo, parse_write, read_file, read_text};
 use hp_machine::Machine;
 use hp_units::{Auto, Block, Cpu, Event, Item, Owner, Page, Plan, Wish, Zone};
@@ -21,7 +21,11 @@ impl Look for Case {
     fn finds(&self, alloc: Global, machine: &mut Machine) -> bool {
         match self {
             Case::Booted => are_shown(alloc, machine, BOOTED) && has_length(alloc, machine, 86),
-            Case::Going => begins_to_go(alloc, machine) && are_shown(alloc, machine, GOING),
+            Case::Going => {
+                maps_a_page(alloc, machine)
+                    && begins_to_go(alloc, machine)
+                    && are_shown(alloc, machine, GOING)
+            }
             Case::Unread => {
                 are_unread(alloc, machine, MISSING, ControlFault::NoFile)
                     && are_unread(alloc, machine, WRITE_ONLY, ControlFault::WriteOnly)
@@ -31,21 +35,26 @@ impl Look for Case {
     }
 }
 
+/// Whether the bytes of a file are those of the text.
+fn has_bytes(alloc: Global, machine: &Machine, path: &str, wanted: &str) -> bool {
+    match read_file(alloc, machine, path) {
+        Ok(bytes) => bytes.as_slice() == wanted.as_bytes(),
+        Err(_fault) => false,
+    }
+}
+
 /// Whether a file reads as the text.
-fn is_shown(alloc: Global, machine: &Machine, path: &str, wanted: &str) -> bool {
-    match (
-        read_file(alloc, machine, path),
-        read_text(alloc, machine, path),
-    ) {
-        (Ok(bytes), Ok(text)) => bytes.as_slice() == wanted.as_bytes() && text.as_str() == wanted,
-        _ => false,
+fn has_text(alloc: Global, machine: &Machine, path: &str, wanted: &str) -> bool {
+    match read_text(alloc, machine, path) {
+        Ok(text) => text.as_str() == wanted,
+        Err(_fault) => false,
     }
 }
 
 /// Whether each file of a table reads as the text beside it.
 fn are_shown(alloc: Global, machine: &Machine, table: &[(&str, &str)]) -> bool {
     for (path, wanted) in table {
-        if !is_shown(alloc, machine, path, wanted) {
+        if !has_bytes(alloc, machine, path, wanted) || !has_text(alloc, machine, path, wanted) {
             return false;
         }
     }
@@ -75,10 +84,8 @@ fn has_length(alloc: Global, machine: &Machine, bytes: usize) -> bool {
 }
 
 #[test]
-fn files_are_read(rt: HostRuntime) -> Result<(), Fail> {
-    let layout = four_blocks(rt.alloc(), LAST_ABSENT)?;
-    assert!(rt; finds_at_boot(rt.alloc(), &layout, &Case::Booted));
-    Ok(())
+fn files_are_read(rt: HostRuntime) {
+    assert!(rt; finds_in_four_blocks(rt.alloc(), LAST_ABSENT, &Case::Booted));
 }
 
 /// What the files show while block 2, of which one frame is mapped, goes offline.
@@ -111,23 +118,26 @@ fn begin(alloc: Global) -> Result<Event, AllocError> {
     Ok(Event::Begin { plan })
 }
 
-/// Whether a page of block 2 is mapped, and the block begins to go offline.
-fn begins_to_go(alloc: Global, machine: &mut Machine) -> bool {
+/// Whether a page of block 2 is mapped.
+fn maps_a_page(alloc: Global, machine: &mut Machine) -> bool {
     let map = Event::Map {
         owner: Owner(0),
         page: Page(0),
     };
+    is_called(alloc, machine, &map)
+}
+
+/// Whether block 2 begins to go offline.
+fn begins_to_go(alloc: Global, machine: &mut Machine) -> bool {
     match begin(alloc) {
-        Ok(begin) => is_called(alloc, machine, &map) && is_called(alloc, machine, &begin),
+        Ok(begin) => is_called(alloc, machine, &begin),
         Err(AllocError) => false,
     }
 }
 
 #[test]
-fn a_going_block_is_shown(rt: HostRuntime) -> Result<(), Fail> {
-    let layout = four_blocks(rt.alloc(), LAST_OFFLINE)?;
-    assert!(rt; finds_at_boot(rt.alloc(), &layout, &Case::Going));
-    Ok(())
+fn a_going_block_is_shown(rt: HostRuntime) {
+    assert!(rt; finds_in_four_blocks(rt.alloc(), LAST_OFFLINE, &Case::Going));
 }
 
 /// Paths of no file.
@@ -152,10 +162,8 @@ fn are_unread(alloc: Global, machine: &Machine, paths: &[&str], fault: ControlFa
 }
 
 #[test]
-fn other_files_are_not_read(rt: HostRuntime) -> Result<(), Fail> {
-    let layout = four_blocks(rt.alloc(), LAST_ABSENT)?;
-    assert!(rt; finds_at_boot(rt.alloc(), &layout, &Case::Unread));
-    Ok(())
+fn other_files_are_not_read(rt: HostRuntime) {
+    assert!(rt; finds_in_four_blocks(rt.alloc(), LAST_ABSENT, &Case::Unread));
 }
 
 /// Paths of no file, and what is written to them.
@@ -259,8 +267,8 @@ const BAD_TEXTS: &[(&str, &[u8])] = &[
     ("probe", b"0x12345678901234567"),
 ];
 
-/// Whether bytes for a path are refused with a fault, and the path, where there is no such file, is not
-/// read.
+/// Whether bytes for a path are refused with a fault, and the path, where there is no such file, is
+/// not read.
 fn is_refused(
     alloc: Global,
     machine: &Machine,
@@ -333,22 +341,29 @@ fn refuses_long(alloc: Global, machine: &Machine) -> bool {
 }
 
 #[test]
-fn hostile_paths_and_texts_are_refused(rt: HostRuntime) -> Result<(), Fail> {
-    let layout = four_blocks(rt.alloc(), LAST_ABSENT)?;
-    assert!(rt; finds_at_boot(rt.alloc(), &layout, &Case::Hostile));
-    Ok(())
+fn hostile_paths_and_texts_are_refused(rt: HostRuntime) {
+    assert!(rt; finds_in_four_blocks(rt.alloc(), LAST_ABSENT, &Case::Hostile));
 }
 
 /// Whether bytes for a path ask for an event.
-fn asks(alloc: Global, path: &str, bytes: &[u8], event: &Event) -> Result<bool, ControlFault> {
-    match parse_write(alloc, path, bytes)? {
-        Request::Event(asked) => Ok(asked.same(event)),
-        Request::Plan(_) => Ok(false),
+fn asks(alloc: Global, path: &str, bytes: &[u8], event: &Event) -> bool {
+    match parse_write(alloc, path, bytes) {
+        Ok(Request::Event(asked)) => asked.same(event),
+        Ok(Request::Plan(_plan)) => false,
+        Err(_fault) => false,
     }
 }
 
+/// Whether words ask for block 3 to go online, for a probe, and for what added blocks become.
+fn words_ask(alloc: Global, online: &Event, probe: &Event, auto: &Event) -> bool {
+    asks(alloc, "memory3/state", b"online\n", online)
+        && asks(alloc, "memory3/online", b"1", online)
+        && asks(alloc, "probe", b"0xffffFFFFffffFFc0\n", probe)
+        && asks(alloc, "auto_online_blocks", b"online_movable", auto)
+}
+
 #[test]
-fn words_become_events(rt: HostRuntime) -> Result<(), Fail> {
+fn words_become_events(rt: HostRuntime) {
     let online = Event::Online {
         block: Block(3),
         zone: Zone::Normal,
@@ -359,11 +374,16 @@ fn words_become_events(rt: HostRuntime) -> Result<(), Fail> {
     let auto = Event::SetAuto {
         auto: Auto::OnlineMovable,
     };
-    assert!(rt; asks(rt.alloc(), "memory3/state", b"online\n", &online)?);
-    assert!(rt; asks(rt.alloc(), "memory3/online", b"1", &online)?);
-    assert!(rt; asks(rt.alloc(), "probe", b"0xffffFFFFffffFFc0\n", &probe)?);
-    assert!(rt; asks(rt.alloc(), "auto_online_blocks", b"online_movable", &auto)?);
-    Ok(())
+    assert!(rt; words_ask(rt.alloc(), &online, &probe, &auto));
+}
+
+/// Whether bytes for a path ask for a plan.
+fn asks_for_plan(alloc: Global, path: &str, bytes: &[u8], plan: &Plan) -> bool {
+    match parse_write(alloc, path, bytes) {
+        Ok(Request::Plan(asked)) => asked.same(plan),
+        Ok(Request::Event(_event)) => false,
+        Err(_fault) => false,
+    }
 }
 
 #[test]
@@ -373,10 +393,7 @@ fn offline_becomes_a_plan(rt: HostRuntime) -> Result<(), Fail> {
         wish: Wish::Off,
     };
     let plan = Plan::new(vec![in rt.alloc(); item]?);
-    match parse_write(rt.alloc(), "memory4294967295/state", b"offline")? {
-        Request::Plan(asked) => assert!(rt; asked.same(&plan)),
-        Request::Event(_) => assert!(rt; false, "no plan"),
-    }
+    assert!(rt; asks_for_plan(rt.alloc(), "memory4294967295/state", b"offline", &plan));
     Ok(())
 }
 

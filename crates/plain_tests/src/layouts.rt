@@ -19,8 +19,8 @@ pub(crate) const LAST_OFFLINE: &[Boot] = &[
 /// The same, and the last absent at boot.
 pub(crate) const LAST_ABSENT: &[Boot] = &[Boot::Normal, Boot::Normal, Boot::Movable, Boot::Absent];
 
-/// Two memory blocks of one pageblock of two frames, one processor, and one owner of two pages of one
-/// word.
+/// Two memory blocks of one pageblock of two frames, one processor, and one owner of two pages of
+/// one word.
 pub(crate) fn two_blocks(alloc: Global) -> Result<Layout, LayoutFault>
     ensures order { IfOk result (λ layout. layout.order ≡ 1) }
     ensures frames { IfOk result (λ layout. frame_count layout ≡ 4) }
@@ -46,8 +46,8 @@ pub(crate) fn two_blocks(alloc: Global) -> Result<Layout, LayoutFault>
     Layout::new(alloc, &parts)
 }
 
-/// Four memory blocks of one pageblock of four frames, two processors, and two owners of eight pages of
-/// two words.
+/// Four memory blocks of one pageblock of four frames, two processors, and two owners of eight
+/// pages of two words.
 pub(crate) fn four_blocks(alloc: Global, boot: &[Boot]) -> Result<Layout, LayoutFault>
     ensures order { IfOk result (λ layout. layout.order ≡ 2) }
     ensures frames { IfOk result (λ layout. frame_count layout ≡ 16) }

@@ -6,9 +6,8 @@ use hp_units::{
     Block, Boot, Cpu, Event, Item, Layout, LayoutFault, Order, Owner, Page, Parts, Plan, Text, Wish,
 };
 use std::alloc::{AllocError, Global};
-use std::test::Fail;
 
-/// What a test looks for: the picture after each of a few calls, and the place of each frame at boot.
+/// What a test looks for: the picture after each of a few calls, and the place of frames at boot.
 #[derive(Clone, Copy)]
 enum Case {
     Drawn,
@@ -128,11 +127,17 @@ fn draws_plan(alloc: Global, machine: &mut Machine) -> bool {
     }
 }
 
+/// Whether a machine of those blocks is as a case says, from boot on.
+fn finds_in_pairs(alloc: Global, case: Case) -> bool {
+    match four_pairs(alloc) {
+        Ok(layout) => finds_at_boot(alloc, &layout, &case),
+        Err(_fault) => false,
+    }
+}
+
 #[test]
-fn memory_is_drawn(rt: HostRuntime) -> Result<(), Fail> {
-    let layout = four_pairs(rt.alloc())?;
-    assert!(rt; finds_at_boot(rt.alloc(), &layout, &Case::Drawn));
-    Ok(())
+fn memory_is_drawn(rt: HostRuntime) {
+    assert!(rt; finds_in_pairs(rt.alloc(), Case::Drawn));
 }
 
 /// Whether the first frame of a machine is free, and there are so many.
@@ -144,8 +149,6 @@ fn starts_free(alloc: Global, machine: &Machine, count: usize) -> bool {
 }
 
 #[test]
-fn each_frame_has_a_place(rt: HostRuntime) -> Result<(), Fail> {
-    let layout = four_pairs(rt.alloc())?;
-    assert!(rt; finds_at_boot(rt.alloc(), &layout, &Case::Places));
-    Ok(())
+fn each_frame_has_a_place(rt: HostRuntime) {
+    assert!(rt; finds_in_pairs(rt.alloc(), Case::Places));
 }

@@ -3,6 +3,7 @@ mod parts;
 mod scripts;
 mod shapes;
 
+use hp_scenario::Scenario;
 use std::alloc::Global;
 use std::test::Fail;
 
@@ -13,4 +14,10 @@ const LAYOUT: &str =
 /// A scenario's text.
 fn text_of(alloc: Global, layout: &str, calls: &str) -> Result<String, Fail> {
     Ok(format!(in alloc; "{{\"layout\":{layout},\"calls\":[{calls}]}}")?)
+}
+
+/// A scenario of lines on two processors.
+fn scenario(alloc: Global, calls: &str) -> Result<Scenario, Fail> {
+    let text = text_of(alloc, LAYOUT, calls)?;
+    Ok(Scenario::read(alloc, text.as_bytes())?)
 }

@@ -1,6 +1,6 @@
 //! Each writer once, and a state with a page.
-use crate::layouts::{LAST_OFFLINE, four_blocks};
-use crate::machines::{Look, finds_at_boot};
+use crate::layouts::LAST_OFFLINE;
+use crate::machines::{Look, finds_in_four_blocks};
 use hp_control::ControlFault;
 use hp_machine::Machine;
 use hp_plain::Image;
@@ -107,8 +107,6 @@ impl Look for Mapped {
 }
 
 #[test]
-fn a_state_names_its_owners(rt: HostRuntime) -> Result<(), Fail> {
-    let layout = four_blocks(rt.alloc(), LAST_OFFLINE)?;
-    assert!(rt; finds_at_boot(rt.alloc(), &layout, &Mapped));
-    Ok(())
+fn a_state_names_its_owners(rt: HostRuntime) {
+    assert!(rt; finds_in_four_blocks(rt.alloc(), LAST_OFFLINE, &Mapped));
 }

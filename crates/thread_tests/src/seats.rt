@@ -34,12 +34,13 @@ fn layout(alloc: Global) -> Result<Layout, Fail> {
     Ok(layout)
 }
 
-/// The event that maps an owner's first page.
-fn map(owner: u32) -> Event {
-    Event::Map {
+/// A seat maps an owner's first page.
+fn map<L: Job, R: Wait>(rt: &R, alloc: Global, shared: &Shared<L>, seat: &mut Seat<L>, owner: u32) {
+    let event = Event::Map {
         owner: Owner(owner),
         page: Page(0),
-    }
+    };
+    let _ = seat.call(rt, alloc, shared, &event);
 }
 
 /// A seat that mapped an owner's first page.
@@ -51,7 +52,7 @@ fn mapped<L: Job, R: Wait>(
     owner: u32,
 ) -> Seat<L> {
     let mut seat = seat;
-    let _ = seat.call(rt, alloc, shared, &map(owner));
+    map(rt, alloc, shared, &mut seat, owner);
     seat
 }
 
@@ -73,28 +74,49 @@ fn both_mapped<L: Job + Send + Sync, R: Threads + Wait + Sync>(
     })
 }
 
-/// Two threads map a page each, each by a seat of its own. The seats but one, that one, and how many receipts they have.
+/// Two threads map a page each, each by a seat of its own. The seats but one, that one, and how many
+/// receipts each has.
 fn mapped_by_two<L: Job + Send + Sync, R: Threads + Wait + Sync>(
     rt: &R,
     alloc: Global,
     shared: &Shared<L>,
     seats: Vec<Seat<L>>,
-) -> Option<(Vec<Seat<L>>, Seat<L>, usize)> {
+) -> Option<(Vec<Seat<L>>, Seat<L>, (usize, usize))> {
     let mut seats = seats;
     let second = seats.pop()?;
     let first = seats.pop()?;
     let (first, second) = both_mapped(rt, alloc, shared, first, second);
-    let receipts = first.receipts().len() * 10 + second.receipts().len();
-    seats.push(first).ok()?;
+    let receipts = (first.receipts().len(), second.receipts().len());
+    let seats = with(seats, first)?;
     Some((seats, second, receipts))
 }
 
-/// Why a close without a seat is refused, and how many records one with it finds.
-fn closed_with_one_more<L: Job>(
+/// A list and one more item, unless out of memory.
+fn with<T: Drop>(items: Vec<T>, last: T) -> Option<Vec<T>> {
+    let mut items = items;
+    items.push(last).ok()?;
+    Some(items)
+}
+
+/// How many records a close finds.
+fn records_of<L: Job>(
     alloc: Global,
     shared: Shared<L>,
     seats: Vec<Seat<L>>,
-    second: Seat<L>,
+    volumes: Vec<Volume>,
+) -> Option<u64> {
+    match close(alloc, shared, seats, volumes) {
+        Ok(closed) => Some(closed.records),
+        Err(_refused) => None,
+    }
+}
+
+/// Why a close without a seat is refused, and how many records one with it finds.
+fn closed_with_seat<L: Job>(
+    alloc: Global,
+    shared: Shared<L>,
+    seats: Vec<Seat<L>>,
+    seat: Seat<L>,
 ) -> Option<(CloseFault, u64)> {
     let CloseRefused {
         fault,
@@ -102,20 +124,18 @@ fn closed_with_one_more<L: Job>(
         seats,
         volumes,
     } = close(alloc, shared, seats, Vec::new(alloc)).err()?;
-    let mut seats = seats;
-    seats.push(second).ok()?;
-    let closed = close(alloc, shared, seats, volumes).ok()?;
-    Some((fault, closed.records))
+    let seats = with(seats, seat)?;
+    Some((fault, records_of(alloc, shared, seats, volumes)?))
 }
 
-/// Two threads map a page each. Why a close with the one seat is refused, how many receipts the seats have, and how many records a
-/// close with both finds.
+/// Two threads map a page each. How many receipts each seat has, and of a close with the one seat why it
+/// is refused, of one with both how many records it finds.
 fn two_maps<L: Job + Send + Sync, R: Threads + Wait + Sync>(
     rt: &R,
     alloc: Global,
     blank: Blank,
     machine: Machine,
-) -> Option<(CloseFault, usize, u64)>
+) -> Option<((usize, usize), (CloseFault, u64))>
     requires machine { IsFresh L.layout machine }
     requires name { blank.name ≡ L.name }
     requires parts { blank.parts ≡ L.parts }
@@ -125,8 +145,7 @@ fn two_maps<L: Job + Send + Sync, R: Threads + Wait + Sync>(
         return None;
     };
     let (seats, second, receipts) = mapped_by_two(rt, alloc, &shared, seats)?;
-    let (fault, records) = closed_with_one_more(alloc, shared, seats, second)?;
-    Some((fault, receipts, records))
+    Some((receipts, closed_with_seat(alloc, shared, seats, second)?))
 }
 
 #[test]
@@ -134,29 +153,37 @@ fn two_threads_map_a_page_each(rt: HostRuntime) -> Result<(), Fail> {
     let layout = layout(rt.alloc())?;
     let machine = Machine::boot(rt.alloc(), &layout)?;
     let blank = Blank::new(layout.cpus() as u64);
-    let ends = two_maps::<Brand, _>(&rt, rt.alloc(), blank, machine).ok_or("no end")?;
-    assert_eq!(rt; ends.0, CloseFault::SeatMissing);
-    assert_eq!(rt; ends.1, 11);
-    assert_eq!(rt; ends.2, 2);
+    let ends = two_maps::<Brand, _>(&rt, rt.alloc(), blank, machine);
+    assert!(rt; matches!(ends, Some(((1, 1), (CloseFault::SeatMissing, 2)))));
     Ok(())
 }
 
-/// A record is sealed and another follows: the seats, and the volume.
+/// A seat maps a page and seals.
+fn mapped_and_sealed<L: Job, R: Wait>(
+    rt: &R,
+    alloc: Global,
+    shared: &Shared<L>,
+    seat: &mut Seat<L>,
+) -> Option<Volume> {
+    map(rt, alloc, shared, seat, 0);
+    seat.seal(rt, alloc, shared).ok()
+}
+
+/// A record of the first seat is sealed, and another of the second follows: the volume.
 fn sealed_between<L: Job, R: Wait>(
     rt: &R,
     alloc: Global,
     shared: &Shared<L>,
-    seats: Vec<Seat<L>>,
-) -> Option<(Vec<Seat<L>>, Volume)> {
-    let mut seats = seats;
-    let second = seats.pop()?;
-    let first = seats.pop()?;
-    let mut first = mapped(rt, alloc, shared, first, 0);
-    let volume = first.seal(rt, alloc, shared).ok()?;
-    let second = mapped(rt, alloc, shared, second, 1);
-    seats.push(first).ok()?;
-    seats.push(second).ok()?;
-    Some((seats, volume))
+    seats: &mut Vec<Seat<L>>,
+) -> Option<Volume> {
+    let volume = match seats.get_mut(0) {
+        Some(first) => mapped_and_sealed(rt, alloc, shared, first),
+        None => None,
+    };
+    if let Some(second) = seats.get_mut(1) {
+        map(rt, alloc, shared, second, 1);
+    }
+    volume
 }
 
 /// Why a close without a volume is refused, and how many records one with it finds.
@@ -172,13 +199,12 @@ fn closed_with_volume<L: Job>(
         seats,
         volumes,
     } = close(alloc, shared, seats, Vec::new(alloc)).err()?;
-    let mut volumes = volumes;
-    volumes.push(volume).ok()?;
-    let closed = close(alloc, shared, seats, volumes).ok()?;
-    Some((fault, closed.records))
+    let volumes = with(volumes, volume)?;
+    Some((fault, records_of(alloc, shared, seats, volumes)?))
 }
 
-/// A record is sealed and another follows. Why a close without the volume is refused, and how many records one with it finds.
+/// A record is sealed and another follows. Why a close without the volume is refused, and how many
+/// records one with it finds.
 fn one_sealed<L: Job, R: Wait>(
     rt: &R,
     alloc: Global,
@@ -190,10 +216,10 @@ fn one_sealed<L: Job, R: Wait>(
     requires parts { blank.parts ≡ L.parts }
     requires one_each { blank.parts ≡ L.layout.cpus }
 {
-    let Ok((shared, seats)) = Shared::<L>::new(alloc, blank, machine) else {
+    let Ok((shared, mut seats)) = Shared::<L>::new(alloc, blank, machine) else {
         return None;
     };
-    let (seats, volume) = sealed_between(rt, alloc, &shared, seats)?;
+    let volume = sealed_between(rt, alloc, &shared, &mut seats)?;
     closed_with_volume(alloc, shared, seats, volume)
 }
 
@@ -202,9 +228,8 @@ fn sealed_records_come_first(rt: HostRuntime) -> Result<(), Fail> {
     let layout = layout(rt.alloc())?;
     let machine = Machine::boot(rt.alloc(), &layout)?;
     let blank = Blank::new(layout.cpus() as u64);
-    let ends = one_sealed::<Brand, _>(&rt, rt.alloc(), blank, machine).ok_or("no end")?;
-    assert_eq!(rt; ends.0, CloseFault::WrongVolume { at: 0 });
-    assert_eq!(rt; ends.1, 2);
+    let ends = one_sealed::<Brand, _>(&rt, rt.alloc(), blank, machine);
+    assert!(rt; matches!(ends, Some((CloseFault::WrongVolume { at: 0 }, 2))));
     Ok(())
 }
 
@@ -271,12 +296,11 @@ fn page_moved<L: Job, R: Wait>(
 
 #[test]
 fn a_mapped_block_goes_offline(rt: HostRuntime) -> Result<(), Fail> {
+    let plan = offline(rt.alloc())?;
     let layout = layout(rt.alloc())?;
     let machine = Machine::boot(rt.alloc(), &layout)?;
     let blank = Blank::new(layout.cpus() as u64);
-    let plan = offline(rt.alloc())?;
-    let ends = page_moved::<Brand, _>(&rt, rt.alloc(), blank, machine, plan).ok_or("no end")?;
-    assert_eq!(rt; ends.0, OpEnd::Done);
-    assert_eq!(rt; ends.1, 7);
+    let ends = page_moved::<Brand, _>(&rt, rt.alloc(), blank, machine, plan);
+    assert!(rt; matches!(ends, Some((OpEnd::Done, 7))));
     Ok(())
 }

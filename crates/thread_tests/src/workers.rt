@@ -9,7 +9,7 @@ use gates::{Between, Meeting};
 use hp_control::ControlFault;
 use hp_machine::Machine;
 use hp_scenario::{Scenario, Script};
-use hp_shared::{Job, Shared, close};
+use hp_shared::{Closed, Job, Shared, close};
 use hp_units::{Frame, OpEnd, Owner, Page, Reply};
 use hp_workers::{Ends, Gate, LineEnd, OpenGate, RunEnd, run_workers};
 use std::alloc::Global;
@@ -46,6 +46,34 @@ impl Outcome {
     }
 }
 
+/// What a machine shows once it is closed, and how the lines ended.
+fn outcome_of(closed: Closed, ends: Vec<Ends>) -> Outcome {
+    Outcome {
+        ends,
+        records: closed.records,
+        sealed: closed.machine.sealed(),
+        frame: closed.machine.frame_at(Owner(0), Page(0)),
+    }
+}
+
+/// Closes a machine after a run without a fault.
+fn close_after<L: Job>(alloc: Global, shared: Shared<L>, end: RunEnd<L>) -> Option<Outcome> {
+    let RunEnd {
+        seats,
+        volumes,
+        ends,
+        fault,
+    } = end;
+    if fault.is_some() {
+        drop(shared);
+        drop(seats);
+        drop(volumes);
+        return None;
+    }
+    let closed = close(alloc, shared, seats, volumes).ok()?;
+    Some(outcome_of(closed, ends))
+}
+
 /// Runs a script for each processor of a machine, and closes.
 fn run_scripts<L: Job + Send + Sync, G: Gate + Sync, R: Threads + Wait + Sync>(
     rt: &R,
@@ -63,24 +91,13 @@ fn run_scripts<L: Job + Send + Sync, G: Gate + Sync, R: Threads + Wait + Sync>(
 {
     let (shared, seats) = Shared::<L>::new(alloc, blank, machine).ok()?;
     if seats.len() != scripts.len() {
+        drop(shared);
+        drop(seats);
+        drop(scripts);
         return None;
     }
-    let RunEnd {
-        seats,
-        volumes,
-        ends,
-        fault,
-    } = run_workers(rt, alloc, &shared, seats, scripts, gate);
-    if fault.is_some() {
-        return None;
-    }
-    let closed = close(alloc, shared, seats, volumes).ok()?;
-    Some(Outcome {
-        ends,
-        records: closed.records,
-        sealed: closed.machine.sealed(),
-        frame: closed.machine.frame_at(Owner(0), Page(0)),
-    })
+    let end = run_workers(rt, alloc, &shared, seats, scripts, gate);
+    close_after(alloc, shared, end)
 }
 
 /// Runs lines on two processors, with a gate round their calls.

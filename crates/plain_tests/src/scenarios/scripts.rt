@@ -1,15 +1,8 @@
 //! The lines of each processor.
-use super::{LAYOUT, text_of};
-use hp_scenario::{Line, Scenario, ScenarioFault, Work};
+use super::scenario;
+use hp_scenario::{Line, ScenarioFault, Work};
 use hp_units::{Cpu, Event};
-use std::alloc::Global;
 use std::test::Fail;
-
-/// A scenario of lines on two processors.
-fn scenario(alloc: Global, calls: &str) -> Result<Scenario, Fail> {
-    let text = text_of(alloc, LAYOUT, calls)?;
-    Ok(Scenario::read(alloc, text.as_bytes())?)
-}
 
 /// Whether a line drains a processor's lists.
 fn is_drain_of(line: &Line, drained: u32) -> bool {
