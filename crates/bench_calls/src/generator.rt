@@ -5,8 +5,7 @@ use crate::mixes::{Kind, Mix};
 use crate::operations::Operation;
 use crate::random::{Random, count_of};
 use anyhow::{Error, Result, anyhow};
-use hp_machine::{Machine, MachinePort};
-use hp_ops::run_plan;
+use hp_machine::Machine;
 use hp_units::{
     Block, Boot, Class, Cpu, Event, Frame, Item, Layout, Order, Owner, Page, Plan, Receipt, Record,
     Reply, Serial, State, Wish, Zone,
@@ -101,8 +100,7 @@ impl Generator {
 
     /// Makes the calls of a plan.
     fn run(&mut self, alloc: Global, cpu: Cpu, plan: Plan, turns: u32) {
-        let mut port = MachinePort::new(&mut self.machine, cpu);
-        let _end = run_plan(alloc, &mut port, plan, turns);
+        let _end = self.machine.run_plan(alloc, cpu, plan, turns);
     }
 
     /// Makes one call, and learns from its reply.

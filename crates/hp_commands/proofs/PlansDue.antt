@@ -17,10 +17,10 @@ use Rattle.hp_units.specs.declared.replies.Receipt.{Receipt}
 use Rattle.hp_units.specs.declared.replies.Record.{Record}
 use Rattle.hp_units.specs.declared.replies.Reply.{Reply}
 use Rattle.hp_machine.specs.Machine.{IsCalled, MachineValue, is_full, last_serial, record_of}
-use Rattle.hp_machine.specs.MachinePorts.{AreCalls, HasCause}
+use Rattle.hp_machine.specs.MachinePorts.{AreCalls, HasCause, IsPlanRun}
 use Rattle.hp_commands.specs.Events.{next_record, with_record}
 use Rattle.hp_text.specs.Plans.{operation_text, plan_line}
-use Rattle.hp_commands.specs.Plans.{IsPlanRun, PlanRun, WritesPlan, end_with, going_on, plan_run, plan_text, run_on}
+use Rattle.hp_commands.specs.Plans.{PlanRun, WritesPlan, end_with, going_on, plan_run, plan_text, run_on}
 use Rattle.hp_commands.specs.Serial.{IsWhole}
 use Rattle.hp_text.specs.State.{newline}
 use Rattle.hp_commands.proofs.EventsDue.{IsUpToDate}

@@ -1,12 +1,9 @@
 -- What the functions that write a line did, said as their contracts say it.
-use Rattle.std.proofs.Common.{◌≡◌, ℕ, List, ◌++◌, Option, Result, Ok, refl, sym, ap, subst, ◌∙◌, inl, inr}
+use Rattle.std.proofs.Common.{◌≡◌, ℕ, List, ◌++◌, Result, Ok, refl, sym, ap, subst, ◌∙◌, inl, inr}
 use Rattle.hp_units.specs.declared.plans.Item.{Item}
-use Rattle.hp_units.specs.declared.replies.CallFault.{CallFault}
 use Rattle.hp_units.specs.declared.replies.OpEnd.{OpEnd}
-use Rattle.hp_units.specs.declared.replies.Receipt.{Receipt}
-use Rattle.hp_units.specs.Driver.{IsDriverRun}
 use Rattle.hp_machine.specs.Machine.{MachineValue}
-use Rattle.hp_machine.specs.MachinePorts.{AreCalls, HasCause}
+use Rattle.hp_machine.specs.MachinePorts.{IsPlanRun}
 use Rattle.hp_control.specs.declared.fault.ControlFault.{ControlFault}
 use Rattle.hp_control.specs.declared.fault.ControlFault.TheVariants.{NoFile, ReadOnly, BadText, OutOfMemory, WriteOnly}
 use Rattle.hp_control.specs.declared.writes.Request.{Request}
@@ -16,7 +13,7 @@ use Rattle.hp_control.specs.Writes.{echo_request}
 use Rattle.hp_commands.specs.Files.{WritesEcho, WritesFile, WritesRequest, read_answer}
 use Rattle.hp_text.specs.Files.{read_fault_line, write_fault_line}
 use Rattle.hp_text.specs.Plans.{plan_line}
-use Rattle.hp_commands.specs.Plans.{IsPlanRun, WritesPlan}
+use Rattle.hp_commands.specs.Plans.{WritesPlan}
 use Rattle.hp_commands.specs.Serial.{GrowsBy}
 
 -- a text of which more is known
@@ -24,17 +21,6 @@ pub grows_as : (old new : List ℕ) (P Q : List ℕ → Type 0) → GrowsBy old 
 grows_as old new P Q g said = record { text = g.text; grown = g.grown; is = said g.text g.is }
 
 -- ---- a plan
-
--- from a port's machine before and after the calls
-pub plan_driven : (m first last new : MachineValue) (cpu caller turns : ℕ) (plan : List Item) (end : OpEnd) (fault : Option CallFault) (gained : List Receipt) → first ≡ m → caller ≡ cpu → new ≡ last
-    → AreCalls first caller gained last → HasCause fault last → IsDriverRun first.layout.cpus turns plan gained fault end → IsPlanRun m cpu turns plan end new
-plan_driven m first last new cpu caller turns plan end fault gained at_first same at_last calls cause ran = record {
-  receipts = gained;
-  fault = fault;
-  calls = subst (λ (k : MachineValue). AreCalls m cpu gained k) (sym at_last) (subst (λ (n : ℕ). AreCalls m n gained last) same (subst (λ (k : MachineValue). AreCalls k caller gained last) at_first calls));
-  cause = subst (HasCause fault) (sym at_last) cause;
-  run = subst (λ (k : MachineValue). IsDriverRun k.layout.cpus turns plan gained fault end) at_first ran;
-}
 
 pub plan_written : (m new : MachineValue) (cpu turns : ℕ) (plan copied : List Item) (end : OpEnd) (old out : List ℕ) → copied ≡ plan → IsPlanRun m cpu turns copied end new → out ≡ old ++ plan_line end → GrowsBy old out (λ (text : List ℕ). WritesPlan m cpu turns plan text new)
 plan_written m new cpu turns plan copied end old out same ran grown =

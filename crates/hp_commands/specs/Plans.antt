@@ -7,10 +7,10 @@ use Rattle.hp_units.specs.declared.replies.CallFault.TheVariants.{HistoryFull}
 use Rattle.hp_units.specs.declared.replies.OpEnd.{OpEnd}
 use Rattle.hp_units.specs.declared.replies.OpEnd.TheVariants.{Undone, Left}
 use Rattle.hp_units.specs.declared.replies.Receipt.{Receipt}
-use Rattle.hp_units.specs.Driver.{IsDriverRun, end_of, next_event, operation_of}
+use Rattle.hp_units.specs.Driver.{end_of, next_event, operation_of}
 use Rattle.hp_units.specs.Receipts.{receipt_of}
 use Rattle.hp_machine.specs.Machine.{MachineValue, is_full}
-use Rattle.hp_machine.specs.MachinePorts.{AreCalls, HasCause}
+use Rattle.hp_machine.specs.MachinePorts.{IsPlanRun}
 use Rattle.hp_commands.specs.Events.{next_record, with_record}
 use Rattle.hp_text.specs.Plans.{plan_line}
 
@@ -48,16 +48,6 @@ end_with (Some fault) receipts = Left (operation_of receipts) fault
 -- what a plan writes
 abbrev pub plan_text : MachineValue → (cpu turns : ℕ) → List Item → List ℕ
 plan_text m cpu turns plan = plan_line (end_with (plan_run m cpu turns plan).fault (plan_run m cpu turns plan).receipts)
-
--- ---- a run as it is made
-
--- calls of the processor that are a driver's run with this end made the new machine of the old
-pub record IsPlanRun (m : MachineValue) (cpu turns : ℕ) (plan : List Item) (end : OpEnd) (new : MachineValue) : Type 0 where
-  pub receipts : List Receipt
-  pub fault : Option CallFault
-  pub calls : AreCalls m cpu receipts new
-  pub cause : HasCause fault new
-  pub run : IsDriverRun m.layout.cpus turns plan receipts fault end
 
 -- a plan was run, and its end is written
 abbrev pub WritesPlan : MachineValue → (cpu turns : ℕ) → List Item → (text : List ℕ) → (new : MachineValue) → Type 0

@@ -1,4 +1,3 @@
-pub mod Driven
 pub mod Known
 pub mod Lists
 pub mod Written

@@ -1,6 +1,5 @@
 -- What lines that are run in order make of a machine.
 use Rattle.std.specs.Prelude.{◌≡◌, ◌⊎◌, ℕ, Bool, true, false, List, [], ◌∷◌, Option, Result, Ok, Err}
-use Rattle.hp_units.specs.Driver.{IsDriverRun}
 use Rattle.hp_units.specs.declared.events.Event.{Event}
 use Rattle.hp_units.specs.declared.plans.Item.{Item}
 use Rattle.hp_units.specs.declared.replies.CallFault.{CallFault}
@@ -9,7 +8,7 @@ use Rattle.hp_units.specs.declared.replies.OpEnd.{OpEnd}
 use Rattle.hp_units.specs.declared.replies.OpEnd.TheVariants.{Left}
 use Rattle.hp_units.specs.declared.replies.Receipt.{Receipt}
 use Rattle.hp_machine.specs.Machine.{IsCalled, MachineValue, is_full, sealed}
-use Rattle.hp_machine.specs.MachinePorts.{AreCalls, HasCause}
+use Rattle.hp_machine.specs.MachinePorts.{IsPlanRun}
 use Rattle.hp_control.specs.declared.fault.ControlFault.{ControlFault}
 use Rattle.hp_control.specs.declared.writes.Request.{Request}
 use Rattle.hp_control.specs.declared.writes.Request.TheVariants as request
@@ -22,14 +21,6 @@ use Rattle.hp_scenario.specs.declared.lines.Work.TheVariants as work
 abbrev pub RunsEvent : MachineValue → (cpu : ℕ) → Event → (new : MachineValue) → Type 0
 RunsEvent m cpu event new =
     ((is_full m ≡ true) × (new ≡ m)) ⊎ ((r : Receipt) × (is_full m ≡ false) × IsCalled m cpu event r new)
-
--- calls of the processor that are a driver's run with this end made the new machine of the old
-pub record IsPlanRun (m : MachineValue) (cpu turns : ℕ) (plan : List Item) (end : OpEnd) (new : MachineValue) : Type 0 where
-  pub receipts : List Receipt
-  pub fault : Option CallFault
-  pub calls : AreCalls m cpu receipts new
-  pub cause : HasCause fault new
-  pub run : IsDriverRun m.layout.cpus turns plan receipts fault end
 
 -- a driver's run was left because it was out of memory
 abbrev pub is_want : CallFault → Bool

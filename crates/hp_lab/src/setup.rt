@@ -1,11 +1,10 @@
 //! The setup: lines that are run in order on one machine, as `hotplug serial` runs them.
 ghost use Rattle.std.specs.Prelude.{◌≡◌, IfOk, OnOk, Ok};
-ghost use Rattle.hp_lab.specs.Setup.{IsPlanRun, RunsEvent, RunsLines, RunsPlan, RunsRequest, RunsSeal, RunsWork, is_out_of_memory};
+ghost use Rattle.hp_lab.specs.Setup.{RunsEvent, RunsLines, RunsPlan, RunsRequest, RunsSeal, RunsWork, is_out_of_memory};
 
 use crate::requests::request_of;
 use hp_control::{CONTROL_TURNS, Request};
-use hp_machine::{Machine, MachinePort};
-use hp_ops::run_plan;
+use hp_machine::Machine;
 use hp_scenario::{Line, Work};
 use hp_units::{CallFault, Cpu, Event, OpEnd, Plan};
 use std::alloc::{AllocError, Global};
@@ -71,7 +70,7 @@ fn run_event(
     }
 }
 
-/// Runs a plan's driver with at most `turns` migrations.
+/// Carries out a plan with at most `turns` migrations.
 fn carry_out(
     alloc: Global,
     machine: &mut Machine,
@@ -82,22 +81,11 @@ fn carry_out(
     ensures { OnOk result (RunsPlan machine.old cpu turns plan.now machine.new) }
 {
     let plan = plan.copy(alloc)?;
-    let end = drive(alloc, machine, cpu, plan, turns);
+    let end = machine.run_plan(alloc, cpu, plan, turns);
     if is_out_of_memory(end) {
         return Err(AllocError);
     }
     Ok(())
-}
-
-/// Runs a plan's driver on the machine.
-fn drive(alloc: Global, machine: &mut Machine, cpu: Cpu, plan: Plan, turns: u32) -> OpEnd
-    ensures { IsPlanRun machine.old cpu turns plan result machine.new }
-{
-    let mut port = MachinePort::new(machine, cpu);
-    let end = run_plan(alloc, &mut port, plan, turns);
-    // No effect at run time: the proof reads what the machine holds from this use.
-    let _ = &*port.machine;
-    end
 }
 
 /// Whether a driver's run was left because it was out of memory.

@@ -1,3 +1,4 @@
 pub mod MachineCalls
 pub mod Machines
+mod PlanRuns
 pub mod Replies

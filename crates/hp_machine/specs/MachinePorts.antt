@@ -1,6 +1,9 @@
 -- A port on a machine, and what calls make of the machine.
 use Rattle.std.specs.Prelude.{◌≡◌, ℕ, true, false, List, [], ◌∷◌, ◌++◌, Option, Some, None, ⊤}
 use Rattle.std.proofs.Common.{subst}
+use Rattle.hp_units.specs.declared.plans.Item.{Item}
+use Rattle.hp_units.specs.declared.replies.OpEnd.{OpEnd}
+use Rattle.hp_units.specs.Driver.{IsDriverRun}
 use Rattle.hp_units.specs.Receipts.{receipts_of}
 use Rattle.hp_machine.specs.Machine.{IsCalled, MachineValue, is_full}
 use Rattle.hp_machine.specs.Names.{Receipt, CallFault, HistoryFull, OutOfMemory}
@@ -20,6 +23,14 @@ abbrev pub HasCause : Option CallFault → MachineValue → Type 0
 HasCause None m = ⊤
 HasCause (Some HistoryFull) m = is_full m ≡ true
 HasCause (Some OutOfMemory) m = is_full m ≡ false
+
+-- calls of the processor that are a driver's run with this end made the new machine of the old
+pub record IsPlanRun (m : MachineValue) (cpu turns : ℕ) (plan : List Item) (end : OpEnd) (new : MachineValue) : Type 0 where
+  pub receipts : List Receipt
+  pub fault : Option CallFault
+  pub calls : AreCalls m cpu receipts new
+  pub cause : HasCause fault new
+  pub run : IsDriverRun m.layout.cpus turns plan receipts fault end
 
 -- calls after calls
 pub calls_joined : (cpu : ℕ) (xs ys : List Receipt) (old mid new : MachineValue) → AreCalls old cpu xs mid → AreCalls mid cpu ys new → AreCalls old cpu (xs ++ ys) new

@@ -1,9 +1,10 @@
-//! A port on a machine.
+//! A port on a machine, and the run of a plan through it.
 ghost use Rattle.std.specs.Prelude.{◌≡◌, None};
+ghost use Rattle.hp_machine.specs.MachinePorts.{IsPlanRun};
 
 use crate::machine::Machine;
-use hp_ops::Port;
-use hp_units::{CallFault, Cpu, Event, Receipt};
+use hp_ops::{Port, run_plan};
+use hp_units::{CallFault, Cpu, Event, OpEnd, Plan, Receipt};
 use std::alloc::Global;
 
 /// A processor of a machine. It shows the processor's records of the machine as its receipts.
@@ -64,4 +65,18 @@ impl<'a> Port for MachinePort<'a> {
     ghost nothing = { λ p. (refl, refl, refl) };
 
     ghost joined = { λ p q r xs ys a b. (b.0 ∙ a.0, b.1 ∙ a.1, makes_joined p.cpu q.cpu xs ys p.machine.now q.machine.now r.machine.now a.1 a.2 b.2) };
+}
+
+impl Machine {
+    /// Carries out a plan as a processor, with at most `turns` migrations, and answers how its operation ended: `run_plan` of hp_ops
+    /// through the processor's port. Each call leaves a record, but for one that ends the run as `Left`.
+    pub fn run_plan(&mut self, alloc: Global, cpu: Cpu, plan: Plan, turns: u32) -> OpEnd
+        ensures { IsPlanRun self.old cpu turns plan result self.new }
+    {
+        let mut port = MachinePort::new(self, cpu);
+        let end = run_plan(alloc, &mut port, plan, turns);
+        // No effect at run time: the proof reads what the machine holds from this use.
+        let _ = &*port.machine;
+        end
+    }
 }

@@ -2,8 +2,7 @@
 mod undo_each;
 
 use crate::layouts::{four_blocks, one_block};
-use hp_machine::{Machine, MachinePort};
-use hp_ops::run_plan;
+use hp_machine::Machine;
 use hp_units::{
     Auto, Block, CallFault, Class, Cpu, Event, Frame, Item, OpEnd, Order, Owner, Page, Plan,
     Refusal, Reply, Row, Serial, State, Wish, Zone,
@@ -211,8 +210,7 @@ fn goes_offline(alloc: Global, machine: &mut Machine) -> Result<bool, AllocError
     let (owner, page) = (Owner(0), Page(0));
     let mapped = is_answered(alloc, machine, &Event::Map { owner, page }, &Reply::Done);
     let plan = offline(alloc)?;
-    let mut port = MachinePort::new(machine, Cpu(0));
-    let end = run_plan(alloc, &mut port, plan, 1024);
+    let end = machine.run_plan(alloc, Cpu(0), plan, 1024);
     Ok(mapped && end == OpEnd::Done)
 }
 

@@ -3,8 +3,7 @@
 use crate::same::{same_ends, same_machines, same_receipts, same_records, same_states};
 use crate::trouble::{Case, Trouble, holds};
 use hp_history::Volume;
-use hp_machine::{Machine, MachinePort};
-use hp_ops::run_plan;
+use hp_machine::Machine;
 use hp_units::{CallFault, Cpu, Event, OpEnd, Plan, Receipt, Reply, Serial};
 use std::alloc::{AllocError, Global};
 
@@ -150,8 +149,7 @@ fn driven(
     turns: u32,
 ) -> Result<OpEnd, Trouble> {
     let copy = plan.copy(alloc)?;
-    let mut port = MachinePort::new(machine, cpu);
-    Ok(run_plan(alloc, &mut port, copy, turns))
+    Ok(machine.run_plan(alloc, cpu, copy, turns))
 }
 
 /// Seals the history.

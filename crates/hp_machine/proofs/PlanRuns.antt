@@ -6,8 +6,7 @@ use Rattle.hp_units.specs.declared.replies.OpEnd.{OpEnd}
 use Rattle.hp_units.specs.declared.replies.Receipt.{Receipt}
 use Rattle.hp_units.specs.Driver.{IsDriverRun}
 use Rattle.hp_machine.specs.Machine.{MachineValue}
-use Rattle.hp_machine.specs.MachinePorts.{AreCalls, HasCause}
-use Rattle.hp_lab.specs.Setup.{IsPlanRun}
+use Rattle.hp_machine.specs.MachinePorts.{AreCalls, HasCause, IsPlanRun}
 
 pub plan_driven : (m first last new : MachineValue) (cpu caller turns : ℕ) (plan : List Item) (end : OpEnd) (fault : Option CallFault) (gained : List Receipt) → first ≡ m → caller ≡ cpu → new ≡ last
     → AreCalls first caller gained last → HasCause fault last → IsDriverRun first.layout.cpus turns plan gained fault end → IsPlanRun m cpu turns plan end new
