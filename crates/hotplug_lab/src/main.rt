@@ -9,17 +9,20 @@ ghost use Rattle.std.specs.Prelude.{IfOk, string_bytes};
 ghost use Rattle.hotplug_lab.specs.Words.{IsAnswerOf, IsCheckOf, IsPictureOf};
 
 mod fault;
+mod progress;
 mod words;
 
 use clap::error::ErrorKind;
 use fault::ProgramFault;
 use hp_check::{check, fault_count, write_report};
+use hp_explore::Watch;
 use hp_lab::explore_text;
 use hp_streams::{Counted, Failed, read_all, write_all};
 use hp_svg::picture_of;
 use hp_trace::{View, trace};
+use progress::Progress;
 use std::alloc::{AllocError, Global};
-use std::io::Read;
+use std::io::{IsTerminal, Read};
 use std::process::ExitCode;
 use std::{env, fs, io};
 use words::{Request, Word, lab_command, request_from};
@@ -59,14 +62,19 @@ fn checked(alloc: Global, input: &[u8]) -> Result<Answer, ProgramFault>
     Ok(Answer { text, status })
 }
 
-/// What a word makes of the bytes of a scenario.
-fn answer_to(alloc: Global, input: &[u8], word: Word) -> Result<Answer, ProgramFault>
+/// What a word makes of the bytes of a scenario. The watch is told how far a search has come.
+fn answer_to<W: Watch>(
+    alloc: Global,
+    input: &[u8],
+    word: Word,
+    watch: &mut W,
+) -> Result<Answer, ProgramFault>
     ensures { IfOk result (λ answer. IsAnswerOf word input.now (string_bytes answer.text) answer.status) }
 {
     match word {
         Word::Check => checked(alloc, input),
         Word::Explore(asked) => Ok(Answer {
-            text: explore_text(alloc, input, asked.setup, asked.limit)?,
+            text: explore_text(alloc, input, asked.setup, asked.limit, watch)?,
             status: 0,
         }),
         Word::Trace(view) => Ok(Answer {
@@ -92,10 +100,14 @@ fn picture_text(alloc: Global, input: &[u8], view: View) -> Result<String, Progr
     Ok(picture_of(alloc, text.as_str())?)
 }
 
-/// Does what is asked for, on the file that is named or else on standard input, and answers the exit status.
+/// Does what is asked for, on the file that is named or else on standard input, and answers the exit status. Where standard error
+/// is a terminal, it shows how far a search has come.
 fn serve(rt: &HostRuntime, request: Request<'_>) -> Result<u8, ProgramFault> {
     let input = read_input(rt, request.file)?;
-    let answer = answer_to(rt.alloc(), &input, request.word)?;
+    let mut progress = Progress::new(rt.stderr(), rt.stderr().is_terminal());
+    let answered = answer_to(rt.alloc(), &input, request.word, &mut progress);
+    progress.end();
+    let answer = answered?;
     let mut output = Counted::new(rt.stdout());
     match write_all(&mut output, answer.text.as_bytes()) {
         Ok(()) => Ok(answer.status),

@@ -9,6 +9,7 @@ use crate::multinomials::are_too_many;
 use crate::scripts::{Script, undo_nothing};
 use crate::tally::{Ending, Tally};
 use crate::walk::{steps_of, visit};
+use crate::watch::Watch;
 use hp_machine::Machine;
 use hp_units::CallFault;
 use std::alloc::{AllocError, Global};
@@ -55,15 +56,16 @@ impl From<CallFault> for ExploreFault {
 
 /// The ends of all complete schedules of the processors' scripts on a machine as it stands (own rule): what each processor was
 /// answered, how many schedules end so, and the first of them in the order of a walk that takes processor 0 first. Script k is
-/// that of processor k. The machine stays as it is.
+/// that of processor k. The machine stays as it is. The watch is told how far the search has come.
 ///
 /// An error is `TooMany` where there are more schedules than the limit, `HistoryFull` where the layout's history has no room for
 /// all calls of a schedule, and `OutOfMemory`. Where no script holds a plan `TooMany` comes before any call.
-pub fn explore(
+pub fn explore<W: Watch>(
     alloc: Global,
     machine: &Machine,
     scripts: &[Script],
     limit: u64,
+    watch: &mut W,
 ) -> Result<Vec<Ending>, ExploreFault>
     requires { length scripts.now < 2 ^ 32 }
     ensures ok { IfOk result (λ ends. AreEnds (setting machine.now scripts.now) ends.items) }
@@ -77,6 +79,8 @@ pub fn explore(
     let mut tally = Tally::new(alloc, limit);
     let mut memo = Memo::new(alloc, undo_nothing(scripts));
     let mut here = steps_of(alloc, machine, machine)?;
-    visit(alloc, machine, scripts, &mut here, &mut tally, &mut memo)?;
+    visit(
+        alloc, machine, scripts, &mut here, &mut tally, &mut memo, watch,
+    )?;
     Ok(tally.into_ends())
 }

@@ -19,6 +19,7 @@ mod runs;
 mod scripts;
 mod tally;
 mod walk;
+mod watch;
 
 pub use exploring::{ExploreFault, explore};
 pub use laws::{
@@ -29,3 +30,4 @@ pub use outcomes::{Answers, Outcome};
 pub use playing::play;
 pub use scripts::{Line, Script, Work};
 pub use tally::Ending;
+pub use watch::{Silent, Watch};

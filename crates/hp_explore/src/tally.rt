@@ -115,6 +115,13 @@ impl Tally {
         Ok(())
     }
 
+    /// How many schedules are counted.
+    pub(crate) fn total(&self) -> u64
+        ensures { result ≡ sum_by (λ e. e.count) self.now.ends }
+    {
+        self.total
+    }
+
     /// Whether there are too many ends for a place's counts to be kept.
     pub(crate) fn has_many_ends(&self) -> bool
         ensures { IsTrue result ↔ FEW < length self.now.ends }

@@ -18,6 +18,7 @@ use crate::outcomes::claimed_row;
 use crate::playing::{play, records_from};
 use crate::scripts::Script;
 use crate::tally::{Tally, schedule_of};
+use crate::watch::Watch;
 use hp_machine::Machine;
 use hp_memory::Memory;
 use hp_steps::Steps;
@@ -28,13 +29,14 @@ use std::alloc::{AllocError, Global};
 /// as from a place that was walked before, what was counted there is counted once more, and nothing is played. A place that was
 /// walked is kept as long as there are few ends, since each place holds a count for each end.
 #[cycle(walk)]
-pub(crate) fn visit(
+pub(crate) fn visit<W: Watch>(
     alloc: Global,
     start: &Machine,
     scripts: &[Script],
     here: &mut Steps,
     tally: &mut Tally,
     memo: &mut Memo,
+    watch: &mut W,
 ) -> Result<(), ExploreFault>
     requires few { length scripts.now < 2 ^ 32 }
     requires at { IsAt (setting start.now scripts.now) here.old }
@@ -48,7 +50,7 @@ pub(crate) fn visit(
     ensures err { IfErr result (IsWalkCause (setting start.now scripts.now) tally.old.limit) }
 {
     if !memo.is_on() || !is_closed(start.history(), here.records()) {
-        return walk_on(alloc, start, scripts, here, tally, memo);
+        return walk_on(alloc, start, scripts, here, tally, memo, watch);
     }
     let digest = place_digest(here.memory(), here.records());
     let image = here.memory().image(alloc)?;
@@ -59,13 +61,15 @@ pub(crate) fn visit(
         here.records(),
         scripts.len() as u32,
     )? {
-        return tally.add(counts);
+        let added = tally.add(counts);
+        watch.counted(tally.total());
+        return added;
     }
     if tally.has_many_ends() {
-        return walk_on(alloc, start, scripts, here, tally, memo);
+        return walk_on(alloc, start, scripts, here, tally, memo, watch);
     }
     let earlier = tally.counts(alloc)?;
-    walk_on(alloc, start, scripts, here, tally, memo)?;
+    walk_on(alloc, start, scripts, here, tally, memo, watch)?;
     let counts = tally.since(alloc, earlier.as_slice())?;
     let news = copies(alloc, here.records())?;
     memo.add(digest, Seen::new(image, news, counts))?;
@@ -74,13 +78,14 @@ pub(crate) fn visit(
 
 /// Counts them by making each processor's next call, processor 0 first.
 #[cycle(walk)]
-fn walk_on(
+fn walk_on<W: Watch>(
     alloc: Global,
     start: &Machine,
     scripts: &[Script],
     here: &mut Steps,
     tally: &mut Tally,
     memo: &mut Memo,
+    watch: &mut W,
 ) -> Result<(), ExploreFault>
     requires few { length scripts.now < 2 ^ 32 }
     requires at { IsAt (setting start.now scripts.now) here.old }
@@ -97,13 +102,13 @@ fn walk_on(
     for cpu in 0..scripts.len() as u32 {
         if let Some(event) = next_at(alloc, scripts, here, cpu)? {
             is_over = false;
-            let visited = visit_next(alloc, start, scripts, here, cpu, &event, tally, memo);
+            let visited = visit_next(alloc, start, scripts, here, cpu, &event, tally, memo, watch);
             drop(event);
             visited?;
         }
     }
     if is_over {
-        note_end(alloc, scripts.len() as u32, here, tally)
+        note_end(alloc, scripts.len() as u32, here, tally, watch)
     } else {
         Ok(())
     }
@@ -112,7 +117,7 @@ fn walk_on(
 /// Counts those that go on with a processor's next call. The call is a step that is taken back; only after an undo or a Cancel,
 /// which may go back themselves, the walk goes on from steps of their own.
 #[cycle(walk)]
-fn visit_next(
+fn visit_next<W: Watch>(
     alloc: Global,
     start: &Machine,
     scripts: &[Script],
@@ -121,6 +126,7 @@ fn visit_next(
     event: &Event,
     tally: &mut Tally,
     memo: &mut Memo,
+    watch: &mut W,
 ) -> Result<(), ExploreFault>
     requires few { length scripts.now < 2 ^ 32 }
     requires at { IsAt (setting start.now scripts.now) here.old }
@@ -139,13 +145,13 @@ fn visit_next(
         return match steps_after(alloc, start, scripts, here, cpu, serial, event)? {
             Some(steps) => {
                 let mut there = steps;
-                visit(alloc, start, scripts, &mut there, tally, memo)
+                visit(alloc, start, scripts, &mut there, tally, memo, watch)
             }
             None => Ok(()),
         };
     }
     let mark = here.make(alloc, serial, Cpu(cpu), event)?;
-    visit(alloc, start, scripts, here, tally, memo)?;
+    visit(alloc, start, scripts, here, tally, memo, watch)?;
     here.take_back(mark);
     Ok(())
 }
@@ -283,18 +289,21 @@ pub(crate) fn steps_of(
 }
 
 /// Counts the schedule that led to where the walk stands under its end.
-fn note_end(
+fn note_end<W: Watch>(
     alloc: Global,
     processors: u32,
     here: &Steps,
     tally: &mut Tally,
+    watch: &mut W,
 ) -> Result<(), ExploreFault>
     ensures ok { OnOk result (IsEndNoted processors here.now tally.old.ends tally.new.ends) }
     ensures limit { tally.new.limit ≡ tally.old.limit }
     ensures err { IfErr result (IsNoteCause tally.old) }
 {
     let blocks = ended_rows(alloc, here.memory())?;
-    tally.note(alloc, processors, here.records(), blocks)
+    let noted = tally.note(alloc, processors, here.records(), blocks);
+    watch.counted(tally.total());
+    noted
 }
 
 /// Copies of records. An error is out of memory.

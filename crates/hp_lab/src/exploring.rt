@@ -9,7 +9,7 @@ use crate::ends::write_ends;
 use crate::fault::LabFault;
 use crate::scripts::scripts_of;
 use crate::setup::run_lines;
-use hp_explore::{ExploreFault, Script, explore};
+use hp_explore::{ExploreFault, Script, Watch, explore};
 use hp_machine::Machine;
 use hp_scenario::{Line, Scenario};
 use hp_units::{Layout, Text};
@@ -22,9 +22,17 @@ use std::alloc::Global;
 /// different end how many lead to it, what the processors were answered, what became of the memory blocks, and the calls of the
 /// first that leads to it (own rule).
 ///
+/// The watch is told while the search runs how many interleavings are counted so far.
+///
 /// Errors: those of reading the scenario; NotForScript with the first line after the setup that cannot stand in a script;
 /// TooMany, HistoryFull; OutOfMemory, which may come in place of any answer.
-pub fn explore_text(alloc: Global, input: &[u8], setup: u64, limit: u64) -> Result<String, LabFault>
+pub fn explore_text<W: Watch>(
+    alloc: Global,
+    input: &[u8],
+    setup: u64,
+    limit: u64,
+    watch: &mut W,
+) -> Result<String, LabFault>
     ensures ok { IfOk result (λ out. IsExplorationOf input.now setup (string_bytes out)) }
     ensures err { IfErr result (IsFaultOf input.now setup limit) }
 {
@@ -42,6 +50,7 @@ pub fn explore_text(alloc: Global, input: &[u8], setup: u64, limit: u64) -> Resu
         before,
         &scripts,
         limit,
+        watch,
     )?;
     Ok(text)
 }
@@ -69,13 +78,14 @@ fn rest_of(lines: &[Line], count: u64) -> &[Line]
 }
 
 /// The text of the exploration of scripts after lines that are run first.
-fn explored_after(
+fn explored_after<W: Watch>(
     alloc: Global,
     layout: &Layout,
     names: &IndexSet<Text>,
     before: &[Line],
     scripts: &[Script],
     limit: u64,
+    watch: &mut W,
 ) -> Result<String, ExploreFault>
     requires { length scripts.now < 2 ^ 32 }
     ensures ok { IfOk result (λ out. IsExploredAfter layout.now names.now.keys before.now scripts.now (string_bytes out)) }
@@ -83,22 +93,23 @@ fn explored_after(
 {
     let mut machine = Machine::boot(alloc, layout)?;
     run_lines(alloc, &mut machine, before)?;
-    explored_on(alloc, names, &machine, scripts, limit)
+    explored_on(alloc, names, &machine, scripts, limit, watch)
 }
 
 /// The text of the exploration of scripts on a machine.
-fn explored_on(
+fn explored_on<W: Watch>(
     alloc: Global,
     names: &IndexSet<Text>,
     machine: &Machine,
     scripts: &[Script],
     limit: u64,
+    watch: &mut W,
 ) -> Result<String, ExploreFault>
     requires { length scripts.now < 2 ^ 32 }
     ensures ok { IfOk result (λ out. IsExploredOn names.now.keys (setting machine.now scripts.now) (string_bytes out)) }
     ensures err { IfErr result (IsWalkCause (setting machine.now scripts.now) limit) }
 {
-    let ends = explore(alloc, machine, scripts, limit)?;
+    let ends = explore(alloc, machine, scripts, limit, watch)?;
     let mut out = String::new(alloc);
     write_ends(&mut out, alloc, names, machine, scripts, &ends)?;
     Ok(out)

@@ -1,4 +1,5 @@
 //! Explorations and their text.
+use hp_explore::Silent;
 use hp_lab::explore_text;
 use std::alloc::Global;
 use std::test::Fail;
@@ -30,7 +31,7 @@ const PLAN_TEXT: &str =
 
 /// Whether the exploration of a scenario after so many lines has this text.
 fn explores(alloc: Global, scenario: &str, setup: u64, text: &str) -> bool {
-    match explore_text(alloc, scenario.as_bytes(), setup, 100) {
+    match explore_text(alloc, scenario.as_bytes(), setup, 100, &mut Silent) {
         Ok(out) => out.as_str() == text,
         Err(_fault) => false,
     }

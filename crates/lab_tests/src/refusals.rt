@@ -1,5 +1,6 @@
 //! Scenarios that are not explored, and why.
 use hp_control::ControlFault;
+use hp_explore::Silent;
 use hp_lab::{LabFault, Unfit, explore_text};
 use std::alloc::Global;
 use std::test::Fail;
@@ -69,7 +70,7 @@ const REFUSED: &[Refused] = &[
 /// The place of the first scenario that has another fault, or is explored.
 fn first_other(alloc: Global, rows: &[Refused]) -> Option<usize> {
     for (place, (scenario, setup, limit, fault)) in rows.iter().enumerate() {
-        match explore_text(alloc, scenario.as_bytes(), *setup, *limit) {
+        match explore_text(alloc, scenario.as_bytes(), *setup, *limit, &mut Silent) {
             Ok(_text) => return Some(place),
             Err(found) => {
                 if found != *fault {

@@ -2,8 +2,9 @@
 ghost use Rattle.std.specs.Prelude.{◌≡◌, IfOk, length};
 
 use hp_explore::{
-    Answers, Ending, ExploreFault, Line, Script, Work, alike_places_go_on_alike, counts_are_unique,
-    explore, interleavings_are_counted, kept_counts_are_added, play, schedules_are_interleavings,
+    Answers, Ending, ExploreFault, Line, Script, Silent, Work, alike_places_go_on_alike,
+    counts_are_unique, explore, interleavings_are_counted, kept_counts_are_added, play,
+    schedules_are_interleavings,
 };
 use hp_machine::Machine;
 use hp_units::{
@@ -71,15 +72,17 @@ fn serves_the_first(alloc: Global, machine: &Machine) -> Result<bool, AllocError
     let scripts = scripts(zero, one, alloc)?;
     let got = Reply::Frame(Frame(0));
     let refused = Reply::Refused(Refusal::NoFrame);
-    Ok(match explore(alloc, machine, scripts.as_slice(), 2) {
-        Ok(ends) => match ends.as_slice() {
-            [end, other] => {
-                is_sole_end(end, (&got, &refused), 0) && is_sole_end(other, (&refused, &got), 1)
-            }
-            _ => false,
+    Ok(
+        match explore(alloc, machine, scripts.as_slice(), 2, &mut Silent) {
+            Ok(ends) => match ends.as_slice() {
+                [end, other] => {
+                    is_sole_end(end, (&got, &refused), 0) && is_sole_end(other, (&refused, &got), 1)
+                }
+                _ => false,
+            },
+            Err(_fault) => false,
         },
-        Err(_fault) => false,
-    })
+    )
 }
 
 #[test]
@@ -171,7 +174,7 @@ fn are_counts(ends: &[Ending], counts: &[u64]) -> bool {
 fn ends_so(alloc: Global, machine: &Machine, scripts: &[Script], counts: &[u64]) -> bool
     requires { length scripts.now ≡ 2 }
 {
-    match explore(alloc, machine, scripts, 84) {
+    match explore(alloc, machine, scripts, 84, &mut Silent) {
         Ok(ends) => are_counts(ends.as_slice(), counts),
         Err(_fault) => false,
     }
@@ -187,7 +190,7 @@ fn faults(
 ) -> bool
     requires { length scripts.now ≡ 2 }
 {
-    match explore(alloc, machine, scripts, limit) {
+    match explore(alloc, machine, scripts, limit, &mut Silent) {
         Ok(_ends) => false,
         Err(met) => met == fault,
     }
@@ -246,16 +249,18 @@ fn is_played(
 /// Whether the first schedule by hand takes block 1 offline in eight calls.
 fn takes_offline(alloc: Global, machine: &Machine) -> Result<bool, AllocError> {
     let by_hand = scripts(offline_by_hand(alloc)?, use_a_page(alloc)?, alloc)?;
-    Ok(match explore(alloc, machine, by_hand.as_slice(), 56) {
-        Ok(ends) => match ends.as_slice() {
-            [end, ..] => {
-                let schedule = end.first.as_slice();
-                shows_offline(end) && is_played(alloc, machine, by_hand.as_slice(), schedule, 8)
-            }
-            [] => false,
+    Ok(
+        match explore(alloc, machine, by_hand.as_slice(), 56, &mut Silent) {
+            Ok(ends) => match ends.as_slice() {
+                [end, ..] => {
+                    let schedule = end.first.as_slice();
+                    shows_offline(end) && is_played(alloc, machine, by_hand.as_slice(), schedule, 8)
+                }
+                [] => false,
+            },
+            Err(_fault) => false,
         },
-        Err(_fault) => false,
-    })
+    )
 }
 
 /// Whether all of these hold on a machine that is prepared for them.
@@ -416,7 +421,7 @@ fn agree_with_play(
 /// Whether the exploration of two users agrees with playing each schedule. Many of its places are alike, and are walked once.
 fn merges_truly(alloc: Global, machine: &Machine) -> Result<bool, AllocError> {
     let scripts = two_users(alloc)?;
-    match explore(alloc, machine, scripts.as_slice(), 70) {
+    match explore(alloc, machine, scripts.as_slice(), 70, &mut Silent) {
         Ok(ends) => agree_with_play(alloc, machine, scripts.as_slice(), ends.as_slice()),
         Err(_fault) => Ok(false),
     }

@@ -7,16 +7,16 @@ use Rattle.hp_explore.proofs.Walking.{IsWalked}
 use Rattle.hp_explore.proofs.walk.+walk.Given as goal
 
 abbrev pub decreases-visit : goal.decreases-visit
-decreases-visit l = 3 * (l.start.now.layout.history - (length l.start.now.history + length l.here.now.records)) + 2
+decreases-visit o l = 3 * (l.start.now.layout.history - (length l.start.now.history + length l.here.now.records)) + 2
 
 abbrev pub decreases-walk_on : goal.decreases-walk_on
-decreases-walk_on l = 3 * (l.start.now.layout.history - (length l.start.now.history + length l.here.now.records)) + 1
+decreases-walk_on o l = 3 * (l.start.now.layout.history - (length l.start.now.history + length l.here.now.records)) + 1
 
 abbrev pub decreases-visit_next : goal.decreases-visit_next
-decreases-visit_next l = 3 * (l.start.now.layout.history - (length l.start.now.history + length l.here.now.records))
+decreases-visit_next o l = 3 * (l.start.now.layout.history - (length l.start.now.history + length l.here.now.records))
 
 abbrev pub invariant-walk_on-loop-cpu : goal.invariant-walk_on-loop-cpu
-invariant-walk_on-loop-cpu l = record {
+invariant-walk_on-loop-cpu o l = record {
   walked : IsWalked (setting l.start l.scripts) l.initial.here l.initial.tally.limit l.cpu l.is_over l.tally;
   back : l.here ≡ l.initial.here;
   grown : Grow l.initial.tally.ends l.tally.ends;

@@ -1,0 +1,50 @@
+//! How far a search has come, on a terminal.
+
+use hp_explore::Watch;
+use std::io::Write;
+
+/// A search tells some hundred thousand times a second how far it has come; one time of so many is shown (own rule).
+const EACH: u32 = 1024;
+
+/// Shows how far a search has come, in one line that is written over and over.
+#[derive(Debug, Drop)]
+pub struct Progress<W> {
+    out: W,
+    is_wanted: bool,
+    is_shown: bool,
+    silent: u32,
+}
+
+impl<W: Write> Progress<W> {
+    /// Nothing is shown yet, and nothing ever is unless it is wanted.
+    pub fn new(out: W, is_wanted: bool) -> Progress<W> {
+        Progress {
+            out,
+            is_wanted,
+            is_shown: false,
+            silent: EACH,
+        }
+    }
+
+    /// Ends the line, where one is shown.
+    pub fn end(&mut self) {
+        if self.is_shown {
+            let _ = writeln!(self.out);
+        }
+    }
+}
+
+impl<W: Write> Watch for Progress<W> {
+    fn counted(&mut self, schedules: u64) {
+        if !self.is_wanted {
+            return;
+        }
+        if self.silent > 0 {
+            self.silent -= 1;
+            return;
+        }
+        self.silent = EACH;
+        self.is_shown = true;
+        let _ = write!(self.out, "\r{schedules} interleavings so far");
+    }
+}
