@@ -3,8 +3,8 @@
 use hp_explore::Watch;
 use std::io::Write;
 
-/// A search tells some hundred thousand times a second how far it has come; one time of so many is shown (own rule).
-const EACH: u32 = 1024;
+/// A search tells some hundred thousand times a second how far it has come; after one that is shown so many are not (own rule).
+const SILENT: u32 = 1024;
 
 /// Shows how far a search has come, in one line that is written over and over.
 #[derive(Debug, Drop)]
@@ -22,7 +22,7 @@ impl<W: Write> Progress<W> {
             out,
             is_wanted,
             is_shown: false,
-            silent: EACH,
+            silent: SILENT,
         }
     }
 
@@ -43,7 +43,7 @@ impl<W: Write> Watch for Progress<W> {
             self.silent -= 1;
             return;
         }
-        self.silent = EACH;
+        self.silent = SILENT;
         self.is_shown = true;
         let _ = write!(self.out, "\r{schedules} interleavings so far");
     }

@@ -28,10 +28,10 @@ event_is m cpu event text new h (inl w) = subst IsUpToDate (sym w.1) (event_next
 event_is m cpu event text new h (inr w) = subst IsUpToDate (sym w.2) h
 
 -- out of memory makes a text that isn't whole
-pub wanting_is_not_whole : (b : List ℕ) → IsWhole (unrecorded_line OutOfMemory ++ b) → ⊥
-wanting_is_not_whole b whole = not_whole (unrecorded_line OutOfMemory ++ b) (codes "-: fault ") b refl whole
+pub out_of_memory_is_not_whole : (b : List ℕ) → IsWhole (unrecorded_line OutOfMemory ++ b) → ⊥
+out_of_memory_is_not_whole b whole = not_whole (unrecorded_line OutOfMemory ++ b) (codes "-: fault ") b refl whole
 
 -- in a whole text an event wrote what is due
 pub event_due : (m : MachineValue) (cpu : ℕ) (event : Event) (text : List ℕ) (new : MachineValue) (rest : List ℕ) → WritesEvent m cpu event text new → IsWhole (text ++ rest) → (text ≡ event_text m cpu event) × (new ≡ machine_after_event m cpu event)
 event_due m cpu event text new rest (inl w) whole = w
-event_due m cpu event text new rest (inr w) whole = absurd (wanting_is_not_whole rest (subst (λ (l : List ℕ). IsWhole (l ++ rest)) w.1 whole))
+event_due m cpu event text new rest (inr w) whole = absurd (out_of_memory_is_not_whole rest (subst (λ (l : List ℕ). IsWhole (l ++ rest)) w.1 whole))

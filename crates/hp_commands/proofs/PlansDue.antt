@@ -72,13 +72,13 @@ called_machine m next cpu r called =
 abbrev run_with : List Receipt → MachineValue → Option CallFault → PlanRun
 run_with receipts m fault = record { receipts = receipts; machine = m; fault = fault }
 
--- memory was not wanting
-abbrev pub IsNoWant : Option CallFault → Type 0
-IsNoWant (Some OutOfMemory) = ⊥
-IsNoWant fault = ⊤
+-- the last call was not out of memory
+abbrev pub IsNotOutOfMemory : Option CallFault → Type 0
+IsNotOutOfMemory (Some OutOfMemory) = ⊥
+IsNotOutOfMemory fault = ⊤
 
 -- where a run ends, it stops
-stops : (receipts : List Receipt) (m : MachineValue) (more : Event → PlanRun) (full : Bool) (next : Option Event) (fault : Option CallFault) (end : OpEnd) → Ends receipts next fault end → full ≡ is_full m → HasCause fault m → IsNoWant fault → going_on receipts m more full next ≡ run_with receipts m fault
+stops : (receipts : List Receipt) (m : MachineValue) (more : Event → PlanRun) (full : Bool) (next : Option Event) (fault : Option CallFault) (end : OpEnd) → Ends receipts next fault end → full ≡ is_full m → HasCause fault m → IsNotOutOfMemory fault → going_on receipts m more full next ≡ run_with receipts m fault
 unfolding going_on
 stops receipts m more full None None end ends is cause given = refl
 stops receipts m more full None (Some fault) end ends is cause given = absurd ends
@@ -87,7 +87,7 @@ stops receipts m more true (Some event) (Some HistoryFull) end ends is cause giv
 stops receipts m more false (Some event) (Some HistoryFull) end ends is cause given = let h : false ≡ true = is ∙ cause in absurd cc
 stops receipts m more full (Some event) (Some OutOfMemory) end ends is cause given = absurd given
 
-finished : (turns : ℕ) (plan : List Item) (earlier : List Receipt) (m new : MachineValue) (more : Event → PlanRun) (fault : Option CallFault) (end : OpEnd) → new ≡ m → Ends (earlier ++ []) (next_event m.layout.cpus turns plan (earlier ++ [])) fault end → HasCause fault new → IsNoWant fault → going_on earlier m more (is_full m) (next_event m.layout.cpus turns plan earlier) ≡ run_with (earlier ++ []) new fault
+finished : (turns : ℕ) (plan : List Item) (earlier : List Receipt) (m new : MachineValue) (more : Event → PlanRun) (fault : Option CallFault) (end : OpEnd) → new ≡ m → Ends (earlier ++ []) (next_event m.layout.cpus turns plan (earlier ++ [])) fault end → HasCause fault new → IsNotOutOfMemory fault → going_on earlier m more (is_full m) (next_event m.layout.cpus turns plan earlier) ≡ run_with (earlier ++ []) new fault
 finished turns plan earlier m new more fault end same ends cause given =
     stops earlier m more (is_full m) (next_event m.layout.cpus turns plan earlier) fault end
     (subst (λ (l : List Receipt). Ends l (next_event m.layout.cpus turns plan l) fault end) (append-nil earlier) ends) refl (subst (HasCause fault) same cause) given
@@ -115,7 +115,7 @@ one_record : (limit room : ℕ) (history : List Record) (q : Record) → limit �
 one_record limit room history q fits = omega (arith, fits, length_push history q)
 
 -- calls that are a run from the receipts so far on are those of the run that is due
-calls_due : (rs : List Receipt) (room turns : ℕ) (plan : List Item) (cpu : ℕ) (earlier : List Receipt) (m new : MachineValue) (fault : Option CallFault) (end : OpEnd) → m.layout.history ≤ room + length m.history → AreCalls m cpu rs new → AllNext m.layout.cpus turns plan earlier rs → Ends (earlier ++ rs) (next_event m.layout.cpus turns plan (earlier ++ rs)) fault end → HasCause fault new → IsNoWant fault → run_on room turns plan cpu earlier m ≡ run_with (earlier ++ rs) new fault
+calls_due : (rs : List Receipt) (room turns : ℕ) (plan : List Item) (cpu : ℕ) (earlier : List Receipt) (m new : MachineValue) (fault : Option CallFault) (end : OpEnd) → m.layout.history ≤ room + length m.history → AreCalls m cpu rs new → AllNext m.layout.cpus turns plan earlier rs → Ends (earlier ++ rs) (next_event m.layout.cpus turns plan (earlier ++ rs)) fault end → HasCause fault new → IsNotOutOfMemory fault → run_on room turns plan cpu earlier m ≡ run_with (earlier ++ rs) new fault
 unfolding run_on
 calls_due [] zero turns plan cpu earlier m new fault end fits calls events ends cause given = finished turns plan earlier m new (λ (event : Event). run_with earlier m None) fault end calls ends cause given
 calls_due [] (suc room) turns plan cpu earlier m new fault end fits calls events ends cause given = finished turns plan earlier m new (λ (event : Event). run_on room turns plan cpu (earlier ++ receipt_of (next_record m cpu event) ∷ []) (with_record m (next_record m cpu event))) fault end calls ends cause given
@@ -135,7 +135,7 @@ calls_due (r ∷ rs) (suc room) turns plan cpu earlier m new fault end fits call
 fits_all : (limit count : ℕ) → limit ≤ (limit - count) + count
 fits_all limit count = omega arith
 
-run_due : (m : MachineValue) (cpu turns : ℕ) (plan : List Item) (end : OpEnd) (new : MachineValue) (ran : IsPlanRun m cpu turns plan end new) → IsNoWant ran.fault → plan_run m cpu turns plan ≡ run_with ran.receipts new ran.fault
+run_due : (m : MachineValue) (cpu turns : ℕ) (plan : List Item) (end : OpEnd) (new : MachineValue) (ran : IsPlanRun m cpu turns plan end new) → IsNotOutOfMemory ran.fault → plan_run m cpu turns plan ≡ run_with ran.receipts new ran.fault
 run_due m cpu turns plan end new ran given =
     calls_due ran.receipts (m.layout.history - length m.history) turns plan cpu [] m new ran.fault end (fits_all m.layout.history (length m.history)) ran.calls ran.run.events ran.run.ends ran.cause given
 
@@ -155,17 +155,17 @@ left_is_not_whole op b whole =
     (ap (λ (l : List ℕ). codes "plan: left " ++ l)
     (append_assoc (operation_text op ++ codes " " ++ codes "OutOfMemory") newline b ∙ append_assoc (operation_text op ++ codes " ") (codes "OutOfMemory") (newline ++ b))) whole
 
-no_want : (receipts : List Receipt) (next : Option Event) (fault : Option CallFault) (end : OpEnd) (rest : List ℕ) → Ends receipts next fault end → IsWhole (plan_line end ++ rest) → IsNoWant fault
-no_want receipts next None end rest ends whole = tt
-no_want receipts next (Some HistoryFull) end rest ends whole = tt
-no_want receipts None (Some OutOfMemory) end rest ends whole = absurd ends
-no_want receipts (Some event) (Some OutOfMemory) end rest ends whole =
+not_out_of_memory : (receipts : List Receipt) (next : Option Event) (fault : Option CallFault) (end : OpEnd) (rest : List ℕ) → Ends receipts next fault end → IsWhole (plan_line end ++ rest) → IsNotOutOfMemory fault
+not_out_of_memory receipts next None end rest ends whole = tt
+not_out_of_memory receipts next (Some HistoryFull) end rest ends whole = tt
+not_out_of_memory receipts None (Some OutOfMemory) end rest ends whole = absurd ends
+not_out_of_memory receipts (Some event) (Some OutOfMemory) end rest ends whole =
     left_is_not_whole (operation_of receipts) rest (subst (λ (e : OpEnd). IsWhole (plan_line e ++ rest)) ends whole)
 
 -- in a whole text a plan wrote what is due
 pub plan_due : (m : MachineValue) (cpu turns : ℕ) (plan : List Item) (text : List ℕ) (new : MachineValue) (rest : List ℕ) → WritesPlan m cpu turns plan text new → IsWhole (text ++ rest) → (text ≡ plan_text m cpu turns plan) × (new ≡ (plan_run m cpu turns plan).machine)
 plan_due m cpu turns plan text new rest w whole =
-    let given = no_want w.1.receipts (next_event m.layout.cpus turns plan w.1.receipts) w.1.fault w.0 rest w.1.run.ends (subst (λ (l : List ℕ). IsWhole (l ++ rest)) w.2 whole) in
+    let given = not_out_of_memory w.1.receipts (next_event m.layout.cpus turns plan w.1.receipts) w.1.fault w.0 rest w.1.run.ends (subst (λ (l : List ℕ). IsWhole (l ++ rest)) w.2 whole) in
     let due : plan_run m cpu turns plan ≡ run_with w.1.receipts new w.1.fault = run_due m cpu turns plan w.0 new w.1 given in
     let ended : w.0 ≡ end_with w.1.fault w.1.receipts = end_is w.1.receipts (next_event m.layout.cpus turns plan w.1.receipts) w.1.fault w.0 w.1.run.ends in
     (w.2 ∙ ap plan_line (ended ∙ ap (λ (p : PlanRun). end_with p.fault p.receipts) (sym due)), ap (λ (p : PlanRun). p.machine) (sym due))

@@ -4,7 +4,7 @@ use Rattle.hp_units.specs.History.{value_of, net_of, run}
 use Rattle.hp_machine.specs.Machine.{MachineValue, sealed}
 use Rattle.hp_commands.specs.Seals.{WritesSeal, seal_text}
 use Rattle.hp_commands.specs.Serial.{IsWhole}
-use Rattle.hp_commands.proofs.EventsDue.{IsUpToDate, wanting_is_not_whole}
+use Rattle.hp_commands.proofs.EventsDue.{IsUpToDate, out_of_memory_is_not_whole}
 
 -- with no records the state is the base
 sealed_is : (m : MachineValue) → IsUpToDate (sealed m)
@@ -18,4 +18,4 @@ seal_is m text new h (inr w) = subst IsUpToDate (sym w.1) h
 -- in a whole text a seal wrote what is due
 pub seal_due : (m : MachineValue) (text : List ℕ) (new : MachineValue) (rest : List ℕ) → WritesSeal m text new → IsWhole (text ++ rest) → (text ≡ seal_text m) × (new ≡ sealed m)
 seal_due m text new rest (inl w) whole = w
-seal_due m text new rest (inr w) whole = absurd (wanting_is_not_whole rest (subst (λ (l : List ℕ). IsWhole (l ++ rest)) w.0 whole))
+seal_due m text new rest (inr w) whole = absurd (out_of_memory_is_not_whole rest (subst (λ (l : List ℕ). IsWhole (l ++ rest)) w.0 whole))

@@ -1,4 +1,4 @@
--- Texts no line of which says that memory was wanting.
+-- Texts no line of which says that a call was out of memory.
 use Rattle.std.proofs.Common.{◌≡◌, ℕ, List, ◌∷◌, ◌++◌, codes, sym, ap, ◌∙◌, append_assoc}
 use Rattle.hp_commands.specs.Serial.{IsWhole}
 

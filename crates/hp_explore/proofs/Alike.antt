@@ -25,7 +25,7 @@ use Rattle.hp_explore.specs.Outcomes.{OutcomeValue, ended_rows_below, replies_be
 use Rattle.hp_explore.specs.Schedules.{EndsWith, Setting, next_call, outcome_after, play_one, plays, record_of_call}
 use Rattle.hp_explore.specs.Scripts.{later_operation, next_in, next_of, own_operation}
 use Rattle.hp_explore.specs.declared.scripts.Line.{Line}
-use Rattle.hp_explore.proofs.Plays.{plays_on, plays_one, stays_none}
+use Rattle.hp_explore.proofs.Plays.{from_news, plays_on, plays_one, recorded, stays_none}
 use Rattle.hp_explore.proofs.Steps.{receipts_push}
 use Rattle.hp_explore.proofs.Unnumbered.{lines_leave, next_plain}
 
@@ -137,9 +137,6 @@ reply_same g h k cpu e alike leaves = by_effect (effect_of e) leaves
     by_effect Acts is = stepped
 
 -- and makes the same record
-abbrev recorded : (serial cpu : ℕ) → Event → Reply → Record
-recorded serial cpu event reply = record { serial = serial; cpu = cpu; event = event; reply = reply }
-
 record_same : (g : Setting) (h k : List Record) (cpu : ℕ) (e : Event) → AreAlike g h k → leaves_steps (effect_of e) ≡ true → record_of_call g h cpu e ≡ record_of_call g k cpu e
 unfolding record_of_call
 record_same g h k cpu e alike leaves =
@@ -224,10 +221,6 @@ call_leaves g h cpu e all is = by_script (slice_get g.scripts cpu) refl is
     by_script (Some lines) here asked = lines_leave g.layout.cpus (own_operation (receipts_of cpu h)) lines (receipts_of cpu h) e (script_leaves g.scripts cpu lines all here) asked
 
 -- ---- the same continuations
-
--- what is played from some records on
-abbrev from_news : Setting → List Record → List ℕ → Option (List Record)
-from_news g news s = fold (play_one g) (Some news) s
 
 record PlaysAlike (g : Setting) (k : List Record) (rest : List ℕ) (end : List Record) : Type 0 where
   other : List Record

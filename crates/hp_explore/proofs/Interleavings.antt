@@ -19,7 +19,7 @@ use Rattle.hp_explore.specs.Scripts.{next_in, next_of, own_operation}
 use Rattle.hp_explore.proofs.Counting.{more_listed, same_count}
 use Rattle.hp_explore.proofs.Interleaved.{HasTurns, interleaved, turns_cons}
 use Rattle.hp_explore.proofs.OneCalls.{asks_once, skips, stays}
-use Rattle.hp_explore.proofs.Plays.{plays_one, stays_none}
+use Rattle.hp_explore.proofs.Plays.{from_news, plays_one, stays_none}
 use Rattle.hp_explore.proofs.Steps.{receipts_push}
 use Rattle.hp_explore.proofs.Uniqueness.{only_count}
 
@@ -85,10 +85,6 @@ made_more g cpu c news e false own =
     ap length (receipts_push cpu news (record_of_call g news c e) false own) ∙ (ap length (append-nil (receipts_of cpu news)) ∙ omega arith)
 
 -- ---- schedules
-
--- what is played from some records on
-abbrev from_news : Setting → List Record → List ℕ → Option (List Record)
-from_news g news s = fold (play_one g) (Some news) s
 
 -- each processor has made the calls of its turns, and no more than its script has
 turns_made : (g : Setting) (cpu : ℕ) (s : List ℕ) (news end : List Record) → AreOneCalls g.scripts → from_news g news s ≡ Some end → made cpu news ≤ script_length g.scripts cpu

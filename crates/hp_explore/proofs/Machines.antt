@@ -10,18 +10,13 @@ use Rattle.hp_units.specs.Receipts.{receipts_of}
 use Rattle.hp_units.specs.declared.events.Event.{Event}
 use Rattle.hp_units.specs.declared.replies.Receipt.{Receipt}
 use Rattle.hp_units.specs.declared.replies.Record.{Record}
-use Rattle.hp_units.specs.declared.replies.Reply.{Reply}
 use Rattle.hp_machine.specs.Machine.{IsCalled, MachineValue, is_full, record_of}
 use Rattle.hp_machine.proofs.Machines.{room}
 use Rattle.hp_explore.specs.declared.scripts.Line.{Line}
 use Rattle.hp_explore.specs.Schedules.{Setting, next_call, plays, record_of_call, schedule_of, setting}
 use Rattle.hp_explore.specs.Scripts.{next_of}
 use Rattle.hp_explore.specs.Walks.{IsFurther, IsReached, news_in, place_of}
-use Rattle.hp_explore.proofs.Plays.{plays_push}
-
--- a record of its parts
-abbrev recorded : (serial cpu : ℕ) → Event → Reply → Record
-recorded serial cpu event reply = record { serial = serial; cpu = cpu; event = event; reply = reply }
+use Rattle.hp_explore.proofs.Plays.{plays_push, recorded}
 
 -- the event that a processor's script asks for
 pub asked_is : (g : Setting) (news : List Record) (cpus cpu : ℕ) (lines : List Line) (next : Option Event) → cpus ≡ g.layout.cpus → slice_get g.scripts cpu ≡ Some lines → next ≡ next_of cpus lines (receipts_of cpu news) → next_call g cpu news ≡ next

@@ -8,6 +8,7 @@ use Rattle.std.proofs.lemmas.Option.{none-some, same_Some, slice_get_past}
 use Rattle.hp_units.specs.Receipts.{receipts_of}
 use Rattle.hp_units.specs.declared.events.Event.{Event}
 use Rattle.hp_units.specs.declared.replies.Record.{Record}
+use Rattle.hp_units.specs.declared.replies.Reply.{Reply}
 use Rattle.hp_explore.specs.Outcomes.{OutcomeValue}
 use Rattle.hp_explore.specs.declared.scripts.Line.{Line}
 use Rattle.hp_explore.specs.declared.tally.Ending.{Ending}
@@ -20,6 +21,14 @@ use Rattle.hp_explore.specs.Scripts.{next_of}
 use Rattle.hp_explore.specs.Walks.{Before, Through, IsOverBelow}
 use Rattle.hp_explore.proofs.Counts.{With, more_than, none_counted, noted, same_counted}
 use Rattle.hp_explore.proofs.Regions.{before_all, before_first, before_later, before_longer, before_next, extends_before, not_before_itself, not_before_longer}
+
+-- what is played from some records on
+abbrev pub from_news : Setting → List Record → List ℕ → Option (List Record)
+from_news g news s = fold (play_one g) (Some news) s
+
+-- a record of its parts
+abbrev pub recorded : (serial cpu : ℕ) → Event → Reply → Record
+recorded serial cpu event reply = record { serial = serial; cpu = cpu; event = event; reply = reply }
 
 -- ---- one call more
 

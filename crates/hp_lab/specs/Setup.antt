@@ -22,16 +22,16 @@ abbrev pub RunsEvent : MachineValue → (cpu : ℕ) → Event → (new : Machine
 RunsEvent m cpu event new =
     ((is_full m ≡ true) × (new ≡ m)) ⊎ ((r : Receipt) × (is_full m ≡ false) × IsCalled m cpu event r new)
 
--- a driver's run was left because it was out of memory
-abbrev pub is_want : CallFault → Bool
-is_want OutOfMemory = true
-is_want fault = false
+-- a driver's run was left because a call was out of memory
+abbrev pub is_memory_fault : CallFault → Bool
+is_memory_fault OutOfMemory = true
+is_memory_fault fault = false
 
 abbrev pub is_out_of_memory : OpEnd → Bool
-is_out_of_memory (Left op fault) = is_want fault
+is_out_of_memory (Left op fault) = is_memory_fault fault
 is_out_of_memory end = false
 
--- a plan was carried out, to an end that does not come of memory
+-- a plan was carried out, and no call of it was out of memory
 abbrev pub RunsPlan : MachineValue → (cpu turns : ℕ) → List Item → (new : MachineValue) → Type 0
 RunsPlan m cpu turns plan new = (end : OpEnd) × IsPlanRun m cpu turns plan end new × (is_out_of_memory end ≡ false)
 

@@ -16,6 +16,7 @@ use Rattle.hp_units.specs.Rows.{is_live, with_areas, zone_of}
 use Rattle.hp_units.specs.Step.{Answered, migrate_step, with_pages}
 use Rattle.hp_units.specs.declared.events.Event.TheVariants.{Migrate}
 use Rattle.hp_units.specs.declared.replies.Reply.TheVariants.{Moved}
+use Rattle.hp_lemmas.proofs.Placed.{in_frames}
 use Rattle.hp_tape.specs.declared.deltas.Delta.{Delta}
 use Rattle.hp_tape.specs.Bounds.{give_bound, steal_bound}
 use Rattle.hp_tape.specs.Deltas.{PageFrames, page_frames_of}
@@ -32,7 +33,6 @@ use Rattle.hp_memory.specs.Layers.{ArePlaced, IsAnswered, state_of, view_of}
 use Rattle.hp_memory.proofs.Answers.{hands-some, noted, notes-then}
 use Rattle.hp_memory.proofs.Lifts.{notes-free, notes-pages}
 use Rattle.hp_memory.proofs.PageEvents.{both-one, pages_once, pages_seen, taken-free, taken-inside}
-use Rattle.hp_memory.proofs.Placed.{in_frames}
 
 -- ---- the page that moves
 

@@ -1,4 +1,4 @@
--- Tests of texts behind references.
+-- Tests of texts that are lent.
 use Rattle.std.proofs.Common.{◌≡◌, ℕ, Bool, ◌||◌, List, [], ◌∷◌, Bor, map, refl, ap}
 use Rattle.std.specs.List.{list_any}
 

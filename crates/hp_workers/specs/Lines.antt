@@ -69,7 +69,7 @@ IsWorkRun cpus (work.Echo path word) = IsEchoRun cpus path word
 IsWorkRun cpus (work.Cat path) = IsNoRun
 IsWorkRun cpus work.Seal = IsNoRun
 
--- a seal made no call: it handed out one volume, whose number of records is the end; or none, since memory was wanting
+-- a seal made no call: it handed out one volume, whose number of records is the end; or none, since it was out of memory
 abbrev pub IsSealRun : LayoutParts → List Receipt → List Volume → LineEnd → Type 0
 IsSealRun l gained handed (Replied reply) = ⊥
 IsSealRun l gained handed (Faulted fault) = (gained ≡ []) × (handed ≡ []) × (fault ≡ call.OutOfMemory)

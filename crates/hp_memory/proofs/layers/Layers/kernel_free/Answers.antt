@@ -22,7 +22,7 @@ give_back-requires-clause-tidy c = tidy-placed c.args.self.now c.requires.placed
 pub give_back-requires-clause-block : goal.give_back-requires-clause-block
 give_back-requires-clause-block c =
     let here = (goal.at.give_back-requires-clause-block c).In-Some in
-    kernel-returns c.args.self.now c.args.frame c.in-Some.order c.requires.placed (omega (arith, within here, c.requires.placed.one.kernel)) (order_is here)
+    kernel-returns c.args.self.now c.args.frame c.in-Some.order c.requires.placed (order_is here)
 
 pub returns-clause-ok : goal.returns-clause-ok
 returns-clause-ok c =
