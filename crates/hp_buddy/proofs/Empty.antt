@@ -1,5 +1,5 @@
 -- Of areas with nothing free, the first pageblock may be given.
-use Rattle.std.proofs.Common.{◌≡◌, ℕ, ◌+◌, ◌*◌, ◌^◌, ◌≤◌, replicate, subst, sym, arith}
+use Rattle.std.proofs.Common.{ℕ, ◌+◌, ◌*◌, ◌^◌, ◌≤◌, subst, sym, arith}
 use Rattle.std.proofs.lemmas.Nat.{pow_pos}
 use Rattle.std.proofs.Math.Nat.{mul-le-mul_right}
 use Rattle.hp_units.specs.LayoutParts.{LayoutParts, IsLayout}

@@ -1,12 +1,9 @@
 -- A machine whose volumes and history are read again.
-use Rattle.std.proofs.Common.{◌≡◌, ℕ, zero, suc, ◌≤◌, ◌⊎◌, inl, inr, Bool, true, false, List, [], ◌∷◌, ◌++◌, append_assoc, codes, length, Some, Result, Ok, slice_get, take, refl, sym, ap, subst, ◌∙◌, arith}
+use Rattle.std.proofs.Common.{◌≡◌, ℕ, zero, suc, ◌⊎◌, inl, inr, Bool, true, false, List, [], ◌∷◌, ◌++◌, append_assoc, codes, Some, Result, Ok, slice_get, take, refl, sym, ap, subst, ◌∙◌, arith}
 use Rattle.std.specs.Prelude.{MatchBool, get_or}
-use Rattle.std.specs.List.{All}
-use Rattle.std.proofs.lemmas.List.{nil_from_length}
 use Rattle.std.proofs.lemmas.List.Elements.{All-get_or}
 use Rattle.std.proofs.lemmas.List.Sorted.{All-permutation}
 use Rattle.std.proofs.lemmas.Option.{slice_get_within}
-use Rattle.hp_units.specs.Boot.{boot_memory}
 use Rattle.hp_units.specs.History.{IsLegal, value_of}
 use Rattle.hp_units.specs.LayoutParts.{LayoutParts}
 use Rattle.hp_units.specs.Memory.{Memory}
@@ -26,10 +23,9 @@ use Rattle.hp_scenario.specs.declared.lines.Line.{Line}
 use Rattle.hp_scenario.specs.Gives.{◌>>=◌}
 use Rattle.hp_scenario.specs.Scenario.{ScenarioValue}
 use Rattle.hp_scenario.specs.Scripts.{scripts_of}
-use Rattle.hp_shared.specs.Shared.{IsShared}
 use Rattle.hp_shared.specs.Volumes.{IsSealOf}
 use Rattle.hp_text.specs.State.{newline}
-use Rattle.hp_workers.specs.Seals.{AreSealed, seals_in_all}
+use Rattle.hp_workers.specs.Seals.{AreSealed}
 use Rattle.hp_workers.specs.declared.lines.LineEnd.{LineEnd}
 use Rattle.hp_commands.specs.Audits.{HasAuditFault, HasWrongRecord, IsAudited}
 use Rattle.hp_commands.specs.Faults.{IsAudit, IsFaultOf, IsRefuted, IsUnfinished, chain_fault_from, replay_fault_from}

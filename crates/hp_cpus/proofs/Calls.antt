@@ -1,21 +1,20 @@
 -- What the calls make of their turns: the definitions' outcomes, and the bounds of what is noted.
-use Rattle.std.proofs.Common.{◌≡◌, ◌≢◌, ℕ, ◌+◌, ◌*◌, ◌-◌, ◌<◌, ◌≤◌, List, [], ◌∷◌, ◌++◌, length, get_or, Bool, true, false, not, cond, Option, Some, None, IfSome, MatchOption, nat_le, refl, sym, ◌∙◌, ap, subst, arith}
+use Rattle.std.proofs.Common.{◌≡◌, ◌≢◌, ℕ, ◌+◌, ◌*◌, ◌-◌, ◌<◌, List, [], ◌∷◌, length, true, false, cond, Option, Some, None, IfSome, MatchOption, nat_le, refl, sym, ◌∙◌, ap, subst, arith}
 use Rattle.std.proofs.lemmas.Bool.{cond-true, cond-false, lt-leb}
 use Rattle.std.proofs.Math.Nat.{add-mul}
 use Rattle.std.proofs.lemmas.List.{nil_from_length, get_or-set_other}
-use Rattle.hp_units.specs.declared.rows.Mobility.{Mobility}
 use Rattle.hp_units.specs.declared.rows.Kind.{Kind}
 use Rattle.hp_units.specs.declared.rows.Pool.{Pool}
 use Rattle.hp_units.specs.declared.rows.Pool.TheVariants.{Nu, Nm, Mm}
 use Rattle.hp_units.specs.declared.rows.Zone.{Zone}
 use Rattle.hp_units.specs.LayoutParts.{LayoutParts}
-use Rattle.hp_units.specs.Arithmetic.{frame_count, pageblock_of}
-use Rattle.hp_units.specs.Memory.{FreeAreas, FreeFrames, cached_list, with_cached_list, kind_of, pool_index, pool_of, zone_of_pool}
+use Rattle.hp_units.specs.Arithmetic.{pageblock_of}
+use Rattle.hp_units.specs.Memory.{FreeFrames, cached_list, with_cached_list, kind_of, pool_index, pool_of}
 use Rattle.hp_units.specs.FreeAreas.{give_block}
-use Rattle.hp_units.specs.ProcessorLists.{give_all, refilled, take_one, put_one, spilled, drain_pool, drain_lists}
+use Rattle.hp_units.specs.ProcessorLists.{refilled, take_one, put_one, spilled, drain_pool, drain_lists}
 use Rattle.hp_tape.specs.Bounds.{batch_bound, take_one_from}
 use Rattle.hp_buddy.specs.Buddy.{BuddyValue}
-use Rattle.hp_cpus.specs.Cpus.{CpusValue, AreTogether, MayBePut, frames_of, list_of, with_list_of, places_among, one_at}
+use Rattle.hp_cpus.specs.Cpus.{CpusValue, AreTogether, MayBePut, list_of, with_list_of, places_among, one_at}
 use Rattle.hp_cpus.proofs.Together.{IsOut, list-out, front-times}
 use Rattle.hp_cpus.proofs.Refills.{taken-some, taken-none}
 

@@ -1,5 +1,5 @@
 -- What each small change of a processor's list notes: its delta fits the lists that it left, and leads back to those that it found.
-use Rattle.std.proofs.Common.{◌≡◌, ℕ, ◌+◌, ◌*◌, ◌<◌, ◌≤◌, List, [], ◌∷◌, ◌++◌, length, get_or, set, Bool, true, false, not, Option, Some, None, refl, sym, ◌∙◌, ap, subst, arith, ◌&&◌, eq-eqb}
+use Rattle.std.proofs.Common.{◌≡◌, ℕ, ◌+◌, ◌*◌, ◌<◌, List, [], ◌∷◌, ◌++◌, length, get_or, set, true, false, not, Option, None, refl, sym, ◌∙◌, ap, subst, arith, eq-eqb}
 use Rattle.std.specs.Option.{option_map_or}
 use Rattle.std.specs.List.{list_all}
 use Rattle.std.proofs.lemmas.List.{get_or-set_same, set-set, set-get_or}
@@ -13,7 +13,7 @@ use Rattle.hp_tape.specs.declared.deltas.Delta.TheVariants.{Link, Unlink}
 use Rattle.hp_tape.specs.declared.deltas.ListId.TheVariants.{Cpu as CpuList}
 use Rattle.hp_tape.specs.Deltas.{FitsFree, IsDeltaOf, IsOfFree, free_undo, is_behind}
 use Rattle.hp_tape.specs.Tapes.{TapeValue, NotesFree}
-use Rattle.hp_links.specs.LinkedLists.{LinkedLists, list_at, with_list, IsListed, with_behind, last, without as without_first}
+use Rattle.hp_links.specs.LinkedLists.{LinkedLists, list_at, with_list, IsListed, last, without as without_first}
 use Rattle.hp_buddy.proofs.Linked.{contains_on, on_contains, off_list, off_all, without-same, put_behind-same, AreDistinct, behind-last, without-front, without-back}
 use Rattle.hp_buddy.proofs.Notes.{IsUnlinked, after-on, both}
 use Rattle.hp_cpus.specs.Cpus.{CpusValue, IsCpusOf, frames_of, list_of, with_list_of}

@@ -1,5 +1,5 @@
 -- The first and the last frame of a processor's list.
-use Rattle.std.proofs.Common.{◌≡◌, ℕ, ◌+◌, ◌*◌, ◌<◌, ◌≤◌, List, [], ◌∷◌, ◌++◌, get_or, Bool, true, false, Option, Some, None, refl, sym, ◌∙◌, ap, subst, arith, eq-eqb, ◌==◌}
+use Rattle.std.proofs.Common.{◌≡◌, ℕ, ◌+◌, ◌*◌, ◌<◌, ◌≤◌, List, [], ◌∷◌, ◌++◌, get_or, true, false, Some, None, refl, sym, ◌∙◌, ap, subst, arith, eq-eqb, ◌==◌}
 use Rattle.std.proofs.lemmas.Bool.{or_left, false_from_ne_true}
 use Rattle.hp_units.specs.declared.rows.Pool.{Pool}
 use Rattle.hp_units.specs.LayoutParts.{LayoutParts}

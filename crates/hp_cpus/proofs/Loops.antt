@@ -1,20 +1,20 @@
 -- One turn of a refill, a spill and a drain: a frame moves between the free areas and a processor's list.
-use Rattle.std.proofs.Common.{◌≡◌, ℕ, ◌+◌, ◌*◌, ◌<◌, ◌≤◌, List, [], ◌∷◌, ◌++◌, Some, refl, sym, ◌∙◌, ap, subst, arith}
+use Rattle.std.proofs.Common.{◌≡◌, ℕ, ◌+◌, ◌*◌, ◌<◌, ◌≤◌, [], ◌∷◌, ◌++◌, Some, refl, sym, ◌∙◌, ap, subst, arith}
 use Rattle.std.proofs.Math.Nat.{mul-le-mul_right}
 use Rattle.hp_units.specs.declared.rows.Class.{Class}
 use Rattle.hp_units.specs.declared.rows.Pool.{Pool}
 use Rattle.hp_units.specs.declared.rows.Zone.{Zone}
 use Rattle.hp_units.specs.LayoutParts.{LayoutParts}
-use Rattle.hp_units.specs.Memory.{FreeAreas, FreeFrames, with_cached_list, class_of_pool, zone_of_pool}
+use Rattle.hp_units.specs.Memory.{FreeAreas, FreeFrames, class_of_pool, zone_of_pool}
 use Rattle.hp_units.specs.FreeAreas.{take_block, give_block}
 use Rattle.hp_tape.specs.Bounds.{take_bound, give_bound}
 use Rattle.hp_tape.specs.Deltas.{FitsFree, IsOfFree, free_undo}
 use Rattle.hp_tape.specs.Tapes.{TapeValue, HasRoom, NotesAreas, NotesFree}
 use Rattle.hp_tape.proofs.Leads.{notes-more}
-use Rattle.hp_buddy.specs.Buddy.{BuddyValue, AreApart, MayBeGiven, HasBlockMore}
-use Rattle.hp_cpus.specs.Cpus.{CpusValue, AreTogether, MayBePut, frames_of, list_of, with_list_of, places_among, one_at}
-use Rattle.hp_cpus.proofs.Counts.{times, times-push}
-use Rattle.hp_cpus.proofs.Together.{IsOut, IsIn, list-in, list-out}
+use Rattle.hp_buddy.specs.Buddy.{BuddyValue}
+use Rattle.hp_cpus.specs.Cpus.{CpusValue, AreTogether, frames_of, list_of, with_list_of, places_among, one_at}
+use Rattle.hp_cpus.proofs.Counts.{times-push}
+use Rattle.hp_cpus.proofs.Together.{IsOut, IsIn, list-in}
 use Rattle.hp_cpus.proofs.Besides.{notes-beside, notes-then, room_left}
 use Rattle.hp_buddy.proofs.Scripts.{room_for_one, one_done}
 use Rattle.hp_cpus.proofs.Spills.{given}

@@ -1,5 +1,5 @@
 -- In a well placed state the free areas and the processors' lists are together, and frames in use may come back.
-use Rattle.std.proofs.Common.{◌≡◌, ℕ, ◌+◌, ◌^◌, ◌<◌, ◌≤◌, refl, arith}
+use Rattle.std.proofs.Common.{ℕ, refl, arith}
 use Rattle.hp_units.specs.LayoutParts.{LayoutParts, IsLayout}
 use Rattle.hp_units.specs.Memory.{Memory}
 use Rattle.hp_units.specs.Placement.{IsWellPlaced}

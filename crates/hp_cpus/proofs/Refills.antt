@@ -1,12 +1,12 @@
 -- A refill, one frame after another.
-use Rattle.std.proofs.Common.{◌≡◌, ℕ, zero, suc, ◌+◌, ◌*◌, ◌-◌, ◌<◌, ◌≤◌, List, [], ◌∷◌, ◌++◌, length, get_or, set, Option, Some, None, MatchOption, refl, sym, ◌∙◌, ap, subst, arith}
+use Rattle.std.proofs.Common.{◌≡◌, ℕ, zero, suc, ◌+◌, ◌*◌, ◌-◌, ◌<◌, List, [], ◌∷◌, ◌++◌, length, get_or, set, Option, Some, None, refl, sym, ◌∙◌, ap, arith}
 use Rattle.std.specs.Option.{option_map_or}
 use Rattle.std.proofs.lemmas.List.{append_assoc, append-nil, length-append, get_or-set_same, set-set, set-get_or}
 use Rattle.hp_units.specs.declared.rows.Pool.{Pool}
 use Rattle.hp_units.specs.LayoutParts.{LayoutParts}
 use Rattle.hp_units.specs.Memory.{FreeAreas, FreeFrames, cached_list, with_cached_list, class_of_pool, pool_index}
 use Rattle.hp_units.specs.FreeAreas.{Taken, take_block}
-use Rattle.hp_units.specs.ProcessorLists.{Handed, Refill, with_first, take_frames, refilled, refilled_from, refilled_with, pop_from, pop_cached, take_one}
+use Rattle.hp_units.specs.ProcessorLists.{Refill, with_first, take_frames, refilled, refilled_from, pop_from, pop_cached, take_one}
 use Rattle.hp_cpus.specs.Batches.{with_refill, filled}
 use Rattle.hp_cpus.specs.Cpus.{CpusValue, list_of, with_list_of}
 use Rattle.hp_cpus.proofs.Counts.{HasLists, list_in, list_of-same}

@@ -1,9 +1,8 @@
 -- A spill and a drain, one frame after another.
-use Rattle.std.proofs.Common.{◌≡◌, ℕ, zero, suc, ◌+◌, ◌*◌, ◌-◌, ◌<◌, ◌≤◌, List, [], ◌∷◌, ◌++◌, length, get_or, set, take, drop, reverse, refl, sym, ◌∙◌, ap, subst, arith}
-use Rattle.std.proofs.lemmas.List.{append_assoc, length-append, reverse-append, drop-append-le, take-append-le, get_or-set_same, set-set, set-get_or}
+use Rattle.std.proofs.Common.{◌≡◌, ℕ, suc, ◌+◌, ◌*◌, ◌-◌, ◌<◌, ◌≤◌, List, [], ◌∷◌, ◌++◌, length, get_or, set, take, drop, reverse, sym, ◌∙◌, ap, arith}
+use Rattle.std.proofs.lemmas.List.{length-append, reverse-append, drop-append-le, take-append-le, get_or-set_same, set-set, set-get_or}
 use Rattle.std.proofs.Math.Seq.{drop-length, take-length}
 use Rattle.hp_units.specs.declared.rows.Pool.{Pool}
-use Rattle.hp_units.specs.declared.rows.Zone.{Zone}
 use Rattle.hp_units.specs.LayoutParts.{LayoutParts}
 use Rattle.hp_units.specs.Memory.{FreeAreas, FreeFrames, cached_list, with_cached_list, pool_index, zone_of_pool}
 use Rattle.hp_units.specs.FreeAreas.{give_block}

@@ -1,7 +1,6 @@
 -- The frame after a frame, by the list that links say it is on.
-use Rattle.std.proofs.Common.{◌≡◌, ℕ, List, [], get_or, true, Option, None, sym, ◌∙◌, subst}
+use Rattle.std.proofs.Common.{◌≡◌, ℕ, [], get_or, Option, None, sym, ◌∙◌, subst}
 use Rattle.hp_units.specs.LayoutParts.{LayoutParts}
-use Rattle.hp_units.specs.FreeAreas.{is_on}
 use Rattle.hp_links.specs.LinkedLists.{LinkedLists, list_at, IsOn, IsUnlisted, IsApart, successor}
 use Rattle.hp_buddy.specs.Buddy.{next_from}
 use Rattle.hp_buddy.proofs.Linked.{contains_on, on_contains, off_list}

@@ -3,7 +3,7 @@ use Rattle.std.proofs.Common.{◌≡◌, ℕ, ◌≤◌, true, Option, Some, Non
 use Rattle.hp_units.specs.declared.rows.Pool.{Pool}
 use Rattle.hp_units.specs.LayoutParts.{LayoutParts, IsLayout}
 use Rattle.hp_units.specs.Arithmetic.{IsFrame, pageblock_of}
-use Rattle.hp_units.specs.InLayout.{AreFreeAreasOf, AreKernelBlocksOf, IsMemoryOf}
+use Rattle.hp_units.specs.InLayout.{IsMemoryOf}
 use Rattle.hp_units.specs.Memory.{Memory, cached_list, kernel_order}
 use Rattle.hp_units.specs.FreeAreas.{is_on}
 use Rattle.hp_units.specs.Placement.{IsKernelAt, IsWellPlaced, kind_at, row_at}

@@ -1,8 +1,8 @@
 -- Where the frames lie that a step hands out.
-use Rattle.std.proofs.Common.{◌≡◌, ℕ, zero, suc, ◌<◌, ◌≤◌, Bool, true, false, List, ◌∷◌, Option, Some, None, refl, sym, ◌∙◌, ap, subst, IfSome}
-use Rattle.std.specs.Prelude.{is_some, nat_le}
+use Rattle.std.proofs.Common.{◌≡◌, ℕ, zero, suc, ◌<◌, false, ◌∷◌, Option, Some, None, refl, sym, ◌∙◌, subst, IfSome}
+use Rattle.std.specs.Prelude.{nat_le}
 use Rattle.std.specs.Bool.{then_some}
-use Rattle.std.specs.Option.{option_map, option_map_or, option_or}
+use Rattle.std.specs.Option.{option_map_or, option_or}
 use Rattle.std.proofs.lemmas.Bool.{false_from_ne_true}
 use Rattle.hp_units.specs.declared.rows.Class.TheVariants.{Nu}
 use Rattle.hp_units.specs.declared.rows.Mobility.TheVariants.{Unmovable}
@@ -13,7 +13,7 @@ use Rattle.hp_units.specs.LayoutParts.{LayoutParts, IsLayout}
 use Rattle.hp_units.specs.Arithmetic.{block_of, pageblock_of}
 use Rattle.hp_units.specs.Choices.{first_some}
 use Rattle.hp_units.specs.Contents.{handed_by_reply}
-use Rattle.hp_units.specs.Memory.{FreeFrames, Memory, kernel_order, with_kernel_order, offline_row, row_of}
+use Rattle.hp_units.specs.Memory.{Memory, kernel_order, with_kernel_order, row_of}
 use Rattle.hp_units.specs.FreeAreas.{Taken, give_block, steal_block, take_block}
 use Rattle.hp_units.specs.Pages.{frame_at, fresh_words, map_page, move_page, unmap_page}
 use Rattle.hp_units.specs.ProcessorLists.{Handed, handed_from, kernel_frame, page_frame}
@@ -23,7 +23,7 @@ use Rattle.hp_units.specs.Refusals.{event_refusals, refusal_of}
 use Rattle.hp_units.specs.Rows.{is_going, with_areas, zone_of}
 use Rattle.hp_units.specs.Step.{Answered, answer, done, give_back, kernel_gives, kernel_takes, map_step, migrate_step, perform, step, unmap_step, with_free, with_pages}
 use Rattle.hp_units.specs.Placement.{IsInOrder, IsWellPlaced, is_unplugged, row_at}
-use Rattle.hp_laws.proofs.Names.{Event, Reply, Refusal, NoCpu, Done, GivesFrame, Moved, KernelAlloc, KernelFree, Map, Unmap, Write, Read, Drain, Online, Begin, DrainFor, Migrate, Commit, Cancel, UndoAfter, Probe, Remove, SetAuto}
+use Rattle.hp_laws.proofs.Names.{Event, Reply, Refusal, NoCpu, GivesFrame, Moved, KernelAlloc, KernelFree, Map, Unmap, Write, Read, Drain, Online, Begin, DrainFor, Migrate, Commit, Cancel, UndoAfter, Probe, Remove, SetAuto}
 use Rattle.hp_laws.proofs.Options.{some_weaker}
 use Rattle.hp_laws.proofs.OwnedContents.{all_none, none_rest}
 use Rattle.hp_laws.proofs.States.{block_of-pageblock}

@@ -1,5 +1,5 @@
 -- Where the frames lie that a record of a legal history hands out.
-use Rattle.std.proofs.Common.{◌≡◌, ℕ, List, [], ◌∷◌, ◌++◌, Bool, true, false, Option, Some, None, refl, ap, sym, subst, ◌∙◌, inl, inr, IfSome}
+use Rattle.std.proofs.Common.{◌≡◌, ℕ, List, [], ◌∷◌, ◌++◌, true, false, Option, Some, ap, sym, subst, ◌∙◌, inl, inr, IfSome}
 use Rattle.std.proofs.lemmas.Bool.{both_ways, cases_Bool}
 use Rattle.hp_units.specs.LayoutParts.{LayoutParts, IsLayout}
 use Rattle.hp_units.specs.Arithmetic.{block_of}
@@ -12,7 +12,7 @@ use Rattle.hp_units.specs.Placement.{IsWellPlaced}
 use Rattle.hp_laws.proofs.Names.{Event, Record, Reply, Done, GivesFrame, Word, Moved, Opened, Restored, Released, Undone, Refused}
 use Rattle.hp_laws.proofs.EventSteps.{value-placed}
 use Rattle.hp_laws.proofs.LawProofs.{last_follows}
-use Rattle.hp_laws.proofs.Records.{IsStep, record_cases}
+use Rattle.hp_laws.proofs.Records.{record_cases}
 use Rattle.hp_laws.proofs.HandedFrames.{IsPlugged, IsStaying, step-plugged, step-staying, to_of}
 
 -- a refusal hands out nothing, and neither does what goes back to an earlier state

@@ -1,5 +1,5 @@
 -- What the Begin of an operation leaves: its claims are those of its plan, and no kernel's block starts in a block that is to go.
-use Rattle.std.proofs.Common.{◌≡◌, ◌≢◌, ℕ, zero, suc, ◌<◌, ◌≤◌, List, [], ◌∷◌, get_or, set, Bool, true, false, cond, Option, Some, None, map, refl, ap, sym, subst, ◌∙◌, arith, ◌⊎◌, inl, inr, IfSome, eqb-true, ◌==◌}
+use Rattle.std.proofs.Common.{◌≡◌, ◌≢◌, ℕ, zero, suc, List, [], ◌∷◌, get_or, set, Bool, true, false, cond, Option, Some, None, map, refl, ap, sym, subst, ◌∙◌, ◌⊎◌, inl, inr, IfSome, eqb-true, ◌==◌}
 use Rattle.std.specs.Prelude.{find, fold, is_some}
 use Rattle.std.specs.Option.{option_map, option_map_or}
 use Rattle.std.proofs.lemmas.Option.{same_Some}

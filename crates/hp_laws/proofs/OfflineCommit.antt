@@ -1,5 +1,5 @@
 -- An operation that nothing disturbed commits: each frame of its going blocks is in a free block, as it is nowhere else.
-use Rattle.std.proofs.Common.{◌≡◌, ◌≢◌, ℕ, zero, suc, ◌+◌, ◌-◌, ◌*◌, ◌/◌, ◌%◌, ◌<◌, ◌≤◌, List, [], ◌∷◌, ◌++◌, length, get_or, Bool, true, false, cond, Option, Some, None, map, slice_get, refl, ap, sym, subst, ◌∙◌, arith, inl, inr, ◌==◌}
+use Rattle.std.proofs.Common.{◌≡◌, ◌≢◌, ℕ, zero, suc, ◌+◌, ◌-◌, ◌*◌, ◌/◌, ◌%◌, ◌<◌, List, [], ◌∷◌, ◌++◌, length, get_or, Bool, true, false, cond, Option, Some, None, map, slice_get, refl, ap, sym, subst, ◌∙◌, arith, inl, inr, ◌==◌}
 use Rattle.std.specs.Prelude.{position}
 use Rattle.std.specs.List.{count_by, enumerate_from, list_any, position_from, sum_by}
 use Rattle.std.specs.Option.{option_map, option_map_or, option_or}

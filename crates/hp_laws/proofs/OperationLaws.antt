@@ -1,6 +1,5 @@
 -- The laws of operations, over whole histories.
-use Rattle.std.proofs.Common.{◌≡◌, ◌≢◌, ℕ, suc, ◌+◌, ◌-◌, ◌<◌, ◌≤◌, List, [], ◌∷◌, ◌++◌, length, drop, take, map, Bool, true, false, cond, Option, Some, None, slice_get, refl, ap, sym, subst, ◌∙◌, arith, ◌⊎◌, inl, inr}
-use Rattle.std.specs.List.{AllByRecursion}
+use Rattle.std.proofs.Common.{◌≡◌, ◌≢◌, ℕ, suc, ◌+◌, ◌-◌, ◌<◌, List, [], ◌∷◌, ◌++◌, length, drop, take, map, Bool, true, false, cond, Option, Some, None, slice_get, refl, ap, sym, subst, ◌∙◌, arith, inl, inr}
 use Rattle.std.proofs.lemmas.Bool.{both_ways}
 use Rattle.std.proofs.lemmas.List.{take-append-drop}
 use Rattle.hp_units.specs.declared.plans.Item.{Item}
@@ -11,7 +10,7 @@ use Rattle.hp_units.specs.Rows.{claimed_row, commit_blocks, release_blocks}
 use Rattle.hp_units.specs.Step.{step}
 use Rattle.hp_units.specs.History.{Acts, Follows, IsLegal, cancel_reply, effect_of, effect_reply, goes_back, is_refused, net_of, net_with, net_with_effect, run, value_of}
 use Rattle.hp_units.specs.Placement.{IsWellPlaced}
-use Rattle.hp_laws.specs.Operations.{BeginsAt, IsOpenBehind, RowsAre, ends, state_before, state_behind, wished_row}
+use Rattle.hp_laws.specs.Operations.{BeginsAt, IsOpenBehind, RowsAre, state_before, state_behind, wished_row}
 use Rattle.hp_laws.proofs.Names.{Record, Event, Reply, Begin, Commit, Cancel, Restored}
 use Rattle.hp_laws.proofs.Lists.{take_next}
 use Rattle.hp_laws.proofs.Net.{Numbered, net-push, run-append, run-push}

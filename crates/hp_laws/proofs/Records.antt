@@ -1,5 +1,5 @@
 -- What a record of a legal history that isn't refused says: it goes back to an earlier state, or it is a step.
-use Rattle.std.proofs.Common.{◌≡◌, ℕ, ◌+◌, ◌<◌, ◌≤◌, List, [], ◌∷◌, ◌++◌, length, take, map, Bool, true, false, cond, Option, Some, None, slice_get, refl, ap, sym, subst, ◌∙◌, arith, ◌⊎◌, inl, inr}
+use Rattle.std.proofs.Common.{◌≡◌, ℕ, ◌+◌, ◌≤◌, List, [], ◌∷◌, ◌++◌, length, take, map, Bool, true, false, cond, Option, Some, None, slice_get, refl, ap, sym, subst, ◌∙◌, arith, ◌⊎◌, inl, inr}
 use Rattle.std.specs.Prelude.{nat_lt, ◌||◌}
 use Rattle.std.proofs.lemmas.Bool.{both_ways}
 use Rattle.std.proofs.lemmas.List.{take_all, take-take, take-append-le}
@@ -7,7 +7,7 @@ use Rattle.std.proofs.lemmas.Option.{slice_get_within}
 use Rattle.hp_units.specs.LayoutParts.{LayoutParts}
 use Rattle.hp_units.specs.Memory.{Memory}
 use Rattle.hp_units.specs.Marks.{sole_at, tag_of}
-use Rattle.hp_units.specs.History.{Acts, Cancels, Effect, Follows, IsLegal, Looks, Undoes, cancel_reply, count_above, cut_or_add, effect_of, effect_reply, goes_back, is_refused, net_of, net_with, net_with_effect, reply_of, run, steps_until, undo_reply, value_of}
+use Rattle.hp_units.specs.History.{Acts, Cancels, Effect, Follows, IsLegal, Looks, Undoes, cancel_reply, count_above, cut_or_add, effect_of, effect_reply, goes_back, is_refused, net_of, net_with, net_with_effect, reply_of, run, undo_reply, value_of}
 use Rattle.hp_units.specs.Step.{step}
 use Rattle.hp_laws.proofs.Names.{Record, Reply, Refusal, NoCpu, Gone, Refused, Restored, Undone}
 use Rattle.hp_laws.proofs.Lists.{get_push_cases, get_take}

@@ -1,5 +1,5 @@
 -- Each operation keeps the lengths of the lists of the state.
-use Rattle.std.proofs.Common.{◌≡◌, ℕ, zero, suc, ◌+◌, ◌-◌, List, [], ◌∷◌, Option, Some, None, Bool, true, false, ◌∙◌, IfSome, cond, ◌==◌}
+use Rattle.std.proofs.Common.{ℕ, zero, suc, ◌+◌, ◌-◌, List, [], ◌∷◌, Option, Some, None, Bool, true, false, IfSome, cond, ◌==◌}
 use Rattle.std.specs.Prelude.{fold}
 use Rattle.std.specs.Option.{option_map, option_map_or, option_and_then}
 use Rattle.hp_units.specs.declared.rows.Zone.{Zone}

@@ -1,5 +1,5 @@
 -- Operations on memory blocks, as the laws speak of them.
-use Rattle.std.specs.Prelude.{◌≡◌, ℕ, suc, ◌-◌, Bool, false, List, Option, Some, None, ◌==◌, drop, take, slice_get}
+use Rattle.std.specs.Prelude.{◌≡◌, ℕ, suc, ◌-◌, Bool, false, List, Some, None, ◌==◌, drop, take, slice_get}
 use Rattle.std.specs.List.{AllByRecursion}
 use Rattle.hp_units.specs.LayoutParts.{LayoutParts}
 use Rattle.hp_units.specs.Memory.{Memory, offline_row, row_of}

@@ -1,5 +1,5 @@
 -- The pools by number.
-use Rattle.std.proofs.Common.{◌≡◌, ◌+◌, ◌*◌, ◌<◌, ◌≤◌, [], ◌∷◌, ◌++◌, arith, ◌==◌}
+use Rattle.std.proofs.Common.{◌<◌, arith}
 use Rattle.hp_units.specs.declared.rows.Pool.{Pool}
 use Rattle.hp_units.specs.declared.rows.Pool.TheVariants.{Nu, Nm, Mm}
 use Rattle.hp_units.specs.Memory.{pool_index}

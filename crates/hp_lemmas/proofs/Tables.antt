@@ -1,5 +1,5 @@
 -- A table of pages, one entry of it written, and in how many pages a frame is.
-use Rattle.std.proofs.Common.{◌≡◌, ◌≢◌, ℕ, zero, suc, ◌+◌, ◌<◌, ◌≤◌, List, [], ◌∷◌, length, get_or, set, cond, Option, Some, None, sym, ◌∙◌, ap, subst, arith, ◌⊎◌, inl, inr, length-set, ◌||◌}
+use Rattle.std.proofs.Common.{◌≡◌, ◌≢◌, ℕ, zero, suc, ◌+◌, ◌<◌, ◌≤◌, List, [], ◌∷◌, length, get_or, set, cond, Option, Some, None, sym, ◌∙◌, ap, subst, arith, ◌⊎◌, inl, inr, length-set}
 use Rattle.std.specs.List.{AllByRecursion, sum_by, count_by}
 use Rattle.std.proofs.lemmas.Bool.{cases_eq, cases_lt}
 use Rattle.std.proofs.lemmas.Bool.Decides.{nat_tests}

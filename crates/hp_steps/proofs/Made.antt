@@ -1,7 +1,5 @@
 -- What a step of the memory leaves.
 use Rattle.std.proofs.Common.{◌≡◌, ℕ, List, [], ◌∷◌, ◌++◌, length, ap, ◌∙◌}
-use Rattle.hp_units.specs.LayoutParts.{LayoutParts}
-use Rattle.hp_units.specs.Memory.{Memory}
 use Rattle.hp_units.specs.Placement.{IsWellPlaced}
 use Rattle.hp_units.specs.Step.{step}
 use Rattle.hp_units.specs.declared.events.Event.{Event}

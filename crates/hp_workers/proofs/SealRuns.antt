@@ -1,8 +1,7 @@
 -- Seals: what one hands out, and how many volumes there can be.
-use Rattle.std.proofs.Common.{◌≡◌, ℕ, ◌+◌, ◌<◌, ◌≤◌, true, false, List, [], ◌∷◌, ◌++◌, length, take, get_or, Option, Some, slice_get, refl, sym, ap, subst, ◌∙◌, append-nil, arith, add-one, is_ok, if◌then◌else◌, Result, Ok, Err}
+use Rattle.std.proofs.Common.{◌≡◌, ℕ, ◌+◌, ◌<◌, ◌≤◌, true, List, [], ◌∷◌, ◌++◌, length, take, get_or, Option, Some, slice_get, refl, sym, ap, subst, ◌∙◌, append-nil, arith, add-one, is_ok, if◌then◌else◌, Result, Ok, Err}
 use Rattle.std.specs.Prelude.{IsOk}
 use Rattle.std.proofs.lemmas.List.{length-append, take-take, take_more}
-use Rattle.std.specs.List.{All}
 use Rattle.std.specs.List.Sorted.{IsPermutation}
 use Rattle.std.proofs.lemmas.List.Elements.{All-append, All-cons}
 use Rattle.std.proofs.lemmas.List.Sorted.{length_permutation}

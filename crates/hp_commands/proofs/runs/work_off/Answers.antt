@@ -1,6 +1,5 @@
-use Rattle.std.proofs.Common.{◌≡◌, Some, ap, rules}
+use Rattle.std.proofs.Common.{◌≡◌, Some, rules}
 use Rattle.std.proofs.lemmas.Result.{err_from_is_err_and, IfErr-weaker}
-use Rattle.hp_machine.specs.Machine.{MachineValue}
 use Rattle.hp_scenario.specs.Seen.{scenario_seen}
 use Rattle.hp_commands.specs.Faults.{IsFaultOf, IsWorkFault}
 use Rattle.hp_commands.specs.declared.commands.Command.TheVariants.{Run}

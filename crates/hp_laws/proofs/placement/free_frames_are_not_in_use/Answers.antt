@@ -1,5 +1,5 @@
 -- A frame is in one place.
-use Rattle.std.proofs.Common.{◌≡◌, ℕ, ◌+◌, ◌≤◌, Bool, cond, ap, arith}
+use Rattle.std.proofs.Common.{◌≡◌, Bool, cond, ap, arith}
 use Rattle.hp_units.specs.Placement.{offline_places}
 use Rattle.hp_laws.proofs.placement.free_frames_are_not_in_use.Goals as goal
 

@@ -1,5 +1,5 @@
 -- The three lists, one after another.
-use Rattle.std.proofs.Common.{◌≡◌, ◌≤◌, ◌+◌, ◌*◌, ℕ, List, length, sym, ◌∙◌, ap, subst, arith}
+use Rattle.std.proofs.Common.{◌≡◌, ◌+◌, ◌*◌, ℕ, List, length, ◌∙◌, ap, arith}
 use Rattle.hp_units.specs.declared.rows.Pool.TheVariants.{Nu, Nm, Mm}
 use Rattle.hp_units.specs.LayoutParts.{LayoutParts}
 use Rattle.hp_tape.specs.Tapes.{NotesFree}

@@ -1,4 +1,4 @@
-use Rattle.std.proofs.Common.{sym, subst}
+use Rattle.std.proofs.Common.{subst}
 use Rattle.hp_units.specs.LayoutParts.{LayoutParts}
 use Rattle.hp_tape.specs.Bounds.{give_bound}
 use Rattle.hp_tape.specs.Tapes.{NotesAreas}

@@ -1,4 +1,4 @@
-use Rattle.std.proofs.Common.{ℕ, ◌*◌, ap, ◌∙◌, [], replicate, List}
+use Rattle.std.proofs.Common.{ℕ, ◌*◌, ap, ◌∙◌, [], replicate}
 use Rattle.hp_links.specs.LinkedLists.{LinkedLists}
 use Rattle.hp_cpus.proofs.Together.{empty-together}
 use Rattle.hp_cpus.proofs.cpus.Cpus.new.Goals as goal

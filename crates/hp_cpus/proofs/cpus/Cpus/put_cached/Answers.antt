@@ -1,5 +1,5 @@
 -- A list that is past its mark spills.
-use Rattle.std.proofs.Common.{◌≡◌, ◌<◌, ◌≤◌, ◌+◌, ◌*◌, ℕ, ◌∷◌, List, length, nat_le, cond, sym, ◌∙◌, ap, subst, arith}
+use Rattle.std.proofs.Common.{◌≡◌, ◌≤◌, ◌+◌, ◌*◌, ℕ, ◌∷◌, List, length, nat_le, cond, sym, ◌∙◌, ap, subst, arith}
 use Rattle.hp_units.specs.LayoutParts.{LayoutParts}
 use Rattle.hp_tape.specs.Bounds.{batch_bound}
 use Rattle.hp_tape.specs.Tapes.{HasRoom, NotesFree}

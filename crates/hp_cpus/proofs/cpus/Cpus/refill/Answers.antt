@@ -1,15 +1,14 @@
 -- Each frame that was taken comes to the back of the list.
-use Rattle.std.proofs.Common.{◌≡◌, ◌<◌, ◌≤◌, ◌+◌, ◌*◌, ◌-◌, ℕ, [], ◌∷◌, ◌++◌, Some, None, sym, ◌∙◌, ap, subst, arith}
+use Rattle.std.proofs.Common.{◌≡◌, ◌<◌, ◌+◌, ◌*◌, ◌-◌, ℕ, None, sym, ◌∙◌, ap, subst, arith}
 use Rattle.hp_units.specs.declared.rows.Class.{Class}
 use Rattle.hp_units.specs.LayoutParts.{LayoutParts}
-use Rattle.hp_units.specs.Arithmetic.{frame_count}
 use Rattle.hp_units.specs.Memory.{class_of_pool}
 use Rattle.hp_units.specs.FreeAreas.{take_block}
 use Rattle.hp_tape.specs.Bounds.{take_bound}
 use Rattle.hp_tape.specs.Tapes.{TapeValue, HasRoom, NotesFree}
 use Rattle.hp_buddy.specs.Buddy.{BuddyValue}
 use Rattle.hp_cpus.specs.Batches.{filled}
-use Rattle.hp_cpus.specs.Cpus.{CpusValue, frames_of, list_of}
+use Rattle.hp_cpus.specs.Cpus.{CpusValue, frames_of}
 use Rattle.hp_cpus.proofs.Besides.{notes-beside, room_left}
 use Rattle.hp_cpus.proofs.Together.{IsOut, area-out, areas-apart, listed_once}
 use Rattle.hp_cpus.proofs.Refills.{filled-zero, filled-none, filled-more, pushed-some}

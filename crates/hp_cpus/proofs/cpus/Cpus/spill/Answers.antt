@@ -1,9 +1,9 @@
 -- Each frame that left the back of the list is given.
-use Rattle.std.proofs.Common.{◌≡◌, ◌<◌, ◌≤◌, ◌+◌, ◌*◌, ◌-◌, ℕ, [], ◌∷◌, ◌++◌, length, sym, ◌∙◌, ap, subst, arith}
+use Rattle.std.proofs.Common.{◌≡◌, ◌<◌, ◌+◌, ◌-◌, ℕ, [], ◌∷◌, length, sym, ◌∙◌, ap, subst, arith}
 use Rattle.std.proofs.lemmas.List.{length-append}
 use Rattle.hp_units.specs.LayoutParts.{LayoutParts}
 use Rattle.hp_tape.specs.Bounds.{give_bound}
-use Rattle.hp_tape.specs.Tapes.{HasRoom, NotesFree}
+use Rattle.hp_tape.specs.Tapes.{HasRoom}
 use Rattle.hp_cpus.specs.Batches.{given_last}
 use Rattle.hp_cpus.specs.Cpus.{CpusValue, frames_of, list_of}
 use Rattle.hp_cpus.proofs.Besides.{room_left}

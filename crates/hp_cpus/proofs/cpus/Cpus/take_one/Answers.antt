@@ -1,8 +1,7 @@
 -- The front frame of a list that has one, or of one that was filled.
-use Rattle.std.proofs.Common.{◌≡◌, ◌<◌, ◌≤◌, ◌+◌, ◌*◌, ℕ, List, length, sym, ◌∙◌, ap, subst, arith}
+use Rattle.std.proofs.Common.{◌≡◌, ◌<◌, ◌+◌, ◌*◌, ℕ, length, sym, ◌∙◌, ap, subst, arith}
 use Rattle.std.proofs.lemmas.List.{nil_from_length}
 use Rattle.hp_units.specs.LayoutParts.{LayoutParts}
-use Rattle.hp_units.specs.ProcessorLists.{refilled}
 use Rattle.hp_tape.specs.Bounds.{batch_bound}
 use Rattle.hp_tape.specs.Tapes.{NotesFree}
 use Rattle.hp_cpus.specs.Cpus.{CpusValue, frames_of, list_of, places_among}
