@@ -17,7 +17,7 @@ use Rattle.hp_plain.specs.Image.{Pictured}
 use Rattle.hp_history.specs.Course.{CourseValue, last_serial, started}
 use Rattle.hp_history.specs.Kept.{pictured}
 use Rattle.hp_history.specs.Replay.{IsCourseOf, IsFault, Refutes}
-use Rattle.hp_history.specs.Volumes.{EndsVolumes, FollowsEnd, FollowsVolumes, HasWrongBase, HasWrongCount, HasWrongRecords, IsChain, IsChainFault, IsFaultAfter, RefutesChain, StandsAfter, chain_fault, records_in, sealed_after, state_after}
+use Rattle.hp_history.specs.Volumes.{EndsVolumes, FollowsEnd, FollowsVolumes, IsChain, IsChainFault, IsFaultAfter, RefutesChain, chain_fault, records_in, sealed_after, state_after}
 use Rattle.hp_history.specs.declared.replaying.ReplayFault.{ReplayFault}
 use Rattle.hp_history.specs.declared.replaying.ReplayFault.TheVariants.{WrongReply, WrongSerial, OutOfMemory as ReplayOutOfMemory}
 use Rattle.hp_history.specs.declared.volumes.ChainFault.{ChainFault}

@@ -16,7 +16,7 @@ use Rattle.hp_memory.specs.Memory.{LeadsBack}
 use Rattle.hp_laws.proofs.Lists.{get_push_cases, get_some, get_take}
 use Rattle.hp_history.specs.declared.journal.Entry.{Entry}
 use Rattle.hp_history.specs.Course.{CourseValue}
-use Rattle.hp_history.specs.Entries.{IsEntry, IsWayBack, start_of, tag_at, tags_of}
+use Rattle.hp_history.specs.Entries.{IsEntry, IsWayBack, start_of, tag_at}
 use Rattle.hp_history.specs.Kept.{IsCourse, IsJournal}
 use Rattle.hp_history.proofs.Deltas.{between-length, leads-append, leads-left, leads-none, past-split}
 use Rattle.hp_history.proofs.Names.{Record, Tag}

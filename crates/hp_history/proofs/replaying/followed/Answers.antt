@@ -1,7 +1,7 @@
 -- The course goes on by each record that is not at fault; in the end it is that of all records.
 use Rattle.std.proofs.lemmas.Option.{slice_get_read}
 use Rattle.std.proofs.lemmas.Result.{err_from_is_err_and}
-use Rattle.std.proofs.Common.{◌≡◌, Some, length, refl, slice_get}
+use Rattle.std.proofs.Common.{length, refl}
 use Rattle.hp_history.proofs.Replays.{fault_at, follow_one, refutes, starts, whole}
 use Rattle.hp_history.proofs.replaying.followed.Goals as goal
 

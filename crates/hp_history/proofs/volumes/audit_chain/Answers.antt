@@ -1,7 +1,7 @@
 -- Each volume that is not at fault leads on; in the end the course begins at the state after all of them.
 use Rattle.std.proofs.lemmas.Option.{slice_get_read}
 use Rattle.std.proofs.lemmas.Result.{err_from_is_err_and}
-use Rattle.std.proofs.Common.{◌∙◌, ◌≡◌, length, refl, Some, slice_get}
+use Rattle.std.proofs.Common.{◌∙◌, length, refl}
 use Rattle.hp_history.proofs.Chains.{chain_refuted, end_placed, end_shown, ends_all, ends_more, ends_none, fault_after}
 use Rattle.hp_history.proofs.volumes.audit_chain.Goals as goal
 

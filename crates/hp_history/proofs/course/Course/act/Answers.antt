@@ -1,5 +1,5 @@
 -- The course made its step.
-use Rattle.std.proofs.Common.{ap, sym, ◌∙◌}
+use Rattle.std.proofs.Common.{sym, ◌∙◌}
 use Rattle.hp_units.specs.declared.replies.Receipt.{Receipt}
 use Rattle.hp_history.specs.declared.journal.Entry.{Entry}
 use Rattle.hp_history.specs.Seen.{seen}

@@ -2,7 +2,6 @@
 use Rattle.std.proofs.Common.{◌≡◌, ℕ, ◌≤◌, List, ap, drop, length, sym, subst, take, ◌∙◌}
 use Rattle.hp_units.specs.History.{net_of, run}
 use Rattle.hp_units.specs.declared.replies.Receipt.{Receipt}
-use Rattle.hp_tape.specs.declared.deltas.Delta.{Delta}
 use Rattle.hp_memory.specs.Memory.{LeadsBack}
 use Rattle.hp_history.specs.declared.journal.Entry.{Entry}
 use Rattle.hp_history.specs.Entries.{start_of}

@@ -1,7 +1,6 @@
 -- The present state is the base of a course without records.
-use Rattle.std.proofs.Common.{ap, refl, sym, subst, arith, ◌∙◌}
+use Rattle.std.proofs.Common.{ap, ◌∙◌}
 use Rattle.hp_plain.specs.Image.{Pictured}
-use Rattle.hp_history.specs.Kept.{remembered}
 use Rattle.hp_history.specs.Seen.{seen}
 use Rattle.hp_history.proofs.Courses.{sealed_course}
 use Rattle.hp_history.proofs.course.Course.seal.Goals as goal

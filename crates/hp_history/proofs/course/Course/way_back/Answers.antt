@@ -1,5 +1,5 @@
 -- The deltas from the beginning of a step on.
-use Rattle.std.proofs.Common.{◌≡◌, ℕ, ◌≤◌, ◌-◌, List, ap, drop, length, sym, subst, take, ◌∙◌, arith}
+use Rattle.std.proofs.Common.{◌≡◌, ℕ, ◌≤◌, ◌-◌, List, ap, length, sym, subst, ◌∙◌, arith}
 use Rattle.std.specs.List.{slice_range}
 use Rattle.std.proofs.lemmas.List.{take_rest}
 use Rattle.hp_units.specs.History.{net_of}
