@@ -1,10 +1,8 @@
 -- What was taken may be given, and there is room left.
-use Rattle.std.proofs.Common.{◌+◌, ◌≤◌, ◌≡◌, arith, subst, sym}
+use Rattle.std.proofs.Common.{◌+◌, ◌≤◌, arith, subst, sym}
 use Rattle.hp_units.specs.LayoutParts.{LayoutParts}
 use Rattle.hp_tape.specs.Bounds.{take_bound, give_bound}
-use Rattle.hp_tape.specs.Deltas.{FitsAreas, areas_undo}
 use Rattle.hp_tape.specs.Tapes.{HasRoom}
-use Rattle.hp_tape.proofs.Leads.{notes-more}
 use Rattle.hp_buddy.proofs.Calls.{notes-then, room_left}
 use Rattle.layers_time.proofs.areas.take_and_give.Goals as goal
 

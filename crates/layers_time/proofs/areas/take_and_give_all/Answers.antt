@@ -1,5 +1,5 @@
 -- Each pair has room, and its notes join those before.
-use Rattle.std.proofs.Common.{◌≡◌, ℕ, ◌+◌, ◌*◌, ◌≤◌, sym, ◌∙◌, subst, arith}
+use Rattle.std.proofs.Common.{◌+◌, ◌*◌, ◌≤◌, sym, ◌∙◌, subst, arith}
 use Rattle.hp_units.specs.LayoutParts.{LayoutParts}
 use Rattle.hp_tape.specs.Tapes.{HasRoom}
 use Rattle.hp_buddy.proofs.Calls.{notes-then, room_left}

@@ -1,10 +1,10 @@
 -- What was taken may be put, and there is room left.
-use Rattle.std.proofs.Common.{◌≡◌, ◌+◌, ◌≤◌, ◌<◌, ℕ, arith, subst, sym}
+use Rattle.std.proofs.Common.{◌+◌, ◌≤◌, arith, subst, sym}
 use Rattle.hp_units.specs.declared.rows.Zone.TheVariants.{Normal as NormalZone}
 use Rattle.hp_units.specs.declared.rows.Pool.TheVariants.{Nm}
 use Rattle.hp_units.specs.LayoutParts.{LayoutParts}
 use Rattle.hp_tape.specs.Bounds.{batch_bound, give_bound, take_one_bound, put_one_bound}
-use Rattle.hp_tape.specs.Tapes.{HasRoom, NotesFree}
+use Rattle.hp_tape.specs.Tapes.{HasRoom}
 use Rattle.hp_cpus.specs.Cpus.{frames_of}
 use Rattle.layers_time.specs.Rooms.{frame_room}
 use Rattle.hp_cpus.proofs.Besides.{notes-then, room_left}

@@ -1,5 +1,5 @@
 -- The first pageblock is one of the layout, and nothing of it is free.
-use Rattle.std.proofs.Common.{◌≡◌, ◌*◌, sym, subst}
+use Rattle.std.proofs.Common.{◌*◌, sym, subst}
 use Rattle.hp_units.specs.Arithmetic.{pageblock_size}
 use Rattle.hp_buddy.specs.Buddy.{BuddyValue, MayBeGiven}
 use Rattle.hp_buddy.proofs.Empty.{first_block, some-pageblocks}
