@@ -1,5 +1,5 @@
 -- A recorded call keeps what every lock shows, and so does a seal.
-use Rattle.std.specs.Prelude.{IfOk, is_ok}
+use Rattle.std.specs.Prelude.{IfErr, IfOk, IsTrue, is_ok, ◌↔◌}
 use Rattle.std.proofs.Common.{◌≡◌, true, Result, Ok, Err, ℕ, ◌+◌, List, [], ◌∷◌, ◌++◌, length, Some, slice_get, take, refl, ap, sym, subst, ◌∙◌, arith}
 use Rattle.std.proofs.lemmas.List.{length-append}
 use Rattle.hp_units.specs.LayoutParts.{LayoutParts}
@@ -8,14 +8,15 @@ use Rattle.hp_units.specs.Memory.{Memory}
 use Rattle.hp_units.specs.History.{IsLegal, net_of, reply_of, run, value_of}
 use Rattle.hp_units.specs.declared.events.Event.{Event}
 use Rattle.hp_units.specs.declared.replies.CallFault.{CallFault}
+use Rattle.hp_units.specs.declared.replies.CallFault.TheVariants.{HistoryFull, OutOfMemory}
 use Rattle.hp_units.specs.declared.replies.Receipt.{Receipt}
 use Rattle.hp_units.specs.declared.replies.Record.{Record}
 use Rattle.hp_laws.proofs.Lists.{get_end}
 use Rattle.hp_history.specs.Volumes.{FollowsVolumes, records_in, state_after, volume_of}
 use Rattle.hp_history.proofs.Chains.{chain_more, count_more, state_more}
 use Rattle.hp_history.specs.declared.volumes.Volume.{Volume}
-use Rattle.hp_machine.specs.Machine.{IsCalled, IsHistory, MachineValue, last_serial, record_of, sealed}
-use Rattle.hp_shared.specs.Shared.{IsFresh, IsLastOf, IsShared}
+use Rattle.hp_machine.specs.Machine.{IsCalled, IsHistory, MachineValue, is_full, last_serial, record_of, sealed}
+use Rattle.hp_shared.specs.Shared.{HasSharedCause, IsFresh, IsLastOf, IsShared, LockedValue}
 
 -- the machine that a call made has a legal history again, and the state of that history
 called_history : (old new : MachineValue) (cpu : ℕ) (event : Event) (r : Receipt) → IsCalled old cpu event r new → IsHistory new
@@ -50,6 +51,12 @@ pub turned_ok : (l : LayoutParts) (old new : MachineValue) (was total : ℕ) (cp
     → IsShared l (record { machine = new; total = total })
 turned_ok l old new was total cpu event (Ok r) shared called recorded more = turned l old new was total cpu event r shared called more
 turned_ok l old new was total cpu event (Err fault) shared called recorded more = absurd cc
+
+-- the fault of a full history comes where the machine under the lock has one
+pub fault_caused : (l : LayoutParts) (seen : LockedValue) (answer : Result Receipt CallFault) → IsShared l seen → ((answer ≡ Err HistoryFull) ↔ IsTrue (is_full seen.machine)) → IfErr answer (HasSharedCause l)
+fault_caused l seen (Ok r) shared full = tt
+fault_caused l seen (Err HistoryFull) shared full = (seen, shared, full.0 refl)
+fault_caused l seen (Err OutOfMemory) shared full = tt
 
 -- a machine with no records that sealed nothing may lie under the lock
 pub begun : (l : LayoutParts) (m : MachineValue) (total : ℕ) → IsFresh l m → (m.before ≡ 0 → m.base ≡ boot_memory m.layout) → IsHistory m → total ≡ 0 → IsShared l (record { machine = m; total = total })

@@ -60,6 +60,7 @@ impl<L: Job> Locked<L> {
         ensures counted { OnOk result ((self.new.total ≡ self.old.total + 1) × (share.new.amount ≡ share.old.amount + 1)) }
         ensures parts { share.new.parts ≡ share.old.parts }
         ensures within { share.new.amount ≤ self.new.total }
+        ensures shown { IsShared L.layout self.old }
         ensures kept { IsShared L.layout self.new }
     {
         self.book.audit(share);

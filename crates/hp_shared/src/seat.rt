@@ -1,6 +1,6 @@
 //! A processor's access to the shared machine.
-ghost use Rattle.std.specs.Prelude.{◌≡◌, ◌+◌, ◌<◌, ◌≤◌, ◌++◌, ◌∷◌, [], IfOk, OnErr, OnOk, length, vec_len, vec_capacity};
-ghost use Rattle.hp_shared.specs.Shared.{IsSeated, first_seat};
+ghost use Rattle.std.specs.Prelude.{◌≡◌, ◌+◌, ◌<◌, ◌≤◌, ◌++◌, ◌∷◌, [], IfErr, IfOk, OnErr, OnOk, length, vec_len, vec_capacity};
+ghost use Rattle.hp_shared.specs.Shared.{HasSharedCause, IsSeated, first_seat};
 ghost use Rattle.hp_shared.specs.Volumes.{IsSealOf};
 
 use crate::job::Job;
@@ -60,6 +60,7 @@ impl<L: Job> Seat<L> {
     ) -> Result<Receipt, CallFault>
         ensures ok { IfOk result (λ receipt. IsSeated L.layout self.old event.now receipt self.new) }
         ensures err { OnErr result (self.new ≡ self.old) }
+        ensures cause { IfErr result (HasSharedCause L.layout) }
     {
         let Ok(()) = self.receipts.reserve(1) else {
             return Err(CallFault::OutOfMemory);

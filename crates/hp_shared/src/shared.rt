@@ -1,6 +1,6 @@
 //! The lock round the machine.
 ghost use Rattle.std.specs.Prelude.{◌≡◌, ◌+◌, ◌<◌, ◌≤◌, IfErr, IfOk, OnErr, OnOk};
-ghost use Rattle.hp_shared.specs.Shared.{IsFresh, IsTurn, first_seats};
+ghost use Rattle.hp_shared.specs.Shared.{HasSharedCause, IsFresh, IsTurn, first_seats};
 ghost use Rattle.hp_shared.specs.Volumes.{IsSealOf};
 
 use crate::job::Job;
@@ -72,6 +72,7 @@ impl<L: Job> Shared<L> {
         ensures ok { IfOk result (λ receipt. IsTurn L.layout cpu event.now receipt share.new.amount) }
         ensures counted { OnOk result (share.new.amount ≡ share.old.amount + 1) }
         ensures err { OnErr result (share.new.amount ≡ share.old.amount) }
+        ensures cause { IfErr result (HasSharedCause L.layout) }
         ensures parts { share.new.parts ≡ share.old.parts }
     {
         self.locked.lock(rt).turn(alloc, share, cpu, event)
