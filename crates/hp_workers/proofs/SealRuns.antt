@@ -29,7 +29,7 @@ use Rattle.hp_workers.specs.Workers.{AreGathered, AreWorkers, IsWorker}
 -- nothing was handed out
 pub sealed_none : (l : LayoutParts) (old new : SeatValue) (before after : List Volume) → new ≡ old → after ≡ before → IsLineRun l old before work.Seal (Faulted OutOfMemory) new after
 sealed_none l old new before after same kept =
-    record { gained = []; handed = []; turns = same; line = (refl, refl, refl); kept = kept ∙ sym (append-nil before) }
+    record { gained = []; handed = []; turns = same; line = (refl, refl, refl); caused = tt; kept = kept ∙ sym (append-nil before) }
 
 -- a volume was handed out
 pub sealed_one : (l : LayoutParts) (old new : SeatValue) (before after : List Volume) (v : Volume) (receipts count : ℕ) → new ≡ old → after ≡ before ++ v ∷ [] → IsSealOf l v receipts → count ≡ length v.records → IsLineRun l old before work.Seal (Sealed count) new after
@@ -38,6 +38,7 @@ sealed_one l old new before after v receipts count same kept seal own = record {
   handed = v ∷ [];
   turns = same;
   line = (v, refl, refl, record { seen = seal.seen; shared = seal.shared; is = seal.is; within = omega arith }, own);
+  caused = tt;
   kept = kept;
 }
 

@@ -1,11 +1,13 @@
 -- What running lines makes of a seat, and how the lines end (own rule).
-use Rattle.std.specs.Prelude.{◌≡◌, ◌⊎◌, ℕ, ◌≤◌, List, [], ◌∷◌, ◌++◌, Option, Result, Ok, Err, length, take}
+use Rattle.std.specs.Prelude.{◌≡◌, ◌⊎◌, ℕ, ◌≤◌, List, [], ◌∷◌, ◌++◌, Option, Some, None, IfSome, Result, Ok, Err, length, take}
+use Rattle.std.specs.List.{All}
 use Rattle.hp_units.specs.Driver.{IsDriverRun}
 use Rattle.hp_units.specs.LayoutParts.{LayoutParts}
 use Rattle.hp_units.specs.declared.events.Event.{Event}
 use Rattle.hp_units.specs.declared.plans.Item.{Item}
 use Rattle.hp_units.specs.declared.replies.CallFault.{CallFault}
 use Rattle.hp_units.specs.declared.replies.CallFault.TheVariants as call
+use Rattle.hp_units.specs.declared.replies.OpEnd.TheVariants.{Left}
 use Rattle.hp_units.specs.declared.replies.Receipt.{Receipt}
 use Rattle.hp_ops.specs.Ports.{AreMade, PortValue}
 use Rattle.hp_history.specs.declared.volumes.Volume.{Volume}
@@ -17,7 +19,7 @@ use Rattle.hp_control.specs.declared.writes.Request.TheVariants as request
 use Rattle.hp_scenario.specs.declared.lines.Line.{Line}
 use Rattle.hp_scenario.specs.declared.lines.Work.{Work}
 use Rattle.hp_scenario.specs.declared.lines.Work.TheVariants as work
-use Rattle.hp_shared.specs.Shared.{SeatValue}
+use Rattle.hp_shared.specs.Shared.{HasSharedCause, SeatValue}
 use Rattle.hp_shared.specs.SeatPorts.{AreTurns}
 use Rattle.hp_shared.specs.Volumes.{IsSealOf}
 use Rattle.hp_workers.specs.declared.lines.LineEnd.{LineEnd}
@@ -85,18 +87,30 @@ IsLine l (work.Echo path word) gained handed end = (handed ≡ []) × IsEchoRun 
 IsLine l (work.Cat path) gained handed end = ⊥
 IsLine l work.Seal gained handed end = IsSealRun l gained handed end
 
--- it was run through a port, of whose calls at most the last left a fault
+-- the fault of a call that an end names: that of its event's call or of its seal, or of the last call of its plan
+abbrev pub fault_in : LineEnd → Option CallFault
+fault_in (Faulted fault) = Some fault
+fault_in (Planned (Left op fault)) = Some fault
+fault_in end = None
+
+-- that fault has its cause: it is HistoryFull only where some state of the shared machine has a full history
+abbrev pub IsCaused : LayoutParts → LineEnd → Type 0
+IsCaused l end = IfSome (fault_in end) (HasSharedCause l)
+
+-- it was run through a port, of whose calls at most the last left a fault; the end names no full history but that of this call
 pub record IsPortRun {S : Type 0} (shows : S → PortValue) (makes : S → List Receipt → S → Type 0) (leaves : S → CallFault → S → Type 0) (old : S) (Ran : Run) (end : LineEnd) (new : S) : Type 0 where
   pub gained : List Receipt
   pub fault : Option CallFault
   pub made : AreMade makes leaves old gained fault new
   pub ran : Ran gained end
+  pub full : fault_in end ≡ Some call.HistoryFull → fault ≡ Some call.HistoryFull
 
 -- a line's work was done by calls of a seat, which keeps the receipts that it gained
 pub record IsCallsRun (l : LayoutParts) (old : SeatValue) (asked : Work) (end : LineEnd) (new : SeatValue) : Type 0 where
   pub gained : List Receipt
   pub turns : AreTurns l old gained new
   pub line : IsWorkRun l.cpus asked gained end
+  pub caused : IsCaused l end
 
 -- a line was run by a seat, which keeps the receipts that it gained; what it handed out stands after the volumes before it
 pub record IsLineRun (l : LayoutParts) (old : SeatValue) (before : List Volume) (asked : Work) (end : LineEnd) (new : SeatValue) (after : List Volume) : Type 0 where
@@ -104,6 +118,7 @@ pub record IsLineRun (l : LayoutParts) (old : SeatValue) (before : List Volume) 
   pub handed : List Volume
   pub turns : AreTurns l old gained new
   pub line : IsLine l asked gained handed end
+  pub caused : IsCaused l end
   pub kept : after ≡ before ++ handed
 
 -- lines, one after another, gained these receipts, handed out these volumes and ended so
@@ -112,9 +127,10 @@ AreLines l [] gained handed ends = (gained ≡ []) × (handed ≡ []) × (ends �
 AreLines l (line ∷ lines) gained handed ends =
     (first : List Receipt) × (out : List Volume) × (end : LineEnd) × (later : List Receipt) × (more : List Volume) × (others : List LineEnd) × (gained ≡ first ++ later) × (handed ≡ out ++ more) × (ends ≡ end ∷ others) × (IsLine l line.work first out end × AreLines l lines later more others)
 
--- a seat ran a beginning of the lines, with an end for each, and its seals handed out these volumes
+-- a seat ran a beginning of the lines, with an end for each, whose fault has its cause, and its seals handed out these volumes
 pub record IsWorked (l : LayoutParts) (old : SeatValue) (lines : List Line) (new : SeatValue) (handed : List Volume) (ends : List LineEnd) : Type 0 where
   pub gained : List Receipt
   pub turns : AreTurns l old gained new
   pub ran : AreLines l (take (length ends) lines) gained handed ends
   pub within : length ends ≤ length lines
+  pub caused : All (IsCaused l) ends

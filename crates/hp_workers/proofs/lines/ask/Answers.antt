@@ -7,6 +7,7 @@ returns-in-Ok g c = record {
   fault = None;
   made = c.in-Ok.ensures.makes;
   ran = (c.in-Ok.receipt, refl, c.in-Ok.ensures.ok.asked, refl);
+  full = λ none. absurd cc;
 }
 
 pub returns-in-Err : goal.returns-in-Err
@@ -15,4 +16,5 @@ returns-in-Err g c = record {
   fault = Some c.in-Err.fault;
   made = (c.args.port.now, g.met.P.Port.nothing c.args.port.now, c.in-Err.ensures.leaves);
   ran = refl;
+  full = λ is. is;
 }

@@ -8,4 +8,5 @@ returns-in-Err g c = record {
   fault = None;
   made = g.met.P.Port.nothing c.args.port.now;
   ran = (Some OutOfMemory, record { events = tt; ends = refl });
+  full = λ other. absurd cc;
 }
