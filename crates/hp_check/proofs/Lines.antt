@@ -1,9 +1,6 @@
 -- How many lines there are, one byte further.
 use Rattle.std.proofs.Common.{◌≡◌, ℕ, ◌+◌, ◌<◌, ◌≤◌, Bool, true, false, cond, List, length, get_or, take, count_by, refl, sym, ap, subst, ◌∙◌, arith}
-use Rattle.std.proofs.lemmas.List.{get_or_default}
-use Rattle.std.proofs.lemmas.List.Elements.{All-push}
 use Rattle.std.proofs.lemmas.List.Sums.{count_by_more_no, count_by_more_yes}
-use Rattle.std.proofs.lemmas.Option.{slice_get_read}
 use Rattle.hp_check.specs.Places.{is_newline, line_after}
 
 after_byte : (input : List ℕ) (place byte line : ℕ) (ends : Bool) → place < length input → byte ≡ get_or input place 0 → is_newline byte ≡ ends → line ≡ 1 + count_by is_newline (take place input)

@@ -1,15 +1,16 @@
 -- What the lexemes of a text say, one byte further.
-use Rattle.std.proofs.Common.{◌≡◌, ℕ, ◌+◌, ◌<◌, ◌≤◌, ◌-◌, Bool, true, false, cond, not, eqb, List, [], ◌∷◌, ◌++◌, length, length-drop, get_or, slice_get, drop, take, count_by, Option, Some, None, refl, sym, ap, subst, ◌∙◌, arith}
+use Rattle.std.proofs.Common.{◌≡◌, ℕ, ◌+◌, ◌<◌, ◌≤◌, ◌-◌, Bool, true, false, cond, not, List, [], ◌∷◌, ◌++◌, length, length-drop, get_or, slice_get, drop, take, count_by, Option, Some, None, refl, sym, ap, subst, ◌∙◌, arith}
 use Rattle.std.proofs.lemmas.List.{drop_all, drop_more, get_or_default, take_all}
 use Rattle.std.proofs.lemmas.List.Elements.{All-push}
 use Rattle.std.proofs.lemmas.Option.{slice_get_read}
 use Rattle.std.specs.Bool.{then_some}
 use Rattle.std.specs.List.{All}
-use Rattle.hp_check.specs.Places.{AreSignLines, IsSignLine, WalkValue, at_start, begins, is_newline, is_sign, is_space, lexeme_at, lexemes, line_after, mode_after, noted, past, past_all, past_lexeme, with_line}
-use Rattle.hp_check.specs.declared.places.Lexeme.{Lexeme}
-use Rattle.hp_check.specs.declared.places.Lexeme.TheVariants as lexeme
-use Rattle.hp_check.specs.declared.places.Mode.{Mode}
-use Rattle.hp_check.specs.declared.places.Mode.TheVariants.{Between, Word, Text, Escape}
+use Rattle.hp_check.specs.Lexemes.{begins, is_sign, is_space, lexeme_at, mode_after}
+use Rattle.hp_check.specs.Places.{AreSignLines, IsSignLine, WalkValue, is_newline, lexemes, line_after, noted, past, past_all, past_lexeme, with_line}
+use Rattle.hp_check.specs.declared.lexemes.Lexeme.{Lexeme}
+use Rattle.hp_check.specs.declared.lexemes.Lexeme.TheVariants as lexeme
+use Rattle.hp_check.specs.declared.lexemes.Mode.{Mode}
+use Rattle.hp_check.specs.declared.lexemes.Mode.TheVariants.{Between, Word, Text, Escape}
 
 -- what is left says from here on
 abbrev pub left : WalkValue → (line : ℕ) → Mode → List ℕ → WalkValue

@@ -1,21 +1,13 @@
--- In which lines of a scenario's text the entries of `calls` begin (own rule): which signs, words and texts the text is made of, and
--- what they say.
-use Rattle.std.specs.Prelude.{◌≡◌, ℕ, ◌+◌, ◌-◌, ◌==◌, ◌||◌, ◌&&◌, Bool, true, false, not, List, [], ◌∷◌, ◌++◌, codes, count_by, nat_lt, slice_get, take, Option, Some, None, if◌then◌else◌}
-use Rattle.std.specs.Bool.{then_some}
-use Rattle.std.specs.List.{All, starts_with}
-use Rattle.hp_check.specs.declared.places.Lexeme.{Lexeme}
-use Rattle.hp_check.specs.declared.places.Lexeme.TheVariants as lexeme
-use Rattle.hp_check.specs.declared.places.Mode.{Mode}
-use Rattle.hp_check.specs.declared.places.Mode.TheVariants.{Between, Word, Text, Escape}
+-- In which lines of a scenario's text the entries of `calls` begin (own rule).
+use Rattle.std.specs.Prelude.{◌≡◌, ℕ, ◌+◌, ◌-◌, ◌==◌, ◌||◌, ◌&&◌, Bool, true, false, not, List, [], ◌∷◌, ◌++◌, count_by, nat_lt, slice_get, take, Option, Some, None, if◌then◌else◌}
+use Rattle.std.specs.List.{All}
+use Rattle.hp_check.specs.Lexemes.{is_space, lexeme_at, mode_after}
+use Rattle.hp_check.specs.declared.lexemes.Lexeme.{Lexeme}
+use Rattle.hp_check.specs.declared.lexemes.Lexeme.TheVariants as lexeme
+use Rattle.hp_check.specs.declared.lexemes.Mode.{Mode}
+use Rattle.hp_check.specs.declared.lexemes.Mode.TheVariants.{Between}
 
--- ---- bytes
-
--- white space of JSON, and its signs: brackets, comma, colon (RFC 8259, section 2)
-abbrev pub is_space : ℕ → Bool
-is_space b = b == 32 || (b == 9 || (b == 10 || b == 13))
-
-abbrev pub is_sign : ℕ → Bool
-is_sign b = b == 123 || (b == 125 || (b == 91 || (b == 93 || (b == 44 || b == 58))))
+-- ---- lines
 
 abbrev pub is_newline : ℕ → Bool
 is_newline b = b == 10
@@ -24,47 +16,7 @@ is_newline b = b == 10
 abbrev pub line_after : (line byte : ℕ) → ℕ
 line_after line byte = if is_newline byte then line + 1 else line
 
--- how the byte after a byte is read: a text ends at a quotation mark that no backslash stands before, and a word at white space or a
--- sign
-abbrev pub mode_outside : ℕ → Mode
-mode_outside b = if is_space b || is_sign b then Between else Word
-
-abbrev pub mode_in_text : ℕ → Mode
-mode_in_text b = if b == 34 then Between else (if b == 92 then Escape else Text)
-
-abbrev pub mode_after : Mode → ℕ → Mode
-mode_after Between b = if b == 34 then Text else mode_outside b
-mode_after Word b = mode_outside b
-mode_after Text b = mode_in_text b
-mode_after Escape b = Text
-
--- ---- signs, words and texts
-
-abbrev pub begins : Mode → ℕ → Bool
-begins Between b = not (is_space b)
-begins Word b = is_sign b
-begins Text b = false
-begins Escape b = false
-
--- a text, and whether it is the word `calls` without escapes
-abbrev pub text_lexeme : (rest : List ℕ) → Lexeme
-text_lexeme rest = if starts_with (λ a b. a == b) rest (codes "\"calls\"") then lexeme.Calls else lexeme.Text
-
--- what begins at the first byte of the rest of a text
-abbrev pub lexeme_of : (byte : ℕ) → (rest : List ℕ) → Lexeme
-lexeme_of b rest =
-    if b == 34 then text_lexeme rest
-    else (if b == 123 then lexeme.Object
-    else (if b == 91 then lexeme.List
-    else (if b == 125 || b == 93 then lexeme.Close
-    else (if b == 44 then lexeme.Comma
-    else (if b == 58 then lexeme.Colon
-    else lexeme.Word)))))
-
-abbrev pub lexeme_at : Mode → (byte : ℕ) → (rest : List ℕ) → Option Lexeme
-lexeme_at mode b rest = then_some (begins mode b) (lexeme_of b rest)
-
--- each with the line in which it begins
+-- the signs, words and texts of a text, each with the line in which it begins
 abbrev pub with_line : (line : ℕ) → Option Lexeme → List (ℕ × Lexeme)
 with_line line None = []
 with_line line (Some l) = (line, l) ∷ []
@@ -73,7 +25,7 @@ unfoldable pub lexemes : (line : ℕ) → Mode → List ℕ → List (ℕ × Lex
 lexemes line mode [] = []
 lexemes line mode (b ∷ bs) = with_line line (lexeme_at mode b (b ∷ bs)) ++ lexemes (line_after line b) (mode_after mode b) bs
 
--- ---- what they say
+-- ---- what the lexemes say of `calls`
 
 -- how many brackets are open; whether the last key of the whole is `calls`; whether the list at that key is open, and an entry of it
 -- is next; and in which lines its entries so far begin
@@ -160,7 +112,7 @@ past_all w (l ∷ ls) = past_all (past_lexeme w l.0 l.1) ls
 abbrev pub call_lines : (input : List ℕ) → List ℕ
 call_lines input = (past_all at_start (lexemes 1 Between input)).lines
 
--- ---- that lines are where something stands
+-- ---- where something stands
 
 -- a line of the text in which a byte stands that is no white space; lines are counted from 1
 pub record IsSignLine (input : List ℕ) (line : ℕ) : Type 0 where

@@ -1,5 +1,6 @@
 use Rattle.std.proofs.Common.{ℕ, List, drop, ap, get_or, refl, subst, sym, ◌∙◌}
-use Rattle.hp_check.specs.Places.{AreSignLines, WalkValue, lexeme_at}
+use Rattle.hp_check.specs.Lexemes.{lexeme_at}
+use Rattle.hp_check.specs.Places.{AreSignLines, WalkValue}
 use Rattle.hp_check.proofs.Lines.{bound_more, line_counted}
 use Rattle.hp_check.proofs.Walked.{depth_more, ended, signs_more, walked, whole_rest}
 use Rattle.hp_check.proofs.places.call_lines.Goals as goal

@@ -1,6 +1,6 @@
 use Rattle.std.proofs.Common.{◌≡◌, ◌+◌, ◌≤◌, count_by, drop, take}
 use Rattle.hp_check.specs.Places.{AreSignLines, at_start, is_newline}
-use Rattle.hp_check.specs.declared.places.Mode.TheVariants.{Between}
+use Rattle.hp_check.specs.declared.lexemes.Mode.TheVariants.{Between}
 use Rattle.hp_check.proofs.Walked.{left}
 use Rattle.hp_check.proofs.places.call_lines.Given as goal
 
