@@ -26,6 +26,6 @@ pub record IsPictureOf (view : View) (input text : List ℕ) : Type 0 where
 
 abbrev pub IsAnswerOf : Word → (input text : List ℕ) → (status : ℕ) → Type 0
 IsAnswerOf Check input text status = IsCheckOf input text status
-IsAnswerOf (Explore asked) input text status = IsExplorationOf input asked.setup text × (status ≡ 0)
+IsAnswerOf (Explore asked) input text status = IsExplorationOf input asked.setup asked.limit text × (status ≡ 0)
 IsAnswerOf (Trace view) input text status = IsTraceOf view input text × (status ≡ 0)
 IsAnswerOf (Picture view) input text status = IsPictureOf view input text × (status ≡ 0)

@@ -9,4 +9,5 @@ mod Reported
 mod Shapes
 mod Spaces
 mod Values
+mod Walked
 mod Warned

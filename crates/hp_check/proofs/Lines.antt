@@ -1,20 +1,7 @@
--- The lines in which entries begin, one byte further.
+-- How many lines there are, one byte further.
 use Rattle.std.proofs.Common.{◌≡◌, ℕ, ◌+◌, ◌<◌, ◌≤◌, Bool, true, false, cond, List, length, get_or, take, count_by, refl, sym, ap, subst, ◌∙◌, arith}
-use Rattle.std.proofs.lemmas.List.{get_or_default}
-use Rattle.std.proofs.lemmas.List.Elements.{All-push}
 use Rattle.std.proofs.lemmas.List.Sums.{count_by_more_no, count_by_more_yes}
-use Rattle.std.proofs.lemmas.Option.{slice_get_read}
-use Rattle.hp_check.specs.Places.{AreSignLines, IsSignLine, Notes, is_newline, is_space, line_after}
-use Rattle.hp_check.specs.declared.places.Start.{Start}
-use Rattle.hp_check.specs.declared.places.Start.TheVariants.{Calls, Entry, Other}
-
-pub lines_noted : (input old new : List ℕ) (place byte line : ℕ) (start : Start) → place < length input → byte ≡ get_or input place 0 → line ≡ 1 + count_by is_newline (take place input)
-    → (start ≡ Entry → is_space byte ≡ false) → AreSignLines input old → Notes start line old new → AreSignLines input new
-lines_noted input old new place byte line Calls lt here counted sign so_far notes = subst (AreSignLines input) (sym notes) (λ k d less. absurd (omega (arith, less)))
-lines_noted input old new place byte line Entry lt here counted sign so_far notes =
-    subst (AreSignLines input) (sym notes) (All-push (IsSignLine input) old line so_far
-    (record { at = place; byte = byte; here = slice_get_read input (length input) place byte refl lt (here ∙ get_or_default input place 0 byte lt); sign = sign refl; counted = counted }))
-lines_noted input old new place byte line Other lt here counted sign so_far notes = subst (AreSignLines input) (sym notes) so_far
+use Rattle.hp_check.specs.Places.{is_newline, line_after}
 
 after_byte : (input : List ℕ) (place byte line : ℕ) (ends : Bool) → place < length input → byte ≡ get_or input place 0 → is_newline byte ≡ ends → line ≡ 1 + count_by is_newline (take place input)
     → cond ends (line + 1) line ≡ 1 + count_by is_newline (take (place + 1) input)

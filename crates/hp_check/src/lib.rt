@@ -11,6 +11,7 @@ mod checking;
 mod expected;
 mod finding;
 mod laws;
+mod lexemes;
 mod places;
 mod ranges;
 mod report;

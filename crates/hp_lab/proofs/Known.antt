@@ -1,11 +1,17 @@
 -- From what the parts of an exploration say to what the whole promises.
-use Rattle.std.proofs.Common.{◌≡◌, ℕ, ◌<◌, ◌^◌, List, length, take, drop, Ok, ap, subst, ◌∙◌, arith}
+use Rattle.std.proofs.Common.{◌≡◌, ℕ, ◌<◌, ◌≤◌, ◌^◌, List, length, take, drop, Ok, ap, subst, sum_by, ◌∙◌, arith}
 use Rattle.std.proofs.lemmas.List.FromFn.{length-map-range_with_len}
 use Rattle.hp_scenario.specs.declared.lines.Line.{Line}
 use Rattle.hp_scenario.specs.Scenario.{ScenarioValue, scenario_in}
 use Rattle.hp_explore.specs.declared.exploring.ExploreFault.{ExploreFault}
 use Rattle.hp_explore.specs.declared.exploring.ExploreFault.TheVariants as search
 use Rattle.hp_explore.specs.declared.scripts.Line.{Line as Step}
+use Rattle.hp_explore.specs.declared.tally.Ending.{Ending}
+use Rattle.hp_explore.specs.Ends.{AreEnds}
+use Rattle.hp_explore.specs.Faults.{IsCallCause, IsCause}
+use Rattle.hp_explore.specs.Interleavings.{IsNotKnownTooMany}
+use Rattle.hp_explore.specs.Schedules.{Setting}
+use Rattle.hp_explore.proofs.Interleavings.{counted_by_lengths}
 use Rattle.hp_lab.specs.declared.fault.LabFault.{LabFault}
 use Rattle.hp_lab.specs.declared.fault.LabFault.TheVariants.{NotJson, BadShape, Layout, BadLine, NotForScript, TooMany, HistoryFull, OutOfMemory}
 use Rattle.hp_lab.specs.declared.fault.Unfit.{Unfit}
@@ -44,6 +50,17 @@ unfit_known input s setup limit cpus before after OutOfMemory read parts h = tt
 
 -- ---- the search
 
+-- where the ends were counted within the limit, it was not known to be exceeded
+not_too_many : (g : Setting) (ends : List Ending) (limit : ℕ) → AreEnds g ends → sum_by (λ (e : Ending). e.count) ends ≤ limit → IsNotKnownTooMany g.scripts limit
+not_too_many g ends limit are within =
+    λ many. absurd (omega (arith, within, many.1 (sum_by (λ (e : Ending). e.count) ends) (counted_by_lengths g (sum_by (λ (e : Ending). e.count) ends) many.0 are.total)))
+
+-- a fault in writing the ends is one of the search
+pub written_cause : (g : Setting) (ends : List Ending) (limit : ℕ) (fault : ExploreFault) → AreEnds g ends → sum_by (λ (e : Ending). e.count) ends ≤ limit → IsCallCause g fault → IsCause g limit fault
+written_cause g ends limit search.TooMany are within h = absurd h
+written_cause g ends limit search.HistoryFull are within h = (h, not_too_many g ends limit are within)
+written_cause g ends limit search.OutOfMemory are within h = tt
+
 fit_after : (s : ScenarioValue) (setup cpus : ℕ) (before after : List Line) → AreParts s setup cpus before after → AreFit cpus after (length after) → AreFit s.layout.cpus (drop setup s.lines) (length (drop setup s.lines))
 fit_after s setup cpus before after parts h =
     subst (λ (xs : List Line). AreFit s.layout.cpus xs (length xs)) parts.rest (subst (λ (k : ℕ). AreFit k after (length after)) parts.processors h)
@@ -65,14 +82,14 @@ stopped_known input s setup limit cpus before after scripts search.TooMany read 
 stopped_known input s setup limit cpus before after scripts search.HistoryFull read parts fit are h = (s, read, stopped_after s setup limit cpus before after scripts search.HistoryFull parts fit are h)
 stopped_known input s setup limit cpus before after scripts search.OutOfMemory read parts fit are h = tt
 
-pub explored_known : (input : List ℕ) (s : ScenarioValue) (setup cpus : ℕ) (before after : List Line) (scripts : List (List Step)) (text : List ℕ) → scenario_in input ≡ Ok s → AreParts s setup cpus before after → AreFit cpus after (length after)
-    → scripts ≡ scripts_of cpus after → IsExploredAfter s.layout s.names before scripts text → IsExplorationOf input setup text
-explored_known input s setup cpus before after scripts text read parts fit are h = record {
+pub explored_known : (input : List ℕ) (s : ScenarioValue) (setup limit cpus : ℕ) (before after : List Line) (scripts : List (List Step)) (text : List ℕ) → scenario_in input ≡ Ok s → AreParts s setup cpus before after → AreFit cpus after (length after)
+    → scripts ≡ scripts_of cpus after → IsExploredAfter s.layout s.names before scripts limit text → IsExplorationOf input setup limit text
+explored_known input s setup limit cpus before after scripts text read parts fit are h = record {
   scenario = s;
   read = read;
   fit = fit_after s setup cpus before after parts fit;
-  explored = subst (λ (xs : List (List Step)). IsExploredAfter s.layout s.names (take setup s.lines) xs text) (scripts_are s setup cpus before after scripts parts are)
-      (subst (λ (xs : List Line). IsExploredAfter s.layout s.names xs scripts text) parts.front h);
+  explored = subst (λ (xs : List (List Step)). IsExploredAfter s.layout s.names (take setup s.lines) xs limit text) (scripts_are s setup cpus before after scripts parts are)
+      (subst (λ (xs : List Line). IsExploredAfter s.layout s.names xs scripts limit text) parts.front h);
 }
 
 -- ---- the number of scripts

@@ -1,5 +1,5 @@
 -- What is promised of an exploration, and when each fault comes.
-use Rattle.std.specs.Prelude.{◌≡◌, ℕ, List, length, take, drop, Ok, Err}
+use Rattle.std.specs.Prelude.{◌≡◌, ℕ, ◌≤◌, List, length, take, drop, Ok, Err, sum_by}
 use Rattle.hp_units.specs.LayoutParts.{LayoutParts}
 use Rattle.hp_machine.specs.Machine.{MachineValue, booted}
 use Rattle.hp_explore.specs.declared.exploring.ExploreFault.{ExploreFault}
@@ -7,7 +7,7 @@ use Rattle.hp_explore.specs.declared.exploring.ExploreFault.TheVariants as searc
 use Rattle.hp_explore.specs.declared.scripts.Line as step
 use Rattle.hp_explore.specs.declared.tally.Ending.{Ending}
 use Rattle.hp_explore.specs.Ends.{AreEnds}
-use Rattle.hp_explore.specs.Faults.{IsWalkCause}
+use Rattle.hp_explore.specs.Faults.{IsCause}
 use Rattle.hp_explore.specs.Schedules.{Setting, setting}
 use Rattle.hp_scenario.specs.declared.fault.ScenarioFault.{ScenarioFault}
 use Rattle.hp_scenario.specs.declared.lines.Line.{Line}
@@ -21,25 +21,26 @@ use Rattle.hp_lab.specs.Scripts.{scripts_of}
 use Rattle.hp_lab.specs.Setup.{RunsLines}
 use Rattle.hp_lab.specs.Texts.{exploration_text}
 
--- the text is that of the ends of all complete schedules
-pub record IsExploredOn (names : List (List ℕ)) (g : Setting) (text : List ℕ) : Type 0 where
+-- the text is that of the ends of all complete schedules, which are no more than the limit
+pub record IsExploredOn (names : List (List ℕ)) (g : Setting) (limit : ℕ) (text : List ℕ) : Type 0 where
   pub ends : List Ending
   pub are : AreEnds g ends
+  pub within : sum_by (λ e. e.count) ends ≤ limit
   pub is : text ≡ exploration_text names g ends
 
 -- on the machine after lines that were run in order from boot on
-pub record IsExploredAfter (l : LayoutParts) (names : List (List ℕ)) (before : List Line) (scripts : List (List step.Line)) (text : List ℕ) : Type 0 where
+pub record IsExploredAfter (l : LayoutParts) (names : List (List ℕ)) (before : List Line) (scripts : List (List step.Line)) (limit : ℕ) (text : List ℕ) : Type 0 where
   pub start : MachineValue
   pub run : RunsLines (booted l) before start
-  pub explored : IsExploredOn names (setting start scripts) text
+  pub explored : IsExploredOn names (setting start scripts) limit text
 
 -- the bytes are a scenario; its lines after the first so many can all stand in scripts, and the text is that of their exploration
 -- after those
-pub record IsExplorationOf (input : List ℕ) (setup : ℕ) (text : List ℕ) : Type 0 where
+pub record IsExplorationOf (input : List ℕ) (setup limit : ℕ) (text : List ℕ) : Type 0 where
   pub scenario : ScenarioValue
   pub read : scenario_in input ≡ Ok scenario
   pub fit : AreFit scenario.layout.cpus (drop setup scenario.lines) (length (drop setup scenario.lines))
-  pub explored : IsExploredAfter scenario.layout scenario.names (take setup scenario.lines) (scripts_of scenario.layout.cpus (drop setup scenario.lines)) text
+  pub explored : IsExploredAfter scenario.layout scenario.names (take setup scenario.lines) (scripts_of scenario.layout.cpus (drop setup scenario.lines)) limit text
 
 -- ---- faults
 
@@ -47,7 +48,7 @@ pub record IsExplorationOf (input : List ℕ) (setup : ℕ) (text : List ℕ) : 
 pub record IsStopped (l : LayoutParts) (before : List Line) (scripts : List (List step.Line)) (limit : ℕ) (fault : ExploreFault) : Type 0 where
   pub start : MachineValue
   pub run : RunsLines (booted l) before start
-  pub cause : IsWalkCause (setting start scripts) limit fault
+  pub cause : IsCause (setting start scripts) limit fault
 
 abbrev pub IsUnexplored : LayoutParts → (before : List Line) → List (List step.Line) → (limit : ℕ) → ExploreFault → Type 0
 IsUnexplored l before scripts limit search.OutOfMemory = Unit {0}

@@ -1,6 +1,6 @@
 //! A scenario explored.
 ghost use Rattle.std.specs.Prelude.{◌≡◌, ◌^◌, ◌<◌, IfErr, IfOk, drop, length, string_bytes, take};
-ghost use Rattle.hp_explore.specs.Faults.{IsWalkCause};
+ghost use Rattle.hp_explore.specs.Faults.{IsCause};
 ghost use Rattle.hp_explore.specs.Schedules.{setting};
 ghost use Rattle.hp_lab.specs.Explorations.{IsExplorationOf, IsExploredAfter, IsExploredOn, IsFaultOf, IsUnexplored};
 
@@ -33,7 +33,7 @@ pub fn explore_text<W: Watch>(
     limit: u64,
     watch: &mut W,
 ) -> Result<String, LabFault>
-    ensures ok { IfOk result (λ out. IsExplorationOf input.now setup (string_bytes out)) }
+    ensures ok { IfOk result (λ out. IsExplorationOf input.now setup limit (string_bytes out)) }
     ensures err { IfErr result (IsFaultOf input.now setup limit) }
 {
     let scenario = Scenario::read(alloc, input)?;
@@ -88,7 +88,7 @@ fn explored_after<W: Watch>(
     watch: &mut W,
 ) -> Result<String, ExploreFault>
     requires { length scripts.now < 2 ^ 32 }
-    ensures ok { IfOk result (λ out. IsExploredAfter layout.now names.now.keys before.now scripts.now (string_bytes out)) }
+    ensures ok { IfOk result (λ out. IsExploredAfter layout.now names.now.keys before.now scripts.now limit (string_bytes out)) }
     ensures err { IfErr result (IsUnexplored layout.now before.now scripts.now limit) }
 {
     let mut machine = Machine::boot(alloc, layout)?;
@@ -106,8 +106,8 @@ fn explored_on<W: Watch>(
     watch: &mut W,
 ) -> Result<String, ExploreFault>
     requires { length scripts.now < 2 ^ 32 }
-    ensures ok { IfOk result (λ out. IsExploredOn names.now.keys (setting machine.now scripts.now) (string_bytes out)) }
-    ensures err { IfErr result (IsWalkCause (setting machine.now scripts.now) limit) }
+    ensures ok { IfOk result (λ out. IsExploredOn names.now.keys (setting machine.now scripts.now) limit (string_bytes out)) }
+    ensures err { IfErr result (IsCause (setting machine.now scripts.now) limit) }
 {
     let ends = explore(alloc, machine, scripts, limit, watch)?;
     let mut out = String::new(alloc);

@@ -36,6 +36,10 @@ const CHECKED: &[Checked] = &[
         "{\"layout\":{\"order\":1,\"pageblocks\":1,\"blocks\":2,\"cpus\":2,\"batch\":1,\"high\":1,\"owners\":2,\"pages\":2,\"words\":1,\"history\":2,\"boot\":[\"normal\",\"movable\"]},\"calls\":[\"0 drain 0\",\"0 drain 0\",\"0 drain 0\",\"0 drain 0\",\"0 seal\",\"0 drain 0\"]}",
         "calls 3 (line 1): warning: the lines before fill the history of 2 records\nfaults: 0, warnings: 1\n",
     ),
+    (
+        "{\"calls\":[\"0 drain 0\",\n[1, {\"calls\": [2,\n3, 4]}, \"]\\\", [\"],\n\"x\\\\\", \"y [,\\\"\",\n7, -8], \"layout\": \"calls\"}",
+        "layout: no object\ncalls 2 (line 2): no text\ncalls 5 (line 5): no text\ncalls 6 (line 5): no text\ncalls 3 (line 4): `x\\`: its first word is no number of a processor\ncalls 4 (line 4): `y [,\"`: its first word is no number of a processor\nfaults: 6, warnings: 0\n",
+    ),
 ];
 
 /// The report on a text.

@@ -25,4 +25,4 @@ pub returns-clause-ok : goal.returns-clause-ok
 returns-clause-ok o c =
     let s = scenario_seen c.in_ok-scenario.scenario in
     let parts = parted s c.args.setup c.cpus-cpus.result c.as_slice-lines.result.now c.front_of-before.result.now c.rest_of-after.result.now c.cpus-cpus.ensures.is c.as_slice-lines.ensures c.front_of-before.ensures c.rest_of-after.ensures in
-    explored_known c.args.input.now s c.args.setup c.cpus-cpus.result c.front_of-before.result.now c.rest_of-after.result.now c.deref.result.now _ c.in_ok-scenario.ensures parts c.in_ok-check_lines.ensures.ok (c.deref.ensures.value ∙ c.in_ok-scripts.ensures) c.in_ok-text.ensures.ok
+    explored_known c.args.input.now s c.args.setup c.args.limit c.cpus-cpus.result c.front_of-before.result.now c.rest_of-after.result.now c.deref.result.now _ c.in_ok-scenario.ensures parts c.in_ok-check_lines.ensures.ok (c.deref.ensures.value ∙ c.in_ok-scripts.ensures) c.in_ok-text.ensures.ok
