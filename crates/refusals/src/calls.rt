@@ -1,5 +1,5 @@
-//! Calls of a machine. Where one is out of memory, the machine has to be as it was, and the call is made again. Its answer, and
-//! the machine after it, have to be those of a copy of the machine that makes the same call.
+//! Calls of a machine. Where one is out of memory, the machine has to be as its copy, which has not made the call yet, and the call
+//! is made again. Its answer, and the machine after it, have to be those of the copy that makes the same call.
 use crate::same::{same_ends, same_machines, same_receipts, same_records, same_states};
 use crate::trouble::{Case, Trouble, holds};
 use hp_history::Volume;
@@ -7,29 +7,55 @@ use hp_machine::Machine;
 use hp_units::{CallFault, Cpu, Event, OpEnd, Plan, Receipt, Reply, Serial};
 use std::alloc::{AllocError, Global};
 
-/// Makes a call.
+/// Notes that a call was out of memory, and wants the machine as it was.
+fn stays(case: &mut Case, before: &Machine, machine: &Machine) -> Result<(), Trouble> {
+    case.note();
+    holds(same_machines(case.alloc, before, machine)?)
+}
+
+/// Makes a call whose receipt nobody wants.
+pub fn make_call(
+    alloc: Global,
+    machine: &mut Machine,
+    cpu: Cpu,
+    event: &Event,
+) -> Result<(), Trouble> {
+    let _receipt = machine.call(alloc, cpu, event)?;
+    Ok(())
+}
+
+/// Makes a call, and wants what a copy of the machine makes of it.
 pub fn call(
     case: &mut Case,
     machine: &mut Machine,
     cpu: Cpu,
     event: &Event,
 ) -> Result<bool, Trouble> {
-    let before = machine.copy(case.alloc)?;
-    call_from(case, &before, machine, cpu, event)
+    let mut twin = machine.copy(case.alloc)?;
+    calls_alike(case, &mut twin, machine, cpu, event)
 }
 
-/// Makes a call of a machine that is as another one.
-fn call_from(
+/// Whether a call of a machine has the answer and the end that it has on a copy.
+fn calls_alike(
     case: &mut Case,
-    before: &Machine,
+    twin: &mut Machine,
     machine: &mut Machine,
     cpu: Cpu,
     event: &Event,
 ) -> Result<bool, Trouble> {
-    let mut twin = before.copy(case.alloc)?;
-    let wanted = twin.call(case.alloc, cpu, event)?;
-    let receipt = kept_call(case, before, machine, cpu, event)?;
-    Ok(same_receipts(&receipt, &wanted) && same_machines(case.alloc, &twin, machine)?)
+    Ok(answers_alike(case, twin, machine, cpu, event)? && same_machines(case.alloc, twin, machine)?)
+}
+
+/// Whether a call of a machine has the answer that it has on a copy.
+fn answers_alike(
+    case: &mut Case,
+    twin: &mut Machine,
+    machine: &mut Machine,
+    cpu: Cpu,
+    event: &Event,
+) -> Result<bool, Trouble> {
+    let receipt = kept_call(case, twin, machine, cpu, event)?;
+    is_answered(case.alloc, twin, cpu, event, &receipt)
 }
 
 /// The receipt of a call that changes nothing where it is out of memory.
@@ -43,11 +69,22 @@ fn kept_call(
     match machine.call(case.alloc, cpu, event) {
         Ok(receipt) => Ok(receipt),
         Err(_fault) => {
-            case.note();
-            holds(same_machines(case.alloc, before, machine)?)?;
+            stays(case, before, machine)?;
             Ok(machine.call(case.alloc, cpu, event)?)
         }
     }
+}
+
+/// Whether a call has this receipt.
+pub fn is_answered(
+    alloc: Global,
+    machine: &mut Machine,
+    cpu: Cpu,
+    event: &Event,
+    receipt: &Receipt,
+) -> Result<bool, Trouble> {
+    let wanted = machine.call(alloc, cpu, event)?;
+    Ok(same_receipts(receipt, &wanted))
 }
 
 /// Carries out a plan.
@@ -58,58 +95,38 @@ pub fn plan(
     plan: &Plan,
     turns: u32,
 ) -> Result<bool, Trouble> {
-    let before = machine.copy(case.alloc)?;
-    plan_from(case, &before, machine, cpu, plan, turns)
+    let mut twin = machine.copy(case.alloc)?;
+    plans_alike(case, &mut twin, machine, cpu, plan, turns)
 }
 
-/// Carries out a plan on a machine that is as another one.
-fn plan_from(
+/// Whether a plan leads to the end and the state that it leads to on a copy.
+fn plans_alike(
     case: &mut Case,
-    before: &Machine,
+    twin: &mut Machine,
     machine: &mut Machine,
     cpu: Cpu,
     plan: &Plan,
     turns: u32,
 ) -> Result<bool, Trouble> {
-    let mut twin = before.copy(case.alloc)?;
-    match ended(case.alloc, &mut twin, cpu, plan, turns) {
-        Ok(wanted) => {
-            let is_right = ends_as(case, before, machine, cpu, plan, turns, wanted)?;
-            Ok(is_right && same_states(case.alloc, &twin, machine)?)
-        }
-        Err(trouble) => Err(trouble),
-    }
+    Ok(
+        ends_alike(case, twin, machine, cpu, plan, turns)?
+            && same_states(case.alloc, twin, machine)?,
+    )
 }
 
-/// Whether a plan ends so.
-fn ends_as(
+/// Whether a plan ends as it does on a copy.
+fn ends_alike(
     case: &mut Case,
-    before: &Machine,
+    twin: &mut Machine,
     machine: &mut Machine,
     cpu: Cpu,
     plan: &Plan,
     turns: u32,
-    wanted: OpEnd,
 ) -> Result<bool, Trouble> {
-    match kept_plan(case, before, machine, cpu, plan, turns) {
-        Ok(end) => Ok(same_ends(end, wanted)),
+    match kept_plan(case, twin, machine, cpu, plan, turns) {
+        Ok(end) => is_ended(case.alloc, twin, cpu, plan, turns, end),
         Err(trouble) => Err(trouble),
     }
-}
-
-/// The end of a plan that is not out of memory.
-fn ended(
-    alloc: Global,
-    machine: &mut Machine,
-    cpu: Cpu,
-    plan: &Plan,
-    turns: u32,
-) -> Result<OpEnd, Trouble> {
-    let end = driven(alloc, machine, cpu, plan, turns)?;
-    let OpEnd::Left { op: _, fault: _ } = end else {
-        return Ok(end);
-    };
-    Err(Trouble::OutOfMemory)
 }
 
 /// The end of a plan. One that was left out of memory can be cancelled, which restores the state.
@@ -125,19 +142,41 @@ fn kept_plan(
     let OpEnd::Left { op, fault: _ } = end else {
         return Ok(end);
     };
-    case.note();
     match op {
-        Some(op) => restore(case.alloc, machine, cpu, op)?,
-        None => holds(same_machines(case.alloc, before, machine)?)?,
+        Some(op) => restore(case, machine, cpu, op)?,
+        None => stays(case, before, machine)?,
     }
     holds(same_states(case.alloc, before, machine)?)?;
     driven(case.alloc, machine, cpu, plan, turns)
 }
 
-/// Cancels an operation.
-fn restore(alloc: Global, machine: &mut Machine, cpu: Cpu, op: Serial) -> Result<(), Trouble> {
-    let receipt = machine.call(alloc, cpu, &Event::Cancel { op })?;
+/// Notes that a plan was left out of memory, and cancels its operation.
+fn restore(case: &mut Case, machine: &mut Machine, cpu: Cpu, op: Serial) -> Result<(), Trouble> {
+    case.note();
+    let cancel = Event::Cancel { op };
+    restores(case.alloc, machine, cpu, &cancel)
+}
+
+/// Wants the state from before an operation of the cancel of it.
+fn restores(alloc: Global, machine: &mut Machine, cpu: Cpu, cancel: &Event) -> Result<(), Trouble> {
+    let receipt = machine.call(alloc, cpu, cancel)?;
     holds(matches!(receipt.reply, Reply::Restored))
+}
+
+/// Whether a plan that is not left out of memory has this end.
+fn is_ended(
+    alloc: Global,
+    machine: &mut Machine,
+    cpu: Cpu,
+    plan: &Plan,
+    turns: u32,
+    end: OpEnd,
+) -> Result<bool, Trouble> {
+    match driven(alloc, machine, cpu, plan, turns) {
+        Ok(OpEnd::Left { .. }) => Err(Trouble::OutOfMemory),
+        Ok(wanted) => Ok(same_ends(end, wanted)),
+        Err(trouble) => Err(trouble),
+    }
 }
 
 /// The end of a plan that a processor of a machine carries out.
@@ -155,8 +194,22 @@ fn driven(
 /// Seals the history.
 pub fn seal(case: &mut Case, machine: &mut Machine) -> Result<bool, Trouble> {
     let before = machine.copy(case.alloc)?;
-    let volume = kept_seal(case, &before, machine)?;
-    Ok(is_sealed(&before, &volume, machine) && same_states(case.alloc, &before, machine)?)
+    is_kept_by_seal(case, &before, machine)
+}
+
+/// Whether a seal hands out the records that a machine had, and keeps its state.
+fn is_kept_by_seal(
+    case: &mut Case,
+    before: &Machine,
+    machine: &mut Machine,
+) -> Result<bool, Trouble> {
+    Ok(hands_out(case, before, machine)? && same_states(case.alloc, before, machine)?)
+}
+
+/// Whether a seal hands out the records that a machine had.
+fn hands_out(case: &mut Case, before: &Machine, machine: &mut Machine) -> Result<bool, Trouble> {
+    let volume = kept_seal(case, before, machine)?;
+    Ok(is_sealed(before, &volume, machine))
 }
 
 /// The volume of a seal that changes nothing where it is out of memory.
@@ -164,8 +217,7 @@ fn kept_seal(case: &mut Case, before: &Machine, machine: &mut Machine) -> Result
     match machine.seal(case.alloc) {
         Ok(volume) => Ok(volume),
         Err(AllocError) => {
-            case.note();
-            holds(same_machines(case.alloc, before, machine)?)?;
+            stays(case, before, machine)?;
             Ok(machine.seal(case.alloc)?)
         }
     }

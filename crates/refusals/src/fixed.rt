@@ -2,52 +2,99 @@
 //! may be refused.
 ghost use Rattle.std.specs.Prelude.{◌<◌, length};
 
-use crate::calls::is_full;
+use crate::calls::{is_full, make_call};
 use crate::trouble::Trouble;
-use crate::values::{layout_of, offline};
+use crate::values::{begin, layout_of, two_words};
 use hp_machine::{Machine, MachinePort};
 use hp_ops::Port;
 use hp_plain::Image;
 use hp_tape::{Delta, Tape};
 use hp_units::{
-    Auto, Block, Class, Cpu, Event, Frame, Layout, Order, Owner, Page, Pageblock, Plan, Pool,
-    Serial, Words, block_of, buddy, pageblock_of,
+    Auto, Block, Class, Cpu, Event, Frame, Layout, Order, Owner, Page, Pageblock, Pool, Serial,
+    Words, block_of, buddy, pageblock_of,
 };
 use std::alloc::Global;
 
 /// Makes what the calls need, says so, and makes the calls.
 pub fn run(rt: &HostRuntime, alloc: Global) -> Result<bool, Trouble> {
     let layout = layout_of(alloc, 2)?;
-    let mut machine = mapped(alloc, &layout)?;
+    with_machine(rt, alloc, &layout)
+}
+
+/// Makes a machine, and goes on with it.
+fn with_machine(rt: &HostRuntime, alloc: Global, layout: &Layout) -> Result<bool, Trouble> {
+    let mut machine = Machine::boot(alloc, layout)?;
+    with_pages(rt, alloc, &mut machine)
+}
+
+/// Has two owners map a page, after which the history is full, and goes on.
+fn with_pages(rt: &HostRuntime, alloc: Global, machine: &mut Machine) -> Result<bool, Trouble> {
+    map_page(alloc, machine, Cpu(0), Owner(0))?;
+    map_page(alloc, machine, Cpu(1), Owner(1))?;
+    with_image(rt, alloc, machine)
+}
+
+/// Maps the first page of an owner.
+fn map_page(alloc: Global, machine: &mut Machine, cpu: Cpu, owner: Owner) -> Result<(), Trouble> {
+    let event = Event::Map {
+        owner,
+        page: Page(0),
+    };
+    make_call(alloc, machine, cpu, &event)
+}
+
+/// Makes the machine's state, and goes on with both.
+fn with_image(rt: &HostRuntime, alloc: Global, machine: &mut Machine) -> Result<bool, Trouble> {
     let image = machine.image(alloc)?;
+    with_tape(rt, alloc, machine, &image)
+}
+
+/// Makes a tape that has room for a delta, and goes on.
+fn with_tape(
+    rt: &HostRuntime,
+    alloc: Global,
+    machine: &mut Machine,
+    image: &Image,
+) -> Result<bool, Trouble> {
     let mut tape = Tape::with_room(alloc, 1)?;
-    let plan = offline(alloc)?;
-    let words = Words::new(vec![in alloc; 7, 9]?);
+    with_event(rt, alloc, machine, image, &mut tape)
+}
+
+/// Makes an event that holds a plan, and goes on.
+fn with_event(
+    rt: &HostRuntime,
+    alloc: Global,
+    machine: &mut Machine,
+    image: &Image,
+    tape: &mut Tape,
+) -> Result<bool, Trouble>
+    requires { length tape.old.deltas < tape.old.room }
+{
+    let event = begin(alloc)?;
+    with_words(rt, alloc, machine, image, tape, &event)
+}
+
+/// Makes words, which are the last of what the calls need, says so, and makes the calls.
+fn with_words(
+    rt: &HostRuntime,
+    alloc: Global,
+    machine: &mut Machine,
+    image: &Image,
+    tape: &mut Tape,
+    event: &Event,
+) -> Result<bool, Trouble>
+    requires { length tape.old.deltas < tape.old.room }
+{
+    let words = two_words(alloc)?;
     let _said = eprintln!(rt; "set up");
     Ok(
-        is_counted(&layout)
-            && is_read(&machine)
-            && is_image(&image)
-            && is_noted(&mut tape)
-            && is_listed(plan, words)
-            && is_refused(alloc, &mut machine),
+        is_counted(machine.layout())
+            && is_read(machine)
+            && is_image(image)
+            && is_noted(tape)
+            && is_listed(event, &words)
+            && is_refused(alloc, machine),
     )
-}
-
-/// A machine whose history is full, with a page mapped.
-fn mapped(alloc: Global, layout: &Layout) -> Result<Machine, Trouble> {
-    let mut machine = Machine::boot(alloc, layout)?;
-    let _first = machine.call(alloc, Cpu(0), &map(0))?;
-    let _second = machine.call(alloc, Cpu(1), &map(1))?;
-    Ok(machine)
-}
-
-/// The event that maps the first page of an owner.
-fn map(owner: u32) -> Event {
-    Event::Map {
-        owner: Owner(owner),
-        page: Page(0),
-    }
 }
 
 /// Numbers of a layout.
@@ -102,17 +149,21 @@ fn is_noted(tape: &mut Tape) -> bool
 }
 
 /// Lists that were made of vectors.
-fn is_listed(plan: Plan, words: Words) -> bool {
-    let event = Event::Begin { plan };
-    event.same(&event) && words.same(&words) && words.as_slice() == [7, 9].as_slice()
+fn is_listed(event: &Event, words: &Words) -> bool {
+    event.same(event) && words.same(words) && words.as_slice() == [7, 9].as_slice()
+}
+
+/// A call where the history is full.
+fn is_refused(alloc: Global, machine: &mut Machine) -> bool {
+    let undo = Event::UndoAfter { serial: Serial(0) };
+    is_refused_call(alloc, machine, &undo)
 }
 
 /// A call where the history is full, by the machine and by a port.
-fn is_refused(alloc: Global, machine: &mut Machine) -> bool {
-    let undo = Event::UndoAfter { serial: Serial(0) };
-    if !is_full(machine, alloc, Cpu(0), &undo) {
+fn is_refused_call(alloc: Global, machine: &mut Machine, event: &Event) -> bool {
+    if !is_full(machine, alloc, Cpu(0), event) {
         return false;
     }
     let mut port = MachinePort::new(machine, Cpu(0));
-    port.cpus() == 2 && port.call(alloc, &undo).is_err() && port.fault.is_some()
+    port.cpus() == 2 && port.call(alloc, event).is_err() && port.fault.is_some()
 }

@@ -1,18 +1,16 @@
 //! The lines of a situation, each of them a call that may be out of memory.
 use crate::calls::{call, plan, seal};
-use crate::situations::scenario_of;
 use crate::trouble::{Case, Trouble};
 use hp_control::{
     CONTROL_TURNS, Request, buddyinfo, parse_echo, parse_write, read_file, read_text,
 };
 use hp_machine::Machine;
-use hp_scenario::{Line, Work};
+use hp_scenario::{Line, Scenario, Work};
 use hp_units::{Cpu, Event, Serial};
 use std::alloc::Global;
 
-/// Runs lines on a machine, and undoes all of them that are not sealed.
-pub fn run_lines(case: &mut Case, calls: &str) -> Result<bool, Trouble> {
-    let scenario = scenario_of(case.alloc, calls)?;
+/// Runs the lines of a scenario on a machine, and undoes all of them that are not sealed.
+pub fn run(case: &mut Case, scenario: &Scenario) -> Result<bool, Trouble> {
     let mut machine = Machine::boot(case.alloc, &scenario.layout)?;
     run_all(case, &mut machine, scenario.lines.as_slice())
 }
@@ -29,10 +27,19 @@ fn run_all(case: &mut Case, machine: &mut Machine, lines: &[Line]) -> Result<boo
 
 /// Undoes all steps since the last seal, which leads to the base.
 fn go_back(case: &mut Case, machine: &mut Machine) -> Result<bool, Trouble> {
+    Ok(undo_all(case, machine)? && is_at_base(case.alloc, machine)?)
+}
+
+/// Undoes all steps since the last seal.
+fn undo_all(case: &mut Case, machine: &mut Machine) -> Result<bool, Trouble> {
     let serial = Serial(machine.sealed());
-    let is_right = call(case, machine, Cpu(0), &Event::UndoAfter { serial })?;
-    let image = machine.image(case.alloc)?;
-    Ok(is_right && image.same(machine.base()))
+    call(case, machine, Cpu(0), &Event::UndoAfter { serial })
+}
+
+/// Whether a machine has the state that it began with, or was last sealed with.
+fn is_at_base(alloc: Global, machine: &Machine) -> Result<bool, Trouble> {
+    let image = machine.image(alloc)?;
+    Ok(image.same(machine.base()))
 }
 
 /// Runs a line.
@@ -55,11 +62,35 @@ fn echo(
     text: &str,
 ) -> Result<bool, Trouble> {
     let request = parse_echo(case.alloc, path, text)?;
-    let other = parse_write(case.alloc, path, text.as_bytes())?;
-    if !same_requests(&request, &other) {
-        return Ok(false);
-    }
-    match &request {
+    write_request(case, machine, cpu, path, text, &request)
+}
+
+/// Asks for what was read from a text that is written to a control file.
+fn write_request(
+    case: &mut Case,
+    machine: &mut Machine,
+    cpu: Cpu,
+    path: &str,
+    text: &str,
+    request: &Request,
+) -> Result<bool, Trouble> {
+    Ok(is_written(case.alloc, path, text, request)? && ask(case, machine, cpu, request)?)
+}
+
+/// Whether a write of a text's bytes is read as this request.
+fn is_written(alloc: Global, path: &str, text: &str, request: &Request) -> Result<bool, Trouble> {
+    let other = parse_write(alloc, path, text.as_bytes())?;
+    Ok(same_requests(request, &other))
+}
+
+/// Makes the call, or carries out the plan, that a request asks for.
+fn ask(
+    case: &mut Case,
+    machine: &mut Machine,
+    cpu: Cpu,
+    request: &Request,
+) -> Result<bool, Trouble> {
+    match request {
         Request::Event(event) => call(case, machine, cpu, event),
         Request::Plan(asked) => plan(case, machine, cpu, asked, CONTROL_TURNS),
     }
@@ -81,16 +112,42 @@ fn same_requests(one: &Request, other: &Request) -> bool {
 
 /// Reads a control file, in each way that there is.
 fn cat(alloc: Global, machine: &Machine, path: &str) -> Result<bool, Trouble> {
-    let text = read_text(alloc, machine, path)?;
     let bytes = read_file(alloc, machine, path)?;
-    let wanted = if path == "buddyinfo" {
-        buddyinfo(alloc, machine)?
-    } else {
-        read_file(alloc, machine, path)?
-    };
+    is_read(alloc, machine, path, &bytes)
+}
+
+/// Whether a control file has these bytes, in each further way that it can be read.
+fn is_read(alloc: Global, machine: &Machine, path: &str, bytes: &[u8]) -> Result<bool, Trouble> {
     Ok(
         !bytes.is_empty()
-            && text.as_str().as_bytes() == bytes.as_slice()
-            && bytes.as_slice() == wanted.as_slice(),
+            && is_text(alloc, machine, path, bytes)?
+            && is_shown(alloc, machine, path, bytes)?,
     )
+}
+
+/// Whether the text of a control file has these bytes.
+fn is_text(alloc: Global, machine: &Machine, path: &str, bytes: &[u8]) -> Result<bool, Trouble> {
+    let text = read_text(alloc, machine, path)?;
+    Ok(text.as_str().as_bytes() == bytes)
+}
+
+/// Whether a control file has these bytes once more; `buddyinfo` in its own reader.
+fn is_shown(alloc: Global, machine: &Machine, path: &str, bytes: &[u8]) -> Result<bool, Trouble> {
+    if path == "buddyinfo" {
+        is_buddyinfo(alloc, machine, bytes)
+    } else {
+        is_file(alloc, machine, path, bytes)
+    }
+}
+
+/// Whether the free blocks by zone and order are shown as these bytes.
+fn is_buddyinfo(alloc: Global, machine: &Machine, bytes: &[u8]) -> Result<bool, Trouble> {
+    let shown = buddyinfo(alloc, machine)?;
+    Ok(shown.as_slice() == bytes)
+}
+
+/// Whether a control file has these bytes.
+fn is_file(alloc: Global, machine: &Machine, path: &str, bytes: &[u8]) -> Result<bool, Trouble> {
+    let read = read_file(alloc, machine, path)?;
+    Ok(read.as_slice() == bytes)
 }

@@ -21,32 +21,14 @@ mod trouble;
 mod values;
 mod workers;
 
-use situations::{SITUATIONS, calls_of};
+use hp_scenario::Scenario;
+use situations::{calls_of, cases, scenario_of};
+use std::alloc::Global;
 use std::env;
 use std::process::ExitCode;
 use std::sync::Wait;
 use std::thread::Threads;
 use trouble::{Case, Trouble};
-
-/// The cases beside the situations.
-const OTHERS: &[&str] = &[
-    "layouts",
-    "copies",
-    "tapes",
-    "layers",
-    "images",
-    "additions",
-    "maps",
-    "memories",
-    "audits",
-    "seats",
-    "workers",
-    "fixed",
-    "steps-in-room",
-    "undo-in-room",
-    "undo-after-map",
-    "cancel-after-map",
-];
 
 /// How often a case is run again that was out of memory.
 const TURNS: u32 = 5;
@@ -66,24 +48,42 @@ fn run_case<R: Threads + Wait + Sync>(
         "images" => values::images(case.alloc),
         "additions" => additions::run(case),
         "maps" => maps::run(case.alloc),
-        "memories" => memories::run(case),
-        "audits" => audits::run(case),
-        "seats" => seats::run(rt, case),
-        "workers" => workers::run(rt, case),
+        "workers" => workers::run(rt, case.alloc),
         "fixed" => fixed::run(host, case.alloc),
-        "steps-in-room" => rooms::steps(host, case.alloc),
-        "undo-in-room" => rooms::undo(host, case.alloc),
-        "undo-after-map" => rooms::undo_after_map(host, case.alloc),
-        "cancel-after-map" => rooms::cancel_after_map(host, case.alloc),
-        _ => run_situation(case, name),
+        _ => run_situation(rt, host, case, name),
     }
 }
 
-/// Runs the lines of a situation.
-fn run_situation(case: &mut Case, name: &str) -> Result<bool, Trouble> {
-    match calls_of(name) {
-        Some(calls) => lines::run_lines(case, calls),
-        None => Ok(false),
+/// Runs a situation.
+fn run_situation<R: Threads + Wait + Sync>(
+    rt: &R,
+    host: &HostRuntime,
+    case: &mut Case,
+    name: &str,
+) -> Result<bool, Trouble> {
+    let Some(calls) = calls_of(name) else {
+        return Ok(false);
+    };
+    let scenario = scenario_of(case.alloc, calls)?;
+    run_scenario(rt, host, case, name, &scenario)
+}
+
+/// Runs the scenario of a situation.
+fn run_scenario<R: Threads + Wait + Sync>(
+    rt: &R,
+    host: &HostRuntime,
+    case: &mut Case,
+    name: &str,
+    scenario: &Scenario,
+) -> Result<bool, Trouble> {
+    match name {
+        "memories" => memories::run(case, scenario),
+        "audits" => audits::run(case, scenario),
+        "seats" => seats::run(rt, case, scenario),
+        "steps-in-room" => rooms::steps(host, case.alloc, scenario),
+        "undo-in-room" => rooms::undo(host, case.alloc, scenario),
+        "undo-after-map" | "cancel-after-map" => rooms::go_back(host, case.alloc, scenario),
+        _ => lines::run(case, scenario),
     }
 }
 
@@ -93,12 +93,7 @@ fn run_each<R: Threads + Wait + Sync>(
     host: &HostRuntime,
     case: &mut Case,
 ) -> Result<bool, Trouble> {
-    for name in OTHERS {
-        if !run_case(rt, host, case, *name)? {
-            return Ok(false);
-        }
-    }
-    for (name, _calls) in SITUATIONS {
+    for (name, _calls) in cases() {
         if !run_case(rt, host, case, *name)? {
             return Ok(false);
         }
@@ -108,13 +103,18 @@ fn run_each<R: Threads + Wait + Sync>(
 
 /// Prints the names of all cases.
 fn print_names(rt: &HostRuntime) -> Result<bool, Trouble> {
-    for name in OTHERS {
-        let _said = println!(rt; "{name}");
-    }
-    for (name, _calls) in SITUATIONS {
+    for (name, _calls) in cases() {
         let _said = println!(rt; "{name}");
     }
     Ok(true)
+}
+
+/// The words after the program's name, and before them that name.
+fn words_of(rt: &HostRuntime, alloc: Global) -> Result<Vec<String>, Trouble> {
+    let Ok(words) = env::args(rt) else {
+        return Err(Trouble::OutOfMemory);
+    };
+    Ok(words.collect(alloc)?)
 }
 
 /// Does what the word after the program's name asks for.
@@ -123,11 +123,18 @@ fn run<R: Threads + Wait + Sync>(
     host: &HostRuntime,
     case: &mut Case,
 ) -> Result<bool, Trouble> {
-    let Ok(words) = env::args(host) else {
-        return Err(Trouble::OutOfMemory);
-    };
-    let words: Vec<String> = words.collect(case.alloc)?;
-    match words.as_slice() {
+    let words = words_of(host, case.alloc)?;
+    run_words(rt, host, case, &words)
+}
+
+/// Does what the second word asks for.
+fn run_words<R: Threads + Wait + Sync>(
+    rt: &R,
+    host: &HostRuntime,
+    case: &mut Case,
+    words: &[String],
+) -> Result<bool, Trouble> {
+    match words {
         [_, word] if word.as_str() == "names" => print_names(host),
         [_, word] => run_case(rt, host, case, word.as_str()),
         _ => run_each(rt, host, case),
@@ -153,7 +160,7 @@ fn main(rt: HostRuntime) -> ExitCode {
     let mut case = Case::new(rt.alloc());
     let ending = run_again(&rt, &rt, &mut case);
     let _said = eprintln!(rt; "{}", case.refusals);
-    if ending == Ok(true) {
+    if matches!(ending, Ok(true)) {
         let _said = println!(rt; "as with ample memory");
         ExitCode::from(0)
     } else {

@@ -3,7 +3,7 @@ use crate::trouble::Trouble;
 use crate::values::layout_of;
 use hp_machine::Machine;
 use hp_map::{Place, picture_of, places_of};
-use hp_units::Text;
+use hp_units::{Layout, Text};
 use std::alloc::Global;
 
 /// The memory blocks at boot.
@@ -12,8 +12,18 @@ const DRAWN: &[&str] = &["0:N[....]", "1:N[....]", "2:M[....]", "3:off[----]"];
 /// Looks for the places of all frames at boot, and for their picture.
 pub fn run(alloc: Global) -> Result<bool, Trouble> {
     let layout = layout_of(alloc, 10)?;
-    let machine = Machine::boot(alloc, &layout)?;
-    Ok(are_placed(alloc, &machine)? && is_drawn(alloc, &machine)?)
+    run_on(alloc, &layout)
+}
+
+/// Does that for a layout.
+fn run_on(alloc: Global, layout: &Layout) -> Result<bool, Trouble> {
+    let machine = Machine::boot(alloc, layout)?;
+    is_mapped(alloc, &machine)
+}
+
+/// Whether a machine has the places and the picture of boot.
+fn is_mapped(alloc: Global, machine: &Machine) -> Result<bool, Trouble> {
+    Ok(are_placed(alloc, machine)? && is_drawn(alloc, machine)?)
 }
 
 /// Whether twelve frames are free, and four offline.

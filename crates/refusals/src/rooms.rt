@@ -1,30 +1,32 @@
 //! Steps and an undo that take no memory, since there is room for all that they note and record; and calls that go back on a
 //! machine whose tables are full, which ask for memory once, for their record. What they need is made before; then a line is
 //! written, after which requests for memory may be refused.
-use crate::situations::scenario_of;
+use crate::calls::make_call;
 use crate::trouble::Trouble;
 use hp_machine::Machine;
 use hp_memory::Memory;
 use hp_scenario::{Line, Scenario, Work};
 use hp_tape::Tape;
-use hp_units::{Class, Cpu, Event, Frame, Order, Reply, Serial};
+use hp_units::{Class, Cpu, Event, Frame, Layout, Order, Reply, Serial};
 use std::alloc::Global;
 
-/// Lines of three steps, which may take memory: the words of pages are made in them.
-const BEFORE: &str = r#""0 map db 0","0 write db 0 1 7","0 map web 0""#;
+/// Lines of three steps, which may take memory, since the words of pages are made in them; and of steps that take none. A commit
+/// and a cancel are not among these: they make a list of their blocks.
+pub const STEPS: &str =
+    r#""0 map db 0","0 write db 0 1 7","0 map web 0","0 kalloc 0","0 kalloc 1","0 kfree 2","0 read db 0 1","0 write db 0 0 9","0 online 3 normal","0 begin off 2","0 drainfor 10 0","0 migrate 10","0 migrate 10","0 unmap db 0","0 drain 0","0 kalloc 3""#;
 
-/// Lines of steps that take none. A commit and a cancel are not among them: they make a list of their blocks.
-const AFTER: &str =
-    r#""0 kalloc 0","0 kalloc 1","0 kfree 2","0 read db 0 1","0 write db 0 0 9","0 online 3 normal","0 begin off 2","0 drainfor 10 0","0 migrate 10","0 migrate 10","0 unmap db 0","0 drain 0","0 kalloc 3""#;
+/// How many steps may take memory.
+const FIRST: usize = 3;
 
 /// Lines of five records, one of which an undo needs room for beside them.
-const RECORDED: &str = r#""0 map db 0","0 kalloc 1","0 unmap db 0","0 kfree 0","0 kalloc 0""#;
+pub const RECORDED: &str = r#""0 map db 0","0 kalloc 1","0 unmap db 0","0 kfree 0","0 kalloc 0""#;
 
 /// An undo that leaves a map in the net, and lines before it.
-const UNDONE: &str = r#""0 map db 0","0 write db 0 1 7","0 kalloc 1","0 unmap db 0","0 undo 2""#;
+pub const UNDONE: &str =
+    r#""0 map db 0","0 write db 0 1 7","0 kalloc 1","0 unmap db 0","0 undo 2""#;
 
 /// A cancel that restores what was before its begin, with a map in the net, and lines before it.
-const CANCELLED: &str =
+pub const CANCELLED: &str =
     r#""0 map db 0","0 write db 0 1 7","0 begin off 2","0 migrate 3","0 cancel 3""#;
 
 /// How many steps both leave.
@@ -33,36 +35,69 @@ const LEFT: u64 = 2;
 /// More than all the steps note.
 const ROOM: usize = 500;
 
-/// Makes steps on a tape that has room.
-pub fn steps(rt: &HostRuntime, alloc: Global) -> Result<bool, Trouble> {
-    let before = scenario_of(alloc, BEFORE)?;
-    let after = scenario_of(alloc, AFTER)?;
-    let wanted = noted(alloc, &before, &after)?;
-    let mut memory = Memory::boot(alloc, &before.layout)?;
-    let mut tape = Tape::with_room(alloc, ROOM)?;
-    make_steps(alloc, &mut memory, &mut tape, 0, before.lines.as_slice())?;
-    let _said = eprintln!(rt; "set up");
-    let made = make_steps(alloc, &mut memory, &mut tape, 3, after.lines.as_slice());
-    Ok(made.is_ok() && tape.len() == wanted)
+/// Makes the steps of a scenario on a tape that has room.
+pub fn steps(rt: &HostRuntime, alloc: Global, scenario: &Scenario) -> Result<bool, Trouble> {
+    let lines = scenario.lines.as_slice();
+    if lines.len() < FIRST {
+        return Ok(false);
+    }
+    let (first, last) = lines.split_at(FIRST);
+    let wanted = noted(alloc, &scenario.layout, lines)?;
+    let mut memory = Memory::boot(alloc, &scenario.layout)?;
+    notes_in_room(rt, alloc, &mut memory, first, last, wanted)
 }
 
 /// How much the steps of the lines note with ample memory.
-fn noted(alloc: Global, before: &Scenario, after: &Scenario) -> Result<usize, Trouble> {
-    let mut memory = Memory::boot(alloc, &before.layout)?;
-    let mut tape = Tape::with_room(alloc, 0)?;
-    make_steps(alloc, &mut memory, &mut tape, 0, before.lines.as_slice())?;
-    make_steps(alloc, &mut memory, &mut tape, 3, after.lines.as_slice())?;
-    Ok(tape.len())
+fn noted(alloc: Global, layout: &Layout, lines: &[Line]) -> Result<usize, Trouble> {
+    let mut memory = Memory::boot(alloc, layout)?;
+    noted_anew(alloc, &mut memory, lines)
 }
 
-/// Makes a step for each line, whose serials come after `last`.
+/// How much the steps of the lines note on a tape of their own.
+fn noted_anew(alloc: Global, memory: &mut Memory, lines: &[Line]) -> Result<usize, Trouble> {
+    let mut tape = Tape::with_room(alloc, 0)?;
+    make_steps(alloc, memory, &mut tape, 0, lines)
+}
+
+/// Whether steps note so much on a tape that has room.
+fn notes_in_room(
+    rt: &HostRuntime,
+    alloc: Global,
+    memory: &mut Memory,
+    first: &[Line],
+    last: &[Line],
+    wanted: usize,
+) -> Result<bool, Trouble> {
+    let mut tape = Tape::with_room(alloc, ROOM)?;
+    notes(rt, alloc, memory, &mut tape, first, last, wanted)
+}
+
+/// Whether steps note so much, the last of them with no memory.
+fn notes(
+    rt: &HostRuntime,
+    alloc: Global,
+    memory: &mut Memory,
+    tape: &mut Tape,
+    first: &[Line],
+    last: &[Line],
+    wanted: usize,
+) -> Result<bool, Trouble> {
+    let _noted = make_steps(alloc, memory, tape, 0, first)?;
+    let _said = eprintln!(rt; "set up");
+    match make_steps(alloc, memory, tape, FIRST as u64, last) {
+        Ok(count) => Ok(count == wanted),
+        Err(_) => Ok(false),
+    }
+}
+
+/// Makes a step for each line, whose serials come after `last`, and answers how much the tape holds.
 fn make_steps(
     alloc: Global,
     memory: &mut Memory,
     tape: &mut Tape,
     last: u64,
     lines: &[Line],
-) -> Result<(), Trouble> {
+) -> Result<usize, Trouble> {
     let mut serial = last;
     for line in lines {
         let Work::Event(event) = &line.work else {
@@ -76,39 +111,71 @@ fn make_steps(
             return Err(Trouble::OutOfMemory);
         }
     }
-    Ok(())
+    Ok(tape.len())
 }
 
-/// Undoes all records, where the history has room for one more.
-pub fn undo(rt: &HostRuntime, alloc: Global) -> Result<bool, Trouble> {
-    let scenario = scenario_of(alloc, RECORDED)?;
+/// Undoes all records of a scenario, where the history has room for one more.
+pub fn undo(rt: &HostRuntime, alloc: Global, scenario: &Scenario) -> Result<bool, Trouble> {
     let mut machine = Machine::boot(alloc, &scenario.layout)?;
-    call_all(alloc, &mut machine, scenario.lines.as_slice())?;
+    is_undone(rt, alloc, &mut machine, scenario.lines.as_slice())
+}
+
+/// Makes the calls of lines, and wants the state at boot after an undo of all.
+fn is_undone(
+    rt: &HostRuntime,
+    alloc: Global,
+    machine: &mut Machine,
+    lines: &[Line],
+) -> Result<bool, Trouble> {
+    call_all(alloc, machine, lines)?;
     let _said = eprintln!(rt; "set up");
-    Ok(is_undone(alloc, &mut machine))
+    Ok(undoes_all(alloc, machine) && is_as_at_boot(machine))
 }
 
-/// Undoes records on a machine whose tables are full.
-pub fn undo_after_map(rt: &HostRuntime, alloc: Global) -> Result<bool, Trouble> {
-    go_back(rt, alloc, UNDONE)
+/// Whether an undo of all records is made, which takes no memory.
+fn undoes_all(alloc: Global, machine: &mut Machine) -> bool {
+    let all = Event::UndoAfter { serial: Serial(0) };
+    machine.call(alloc, Cpu(0), &all).is_ok()
 }
 
-/// Cancels an operation on a machine whose tables are full.
-pub fn cancel_after_map(rt: &HostRuntime, alloc: Global) -> Result<bool, Trouble> {
-    go_back(rt, alloc, CANCELLED)
+/// Whether a machine has no step that may be undone, and the free lists of boot.
+fn is_as_at_boot(machine: &Machine) -> bool {
+    machine.journal_len() == 0
+        && machine.front(Class::Nm, Order(2)) == Some(Frame(0))
+        && machine.front(Class::Mm, Order(2)) == Some(Frame(8))
 }
 
-/// Makes the calls of the lines, the last one on a copy of the machine: there is no room in the tables of a copy.
-fn go_back(rt: &HostRuntime, alloc: Global, lines: &str) -> Result<bool, Trouble> {
-    let scenario = scenario_of(alloc, lines)?;
-    let Some((last, before)) = scenario.lines.as_slice().split_last() else {
+/// Makes the calls of a scenario, the last of which goes back on a machine whose tables are full.
+pub fn go_back(rt: &HostRuntime, alloc: Global, scenario: &Scenario) -> Result<bool, Trouble> {
+    let Some((last, first)) = scenario.lines.as_slice().split_last() else {
         return Err(Trouble::Wrong);
     };
     let mut machine = Machine::boot(alloc, &scenario.layout)?;
-    call_all(alloc, &mut machine, before)?;
+    go_back_after(rt, alloc, &mut machine, first, last)
+}
+
+/// Makes the calls of lines, and that of the last line on a copy of the machine.
+fn go_back_after(
+    rt: &HostRuntime,
+    alloc: Global,
+    machine: &mut Machine,
+    first: &[Line],
+    last: &Line,
+) -> Result<bool, Trouble> {
+    call_all(alloc, machine, first)?;
+    go_back_on_copy(rt, alloc, machine, last)
+}
+
+/// Makes the call of a line on a copy of the machine: there is no room in the tables of a copy.
+fn go_back_on_copy(
+    rt: &HostRuntime,
+    alloc: Global,
+    machine: &Machine,
+    line: &Line,
+) -> Result<bool, Trouble> {
     let mut copy = machine.copy(alloc)?;
     let _said = eprintln!(rt; "set up");
-    goes_back(alloc, &mut copy, last)
+    goes_back(alloc, &mut copy, line)
 }
 
 /// Whether the call of a line goes back to the steps that are to be left.
@@ -127,16 +194,7 @@ fn call_all(alloc: Global, machine: &mut Machine, lines: &[Line]) -> Result<(), 
         let Work::Event(event) = &line.work else {
             return Err(Trouble::Wrong);
         };
-        let _receipt = machine.call(alloc, line.cpu, event)?;
+        make_call(alloc, machine, line.cpu, event)?;
     }
     Ok(())
-}
-
-/// Whether an undo of all records leads to the state at boot.
-fn is_undone(alloc: Global, machine: &mut Machine) -> bool {
-    let all = Event::UndoAfter { serial: Serial(0) };
-    machine.call(alloc, Cpu(0), &all).is_ok()
-        && machine.journal_len() == 0
-        && machine.front(Class::Nm, Order(2)) == Some(Frame(0))
-        && machine.front(Class::Mm, Order(2)) == Some(Frame(8))
 }

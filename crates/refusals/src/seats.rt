@@ -2,37 +2,39 @@
 ghost use Rattle.std.specs.Prelude.{◌≡◌};
 ghost use Rattle.hp_shared.specs.Shared.{IsFresh};
 
+use crate::calls::is_answered;
 use crate::same::{same_machines, same_receipts, same_volumes};
-use crate::situations::scenario_of;
 use crate::trouble::{Case, Trouble, holds};
 use hp_history::Volume;
 use hp_machine::Machine;
-use hp_scenario::{Line, Work};
+use hp_scenario::{Line, Scenario, Work};
 use hp_shared::{CloseFault, CloseRefused, Closed, Job, Seat, Shared, close};
 use hp_units::{Event, Receipt};
-use std::alloc::AllocError;
+use std::alloc::{AllocError, Global};
 use std::marker::Brand;
 use std::sync::Wait;
 use std::sync::ledger::Blank;
 
 /// Calls and seals of both seats.
-const CALLS: &str =
+pub const CALLS: &str =
     r#""0 map db 0","1 map web 0","0 begin off 2","0 seal","1 drainfor 3 0","0 migrate 3","1 seal","0 cancel 3""#;
 
-/// Shares a machine, has its seats call, and closes it.
-pub fn run<R: Wait>(rt: &R, case: &mut Case) -> Result<bool, Trouble> {
-    let scenario = scenario_of(case.alloc, CALLS)?;
+/// Shares a machine, has its seats make the calls of a scenario, and closes it.
+pub fn run<R: Wait>(rt: &R, case: &mut Case, scenario: &Scenario) -> Result<bool, Trouble> {
+    let mut twin = Machine::boot(case.alloc, &scenario.layout)?;
+    run_beside(rt, case, scenario, &mut twin)
+}
+
+/// Does that, and has another machine make the same calls.
+fn run_beside<R: Wait>(
+    rt: &R,
+    case: &mut Case,
+    scenario: &Scenario,
+    twin: &mut Machine,
+) -> Result<bool, Trouble> {
     let machine = Machine::boot(case.alloc, &scenario.layout)?;
     let blank = Blank::new(scenario.layout.cpus() as u64);
-    let mut twin = Machine::boot(case.alloc, &scenario.layout)?;
-    share::<Brand, R>(
-        rt,
-        case,
-        blank,
-        machine,
-        &mut twin,
-        scenario.lines.as_slice(),
-    )
+    share::<Brand, R>(rt, case, blank, machine, twin, scenario.lines.as_slice())
 }
 
 /// Shares a machine. Out of memory, it comes back as it was.
@@ -51,14 +53,33 @@ fn share<L: Job, R: Wait>(
 {
     match Shared::<L>::new(case.alloc, blank, machine) {
         Ok((shared, seats)) => run_all(rt, case, shared, seats, twin, lines),
-        Err((blank, machine)) => {
-            case.note();
-            holds(same_machines(case.alloc, &machine, twin)?)?;
-            match Shared::<L>::new(case.alloc, blank, machine) {
-                Ok((shared, seats)) => run_all(rt, case, shared, seats, twin, lines),
-                Err(_) => Err(Trouble::OutOfMemory),
-            }
+        Err((blank, machine)) => share_again::<L, R>(rt, case, blank, machine, twin, lines),
+    }
+}
+
+/// Shares a machine again, which has to be as it was.
+fn share_again<L: Job, R: Wait>(
+    rt: &R,
+    case: &mut Case,
+    blank: Blank,
+    machine: Machine,
+    twin: &mut Machine,
+    lines: &[Line],
+) -> Result<bool, Trouble>
+    requires machine { IsFresh L.layout machine }
+    requires name { blank.name ≡ L.name }
+    requires parts { blank.parts ≡ L.parts }
+    requires one_each { blank.parts ≡ L.layout.cpus }
+{
+    case.note();
+    let is_kept = same_machines(case.alloc, &machine, twin);
+    match Shared::<L>::new(case.alloc, blank, machine) {
+        Ok((shared, seats)) => {
+            let is_right = run_all(rt, case, shared, seats, twin, lines);
+            holds(is_kept?)?;
+            is_right
         }
+        Err(_) => Err(Trouble::OutOfMemory),
     }
 }
 
@@ -73,8 +94,10 @@ fn run_all<L: Job, R: Wait>(
 ) -> Result<bool, Trouble> {
     let mut seats = seats;
     let mut volumes = Vec::new(case.alloc);
-    run_lines(rt, case, &shared, &mut seats, twin, &mut volumes, lines)?;
-    closes(case, shared, seats, volumes, twin)
+    let ran = run_lines(rt, case, &shared, &mut seats, twin, &mut volumes, lines);
+    let is_right = closes(case, shared, seats, volumes, twin);
+    ran?;
+    is_right
 }
 
 /// Has each line run by the seat of its processor, and by the other machine.
@@ -91,12 +114,25 @@ fn run_lines<L: Job, R: Wait>(
         let Some(seat) = seats.get_mut(line.cpu.0 as usize) else {
             return Err(Trouble::Wrong);
         };
-        match &line.work {
-            Work::Event(event) => run_call(rt, case, shared, seat, twin, event)?,
-            _ => volumes.push(run_seal(rt, case, shared, seat, twin)?)?,
-        }
+        run_line(rt, case, shared, seat, twin, volumes, line)?;
     }
     Ok(())
+}
+
+/// Has a line run by a seat, and by the other machine.
+fn run_line<L: Job, R: Wait>(
+    rt: &R,
+    case: &mut Case,
+    shared: &Shared<L>,
+    seat: &mut Seat<L>,
+    twin: &mut Machine,
+    volumes: &mut Vec<Volume>,
+    line: &Line,
+) -> Result<(), Trouble> {
+    match &line.work {
+        Work::Event(event) => run_call(rt, case, shared, seat, twin, event),
+        _ => run_seal(rt, case, shared, seat, twin, volumes),
+    }
 }
 
 /// A call of a seat.
@@ -108,14 +144,25 @@ fn run_call<L: Job, R: Wait>(
     twin: &mut Machine,
     event: &Event,
 ) -> Result<(), Trouble> {
-    let wanted = twin.call(case.alloc, seat.cpu(), event)?;
     let count = seat.receipts().len();
     let receipt = kept_call(rt, case, shared, seat, event)?;
+    is_receipt(case.alloc, seat, count, twin, event, &receipt)
+}
+
+/// Wants this receipt of the other machine, and the seat to keep it.
+fn is_receipt<L: Job>(
+    alloc: Global,
+    seat: &Seat<L>,
+    count: usize,
+    twin: &mut Machine,
+    event: &Event,
+    receipt: &Receipt,
+) -> Result<(), Trouble> {
     let is_kept = match seat.receipts().get(count) {
-        Some(kept) => same_receipts(kept, &wanted),
+        Some(kept) => same_receipts(kept, receipt),
         None => false,
     };
-    holds(is_kept && same_receipts(&receipt, &wanted))
+    holds(is_kept && is_answered(alloc, twin, seat.cpu(), event, receipt)?)
 }
 
 /// The receipt of a call of a seat; out of memory, the seat keeps none.
@@ -137,24 +184,42 @@ fn kept_call<L: Job, R: Wait>(
     }
 }
 
-/// A seal of a seat.
+/// A seal of a seat, whose volume is kept.
 fn run_seal<L: Job, R: Wait>(
     rt: &R,
     case: &mut Case,
     shared: &Shared<L>,
     seat: &mut Seat<L>,
     twin: &mut Machine,
+    volumes: &mut Vec<Volume>,
+) -> Result<(), Trouble> {
+    volumes.reserve(1)?;
+    let volume = kept_seal(rt, case, shared, seat)?;
+    let is_right = is_volume(case.alloc, twin, &volume);
+    volumes.push_reserved(volume);
+    holds(is_right?)
+}
+
+/// The volume of a seal of a seat.
+fn kept_seal<L: Job, R: Wait>(
+    rt: &R,
+    case: &mut Case,
+    shared: &Shared<L>,
+    seat: &mut Seat<L>,
 ) -> Result<Volume, Trouble> {
-    let wanted = twin.seal(case.alloc)?;
-    let volume = match seat.seal(rt, case.alloc, shared) {
-        Ok(volume) => volume,
+    match seat.seal(rt, case.alloc, shared) {
+        Ok(volume) => Ok(volume),
         Err(AllocError) => {
             case.note();
-            seat.seal(rt, case.alloc, shared)?
+            Ok(seat.seal(rt, case.alloc, shared)?)
         }
-    };
-    holds(same_volumes(&volume, &wanted))?;
-    Ok(volume)
+    }
+}
+
+/// Whether a seal of the other machine hands out this volume.
+fn is_volume(alloc: Global, twin: &mut Machine, volume: &Volume) -> Result<bool, Trouble> {
+    let wanted = twin.seal(alloc)?;
+    Ok(same_volumes(volume, &wanted))
 }
 
 /// Closes the machine. Out of memory, all comes back and it is closed again.

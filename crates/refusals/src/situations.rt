@@ -1,5 +1,6 @@
-//! The situations that calls are made in: lines of scenarios, the last of which is the one that counts.
+//! The cases by name, and the scenarios that they run. In a situation of a call the last of the lines is the one that counts.
 use crate::trouble::Trouble;
+use crate::{audits, memories, rooms, seats};
 use hp_scenario::Scenario;
 use std::alloc::Global;
 
@@ -7,8 +8,24 @@ use std::alloc::Global;
 const LAYOUT: &str =
     r#"{"order":2,"pageblocks":1,"blocks":5,"cpus":2,"batch":2,"high":2,"owners":2,"pages":8,"words":2,"history":100,"boot":["normal","normal","movable","offline","absent"]}"#;
 
-/// The situations by name.
-pub const SITUATIONS: &[(&str, &str)] = &[
+/// The cases by name, with the lines of their scenarios. A case that has none makes what it needs itself.
+const CASES: &[(&str, &str)] = &[
+    ("layouts", ""),
+    ("copies", ""),
+    ("tapes", ""),
+    ("layers", ""),
+    ("images", ""),
+    ("additions", ""),
+    ("maps", ""),
+    ("memories", memories::CALLS),
+    ("audits", audits::CALLS),
+    ("seats", seats::CALLS),
+    ("workers", ""),
+    ("fixed", ""),
+    ("steps-in-room", rooms::STEPS),
+    ("undo-in-room", rooms::RECORDED),
+    ("undo-after-map", rooms::UNDONE),
+    ("cancel-after-map", rooms::CANCELLED),
     ("kernel-alloc", r#""0 kalloc 1""#),
     ("kernel-alloc-of-a-list", r#""0 kalloc 0","0 kalloc 0""#),
     ("kernel-free", r#""0 kalloc 1","0 kfree 0""#),
@@ -79,9 +96,14 @@ pub const SITUATIONS: &[(&str, &str)] = &[
     ),
 ];
 
-/// The lines of a situation.
+/// The cases by name, with the lines of their scenarios.
+pub fn cases() -> &'static [(&'static str, &'static str)] {
+    CASES
+}
+
+/// The lines of the scenario of a case.
 pub fn calls_of(name: &str) -> Option<&'static str> {
-    for (known, calls) in SITUATIONS {
+    for (known, calls) in cases() {
         if *known == name {
             return Some(*calls);
         }

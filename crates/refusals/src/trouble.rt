@@ -6,7 +6,7 @@ use hp_units::{CallFault, LayoutFault};
 use std::alloc::{AllocError, AllocFailed, Global};
 
 /// Why a case did not end.
-#[derive(Clone, Copy, Debug, PartialEq, Eq, Drop)]
+#[derive(Clone, Copy, Drop)]
 pub enum Trouble {
     /// A call was out of memory; the case is run again.
     OutOfMemory,

@@ -4,11 +4,11 @@ ghost use Rattle.hp_scenario.specs.Scripts.{AreForRun};
 ghost use Rattle.hp_shared.specs.Shared.{IsFresh};
 
 use crate::situations::scenario_of;
-use crate::trouble::{Case, Trouble, holds};
+use crate::trouble::{Trouble, holds};
 use hp_control::ControlFault;
 use hp_history::Volume;
 use hp_machine::Machine;
-use hp_scenario::Script;
+use hp_scenario::{Scenario, Script};
 use hp_shared::{CloseFault, Job, Seat, Shared, close};
 use hp_units::{CallFault, OpEnd, Reply};
 use hp_workers::{Ends, LineEnd, OpenGate, RunEnd, run_workers};
@@ -23,12 +23,21 @@ const CALLS: &str =
     r#""0 map db 0","0 write db 0 1 7","0 plan 8 off 2","0 read db 0 1","0 seal","1 echo online memory3/state","1 map web 0","1 write web 0 0 5","1 read web 0 0""#;
 
 /// Has workers run the lines, and closes.
-pub fn run<R: Threads + Wait + Sync>(rt: &R, case: &mut Case) -> Result<bool, Trouble> {
-    let scenario = scenario_of(case.alloc, CALLS)?;
-    let machine = Machine::boot(case.alloc, &scenario.layout)?;
+pub fn run<R: Threads + Wait + Sync>(rt: &R, alloc: Global) -> Result<bool, Trouble> {
+    let scenario = scenario_of(alloc, CALLS)?;
+    run_scenario(rt, alloc, scenario)
+}
+
+/// Makes a machine for a scenario, and has workers run it.
+fn run_scenario<R: Threads + Wait + Sync>(
+    rt: &R,
+    alloc: Global,
+    scenario: Scenario,
+) -> Result<bool, Trouble> {
+    let machine = Machine::boot(alloc, &scenario.layout)?;
     let blank = Blank::new(scenario.layout.cpus() as u64);
-    let scripts = scenario.scripts(case.alloc)?;
-    run_scripts::<Brand, R>(rt, case.alloc, blank, machine, scripts)
+    let scripts = scenario.scripts(alloc)?;
+    run_scripts::<Brand, R>(rt, alloc, blank, machine, scripts)
 }
 
 /// Has workers run a script for each processor, and closes.
@@ -45,9 +54,22 @@ fn run_scripts<L: Job + Send + Sync, R: Threads + Wait + Sync>(
     requires one_each { blank.parts ≡ L.layout.cpus }
     requires run { AreForRun scripts.items }
 {
-    let Ok((shared, seats)) = Shared::<L>::new(alloc, blank, machine) else {
-        return Err(Trouble::OutOfMemory);
-    };
+    match Shared::<L>::new(alloc, blank, machine) {
+        Ok((shared, seats)) => run_seats(rt, alloc, shared, seats, scripts),
+        Err(_) => Err(Trouble::OutOfMemory),
+    }
+}
+
+/// Has workers run a script for each seat, and closes.
+fn run_seats<L: Job + Send + Sync, R: Threads + Wait + Sync>(
+    rt: &R,
+    alloc: Global,
+    shared: Shared<L>,
+    seats: Vec<Seat<L>>,
+    scripts: Vec<Script>,
+) -> Result<bool, Trouble>
+    requires run { AreForRun scripts.items }
+{
     if seats.len() != scripts.len() {
         return Ok(false);
     }
@@ -58,13 +80,26 @@ fn run_scripts<L: Job + Send + Sync, R: Threads + Wait + Sync>(
         fault,
     } = run_workers(rt, alloc, &shared, seats, scripts, &OpenGate);
     let receipts = count_receipts(&seats);
-    holds(seats.len() == 2)?;
-    let records = close_all(alloc, shared, seats, volumes)?;
-    holds(records == receipts)?;
-    if fault.is_some() || is_any_refused(&ends) {
+    let is_whole = seats.len() == 2;
+    let is_short = fault.is_some() || is_any_refused(&ends);
+    let is_right = are_right(&ends);
+    let records = close_all(alloc, shared, seats, volumes);
+    ended(records, receipts, is_whole, is_short, is_right)
+}
+
+/// How a run ended: with as many records as receipts, and with a line out of memory or not.
+fn ended(
+    records: Result<u64, Trouble>,
+    receipts: u64,
+    is_whole: bool,
+    is_short: bool,
+    is_right: bool,
+) -> Result<bool, Trouble> {
+    holds(records? == receipts && is_whole)?;
+    if is_short {
         return Err(Trouble::OutOfMemory);
     }
-    Ok(are_right(&ends))
+    Ok(is_right)
 }
 
 /// The number of all seats' receipts.
