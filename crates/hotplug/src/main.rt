@@ -55,6 +55,3 @@ fn main(rt: HostRuntime) -> ExitCode {
     }
     ExitCode::from(outcome.status())
 }
-
-#[cfg(test)]
-mod tests;

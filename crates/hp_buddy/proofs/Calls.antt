@@ -10,7 +10,8 @@ use Rattle.hp_units.specs.declared.rows.Mobility.{Mobility}
 use Rattle.hp_units.specs.declared.rows.Zone.{Zone}
 use Rattle.hp_units.specs.declared.rows.Zone.TheVariants.{Normal as NormalZone}
 use Rattle.hp_units.specs.LayoutParts.{LayoutParts, IsLayout}
-use Rattle.hp_units.specs.Arithmetic.{frame_count, ancestor, buddy}
+use Rattle.hp_numbers.specs.Numbers.{ancestor}
+use Rattle.hp_units.specs.Arithmetic.{frame_count, buddy}
 use Rattle.hp_units.specs.Memory.{FreeAreas, free_list, with_free_list, class_index, usable_class}
 use Rattle.hp_units.specs.FreeAreas.{Taken, is_on, without, with_front, with_halves, without_free, without_buddies, least_order, take_first, take_front, take_block, greatest_order, steal_front, steal_block, other_mobility, join_order, give_block, class_of}
 use Rattle.hp_units.specs.Placement.{free_places}

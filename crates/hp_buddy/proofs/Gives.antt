@@ -6,7 +6,8 @@ use Rattle.std.proofs.Math.Nat.{mul-le-mul_right, lt-div-mul-add}
 use Rattle.hp_units.specs.declared.rows.Class.{Class}
 use Rattle.hp_units.specs.declared.rows.Zone.{Zone}
 use Rattle.hp_units.specs.LayoutParts.{LayoutParts}
-use Rattle.hp_units.specs.Arithmetic.{buddy, ancestor, frame_count}
+use Rattle.hp_numbers.specs.Numbers.{ancestor}
+use Rattle.hp_units.specs.Arithmetic.{buddy, frame_count}
 use Rattle.hp_units.specs.Memory.{FreeAreas, free_list}
 use Rattle.hp_units.specs.FreeAreas.{without, without_free, without_buddies, join_order, give_block, class_of}
 use Rattle.hp_units.specs.Placement.{free_places, covered}

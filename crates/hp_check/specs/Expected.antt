@@ -2,7 +2,7 @@
 use Rattle.std.specs.Prelude.{ℕ, ◌==◌, List, [], codes, length, nat_lt, Option, Some, None, if◌then◌else◌}
 use Rattle.std.specs.List.{before_first, after_first, position_or_len}
 use Rattle.std.specs.Str.{bytes_eq}
-use Rattle.hp_units.specs.NumberWords.{number_of}
+use Rattle.hp_numbers.specs.NumberWords.{number_of}
 
 -- the text before the first space, and the text after it
 unfoldable pub halves_of : List ℕ → Option (List ℕ × List ℕ)

@@ -8,7 +8,7 @@ ghost use Rattle.hp_check.specs.Ranges as means;
 
 use crate::finding::{Finding, OutOfRange};
 use hp_scenario::{ScenarioFault, boots_at, parts_with};
-use hp_units::Parts;
+use hp_units::{Parts, is_pageblock_count, is_within};
 use serde_json::Value;
 use std::alloc::{AllocError, Global};
 
@@ -79,20 +79,6 @@ fn push_part(found: &mut Vec<Finding>, out: Option<OutOfRange>) -> Result<(), Al
         found.push(Finding::Layout(out))?;
     }
     Ok(())
-}
-
-/// Whether a number lies between two.
-fn is_within(low: u64, high: u64, n: u64) -> bool
-    ensures { result ≡ is_within low high n }
-{
-    low <= n && n <= high
-}
-
-/// Whether a memory block may have so many pageblocks.
-fn is_pageblock_count(n: u64) -> bool
-    ensures { result ≡ is_pageblock_count n }
-{
-    matches!(n, 1 | 2 | 4 | 8 | 16 | 32 | 64)
 }
 
 /// A number that is not within a range.

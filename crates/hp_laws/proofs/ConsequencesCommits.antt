@@ -14,7 +14,8 @@ use Rattle.hp_units.specs.declared.rows.Kind.{Kind}
 use Rattle.hp_units.specs.declared.rows.Row.{Row}
 use Rattle.hp_units.specs.declared.rows.Zone.{Zone}
 use Rattle.hp_units.specs.LayoutParts.{LayoutParts, IsLayout}
-use Rattle.hp_units.specs.Arithmetic.{all_blocks, ancestor, block_of, block_of_pageblock, block_size, frames_of_block, pageblock_of, pageblocks_of}
+use Rattle.hp_numbers.specs.Numbers.{ancestor}
+use Rattle.hp_units.specs.Arithmetic.{all_blocks, block_of, block_of_pageblock, block_size, frames_of_block, pageblock_of, pageblocks_of}
 use Rattle.hp_units.specs.Memory.{FreeAreas, Memory, free_list, isolated_class, offline_row, row_of}
 use Rattle.hp_units.specs.FreeAreas.{class_of_kind, is_on}
 use Rattle.hp_units.specs.Refusals.{frame_in_use, is_all_free, is_free_start, is_in_free_block}

@@ -7,7 +7,7 @@ use Rattle.hp_units.specs.declared.rows.Class.{Class}
 use Rattle.hp_units.specs.declared.rows.Mobility.{Mobility}
 use Rattle.hp_units.specs.declared.rows.Pool.{Pool}
 use Rattle.hp_units.specs.LayoutParts.{LayoutParts}
-use Rattle.hp_units.specs.Arithmetic.{ancestor}
+use Rattle.hp_numbers.specs.Numbers.{ancestor}
 use Rattle.hp_units.specs.Memory.{FreeAreas, free_list, class_of_pool}
 use Rattle.hp_units.specs.FreeAreas.{Taken, least_order, take_first, take_front, take_block, join_order, without_buddies, give_block, with_mobility, steal_block, class_of}
 use Rattle.hp_units.specs.ProcessorLists.{Refill, take_frames, with_first, give_all}

@@ -4,7 +4,8 @@ use Rattle.std.specs.Prelude.{bit_xor}
 use Rattle.std.specs.Int.Bits.{xor_zero_r}
 use Rattle.std.proofs.lemmas.Nat.{xor_block, pow_pos, pow-add, shl-shr, shr-shr, shr_split, div-mul-add, div_below}
 use Rattle.std.proofs.Math.Nat.{pow-suc}
-use Rattle.hp_units.specs.Arithmetic.{buddy, ancestor, frame_count, pageblock_of, pageblock_count}
+use Rattle.hp_numbers.specs.Numbers.{ancestor}
+use Rattle.hp_units.specs.Arithmetic.{buddy, frame_count, pageblock_of, pageblock_count}
 use Rattle.hp_units.specs.LayoutParts.{LayoutParts}
 
 -- a number is twice its half, and perhaps one more

@@ -5,7 +5,8 @@ use Rattle.std.proofs.Math.Nat.{pow-suc, div-div-eq-div-mul}
 use Rattle.hp_units.specs.declared.rows.Class.{Class}
 use Rattle.hp_units.specs.declared.rows.Zone.{Zone}
 use Rattle.hp_units.specs.LayoutParts.{LayoutParts}
-use Rattle.hp_units.specs.Arithmetic.{buddy, ancestor}
+use Rattle.hp_numbers.specs.Numbers.{ancestor}
+use Rattle.hp_units.specs.Arithmetic.{buddy}
 use Rattle.hp_units.specs.Memory.{FreeAreas, free_list, with_free_list, class_index}
 use Rattle.hp_units.specs.FreeAreas.{is_on, without, without_free, join_order, without_buddies, give_block, class_of}
 use Rattle.hp_units.specs.Placement.{list_places, free_places, covered}

@@ -9,11 +9,11 @@ use Rattle.hp_units.specs.declared.rows.Zone.{Zone}
 use Rattle.hp_units.specs.declared.rows.Zone.TheVariants as zone
 use Rattle.hp_scenario.specs.Lines.{Request, plain, named, Said, words_say, request_of, event_of, only_number, zone_of, wish_of, item_of, items_of, text_of, kalloc_of, kfree_of, map_of, unmap_of, write_of, read_of, drain_of, online_of, begin_of, drainfor_of, migrate_of, commit_of, cancel_of, undo_of, remove_of, plan_of, echo_of, cat_of, seal_of}
 use Rattle.hp_scenario.specs.Spelling.{zone_word, wish_word, item_words, request_words, FitItems, FitsRequest, IsText, CanBeSaid, is_spaceless}
-use Rattle.hp_units.specs.NumberWords.{number_of}
+use Rattle.hp_numbers.specs.NumberWords.{number_of}
 use Rattle.hp_scenario.specs.Words.{name_of, is_name}
 use Rattle.hp_scenario.specs.declared.lines.Work.TheVariants as work
 use Rattle.hp_scenario.specs.declared.requests.Access.TheVariants as access
-use Rattle.hp_units.proofs.NumbersSpelled.{spelled_is}
+use Rattle.hp_numbers.proofs.NumbersSpelled.{spelled_is}
 use Rattle.hp_scenario.proofs.WordsSpelled.{AreSpaceless, decimal_spaceless, name_spaceless}
 
 -- a number's word is read as the number

@@ -7,7 +7,7 @@ use Rattle.std.proofs.lemmas.Bool.{and_parts, ne_eqb, leb-true, eqb-true}
 use Rattle.std.proofs.lemmas.Fmt.{digits_decimal}
 use Rattle.hp_scenario.specs.Words.{is_name, is_name_byte}
 use Rattle.hp_scenario.specs.Spelling.{is_spaceless}
-use Rattle.hp_units.proofs.NumbersSpelled.{own}
+use Rattle.hp_numbers.proofs.NumbersSpelled.{own}
 
 -- a byte that is not a space
 abbrev pub is_no_space : ℕ → Bool

@@ -1,6 +1,4 @@
 mod Limits
-mod NumbersParsed
-pub mod NumbersSpelled
 mod Script
 mod Worked
 mod WorkedHistories

@@ -13,8 +13,6 @@ pub mod Marks
 pub mod Memory
 pub mod Migrations
 pub mod Names
-pub mod NumberWords
-pub mod Numbers
 pub mod Pages
 pub mod PartsSeen
 pub mod Placement

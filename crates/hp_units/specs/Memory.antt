@@ -1,7 +1,7 @@
 -- The state of the machine's memory, as plain lists, with the readers and writers of each part. A reader answers nothing,
 -- or the state of an offline block, for a number that isn't in the layout, and a writer changes nothing there.
 use Rattle.std.specs.Prelude.{ℕ, zero, suc, ◌+◌, ◌*◌, false, List, [], Option, None, slice_index_or, slice_set}
-use Rattle.hp_units.specs.Numbers.{Frame, Order, Pageblock, Block, Cpu, Owner, Page}
+use Rattle.hp_numbers.specs.Numbers.{Frame, Order, Pageblock, Block, Cpu, Owner, Page}
 use Rattle.hp_units.specs.Names.{Zone, NormalZone, MovableZone, Mobility, Unmovable, Movable, Class, Nu, Nm, Mm, IsoN, IsoM, Pool, NuPool, NmPool, MmPool, OfflineState, Auto, Kind, Row}
 
 -- the free areas: the free blocks of each class and order, front first, and the kind of each pageblock

@@ -1,7 +1,7 @@
 -- Where a page of an operation's going blocks moves from, and where to.
 use Rattle.std.specs.Prelude.{Option, find, flat_map, is_some}
 use Rattle.std.specs.Option.{option_or}
-use Rattle.hp_units.specs.Numbers.{Frame, Serial}
+use Rattle.hp_numbers.specs.Numbers.{Frame, Serial}
 use Rattle.hp_units.specs.Names.{Nm, Mm, Movable}
 use Rattle.hp_units.specs.LayoutParts.{LayoutParts}
 use Rattle.hp_units.specs.Arithmetic.{frames_of_block}

@@ -1,9 +1,9 @@
 //! The events of the machine.
 ghost use Rattle.std.specs.Prelude.{◌≡◌, ◌↔◌, IfOk, IsTrue};
 
-use crate::numbers::{Block, Cpu, Frame, Order, Owner, Page, Serial};
 use crate::plans::Plan;
 use crate::rows::{Auto, Zone};
+use hp_numbers::{Block, Cpu, Frame, Order, Owner, Page, Serial};
 use std::alloc::{AllocError, Global};
 
 /// One event, made by one processor. Its refusals and what it does are those of the definitions in specs/Refusals and specs/Step.

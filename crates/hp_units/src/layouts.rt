@@ -4,8 +4,8 @@ ghost use Rattle.hp_units.specs.Arithmetic.{block_bytes, block_of, block_size, b
 ghost use Rattle.hp_units.specs.LayoutParts.{IsLayout, frame_fault, is_pageblock_count, is_within, layout_fault, owner_fault, processor_fault};
 ghost use Rattle.hp_units.specs.PartsSeen.{IsLayoutFault, parts_seen};
 
-use crate::numbers::{Block, Frame, Order, Pageblock};
 use crate::rows::Boot;
+use hp_numbers::{Block, Frame, Order, Pageblock};
 use std::alloc::{AllocError, Global};
 use std::marker::Model;
 
@@ -294,16 +294,16 @@ impl Layout {
     }
 }
 
-/// Whether a number lies between two.
-fn is_within(low: u64, high: u64, n: u64) -> bool
+/// Whether a number lies between two, both included (own rule).
+pub fn is_within(low: u64, high: u64, n: u64) -> bool
     ensures is { result ≡ is_within low high n }
     ensures bound { IsTrue result → n ≤ high }
 {
     low <= n && n <= high
 }
 
-/// Whether a memory block may have so many pageblocks.
-fn is_pageblock_count(n: u64) -> bool
+/// Whether a memory block may have so many pageblocks: a power of two, 1 to 64 (own rule).
+pub fn is_pageblock_count(n: u64) -> bool
     ensures is { result ≡ is_pageblock_count n }
     ensures bound { IsTrue result → n ≤ 64 }
 {

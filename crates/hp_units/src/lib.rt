@@ -5,20 +5,20 @@
 pub mod events;
 pub mod layouts;
 pub mod marks;
-pub mod number_words;
-pub mod numbers;
 pub mod plans;
 pub mod replies;
 pub mod rows;
-pub mod text;
 pub mod texts;
 
 pub use events::Event;
-pub use layouts::{Layout, LayoutFault, Parts, block_of, buddy, pageblock_of};
+pub use hp_numbers::{
+    Block, Cpu, Frame, Order, Owner, Page, Pageblock, Serial, Text, number32, number64,
+    numbers_are_spelled,
+};
+pub use layouts::{
+    Layout, LayoutFault, Parts, block_of, buddy, is_pageblock_count, is_within, pageblock_of,
+};
 pub use marks::{Mark, Tag, is_step, mark_of};
-pub use number_words::{number32, number64, numbers_are_spelled};
-pub use numbers::{Block, Cpu, Frame, Order, Owner, Page, Pageblock, Serial};
 pub use plans::{Item, Plan, Words};
 pub use replies::{CallFault, OpEnd, Receipt, Record, Refusal, Reply};
 pub use rows::{Auto, Boot, Claim, Class, Kind, Mobility, Pool, Row, State, Wish, Zone};
-pub use text::Text;

@@ -4,8 +4,8 @@ ghost use Rattle.hp_units.specs.History.{is_look, is_refused};
 ghost use Rattle.hp_units.specs.Marks.{mark_of};
 
 use crate::events::Event;
-use crate::numbers::Serial;
 use crate::replies::Reply;
+use hp_numbers::Serial;
 
 /// How a step counts for the operation that it may belong to (own rule).
 #[derive(Clone, Copy, Debug, PartialEq, Eq, Drop)]

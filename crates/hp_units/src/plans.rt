@@ -1,8 +1,8 @@
 //! Plans, and the words of a page. A contract sees each as a list.
 ghost use Rattle.std.specs.Prelude.{◌≡◌, ◌↔◌, ◌<◌, IfOk, IsTrue, length, slice_set};
 
-use crate::numbers::Block;
 use crate::rows::Wish;
+use hp_numbers::Block;
 use std::alloc::{AllocError, Global};
 use std::marker::Model;
 

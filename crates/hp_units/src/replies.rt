@@ -2,7 +2,7 @@
 ghost use Rattle.std.specs.Prelude.{◌≡◌, ◌↔◌, IsTrue};
 
 use crate::events::Event;
-use crate::numbers::{Block, Cpu, Frame, Serial};
+use hp_numbers::{Block, Cpu, Frame, Serial};
 
 /// Why an event was refused. A refusal is recorded and changes no state; it is the first of its event's order that applies.
 #[derive(Clone, Copy, Debug, PartialEq, Eq, Drop)]

@@ -2,87 +2,9 @@
 ghost use Rattle.std.specs.Prelude.{Some};
 
 use crate::layouts::LayoutFault;
-use crate::numbers::{Block, Cpu, Frame, Order, Page, Pageblock, Serial};
 use crate::replies::{CallFault, Refusal, Reply};
 use crate::rows::{Auto, Class, Pool, Zone};
 use std::fmt;
-
-impl fmt::Display for Block {
-    ghost use Rattle.std.specs.Fmt.{decimal};
-
-    ghost output = { λ n. Some (decimal n) };
-
-    fn fmt<W: fmt::Write>(&self, f: &mut fmt::Formatter<W>) -> fmt::Result {
-        let block = self.0;
-        write!(f, "{block}")
-    }
-}
-
-impl fmt::Display for Cpu {
-    ghost use Rattle.std.specs.Fmt.{decimal};
-
-    ghost output = { λ n. Some (decimal n) };
-
-    fn fmt<W: fmt::Write>(&self, f: &mut fmt::Formatter<W>) -> fmt::Result {
-        let cpu = self.0;
-        write!(f, "{cpu}")
-    }
-}
-
-impl fmt::Display for Frame {
-    ghost use Rattle.std.specs.Fmt.{decimal};
-
-    ghost output = { λ n. Some (decimal n) };
-
-    fn fmt<W: fmt::Write>(&self, f: &mut fmt::Formatter<W>) -> fmt::Result {
-        let frame = self.0;
-        write!(f, "{frame}")
-    }
-}
-
-impl fmt::Display for Order {
-    ghost use Rattle.std.specs.Fmt.{decimal};
-
-    ghost output = { λ n. Some (decimal n) };
-
-    fn fmt<W: fmt::Write>(&self, f: &mut fmt::Formatter<W>) -> fmt::Result {
-        let order = self.0;
-        write!(f, "{order}")
-    }
-}
-
-impl fmt::Display for Page {
-    ghost use Rattle.std.specs.Fmt.{decimal};
-
-    ghost output = { λ n. Some (decimal n) };
-
-    fn fmt<W: fmt::Write>(&self, f: &mut fmt::Formatter<W>) -> fmt::Result {
-        let page = self.0;
-        write!(f, "{page}")
-    }
-}
-
-impl fmt::Display for Pageblock {
-    ghost use Rattle.std.specs.Fmt.{decimal};
-
-    ghost output = { λ n. Some (decimal n) };
-
-    fn fmt<W: fmt::Write>(&self, f: &mut fmt::Formatter<W>) -> fmt::Result {
-        let pageblock = self.0;
-        write!(f, "{pageblock}")
-    }
-}
-
-impl fmt::Display for Serial {
-    ghost use Rattle.std.specs.Fmt.{decimal};
-
-    ghost output = { λ n. Some (decimal n) };
-
-    fn fmt<W: fmt::Write>(&self, f: &mut fmt::Formatter<W>) -> fmt::Result {
-        let serial = self.0;
-        write!(f, "{serial}")
-    }
-}
 
 impl fmt::Display for Refusal {
     ghost use Rattle.hp_units.specs.Texts.{refusal_text};
@@ -144,10 +66,10 @@ impl fmt::Display for CallFault {
     ghost output = { λ x. Some (call_fault_text x) };
 
     fn fmt<W: fmt::Write>(&self, f: &mut fmt::Formatter<W>) -> fmt::Result {
-        match self {
-            CallFault::HistoryFull => write!(f, "HistoryFull"),
-            CallFault::OutOfMemory => write!(f, "OutOfMemory"),
-        }
+        f.write_str(match self {
+            CallFault::HistoryFull => "HistoryFull",
+            CallFault::OutOfMemory => "OutOfMemory",
+        })
     }
 }
 
@@ -157,20 +79,20 @@ impl fmt::Display for LayoutFault {
     ghost output = { λ x. Some (layout_fault_text x) };
 
     fn fmt<W: fmt::Write>(&self, f: &mut fmt::Formatter<W>) -> fmt::Result {
-        match self {
-            LayoutFault::BadOrder => write!(f, "BadOrder"),
-            LayoutFault::BadPageblocks => write!(f, "BadPageblocks"),
-            LayoutFault::BadBlocks => write!(f, "BadBlocks"),
-            LayoutFault::TooManyFrames => write!(f, "TooManyFrames"),
-            LayoutFault::BadCpus => write!(f, "BadCpus"),
-            LayoutFault::BadMarks => write!(f, "BadMarks"),
-            LayoutFault::BadOwners => write!(f, "BadOwners"),
-            LayoutFault::BadPages => write!(f, "BadPages"),
-            LayoutFault::BadWords => write!(f, "BadWords"),
-            LayoutFault::BadLimit => write!(f, "BadLimit"),
-            LayoutFault::BadBoot => write!(f, "BadBoot"),
-            LayoutFault::OutOfMemory => write!(f, "OutOfMemory"),
-        }
+        f.write_str(match self {
+            LayoutFault::BadOrder => "BadOrder",
+            LayoutFault::BadPageblocks => "BadPageblocks",
+            LayoutFault::BadBlocks => "BadBlocks",
+            LayoutFault::TooManyFrames => "TooManyFrames",
+            LayoutFault::BadCpus => "BadCpus",
+            LayoutFault::BadMarks => "BadMarks",
+            LayoutFault::BadOwners => "BadOwners",
+            LayoutFault::BadPages => "BadPages",
+            LayoutFault::BadWords => "BadWords",
+            LayoutFault::BadLimit => "BadLimit",
+            LayoutFault::BadBoot => "BadBoot",
+            LayoutFault::OutOfMemory => "OutOfMemory",
+        })
     }
 }
 
@@ -180,13 +102,13 @@ impl fmt::Display for Class {
     ghost output = { λ x. Some (class_text x) };
 
     fn fmt<W: fmt::Write>(&self, f: &mut fmt::Formatter<W>) -> fmt::Result {
-        match self {
-            Class::Nu => write!(f, "NU"),
-            Class::Nm => write!(f, "NM"),
-            Class::Mm => write!(f, "MM"),
-            Class::IsoN => write!(f, "IN"),
-            Class::IsoM => write!(f, "IM"),
-        }
+        f.write_str(match self {
+            Class::Nu => "NU",
+            Class::Nm => "NM",
+            Class::Mm => "MM",
+            Class::IsoN => "IN",
+            Class::IsoM => "IM",
+        })
     }
 }
 
@@ -196,11 +118,11 @@ impl fmt::Display for Pool {
     ghost output = { λ x. Some (pool_text x) };
 
     fn fmt<W: fmt::Write>(&self, f: &mut fmt::Formatter<W>) -> fmt::Result {
-        match self {
-            Pool::Nu => write!(f, "NU"),
-            Pool::Nm => write!(f, "NM"),
-            Pool::Mm => write!(f, "MM"),
-        }
+        f.write_str(match self {
+            Pool::Nu => "NU",
+            Pool::Nm => "NM",
+            Pool::Mm => "MM",
+        })
     }
 }
 
@@ -210,10 +132,10 @@ impl fmt::Display for Zone {
     ghost output = { λ x. Some (zone_text x) };
 
     fn fmt<W: fmt::Write>(&self, f: &mut fmt::Formatter<W>) -> fmt::Result {
-        match self {
-            Zone::Normal => write!(f, "normal"),
-            Zone::Movable => write!(f, "movable"),
-        }
+        f.write_str(match self {
+            Zone::Normal => "normal",
+            Zone::Movable => "movable",
+        })
     }
 }
 
@@ -223,11 +145,11 @@ impl fmt::Display for Auto {
     ghost output = { λ x. Some (auto_text x) };
 
     fn fmt<W: fmt::Write>(&self, f: &mut fmt::Formatter<W>) -> fmt::Result {
-        match self {
-            Auto::Offline => write!(f, "offline"),
-            Auto::Online => write!(f, "online"),
-            Auto::OnlineKernel => write!(f, "online_kernel"),
-            Auto::OnlineMovable => write!(f, "online_movable"),
-        }
+        f.write_str(match self {
+            Auto::Offline => "offline",
+            Auto::Online => "online",
+            Auto::OnlineKernel => "online_kernel",
+            Auto::OnlineMovable => "online_movable",
+        })
     }
 }

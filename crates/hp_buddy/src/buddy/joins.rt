@@ -1,6 +1,7 @@
 //! Blocks that come back: their buddies leave the lists.
 ghost use Rattle.std.specs.Prelude.{◌≡◌, ℕ, true, ◌-◌, ◌<◌, ◌≤◌};
-ghost use Rattle.hp_units.specs.Arithmetic.{ancestor, buddy, frame_count};
+ghost use Rattle.hp_numbers.specs.Numbers.{ancestor};
+ghost use Rattle.hp_units.specs.Arithmetic.{buddy, frame_count};
 ghost use Rattle.hp_units.specs.FreeAreas.{class_of, is_on, without_buddies};
 ghost use Rattle.hp_units.specs.LayoutParts.{IsLayout};
 ghost use Rattle.hp_units.specs.Memory.{free_list};

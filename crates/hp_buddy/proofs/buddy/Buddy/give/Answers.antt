@@ -2,7 +2,8 @@
 use Rattle.std.proofs.Common.{◌≡◌, ◌≤◌, ◌<◌, ℕ, ◌+◌, ◌-◌, arith, subst, sym, ◌∙◌}
 use Rattle.std.proofs.lemmas.Nat.{pow_pos}
 use Rattle.hp_units.specs.LayoutParts.{LayoutParts}
-use Rattle.hp_units.specs.Arithmetic.{frame_count, ancestor}
+use Rattle.hp_numbers.specs.Numbers.{ancestor}
+use Rattle.hp_units.specs.Arithmetic.{frame_count}
 use Rattle.hp_units.specs.Memory.{FreeAreas}
 use Rattle.hp_units.specs.FreeAreas.{give_block}
 use Rattle.hp_units.specs.Placement.{free_places}

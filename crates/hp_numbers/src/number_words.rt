@@ -1,6 +1,6 @@
 //! Numbers as words.
 ghost use Rattle.std.specs.Prelude.{◌≡◌};
-ghost use Rattle.hp_units.specs.NumberWords.{NumbersAreSpelled, is_bare as bare, number_of};
+ghost use Rattle.hp_numbers.specs.NumberWords.{NumbersAreSpelled, is_bare as bare, number_of};
 
 /// No sign, and no 0 before another digit.
 fn is_bare(word: &str) -> bool

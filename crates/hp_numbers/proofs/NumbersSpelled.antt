@@ -7,7 +7,7 @@ use Rattle.std.proofs.Math.Pow.{pow_mono}
 use Rattle.std.specs.Fmt.{decimal}
 use Rattle.std.specs.Str.{all_ascii_digits}
 use Rattle.std.specs.Str.Parse.{digits_value}
-use Rattle.hp_units.specs.NumberWords.{is_bare, is_digits, digits_in, number_of}
+use Rattle.hp_numbers.specs.NumberWords.{is_bare, is_digits, digits_in, number_of}
 
 -- std's words for digits and their value
 pub own : IsNumeralModel (λ ds. all_ascii_digits ds ≡ true) (digits_value 10)

@@ -6,7 +6,7 @@ use Rattle.std.specs.Str.Parse.{digits_value, ParsesUnsigned}
 use Rattle.std.proofs.lemmas.Str.Parse.{IsNumeralModel, numerals_by_value, tells_all_ascii_digits, parse_plain}
 use Rattle.std.proofs.lemmas.Bool.{ltb-true, lt-ltb, eq-eqb}
 use Rattle.std.specs.Result.{OkIff}
-use Rattle.hp_units.specs.NumberWords.{is_bare, is_digits, digits_in, number_of}
+use Rattle.hp_numbers.specs.NumberWords.{is_bare, is_digits, digits_in, number_of}
 
 -- std's words for digits and their value
 own : IsNumeralModel (λ ds. all_ascii_digits ds ≡ true) (digits_value 10)

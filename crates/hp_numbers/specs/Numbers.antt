@@ -1,5 +1,5 @@
 -- What a number counts, in the signatures of the definitions: each is the number itself, and costs a proof nothing.
-use Rattle.std.specs.Prelude.{ℕ}
+use Rattle.std.specs.Prelude.{ℕ, ◌*◌, ◌/◌, ◌^◌}
 
 -- a page frame (Gorman, chapter 2), and the order of a block of 2^order frames (Knuth, volume 1, section 2.5)
 abbrev pub Frame : Type 0
@@ -28,3 +28,7 @@ Page = ℕ
 -- the serial of a record, which also names the operation that its Begin opens (own rule)
 abbrev pub Serial : Type 0
 Serial = ℕ
+
+-- the first frame of the block of an order that a frame lies in (Knuth, volume 1, section 2.5)
+abbrev pub ancestor : Frame → Order → Frame
+ancestor frame order = frame / 2 ^ order * 2 ^ order

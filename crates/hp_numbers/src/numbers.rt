@@ -1,6 +1,6 @@
 //! Numbers of things. A contract sees each as the number itself.
 ghost use Rattle.std.specs.Prelude.{◌≡◌, ℕ, ◌<◌};
-ghost use Rattle.hp_units.specs.Arithmetic.{ancestor};
+ghost use Rattle.hp_numbers.specs.Numbers.{ancestor};
 
 use std::marker::Model;
 

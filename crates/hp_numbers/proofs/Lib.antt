@@ -1,0 +1,2 @@
+mod NumbersParsed
+pub mod NumbersSpelled

@@ -1,0 +1,2 @@
+pub mod NumberWords
+pub mod Numbers

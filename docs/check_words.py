@@ -1,0 +1,182 @@
+#!/usr/bin/env python3
+"""Tries the command lines of both programs. `check` at the top runs it after the gate; alone it
+takes the folder of the crates:
+
+    python3 docs/check_words.py [CRATES]        without CRATES: crates
+
+Of `hotplug`: each command writes what it alone writes, and other words end with status 2 and the
+names of the commands. Of `hotplug_lab`: each option has its place and its default, the file is
+read as standard input is, the status is that of the help, and other words end with status 2.
+The last line is 'words: N passed, M failed'; the exit status is 0 where nothing failed, else 1.
+"""
+import json
+import re
+import subprocess
+import sys
+import tempfile
+from pathlib import Path
+
+ROOT = Path(__file__).resolve().parent.parent
+SECONDS = 60
+LAYOUT = {"order": 1, "pageblocks": 1, "blocks": 2, "cpus": 2, "batch": 1, "high": 1, "owners": 1,
+          "pages": 2, "words": 1, "history": 100, "boot": ["normal", "movable"]}
+CALLS = ["0 map db 0", "0 write db 0 0 7", "1 map db 1", "0 kalloc 0", "1 unmap db 1",
+         "0 read db 0 0", "1 drain 1", "0 kfree 0", "1 map db 1"]
+READS = 13
+READ_ORDERS = 10400600
+NO_COMMAND = "hotplug: serial, run or audit\n"
+
+
+class Checks:
+    """What was checked, and what failed."""
+
+    def __init__(self):
+        self.passed, self.failures = 0, []
+
+    def holds(self, where, is_right, message):
+        if is_right:
+            self.passed += 1
+        else:
+            self.failures.append(f"{where}: {message}")
+
+    def same(self, where, expected, got):
+        self.holds(where, expected == got, f"{got!r} in place of {expected!r}")
+
+
+class Program:
+    """One of the programs."""
+
+    def __init__(self, path):
+        self.path = path
+
+    def call(self, *words, scenario=None):
+        """The exit status, standard output and standard error, for a scenario or an empty input."""
+        text = b"" if scenario is None else json.dumps(scenario).encode()
+        ran = subprocess.run([self.path, *words], input=text, capture_output=True, timeout=SECONDS)
+        return ran.returncode, ran.stdout.decode(), ran.stderr.decode()
+
+
+def scenario_of(calls):
+    return {"layout": LAYOUT, "calls": calls}
+
+
+# hotplug
+
+def check_commands(checks, hotplug):
+    whole = scenario_of(CALLS)
+    forms = {"serial": r"1: done\n(.*\n)*state\nblock 0 (.*\n)*",
+             "run": rf"cpu 0\n(.*\n)*cpu 1\n(.*\n)*{len(CALLS)} records\n",
+             "audit": rf"(.*\n)*audit ok\n"}
+    for word, form in forms.items():
+        status, out, error = hotplug.call(word, scenario=whole)
+        checks.same(f"hotplug {word}", (0, ""), (status, error))
+        checks.holds(f"hotplug {word}", re.fullmatch(form, out), f"writes {out!r}")
+    for words in ((), ("walk",), ("",), ("help",), ("--help",), ("--serial",), ("run", "twice"),
+                  ("serial", "run")):
+        checks.same(f"hotplug {words}", (2, "", NO_COMMAND), hotplug.call(*words, scenario=whole))
+
+
+# hotplug_lab
+
+def lines_shown(trace):
+    """The numbers of the lines that a trace has rows of."""
+    return [int(number) for number in re.findall(r"(?m)^ {0,3}(\d+) \d", trace)]
+
+
+def check_file(checks, lab, word, scenario):
+    """A word reads the file that is named as it reads standard input."""
+    expected = lab.call(word, scenario=scenario)
+    with tempfile.NamedTemporaryFile("w", suffix=".json") as file:
+        json.dump(scenario, file)
+        file.flush()
+        checks.same(f"hotplug_lab {word} FILE", expected, lab.call(word, file.name))
+    status, out, error = lab.call(word, "no such file")
+    checks.same(f"hotplug_lab {word} of no file", (1, ""), (status, out))
+    checks.holds(f"hotplug_lab {word} of no file", error.startswith("hotplug_lab: "), error)
+
+
+def check_explore(checks, lab):
+    scripts = scenario_of(CALLS[:6])
+    plain = lab.call("explore", scenario=scripts)
+    checks.same("explore", (0, "interleavings: 15"), (plain[0], plain[1].split("\n")[0]))
+    checks.same("explore --setup 0", plain, lab.call("explore", "--setup", "0", scenario=scripts))
+    for setup, count in ((1, 10), (2, 6), (3, 3), (5, 1)):
+        options = ("--limit", str(count), "--setup", str(setup))
+        status, out, _ = lab.call("explore", *options, scenario=scripts)
+        checks.same(f"explore {options}", (0, f"interleavings: {count}"),
+                    (status, out.split("\n")[0]))
+    refused = (1, "", "hotplug_lab: more interleavings than the limit\n")
+    options = ("--setup", "1", "--limit", "9")
+    checks.same(f"explore {options}", refused, lab.call("explore", *options, scenario=scripts))
+    many = scenario_of([f"{cpu} read db 0 0" for cpu in (0, 1)] * READS)
+    checks.same("explore by default", refused, lab.call("explore", scenario=many))
+    status, out, _ = lab.call("explore", "--limit", str(READ_ORDERS), scenario=many)
+    checks.same(f"explore --limit {READ_ORDERS}", (0, f"interleavings: {READ_ORDERS}"),
+                (status, out.split("\n")[0]))
+
+
+def check_trace(checks, lab):
+    whole = scenario_of(CALLS)
+    plain = lab.call("trace", scenario=whole)
+    checks.same("trace", (0, list(range(1, 10))), (plain[0], lines_shown(plain[1])))
+    defaults = ("--from", "1", "--to", str(2**64 - 1), "--every", "1", "--width", "200")
+    checks.same("trace with its defaults", plain, lab.call("trace", *defaults, scenario=whole))
+    for options, shown in ((("--from", "4"), range(4, 10)), (("--to", "3"), range(1, 4)),
+                           (("--every", "4"), (1, 5, 9)),
+                           (("--width", "80", "--every", "3", "--to", "8", "--from", "2"),
+                            (2, 5, 8))):
+        status, out, _ = lab.call("trace", *options, scenario=whole)
+        checks.same(f"trace {options}", (0, list(shown)), (status, lines_shown(out)))
+    widest = max(map(len, plain[1].splitlines()))
+    checks.same("trace --width", plain, lab.call("trace", "--width", str(widest), scenario=whole))
+    narrow = lab.call("trace", "--width", str(widest - 1), scenario=whole)
+    checks.holds("trace --width", narrow != plain, "shows all memory blocks in a narrower row")
+
+
+def check_picture(checks, lab):
+    whole = scenario_of(CALLS)
+    status, out, error = lab.call("trace", "--svg", "--to", "4", scenario=whole)
+    checks.same("trace --svg", (0, ""), (status, error))
+    checks.holds("trace --svg", out.startswith("<svg "), f"writes {out[:80]!r}")
+    for number, call in enumerate(CALLS, 1):
+        shown = f"{number} {call}" in out
+        checks.holds("trace --svg --to 4", shown == (number <= 4), f"line {number}: {shown}")
+
+
+def check_lab(checks, lab):
+    whole = scenario_of(CALLS)
+    for word in ("check", "explore", "trace"):
+        check_file(checks, lab, word, whole)
+    checks.same("check", (0, "faults: 0, warnings: 0\n", ""), lab.call("check", scenario=whole))
+    checks.same("check of a fault", 1, lab.call("check", scenario=scenario_of(["0 walk"]))[0])
+    check_explore(checks, lab)
+    check_trace(checks, lab)
+    check_picture(checks, lab)
+    for words in ((), ("walk",), ("explore", "--setup", "x"), ("explore", "--setup", "-1"),
+                  ("explore", "--every", "2"), ("trace", "--limit", "2"), ("check", "--svg"),
+                  ("trace", "a", "b"), ("trace", "--width"), ("trace", "--to", str(2**64))):
+        status, out, error = lab.call(*words, scenario=whole)
+        checks.same(f"hotplug_lab {words}", (2, ""), (status, out))
+        checks.holds(f"hotplug_lab {words}", error, "says nothing")
+    for words in (("--help",), ("explore", "--help"), ("--version",)):
+        status, out, error = lab.call(*words)
+        checks.same(f"hotplug_lab {words}", (0, ""), (status, error))
+        checks.holds(f"hotplug_lab {words}", out, "writes nothing")
+
+
+def main(words):
+    crates = Path(words[0] if words else ROOT / "crates").resolve()
+    checks = Checks()
+    try:
+        check_commands(checks, Program(crates / "hotplug/out/hotplug"))
+        check_lab(checks, Program(crates / "hotplug_lab/out/hotplug_lab"))
+    except (ValueError, LookupError, OSError, subprocess.SubprocessError) as error:
+        checks.holds("words", False, f"cannot be tried: {error!r}")
+    for failure in checks.failures:
+        print(failure)
+    print(f"words: {checks.passed} passed, {len(checks.failures)} failed")
+    return 1 if checks.failures else 0
+
+
+if __name__ == "__main__":
+    sys.exit(main(sys.argv[1:]))
