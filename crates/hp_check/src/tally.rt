@@ -2,8 +2,7 @@
 ghost use Rattle.std.specs.Prelude.{◌≡◌, ◌+◌, ◌^◌, ◌<◌, Ok, OnOk, slice_get};
 ghost use Rattle.hp_check.specs.Tally as means;
 
-use crate::requests::request_of;
-use hp_control::Request;
+use hp_control::{Request, echo_answer};
 use hp_scenario::Work;
 use hp_units::{Event, Serial};
 use std::alloc::{AllocError, Global};
@@ -48,7 +47,7 @@ impl Tally {
                 self.add_plan();
                 Ok(())
             }
-            Work::Echo { path, text } => match request_of(alloc, path, text)? {
+            Work::Echo { path, text } => match echo_answer(alloc, path.as_str(), text.as_str())? {
                 Ok(request) => self.add_request(&request),
                 Err(_fault) => Ok(()),
             },

@@ -5,9 +5,9 @@ ghost use Rattle.hp_control.specs.Writes.{request_of};
 ghost use Rattle.hp_check.specs.Warnings as means;
 
 use crate::finding::{Finding, Warning, What};
-use crate::requests::{is_no_file, request_of};
+use crate::requests::is_no_file;
 use crate::tally::Tally;
-use hp_control::Request;
+use hp_control::{Request, echo_answer};
 use hp_scenario::{Line, Work};
 use hp_units::{Block, Cpu, Event, Layout, Owner, Page, Plan, Serial};
 use std::alloc::{AllocError, Global};
@@ -61,7 +61,7 @@ fn work_warning(
         Work::Plan { plan, turns } => Ok(carried_warning(layout, tally, cpu, plan).or(
             too_many_turns(layout, *turns),
         )),
-        Work::Echo { path, text } => match request_of(alloc, path, text)? {
+        Work::Echo { path, text } => match echo_answer(alloc, path.as_str(), text.as_str())? {
             Ok(request) => Ok(request_warning(layout, tally, cpu, &request)),
             Err(fault) => Ok(Some(Warning::Echo(fault))),
         },

@@ -12,5 +12,5 @@ mod zones;
 pub use fault::ControlFault;
 pub use laws::{addresses_are_spelled, auto_is_written_back, block_paths_are_spelled};
 pub use reads::{read_file, read_text};
-pub use writes::{CONTROL_TURNS, Request, parse_echo, parse_write};
+pub use writes::{CONTROL_TURNS, Request, echo_answer, parse_echo, parse_write};
 pub use zones::buddyinfo;

@@ -49,6 +49,22 @@ pub fn parse_echo(alloc: Global, path: &str, word: &str) -> Result<Request, Cont
     parse_write(alloc, path, line.as_bytes())
 }
 
+/// The same, with the file's refusal as an answer: what a word asks for, or why the file does not take it. An error is out of
+/// memory.
+pub fn echo_answer(
+    alloc: Global,
+    path: &str,
+    word: &str,
+) -> Result<Result<Request, ControlFault>, AllocError>
+    ensures { IfOk result (λ answer. answer ≡ means.echo_request path.now word.now) }
+{
+    match parse_echo(alloc, path, word) {
+        Ok(request) => Ok(Ok(request)),
+        Err(ControlFault::OutOfMemory) => Err(AllocError),
+        Err(fault) => Ok(Err(fault)),
+    }
+}
+
 /// What a text written to a file asks for.
 #[tactic(auto, unfolding(crate::specs::Writes::request_to))]
 fn request_to(alloc: Global, file: File, text: &[u8]) -> Result<Request, ControlFault>

@@ -3,7 +3,7 @@ ghost use Rattle.std.specs.Prelude.{◌≡◌, ◌+◌, ◌<◌, ◌^◌, None, 
 ghost use Rattle.hp_lab.specs.Checks.{AreFit, IsLineFault, IsUnfit, unfit};
 
 use crate::fault::{LabFault, Unfit};
-use crate::requests::request_of;
+use hp_control::echo_answer;
 use hp_scenario::{Line, Work};
 use std::alloc::{AllocError, Global};
 
@@ -45,7 +45,7 @@ fn unfit(alloc: Global, cpus: u32, line: &Line) -> Result<Option<Unfit>, AllocEr
     match &line.work {
         Work::Event(_event) => Ok(None),
         Work::Plan { plan: _, turns: _ } => Ok(None),
-        Work::Echo { path, text } => match request_of(alloc, path, text)? {
+        Work::Echo { path, text } => match echo_answer(alloc, path.as_str(), text.as_str())? {
             Ok(_request) => Ok(None),
             Err(fault) => Ok(Some(Unfit::Echo(fault))),
         },

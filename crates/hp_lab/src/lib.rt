@@ -11,7 +11,6 @@ mod checks;
 mod ends;
 mod exploring;
 mod fault;
-mod requests;
 mod scripts;
 mod setup;
 

@@ -2,8 +2,7 @@
 ghost use Rattle.std.specs.Prelude.{◌≡◌, ◌++◌, IfOk, OnOk};
 ghost use Rattle.hp_lab.specs.Scripts.{asked, explored, line_for, own_if_last, own_work, requested, script_of, scripts_of};
 
-use crate::requests::request_of;
-use hp_control::{CONTROL_TURNS, Request};
+use hp_control::{CONTROL_TURNS, Request, echo_answer};
 use hp_explore::{Line as Step, Script, Work as OwnWork};
 use hp_scenario::{Line, Work};
 use hp_units::{Cpu, Event, Plan, Serial};
@@ -57,7 +56,7 @@ fn explored(alloc: Global, work: &Work) -> Result<Option<Step>, AllocError>
     match work {
         Work::Event(event) => Ok(Some(asked(alloc, event)?)),
         Work::Plan { plan, turns } => Ok(Some(carried(alloc, plan, *turns)?)),
-        Work::Echo { path, text } => match request_of(alloc, path, text)? {
+        Work::Echo { path, text } => match echo_answer(alloc, path.as_str(), text.as_str())? {
             Ok(request) => Ok(Some(requested(alloc, &request)?)),
             Err(_fault) => Ok(None),
         },

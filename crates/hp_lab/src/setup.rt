@@ -2,8 +2,7 @@
 ghost use Rattle.std.specs.Prelude.{◌≡◌, IfOk, OnOk, Ok};
 ghost use Rattle.hp_lab.specs.Setup.{RunsEvent, RunsLines, RunsPlan, RunsRequest, RunsSeal, RunsWork, is_out_of_memory};
 
-use crate::requests::request_of;
-use hp_control::{CONTROL_TURNS, Request};
+use hp_control::{CONTROL_TURNS, Request, echo_answer};
 use hp_machine::Machine;
 use hp_scenario::{Line, Work};
 use hp_units::{CallFault, Cpu, Event, OpEnd, Plan};
@@ -30,7 +29,7 @@ fn run_work(alloc: Global, machine: &mut Machine, cpu: Cpu, work: &Work) -> Resu
     match work {
         Work::Event(event) => run_event(alloc, machine, cpu, event),
         Work::Plan { plan, turns } => carry_out(alloc, machine, cpu, plan, *turns),
-        Work::Echo { path, text } => match request_of(alloc, path, text)? {
+        Work::Echo { path, text } => match echo_answer(alloc, path.as_str(), text.as_str())? {
             Ok(request) => run_request(alloc, machine, cpu, &request),
             Err(_fault) => Ok(()),
         },

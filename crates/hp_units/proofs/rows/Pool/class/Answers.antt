@@ -1,0 +1,11 @@
+use Rattle.std.proofs.Common.{rules}
+use Rattle.hp_units.proofs.rows.Pool.class.Goals as goal
+
+pub returns-in-Nu : goal.returns-in-Nu
+returns-in-Nu c = search rules
+
+pub returns-in-Nm : goal.returns-in-Nm
+returns-in-Nm c = search rules
+
+pub returns-in-Mm : goal.returns-in-Mm
+returns-in-Mm c = search rules
