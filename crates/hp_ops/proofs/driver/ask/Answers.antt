@@ -1,4 +1,4 @@
-use Rattle.std.proofs.Common.{[], ◌∷◌, Option, Some, None, sym, subst, inl, inr}
+use Rattle.std.proofs.Common.{[], ◌∷◌, Option, Some, None, sym, subst, inl, inr, rules}
 use Rattle.std.proofs.lemmas.Result.{IfErr-weaker, IfOk-weaker}
 use Rattle.hp_ops.proofs.Gained.{at_fault, gains_fault}
 use Rattle.hp_ops.proofs.Runs.{answer_is, left_with, no_longer_live}
@@ -35,3 +35,9 @@ pub returns-in-Err-clause-err : goal.returns-in-Err-clause-err
 returns-in-Err-clause-err g c =
     at_fault _ _ _ _ _ (Some c.in-Err.fault) (λ (f : Option CallFault). EndsRun (g.P.Port.shows c.args.port.now).cpus c.args.op (λ d. c.args.event.now) f (EndsLeft (Some c.args.op) c.in-Err.fault))
     (gains_fault _ _ _ _ _ c.in-Err.fault _ (g.met.P.Port.nothing c.args.port.now) c.in-Err.ensures.err c.in-Err.ensures.leaves (left_with (g.P.Port.shows c.args.port.now).cpus c.args.op c.args.event.now c.in-Err.fault))
+
+pub returns-in-Err-clause-ok : goal.returns-in-Err-clause-ok
+returns-in-Err-clause-ok g c = search rules
+
+pub returns-in-Err-clause-live : goal.returns-in-Err-clause-live
+returns-in-Err-clause-live g c = search rules

@@ -1,5 +1,5 @@
 use Rattle.std.proofs.lemmas.Result.{err_from_is_err_and}
-use Rattle.std.proofs.Common.{◌+◌, ◌<◌, ℕ, refl, subst, arith}
+use Rattle.std.proofs.Common.{◌+◌, ◌<◌, ℕ, refl, subst, arith, rules}
 use Rattle.hp_ops.proofs.Gained.{gains_joined, cpus_stay}
 use Rattle.hp_ops.specs.Courses.{EndsRun, drain_of}
 use Rattle.hp_ops.proofs.Runs.{answered, drained, ends_in_round, leads_joined, leads_to_end}
@@ -23,3 +23,12 @@ loop-cpu-preserved g c =
     gains_joined _ _ _ _ _ _ _ _ _ _ g.met.P.Port.joined c.loop-cpu.invariant c.in_ok-ask.ensures.ok
     (λ xs ys first second. leads_joined (g.P.Port.shows c.args.port.now).cpus c.args.op (drain_of (g.P.Port.shows c.args.port.now).cpus c.args.op 0) (drain_of (g.P.Port.shows c.args.port.now).cpus c.args.op c.loop-cpu.cpu) (drain_of (g.P.Port.shows c.args.port.now).cpus c.args.op (c.loop-cpu.cpu + 1)) (λ d. d) (λ d. d) xs ys first
     (drained (g.P.Port.shows c.args.port.now).cpus c.args.op c.loop-cpu.cpu ys inside (answered _ _ _ ys (c.in_ok-ask.ensures.live here) second)))
+
+pub returns-in_err-ask-clause-ok : goal.returns-in_err-ask-clause-ok
+returns-in_err-ask-clause-ok g c = search rules
+
+pub returns-clause-ok : goal.returns-clause-ok
+returns-clause-ok g c = search rules
+
+pub returns-clause-err : goal.returns-clause-err
+returns-clause-err g c = search rules

@@ -1,5 +1,5 @@
 use Rattle.std.proofs.lemmas.Result.{err_from_is_err_and}
-use Rattle.std.proofs.Common.{ℕ, refl, ap, subst, ◌∙◌}
+use Rattle.std.proofs.Common.{ℕ, refl, ap, subst, ◌∙◌, rules}
 use Rattle.hp_ops.proofs.Gained.{gains_joined, gains_as, cpus_stay}
 use Rattle.hp_ops.specs.Courses.{EndsRun, LeadsOn, drain_of, refused_by, tried_more}
 use Rattle.hp_ops.proofs.Runs.{answered, leads_joined, leads_to_end, moved, no_frame, nothing_left}
@@ -30,3 +30,21 @@ returns-in-Refused-NothingToMove-clause-ok g c =
     (λ xs ys a second. leads_joined (g.P.Port.shows c.args.port.now).cpus c.args.op (λ d. Migrate c.args.op) (λ d. Commit c.args.op) (drain_of (g.P.Port.shows c.args.port.now).cpus c.args.op 0) (λ d. refused_by NothingToMove (tried_more d)) (refused_by c.in_ok-commit-in-Refused-NothingToMove.field-0) xs ys
     (nothing_left (g.P.Port.shows c.args.port.now).cpus c.args.op xs (answered _ _ _ xs (c.in-Refused-NothingToMove.is ∙ ap Refused c.in-Refused-NothingToMove.field-0-is) a))
     (subst (λ (n : ℕ). LeadsOn n c.args.op (λ d. Commit c.args.op) (refused_by c.in_ok-commit-in-Refused-NothingToMove.field-0) (drain_of n c.args.op 0) ys) same second))
+
+pub returns-in_err-ask-clause-ok : goal.returns-in_err-ask-clause-ok
+returns-in_err-ask-clause-ok g c = search rules
+
+pub returns-in_err-ask-clause-err : goal.returns-in_err-ask-clause-err
+returns-in_err-ask-clause-err g c = search rules
+
+pub returns-in-Moved-clause-err : goal.returns-in-Moved-clause-err
+returns-in-Moved-clause-err g c = search rules
+
+pub returns-in-Refused-NoFrame-clause-err : goal.returns-in-Refused-NoFrame-clause-err
+returns-in-Refused-NoFrame-clause-err g c = search rules
+
+pub returns-in_err-commit-in-Refused-NothingToMove-clause-ok : goal.returns-in_err-commit-in-Refused-NothingToMove-clause-ok
+returns-in_err-commit-in-Refused-NothingToMove-clause-ok g c = search rules
+
+pub returns-in-Refused-NothingToMove-clause-err : goal.returns-in-Refused-NothingToMove-clause-err
+returns-in-Refused-NothingToMove-clause-err g c = search rules

@@ -1,5 +1,5 @@
 use Rattle.std.proofs.lemmas.Result.{err_from_is_err_and}
-use Rattle.std.proofs.Common.{◌≡◌, ◌+◌, ℕ, Option, Some, None, refl, sym, subst, ◌∙◌, arith}
+use Rattle.std.proofs.Common.{◌≡◌, ◌+◌, ℕ, Option, Some, None, refl, sym, subst, ◌∙◌, arith, rules}
 use Rattle.hp_ops.proofs.Gained.{gains_joined, gains_as, cpus_stay, opened_stays}
 use Rattle.hp_ops.specs.Courses.{EndsRun, TurnsTaken, fresh, LeadsOn, TakesTurn, drain_of, refused_by, tried_more, turn_of}
 use Rattle.hp_ops.specs.Ports.{Gains}
@@ -69,3 +69,15 @@ loop-turn-preserved g c =
           (λ xs ys so_far first. turn_more (g.P.Port.shows c.args.port.now).cpus c.args.op c.args.turns c.loop-turn._turn c.loop-turn.why c.loop-turn.why tried_more xs ys c.loop-turn-test.true (λ plan. refl) so_far
           (subst (λ (o : Option Refusal). TakesTurn (g.P.Port.shows c.args.port.now).cpus c.args.op o ys) w.in_default.is (subst (λ (m : ℕ). TakesTurn m c.args.op c.in_ok-refusal.field-0 ys) same first)))))
     ]
+
+pub returns-in_err-drain_all-clause-ok : goal.returns-in_err-drain_all-clause-ok
+returns-in_err-drain_all-clause-ok g c = search rules
+
+pub returns-in_err-refusal-clause-ok : goal.returns-in_err-refusal-clause-ok
+returns-in_err-refusal-clause-ok g c = search rules
+
+pub returns-in_err-drain_all-2-clause-ok : goal.returns-in_err-drain_all-2-clause-ok
+returns-in_err-drain_all-2-clause-ok g c = search rules
+
+pub returns-clause-err : goal.returns-clause-err
+returns-clause-err g c = search rules

@@ -1,4 +1,4 @@
-use Rattle.std.proofs.Common.{◌≡◌, ◌<◌, ◌++◌, ◌∷◌, [], ◌∙◌, ap, subst, sym}
+use Rattle.std.proofs.Common.{◌≡◌, ◌<◌, ◌++◌, ◌∷◌, [], ◌∙◌, ap, subst, sym, rules}
 use Rattle.hp_units.specs.Memory.{row_of}
 use Rattle.hp_units.specs.declared.rows.Row.{Row}
 use Rattle.hp_tape.specs.declared.deltas.Delta.TheVariants.{Row as RowDelta}
@@ -14,3 +14,9 @@ returns-clause-notes c =
     let told = subst (λ (v : BlocksValue). c.note.new.self.deltas ≡ c.args.tape.now.deltas ++ RowDelta c.args.block (row_of v.blocks c.args.block) c.args.row ∷ []) (sym c.self.view_is) noted in
     rw (c.block.view_is, ← c.self.view_is) (notes-row c.self.inside.layout (record { rows = c.self.inside.rows.items; auto = c.self.inside.auto })
     c.args.block c.args.row _ _ c.self.invariant lt c.note.ensures.room told)
+
+pub returns-clause-set : goal.returns-clause-set
+returns-clause-set c = search rules
+
+pub returns-clause-layout : goal.returns-clause-layout
+returns-clause-layout c = search rules

@@ -1,4 +1,4 @@
-use Rattle.std.proofs.Common.{ap, subst, sym}
+use Rattle.std.proofs.Common.{ap, subst, sym, rules}
 use Rattle.hp_tape.specs.Tapes.{NotesPages}
 use Rattle.hp_pages.specs.Pages.{ArePageFramesOf, AreSettled, PagesValue, map_frame}
 use Rattle.hp_pages.specs.Places.{TableValue}
@@ -24,3 +24,9 @@ returns-clause-notes c =
     (map_frame v.pages c.args.owner c.args.page c.args.frame) c.args.self.now.pages) (sym c.self.view_is)
     (notes-map c.args.self.now.layout c.args.self.now.pages c.args.owner c.args.page c.args.frame _ _ are c.requires.settled
     c.requires.owner c.requires.page c.requires.frame c.requires.unmapped c.requires.free c.note.ensures.room c.note.ensures.noted))
+
+pub returns-clause-mapped : goal.returns-clause-mapped
+returns-clause-mapped c = search rules
+
+pub returns-clause-layout : goal.returns-clause-layout
+returns-clause-layout c = search rules

@@ -1,4 +1,4 @@
-use Rattle.std.proofs.Common.{◌<◌, ◌≤◌, length, subst, sym, ◌∙◌, arith}
+use Rattle.std.proofs.Common.{◌<◌, ◌≤◌, length, subst, sym, ◌∙◌, arith, rules}
 use Rattle.hp_pages.specs.Places.{TableValue, holders}
 use Rattle.hp_pages.proofs.Tables.{page_none, page_told}
 use Rattle.hp_pages.proofs.table.Table.page_at.Goals as goal
@@ -24,3 +24,9 @@ returns-clause-page c =
     let once = subst (λ (v : TableValue). holders v.rows c.args.frame ≤ 1) (sym c.self.view_is) c.requires.once in
     let told = page_told t c.self.inside.sums c.args.frame c.at-sum.result c.self.invariant in_frames once c.at-sum.ensures c.if-sum-eq0.false in
     rw (← c.self.view_is) told.0
+
+pub returns-then-sum-eq0-clause-table : goal.returns-then-sum-eq0-clause-table
+returns-then-sum-eq0-clause-table c = search rules
+
+pub returns-clause-table : goal.returns-clause-table
+returns-clause-table c = search rules
