@@ -3,6 +3,3 @@ use Rattle.hp_pages.proofs.pages.Pages.frame_at.Goals as goal
 
 pub returns-clause-frame : goal.returns-clause-frame
 returns-clause-frame c = search rules
-
-pub returns-clause-pages : goal.returns-clause-pages
-returns-clause-pages c = search rules

@@ -32,6 +32,3 @@ returns-in_err-zeros-clause-empty c = search rules
 
 pub returns-in_err-zeros-clause-settled : goal.returns-in_err-zeros-clause-settled
 returns-in_err-zeros-clause-settled c = search rules
-
-pub returns-clause-settled : goal.returns-clause-settled
-returns-clause-settled c = search rules

@@ -7,9 +7,6 @@ returns-in-Some-clause-written c = search rules
 pub returns-in-Some-clause-layout : goal.returns-in-Some-clause-layout
 returns-in-Some-clause-layout c = search rules
 
-pub returns-in-Some-clause-settled : goal.returns-in-Some-clause-settled
-returns-in-Some-clause-settled c = search rules
-
 pub returns-in-Some-clause-notes : goal.returns-in-Some-clause-notes
 returns-in-Some-clause-notes c = search rules
 
@@ -18,9 +15,6 @@ returns-in-None-clause-written c = search rules
 
 pub returns-in-None-clause-layout : goal.returns-in-None-clause-layout
 returns-in-None-clause-layout c = search rules
-
-pub returns-in-None-clause-settled : goal.returns-in-None-clause-settled
-returns-in-None-clause-settled c = search rules
 
 pub returns-in-None-clause-notes : goal.returns-in-None-clause-notes
 returns-in-None-clause-notes c = search rules

@@ -29,8 +29,5 @@ invariant_of-self c =
     rw (c.join.ensures, c.leave.ensures, c.set.ensures, read, c.owner.view_is, c.frame_at-was.ensures.frame, c.place-place.ensures, ← c.self.view_is)
     (are_sums-set c.self.inside.sums c.self.inside.pages c.self.inside.rows.items c.args.owner c.args.page c.args.now c.self.invariant in_owners in_pages in_frames)
 
-pub returns-clause-set : goal.returns-clause-set
-returns-clause-set c = search rules
-
 pub returns-clause-was_table : goal.returns-clause-was_table
 returns-clause-was_table c = search rules

@@ -1,5 +1,5 @@
 use Rattle.std.proofs.Common.{rules}
-use Rattle.hp_pages.proofs.buffers.is_blank.Goals as goal
+use Rattle.hp_machine.proofs.machine.Machine.front.Goals as goal
 
 pub returns : goal.returns
 returns c = search rules

@@ -1,5 +1,5 @@
 use Rattle.std.proofs.Common.{rules}
-use Rattle.hp_pages.proofs.buffers.Buffers.set_word.Goals as goal
+use Rattle.hp_machine.proofs.machine.Machine.last_serial.Goals as goal
 
 pub returns : goal.returns
 returns c = search rules
