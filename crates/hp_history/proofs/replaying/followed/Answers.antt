@@ -1,7 +1,7 @@
 -- The course goes on by each record that is not at fault; in the end it is that of all records.
 use Rattle.std.proofs.lemmas.Option.{slice_get_read}
 use Rattle.std.proofs.lemmas.Result.{err_from_is_err_and}
-use Rattle.std.proofs.Common.{length, refl}
+use Rattle.std.proofs.Common.{length, refl, rules}
 use Rattle.hp_history.proofs.Replays.{fault_at, follow_one, refutes, starts, whole}
 use Rattle.hp_history.proofs.replaying.followed.Goals as goal
 
@@ -30,3 +30,12 @@ returns-in_err-follow-clause-only c =
     rw (p.1, p.2) (refutes c.args.course.now.layout c.args.course.now.base c.args.course.now.before c.args.records.now _
     (fault_at c.args.course.now.layout c.args.course.now.base c.args.course.now.before c.args.records.now c.loop-place.place c.index-records-place.result c.loop-place.course _
     (slice_get_read c.args.records.now (length c.args.records.now) c.loop-place.place c.index-records-place.result refl c.loop-place-test.true c.index-records-place.is) c.loop-place.invariant.course c.in_err-follow.ensures.err))
+
+pub returns-in_err-follow-clause-course : goal.returns-in_err-follow-clause-course
+returns-in_err-follow-clause-course c = search rules
+
+pub returns-clause-fault : goal.returns-clause-fault
+returns-clause-fault c = search rules
+
+pub returns-clause-only : goal.returns-clause-only
+returns-clause-only c = search rules

@@ -1,5 +1,5 @@
 -- The course begins at the base; that of all records shows the state that they lead to.
-use Rattle.std.proofs.Common.{◌∙◌}
+use Rattle.std.proofs.Common.{◌∙◌, rules}
 use Rattle.std.proofs.lemmas.Result.{err_from_is_err_and}
 use Rattle.hp_units.specs.Boot.{boot_memory}
 use Rattle.hp_laws.proofs.Boots.{boot-placed}
@@ -33,3 +33,48 @@ pub returns-in_err-followed-clause-only : goal.returns-in_err-followed-clause-on
 returns-in_err-followed-clause-only c =
     let p = err_from_is_err_and c.from_residual-in_err-followed.result c.from_residual-in_err-followed.ensures.1 in
     rw (p.1, p.2) (refutes_again c.args.layout.now (boot_memory c.args.layout.now) 0 c.args.records.now c.in_ok-course.course _ c.in_ok-course.ensures.start c.in_err-followed.ensures.only)
+
+pub returns-in_err-course-clause-legal : goal.returns-in_err-course-clause-legal
+returns-in_err-course-clause-legal c = search rules
+
+pub returns-in_err-course-clause-value : goal.returns-in_err-course-clause-value
+returns-in_err-course-clause-value c = search rules
+
+pub returns-in_err-course-clause-placed : goal.returns-in_err-course-clause-placed
+returns-in_err-course-clause-placed c = search rules
+
+pub returns-in_err-course-clause-fault : goal.returns-in_err-course-clause-fault
+returns-in_err-course-clause-fault c = search rules
+
+pub returns-in_err-course-clause-only : goal.returns-in_err-course-clause-only
+returns-in_err-course-clause-only c = search rules
+
+pub returns-in_err-followed-clause-legal : goal.returns-in_err-followed-clause-legal
+returns-in_err-followed-clause-legal c = search rules
+
+pub returns-in_err-followed-clause-value : goal.returns-in_err-followed-clause-value
+returns-in_err-followed-clause-value c = search rules
+
+pub returns-in_err-followed-clause-placed : goal.returns-in_err-followed-clause-placed
+returns-in_err-followed-clause-placed c = search rules
+
+pub returns-in_err-image-clause-legal : goal.returns-in_err-image-clause-legal
+returns-in_err-image-clause-legal c = search rules
+
+pub returns-in_err-image-clause-value : goal.returns-in_err-image-clause-value
+returns-in_err-image-clause-value c = search rules
+
+pub returns-in_err-image-clause-placed : goal.returns-in_err-image-clause-placed
+returns-in_err-image-clause-placed c = search rules
+
+pub returns-in_err-image-clause-fault : goal.returns-in_err-image-clause-fault
+returns-in_err-image-clause-fault c = search rules
+
+pub returns-in_err-image-clause-only : goal.returns-in_err-image-clause-only
+returns-in_err-image-clause-only c = search rules
+
+pub returns-clause-fault : goal.returns-clause-fault
+returns-clause-fault c = search rules
+
+pub returns-clause-only : goal.returns-clause-only
+returns-clause-only c = search rules

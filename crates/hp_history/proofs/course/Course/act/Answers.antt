@@ -1,5 +1,5 @@
 -- The course made its step.
-use Rattle.std.proofs.Common.{sym, ◌∙◌}
+use Rattle.std.proofs.Common.{sym, ◌∙◌, rules}
 use Rattle.hp_units.specs.declared.replies.Receipt.{Receipt}
 use Rattle.hp_history.specs.declared.journal.Entry.{Entry}
 use Rattle.hp_history.specs.Seen.{seen}
@@ -76,3 +76,36 @@ returns-clause-ok c =
     rw (← c.self.view_is) (with_copy (seen c.self.inside) _ c.args.cpu c.next_serial-serial.result c.args.event.now c.in_ok-answered.answered c.in_ok-reply.reply c.in_ok-answered.ensures
     (made_answered (seen c.self.inside) c.self.inside.entries.items c.self.inside.deltas.deltas c.args.cpu (receipt step) (entry step) c.step.new.self c.step.new.tape.deltas c.is_step.result c.keep_step.new.memory
     c.push_reserved.new.self.items c.keep_step.new.entries.items c.keep_step.new.deltas.deltas (made step) (left here)))
+
+pub returns-in_err-recorded-clause-err : goal.returns-in_err-recorded-clause-err
+returns-in_err-recorded-clause-err c = search rules
+
+pub returns-in_err-recorded-clause-ok : goal.returns-in_err-recorded-clause-ok
+returns-in_err-recorded-clause-ok c = search rules
+
+pub returns-in_err-answered-clause-err : goal.returns-in_err-answered-clause-err
+returns-in_err-answered-clause-err c = search rules
+
+pub returns-in_err-answered-clause-ok : goal.returns-in_err-answered-clause-ok
+returns-in_err-answered-clause-ok c = search rules
+
+pub returns-in_err-reserve-clause-err : goal.returns-in_err-reserve-clause-err
+returns-in_err-reserve-clause-err c = search rules
+
+pub returns-in_err-reserve-clause-ok : goal.returns-in_err-reserve-clause-ok
+returns-in_err-reserve-clause-ok c = search rules
+
+pub returns-in_err-reserve-2-clause-err : goal.returns-in_err-reserve-2-clause-err
+returns-in_err-reserve-2-clause-err c = search rules
+
+pub returns-in_err-reserve-2-clause-ok : goal.returns-in_err-reserve-2-clause-ok
+returns-in_err-reserve-2-clause-ok c = search rules
+
+pub returns-in_err-reply-clause-err : goal.returns-in_err-reply-clause-err
+returns-in_err-reply-clause-err c = search rules
+
+pub returns-in_err-reply-clause-ok : goal.returns-in_err-reply-clause-ok
+returns-in_err-reply-clause-ok c = search rules
+
+pub returns-clause-err : goal.returns-clause-err
+returns-clause-err c = search rules

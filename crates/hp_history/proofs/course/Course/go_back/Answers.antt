@@ -1,5 +1,5 @@
 -- The course went back to the first steps.
-use Rattle.std.proofs.Common.{◌≡◌, ℕ, ◌≤◌, List, ap, drop, length, sym, subst, take, ◌∙◌}
+use Rattle.std.proofs.Common.{◌≡◌, ℕ, ◌≤◌, List, ap, drop, length, sym, subst, take, ◌∙◌, rules}
 use Rattle.hp_units.specs.History.{net_of, run}
 use Rattle.hp_units.specs.declared.replies.Receipt.{Receipt}
 use Rattle.hp_memory.specs.Memory.{LeadsBack}
@@ -81,3 +81,24 @@ returns-clause-ok c =
     rw (← c.self.view_is) (with_copy (seen c.self.inside) _ c.args.cpu c.next_serial-serial.result c.args.event.now c.in_ok-answered.answered c.args.reply.now c.in_ok-answered.ensures
     (cut_answered (seen c.self.inside) c.self.inside.entries.items c.self.inside.deltas.deltas c.args.cpu c.args.keep (receipt end) c.back.new.self c.push_reserved.new.self.items c.truncate.new.self.items c.back.new.tape.deltas
     (back end (start here) (cut here) (leads here))))
+
+pub returns-in_err-recorded-clause-err : goal.returns-in_err-recorded-clause-err
+returns-in_err-recorded-clause-err c = search rules
+
+pub returns-in_err-recorded-clause-ok : goal.returns-in_err-recorded-clause-ok
+returns-in_err-recorded-clause-ok c = search rules
+
+pub returns-in_err-answered-clause-err : goal.returns-in_err-answered-clause-err
+returns-in_err-answered-clause-err c = search rules
+
+pub returns-in_err-answered-clause-ok : goal.returns-in_err-answered-clause-ok
+returns-in_err-answered-clause-ok c = search rules
+
+pub returns-in_err-reserve-clause-err : goal.returns-in_err-reserve-clause-err
+returns-in_err-reserve-clause-err c = search rules
+
+pub returns-in_err-reserve-clause-ok : goal.returns-in_err-reserve-clause-ok
+returns-in_err-reserve-clause-ok c = search rules
+
+pub returns-clause-err : goal.returns-clause-err
+returns-clause-err c = search rules
