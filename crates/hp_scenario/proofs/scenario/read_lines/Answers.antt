@@ -1,4 +1,4 @@
-use Rattle.std.proofs.Common.{arith}
+use Rattle.std.proofs.Common.{arith, rules}
 use Rattle.hp_scenario.proofs.LineLoop.{line_goes_on, line_stops, lines_done}
 use Rattle.hp_scenario.proofs.scenario.read_lines.Goals as goal
 
@@ -15,3 +15,9 @@ loop-index-preserved c =
 
 pub returns : goal.returns
 returns c = lines_done c.args.texts.now c.loop-index.index (record { names = c.loop-index.names.keys; lines = c.loop-index.lines.items }) _ (omega (arith, c.loop-index-test.false, c.len.ensures)) c.loop-index.invariant.0
+
+pub returns-in_err-lines : goal.returns-in_err-lines
+returns-in_err-lines c = search rules
+
+pub returns-in_err-line : goal.returns-in_err-line
+returns-in_err-line c = search rules

@@ -18,3 +18,27 @@ returns-in-Ok-Some-clause-err g c = (
   search rules,
   subst (IsCompared (all_records c.args.volumes.now.items c.args.machine.now) c.args.seats.now.items) c.in-Ok-Some.field-0-is c.in-Ok-Some.ensures,
 )
+
+pub returns-then-not-has_each-clause-ok : goal.returns-then-not-has_each-clause-ok
+returns-then-not-has_each-clause-ok g c = search rules
+
+pub returns-then-not-has_each-clause-err : goal.returns-then-not-has_each-clause-err
+returns-then-not-has_each-clause-err g c = search rules
+
+pub returns-in-Some-clause-ok : goal.returns-in-Some-clause-ok
+returns-in-Some-clause-ok g c = search rules
+
+pub returns-in-Some-clause-err : goal.returns-in-Some-clause-err
+returns-in-Some-clause-err g c = search rules
+
+pub returns-in-Ok-None-clause-err : goal.returns-in-Ok-None-clause-err
+returns-in-Ok-None-clause-err g c = search rules
+
+pub returns-in-Ok-Some-clause-ok : goal.returns-in-Ok-Some-clause-ok
+returns-in-Ok-Some-clause-ok g c = search rules
+
+pub returns-in-Err-clause-ok : goal.returns-in-Err-clause-ok
+returns-in-Err-clause-ok g c = search rules
+
+pub returns-in-Err-clause-err : goal.returns-in-Err-clause-err
+returns-in-Err-clause-err g c = search rules

@@ -1,3 +1,4 @@
+use Rattle.std.proofs.Common.{rules}
 use Rattle.hp_shared.proofs.Turns.{sealed_on}
 use Rattle.hp_shared.proofs.locked.Locked.seal.Goals as goal
 
@@ -8,3 +9,48 @@ invariant_of-self-2 g c =
 pub returns-clause-kept : goal.returns-clause-kept
 returns-clause-kept g c =
     sealed_on g.L.Job.layout c.self.inside.machine c.seal.new.self c.self.inside.book.total c.audit.new.self.total c.self.invariant c.in_ok-volume.ensures.goes_on c.audit.ensures.total
+
+pub returns-in_err-volume-clause-err : goal.returns-in_err-volume-clause-err
+returns-in_err-volume-clause-err g c = search rules
+
+pub returns-in_err-volume-clause-volume : goal.returns-in_err-volume-clause-volume
+returns-in_err-volume-clause-volume g c = search rules
+
+pub returns-in_err-volume-clause-goes_on : goal.returns-in_err-volume-clause-goes_on
+returns-in_err-volume-clause-goes_on g c = search rules
+
+pub returns-in_err-volume-clause-total : goal.returns-in_err-volume-clause-total
+returns-in_err-volume-clause-total g c = search rules
+
+pub returns-in_err-volume-clause-share : goal.returns-in_err-volume-clause-share
+returns-in_err-volume-clause-share g c = search rules
+
+pub returns-in_err-volume-clause-within : goal.returns-in_err-volume-clause-within
+returns-in_err-volume-clause-within g c = search rules
+
+pub returns-in_err-volume-clause-shown : goal.returns-in_err-volume-clause-shown
+returns-in_err-volume-clause-shown g c = search rules
+
+pub returns-in_err-volume-clause-kept : goal.returns-in_err-volume-clause-kept
+returns-in_err-volume-clause-kept g c = search rules
+
+pub returns-clause-err : goal.returns-clause-err
+returns-clause-err g c = search rules
+
+pub returns-clause-volume : goal.returns-clause-volume
+returns-clause-volume g c = search rules
+
+pub returns-clause-goes_on : goal.returns-clause-goes_on
+returns-clause-goes_on g c = search rules
+
+pub returns-clause-total : goal.returns-clause-total
+returns-clause-total g c = search rules
+
+pub returns-clause-share : goal.returns-clause-share
+returns-clause-share g c = search rules
+
+pub returns-clause-within : goal.returns-clause-within
+returns-clause-within g c = search rules
+
+pub returns-clause-shown : goal.returns-clause-shown
+returns-clause-shown g c = search rules

@@ -1,4 +1,4 @@
-use Rattle.std.proofs.Common.{◌≡◌, ap, sym, ◌∙◌, ◌++◌, ◌∷◌, [], List, arith}
+use Rattle.std.proofs.Common.{◌≡◌, ap, sym, ◌∙◌, ◌++◌, ◌∷◌, [], List, arith, rules}
 use Rattle.std.proofs.lemmas.List.FromFn.{map-range_with_len_more}
 use Rattle.hp_units.specs.LayoutParts.{LayoutParts}
 use Rattle.hp_shared.specs.Shared.{SeatValue, first_seat, first_seats}
@@ -21,3 +21,12 @@ pub returns-clause-seats : goal.returns-clause-seats
 returns-clause-seats g c =
     let cpus : c.cpus-cpus.result ≡ g.L.Job.layout.cpus = c.cpus-cpus.ensures.is ∙ (ap (λ (l : LayoutParts). l.cpus) c.layout.ensures ∙ ap (λ (l : LayoutParts). l.cpus) c.requires.machine.layout) in
     c.loop-cpu.invariant.2 ∙ ap first_seats (omega (arith, cpus, c.loop-cpu.auto.cpu-end, c.loop-cpu-test.false))
+
+pub returns-in_default-clause-seats : goal.returns-in_default-clause-seats
+returns-in_default-clause-seats g c = search rules
+
+pub returns-in_default-clause-back : goal.returns-in_default-clause-back
+returns-in_default-clause-back g c = search rules
+
+pub returns-clause-back : goal.returns-clause-back
+returns-clause-back g c = search rules

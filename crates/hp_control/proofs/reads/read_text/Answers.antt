@@ -1,0 +1,11 @@
+use Rattle.std.proofs.Common.{rules}
+use Rattle.hp_control.specs.Reads.{file_text}
+use Rattle.hp_control.proofs.reads.read_text.Goals as goal
+
+pub returns-in-Some : goal.returns-in-Some
+unfolding file_text
+returns-in-Some c = search rules
+
+pub returns-in-None : goal.returns-in-None
+unfolding file_text
+returns-in-None c = search rules
