@@ -5,8 +5,9 @@
 //! command line is wrong. It is the same where standard error takes no text.
 #![tactic(auto)]
 
-ghost use Rattle.std.specs.Prelude.{IfOk, string_bytes};
-ghost use Rattle.hotplug_lab.specs.Words.{IsAnswerOf, IsCheckOf, IsPictureOf};
+ghost use Rattle.std.specs.Prelude.{IfErr, IfOk, string_bytes};
+ghost use Rattle.hotplug_lab.specs.Words.{IsAnswerOf, IsCheckOf, IsPictureOf, IsUnanswered};
+ghost use Rattle.hotplug_lab.specs.declared.words.Word.TheVariants.{Check, Picture};
 
 mod fault;
 mod progress;
@@ -53,7 +54,8 @@ struct Answer {
 
 /// What is wrong with the scenario that the bytes are to be. The status is 0 where nothing is but warnings.
 fn checked(alloc: Global, input: &[u8]) -> Result<Answer, ProgramFault>
-    ensures { IfOk result (λ answer. IsCheckOf input.now (string_bytes answer.text) answer.status) }
+    ensures ok { IfOk result (λ answer. IsCheckOf input.now (string_bytes answer.text) answer.status) }
+    ensures err { IfErr result (IsUnanswered Check input.now) }
 {
     let found = check(alloc, input)?;
     let mut text = String::new(alloc);
@@ -69,7 +71,8 @@ fn answer_to<W: Watch>(
     word: Word,
     watch: &mut W,
 ) -> Result<Answer, ProgramFault>
-    ensures { IfOk result (λ answer. IsAnswerOf word input.now (string_bytes answer.text) answer.status) }
+    ensures ok { IfOk result (λ answer. IsAnswerOf word input.now (string_bytes answer.text) answer.status) }
+    ensures err { IfErr result (IsUnanswered word input.now) }
 {
     match word {
         Word::Check => checked(alloc, input),
@@ -90,7 +93,8 @@ fn answer_to<W: Watch>(
 
 /// The trace of the scenario that the bytes are, with all memory blocks in each row, as a picture.
 fn picture_text(alloc: Global, input: &[u8], view: View) -> Result<String, ProgramFault>
-    ensures { IfOk result (λ text. IsPictureOf view input.now (string_bytes text)) }
+    ensures ok { IfOk result (λ text. IsPictureOf view input.now (string_bytes text)) }
+    ensures err { IfErr result (IsUnanswered (Picture view) input.now) }
 {
     let whole = View {
         width: u64::MAX,
