@@ -1,5 +1,5 @@
 -- What a word writes of the bytes of a scenario, and the exit status.
-use Rattle.std.specs.Prelude.{◌≡◌, ℕ, ◌-◌, ◌^◌, ◌==◌, List, [], count_by, ⊥, if◌then◌else◌}
+use Rattle.std.specs.Prelude.{◌≡◌, ℕ, ◌-◌, ◌^◌, ◌==◌, List, [], count_by, if◌then◌else◌}
 use Rattle.hp_check.specs.Checking.{AreFindings}
 use Rattle.hp_check.specs.Findings.{is_fault}
 use Rattle.hp_check.specs.Reports.{IsReport}
