@@ -7,15 +7,15 @@ use std::io::Write;
 const SILENT: u32 = 1024;
 
 /// Shows how far a search has come, in one line that is written over and over.
-#[derive(Debug, Drop)]
-pub struct Progress<W> {
+#[derive(Debug)]
+pub struct Progress<W: Write + Drop> {
     out: W,
     is_wanted: bool,
     is_shown: bool,
     silent: u32,
 }
 
-impl<W: Write> Progress<W> {
+impl<W: Write + Drop> Progress<W> {
     /// Nothing is shown yet, and nothing ever is unless it is wanted.
     pub fn new(out: W, is_wanted: bool) -> Progress<W> {
         Progress {
@@ -25,16 +25,24 @@ impl<W: Write> Progress<W> {
             silent: SILENT,
         }
     }
+}
 
-    /// Ends the line, where one is shown.
-    pub fn end(&mut self) {
-        if self.is_shown {
-            let _ = writeln!(self.out);
+/// Ends the line, where one is shown.
+impl<W: Write + Drop> Drop for Progress<W> {
+    fn drop(self) {
+        let Self {
+            mut out,
+            is_wanted: _,
+            is_shown,
+            silent: _,
+        } = self;
+        if is_shown {
+            let _ = writeln!(&mut out);
         }
     }
 }
 
-impl<W: Write> Watch for Progress<W> {
+impl<W: Write + Drop> Watch for Progress<W> {
     fn counted(&mut self, schedules: u64) {
         if !self.is_wanted {
             return;

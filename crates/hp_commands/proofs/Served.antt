@@ -11,29 +11,20 @@ use Rattle.hp_scenario.specs.declared.fault.ScenarioFault.TheVariants as scenari
 use Rattle.hp_scenario.specs.Gives.{◌>>=◌, Fails}
 use Rattle.hp_scenario.specs.Scenario.{ScenarioValue, scenario_in}
 use Rattle.hp_streams.specs.Reading.{IsReadFault, limit}
+use Rattle.hp_streams.proofs.Whole.{given}
 use Rattle.hp_streams.specs.declared.reading.ReadFault.{ReadFault}
 use Rattle.hp_streams.specs.declared.reading.ReadFault.TheVariants as reading
 use Rattle.hp_text.specs.State.{state_text}
 use Rattle.hp_commands.specs.Serial.{GrowsBy, IsWhole, WritesLines, end_text, lines_text, scenario_text, serial_text}
 use Rattle.hp_commands.proofs.Lines.{AreDue, lines_due, run_is}
 use Rattle.hp_commands.specs.Runs.{IsAuditTextOf, IsRunTextOf, SealsSome, scripts_in}
-use Rattle.hp_commands.specs.Served.{IsTextOf, ReadsAll, Serves, WritesTextOf}
+use Rattle.hp_commands.specs.Served.{IsTextOf, Serves, WritesTextOf}
 use Rattle.hp_commands.specs.Faults.{IsAudit, IsFaultOf, IsRefuted, IsUnfinished, fault_from, read_fault_from}
 use Rattle.hp_commands.specs.declared.fault.ProgramFault.{ProgramFault}
 use Rattle.hp_commands.specs.declared.fault.ProgramFault.TheVariants.{ReadFailed, TooLong, NotJson, BadShape, Layout, BadLine, NotForRun, OutOfMemory, NotStarted, SeatMissing, Mismatch, WrongReply, WrongSerial, AuditDiffers, WriteFailed, BrokenChain}
 use Rattle.hp_commands.specs.declared.commands.Command.{Command}
 use Rattle.hp_commands.specs.declared.commands.Command.TheVariants.{Serial, Run, Audit}
 use Rattle.hp_commands.proofs.Unfit.{never_not_for_run}
-
--- a reader at its end gave all that it had
-given : (a b : Option (List ℕ)) (bytes : List ℕ) → Consumes a b bytes → IsAtEnd b → (P : List ℕ → Type 0) → P bytes → IfSome a P
-given None b bytes p end P h = tt
-given (Some x) None bytes p end P h = absurd p
-given (Some x) (Some y) bytes p end P h = subst P (sym (p ∙ ap (λ (l : List ℕ). bytes ++ l) end ∙ append-nil bytes)) h
-
--- and that was within the limit
-pub all_read : (a b : Option (List ℕ)) (bytes : List ℕ) → Consumes a b bytes → IsAtEnd b → length bytes ≤ limit → ReadsAll a b
-all_read a b bytes p end fits = record { within = given a b bytes p end (λ (i : List ℕ). length i ≤ limit) fits; end = end }
 
 -- a fault of reading is one of the program
 pub read_fault : (command : Command) (known : Option (List ℕ)) (read written : Type 0) (fault : ReadFault) → IsReadFault known read fault → IsFaultOf command known read written (read_fault_from fault)

@@ -1,9 +1,8 @@
 -- What the program has written.
-use Rattle.std.specs.Prelude.{◌≡◌, ◌≤◌, ℕ, List, ◌++◌, length, Option, Ok, IfSome}
-use Rattle.std.specs.Io.KnownBytes.{Appends, IsAtEnd}
+use Rattle.std.specs.Prelude.{◌≡◌, ℕ, List, ◌++◌, Option, Ok, IfSome}
+use Rattle.std.specs.Io.KnownBytes.{Appends}
 use Rattle.hp_machine.specs.Machine.{MachineValue, booted}
 use Rattle.hp_scenario.specs.Scenario.{ScenarioValue, scenario_in}
-use Rattle.hp_streams.specs.Reading.{limit}
 use Rattle.hp_commands.specs.declared.commands.Command.{Command}
 use Rattle.hp_commands.specs.declared.commands.Command.TheVariants.{Serial, Run, Audit}
 use Rattle.hp_commands.specs.Runs.{IsAuditTextOf, IsRunTextOf}
@@ -19,11 +18,6 @@ pub record IsTextOf (input text : List ℕ) : Type 0 where
   pub run : WritesLines (booted scenario.layout) scenario.lines lines machine
   pub end : text ≡ lines ++ end_text scenario.names machine
   pub whole : IsWhole text → serial_text input ≡ Ok text
-
--- a reader gave up all that it had, and that was at most the limit
-pub record ReadsAll (old new : Option (List ℕ)) : Type 0 where
-  pub within : IfSome old (λ input. length input ≤ limit)
-  pub end : IsAtEnd new
 
 -- the text of the bytes that were read, and nothing else
 abbrev pub WritesTextOf : (known old new : Option (List ℕ)) → Type 0

@@ -2,7 +2,8 @@
 
 ghost use Rattle.std.specs.Prelude.{◌≡◌, ◌≢◌, ◌<◌, ◌-◌, ◌^◌, IfErr, OnOk};
 ghost use Rattle.std.specs.Io.KnownBytes.{Appends, Keeps};
-ghost use Rattle.hp_commands.specs.Served.{ReadsAll, Serves, WritesTextOf};
+ghost use Rattle.hp_streams.specs.Reading.{ReadsAll};
+ghost use Rattle.hp_commands.specs.Served.{Serves, WritesTextOf};
 ghost use Rattle.hp_commands.specs.Faults.{IsFaultOf};
 ghost use Rattle.hp_commands.specs.declared.commands.Command.TheVariants.{Serial, Run, Audit};
 

@@ -1,10 +1,16 @@
--- When reading fails.
-use Rattle.std.specs.Prelude.{ℕ, ◌<◌, List, length, Option, IfSome}
+-- What it is to read all there is, and when that fails.
+use Rattle.std.specs.Prelude.{ℕ, ◌<◌, ◌≤◌, List, length, Option, IfSome}
+use Rattle.std.specs.Io.KnownBytes.{IsAtEnd}
 use Rattle.hp_streams.specs.declared.reading.ReadFault.{ReadFault}
 use Rattle.hp_streams.specs.declared.reading.ReadFault.TheVariants.{ReadFailed, TooLong, OutOfMemory}
 
 abbrev pub limit : ℕ
 limit = 16777216
+
+-- a reader gave up all that it had, and that was at most the limit
+pub record ReadsAll (old new : Option (List ℕ)) : Type 0 where
+  pub within : IfSome old (λ input. length input ≤ limit)
+  pub end : IsAtEnd new
 
 -- when each fault comes: `read` says that a reader's call failed
 abbrev pub IsReadFault : (known : Option (List ℕ)) (read : Type 0) → ReadFault → Type 0

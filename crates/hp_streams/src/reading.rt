@@ -2,7 +2,7 @@
 
 ghost use Rattle.std.specs.Prelude.{◌≡◌, ◌<◌, ◌≤◌, ◌-◌, ◌^◌, length, IfOk, IfErr, OnOk, vec_len};
 ghost use Rattle.std.specs.Io.KnownBytes.{Consumes, IsAtEnd};
-ghost use Rattle.hp_streams.specs.Reading.{IsReadFault, limit};
+ghost use Rattle.hp_streams.specs.Reading.{IsReadFault, ReadsAll, limit};
 ghost use Rattle.hp_streams.specs.declared.reading.ReadFault.TheVariants.{OutOfMemory};
 
 use crate::streams::Source;
@@ -36,6 +36,7 @@ pub fn read_all<R: Source>(alloc: Global, reader: &mut R) -> Result<Vec<u8>, Rea
     ensures bytes { IfOk result (λ v. Consumes (R.remaining reader.old) (R.remaining reader.new) v.items) }
     ensures limit { IfOk result (λ v. length v.items ≤ limit) }
     ensures end { OnOk result (IsAtEnd (R.remaining reader.new)) }
+    ensures read { OnOk result (ReadsAll (R.remaining reader.old) (R.remaining reader.new)) }
     ensures err { IfErr result (IsReadFault (R.remaining reader.old) (R.failures reader.old < R.failures reader.new)) }
 {
     let mut bytes = Vec::new(alloc);
