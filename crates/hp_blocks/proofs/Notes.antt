@@ -1,9 +1,7 @@
 -- What the calls of the layer note.
-use Rattle.std.proofs.lemmas.List.{set-set, set-get_or, length-set, get_or-set_same}
-use Rattle.std.proofs.lemmas.Option.{slice_get-get_or}
+use Rattle.std.proofs.lemmas.List.{set-set, set-get_or}
 use Rattle.hp_units.specs.Memory.{offline_row}
-use Rattle.std.proofs.Common.{◌≡◌, ℕ, ◌<◌, List, [], ◌∷◌, ◌++◌, length, Some, set, refl, ap, ◌∙◌, arith}
-use Rattle.std.specs.Prelude.{slice_get}
+use Rattle.std.proofs.Common.{◌≡◌, ℕ, ◌<◌, List, [], ◌∷◌, ◌++◌, refl, ap, ◌∙◌, arith}
 use Rattle.hp_units.specs.LayoutParts.{LayoutParts}
 use Rattle.hp_units.specs.Memory.{Blocks, row_of, with_row}
 use Rattle.hp_units.specs.InLayout.{AreBlocksOf}
@@ -12,16 +10,13 @@ use Rattle.hp_units.specs.declared.rows.Auto.{Auto}
 use Rattle.hp_tape.specs.declared.deltas.Delta.{Delta}
 use Rattle.hp_tape.specs.declared.deltas.Delta.TheVariants.{Row as RowDelta, Auto as AutoDelta}
 use Rattle.hp_tape.specs.Tapes.{TapeValue, NotesBlocks}
+use Rattle.hp_lemmas.proofs.Tables.{get_set}
 
 -- a tape by its parts
 seen_as : (was now : TapeValue) (deltas : List Delta) → now.room ≡ was.room → now.deltas ≡ was.deltas ++ deltas
     → now ≡ record { room = was.room; deltas = was.deltas ++ deltas }
 seen_as was now deltas room noted =
     ap (λ (r : ℕ). record now { room = r }) room ∙ ap (λ (ds : List Delta). record { room = was.room; deltas = ds }) noted
-
--- what was set is read
-get_set : {X : Type 0} (xs : List X) (i : ℕ) (x : X) → i < length xs → slice_get (set xs i x) i ≡ Some x
-get_set xs i x lt = slice_get-get_or (set xs i x) i x (rw length-set lt) ∙ ap (λ y. Some y) (get_or-set_same xs i x x lt)
 
 -- a row was set
 pub notes-row : (l : LayoutParts) (bs : Blocks) (block : ℕ) (row : Row) (was now : TapeValue) → AreBlocksOf l bs → block < l.blocks

@@ -1,10 +1,8 @@
 -- What each small change notes: its delta fits the areas that it left, and leads back to those that it found.
 use Rattle.std.proofs.Common.{◌≡◌, ℕ, ◌+◌, ◌*◌, ◌<◌, ◌≤◌, List, [], ◌∷◌, ◌++◌, length, get_or, set, Bool, true, false, not, Option, Some, None, refl, sym, ◌∙◌, ap, subst, arith, ◌&&◌}
-use Rattle.std.specs.Prelude.{slice_get}
 use Rattle.std.specs.Option.{ForSome, option_map_or}
 use Rattle.std.specs.List.{list_all}
-use Rattle.std.proofs.lemmas.List.{get_or-set_same, set-set, set-get_or, length-set}
-use Rattle.std.proofs.lemmas.Option.{slice_get-get_or}
+use Rattle.std.proofs.lemmas.List.{get_or-set_same, set-set, set-get_or}
 use Rattle.std.proofs.lemmas.Bool.{eq-eqb, false_from_ne_true}
 use Rattle.hp_units.specs.declared.rows.Class.{Class}
 use Rattle.hp_units.specs.declared.rows.Kind.{Kind}
@@ -21,6 +19,7 @@ use Rattle.hp_tape.specs.Tapes.{TapeValue, NotesAreas}
 use Rattle.hp_links.specs.LinkedLists.{LinkedLists, list_at, with_list, IsOn, IsListed, IsUnlisted, with_behind, last, without as without_first}
 use Rattle.hp_buddy.specs.Buddy.{BuddyValue, IsBuddyOf}
 use Rattle.hp_lemmas.proofs.Places.{class_index-lt, list_places-cons, HasOrder}
+use Rattle.hp_lemmas.proofs.Tables.{get_set}
 use Rattle.hp_lemmas.proofs.Lists.{on-places, covered-self, list_places-le}
 use Rattle.hp_buddy.proofs.Linked.{areas_of, unlisted, contains_on, on_contains, off_list, off_all, without-same, put_behind-same, AreDistinct, behind-last, without-front, without-back}
 
@@ -125,12 +124,6 @@ back-notes l links kinds class order f after was now delta h low frame none dist
     ∙ set-set links.lists n (xs ++ f ∷ []) xs ∙ set-get_or links.lists n []))
 
 -- ---- a kind
-
--- what was set is read
-get_set : (xs : List Kind) (i : ℕ) (x : Kind) → i < length xs → slice_get (set xs i x) i ≡ Some x
-get_set xs i x lt =
-    let long : i < length (set xs i x) = omega (arith, length-set xs i x) in
-    slice_get-get_or (set xs i x) i plain_kind long ∙ ap Some (get_or-set_same xs i x plain_kind lt)
 
 -- a pageblock gets a kind
 pub kind-notes : (l : LayoutParts) (a : FreeAreas) (pageblock : ℕ) (kind : Kind) (was now : TapeValue) (delta : Delta)

@@ -1,7 +1,6 @@
 -- What the lines before a line make of the serials and of the history (own rule).
 use Rattle.std.specs.Prelude.{ℕ, ◌+◌, ◌-◌, ◌==◌, Bool, true, false, List, [], ◌∷◌, ◌++◌, fold, Option, Some, None, Result, Ok, Err, slice_get, if◌then◌else◌}
-use Rattle.hp_units.specs.declared.events.Event.{Event}
-use Rattle.hp_units.specs.declared.events.Event.TheVariants as event
+use Rattle.hp_units.specs.Marks.{is_opening, mark_of}
 use Rattle.hp_control.specs.declared.fault.ControlFault.{ControlFault}
 use Rattle.hp_control.specs.declared.writes.Request.{Request}
 use Rattle.hp_control.specs.declared.writes.Request.TheVariants as request
@@ -19,10 +18,6 @@ pub record TallyValue : Type 0 where
 
 abbrev pub no_lines : TallyValue
 no_lines = record { begins = []; has_plan = false; used = 0 }
-
-abbrev pub is_begin : Event → Bool
-is_begin (event.Begin plan) = true
-is_begin e = false
 
 -- one record more
 abbrev pub after_record : TallyValue → (begins : Bool) → TallyValue
@@ -42,13 +37,13 @@ after_seal t = record { begins = t.begins; has_plan = t.has_plan; used = 0 }
 
 -- a text that a control file does not take makes no record
 abbrev pub after_request : TallyValue → Result Request ControlFault → TallyValue
-after_request t (Ok (request.Event e)) = after_record t (is_begin e)
+after_request t (Ok (request.Event e)) = after_record t (is_opening (mark_of e))
 after_request t (Ok (request.Plan plan)) = after_plan t
 after_request t (Err fault) = t
 
 -- a line more
 abbrev pub after_work : TallyValue → Work → TallyValue
-after_work t (work.Event e) = after_record t (is_begin e)
+after_work t (work.Event e) = after_record t (is_opening (mark_of e))
 after_work t (work.Plan plan turns) = after_plan t
 after_work t (work.Echo path word) = after_request t (echo_request path word)
 after_work t (work.Cat path) = t

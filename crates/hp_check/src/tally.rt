@@ -4,7 +4,7 @@ ghost use Rattle.hp_check.specs.Tally as means;
 
 use hp_control::{Request, echo_answer};
 use hp_scenario::Work;
-use hp_units::{Event, Serial};
+use hp_units::{Serial, mark_of};
 use std::alloc::{AllocError, Global};
 use std::marker::Model;
 
@@ -42,7 +42,7 @@ impl Tally {
         ensures { OnOk result (self.new ≡ means.after_work self.old work.now) }
     {
         match work {
-            Work::Event(event) => self.add_record(is_begin(event)),
+            Work::Event(event) => self.add_record(mark_of(event).is_opening()),
             Work::Plan { plan: _, turns: _ } => {
                 self.add_plan();
                 Ok(())
@@ -65,7 +65,7 @@ impl Tally {
         ensures { OnOk result (self.new ≡ means.after_request self.old (Ok request.now)) }
     {
         match request {
-            Request::Event(event) => self.add_record(is_begin(event)),
+            Request::Event(event) => self.add_record(mark_of(event).is_opening()),
             Request::Plan(_plan) => {
                 self.add_plan();
                 Ok(())
@@ -121,11 +121,4 @@ impl Tally {
             self.has_plan
         }
     }
-}
-
-/// Whether an event begins an operation.
-fn is_begin(event: &Event) -> bool
-    ensures { result ≡ means.is_begin event.now }
-{
-    matches!(event, Event::Begin { .. })
 }

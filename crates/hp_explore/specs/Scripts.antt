@@ -1,23 +1,19 @@
 -- What a processor's script asks for after the processor's own receipts.
-use Rattle.std.specs.Prelude.{ℕ, Bool, true, false, if◌then◌else◌, List, [], ◌∷◌, ◌++◌, Option, Some, None, drop, fold, option_map}
+use Rattle.std.specs.Prelude.{ℕ, if◌then◌else◌, List, [], ◌∷◌, ◌++◌, Option, Some, None, drop, fold, option_map}
 use Rattle.std.specs.Option.{option_map_or}
 use Rattle.hp_units.specs.Driver.{next_event}
+use Rattle.hp_units.specs.Marks.{is_opening, mark_of}
 use Rattle.hp_units.specs.declared.events.Event.{Event}
-use Rattle.hp_units.specs.declared.events.Event.TheVariants.{Begin, DrainFor as DrainsFor, Migrate as Migrates, Commit as Commits, Cancel as Cancels}
+use Rattle.hp_units.specs.declared.events.Event.TheVariants.{DrainFor as DrainsFor, Migrate as Migrates, Commit as Commits, Cancel as Cancels}
 use Rattle.hp_units.specs.declared.replies.Receipt.{Receipt}
 use Rattle.hp_explore.specs.declared.scripts.Line.{Line}
 use Rattle.hp_explore.specs.declared.scripts.Line.TheVariants.{Ask, Own, Carry}
 use Rattle.hp_explore.specs.declared.scripts.Work.{Work}
 use Rattle.hp_explore.specs.declared.scripts.Work.TheVariants.{DrainFor, Migrate, Commit, Cancel}
 
--- whether an event begins an operation
-abbrev pub is_begin : Event → Bool
-is_begin (Begin plan) = true
-is_begin event = false
-
 -- the operation that a processor began last: the serial of its last Begin, refused or not, and 0 where it made none
 abbrev pub later_operation : ℕ → Receipt → ℕ
-later_operation op r = if is_begin r.event then r.serial else op
+later_operation op r = if is_opening (mark_of r.event) then r.serial else op
 
 abbrev pub own_operation : List Receipt → ℕ
 own_operation receipts = fold later_operation 0 receipts

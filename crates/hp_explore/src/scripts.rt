@@ -8,7 +8,7 @@ ghost use Rattle.hp_explore.specs.Interleavings.{holds_no_plan, is_one_call};
 ghost use Rattle.hp_explore.specs.Scripts.{after_line, line_next, next_in, next_of, once, own_operation, rest_at, work_of};
 
 use crate::runs::next_of_run;
-use hp_units::{Cpu, Event, Plan, Receipt, Record, Serial};
+use hp_units::{Cpu, Event, Plan, Receipt, Record, Serial, mark_of};
 use std::alloc::{AllocError, Global};
 use std::marker::Model;
 
@@ -209,7 +209,7 @@ fn last_operation(cpu: Cpu, records: &[Record]) -> Serial
 {
     let mut op = Serial(0);
     for record in records {
-        if record.cpu == cpu && is_begin(&record.event) {
+        if record.cpu == cpu && mark_of(&record.event).is_opening() {
             op = record.serial;
         }
     }
@@ -245,7 +245,7 @@ pub(crate) fn own_operation(receipts: &[Receipt]) -> Serial
 {
     let mut op = Serial(0);
     for receipt in receipts {
-        if is_begin(&receipt.event) {
+        if mark_of(&receipt.event).is_opening() {
             op = receipt.serial;
         }
     }
@@ -264,13 +264,6 @@ fn leaves_steps(event: &Event) -> bool
     ensures { result ≡ leaves_steps (effect_of event.now) }
 {
     !matches!(event, Event::UndoAfter { .. })
-}
-
-/// Whether an event begins an operation.
-fn is_begin(event: &Event) -> bool
-    ensures { result ≡ Rattle.hp_explore.specs.Scripts.is_begin event.now }
-{
-    matches!(event, Event::Begin { .. })
 }
 
 /// The event that lines ask for after the receipts since the first of them began. An error is out of memory.

@@ -1,4 +1,4 @@
-mod Images
+pub mod Images
 mod Lists
 mod Pages
 pub mod Tables

@@ -1,16 +1,22 @@
 -- A table of pages, one entry of it written, and in how many pages a frame is.
 use Rattle.std.proofs.Common.{◌≡◌, ◌≢◌, ℕ, zero, suc, ◌+◌, ◌<◌, ◌≤◌, List, [], ◌∷◌, length, get_or, set, cond, Option, Some, None, sym, ◌∙◌, ap, subst, arith, ◌⊎◌, inl, inr, length-set}
 use Rattle.std.specs.List.{AllByRecursion, sum_by, count_by}
+use Rattle.std.specs.Prelude.{slice_get}
 use Rattle.std.proofs.lemmas.Bool.{cases_eq, cases_lt}
 use Rattle.std.proofs.lemmas.Bool.Decides.{nat_tests}
 use Rattle.std.proofs.lemmas.List.{get_or-set_other, get_or-set_same, get_or_past}
 use Rattle.std.proofs.lemmas.List.Sums.{sum_by-set}
+use Rattle.std.proofs.lemmas.Option.{slice_get-get_or}
 use Rattle.hp_units.specs.LayoutParts.{LayoutParts}
 use Rattle.hp_units.specs.Memory.{Memory, entry_of, with_entry}
 use Rattle.hp_units.specs.Pages.{holds}
 use Rattle.hp_units.specs.Placement.{IsInOrder, covered}
 
 -- ---- tables
+
+-- what was set is read
+pub get_set : {X : Type 0} (xs : List X) (i : ℕ) (x : X) → i < length xs → slice_get (set xs i x) i ≡ Some x
+get_set xs i x lt = slice_get-get_or (set xs i x) i x (rw length-set lt) ∙ ap (λ y. Some y) (get_or-set_same xs i x x lt)
 
 pub row_length : {A : Type 0} (pages : ℕ) (table : List (List (Option A))) (owner : ℕ) → AllByRecursion (λ row. length row ≡ pages) table → owner < length table
     → length (get_or table owner []) ≡ pages

@@ -18,6 +18,7 @@ use Rattle.hp_pages.proofs.Views.{are_page_frames, settled_placed}
 use Rattle.hp_plain.specs.Image.{Pictured}
 use Rattle.hp_images.specs.Pages.{pages_of}
 use Rattle.hp_images.specs.Tables.{AreCopied}
+use Rattle.hp_images.proofs.Images.{with_cached, with_pages}
 use Rattle.hp_images.proofs.Tables.{copied-none}
 use Rattle.hp_memory.specs.declared.layers.Layers.{Layers}
 use Rattle.hp_memory.specs.Layers.{ArePlaced, state_of}
@@ -26,12 +27,6 @@ use Rattle.hp_memory.specs.Layers.{ArePlaced, state_of}
 
 abbrev pub with_free_areas : Pictured → FreeAreas → Pictured
 with_free_areas i areas = record i { memory = with_areas i.memory areas }
-
-abbrev pub with_cached : Pictured → List (List ℕ) → Pictured
-with_cached i lists = record i { memory = record i.memory { free = record i.memory.free { cached = lists } } }
-
-abbrev pub with_pages : Pictured → Pages → Pictured
-with_pages i pages = record i { memory = record i.memory { pages = pages } }
 
 abbrev pub with_kernel : Pictured → List (Option ℕ) → Pictured
 with_kernel i kernel = record i { memory = record i.memory { kernel = kernel } }

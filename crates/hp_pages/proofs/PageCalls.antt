@@ -16,7 +16,8 @@ use Rattle.hp_pages.specs.Pages.{ArePageFramesOf, AreSettled, IsNeeded, map_fram
 use Rattle.hp_pages.specs.Places.{held, holders}
 use Rattle.hp_pages.proofs.Blanks.{none-needed, some-needed, set-some, set-zero, zeros-blank}
 use Rattle.hp_pages.proofs.Places.{IsIn, entry-back, entry-same, holders-entry, holds_some}
-use Rattle.hp_pages.proofs.PageParts.{AreSized, get_set, has_none, held_no, held_yes, noted_one, noted_two, page_of, same_frames, swap_twice, swapped_a, swapped_b}
+use Rattle.hp_lemmas.proofs.Tables.{get_set}
+use Rattle.hp_pages.proofs.PageParts.{AreSized, has_none, held_no, held_yes, noted_one, noted_two, page_of, same_frames, swap_twice, swapped_a, swapped_b}
 
 -- ---- map
 

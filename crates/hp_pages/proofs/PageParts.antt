@@ -1,11 +1,10 @@
 -- Parts of the layer's view: buffers, pages, tapes, and the view without pages.
 use Rattle.std.proofs.Common.{◌≡◌, ℕ, zero, suc, ◌<◌, ◌+◌, List, [], ◌∷◌, ◌++◌, length, get_or, set, map, replicate, Option, Some, None, refl, sym, ap, ◌∙◌, subst, arith}
-use Rattle.std.specs.Prelude.{IfSome, slice_get}
+use Rattle.std.specs.Prelude.{IfSome}
 use Rattle.std.specs.List.{AllByRecursion, range_with_len}
 use Rattle.std.specs.Option.{option_and_then}
 use Rattle.std.proofs.lemmas.Bool.{eq-eqb, ne_eqb, cond-true, cond-false}
 use Rattle.std.proofs.lemmas.List.{append_assoc, get_or-set_same, get_or-set_other, length-set, set-set, set_comm, set-get_or}
-use Rattle.std.proofs.lemmas.Option.{slice_get-get_or}
 use Rattle.hp_units.specs.LayoutParts.{LayoutParts}
 use Rattle.hp_units.specs.Arithmetic.{frame_count}
 use Rattle.hp_units.specs.Boot.{empty_pages}
@@ -100,10 +99,6 @@ held_yes frame f e = cond-true _ _ _ (eq-eqb frame f e)
 
 pub held_no : (frame f : ℕ) → (frame ≡ f → ⊥) → held f (Some frame) 1 ≡ 0
 held_no frame f ne = cond-false _ _ _ (ne_eqb frame f ne)
-
--- what was set is read
-pub get_set : {X : Type 0} (xs : List X) (i : ℕ) (x : X) → i < length xs → slice_get (set xs i x) i ≡ Some x
-get_set xs i x lt = slice_get-get_or (set xs i x) i x (rw length-set lt) ∙ ap (λ y. Some y) (get_or-set_same xs i x x lt)
 
 -- two places of a list after a swap
 pub swapped_a : (buffers : List (Option (List ℕ))) (a b : ℕ) (x y : Option (List ℕ)) → (a ≡ b → ⊥) → a < length buffers → get_or (set (set buffers a y) b x) a None ≡ y

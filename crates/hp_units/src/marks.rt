@@ -1,7 +1,7 @@
 //! What undo and Cancel have to know of a step.
 ghost use Rattle.std.specs.Prelude.{◌≡◌, ◌&&◌, not};
 ghost use Rattle.hp_units.specs.History.{is_look, is_refused};
-ghost use Rattle.hp_units.specs.Marks.{mark_of};
+ghost use Rattle.hp_units.specs.Marks.{is_opening, mark_of};
 
 use crate::events::Event;
 use crate::replies::Reply;
@@ -16,6 +16,15 @@ pub enum Mark {
     Works { op: Serial },
     /// Any other step.
     Other,
+}
+
+impl Mark {
+    /// Whether it is a Begin's.
+    pub fn is_opening(self) -> bool
+        ensures { result ≡ is_opening self }
+    {
+        matches!(self, Mark::Opens)
+    }
 }
 
 /// A step's serial and mark.
