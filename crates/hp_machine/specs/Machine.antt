@@ -1,14 +1,14 @@
 -- What a contract sees of a machine, what every machine keeps, and what a call does.
-use Rattle.std.specs.Prelude.{ℕ, ◌≡◌, ◌+◌, Bool, ◌||◌, [], length, nat_le}
+use Rattle.std.specs.Prelude.{ℕ, ◌≡◌, Bool, ◌||◌, [], length, nat_le}
 use Rattle.hp_units.specs.LayoutParts.{IsLayout, LayoutParts}
 use Rattle.hp_units.specs.Boot.{boot_memory}
 use Rattle.hp_units.specs.Contents.{contents_of_net}
 use Rattle.hp_units.specs.History.{net_of}
 use Rattle.hp_units.specs.Placement.{IsWellPlaced}
 use Rattle.hp_units.specs.declared.events.Event.{Event}
-use Rattle.hp_units.specs.declared.replies.Record.{Record}
 use Rattle.hp_units.specs.declared.replies.Receipt.{Receipt}
-use Rattle.hp_history.specs.Course.{CourseValue, IsAnswered, IsHistory as IsCourseHistory, started}
+use Rattle.hp_history.specs.Course.{CourseValue, IsAnswered, IsHistory as IsCourseHistory, is_spent, started}
+pub use Rattle.hp_history.specs.Course.{last_serial, record_of}
 
 -- a course's value: `layout`, `before`, the number of records that were sealed before the history, `base`, the state that the
 -- history began with, `history` and `state`
@@ -33,19 +33,11 @@ pub record IsSound (m : MachineValue) : Type 0 where
 
 -- the history holds its limit, or there is no further serial
 abbrev pub is_full : MachineValue → Bool
-is_full m = nat_le m.layout.history (length m.history) || nat_le 18446744073709551615 (m.before + length m.history)
-
--- the last serial so far
-abbrev pub last_serial : MachineValue → ℕ
-last_serial m = m.before + length m.history
+is_full m = nat_le m.layout.history (length m.history) || is_spent m
 
 -- the machine after a seal: no records, and the present state as its base
 abbrev pub sealed : MachineValue → MachineValue
 sealed m = started m.layout m.state (last_serial m)
-
--- the record of a receipt
-abbrev pub record_of : ℕ → Receipt → Record
-record_of cpu r = record { serial = r.serial; cpu = cpu; event = r.event; reply = r.reply }
 
 -- the call of an event by a processor was answered so, and made the new machine of the old: one record is appended, with the
 -- next serial and the reply that the definitions give, and the state is that of the longer history

@@ -2,7 +2,7 @@
 ghost use Rattle.std.specs.Prelude.{◌≡◌, ◌↔◌, ◌≤◌, Err, IfOk, MatchOption, OnErr, OnOk, IsTrue, length, slice_get};
 ghost use Rattle.hp_units.specs.Boot.{boot_memory};
 ghost use Rattle.hp_units.specs.History.{net_of};
-ghost use Rattle.hp_units.specs.Memory.{free_list};
+ghost use Rattle.hp_units.specs.Memory.{free_list, kernel_order};
 ghost use Rattle.hp_units.specs.Pages.{frame_at};
 ghost use Rattle.hp_tape.specs.Deltas.{page_frames_of};
 ghost use Rattle.hp_pages.specs.Pages.{AreSettled};
@@ -19,8 +19,8 @@ use hp_pages::Pages;
 use hp_plain::Image;
 use hp_tape::Delta;
 use hp_units::{
-    Auto, Block, CallFault, Class, Cpu, Event, Frame, Layout, Order, Owner, Page, Receipt, Record,
-    Row,
+    Auto, Block, CallFault, Class, Cpu, Event, Frame, Kind, Layout, Order, Owner, Page, Pageblock,
+    Receipt, Record, Row,
 };
 use std::alloc::{AllocError, Global};
 use std::marker::Model;
@@ -159,6 +159,20 @@ impl Machine {
         ensures { result ≡ length (free_list self.now.state.free.areas class order) }
     {
         self.course.memory().list_len(class, order)
+    }
+
+    /// The kind of a pageblock (Linux, memory hotplug: isolated pageblocks; Gorman, chapter 6). None past the last pageblock.
+    pub fn kind(&self, pageblock: Pageblock) -> Option<Kind>
+        ensures { result ≡ slice_get self.now.state.free.areas.kinds pageblock }
+    {
+        self.course.memory().kind(pageblock)
+    }
+
+    /// The order of the kernel's block that starts at a frame. None where no such block does, and past the last frame.
+    pub fn kernel_at(&self, frame: Frame) -> Option<Order>
+        ensures { result ≡ kernel_order self.now.state frame }
+    {
+        self.course.memory().kernel_at(frame)
     }
 
     /// The row of a memory block (Linux, memory hotplug: state). None past the last block.

@@ -1,11 +1,12 @@
 -- Marks, one after another.
 use Rattle.std.proofs.Common.{◌≡◌, ℕ, ◌+◌, ◌<◌, ◌≤◌, ◌==◌, ◌||◌, inl, inr, Bool, true, false, cond, List, [], ◌∷◌, ◌++◌, length, set, get_or, take, Option, Some, None, option_map, slice_get, refl, sym, ap, subst, ◌∙◌, add-one}
 use Rattle.std.proofs.lemmas.Bool.{cases_eq, cases_lt, eq-eqb, ne_eqb}
-use Rattle.std.proofs.lemmas.List.{take_more, length-set, get_or-set_same, get_or-set_other}
+use Rattle.std.proofs.lemmas.List.{take_more, length-set, get_or-set_other}
 use Rattle.std.proofs.lemmas.List.Folds.{list_any-append}
 use Rattle.std.proofs.lemmas.Option.{slice_get-get_or, slice_get_past}
 use Rattle.hp_units.specs.FreeAreas.{is_on}
 use Rattle.hp_map.specs.declared.places.Place.{Place}
+use Rattle.hp_lemmas.proofs.Tables.{get_set}
 use Rattle.hp_map.specs.Marks.{AreMarked, Mark, at_frame, marks_below, on_list}
 
 -- what changes nothing, and one thing after another
@@ -17,10 +18,7 @@ pub map_then : (f g h : Place → Place) → ((p : Place) → g (f p) ≡ h p) �
 map_then f g h then None = refl
 map_then f g h then (Some p) = ap (λ q. Some q) (then p)
 
--- a place that was set, and another
-get_set : (xs : List Place) (i : ℕ) (p : Place) → i < length xs → slice_get (set xs i p) i ≡ Some p
-get_set xs i p lt = slice_get-get_or (set xs i p) i p (rw length-set lt) ∙ ap (λ y. Some y) (get_or-set_same xs i p p lt)
-
+-- a place that was set leaves the others
 get_other : (xs : List Place) (i k : ℕ) (p : Place) → (k ≡ i → ⊥) → slice_get (set xs i p) k ≡ slice_get xs k
 get_other xs i k p other = elim (cases_lt k (length xs)) [
   | inl within ↦

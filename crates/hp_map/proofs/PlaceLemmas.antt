@@ -4,10 +4,11 @@ use Rattle.std.proofs.lemmas.Bool.{cases_eq, cases_lt, cases_Bool, eq-eqb, ne_eq
 use Rattle.std.proofs.lemmas.Bool.Decides.{nat_tests}
 use Rattle.std.proofs.lemmas.List.{get_or_past}
 use Rattle.std.proofs.lemmas.List.Sums.{sum_by-cons}
+use Rattle.std.proofs.lemmas.Nat.{div-mul-add, mod_below, mul-le, pow_pos, shr_split}
 use Rattle.std.proofs.lemmas.Option.{slice_get_within, unwrap_or-slice_get}
 use Rattle.std.specs.List.{enumerate_from}
 use Rattle.std.specs.Option.{option_map_or}
-use Rattle.hp_units.specs.Arithmetic.{block_of, frame_count, pageblock_of}
+use Rattle.hp_units.specs.Arithmetic.{block_of, block_of_pageblock, frame_count, pageblock_count, pageblock_of, pageblock_size}
 use Rattle.hp_units.specs.FreeAreas.{is_on}
 use Rattle.hp_units.specs.LayoutParts.{IsLayout, LayoutParts}
 use Rattle.hp_units.specs.Memory.{FreeFrames, Memory, Pages, cached_list, kernel_order, kind_of, offline_row, plain_kind, pool_index, row_of}
@@ -19,6 +20,8 @@ use Rattle.hp_map.specs.declared.places.Place.{Place}
 use Rattle.hp_map.specs.declared.places.Place.TheVariants.{Free, Isolated, Kernel, Cached, Page}
 use Rattle.hp_map.specs.Marks.{AreMarked, Mark, at_frame, marks_below, on_block, on_cpu, on_kernel, on_list, on_owner, on_page, on_unused, free_in, unused_at, unused_in, unused_place}
 use Rattle.hp_map.specs.Places.{ArePlacesOf, IsPlaceOf}
+use Rattle.hp_laws.proofs.States.{block_of-pageblock}
+use Rattle.hp_lemmas.proofs.Geometry.{pageblock_in}
 use Rattle.hp_lemmas.proofs.Placed.{kernel-in_use}
 use Rattle.hp_lemmas.proofs.Tables.{entry_within, table_of}
 use Rattle.hp_map.proofs.MarkLemmas.{marks_then}
@@ -283,10 +286,41 @@ unused_right l s k placed no_list no_page no_block =
     by_row None kind is of = ap is_offline is
     by_row (Some row) kind is of = by_state row row.state kind is refl of
 
-unused_is : (l : LayoutParts) (s : Memory) (k : ℕ) → k < frame_count l → (p : Place) → marks_below (on_unused l s) (frame_count l) k p ≡ unused_place l s k
-unused_is l s k low p = elim (walk (on_unused l s) k (unused_place l s) (λ n. n ≡ k) (λ n. IsNot k n) (at_has (unused_place l s) (λ n. n) k) (frame_count l)) [
-  | inl hit ↦ hit.3 p ∙ ap (unused_place l s) hit.2
-  | inr miss ↦ absurd (miss.0 k low refl)
+-- a frame of a pageblock
+abbrev pub IsOf : LayoutParts → (k pageblock : ℕ) → Type 0
+IsOf l k pageblock = (offset : ℕ) × (offset < pageblock_size l) × (pageblock * pageblock_size l + offset ≡ k)
+
+abbrev pub IsNotOf : LayoutParts → (k pageblock : ℕ) → Type 0
+IsNotOf l k pageblock = (offset : ℕ) → offset < pageblock_size l → IsNot k (pageblock * pageblock_size l + offset)
+
+abbrev pub first_place : LayoutParts → Memory → (pageblock : ℕ) → Place
+first_place l s pageblock = unused_place l s (pageblock * pageblock_size l)
+
+pageblock_has : (l : LayoutParts) (s : Memory) (k n : ℕ) → Has (on_unused l s) k (first_place l s) (IsOf l k) (IsNotOf l k) n
+pageblock_has l s k n =
+    let first : ℕ = n * pageblock_size l in
+    elim (walk (λ offset. at_frame (first + offset) (first_place l s n)) k (λ i. first_place l s n) (λ i. first + i ≡ k) (λ i. IsNot k (first + i)) (at_has (λ i. first_place l s n) (λ i. first + i) k) (pageblock_size l)) [
+      | inl hit ↦ inl ((hit.0, hit.1, hit.2), hit.3)
+      | inr miss ↦ inr (miss.0, miss.1)
+    ]
+
+-- the frames of a pageblock have the place of its first
+first_is : (l : LayoutParts) (s : Memory) (k n offset : ℕ) → offset < pageblock_size l → n * pageblock_size l + offset ≡ k → first_place l s n ≡ unused_place l s k
+first_is l s k n offset low e =
+    let here : pageblock_of l k ≡ n = subst (λ (x : ℕ). pageblock_of l x ≡ n) e (div-mul-add n (pageblock_size l) offset low) in
+    let there : pageblock_of l (n * pageblock_size l) ≡ n = subst (λ (x : ℕ). pageblock_of l x ≡ n) (omega arith) (div-mul-add n (pageblock_size l) 0 (pow_pos l.order)) in
+    let same : pageblock_of l (n * pageblock_size l) ≡ pageblock_of l k = there ∙ sym here in
+    let block : block_of l (n * pageblock_size l) ≡ block_of l k =
+    block_of-pageblock l (n * pageblock_size l) ∙ (ap (block_of_pageblock l) same ∙ sym (block_of-pageblock l k)) in
+    ap (λ (b : ℕ). unused_in (slice_get s.blocks.rows b) (slice_get s.free.areas.kinds (pageblock_of l (n * pageblock_size l)))) block
+    ∙ ap (λ (p : ℕ). unused_in (slice_get s.blocks.rows (block_of l k)) (slice_get s.free.areas.kinds p)) same
+
+unused_is : (l : LayoutParts) (s : Memory) (k : ℕ) → k < frame_count l → (p : Place) → marks_below (on_unused l s) (pageblock_count l) k p ≡ unused_place l s k
+unused_is l s k low p = elim (walk (on_unused l s) k (first_place l s) (IsOf l k) (IsNotOf l k) (pageblock_has l s k) (pageblock_count l)) [
+  | inl hit ↦ hit.3 p ∙ first_is l s k hit.0 hit.2.0 hit.2.1 hit.2.2
+  | inr miss ↦
+      let parts : k / pageblock_size l * pageblock_size l + k % pageblock_size l ≡ k = shr_split k l.order in
+      absurd (miss.0 (pageblock_of l k) (pageblock_in l k low) (k % pageblock_size l) (mod_below k (pageblock_size l) (pow_pos l.order)) parts)
 ]
 
 -- ---- all marks together
@@ -294,7 +328,7 @@ unused_is l s k low p = elim (walk (on_unused l s) k (unused_place l s) (λ n. n
 abbrev pub marked : LayoutParts → Memory → Mark
 marked l s k p =
     marks_below (on_kernel s) (frame_count l) k
-    (marks_below (on_owner l s.pages) l.owners k (marks_below (on_cpu s.free) l.cpus k (marks_below (on_unused l s) (frame_count l) k p)))
+    (marks_below (on_owner l s.pages) l.owners k (marks_below (on_cpu s.free) l.cpus k (marks_below (on_unused l s) (pageblock_count l) k p)))
 
 marked_right : (l : LayoutParts) (s : Memory) (k : ℕ) → IsWellPlaced l s → k < frame_count l → (p : Place) → IsPlaceOf l s k (marked l s k p)
 marked_right l s k placed low p =
@@ -333,14 +367,14 @@ if_mapped Q f (Some p) h = h p refl
 
 -- the places of a state, marked from any others
 pub places_are : (l : LayoutParts) (s : Memory) (old unused cached mapped new : List Place) → IsWellPlaced l s → length old ≡ frame_count l
-    → AreMarked (marks_below (on_unused l s) (frame_count l)) old unused → AreMarked (marks_below (on_cpu s.free) l.cpus) unused cached
+    → AreMarked (marks_below (on_unused l s) (pageblock_count l)) old unused → AreMarked (marks_below (on_cpu s.free) l.cpus) unused cached
     → AreMarked (marks_below (on_owner l s.pages) l.owners) cached mapped → AreMarked (marks_below (on_kernel s) (frame_count l)) mapped new
     → ArePlacesOf l s new
 places_are l s old unused cached mapped new placed size first second third fourth =
-    let two = marks_then (marks_below (on_unused l s) (frame_count l)) (marks_below (on_cpu s.free) l.cpus)
-    (λ k p. marks_below (on_cpu s.free) l.cpus k (marks_below (on_unused l s) (frame_count l) k p)) old unused cached (λ k p. refl) first second in
-    let three = marks_then (λ k p. marks_below (on_cpu s.free) l.cpus k (marks_below (on_unused l s) (frame_count l) k p)) (marks_below (on_owner l s.pages) l.owners)
-    (λ k p. marks_below (on_owner l s.pages) l.owners k (marks_below (on_cpu s.free) l.cpus k (marks_below (on_unused l s) (frame_count l) k p))) old cached mapped (λ k p. refl) two third in
+    let two = marks_then (marks_below (on_unused l s) (pageblock_count l)) (marks_below (on_cpu s.free) l.cpus)
+    (λ k p. marks_below (on_cpu s.free) l.cpus k (marks_below (on_unused l s) (pageblock_count l) k p)) old unused cached (λ k p. refl) first second in
+    let three = marks_then (λ k p. marks_below (on_cpu s.free) l.cpus k (marks_below (on_unused l s) (pageblock_count l) k p)) (marks_below (on_owner l s.pages) l.owners)
+    (λ k p. marks_below (on_owner l s.pages) l.owners k (marks_below (on_cpu s.free) l.cpus k (marks_below (on_unused l s) (pageblock_count l) k p))) old cached mapped (λ k p. refl) two third in
     let all : AreMarked (marked l s) old new = marks_then _ (marks_below (on_kernel s) (frame_count l)) (marked l s) old mapped new (λ k p. refl) three fourth in
     record {
       count = marked_length (marked l s) old new all ∙ size;
@@ -355,3 +389,11 @@ block_within l s first None limits placed is = tt
 block_within l s first (Some order) limits placed is =
     let block = kernel-in_use l s first order limits placed (sym is) in
     (omega (arith, block.in_order, limits.order), omega (arith, block.within, limits.frames))
+
+-- a pageblock lies within the frames
+pub pageblock_within : (l : LayoutParts) (n : ℕ) → IsLayout l → n < pageblock_count l → n * pageblock_size l + pageblock_size l ≤ 2 ^ 20
+pageblock_within l n limits low =
+    let all : (n + 1) * 2 ^ l.order ≤ l.blocks * l.pageblocks * 2 ^ l.order = mul-le (n + 1) (2 ^ l.order) (l.blocks * l.pageblocks) (2 ^ l.order) (omega (arith, low)) (omega arith) in
+    let turned : l.blocks * (l.pageblocks * 2 ^ l.order) ≡ l.blocks * l.pageblocks * 2 ^ l.order = grind arith in
+    let one : (n + 1) * 2 ^ l.order ≡ n * 2 ^ l.order + 2 ^ l.order = grind arith in
+    omega (arith, all, turned, one, limits.frames)

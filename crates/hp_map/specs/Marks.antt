@@ -1,6 +1,6 @@
 -- Marks: what each turn of a walk over a state makes of the places of frames.
-use Rattle.std.specs.Prelude.{ℕ, zero, suc, ◌≡◌, ◌+◌, ◌^◌, ◌==◌, List, Option, Some, None, option_map, slice_get, if◌then◌else◌}
-use Rattle.hp_units.specs.Arithmetic.{block_of, pageblock_of}
+use Rattle.std.specs.Prelude.{ℕ, zero, suc, ◌≡◌, ◌+◌, ◌*◌, ◌^◌, ◌==◌, List, Option, Some, None, option_map, slice_get, if◌then◌else◌}
+use Rattle.hp_units.specs.Arithmetic.{block_of, pageblock_of, pageblock_size}
 use Rattle.hp_units.specs.FreeAreas.{is_on}
 use Rattle.hp_units.specs.LayoutParts.{LayoutParts}
 use Rattle.hp_units.specs.Memory.{FreeFrames, Memory, Pages, cached_list, kernel_order}
@@ -44,10 +44,14 @@ on_page ps owner page = on_entry owner (frame_at ps owner page)
 abbrev pub on_owner : LayoutParts → Pages → (owner : ℕ) → Mark
 on_owner l ps owner = marks_below (on_page ps owner) l.pages
 
+-- so many frames from one on
+abbrev pub on_frames : (first count : ℕ) → Place → Mark
+on_frames first count place = marks_below (λ offset. at_frame (first + offset) place) count
+
 -- the frames of a kernel's block
 abbrev pub on_block : (first : ℕ) → Option ℕ → Mark
 on_block first None = λ frame was. was
-on_block first (Some order) = marks_below (λ offset. at_frame (first + offset) Kernel) (2 ^ order)
+on_block first (Some order) = on_frames first (2 ^ order) Kernel
 
 abbrev pub on_kernel : Memory → (first : ℕ) → Mark
 on_kernel s first = on_block first (kernel_order s first)
@@ -70,5 +74,6 @@ unused_in (Some row) kind = unused_at row.state kind
 abbrev pub unused_place : LayoutParts → Memory → (frame : ℕ) → Place
 unused_place l s frame = unused_in (slice_get s.blocks.rows (block_of l frame)) (slice_get s.free.areas.kinds (pageblock_of l frame))
 
-abbrev pub on_unused : LayoutParts → Memory → (number : ℕ) → Mark
-on_unused l s number = at_frame number (unused_place l s number)
+-- the frames of a pageblock, as if none were in use
+abbrev pub on_unused : LayoutParts → Memory → (pageblock : ℕ) → Mark
+on_unused l s pageblock = on_frames (pageblock * pageblock_size l) (pageblock_size l) (unused_place l s (pageblock * pageblock_size l))

@@ -1,14 +1,18 @@
 //! One mark after another: the places of frames, set by a walk over a state.
-ghost use Rattle.std.specs.Prelude.{◌≡◌, ◌+◌, ◌^◌, ◌≤◌, IfSome};
-ghost use Rattle.hp_units.specs.Arithmetic.{frame_count};
+ghost use Rattle.std.specs.Prelude.{◌≡◌, ◌+◌, ◌^◌, ◌<◌, ◌≤◌, IfSome, OnOk};
+ghost use Rattle.hp_units.specs.Arithmetic.{frame_count, pageblock_count};
 ghost use Rattle.hp_units.specs.LayoutParts.{IsLayout};
+ghost use Rattle.hp_units.specs.Memory.{cached_list};
 ghost use Rattle.hp_units.specs.Placement.{IsWellPlaced};
-ghost use Rattle.hp_map.specs.declared.places.Place.TheVariants.{Kernel};
-ghost use Rattle.hp_map.specs.Marks.{AreMarked, at_frame, marks_below, on_block, on_cpu, on_entry, on_kernel, on_list, on_owner, on_page, on_unused, free_in, unused_in};
+ghost use Rattle.hp_map.specs.declared.places.Place.TheVariants.{Cached};
+ghost use Rattle.hp_map.specs.Marks.{AreMarked, at_frame, marks_below, on_block, on_cpu, on_entry, on_frames, on_kernel, on_list, on_owner, on_page, on_unused, free_in, unused_in};
 
 use crate::places::Place;
-use hp_plain::Image;
-use hp_units::{Cpu, Frame, Kind, Order, Owner, Page, Pool, Row, State, block_of, pageblock_of};
+use hp_machine::Machine;
+use hp_units::{
+    Cpu, Frame, Kind, Order, Owner, Page, Pageblock, Pool, Row, State, block_of, pageblock_of,
+};
+use std::alloc::{AllocError, Global};
 
 /// Sets the place of a frame. For a number past the last nothing is set.
 #[tactic(auto, using(crate::proofs::MarkLemmas::set_marks))]
@@ -30,23 +34,49 @@ fn mark_list(places: &mut Vec<Place>, frames: &[Frame], place: &Place)
     }
 }
 
-/// Marks the frames on a processor's lists.
-fn mark_cpu(places: &mut Vec<Place>, image: &Image, cpu: Cpu)
-    ensures { AreMarked (on_cpu image.now.memory.free cpu) places.old.items places.new.items }
+/// Marks the frames on a processor's list of a pool. An error is out of memory.
+fn mark_pool(
+    places: &mut Vec<Place>,
+    alloc: Global,
+    machine: &Machine,
+    cpu: Cpu,
+    pool: Pool,
+) -> Result<(), AllocError>
+    requires { cpu < machine.now.layout.cpus }
+    ensures { OnOk result (AreMarked (on_list (cached_list machine.now.state.free cpu pool) (Cached cpu)) places.old.items places.new.items) }
 {
-    let place = &Place::Cached(cpu);
-    mark_list(places, image.cpu_list(cpu, Pool::Nu), place);
-    mark_list(places, image.cpu_list(cpu, Pool::Nm), place);
-    mark_list(places, image.cpu_list(cpu, Pool::Mm), place);
+    let frames = machine.cpus().list(alloc, cpu, pool)?;
+    mark_list(places, &frames, &Place::Cached(cpu));
+    Ok(())
 }
 
-/// Marks the frames on all processors' lists.
-pub(crate) fn mark_cpus(places: &mut Vec<Place>, image: &Image)
-    ensures { AreMarked (marks_below (on_cpu image.now.memory.free) image.now.layout.cpus) places.old.items places.new.items }
+/// Marks the frames on a processor's lists. An error is out of memory.
+fn mark_cpu(
+    places: &mut Vec<Place>,
+    alloc: Global,
+    machine: &Machine,
+    cpu: Cpu,
+) -> Result<(), AllocError>
+    requires { cpu < machine.now.layout.cpus }
+    ensures { OnOk result (AreMarked (on_cpu machine.now.state.free cpu) places.old.items places.new.items) }
 {
-    for number in 0..image.layout().cpus() {
-        mark_cpu(places, image, Cpu(number));
+    mark_pool(places, alloc, machine, cpu, Pool::Nu)?;
+    mark_pool(places, alloc, machine, cpu, Pool::Nm)?;
+    mark_pool(places, alloc, machine, cpu, Pool::Mm)
+}
+
+/// Marks the frames on all processors' lists. An error is out of memory.
+pub(crate) fn mark_cpus(
+    places: &mut Vec<Place>,
+    alloc: Global,
+    machine: &Machine,
+) -> Result<(), AllocError>
+    ensures { OnOk result (AreMarked (marks_below (on_cpu machine.now.state.free) machine.now.layout.cpus) places.old.items places.new.items) }
+{
+    for number in 0..machine.layout().cpus() {
+        mark_cpu(places, alloc, machine, Cpu(number))?;
     }
+    Ok(())
 }
 
 /// Marks the frame that holds a page of an owner, where the page is mapped.
@@ -59,30 +89,30 @@ fn mark_page(places: &mut Vec<Place>, owner: Owner, frame: Option<Frame>)
 }
 
 /// Marks the frames of an owner's pages.
-fn mark_owner(places: &mut Vec<Place>, image: &Image, owner: Owner)
-    ensures { AreMarked (on_owner image.now.layout image.now.memory.pages owner) places.old.items places.new.items }
+fn mark_owner(places: &mut Vec<Place>, machine: &Machine, owner: Owner)
+    ensures { AreMarked (on_owner machine.now.layout machine.now.state.pages owner) places.old.items places.new.items }
 {
-    for number in 0..image.layout().pages() {
-        mark_page(places, owner, image.frame_at(owner, Page(number)));
+    for number in 0..machine.layout().pages() {
+        mark_page(places, owner, machine.frame_at(owner, Page(number)));
     }
 }
 
 /// Marks the frames of all pages.
-pub(crate) fn mark_owners(places: &mut Vec<Place>, image: &Image)
-    ensures { AreMarked (marks_below (on_owner image.now.layout image.now.memory.pages) image.now.layout.owners) places.old.items places.new.items }
+pub(crate) fn mark_owners(places: &mut Vec<Place>, machine: &Machine)
+    ensures { AreMarked (marks_below (on_owner machine.now.layout machine.now.state.pages) machine.now.layout.owners) places.old.items places.new.items }
 {
-    for number in 0..image.layout().owners() {
-        mark_owner(places, image, Owner(number));
+    for number in 0..machine.layout().owners() {
+        mark_owner(places, machine, Owner(number));
     }
 }
 
-/// Marks so many frames from one on as the kernel's.
-fn mark_frames(places: &mut Vec<Place>, first: u32, count: u32)
+/// Marks so many frames from one on.
+fn mark_frames(places: &mut Vec<Place>, first: u32, count: u32, place: &Place)
     requires { first + count ≤ 2 ^ 20 }
-    ensures { AreMarked (marks_below (λ offset. at_frame (first + offset) Kernel) count) places.old.items places.new.items }
+    ensures { AreMarked (on_frames first count place.now) places.old.items places.new.items }
 {
     for offset in 0..count {
-        set_place(places, Frame(first + offset), &Place::Kernel);
+        set_place(places, Frame(first + offset), place);
     }
 }
 
@@ -100,18 +130,18 @@ fn mark_block(places: &mut Vec<Place>, first: u32, order: Option<Order>)
     ensures { AreMarked (on_block first order) places.old.items places.new.items }
 {
     if let Some(order) = order {
-        mark_frames(places, first, size_of(order));
+        mark_frames(places, first, size_of(order), &Place::Kernel);
     }
 }
 
 /// Marks the frames of the kernel's blocks.
-pub(crate) fn mark_kernel(places: &mut Vec<Place>, image: &Image)
-    requires limits { IsLayout image.now.layout }
-    requires placed { IsWellPlaced image.now.layout image.now.memory }
-    ensures { AreMarked (marks_below (on_kernel image.now.memory) (frame_count image.now.layout)) places.old.items places.new.items }
+pub(crate) fn mark_kernel(places: &mut Vec<Place>, machine: &Machine)
+    requires limits { IsLayout machine.now.layout }
+    requires placed { IsWellPlaced machine.now.layout machine.now.state }
+    ensures { AreMarked (marks_below (on_kernel machine.now.state) (frame_count machine.now.layout)) places.old.items places.new.items }
 {
-    for number in 0..image.layout().frames() {
-        mark_block(places, number, image.kernel_at(Frame(number)));
+    for number in 0..machine.layout().frames() {
+        mark_block(places, number, machine.kernel_at(Frame(number)));
     }
 }
 
@@ -139,15 +169,29 @@ fn free_in(kind: Option<Kind>) -> Place
     }
 }
 
-/// Marks each frame as one that is not in use.
-pub(crate) fn mark_unused(places: &mut Vec<Place>, image: &Image)
-    ensures { AreMarked (marks_below (on_unused image.now.layout image.now.memory) (frame_count image.now.layout)) places.old.items places.new.items }
+/// Marks the frames of a pageblock as if none were in use.
+fn mark_pageblock(places: &mut Vec<Place>, machine: &Machine, pageblock: Pageblock)
+    requires { pageblock < pageblock_count machine.now.layout }
+    ensures { AreMarked (on_unused machine.now.layout machine.now.state pageblock) places.old.items places.new.items }
 {
-    let layout = image.layout();
-    for number in 0..layout.frames() {
-        let frame = Frame(number);
-        let row = image.row(block_of(layout, frame));
-        let kind = image.kind(pageblock_of(layout, frame));
-        set_place(places, frame, &unused_in(row, kind));
+    let layout = machine.layout();
+    let first = layout.first_frame(pageblock);
+    let row = machine.row(block_of(layout, first));
+    let kind = machine.kind(pageblock_of(layout, first));
+    mark_frames(
+        places,
+        first.0,
+        layout.pageblock_size(),
+        &unused_in(row, kind),
+    );
+}
+
+/// Marks each frame as if none were in use.
+pub(crate) fn mark_unused(places: &mut Vec<Place>, machine: &Machine)
+    ensures { AreMarked (marks_below (on_unused machine.now.layout machine.now.state) (pageblock_count machine.now.layout)) places.old.items places.new.items }
+{
+    let layout = machine.layout();
+    for number in 0..layout.blocks() * layout.pageblocks() {
+        mark_pageblock(places, machine, Pageblock(number));
     }
 }

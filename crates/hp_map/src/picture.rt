@@ -2,14 +2,11 @@
 ghost use Rattle.std.specs.Prelude.{◌≡◌, ◌+◌, ◌*◌, ◌^◌, ◌<◌, ◌≤◌, ◌++◌, IfOk, OnOk, map, string_bytes};
 ghost use Rattle.std.specs.List.{flat_map, range_with_len};
 ghost use Rattle.hp_units.specs.Arithmetic.{block_size, pageblock_size};
-ghost use Rattle.hp_units.specs.LayoutParts.{IsLayout};
-ghost use Rattle.hp_units.specs.Placement.{IsWellPlaced};
 ghost use Rattle.hp_map.specs.Pictures.{IsPicture, block_text, cell_text, claim_text, frames_text, place_at, row_text, starts_later, state_text, zone_letter};
 
-use crate::map::places_in;
+use crate::map::places_of;
 use crate::places::Place;
 use hp_machine::Machine;
-use hp_plain::Image;
 use hp_units::{Block, Claim, Layout, Row, State, Text, Wish, Zone};
 use std::alloc::{AllocError, Global};
 
@@ -18,28 +15,21 @@ use std::alloc::{AllocError, Global};
 pub fn picture_of(alloc: Global, machine: &Machine) -> Result<Vec<Text>, AllocError>
     ensures { IfOk result (λ blocks. IsPicture machine.now.layout machine.now.state blocks.items) }
 {
-    machine.stays_sound();
-    let image = machine.image(alloc)?;
-    picture_in(alloc, &image)
-}
-
-/// What is drawn of each memory block of a well placed state.
-fn picture_in(alloc: Global, image: &Image) -> Result<Vec<Text>, AllocError>
-    requires limits { IsLayout image.now.layout }
-    requires placed { IsWellPlaced image.now.layout image.now.memory }
-    ensures { IfOk result (λ blocks. IsPicture image.now.layout image.now.memory blocks.items) }
-{
-    let places = places_in(alloc, image)?;
-    draw_blocks(alloc, image, &places)
+    let places = places_of(alloc, machine)?;
+    draw_blocks(alloc, machine, &places)
 }
 
 /// Each memory block, drawn with these places.
-fn draw_blocks(alloc: Global, image: &Image, places: &Vec<Place>) -> Result<Vec<Text>, AllocError>
-    ensures { IfOk result (λ blocks. blocks.items ≡ map (block_text image.now.layout image.now.memory.blocks.rows places.now.items) (range_with_len 0 image.now.layout.blocks)) }
+fn draw_blocks(
+    alloc: Global,
+    machine: &Machine,
+    places: &Vec<Place>,
+) -> Result<Vec<Text>, AllocError>
+    ensures { IfOk result (λ blocks. blocks.items ≡ map (block_text machine.now.layout machine.now.state.blocks.rows places.now.items) (range_with_len 0 machine.now.layout.blocks)) }
 {
     let mut blocks = Vec::new(alloc);
-    for number in 0..image.layout().blocks() {
-        let text = draw_block(alloc, image, places, Block(number))?;
+    for number in 0..machine.layout().blocks() {
+        let text = draw_block(alloc, machine, places, Block(number))?;
         blocks.push(text)?;
     }
     Ok(blocks)
@@ -48,18 +38,18 @@ fn draw_blocks(alloc: Global, image: &Image, places: &Vec<Place>) -> Result<Vec<
 /// A memory block of the layout.
 fn draw_block(
     alloc: Global,
-    image: &Image,
+    machine: &Machine,
     places: &Vec<Place>,
     block: Block,
 ) -> Result<Text, AllocError>
-    requires { block < image.now.layout.blocks }
-    ensures { IfOk result (λ text. text ≡ block_text image.now.layout image.now.memory.blocks.rows places.now.items block) }
+    requires { block < machine.now.layout.blocks }
+    ensures { IfOk result (λ text. text ≡ block_text machine.now.layout machine.now.state.blocks.rows places.now.items block) }
 {
     let mut out = String::new(alloc);
     write!(&mut out, "{block}:")?;
-    write_row(&mut out, image.row(block))?;
+    write_row(&mut out, machine.row(block))?;
     out.push_str("[")?;
-    write_frames(&mut out, image.layout(), places, block)?;
+    write_frames(&mut out, machine.layout(), places, block)?;
     out.push_str("]")?;
     Ok(Text::new(out))
 }
@@ -153,6 +143,7 @@ fn starts_later(layout: &Layout, number: u32) -> bool
 }
 
 /// Writes the place of a frame, after a bar where it starts a later pageblock.
+#[tactic(auto, using(std::proofs::lemmas::Str::encode_ascii))]
 fn write_cell(out: &mut String, is_later: bool, place: Option<Place>) -> Result<(), AllocError>
     ensures { OnOk result (string_bytes out.new ≡ string_bytes out.old ++ cell_text is_later place) }
 {
@@ -160,7 +151,7 @@ fn write_cell(out: &mut String, is_later: bool, place: Option<Place>) -> Result<
         out.push_str("|")?;
     }
     match place {
-        Some(place) => write!(out, "{place}"),
+        Some(place) => out.push(place.sign()),
         None => Ok(()),
     }
 }

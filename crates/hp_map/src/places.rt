@@ -1,5 +1,6 @@
 //! Where a frame is.
-ghost use Rattle.std.specs.Prelude.{Some};
+ghost use Rattle.std.specs.Prelude.{◌≡◌, ◌<◌, [], ◌∷◌, Some};
+ghost use Rattle.hp_map.specs.Places.{place_text};
 
 use hp_units::{Cpu, Owner};
 use std::fmt;
@@ -23,6 +24,25 @@ pub enum Place {
     Page(Owner),
 }
 
+impl Place {
+    /// Its character, as it is displayed.
+    #[tactic(auto, using(std::proofs::lemmas::Fmt::decimal_digit))]
+    pub(crate) fn sign(&self) -> char
+        ensures ascii { result < 128 }
+        ensures is { place_text self.now ≡ result ∷ [] }
+    {
+        match self {
+            Place::Absent => ' ',
+            Place::Offline => '-',
+            Place::Free => '.',
+            Place::Isolated => ':',
+            Place::Kernel => 'K',
+            Place::Cached(cpu) => char::from(b'0' + (cpu.0 % 10) as u8),
+            Place::Page(owner) => char::from(b'a' + (owner.0 % 26) as u8),
+        }
+    }
+}
+
 /// One character: a space, `-`, `.`, `:`, `K`, the last digit of a processor's number, and `a` to `z` for an owner's, which
 /// begin again after 26 (own rule).
 #[tactic(auto, using(std::proofs::lemmas::Str::encode_ascii))]
@@ -32,20 +52,7 @@ impl fmt::Display for Place {
     ghost output = { λ place. Some (place_text place) };
 
     fn fmt<W: fmt::Write>(&self, f: &mut fmt::Formatter<W>) -> fmt::Result {
-        match self {
-            Place::Absent => write!(f, " "),
-            Place::Offline => write!(f, "-"),
-            Place::Free => write!(f, "."),
-            Place::Isolated => write!(f, ":"),
-            Place::Kernel => write!(f, "K"),
-            Place::Cached(cpu) => {
-                let digit = cpu.0 % 10;
-                write!(f, "{digit}")
-            }
-            Place::Page(owner) => {
-                let letter = char::from(b'a' + (owner.0 % 26) as u8);
-                write!(f, "{letter}")
-            }
-        }
+        let sign = self.sign();
+        write!(f, "{sign}")
     }
 }

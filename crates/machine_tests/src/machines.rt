@@ -4,8 +4,8 @@ mod undo_each;
 use crate::layouts::{four_blocks, one_block};
 use hp_machine::Machine;
 use hp_units::{
-    Auto, Block, CallFault, Class, Cpu, Event, Frame, Item, OpEnd, Order, Owner, Page, Plan,
-    Refusal, Reply, Row, Serial, State, Wish, Zone,
+    Auto, Block, CallFault, Class, Cpu, Event, Frame, Item, Kind, OpEnd, Order, Owner, Page,
+    Pageblock, Plan, Refusal, Reply, Row, Serial, State, Wish, Zone,
 };
 use std::alloc::{AllocError, Global};
 use std::test::Fail;
@@ -45,6 +45,7 @@ fn undoes(alloc: Global, machine: &mut Machine, serial: Serial, reply: &Reply) -
 /// Whether a block that is given back joins its buddy.
 fn joins(alloc: Global, machine: &mut Machine) -> bool {
     takes(alloc, machine)
+        && machine.kernel_at(Frame(0)) == Some(Order(1))
         && machine.front(Class::Nu, Order(1)) == Some(Frame(2))
         && gives(alloc, machine)
         && machine.list_len(Class::Nu, Order(2)) == 1
@@ -163,6 +164,8 @@ fn shows_boot(machine: &Machine) -> bool {
         claim: None,
     };
     machine.row(Block(0)) == Some(online)
+        && machine.kind(Pageblock(0)) == Some(Kind::plain())
+        && machine.kernel_at(Frame(0)).is_none()
         && machine.frame_at(Owner(0), Page(0)).is_none()
         && machine.auto() == Auto::Offline
         && machine.layout().frames() == 4

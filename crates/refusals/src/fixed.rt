@@ -112,6 +112,8 @@ fn is_read(machine: &Machine) -> bool {
     machine.front(Class::Nm, Order(2)) == Some(Frame(0))
         && machine.list_len(Class::Nm, Order(2)) == 2
         && machine.row(Block(3)).is_some()
+        && machine.kind(Pageblock(3)).is_some()
+        && machine.kernel_at(Frame(8)).is_none()
         && machine.frame_at(Owner(0), Page(0)) == Some(Frame(8))
         && machine.auto() == Auto::Offline
         && machine.journal_len() == 2

@@ -1,6 +1,6 @@
 //! What a memory shows of its state, and its layers.
 ghost use Rattle.std.specs.Prelude.{◌≡◌, length, slice_get};
-ghost use Rattle.hp_units.specs.Memory.{free_list};
+ghost use Rattle.hp_units.specs.Memory.{free_list, kernel_order};
 ghost use Rattle.hp_units.specs.Pages.{frame_at};
 ghost use Rattle.hp_tape.specs.Deltas.{page_frames_of};
 ghost use Rattle.hp_pages.specs.Pages.{AreSettled};
@@ -10,7 +10,7 @@ use hp_blocks::Blocks;
 use hp_buddy::Buddy;
 use hp_cpus::Cpus;
 use hp_pages::Pages;
-use hp_units::{Auto, Block, Class, Frame, Order, Owner, Page, Row};
+use hp_units::{Auto, Block, Class, Frame, Kind, Order, Owner, Page, Pageblock, Row};
 
 impl Memory {
     /// The front block of the free list of a class and an order (Gorman, chapter 6: free_area). None where the list is empty
@@ -32,6 +32,27 @@ impl Memory {
             return 0;
         }
         self.layers.frames.buddy.len(class, order)
+    }
+
+    /// The kind of a pageblock (Linux, memory hotplug: isolated pageblocks; Gorman, chapter 6). None past the last pageblock.
+    pub fn kind(&self, pageblock: Pageblock) -> Option<Kind>
+        ensures { result ≡ slice_get self.now.state.free.areas.kinds pageblock }
+    {
+        let layout = &self.layers.layout;
+        if pageblock.0 >= layout.blocks() * layout.pageblocks() {
+            return None;
+        }
+        Some(self.layers.frames.buddy.kind(pageblock))
+    }
+
+    /// The order of the kernel's block that starts at a frame. None where no such block does, and past the last frame.
+    pub fn kernel_at(&self, frame: Frame) -> Option<Order>
+        ensures { result ≡ kernel_order self.now.state frame }
+    {
+        if frame.0 >= self.layers.layout.frames() {
+            return None;
+        }
+        self.layers.kernel.order_at(frame)
     }
 
     /// The row of a memory block (Linux, memory hotplug: state). None past the last block.

@@ -1,16 +1,15 @@
 use Rattle.std.proofs.Common.{◌≡◌, ◌+◌, ℕ, arith, subst}
-use Rattle.hp_map.specs.declared.places.Place.TheVariants.{Kernel}
 use Rattle.hp_map.specs.Marks.{AreMarked, at_frame, marks_below}
 use Rattle.hp_map.proofs.MarkLemmas.{marks_none, marks_more}
 use Rattle.hp_map.proofs.marks.mark_frames.Goals as goal
 
 pub loop-offset-init : goal.loop-offset-init
-loop-offset-init c = marks_none (λ offset. at_frame (c.args.first + offset) Kernel) _
+loop-offset-init c = marks_none (λ offset. at_frame (c.args.first + offset) c.args.place.now) _
 
 pub loop-offset-preserved : goal.loop-offset-preserved
-loop-offset-preserved c = marks_more (λ offset. at_frame (c.args.first + offset) Kernel) c.loop-offset.offset _ _ _ c.loop-offset.invariant c.set_place.ensures
+loop-offset-preserved c = marks_more (λ offset. at_frame (c.args.first + offset) c.args.place.now) c.loop-offset.offset _ _ _ c.loop-offset.invariant c.set_place.ensures
 
 pub returns : goal.returns
 returns c =
     let all : c.loop-offset.offset ≡ c.args.count = omega arith in
-    subst (λ (n : ℕ). AreMarked (marks_below (λ offset. at_frame (c.args.first + offset) Kernel) n) c.args.places.now.items c.loop-offset.places.items) all c.loop-offset.invariant
+    subst (λ (n : ℕ). AreMarked (marks_below (λ offset. at_frame (c.args.first + offset) c.args.place.now) n) c.args.places.now.items c.loop-offset.places.items) all c.loop-offset.invariant

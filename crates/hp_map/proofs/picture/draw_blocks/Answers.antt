@@ -6,7 +6,7 @@ use Rattle.hp_map.proofs.picture.draw_blocks.Goals as goal
 
 pub loop-number-preserved : goal.loop-number-preserved
 loop-number-preserved c =
-    let text = block_text c.args.image.now.layout c.args.image.now.memory.blocks.rows c.args.places.now.items in
+    let text = block_text c.args.machine.now.layout c.args.machine.now.state.blocks.rows c.args.places.now.items in
     let n = c.loop-number.number in
     c.in_ok-push.ensures.items
     ∙ (ap (λ (xs : List (List ℕ)). xs ++ c.in_ok-text.text ∷ []) c.loop-number.invariant
