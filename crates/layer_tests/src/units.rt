@@ -249,6 +249,8 @@ fn are_same(reply: Reply, other: Reply) -> bool {
 fn are_marked(op: Serial, migrate: &Event, commit: &Event) -> bool {
     mark_of(migrate) == Mark::Works { op }
         && mark_of(commit) == Mark::Other
+        && Mark::Opens.is_opening()
+        && !mark_of(migrate).is_opening()
         && is_step(commit, &Reply::Done)
         && !is_step(commit, &Reply::Refused(Refusal::NoOp))
 }
