@@ -1,5 +1,5 @@
 //! Rows of memory blocks.
-ghost use Rattle.std.specs.Prelude.{◌≡◌, ◌<◌, ◌≤◌, IfOk};
+ghost use Rattle.std.specs.Prelude.{◌≡◌, ◌<◌, IfOk};
 ghost use Rattle.hp_units.specs.Boot.{empty_blocks};
 ghost use Rattle.hp_units.specs.InLayout.{AreBlocksOf};
 ghost use Rattle.hp_units.specs.Memory.{row_of, with_row};

@@ -1,11 +1,11 @@
 //! The free areas.
-ghost use Rattle.std.specs.Prelude.{◌≡◌, ℕ, true, ◌+◌, ◌*◌, ◌/◌, ◌^◌, ◌<◌, ◌≤◌, None, Some, IfOk, IfSome, MatchOption, length, slice_get};
+ghost use Rattle.std.specs.Prelude.{◌≡◌, ℕ, true, ◌+◌, ◌*◌, ◌/◌, ◌<◌, ◌≤◌, None, Some, IfOk, IfSome, MatchOption, length, slice_get};
 ghost use Rattle.hp_units.specs.Arithmetic.{frame_count, pageblock_count, pageblock_size};
 ghost use Rattle.hp_units.specs.Boot.{empty_areas};
 ghost use Rattle.hp_units.specs.FreeAreas.{give_block, is_on, steal_block, take_block};
 ghost use Rattle.hp_units.specs.Isolation.{add_pageblock, move_pageblock, remove_pageblock};
 ghost use Rattle.hp_units.specs.LayoutParts.{IsLayout};
-ghost use Rattle.hp_units.specs.Memory.{free_list, isolated_class, kind_of, plain_kind};
+ghost use Rattle.hp_units.specs.Memory.{free_list, isolated_class, kind_of};
 ghost use Rattle.hp_units.specs.declared.rows.Class.{Class};
 ghost use Rattle.hp_units.specs.Placement.{free_places};
 ghost use Rattle.hp_tape.specs.Bounds.{give_bound, move_bound, steal_bound, take_bound};

@@ -1,5 +1,5 @@
 //! How findings are written.
-ghost use Rattle.std.specs.Prelude.{◌≡◌, ◌++◌, OnOk, count_by, option_map, string_bytes};
+ghost use Rattle.std.specs.Prelude.{◌≡◌, ◌++◌, OnOk, count_by, string_bytes};
 ghost use Rattle.std.specs.List.{flat_map};
 ghost use Rattle.hp_check.specs.Reports.{IsReport};
 ghost use Rattle.hp_check.specs.Texts as says;

@@ -1,5 +1,5 @@
 //! The processors' lists.
-ghost use Rattle.std.specs.Prelude.{◌≡◌, ℕ, ◌+◌, ◌<◌, ◌≤◌, None, Some, IfOk, IfSome, MatchOption, length, slice_get};
+ghost use Rattle.std.specs.Prelude.{◌≡◌, ℕ, ◌+◌, ◌<◌, None, Some, IfOk, IfSome, MatchOption, length, slice_get};
 ghost use Rattle.hp_units.specs.Arithmetic.{frame_count};
 ghost use Rattle.hp_units.specs.Boot.{empty_cached};
 ghost use Rattle.hp_units.specs.Memory.{FreeAreas};

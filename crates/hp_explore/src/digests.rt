@@ -1,6 +1,6 @@
 //! Digests by which places and ends are found. What is found is compared; of ends it is proved that the same have the same digest.
 ghost use Rattle.std.specs.Prelude.{◌≡◌, fold};
-ghost use Rattle.hp_explore.specs.Digests.{digest_of, mixed, mixed_reply, mixed_row, refusal_number, replies_digest, reply_number, row_number, state_number, zone_number};
+ghost use Rattle.hp_explore.specs.Digests.{digest_of, mixed, mixed_reply, refusal_number, replies_digest, reply_number, row_number, state_number, zone_number};
 ghost use Rattle.hp_explore.specs.Outcomes.{outcome_with, replies_below, replies_to};
 
 use crate::outcomes::told;

@@ -7,8 +7,8 @@ ghost use Rattle.hp_explore.specs.Ends.{AreCounted};
 ghost use Rattle.hp_explore.specs.Orders.{HasCount, HasOneCount};
 ghost use Rattle.hp_explore.specs.Outcomes.{OutcomeValue};
 ghost use Rattle.hp_explore.specs.Interleavings.{AreOneCalls, IsCountOfLengths, IsInterleaving};
-ghost use Rattle.hp_explore.specs.Schedules.{EndsWith, IsComplete, Setting, plays, schedule_of};
-ghost use Rattle.hp_explore.specs.Seen.{AddsCounts, Grow, IsSeen, SeenValue};
+ghost use Rattle.hp_explore.specs.Schedules.{EndsWith, IsComplete, Setting, plays};
+ghost use Rattle.hp_explore.specs.Seen.{AddsCounts, IsSeen, SeenValue};
 ghost use Rattle.hp_explore.specs.Walks.{Before, Through};
 ghost use Rattle.hp_explore.specs.declared.tally.Ending.{Ending};
 

@@ -1,5 +1,5 @@
 //! The setup: lines that are run in order on one machine, as `hotplug serial` runs them.
-ghost use Rattle.std.specs.Prelude.{◌≡◌, IfOk, OnOk, Ok};
+ghost use Rattle.std.specs.Prelude.{◌≡◌, OnOk, Ok};
 ghost use Rattle.hp_lab.specs.Setup.{RunsEvent, RunsLines, RunsPlan, RunsRequest, RunsSeal, RunsWork, is_out_of_memory};
 
 use hp_control::{CONTROL_TURNS, Request, echo_answer};

@@ -66,7 +66,7 @@ impl Node {
 }
 
 impl Rings {
-    ghost use Rattle.std.specs.Prelude.{ℕ, ◌≡◌, ◌≢◌, ◌<◌, ◌≤◌, ◌+◌, ◌-◌, ◌^◌, length, replicate, None, Some, IfOk, slice_index, slice_set, vec_len};
+    ghost use Rattle.std.specs.Prelude.{◌≡◌, ◌≢◌, ◌<◌, ◌+◌, ◌-◌, ◌^◌, replicate, None, Some, IfOk, slice_index, slice_set, vec_len};
     ghost use Rattle.hp_links.specs.Rings.{Inserts, Removes, IsAlone, frame_at, table};
 
     pub fn new(alloc: Global, frames: u32, lists: u32) -> Result<Self, AllocError>

@@ -5,7 +5,7 @@ ghost use Rattle.hp_units.specs.LayoutParts.{IsLayout};
 ghost use Rattle.hp_units.specs.Memory.{cached_list};
 ghost use Rattle.hp_units.specs.Placement.{IsWellPlaced};
 ghost use Rattle.hp_map.specs.declared.places.Place.TheVariants.{Cached};
-ghost use Rattle.hp_map.specs.Marks.{AreMarked, at_frame, marks_below, on_block, on_cpu, on_entry, on_frames, on_kernel, on_list, on_owner, on_page, on_unused, free_in, unused_in};
+ghost use Rattle.hp_map.specs.Marks.{AreMarked, at_frame, marks_below, on_block, on_cpu, on_entry, on_frames, on_kernel, on_list, on_owner, on_unused, free_in, unused_in};
 
 use crate::places::Place;
 use hp_machine::Machine;

@@ -1,7 +1,7 @@
 //! A memory drawn as text, block by block.
 ghost use Rattle.std.specs.Prelude.{◌≡◌, ◌+◌, ◌*◌, ◌^◌, ◌<◌, ◌≤◌, ◌++◌, IfOk, OnOk, map, string_bytes};
-ghost use Rattle.std.specs.List.{flat_map, range_with_len};
-ghost use Rattle.hp_units.specs.Arithmetic.{block_size, pageblock_size};
+ghost use Rattle.std.specs.List.{range_with_len};
+ghost use Rattle.hp_units.specs.Arithmetic.{block_size};
 ghost use Rattle.hp_map.specs.Pictures.{IsPicture, block_text, cell_text, claim_text, frames_text, place_at, row_text, starts_later, state_text, zone_letter};
 
 use crate::map::places_of;

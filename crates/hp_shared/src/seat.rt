@@ -1,5 +1,5 @@
 //! A processor's access to the shared machine.
-ghost use Rattle.std.specs.Prelude.{◌≡◌, ◌+◌, ◌<◌, ◌≤◌, ◌++◌, ◌∷◌, [], IfErr, IfOk, OnErr, OnOk, length, vec_len, vec_capacity};
+ghost use Rattle.std.specs.Prelude.{◌≡◌, ◌<◌, [], IfErr, IfOk, OnErr, length};
 ghost use Rattle.hp_shared.specs.Shared.{HasSharedCause, IsSeated, first_seat};
 ghost use Rattle.hp_shared.specs.Volumes.{IsSealOf};
 

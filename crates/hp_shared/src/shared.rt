@@ -1,5 +1,5 @@
 //! The lock round the machine.
-ghost use Rattle.std.specs.Prelude.{◌≡◌, ◌+◌, ◌<◌, ◌≤◌, IfErr, IfOk, OnErr, OnOk};
+ghost use Rattle.std.specs.Prelude.{◌≡◌, ◌+◌, ◌<◌, IfErr, IfOk, OnErr, OnOk};
 ghost use Rattle.hp_shared.specs.Shared.{HasSharedCause, IsFresh, IsTurn, first_seats};
 ghost use Rattle.hp_shared.specs.Volumes.{IsSealOf};
 

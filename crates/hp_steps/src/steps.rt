@@ -1,5 +1,5 @@
 //! A memory, the records of its steps, and the way back over them.
-ghost use Rattle.std.specs.Prelude.{◌≡◌, [], ℕ, IfOk, OnErr};
+ghost use Rattle.std.specs.Prelude.{◌≡◌, [], IfOk, OnErr};
 ghost use Rattle.hp_units.specs.LayoutParts.{IsLayout};
 ghost use Rattle.hp_units.specs.Placement.{IsWellPlaced};
 ghost use Rattle.hp_units.specs.declared.replies.Record.{Record as StepRecord};

@@ -1,6 +1,6 @@
 //! All the bytes that a source has.
 
-ghost use Rattle.std.specs.Prelude.{◌≡◌, ◌<◌, ◌≤◌, ◌-◌, ◌^◌, length, IfOk, IfErr, OnOk, vec_len};
+ghost use Rattle.std.specs.Prelude.{◌≡◌, ◌<◌, ◌≤◌, ◌-◌, ◌^◌, length, IfOk, IfErr, OnOk};
 ghost use Rattle.std.specs.Io.KnownBytes.{Consumes, IsAtEnd};
 ghost use Rattle.hp_streams.specs.Reading.{IsReadFault, ReadsAll, limit};
 ghost use Rattle.hp_streams.specs.declared.reading.ReadFault.TheVariants.{OutOfMemory};

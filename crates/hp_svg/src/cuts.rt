@@ -1,6 +1,6 @@
 //! How the text of a trace is cut.
 ghost use Rattle.std.specs.Prelude.{◌≡◌, ◌<◌, ◌==◌, IfOk, map};
-ghost use Rattle.std.specs.List.{after_first, before_first, slice_split};
+ghost use Rattle.std.specs.List.{before_first, slice_split};
 ghost use Rattle.hp_svg.specs.Cuts.{cells_of, head_of};
 
 use std::alloc::{AllocError, Global};

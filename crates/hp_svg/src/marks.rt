@@ -1,6 +1,5 @@
 //! The characters of cells: their colours, and what they mean.
-ghost use Rattle.std.specs.Prelude.{◌≡◌, ◌<◌, ◌≤◌, ◌==◌, [], ◌∷◌, ◌++◌, IfOk, IsTrue, OnOk, filter, map, string_bytes};
-ghost use Rattle.std.specs.List.{list_any};
+ghost use Rattle.std.specs.Prelude.{◌≡◌, ◌<◌, ◌≤◌, [], ◌∷◌, ◌++◌, IfOk, IsTrue, OnOk, map, string_bytes};
 ghost use Rattle.hp_svg.specs.Marks.{all_differ, bright_fill, fill_of, has_mark, ink_of, is_lettered, known_marks, label_of, list_fill, list_label, marks_in, muted_fill, occurs, okabe_fill, owner_label, plain_fill, plain_label};
 
 use crate::cuts::cells_of;

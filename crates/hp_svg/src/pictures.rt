@@ -1,10 +1,7 @@
 //! A trace as one picture.
-ghost use Rattle.std.specs.Prelude.{◌≡◌, ◌++◌, ◌<◌, ◌^◌, ◌&&◌, IfOk, OnOk, codes, length, map, nat_lt, string_bytes};
-ghost use Rattle.std.specs.Fmt.{decimal};
+ghost use Rattle.std.specs.Prelude.{◌≡◌, ◌++◌, ◌<◌, ◌^◌, ◌&&◌, IfOk, OnOk, map, string_bytes};
 ghost use Rattle.std.specs.List.{enumerate_from, flat_map, range_with_len};
-ghost use Rattle.hp_svg.specs.Cuts.{pieces_of};
-ghost use Rattle.hp_svg.specs.Marks.{label_of};
-ghost use Rattle.hp_svg.specs.Pictures.{block_text, corner, entry_text, font, head_text, grid, ground, hatching, is_narrow, namespace, newline, opening, picture_of, picture_with, piece_text, row_text, rows_opening, rows_text, style, title, view};
+ghost use Rattle.hp_svg.specs.Pictures.{block_text, corner, entry_text, font, head_text, grid, ground, hatching, is_narrow, namespace, opening, picture_of, picture_with, piece_text, row_text, rows_opening, rows_text, style, title, view};
 
 use crate::cuts::{cells_of, head_of, parts_of};
 use crate::elements::{write_cell, write_extent, write_grid, write_text};

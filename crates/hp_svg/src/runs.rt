@@ -2,7 +2,7 @@
 ghost use Rattle.std.specs.Prelude.{◌≡◌, ◌++◌, ◌+◌, ◌<◌, ◌^◌, OnOk, List, ℕ, string_bytes};
 ghost use Rattle.std.specs.List.{flat_map};
 ghost use Rattle.hp_svg.specs.Elements.{run_text};
-ghost use Rattle.hp_svg.specs.Runs.{Covers, longer, new_run, runs_of};
+ghost use Rattle.hp_svg.specs.Runs.{Covers, new_run, runs_of};
 
 use crate::elements::write_run;
 use std::alloc::AllocError;

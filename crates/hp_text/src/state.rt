@@ -1,7 +1,7 @@
 //! How a state is written, part by part.
 ghost use Rattle.std.specs.Prelude.{◌≡◌, ◌++◌, Some, OnOk, string_bytes};
 ghost use Rattle.std.specs.List.{flat_map};
-ghost use Rattle.hp_text.specs.State.{auto_line, block_line, blocks_text, class_lists_text, frames_text, free_lists_text, has_mark, kernel_line, kernel_text, list_line, mark_text, marked_line, marked_word, marked_words, number_word, pages_text, processor_lists_text, processors_lists_text, row_line, rows_text, state_text, state_words, zone_word};
+ghost use Rattle.hp_text.specs.State.{auto_line, block_line, blocks_text, class_lists_text, frames_text, free_lists_text, has_mark, kernel_line, kernel_text, list_line, mark_text, marked_line, marked_word, marked_words, number_word, processor_lists_text, processors_lists_text, row_line, rows_text, state_text, state_words, zone_word};
 
 mod pages;
 

@@ -1,6 +1,6 @@
 -- The numbers in a state are those of its layout: what each operation needs of the state that it works on. Every well placed
 -- state is such a state.
-use Rattle.std.specs.Prelude.{◌≡◌, ℕ, ◌+◌, ◌*◌, ◌^◌, ◌≤◌, true, List, Option, None, length, slice_index_or, IfSome}
+use Rattle.std.specs.Prelude.{◌≡◌, ◌+◌, ◌*◌, ◌^◌, ◌≤◌, true, List, Option, None, length, slice_index_or, IfSome}
 use Rattle.std.specs.List.{AllByRecursion}
 use Rattle.hp_numbers.specs.Numbers.{Frame, Order, Cpu, Owner, Page}
 use Rattle.hp_units.specs.Names.{Class, Pool}

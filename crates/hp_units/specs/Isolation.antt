@@ -1,5 +1,5 @@
 -- Whole pageblocks: taken out of use and put back, added, and removed.
-use Rattle.std.specs.Prelude.{ℕ, zero, suc, ◌+◌, ◌*◌, Bool, not, ◌++◌, filter, fold, ◌==◌}
+use Rattle.std.specs.Prelude.{zero, suc, ◌+◌, ◌*◌, Bool, not, ◌++◌, filter, fold, ◌==◌}
 use Rattle.hp_numbers.specs.Numbers.{Order, Pageblock, Block}
 use Rattle.hp_units.specs.Names.{Zone, Movable, Class}
 use Rattle.hp_units.specs.LayoutParts.{LayoutParts}

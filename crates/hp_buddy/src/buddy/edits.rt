@@ -1,5 +1,5 @@
 //! The small changes of which each call is made, each with its delta.
-ghost use Rattle.std.specs.Prelude.{◌≡◌, ℕ, true, ◌+◌, ◌≤◌, ◌<◌, Some, None};
+ghost use Rattle.std.specs.Prelude.{◌≡◌, ℕ, true, ◌≤◌, ◌<◌, None};
 ghost use Rattle.hp_units.specs.Arithmetic.{frame_count, pageblock_count};
 ghost use Rattle.hp_units.specs.FreeAreas.{is_on, with_back, with_front, without_free};
 ghost use Rattle.hp_units.specs.Memory.{free_list, with_kind};

@@ -1,6 +1,6 @@
 //! Blocks that are taken: off the front of a list, and split down.
 ghost use Rattle.std.specs.Prelude.{◌≡◌, ◌+◌, ◌-◌, ◌<◌, ◌≤◌, None, Some, MatchOption};
-ghost use Rattle.hp_units.specs.FreeAreas.{steal_front, take_front, with_halves, with_mobility};
+ghost use Rattle.hp_units.specs.FreeAreas.{steal_front, take_front, with_halves};
 ghost use Rattle.hp_tape.specs.Tapes.{HasRoom, NotesAreas};
 ghost use Rattle.hp_buddy.specs.Buddy.{AreApart, MayBeGiven};
 ghost use Rattle.hp_units.specs.Arithmetic.{frame_count, pageblock_of};

@@ -3,7 +3,6 @@ ghost use Rattle.std.specs.Prelude.{◌≡◌, ℕ, true, ◌+◌, ◌<◌, ◌�
 ghost use Rattle.hp_units.specs.Arithmetic.{frame_count};
 ghost use Rattle.hp_units.specs.FreeAreas.{is_on, without};
 ghost use Rattle.hp_units.specs.Memory.{FreeAreas};
-ghost use Rattle.hp_units.specs.ProcessorLists.{pop_cached};
 ghost use Rattle.hp_tape.specs.Tapes.{HasRoom, NotesFree};
 ghost use Rattle.hp_tape.specs.declared.deltas.Delta.TheVariants.{Link, Unlink};
 ghost use Rattle.hp_tape.specs.declared.deltas.ListId.TheVariants.{Cpu as CpuList};

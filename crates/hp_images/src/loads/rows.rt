@@ -1,7 +1,6 @@
 //! The rows of the memory blocks of an Image.
 ghost use Rattle.std.specs.Prelude.{◌≡◌, ◌<◌, IfOk};
 ghost use Rattle.hp_units.specs.InLayout.{AreBlocksOf};
-ghost use Rattle.hp_units.specs.LayoutParts.{IsLayout};
 ghost use Rattle.hp_units.specs.Memory.{offline_row, row_of, with_row};
 ghost use Rattle.hp_images.specs.Tables.{AreCopied};
 

@@ -1,5 +1,5 @@
 //! Memory blocks that leave the free areas.
-ghost use Rattle.std.specs.Prelude.{◌≡◌, ℕ, ◌*◌, ◌^◌, ◌<◌, ◌≢◌, true};
+ghost use Rattle.std.specs.Prelude.{◌≡◌, ℕ, ◌*◌, ◌<◌, ◌≢◌, true};
 ghost use Rattle.hp_units.specs.Arithmetic.{pageblock_count, pageblock_size};
 ghost use Rattle.hp_units.specs.FreeAreas.{is_on};
 ghost use Rattle.hp_units.specs.Isolation.{remove_block, remove_pageblock};

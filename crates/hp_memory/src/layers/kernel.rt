@@ -1,8 +1,7 @@
 //! The events of the kernel's blocks, of a processor that is in the layout.
-ghost use Rattle.std.specs.Prelude.{◌≡◌, ◌+◌, ◌<◌, ◌≤◌, IfOk, OnErr};
+ghost use Rattle.std.specs.Prelude.{◌≡◌, ◌+◌, ◌<◌, IfOk, OnErr};
 ghost use Rattle.hp_units.specs.declared.events.Event.TheVariants.{KernelAlloc, KernelFree};
 ghost use Rattle.hp_plain.specs.Asked.{asked};
-ghost use Rattle.hp_memory.specs.Frames.{free_of, kernel_block_bound};
 ghost use Rattle.hp_memory.specs.Layers.{ArePlaced, IsAnswered, state_of};
 
 use super::Layers;

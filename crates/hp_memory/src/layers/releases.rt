@@ -1,5 +1,5 @@
 //! Operations that are released.
-ghost use Rattle.std.specs.Prelude.{◌≡◌, ℕ, ◌+◌, ◌*◌, ◌^◌, ◌<◌, ◌≤◌, [], ◌∷◌, ◌++◌, None, IfOk, OnErr, OnOk, if◌then◌else◌, fold, length, slice_index};
+ghost use Rattle.std.specs.Prelude.{◌≡◌, ℕ, ◌+◌, ◌*◌, ◌<◌, ◌≤◌, [], ◌∷◌, ◌++◌, None, IfOk, OnErr, OnOk, if◌then◌else◌, fold, length, slice_index};
 ghost use Rattle.hp_units.specs.declared.events.Event.TheVariants.{Cancel};
 ghost use Rattle.hp_units.specs.Rows.{blocks_of, is_claimed_by, online_again, release_block, with_block_row};
 ghost use Rattle.hp_units.specs.LayoutParts.{IsLayout};

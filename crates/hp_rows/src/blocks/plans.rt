@@ -1,5 +1,5 @@
 //! What a plan wishes.
-ghost use Rattle.std.specs.Prelude.{◌≡◌, ◌==◌, find, option_map};
+ghost use Rattle.std.specs.Prelude.{◌≡◌, ◌==◌};
 ghost use Rattle.hp_units.specs.Rows.{wish_of};
 
 use hp_units::{Block, Item, Wish};

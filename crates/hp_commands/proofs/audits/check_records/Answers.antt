@@ -22,3 +22,12 @@ returns-clause-ok c =
     audited c.args.volumes.now.items c.args.machine.now c.as_slice.result.now c.layout.result.now c.sealed.result c.history.result.now c.in_ok-base.base c.base.result.now c.in_ok-replayed.replayed c.in_ok-image.image
     (record { volumes_are = same; layout_is = c.layout.ensures; before_is = c.sealed.ensures; base_is = c.base.ensures; history_is = c.history.ensures.records })
     c.in_ok-base.ensures.chain c.in_ok-base.ensures.value (first_case c.same.result _ _ c.same.ensures alike) c.in_ok-replayed.ensures.legal c.in_ok-replayed.ensures.value c.in_ok-image.ensures (first_case c.same-2.result _ _ c.same-2.ensures twin)
+
+pub returns-then-not-same-clause-err : goal.returns-then-not-same-clause-err
+returns-then-not-same-clause-err c = search rules
+
+pub returns-then-not-same-2-clause-ok : goal.returns-then-not-same-2-clause-ok
+returns-then-not-same-2-clause-ok c = search rules
+
+pub returns-then-not-same-2-clause-err : goal.returns-then-not-same-2-clause-err
+returns-then-not-same-2-clause-err c = search rules

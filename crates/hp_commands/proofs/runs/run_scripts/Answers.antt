@@ -34,3 +34,6 @@ returns-in-Ok-close-clause-ok g c =
     let none : c.run_workers-seats.result.fault ≡ None = search rules in
     let ran = all_ran l c.in-Ok.seats.items c.args.scripts.items c.run_workers-seats.result.seats.items c.run_workers-seats.result.volumes.items c.run_workers-seats.result.ends.items c.run_workers-seats.result.fault seated none c.run_workers-seats.ensures in
     worked_off l c.args.scripts.items c.run_workers-seats.result.seats.items c.run_workers-seats.result.volumes.items c.in-Ok-close.closed.volumes.items c.run_workers-seats.result.ends.items c.in-Ok-close.closed.machine c.in-Ok-close.closed.records ran c.in-Ok-close.ensures.volumes c.in-Ok-close.ensures.ok c.begins_at_boot.ensures
+
+pub returns-in-Some-clause-ok : goal.returns-in-Some-clause-ok
+returns-in-Some-clause-ok g c = search rules
