@@ -1,6 +1,5 @@
 use Rattle.std.proofs.Common.{rules}
-use Rattle.hp_commands.specs.Events.{machine_after_event}
-use Rattle.hp_commands.specs.Events.{event_text}
+use Rattle.hp_commands.specs.Events.{event_text, machine_after_event}
 use Rattle.hp_commands.proofs.events.write_event.Goals as goal
 
 pub returns-in-Err-HistoryFull : goal.returns-in-Err-HistoryFull

@@ -1,4 +1,3 @@
-use Rattle.std.proofs.Common.{rules}
 use Rattle.std.proofs.lemmas.Result.{err_from_is_err_and}
 use Rattle.hp_scenario.specs.Seen.{scenario_seen}
 use Rattle.hp_commands.proofs.Served.{serial_fails, ran_text}
