@@ -16,8 +16,9 @@ pub struct Call {
     event: Event,
 }
 
-/// Calls, the checksum of their replies, and the generator that made them. It lives on while the calls are timed, as in the
-/// peer: once memory of its size was given back, the C library copies growing tables in place of moving their pages.
+/// Calls, the checksum of their replies, and the generator that made them. It lives on while the
+/// calls are timed, as in the peer: once memory of its size was given back, the C library copies
+/// growing tables in place of moving their pages.
 #[derive(Drop)]
 pub struct Calls {
     pub calls: Vec<Call>,
@@ -25,7 +26,8 @@ pub struct Calls {
     pub generator: Generator,
 }
 
-/// What a run of calls gave: how many were made, the checksum of the replies, and the time that the calls and the seals took.
+/// What a run of calls gave: how many were made, the checksum of the replies, and the time that the
+/// calls and the seals took.
 #[derive(Clone, Copy, Drop)]
 pub struct Figures {
     made: usize,
@@ -104,7 +106,8 @@ fn let_go(sealed: Result<Volume, AllocError>) -> Result<(), AllocError> {
     }
 }
 
-/// Makes calls on a machine at its start, which is sealed after every so many; where that is 0 it is not sealed.
+/// Makes calls on a machine at its start, which is sealed after every so many; where that is 0 it
+/// is not sealed.
 pub fn time_calls(
     rt: &HostRuntime,
     layout: &Layout,
@@ -179,8 +182,9 @@ fn first_calls(alloc: Global, generator: &Generator, count: usize) -> Result<(Ve
     Ok((calls, sum))
 }
 
-/// Makes calls on a machine, and answers the checksum of their replies, after one of earlier replies. Each reply is read where
-/// the call left it, as in the peer: a receipt that is handed on as a `Result` of anyhow's is copied with room for an error.
+/// Makes calls on a machine, and answers the checksum of their replies, after one of earlier
+/// replies. Each reply is read where the call left it, as in the peer: a receipt that is handed on
+/// as a `Result` of anyhow's is copied with room for an error.
 fn make_calls(alloc: Global, machine: &mut Machine, calls: &[Call], sum: u64) -> Result<u64> {
     let mut sum = sum;
     for call in calls {

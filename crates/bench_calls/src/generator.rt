@@ -1,13 +1,14 @@
 //! The generator of calls.
 use crate::kernel_frames::KernelFrames;
 use crate::known_pages::{KnownPages, Place};
+use crate::layout_counts::{blocks_at, blocks_in, free_frames, plan_of, wish_of, zone_at_boot};
 use crate::mixes::{Kind, Mix};
 use crate::operations::Operation;
 use crate::random::{Random, count_of};
 use anyhow::{Error, Result, anyhow};
 use hp_machine::Machine;
 use hp_units::{
-    Block, Boot, Class, Cpu, Event, Frame, Item, Layout, Order, Owner, Page, Plan, Receipt, Record,
+    Block, Boot, Class, Cpu, Event, Frame, Layout, Order, Owner, Page, Plan, Receipt, Record,
     Reply, Serial, State, Wish, Zone,
 };
 use std::alloc::{AllocError, Global};
@@ -365,58 +366,11 @@ fn grows(free: u64, all: u64, random: &mut Random) -> bool {
     random.below(100) < share
 }
 
-/// The frames in free blocks of a class.
-fn free_frames(machine: &Machine, class: Class) -> u64 {
-    let mut frames = 0_u64;
-    let mut size = 1_u64;
-    for order in 0..machine.layout().order().saturating_add(1) {
-        let blocks = machine.list_len(class, Order(order)) as u64;
-        frames = frames.saturating_add(blocks.saturating_mul(size));
-        size = size.saturating_mul(2);
-    }
-    frames
-}
-
-/// How many memory blocks are in a zone at boot; one that is offline counts for zone Normal.
-fn blocks_in(layout: &Layout, zone: Zone) -> u64 {
-    let movable = blocks_at(layout, Boot::Movable);
-    match zone {
-        Zone::Movable => movable,
-        Zone::Normal => (layout.boot().len() as u64).saturating_sub(movable),
-    }
-}
-
-/// How many memory blocks are so at boot.
-fn blocks_at(layout: &Layout, boot: Boot) -> u64 {
-    layout.boot().iter().filter(|found| **found == boot).count() as u64
-}
-
-/// How many pages of each owner are chosen from: three quarters of the frames that are online at boot, and no more than there are.
+/// How many pages of each owner are chosen from: three quarters of the frames that are online at
+/// boot, and no more than there are.
 fn known_pages(layout: &Layout, frames: u64) -> u32 {
     let owners = (layout.owners() as u64).max(1);
     let each = frames.saturating_mul(3) / 4 / owners;
     let most = layout.pages();
     count_of(each as usize).max(1).min(most)
-}
-
-/// The zone that a memory block was in at boot; Normal for one that was offline.
-fn zone_at_boot(layout: &Layout, block: Block) -> Zone {
-    match layout.boot().get(block.0 as usize) {
-        Some(Boot::Movable) => Zone::Movable,
-        _ => Zone::Normal,
-    }
-}
-
-/// What brings a memory block online in a zone.
-fn wish_of(zone: Zone) -> Wish {
-    match zone {
-        Zone::Movable => Wish::Movable,
-        Zone::Normal => Wish::Normal,
-    }
-}
-
-/// The plan of one item.
-fn plan_of(alloc: Global, block: Block, wish: Wish) -> Result<Plan, AllocError> {
-    let items = vec![in alloc; Item { block, wish }]?;
-    Ok(Plan::new(items))
 }

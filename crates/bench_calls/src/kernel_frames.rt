@@ -4,8 +4,8 @@ use hp_units::{Frame, Serial};
 use std::alloc::{AllocError, Global};
 use std::mem::replace;
 
-/// The first frames of the kernel's blocks: which there are, those that calls may free, and those freed last, which an undo may
-/// bring back.
+/// The first frames of the kernel's blocks: which there are, those that calls may free, and those
+/// freed last, which an undo may bring back.
 #[derive(Drop)]
 pub struct KernelFrames {
     there: Vec<bool>,

@@ -19,8 +19,8 @@ impl Place {
     }
 }
 
-/// Pages that calls mapped, and those unmapped last, which an undo may bring back. Pages are chosen among the first few of each
-/// owner, so that they fit in the memory.
+/// Pages that calls mapped, and those unmapped last, which an undo may bring back. Pages are chosen
+/// among the first few of each owner, so that they fit in the memory.
 #[derive(Drop)]
 pub struct KnownPages {
     pages: u32,
@@ -83,7 +83,8 @@ impl KnownPages {
         self.any(owners, random)
     }
 
-    /// A page that is mapped, if one of four known ones is; any page otherwise. One that is taken is known no longer.
+    /// A page that is mapped, if one of four known ones is; any page otherwise. One that is taken
+    /// is known no longer.
     pub fn choose(&mut self, machine: &Machine, take: bool, random: &mut Random) -> Place {
         for _try in 0..4 {
             if self.mapped.is_empty() {
@@ -97,7 +98,8 @@ impl KnownPages {
         self.any(machine.layout().owners(), random)
     }
 
-    /// The page at a place among those known, if it is mapped. It is known no longer if it is taken or not mapped.
+    /// The page at a place among those known, if it is mapped. It is known no longer if it is taken
+    /// or not mapped.
     fn known(&mut self, machine: &Machine, at: usize, take: bool) -> Option<Place> {
         if at >= self.mapped.len() {
             return None;

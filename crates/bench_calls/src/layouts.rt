@@ -79,7 +79,8 @@ pub fn layout_of(alloc: Global, name: &str) -> Result<Option<Layout>, AllocError
     }
 }
 
-/// The layout of sizes: of eight memory blocks three are in zone Normal, four in zone Movable and one is offline.
+/// The layout of sizes: of eight memory blocks three are in zone Normal, four in zone Movable and
+/// one is offline.
 fn sized(alloc: Global, sizes: Sizes) -> Result<Option<Layout>, AllocError> {
     let mut boot = Vec::new(alloc);
     for block in 0..sizes.blocks {

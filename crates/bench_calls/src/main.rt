@@ -1,9 +1,10 @@
 //! How long calls of a machine take, without any text: `bench_calls MIX LAYOUT CALLS [SEED [RUNS [PART]]]`.
 //!
-//! It chooses the calls of a mix once, makes them on machines at their start, and prints nanoseconds a call and the checksum of
-//! the replies. With a part it seals the machine after every so many calls, which keeps no more history than that; a call that
-//! undoes sealed steps is then answered otherwise. With no word it prints the first random numbers and the checksums of a
-//! few calls of each mix, and no time, since no two runs take the same.
+//! It chooses the calls of a mix once, makes them on machines at their start, and prints
+//! nanoseconds a call and the checksum of the replies. With a part it seals the machine after every
+//! so many calls, which keeps no more history than that; a call that undoes sealed steps is then
+//! answered otherwise. With no word it prints the first random numbers and the checksums of a few
+//! calls of each mix, and no time, since no two runs take the same.
 #![tactic(auto)]
 
 mod calls;
@@ -11,6 +12,7 @@ mod checksum;
 mod generator;
 mod kernel_frames;
 mod known_pages;
+mod layout_counts;
 mod layouts;
 mod mixes;
 mod operations;
@@ -61,8 +63,8 @@ fn run(rt: &HostRuntime, words: &[String]) -> Result<()> {
     }
 }
 
-/// The first random numbers of seed 1, and the checksums of 2,000 calls of each mix on the small layout, when they are made
-/// again and when they were chosen.
+/// The first random numbers of seed 1, and the checksums of 2,000 calls of each mix on the small
+/// layout, when they are made again and when they were chosen.
 fn print_sums(rt: &HostRuntime) -> Result<()> {
     print_numbers(rt)?;
     for name in MIXES {

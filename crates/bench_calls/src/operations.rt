@@ -2,8 +2,8 @@
 use crate::random::Random;
 use hp_units::{Cpu, Event, Refusal, Reply, Serial};
 
-/// An operation that began: how many processors are drained, and whether it is to be committed. The operation ends once the
-/// number of drained processors is the greatest there is.
+/// An operation that began: how many processors are drained, and whether it is to be committed. The
+/// operation ends once the number of drained processors is the greatest there is.
 #[derive(Clone, Copy, Drop)]
 pub struct Operation {
     op: Serial,

@@ -10,102 +10,52 @@ fn is_said(alloc: Global, outcome: Outcome, status: u8, text: &str) -> Result<bo
     Ok(outcome.status() == status && line.as_str() == text)
 }
 
+/// Whether the end of a command that failed has status 1 and this text.
+fn is_said_of(alloc: Global, fault: ProgramFault, text: &str) -> Result<bool, AllocError> {
+    is_said(alloc, Outcome::Failed(fault), 1, text)
+}
+
 #[test]
 fn ends_have_their_status_and_text(rt: HostRuntime) -> Result<(), Fail> {
-    for (outcome, status, text) in [
-        (Outcome::Done, 0, ""),
-        (Outcome::NoCommand, 2, "hotplug: serial, run or audit"),
-        (
-            Outcome::Failed(ProgramFault::ReadFailed),
-            1,
-            "hotplug: reading failed",
-        ),
-        (
-            Outcome::Failed(ProgramFault::TooLong),
-            1,
-            "hotplug: input too long",
-        ),
-        (
-            Outcome::Failed(ProgramFault::NotJson),
-            1,
-            "hotplug: not JSON",
-        ),
-        (
-            Outcome::Failed(ProgramFault::BadShape),
-            1,
-            "hotplug: wrong shape",
-        ),
-        (
-            Outcome::Failed(ProgramFault::Layout(LayoutFault::BadMarks)),
-            1,
-            "hotplug: layout fault BadMarks",
-        ),
-        (
-            Outcome::Failed(ProgramFault::BadLine { line: 12 }),
-            1,
-            "hotplug: line 12 not understood",
-        ),
-        (
-            Outcome::Failed(ProgramFault::OutOfMemory),
-            1,
-            "hotplug: out of memory",
-        ),
-        (
-            Outcome::Failed(ProgramFault::WriteFailed),
-            1,
-            "hotplug: writing failed",
-        ),
+    assert!(rt; is_said(rt.alloc(), Outcome::Done, 0, "")?);
+    let usage = "hotplug: serial, run or audit";
+    assert!(rt; is_said(rt.alloc(), Outcome::NoCommand, 2, usage)?);
+    let marks = ProgramFault::Layout(LayoutFault::BadMarks);
+    let line = ProgramFault::BadLine { line: 12 };
+    for (fault, text) in [
+        (ProgramFault::ReadFailed, "hotplug: reading failed"),
+        (ProgramFault::TooLong, "hotplug: input too long"),
+        (ProgramFault::NotJson, "hotplug: not JSON"),
+        (ProgramFault::BadShape, "hotplug: wrong shape"),
+        (marks, "hotplug: layout fault BadMarks"),
+        (line, "hotplug: line 12 not understood"),
+        (ProgramFault::OutOfMemory, "hotplug: out of memory"),
+        (ProgramFault::WriteFailed, "hotplug: writing failed"),
     ] {
-        assert!(rt; is_said(rt.alloc(), outcome, status, text)?, "{text}");
+        assert!(rt; is_said_of(rt.alloc(), fault, text)?, "{text}");
     }
     Ok(())
 }
 
 #[test]
 fn ends_of_runs_have_their_status_and_text(rt: HostRuntime) -> Result<(), Fail> {
-    for (outcome, status, text) in [
-        (
-            Outcome::Failed(ProgramFault::NotForRun { line: 3 }),
-            1,
-            "hotplug: line 3 not for run",
-        ),
-        (
-            Outcome::Failed(ProgramFault::NotStarted { cpu: Cpu(1) }),
-            1,
-            "hotplug: worker 1 not started",
-        ),
-        (
-            Outcome::Failed(ProgramFault::SeatMissing),
-            1,
-            "hotplug: seat missing",
-        ),
-        (
-            Outcome::Failed(ProgramFault::Mismatch { serial: Serial(7) }),
-            1,
-            "hotplug: record 7 does not match",
-        ),
-        (
-            Outcome::Failed(ProgramFault::WrongReply { serial: Serial(7) }),
-            1,
-            "hotplug: audit fault at record 7",
-        ),
-        (
-            Outcome::Failed(ProgramFault::WrongSerial { at: 7 }),
-            1,
-            "hotplug: audit fault at position 7",
-        ),
-        (
-            Outcome::Failed(ProgramFault::AuditDiffers),
-            1,
-            "hotplug: audit differs",
-        ),
-        (
-            Outcome::Failed(ProgramFault::BrokenChain { at: 2 }),
-            1,
-            "hotplug: volume 2 does not follow",
-        ),
+    let line = ProgramFault::NotForRun { line: 3 };
+    let worker = ProgramFault::NotStarted { cpu: Cpu(1) };
+    let mismatch = ProgramFault::Mismatch { serial: Serial(7) };
+    let reply = ProgramFault::WrongReply { serial: Serial(7) };
+    let serial = ProgramFault::WrongSerial { at: 7 };
+    let chain = ProgramFault::BrokenChain { at: 2 };
+    for (fault, text) in [
+        (line, "hotplug: line 3 not for run"),
+        (worker, "hotplug: worker 1 not started"),
+        (ProgramFault::SeatMissing, "hotplug: seat missing"),
+        (mismatch, "hotplug: record 7 does not match"),
+        (reply, "hotplug: audit fault at record 7"),
+        (serial, "hotplug: audit fault at position 7"),
+        (ProgramFault::AuditDiffers, "hotplug: audit differs"),
+        (chain, "hotplug: volume 2 does not follow"),
     ] {
-        assert!(rt; is_said(rt.alloc(), outcome, status, text)?, "{text}");
+        assert!(rt; is_said_of(rt.alloc(), fault, text)?, "{text}");
     }
     Ok(())
 }

@@ -10,19 +10,27 @@ use std::test::Fail;
 fn layouts_out_of_their_limits_are_named(rt: HostRuntime) -> Result<(), Fail> {
     for (layout, fault) in [
         (
-            "\"order\":11,\"pageblocks\":1,\"blocks\":4,\"cpus\":2,\"batch\":2,\"high\":2,\"owners\":2,\"pages\":8,\"words\":2,\"history\":1000,\"boot\":[\"normal\",\"normal\",\"movable\",\"offline\"]",
+            "\"order\":11,\"pageblocks\":1,\"blocks\":4,\"cpus\":2,\"batch\":2,\"high\":2,\
+             \"owners\":2,\"pages\":8,\"words\":2,\"history\":1000,\"boot\":[\"normal\",\"normal\",\
+             \"movable\",\"offline\"]",
             LayoutFault::BadOrder,
         ),
         (
-            "\"order\":10,\"pageblocks\":64,\"blocks\":256,\"cpus\":2,\"batch\":2,\"high\":2,\"owners\":2,\"pages\":8,\"words\":2,\"history\":1000,\"boot\":[\"normal\",\"normal\",\"movable\",\"offline\"]",
+            "\"order\":10,\"pageblocks\":64,\"blocks\":256,\"cpus\":2,\"batch\":2,\"high\":2,\
+             \"owners\":2,\"pages\":8,\"words\":2,\"history\":1000,\"boot\":[\"normal\",\"normal\",\
+             \"movable\",\"offline\"]",
             LayoutFault::TooManyFrames,
         ),
         (
-            "\"order\":2,\"pageblocks\":1,\"blocks\":4,\"cpus\":2,\"batch\":2,\"high\":1,\"owners\":2,\"pages\":8,\"words\":2,\"history\":1000,\"boot\":[\"normal\",\"normal\",\"movable\",\"offline\"]",
+            "\"order\":2,\"pageblocks\":1,\"blocks\":4,\"cpus\":2,\"batch\":2,\"high\":1,\
+             \"owners\":2,\"pages\":8,\"words\":2,\"history\":1000,\"boot\":[\"normal\",\"normal\",\
+             \"movable\",\"offline\"]",
             LayoutFault::BadMarks,
         ),
         (
-            "\"order\":2,\"pageblocks\":1,\"blocks\":4,\"cpus\":2,\"batch\":2,\"high\":2,\"owners\":2,\"pages\":8,\"words\":2,\"history\":1000,\"boot\":[\"normal\",\"normal\",\"movable\"]",
+            "\"order\":2,\"pageblocks\":1,\"blocks\":4,\"cpus\":2,\"batch\":2,\"high\":2,\
+             \"owners\":2,\"pages\":8,\"words\":2,\"history\":1000,\"boot\":[\"normal\",\"normal\",\
+             \"movable\"]",
             LayoutFault::BadBoot,
         ),
     ] {

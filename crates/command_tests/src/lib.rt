@@ -1,7 +1,8 @@
-//! Tests of the commands: scenarios with the text that each must write, inputs that are refused, streams that fail.
+//! Tests of the commands: scenarios with the text that each must write, inputs that are refused,
+//! streams that fail.
 //!
-//! They stand in a crate of their own, as integration tests do, so that the gate does not prove hp_commands once more with them.
-//! `rt test` in this folder runs them.
+//! They stand in a crate of their own, as integration tests do, so that the gate does not prove
+//! hp_commands once more with them. `rt test` in this folder runs them.
 #![tactic(auto)]
 
 #[cfg(test)]

@@ -6,7 +6,8 @@ use std::alloc::Global;
 use std::test::Fail;
 
 const UNDONE: &str =
-    "1: frame 0\n2: done\n3: undone 2\nstate\nblock 0 online normal\nblock 1 online normal\nblock 2 online movable\nblock 3 offline\nNM 2: 0 4\nMM 2: 8\n";
+    "1: frame 0\n2: done\n3: undone 2\nstate\nblock 0 online normal\nblock 1 online normal\n\
+     block 2 online movable\nblock 3 offline\nNM 2: 0 4\nMM 2: 8\n";
 
 #[test]
 fn pieces_are_joined(rt: HostRuntime) -> Result<(), Fail> {

@@ -21,14 +21,22 @@ fn served<R: Threads + Wait + Sync>(
 
 /// Each processor writes and reads a page of its own.
 const TWO_OWNERS: &str =
-    "\"0 map db 0\",\"0 write db 0 0 7\",\"0 read db 0 0\",\"0 write db 0 1 8\",\"0 read db 0 1\",\"0 unmap db 0\",\"0 map db 0\",\"0 read db 0 0\",\"0 write db 0 0 9\",\"0 read db 0 0\",\"1 map web 0\",\"1 write web 0 0 7\",\"1 read web 0 0\",\"1 write web 0 1 8\",\"1 read web 0 1\",\"1 unmap web 0\",\"1 map web 0\",\"1 read web 0 0\",\"1 write web 0 0 9\",\"1 read web 0 0\"";
+    "\"0 map db 0\",\"0 write db 0 0 7\",\"0 read db 0 0\",\"0 write db 0 1 8\",\"0 read db 0 1\",\
+     \"0 unmap db 0\",\"0 map db 0\",\"0 read db 0 0\",\"0 write db 0 0 9\",\"0 read db 0 0\",\
+     \"1 map web 0\",\"1 write web 0 0 7\",\"1 read web 0 0\",\"1 write web 0 1 8\",\
+     \"1 read web 0 1\",\"1 unmap web 0\",\"1 map web 0\",\"1 read web 0 0\",\"1 write web 0 0 9\",\
+     \"1 read web 0 0\"";
 
 /// A page is mapped, and its memory block goes offline.
 const OFFLINE: &str = "\"0 map db 0\",\"0 plan 4 off 2\"";
 
 /// The lines of `TWO_OWNERS`, and a seal by one processor while the other works.
 const SEALED: &str =
-    "\"0 map db 0\",\"0 write db 0 0 7\",\"0 read db 0 0\",\"0 write db 0 1 8\",\"0 read db 0 1\",\"0 seal\",\"0 unmap db 0\",\"0 map db 0\",\"0 read db 0 0\",\"0 write db 0 0 9\",\"0 read db 0 0\",\"1 map web 0\",\"1 write web 0 0 7\",\"1 read web 0 0\",\"1 write web 0 1 8\",\"1 read web 0 1\",\"1 unmap web 0\",\"1 map web 0\",\"1 read web 0 0\",\"1 write web 0 0 9\",\"1 read web 0 0\"";
+    "\"0 map db 0\",\"0 write db 0 0 7\",\"0 read db 0 0\",\"0 write db 0 1 8\",\"0 read db 0 1\",\
+     \"0 seal\",\"0 unmap db 0\",\"0 map db 0\",\"0 read db 0 0\",\"0 write db 0 0 9\",\
+     \"0 read db 0 0\",\"1 map web 0\",\"1 write web 0 0 7\",\"1 read web 0 0\",\
+     \"1 write web 0 1 8\",\"1 read web 0 1\",\"1 unmap web 0\",\"1 map web 0\",\"1 read web 0 0\",\
+     \"1 write web 0 0 9\",\"1 read web 0 0\"";
 
 /// What a run shows, its command, its calls, and its text.
 const RUNS: &[(&str, Command, &str, &str)] = &[
@@ -36,13 +44,15 @@ const RUNS: &[(&str, Command, &str, &str)] = &[
         "serial starts no worker",
         Command::Serial,
         "\"0 kalloc 1\"",
-        "1: frame 0\nstate\nblock 0 online normal\nblock 1 online normal\nblock 2 online movable\nblock 3 offline\nunmovable: 0\nNU 1: 2\nNM 2: 4\nMM 2: 8\nkernel 0 order 1\n",
+        "1: frame 0\nstate\nblock 0 online normal\nblock 1 online normal\nblock 2 online movable\n\
+         block 3 offline\nunmovable: 0\nNU 1: 2\nNM 2: 4\nMM 2: 8\nkernel 0 order 1\n",
     ),
     (
         "two workers read back what they wrote",
         Command::Run,
         TWO_OWNERS,
-        "cpu 0\ndone\ndone\nword 7\ndone\nword 8\ndone\ndone\nword 0\ndone\nword 9\ncpu 1\ndone\ndone\nword 7\ndone\nword 8\ndone\ndone\nword 0\ndone\nword 9\n20 records\n",
+        "cpu 0\ndone\ndone\nword 7\ndone\nword 8\ndone\ndone\nword 0\ndone\nword 9\ncpu 1\ndone\n\
+         done\nword 7\ndone\nword 8\ndone\ndone\nword 0\ndone\nword 9\n20 records\n",
     ),
     (
         "a worker takes a block offline beside one with no lines",
@@ -66,7 +76,8 @@ const RUNS: &[(&str, Command, &str, &str)] = &[
         "a worker's seals are lines of their own, and all records are counted",
         Command::Run,
         "\"0 kalloc 1\",\"0 seal\",\"0 kfree 0\",\"0 kalloc 3\",\"0 seal\",\"0 seal\",\"0 undo 1\"",
-        "cpu 0\nframe 0\nsealed 1\ndone\nrefused BadOrder\nsealed 2\nsealed 0\nrefused Gone\ncpu 1\n4 records\n",
+        "cpu 0\nframe 0\nsealed 1\ndone\nrefused BadOrder\nsealed 2\nsealed 0\nrefused Gone\n\
+         cpu 1\n4 records\n",
     ),
     (
         "what was sealed while two workers ran is replayed",
@@ -77,7 +88,8 @@ const RUNS: &[(&str, Command, &str, &str)] = &[
     (
         "volumes of two workers are replayed as one chain",
         Command::Audit,
-        "\"0 map db 0\",\"0 seal\",\"0 write db 0 0 7\",\"0 seal\",\"0 read db 0 0\",\"1 seal\",\"1 map web 0\",\"1 seal\",\"1 seal\",\"1 write web 0 0 7\"",
+        "\"0 map db 0\",\"0 seal\",\"0 write db 0 0 7\",\"0 seal\",\"0 read db 0 0\",\"1 seal\",\
+         \"1 map web 0\",\"1 seal\",\"1 seal\",\"1 write web 0 0 7\"",
         "5 records\naudit ok\n",
     ),
     (
@@ -164,15 +176,19 @@ fn lines_that_no_worker_may_run_are_named(rt: HostRuntime) -> Result<(), Fail> {
 }
 
 const FULL_FOR_0: &str =
-    "cpu 0\ndone\ndone\nword 7\ndone\nword 8\ndone\ndone\nword 0\ndone\nfault HistoryFull\ncpu 1\ndone\ndone\nword 7\ndone\nword 8\ndone\ndone\nword 0\ndone\nword 9\n19 records\n";
+    "cpu 0\ndone\ndone\nword 7\ndone\nword 8\ndone\ndone\nword 0\ndone\nfault HistoryFull\ncpu 1\n\
+     done\ndone\nword 7\ndone\nword 8\ndone\ndone\nword 0\ndone\nword 9\n19 records\n";
 
 const FULL_FOR_1: &str =
-    "cpu 0\ndone\ndone\nword 7\ndone\nword 8\ndone\ndone\nword 0\ndone\nword 9\ncpu 1\ndone\ndone\nword 7\ndone\nword 8\ndone\ndone\nword 0\ndone\nfault HistoryFull\n19 records\n";
+    "cpu 0\ndone\ndone\nword 7\ndone\nword 8\ndone\ndone\nword 0\ndone\nword 9\ncpu 1\ndone\ndone\n\
+     word 7\ndone\nword 8\ndone\ndone\nword 0\ndone\nfault HistoryFull\n19 records\n";
 
 #[test]
 fn one_worker_finds_the_history_full(rt: HostRuntime) -> Result<(), Fail> {
     let layout =
-        "\"order\":2,\"pageblocks\":1,\"blocks\":4,\"cpus\":2,\"batch\":2,\"high\":2,\"owners\":2,\"pages\":8,\"words\":2,\"history\":19,\"boot\":[\"normal\",\"normal\",\"movable\",\"offline\"]";
+        "\"order\":2,\"pageblocks\":1,\"blocks\":4,\"cpus\":2,\"batch\":2,\"high\":2,\"owners\":2,\
+         \"pages\":8,\"words\":2,\"history\":19,\"boot\":[\"normal\",\"normal\",\"movable\",\
+         \"offline\"]";
     let input = scenario(rt.alloc(), layout, TWO_OWNERS)?;
     let (result, bytes) = served(&rt, Command::Run, rt.alloc(), input.as_bytes());
     assert!(rt; result == Ok(()));

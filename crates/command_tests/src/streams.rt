@@ -48,7 +48,8 @@ impl Source for Scripted<'_> {
     }
 }
 
-/// Keeps the bytes that it takes in pieces, and fails at one of its calls, counted from 1; at none where that is 0.
+/// Keeps the bytes that it takes in pieces, and fails at one of its calls, counted from 1; at none
+/// where that is 0.
 #[derive(Drop)]
 pub struct Collected {
     pub bytes: Vec<u8>,
@@ -98,7 +99,9 @@ pub fn served(alloc: Global, input: &[u8]) -> (Result<(), ProgramFault>, Vec<u8>
 
 /// Four memory blocks of one pageblock of four frames, two processors, and a history of 1000 records.
 pub const LAYOUT: &str =
-    "\"order\":2,\"pageblocks\":1,\"blocks\":4,\"cpus\":2,\"batch\":2,\"high\":2,\"owners\":2,\"pages\":8,\"words\":2,\"history\":1000,\"boot\":[\"normal\",\"normal\",\"movable\",\"offline\"]";
+    "\"order\":2,\"pageblocks\":1,\"blocks\":4,\"cpus\":2,\"batch\":2,\"high\":2,\"owners\":2,\
+     \"pages\":8,\"words\":2,\"history\":1000,\"boot\":[\"normal\",\"normal\",\"movable\",\
+     \"offline\"]";
 
 /// The text of a scenario of these calls.
 pub fn scenario(alloc: Global, layout: &str, calls: &str) -> Result<String, AllocError> {

@@ -1,7 +1,9 @@
-//! Runs scenarios of the memory machine: `hotplug serial`, `hotplug run` or `hotplug audit`, standard input to standard output.
+//! Runs scenarios of the memory machine: `hotplug serial`, `hotplug run` or `hotplug audit`,
+//! standard input to standard output.
 //!
-//! What the commands write stands in hp_commands. The exit status is 0; or 1 after a fault, which standard error names; or 2 where
-//! the command line names no command. It is the same where standard error takes no text.
+//! What the commands write stands in hp_commands. The exit status is 0; or 1 after a fault, which
+//! standard error names; or 2 where the command line names no command. It is the same where
+//! standard error takes no text.
 #![tactic(auto)]
 
 mod words;

@@ -12,26 +12,38 @@ use Rattle.hotplug_lab.specs.declared.fault.ProgramFault.TheVariants.{Lab, NotOp
 use Rattle.hotplug_lab.specs.declared.words.Word.{Word}
 
 -- a fault of reading is one of the program
-pub read_fault : (word : Word) (known : Option (List ℕ)) (read written : Type 0) (fault : ReadFault) → IsReadFault known read fault → IsServeFault word known read written (read_fault_from fault)
+pub read_fault : (word : Word) (known : Option (List ℕ)) (read written : Type 0) (fault : ReadFault)
+    → IsReadFault known read fault → IsServeFault word known read written (read_fault_from fault)
 read_fault word known read written reading.ReadFailed h = h
 read_fault word known read written reading.TooLong h = h
 read_fault word known read written reading.OutOfMemory h = inl refl
 
 -- a word has no answer to all that was read
-unanswered_of : (word : Word) (a b : Option (List ℕ)) (input : List ℕ) (read written : Type 0) (fault : ProgramFault) → Consumes a b input → IsAtEnd b → IsUnanswered word input fault → IsServeFault word a read written fault
+unanswered_of : (word : Word) (a b : Option (List ℕ)) (input : List ℕ) (read written : Type 0)
+    (fault : ProgramFault)
+    → Consumes a b input → IsAtEnd b → IsUnanswered word input fault → IsServeFault word a read written fault
 unanswered_of word a b input read written NotOpened p end h = absurd h
 unanswered_of word a b input read written ReadFailed p end h = absurd h
 unanswered_of word a b input read written TooLong p end h = absurd h
-unanswered_of word a b input read written (Lab fault) p end h = inr (given a b input p end (λ i. IsLabCause word i fault) h)
-unanswered_of word a b input read written (Scenario fault) p end h = given a b input p end (λ i. IsScenarioCause word i fault) h
+unanswered_of word a b input read written (Lab fault) p end h =
+    inr (given a b input p end (λ i. IsLabCause word i fault) h)
+unanswered_of word a b input read written (Scenario fault) p end h =
+    given a b input p end (λ i. IsScenarioCause word i fault) h
 unanswered_of word a b input read written WriteFailed p end h = absurd h
 
 -- `seen` is the slice that was passed on
-pub unanswered : (word : Word) (a b : Option (List ℕ)) (input seen : List ℕ) (read written : Type 0) (fault : ProgramFault) → seen ≡ input → Consumes a b input → IsAtEnd b → IsUnanswered word seen fault → IsServeFault word a read written fault
+pub unanswered : (word : Word) (a b : Option (List ℕ)) (input seen : List ℕ) (read written : Type 0)
+    (fault : ProgramFault)
+    → seen ≡ input → Consumes a b input → IsAtEnd b → IsUnanswered word seen fault
+    → IsServeFault word a read written fault
 unanswered word a b input seen read written fault same p end h =
-    unanswered_of word a b input read written fault p end (subst (λ (i : List ℕ). IsUnanswered word i fault) same h)
+    unanswered_of word a b input read written fault p end
+    (subst (λ (i : List ℕ). IsUnanswered word i fault) same h)
 
 -- its text of all that was read was written
-pub all_served : (word : Word) (a b old new : Option (List ℕ)) (input seen text : List ℕ) (status : ℕ) → seen ≡ input → Consumes a b input → IsAtEnd b → IsAnswerOf word seen text status → Appends old new text → Serves word a old new status
+pub all_served : (word : Word) (a b old new : Option (List ℕ)) (input seen text : List ℕ) (status : ℕ)
+    → seen ≡ input → Consumes a b input → IsAtEnd b → IsAnswerOf word seen text status → Appends old new text
+    → Serves word a old new status
 all_served word a b old new input seen text status same p end h w =
-    given a b input p end (λ i. (t : List ℕ) × Appends old new t × IsAnswerOf word i t status) (text, w, subst (λ (i : List ℕ). IsAnswerOf word i text status) same h)
+    given a b input p end (λ i. (t : List ℕ) × Appends old new t × IsAnswerOf word i t status)
+    (text, w, subst (λ (i : List ℕ). IsAnswerOf word i text status) same h)

@@ -35,11 +35,13 @@ pub record IsPictureOf (view : View) (input text : List ℕ) : Type 0 where
 
 abbrev pub IsAnswerOf : Word → (input text : List ℕ) → (status : ℕ) → Type 0
 IsAnswerOf Check input text status = IsCheckOf input text status
-IsAnswerOf (Explore asked) input text status = IsExplorationOf input asked.setup asked.limit text × (status ≡ 0)
+IsAnswerOf (Explore asked) input text status =
+    IsExplorationOf input asked.setup asked.limit text × (status ≡ 0)
 IsAnswerOf (Trace view) input text status = IsTraceOf view input text × (status ≡ 0)
 IsAnswerOf (Picture view) input text status = IsPictureOf view input text × (status ≡ 0)
 
--- why a word has no answer: the fault of the exploration, or of the scenario that is to be traced; else out of memory alone
+-- why a word has no answer: the fault of the exploration, or of the scenario that is to be traced;
+-- else out of memory alone
 abbrev pub IsLabCause : Word → (input : List ℕ) → LabFault → Type 0
 IsLabCause Check input fault = fault ≡ OutOfMemory
 IsLabCause (Explore asked) input fault = IsFaultOf input asked.setup asked.limit fault
@@ -64,13 +66,17 @@ IsUnanswered word input WriteFailed = ⊥
 
 -- it has written the word's text of the bytes that were read, and nothing else, and this is the status
 abbrev pub Serves : Word → (known old new : Option (List ℕ)) → (status : ℕ) → Type 0
-Serves word known old new status = IfSome known (λ input. (text : List ℕ) × Appends old new text × IsAnswerOf word input text status)
+Serves word known old new status =
+    IfSome known (λ input. (text : List ℕ) × Appends old new text × IsAnswerOf word input text status)
 
--- when each fault comes: `read` and `written` say that a reader's or a writer's call failed. No file is opened here
+-- when each fault comes: `read` and `written` say that a reader's or a writer's call failed. No
+-- file is opened here
 abbrev pub IsServeFault : Word → (known : Option (List ℕ)) → (read written : Type 0) → ProgramFault → Type 0
 IsServeFault word known read written NotOpened = ⊥
 IsServeFault word known read written ReadFailed = read
 IsServeFault word known read written TooLong = IfSome known (λ input. limit < length input)
-IsServeFault word known read written (Lab fault) = (fault ≡ OutOfMemory) ⊎ IfSome known (λ input. IsLabCause word input fault)
-IsServeFault word known read written (Scenario fault) = IfSome known (λ input. IsScenarioCause word input fault)
+IsServeFault word known read written (Lab fault) =
+    (fault ≡ OutOfMemory) ⊎ IfSome known (λ input. IsLabCause word input fault)
+IsServeFault word known read written (Scenario fault) =
+    IfSome known (λ input. IsScenarioCause word input fault)
 IsServeFault word known read written WriteFailed = written

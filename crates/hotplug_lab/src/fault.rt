@@ -11,7 +11,8 @@ use std::alloc::AllocError;
 use std::error::Error;
 use std::fmt;
 
-/// Why the program failed. But for `WriteFailed`, after which some of the text may be out, nothing was written.
+/// Why the program failed. But for `WriteFailed`, after which some of the text may be out, nothing
+/// was written.
 #[derive(Clone, Copy, Debug, PartialEq, Eq, Drop)]
 pub enum ProgramFault {
     /// The file could not be opened.

@@ -1,8 +1,10 @@
-//! Looks into scenarios of the memory machine: `hotplug_lab WORD`, a file or standard input to standard output.
+//! Looks into scenarios of the memory machine: `hotplug_lab WORD`, a file or standard input to
+//! standard output.
 //!
-//! What a word writes stands in a library of its own: `check` in hp_check, `explore` in hp_lab, `trace` in hp_trace, its picture in
-//! hp_svg. The exit status is 0; or 1 after a fault, which standard error names, and after a check that finds faults; or 2 where the
-//! command line is wrong. It is the same where standard error takes no text.
+//! What a word writes stands in a library of its own: `check` in hp_check, `explore` in hp_lab,
+//! `trace` in hp_trace, its picture in hp_svg. The exit status is 0; or 1 after a fault, which
+//! standard error names, and after a check that finds faults; or 2 where the command line is wrong.
+//! It is the same where standard error takes no text.
 #![tactic(auto)]
 
 mod fault;
@@ -21,8 +23,8 @@ use std::process::ExitCode;
 use std::{env, fs, io};
 use words::{Request, Word, lab_command, request_from};
 
-/// Does a word on the file that is named, or else on standard input, and answers the exit status. Where standard error is a
-/// terminal, it shows how far a search has come.
+/// Does a word on the file that is named, or else on standard input, and answers the exit status.
+/// Where standard error is a terminal, it shows how far a search has come.
 fn serve_request(rt: &HostRuntime, request: Request<'_>) -> Result<u8, ProgramFault> {
     let Some(path) = request.file else {
         return serve_input(rt, request.word, rt.stdin());

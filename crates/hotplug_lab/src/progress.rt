@@ -3,7 +3,8 @@
 use hp_explore::Watch;
 use std::io::Write;
 
-/// A search tells some hundred thousand times a second how far it has come; after one that is shown so many are not (own rule).
+/// A search tells some hundred thousand times a second how far it has come; after one that is shown
+/// so many are not (own rule).
 const SILENT: u32 = 1024;
 
 /// Shows how far a search has come, in one line that is written over and over.

@@ -23,8 +23,8 @@ struct Answer {
     status: u8,
 }
 
-/// Does a word on what the reader gives, writes its text, and answers the exit status. The watch is told how far a search has come,
-/// and is dropped before anything is written.
+/// Does a word on what the reader gives, writes its text, and answers the exit status. The watch is
+/// told how far a search has come, and is dropped before anything is written.
 pub fn serve<R: Source, W: Sink, P: Watch + Drop>(
     alloc: Global,
     word: Word,
@@ -38,11 +38,14 @@ pub fn serve<R: Source, W: Sink, P: Watch + Drop>(
     // The reader gave all that it had, at most the limit.
     ensures read { OnOk result (ReadsAll (R.remaining reader.old) (R.remaining reader.new)) }
     // The word's text of the bytes that were read, and nothing else, and its status.
-    ensures ok { IfOk result (Serves word (R.remaining reader.old) (W.contents writer.old) (W.contents writer.new)) }
+    ensures ok { IfOk result
+        (Serves word (R.remaining reader.old) (W.contents writer.old) (W.contents writer.new)) }
     // After another fault nothing was written.
-    ensures silent { IfErr result (λ fault. fault ≢ ProgramFault.WriteFailed → Keeps (W.contents writer.old) (W.contents writer.new)) }
+    ensures silent { IfErr result
+        (λ fault. fault ≢ ProgramFault.WriteFailed → Keeps (W.contents writer.old) (W.contents writer.new)) }
     // Each fault comes only where it has a cause.
-    ensures err { IfErr result (IsServeFault word (R.remaining reader.old) (R.failures reader.old < R.failures reader.new) (W.failures writer.old < W.failures writer.new)) }
+    ensures err { IfErr result (IsServeFault word (R.remaining reader.old)
+        (R.failures reader.old < R.failures reader.new) (W.failures writer.old < W.failures writer.new)) }
 {
     let input = read_all(alloc, reader)?;
     let answer = watched_answer(alloc, &input, word, watch)?;
@@ -53,8 +56,10 @@ pub fn serve<R: Source, W: Sink, P: Watch + Drop>(
 fn write_answer<W: Sink>(writer: &mut W, answer: &Answer) -> Result<u8, ProgramFault>
     requires { W.failures writer.old < 2 ^ 64 - 1 }
     ensures status { IfOk result (λ status. status ≡ answer.now.status) }
-    ensures ok { OnOk result (Appends (W.contents writer.old) (W.contents writer.new) (string_bytes answer.now.text)) }
-    ensures err { IfErr result (λ fault. (fault ≡ ProgramFault.WriteFailed) × (W.failures writer.old < W.failures writer.new)) }
+    ensures ok { OnOk result
+        (Appends (W.contents writer.old) (W.contents writer.new) (string_bytes answer.now.text)) }
+    ensures err { IfErr result
+        (λ fault. (fault ≡ ProgramFault.WriteFailed) × (W.failures writer.old < W.failures writer.new)) }
 {
     match write_all(writer, answer.text.as_bytes()) {
         Ok(()) => Ok(answer.status),

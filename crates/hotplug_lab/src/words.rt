@@ -10,7 +10,8 @@ const LIMIT: u64 = 10_000_000;
 /// The columns of a trace's row where no width is given.
 const WIDTH: u64 = 200;
 
-/// What is asked of an exploration: how many lines are run first, and the most interleavings that are counted.
+/// What is asked of an exploration: how many lines are run first, and the most interleavings that
+/// are counted.
 #[derive(Clone, Copy, Debug, PartialEq, Eq)]
 pub struct Exploration {
     pub setup: u64,
@@ -43,7 +44,8 @@ pub fn lab_command<'a>(alloc: Global) -> Result<Command<'a>, AllocError> {
         .version("1.0")
         .about("Looks into scenarios of the memory machine")
         .after_help(
-            "Exit status: 0; 1 after a fault, which standard error names, and after a check that finds faults (warnings alone: 0); 2 for a wrong command line.",
+            "Exit status: 0; 1 after a fault, which standard error names, and after a check that \
+             finds faults (warnings alone: 0); 2 for a wrong command line.",
         )
         .subcommand_required(true)
         .subcommand(check_command(alloc)?)?

@@ -15,10 +15,12 @@ at_replicate (suc n) zero x = refl
 at_replicate (suc n) (suc i) x = at_replicate n i x
 
 -- with areas within the layout and the empty lists of its processors they are within it
-pub empty_of : (l : LayoutParts) (fs : FreeFrames) → AreFreeAreasOf l fs.areas → fs.cached ≡ empty_cached l → AreFreeFramesOf l fs
+pub empty_of : (l : LayoutParts) (fs : FreeFrames) → AreFreeAreasOf l fs.areas → fs.cached ≡ empty_cached l
+    → AreFreeFramesOf l fs
 empty_of l fs areas cached = record {
   areas = areas;
   lists = ap (λ (lists : List (List ℕ)). length lists) cached ∙ length-replicate (3 * l.cpus) [];
   cached = λ cpu pool frame on. absurd (false≢true (subst (λ (xs : List ℕ). is_on frame xs ≡ true)
-      (ap (λ (lists : List (List ℕ)). get_or lists (3 * cpu + pool_index pool) []) cached ∙ at_replicate (3 * l.cpus) (3 * cpu + pool_index pool) []) on));
+      (ap (λ (lists : List (List ℕ)). get_or lists (3 * cpu + pool_index pool) []) cached
+      ∙ at_replicate (3 * l.cpus) (3 * cpu + pool_index pool) []) on));
 }

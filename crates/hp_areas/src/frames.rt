@@ -45,7 +45,8 @@ impl FreeFrames {
     /// (own rule). An error is out of memory.
     #[tactic(auto, using(crate::proofs::EmptyFrames::empty_of))]
     pub fn empty(alloc: Global, layout: &Layout) -> Result<FreeFrames, AllocError>
-        ensures value { IfOk result (λ free. free ≡ record { areas = empty_areas layout.now; cached = empty_cached layout.now }) }
+        ensures value { IfOk result
+            (λ free. free ≡ record { areas = empty_areas layout.now; cached = empty_cached layout.now }) }
         ensures layout { IfOk result (AreFreeFramesOf layout.now) }
     {
         let areas = Areas::empty(alloc, layout)?;
@@ -94,7 +95,8 @@ impl FreeFrames {
     pub fn add_block(&mut self, layout: &Layout, zone: Zone, block: Block) -> Result<(), AllocError>
         requires layout { AreFreeFramesOf layout.now self.old }
         requires block { block < layout.now.blocks }
-        ensures value { OnOk result (self.new ≡ record self.old { areas = add_block layout.now zone self.old.areas block }) }
+        ensures value { OnOk result
+            (self.new ≡ record self.old { areas = add_block layout.now zone self.old.areas block }) }
         ensures layout { AreFreeFramesOf layout.now self.new }
     {
         add_block(&mut self.areas, layout, zone, block)
@@ -113,7 +115,8 @@ impl FreeFrames {
         requires layout { AreFreeFramesOf layout.now self.old }
         requires order { order ≤ layout.now.order }
         requires frame { frame + 2 ^ order ≤ frame_count layout.now }
-        ensures value { OnOk result (self.new ≡ record self.old { areas = with_back self.old.areas class order frame }) }
+        ensures value { OnOk result
+            (self.new ≡ record self.old { areas = with_back self.old.areas class order frame }) }
         ensures err { OnErr result (self.new ≡ self.old) }
         ensures layout { AreFreeFramesOf layout.now self.new }
     {
@@ -132,7 +135,8 @@ impl FreeFrames {
         requires layout { AreFreeFramesOf layout.now self.old }
         requires cpu { cpu < layout.now.cpus }
         requires frame { IsFrame layout.now frame }
-        ensures value { OnOk result (self.new ≡ with_cached_list self.old cpu pool (cached_list self.old cpu pool ++ frame ∷ [])) }
+        ensures value { OnOk result
+            (self.new ≡ with_cached_list self.old cpu pool (cached_list self.old cpu pool ++ frame ∷ [])) }
         ensures err { OnErr result (self.new ≡ self.old) }
         ensures layout { AreFreeFramesOf layout.now self.new }
     {

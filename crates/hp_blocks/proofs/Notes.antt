@@ -13,13 +13,16 @@ use Rattle.hp_tape.specs.Tapes.{TapeValue, NotesBlocks}
 use Rattle.hp_lemmas.proofs.Tables.{get_set}
 
 -- a tape by its parts
-seen_as : (was now : TapeValue) (deltas : List Delta) → now.room ≡ was.room → now.deltas ≡ was.deltas ++ deltas
+seen_as : (was now : TapeValue) (deltas : List Delta) → now.room ≡ was.room
+    → now.deltas ≡ was.deltas ++ deltas
     → now ≡ record { room = was.room; deltas = was.deltas ++ deltas }
 seen_as was now deltas room noted =
-    ap (λ (r : ℕ). record now { room = r }) room ∙ ap (λ (ds : List Delta). record { room = was.room; deltas = ds }) noted
+    ap (λ (r : ℕ). record now { room = r }) room
+    ∙ ap (λ (ds : List Delta). record { room = was.room; deltas = ds }) noted
 
 -- a row was set
-pub notes-row : (l : LayoutParts) (bs : Blocks) (block : ℕ) (row : Row) (was now : TapeValue) → AreBlocksOf l bs → block < l.blocks
+pub notes-row : (l : LayoutParts) (bs : Blocks) (block : ℕ) (row : Row) (was now : TapeValue)
+    → AreBlocksOf l bs → block < l.blocks
     → now.room ≡ was.room → now.deltas ≡ was.deltas ++ RowDelta block (row_of bs block) row ∷ []
     → NotesBlocks l 1 was now (with_row bs block row) bs
 notes-row l bs block row was now are lt room noted = record {
@@ -30,7 +33,9 @@ notes-row l bs block row was now are lt room noted = record {
   numbers = (lt, tt);
   lead = record {
     fit = (tt, get_set bs.rows block row (omega (arith, are.rows)));
-    back = ap (λ (rows : List Row). record bs { rows = rows }) (set-set bs.rows block row (row_of bs block) ∙ set-get_or bs.rows block offline_row);
+    back =
+        ap (λ (rows : List Row). record bs { rows = rows })
+        (set-set bs.rows block row (row_of bs block) ∙ set-get_or bs.rows block offline_row);
   };
 }
 

@@ -13,7 +13,8 @@ use std::alloc::{AllocError, Global};
 use std::marker::Model;
 use std::mem::replace;
 
-/// The rows of the memory blocks of a layout, and what a block that is added becomes. No call but `new` takes memory.
+/// The rows of the memory blocks of a layout, and what a block that is added becomes. No call but
+/// `new` takes memory.
 #[derive(Debug)]
 pub struct Blocks {
     layout: Layout,
@@ -38,7 +39,8 @@ impl Model for Blocks {
 
     ghost Value = { BlocksValue };
 
-    ghost view = { λ b. record { layout = b.layout; blocks = record { rows = b.rows.items; auto = b.auto } } };
+    ghost view = { λ b.
+        record { layout = b.layout; blocks = record { rows = b.rows.items; auto = b.auto } } };
 
     ghost invariant = { λ b. AreBlocksOf b.layout (record { rows = b.rows.items; auto = b.auto }) };
 }
@@ -71,12 +73,13 @@ impl Blocks {
         self.rows[at]
     }
 
-    /// Makes an operation hold a memory block of the layout; with wish Off the block is going (Linux guide: offlining; own rule).
-    /// One delta.
+    /// Makes an operation hold a memory block of the layout; with wish Off the block is going
+    /// (Linux guide: offlining; own rule). One delta.
     pub fn claim(&mut self, block: Block, op: Serial, wish: Wish, tape: &mut Tape)
         requires block { block < self.old.layout.blocks }
         requires room { HasRoom tape.old 1 }
-        ensures claimed { self.new.blocks ≡ with_row self.old.blocks block (claimed_row (row_of self.old.blocks block) op wish) }
+        ensures claimed { self.new.blocks
+            ≡ with_row self.old.blocks block (claimed_row (row_of self.old.blocks block) op wish) }
         ensures layout { self.new.layout ≡ self.old.layout }
         ensures notes { NotesBlocks self.old.layout 1 tape.old tape.new self.new.blocks self.old.blocks }
     {

@@ -18,20 +18,24 @@ use Rattle.hp_lemmas.proofs.Parts.{IsMore, IsPart, back-more, front-more}
 use Rattle.hp_buddy.specs.Buddy.{AreApart, MayBeGiven}
 
 -- the lists go up to each order of the layout
-pub has_order : (l : LayoutParts) (a : FreeAreas) (order : ℕ) → AreApart l a → order ≤ l.order → HasOrder a order
+pub has_order : (l : LayoutParts) (a : FreeAreas) (order : ℕ) → AreApart l a → order ≤ l.order
+    → HasOrder a order
 has_order l a order h low = omega (arith, h.areas.lists)
 
 -- an order past the layout's has no free block
-pub on_order : (l : LayoutParts) (a : FreeAreas) (class : Class) (order first : ℕ) → AreFreeAreasOf l a → is_on first (free_list a class order) ≡ true → order ≤ l.order
+pub on_order : (l : LayoutParts) (a : FreeAreas) (class : Class) (order first : ℕ) → AreFreeAreasOf l a
+    → is_on first (free_list a class order) ≡ true → order ≤ l.order
 on_order l a class order first h on = elim (cases_lt l.order order) [
   | inl above ↦
-      let past : free_list a class order ≡ [] = get_or_past a.lists (5 * order + class_index class) [] (omega (arith, h.lists)) in
+      let past : free_list a class order ≡ [] =
+      get_or_past a.lists (5 * order + class_index class) [] (omega (arith, h.lists)) in
       absurd (both_ways (is_on first []) refl (subst (λ (xs : List ℕ). is_on first xs ≡ true) past on))
   | inr low ↦ low
 ]
 
 -- a free block's first frame is a frame
-pub on_frame : (l : LayoutParts) (a : FreeAreas) (class : Class) (order first : ℕ) → AreFreeAreasOf l a → is_on first (free_list a class order) ≡ true → first < frame_count l
+pub on_frame : (l : LayoutParts) (a : FreeAreas) (class : Class) (order first : ℕ) → AreFreeAreasOf l a
+    → is_on first (free_list a class order) ≡ true → first < frame_count l
 on_frame l a class order first h on =
     let some : 0 < 2 ^ order = pow_pos order in
     omega (arith, h.free class order first on)
@@ -41,26 +45,35 @@ on_frame l a class order first h on =
 -- ---- a shorter list
 
 -- a part of a list in its place
-pub part-apart : (l : LayoutParts) (a : FreeAreas) (class : Class) (order : ℕ) (frames : List ℕ) → order ≤ l.order
-    → IsPart order frames (free_list a class order) → AreApart l a → AreApart l (with_free_list a class order frames)
+pub part-apart : (l : LayoutParts) (a : FreeAreas) (class : Class) (order : ℕ) (frames : List ℕ)
+    → order ≤ l.order
+    → IsPart order frames (free_list a class order) → AreApart l a
+    → AreApart l (with_free_list a class order frames)
 part-apart l a class order frames low part h =
     let has : HasOrder a order = has_order l a order h low in
     record {
       areas = record {
         lists = (with_free_list-size a class order frames).lists ∙ h.areas.lists;
         kinds = h.areas.kinds;
-        free = free_list-cases (λ (c : Class) (o : ℕ) (xs : List ℕ). (first : ℕ) → is_on first xs ≡ true → first + 2 ^ o ≤ frame_count l) a class order frames has
+        free =
+            free_list-cases (λ (c : Class) (o : ℕ) (xs : List ℕ). (first : ℕ) → is_on first xs ≡ true
+            → first + 2 ^ o ≤ frame_count l) a class order frames has
             (λ first on. h.areas.free class order first (part.on first on)) (λ c o. h.areas.free c o);
       };
-      aligned = free_list-cases (λ (c : Class) (o : ℕ) (xs : List ℕ). (first : ℕ) → is_on first xs ≡ true → first % 2 ^ o ≡ 0) a class order frames has
+      aligned =
+          free_list-cases (λ (c : Class) (o : ℕ) (xs : List ℕ). (first : ℕ) → is_on first xs ≡ true
+          → first % 2 ^ o ≡ 0) a class order frames has
           (λ first on. h.aligned class order first (part.on first on)) (λ c o. h.aligned c o);
-      once = λ frame. omega (arith, with_free_list-places a class order frame frames has, part.places frame, h.once frame);
+      once =
+          λ frame. omega
+          (arith, with_free_list-places a class order frame frames has, part.places frame, h.once frame);
     }
 
 -- ---- one block more
 
 -- a block that none of the free blocks overlaps
-pub more-apart : (l : LayoutParts) (a : FreeAreas) (class : Class) (order first : ℕ) (frames : List ℕ) → IsMore order first frames (free_list a class order)
+pub more-apart : (l : LayoutParts) (a : FreeAreas) (class : Class) (order first : ℕ) (frames : List ℕ)
+    → IsMore order first frames (free_list a class order)
     → MayBeGiven l a order first → AreApart l a → AreApart l (with_free_list a class order frames)
 more-apart l a class order first frames more block h =
     let has : HasOrder a order = has_order l a order h block.in_order in
@@ -68,21 +81,32 @@ more-apart l a class order first frames more block h =
       areas = record {
         lists = (with_free_list-size a class order frames).lists ∙ h.areas.lists;
         kinds = h.areas.kinds;
-        free = free_list-cases (λ (c : Class) (o : ℕ) (xs : List ℕ). (frame : ℕ) → is_on frame xs ≡ true → frame + 2 ^ o ≤ frame_count l) a class order frames has
+        free =
+            free_list-cases (λ (c : Class) (o : ℕ) (xs : List ℕ). (frame : ℕ) → is_on frame xs ≡ true
+            → frame + 2 ^ o ≤ frame_count l) a class order frames has
             (λ frame on. elim (more.on frame on) [
               | inl same ↦ subst (λ (f : ℕ). f + 2 ^ order ≤ frame_count l) same block.within
               | inr old ↦ h.areas.free class order frame old
             ]) (λ c o. h.areas.free c o);
       };
-      aligned = free_list-cases (λ (c : Class) (o : ℕ) (xs : List ℕ). (frame : ℕ) → is_on frame xs ≡ true → frame % 2 ^ o ≡ 0) a class order frames has
+      aligned =
+          free_list-cases (λ (c : Class) (o : ℕ) (xs : List ℕ). (frame : ℕ) → is_on frame xs ≡ true
+          → frame % 2 ^ o ≡ 0) a class order frames has
           (λ frame on. elim (more.on frame on) [
             | inl same ↦ subst (λ (f : ℕ). f % 2 ^ order ≡ 0) same block.aligned
             | inr old ↦ h.aligned class order frame old
           ]) (λ c o. h.aligned c o);
-      once = λ frame. omega (arith, with_free_list-places a class order frame frames has, more.places frame, room l a order first frame block h);
+      once =
+          λ frame. omega (
+            arith,
+            with_free_list-places a class order frame frames has,
+            more.places frame,
+            room l a order first frame block h,
+          );
     }
   where
-    room : (l : LayoutParts) (a : FreeAreas) (order first frame : ℕ) → MayBeGiven l a order first → AreApart l a → free_places a frame + covered frame order first ≤ 1
+    room : (l : LayoutParts) (a : FreeAreas) (order first frame : ℕ) → MayBeGiven l a order first
+        → AreApart l a → free_places a frame + covered frame order first ≤ 1
     room l a order first frame block h = elim (cases_lt frame first) [
       | inl below ↦ omega (arith, h.once frame, covered-out frame order first (inl below))
       | inr low ↦ elim (cases_lt frame (first + 2 ^ order)) [
@@ -92,21 +116,31 @@ more-apart l a class order first frames more block h =
     ]
 
 -- a block at the front of its list
-pub front-apart : (l : LayoutParts) (a : FreeAreas) (class : Class) (order first : ℕ) → MayBeGiven l a order first → AreApart l a → AreApart l (with_front a class order first)
+pub front-apart : (l : LayoutParts) (a : FreeAreas) (class : Class) (order first : ℕ)
+    → MayBeGiven l a order first → AreApart l a → AreApart l (with_front a class order first)
 front-apart l a class order first block h =
-    more-apart l a class order first (first ∷ free_list a class order) (front-more order first (free_list a class order)) block h
+    more-apart l a class order first (first ∷ free_list a class order)
+    (front-more order first (free_list a class order)) block h
 
 -- a block at the back of its list
-pub back-apart : (l : LayoutParts) (a : FreeAreas) (class : Class) (order first : ℕ) → MayBeGiven l a order first → AreApart l a → AreApart l (with_back a class order first)
+pub back-apart : (l : LayoutParts) (a : FreeAreas) (class : Class) (order first : ℕ)
+    → MayBeGiven l a order first → AreApart l a → AreApart l (with_back a class order first)
 back-apart l a class order first block h =
-    more-apart l a class order first (free_list a class order ++ first ∷ []) (back-more order first (free_list a class order)) block h
+    more-apart l a class order first (free_list a class order ++ first ∷ [])
+    (back-more order first (free_list a class order)) block h
 
 -- ---- a kind
 
 -- a kind is written
-pub kind-apart : (l : LayoutParts) (a : FreeAreas) (pageblock : ℕ) (kind : Kind) → AreApart l a → AreApart l (with_kind a pageblock kind)
+pub kind-apart : (l : LayoutParts) (a : FreeAreas) (pageblock : ℕ) (kind : Kind) → AreApart l a
+    → AreApart l (with_kind a pageblock kind)
 kind-apart l a pageblock kind h = record {
-  areas = record { lists = h.areas.lists; kinds = (with_kind-size a pageblock kind).kinds ∙ h.areas.kinds; free = h.areas.free };
+  areas =
+      record {
+        lists = h.areas.lists;
+        kinds = (with_kind-size a pageblock kind).kinds ∙ h.areas.kinds;
+        free = h.areas.free;
+      };
   aligned = h.aligned;
   once = h.once;
 }

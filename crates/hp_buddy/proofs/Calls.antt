@@ -32,16 +32,22 @@ use Rattle.hp_buddy.proofs.Notes.{Seen, distinct}
 -- ---- the notes of two calls
 
 -- one call, and then another
-pub notes-then : (l m : LayoutParts) (most more total : ℕ) (was mid now : TapeValue) (before between after : FreeAreas) → m ≡ l → most + more ≤ total
-    → NotesAreas l most was mid between before → NotesAreas m more mid now after between → NotesAreas l total was now after before
+pub notes-then : (l m : LayoutParts) (most more total : ℕ) (was mid now : TapeValue)
+    (before between after : FreeAreas)
+    → m ≡ l → most + more ≤ total
+    → NotesAreas l most was mid between before → NotesAreas m more mid now after between
+    → NotesAreas l total was now after before
 notes-then l m most more total was mid now before between after same le a b =
     notes-more IsOfAreas FitsAreas areas_undo l (most + more) total was now after before le
-    (notes-append IsOfAreas FitsAreas areas_undo l most more was mid now after between before a (subst (λ (k : LayoutParts). NotesAreas k more mid now after between) same b))
+    (notes-append IsOfAreas FitsAreas areas_undo l most more was mid now after between before a
+    (subst (λ (k : LayoutParts). NotesAreas k more mid now after between) same b))
 
 -- what room a call leaves
-pub room_left : (l : LayoutParts) (most more : ℕ) (was now : TapeValue) (before after : FreeAreas) → NotesAreas l most was now after before → HasRoom was (most + more) → HasRoom now more
+pub room_left : (l : LayoutParts) (most more : ℕ) (was now : TapeValue) (before after : FreeAreas)
+    → NotesAreas l most was now after before → HasRoom was (most + more) → HasRoom now more
 room_left l most more was now before after n room =
-    let size : length now.deltas ≡ length (was.deltas ++ n.deltas) = ap (λ (t : TapeValue). length t.deltas) n.tape in
+    let size : length now.deltas ≡ length (was.deltas ++ n.deltas) =
+    ap (λ (t : TapeValue). length t.deltas) n.tape in
     let same : now.room ≡ was.room = ap (λ (t : TapeValue). t.room) n.tape in
     omega (arith, n.few, length-append was.deltas n.deltas)
 
@@ -52,11 +58,13 @@ smaller : (order top : ℕ) → order ≤ top → 2 ^ order ≤ 2 ^ top
 smaller order top low =
     let sum : top ≡ order + (top - order) = omega arith in
     let some : 1 ≤ 2 ^ (top - order) = pow_pos (top - order) in
-    let power : 2 ^ top ≡ 2 ^ order * 2 ^ (top - order) = ap (λ (n : ℕ). 2 ^ n) sum ∙ pow-add 2 order (top - order) in
+    let power : 2 ^ top ≡ 2 ^ order * 2 ^ (top - order) =
+    ap (λ (n : ℕ). 2 ^ n) sum ∙ pow-add 2 order (top - order) in
     omega (arith, mul-le-mul_left (2 ^ order) some)
 
 -- a half of a block of the layout fits a number
-pub half_fits : (l : LayoutParts) (a : FreeAreas) (order frame half : ℕ) → IsLayout l → MayBeGiven l a order frame → half < order → frame + 2 ^ half < 2 ^ 32
+pub half_fits : (l : LayoutParts) (a : FreeAreas) (order frame half : ℕ) → IsLayout l
+    → MayBeGiven l a order frame → half < order → frame + 2 ^ half < 2 ^ 32
 half_fits l a order frame half layout block below =
     let count : frame_count l ≤ 2 ^ 20 = layout.frames in
     omega (arith, block.within, smaller half order (omega arith))
@@ -69,27 +77,36 @@ pub record IsUpper (l : LayoutParts) (now : FreeAreas) (f : ℕ) : Type 0 where
   pub unfree : free_places now f ≡ 0
 
 -- the upper half of a block that is split down so far
-pub upper : (l : LayoutParts) (a now : FreeAreas) (class : Class) (frame half order k f : ℕ) → half < order → MayBeGiven l a order frame → AreApart l a → k ≡ half + 1
+pub upper : (l : LayoutParts) (a now : FreeAreas) (class : Class) (frame half order k f : ℕ) → half < order
+    → MayBeGiven l a order frame → AreApart l a → k ≡ half + 1
     → now ≡ with_halves a class frame k (order - k) → f ≡ frame + 2 ^ half → IsUpper l now f
 upper l a now class frame half order k f below block h next is at =
     let sum : suc half + (order - suc half) ≡ order = omega arith in
     let up : k ≡ suc half = omega arith in
     let left : IsLeft l (with_halves a class frame (suc half) (order - suc half)) (suc half) frame =
-    halves-left l a class frame (suc half) (order - suc half) (subst (λ (n : ℕ). MayBeGiven l a n frame) (sym sum) block) h in
-    let both = split l (with_halves a class frame (suc half) (order - suc half)) class half frame left.rest left.apart in
+    halves-left l a class frame (suc half) (order - suc half)
+    (subst (λ (n : ℕ). MayBeGiven l a n frame) (sym sum) block) h in
+    let both =
+    split l (with_halves a class frame (suc half) (order - suc half)) class half frame left.rest
+    left.apart in
     let some : 0 < 2 ^ half = pow_pos half in
-    let areas : now ≡ with_halves a class frame (suc half) (order - suc half) = is ∙ ap (λ (n : ℕ). with_halves a class frame n (order - n)) up in
+    let areas : now ≡ with_halves a class frame (suc half) (order - suc half) =
+    is ∙ ap (λ (n : ℕ). with_halves a class frame n (order - n)) up in
     record {
       inside = omega (arith, both.upper.within);
-      unfree = subst (λ (b : FreeAreas). free_places b f ≡ 0) (sym areas) (both.upper.unfree f (omega arith) (omega arith));
+      unfree =
+          subst (λ (b : FreeAreas). free_places b f ≡ 0) (sym areas)
+          (both.upper.unfree f (omega arith) (omega arith));
     }
 
 -- with the upper half free
-pub halves_next : (a now new : FreeAreas) (class : Class) (frame half order k f : ℕ) → half < order → k ≡ half + 1 → now ≡ with_halves a class frame k (order - k) → f ≡ frame + 2 ^ half
+pub halves_next : (a now new : FreeAreas) (class : Class) (frame half order k f : ℕ) → half < order
+    → k ≡ half + 1 → now ≡ with_halves a class frame k (order - k) → f ≡ frame + 2 ^ half
     → new ≡ with_front now class half f → new ≡ with_halves a class frame half (order - half)
 halves_next a now new class frame half order k f below next is at pushed =
     pushed ∙ ap (λ (n : ℕ). with_front now class half n) at
-    ∙ ap (λ (b : FreeAreas). with_front b class half (frame + 2 ^ half)) (is ∙ ap (λ (n : ℕ). with_halves a class frame n (order - n)) next)
+    ∙ ap (λ (b : FreeAreas). with_front b class half (frame + 2 ^ half))
+    (is ∙ ap (λ (n : ℕ). with_halves a class frame n (order - n)) next)
     ∙ sym (with_halves-more a class frame half order below)
 
 -- ---- the front block of a list
@@ -105,38 +122,50 @@ front_of f [] e = cc
 front_of f (x ∷ xs) e = let same : x ≡ f = cc in record { rest = xs; is = ap (λ (y : ℕ). y ∷ xs) same }
 
 -- by the front that the links show
-pub seen-front_is : (v : BuddyValue) (l : LayoutParts) (links : LinkedLists) (kinds : List Kind) (class : Class) (order n f : ℕ) → Seen v l links kinds
-    → n ≡ 5 * order + class_index class → Some f ≡ first (list_at links n) → IsFront f (free_list v.areas class order)
+pub seen-front_is : (v : BuddyValue) (l : LayoutParts) (links : LinkedLists) (kinds : List Kind)
+    (class : Class) (order n f : ℕ)
+    → Seen v l links kinds
+    → n ≡ 5 * order + class_index class → Some f ≡ first (list_at links n)
+    → IsFront f (free_list v.areas class order)
 seen-front_is v l links kinds class order n f s number e =
     subst (λ (w : BuddyValue). IsFront f (free_list w.areas class order)) s.is
     (subst (λ (m : ℕ). IsFront f (get_or links.lists m [])) number (front_of f (list_at links n) e))
 
 -- the front block left its list
-pub front_left : (l : LayoutParts) (a mid : FreeAreas) (class : Class) (order f : ℕ) → AreApart l a → order ≤ l.order → (front : IsFront f (free_list a class order))
+pub front_left : (l : LayoutParts) (a mid : FreeAreas) (class : Class) (order f : ℕ) → AreApart l a
+    → order ≤ l.order → (front : IsFront f (free_list a class order))
     → mid ≡ without_free a class order f → mid ≡ with_free_list a class order front.rest
 front_left l a mid class order f h low front is =
-    let apart = subst (λ (xs : List ℕ). AreDistinct xs) front.is (distinct a class order (has_order l a order h low) h.once) in
+    let apart =
+    subst (λ (xs : List ℕ). AreDistinct xs) front.is
+    (distinct a class order (has_order l a order h low) h.once) in
     is ∙ ap (λ (xs : List ℕ). with_free_list a class order (without f xs)) front.is
     ∙ ap (λ (xs : List ℕ). with_free_list a class order xs) (without-front f front.rest apart.0)
 
 -- and is in no free block then
-pub front_free : (l : LayoutParts) (a mid : FreeAreas) (class : Class) (order f : ℕ) → AreApart l a → order ≤ l.order → IsFront f (free_list a class order)
+pub front_free : (l : LayoutParts) (a mid : FreeAreas) (class : Class) (order f : ℕ) → AreApart l a
+    → order ≤ l.order → IsFront f (free_list a class order)
     → mid ≡ without_free a class order f → IsLeft l mid order f
 front_free l a mid class order f h low front is =
     subst (λ (b : FreeAreas). IsLeft l b order f) (sym (front_left l a mid class order f h low front is))
     (tail-left l a class order f front.rest front.is low h)
 
 -- its first frame is a frame
-pub front_frame : (l : LayoutParts) (a : FreeAreas) (class : Class) (order f : ℕ) → AreApart l a → IsFront f (free_list a class order) → f < frame_count l
-front_frame l a class order f h front = on_frame l a class order f h.areas (front_on f front.rest (free_list a class order) front.is)
+pub front_frame : (l : LayoutParts) (a : FreeAreas) (class : Class) (order f : ℕ) → AreApart l a
+    → IsFront f (free_list a class order) → f < frame_count l
+front_frame l a class order f h front =
+    on_frame l a class order f h.areas (front_on f front.rest (free_list a class order) front.is)
 
 -- it was taken
-pub front_taken : (l : LayoutParts) (a mid new : FreeAreas) (class rest : Class) (order wanted f : ℕ) → AreApart l a → order ≤ l.order → IsFront f (free_list a class order)
-    → mid ≡ without_free a class order f → new ≡ with_halves mid rest f wanted (order - wanted) → take_front a class rest order wanted ≡ Some (record { areas = new; frame = f })
+pub front_taken : (l : LayoutParts) (a mid new : FreeAreas) (class rest : Class) (order wanted f : ℕ)
+    → AreApart l a → order ≤ l.order → IsFront f (free_list a class order)
+    → mid ≡ without_free a class order f → new ≡ with_halves mid rest f wanted (order - wanted)
+    → take_front a class rest order wanted ≡ Some (record { areas = new; frame = f })
 front_taken l a mid new class rest order wanted f h low front is split_is =
     ap (λ (xs : List ℕ). take_first a class rest order wanted xs) front.is
     ∙ ap (λ (b : FreeAreas). Some (record { areas = b; frame = f }))
-    (sym (split_is ∙ ap (λ (b : FreeAreas). with_halves b rest f wanted (order - wanted)) (front_left l a mid class order f h low front is)))
+    (sym (split_is ∙ ap (λ (b : FreeAreas). with_halves b rest f wanted (order - wanted))
+    (front_left l a mid class order f h low front is)))
 
 -- ---- what was taken or stolen
 
@@ -147,13 +176,20 @@ pub record IsOutcome (v new : BuddyValue) (wanted : ℕ) (o : Option ℕ) : Type
   pub places : IfSome o (HasBlockMore v.areas new.areas wanted)
 
 -- by what the definition took
-pub outcome : (v new : BuddyValue) (wanted : ℕ) (taken : Option Taken) (o : Option ℕ) (was now : TapeValue) → AreApart v.layout v.areas → new.layout ≡ v.layout
-    → IfSome taken (Takes v.layout v.areas wanted) → MatchOption o (taken ≡ None) (λ f. taken ≡ Some (record { areas = new.areas; frame = f }))
+pub outcome : (v new : BuddyValue) (wanted : ℕ) (taken : Option Taken) (o : Option ℕ) (was now : TapeValue)
+    → AreApart v.layout v.areas → new.layout ≡ v.layout
+    → IfSome taken (Takes v.layout v.areas wanted)
+    → MatchOption o (taken ≡ None) (λ f. taken ≡ Some (record { areas = new.areas; frame = f }))
     → MatchOption o ((new ≡ v) × (now ≡ was)) (λ _. Unit {0}) → IsOutcome v new wanted o
 outcome v new wanted taken None was now h same takes is none =
-    record { apart = subst (λ (w : BuddyValue). AreApart w.layout w.areas) (sym none.0) h; block = tt; places = tt }
+    record {
+      apart = subst (λ (w : BuddyValue). AreApart w.layout w.areas) (sym none.0) h;
+      block = tt;
+      places = tt;
+    }
 outcome v new wanted taken (Some f) was now h same takes is none =
-    let t : Takes v.layout v.areas wanted (record { areas = new.areas; frame = f }) = subst (λ (x : Option Taken). IfSome x (Takes v.layout v.areas wanted)) is takes in
+    let t : Takes v.layout v.areas wanted (record { areas = new.areas; frame = f }) =
+    subst (λ (x : Option Taken). IfSome x (Takes v.layout v.areas wanted)) is takes in
     record {
       apart = subst (λ (l : LayoutParts). AreApart l new.areas) (sym same) t.apart;
       block = subst (λ (l : LayoutParts). MayBeGiven l new.areas wanted f) (sym same) t.block;
@@ -161,19 +197,26 @@ outcome v new wanted taken (Some f) was now h same takes is none =
     }
 
 -- the order that was found
-pub found_least : (a : FreeAreas) (class : Class) (wanted count found : ℕ) → Some found ≡ least_order a class wanted count → IsOrderAmong wanted count found
-found_least a class wanted count found e = subst (λ (o : Option ℕ). IfSome o (IsOrderAmong wanted count)) (sym e) (least_order-among a class wanted count)
+pub found_least : (a : FreeAreas) (class : Class) (wanted count found : ℕ)
+    → Some found ≡ least_order a class wanted count → IsOrderAmong wanted count found
+found_least a class wanted count found e =
+    subst (λ (o : Option ℕ). IfSome o (IsOrderAmong wanted count)) (sym e)
+    (least_order-among a class wanted count)
 
 -- the block taken is the front one of the order found
-pub take_block-found : (l : LayoutParts) (a : FreeAreas) (class : Class) (wanted found : ℕ) → Some found ≡ least_order a class wanted (l.order + 1 - wanted)
+pub take_block-found : (l : LayoutParts) (a : FreeAreas) (class : Class) (wanted found : ℕ)
+    → Some found ≡ least_order a class wanted (l.order + 1 - wanted)
     → take_block l a class wanted ≡ take_front a class class found wanted
 unfolding take_block
-take_block-found l a class wanted found e = ap (λ (o : Option ℕ). option_and_then (λ order. take_front a class class order wanted) o) (sym e)
+take_block-found l a class wanted found e =
+    ap (λ (o : Option ℕ). option_and_then (λ order. take_front a class class order wanted) o) (sym e)
 
 -- no order, no block
-pub take_block-none : (l : LayoutParts) (a : FreeAreas) (class : Class) (wanted : ℕ) → None ≡ least_order a class wanted (l.order + 1 - wanted) → take_block l a class wanted ≡ None
+pub take_block-none : (l : LayoutParts) (a : FreeAreas) (class : Class) (wanted : ℕ)
+    → None ≡ least_order a class wanted (l.order + 1 - wanted) → take_block l a class wanted ≡ None
 unfolding take_block
-take_block-none l a class wanted e = ap (λ (o : Option ℕ). option_and_then (λ order. take_front a class class order wanted) o) (sym e)
+take_block-none l a class wanted e =
+    ap (λ (o : Option ℕ). option_and_then (λ order. take_front a class class order wanted) o) (sym e)
 
 -- ---- buddies that leave
 
@@ -183,22 +226,29 @@ pub record IsBuddyFree (l : LayoutParts) (now : FreeAreas) (class : Class) (orde
   pub free : is_on other (free_list now class order) ≡ true
 
 -- the buddy of an order is a frame, and free when its turn comes
-pub buddy_free : (l : LayoutParts) (a now : FreeAreas) (class : Class) (frame first order half other : ℕ) → first ≤ order → order < l.order → frame < frame_count l
-    → half ≡ ancestor frame order → other ≡ buddy half order → now ≡ without_buddies a class frame first (order - first)
-    → is_on (buddy (ancestor frame order) order) (free_list a class order) ≡ true → IsBuddyFree l now class order other
+pub buddy_free : (l : LayoutParts) (a now : FreeAreas) (class : Class) (frame first order half other : ℕ)
+    → first ≤ order → order < l.order → frame < frame_count l
+    → half ≡ ancestor frame order → other ≡ buddy half order
+    → now ≡ without_buddies a class frame first (order - first)
+    → is_on (buddy (ancestor frame order) order) (free_list a class order) ≡ true
+    → IsBuddyFree l now class order other
 buddy_free l a now class frame first order half other low below inside half_is other_is is on =
-    let place : other ≡ buddy (ancestor frame order) order = other_is ∙ ap (λ (n : ℕ). buddy n order) half_is in
+    let place : other ≡ buddy (ancestor frame order) order =
+    other_is ∙ ap (λ (n : ℕ). buddy n order) half_is in
     record {
       inside = subst (λ (n : ℕ). n < frame_count l) (sym place) (buddy_within l frame order inside below);
       free =
           subst (λ (b : FreeAreas). is_on other (free_list b class order) ≡ true) (sym is)
-          (subst (λ (xs : List ℕ). is_on other xs ≡ true) (sym (without_buddies-other a class frame first (order - first) order (omega arith)))
+          (subst (λ (xs : List ℕ). is_on other xs ≡ true)
+          (sym (without_buddies-other a class frame first (order - first) order (omega arith)))
           (subst (λ (n : ℕ). is_on n (free_list a class order) ≡ true) (sym place) on));
     }
 
 -- without one buddy more
-pub buddies_next : (a now new : FreeAreas) (class : Class) (frame first order half other : ℕ) → first ≤ order → half ≡ ancestor frame order → other ≡ buddy half order
-    → now ≡ without_buddies a class frame first (order - first) → new ≡ without_free now class order other → new ≡ without_buddies a class frame first (order + 1 - first)
+pub buddies_next : (a now new : FreeAreas) (class : Class) (frame first order half other : ℕ) → first ≤ order
+    → half ≡ ancestor frame order → other ≡ buddy half order
+    → now ≡ without_buddies a class frame first (order - first) → new ≡ without_free now class order other
+    → new ≡ without_buddies a class frame first (order + 1 - first)
 buddies_next a now new class frame first order half other low half_is other_is is left =
     left ∙ ap (λ (n : ℕ). without_free now class order n) (other_is ∙ ap (λ (n : ℕ). buddy n order) half_is)
     ∙ ap (λ (b : FreeAreas). without_free b class order (buddy (ancestor frame order) order)) is
@@ -207,75 +257,101 @@ buddies_next a now new class frame first order half other low half_is other_is i
 -- ---- blocks that were taken off a front
 
 -- what was taken is a block that was free
-pub front_takes : (l : LayoutParts) (a : FreeAreas) (class rest : Class) (order wanted : ℕ) (taken : Taken) → AreApart l a → order ≤ l.order → wanted ≤ order
+pub front_takes : (l : LayoutParts) (a : FreeAreas) (class rest : Class) (order wanted : ℕ) (taken : Taken)
+    → AreApart l a → order ≤ l.order → wanted ≤ order
     → take_front a class rest order wanted ≡ Some taken → Takes l a wanted taken
 front_takes l a class rest order wanted taken h low w e =
-    subst (λ (o : Option Taken). IfSome o (Takes l a wanted)) e (take_first-takes l a class rest order wanted (free_list a class order) refl low w h)
+    subst (λ (o : Option Taken). IfSome o (Takes l a wanted)) e
+    (take_first-takes l a class rest order wanted (free_list a class order) refl low w h)
 
 -- and its first frame is one
-pub taken_frame : (l m : LayoutParts) (a : FreeAreas) (class rest : Class) (order wanted : ℕ) (taken : Taken) → AreApart l a → order ≤ l.order → wanted ≤ order → m ≡ l
+pub taken_frame : (l m : LayoutParts) (a : FreeAreas) (class rest : Class) (order wanted : ℕ) (taken : Taken)
+    → AreApart l a → order ≤ l.order → wanted ≤ order → m ≡ l
     → take_front a class rest order wanted ≡ Some taken → taken.frame < frame_count m
 taken_frame l m a class rest order wanted taken h low w same e =
     let some : 0 < 2 ^ wanted = pow_pos wanted in
-    subst (λ (k : LayoutParts). taken.frame < frame_count k) (sym same) (omega (arith, (front_takes l a class rest order wanted taken h low w e).block.within))
+    subst (λ (k : LayoutParts). taken.frame < frame_count k) (sym same)
+    (omega (arith, (front_takes l a class rest order wanted taken h low w e).block.within))
 
 -- ---- a block comes back
 
 -- the order that it joins up to
-pub joins_to : (l : LayoutParts) (a : FreeAreas) (class : Class) (frame order joined : ℕ) → joined ≡ join_order a class frame order (l.order - order) → JoinsTo a class frame order (l.order - order) joined
+pub joins_to : (l : LayoutParts) (a : FreeAreas) (class : Class) (frame order joined : ℕ)
+    → joined ≡ join_order a class frame order (l.order - order)
+    → JoinsTo a class frame order (l.order - order) joined
 joins_to l a class frame order joined e =
-    subst (λ (n : ℕ). JoinsTo a class frame order (l.order - order) n) (sym e) (join_order-joins a class frame order (l.order - order))
+    subst (λ (n : ℕ). JoinsTo a class frame order (l.order - order) n) (sym e)
+    (join_order-joins a class frame order (l.order - order))
 
 -- the block that it joins to, when the buddies have left
-pub joined_left : (l : LayoutParts) (a mid : FreeAreas) (class : Class) (frame order joined : ℕ) → MayBeGiven l a order frame → AreApart l a
-    → joined ≡ join_order a class frame order (l.order - order) → mid ≡ without_buddies a class frame order (joined - order) → IsLeft l mid joined (ancestor frame joined)
+pub joined_left : (l : LayoutParts) (a mid : FreeAreas) (class : Class) (frame order joined : ℕ)
+    → MayBeGiven l a order frame → AreApart l a
+    → joined ≡ join_order a class frame order (l.order - order)
+    → mid ≡ without_buddies a class frame order (joined - order) → IsLeft l mid joined (ancestor frame joined)
 joined_left l a mid class frame order joined block h e is =
     let j = joins_up l a class frame order joined block h (joins_to l a class frame order joined e) in
-    subst (λ (b : FreeAreas). IsLeft l b joined (ancestor frame joined)) (sym is) (record { apart = j.apart; rest = j.block })
+    subst (λ (b : FreeAreas). IsLeft l b joined (ancestor frame joined)) (sym is)
+    (record { apart = j.apart; rest = j.block })
 
 -- it was given
-pub block_given : (l : LayoutParts) (a mid new : FreeAreas) (zone : Zone) (class : Class) (frame order joined top : ℕ) → class ≡ class_of l a zone frame
-    → joined ≡ join_order a class frame order (l.order - order) → mid ≡ without_buddies a class frame order (joined - order) → top ≡ ancestor frame joined
+pub block_given : (l : LayoutParts) (a mid new : FreeAreas) (zone : Zone) (class : Class)
+    (frame order joined top : ℕ)
+    → class ≡ class_of l a zone frame
+    → joined ≡ join_order a class frame order (l.order - order)
+    → mid ≡ without_buddies a class frame order (joined - order) → top ≡ ancestor frame joined
     → new ≡ with_front mid class joined top → new ≡ give_block l a zone frame order
 unfolding give_block
 block_given l a mid new zone class frame order joined top class_is joined_is is top_is pushed =
     pushed
     ∙ ap (λ (n : ℕ). with_front mid class joined n) top_is
     ∙ ap (λ (b : FreeAreas). with_front b class joined (ancestor frame joined)) is
-    ∙ ap (λ (n : ℕ). with_front (without_buddies a class frame order (n - order)) class n (ancestor frame n)) joined_is
-    ∙ ap (λ (c : Class). with_front (without_buddies a c frame order (join_order a c frame order (l.order - order) - order)) c (join_order a c frame order (l.order - order)) (ancestor frame (join_order a c frame order (l.order - order)))) class_is
+    ∙ ap (λ (n : ℕ). with_front (without_buddies a class frame order (n - order)) class n (ancestor frame n))
+    joined_is
+    ∙ ap (λ (c : Class). with_front (without_buddies a c frame order
+    (join_order a c frame order (l.order - order) - order)) c (join_order a c frame order
+    (l.order - order)) (ancestor frame (join_order a c frame order (l.order - order)))) class_is
 
 -- a buddy is a frame
-pub frame_is_buddy : (l : LayoutParts) (frame order half other : ℕ) → frame < frame_count l → order < l.order → half ≡ ancestor frame order → other ≡ buddy half order → other < frame_count l
+pub frame_is_buddy : (l : LayoutParts) (frame order half other : ℕ) → frame < frame_count l → order < l.order
+    → half ≡ ancestor frame order → other ≡ buddy half order → other < frame_count l
 frame_is_buddy l frame order half other inside below half_is other_is =
-    subst (λ (n : ℕ). n < frame_count l) (sym (other_is ∙ ap (λ (n : ℕ). buddy n order) half_is)) (buddy_within l frame order inside below)
+    subst (λ (n : ℕ). n < frame_count l) (sym (other_is ∙ ap (λ (n : ℕ). buddy n order) half_is))
+    (buddy_within l frame order inside below)
 
 -- ---- the order that is found
 
 -- what is said of a block taken off a front is said of the block taken
-pub as_taken : (o : Option ℕ) (a : FreeAreas) (x y : Option Taken) → x ≡ y → MatchOption o (y ≡ None) (λ f. y ≡ Some (record { areas = a; frame = f }))
+pub as_taken : (o : Option ℕ) (a : FreeAreas) (x y : Option Taken) → x ≡ y
+    → MatchOption o (y ≡ None) (λ f. y ≡ Some (record { areas = a; frame = f }))
     → MatchOption o (x ≡ None) (λ f. x ≡ Some (record { areas = a; frame = f }))
 as_taken None a x y e h = e ∙ h
 as_taken (Some f) a x y e h = e ∙ h
 
 -- the order that is stolen from
-pub found_greatest : (a : FreeAreas) (class : Class) (wanted count found : ℕ) → Some found ≡ greatest_order a class wanted count → IsOrderAmong wanted count found
-found_greatest a class wanted count found e = subst (λ (o : Option ℕ). IfSome o (IsOrderAmong wanted count)) (sym e) (greatest_order-among a class wanted count)
+pub found_greatest : (a : FreeAreas) (class : Class) (wanted count found : ℕ)
+    → Some found ≡ greatest_order a class wanted count → IsOrderAmong wanted count found
+found_greatest a class wanted count found e =
+    subst (λ (o : Option ℕ). IfSome o (IsOrderAmong wanted count)) (sym e)
+    (greatest_order-among a class wanted count)
 
 -- the class that is stolen from
 abbrev pub stolen_class : Mobility → Class
 stolen_class mobility = usable_class NormalZone (other_mobility mobility)
 
 -- the block stolen is the front one of the order found
-pub steal_block-found : (l : LayoutParts) (a : FreeAreas) (mobility : Mobility) (from : Class) (wanted found : ℕ) → from ≡ stolen_class mobility
-    → Some found ≡ greatest_order a from wanted (l.order + 1 - wanted) → steal_block l a mobility wanted ≡ steal_front l a mobility found wanted
+pub steal_block-found : (l : LayoutParts) (a : FreeAreas) (mobility : Mobility) (from : Class)
+    (wanted found : ℕ)
+    → from ≡ stolen_class mobility
+    → Some found ≡ greatest_order a from wanted (l.order + 1 - wanted)
+    → steal_block l a mobility wanted ≡ steal_front l a mobility found wanted
 unfolding steal_block
 steal_block-found l a mobility from wanted found same e =
     ap (λ (o : Option ℕ). option_and_then (λ order. steal_front l a mobility order wanted) o)
     (sym (e ∙ ap (λ (c : Class). greatest_order a c wanted (l.order + 1 - wanted)) same))
 
 -- no order, no block
-pub steal_block-none : (l : LayoutParts) (a : FreeAreas) (mobility : Mobility) (from : Class) (wanted : ℕ) → from ≡ stolen_class mobility
+pub steal_block-none : (l : LayoutParts) (a : FreeAreas) (mobility : Mobility) (from : Class) (wanted : ℕ)
+    → from ≡ stolen_class mobility
     → None ≡ greatest_order a from wanted (l.order + 1 - wanted) → steal_block l a mobility wanted ≡ None
 unfolding steal_block
 steal_block-none l a mobility from wanted same e =

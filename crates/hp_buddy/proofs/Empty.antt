@@ -13,7 +13,8 @@ pub some-pageblocks : (l : LayoutParts) → IsLayout l → 1 ≤ l.pageblocks
 some-pageblocks l h = subst (λ (n : ℕ). 1 ≤ n) (sym h.pageblocks.2) (pow_pos h.pageblocks.0)
 
 -- the first pageblock
-pub first_block : (l : LayoutParts) → 1 ≤ l.blocks → 1 ≤ l.pageblocks → MayBeGiven l (empty_areas l) l.order (0 * pageblock_size l)
+pub first_block : (l : LayoutParts) → 1 ≤ l.blocks → 1 ≤ l.pageblocks
+    → MayBeGiven l (empty_areas l) l.order (0 * pageblock_size l)
 first_block l blocks pageblocks =
     let one = mul-le-mul_right {m = 1} {n = l.pageblocks} (2 ^ l.order) pageblocks in
     let all = mul-le-mul_right {m = 1} {n = l.blocks} (l.pageblocks * 2 ^ l.order) blocks in

@@ -41,7 +41,8 @@ on_contains f (x ∷ xs) on = elim (on_cases f x xs on) [
 ]
 
 -- a frame of no free block is on no list
-pub unlisted : (links : LinkedLists) (kinds : List Kind) (f : ℕ) → free_places (areas_of links kinds) f ≡ 0 → IsUnlisted links f
+pub unlisted : (links : LinkedLists) (kinds : List Kind) (f : ℕ) → free_places (areas_of links kinds) f ≡ 0
+    → IsUnlisted links f
 unlisted links kinds f none n on =
     let there : is_on f (get_or links.lists n []) ≡ true = contains_on f (get_or links.lists n []) on in
     elim (cases_lt n (length links.lists)) [
@@ -52,17 +53,25 @@ unlisted links kinds f none n on =
             on-places f (n / 5) (get_or links.lists n []) there,
             places_from-set f 0 n n links.lists [] (omega arith) below,
           )
-      | inr past ↦ both_ways (is_on f []) refl (subst (λ (xs : List ℕ). is_on f xs ≡ true) (get_or_past links.lists n [] past) there)
+      | inr past ↦
+          both_ways (is_on f []) refl
+          (subst (λ (xs : List ℕ). is_on f xs ≡ true) (get_or_past links.lists n [] past) there)
     ]
 
 -- a frame on no list isn't on any
-pub off_list : (links : LinkedLists) (f n : ℕ) → IsUnlisted links f → is_on f (get_or links.lists n []) ≡ false
-off_list links f n none = false_from_ne_true (is_on f (get_or links.lists n [])) (λ on. none n (on_contains f (get_or links.lists n []) on))
+pub off_list : (links : LinkedLists) (f n : ℕ) → IsUnlisted links f
+    → is_on f (get_or links.lists n []) ≡ false
+off_list links f n none =
+    false_from_ne_true (is_on f (get_or links.lists n []))
+    (λ on. none n (on_contains f (get_or links.lists n []) on))
 
 -- nor on all
-pub off_all : (f : ℕ) (lists : List (List ℕ)) → ((n : ℕ) → is_on f (get_or lists n []) ≡ false) → list_all (λ other. not (is_on f other)) lists ≡ true
+pub off_all : (f : ℕ) (lists : List (List ℕ)) → ((n : ℕ) → is_on f (get_or lists n []) ≡ false)
+    → list_all (λ other. not (is_on f other)) lists ≡ true
 off_all f [] off = refl
-off_all f (frames ∷ lists) off = both (is_on f frames) (list_all (λ other. not (is_on f other)) lists) (off 0) (off_all f lists (λ n. off (suc n)))
+off_all f (frames ∷ lists) off =
+    both (is_on f frames) (list_all (λ other. not (is_on f other)) lists) (off 0)
+    (off_all f lists (λ n. off (suc n)))
   where
     both : (a b : Bool) → a ≡ false → b ≡ true → (not a && b) ≡ true
     both true b e h = cc
@@ -71,20 +80,25 @@ off_all f (frames ∷ lists) off = both (is_on f frames) (list_all (λ other. no
 -- ---- a frame leaves its list, and comes back
 
 -- a frame that leaves a list leaves it whole
-pub without-same : (f : ℕ) (xs : List ℕ) → is_on f (without_first f xs) ≡ false → without_first f xs ≡ without f xs
+pub without-same : (f : ℕ) (xs : List ℕ) → is_on f (without_first f xs) ≡ false
+    → without_first f xs ≡ without f xs
 without-same f [] off = refl
 without-same f (x ∷ xs) off = step (x == f) f x xs refl off (without-same f xs)
   where
-    step : (same : Bool) (f x : ℕ) (xs : List ℕ) → (x == f) ≡ same → is_on f (cond same xs (x ∷ without_first f xs)) ≡ false
-        → (is_on f (without_first f xs) ≡ false → without_first f xs ≡ without f xs) → cond same xs (x ∷ without_first f xs) ≡ cond (not same) (x ∷ without f xs) (without f xs)
+    step : (same : Bool) (f x : ℕ) (xs : List ℕ) → (x == f) ≡ same
+        → is_on f (cond same xs (x ∷ without_first f xs)) ≡ false
+        → (is_on f (without_first f xs) ≡ false → without_first f xs ≡ without f xs)
+        → cond same xs (x ∷ without_first f xs) ≡ cond (not same) (x ∷ without f xs) (without f xs)
     step true f x xs e off rest = sym (is_on-none f xs off)
     step false f x xs e off rest = ap (λ (ys : List ℕ). x ∷ ys) (rest (rw e at off))
 
 -- both say the same of a frame put after another
-pub put_behind-same : (after : Option ℕ) (f : ℕ) (xs : List ℕ) → put_behind after f xs ≡ with_behind after f xs
+pub put_behind-same : (after : Option ℕ) (f : ℕ) (xs : List ℕ)
+    → put_behind after f xs ≡ with_behind after f xs
 put_behind-same None f xs = refl
 put_behind-same (Some after) f [] = refl
-put_behind-same (Some after) f (x ∷ xs) = ap (λ (ys : List ℕ). cond (x == after) (x ∷ f ∷ xs) (x ∷ ys)) (put_behind-same (Some after) f xs)
+put_behind-same (Some after) f (x ∷ xs) =
+    ap (λ (ys : List ℕ). cond (x == after) (x ∷ f ∷ xs) (x ∷ ys)) (put_behind-same (Some after) f xs)
 
 -- ---- lists without duplicates
 
@@ -107,11 +121,14 @@ last-is x (y ∷ ys) =
     record { frame = rest.frame; is = rest.is; on = on_tail rest.frame x (y ∷ ys) rest.on }
 
 -- after the last frame
-behind-last_from : (x f : ℕ) (xs : List ℕ) → AreDistinct (x ∷ xs) → is_behind (last_from (Some x) xs) f (x ∷ (xs ++ f ∷ [])) ≡ true
+behind-last_from : (x f : ℕ) (xs : List ℕ) → AreDistinct (x ∷ xs)
+    → is_behind (last_from (Some x) xs) f (x ∷ (xs ++ f ∷ [])) ≡ true
 behind-last_from x f [] d = cond-true (x == x) (f == f) _ (eq-eqb x x refl) ∙ eq-eqb f f refl
 behind-last_from x f (y ∷ ys) d =
     let rest = last-is y ys in
-    let other : (x == rest.frame) ≡ false = ne_eqb x rest.frame (λ same. both_ways (is_on x (y ∷ ys)) d.0 (subst (λ (z : ℕ). is_on z (y ∷ ys) ≡ true) (sym same) rest.on)) in
+    let other : (x == rest.frame) ≡ false =
+    ne_eqb x rest.frame (λ same.
+    both_ways (is_on x (y ∷ ys)) d.0 (subst (λ (z : ℕ). is_on z (y ∷ ys) ≡ true) (sym same) rest.on)) in
     ap (λ (o : Option ℕ). is_behind o f (x ∷ y ∷ (ys ++ f ∷ []))) rest.is
     ∙ cond-false (x == rest.frame) _ (is_behind (Some rest.frame) f (y ∷ (ys ++ f ∷ []))) other
     ∙ ap (λ (o : Option ℕ). is_behind o f (y ∷ (ys ++ f ∷ []))) (sym rest.is)
@@ -124,14 +141,17 @@ behind-last f (x ∷ xs) d = behind-last_from x f xs d
 
 -- a frame that was at the front, or at the back, leaves the list as it was
 pub without-front : (f : ℕ) (xs : List ℕ) → is_on f xs ≡ false → without f (f ∷ xs) ≡ xs
-without-front f xs off = cond-false (not (f == f)) (f ∷ without f xs) (without f xs) (ap not (eq-eqb f f refl)) ∙ is_on-none f xs off
+without-front f xs off =
+    cond-false (not (f == f)) (f ∷ without f xs) (without f xs) (ap not (eq-eqb f f refl))
+    ∙ is_on-none f xs off
 
 -- and at the back
 pub without-back : (f : ℕ) (xs : List ℕ) → is_on f xs ≡ false → without f (xs ++ f ∷ []) ≡ xs
 without-back f [] off = without-front f [] refl
 without-back f (x ∷ xs) off = step (x == f) f x xs off (without-back f xs)
   where
-    step : (same : Bool) (f x : ℕ) (xs : List ℕ) → (same || is_on f xs) ≡ false → (is_on f xs ≡ false → without f (xs ++ f ∷ []) ≡ xs)
+    step : (same : Bool) (f x : ℕ) (xs : List ℕ) → (same || is_on f xs) ≡ false
+        → (is_on f xs ≡ false → without f (xs ++ f ∷ []) ≡ xs)
         → cond (not same) (x ∷ without f (xs ++ f ∷ [])) (without f (xs ++ f ∷ [])) ≡ x ∷ xs
     step true f x xs off rest = cc
     step false f x xs off rest = ap (λ (ys : List ℕ). x ∷ ys) (rest off)

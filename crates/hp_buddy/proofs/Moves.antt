@@ -33,7 +33,8 @@ pub record IsOut (l : LayoutParts) (mid : FreeAreas) (order first : ℕ) : Type 
   pub block : MayBeGiven l mid order first
 
 -- by its list
-pub taken_out : (l : LayoutParts) (a : FreeAreas) (class : Class) (order f : ℕ) → order ≤ l.order → is_on f (free_list a class order) ≡ true → AreApart l a
+pub taken_out : (l : LayoutParts) (a : FreeAreas) (class : Class) (order f : ℕ) → order ≤ l.order
+    → is_on f (free_list a class order) ≡ true → AreApart l a
     → IsOut l (without_free a class order f) order f
 taken_out l a class order f low on h = record {
   apart = without_free-apart l a class order f low h;
@@ -42,12 +43,18 @@ taken_out l a class order f low on h = record {
     aligned = h.aligned class order f on;
     within = h.areas.free class order f on;
     unfree = λ frame below above.
-        omega (arith, without_free-places a class order f frame (has_order l a order h low) (h.once f) on, h.once frame, covered-in frame order f below above);
+        omega (
+          arith,
+          without_free-places a class order f frame (has_order l a order h low) (h.once f) on,
+          h.once frame,
+          covered-in frame order f below above,
+        );
   };
 }
 
 -- by whether it is free
-one-moves : (l : LayoutParts) (a : FreeAreas) (from to : Class) (order f : ℕ) (on : Bool) → is_on f (free_list a from order) ≡ on → order ≤ l.order → AreApart l a
+one-moves : (l : LayoutParts) (a : FreeAreas) (from to : Class) (order f : ℕ) (on : Bool)
+    → is_on f (free_list a from order) ≡ on → order ≤ l.order → AreApart l a
     → Moves l a (cond on (with_back (without_free a from order f) to order f) a)
 one-moves l a from to order f true is low h =
     let out : IsOut l (without_free a from order f) order f = taken_out l a from order f low is h in
@@ -55,26 +62,31 @@ one-moves l a from to order f true is low h =
       apart = back-apart l (without_free a from order f) to order f out.block out.apart;
       places = λ frame. omega (
         arith,
-        with_back-places (without_free a from order f) to order f frame (has_order l (without_free a from order f) order out.apart low),
+        with_back-places (without_free a from order f) to order f frame
+            (has_order l (without_free a from order f) order out.apart low),
         without_free-places a from order f frame (has_order l a order h low) (h.once f) is,
       );
     }
 one-moves l a from to order f false is low h = record { apart = h; places = λ frame. refl }
 
 -- one block moves
-pub move_one-moves : (l : LayoutParts) (a : FreeAreas) (from to : Class) (order f : ℕ) → order ≤ l.order → AreApart l a → Moves l a (move_one a from to order f)
-move_one-moves l a from to order f low h = one-moves l a from to order f (is_on f (free_list a from order)) refl low h
+pub move_one-moves : (l : LayoutParts) (a : FreeAreas) (from to : Class) (order f : ℕ) → order ≤ l.order
+    → AreApart l a → Moves l a (move_one a from to order f)
+move_one-moves l a from to order f low h =
+    one-moves l a from to order f (is_on f (free_list a from order)) refl low h
 
 -- and then others
 pub moves-then : (l : LayoutParts) (a b c : FreeAreas) → Moves l a b → Moves l b c → Moves l a c
 moves-then l a b c h k = record { apart = k.apart; places = λ frame. k.places frame ∙ h.places frame }
 
 -- so many frames from the first one on
-pub move_first-moves : (l : LayoutParts) (a : FreeAreas) (from to : Class) (order first count : ℕ) → order ≤ l.order → AreApart l a → Moves l a (move_first a from to order first count)
+pub move_first-moves : (l : LayoutParts) (a : FreeAreas) (from to : Class) (order first count : ℕ)
+    → order ≤ l.order → AreApart l a → Moves l a (move_first a from to order first count)
 move_first-moves l a from to order first zero low h = record { apart = h; places = λ frame. refl }
 move_first-moves l a from to order first (suc count) low h =
     let before = move_first-moves l a from to order first count low h in
-    moves-then l a (move_first a from to order first count) (move_first a from to order first (suc count)) before
+    moves-then l a (move_first a from to order first count) (move_first a from to order first (suc count))
+    before
     (move_one-moves l (move_first a from to order first count) from to order (first + count) low before.apart)
 
 -- ---- the frames of a list that are in a range, and those that are not
@@ -92,32 +104,42 @@ abbrev pub going : List ℕ → (first count : ℕ) → List ℕ
 going frames first count = filter (λ f. is_on f frames) (range_with_len first count)
 
 -- one more leaves
-filter-both : (p q r : ℕ → Bool) (xs : List ℕ) → ((x : ℕ) → (p x && q x) ≡ r x) → filter q (filter p xs) ≡ filter r xs
+filter-both : (p q r : ℕ → Bool) (xs : List ℕ) → ((x : ℕ) → (p x && q x) ≡ r x)
+    → filter q (filter p xs) ≡ filter r xs
 filter-both p q r [] e = refl
 filter-both p q r (x ∷ xs) e = step (p x) (r x) (e x) (filter-both p q r xs e)
   where
-    step : (a c : Bool) → (a && q x) ≡ c → filter q (filter p xs) ≡ filter r xs → filter q (cond a (x ∷ filter p xs) (filter p xs)) ≡ cond c (x ∷ filter r xs) (filter r xs)
+    step : (a c : Bool) → (a && q x) ≡ c → filter q (filter p xs) ≡ filter r xs
+        → filter q (cond a (x ∷ filter p xs) (filter p xs)) ≡ cond c (x ∷ filter r xs) (filter r xs)
     step true c f h =
-        ap (λ (b : Bool). cond b (x ∷ filter q (filter p xs)) (filter q (filter p xs))) f ∙ ap (λ (ys : List ℕ). cond c (x ∷ ys) ys) h
+        ap (λ (b : Bool). cond b (x ∷ filter q (filter p xs)) (filter q (filter p xs))) f
+        ∙ ap (λ (ys : List ℕ). cond c (x ∷ ys) ys) h
     step false c f h = h ∙ ap (λ (b : Bool). cond b (x ∷ filter r xs) (filter r xs)) f
 
 -- one more leaves
-staying-more : (frames : List ℕ) (first count : ℕ) → without (first + count) (staying frames first count) ≡ staying frames first (suc count)
+staying-more : (frames : List ℕ) (first count : ℕ)
+    → without (first + count) (staying frames first count) ≡ staying frames first (suc count)
 staying-more frames first count =
-    filter-both (λ f. not (is_among first count f)) (λ f. not (f == first + count)) (λ f. not (is_among first (suc count) f)) frames (λ f. one f first count)
+    filter-both (λ f. not (is_among first count f)) (λ f. not (f == first + count))
+    (λ f. not (is_among first (suc count) f)) frames (λ f. one f first count)
   where
-    one : (f first count : ℕ) → (not (is_among first count f) && not (f == first + count)) ≡ not (is_among first (suc count) f)
+    one : (f first count : ℕ)
+        → (not (is_among first count f) && not (f == first + count)) ≡ not (is_among first (suc count) f)
     one f first count = grind (arith, nat_tests)
 
 -- a range with one more
-range_more : (first count : ℕ) → range_with_len first (suc count) ≡ range_with_len first count ++ (first + count) ∷ []
+range_more : (first count : ℕ)
+    → range_with_len first (suc count) ≡ range_with_len first count ++ (first + count) ∷ []
 range_more first zero = ap (λ (n : ℕ). n ∷ []) (sym (add-zero first))
 range_more first (suc count) =
     let sum : first + 1 + count ≡ first + suc count = omega arith in
-    ap (λ (ns : List ℕ). first ∷ ns) (range_more (first + 1) count ∙ ap (λ (n : ℕ). range_with_len (first + 1) count ++ n ∷ []) sum)
+    ap (λ (ns : List ℕ). first ∷ ns)
+    (range_more (first + 1) count ∙ ap (λ (n : ℕ). range_with_len (first + 1) count ++ n ∷ []) sum)
 
 -- one more goes
-going-more : (frames : List ℕ) (first count : ℕ) → going frames first (suc count) ≡ going frames first count ++ cond (is_on (first + count) frames) ((first + count) ∷ []) []
+going-more : (frames : List ℕ) (first count : ℕ)
+    → going frames first (suc count)
+    ≡ going frames first count ++ cond (is_on (first + count) frames) ((first + count) ∷ []) []
 going-more frames first count =
     ap (λ (ns : List ℕ). filter (λ f. is_on f frames) ns) (range_more first count)
     ∙ filter-append (λ f. is_on f frames) (range_with_len first count) ((first + count) ∷ [])
@@ -127,14 +149,17 @@ not_in_range : (x first count : ℕ) → first + count ≤ x → is_on x (range_
 not_in_range x first zero above = refl
 not_in_range x first (suc count) above =
     let other : first ≢ x = λ same. omega arith in
-    or_from (first == x) (is_on x (range_with_len (first + 1) count)) (ne_eqb first x other) (not_in_range x (first + 1) count (omega arith))
+    or_from (first == x) (is_on x (range_with_len (first + 1) count)) (ne_eqb first x other)
+    (not_in_range x (first + 1) count (omega arith))
 
 -- a number on no list is on no part of it
 off-filter : (x : ℕ) (p : ℕ → Bool) (xs : List ℕ) → is_on x xs ≡ false → is_on x (filter p xs) ≡ false
 off-filter x p [] off = refl
 off-filter x p (y ∷ ys) off = step (p y) (y == x) off (off-filter x p ys)
   where
-    step : (keep same : Bool) → (same || is_on x ys) ≡ false → (is_on x ys ≡ false → is_on x (filter p ys) ≡ false) → is_on x (cond keep (y ∷ filter p ys) (filter p ys)) ≡ false
+    step : (keep same : Bool) → (same || is_on x ys) ≡ false
+        → (is_on x ys ≡ false → is_on x (filter p ys) ≡ false)
+        → is_on x (cond keep (y ∷ filter p ys) (filter p ys)) ≡ false
     step keep true f h = cc
     step true false f h = or_from (y == x) (is_on x (filter p ys)) (first_off (y == x) (is_on x ys) off) (h f)
       where
@@ -145,22 +170,27 @@ off-filter x p (y ∷ ys) off = step (p y) (y == x) off (off-filter x p ys)
 
 -- the next one did not go
 going-off : (frames : List ℕ) (first count : ℕ) → is_on (first + count) (going frames first count) ≡ false
-going-off frames first count = off-filter (first + count) (λ f. is_on f frames) (range_with_len first count) (not_in_range (first + count) first count (omega arith))
+going-off frames first count =
+    off-filter (first + count) (λ f. is_on f frames) (range_with_len first count)
+    (not_in_range (first + count) first count (omega arith))
 
 -- a number that passes stays on the list
 on-filter : (x : ℕ) (p : ℕ → Bool) (xs : List ℕ) → p x ≡ true → is_on x (filter p xs) ≡ is_on x xs
 on-filter x p [] kept = refl
 on-filter x p (y ∷ ys) kept = step (p y) refl (on-filter x p ys kept)
   where
-    step : (keep : Bool) → p y ≡ keep → is_on x (filter p ys) ≡ is_on x ys → is_on x (cond keep (y ∷ filter p ys) (filter p ys)) ≡ ((y == x) || is_on x ys)
+    step : (keep : Bool) → p y ≡ keep → is_on x (filter p ys) ≡ is_on x ys
+        → is_on x (cond keep (y ∷ filter p ys) (filter p ys)) ≡ ((y == x) || is_on x ys)
     step true e h = ap (λ (b : Bool). (y == x) || b) h
     step false e h =
         let other : (y == x) ≡ false = ne_eqb y x (λ same. both_ways (p x) (ap p (sym same) ∙ e) kept) in
         h ∙ ap (λ (b : Bool). b || is_on x ys) (sym other)
 
 -- the next one stayed
-staying-on : (frames : List ℕ) (first count : ℕ) → is_on (first + count) (staying frames first count) ≡ is_on (first + count) frames
-staying-on frames first count = on-filter (first + count) (λ f. not (is_among first count f)) frames (past first count)
+staying-on : (frames : List ℕ) (first count : ℕ)
+    → is_on (first + count) (staying frames first count) ≡ is_on (first + count) frames
+staying-on frames first count =
+    on-filter (first + count) (λ f. not (is_among first count f)) frames (past first count)
   where
     past : (first count : ℕ) → not (is_among first count (first + count)) ≡ true
     past first count = grind (arith, nat_tests)
@@ -172,19 +202,23 @@ abbrev pub written : List (List ℕ) → (i j : ℕ) → (rest more : List ℕ) 
 written lists i j rest more = set (set lists i rest) j (get_or (set lists i rest) j [] ++ more)
 
 -- where both are one list
-written-same : (lists : List (List ℕ)) (i j : ℕ) (rest more : List ℕ) → i < length lists → i ≡ j → written lists i j rest more ≡ set lists i (rest ++ more)
+written-same : (lists : List (List ℕ)) (i j : ℕ) (rest more : List ℕ) → i < length lists → i ≡ j
+    → written lists i j rest more ≡ set lists i (rest ++ more)
 written-same lists i j rest more low same =
     ap (λ (n : ℕ). written lists i n rest more) (sym same)
     ∙ ap (λ (xs : List ℕ). set (set lists i rest) i (xs ++ more)) (get_or-set_same lists i rest [] low)
     ∙ set-set lists i rest (rest ++ more)
 
 -- where they are two
-written-apart : (lists : List (List ℕ)) (i j : ℕ) (rest more : List ℕ) → i ≢ j → written lists i j rest more ≡ set (set lists i rest) j (get_or lists j [] ++ more)
+written-apart : (lists : List (List ℕ)) (i j : ℕ) (rest more : List ℕ) → i ≢ j
+    → written lists i j rest more ≡ set (set lists i rest) j (get_or lists j [] ++ more)
 written-apart lists i j rest more ne =
-    ap (λ (xs : List ℕ). set (set lists i rest) j (xs ++ more)) (get_or-set_other lists i j rest [] (λ same. ne (sym same)))
+    ap (λ (xs : List ℕ). set (set lists i rest) j (xs ++ more))
+    (get_or-set_other lists i j rest [] (λ same. ne (sym same)))
 
 -- the first list then
-written-on : (lists : List (List ℕ)) (i j x : ℕ) (rest more : List ℕ) → i < length lists → j < length lists → is_on x more ≡ false
+written-on : (lists : List (List ℕ)) (i j x : ℕ) (rest more : List ℕ) → i < length lists → j < length lists
+    → is_on x more ≡ false
     → is_on x (get_or (written lists i j rest more) i []) ≡ is_on x rest
 written-on lists i j x rest more low high off = elim (cases_eq i j) [
   | inl same ↦
@@ -193,7 +227,8 @@ written-on lists i j x rest more low high off = elim (cases_eq i j) [
       ∙ list_any-append (λ f. f == x) rest more ∙ or_off (is_on x rest) (is_on x more) off
   | inr ne ↦
       ap (λ (xs : List ℕ). is_on x xs)
-      (get_or-set_other (set lists i rest) j i (get_or (set lists i rest) j [] ++ more) [] ne ∙ get_or-set_same lists i rest [] low)
+      (get_or-set_other (set lists i rest) j i (get_or (set lists i rest) j [] ++ more) [] ne
+      ∙ get_or-set_same lists i rest [] low)
 ]
   where
     or_off : (a b : Bool) → b ≡ false → (a || b) ≡ a
@@ -201,33 +236,47 @@ written-on lists i j x rest more low high off = elim (cases_eq i j) [
     or_off false b e = e
 
 -- without a number that is not on the second part
-without-append : (x : ℕ) (rest more : List ℕ) → is_on x more ≡ false → without x (rest ++ more) ≡ without x rest ++ more
-without-append x rest more off = filter-append (λ f. not (f == x)) rest more ∙ ap (λ (ys : List ℕ). without x rest ++ ys) (is_on-none x more off)
+without-append : (x : ℕ) (rest more : List ℕ) → is_on x more ≡ false
+    → without x (rest ++ more) ≡ without x rest ++ more
+without-append x rest more off =
+    filter-append (λ f. not (f == x)) rest more
+    ∙ ap (λ (ys : List ℕ). without x rest ++ ys) (is_on-none x more off)
 
 -- one frame more is moved
-written-more : (lists : List (List ℕ)) (i j x : ℕ) (rest more : List ℕ) → i < length lists → j < length lists → is_on x more ≡ false
-    → written (written lists i j rest more) i j (without x (get_or (written lists i j rest more) i [])) (x ∷ []) ≡ written lists i j (without x rest) (more ++ x ∷ [])
+written-more : (lists : List (List ℕ)) (i j x : ℕ) (rest more : List ℕ) → i < length lists → j < length lists
+    → is_on x more ≡ false
+    → written (written lists i j rest more) i j (without x (get_or (written lists i j rest more) i []))
+    (x ∷ []) ≡ written lists i j (without x rest) (more ++ x ∷ [])
 written-more lists i j x rest more low high off = elim (cases_eq i j) [
   | inl same ↦
-      ap (λ (ls : List (List ℕ)). written ls i j (without x (get_or ls i [])) (x ∷ [])) (written-same lists i j rest more low same)
-      ∙ ap (λ (xs : List ℕ). written (set lists i (rest ++ more)) i j (without x xs) (x ∷ [])) (get_or-set_same lists i (rest ++ more) [] low)
-      ∙ written-same (set lists i (rest ++ more)) i j (without x (rest ++ more)) (x ∷ []) (omega (arith, length-set lists i (rest ++ more))) same
+      ap (λ (ls : List (List ℕ)). written ls i j (without x (get_or ls i [])) (x ∷ []))
+      (written-same lists i j rest more low same)
+      ∙ ap (λ (xs : List ℕ). written (set lists i (rest ++ more)) i j (without x xs) (x ∷ []))
+      (get_or-set_same lists i (rest ++ more) [] low)
+      ∙ written-same (set lists i (rest ++ more)) i j (without x (rest ++ more)) (x ∷ [])
+      (omega (arith, length-set lists i (rest ++ more))) same
       ∙ set-set lists i (rest ++ more) (without x (rest ++ more) ++ x ∷ [])
       ∙ ap (λ (xs : List ℕ). set lists i (xs ++ x ∷ [])) (without-append x rest more off)
       ∙ ap (λ (xs : List ℕ). set lists i xs) (append_assoc (without x rest) more (x ∷ []))
       ∙ sym (written-same lists i j (without x rest) (more ++ x ∷ []) low same)
   | inr ne ↦
       let old : List ℕ = get_or lists j [] ++ more in
-      let here : get_or (set (set lists i rest) j old) i [] ≡ rest = get_or-set_other (set lists i rest) j i old [] ne ∙ get_or-set_same lists i rest [] low in
-      let there : get_or (set (set lists i rest) j old) j [] ≡ old = get_or-set_same (set lists i rest) j old [] (omega (arith, length-set lists i rest)) in
-      ap (λ (ls : List (List ℕ)). written ls i j (without x (get_or ls i [])) (x ∷ [])) (written-apart lists i j rest more ne)
+      let here : get_or (set (set lists i rest) j old) i [] ≡ rest =
+      get_or-set_other (set lists i rest) j i old [] ne ∙ get_or-set_same lists i rest [] low in
+      let there : get_or (set (set lists i rest) j old) j [] ≡ old =
+      get_or-set_same (set lists i rest) j old [] (omega (arith, length-set lists i rest)) in
+      ap (λ (ls : List (List ℕ)). written ls i j (without x (get_or ls i [])) (x ∷ []))
+      (written-apart lists i j rest more ne)
       ∙ ap (λ (xs : List ℕ). written (set (set lists i rest) j old) i j (without x xs) (x ∷ [])) here
       ∙ written-apart (set (set lists i rest) j old) i j (without x rest) (x ∷ []) ne
-      ∙ ap (λ (xs : List ℕ). set (set (set (set lists i rest) j old) i (without x rest)) j (xs ++ x ∷ [])) there
-      ∙ ap (λ (ls : List (List ℕ)). set ls j (old ++ x ∷ [])) (set_comm (set lists i rest) j i old (without x rest) (λ same. ne (sym same)))
+      ∙ ap (λ (xs : List ℕ). set (set (set (set lists i rest) j old) i (without x rest)) j (xs ++ x ∷ []))
+      there
+      ∙ ap (λ (ls : List (List ℕ)). set ls j (old ++ x ∷ []))
+      (set_comm (set lists i rest) j i old (without x rest) (λ same. ne (sym same)))
       ∙ set-set (set (set lists i rest) i (without x rest)) j old (old ++ x ∷ [])
       ∙ ap (λ (ls : List (List ℕ)). set ls j (old ++ x ∷ [])) (set-set lists i rest (without x rest))
-      ∙ ap (λ (xs : List ℕ). set (set lists i (without x rest)) j xs) (append_assoc (get_or lists j []) more (x ∷ []))
+      ∙ ap (λ (xs : List ℕ). set (set lists i (without x rest)) j xs)
+      (append_assoc (get_or lists j []) more (x ∷ []))
       ∙ sym (written-apart lists i j (without x rest) (more ++ x ∷ []) ne)
 ]
 
@@ -236,11 +285,16 @@ written-more lists i j x rest more low high off = elim (cases_eq i j) [
 -- the frames of a range that are on a list go to the back of another
 abbrev pub parted : FreeAreas → (from to : Class) → (order first count : ℕ) → FreeAreas
 parted a from to order first count =
-    record a { lists = written a.lists (5 * order + class_index from) (5 * order + class_index to) (staying (free_list a from order) first count) (going (free_list a from order) first count) }
+    record a {
+      lists = written a.lists (5 * order + class_index from) (5 * order + class_index to)
+          (staying (free_list a from order) first count) (going (free_list a from order) first count);
+    }
 
 -- one frame more
-parted-step : (a : FreeAreas) (from to : Class) (order first count : ℕ) (on : Bool) → HasOrder a order → is_on (first + count) (free_list a from order) ≡ on
-    → cond on (with_back (without_free (parted a from to order first count) from order (first + count)) to order (first + count)) (parted a from to order first count)
+parted-step : (a : FreeAreas) (from to : Class) (order first count : ℕ) (on : Bool) → HasOrder a order
+    → is_on (first + count) (free_list a from order) ≡ on
+    → cond on (with_back (without_free (parted a from to order first count) from order (first + count)) to
+    order (first + count)) (parted a from to order first count)
     ≡ parted a from to order first (suc count)
 parted-step a from to order first count true has is =
     let i : ℕ = 5 * order + class_index from in
@@ -248,10 +302,14 @@ parted-step a from to order first count true has is =
     let x : ℕ = first + count in
     let frames : List ℕ = free_list a from order in
     ap (λ (ls : List (List ℕ)). record a { lists = ls })
-    (written-more a.lists i j x (staying frames first count) (going frames first count) (omega (arith, has, class_index-lt from)) (omega (arith, has, class_index-lt to)) (going-off frames first count)
-    ∙ ap (λ (xs : List ℕ). written a.lists i j xs (going frames first count ++ x ∷ [])) (staying-more frames first count)
+    (written-more a.lists i j x (staying frames first count) (going frames first count)
+    (omega (arith, has, class_index-lt from)) (omega (arith, has, class_index-lt to))
+    (going-off frames first count)
+    ∙ ap (λ (xs : List ℕ). written a.lists i j xs (going frames first count ++ x ∷ []))
+    (staying-more frames first count)
     ∙ ap (λ (xs : List ℕ). written a.lists i j (staying frames first (suc count)) xs)
-    (ap (λ (b : Bool). going frames first count ++ cond b (x ∷ []) []) (sym is) ∙ sym (going-more frames first count)))
+    (ap (λ (b : Bool). going frames first count ++ cond b (x ∷ []) []) (sym is)
+    ∙ sym (going-more frames first count)))
 parted-step a from to order first count false has is =
     let i : ℕ = 5 * order + class_index from in
     let j : ℕ = 5 * order + class_index to in
@@ -259,23 +317,30 @@ parted-step a from to order first count false has is =
     let frames : List ℕ = free_list a from order in
     ap (λ (ls : List (List ℕ)). record a { lists = ls })
     (ap (λ (xs : List ℕ). written a.lists i j xs (going frames first count))
-    (sym (is_on-none x (staying frames first count) (staying-on frames first count ∙ is)) ∙ staying-more frames first count)
+    (sym (is_on-none x (staying frames first count) (staying-on frames first count ∙ is))
+    ∙ staying-more frames first count)
     ∙ ap (λ (xs : List ℕ). written a.lists i j (staying frames first (suc count)) xs)
-    (sym (append-nil (going frames first count)) ∙ ap (λ (b : Bool). going frames first count ++ cond b (x ∷ []) []) (sym is) ∙ sym (going-more frames first count)))
+    (sym (append-nil (going frames first count)) ∙ ap (λ (b : Bool).
+    going frames first count ++ cond b (x ∷ []) []) (sym is) ∙ sym (going-more frames first count)))
 
 -- whether the next one is free
 parted-on : (a : FreeAreas) (from to : Class) (order first count : ℕ) → HasOrder a order
-    → is_on (first + count) (free_list (parted a from to order first count) from order) ≡ is_on (first + count) (free_list a from order)
+    → is_on (first + count) (free_list (parted a from to order first count) from order)
+    ≡ is_on (first + count) (free_list a from order)
 parted-on a from to order first count has =
     let frames : List ℕ = free_list a from order in
-    written-on a.lists (5 * order + class_index from) (5 * order + class_index to) (first + count) (staying frames first count) (going frames first count)
-    (omega (arith, has, class_index-lt from)) (omega (arith, has, class_index-lt to)) (going-off frames first count)
+    written-on a.lists (5 * order + class_index from) (5 * order + class_index to) (first + count)
+    (staying frames first count) (going frames first count)
+    (omega (arith, has, class_index-lt from)) (omega (arith, has, class_index-lt to))
+    (going-off frames first count)
     ∙ staying-on frames first count
 
 -- all stay at first
 stay_all : (first : ℕ) (xs : List ℕ) → staying xs first zero ≡ xs
 stay_all first [] = refl
-stay_all first (x ∷ xs) = cond-true (not (is_among first zero x)) (x ∷ staying xs first zero) (staying xs first zero) (none first x) ∙ ap (λ (ys : List ℕ). x ∷ ys) (stay_all first xs)
+stay_all first (x ∷ xs) =
+    cond-true (not (is_among first zero x)) (x ∷ staying xs first zero) (staying xs first zero) (none first x)
+    ∙ ap (λ (ys : List ℕ). x ∷ ys) (stay_all first xs)
   where
     none : (first x : ℕ) → not (is_among first zero x) ≡ true
     none first x = grind (arith, nat_tests)
@@ -291,15 +356,20 @@ parted-none a from to order first =
     ∙ ap (λ (xs : List ℕ). set a.lists j xs) (append-nil (get_or a.lists j [])) ∙ set-get_or a.lists j [])
 
 -- one at a time is at once
-pub move_first-parted : (a : FreeAreas) (from to : Class) (order first count : ℕ) → HasOrder a order → move_first a from to order first count ≡ parted a from to order first count
+pub move_first-parted : (a : FreeAreas) (from to : Class) (order first count : ℕ) → HasOrder a order
+    → move_first a from to order first count ≡ parted a from to order first count
 move_first-parted a from to order first zero has = sym (parted-none a from to order first)
 move_first-parted a from to order first (suc count) has =
-    ap (λ (b : FreeAreas). move_one b from to order (first + count)) (move_first-parted a from to order first count has)
-    ∙ parted-step a from to order first count (is_on (first + count) (free_list (parted a from to order first count) from order)) has
+    ap (λ (b : FreeAreas). move_one b from to order (first + count))
+    (move_first-parted a from to order first count has)
+    ∙ parted-step a from to order first count
+    (is_on (first + count) (free_list (parted a from to order first count) from order)) has
     (sym (parted-on a from to order first count has))
 
 -- whether a frame is free when its turn comes is whether it was
 pub move_first-on : (a : FreeAreas) (from to : Class) (order first count : ℕ) → HasOrder a order
-    → is_on (first + count) (free_list (move_first a from to order first count) from order) ≡ is_on (first + count) (free_list a from order)
+    → is_on (first + count) (free_list (move_first a from to order first count) from order)
+    ≡ is_on (first + count) (free_list a from order)
 move_first-on a from to order first count has =
-    ap (λ (b : FreeAreas). is_on (first + count) (free_list b from order)) (move_first-parted a from to order first count has) ∙ parted-on a from to order first count has
+    ap (λ (b : FreeAreas). is_on (first + count) (free_list b from order))
+    (move_first-parted a from to order first count has) ∙ parted-on a from to order first count has

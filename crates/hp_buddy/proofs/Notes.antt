@@ -24,11 +24,15 @@ use Rattle.hp_lemmas.proofs.Lists.{on-places, covered-self, list_places-le}
 use Rattle.hp_buddy.proofs.Linked.{areas_of, unlisted, contains_on, on_contains, off_list, off_all, without-same, put_behind-same, AreDistinct, behind-last, without-front, without-back}
 
 -- one delta
-pub notes-one : (l : LayoutParts) (delta : Delta) (was now : TapeValue) (later earlier : FreeAreas) → now.room ≡ was.room → now.deltas ≡ was.deltas ++ delta ∷ []
-    → IsOfAreas delta → IsDeltaOf l delta → FitsAreas delta later → areas_undo delta later ≡ earlier → NotesAreas l 1 was now later earlier
+pub notes-one : (l : LayoutParts) (delta : Delta) (was now : TapeValue) (later earlier : FreeAreas)
+    → now.room ≡ was.room → now.deltas ≡ was.deltas ++ delta ∷ []
+    → IsOfAreas delta → IsDeltaOf l delta → FitsAreas delta later → areas_undo delta later ≡ earlier
+    → NotesAreas l 1 was now later earlier
 notes-one l delta was now later earlier room noted own numbers fits back = record {
   deltas = delta ∷ [];
-  tape = ap (λ (n : ℕ). record { room = n; deltas = now.deltas }) room ∙ ap (λ (ds : List Delta). record { room = was.room; deltas = ds }) noted;
+  tape =
+      ap (λ (n : ℕ). record { room = n; deltas = now.deltas }) room
+      ∙ ap (λ (ds : List Delta). record { room = was.room; deltas = ds }) noted;
   few = omega arith;
   own = (own, tt);
   numbers = (numbers, tt);
@@ -36,7 +40,8 @@ notes-one l delta was now later earlier room noted own numbers fits back = recor
 }
 
 -- the list of a class and an order of the layout is one of the lists
-pub list_in : (l : LayoutParts) (links : LinkedLists) (kinds : List Kind) (class : Class) (order : ℕ) → IsBuddyOf l links kinds → order ≤ l.order → 5 * order + class_index class < length links.lists
+pub list_in : (l : LayoutParts) (links : LinkedLists) (kinds : List Kind) (class : Class) (order : ℕ)
+    → IsBuddyOf l links kinds → order ≤ l.order → 5 * order + class_index class < length links.lists
 list_in l links kinds class order h low = omega (arith, h.list_count, class_index-lt class)
 
 -- two tests
@@ -49,92 +54,122 @@ both false b e h = cc
 -- what an unlink says
 pub record IsUnlinked (links new : LinkedLists) (f : ℕ) (after : Option ℕ) : Type 0 where
   pub free : IsUnlisted new f
-  pub one_list : (list : ℕ) → IsOn links list f → new ≡ with_list links list (without_first f (list_at links list))
+  pub one_list : (list : ℕ) → IsOn links list f
+      → new ≡ with_list links list (without_first f (list_at links list))
   pub before_on : (list : ℕ) → IsOn links list f → ForSome after (λ before. IsOn new list before)
-  pub undone : (list : ℕ) → IsOn links list f → with_list new list (with_behind after f (list_at new list)) ≡ links
+  pub undone : (list : ℕ) → IsOn links list f
+      → with_list new list (with_behind after f (list_at new list)) ≡ links
 
 -- the areas without the block
-pub unlink-areas : (l : LayoutParts) (links new : LinkedLists) (kinds : List Kind) (class : Class) (order f : ℕ) (after : Option ℕ) → IsBuddyOf l links kinds → order ≤ l.order
-    → is_on f (free_list (areas_of links kinds) class order) ≡ true → IsUnlinked links new f after → areas_of new kinds ≡ without_free (areas_of links kinds) class order f
+pub unlink-areas : (l : LayoutParts) (links new : LinkedLists) (kinds : List Kind) (class : Class)
+    (order f : ℕ) (after : Option ℕ)
+    → IsBuddyOf l links kinds → order ≤ l.order
+    → is_on f (free_list (areas_of links kinds) class order) ≡ true → IsUnlinked links new f after
+    → areas_of new kinds ≡ without_free (areas_of links kinds) class order f
 unlink-areas l links new kinds class order f after h low on u =
     let n : ℕ = 5 * order + class_index class in
     let xs : List ℕ = get_or links.lists n [] in
     let is : new ≡ with_list links n (without_first f xs) = u.one_list n (on_contains f xs on) in
     let here : get_or new.lists n [] ≡ without_first f xs =
-    ap (λ (k : LinkedLists). get_or k.lists n []) is ∙ get_or-set_same links.lists n (without_first f xs) [] (list_in l links kinds class order h low) in
-    let off : is_on f (without_first f xs) ≡ false = subst (λ (ys : List ℕ). is_on f ys ≡ false) here (off_list new f n u.free) in
-    ap (λ (k : LinkedLists). areas_of k kinds) is ∙ ap (λ (ys : List ℕ). areas_of (with_list links n ys) kinds) (without-same f xs off)
+    ap (λ (k : LinkedLists). get_or k.lists n []) is
+    ∙ get_or-set_same links.lists n (without_first f xs) [] (list_in l links kinds class order h low) in
+    let off : is_on f (without_first f xs) ≡ false =
+    subst (λ (ys : List ℕ). is_on f ys ≡ false) here (off_list new f n u.free) in
+    ap (λ (k : LinkedLists). areas_of k kinds) is
+    ∙ ap (λ (ys : List ℕ). areas_of (with_list links n ys) kinds) (without-same f xs off)
 
 -- a test of a frame after
-pub after-on : (after : Option ℕ) (xs : List ℕ) → ((b : ℕ) → after ≡ Some b → is_on b xs ≡ true) → option_map_or (λ first. is_on first xs) after true ≡ true
+pub after-on : (after : Option ℕ) (xs : List ℕ) → ((b : ℕ) → after ≡ Some b → is_on b xs ≡ true)
+    → option_map_or (λ first. is_on first xs) after true ≡ true
 after-on None xs h = refl
 after-on (Some b) xs h = h b refl
 
 -- and its delta
-pub unlink-notes : (l : LayoutParts) (links new : LinkedLists) (kinds : List Kind) (class : Class) (order f : ℕ) (after : Option ℕ) (was now : TapeValue) (delta : Delta)
-    → IsBuddyOf l links kinds → order ≤ l.order → f < frame_count l → is_on f (free_list (areas_of links kinds) class order) ≡ true → IsUnlinked links new f after
+pub unlink-notes : (l : LayoutParts) (links new : LinkedLists) (kinds : List Kind) (class : Class)
+    (order f : ℕ) (after : Option ℕ) (was now : TapeValue) (delta : Delta)
+    → IsBuddyOf l links kinds → order ≤ l.order → f < frame_count l
+    → is_on f (free_list (areas_of links kinds) class order) ≡ true → IsUnlinked links new f after
     → now.room ≡ was.room → now.deltas ≡ was.deltas ++ delta ∷ [] → delta ≡ Unlink (Area class order) f after
     → NotesAreas l 1 was now (areas_of new kinds) (areas_of links kinds)
 unlink-notes l links new kinds class order f after was now delta h low frame on u room noted is =
     let n : ℕ = 5 * order + class_index class in
     let there = on_contains f (get_or links.lists n []) on in
     let xs : List ℕ = get_or new.lists n [] in
-    let off : list_all (λ other. not (is_on f other)) new.lists ≡ true = off_all f new.lists (λ k. off_list new f k u.free) in
-    let behind : option_map_or (λ first. is_on first xs) after true ≡ true = after-on after xs (λ b e. contains_on b xs (u.before_on n there b e)) in
-    notes-one l (Unlink (Area class order) f after) was now (areas_of new kinds) (areas_of links kinds) room (noted ∙ ap (λ (d : Delta). was.deltas ++ d ∷ []) is)
+    let off : list_all (λ other. not (is_on f other)) new.lists ≡ true =
+    off_all f new.lists (λ k. off_list new f k u.free) in
+    let behind : option_map_or (λ first. is_on first xs) after true ≡ true =
+    after-on after xs (λ b e. contains_on b xs (u.before_on n there b e)) in
+    notes-one l (Unlink (Area class order) f after) was now (areas_of new kinds) (areas_of links kinds) room
+    (noted ∙ ap (λ (d : Delta). was.deltas ++ d ∷ []) is)
     tt (low, frame)
-    (both (list_all (λ other. not (is_on f other)) new.lists) (option_map_or (λ first. is_on first xs) after true) off behind)
-    (ap (λ (ys : List ℕ). areas_of (with_list new n ys) kinds) (put_behind-same after f xs) ∙ ap (λ (k : LinkedLists). areas_of k kinds) (u.undone n there))
+    (both (list_all (λ other. not (is_on f other)) new.lists)
+    (option_map_or (λ first. is_on first xs) after true) off behind)
+    (ap (λ (ys : List ℕ). areas_of (with_list new n ys) kinds) (put_behind-same after f xs)
+    ∙ ap (λ (k : LinkedLists). areas_of k kinds) (u.undone n there))
 
 -- ---- a block comes to a list
 
 -- in front
-pub front-notes : (l : LayoutParts) (links : LinkedLists) (kinds : List Kind) (class : Class) (order f : ℕ) (was now : TapeValue) (delta : Delta)
+pub front-notes : (l : LayoutParts) (links : LinkedLists) (kinds : List Kind) (class : Class) (order f : ℕ)
+    (was now : TapeValue) (delta : Delta)
     → IsBuddyOf l links kinds → order ≤ l.order → f < frame_count l → IsUnlisted links f
     → now.room ≡ was.room → now.deltas ≡ was.deltas ++ delta ∷ [] → delta ≡ Link (Area class order) f None
     → NotesAreas l 1 was now (with_front (areas_of links kinds) class order f) (areas_of links kinds)
 front-notes l links kinds class order f was now delta h low frame none room noted is =
     let n : ℕ = 5 * order + class_index class in
     let xs : List ℕ = get_or links.lists n [] in
-    let here : get_or (set links.lists n (f ∷ xs)) n [] ≡ f ∷ xs = get_or-set_same links.lists n (f ∷ xs) [] (list_in l links kinds class order h low) in
-    notes-one l (Link (Area class order) f None) was now (with_front (areas_of links kinds) class order f) (areas_of links kinds) room (noted ∙ ap (λ (d : Delta). was.deltas ++ d ∷ []) is)
+    let here : get_or (set links.lists n (f ∷ xs)) n [] ≡ f ∷ xs =
+    get_or-set_same links.lists n (f ∷ xs) [] (list_in l links kinds class order h low) in
+    notes-one l (Link (Area class order) f None) was now (with_front (areas_of links kinds) class order f)
+    (areas_of links kinds) room (noted ∙ ap (λ (d : Delta). was.deltas ++ d ∷ []) is)
     tt (low, frame)
     (ap (λ (ys : List ℕ). is_behind None f ys) here ∙ eq-eqb f f refl)
     (ap (λ (lists : List (List ℕ)). record { lists = lists; kinds = kinds })
     (ap (λ (ys : List ℕ). set (set links.lists n (f ∷ xs)) n (without f ys)) here
-    ∙ ap (λ (ys : List ℕ). set (set links.lists n (f ∷ xs)) n ys) (without-front f xs (off_list links f n none))
+    ∙ ap (λ (ys : List ℕ). set (set links.lists n (f ∷ xs)) n ys)
+    (without-front f xs (off_list links f n none))
     ∙ set-set links.lists n (f ∷ xs) xs ∙ set-get_or links.lists n []))
 
 -- at the back
-pub back-notes : (l : LayoutParts) (links : LinkedLists) (kinds : List Kind) (class : Class) (order f : ℕ) (after : Option ℕ) (was now : TapeValue) (delta : Delta)
-    → IsBuddyOf l links kinds → order ≤ l.order → f < frame_count l → IsUnlisted links f → AreDistinct (free_list (areas_of links kinds) class order)
+pub back-notes : (l : LayoutParts) (links : LinkedLists) (kinds : List Kind) (class : Class) (order f : ℕ)
+    (after : Option ℕ) (was now : TapeValue) (delta : Delta)
+    → IsBuddyOf l links kinds → order ≤ l.order → f < frame_count l → IsUnlisted links f
+    → AreDistinct (free_list (areas_of links kinds) class order)
     → after ≡ last (free_list (areas_of links kinds) class order)
     → now.room ≡ was.room → now.deltas ≡ was.deltas ++ delta ∷ [] → delta ≡ Link (Area class order) f after
     → NotesAreas l 1 was now (with_back (areas_of links kinds) class order f) (areas_of links kinds)
 back-notes l links kinds class order f after was now delta h low frame none distinct after_is room noted is =
     let n : ℕ = 5 * order + class_index class in
     let xs : List ℕ = get_or links.lists n [] in
-    let here : get_or (set links.lists n (xs ++ f ∷ [])) n [] ≡ xs ++ f ∷ [] = get_or-set_same links.lists n (xs ++ f ∷ []) [] (list_in l links kinds class order h low) in
-    notes-one l (Link (Area class order) f after) was now (with_back (areas_of links kinds) class order f) (areas_of links kinds) room (noted ∙ ap (λ (d : Delta). was.deltas ++ d ∷ []) is)
+    let here : get_or (set links.lists n (xs ++ f ∷ [])) n [] ≡ xs ++ f ∷ [] =
+    get_or-set_same links.lists n (xs ++ f ∷ []) [] (list_in l links kinds class order h low) in
+    notes-one l (Link (Area class order) f after) was now (with_back (areas_of links kinds) class order f)
+    (areas_of links kinds) room (noted ∙ ap (λ (d : Delta). was.deltas ++ d ∷ []) is)
     tt (low, frame)
-    (ap (λ (ys : List ℕ). is_behind after f ys) here ∙ ap (λ (o : Option ℕ). is_behind o f (xs ++ f ∷ [])) after_is ∙ behind-last f xs distinct)
+    (ap (λ (ys : List ℕ). is_behind after f ys) here
+    ∙ ap (λ (o : Option ℕ). is_behind o f (xs ++ f ∷ [])) after_is ∙ behind-last f xs distinct)
     (ap (λ (lists : List (List ℕ)). record { lists = lists; kinds = kinds })
     (ap (λ (ys : List ℕ). set (set links.lists n (xs ++ f ∷ [])) n (without f ys)) here
-    ∙ ap (λ (ys : List ℕ). set (set links.lists n (xs ++ f ∷ [])) n ys) (without-back f xs (off_list links f n none))
+    ∙ ap (λ (ys : List ℕ). set (set links.lists n (xs ++ f ∷ [])) n ys)
+    (without-back f xs (off_list links f n none))
     ∙ set-set links.lists n (xs ++ f ∷ []) xs ∙ set-get_or links.lists n []))
 
 -- ---- a kind
 
 -- a pageblock gets a kind
-pub kind-notes : (l : LayoutParts) (a : FreeAreas) (pageblock : ℕ) (kind : Kind) (was now : TapeValue) (delta : Delta)
+pub kind-notes : (l : LayoutParts) (a : FreeAreas) (pageblock : ℕ) (kind : Kind) (was now : TapeValue)
+    (delta : Delta)
     → pageblock < length a.kinds → length a.kinds ≡ pageblock_count l
-    → now.room ≡ was.room → now.deltas ≡ was.deltas ++ delta ∷ [] → delta ≡ KindDelta pageblock (kind_of a pageblock) kind
+    → now.room ≡ was.room → now.deltas ≡ was.deltas ++ delta ∷ []
+    → delta ≡ KindDelta pageblock (kind_of a pageblock) kind
     → NotesAreas l 1 was now (with_kind a pageblock kind) a
 kind-notes l a pageblock kind was now delta lt size room noted is =
-    notes-one l (KindDelta pageblock (kind_of a pageblock) kind) was now (with_kind a pageblock kind) a room (noted ∙ ap (λ (d : Delta). was.deltas ++ d ∷ []) is)
+    notes-one l (KindDelta pageblock (kind_of a pageblock) kind) was now (with_kind a pageblock kind) a room
+    (noted ∙ ap (λ (d : Delta). was.deltas ++ d ∷ []) is)
     tt (omega arith)
     (get_set a.kinds pageblock kind lt)
-    (ap (λ (kinds : List Kind). record a { kinds = kinds }) (set-set a.kinds pageblock kind (kind_of a pageblock) ∙ set-get_or a.kinds pageblock plain_kind))
+    (ap (λ (kinds : List Kind). record a { kinds = kinds })
+    (set-set a.kinds pageblock kind (kind_of a pageblock) ∙ set-get_or a.kinds pageblock plain_kind))
 
 -- ---- the same of the value that contracts see
 
@@ -144,43 +179,60 @@ pub record Seen (v : BuddyValue) (l : LayoutParts) (links : LinkedLists) (kinds 
   pub kept : IsBuddyOf l links kinds
 
 -- a frame of no free block is on no list
-pub seen-unlisted : (v : BuddyValue) (l : LayoutParts) (links : LinkedLists) (kinds : List Kind) (f : ℕ) → Seen v l links kinds → free_places v.areas f ≡ 0 → IsUnlisted links f
-seen-unlisted v l links kinds f s none = unlisted links kinds f (subst (λ (w : BuddyValue). free_places w.areas f ≡ 0) (sym s.is) none)
+pub seen-unlisted : (v : BuddyValue) (l : LayoutParts) (links : LinkedLists) (kinds : List Kind) (f : ℕ)
+    → Seen v l links kinds → free_places v.areas f ≡ 0 → IsUnlisted links f
+seen-unlisted v l links kinds f s none =
+    unlisted links kinds f (subst (λ (w : BuddyValue). free_places w.areas f ≡ 0) (sym s.is) none)
 
 -- a free block is on a list
-pub seen-listed : (v : BuddyValue) (l : LayoutParts) (links : LinkedLists) (kinds : List Kind) (class : Class) (order f : ℕ) → Seen v l links kinds
+pub seen-listed : (v : BuddyValue) (l : LayoutParts) (links : LinkedLists) (kinds : List Kind) (class : Class)
+    (order f : ℕ)
+    → Seen v l links kinds
     → is_on f (free_list v.areas class order) ≡ true → IsListed links f
-seen-listed v l links kinds class order f s on =
-    (5 * order + class_index class, on_contains f (get_or links.lists (5 * order + class_index class) []) (subst (λ (w : BuddyValue). is_on f (free_list w.areas class order) ≡ true) (sym s.is) on))
+seen-listed v l links kinds class order f s on = (
+  5 * order + class_index class,
+  on_contains f (get_or links.lists (5 * order + class_index class) [])
+      (subst (λ (w : BuddyValue). is_on f (free_list w.areas class order) ≡ true) (sym s.is) on),
+)
 
 -- a free block left its list
-pub record UnlinkSeen (v : BuddyValue) (new : LinkedLists) (kinds : List Kind) (class : Class) (order f : ℕ) (was now : TapeValue) : Type 0 where
+pub record UnlinkSeen (v : BuddyValue) (new : LinkedLists) (kinds : List Kind) (class : Class) (order f : ℕ)
+    (was now : TapeValue) : Type 0 where
   pub areas : areas_of new kinds ≡ without_free v.areas class order f
   pub notes : NotesAreas v.layout 1 was now (areas_of new kinds) v.areas
 
 -- by what the unlink says
-pub seen-unlink : (v : BuddyValue) (l : LayoutParts) (links new : LinkedLists) (kinds : List Kind) (class : Class) (order f : ℕ) (after : Option ℕ) (was now : TapeValue) (delta : Delta)
-    → Seen v l links kinds → order ≤ v.layout.order → f < frame_count v.layout → is_on f (free_list v.areas class order) ≡ true → IsUnlinked links new f after
+pub seen-unlink : (v : BuddyValue) (l : LayoutParts) (links new : LinkedLists) (kinds : List Kind)
+    (class : Class) (order f : ℕ) (after : Option ℕ) (was now : TapeValue) (delta : Delta)
+    → Seen v l links kinds → order ≤ v.layout.order → f < frame_count v.layout
+    → is_on f (free_list v.areas class order) ≡ true → IsUnlinked links new f after
     → now.room ≡ was.room → now.deltas ≡ was.deltas ++ delta ∷ [] → delta ≡ Unlink (Area class order) f after
     → UnlinkSeen v new kinds class order f was now
 seen-unlink v l links new kinds class order f after was now delta s low frame on u room noted is =
-    subst (λ (w : BuddyValue). order ≤ w.layout.order → f < frame_count w.layout → is_on f (free_list w.areas class order) ≡ true → UnlinkSeen w new kinds class order f was now) s.is
+    subst (λ (w : BuddyValue). order ≤ w.layout.order → f < frame_count w.layout
+    → is_on f (free_list w.areas class order) ≡ true → UnlinkSeen w new kinds class order f was now) s.is
     (λ low frame on. record {
       areas = unlink-areas l links new kinds class order f after s.kept low on u;
-      notes = unlink-notes l links new kinds class order f after was now delta s.kept low frame on u room noted is;
+      notes =
+          unlink-notes l links new kinds class order f after was now delta s.kept low frame on u room noted
+          is;
     }) low frame on
 
 -- a block came to the front
-pub seen-front : (v : BuddyValue) (l : LayoutParts) (links : LinkedLists) (kinds : List Kind) (class : Class) (order f : ℕ) (was now : TapeValue) (delta : Delta)
+pub seen-front : (v : BuddyValue) (l : LayoutParts) (links : LinkedLists) (kinds : List Kind) (class : Class)
+    (order f : ℕ) (was now : TapeValue) (delta : Delta)
     → Seen v l links kinds → order ≤ v.layout.order → f < frame_count v.layout → free_places v.areas f ≡ 0
     → now.room ≡ was.room → now.deltas ≡ was.deltas ++ delta ∷ [] → delta ≡ Link (Area class order) f None
     → NotesAreas v.layout 1 was now (with_front v.areas class order f) v.areas
 seen-front v l links kinds class order f was now delta s low frame none room noted is =
-    subst (λ (w : BuddyValue). order ≤ w.layout.order → f < frame_count w.layout → NotesAreas w.layout 1 was now (with_front w.areas class order f) w.areas) s.is
-    (λ low frame. front-notes l links kinds class order f was now delta s.kept low frame (seen-unlisted v l links kinds f s none) room noted is) low frame
+    subst (λ (w : BuddyValue). order ≤ w.layout.order → f < frame_count w.layout
+    → NotesAreas w.layout 1 was now (with_front w.areas class order f) w.areas) s.is
+    (λ low frame. front-notes l links kinds class order f was now delta s.kept low frame
+    (seen-unlisted v l links kinds f s none) room noted is) low frame
 
 -- no frame is twice on a list if it is in at most one free block
-distinct_by_places : (order : ℕ) (xs : List ℕ) → ((frame : ℕ) → list_places frame order xs ≤ 1) → AreDistinct xs
+distinct_by_places : (order : ℕ) (xs : List ℕ) → ((frame : ℕ) → list_places frame order xs ≤ 1)
+    → AreDistinct xs
 distinct_by_places order [] few = tt
 distinct_by_places order (x ∷ xs) few = (
   false_from_ne_true (is_on x xs) (λ on.
@@ -190,42 +242,64 @@ distinct_by_places order (x ∷ xs) few = (
 )
 
 -- the lists of areas with each frame in at most one free block
-pub distinct : (a : FreeAreas) (class : Class) (order : ℕ) → HasOrder a order → ((frame : ℕ) → free_places a frame ≤ 1) → AreDistinct (free_list a class order)
-distinct a class order has once = distinct_by_places order (free_list a class order) (λ frame. omega (arith, once frame, list_places-le a class order frame has))
+pub distinct : (a : FreeAreas) (class : Class) (order : ℕ) → HasOrder a order
+    → ((frame : ℕ) → free_places a frame ≤ 1) → AreDistinct (free_list a class order)
+distinct a class order has once =
+    distinct_by_places order (free_list a class order)
+    (λ frame. omega (arith, once frame, list_places-le a class order frame has))
 
 -- a block came to the back
-pub seen-back : (v : BuddyValue) (l : LayoutParts) (links : LinkedLists) (kinds : List Kind) (class : Class) (order f : ℕ) (after : Option ℕ) (was now : TapeValue) (delta : Delta)
-    → Seen v l links kinds → order ≤ v.layout.order → f < frame_count v.layout → ((frame : ℕ) → free_places v.areas frame ≤ 1) → free_places v.areas f ≡ 0
+pub seen-back : (v : BuddyValue) (l : LayoutParts) (links : LinkedLists) (kinds : List Kind) (class : Class)
+    (order f : ℕ) (after : Option ℕ) (was now : TapeValue) (delta : Delta)
+    → Seen v l links kinds → order ≤ v.layout.order → f < frame_count v.layout
+    → ((frame : ℕ) → free_places v.areas frame ≤ 1) → free_places v.areas f ≡ 0
     → after ≡ last (get_or links.lists (5 * order + class_index class) [])
     → now.room ≡ was.room → now.deltas ≡ was.deltas ++ delta ∷ [] → delta ≡ Link (Area class order) f after
     → NotesAreas v.layout 1 was now (with_back v.areas class order f) v.areas
 seen-back v l links kinds class order f after was now delta s low frame once none after_is room noted is =
-    subst (λ (w : BuddyValue). order ≤ w.layout.order → f < frame_count w.layout → ((frame : ℕ) → free_places w.areas frame ≤ 1) → NotesAreas w.layout 1 was now (with_back w.areas class order f) w.areas) s.is
+    subst (λ (w : BuddyValue). order ≤ w.layout.order → f < frame_count w.layout
+    → ((frame : ℕ) → free_places w.areas frame ≤ 1)
+    → NotesAreas w.layout 1 was now (with_back w.areas class order f) w.areas) s.is
     (λ low frame once.
-    back-notes l links kinds class order f after was now delta s.kept low frame (seen-unlisted v l links kinds f s none)
-    (distinct (areas_of links kinds) class order (omega (arith, s.kept.list_count)) once) after_is room noted is) low frame once
+    back-notes l links kinds class order f after was now delta s.kept low frame
+    (seen-unlisted v l links kinds f s none)
+    (distinct (areas_of links kinds) class order (omega (arith, s.kept.list_count)) once) after_is room noted
+    is) low frame once
 
 -- a pageblock got a kind
-pub seen-kind : (v : BuddyValue) (l : LayoutParts) (links : LinkedLists) (kinds : List Kind) (pageblock at : ℕ) (kind : Kind) (was now : TapeValue) (delta : Delta)
+pub seen-kind : (v : BuddyValue) (l : LayoutParts) (links : LinkedLists) (kinds : List Kind)
+    (pageblock at : ℕ) (kind : Kind) (was now : TapeValue) (delta : Delta)
     → Seen v l links kinds → at ≡ pageblock → pageblock < pageblock_count v.layout
-    → now.room ≡ was.room → now.deltas ≡ was.deltas ++ delta ∷ [] → delta ≡ KindDelta pageblock (kind_of v.areas pageblock) kind
+    → now.room ≡ was.room → now.deltas ≡ was.deltas ++ delta ∷ []
+    → delta ≡ KindDelta pageblock (kind_of v.areas pageblock) kind
     → NotesAreas v.layout 1 was now (record { lists = links.lists; kinds = set kinds at kind }) v.areas
 seen-kind v l links kinds pageblock at kind was now delta s same low room noted is =
-    subst (λ (w : BuddyValue). pageblock < pageblock_count w.layout → delta ≡ KindDelta pageblock (kind_of w.areas pageblock) kind
+    subst (λ (w : BuddyValue). pageblock < pageblock_count w.layout
+    → delta ≡ KindDelta pageblock (kind_of w.areas pageblock) kind
     → NotesAreas w.layout 1 was now (record { lists = links.lists; kinds = set kinds at kind }) w.areas) s.is
-    (λ low is. subst (λ (n : ℕ). NotesAreas l 1 was now (record { lists = links.lists; kinds = set kinds n kind }) (areas_of links kinds)) (sym same)
-    (kind-notes l (areas_of links kinds) pageblock kind was now delta (omega (arith, s.kept.kind_count)) s.kept.kind_count room noted is)) low is
+    (λ low is. subst (λ (n : ℕ). NotesAreas l 1 was now
+    (record { lists = links.lists; kinds = set kinds n kind }) (areas_of links kinds)) (sym same)
+    (kind-notes l (areas_of links kinds) pageblock kind was now delta (omega (arith, s.kept.kind_count))
+    s.kept.kind_count room noted is)) low is
 
 -- the areas after a push, by the links that it left
-pub front-areas : (v : BuddyValue) (l : LayoutParts) (links new : LinkedLists) (kinds : List Kind) (class : Class) (order f n : ℕ) → Seen v l links kinds
-    → n ≡ 5 * order + class_index class → new ≡ with_list links n (f ∷ list_at links n) → areas_of new kinds ≡ with_front v.areas class order f
+pub front-areas : (v : BuddyValue) (l : LayoutParts) (links new : LinkedLists) (kinds : List Kind)
+    (class : Class) (order f n : ℕ)
+    → Seen v l links kinds
+    → n ≡ 5 * order + class_index class → new ≡ with_list links n (f ∷ list_at links n)
+    → areas_of new kinds ≡ with_front v.areas class order f
 front-areas v l links new kinds class order f n s number is =
     subst (λ (w : BuddyValue). areas_of new kinds ≡ with_front w.areas class order f) s.is
-    (ap (λ (k : LinkedLists). areas_of k kinds) is ∙ ap (λ (m : ℕ). areas_of (with_list links m (f ∷ list_at links m)) kinds) number)
+    (ap (λ (k : LinkedLists). areas_of k kinds) is
+    ∙ ap (λ (m : ℕ). areas_of (with_list links m (f ∷ list_at links m)) kinds) number)
 
 -- the same at the back
-pub back-areas : (v : BuddyValue) (l : LayoutParts) (links new : LinkedLists) (kinds : List Kind) (class : Class) (order f n : ℕ) → Seen v l links kinds
-    → n ≡ 5 * order + class_index class → new ≡ with_list links n (list_at links n ++ f ∷ []) → areas_of new kinds ≡ with_back v.areas class order f
+pub back-areas : (v : BuddyValue) (l : LayoutParts) (links new : LinkedLists) (kinds : List Kind)
+    (class : Class) (order f n : ℕ)
+    → Seen v l links kinds
+    → n ≡ 5 * order + class_index class → new ≡ with_list links n (list_at links n ++ f ∷ [])
+    → areas_of new kinds ≡ with_back v.areas class order f
 back-areas v l links new kinds class order f n s number is =
     subst (λ (w : BuddyValue). areas_of new kinds ≡ with_back w.areas class order f) s.is
-    (ap (λ (k : LinkedLists). areas_of k kinds) is ∙ ap (λ (m : ℕ). areas_of (with_list links m (list_at links m ++ f ∷ [])) kinds) number)
+    (ap (λ (k : LinkedLists). areas_of k kinds) is
+    ∙ ap (λ (m : ℕ). areas_of (with_list links m (list_at links m ++ f ∷ [])) kinds) number)

@@ -9,13 +9,19 @@ use Rattle.hp_buddy.specs.Buddy.{AreApart, MayBeGiven}
 -- no frame is in two free blocks
 pub placed-apart : (l : LayoutParts) (s : Memory) → IsLayout l → IsWellPlaced l s → AreApart l s.free.areas
 placed-apart l s layout h = record {
-  areas = record { lists = h.in_order.shape.lists; kinds = h.in_order.shape.kinds; free = λ class order first on. free-within l s class order first layout h on };
+  areas =
+      record {
+        lists = h.in_order.shape.lists;
+        kinds = h.in_order.shape.kinds;
+        free = λ class order first on. free-within l s class order first layout h on;
+      };
   aligned = λ class order first on. (h.in_order.blocks class order first on).aligned;
   once = λ f. omega (arith, h.once f);
 }
 
 -- a block in use is free nowhere
-pub in_use-given : (l : LayoutParts) (s : Memory) (order first : ℕ) → IsInUse l s order first → MayBeGiven l s.free.areas order first
+pub in_use-given : (l : LayoutParts) (s : Memory) (order first : ℕ) → IsInUse l s order first
+    → MayBeGiven l s.free.areas order first
 in_use-given l s order first block = record {
   in_order = block.in_order;
   aligned = block.aligned;

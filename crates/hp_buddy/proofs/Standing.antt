@@ -32,7 +32,8 @@ pub number_back : (n : ℕ) → 5 * (n / 5) + class_index (class_numbered (n % 5
 number_back n = omega (arith, index-numbered (n % 5) (omega arith))
 
 -- the class and the order that the number of a list says
-pub number_class : (class : Class) (order n : ℕ) → n ≡ 5 * order + class_index class → class_numbered (n % 5) ≡ class
+pub number_class : (class : Class) (order n : ℕ) → n ≡ 5 * order + class_index class
+    → class_numbered (n % 5) ≡ class
 number_class class order n e =
     let rest : n % 5 ≡ class_index class = omega (arith, class_index-lt class) in
     ap class_numbered rest ∙ class_numbered-index class
@@ -44,89 +45,120 @@ number_order class order n e = omega (arith, class_index-lt class)
 -- ---- the one list that a frame is on
 
 -- the place on the list of a number
-pub place_from-at : (f number k : ℕ) (lists : List (List ℕ)) → is_on f (get_or lists k []) ≡ true → ((j : ℕ) → is_on f (get_or lists j []) ≡ true → j ≡ k)
+pub place_from-at : (f number k : ℕ) (lists : List (List ℕ)) → is_on f (get_or lists k []) ≡ true
+    → ((j : ℕ) → is_on f (get_or lists j []) ≡ true → j ≡ k)
     → place_from f number lists ≡ Some (class_numbered ((number + k) % 5), (number + k) / 5)
 place_from-at f number k [] on one = absurd (both_ways (is_on f []) refl on)
 place_from-at f number zero (frames ∷ lists) on one =
     let sum : number ≡ number + 0 = omega arith in
-    cond-true (is_on f frames) (Some (class_numbered (number % 5), number / 5)) (place_from f (number + 1) lists) on
+    cond-true (is_on f frames) (Some (class_numbered (number % 5), number / 5))
+    (place_from f (number + 1) lists) on
     ∙ ap (λ (n : ℕ). Some (class_numbered (n % 5), n / 5)) sum
 place_from-at f number (suc k) (frames ∷ lists) on one =
     let sum : number + 1 + k ≡ number + suc k = omega arith in
-    let off : is_on f frames ≡ false = false_from_ne_true (is_on f frames) (λ here. let same : 0 ≡ suc k = one 0 here in omega arith) in
-    cond-false (is_on f frames) (Some (class_numbered (number % 5), number / 5)) (place_from f (number + 1) lists) off
-    ∙ place_from-at f (number + 1) k lists on (λ j there. let same : suc j ≡ suc k = one (suc j) there in omega arith)
+    let off : is_on f frames ≡ false =
+    false_from_ne_true (is_on f frames) (λ here. let same : 0 ≡ suc k = one 0 here in omega arith) in
+    cond-false (is_on f frames) (Some (class_numbered (number % 5), number / 5))
+    (place_from f (number + 1) lists) off
+    ∙ place_from-at f (number + 1) k lists on
+    (λ j there. let same : suc j ≡ suc k = one (suc j) there in omega arith)
     ∙ ap (λ (n : ℕ). Some (class_numbered (n % 5), n / 5)) sum
 
 -- no list, no place
-pub place_from-none : (f number : ℕ) (lists : List (List ℕ)) → ((j : ℕ) → is_on f (get_or lists j []) ≡ false) → place_from f number lists ≡ None
+pub place_from-none : (f number : ℕ) (lists : List (List ℕ)) → ((j : ℕ) → is_on f (get_or lists j []) ≡ false)
+    → place_from f number lists ≡ None
 place_from-none f number [] off = refl
 place_from-none f number (frames ∷ lists) off =
-    cond-false (is_on f frames) (Some (class_numbered (number % 5), number / 5)) (place_from f (number + 1) lists) (off 0)
+    cond-false (is_on f frames) (Some (class_numbered (number % 5), number / 5))
+    (place_from f (number + 1) lists) (off 0)
     ∙ place_from-none f (number + 1) lists (λ j. off (suc j))
 
 -- the next one on the list of a number
-pub next_from-at : (f k : ℕ) (lists : List (List ℕ)) → is_on f (get_or lists k []) ≡ true → ((j : ℕ) → is_on f (get_or lists j []) ≡ true → j ≡ k)
+pub next_from-at : (f k : ℕ) (lists : List (List ℕ)) → is_on f (get_or lists k []) ≡ true
+    → ((j : ℕ) → is_on f (get_or lists j []) ≡ true → j ≡ k)
     → next_from f lists ≡ successor f (get_or lists k [])
 next_from-at f k [] on one = absurd (both_ways (is_on f []) refl on)
-next_from-at f zero (frames ∷ lists) on one = cond-true (is_on f frames) (successor f frames) (next_from f lists) on
+next_from-at f zero (frames ∷ lists) on one =
+    cond-true (is_on f frames) (successor f frames) (next_from f lists) on
 next_from-at f (suc k) (frames ∷ lists) on one =
-    let off : is_on f frames ≡ false = false_from_ne_true (is_on f frames) (λ here. let same : 0 ≡ suc k = one 0 here in omega arith) in
+    let off : is_on f frames ≡ false =
+    false_from_ne_true (is_on f frames) (λ here. let same : 0 ≡ suc k = one 0 here in omega arith) in
     cond-false (is_on f frames) (successor f frames) (next_from f lists) off
     ∙ next_from-at f k lists on (λ j there. let same : suc j ≡ suc k = one (suc j) there in omega arith)
 
 -- no list, no next one
-pub next_from-none : (f : ℕ) (lists : List (List ℕ)) → ((j : ℕ) → is_on f (get_or lists j []) ≡ false) → next_from f lists ≡ None
+pub next_from-none : (f : ℕ) (lists : List (List ℕ)) → ((j : ℕ) → is_on f (get_or lists j []) ≡ false)
+    → next_from f lists ≡ None
 next_from-none f [] off = refl
-next_from-none f (frames ∷ lists) off = cond-false (is_on f frames) (successor f frames) (next_from f lists) (off 0) ∙ next_from-none f lists (λ j. off (suc j))
+next_from-none f (frames ∷ lists) off =
+    cond-false (is_on f frames) (successor f frames) (next_from f lists) (off 0)
+    ∙ next_from-none f lists (λ j. off (suc j))
 
 -- ---- of the value that contracts see
 
 -- no other list
-one : (links : LinkedLists) (f k : ℕ) → IsOn links k f → IsApart links → (j : ℕ) → is_on f (get_or links.lists j []) ≡ true → j ≡ k
+one : (links : LinkedLists) (f k : ℕ) → IsOn links k f → IsApart links → (j : ℕ)
+    → is_on f (get_or links.lists j []) ≡ true → j ≡ k
 one links f k on apart j there = apart.one_list j k f (on_contains f (get_or links.lists j []) there) on
 
 -- the place of a frame on a list
-pub seen-place : (v : BuddyValue) (l : LayoutParts) (links : LinkedLists) (kinds : List Kind) (f k n : ℕ) (class : Class) → Seen v l links kinds → IsOn links k f → IsApart links
+pub seen-place : (v : BuddyValue) (l : LayoutParts) (links : LinkedLists) (kinds : List Kind) (f k n : ℕ)
+    (class : Class)
+    → Seen v l links kinds → IsOn links k f → IsApart links
     → n ≡ k → class ≡ class_numbered (n % 5) → Some (class, n / 5) ≡ place_of v.areas f
 seen-place v l links kinds f k n class s on apart same is =
     subst (λ (w : BuddyValue). Some (class, n / 5) ≡ place_of w.areas f) s.is
-    (ap (λ (c : Class). Some (c, n / 5)) is ∙ ap (λ (m : ℕ). Some (class_numbered (m % 5), m / 5)) (same ∙ zero-add-sym k)
-    ∙ sym (place_from-at f 0 k links.lists (contains_on f (get_or links.lists k []) on) (one links f k on apart)))
+    (ap (λ (c : Class). Some (c, n / 5)) is
+    ∙ ap (λ (m : ℕ). Some (class_numbered (m % 5), m / 5)) (same ∙ zero-add-sym k)
+    ∙ sym
+    (place_from-at f 0 k links.lists (contains_on f (get_or links.lists k []) on) (one links f k on apart)))
   where
     zero-add-sym : (k : ℕ) → k ≡ 0 + k
     zero-add-sym k = omega arith
 
 -- a frame on no list has no place
-pub seen-no_place : (v : BuddyValue) (l : LayoutParts) (links : LinkedLists) (kinds : List Kind) (f : ℕ) → Seen v l links kinds → IsUnlisted links f → None ≡ place_of v.areas f
+pub seen-no_place : (v : BuddyValue) (l : LayoutParts) (links : LinkedLists) (kinds : List Kind) (f : ℕ)
+    → Seen v l links kinds → IsUnlisted links f → None ≡ place_of v.areas f
 seen-no_place v l links kinds f s none =
-    subst (λ (w : BuddyValue). None ≡ place_of w.areas f) s.is (sym (place_from-none f 0 links.lists (λ j. off_list links f j none)))
+    subst (λ (w : BuddyValue). None ≡ place_of w.areas f) s.is
+    (sym (place_from-none f 0 links.lists (λ j. off_list links f j none)))
 
 -- a free block's list
-pub seen-on : (v : BuddyValue) (l : LayoutParts) (links : LinkedLists) (kinds : List Kind) (class : Class) (order f : ℕ) → Seen v l links kinds
+pub seen-on : (v : BuddyValue) (l : LayoutParts) (links : LinkedLists) (kinds : List Kind) (class : Class)
+    (order f : ℕ)
+    → Seen v l links kinds
     → is_on f (free_list v.areas class order) ≡ true → IsOn links (5 * order + class_index class) f
 seen-on v l links kinds class order f s on =
-    on_contains f (get_or links.lists (5 * order + class_index class) []) (subst (λ (w : BuddyValue). is_on f (free_list w.areas class order) ≡ true) (sym s.is) on)
+    on_contains f (get_or links.lists (5 * order + class_index class) [])
+    (subst (λ (w : BuddyValue). is_on f (free_list w.areas class order) ≡ true) (sym s.is) on)
 
 -- a frame on a list is a free block of that list
-pub seen-free : (v : BuddyValue) (l : LayoutParts) (links : LinkedLists) (kinds : List Kind) (f k n : ℕ) (class : Class) → Seen v l links kinds → IsOn links k f
+pub seen-free : (v : BuddyValue) (l : LayoutParts) (links : LinkedLists) (kinds : List Kind) (f k n : ℕ)
+    (class : Class)
+    → Seen v l links kinds → IsOn links k f
     → n ≡ k → class ≡ class_numbered (n % 5) → is_on f (free_list v.areas class (n / 5)) ≡ true
 seen-free v l links kinds f k n class s on same is =
     subst (λ (w : BuddyValue). is_on f (free_list w.areas class (n / 5)) ≡ true) s.is
     (subst (λ (c : Class). is_on f (get_or links.lists (5 * (n / 5) + class_index c) []) ≡ true) (sym is)
-    (subst (λ (m : ℕ). is_on f (get_or links.lists m []) ≡ true) (sym (number_back n ∙ same)) (contains_on f (get_or links.lists k []) on)))
+    (subst (λ (m : ℕ). is_on f (get_or links.lists m []) ≡ true) (sym (number_back n ∙ same))
+    (contains_on f (get_or links.lists k []) on)))
 
 -- the frame after a frame on a list
-pub seen-next : (v : BuddyValue) (l : LayoutParts) (links : LinkedLists) (kinds : List Kind) (f k : ℕ) (next : Option ℕ) → Seen v l links kinds → IsOn links k f → IsApart links
+pub seen-next : (v : BuddyValue) (l : LayoutParts) (links : LinkedLists) (kinds : List Kind) (f k : ℕ)
+    (next : Option ℕ)
+    → Seen v l links kinds → IsOn links k f → IsApart links
     → next ≡ successor f (list_at links k) → next ≡ next_of v.areas f
 seen-next v l links kinds f k next s on apart is =
     subst (λ (w : BuddyValue). next ≡ next_of w.areas f) s.is
-    (is ∙ sym (next_from-at f k links.lists (contains_on f (get_or links.lists k []) on) (one links f k on apart)))
+    (is ∙ sym
+    (next_from-at f k links.lists (contains_on f (get_or links.lists k []) on) (one links f k on apart)))
 
 -- nor a next one
-pub seen-no_next : (v : BuddyValue) (l : LayoutParts) (links : LinkedLists) (kinds : List Kind) (f : ℕ) → Seen v l links kinds → IsUnlisted links f → None ≡ next_of v.areas f
+pub seen-no_next : (v : BuddyValue) (l : LayoutParts) (links : LinkedLists) (kinds : List Kind) (f : ℕ)
+    → Seen v l links kinds → IsUnlisted links f → None ≡ next_of v.areas f
 seen-no_next v l links kinds f s none =
-    subst (λ (w : BuddyValue). None ≡ next_of w.areas f) s.is (sym (next_from-none f links.lists (λ j. off_list links f j none)))
+    subst (λ (w : BuddyValue). None ≡ next_of w.areas f) s.is
+    (sym (next_from-none f links.lists (λ j. off_list links f j none)))
 
 -- ---- nothing is free
 
@@ -147,7 +179,8 @@ none-places f number zero = refl
 none-places f number (suc n) = omega (arith, none-places f (number + 1) n)
 
 -- areas with nothing free
-pub empty-apart : (l : LayoutParts) (lists : List (List ℕ)) (kinds : List Kind) → lists ≡ replicate (5 * (l.order + 1)) [] → length kinds ≡ pageblock_count l
+pub empty-apart : (l : LayoutParts) (lists : List (List ℕ)) (kinds : List Kind)
+    → lists ≡ replicate (5 * (l.order + 1)) [] → length kinds ≡ pageblock_count l
     → AreApart l (record { lists = lists; kinds = kinds })
 empty-apart l lists kinds is size =
     subst (λ (ls : List (List ℕ)). AreApart l (record { lists = ls; kinds = kinds })) (sym is) (record {
@@ -160,6 +193,9 @@ empty-apart l lists kinds is size =
       once = λ frame. omega (arith, none-places frame 0 (5 * (l.order + 1)));
     })
   where
-    nothing : (class : Class) (order first : ℕ) → is_on first (get_or (replicate (5 * (l.order + 1)) []) (5 * order + class_index class) []) ≡ true → ⊥
+    nothing : (class : Class) (order first : ℕ)
+        → is_on first (get_or (replicate (5 * (l.order + 1)) []) (5 * order + class_index class) []) ≡ true
+        → ⊥
     nothing class order first on =
-        both_ways (is_on first []) refl (subst (λ (xs : List ℕ). is_on first xs ≡ true) (get_none (5 * (l.order + 1)) (5 * order + class_index class)) on)
+        both_ways (is_on first []) refl (subst (λ (xs : List ℕ). is_on first xs ≡ true)
+        (get_none (5 * (l.order + 1)) (5 * order + class_index class)) on)

@@ -17,15 +17,18 @@ pub record BuddyValue : Type 0 where
 
 -- ---- what calls keep
 
--- each free block lies within the frames, at a multiple of its size, and no frame is in two of them (Knuth, volume 1, section 2.5)
+-- each free block lies within the frames, at a multiple of its size, and no frame is in two of them
+-- (Knuth, volume 1, section 2.5)
 pub record AreApart (l : LayoutParts) (a : FreeAreas) : Type 0 where
   pub areas : AreFreeAreasOf l a
-  pub aligned : (class : Class) (order first : ℕ) → is_on first (free_list a class order) ≡ true → first % 2 ^ order ≡ 0
+  pub aligned : (class : Class) (order first : ℕ) → is_on first (free_list a class order) ≡ true
+      → first % 2 ^ order ≡ 0
   pub once : (frame : ℕ) → free_places a frame ≤ 1
 
 -- ---- what a block must be to come back (own rule)
 
--- its order is in the layout, it lies within the frames at a multiple of its size, and none of its frames is in a free block
+-- its order is in the layout, it lies within the frames at a multiple of its size, and none of its
+-- frames is in a free block
 pub record MayBeGiven (l : LayoutParts) (a : FreeAreas) (order first : ℕ) : Type 0 where
   pub in_order : order ≤ l.order
   pub aligned : first % 2 ^ order ≡ 0
@@ -36,15 +39,18 @@ pub record MayBeGiven (l : LayoutParts) (a : FreeAreas) (order first : ℕ) : Ty
 
 -- the frames of a block are in one free block more, and all others in as many
 abbrev pub HasBlockMore : (more less : FreeAreas) → (order first : ℕ) → Type 0
-HasBlockMore more less order first = (frame : ℕ) → free_places more frame ≡ free_places less frame + covered frame order first
+HasBlockMore more less order first =
+    (frame : ℕ) → free_places more frame ≡ free_places less frame + covered frame order first
 
 -- ---- where a free block stands
 
--- the class and the order of the list that a frame is on: a list's number is five times its order, and its class
+-- the class and the order of the list that a frame is on: a list's number is five times its order,
+-- and its class
 abbrev pub place_from : (frame number : ℕ) → List (List ℕ) → Option (Class × ℕ)
 place_from frame number [] = None
 place_from frame number (frames ∷ lists) =
-    if is_on frame frames then Some (class_numbered (number % 5), number / 5) else place_from frame (number + 1) lists
+    if is_on frame frames then Some (class_numbered (number % 5), number / 5) else place_from frame
+    (number + 1) lists
 
 abbrev pub place_of : FreeAreas → ℕ → Option (Class × ℕ)
 place_of a frame = place_from frame 0 a.lists
@@ -52,7 +58,8 @@ place_of a frame = place_from frame 0 a.lists
 -- the frame after a frame on the list that it is on
 abbrev pub next_from : ℕ → List (List ℕ) → Option ℕ
 next_from frame [] = None
-next_from frame (frames ∷ lists) = if is_on frame frames then successor frame frames else next_from frame lists
+next_from frame (frames ∷ lists) =
+    if is_on frame frames then successor frame frames else next_from frame lists
 
 abbrev pub next_of : FreeAreas → ℕ → Option ℕ
 next_of a frame = next_from frame a.lists

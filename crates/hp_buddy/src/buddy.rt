@@ -49,7 +49,8 @@ impl Model for Buddy {
 
     ghost Value = { BuddyValue };
 
-    ghost view = { λ b. record { layout = b.layout; areas = record { lists = b.links.lists; kinds = b.kinds.items } } };
+    ghost view = { λ b.
+        record { layout = b.layout; areas = record { lists = b.links.lists; kinds = b.kinds.items } } };
 
     ghost invariant = { λ b. IsBuddyOf b.layout b.links b.kinds.items };
 }
@@ -71,10 +72,11 @@ impl Buddy {
         self.layout.pageblock_size()
     }
 
-    /// The areas of a layout with nothing free, every pageblock movable and not isolated: by as many requests for memory
-    /// whatever the layout.
+    /// The areas of a layout with nothing free, every pageblock movable and not isolated: by as
+    /// many requests for memory whatever the layout.
     pub fn new(alloc: Global, layout: &Layout) -> Result<Buddy, AllocError>
-        ensures value { IfOk result (λ b. b ≡ record { layout = layout.now; areas = empty_areas layout.now }) }
+        ensures value { IfOk result
+            (λ b. b ≡ record { layout = layout.now; areas = empty_areas layout.now }) }
         ensures apart { IfOk result (λ b. AreApart b.layout b.areas) }
     {
         let layout = layout.copy(alloc)?;
@@ -135,8 +137,10 @@ impl Buddy {
     pub fn place(&self, frame: Frame) -> Option<(Class, Order)>
         requires { frame < frame_count self.now.layout }
         ensures place { result ≡ place_of self.now.areas frame }
-        ensures on { (class : Class) (order : ℕ) → is_on frame (free_list self.now.areas class order) ≡ true → result ≡ Some (class, order) }
-        ensures free { IfSome result (λ place. is_on frame (free_list self.now.areas place.0 place.1) ≡ true) }
+        ensures on { (class : Class) (order : ℕ) → is_on frame (free_list self.now.areas class order) ≡ true
+            → result ≡ Some (class, order) }
+        ensures free { IfSome result
+            (λ place. is_on frame (free_list self.now.areas place.0 place.1) ≡ true) }
         ensures in_order { IfSome result (λ place. place.1 ≤ self.now.layout.order) }
     {
         match self.links.list_of(frame) {
@@ -145,16 +149,20 @@ impl Buddy {
         }
     }
 
-    /// Takes a block of an order of the layout: the front block of the least order at which the class has one, split down.
-    /// None if the class has none, and then nothing changes (Knuth, volume 1, section 2.5, reservation; which end is own).
+    /// Takes a block of an order of the layout: the front block of the least order at which the
+    /// class has one, split down. None if the class has none, and then nothing changes (Knuth,
+    /// volume 1, section 2.5, reservation; which end is own).
     pub fn take(&mut self, class: Class, order: Order, tape: &mut Tape) -> Option<Frame>
         requires order { order ≤ self.old.layout.order }
         requires apart { AreApart self.old.layout self.old.areas }
         requires room { HasRoom tape.old (take_bound self.old.layout) }
-        ensures taken { MatchOption result (take_block self.old.layout self.old.areas class order ≡ None) (λ frame. take_block self.old.layout self.old.areas class order ≡ Some (record { areas = self.new.areas; frame = frame })) }
+        ensures taken { MatchOption result (take_block self.old.layout self.old.areas class order
+            ≡ None) (λ frame. take_block self.old.layout self.old.areas class order
+            ≡ Some (record { areas = self.new.areas; frame = frame })) }
         ensures none { MatchOption result ((self.new ≡ self.old) × (tape.new ≡ tape.old)) (λ _. Unit {0}) }
         ensures layout { self.new.layout ≡ self.old.layout }
-        ensures notes { NotesAreas self.old.layout (take_bound self.old.layout) tape.old tape.new self.new.areas self.old.areas }
+        ensures notes { NotesAreas self.old.layout (take_bound self.old.layout) tape.old tape.new
+            self.new.areas self.old.areas }
         ensures apart { AreApart self.new.layout self.new.areas }
         ensures block { IfSome result (MayBeGiven self.new.layout self.new.areas order) }
         ensures places { IfSome result (HasBlockMore self.old.areas self.new.areas order) }
@@ -165,17 +173,21 @@ impl Buddy {
         }
     }
 
-    /// Takes a block of an order of the layout for a mobility of zone Normal from the other mobility: the front block of the
-    /// greatest order that has one, split down. A whole pageblock takes the mobility. None if the other mobility has none,
-    /// and then nothing changes (Gorman, chapter 6: fallback; the rule is own).
+    /// Takes a block of an order of the layout for a mobility of zone Normal from the other
+    /// mobility: the front block of the greatest order that has one, split down. A whole pageblock
+    /// takes the mobility. None if the other mobility has none, and then nothing changes (Gorman,
+    /// chapter 6: fallback; the rule is own).
     pub fn steal(&mut self, wanted: Mobility, order: Order, tape: &mut Tape) -> Option<Frame>
         requires order { order ≤ self.old.layout.order }
         requires apart { AreApart self.old.layout self.old.areas }
         requires room { HasRoom tape.old (steal_bound self.old.layout) }
-        ensures stolen { MatchOption result (steal_block self.old.layout self.old.areas wanted order ≡ None) (λ frame. steal_block self.old.layout self.old.areas wanted order ≡ Some (record { areas = self.new.areas; frame = frame })) }
+        ensures stolen { MatchOption result (steal_block self.old.layout self.old.areas wanted order
+            ≡ None) (λ frame. steal_block self.old.layout self.old.areas wanted order
+            ≡ Some (record { areas = self.new.areas; frame = frame })) }
         ensures none { MatchOption result ((self.new ≡ self.old) × (tape.new ≡ tape.old)) (λ _. Unit {0}) }
         ensures layout { self.new.layout ≡ self.old.layout }
-        ensures notes { NotesAreas self.old.layout (steal_bound self.old.layout) tape.old tape.new self.new.areas self.old.areas }
+        ensures notes { NotesAreas self.old.layout (steal_bound self.old.layout) tape.old tape.new
+            self.new.areas self.old.areas }
         ensures apart { AreApart self.new.layout self.new.areas }
         ensures block { IfSome result (MayBeGiven self.new.layout self.new.areas order) }
         ensures places { IfSome result (HasBlockMore self.old.areas self.new.areas order) }
@@ -187,15 +199,17 @@ impl Buddy {
         }
     }
 
-    /// Gives a block back: it joins with its buddies as far as they are free in the class that its pageblock shows, and goes
-    /// to the front of its list (Knuth, volume 1, section 2.5, liberation; that a pageblock isn't crossed is own).
+    /// Gives a block back: it joins with its buddies as far as they are free in the class that its
+    /// pageblock shows, and goes to the front of its list (Knuth, volume 1, section 2.5,
+    /// liberation; that a pageblock isn't crossed is own).
     pub fn give(&mut self, zone: Zone, frame: Frame, order: Order, tape: &mut Tape)
         requires block { MayBeGiven self.old.layout self.old.areas order frame }
         requires apart { AreApart self.old.layout self.old.areas }
         requires room { HasRoom tape.old (give_bound self.old.layout) }
         ensures given { self.new.areas ≡ give_block self.old.layout self.old.areas zone frame order }
         ensures layout { self.new.layout ≡ self.old.layout }
-        ensures notes { NotesAreas self.old.layout (give_bound self.old.layout) tape.old tape.new self.new.areas self.old.areas }
+        ensures notes { NotesAreas self.old.layout (give_bound self.old.layout) tape.old tape.new
+            self.new.areas self.old.areas }
         ensures apart { AreApart self.new.layout self.new.areas }
         ensures places { HasBlockMore self.new.areas self.old.areas order frame }
     {
@@ -205,8 +219,9 @@ impl Buddy {
         self.push_front(class, joined, frame.ancestor(joined), tape);
     }
 
-    /// Isolates a pageblock of the layout, or releases it: its free blocks go, by rising number, to the back of the lists of
-    /// their new class (Linux guide, Memory Hot(Un)Plug: offlining; the order is own).
+    /// Isolates a pageblock of the layout, or releases it: its free blocks go, by rising number, to
+    /// the back of the lists of their new class (Linux guide, Memory Hot(Un)Plug: offlining; the
+    /// order is own).
     pub fn move_pageblock(
         &mut self,
         zone: Zone,
@@ -217,9 +232,11 @@ impl Buddy {
         requires pageblock { pageblock < pageblock_count self.old.layout }
         requires apart { AreApart self.old.layout self.old.areas }
         requires room { HasRoom tape.old (move_bound self.old.layout) }
-        ensures moved { self.new.areas ≡ move_pageblock self.old.layout zone isolated self.old.areas pageblock }
+        ensures moved { self.new.areas
+            ≡ move_pageblock self.old.layout zone isolated self.old.areas pageblock }
         ensures layout { self.new.layout ≡ self.old.layout }
-        ensures notes { NotesAreas self.old.layout (move_bound self.old.layout) tape.old tape.new self.new.areas self.old.areas }
+        ensures notes { NotesAreas self.old.layout (move_bound self.old.layout) tape.old tape.new
+            self.new.areas self.old.areas }
         ensures apart { AreApart self.new.layout self.new.areas }
         ensures places { (frame : ℕ) → free_places self.new.areas frame ≡ free_places self.old.areas frame }
     {
@@ -234,17 +251,20 @@ impl Buddy {
         self.set_kind(pageblock, moved, tape);
     }
 
-    /// Adds a whole pageblock of the layout at the back of its zone's movable list of the greatest order (own rule).
+    /// Adds a whole pageblock of the layout at the back of its zone's movable list of the greatest
+    /// order (own rule).
     pub fn add_pageblock(&mut self, zone: Zone, pageblock: Pageblock, tape: &mut Tape)
         requires pageblock { pageblock < pageblock_count self.old.layout }
-        requires block { MayBeGiven self.old.layout self.old.areas self.old.layout.order (pageblock * pageblock_size self.old.layout) }
+        requires block { MayBeGiven self.old.layout self.old.areas self.old.layout.order
+            (pageblock * pageblock_size self.old.layout) }
         requires apart { AreApart self.old.layout self.old.areas }
         requires room { HasRoom tape.old 1 }
         ensures added { self.new.areas ≡ add_pageblock self.old.layout zone self.old.areas pageblock }
         ensures layout { self.new.layout ≡ self.old.layout }
         ensures notes { NotesAreas self.old.layout 1 tape.old tape.new self.new.areas self.old.areas }
         ensures apart { AreApart self.new.layout self.new.areas }
-        ensures places { HasBlockMore self.new.areas self.old.areas self.old.layout.order (pageblock * pageblock_size self.old.layout) }
+        ensures places { HasBlockMore self.new.areas self.old.areas self.old.layout.order
+            (pageblock * pageblock_size self.old.layout) }
     {
         let class = Class::usable(zone, Mobility::Movable);
         let order = Order(self.layout.order());
@@ -252,18 +272,21 @@ impl Buddy {
         self.push_back(class, order, first, tape);
     }
 
-    /// Removes a pageblock of the layout that is one isolated free block; it is movable and not isolated from then on
-    /// (Linux guide, Memory Hot(Un)Plug: offlining removes the free pages from the allocator).
+    /// Removes a pageblock of the layout that is one isolated free block; it is movable and not
+    /// isolated from then on (Linux guide, Memory Hot(Un)Plug: offlining removes the free pages
+    /// from the allocator).
     pub fn remove_pageblock(&mut self, zone: Zone, pageblock: Pageblock, tape: &mut Tape)
         requires pageblock { pageblock < pageblock_count self.old.layout }
-        requires free { is_on (pageblock * pageblock_size self.old.layout) (free_list self.old.areas (isolated_class zone) self.old.layout.order) ≡ true }
+        requires free { is_on (pageblock * pageblock_size self.old.layout)
+            (free_list self.old.areas (isolated_class zone) self.old.layout.order) ≡ true }
         requires apart { AreApart self.old.layout self.old.areas }
         requires room { HasRoom tape.old 2 }
         ensures removed { self.new.areas ≡ remove_pageblock self.old.layout zone self.old.areas pageblock }
         ensures layout { self.new.layout ≡ self.old.layout }
         ensures notes { NotesAreas self.old.layout 2 tape.old tape.new self.new.areas self.old.areas }
         ensures apart { AreApart self.new.layout self.new.areas }
-        ensures places { HasBlockMore self.old.areas self.new.areas self.old.layout.order (pageblock * pageblock_size self.old.layout) }
+        ensures places { HasBlockMore self.old.areas self.new.areas self.old.layout.order
+            (pageblock * pageblock_size self.old.layout) }
     {
         let order = Order(self.layout.order());
         let first = self.first_frame(pageblock);

@@ -34,22 +34,29 @@ warned_none : (number : ℕ) (o : Option Warning) → count_by is_fault (warned 
 warned_none number None = refl
 warned_none number (Some w) = refl
 
-warned_at_none : (l : LayoutParts) (t : TallyValue) (place : ℕ) (o : Option Line) → count_by is_fault (warned_at l t place o) ≡ 0
+warned_at_none : (l : LayoutParts) (t : TallyValue) (place : ℕ) (o : Option Line)
+    → count_by is_fault (warned_at l t place o) ≡ 0
 warned_at_none l t place None = refl
 warned_at_none l t place (Some line) = warned_none (place + 1) (line_warning l t line)
 
-each_none_fault : (f : ℕ → List Finding) (n : ℕ) → ((k : ℕ) → count_by is_fault (f k) ≡ 0) → count_by is_fault (each_below f n) ≡ 0
+each_none_fault : (f : ℕ → List Finding) (n : ℕ) → ((k : ℕ) → count_by is_fault (f k) ≡ 0)
+    → count_by is_fault (each_below f n) ≡ 0
 unfolding each_below
 each_none_fault f zero h = refl
-each_none_fault f (suc n) h = sum_by-append (λ x. cond (is_fault x) 1 0) (each_below f n) (f n) ∙ omega (arith, each_none_fault f n h, h n)
+each_none_fault f (suc n) h =
+    sum_by-append (λ x. cond (is_fault x) 1 0) (each_below f n) (f n)
+    ∙ omega (arith, each_none_fault f n h, h n)
 
 warnings_none : (l : LayoutParts) (lines : List Line) → count_by is_fault (warnings_of l lines) ≡ 0
 unfolding warnings_of
-warnings_none l lines = each_none_fault (λ place. warned_at l (tally_of (take place lines)) place (slice_get lines place)) (length lines) (λ k. warned_at_none l (tally_of (take k lines)) k (slice_get lines k))
+warnings_none l lines =
+    each_none_fault (λ place. warned_at l (tally_of (take place lines)) place (slice_get lines place))
+    (length lines) (λ k. warned_at_none l (tally_of (take k lines)) k (slice_get lines k))
 
 -- ---- what is none begins with its fault
 
-not_a_warning : (fault : ScenarioFault) (number : ℕ) (w : Warning) → IsFindingOf fault (finding.Warning number w) → ⊥
+not_a_warning : (fault : ScenarioFault) (number : ℕ) (w : Warning)
+    → IsFindingOf fault (finding.Warning number w) → ⊥
 not_a_warning NotJson number w h = h
 not_a_warning BadShape number w h = h
 not_a_warning (Layout f) number w h = h
@@ -75,33 +82,45 @@ same_fault : (a b : ScenarioFault) (r : Result ScenarioValue ScenarioFault) → 
 same_fault a b r h k = cc
 
 abbrev pub with_script : LayoutParts → Result Script ScenarioFault → Result ScenarioValue ScenarioFault
-with_script layout r = r >>= λ script. Ok (record { layout = layout; names = script.names; lines = script.lines })
+with_script layout r =
+    r >>= λ script. Ok (record { layout = layout; names = script.names; lines = script.lines })
 
-lines_fail : (layout : LayoutParts) (r : Result Script ScenarioFault) (fault : ScenarioFault) → with_script layout r ≡ Err fault → r ≡ Err fault
+lines_fail : (layout : LayoutParts) (r : Result Script ScenarioFault) (fault : ScenarioFault)
+    → with_script layout r ≡ Err fault → r ≡ Err fault
 lines_fail layout (Ok script) fault h = absurd cc
 lines_fail layout (Err e) fault h = ap Err (same_fault e fault (with_script layout (Err e)) refl h)
 
 abbrev pub after_layout : Form → Option LayoutFault → Result ScenarioValue ScenarioFault
-after_layout form o = layout_or form.parts o >>= λ layout. with_script layout (lines_from 1 nothing form.calls)
+after_layout form o =
+    layout_or form.parts o >>= λ layout. with_script layout (lines_from 1 nothing form.calls)
 
 form_fails : (form : Form) → scenario_with form ≡ after_layout form (layout_fault form.parts)
 unfolding scenario_with
 form_fails form = refl
 
-form_agrees : (d : Data) (form : Form) (fault : ScenarioFault) (o : Option LayoutFault) → IsMade d (get (codes "layout") d) form → layout_fault form.parts ≡ o → after_layout form o ≡ Err fault → Begins fault (range_faults_of (parts_in d) ++ call_faults_in d)
+form_agrees : (d : Data) (form : Form) (fault : ScenarioFault) (o : Option LayoutFault)
+    → IsMade d (get (codes "layout") d) form → layout_fault form.parts ≡ o → after_layout form o ≡ Err fault
+    → Begins fault (range_faults_of (parts_in d) ++ call_faults_in d)
 form_agrees d form fault (Some f) m e h =
-    subst (λ (p : Option LayoutParts). Begins fault (range_faults_of p ++ call_faults_in d)) (sym (parts_are d form m))
+    subst (λ (p : Option LayoutParts). Begins fault (range_faults_of p ++ call_faults_in d))
+    (sym (parts_are d form m))
     (begins_left fault (range_faults form.parts) (call_faults_in d)
-    (subst (λ (x : ScenarioFault). Begins x (range_faults form.parts)) (same_fault (Layout f) fault (after_layout form (Some f)) refl h) (range_begins form.parts f e)))
+    (subst (λ (x : ScenarioFault). Begins x (range_faults form.parts))
+    (same_fault (Layout f) fault (after_layout form (Some f)) refl h) (range_begins form.parts f e)))
 form_agrees d form fault None m e h =
-    subst (λ (p : Option LayoutParts). Begins fault (range_faults_of p ++ call_faults_in d)) (sym (parts_are d form m))
+    subst (λ (p : Option LayoutParts). Begins fault (range_faults_of p ++ call_faults_in d))
+    (sym (parts_are d form m))
     (begins_after fault (range_faults form.parts) (call_faults_in d) (range_fine form.parts e)
-    (calls_begin d nothing fault form.calls m.calls (lines_fail form.parts (lines_from 1 nothing form.calls) fault h)))
+    (calls_begin d nothing fault form.calls m.calls
+    (lines_fail form.parts (lines_from 1 nothing form.calls) fault h)))
 
-value_agrees_of : (d : Data) (fault : ScenarioFault) (o : Option Form) → form_of d ≡ o → (or_fault BadShape o >>= scenario_with) ≡ Err fault → Begins fault (shape_faults d ++ (range_faults_of (parts_in d) ++ call_faults_in d))
+value_agrees_of : (d : Data) (fault : ScenarioFault) (o : Option Form) → form_of d ≡ o
+    → (or_fault BadShape o >>= scenario_with) ≡ Err fault
+    → Begins fault (shape_faults d ++ (range_faults_of (parts_in d) ++ call_faults_in d))
 value_agrees_of d fault None e h =
     begins_left fault (shape_faults d) (range_faults_of (parts_in d) ++ call_faults_in d)
-    (subst (λ (x : ScenarioFault). Begins x (shape_faults d)) (same_fault BadShape fault (or_fault BadShape None >>= scenario_with) refl h) (shape_lacks d e))
+    (subst (λ (x : ScenarioFault). Begins x (shape_faults d))
+    (same_fault BadShape fault (or_fault BadShape None >>= scenario_with) refl h) (shape_lacks d e))
 value_agrees_of d fault (Some form) e h =
     let fine = shape_fine d form e in
     begins_after fault (shape_faults d) (range_faults_of (parts_in d) ++ call_faults_in d) fine.0
@@ -109,18 +128,25 @@ value_agrees_of d fault (Some form) e h =
 
 value_agrees : (d : Data) (fault : ScenarioFault) → scenario_of d ≡ Err fault → Begins fault (faults_in d)
 unfolding scenario_of faults_in
-value_agrees d fault h = begins_of_three fault (shape_faults d) (range_faults_of (parts_in d)) (call_faults_in d) (value_agrees_of d fault (form_of d) refl h)
+value_agrees d fault h =
+    begins_of_three fault (shape_faults d) (range_faults_of (parts_in d)) (call_faults_in d)
+    (value_agrees_of d fault (form_of d) refl h)
 
 -- ---- both
 
-text_agrees : (input : List ℕ) (found : List Finding) (fault : ScenarioFault) (o : Option Data) → (or_fault NotJson o >>= scenario_of) ≡ Err fault → AreFaults o found → Begins fault found
+text_agrees : (input : List ℕ) (found : List Finding) (fault : ScenarioFault) (o : Option Data)
+    → (or_fault NotJson o >>= scenario_of) ≡ Err fault → AreFaults o found → Begins fault found
 text_agrees input found fault None h are =
-    subst (λ (x : ScenarioFault). Begins x found) (same_fault NotJson fault (or_fault NotJson None >>= scenario_of) refl h) (subst (Begins NotJson) (sym are.2) tt)
+    subst (λ (x : ScenarioFault). Begins x found) (same_fault NotJson fault
+    (or_fault NotJson None >>= scenario_of) refl h) (subst (Begins NotJson) (sym are.2) tt)
 text_agrees input found fault (Some d) h are = subst (Begins fault) (sym are) (value_agrees d fault h)
 
-agrees_of : (input : List ℕ) (found : List Finding) (r : Result ScenarioValue ScenarioFault) → (or_fault NotJson (json_of input) >>= scenario_of) ≡ r → AreFindingsOf r input found → Agrees r found
-agrees_of input found (Ok s) e are = subst (λ (fs : List Finding). count_by is_fault fs ≡ 0) (sym are) (warnings_none s.layout s.lines)
-agrees_of input found (Err fault) e are = let first = text_agrees input found fault (json_of input) e are in (first, some_fault fault found first)
+agrees_of : (input : List ℕ) (found : List Finding) (r : Result ScenarioValue ScenarioFault)
+    → (or_fault NotJson (json_of input) >>= scenario_of) ≡ r → AreFindingsOf r input found → Agrees r found
+agrees_of input found (Ok s) e are =
+    subst (λ (fs : List Finding). count_by is_fault fs ≡ 0) (sym are) (warnings_none s.layout s.lines)
+agrees_of input found (Err fault) e are =
+    let first = text_agrees input found fault (json_of input) e are in (first, some_fault fault found first)
 
 scenario_is : (input : List ℕ) → (or_fault NotJson (json_of input) >>= scenario_of) ≡ scenario_in input
 unfolding scenario_in

@@ -8,7 +8,9 @@ unfolding each_below
 each_none f old = sym (append-nil old)
 
 -- one more number
-pub each_more : {A : Type 0} (f : ℕ → List A) (n : ℕ) (old now new piece : List A) → now ≡ old ++ each_below f n → new ≡ now ++ piece → piece ≡ f n → new ≡ old ++ each_below f (n + 1)
+pub each_more : {A : Type 0} (f : ℕ → List A) (n : ℕ) (old now new piece : List A)
+    → now ≡ old ++ each_below f n → new ≡ now ++ piece → piece ≡ f n → new ≡ old ++ each_below f (n + 1)
 unfolding each_below
 each_more {A} f n old now new piece p q r =
-    q ∙ ap (λ (l : List A). now ++ l) r ∙ ap (λ (l : List A). l ++ f n) p ∙ append_assoc old (each_below f n) (f n) ∙ ap (λ (k : ℕ). old ++ each_below f k) (sym (add-one n))
+    q ∙ ap (λ (l : List A). now ++ l) r ∙ ap (λ (l : List A). l ++ f n) p
+    ∙ append_assoc old (each_below f n) (f n) ∙ ap (λ (k : ℕ). old ++ each_below f k) (sym (add-one n))

@@ -3,11 +3,10 @@ mod CallsAgree
 mod Each
 mod Fronts
 mod Json
-mod Lines
 mod RangesAgree
 mod Reported
+mod ShapeParts
 mod Shapes
 mod Spaces
 mod Values
-mod Walked
 mod Warned

@@ -16,10 +16,13 @@ pub items_seen : (vs : List Value) → data_of (items_view vs) ≡ map view vs
 items_seen vs = items_are (map view vs)
 
 -- the item at a place
-pub item_there : (vs : List Value) (i : ℕ) (v : Value) → i < length vs → v ≡ get_or vs i v → slice_get (map view vs) i ≡ Some (view v)
-item_there vs i v lt at = slice_get-map view vs i ∙ ap (option_map view) (slice_get_read vs (length vs) i v refl lt at)
+pub item_there : (vs : List Value) (i : ℕ) (v : Value) → i < length vs → v ≡ get_or vs i v
+    → slice_get (map view vs) i ≡ Some (view v)
+item_there vs i v lt at =
+    slice_get-map view vs i ∙ ap (option_map view) (slice_get_read vs (length vs) i v refl lt at)
 
 -- the names of members
-pub names_seen : (ms : List (String Global × Value)) → names_of (members_view ms) ≡ map string_bytes (map (λ m. m.0) ms)
+pub names_seen : (ms : List (String Global × Value))
+    → names_of (members_view ms) ≡ map string_bytes (map (λ m. m.0) ms)
 names_seen [] = refl
 names_seen (m ∷ ms) = ap (λ (rest : List (List ℕ)). string_bytes m.0 ∷ rest) (names_seen ms)

@@ -21,21 +21,29 @@ use Rattle.hp_check.proofs.Each.{each_more, each_none}
 abbrev pub warning_at : LayoutParts → List Line → ℕ → List Finding
 warning_at l lines place = warned_at l (tally_of (take place lines)) place (slice_get lines place)
 
-pub none_warned : (l : LayoutParts) (lines : List Line) (found : List Finding) → found ≡ [] → found ≡ each_below (warning_at l lines) 0
+pub none_warned : (l : LayoutParts) (lines : List Line) (found : List Finding) → found ≡ []
+    → found ≡ each_below (warning_at l lines) 0
 none_warned l lines found none = none ∙ each_none (warning_at l lines) []
 
-pub one_warned : (l : LayoutParts) (lines : List Line) (i : ℕ) (line : Line) (t : TallyValue) (found new : List Finding) → i < length lines → line ≡ get_or lines i line → t ≡ tally_of (take i lines)
-    → found ≡ each_below (warning_at l lines) i → new ≡ found ++ warned (i + 1) (line_warning l t line) → new ≡ each_below (warning_at l lines) (i + 1)
+pub one_warned : (l : LayoutParts) (lines : List Line) (i : ℕ) (line : Line) (t : TallyValue)
+    (found new : List Finding)
+    → i < length lines → line ≡ get_or lines i line → t ≡ tally_of (take i lines)
+    → found ≡ each_below (warning_at l lines) i → new ≡ found ++ warned (i + 1) (line_warning l t line)
+    → new ≡ each_below (warning_at l lines) (i + 1)
 one_warned l lines i line t found new lt at tallied so_far more =
     let here : warned (i + 1) (line_warning l t line) ≡ warning_at l lines i =
     ap (λ (u : TallyValue). warned (i + 1) (line_warning l u line)) tallied
-    ∙ ap (warned_at l (tally_of (take i lines)) i) (sym (slice_get_read lines (length lines) i line refl lt at)) in
+    ∙ ap (warned_at l (tally_of (take i lines)) i)
+    (sym (slice_get_read lines (length lines) i line refl lt at)) in
     each_more (warning_at l lines) i [] found new (warned (i + 1) (line_warning l t line)) so_far more here
 
-pub one_tallied : (lines : List Line) (i : ℕ) (line : Line) (t after : TallyValue) → i < length lines → line ≡ get_or lines i line → t ≡ tally_of (take i lines) → after ≡ after_work t line.work → after ≡ tally_of (take (i + 1) lines)
+pub one_tallied : (lines : List Line) (i : ℕ) (line : Line) (t after : TallyValue) → i < length lines
+    → line ≡ get_or lines i line → t ≡ tally_of (take i lines) → after ≡ after_work t line.work
+    → after ≡ tally_of (take (i + 1) lines)
 one_tallied lines i line t after lt at so_far is =
     is ∙ ap (λ (u : TallyValue). after_line u line) so_far
-    ∙ sym (ap tally_of (take_more lines i line lt ∙ ap (λ (x : Line). take i lines ++ x ∷ []) (sym at)) ∙ fold_push after_line no_lines (take i lines) line)
+    ∙ sym (ap tally_of (take_more lines i line lt ∙ ap (λ (x : Line). take i lines ++ x ∷ []) (sym at))
+    ∙ fold_push after_line no_lines (take i lines) line)
 
 request_used : (t : TallyValue) (r : Result Request ControlFault) → (after_request t r).used ≤ t.used + 1
 request_used t (Ok (request.Event e)) = omega arith
@@ -50,5 +58,8 @@ work_used t (work.Echo path word) = request_used t (echo_request path word)
 work_used t (work.Cat path) = omega arith
 work_used t work.Seal = omega arith
 
-pub used_more : (t after : TallyValue) (w : Work) (i : ℕ) → t.used ≤ i → after ≡ after_work t w → after.used ≤ i + 1
-used_more t after w i so_far is = let used : after.used ≡ (after_work t w).used = ap (λ (u : TallyValue). u.used) is in omega (arith, so_far, used, work_used t w)
+pub used_more : (t after : TallyValue) (w : Work) (i : ℕ) → t.used ≤ i → after ≡ after_work t w
+    → after.used ≤ i + 1
+used_more t after w i so_far is =
+    let used : after.used ≡ (after_work t w).used = ap (λ (u : TallyValue). u.used) is in
+    omega (arith, so_far, used, work_used t w)

@@ -7,7 +7,8 @@ use Rattle.hp_numbers.specs.NumberWords.{number_of}
 -- the text before the first space, and the text after it
 unfoldable pub halves_of : List ℕ → Option (List ℕ × List ℕ)
 halves_of text =
-    if nat_lt (position_or_len (λ b. b == 32) text) (length text) then Some (before_first (λ b. b == 32) text, after_first (λ b. b == 32) text)
+    if nat_lt (position_or_len (λ b. b == 32) text) (length text) then Some
+    (before_first (λ b. b == 32) text, after_first (λ b. b == 32) text)
     else None
 
 -- the text before the first space, or all of it
@@ -22,12 +23,15 @@ first_word text = first_or text (halves_of text)
 unfoldable pub rarer_form_of : List ℕ → List ℕ
 rarer_form_of verb =
     if bytes_eq verb (codes "undo") then codes "wanted: C undo SERIAL"
-    else (if bytes_eq verb (codes "plan") then codes "wanted: C plan TURNS ITEM .., where an ITEM is off BLOCK, normal BLOCK or movable BLOCK"
+    else (if bytes_eq verb (codes "plan") then codes
+    "wanted: C plan TURNS ITEM .., where an ITEM is off BLOCK, normal BLOCK or movable BLOCK"
     else (if bytes_eq verb (codes "echo") then codes "wanted: C echo TEXT PATH"
     else (if bytes_eq verb (codes "cat") then codes "wanted: C cat PATH"
     else (if bytes_eq verb (codes "seal") then codes "wanted: C seal"
-    else (if bytes_eq verb (codes "offline") then codes "its second word is no verb; perhaps C plan TURNS off BLOCK, or C echo offline memoryN/state"
-    else (if bytes_eq verb (codes "probe") then codes "its second word is no verb; perhaps C echo 0xADDRESS probe"
+    else (if bytes_eq verb (codes "offline") then codes
+    "its second word is no verb; perhaps C plan TURNS off BLOCK, or C echo offline memoryN/state"
+    else (if bytes_eq verb (codes "probe") then codes
+    "its second word is no verb; perhaps C echo 0xADDRESS probe"
     else (if bytes_eq verb (codes "alloc") then codes "its second word is no verb; perhaps C kalloc ORDER"
     else (if bytes_eq verb (codes "free") then codes "its second word is no verb; perhaps C kfree FRAME"
     else (if bytes_eq verb (codes "abort") then codes "its second word is no verb; perhaps C cancel OP"
@@ -44,9 +48,11 @@ form_of verb =
     else (if bytes_eq verb (codes "write") then codes "wanted: C write NAME PAGE INDEX VALUE"
     else (if bytes_eq verb (codes "read") then codes "wanted: C read NAME PAGE INDEX"
     else (if bytes_eq verb (codes "drain") then codes "wanted: C drain CPU"
-    else (if bytes_eq verb (codes "online") then codes "wanted: C online BLOCK ZONE, where ZONE is normal or movable"
+    else (if bytes_eq verb (codes "online") then codes
+    "wanted: C online BLOCK ZONE, where ZONE is normal or movable"
     else (if bytes_eq verb (codes "remove") then codes "wanted: C remove BLOCK"
-    else (if bytes_eq verb (codes "begin") then codes "wanted: C begin ITEM .., where an ITEM is off BLOCK, normal BLOCK or movable BLOCK"
+    else (if bytes_eq verb (codes "begin") then codes
+    "wanted: C begin ITEM .., where an ITEM is off BLOCK, normal BLOCK or movable BLOCK"
     else (if bytes_eq verb (codes "drainfor") then codes "wanted: C drainfor OP CPU"
     else (if bytes_eq verb (codes "migrate") then codes "wanted: C migrate OP"
     else (if bytes_eq verb (codes "commit") then codes "wanted: C commit OP"

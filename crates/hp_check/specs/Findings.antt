@@ -33,9 +33,13 @@ key_name key.Boot = codes "boot"
 
 -- the keys of a layout whose values are numbers
 abbrev pub number_keys : List Key
-number_keys = key.Order ∷ key.Pageblocks ∷ key.Blocks ∷ key.Cpus ∷ key.Batch ∷ key.High ∷ key.Owners ∷ key.Pages ∷ key.Words ∷ key.History ∷ []
+number_keys =
+    key.Order ∷ key.Pageblocks ∷ key.Blocks ∷ key.Cpus ∷ key.Batch ∷ key.High ∷ key.Owners ∷ key.Pages
+    ∷ key.Words ∷ key.History ∷ []
 
 -- the keys that an object must have, and no others
 abbrev pub keys_of : Place → List Key
 keys_of Whole = key.Layout ∷ key.Calls ∷ []
-keys_of Layout = key.Order ∷ key.Pageblocks ∷ key.Blocks ∷ key.Cpus ∷ key.Batch ∷ key.High ∷ key.Owners ∷ key.Pages ∷ key.Words ∷ key.History ∷ key.Boot ∷ []
+keys_of Layout =
+    key.Order ∷ key.Pageblocks ∷ key.Blocks ∷ key.Cpus ∷ key.Batch ∷ key.High ∷ key.Owners ∷ key.Pages
+    ∷ key.Words ∷ key.History ∷ key.Boot ∷ []

@@ -45,4 +45,5 @@ Agrees (Ok scenario) found = count_by is_fault found ≡ 0
 Agrees (Err fault) found = Begins fault found × (1 ≤ count_by is_fault found)
 
 abbrev pub FirstFindingsAgree : Type 0
-FirstFindingsAgree = (input : List ℕ) (found : List Finding) → AreFindings input found → Agrees (scenario_in input) found
+FirstFindingsAgree =
+    (input : List ℕ) (found : List Finding) → AreFindings input found → Agrees (scenario_in input) found

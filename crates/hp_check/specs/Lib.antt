@@ -4,8 +4,6 @@ pub mod Each
 pub mod Expected
 pub mod Findings
 pub mod Laws
-pub mod Lexemes
-pub mod Places
 pub mod Ranges
 pub mod Reports
 pub mod Shape

@@ -61,7 +61,10 @@ range_faults l = flat_map part_fault (parts_out l)
 
 -- the parts that the value at `layout` has
 unfoldable pub parts_in : Data → Option LayoutParts
-parts_in d = option_and_then (λ layout. option_and_then (λ boot. parts_with boot layout) (boots_at (codes "boot") layout)) (get (codes "layout") d)
+parts_in d =
+    option_and_then
+    (λ layout. option_and_then (λ boot. parts_with boot layout) (boots_at (codes "boot") layout))
+    (get (codes "layout") d)
 
 abbrev pub range_faults_of : Option LayoutParts → List Finding
 range_faults_of None = []

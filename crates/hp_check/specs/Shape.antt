@@ -42,14 +42,18 @@ abbrev pub count_fault : Place → (count : ℕ) → List Finding
 count_fault place count = unless (count == length (keys_of place)) (Shape (KeyCount place count))
 
 abbrev pub unknown_fault : Place → List ℕ → List Finding
-unknown_fault place name = unless (list_any (λ k. bytes_eq name (key_name k)) (keys_of place)) (Shape (UnknownKey place name))
+unknown_fault place name =
+    unless (list_any (λ k. bytes_eq name (key_name k)) (keys_of place)) (Shape (UnknownKey place name))
 
 abbrev pub missing_fault : Place → Data → Key → List Finding
 missing_fault place d k = unless (is_there d k) (Shape (MissingKey place k))
 
--- where the keys are not those of the object: another number of them, those that are unknown, those that are missing
+-- where the keys are not those of the object: another number of them, those that are unknown, those
+-- that are missing
 unfoldable pub wrong_keys : Place → Data → Members → List Finding
-wrong_keys place d ms = count_fault place (members_len ms) ++ flat_map (unknown_fault place) (names_of ms) ++ flat_map (missing_fault place d) (keys_of place)
+wrong_keys place d ms =
+    count_fault place (members_len ms) ++ flat_map (unknown_fault place) (names_of ms)
+    ++ flat_map (missing_fault place d) (keys_of place)
 
 unfoldable pub key_faults : Place → Data → Members → List Finding
 key_faults place d ms = if has_its_keys place d ms then [] else wrong_keys place d ms
@@ -93,7 +97,8 @@ list_faults k f (Some d) = list_faults_of k f (as_array d)
 abbrev pub layout_faults_of : Data → Option Members → List Finding
 layout_faults_of d None = Shape (NotObject Layout) ∷ []
 layout_faults_of d (Some ms) =
-    key_faults Layout d ms ++ flat_map (number_fault d) number_keys ++ list_faults key.Boot boot_faults (get (key_name key.Boot) d)
+    key_faults Layout d ms ++ flat_map (number_fault d) number_keys
+    ++ list_faults key.Boot boot_faults (get (key_name key.Boot) d)
 
 abbrev pub layout_faults : Option Data → List Finding
 layout_faults None = []
@@ -102,7 +107,8 @@ layout_faults (Some d) = layout_faults_of d (as_object d)
 abbrev pub whole_faults : Data → Option Members → List Finding
 whole_faults d None = Shape (NotObject Whole) ∷ []
 whole_faults d (Some ms) =
-    key_faults Whole d ms ++ layout_faults (get (key_name key.Layout) d) ++ list_faults key.Calls text_faults (get (key_name key.Calls) d)
+    key_faults Whole d ms ++ layout_faults (get (key_name key.Layout) d)
+    ++ list_faults key.Calls text_faults (get (key_name key.Calls) d)
 
 unfoldable pub shape_faults : Data → List Finding
 shape_faults d = whole_faults d (as_object d)

@@ -9,8 +9,9 @@ use Rattle.hp_scenario.specs.declared.lines.Line.{Line}
 use Rattle.hp_scenario.specs.declared.lines.Work.{Work}
 use Rattle.hp_scenario.specs.declared.lines.Work.TheVariants as work
 
--- which of the records begin an operation, up to the first plan; whether there was a plan, of which nobody knows how many records
--- it makes; and how many records there are since the last seal, one for each plan
+-- which of the records begin an operation, up to the first plan; whether there was a plan, of which
+-- nobody knows how many records it makes; and how many records there are since the last seal, one
+-- for each plan
 pub record TallyValue : Type 0 where
   pub begins : List Bool
   pub has_plan : Bool

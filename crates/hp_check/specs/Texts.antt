@@ -63,7 +63,8 @@ head_text lines number = codes "calls " ++ decimal number ++ line_text (line_of 
 abbrev pub number_text : (before : List ℕ) → (n : ℕ) → (after : List ℕ) → List ℕ
 number_text before n after = before ++ decimal n ++ after ++ newline
 
-abbrev pub numbers_text : (before : List ℕ) → (n : ℕ) → (between : List ℕ) → (m : ℕ) → (after : List ℕ) → List ℕ
+abbrev pub numbers_text : (before : List ℕ) → (n : ℕ) → (between : List ℕ) → (m : ℕ) → (after : List ℕ)
+    → List ℕ
 numbers_text before n between m after = before ++ decimal n ++ between ++ decimal m ++ after ++ newline
 
 -- a number of the layout and what it may be
@@ -74,13 +75,16 @@ abbrev pub bound_text : Key → (n : ℕ) → (range : List ℕ) → List ℕ
 bound_text k n range = bound_front k n ++ range ++ newline
 
 abbrev pub batch_text : (batch high : ℕ) → List ℕ
-batch_text batch high = bound_front key.Batch batch ++ codes "1 to `high`, which is " ++ decimal high ++ newline
+batch_text batch high =
+    bound_front key.Batch batch ++ codes "1 to `high`, which is " ++ decimal high ++ newline
 
 abbrev pub range_text : OutOfRange → List ℕ
 range_text (range.Order n) = bound_text key.Order n (codes "0 to 10")
 range_text (range.Pageblocks n) = bound_text key.Pageblocks n (codes "1, 2, 4, 8, 16, 32 or 64")
 range_text (range.Blocks n) = bound_text key.Blocks n (codes "1 to 256")
-range_text (range.Frames n) = number_text (codes "layout: blocks * pageblocks * 2^order is ") n (codes " frames, and may be at most 1048576")
+range_text (range.Frames n) =
+    number_text (codes "layout: blocks * pageblocks * 2^order is ") n
+    (codes " frames, and may be at most 1048576")
 range_text (range.Cpus n) = bound_text key.Cpus n (codes "1 to 64")
 range_text (range.Batch batch high) = batch_text batch high
 range_text (range.High n) = bound_text key.High n (codes "1 to 1024")
@@ -88,21 +92,29 @@ range_text (range.Owners n) = bound_text key.Owners n (codes "1 to 64")
 range_text (range.Pages n) = bound_text key.Pages n (codes "1 to 65536")
 range_text (range.Words n) = bound_text key.Words n (codes "1 to 512")
 range_text (range.History n) = bound_text key.History n (codes "1 to 16777216")
-range_text (range.Boot words blocks) = numbers_text (codes "layout: `boot` has ") words (codes " words, and `blocks` is ") blocks []
+range_text (range.Boot words blocks) =
+    numbers_text (codes "layout: `boot` has ") words (codes " words, and `blocks` is ") blocks []
 
 abbrev pub past_text : What → (number count : ℕ) → List ℕ
-past_text w number count = codes "warning: " ++ what_text w ++ numbers_text (codes " ") number (codes " is past the layout, which has ") count (codes ", counted from 0")
+past_text w number count =
+    codes "warning: " ++ what_text w ++ numbers_text (codes " ") number
+    (codes " is past the layout, which has ") count (codes ", counted from 0")
 
 abbrev pub warning_text : Warning → List ℕ
 warning_text (warning.Past w number count) = past_text w number count
 warning_text (warning.NoBegin op) = number_text (codes "warning: no line before begins operation ") op []
-warning_text (warning.Turns turns history) = numbers_text (codes "warning: a history of ") history (codes " records has no room for ") turns (codes " turns")
-warning_text (warning.Full history) = number_text (codes "warning: the lines before fill the history of ") history (codes " records")
+warning_text (warning.Turns turns history) =
+    numbers_text (codes "warning: a history of ") history (codes " records has no room for ") turns
+    (codes " turns")
+warning_text (warning.Full history) =
+    number_text (codes "warning: the lines before fill the history of ") history (codes " records")
 warning_text (warning.Echo fault) = codes "warning: echo: fault " ++ fault_name fault ++ newline
 warning_text warning.NoFile = codes "warning: cat: fault NoFile" ++ newline
 
 abbrev pub key_count_text : Place → (count : ℕ) → List ℕ
-key_count_text p n = place_text p ++ codes ": keys: " ++ decimal n ++ codes ", wanted: " ++ decimal (length (keys_of p)) ++ newline
+key_count_text p n =
+    place_text p ++ codes ": keys: " ++ decimal n ++ codes ", wanted: " ++ decimal (length (keys_of p))
+    ++ newline
 
 -- a key of an object, and what is said of it
 abbrev pub key_text : Place → (name : List ℕ) → (what : List ℕ) → List ℕ
@@ -115,7 +127,8 @@ shape_text lines (UnknownKey p k) = key_text p k (codes " is no key of it")
 shape_text lines (MissingKey p k) = key_text p (key_name k) (codes " is missing")
 shape_text lines (NotNumber k) = key_text place.Layout (key_name k) (codes " is no integer from 0 up")
 shape_text lines (NotList k) = codes "`" ++ key_name k ++ codes "` is no list" ++ newline
-shape_text lines (NotBoot n) = number_text (codes "layout: word ") n (codes " of `boot` is none of normal, movable, offline, absent")
+shape_text lines (NotBoot n) =
+    number_text (codes "layout: word ") n (codes " of `boot` is none of normal, movable, offline, absent")
 shape_text lines (NotText n) = head_text lines n ++ codes "no text" ++ newline
 
 -- a text that is no line, and what was expected
@@ -123,7 +136,9 @@ abbrev pub call_text : List ℕ → List ℕ
 call_text text = quoted text ++ codes ": " ++ expected text ++ newline
 
 abbrev pub no_json_text : (line column : ℕ) → List ℕ
-no_json_text line column = codes "line " ++ decimal line ++ codes ", " ++ codes "column " ++ decimal column ++ codes ": not JSON" ++ newline
+no_json_text line column =
+    codes "line " ++ decimal line ++ codes ", " ++ codes "column " ++ decimal column ++ codes ": not JSON"
+    ++ newline
 
 abbrev pub finding_text : (lines : List ℕ) → Finding → List ℕ
 finding_text lines (finding.NotJson line column) = no_json_text line column
@@ -136,7 +151,9 @@ abbrev pub is_warning : Finding → Bool
 is_warning f = not (is_fault f)
 
 abbrev pub counts_text : List Finding → List ℕ
-counts_text found = codes "faults: " ++ decimal (count_by is_fault found) ++ codes ", " ++ codes "warnings: " ++ decimal (count_by is_warning found) ++ newline
+counts_text found =
+    codes "faults: " ++ decimal (count_by is_fault found) ++ codes ", " ++ codes "warnings: "
+    ++ decimal (count_by is_warning found) ++ newline
 
 -- all findings, and how many there are
 abbrev pub report_text : (lines : List ℕ) → List Finding → List ℕ

@@ -37,7 +37,8 @@ word_past l owner page index = option_or (page_past l owner page) (past Word ind
 
 -- the first item of a plan whose memory block is past the layout
 abbrev pub plan_past : LayoutParts → List Item → Option Warning
-plan_past l plan = option_map (λ item. Past Block item.block l.blocks) (find (λ item. not (nat_lt item.block l.blocks)) plan)
+plan_past l plan =
+    option_map (λ item. Past Block item.block l.blocks) (find (λ item. not (nat_lt item.block l.blocks)) plan)
 
 -- ---- operations, plans and histories
 
@@ -45,7 +46,8 @@ plan_past l plan = option_map (λ item. Past Block item.block l.blocks) (find (�
 abbrev pub no_begin : TallyValue → (op : ℕ) → Option Warning
 no_begin t op = then_some (not (may_begin t op)) (NoBegin op)
 
--- all turns of a plan, its begin, a round of drains, the last migration and the commit are more than the history takes
+-- all turns of a plan, its begin, a round of drains, the last migration and the commit are more
+-- than the history takes
 abbrev pub too_many_turns : LayoutParts → (turns : ℕ) → Option Warning
 too_many_turns l turns = then_some (not (nat_le (turns + l.cpus + 3) l.history)) (Turns turns l.history)
 
@@ -86,7 +88,8 @@ abbrev pub carried_warning : LayoutParts → TallyValue → (cpu : ℕ) → List
 carried_warning l t cpu plan = option_or (caller_warning l t cpu) (plan_past l plan)
 
 -- what a control file is asked for; a fault is a warning itself
-abbrev pub request_warning : LayoutParts → TallyValue → (cpu : ℕ) → Result Request ControlFault → Option Warning
+abbrev pub request_warning : LayoutParts → TallyValue → (cpu : ℕ) → Result Request ControlFault
+    → Option Warning
 request_warning l t cpu (Ok (request.Event e)) = call_warning l t cpu e
 request_warning l t cpu (Ok (request.Plan plan)) = carried_warning l t cpu plan
 request_warning l t cpu (Err fault) = Some (Echo fault)
@@ -100,7 +103,8 @@ is_no_file answer = false
 
 abbrev pub work_warning : LayoutParts → TallyValue → (cpu : ℕ) → Work → Option Warning
 work_warning l t cpu (work.Event e) = call_warning l t cpu e
-work_warning l t cpu (work.Plan plan turns) = option_or (carried_warning l t cpu plan) (too_many_turns l turns)
+work_warning l t cpu (work.Plan plan turns) =
+    option_or (carried_warning l t cpu plan) (too_many_turns l turns)
 work_warning l t cpu (work.Echo path word) = request_warning l t cpu (echo_request path word)
 work_warning l t cpu (work.Cat path) = then_some (is_no_file (request_of path [])) NoFile
 work_warning l t cpu work.Seal = None
@@ -119,4 +123,6 @@ warned_at l t place (Some line) = warned (place + 1) (line_warning l t line)
 
 -- the warnings of all lines; they are counted from 1
 unfoldable pub warnings_of : LayoutParts → List Line → List Finding
-warnings_of l lines = each_below (λ place. warned_at l (tally_of (take place lines)) place (slice_get lines place)) (length lines)
+warnings_of l lines =
+    each_below (λ place. warned_at l (tally_of (take place lines)) place (slice_get lines place))
+    (length lines)

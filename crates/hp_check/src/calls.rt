@@ -44,7 +44,8 @@ fn push_entry(
     number: u64,
     call: &Value,
 ) -> Result<(), AllocError>
-    ensures { OnOk result (found.new.items ≡ found.old.items ++ means.entry_fault number (Some (view call.now))) }
+    ensures { OnOk result
+        (found.new.items ≡ found.old.items ++ means.entry_fault number (Some (view call.now))) }
 {
     match call.as_str() {
         Some(text) => push_unless_line(found, alloc, number, text),

@@ -15,10 +15,11 @@ use hp_scenario::{Scenario, ScenarioFault};
 use serde_json::{Error, Value};
 use std::alloc::{AllocError, Global};
 
-/// All that is wrong with the scenario that the bytes are to be: faults where they are none, and else warnings. Faults come in the
-/// order of those of `Scenario::read`, so that the first is its fault; but all of them are found: of the keys and kinds of values, of
-/// the layout's ranges where its parts can be read, and of each text of `calls` that is no line. A line has at most one warning.
-/// An error is out of memory.
+/// All that is wrong with the scenario that the bytes are to be: faults where they are none, and
+/// else warnings. Faults come in the order of those of `Scenario::read`, so that the first is its
+/// fault; but all of them are found: of the keys and kinds of values, of the layout's ranges where
+/// its parts can be read, and of each text of `calls` that is no line. A line has at most one
+/// warning. An error is out of memory.
 pub fn check(alloc: Global, input: &[u8]) -> Result<Vec<Finding>, AllocError>
     ensures { IfOk result (λ found. AreFindings input.now found.items) }
 {

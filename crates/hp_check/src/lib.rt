@@ -1,9 +1,11 @@
 //! What is wrong with a scenario and where: findings, and their text.
 //!
-//! The crate owns the findings: faults, for which a text is no scenario, and warnings, for which a scenario hardly does what its
-//! writer wants. It runs no machine and opens no file or stream. What a scenario is, hp_scenario says.
+//! The crate owns the findings: faults, for which a text is no scenario, and warnings, for which a
+//! scenario hardly does what its writer wants. It runs no machine and opens no file or stream. What
+//! a scenario is, hp_scenario says.
 //!
-//! Read specs/Checking first: what `check` promises. Then specs/Shape, Ranges, Calls and Warnings, and last specs/Texts.
+//! Read specs/Checking first: what `check` promises. Then specs/Shape, Ranges, Calls and Warnings,
+//! and last specs/Texts.
 #![tactic(auto)]
 
 mod calls;
@@ -11,8 +13,6 @@ mod checking;
 mod expected;
 mod finding;
 mod laws;
-mod lexemes;
-mod places;
 mod ranges;
 mod report;
 mod requests;

@@ -12,14 +12,16 @@ use hp_units::{Parts, is_pageblock_count, is_within};
 use serde_json::Value;
 use std::alloc::{AllocError, Global};
 
-/// Adds the parts of a scenario's layout that are out of their ranges, where all its parts can be read. An error is out of memory.
+/// Adds the parts of a scenario's layout that are out of their ranges, where all its parts can be
+/// read. An error is out of memory.
 #[tactic(auto, unfolding(crate::specs::Ranges::parts_in))]
 pub(crate) fn push_ranges(
     found: &mut Vec<Finding>,
     alloc: Global,
     value: &Value,
 ) -> Result<(), AllocError>
-    ensures { OnOk result (found.new.items ≡ found.old.items ++ means.range_faults_of (means.parts_in (view value.now))) }
+    ensures { OnOk result
+        (found.new.items ≡ found.old.items ++ means.range_faults_of (means.parts_in (view value.now))) }
 {
     let Some(layout) = value.get("layout") else {
         return Ok(());

@@ -7,13 +7,14 @@ ghost use Rattle.hp_check.specs.Texts as says;
 use crate::checking::fault_count;
 use crate::expected::expected;
 use crate::finding::{Finding, Key, OutOfRange, Place, Shape, Warning, What};
-use crate::places::call_lines;
 use crate::shape::keys_of;
+use hp_call_lines::call_lines;
 use hp_control::ControlFault;
 use std::alloc::{AllocError, Global};
 
-/// Writes findings on a scenario, one a line, and how many faults and warnings there are (own rule). A finding on a text of `calls`
-/// has its number, and where it is found the line of the scenario's text. An error is out of memory.
+/// Writes findings on a scenario, one a line, and how many faults and warnings there are (own
+/// rule). A finding on a text of `calls` has its number, and where it is found the line of the
+/// scenario's text. An error is out of memory.
 pub fn write_report(
     out: &mut String,
     alloc: Global,
@@ -29,7 +30,8 @@ pub fn write_report(
 
 /// Writes findings, one a line.
 fn write_findings(out: &mut String, lines: &[u64], findings: &[Finding]) -> Result<(), AllocError>
-    ensures { OnOk result (string_bytes out.new ≡ string_bytes out.old ++ flat_map (says.finding_text lines.now) findings.now) }
+    ensures { OnOk result
+        (string_bytes out.new ≡ string_bytes out.old ++ flat_map (says.finding_text lines.now) findings.now) }
 {
     for finding in findings {
         write_finding(out, lines, finding)?;
@@ -62,7 +64,8 @@ fn warning_count(findings: &[Finding]) -> usize
 
 /// Writes a finding.
 fn write_finding(out: &mut String, lines: &[u64], finding: &Finding) -> Result<(), AllocError>
-    ensures { OnOk result (string_bytes out.new ≡ string_bytes out.old ++ says.finding_text lines.now finding.now) }
+    ensures { OnOk result
+        (string_bytes out.new ≡ string_bytes out.old ++ says.finding_text lines.now finding.now) }
 {
     match finding {
         Finding::NotJson { line, column } => write_no_json(out, *line, *column),
@@ -139,7 +142,8 @@ fn is_plain(text: &str) -> bool
 
 /// Writes what is wrong with a key or a value.
 fn write_shape(out: &mut String, lines: &[u64], shape: &Shape) -> Result<(), AllocError>
-    ensures { OnOk result (string_bytes out.new ≡ string_bytes out.old ++ says.shape_text lines.now shape.now) }
+    ensures { OnOk result
+        (string_bytes out.new ≡ string_bytes out.old ++ says.shape_text lines.now shape.now) }
 {
     match shape {
         Shape::NotObject(place) => writeln!(out, "{place}: no object"),
@@ -178,7 +182,8 @@ fn write_key_count(out: &mut String, place: Place, count: u64) -> Result<(), All
 
 /// Writes a key of an object, and what is to be said of it.
 fn write_key(out: &mut String, place: Place, name: &str, what: &str) -> Result<(), AllocError>
-    ensures { OnOk result (string_bytes out.new ≡ string_bytes out.old ++ says.key_text place name.now what.now) }
+    ensures { OnOk result
+        (string_bytes out.new ≡ string_bytes out.old ++ says.key_text place name.now what.now) }
 {
     write!(out, "{place}: ")?;
     write_quoted(out, name)?;
@@ -244,7 +249,8 @@ fn write_line(out: &mut String, text: &str) -> Result<(), AllocError>
 
 /// Writes a number in a text.
 fn write_number(out: &mut String, before: &str, n: u64, after: &str) -> Result<(), AllocError>
-    ensures { OnOk result (string_bytes out.new ≡ string_bytes out.old ++ says.number_text before.now n after.now) }
+    ensures { OnOk result
+        (string_bytes out.new ≡ string_bytes out.old ++ says.number_text before.now n after.now) }
 {
     writeln!(out, "{before}{n}{after}")
 }
@@ -258,7 +264,8 @@ fn write_numbers(
     m: u64,
     after: &str,
 ) -> Result<(), AllocError>
-    ensures { OnOk result (string_bytes out.new ≡ string_bytes out.old ++ says.numbers_text before.now n between.now m after.now) }
+    ensures { OnOk result (string_bytes out.new
+        ≡ string_bytes out.old ++ says.numbers_text before.now n between.now m after.now) }
 {
     write!(out, "{before}{n}{between}")?;
     writeln!(out, "{m}{after}")
@@ -324,7 +331,8 @@ fn write_past(out: &mut String, what: What, number: u64, count: u64) -> Result<(
 
 /// Writes that a control file does not take what is written to it.
 fn write_echo_fault(out: &mut String, fault: ControlFault) -> Result<(), AllocError>
-    ensures { OnOk result (string_bytes out.new ≡ string_bytes out.old ++ says.warning_text (Warning.Echo fault)) }
+    ensures { OnOk result
+        (string_bytes out.new ≡ string_bytes out.old ++ says.warning_text (Warning.Echo fault)) }
 {
     writeln!(out, "warning: echo: fault {fault}")
 }

@@ -14,7 +14,8 @@ use hp_units::Text;
 use serde_json::{Map, Value};
 use std::alloc::{AllocError, Global};
 
-/// Adds all that is wrong with the keys of a scenario and with the kinds of their values. An error is out of memory.
+/// Adds all that is wrong with the keys of a scenario and with the kinds of their values. An error
+/// is out of memory.
 #[tactic(auto, unfolding(crate::specs::Shape::shape_faults))]
 pub(crate) fn push_shape(
     found: &mut Vec<Finding>,
@@ -48,7 +49,8 @@ fn push_keys(
     value: &Value,
     members: &Map<String, Value>,
 ) -> Result<(), AllocError>
-    ensures { OnOk result (found.new.items ≡ found.old.items ++ means.key_faults place (view value.now) (members_view members.now.entries)) }
+    ensures { OnOk result (found.new.items
+        ≡ found.old.items ++ means.key_faults place (view value.now) (members_view members.now.entries)) }
 {
     if has_its_keys(place, value, members) {
         return Ok(());
@@ -128,7 +130,8 @@ fn push_unknown(
     place: Place,
     members: &Map<String, Value>,
 ) -> Result<(), AllocError>
-    ensures { OnOk result (found.new.items ≡ found.old.items ++ flat_map (means.unknown_fault place) (means.names_of (members_view members.now.entries))) }
+    ensures { OnOk result (found.new.items ≡ found.old.items
+        ++ flat_map (means.unknown_fault place) (means.names_of (members_view members.now.entries))) }
 {
     let names = members.keys();
     for name in names {
@@ -162,7 +165,8 @@ fn is_key_of(place: Place, name: &str) -> bool
 
 /// Adds the keys that the object lacks. An error is out of memory.
 fn push_missing(found: &mut Vec<Finding>, place: Place, value: &Value) -> Result<(), AllocError>
-    ensures { OnOk result (found.new.items ≡ found.old.items ++ flat_map (means.missing_fault place (view value.now)) (keys_of place)) }
+    ensures { OnOk result (found.new.items
+        ≡ found.old.items ++ flat_map (means.missing_fault place (view value.now)) (keys_of place)) }
 {
     let keys = keys_of(place);
     for key in keys {
@@ -178,7 +182,8 @@ fn push_if_missing(
     value: &Value,
     key: Key,
 ) -> Result<(), AllocError>
-    ensures { OnOk result (found.new.items ≡ found.old.items ++ means.missing_fault place (view value.now) key) }
+    ensures { OnOk result
+        (found.new.items ≡ found.old.items ++ means.missing_fault place (view value.now) key) }
 {
     if is_there(value, key) {
         return Ok(());
@@ -192,7 +197,8 @@ fn push_layout(
     alloc: Global,
     layout: Option<&Value>,
 ) -> Result<(), AllocError>
-    ensures { OnOk result (found.new.items ≡ found.old.items ++ means.layout_faults (option_map (λ v. view v.now) layout.entry)) }
+    ensures { OnOk result (found.new.items
+        ≡ found.old.items ++ means.layout_faults (option_map (λ v. view v.now) layout.entry)) }
 {
     match layout {
         Some(layout) => push_parts(found, alloc, layout),
@@ -202,7 +208,8 @@ fn push_layout(
 
 /// Adds what is wrong with the keys of a layout and the kinds of their values. An error is out of memory.
 fn push_parts(found: &mut Vec<Finding>, alloc: Global, layout: &Value) -> Result<(), AllocError>
-    ensures { OnOk result (found.new.items ≡ found.old.items ++ means.layout_faults_of (view layout.now) (as_object (view layout.now))) }
+    ensures { OnOk result (found.new.items
+        ≡ found.old.items ++ means.layout_faults_of (view layout.now) (as_object (view layout.now))) }
 {
     let Some(members) = layout.as_object() else {
         return push(found, Shape::NotObject(Place::Layout));
@@ -232,7 +239,8 @@ fn number_keys() -> &'static [Key]
 
 /// Adds the keys of a layout whose values are to be numbers and are none. An error is out of memory.
 fn push_numbers(found: &mut Vec<Finding>, layout: &Value) -> Result<(), AllocError>
-    ensures { OnOk result (found.new.items ≡ found.old.items ++ flat_map (means.number_fault (view layout.now)) number_keys) }
+    ensures { OnOk result
+        (found.new.items ≡ found.old.items ++ flat_map (means.number_fault (view layout.now)) number_keys) }
 {
     let keys = number_keys();
     for key in keys {
@@ -247,7 +255,8 @@ fn push_unless_number(
     key: Key,
     value: Option<&Value>,
 ) -> Result<(), AllocError>
-    ensures { OnOk result (found.new.items ≡ found.old.items ++ means.number_fault_of key (option_map (λ v. view v.now) value.entry)) }
+    ensures { OnOk result (found.new.items
+        ≡ found.old.items ++ means.number_fault_of key (option_map (λ v. view v.now) value.entry)) }
 {
     match value {
         Some(value) => {
@@ -264,7 +273,8 @@ fn push_unless_number(
 /// Adds what is wrong with the value at `boot`, where there is one. An error is out of memory.
 #[tactic(auto, using(crate::proofs::Values::items_seen))]
 fn push_boot(found: &mut Vec<Finding>, boot: Option<&Value>) -> Result<(), AllocError>
-    ensures { OnOk result (found.new.items ≡ found.old.items ++ means.list_faults Key.Boot means.boot_faults (option_map (λ v. view v.now) boot.entry)) }
+    ensures { OnOk result (found.new.items ≡ found.old.items
+        ++ means.list_faults Key.Boot means.boot_faults (option_map (λ v. view v.now) boot.entry)) }
 {
     match boot {
         Some(boot) => match boot.as_array() {
@@ -287,7 +297,8 @@ fn push_boots(found: &mut Vec<Finding>, words: &[Value]) -> Result<(), AllocErro
 
 /// Adds an entry of `boot` if it is none of its words. An error is out of memory.
 fn push_unless_boot(found: &mut Vec<Finding>, number: u64, word: &Value) -> Result<(), AllocError>
-    ensures { OnOk result (found.new.items ≡ found.old.items ++ means.boot_fault number (Some (view word.now))) }
+    ensures { OnOk result
+        (found.new.items ≡ found.old.items ++ means.boot_fault number (Some (view word.now))) }
 {
     if boot_at(word).is_some() {
         return Ok(());
@@ -298,7 +309,8 @@ fn push_unless_boot(found: &mut Vec<Finding>, number: u64, word: &Value) -> Resu
 /// Adds what is wrong with the value at `calls`, where there is one. An error is out of memory.
 #[tactic(auto, using(crate::proofs::Values::items_seen))]
 fn push_calls(found: &mut Vec<Finding>, calls: Option<&Value>) -> Result<(), AllocError>
-    ensures { OnOk result (found.new.items ≡ found.old.items ++ means.list_faults Key.Calls means.text_faults (option_map (λ v. view v.now) calls.entry)) }
+    ensures { OnOk result (found.new.items ≡ found.old.items
+        ++ means.list_faults Key.Calls means.text_faults (option_map (λ v. view v.now) calls.entry)) }
 {
     match calls {
         Some(calls) => match calls.as_array() {
@@ -321,7 +333,8 @@ fn push_texts(found: &mut Vec<Finding>, texts: &[Value]) -> Result<(), AllocErro
 
 /// Adds an entry of `calls` if it is no text. An error is out of memory.
 fn push_unless_text(found: &mut Vec<Finding>, number: u64, text: &Value) -> Result<(), AllocError>
-    ensures { OnOk result (found.new.items ≡ found.old.items ++ means.text_fault number (Some (view text.now))) }
+    ensures { OnOk result
+        (found.new.items ≡ found.old.items ++ means.text_fault number (Some (view text.now))) }
 {
     if text.is_string() {
         return Ok(());

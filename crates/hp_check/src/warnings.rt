@@ -82,7 +82,8 @@ fn request_warning(layout: &Layout, tally: &Tally, cpu: Cpu, request: &Request) 
 
 /// The warning of a path that is read, if there is one. An error is out of memory.
 fn cat_warning(alloc: Global, path: &str) -> Result<Option<Warning>, AllocError>
-    ensures { IfOk result (λ warning. warning ≡ then_some (means.is_no_file (request_of path.now [])) Warning.NoFile) }
+    ensures { IfOk result
+        (λ warning. warning ≡ then_some (means.is_no_file (request_of path.now [])) Warning.NoFile) }
 {
     if is_no_file(alloc, path)? {
         Ok(Some(Warning::NoFile))

@@ -46,22 +46,30 @@ second_case true P Q h is = absurd cc
 second_case false P Q h is = h
 
 -- volumes are at fault
-pub chain_refused : (volumes : List Volume) (m : MachineValue) (fault : ChainFault) → IsChainFault m.layout volumes fault → RefutesChain m.layout volumes fault → HasAuditFault volumes m (chain_fault_from fault)
+pub chain_refused : (volumes : List Volume) (m : MachineValue) (fault : ChainFault)
+    → IsChainFault m.layout volumes fault → RefutesChain m.layout volumes fault
+    → HasAuditFault volumes m (chain_fault_from fault)
 chain_refused volumes m (chain.WrongCount at) here only = (inl here, λ sound. only sound.chain)
 chain_refused volumes m (chain.WrongBase at) here only = (inr here, λ sound. only sound.chain)
-chain_refused volumes m (chain.Replay at (replaying.WrongReply serial)) here only = (inl (at, here), λ sound. only sound.chain)
-chain_refused volumes m (chain.Replay at (replaying.WrongSerial place)) here only = (inl (at, here), λ sound. only sound.chain)
+chain_refused volumes m (chain.Replay at (replaying.WrongReply serial)) here only =
+    (inl (at, here), λ sound. only sound.chain)
+chain_refused volumes m (chain.Replay at (replaying.WrongSerial place)) here only =
+    (inl (at, here), λ sound. only sound.chain)
 chain_refused volumes m (chain.Replay at replaying.OutOfMemory) here only = tt
 chain_refused volumes m chain.OutOfMemory here only = tt
 
 -- a record of the history is at fault
-pub replay_refused : (volumes : List Volume) (m : MachineValue) (fault : ReplayFault) → IsFault m.layout m.base m.before m.history fault → Refutes m.layout m.base m.before m.history fault → HasAuditFault volumes m (replay_fault_from fault)
+pub replay_refused : (volumes : List Volume) (m : MachineValue) (fault : ReplayFault)
+    → IsFault m.layout m.base m.before m.history fault → Refutes m.layout m.base m.before m.history fault
+    → HasAuditFault volumes m (replay_fault_from fault)
 replay_refused volumes m (replaying.WrongReply serial) here only = (inr here, λ sound. only sound.legal)
 replay_refused volumes m (replaying.WrongSerial at) here only = (inr here, λ sound. only sound.legal)
 replay_refused volumes m replaying.OutOfMemory here only = tt
 
--- what was read of volumes and of a machine: their list, its layout, the number of its earlier records, its base and its history
-pub record IsReadOf (volumes : List Volume) (m : MachineValue) (vs : List Volume) (l : LayoutParts) (before : ℕ) (theirs : Pictured) (h : List Record) : Type 0 where
+-- what was read of volumes and of a machine: their list, its layout, the number of its earlier
+-- records, its base and its history
+pub record IsReadOf (volumes : List Volume) (m : MachineValue) (vs : List Volume) (l : LayoutParts)
+    (before : ℕ) (theirs : Pictured) (h : List Record) : Type 0 where
   pub volumes_are : vs ≡ volumes
   pub layout_is : l ≡ m.layout
   pub before_is : before ≡ m.before
@@ -73,14 +81,21 @@ record LeadsTo (volumes : List Volume) (m : MachineValue) (base : Pictured) : Ty
   layout : base.layout ≡ m.layout
   after : base.memory ≡ state_after m.layout volumes
 
-leads_to : (volumes : List Volume) (m : MachineValue) (vs : List Volume) (l : LayoutParts) (base : Pictured) → vs ≡ volumes → l ≡ m.layout → base ≡ record { layout = l; memory = state_after l vs } → LeadsTo volumes m base
+leads_to : (volumes : List Volume) (m : MachineValue) (vs : List Volume) (l : LayoutParts) (base : Pictured)
+    → vs ≡ volumes → l ≡ m.layout → base ≡ record { layout = l; memory = state_after l vs }
+    → LeadsTo volumes m base
 leads_to volumes m vs l base same there is = record {
   layout = ap (λ (p : Pictured). p.layout) is ∙ there;
-  after = ap (λ (p : Pictured). p.memory) is ∙ ap (λ (k : LayoutParts). state_after k vs) there ∙ ap (λ (xs : List Volume). state_after m.layout xs) same;
+  after =
+      ap (λ (p : Pictured). p.memory) is ∙ ap (λ (k : LayoutParts). state_after k vs) there
+      ∙ ap (λ (xs : List Volume). state_after m.layout xs) same;
 }
 
 -- the state that the history leads to from that base
-replayed_memory : (m : MachineValue) (h : List Record) (base replayed : Pictured) → h ≡ m.history → base.layout ≡ m.layout → base.memory ≡ m.base → replayed ≡ record { layout = base.layout; memory = value_of base.layout base.memory h } → replayed.memory ≡ value_of m.layout m.base m.history
+replayed_memory : (m : MachineValue) (h : List Record) (base replayed : Pictured) → h ≡ m.history
+    → base.layout ≡ m.layout → base.memory ≡ m.base
+    → replayed ≡ record { layout = base.layout; memory = value_of base.layout base.memory h }
+    → replayed.memory ≡ value_of m.layout m.base m.history
 replayed_memory m h base replayed records layout same is =
     ap (λ (p : Pictured). p.memory) is
     ∙ ap (λ (l : LayoutParts). value_of l base.memory h) layout
@@ -88,20 +103,34 @@ replayed_memory m h base replayed records layout same is =
     ∙ ap (λ (g : List Record). value_of m.layout m.base g) records
 
 -- a volume is at fault
-pub volumes_refused : (volumes : List Volume) (m : MachineValue) (vs : List Volume) (l : LayoutParts) (fault : ChainFault) → vs ≡ volumes → l ≡ m.layout → IsChainFault l vs fault → RefutesChain l vs fault → HasAuditFault volumes m (chain_fault_from fault)
+pub volumes_refused : (volumes : List Volume) (m : MachineValue) (vs : List Volume) (l : LayoutParts)
+    (fault : ChainFault)
+    → vs ≡ volumes → l ≡ m.layout → IsChainFault l vs fault → RefutesChain l vs fault
+    → HasAuditFault volumes m (chain_fault_from fault)
 volumes_refused volumes m vs l fault same there here only =
     chain_refused volumes m fault
-    (subst (λ (k : LayoutParts). IsChainFault k volumes fault) there (subst (λ (xs : List Volume). IsChainFault l xs fault) same here))
-    (subst (λ (k : LayoutParts). RefutesChain k volumes fault) there (subst (λ (xs : List Volume). RefutesChain l xs fault) same only))
+    (subst (λ (k : LayoutParts). IsChainFault k volumes fault) there
+    (subst (λ (xs : List Volume). IsChainFault l xs fault) same here))
+    (subst (λ (k : LayoutParts). RefutesChain k volumes fault) there
+    (subst (λ (xs : List Volume). RefutesChain l xs fault) same only))
 
 -- the volumes lead to another state than the machine's base
-pub base_differs : (volumes : List Volume) (m : MachineValue) (vs : List Volume) (l : LayoutParts) (base theirs : Pictured) → vs ≡ volumes → l ≡ m.layout → theirs ≡ record { layout = m.layout; memory = m.base } → base ≡ record { layout = l; memory = state_after l vs } → (base.memory ≡ theirs.memory → ⊥) → IsAudited volumes m → ⊥
+pub base_differs : (volumes : List Volume) (m : MachineValue) (vs : List Volume) (l : LayoutParts)
+    (base theirs : Pictured)
+    → vs ≡ volumes → l ≡ m.layout → theirs ≡ record { layout = m.layout; memory = m.base }
+    → base ≡ record { layout = l; memory = state_after l vs } → (base.memory ≡ theirs.memory → ⊥)
+    → IsAudited volumes m → ⊥
 base_differs volumes m vs l base theirs same there their_is is other sound =
-    other ((leads_to volumes m vs l base same there is).after ∙ sym sound.base ∙ sym (ap (λ (p : Pictured). p.memory) their_is))
+    other ((leads_to volumes m vs l base same there is).after ∙ sym sound.base
+    ∙ sym (ap (λ (p : Pictured). p.memory) their_is))
 
 -- a replay from that base finds the history at fault
-pub history_refused : (volumes : List Volume) (m : MachineValue) (vs : List Volume) (l : LayoutParts) (before : ℕ) (h : List Record) (base theirs : Pictured) (fault : ReplayFault) → IsReadOf volumes m vs l before theirs h → base ≡ record { layout = l; memory = state_after l vs } → base.memory ≡ theirs.memory
-    → IsFault base.layout base.memory before h fault → Refutes base.layout base.memory before h fault → HasAuditFault volumes m (replay_fault_from fault)
+pub history_refused : (volumes : List Volume) (m : MachineValue) (vs : List Volume) (l : LayoutParts)
+    (before : ℕ) (h : List Record) (base theirs : Pictured) (fault : ReplayFault)
+    → IsReadOf volumes m vs l before theirs h → base ≡ record { layout = l; memory = state_after l vs }
+    → base.memory ≡ theirs.memory
+    → IsFault base.layout base.memory before h fault → Refutes base.layout base.memory before h fault
+    → HasAuditFault volumes m (replay_fault_from fault)
 history_refused volumes m vs l before h base theirs fault read is same here only =
     let layout = (leads_to volumes m vs l base read.volumes_are read.layout_is is).layout in
     let start : base.memory ≡ m.base = same ∙ ap (λ (p : Pictured). p.memory) read.base_is in
@@ -116,33 +145,53 @@ history_refused volumes m vs l before h base theirs fault read is same here only
     (subst (λ (g : List Record). Refutes base.layout base.memory before g fault) read.history_is only))))
 
 -- it leads to another state than the machine's
-pub state_differs : (volumes : List Volume) (m : MachineValue) (vs : List Volume) (l : LayoutParts) (before : ℕ) (h : List Record) (base theirs replayed image : Pictured) → IsReadOf volumes m vs l before theirs h → base ≡ record { layout = l; memory = state_after l vs } → base.memory ≡ theirs.memory
-    → replayed ≡ record { layout = base.layout; memory = value_of base.layout base.memory h } → image ≡ record { layout = m.layout; memory = m.state } → (replayed.memory ≡ image.memory → ⊥) → IsAudited volumes m → ⊥
-state_differs volumes m vs l before h base theirs replayed image read is same replayed_is image_is other sound =
+pub state_differs : (volumes : List Volume) (m : MachineValue) (vs : List Volume) (l : LayoutParts)
+    (before : ℕ) (h : List Record) (base theirs replayed image : Pictured)
+    → IsReadOf volumes m vs l before theirs h → base ≡ record { layout = l; memory = state_after l vs }
+    → base.memory ≡ theirs.memory
+    → replayed ≡ record { layout = base.layout; memory = value_of base.layout base.memory h }
+    → image ≡ record { layout = m.layout; memory = m.state } → (replayed.memory ≡ image.memory → ⊥)
+    → IsAudited volumes m → ⊥
+state_differs volumes m vs l before h base theirs replayed image read is same replayed_is image_is other
+    sound =
     let layout = (leads_to volumes m vs l base read.volumes_are read.layout_is is).layout in
     let start : base.memory ≡ m.base = same ∙ ap (λ (p : Pictured). p.memory) read.base_is in
-    other (replayed_memory m h base replayed read.history_is layout start replayed_is ∙ sym sound.state ∙ sym (ap (λ (p : Pictured). p.memory) image_is))
+    other (replayed_memory m h base replayed read.history_is layout start replayed_is ∙ sym sound.state
+    ∙ sym (ap (λ (p : Pictured). p.memory) image_is))
 
 -- all is as it should be
-pub audited : (volumes : List Volume) (m : MachineValue) (vs : List Volume) (l : LayoutParts) (before : ℕ) (h : List Record) (base theirs replayed image : Pictured) → IsReadOf volumes m vs l before theirs h → IsChain l vs → base ≡ record { layout = l; memory = state_after l vs } → base.memory ≡ theirs.memory
-    → IsLegal base.layout base.memory before h → replayed ≡ record { layout = base.layout; memory = value_of base.layout base.memory h } → image ≡ record { layout = m.layout; memory = m.state } → replayed.memory ≡ image.memory → IsAudited volumes m
-audited volumes m vs l before h base theirs replayed image read chain is same legal replayed_is image_is alike =
+pub audited : (volumes : List Volume) (m : MachineValue) (vs : List Volume) (l : LayoutParts) (before : ℕ)
+    (h : List Record) (base theirs replayed image : Pictured)
+    → IsReadOf volumes m vs l before theirs h → IsChain l vs
+    → base ≡ record { layout = l; memory = state_after l vs } → base.memory ≡ theirs.memory
+    → IsLegal base.layout base.memory before h
+    → replayed ≡ record { layout = base.layout; memory = value_of base.layout base.memory h }
+    → image ≡ record { layout = m.layout; memory = m.state } → replayed.memory ≡ image.memory
+    → IsAudited volumes m
+audited volumes m vs l before h base theirs replayed image read chain is same legal replayed_is image_is
+    alike =
     let leads = leads_to volumes m vs l base read.volumes_are read.layout_is is in
     let start : base.memory ≡ m.base = same ∙ ap (λ (p : Pictured). p.memory) read.base_is in
     record {
-      chain = subst (λ (k : LayoutParts). IsChain k volumes) read.layout_is (subst (λ (xs : List Volume). IsChain l xs) read.volumes_are chain);
+      chain =
+          subst (λ (k : LayoutParts). IsChain k volumes) read.layout_is
+          (subst (λ (xs : List Volume). IsChain l xs) read.volumes_are chain);
       base = sym start ∙ leads.after;
       legal = subst (λ (k : LayoutParts). IsLegal k m.base m.before m.history) leads.layout
           (subst (λ (b : Memory). IsLegal base.layout b m.before m.history) start
           (subst (λ (n : ℕ). IsLegal base.layout base.memory n m.history) read.before_is
           (subst (λ (g : List Record). IsLegal base.layout base.memory before g) read.history_is legal)));
-      state = sym (ap (λ (p : Pictured). p.memory) image_is) ∙ sym alike ∙ replayed_memory m h base replayed read.history_is leads.layout start replayed_is;
+      state =
+          sym (ap (λ (p : Pictured). p.memory) image_is) ∙ sym alike
+          ∙ replayed_memory m h base replayed read.history_is leads.layout start replayed_is;
     }
 
 -- ---- a machine of a run
 
 -- where nothing was handed out, its history is legal from boot on, and leads to its state
-unsealed_is_audited : (l : LayoutParts) (scripts : List (List Line)) (ends : List (List LineEnd)) (m : MachineValue) (count : ℕ) → IsWorkedOff l scripts ends [] m count → IsAudited [] m
+unsealed_is_audited : (l : LayoutParts) (scripts : List (List Line)) (ends : List (List LineEnd))
+    (m : MachineValue) (count : ℕ)
+    → IsWorkedOff l scripts ends [] m count → IsAudited [] m
 unsealed_is_audited l scripts ends m count worked = record {
   chain = λ at v here. absurd cc;
   base = worked.boots (sym worked.closed.checked.reach.sealed_all);
@@ -151,47 +200,77 @@ unsealed_is_audited l scripts ends m count worked = record {
 }
 
 -- a volume that a seal handed out has no record at fault
-seal_is_legal : (l : LayoutParts) (volumes : List Volume) (at : ℕ) (v : Volume) (fault : ReplayFault) → IsSealOf l v 0 → HasWrongRecords l volumes at v fault → ⊥
-seal_is_legal l volumes at v fault seal wrong = by_fault fault wrong.known (refutes l (state_after l (take at volumes)) (records_in (take at volumes)) v.records fault wrong.records)
+seal_is_legal : (l : LayoutParts) (volumes : List Volume) (at : ℕ) (v : Volume) (fault : ReplayFault)
+    → IsSealOf l v 0 → HasWrongRecords l volumes at v fault → ⊥
+seal_is_legal l volumes at v fault seal wrong =
+    by_fault fault wrong.known (refutes l (state_after l (take at volumes)) (records_in (take at volumes))
+    v.records fault wrong.records)
   where
     legal : IsLegal l (state_after l (take at volumes)) (records_in (take at volumes)) v.records
     legal =
         let m = seal.seen.machine in
-        subst (λ (h : List Record). IsLegal l (state_after l (take at volumes)) (records_in (take at volumes)) h) (sym (ap (λ (x : Volume). x.records) seal.is))
-        (subst (λ (n : ℕ). IsLegal l (state_after l (take at volumes)) n m.history) (sym (ap (λ (x : Volume). x.before) seal.is) ∙ wrong.count)
-        (subst (λ (b : Memory). IsLegal l b m.before m.history) (sym (ap (λ (x : Volume). x.base.memory) seal.is) ∙ wrong.base)
-        (subst (λ (k : LayoutParts). IsLegal k m.base m.before m.history) seal.shared.layout seal.shared.history.legal)))
+        subst (λ (h : List Record). IsLegal l (state_after l (take at volumes)) (records_in (take at volumes))
+        h) (sym (ap (λ (x : Volume). x.records) seal.is))
+        (subst (λ (n : ℕ). IsLegal l (state_after l (take at volumes)) n m.history)
+        (sym (ap (λ (x : Volume). x.before) seal.is) ∙ wrong.count)
+        (subst (λ (b : Memory). IsLegal l b m.before m.history)
+        (sym (ap (λ (x : Volume). x.base.memory) seal.is) ∙ wrong.base)
+        (subst (λ (k : LayoutParts). IsLegal k m.base m.before m.history) seal.shared.layout
+        seal.shared.history.legal)))
 
-    by_fault : (f : ReplayFault) → (f ≡ replaying.OutOfMemory → ⊥) → Refutes l (state_after l (take at volumes)) (records_in (take at volumes)) v.records f → ⊥
+    by_fault : (f : ReplayFault) → (f ≡ replaying.OutOfMemory → ⊥)
+        → Refutes l (state_after l (take at volumes)) (records_in (take at volumes)) v.records f → ⊥
     by_fault (replaying.WrongReply serial) known only = only legal
     by_fault (replaying.WrongSerial place) known only = only legal
     by_fault replaying.OutOfMemory known only = known refl
 
 -- so no record of a run is at fault
-no_record : (l : LayoutParts) (scripts : List (List Line)) (ends : List (List LineEnd)) (volumes : List Volume) (m : MachineValue) (count : ℕ) (fault : ReplayFault) → (fault ≡ replaying.OutOfMemory → ⊥) → IsWorkedOff l scripts ends volumes m count → HasWrongRecord volumes m fault → ⊥
+no_record : (l : LayoutParts) (scripts : List (List Line)) (ends : List (List LineEnd))
+    (volumes : List Volume) (m : MachineValue) (count : ℕ) (fault : ReplayFault)
+    → (fault ≡ replaying.OutOfMemory → ⊥) → IsWorkedOff l scripts ends volumes m count
+    → HasWrongRecord volumes m fault → ⊥
 no_record l scripts ends volumes m count fault known worked (inl (at, (v, wrong))) =
-    let sealed : AreSealed m.layout volumes = subst (λ (k : LayoutParts). AreSealed k volumes) (sym worked.closed.shared.layout) (All-permutation (λ (x : Volume). IsSealOf l x 0) worked.handed volumes worked.same worked.workers.sealed) in
-    seal_is_legal m.layout volumes at v fault (subst (λ (x : Volume). IsSealOf m.layout x 0) (here_is volumes at v wrong.first.here) (All-get_or (λ (x : Volume). IsSealOf m.layout x 0) volumes at v (slice_get_within volumes at v wrong.first.here) sealed)) wrong
+    let sealed : AreSealed m.layout volumes =
+    subst (λ (k : LayoutParts). AreSealed k volumes) (sym worked.closed.shared.layout) (All-permutation
+    (λ (x : Volume). IsSealOf l x 0) worked.handed volumes worked.same worked.workers.sealed) in
+    seal_is_legal m.layout volumes at v fault (subst (λ (x : Volume). IsSealOf m.layout x 0) (here_is volumes
+    at v wrong.first.here) (All-get_or (λ (x : Volume). IsSealOf m.layout x 0) volumes at v
+    (slice_get_within volumes at v wrong.first.here) sealed)) wrong
   where
     here_is : (vs : List Volume) (k : ℕ) (x : Volume) → slice_get vs k ≡ Some x → get_or vs k x ≡ x
     here_is [] k x e = absurd cc
     here_is (y ∷ vs) zero x e = cc
     here_is (y ∷ vs) (suc k) x e = here_is vs k x e
-no_record l scripts ends volumes m count (replaying.WrongReply serial) known worked (inr wrong) = refutes m.layout m.base m.before m.history (replaying.WrongReply serial) wrong worked.closed.shared.history.legal
-no_record l scripts ends volumes m count (replaying.WrongSerial at) known worked (inr wrong) = refutes m.layout m.base m.before m.history (replaying.WrongSerial at) wrong worked.closed.shared.history.legal
+no_record l scripts ends volumes m count (replaying.WrongReply serial) known worked (inr wrong) =
+    refutes m.layout m.base m.before m.history (replaying.WrongReply serial) wrong
+    worked.closed.shared.history.legal
+no_record l scripts ends volumes m count (replaying.WrongSerial at) known worked (inr wrong) =
+    refutes m.layout m.base m.before m.history (replaying.WrongSerial at) wrong
+    worked.closed.shared.history.legal
 no_record l scripts ends volumes m count replaying.OutOfMemory known worked (inr wrong) = known refl
 
 -- and where states differ, some line seals
-differing : (input : List ℕ) (l : LayoutParts) (scripts : List (List Line)) (ends : List (List LineEnd)) (volumes : List Volume) (m : MachineValue) (count : ℕ) → scripts_in input ≡ Ok scripts → IsWorkedOff l scripts ends volumes m count → (IsAudited volumes m → ⊥) → SealsSome input
-differing input l scripts ends [] m count parted worked other = absurd (other (unsealed_is_audited l scripts ends m count worked))
-differing input l scripts ends (v ∷ volumes) m count parted worked other = (scripts, parted, λ none. absurd (omega (arith, worked.few, none)))
+differing : (input : List ℕ) (l : LayoutParts) (scripts : List (List Line)) (ends : List (List LineEnd))
+    (volumes : List Volume) (m : MachineValue) (count : ℕ)
+    → scripts_in input ≡ Ok scripts → IsWorkedOff l scripts ends volumes m count → (IsAudited volumes m → ⊥)
+    → SealsSome input
+differing input l scripts ends [] m count parted worked other =
+    absurd (other (unsealed_is_audited l scripts ends m count worked))
+differing input l scripts ends (v ∷ volumes) m count parted worked other =
+    (scripts, parted, λ none. absurd (omega (arith, worked.few, none)))
 
 -- the records of a run of the scenario are at fault
-refuted : (input : List ℕ) (ends : List (List LineEnd)) (volumes : List Volume) (m : MachineValue) (count : ℕ) (fault : ProgramFault) → IsRunOf input ends volumes m count → HasAuditFault volumes m fault → IsRefuted input fault
-refuted input ends volumes m count fault ran h = record { ends = ends; volumes = volumes; machine = m; count = count; run = ran; why = h }
+refuted : (input : List ℕ) (ends : List (List LineEnd)) (volumes : List Volume) (m : MachineValue) (count : ℕ)
+    (fault : ProgramFault)
+    → IsRunOf input ends volumes m count → HasAuditFault volumes m fault → IsRefuted input fault
+refuted input ends volumes m count fault ran h =
+    record { ends = ends; volumes = volumes; machine = m; count = count; run = ran; why = h }
 
 -- so an audit of the scenario fails
-pub audit_fails : (input : List ℕ) (ends : List (List LineEnd)) (volumes : List Volume) (m : MachineValue) (count : ℕ) (fault : ProgramFault) → IsRunOf input ends volumes m count → HasAuditFault volumes m fault → IsFaultOf Audit (Some input) ⊥ ⊥ fault
+pub audit_fails : (input : List ℕ) (ends : List (List LineEnd)) (volumes : List Volume) (m : MachineValue)
+    (count : ℕ) (fault : ProgramFault)
+    → IsRunOf input ends volumes m count → HasAuditFault volumes m fault
+    → IsFaultOf Audit (Some input) ⊥ ⊥ fault
 audit_fails input ends volumes m count ReadFailed ran h = absurd h
 audit_fails input ends volumes m count TooLong ran h = absurd h
 audit_fails input ends volumes m count NotJson ran h = absurd h
@@ -203,20 +282,33 @@ audit_fails input ends volumes m count OutOfMemory ran h = tt
 audit_fails input ends volumes m count (NotStarted c) ran h = absurd h
 audit_fails input ends volumes m count SeatMissing ran h = absurd h
 audit_fails input ends volumes m count (Mismatch n) ran h = absurd h
-audit_fails input ends volumes m count (WrongReply n) ran h = absurd (no_record ran.scenario.layout ran.scripts ends volumes m count (replaying.WrongReply n) (λ e. absurd cc) ran.worked h.0)
-audit_fails input ends volumes m count (WrongSerial n) ran h = absurd (no_record ran.scenario.layout ran.scripts ends volumes m count (replaying.WrongSerial n) (λ e. absurd cc) ran.worked h.0)
+audit_fails input ends volumes m count (WrongReply n) ran h =
+    absurd (no_record ran.scenario.layout ran.scripts ends volumes m count (replaying.WrongReply n)
+    (λ e. absurd cc) ran.worked h.0)
+audit_fails input ends volumes m count (WrongSerial n) ran h =
+    absurd (no_record ran.scenario.layout ran.scripts ends volumes m count (replaying.WrongSerial n)
+    (λ e. absurd cc) ran.worked h.0)
 audit_fails input ends volumes m count AuditDiffers ran h =
-    let parted = ap (λ (r : Result ScenarioValue ScenarioFault). r >>= scripts_of) ran.read ∙ ran.parted in
-    (tt, (differing input ran.scenario.layout ran.scripts ends volumes m count parted ran.worked h, refuted input ends volumes m count AuditDiffers ran h))
+    let parted = ap (λ (r : Result ScenarioValue ScenarioFault). r >>= scripts_of) ran.read ∙ ran.parted in (
+      tt,
+      (
+        differing input ran.scenario.layout ran.scripts ends volumes m count parted ran.worked h,
+        refuted input ends volumes m count AuditDiffers ran h,
+      ),
+    )
 audit_fails input ends volumes m count WriteFailed ran h = absurd h
-audit_fails input ends volumes m count (BrokenChain n) ran h = (tt, inr (tt, refuted input ends volumes m count (BrokenChain n) ran h))
+audit_fails input ends volumes m count (BrokenChain n) ran h =
+    (tt, inr (tt, refuted input ends volumes m count (BrokenChain n) ran h))
 
 -- what a run can fail of, an audit can
-broken_too : (input : List ℕ) (fault : ProgramFault) → IsUnfinished input fault ⊎ (IsAudit Run × IsRefuted input fault) → IsUnfinished input fault ⊎ (IsAudit Audit × IsRefuted input fault)
+broken_too : (input : List ℕ) (fault : ProgramFault)
+    → IsUnfinished input fault ⊎ (IsAudit Run × IsRefuted input fault)
+    → IsUnfinished input fault ⊎ (IsAudit Audit × IsRefuted input fault)
 broken_too input fault (inl h) = inl h
 broken_too input fault (inr h) = absurd h.0
 
-pub audit_too : (input : List ℕ) (fault : ProgramFault) → IsFaultOf Run (Some input) ⊥ ⊥ fault → IsFaultOf Audit (Some input) ⊥ ⊥ fault
+pub audit_too : (input : List ℕ) (fault : ProgramFault) → IsFaultOf Run (Some input) ⊥ ⊥ fault
+    → IsFaultOf Audit (Some input) ⊥ ⊥ fault
 audit_too input ReadFailed h = h
 audit_too input TooLong h = h
 audit_too input NotJson h = h
@@ -236,8 +328,10 @@ audit_too input (BrokenChain n) h = (tt, broken_too input (BrokenChain n) h.1)
 
 -- ---- the text of an audit
 
-pub audit_text : (start grown text : List ℕ) (count : ℕ) → start ≡ [] → grown ≡ start ++ records_line count → text ≡ grown ++ (codes "audit ok" ++ newline) → text ≡ records_line count ++ codes "audit ok" ++ newline
+pub audit_text : (start grown text : List ℕ) (count : ℕ) → start ≡ [] → grown ≡ start ++ records_line count
+    → text ≡ grown ++ (codes "audit ok" ++ newline) → text ≡ records_line count ++ codes "audit ok" ++ newline
 audit_text start grown text count none more last =
     last
-    ∙ ap (λ (xs : List ℕ). xs ++ (codes "audit ok" ++ newline)) (more ∙ ap (λ (xs : List ℕ). xs ++ records_line count) none)
+    ∙ ap (λ (xs : List ℕ). xs ++ (codes "audit ok" ++ newline))
+    (more ∙ ap (λ (xs : List ℕ). xs ++ records_line count) none)
     ∙ sym (append_assoc (records_line count) (codes "audit ok") newline)

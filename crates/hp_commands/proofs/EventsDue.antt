@@ -15,23 +15,31 @@ abbrev pub IsUpToDate : MachineValue → Type 0
 IsUpToDate m = m.state ≡ value_of m.layout m.base m.history
 
 -- one more record, or none
-choice_is : (b : Bool) (m : MachineValue) (r : Record) → IsUpToDate m → IsUpToDate (if b then m else with_record m r)
+choice_is : (b : Bool) (m : MachineValue) (r : Record) → IsUpToDate m
+    → IsUpToDate (if b then m else with_record m r)
 choice_is true m r h = h
 choice_is false m r h = refl
 
-event_next : (m : MachineValue) (cpu : ℕ) (event : Event) → IsUpToDate m → IsUpToDate (machine_after_event m cpu event)
+event_next : (m : MachineValue) (cpu : ℕ) (event : Event) → IsUpToDate m
+    → IsUpToDate (machine_after_event m cpu event)
 unfolding machine_after_event
 event_next m cpu event h = choice_is (is_full m) m (next_record m cpu event) h
 
-pub event_is : (m : MachineValue) (cpu : ℕ) (event : Event) (text : List ℕ) (new : MachineValue) → IsUpToDate m → WritesEvent m cpu event text new → IsUpToDate new
+pub event_is : (m : MachineValue) (cpu : ℕ) (event : Event) (text : List ℕ) (new : MachineValue)
+    → IsUpToDate m → WritesEvent m cpu event text new → IsUpToDate new
 event_is m cpu event text new h (inl w) = subst IsUpToDate (sym w.1) (event_next m cpu event h)
 event_is m cpu event text new h (inr w) = subst IsUpToDate (sym w.2) h
 
 -- out of memory makes a text that isn't whole
 pub out_of_memory_is_not_whole : (b : List ℕ) → IsWhole (unrecorded_line OutOfMemory ++ b) → ⊥
-out_of_memory_is_not_whole b whole = not_whole (unrecorded_line OutOfMemory ++ b) (codes "-: fault ") b refl whole
+out_of_memory_is_not_whole b whole =
+    not_whole (unrecorded_line OutOfMemory ++ b) (codes "-: fault ") b refl whole
 
 -- in a whole text an event wrote what is due
-pub event_due : (m : MachineValue) (cpu : ℕ) (event : Event) (text : List ℕ) (new : MachineValue) (rest : List ℕ) → WritesEvent m cpu event text new → IsWhole (text ++ rest) → (text ≡ event_text m cpu event) × (new ≡ machine_after_event m cpu event)
+pub event_due : (m : MachineValue) (cpu : ℕ) (event : Event) (text : List ℕ) (new : MachineValue)
+    (rest : List ℕ)
+    → WritesEvent m cpu event text new → IsWhole (text ++ rest)
+    → (text ≡ event_text m cpu event) × (new ≡ machine_after_event m cpu event)
 event_due m cpu event text new rest (inl w) whole = w
-event_due m cpu event text new rest (inr w) whole = absurd (out_of_memory_is_not_whole rest (subst (λ (l : List ℕ). IsWhole (l ++ rest)) w.1 whole))
+event_due m cpu event text new rest (inr w) whole =
+    absurd (out_of_memory_is_not_whole rest (subst (λ (l : List ℕ). IsWhole (l ++ rest)) w.1 whole))

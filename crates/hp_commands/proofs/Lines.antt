@@ -15,24 +15,46 @@ use Rattle.hp_commands.proofs.SealsDue.{seal_due, seal_is}
 use Rattle.hp_commands.proofs.Whole.{whole_back}
 
 -- no line yet
-pub lines_none : (m : MachineValue) (xs : List Line) (old : List ℕ) → GrowsBy old old (λ (text : List ℕ). WritesLines m (take 0 xs) text m)
+pub lines_none : (m : MachineValue) (xs : List Line) (old : List ℕ)
+    → GrowsBy old old (λ (text : List ℕ). WritesLines m (take 0 xs) text m)
 unfolding WritesLines
 lines_none m xs old = record { text = []; grown = sym (append-nil old); is = (refl, refl) }
 
 -- one more line at the end
-one_more : (xs : List Line) (line : Line) (m mid new : MachineValue) (text written : List ℕ) → WritesLines m xs text mid → WritesLine mid line written new → WritesLines m (xs ++ line ∷ []) (text ++ written) new
+one_more : (xs : List Line) (line : Line) (m mid new : MachineValue) (text written : List ℕ)
+    → WritesLines m xs text mid → WritesLine mid line written new
+    → WritesLines m (xs ++ line ∷ []) (text ++ written) new
 unfolding WritesLines
-one_more [] line m mid new text written ran w =
-    (written, new, [], subst (λ (k : MachineValue). WritesLine k line written new) ran.1 w, ap (λ (l : List ℕ). l ++ written) ran.0 ∙ sym (append-nil written), (refl, refl))
-one_more (x ∷ xs) line m mid new text written ran w =
-    (ran.0, ran.1, ran.2 ++ written, ran.3, ap (λ (l : List ℕ). l ++ written) ran.4 ∙ append_assoc ran.0 ran.2 written, one_more xs line ran.1 mid new ran.2 written ran.5 w)
+one_more [] line m mid new text written ran w = (
+  written,
+  new,
+  [],
+  subst (λ (k : MachineValue). WritesLine k line written new) ran.1 w,
+  ap (λ (l : List ℕ). l ++ written) ran.0 ∙ sym (append-nil written),
+  (refl, refl),
+)
+one_more (x ∷ xs) line m mid new text written ran w = (
+  ran.0,
+  ran.1,
+  ran.2 ++ written,
+  ran.3,
+  ap (λ (l : List ℕ). l ++ written) ran.4
+      ∙ append_assoc ran.0 ran.2 written,
+  one_more xs line ran.1 mid new ran.2 written ran.5 w,
+)
 
 -- one more line of a loop over lines
-pub lines_more : (xs : List Line) (i : ℕ) (line : Line) (old now new : List ℕ) (m mid next : MachineValue) → i < length xs → GrowsBy old now (λ (text : List ℕ). WritesLines m (take i xs) text mid) → line ≡ get_or xs i line → GrowsBy now new (λ (text : List ℕ). WritesLine mid line text next) → GrowsBy old new (λ (text : List ℕ). WritesLines m (take (i + 1) xs) text next)
+pub lines_more : (xs : List Line) (i : ℕ) (line : Line) (old now new : List ℕ) (m mid next : MachineValue)
+    → i < length xs → GrowsBy old now (λ (text : List ℕ). WritesLines m (take i xs) text mid)
+    → line ≡ get_or xs i line → GrowsBy now new (λ (text : List ℕ). WritesLine mid line text next)
+    → GrowsBy old new (λ (text : List ℕ). WritesLines m (take (i + 1) xs) text next)
 lines_more xs i line old now new m mid next lt so_far is_at one = record {
   text = so_far.text ++ one.text;
   grown = one.grown ∙ ap (λ (l : List ℕ). l ++ one.text) so_far.grown ∙ append_assoc old so_far.text one.text;
-  is = subst (λ (l : List Line). WritesLines m l (so_far.text ++ one.text) next) (sym (take_more xs i line lt ∙ ap (λ (x : Line). take i xs ++ x ∷ []) (sym is_at))) (one_more (take i xs) line m mid next so_far.text one.text so_far.is one.is);
+  is =
+      subst (λ (l : List Line). WritesLines m l (so_far.text ++ one.text) next)
+      (sym (take_more xs i line lt ∙ ap (λ (x : Line). take i xs ++ x ∷ []) (sym is_at)))
+      (one_more (take i xs) line m mid next so_far.text one.text so_far.is one.is);
 }
 
 -- ---- the state is that of the history
@@ -43,20 +65,24 @@ unfolding value_of net_of run
 booted_is l = refl
 
 -- one more line, or list of lines
-work_is : (m : MachineValue) (cpu : ℕ) (w : Work) (text : List ℕ) (new : MachineValue) → IsUpToDate m → WritesWork m cpu w text new → IsUpToDate new
+work_is : (m : MachineValue) (cpu : ℕ) (w : Work) (text : List ℕ) (new : MachineValue) → IsUpToDate m
+    → WritesWork m cpu w text new → IsUpToDate new
 work_is m cpu (work.Event event) text new h ran = event_is m cpu event text new h ran
 work_is m cpu (work.Plan plan turns) text new h ran = plan_is m cpu turns plan text new h ran
 work_is m cpu (work.Echo path word) text new h ran = echo_is m cpu path word text new h ran
 work_is m cpu (work.Cat path) text new h ran = subst IsUpToDate (sym ran.1) h
 work_is m cpu work.Seal text new h ran = seal_is m text new h ran
 
-lines_are : (xs : List Line) (m new : MachineValue) (text : List ℕ) → IsUpToDate m → WritesLines m xs text new → IsUpToDate new
+lines_are : (xs : List Line) (m new : MachineValue) (text : List ℕ) → IsUpToDate m → WritesLines m xs text new
+    → IsUpToDate new
 unfolding WritesLines
 lines_are [] m new text h ran = subst IsUpToDate (sym ran.1) h
-lines_are (x ∷ xs) m new text h ran = lines_are xs ran.1 new ran.2 (work_is m x.cpu x.work ran.0 ran.1 h ran.3) ran.5
+lines_are (x ∷ xs) m new text h ran =
+    lines_are xs ran.1 new ran.2 (work_is m x.cpu x.work ran.0 ran.1 h ran.3) ran.5
 
 -- a run from the start keeps the state that of the history
-pub run_is : (l : LayoutParts) (xs : List Line) (text : List ℕ) (new : MachineValue) → WritesLines (booted l) xs text new → IsUpToDate new
+pub run_is : (l : LayoutParts) (xs : List Line) (text : List ℕ) (new : MachineValue)
+    → WritesLines (booted l) xs text new → IsUpToDate new
 run_is l xs text new ran = lines_are xs (booted l) new text (booted_is l) ran
 
 -- ---- a text with no line that wanted memory
@@ -66,29 +92,39 @@ abbrev pub AreDue : MachineValue → List Line → List ℕ → MachineValue →
 AreDue m xs text new = (text ≡ lines_text m xs) × (new ≡ machine_after_lines m xs)
 
 -- one more line in front
-due_more : (x : Line) (xs : List Line) (m next new : MachineValue) (text written rest : List ℕ) → text ≡ written ++ rest → written ≡ line_text m x → next ≡ machine_after m x → AreDue next xs rest new → AreDue m (x ∷ xs) text new
+due_more : (x : Line) (xs : List Line) (m next new : MachineValue) (text written rest : List ℕ)
+    → text ≡ written ++ rest → written ≡ line_text m x → next ≡ machine_after m x → AreDue next xs rest new
+    → AreDue m (x ∷ xs) text new
 unfolding lines_text machine_after_lines
 due_more x xs m next new text written rest e w n due = (
-  e ∙ ap (λ (l : List ℕ). l ++ rest) w ∙ ap (λ (l : List ℕ). line_text m x ++ l) due.0 ∙ ap (λ (k : MachineValue). line_text m x ++ lines_text k xs) n,
+  e ∙ ap (λ (l : List ℕ). l ++ rest) w ∙ ap (λ (l : List ℕ). line_text m x ++ l) due.0
+      ∙ ap (λ (k : MachineValue). line_text m x ++ lines_text k xs) n,
   due.1 ∙ ap (λ (k : MachineValue). machine_after_lines k xs) n,
 )
 
 -- in a whole text a line wrote what is due
-work_due : (m : MachineValue) (cpu : ℕ) (w : Work) (text : List ℕ) (new : MachineValue) (rest : List ℕ) → WritesWork m cpu w text new → IsWhole (text ++ rest) → (text ≡ work_text m cpu w) × (new ≡ machine_after_work m cpu w)
+work_due : (m : MachineValue) (cpu : ℕ) (w : Work) (text : List ℕ) (new : MachineValue) (rest : List ℕ)
+    → WritesWork m cpu w text new → IsWhole (text ++ rest)
+    → (text ≡ work_text m cpu w) × (new ≡ machine_after_work m cpu w)
 work_due m cpu (work.Event event) text new rest ran whole = event_due m cpu event text new rest ran whole
-work_due m cpu (work.Plan plan turns) text new rest ran whole = plan_due m cpu turns plan text new rest ran whole
-work_due m cpu (work.Echo path word) text new rest ran whole = echo_due m cpu path word text new rest ran whole
+work_due m cpu (work.Plan plan turns) text new rest ran whole =
+    plan_due m cpu turns plan text new rest ran whole
+work_due m cpu (work.Echo path word) text new rest ran whole =
+    echo_due m cpu path word text new rest ran whole
 work_due m cpu (work.Cat path) text new rest ran whole = (cat_due m path text rest ran.0 whole, ran.1)
 work_due m cpu work.Seal text new rest ran whole = seal_due m text new rest ran whole
 
 -- a line in front that wrote what is due, since the text is whole
-line_due : (x : Line) (xs : List Line) (m next new : MachineValue) (text written rest end : List ℕ) → WritesLine m x written next → text ≡ written ++ rest → (IsWhole (rest ++ end) → AreDue next xs rest new) → IsWhole (written ++ (rest ++ end)) → AreDue m (x ∷ xs) text new
+line_due : (x : Line) (xs : List Line) (m next new : MachineValue) (text written rest end : List ℕ)
+    → WritesLine m x written next → text ≡ written ++ rest → (IsWhole (rest ++ end) → AreDue next xs rest new)
+    → IsWhole (written ++ (rest ++ end)) → AreDue m (x ∷ xs) text new
 line_due x xs m next new text written rest end ran e due whole =
     let one = work_due m x.cpu x.work written next (rest ++ end) ran whole in
     due_more x xs m next new text written rest e one.0 one.1 (due (whole_back written (rest ++ end) whole))
 
 -- the text of a run in which no line wanted memory is the one that is due
-pub lines_due : (xs : List Line) (m new : MachineValue) (text end : List ℕ) → WritesLines m xs text new → IsWhole (text ++ end) → AreDue m xs text new
+pub lines_due : (xs : List Line) (m new : MachineValue) (text end : List ℕ) → WritesLines m xs text new
+    → IsWhole (text ++ end) → AreDue m xs text new
 unfolding WritesLines lines_text machine_after_lines
 lines_due [] m new text end ran whole = ran
 lines_due (x ∷ xs) m new text end ran whole =

@@ -29,15 +29,20 @@ use Rattle.hp_commands.proofs.Whole.{not_whole}
 -- ---- the state after a run
 
 -- one call, and calls one after another
-called_is : (m next : MachineValue) (cpu : ℕ) (event : Event) (r : Receipt) → IsCalled m cpu event r next → IsUpToDate next
+called_is : (m next : MachineValue) (cpu : ℕ) (event : Event) (r : Receipt) → IsCalled m cpu event r next
+    → IsUpToDate next
 called_is m next cpu event r called =
-    called.state ∙ ap (λ (l : LayoutParts). value_of l m.base next.history) (sym called.layout) ∙ ap (λ (base : Memory). value_of next.layout base next.history) (sym called.base)
+    called.state ∙ ap (λ (l : LayoutParts). value_of l m.base next.history) (sym called.layout)
+    ∙ ap (λ (base : Memory). value_of next.layout base next.history) (sym called.base)
 
-calls_are : (rs : List Receipt) (m new : MachineValue) (cpu : ℕ) → IsUpToDate m → AreCalls m cpu rs new → IsUpToDate new
+calls_are : (rs : List Receipt) (m new : MachineValue) (cpu : ℕ) → IsUpToDate m → AreCalls m cpu rs new
+    → IsUpToDate new
 calls_are [] m new cpu h calls = subst IsUpToDate (sym calls) h
-calls_are (r ∷ rs) m new cpu h calls = calls_are rs calls.0 new cpu (called_is m calls.0 cpu r.event r calls.2) calls.3
+calls_are (r ∷ rs) m new cpu h calls =
+    calls_are rs calls.0 new cpu (called_is m calls.0 cpu r.event r calls.2) calls.3
 
-pub plan_is : (m : MachineValue) (cpu turns : ℕ) (plan : List Item) (text : List ℕ) (new : MachineValue) → IsUpToDate m → WritesPlan m cpu turns plan text new → IsUpToDate new
+pub plan_is : (m : MachineValue) (cpu turns : ℕ) (plan : List Item) (text : List ℕ) (new : MachineValue)
+    → IsUpToDate m → WritesPlan m cpu turns plan text new → IsUpToDate new
 plan_is m cpu turns plan text new h w = calls_are w.1.receipts m new cpu h w.1.calls
 
 -- ---- a call is the one that is due
@@ -46,15 +51,20 @@ abbrev receipt_with : ℕ → Event → Reply → Receipt
 receipt_with serial event reply = record { serial = serial; event = event; reply = reply }
 
 -- the receipt is that of the next record
-called_receipt : (m next : MachineValue) (cpu : ℕ) (r : Receipt) → IsCalled m cpu r.event r next → r ≡ receipt_of (next_record m cpu r.event)
+called_receipt : (m next : MachineValue) (cpu : ℕ) (r : Receipt) → IsCalled m cpu r.event r next
+    → r ≡ receipt_of (next_record m cpu r.event)
 called_receipt m next cpu r called =
-    ap (λ (n : ℕ). receipt_with n r.event r.reply) called.serial ∙ ap (λ (y : Reply). receipt_with (last_serial m + 1) r.event y) called.reply
+    ap (λ (n : ℕ). receipt_with n r.event r.reply) called.serial
+    ∙ ap (λ (y : Reply). receipt_with (last_serial m + 1) r.event y) called.reply
 
 abbrev machine_with : LayoutParts → ℕ → Memory → List Record → Memory → MachineValue
-machine_with layout before base history state = record { layout = layout; before = before; base = base; history = history; state = state }
+machine_with layout before base history state =
+    record { layout = layout; before = before; base = base; history = history; state = state }
 
 -- and the machine is the one with that record
-record_is : (m next : MachineValue) (q : Record) → next.layout ≡ m.layout → next.before ≡ m.before → next.base ≡ m.base → next.history ≡ m.history ++ q ∷ [] → next.state ≡ value_of m.layout m.base next.history → next ≡ with_record m q
+record_is : (m next : MachineValue) (q : Record) → next.layout ≡ m.layout → next.before ≡ m.before
+    → next.base ≡ m.base → next.history ≡ m.history ++ q ∷ []
+    → next.state ≡ value_of m.layout m.base next.history → next ≡ with_record m q
 record_is m next q layout before base history state =
     ap (λ (x : LayoutParts). machine_with x next.before next.base next.history next.state) layout
     ∙ ap (λ (x : ℕ). machine_with m.layout x next.base next.history next.state) before
@@ -62,10 +72,12 @@ record_is m next q layout before base history state =
     ∙ ap (λ (x : Memory). machine_with m.layout m.before m.base next.history x) state
     ∙ ap (λ (x : List Record). machine_with m.layout m.before m.base x (value_of m.layout m.base x)) history
 
-called_machine : (m next : MachineValue) (cpu : ℕ) (r : Receipt) → IsCalled m cpu r.event r next → next ≡ with_record m (next_record m cpu r.event)
+called_machine : (m next : MachineValue) (cpu : ℕ) (r : Receipt) → IsCalled m cpu r.event r next
+    → next ≡ with_record m (next_record m cpu r.event)
 called_machine m next cpu r called =
     record_is m next (next_record m cpu r.event) called.layout called.before called.base
-    (called.history ∙ ap (λ (x : Receipt). m.history ++ record_of cpu x ∷ []) (called_receipt m next cpu r called)) called.state
+    (called.history ∙ ap (λ (x : Receipt). m.history ++ record_of cpu x ∷ [])
+    (called_receipt m next cpu r called)) called.state
 
 -- ---- a run is the one that is due
 
@@ -78,24 +90,36 @@ IsNotOutOfMemory (Some OutOfMemory) = ⊥
 IsNotOutOfMemory fault = ⊤
 
 -- where a run ends, it stops
-stops : (receipts : List Receipt) (m : MachineValue) (more : Event → PlanRun) (full : Bool) (next : Option Event) (fault : Option CallFault) (end : OpEnd) → Ends receipts next fault end → full ≡ is_full m → HasCause fault m → IsNotOutOfMemory fault → going_on receipts m more full next ≡ run_with receipts m fault
+stops : (receipts : List Receipt) (m : MachineValue) (more : Event → PlanRun) (full : Bool)
+    (next : Option Event) (fault : Option CallFault) (end : OpEnd)
+    → Ends receipts next fault end → full ≡ is_full m → HasCause fault m → IsNotOutOfMemory fault
+    → going_on receipts m more full next ≡ run_with receipts m fault
 unfolding going_on
 stops receipts m more full None None end ends is cause given = refl
 stops receipts m more full None (Some fault) end ends is cause given = absurd ends
 stops receipts m more full (Some event) None end ends is cause given = absurd ends
 stops receipts m more true (Some event) (Some HistoryFull) end ends is cause given = refl
-stops receipts m more false (Some event) (Some HistoryFull) end ends is cause given = let h : false ≡ true = is ∙ cause in absurd cc
+stops receipts m more false (Some event) (Some HistoryFull) end ends is cause given =
+    let h : false ≡ true = is ∙ cause in absurd cc
 stops receipts m more full (Some event) (Some OutOfMemory) end ends is cause given = absurd given
 
-finished : (turns : ℕ) (plan : List Item) (earlier : List Receipt) (m new : MachineValue) (more : Event → PlanRun) (fault : Option CallFault) (end : OpEnd) → new ≡ m → Ends (earlier ++ []) (next_event m.layout.cpus turns plan (earlier ++ [])) fault end → HasCause fault new → IsNotOutOfMemory fault → going_on earlier m more (is_full m) (next_event m.layout.cpus turns plan earlier) ≡ run_with (earlier ++ []) new fault
+finished : (turns : ℕ) (plan : List Item) (earlier : List Receipt) (m new : MachineValue)
+    (more : Event → PlanRun) (fault : Option CallFault) (end : OpEnd)
+    → new ≡ m → Ends (earlier ++ []) (next_event m.layout.cpus turns plan (earlier ++ [])) fault end
+    → HasCause fault new → IsNotOutOfMemory fault
+    → going_on earlier m more (is_full m) (next_event m.layout.cpus turns plan earlier)
+    ≡ run_with (earlier ++ []) new fault
 finished turns plan earlier m new more fault end same ends cause given =
     stops earlier m more (is_full m) (next_event m.layout.cpus turns plan earlier) fault end
-    (subst (λ (l : List Receipt). Ends l (next_event m.layout.cpus turns plan l) fault end) (append-nil earlier) ends) refl (subst (HasCause fault) same cause) given
+    (subst (λ (l : List Receipt). Ends l (next_event m.layout.cpus turns plan l) fault end)
+    (append-nil earlier) ends) refl (subst (HasCause fault) same cause) given
     ∙ ap (λ (l : List Receipt). run_with l m fault) (sym (append-nil earlier))
     ∙ ap (λ (k : MachineValue). run_with (earlier ++ []) k fault) (sym same)
 
 -- where an event is next and there is room, it goes on
-goes_on : (receipts : List Receipt) (m : MachineValue) (more : Event → PlanRun) (full : Bool) (next : Option Event) (event : Event) → full ≡ false → next ≡ Some event → going_on receipts m more full next ≡ more event
+goes_on : (receipts : List Receipt) (m : MachineValue) (more : Event → PlanRun) (full : Bool)
+    (next : Option Event) (event : Event)
+    → full ≡ false → next ≡ Some event → going_on receipts m more full next ≡ more event
 unfolding going_on
 goes_on receipts m more true next event room is = absurd cc
 goes_on receipts m more false None event room is = absurd cc
@@ -109,40 +133,64 @@ full_first false b is room = absurd cc
 no_room : (m : MachineValue) → m.layout.history ≤ zero + length m.history → is_full m ≡ false → ⊥
 no_room m fits room =
     let within : m.layout.history ≤ length m.history = omega (arith, fits) in
-    full_first (nat_le m.layout.history (length m.history)) (nat_le 18446744073709551615 (m.before + length m.history)) (le-leb _ _ within) room
+    full_first (nat_le m.layout.history (length m.history))
+    (nat_le 18446744073709551615 (m.before + length m.history)) (le-leb _ _ within) room
 
-one_record : (limit room : ℕ) (history : List Record) (q : Record) → limit ≤ suc room + length history → limit ≤ room + length (history ++ q ∷ [])
+one_record : (limit room : ℕ) (history : List Record) (q : Record) → limit ≤ suc room + length history
+    → limit ≤ room + length (history ++ q ∷ [])
 one_record limit room history q fits = omega (arith, fits, length_push history q)
 
 -- calls that are a run from the receipts so far on are those of the run that is due
-calls_due : (rs : List Receipt) (room turns : ℕ) (plan : List Item) (cpu : ℕ) (earlier : List Receipt) (m new : MachineValue) (fault : Option CallFault) (end : OpEnd) → m.layout.history ≤ room + length m.history → AreCalls m cpu rs new → AllNext m.layout.cpus turns plan earlier rs → Ends (earlier ++ rs) (next_event m.layout.cpus turns plan (earlier ++ rs)) fault end → HasCause fault new → IsNotOutOfMemory fault → run_on room turns plan cpu earlier m ≡ run_with (earlier ++ rs) new fault
+calls_due : (rs : List Receipt) (room turns : ℕ) (plan : List Item) (cpu : ℕ) (earlier : List Receipt)
+    (m new : MachineValue) (fault : Option CallFault) (end : OpEnd)
+    → m.layout.history ≤ room + length m.history → AreCalls m cpu rs new
+    → AllNext m.layout.cpus turns plan earlier rs
+    → Ends (earlier ++ rs) (next_event m.layout.cpus turns plan (earlier ++ rs)) fault end
+    → HasCause fault new → IsNotOutOfMemory fault
+    → run_on room turns plan cpu earlier m ≡ run_with (earlier ++ rs) new fault
 unfolding run_on
-calls_due [] zero turns plan cpu earlier m new fault end fits calls events ends cause given = finished turns plan earlier m new (λ (event : Event). run_with earlier m None) fault end calls ends cause given
-calls_due [] (suc room) turns plan cpu earlier m new fault end fits calls events ends cause given = finished turns plan earlier m new (λ (event : Event). run_on room turns plan cpu (earlier ++ receipt_of (next_record m cpu event) ∷ []) (with_record m (next_record m cpu event))) fault end calls ends cause given
-calls_due (r ∷ rs) zero turns plan cpu earlier m new fault end fits calls events ends cause given = absurd (no_room m fits calls.1)
+calls_due [] zero turns plan cpu earlier m new fault end fits calls events ends cause given =
+    finished turns plan earlier m new (λ (event : Event). run_with earlier m None) fault end calls ends cause
+    given
+calls_due [] (suc room) turns plan cpu earlier m new fault end fits calls events ends cause given =
+    finished turns plan earlier m new (λ (event : Event). run_on room turns plan cpu
+    (earlier ++ receipt_of (next_record m cpu event) ∷ [])
+    (with_record m (next_record m cpu event))) fault end calls ends cause given
+calls_due (r ∷ rs) zero turns plan cpu earlier m new fault end fits calls events ends cause given =
+    absurd (no_room m fits calls.1)
 calls_due (r ∷ rs) (suc room) turns plan cpu earlier m new fault end fits calls events ends cause given =
     let told : r ≡ receipt_of (next_record m cpu r.event) = called_receipt m calls.0 cpu r calls.2 in
     let joined : earlier ++ r ∷ rs ≡ (earlier ++ receipt_of (next_record m cpu r.event) ∷ []) ++ rs =
-    ap (λ (x : Receipt). earlier ++ x ∷ rs) told ∙ sym (append_assoc earlier (receipt_of (next_record m cpu r.event) ∷ []) rs) in
-    goes_on earlier m (λ (event : Event). run_on room turns plan cpu (earlier ++ receipt_of (next_record m cpu event) ∷ []) (with_record m (next_record m cpu event))) (is_full m) (next_event m.layout.cpus turns plan earlier) r.event calls.1 events.0
-    ∙ calls_due rs room turns plan cpu (earlier ++ receipt_of (next_record m cpu r.event) ∷ []) (with_record m (next_record m cpu r.event)) new fault end
+    ap (λ (x : Receipt). earlier ++ x ∷ rs) told
+    ∙ sym (append_assoc earlier (receipt_of (next_record m cpu r.event) ∷ []) rs) in
+    goes_on earlier m (λ (event : Event). run_on room turns plan cpu
+    (earlier ++ receipt_of (next_record m cpu event) ∷ [])
+    (with_record m (next_record m cpu event))) (is_full m) (next_event m.layout.cpus turns plan
+    earlier) r.event calls.1 events.0
+    ∙ calls_due rs room turns plan cpu (earlier ++ receipt_of (next_record m cpu r.event) ∷ [])
+    (with_record m (next_record m cpu r.event)) new fault end
     (one_record m.layout.history room m.history (next_record m cpu r.event) fits)
     (subst (λ (k : MachineValue). AreCalls k cpu rs new) (called_machine m calls.0 cpu r calls.2) calls.3)
     (subst (λ (x : Receipt). AllNext m.layout.cpus turns plan (earlier ++ x ∷ []) rs) told events.1)
-    (subst (λ (l : List Receipt). Ends l (next_event m.layout.cpus turns plan l) fault end) joined ends) cause given
+    (subst (λ (l : List Receipt). Ends l (next_event m.layout.cpus turns plan l) fault end) joined ends) cause
+    given
     ∙ ap (λ (l : List Receipt). run_with l new fault) (sym joined)
 
 fits_all : (limit count : ℕ) → limit ≤ (limit - count) + count
 fits_all limit count = omega arith
 
-run_due : (m : MachineValue) (cpu turns : ℕ) (plan : List Item) (end : OpEnd) (new : MachineValue) (ran : IsPlanRun m cpu turns plan end new) → IsNotOutOfMemory ran.fault → plan_run m cpu turns plan ≡ run_with ran.receipts new ran.fault
+run_due : (m : MachineValue) (cpu turns : ℕ) (plan : List Item) (end : OpEnd) (new : MachineValue)
+    (ran : IsPlanRun m cpu turns plan end new)
+    → IsNotOutOfMemory ran.fault → plan_run m cpu turns plan ≡ run_with ran.receipts new ran.fault
 run_due m cpu turns plan end new ran given =
-    calls_due ran.receipts (m.layout.history - length m.history) turns plan cpu [] m new ran.fault end (fits_all m.layout.history (length m.history)) ran.calls ran.run.events ran.run.ends ran.cause given
+    calls_due ran.receipts (m.layout.history - length m.history) turns plan cpu [] m new ran.fault end
+    (fits_all m.layout.history (length m.history)) ran.calls ran.run.events ran.run.ends ran.cause given
 
 -- ---- its text
 
 -- the end of a run is the one that its receipts and its fault make
-end_is : (receipts : List Receipt) (next : Option Event) (fault : Option CallFault) (end : OpEnd) → Ends receipts next fault end → end ≡ end_with fault receipts
+end_is : (receipts : List Receipt) (next : Option Event) (fault : Option CallFault) (end : OpEnd)
+    → Ends receipts next fault end → end ≡ end_with fault receipts
 end_is receipts None None end ends = sym (ap (λ (o : Option OpEnd). unwrap_or o Undone) ends)
 end_is receipts None (Some fault) end ends = absurd ends
 end_is receipts (Some event) None end ends = absurd ends
@@ -151,21 +199,35 @@ end_is receipts (Some event) (Some fault) end ends = ends
 -- out of memory makes a text that isn't whole
 left_is_not_whole : (op : Option ℕ) (b : List ℕ) → IsWhole (plan_line (Left op OutOfMemory) ++ b) → ⊥
 left_is_not_whole op b whole =
-    not_whole (plan_line (Left op OutOfMemory) ++ b) (codes "plan: left " ++ (operation_text op ++ codes " ")) b
+    not_whole (plan_line (Left op OutOfMemory) ++ b) (codes "plan: left " ++ (operation_text op ++ codes " "))
+    b
     (ap (λ (l : List ℕ). codes "plan: left " ++ l)
-    (append_assoc (operation_text op ++ codes " " ++ codes "OutOfMemory") newline b ∙ append_assoc (operation_text op ++ codes " ") (codes "OutOfMemory") (newline ++ b))) whole
+    (append_assoc (operation_text op ++ codes " " ++ codes "OutOfMemory") newline b
+    ∙ append_assoc (operation_text op ++ codes " ") (codes "OutOfMemory") (newline ++ b))) whole
 
-not_out_of_memory : (receipts : List Receipt) (next : Option Event) (fault : Option CallFault) (end : OpEnd) (rest : List ℕ) → Ends receipts next fault end → IsWhole (plan_line end ++ rest) → IsNotOutOfMemory fault
+not_out_of_memory : (receipts : List Receipt) (next : Option Event) (fault : Option CallFault) (end : OpEnd)
+    (rest : List ℕ)
+    → Ends receipts next fault end → IsWhole (plan_line end ++ rest) → IsNotOutOfMemory fault
 not_out_of_memory receipts next None end rest ends whole = tt
 not_out_of_memory receipts next (Some HistoryFull) end rest ends whole = tt
 not_out_of_memory receipts None (Some OutOfMemory) end rest ends whole = absurd ends
 not_out_of_memory receipts (Some event) (Some OutOfMemory) end rest ends whole =
-    left_is_not_whole (operation_of receipts) rest (subst (λ (e : OpEnd). IsWhole (plan_line e ++ rest)) ends whole)
+    left_is_not_whole (operation_of receipts) rest
+    (subst (λ (e : OpEnd). IsWhole (plan_line e ++ rest)) ends whole)
 
 -- in a whole text a plan wrote what is due
-pub plan_due : (m : MachineValue) (cpu turns : ℕ) (plan : List Item) (text : List ℕ) (new : MachineValue) (rest : List ℕ) → WritesPlan m cpu turns plan text new → IsWhole (text ++ rest) → (text ≡ plan_text m cpu turns plan) × (new ≡ (plan_run m cpu turns plan).machine)
+pub plan_due : (m : MachineValue) (cpu turns : ℕ) (plan : List Item) (text : List ℕ) (new : MachineValue)
+    (rest : List ℕ)
+    → WritesPlan m cpu turns plan text new → IsWhole (text ++ rest)
+    → (text ≡ plan_text m cpu turns plan) × (new ≡ (plan_run m cpu turns plan).machine)
 plan_due m cpu turns plan text new rest w whole =
-    let given = not_out_of_memory w.1.receipts (next_event m.layout.cpus turns plan w.1.receipts) w.1.fault w.0 rest w.1.run.ends (subst (λ (l : List ℕ). IsWhole (l ++ rest)) w.2 whole) in
-    let due : plan_run m cpu turns plan ≡ run_with w.1.receipts new w.1.fault = run_due m cpu turns plan w.0 new w.1 given in
-    let ended : w.0 ≡ end_with w.1.fault w.1.receipts = end_is w.1.receipts (next_event m.layout.cpus turns plan w.1.receipts) w.1.fault w.0 w.1.run.ends in
-    (w.2 ∙ ap plan_line (ended ∙ ap (λ (p : PlanRun). end_with p.fault p.receipts) (sym due)), ap (λ (p : PlanRun). p.machine) (sym due))
+    let given =
+    not_out_of_memory w.1.receipts (next_event m.layout.cpus turns plan w.1.receipts) w.1.fault w.0 rest
+    w.1.run.ends (subst (λ (l : List ℕ). IsWhole (l ++ rest)) w.2 whole) in
+    let due : plan_run m cpu turns plan ≡ run_with w.1.receipts new w.1.fault =
+    run_due m cpu turns plan w.0 new w.1 given in
+    let ended : w.0 ≡ end_with w.1.fault w.1.receipts =
+    end_is w.1.receipts (next_event m.layout.cpus turns plan w.1.receipts) w.1.fault w.0 w.1.run.ends in (
+      w.2 ∙ ap plan_line (ended ∙ ap (λ (p : PlanRun). end_with p.fault p.receipts) (sym due)),
+      ap (λ (p : PlanRun). p.machine) (sym due),
+    )

@@ -29,25 +29,32 @@ use Rattle.hp_commands.proofs.Unfit.{only_not_for_run}
 -- ---- why not
 
 -- the bytes are no scenario
-pub unread : (input : List ℕ) (fault : ScenarioFault) → Fails fault (scenario_in input) → IsFaultOf Run (Some input) ⊥ ⊥ (fault_from fault)
+pub unread : (input : List ℕ) (fault : ScenarioFault) → Fails fault (scenario_in input)
+    → IsFaultOf Run (Some input) ⊥ ⊥ (fault_from fault)
 unread input scenario.NotJson h = h
 unread input scenario.BadShape h = h
 unread input (scenario.Layout fault) h = h
 unread input (scenario.BadLine line) h = h
-unread input (scenario.NotForRun line) h = (tt, ap (λ (r : Result ScenarioValue ScenarioFault). r >>= scripts_of) h)
+unread input (scenario.NotForRun line) h =
+    (tt, ap (λ (r : Result ScenarioValue ScenarioFault). r >>= scripts_of) h)
 unread input scenario.OutOfMemory h = tt
 
 -- a line of theirs is not for run
-pub unfit : (input : List ℕ) (s : ScenarioValue) (fault : ScenarioFault) → scenario_in input ≡ Ok s → Fails fault (scripts_of s) → IsFaultOf Run (Some input) ⊥ ⊥ (fault_from fault)
+pub unfit : (input : List ℕ) (s : ScenarioValue) (fault : ScenarioFault) → scenario_in input ≡ Ok s
+    → Fails fault (scripts_of s) → IsFaultOf Run (Some input) ⊥ ⊥ (fault_from fault)
 unfit input s scenario.NotJson read h = absurd (only_not_for_run s scenario.NotJson h)
 unfit input s scenario.BadShape read h = absurd (only_not_for_run s scenario.BadShape h)
 unfit input s (scenario.Layout fault) read h = absurd (only_not_for_run s (scenario.Layout fault) h)
 unfit input s (scenario.BadLine line) read h = absurd (only_not_for_run s (scenario.BadLine line) h)
-unfit input s (scenario.NotForRun line) read h = (tt, ap (λ (r : Result ScenarioValue ScenarioFault). r >>= scripts_of) read ∙ h)
+unfit input s (scenario.NotForRun line) read h =
+    (tt, ap (λ (r : Result ScenarioValue ScenarioFault). r >>= scripts_of) read ∙ h)
 unfit input s scenario.OutOfMemory read h = tt
 
 -- a worker was not started, or it was out of memory
-pub unstarted : (l : LayoutParts) (olds : List SeatValue) (scripts : List (List Line)) (news : List SeatValue) (volumes : List Volume) (ends : List (List LineEnd)) (ended : Option RunFault) (fault : RunFault) → olds ≡ first_seats l.cpus → ended ≡ Some fault → IsRunEnd l olds scripts news volumes ends ended → IsWorkFault l scripts (run_fault_from fault)
+pub unstarted : (l : LayoutParts) (olds : List SeatValue) (scripts : List (List Line)) (news : List SeatValue)
+    (volumes : List Volume) (ends : List (List LineEnd)) (ended : Option RunFault) (fault : RunFault)
+    → olds ≡ first_seats l.cpus → ended ≡ Some fault → IsRunEnd l olds scripts news volumes ends ended
+    → IsWorkFault l scripts (run_fault_from fault)
 unstarted l olds scripts news volumes ends ended (running.NotStarted cpu) first is run = record {
   seats = news;
   volumes = volumes;
@@ -59,17 +66,28 @@ unstarted l olds scripts news volumes ends ended (running.NotStarted cpu) first 
 unstarted l olds scripts news volumes ends ended running.OutOfMemory first is run = tt
 
 -- the machine was not closed: no seat is missing
-pub unclosed : (l : LayoutParts) (scripts : List (List Line)) (seats : List SeatValue) (ends : List (List LineEnd)) (volumes : List Volume) (fault : CloseFault) → length scripts ≡ l.cpus → AreGathered l (first_seats l.cpus) scripts seats volumes ends None → HasCause l seats volumes fault → IsWorkFault l scripts (close_fault_from fault)
-unclosed l scripts seats ends volumes closing.SeatMissing count all cause = absurd (cause.fault (has_each l scripts seats all.handed ends None count all.workers))
-unclosed l scripts seats ends volumes (closing.WrongVolume at) count all cause = record { seats = seats; volumes = volumes; ends = ends; workers = all; cause = cause }
-unclosed l scripts seats ends volumes (closing.Mismatch serial) count all cause = record { seats = seats; volumes = volumes; ends = ends; workers = all; cause = cause }
+pub unclosed : (l : LayoutParts) (scripts : List (List Line)) (seats : List SeatValue)
+    (ends : List (List LineEnd)) (volumes : List Volume) (fault : CloseFault)
+    → length scripts ≡ l.cpus → AreGathered l (first_seats l.cpus) scripts seats volumes ends None
+    → HasCause l seats volumes fault → IsWorkFault l scripts (close_fault_from fault)
+unclosed l scripts seats ends volumes closing.SeatMissing count all cause =
+    absurd (cause.fault (has_each l scripts seats all.handed ends None count all.workers))
+unclosed l scripts seats ends volumes (closing.WrongVolume at) count all cause =
+    record { seats = seats; volumes = volumes; ends = ends; workers = all; cause = cause }
+unclosed l scripts seats ends volumes (closing.Mismatch serial) count all cause =
+    record { seats = seats; volumes = volumes; ends = ends; workers = all; cause = cause }
 unclosed l scripts seats ends volumes closing.OutOfMemory count all cause = tt
 
 -- so the command fails
-unfinished : (input : List ℕ) (s : ScenarioValue) (scripts : List (List Line)) (fault : ProgramFault) → scenario_in input ≡ Ok s → scripts_of s ≡ Ok scripts → IsWorkFault s.layout scripts fault → IsUnfinished input fault
-unfinished input s scripts fault read parted h = record { scenario = s; read = read; scripts = scripts; parted = parted; why = h }
+unfinished : (input : List ℕ) (s : ScenarioValue) (scripts : List (List Line)) (fault : ProgramFault)
+    → scenario_in input ≡ Ok s → scripts_of s ≡ Ok scripts → IsWorkFault s.layout scripts fault
+    → IsUnfinished input fault
+unfinished input s scripts fault read parted h =
+    record { scenario = s; read = read; scripts = scripts; parted = parted; why = h }
 
-pub work_fails : (input : List ℕ) (s : ScenarioValue) (scripts : List (List Line)) (fault : ProgramFault) → scenario_in input ≡ Ok s → scripts_of s ≡ Ok scripts → IsWorkFault s.layout scripts fault → IsFaultOf Run (Some input) ⊥ ⊥ fault
+pub work_fails : (input : List ℕ) (s : ScenarioValue) (scripts : List (List Line)) (fault : ProgramFault)
+    → scenario_in input ≡ Ok s → scripts_of s ≡ Ok scripts → IsWorkFault s.layout scripts fault
+    → IsFaultOf Run (Some input) ⊥ ⊥ fault
 work_fails input s scripts ReadFailed read parted h = absurd h
 work_fails input s scripts TooLong read parted h = absurd h
 work_fails input s scripts NotJson read parted h = absurd h
@@ -78,31 +96,61 @@ work_fails input s scripts (Layout fault) read parted h = absurd h
 work_fails input s scripts (BadLine line) read parted h = absurd h
 work_fails input s scripts (NotForRun line) read parted h = absurd h
 work_fails input s scripts OutOfMemory read parted h = tt
-work_fails input s scripts (NotStarted cpu) read parted h = (tt, unfinished input s scripts (NotStarted cpu) read parted h)
+work_fails input s scripts (NotStarted cpu) read parted h =
+    (tt, unfinished input s scripts (NotStarted cpu) read parted h)
 work_fails input s scripts SeatMissing read parted h = absurd h
-work_fails input s scripts (Mismatch serial) read parted h = (tt, unfinished input s scripts (Mismatch serial) read parted h)
+work_fails input s scripts (Mismatch serial) read parted h =
+    (tt, unfinished input s scripts (Mismatch serial) read parted h)
 work_fails input s scripts (WrongReply serial) read parted h = absurd h
 work_fails input s scripts (WrongSerial at) read parted h = absurd h
 work_fails input s scripts AuditDiffers read parted h = absurd h
 work_fails input s scripts WriteFailed read parted h = absurd h
-work_fails input s scripts (BrokenChain at) read parted h = (tt, inl (unfinished input s scripts (BrokenChain at) read parted h))
+work_fails input s scripts (BrokenChain at) read parted h =
+    (tt, inl (unfinished input s scripts (BrokenChain at) read parted h))
 
 -- in the layout of the machine that was booted
-pub work_fails_at : (input : List ℕ) (s : ScenarioValue) (l : LayoutParts) (scripts : List (List Line)) (fault : ProgramFault) → l ≡ s.layout → scenario_in input ≡ Ok s → scripts_of s ≡ Ok scripts → IsWorkFault l scripts fault → IsFaultOf Run (Some input) ⊥ ⊥ fault
-work_fails_at input s l scripts fault same read parted h = work_fails input s scripts fault read parted (subst (λ (k : LayoutParts). IsWorkFault k scripts fault) same h)
+pub work_fails_at : (input : List ℕ) (s : ScenarioValue) (l : LayoutParts) (scripts : List (List Line))
+    (fault : ProgramFault)
+    → l ≡ s.layout → scenario_in input ≡ Ok s → scripts_of s ≡ Ok scripts → IsWorkFault l scripts fault
+    → IsFaultOf Run (Some input) ⊥ ⊥ fault
+work_fails_at input s l scripts fault same read parted h =
+    work_fails input s scripts fault read parted
+    (subst (λ (k : LayoutParts). IsWorkFault k scripts fault) same h)
 
 -- ---- the run
 
 -- without a fault all workers ran their scripts
-pub all_ran : (l : LayoutParts) (olds : List SeatValue) (scripts : List (List Line)) (news : List SeatValue) (volumes : List Volume) (ends : List (List LineEnd)) (fault : Option RunFault) → olds ≡ first_seats l.cpus → fault ≡ None → IsRunEnd l olds scripts news volumes ends fault → AreGathered l (first_seats l.cpus) scripts news volumes ends None
-all_ran l olds scripts news volumes ends fault first none (inl unstarted) = let bad : None ≡ Some running.OutOfMemory = sym none ∙ unstarted.fault_is in absurd cc
+pub all_ran : (l : LayoutParts) (olds : List SeatValue) (scripts : List (List Line)) (news : List SeatValue)
+    (volumes : List Volume) (ends : List (List LineEnd)) (fault : Option RunFault)
+    → olds ≡ first_seats l.cpus → fault ≡ None → IsRunEnd l olds scripts news volumes ends fault
+    → AreGathered l (first_seats l.cpus) scripts news volumes ends None
+all_ran l olds scripts news volumes ends fault first none (inl unstarted) =
+    let bad : None ≡ Some running.OutOfMemory = sym none ∙ unstarted.fault_is in absurd cc
 all_ran l olds scripts news volumes ends fault first none (inr all) =
-    subst (λ (f : Option RunFault). AreGathered l (first_seats l.cpus) scripts news volumes ends f) none (subst (λ (xs : List SeatValue). AreGathered l xs scripts news volumes ends fault) first all)
+    subst (λ (f : Option RunFault). AreGathered l (first_seats l.cpus) scripts news volumes ends f) none
+    (subst (λ (xs : List SeatValue). AreGathered l xs scripts news volumes ends fault) first all)
 
-pub worked_off : (l : LayoutParts) (scripts : List (List Line)) (seats : List SeatValue) (volumes back : List Volume) (ends : List (List LineEnd)) (m : MachineValue) (count : ℕ) → AreGathered l (first_seats l.cpus) scripts seats volumes ends None → back ≡ volumes → IsClosed l seats volumes m count → (m.before ≡ 0 → m.base ≡ boot_memory m.layout) → IsWorkedOff l scripts ends back m count
+pub worked_off : (l : LayoutParts) (scripts : List (List Line)) (seats : List SeatValue)
+    (volumes back : List Volume) (ends : List (List LineEnd)) (m : MachineValue) (count : ℕ)
+    → AreGathered l (first_seats l.cpus) scripts seats volumes ends None → back ≡ volumes
+    → IsClosed l seats volumes m count → (m.before ≡ 0 → m.base ≡ boot_memory m.layout)
+    → IsWorkedOff l scripts ends back m count
 worked_off l scripts seats volumes back ends m count all same closed boots =
     subst (λ (vs : List Volume). IsWorkedOff l scripts ends vs m count) (sym same)
-    (record { seats = seats; handed = all.handed; workers = all.workers; same = all.same; order = all.order; few = all.few; closed = closed; boots = boots })
+    (record {
+      seats = seats;
+      handed = all.handed;
+      workers = all.workers;
+      same = all.same;
+      order = all.order;
+      few = all.few;
+      closed = closed;
+      boots = boots;
+    })
 
-pub run_is : (input : List ℕ) (s : ScenarioValue) (scripts : List (List Line)) (ends : List (List LineEnd)) (volumes : List Volume) (m : MachineValue) (count : ℕ) → scenario_in input ≡ Ok s → scripts_of s ≡ Ok scripts → IsWorkedOff s.layout scripts ends volumes m count → IsRunOf input ends volumes m count
-run_is input s scripts ends volumes m count read parted worked = record { scenario = s; read = read; scripts = scripts; parted = parted; worked = worked }
+pub run_is : (input : List ℕ) (s : ScenarioValue) (scripts : List (List Line)) (ends : List (List LineEnd))
+    (volumes : List Volume) (m : MachineValue) (count : ℕ)
+    → scenario_in input ≡ Ok s → scripts_of s ≡ Ok scripts → IsWorkedOff s.layout scripts ends volumes m count
+    → IsRunOf input ends volumes m count
+run_is input s scripts ends volumes m count read parted worked =
+    record { scenario = s; read = read; scripts = scripts; parted = parted; worked = worked }

@@ -14,14 +14,17 @@ use Rattle.hp_workers.specs.declared.lines.LineEnd.{LineEnd}
 use Rattle.hp_workers.specs.Workers.{AreWorkers}
 
 -- calls don't change a seat's processor
-turns_cpu : (gained : List Receipt) (l : LayoutParts) (old new : SeatValue) → AreTurns l old gained new → new.cpu ≡ old.cpu
+turns_cpu : (gained : List Receipt) (l : LayoutParts) (old new : SeatValue) → AreTurns l old gained new
+    → new.cpu ≡ old.cpu
 turns_cpu [] l old new turns = ap (λ (s : SeatValue). s.cpu) turns
 turns_cpu (r ∷ rs) l old new turns = turns_cpu rs l turns.0 new turns.2 ∙ turns.1.cpu
 
 first_seat_at : (cpus place : ℕ) → place < cpus → slice_get (first_seats cpus) place ≡ Some (first_seat place)
 first_seat_at cpus place inside =
-    slice_get-get_or (first_seats cpus) place (first_seat place) (omega (arith, inside, length-map-range_with_len first_seat 0 cpus))
-    ∙ ap Some (get_or-map-range_with_len first_seat 0 cpus place place (first_seat place) inside (omega arith))
+    slice_get-get_or (first_seats cpus) place (first_seat place)
+    (omega (arith, inside, length-map-range_with_len first_seat 0 cpus))
+    ∙ ap Some
+    (get_or-map-range_with_len first_seat 0 cpus place place (first_seat place) inside (omega arith))
 
 same_seat : (o : Option SeatValue) (a b : SeatValue) → o ≡ Some a → o ≡ Some b → a ≡ b
 same_seat o a b x y = cc
@@ -31,20 +34,40 @@ record IsOwn (cpus : ℕ) (place : ℕ) (seat : SeatValue) : Type 0 where
   inside : place < cpus
   own : seat.cpu ≡ place
 
-seat_is_own : (l : LayoutParts) (scripts : List (List Line)) (seats : List SeatValue) (handed : List Volume) (ends : List (List LineEnd)) (fault : Option RunFault) → length scripts ≡ l.cpus → AreWorkers l (first_seats l.cpus) scripts seats handed ends fault
+seat_is_own : (l : LayoutParts) (scripts : List (List Line)) (seats : List SeatValue) (handed : List Volume)
+    (ends : List (List LineEnd)) (fault : Option RunFault)
+    → length scripts ≡ l.cpus → AreWorkers l (first_seats l.cpus) scripts seats handed ends fault
     → (place : ℕ) (seat : SeatValue) → slice_get seats place ≡ Some seat → IsOwn l.cpus place seat
 seat_is_own l scripts seats handed ends fault count workers place seat here =
-    let inside : place < l.cpus = omega (arith, slice_get_within seats place seat here, workers.seats, length-map-range_with_len first_seat 0 l.cpus) in
+    let inside : place < l.cpus =
+    omega (
+      arith,
+      slice_get_within seats place seat here,
+      workers.seats,
+      length-map-range_with_len first_seat 0 l.cpus,
+    ) in
     let script = slice_get-get_or scripts place [] (omega (arith, inside, count)) in
-    let found = workers.each place (first_seat place) (get_or scripts place []) (first_seat_at l.cpus place inside) script in
+    let found =
+    workers.each place (first_seat place) (get_or scripts place []) (first_seat_at l.cpus place inside)
+    script in
     let same : found.new ≡ seat = same_seat (slice_get seats place) found.new seat found.seat here in
-    record { inside = inside; own = sym (ap (λ (s : SeatValue). s.cpu) same) ∙ turns_cpu found.worker.worked.gained l (first_seat place) found.new found.worker.worked.turns }
+    record {
+      inside = inside;
+      own =
+          sym (ap (λ (s : SeatValue). s.cpu) same)
+          ∙ turns_cpu found.worker.worked.gained l (first_seat place) found.new found.worker.worked.turns;
+    }
 
-pub has_each : (l : LayoutParts) (scripts : List (List Line)) (seats : List SeatValue) (handed : List Volume) (ends : List (List LineEnd)) (fault : Option RunFault) → length scripts ≡ l.cpus → AreWorkers l (first_seats l.cpus) scripts seats handed ends fault → HasEach l.cpus seats
+pub has_each : (l : LayoutParts) (scripts : List (List Line)) (seats : List SeatValue) (handed : List Volume)
+    (ends : List (List LineEnd)) (fault : Option RunFault)
+    → length scripts ≡ l.cpus → AreWorkers l (first_seats l.cpus) scripts seats handed ends fault
+    → HasEach l.cpus seats
 has_each l scripts seats handed ends fault count workers =
     let own = seat_is_own l scripts seats handed ends fault count workers in
     record {
       count = workers.seats ∙ length-map-range_with_len first_seat 0 l.cpus;
       inside = λ place seat here. (let is = own place seat here in omega (arith, is.inside, is.own));
-      apart = λ place other seat twin here there same. sym (own place seat here).own ∙ same ∙ (own other twin there).own;
+      apart =
+          λ place other seat twin here there same.
+          sym (own place seat here).own ∙ same ∙ (own other twin there).own;
     }

@@ -27,97 +27,139 @@ use Rattle.hp_commands.specs.declared.commands.Command.TheVariants.{Serial, Run,
 use Rattle.hp_commands.proofs.Unfit.{never_not_for_run}
 
 -- a fault of reading is one of the program
-pub read_fault : (command : Command) (known : Option (List ℕ)) (read written : Type 0) (fault : ReadFault) → IsReadFault known read fault → IsFaultOf command known read written (read_fault_from fault)
+pub read_fault : (command : Command) (known : Option (List ℕ)) (read written : Type 0) (fault : ReadFault)
+    → IsReadFault known read fault → IsFaultOf command known read written (read_fault_from fault)
 read_fault command known read written reading.ReadFailed h = h
 read_fault command known read written reading.TooLong h = h
 read_fault command known read written reading.OutOfMemory h = tt
 
 -- a fault of the bytes is one of the reader that gave them all
-input_fault_of : (command : Command) (a b : Option (List ℕ)) (input : List ℕ) (read written : Type 0) (fault : ProgramFault) → Consumes a b input → IsAtEnd b → IsFaultOf command (Some input) ⊥ ⊥ fault → IsFaultOf command a read written fault
+input_fault_of : (command : Command) (a b : Option (List ℕ)) (input : List ℕ) (read written : Type 0)
+    (fault : ProgramFault)
+    → Consumes a b input → IsAtEnd b → IsFaultOf command (Some input) ⊥ ⊥ fault
+    → IsFaultOf command a read written fault
 input_fault_of command a b input read written ReadFailed p end h = absurd h
-input_fault_of command a b input read written TooLong p end h = given a b input p end (λ (i : List ℕ). limit < length i) h
-input_fault_of command a b input read written NotJson p end h = given a b input p end (λ (i : List ℕ). scenario_in i ≡ Err scenario.NotJson) h
-input_fault_of command a b input read written BadShape p end h = given a b input p end (λ (i : List ℕ). scenario_in i ≡ Err scenario.BadShape) h
-input_fault_of command a b input read written (Layout f) p end h = given a b input p end (λ (i : List ℕ). scenario_in i ≡ Err (scenario.Layout f)) h
-input_fault_of command a b input read written (BadLine n) p end h = given a b input p end (λ (i : List ℕ). scenario_in i ≡ Err (scenario.BadLine n)) h
-input_fault_of command a b input read written (NotForRun n) p end h = (h.0, given a b input p end (λ (i : List ℕ). scripts_in i ≡ Err (scenario.NotForRun n)) h.1)
+input_fault_of command a b input read written TooLong p end h =
+    given a b input p end (λ (i : List ℕ). limit < length i) h
+input_fault_of command a b input read written NotJson p end h =
+    given a b input p end (λ (i : List ℕ). scenario_in i ≡ Err scenario.NotJson) h
+input_fault_of command a b input read written BadShape p end h =
+    given a b input p end (λ (i : List ℕ). scenario_in i ≡ Err scenario.BadShape) h
+input_fault_of command a b input read written (Layout f) p end h =
+    given a b input p end (λ (i : List ℕ). scenario_in i ≡ Err (scenario.Layout f)) h
+input_fault_of command a b input read written (BadLine n) p end h =
+    given a b input p end (λ (i : List ℕ). scenario_in i ≡ Err (scenario.BadLine n)) h
+input_fault_of command a b input read written (NotForRun n) p end h =
+    (h.0, given a b input p end (λ (i : List ℕ). scripts_in i ≡ Err (scenario.NotForRun n)) h.1)
 input_fault_of command a b input read written OutOfMemory p end h = tt
-input_fault_of command a b input read written (NotStarted c) p end h = (h.0, given a b input p end (λ (i : List ℕ). IsUnfinished i (NotStarted c)) h.1)
+input_fault_of command a b input read written (NotStarted c) p end h =
+    (h.0, given a b input p end (λ (i : List ℕ). IsUnfinished i (NotStarted c)) h.1)
 input_fault_of command a b input read written SeatMissing p end h = absurd h
-input_fault_of command a b input read written (Mismatch n) p end h = (h.0, given a b input p end (λ (i : List ℕ). IsUnfinished i (Mismatch n)) h.1)
+input_fault_of command a b input read written (Mismatch n) p end h =
+    (h.0, given a b input p end (λ (i : List ℕ). IsUnfinished i (Mismatch n)) h.1)
 input_fault_of command a b input read written (WrongReply n) p end h = absurd h
 input_fault_of command a b input read written (WrongSerial n) p end h = absurd h
-input_fault_of command a b input read written AuditDiffers p end h = (h.0, given a b input p end (λ (i : List ℕ). SealsSome i × IsRefuted i AuditDiffers) h.1)
+input_fault_of command a b input read written AuditDiffers p end h =
+    (h.0, given a b input p end (λ (i : List ℕ). SealsSome i × IsRefuted i AuditDiffers) h.1)
 input_fault_of command a b input read written WriteFailed p end h = absurd h
-input_fault_of command a b input read written (BrokenChain n) p end h =
-    (h.0, given a b input p end (λ (i : List ℕ). IsUnfinished i (BrokenChain n) ⊎ (IsAudit command × IsRefuted i (BrokenChain n))) h.1)
+input_fault_of command a b input read written (BrokenChain n) p end h = (
+  h.0,
+  given a b input p end
+      (λ (i : List ℕ). IsUnfinished i (BrokenChain n) ⊎ (IsAudit command × IsRefuted i (BrokenChain n))) h.1,
+)
 
 -- `seen` is the slice that was passed on
-pub input_fault : (command : Command) (a b : Option (List ℕ)) (input seen : List ℕ) (read written : Type 0) (fault : ProgramFault) → seen ≡ input → Consumes a b input → IsAtEnd b → IsFaultOf command (Some seen) ⊥ ⊥ fault → IsFaultOf command a read written fault
+pub input_fault : (command : Command) (a b : Option (List ℕ)) (input seen : List ℕ) (read written : Type 0)
+    (fault : ProgramFault)
+    → seen ≡ input → Consumes a b input → IsAtEnd b → IsFaultOf command (Some seen) ⊥ ⊥ fault
+    → IsFaultOf command a read written fault
 input_fault command a b input seen read written fault same p end h =
-    input_fault_of command a b input read written fault p end (subst (λ (i : List ℕ). IsFaultOf command (Some i) ⊥ ⊥ fault) same h)
+    input_fault_of command a b input read written fault p end
+    (subst (λ (i : List ℕ). IsFaultOf command (Some i) ⊥ ⊥ fault) same h)
 
 -- only the scenario can be at fault
-refused : (r : Result ScenarioValue ScenarioFault) (fault : ScenarioFault) (f : ScenarioValue → List ℕ) → (r >>= λ s. Ok (f s)) ≡ Err fault → r ≡ Err fault
+refused : (r : Result ScenarioValue ScenarioFault) (fault : ScenarioFault) (f : ScenarioValue → List ℕ)
+    → (r >>= λ s. Ok (f s)) ≡ Err fault → r ≡ Err fault
 refused (Ok s) fault f e = absurd cc
 refused (Err g) fault f e = cc
 
 -- where there is no text, there is no scenario
-no_scenario : (input : List ℕ) (fault : ScenarioFault) → serial_text input ≡ Err fault → scenario_in input ≡ Err fault
+no_scenario : (input : List ℕ) (fault : ScenarioFault) → serial_text input ≡ Err fault
+    → scenario_in input ≡ Err fault
 unfolding serial_text
 no_scenario input fault e = refused (scenario_in input) fault scenario_text e
 
 -- a fault of the scenario is one of the program
-pub scenario_fault : (a b : Option (List ℕ)) (input : List ℕ) (read written : Type 0) (fault : ScenarioFault) → Consumes a b input → IsAtEnd b → Fails fault (serial_text input) → IsFaultOf Serial a read written (fault_from fault)
-scenario_fault a b input read written scenario.NotJson p end h = given a b input p end (λ i. scenario_in i ≡ Err scenario.NotJson) (no_scenario input _ h)
-scenario_fault a b input read written scenario.BadShape p end h = given a b input p end (λ i. scenario_in i ≡ Err scenario.BadShape) (no_scenario input _ h)
-scenario_fault a b input read written (scenario.Layout f) p end h = given a b input p end (λ i. scenario_in i ≡ Err (scenario.Layout f)) (no_scenario input _ h)
-scenario_fault a b input read written (scenario.BadLine n) p end h = given a b input p end (λ i. scenario_in i ≡ Err (scenario.BadLine n)) (no_scenario input _ h)
-scenario_fault a b input read written (scenario.NotForRun n) p end h = absurd (never_not_for_run input n (no_scenario input _ h))
+pub scenario_fault : (a b : Option (List ℕ)) (input : List ℕ) (read written : Type 0) (fault : ScenarioFault)
+    → Consumes a b input → IsAtEnd b → Fails fault (serial_text input)
+    → IsFaultOf Serial a read written (fault_from fault)
+scenario_fault a b input read written scenario.NotJson p end h =
+    given a b input p end (λ i. scenario_in i ≡ Err scenario.NotJson) (no_scenario input _ h)
+scenario_fault a b input read written scenario.BadShape p end h =
+    given a b input p end (λ i. scenario_in i ≡ Err scenario.BadShape) (no_scenario input _ h)
+scenario_fault a b input read written (scenario.Layout f) p end h =
+    given a b input p end (λ i. scenario_in i ≡ Err (scenario.Layout f)) (no_scenario input _ h)
+scenario_fault a b input read written (scenario.BadLine n) p end h =
+    given a b input p end (λ i. scenario_in i ≡ Err (scenario.BadLine n)) (no_scenario input _ h)
+scenario_fault a b input read written (scenario.NotForRun n) p end h =
+    absurd (never_not_for_run input n (no_scenario input _ h))
 scenario_fault a b input read written scenario.OutOfMemory p end h = tt
 
 -- what was read, its text, and what was written
-pub all_written : (a b old new : Option (List ℕ)) (input text : List ℕ) → Consumes a b input → IsAtEnd b → IsTextOf input text → Appends old new text → WritesTextOf a old new
-all_written a b old new input text p end h w = given a b input p end (λ i. (t : List ℕ) × Appends old new t × IsTextOf i t) (text, w, h)
+pub all_written : (a b old new : Option (List ℕ)) (input text : List ℕ) → Consumes a b input → IsAtEnd b
+    → IsTextOf input text → Appends old new text → WritesTextOf a old new
+all_written a b old new input text p end h w =
+    given a b input p end (λ i. (t : List ℕ) × Appends old new t × IsTextOf i t) (text, w, h)
 
 -- and that of a run and of an audit
-pub run_written : (a b old new : Option (List ℕ)) (input seen text : List ℕ) → seen ≡ input → Consumes a b input → IsAtEnd b → IsRunTextOf seen text → Appends old new text → Serves Run a old new
+pub run_written : (a b old new : Option (List ℕ)) (input seen text : List ℕ) → seen ≡ input
+    → Consumes a b input → IsAtEnd b → IsRunTextOf seen text → Appends old new text → Serves Run a old new
 run_written a b old new input seen text same p end h w =
-    given a b input p end (λ i. (t : List ℕ) × Appends old new t × IsRunTextOf i t) (text, w, subst (λ (i : List ℕ). IsRunTextOf i text) same h)
+    given a b input p end (λ i. (t : List ℕ) × Appends old new t × IsRunTextOf i t)
+    (text, w, subst (λ (i : List ℕ). IsRunTextOf i text) same h)
 
-pub audit_written : (a b old new : Option (List ℕ)) (input seen text : List ℕ) → seen ≡ input → Consumes a b input → IsAtEnd b → IsAuditTextOf seen text → Appends old new text → Serves Audit a old new
+pub audit_written : (a b old new : Option (List ℕ)) (input seen text : List ℕ) → seen ≡ input
+    → Consumes a b input → IsAtEnd b → IsAuditTextOf seen text → Appends old new text → Serves Audit a old new
 audit_written a b old new input seen text same p end h w =
-    given a b input p end (λ i. (t : List ℕ) × Appends old new t × IsAuditTextOf i t) (text, w, subst (λ (i : List ℕ). IsAuditTextOf i text) same h)
+    given a b input p end (λ i. (t : List ℕ) × Appends old new t × IsAuditTextOf i t)
+    (text, w, subst (λ (i : List ℕ). IsAuditTextOf i text) same h)
 
 -- what reading answers, the whole answers
-fails_then : (fault : ScenarioFault) (r : Result ScenarioValue ScenarioFault) (f : ScenarioValue → List ℕ) → Fails fault r → Fails fault (r >>= λ s. Ok (f s))
+fails_then : (fault : ScenarioFault) (r : Result ScenarioValue ScenarioFault) (f : ScenarioValue → List ℕ)
+    → Fails fault r → Fails fault (r >>= λ s. Ok (f s))
 fails_then scenario.NotJson r f h = ap (λ (q : Result ScenarioValue ScenarioFault). q >>= λ s. Ok (f s)) h
 fails_then scenario.BadShape r f h = ap (λ (q : Result ScenarioValue ScenarioFault). q >>= λ s. Ok (f s)) h
 fails_then (scenario.Layout g) r f h = ap (λ (q : Result ScenarioValue ScenarioFault). q >>= λ s. Ok (f s)) h
 fails_then (scenario.BadLine n) r f h = ap (λ (q : Result ScenarioValue ScenarioFault). q >>= λ s. Ok (f s)) h
-fails_then (scenario.NotForRun n) r f h = ap (λ (q : Result ScenarioValue ScenarioFault). q >>= λ s. Ok (f s)) h
+fails_then (scenario.NotForRun n) r f h =
+    ap (λ (q : Result ScenarioValue ScenarioFault). q >>= λ s. Ok (f s)) h
 fails_then scenario.OutOfMemory r f h = tt
 
 -- a fault of the scenario is one of its text
-pub serial_fails : (input : List ℕ) (fault : ScenarioFault) → Fails fault (scenario_in input) → Fails fault (serial_text input)
+pub serial_fails : (input : List ℕ) (fault : ScenarioFault) → Fails fault (scenario_in input)
+    → Fails fault (serial_text input)
 unfolding serial_text
 serial_fails input fault h = fails_then fault (scenario_in input) scenario_text h
 
 -- the lines' text and the state's, where they are due
-due_is : (s : ScenarioValue) (m : MachineValue) (lines text : List ℕ) → AreDue (booted s.layout) s.lines lines m → text ≡ lines ++ end_text s.names m → text ≡ scenario_text s
+due_is : (s : ScenarioValue) (m : MachineValue) (lines text : List ℕ)
+    → AreDue (booted s.layout) s.lines lines m → text ≡ lines ++ end_text s.names m → text ≡ scenario_text s
 unfolding scenario_text
 due_is s m lines text due e =
     e ∙ ap (λ (l : List ℕ). l ++ end_text s.names m) due.0
     ∙ ap (λ (k : MachineValue). lines_text (booted s.layout) s.lines ++ end_text s.names k) due.1
 
 -- the text of a scenario is that of its bytes
-whole_is : (input : List ℕ) (s : ScenarioValue) (text : List ℕ) → scenario_in input ≡ Ok s → text ≡ scenario_text s → serial_text input ≡ Ok text
+whole_is : (input : List ℕ) (s : ScenarioValue) (text : List ℕ) → scenario_in input ≡ Ok s
+    → text ≡ scenario_text s → serial_text input ≡ Ok text
 unfolding serial_text
 whole_is input s text read e =
     ap (λ (q : Result ScenarioValue ScenarioFault). q >>= λ t. Ok (scenario_text t)) read ∙ ap Ok (sym e)
 
 -- a run of the lines, and the state after it
-text_of : (input : List ℕ) (s : ScenarioValue) (m : MachineValue) (lines text : List ℕ) → scenario_in input ≡ Ok s → WritesLines (booted s.layout) s.lines lines m → text ≡ lines ++ end_text s.names m → IsTextOf input text
+text_of : (input : List ℕ) (s : ScenarioValue) (m : MachineValue) (lines text : List ℕ)
+    → scenario_in input ≡ Ok s → WritesLines (booted s.layout) s.lines lines m
+    → text ≡ lines ++ end_text s.names m → IsTextOf input text
 text_of input s m lines text read ran e = record {
   scenario = s;
   read = read;
@@ -125,13 +167,24 @@ text_of input s m lines text read ran e = record {
   machine = m;
   run = ran;
   end = e;
-  whole = λ whole. whole_is input s text read (due_is s m lines text (lines_due s.lines (booted s.layout) m lines (end_text s.names m) ran (subst IsWhole e whole)) e);
+  whole =
+      λ whole. whole_is input s text read (due_is s m lines text
+      (lines_due s.lines (booted s.layout) m lines (end_text s.names m) ran (subst IsWhole e whole)) e);
 }
 
 -- from the parts of the program's run: the machine at its start, its lines, and the state's text after them
-pub ran_text : (input : List ℕ) (s : ScenarioValue) (first m : MachineValue) (xs : List Line) (image : Pictured) (old out text : List ℕ) → scenario_in input ≡ Ok s → first ≡ booted s.layout → xs ≡ s.lines → old ≡ [] → GrowsBy old out (λ (lines : List ℕ). WritesLines first xs lines m) → image ≡ record { layout = m.layout; memory = m.state } → text ≡ out ++ state_text image.layout s.names image.memory → IsTextOf input text
+pub ran_text : (input : List ℕ) (s : ScenarioValue) (first m : MachineValue) (xs : List Line)
+    (image : Pictured) (old out text : List ℕ)
+    → scenario_in input ≡ Ok s → first ≡ booted s.layout → xs ≡ s.lines → old ≡ []
+    → GrowsBy old out (λ (lines : List ℕ). WritesLines first xs lines m)
+    → image ≡ record { layout = m.layout; memory = m.state }
+    → text ≡ out ++ state_text image.layout s.names image.memory → IsTextOf input text
 ran_text input s first m xs image old out text read start same none ran pictured e =
-    let run : WritesLines (booted s.layout) s.lines ran.text m = subst (λ (k : MachineValue). WritesLines k s.lines ran.text m) start (subst (λ (l : List Line). WritesLines first l ran.text m) same ran.is) in
+    let run : WritesLines (booted s.layout) s.lines ran.text m =
+    subst (λ (k : MachineValue). WritesLines k s.lines ran.text m) start
+    (subst (λ (l : List Line). WritesLines first l ran.text m) same ran.is) in
     let grown : out ≡ ran.text = ran.grown ∙ ap (λ (l : List ℕ). l ++ ran.text) none in
     text_of input s m ran.text text read run
-    (e ∙ ap (λ (p : Pictured). out ++ state_text p.layout s.names p.memory) pictured ∙ ap (λ (l : List ℕ). l ++ state_text m.layout s.names m.state) grown ∙ ap (λ (memory : Memory). ran.text ++ state_text m.layout s.names memory) (run_is s.layout s.lines ran.text m run))
+    (e ∙ ap (λ (p : Pictured). out ++ state_text p.layout s.names p.memory) pictured ∙ ap (λ (l : List ℕ). l
+    ++ state_text m.layout s.names m.state) grown ∙ ap (λ (memory : Memory). ran.text
+    ++ state_text m.layout s.names memory) (run_is s.layout s.lines ran.text m run))

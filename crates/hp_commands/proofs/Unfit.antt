@@ -22,7 +22,8 @@ abbrev Reads : {A : Type 0} → Result A ScenarioFault → Type 0
 Reads (Ok x) = ⊤
 Reads (Err fault) = IsUnread fault
 
-bind_reads : {A B : Type 0} (r : Result A ScenarioFault) (f : A → Result B ScenarioFault) → Reads r → ((x : A) → Reads (f x)) → Reads (r >>= f)
+bind_reads : {A B : Type 0} (r : Result A ScenarioFault) (f : A → Result B ScenarioFault) → Reads r
+    → ((x : A) → Reads (f x)) → Reads (r >>= f)
 bind_reads (Ok x) f h k = k x
 bind_reads (Err fault) f h k = h
 
@@ -34,7 +35,8 @@ lines_read : (texts : List (List ℕ)) (at : ℕ) (script : Script) → Reads (l
 unfolding lines_from
 lines_read [] at script = tt
 lines_read (text ∷ texts) at script =
-    bind_reads (or_fault (BadLine at) (line_in script.names text)) (λ n. lines_from (at + 1) (with_line script n) texts) (or_reads (BadLine at) (line_in script.names text) tt)
+    bind_reads (or_fault (BadLine at) (line_in script.names text)) (λ n.
+    lines_from (at + 1) (with_line script n) texts) (or_reads (BadLine at) (line_in script.names text) tt)
     (λ n. lines_read texts (at + 1) (with_line script n))
 
 layout_reads : (parts : LayoutParts) (fault : Option LayoutFault) → Reads (layout_or parts fault)
@@ -44,17 +46,21 @@ layout_reads parts (Some fault) = tt
 form_reads : (form : Form) → Reads (scenario_with form)
 unfolding scenario_with
 form_reads form =
-    bind_reads (layout_or form.parts (layout_fault form.parts)) _ (layout_reads form.parts (layout_fault form.parts))
-    (λ layout. bind_reads (lines_from 1 nothing form.calls) _ (lines_read form.calls 1 nothing) (λ script. tt))
+    bind_reads (layout_or form.parts (layout_fault form.parts)) _
+    (layout_reads form.parts (layout_fault form.parts))
+    (λ layout.
+    bind_reads (lines_from 1 nothing form.calls) _ (lines_read form.calls 1 nothing) (λ script. tt))
 
 scenario_reads : (input : List ℕ) → Reads (scenario_in input)
 unfolding scenario_in scenario_of
 scenario_reads input =
     bind_reads (or_fault NotJson (json_of input)) scenario_of (or_reads NotJson (json_of input) tt)
-    (λ d. bind_reads (or_fault BadShape (form_of d)) scenario_with (or_reads BadShape (form_of d) tt) form_reads)
+    (λ d.
+    bind_reads (or_fault BadShape (form_of d)) scenario_with (or_reads BadShape (form_of d) tt) form_reads)
 
 pub never_not_for_run : (input : List ℕ) (line : ℕ) → scenario_in input ≡ Err (NotForRun line) → ⊥
-never_not_for_run input line e = subst (λ (r : Result ScenarioValue ScenarioFault). Reads r) e (scenario_reads input)
+never_not_for_run input line e =
+    subst (λ (r : Result ScenarioValue ScenarioFault). Reads r) e (scenario_reads input)
 
 -- ---- parting
 
@@ -63,7 +69,8 @@ abbrev pub IsUnfit : ScenarioFault → Type 0
 IsUnfit (NotForRun line) = ⊤
 IsUnfit _ = ⊥
 
-unfit_is : (s : ScenarioValue) (at : Option ℕ) (fault : ScenarioFault) → scripts_unless s at ≡ Err fault → IsUnfit fault
+unfit_is : (s : ScenarioValue) (at : Option ℕ) (fault : ScenarioFault) → scripts_unless s at ≡ Err fault
+    → IsUnfit fault
 unfit_is s None fault e = absurd cc
 unfit_is s (Some at) fault e = let same : NotForRun (at + 1) ≡ fault = cc in subst IsUnfit same tt
 

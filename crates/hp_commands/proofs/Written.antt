@@ -17,52 +17,91 @@ use Rattle.hp_commands.specs.Plans.{WritesPlan}
 use Rattle.hp_commands.specs.Serial.{GrowsBy}
 
 -- a text of which more is known
-pub grows_as : (old new : List ℕ) (P Q : List ℕ → Type 0) → GrowsBy old new P → ((text : List ℕ) → P text → Q text) → GrowsBy old new Q
+pub grows_as : (old new : List ℕ) (P Q : List ℕ → Type 0) → GrowsBy old new P
+    → ((text : List ℕ) → P text → Q text) → GrowsBy old new Q
 grows_as old new P Q g said = record { text = g.text; grown = g.grown; is = said g.text g.is }
 
 -- ---- a plan
 
-pub plan_written : (m new : MachineValue) (cpu turns : ℕ) (plan copied : List Item) (end : OpEnd) (old out : List ℕ) → copied ≡ plan → IsPlanRun m cpu turns copied end new → out ≡ old ++ plan_line end → GrowsBy old out (λ (text : List ℕ). WritesPlan m cpu turns plan text new)
+pub plan_written : (m new : MachineValue) (cpu turns : ℕ) (plan copied : List Item) (end : OpEnd)
+    (old out : List ℕ)
+    → copied ≡ plan → IsPlanRun m cpu turns copied end new → out ≡ old ++ plan_line end
+    → GrowsBy old out (λ (text : List ℕ). WritesPlan m cpu turns plan text new)
 plan_written m new cpu turns plan copied end old out same ran grown =
-    record { text = plan_line end; grown = grown; is = (end, subst (λ (p : List Item). IsPlanRun m cpu turns p end new) same ran, refl) }
+    record {
+      text = plan_line end;
+      grown = grown;
+      is = (end, subst (λ (p : List Item). IsPlanRun m cpu turns p end new) same ran, refl);
+    }
 
 -- ---- a file read
 
-pub file_written : (m : MachineValue) (path asked text old out : List ℕ) → asked ≡ path → file_text m.layout m.state asked ≡ Ok text → out ≡ old ++ text → GrowsBy old out (λ (t : List ℕ). WritesFile m path t)
+pub file_written : (m : MachineValue) (path asked text old out : List ℕ) → asked ≡ path
+    → file_text m.layout m.state asked ≡ Ok text → out ≡ old ++ text
+    → GrowsBy old out (λ (t : List ℕ). WritesFile m path t)
 file_written m path asked text old out same read grown =
-    record { text = text; grown = grown; is = inl (sym (ap read_answer (ap (file_text m.layout m.state) (sym same) ∙ read))) }
+    record {
+      text = text;
+      grown = grown;
+      is = inl (sym (ap read_answer (ap (file_text m.layout m.state) (sym same) ∙ read)));
+    }
 
-read_refused : (m : MachineValue) (path : List ℕ) (fault : ControlFault) → Fails fault (file_text m.layout m.state path) → WritesFile m path (read_fault_line fault)
+read_refused : (m : MachineValue) (path : List ℕ) (fault : ControlFault)
+    → Fails fault (file_text m.layout m.state path) → WritesFile m path (read_fault_line fault)
 read_refused m path NoFile h = inl (sym (ap read_answer h))
 read_refused m path ReadOnly h = inl (sym (ap read_answer h))
 read_refused m path BadText h = inl (sym (ap read_answer h))
 read_refused m path OutOfMemory h = inr refl
 read_refused m path WriteOnly h = inl (sym (ap read_answer h))
 
-pub file_fault_written : (m : MachineValue) (path asked : List ℕ) (fault : ControlFault) (old out : List ℕ) → asked ≡ path → Fails fault (file_text m.layout m.state asked) → out ≡ old ++ read_fault_line fault → GrowsBy old out (λ (t : List ℕ). WritesFile m path t)
+pub file_fault_written : (m : MachineValue) (path asked : List ℕ) (fault : ControlFault) (old out : List ℕ)
+    → asked ≡ path → Fails fault (file_text m.layout m.state asked) → out ≡ old ++ read_fault_line fault
+    → GrowsBy old out (λ (t : List ℕ). WritesFile m path t)
 file_fault_written m path asked fault old out same refused grown = record {
   text = read_fault_line fault;
   grown = grown;
-  is = read_refused m path fault (subst (λ (p : List ℕ). Fails fault (file_text m.layout m.state p)) same refused);
+  is =
+      read_refused m path fault
+      (subst (λ (p : List ℕ). Fails fault (file_text m.layout m.state p)) same refused);
 }
 
 -- ---- a text written
 
-pub echo_written : (m new : MachineValue) (cpu : ℕ) (path word asked said : List ℕ) (request : Request) (old out : List ℕ) → asked ≡ path → said ≡ word → echo_request asked said ≡ Ok request → GrowsBy old out (λ (text : List ℕ). WritesRequest m cpu (Ok request) text new) → GrowsBy old out (λ (text : List ℕ). WritesEcho m cpu path word text new)
+pub echo_written : (m new : MachineValue) (cpu : ℕ) (path word asked said : List ℕ) (request : Request)
+    (old out : List ℕ)
+    → asked ≡ path → said ≡ word → echo_request asked said ≡ Ok request
+    → GrowsBy old out (λ (text : List ℕ). WritesRequest m cpu (Ok request) text new)
+    → GrowsBy old out (λ (text : List ℕ). WritesEcho m cpu path word text new)
 echo_written m new cpu path word asked said request old out at same means g =
-    let is : echo_request path word ≡ Ok request = ap (λ (p : List ℕ). echo_request p word) (sym at) ∙ ap (echo_request asked) (sym same) ∙ means in
-    grows_as old out _ _ g (λ (text : List ℕ) w. inl (subst (λ (a : Result Request ControlFault). WritesRequest m cpu a text new) (sym is) w))
+    let is : echo_request path word ≡ Ok request =
+    ap (λ (p : List ℕ). echo_request p word) (sym at) ∙ ap (echo_request asked) (sym same) ∙ means in
+    grows_as old out _ _ g (λ (text : List ℕ) w.
+    inl (subst (λ (a : Result Request ControlFault). WritesRequest m cpu a text new) (sym is) w))
 
-write_refused : (m : MachineValue) (cpu : ℕ) (path word : List ℕ) (fault : ControlFault) → Fails fault (echo_request path word) → WritesEcho m cpu path word (write_fault_line fault) m
-write_refused m cpu path word NoFile h = inl (subst (λ (a : Result Request ControlFault). WritesRequest m cpu a (write_fault_line NoFile) m) (sym h) (refl, refl))
-write_refused m cpu path word ReadOnly h = inl (subst (λ (a : Result Request ControlFault). WritesRequest m cpu a (write_fault_line ReadOnly) m) (sym h) (refl, refl))
-write_refused m cpu path word BadText h = inl (subst (λ (a : Result Request ControlFault). WritesRequest m cpu a (write_fault_line BadText) m) (sym h) (refl, refl))
+write_refused : (m : MachineValue) (cpu : ℕ) (path word : List ℕ) (fault : ControlFault)
+    → Fails fault (echo_request path word) → WritesEcho m cpu path word (write_fault_line fault) m
+write_refused m cpu path word NoFile h =
+    inl (subst (λ (a : Result Request ControlFault). WritesRequest m cpu a (write_fault_line NoFile) m)
+    (sym h) (refl, refl))
+write_refused m cpu path word ReadOnly h =
+    inl (subst (λ (a : Result Request ControlFault). WritesRequest m cpu a (write_fault_line ReadOnly) m)
+    (sym h) (refl, refl))
+write_refused m cpu path word BadText h =
+    inl (subst (λ (a : Result Request ControlFault). WritesRequest m cpu a (write_fault_line BadText) m)
+    (sym h) (refl, refl))
 write_refused m cpu path word OutOfMemory h = inr (refl, refl)
-write_refused m cpu path word WriteOnly h = inl (subst (λ (a : Result Request ControlFault). WritesRequest m cpu a (write_fault_line WriteOnly) m) (sym h) (refl, refl))
+write_refused m cpu path word WriteOnly h =
+    inl (subst (λ (a : Result Request ControlFault). WritesRequest m cpu a (write_fault_line WriteOnly) m)
+    (sym h) (refl, refl))
 
-pub echo_fault_written : (m : MachineValue) (cpu : ℕ) (path word asked said : List ℕ) (fault : ControlFault) (old out : List ℕ) → asked ≡ path → said ≡ word → Fails fault (echo_request asked said) → out ≡ old ++ write_fault_line fault → GrowsBy old out (λ (text : List ℕ). WritesEcho m cpu path word text m)
+pub echo_fault_written : (m : MachineValue) (cpu : ℕ) (path word asked said : List ℕ) (fault : ControlFault)
+    (old out : List ℕ)
+    → asked ≡ path → said ≡ word → Fails fault (echo_request asked said) → out ≡ old ++ write_fault_line fault
+    → GrowsBy old out (λ (text : List ℕ). WritesEcho m cpu path word text m)
 echo_fault_written m cpu path word asked said fault old out at same refused grown = record {
   text = write_fault_line fault;
   grown = grown;
-  is = write_refused m cpu path word fault (subst (λ (p : List ℕ). Fails fault (echo_request p word)) at (subst (λ (s : List ℕ). Fails fault (echo_request asked s)) same refused));
+  is =
+      write_refused m cpu path word fault (subst (λ (p : List ℕ). Fails fault (echo_request p word)) at
+      (subst (λ (s : List ℕ). Fails fault (echo_request asked s)) same refused));
 }

@@ -11,8 +11,8 @@ use Rattle.hp_history.specs.declared.volumes.Volume.{Volume}
 use Rattle.hp_commands.specs.declared.fault.ProgramFault.{ProgramFault}
 use Rattle.hp_commands.specs.declared.fault.ProgramFault.TheVariants.{OutOfMemory, WrongReply, WrongSerial, AuditDiffers, BrokenChain}
 
--- the volumes follow one another from boot on and lead to the machine's base; its history is legal from there on, and leads to
--- its state
+-- the volumes follow one another from boot on and lead to the machine's base; its history is legal
+-- from there on, and leads to its state
 pub record IsAudited (volumes : List Volume) (m : MachineValue) : Type 0 where
   pub chain : IsChain m.layout volumes
   pub base : m.base ≡ state_after m.layout volumes
@@ -22,15 +22,19 @@ pub record IsAudited (volumes : List Volume) (m : MachineValue) : Type 0 where
 -- the first record at fault, in a volume or in the machine's history
 abbrev pub HasWrongRecord : List Volume → MachineValue → ReplayFault → Type 0
 HasWrongRecord volumes m fault =
-    ((at : ℕ) × IsChainFault m.layout volumes (chain.Replay at fault)) ⊎ IsFault m.layout m.base m.before m.history fault
+    ((at : ℕ) × IsChainFault m.layout volumes (chain.Replay at fault))
+    ⊎ IsFault m.layout m.base m.before m.history fault
 
--- why not: the first volume that does not follow those before it, the first record at fault, or a state is another one than that
--- which the records before it lead to
+-- why not: the first volume that does not follow those before it, the first record at fault, or a
+-- state is another one than that which the records before it lead to
 abbrev pub HasAuditFault : List Volume → MachineValue → ProgramFault → Type 0
-HasAuditFault volumes m (WrongReply serial) = HasWrongRecord volumes m (replaying.WrongReply serial) × (IsAudited volumes m → ⊥)
-HasAuditFault volumes m (WrongSerial at) = HasWrongRecord volumes m (replaying.WrongSerial at) × (IsAudited volumes m → ⊥)
+HasAuditFault volumes m (WrongReply serial) =
+    HasWrongRecord volumes m (replaying.WrongReply serial) × (IsAudited volumes m → ⊥)
+HasAuditFault volumes m (WrongSerial at) =
+    HasWrongRecord volumes m (replaying.WrongSerial at) × (IsAudited volumes m → ⊥)
 HasAuditFault volumes m AuditDiffers = IsAudited volumes m → ⊥
 HasAuditFault volumes m (BrokenChain at) =
-    (IsChainFault m.layout volumes (chain.WrongCount at) ⊎ IsChainFault m.layout volumes (chain.WrongBase at)) × (IsAudited volumes m → ⊥)
+    (IsChainFault m.layout volumes (chain.WrongCount at) ⊎ IsChainFault m.layout volumes (chain.WrongBase at))
+    × (IsAudited volumes m → ⊥)
 HasAuditFault volumes m OutOfMemory = Unit {0}
 HasAuditFault volumes m _ = ⊥

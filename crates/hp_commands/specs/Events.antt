@@ -10,24 +10,35 @@ use Rattle.hp_text.specs.Answers.{reply_line, unrecorded_line}
 -- the record that an event of a processor makes after a machine's history
 abbrev pub next_record : MachineValue → (cpu : ℕ) → Event → Record
 next_record m cpu event =
-    record { serial = last_serial m + 1; cpu = cpu; event = event; reply = reply_of m.layout m.base m.before m.history cpu event }
+    record {
+      serial = last_serial m + 1;
+      cpu = cpu;
+      event = event;
+      reply = reply_of m.layout m.base m.before m.history cpu event;
+    }
 
 -- the machine with one more record, in the state of the longer history
 abbrev pub with_record : MachineValue → Record → MachineValue
-with_record m r = record m { history = m.history ++ r ∷ []; state = value_of m.layout m.base (m.history ++ r ∷ []) }
+with_record m r =
+    record m { history = m.history ++ r ∷ []; state = value_of m.layout m.base (m.history ++ r ∷ []) }
 
 -- what an event writes, and the machine after it
 unfoldable pub event_text : MachineValue → (cpu : ℕ) → Event → List ℕ
-event_text m cpu event = if is_full m then unrecorded_line HistoryFull else reply_line (next_record m cpu event).serial (next_record m cpu event).reply
+event_text m cpu event =
+    if is_full m then unrecorded_line HistoryFull else reply_line (next_record m cpu event).serial
+    (next_record m cpu event).reply
 
 unfoldable pub machine_after_event : MachineValue → (cpu : ℕ) → Event → MachineValue
 machine_after_event m cpu event = if is_full m then m else with_record m (next_record m cpu event)
 
--- text and machine became what they are to be; or it was out of memory, with room in the history, which is said in place
--- of the text, and the machine is as it was
-abbrev pub Writes : MachineValue → (due : List ℕ) → (next : MachineValue) → (text : List ℕ) → (new : MachineValue) → Type 0
-Writes m due next text new = ((text ≡ due) × (new ≡ next)) ⊎ ((is_full m ≡ false) × (text ≡ unrecorded_line OutOfMemory) × (new ≡ m))
+-- text and machine became what they are to be; or it was out of memory, with room in the history,
+-- which is said in place of the text, and the machine is as it was
+abbrev pub Writes : MachineValue → (due : List ℕ) → (next : MachineValue) → (text : List ℕ)
+    → (new : MachineValue) → Type 0
+Writes m due next text new =
+    ((text ≡ due) × (new ≡ next)) ⊎ ((is_full m ≡ false) × (text ≡ unrecorded_line OutOfMemory) × (new ≡ m))
 
 -- an event was called
 abbrev pub WritesEvent : MachineValue → (cpu : ℕ) → Event → (text : List ℕ) → (new : MachineValue) → Type 0
-WritesEvent m cpu event text new = Writes m (event_text m cpu event) (machine_after_event m cpu event) text new
+WritesEvent m cpu event text new =
+    Writes m (event_text m cpu event) (machine_after_event m cpu event) text new

@@ -85,7 +85,8 @@ pub record IsUnclosed (l : LayoutParts) (scripts : List (List Line)) (why : Clos
   pub workers : AreGathered l (first_seats l.cpus) scripts seats volumes ends None
   pub cause : HasCause l seats volumes why
 
--- why scripts are not worked off: a worker was not started, or the machine was not closed. That a seat is missing never comes
+-- why scripts are not worked off: a worker was not started, or the machine was not closed. That a
+-- seat is missing never comes
 abbrev pub IsWorkFault : LayoutParts → List (List Line) → ProgramFault → Type 0
 IsWorkFault l scripts OutOfMemory = Unit {0}
 IsWorkFault l scripts (NotStarted cpu) = IsStopped l scripts (running.NotStarted cpu)
@@ -124,8 +125,8 @@ IsAudit Serial = ⊥
 IsAudit Run = ⊥
 IsAudit Audit = Unit {0}
 
--- when each fault of a command comes: `read` and `written` say that a reader's or a writer's call failed. That a seat is missing,
--- or that a machine's own history is found wrong, never comes
+-- when each fault of a command comes: `read` and `written` say that a reader's or a writer's call
+-- failed. That a seat is missing, or that a machine's own history is found wrong, never comes
 abbrev pub IsFaultOf : Command → (known : Option (List ℕ)) (read written : Type 0) → ProgramFault → Type 0
 IsFaultOf command known read written ReadFailed = read
 IsFaultOf command known read written TooLong = IfSome known (λ input. limit < length input)
@@ -133,14 +134,19 @@ IsFaultOf command known read written NotJson = IsNone known scenario.NotJson
 IsFaultOf command known read written BadShape = IsNone known scenario.BadShape
 IsFaultOf command known read written (Layout fault) = IsNone known (scenario.Layout fault)
 IsFaultOf command known read written (BadLine line) = IsNone known (scenario.BadLine line)
-IsFaultOf command known read written (NotForRun line) = HasWorkers command × IfSome known (λ input. scripts_in input ≡ Err (scenario.NotForRun line))
+IsFaultOf command known read written (NotForRun line) =
+    HasWorkers command × IfSome known (λ input. scripts_in input ≡ Err (scenario.NotForRun line))
 IsFaultOf command known read written OutOfMemory = Unit {0}
-IsFaultOf command known read written (NotStarted cpu) = HasWorkers command × IfSome known (λ input. IsUnfinished input (NotStarted cpu))
+IsFaultOf command known read written (NotStarted cpu) =
+    HasWorkers command × IfSome known (λ input. IsUnfinished input (NotStarted cpu))
 IsFaultOf command known read written SeatMissing = ⊥
-IsFaultOf command known read written (Mismatch serial) = HasWorkers command × IfSome known (λ input. IsUnfinished input (Mismatch serial))
+IsFaultOf command known read written (Mismatch serial) =
+    HasWorkers command × IfSome known (λ input. IsUnfinished input (Mismatch serial))
 IsFaultOf command known read written (WrongReply serial) = ⊥
 IsFaultOf command known read written (WrongSerial at) = ⊥
-IsFaultOf command known read written AuditDiffers = IsAudit command × IfSome known (λ input. SealsSome input × IsRefuted input AuditDiffers)
+IsFaultOf command known read written AuditDiffers =
+    IsAudit command × IfSome known (λ input. SealsSome input × IsRefuted input AuditDiffers)
 IsFaultOf command known read written WriteFailed = written
 IsFaultOf command known read written (BrokenChain at) =
-    HasWorkers command × IfSome known (λ input. IsUnfinished input (BrokenChain at) ⊎ (IsAudit command × IsRefuted input (BrokenChain at)))
+    HasWorkers command × IfSome known
+    (λ input. IsUnfinished input (BrokenChain at) ⊎ (IsAudit command × IsRefuted input (BrokenChain at)))

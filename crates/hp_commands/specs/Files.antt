@@ -39,7 +39,8 @@ machine_after_request m cpu (Ok (request.Plan plan)) = (plan_run m cpu control_t
 machine_after_request m cpu (Err fault) = m
 
 -- what was asked was done, or the fault said
-abbrev pub WritesRequest : MachineValue → (cpu : ℕ) → Result Request ControlFault → (text : List ℕ) → (new : MachineValue) → Type 0
+abbrev pub WritesRequest : MachineValue → (cpu : ℕ) → Result Request ControlFault → (text : List ℕ)
+    → (new : MachineValue) → Type 0
 WritesRequest m cpu (Ok (request.Event event)) text new = WritesEvent m cpu event text new
 WritesRequest m cpu (Ok (request.Plan plan)) text new = WritesPlan m cpu control_turns plan text new
 WritesRequest m cpu (Err fault) text new = (text ≡ write_fault_line fault) × (new ≡ m)
@@ -47,4 +48,6 @@ WritesRequest m cpu (Err fault) text new = (text ≡ write_fault_line fault) × 
 -- a word was written to a file; or it was out of memory before it knew what that asks for, which is said
 -- in place of the text
 abbrev pub WritesEcho : MachineValue → (cpu : ℕ) → (path word text : List ℕ) → (new : MachineValue) → Type 0
-WritesEcho m cpu path word text new = WritesRequest m cpu (echo_request path word) text new ⊎ ((text ≡ write_fault_line OutOfMemory) × (new ≡ m))
+WritesEcho m cpu path word text new =
+    WritesRequest m cpu (echo_request path word) text new
+    ⊎ ((text ≡ write_fault_line OutOfMemory) × (new ≡ m))

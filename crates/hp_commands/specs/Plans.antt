@@ -22,18 +22,23 @@ pub record PlanRun : Type 0 where
   pub machine : MachineValue
   pub fault : Option CallFault
 
--- a run with an event to come goes on where the history has room, and else it is left; with none to come it is at its end
-unfoldable pub going_on : List Receipt → MachineValue → (more : Event → PlanRun) → (full : Bool) → Option Event → PlanRun
+-- a run with an event to come goes on where the history has room, and else it is left; with none to
+-- come it is at its end
+unfoldable pub going_on : List Receipt → MachineValue → (more : Event → PlanRun) → (full : Bool)
+    → Option Event → PlanRun
 going_on receipts m more full None = record { receipts = receipts; machine = m; fault = None }
-going_on receipts m more true (Some event) = record { receipts = receipts; machine = m; fault = Some HistoryFull }
+going_on receipts m more true (Some event) =
+    record { receipts = receipts; machine = m; fault = Some HistoryFull }
 going_on receipts m more false (Some event) = more event
 
 -- a run from the receipts so far on, by at most so many records
 unfoldable pub run_on : (room turns : ℕ) → List Item → (cpu : ℕ) → List Receipt → MachineValue → PlanRun
 run_on zero turns plan cpu receipts m =
-    going_on receipts m (λ event. record { receipts = receipts; machine = m; fault = None }) (is_full m) (next_event m.layout.cpus turns plan receipts)
+    going_on receipts m (λ event. record { receipts = receipts; machine = m; fault = None }) (is_full m)
+    (next_event m.layout.cpus turns plan receipts)
 run_on (suc room) turns plan cpu receipts m =
-    going_on receipts m (λ event. run_on room turns plan cpu (receipts ++ receipt_of (next_record m cpu event) ∷ []) (with_record m (next_record m cpu event)))
+    going_on receipts m (λ event. run_on room turns plan cpu
+    (receipts ++ receipt_of (next_record m cpu event) ∷ []) (with_record m (next_record m cpu event)))
     (is_full m) (next_event m.layout.cpus turns plan receipts)
 
 -- a whole run: a history has room for no more records than are left to its limit
@@ -47,8 +52,11 @@ end_with (Some fault) receipts = Left (operation_of receipts) fault
 
 -- what a plan writes
 abbrev pub plan_text : MachineValue → (cpu turns : ℕ) → List Item → List ℕ
-plan_text m cpu turns plan = plan_line (end_with (plan_run m cpu turns plan).fault (plan_run m cpu turns plan).receipts)
+plan_text m cpu turns plan =
+    plan_line (end_with (plan_run m cpu turns plan).fault (plan_run m cpu turns plan).receipts)
 
 -- a plan was run, and its end is written
-abbrev pub WritesPlan : MachineValue → (cpu turns : ℕ) → List Item → (text : List ℕ) → (new : MachineValue) → Type 0
-WritesPlan m cpu turns plan text new = (end : OpEnd) × IsPlanRun m cpu turns plan end new × (text ≡ plan_line end)
+abbrev pub WritesPlan : MachineValue → (cpu turns : ℕ) → List Item → (text : List ℕ) → (new : MachineValue)
+    → Type 0
+WritesPlan m cpu turns plan text new =
+    (end : OpEnd) × IsPlanRun m cpu turns plan end new × (text ≡ plan_line end)

@@ -57,9 +57,11 @@ scripts_in input = scenario_in input >>= scripts_of
 abbrev pub SealsSome : List ℕ → Type 0
 SealsSome input = (scripts : List (List Line)) × (scripts_in input ≡ Ok scripts) × (seals_in_all scripts ≢ 0)
 
--- each processor's seat ran its script to the end, which left these ends and handed out these volumes; and all records, in the
--- volumes and then in the machine, are exactly those of the seats' receipts
-pub record IsWorkedOff (l : LayoutParts) (scripts : List (List Line)) (ends : List (List LineEnd)) (volumes : List Volume) (m : MachineValue) (count : ℕ) : Type 0 where
+-- each processor's seat ran its script to the end, which left these ends and handed out these
+-- volumes; and all records, in the volumes and then in the machine, are exactly those of the seats'
+-- receipts
+pub record IsWorkedOff (l : LayoutParts) (scripts : List (List Line)) (ends : List (List LineEnd))
+    (volumes : List Volume) (m : MachineValue) (count : ℕ) : Type 0 where
   pub seats : List SeatValue
   pub handed : List Volume
   pub workers : AreWorkers l (first_seats l.cpus) scripts seats handed ends None
@@ -70,7 +72,8 @@ pub record IsWorkedOff (l : LayoutParts) (scripts : List (List Line)) (ends : Li
   pub boots : m.before ≡ 0 → m.base ≡ boot_memory m.layout
 
 -- the bytes are a scenario whose scripts were worked off
-pub record IsRunOf (input : List ℕ) (ends : List (List LineEnd)) (volumes : List Volume) (m : MachineValue) (count : ℕ) : Type 0 where
+pub record IsRunOf (input : List ℕ) (ends : List (List LineEnd)) (volumes : List Volume) (m : MachineValue)
+    (count : ℕ) : Type 0 where
   pub scenario : ScenarioValue
   pub read : scenario_in input ≡ Ok scenario
   pub scripts : List (List Line)

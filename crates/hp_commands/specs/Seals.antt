@@ -8,7 +8,8 @@ use Rattle.hp_text.specs.Answers.{sealed_line, unrecorded_line}
 abbrev pub seal_text : MachineValue → List ℕ
 seal_text m = sealed_line (length m.history)
 
--- a seal handed the records out, and the machine goes on with none; or it was out of memory, which is said in place of
--- the number, and the machine is as it was
+-- a seal handed the records out, and the machine goes on with none; or it was out of memory, which
+-- is said in place of the number, and the machine is as it was
 abbrev pub WritesSeal : MachineValue → (text : List ℕ) → (new : MachineValue) → Type 0
-WritesSeal m text new = ((text ≡ seal_text m) × (new ≡ sealed m)) ⊎ ((text ≡ unrecorded_line OutOfMemory) × (new ≡ m))
+WritesSeal m text new =
+    ((text ≡ seal_text m) × (new ≡ sealed m)) ⊎ ((text ≡ unrecorded_line OutOfMemory) × (new ≡ m))

@@ -55,7 +55,8 @@ end_text names m = state_text m.layout names (value_of m.layout m.base m.history
 
 -- the lines, and then the state
 unfoldable pub scenario_text : ScenarioValue → List ℕ
-scenario_text s = lines_text (booted s.layout) s.lines ++ end_text s.names (machine_after_lines (booted s.layout) s.lines)
+scenario_text s =
+    lines_text (booted s.layout) s.lines ++ end_text s.names (machine_after_lines (booted s.layout) s.lines)
 
 -- the text of the bytes of a scenario, or why they are none
 unfoldable pub serial_text : List ℕ → Result (List ℕ) ScenarioFault

@@ -8,8 +8,8 @@ use Rattle.hp_commands.specs.declared.commands.Command.TheVariants.{Serial, Run,
 use Rattle.hp_commands.specs.Runs.{IsAuditTextOf, IsRunTextOf}
 use Rattle.hp_commands.specs.Serial.{serial_text, end_text, WritesLines, IsWhole}
 
--- the bytes are a scenario, and the text is that of a run of its lines with the state after them; where no line of it ends in
--- `OutOfMemory`, it is the scenario's text
+-- the bytes are a scenario, and the text is that of a run of its lines with the state after them;
+-- where no line of it ends in `OutOfMemory`, it is the scenario's text
 pub record IsTextOf (input text : List ℕ) : Type 0 where
   pub scenario : ScenarioValue
   pub read : scenario_in input ≡ Ok scenario
@@ -21,10 +21,13 @@ pub record IsTextOf (input text : List ℕ) : Type 0 where
 
 -- the text of the bytes that were read, and nothing else
 abbrev pub WritesTextOf : (known old new : Option (List ℕ)) → Type 0
-WritesTextOf known old new = IfSome known (λ input. (text : List ℕ) × Appends old new text × IsTextOf input text)
+WritesTextOf known old new =
+    IfSome known (λ input. (text : List ℕ) × Appends old new text × IsTextOf input text)
 
 -- what a command has written: of the bytes that were read its text, and nothing else
 abbrev pub Serves : Command → (known old new : Option (List ℕ)) → Type 0
 Serves Serial known old new = WritesTextOf known old new
-Serves Run known old new = IfSome known (λ input. (text : List ℕ) × Appends old new text × IsRunTextOf input text)
-Serves Audit known old new = IfSome known (λ input. (text : List ℕ) × Appends old new text × IsAuditTextOf input text)
+Serves Run known old new =
+    IfSome known (λ input. (text : List ℕ) × Appends old new text × IsRunTextOf input text)
+Serves Audit known old new =
+    IfSome known (λ input. (text : List ℕ) × Appends old new text × IsAuditTextOf input text)

@@ -13,8 +13,8 @@ use std::alloc::Global;
 use std::sync::Wait;
 use std::thread::Threads;
 
-/// The text of an audit: the scenario that the bytes are is run as `run` does it, and then its sealed records and the history of
-/// its machine are replayed.
+/// The text of an audit: the scenario that the bytes are is run as `run` does it, and then its
+/// sealed records and the history of its machine are replayed.
 pub fn audit<R: Threads + Wait + Sync>(
     rt: &R,
     alloc: Global,
@@ -31,8 +31,9 @@ pub fn audit<R: Threads + Wait + Sync>(
     Ok(out)
 }
 
-/// Replays volumes from boot on, and compares the state that they lead to with a machine's base; then replays the machine's
-/// history from its base on, and compares the state that it leads to with the machine's.
+/// Replays volumes from boot on, and compares the state that they lead to with a machine's base;
+/// then replays the machine's history from its base on, and compares the state that it leads to
+/// with the machine's.
 fn check_records(
     alloc: Global,
     volumes: &Vec<Volume>,

@@ -17,7 +17,8 @@ pub fn write_event(
     cpu: Cpu,
     event: &Event,
 ) -> Result<(), AllocError>
-    ensures { OnOk result (GrowsBy (string_bytes out.old) (string_bytes out.new) (λ text. WritesEvent machine.old cpu event.now text machine.new)) }
+    ensures { OnOk result (GrowsBy (string_bytes out.old) (string_bytes out.new)
+        (λ text. WritesEvent machine.old cpu event.now text machine.new)) }
 {
     match machine.call(alloc, cpu, event) {
         Ok(receipt) => write_receipt(out, &receipt),

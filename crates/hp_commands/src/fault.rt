@@ -13,7 +13,8 @@ use std::alloc::AllocError;
 use std::error::Error;
 use std::fmt;
 
-/// Why the program failed. But for `WriteFailed`, after which some of the text may be out, nothing was written.
+/// Why the program failed. But for `WriteFailed`, after which some of the text may be out, nothing
+/// was written.
 #[derive(Clone, Copy, Debug, PartialEq, Eq)]
 pub enum ProgramFault {
     /// The reader failed.
@@ -28,7 +29,8 @@ pub enum ProgramFault {
     Layout(LayoutFault),
     /// A text of `calls` is no line; lines are counted from 1.
     BadLine { line: u64 },
-    /// A line that no worker may run: it reads a control file, or its processor is not in the layout; lines are counted from 1.
+    /// A line that no worker may run: it reads a control file, or its processor is not in the
+    /// layout; lines are counted from 1.
     NotForRun { line: u64 },
     /// Out of memory.
     OutOfMemory,

@@ -19,7 +19,8 @@ pub fn write_file(
     machine: &Machine,
     path: &Text,
 ) -> Result<(), AllocError>
-    ensures { OnOk result (GrowsBy (string_bytes out.old) (string_bytes out.new) (λ text. WritesFile machine.now path.now text)) }
+    ensures { OnOk result (GrowsBy (string_bytes out.old) (string_bytes out.new)
+        (λ text. WritesFile machine.now path.now text)) }
 {
     match read_text(alloc, machine, path.as_str()) {
         Ok(text) => out.push_str(text.as_str()),
@@ -36,7 +37,8 @@ pub fn write_echo(
     path: &BoxedText,
     word: &BoxedText,
 ) -> Result<(), AllocError>
-    ensures { OnOk result (GrowsBy (string_bytes out.old) (string_bytes out.new) (λ text. WritesEcho machine.old cpu path.now word.now text machine.new)) }
+    ensures { OnOk result (GrowsBy (string_bytes out.old) (string_bytes out.new)
+        (λ text. WritesEcho machine.old cpu path.now word.now text machine.new)) }
 {
     match parse_echo(alloc, path.as_str(), word.as_str()) {
         Ok(request) => write_request(out, alloc, machine, cpu, &request),
@@ -52,7 +54,8 @@ fn write_request(
     cpu: Cpu,
     request: &Request,
 ) -> Result<(), AllocError>
-    ensures { OnOk result (GrowsBy (string_bytes out.old) (string_bytes out.new) (λ text. WritesRequest machine.old cpu (Ok request.now) text machine.new)) }
+    ensures { OnOk result (GrowsBy (string_bytes out.old) (string_bytes out.new)
+        (λ text. WritesRequest machine.old cpu (Ok request.now) text machine.new)) }
 {
     match request {
         Request::Event(event) => write_event(out, alloc, machine, cpu, event),

@@ -17,7 +17,8 @@ pub fn write_plan(
     plan: &Plan,
     turns: u32,
 ) -> Result<(), AllocError>
-    ensures { OnOk result (GrowsBy (string_bytes out.old) (string_bytes out.new) (λ text. WritesPlan machine.old cpu turns plan.now text machine.new)) }
+    ensures { OnOk result (GrowsBy (string_bytes out.old) (string_bytes out.new)
+        (λ text. WritesPlan machine.old cpu turns plan.now text machine.new)) }
 {
     let plan = plan.copy(alloc)?;
     let end = machine.run_plan(alloc, cpu, plan, turns);

@@ -28,7 +28,8 @@ pub struct Worked {
     pub ends: Vec<Ends>,
 }
 
-/// The text of a run of the scenario that the bytes are: what became of each processor's lines, and then the number of records.
+/// The text of a run of the scenario that the bytes are: what became of each processor's lines, and
+/// then the number of records.
 pub fn run<R: Threads + Wait + Sync>(
     rt: &R,
     alloc: Global,
@@ -50,7 +51,8 @@ pub fn work_off<R: Threads + Wait + Sync>(
     alloc: Global,
     input: &[u8],
 ) -> Result<Worked, ProgramFault>
-    ensures ok { IfOk result (λ worked. IsRunOf input.now worked.ends.items worked.closed.volumes.items worked.closed.machine worked.closed.records) }
+    ensures ok { IfOk result (λ worked. IsRunOf input.now worked.ends.items worked.closed.volumes.items
+        worked.closed.machine worked.closed.records) }
     ensures err { IfErr result (IsFaultOf Run (Some input.now) ⊥ ⊥) }
 {
     let scenario = Scenario::read(alloc, input)?;
@@ -60,7 +62,8 @@ pub fn work_off<R: Threads + Wait + Sync>(
     run_scripts::<Brand, R>(rt, alloc, blank, machine, scripts)
 }
 
-/// Runs a script for each processor of a machine at its start, each in a thread of its own, and closes the machine.
+/// Runs a script for each processor of a machine at its start, each in a thread of its own, and
+/// closes the machine.
 fn run_scripts<L: Job + Send + Sync, R: Threads + Wait + Sync>(
     rt: &R,
     alloc: Global,
@@ -74,7 +77,8 @@ fn run_scripts<L: Job + Send + Sync, R: Threads + Wait + Sync>(
     requires one_each { blank.parts ≡ L.layout.cpus }
     requires scripts { length scripts.items ≡ L.layout.cpus }
     requires run { AreForRun scripts.items }
-    ensures ok { IfOk result (λ worked. IsWorkedOff L.layout scripts.items worked.ends.items worked.closed.volumes.items worked.closed.machine worked.closed.records) }
+    ensures ok { IfOk result (λ worked. IsWorkedOff L.layout scripts.items worked.ends.items
+        worked.closed.volumes.items worked.closed.machine worked.closed.records) }
     ensures err { IfErr result (IsWorkFault L.layout scripts.items) }
 {
     let Ok((shared, seats)) = Shared::<L>::new(alloc, blank, machine) else {
@@ -111,7 +115,8 @@ fn write_processors(out: &mut String, lists: &Vec<Ends>) -> Result<(), AllocErro
 
 /// Writes a processor's number, and what became of each of its lines.
 fn write_processor(out: &mut String, cpu: usize, ends: &Ends) -> Result<(), AllocError>
-    ensures { OnOk result (string_bytes out.new ≡ string_bytes out.old ++ processor_text cpu (Some ends.now)) }
+    ensures { OnOk result
+        (string_bytes out.new ≡ string_bytes out.old ++ processor_text cpu (Some ends.now)) }
 {
     writeln!(out, "cpu {cpu}")?;
     write_ends(out, ends.as_slice())

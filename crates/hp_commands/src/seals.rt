@@ -8,9 +8,11 @@ use hp_text::{write_sealed, write_unrecorded};
 use hp_units::CallFault;
 use std::alloc::{AllocError, Global};
 
-/// Hands the machine's records out and drops them, and writes how many there were, or that it is out of memory.
+/// Hands the machine's records out and drops them, and writes how many there were, or that it is
+/// out of memory.
 pub fn write_seal(out: &mut String, alloc: Global, machine: &mut Machine) -> Result<(), AllocError>
-    ensures { OnOk result (GrowsBy (string_bytes out.old) (string_bytes out.new) (λ text. WritesSeal machine.old text machine.new)) }
+    ensures { OnOk result (GrowsBy (string_bytes out.old) (string_bytes out.new)
+        (λ text. WritesSeal machine.old text machine.new)) }
 {
     match machine.seal(alloc) {
         Ok(volume) => write_sealed(out, volume.records.as_slice().len() as u64),

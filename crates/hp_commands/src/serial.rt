@@ -15,7 +15,8 @@ use hp_scenario::{Line, Scenario, ScenarioFault, Work};
 use hp_text::write_state;
 use std::alloc::{AllocError, Global};
 
-/// The text of a scenario: what each line writes, and then the state. It takes the input, which is dropped once it is read.
+/// The text of a scenario: what each line writes, and then the state. It takes the input, which is
+/// dropped once it is read.
 pub fn serial(alloc: Global, input: Vec<u8>) -> Result<String, ScenarioFault>
     ensures ok { IfOk result (λ out. IsTextOf input.items (string_bytes out)) }
     ensures err { IfErr result (λ fault. Fails fault (serial_text input.items)) }
@@ -51,7 +52,8 @@ fn write_lines(
     machine: &mut Machine,
     lines: &[Line],
 ) -> Result<(), AllocError>
-    ensures { OnOk result (GrowsBy (string_bytes out.old) (string_bytes out.new) (λ text. WritesLines machine.old lines.now text machine.new)) }
+    ensures { OnOk result (GrowsBy (string_bytes out.old) (string_bytes out.new)
+        (λ text. WritesLines machine.old lines.now text machine.new)) }
 {
     for line in lines {
         write_line(out, alloc, machine, line)?;
@@ -66,7 +68,8 @@ fn write_line(
     machine: &mut Machine,
     line: &Line,
 ) -> Result<(), AllocError>
-    ensures { OnOk result (GrowsBy (string_bytes out.old) (string_bytes out.new) (λ text. WritesLine machine.old line.now text machine.new)) }
+    ensures { OnOk result (GrowsBy (string_bytes out.old) (string_bytes out.new)
+        (λ text. WritesLine machine.old line.now text machine.new)) }
 {
     match &line.work {
         Work::Event(event) => write_event(out, alloc, machine, line.cpu, event),

@@ -21,7 +21,8 @@ use std::thread::Threads;
 fn write_text<W: Sink>(writer: &mut W, text: &str) -> Result<(), ProgramFault>
     requires { W.failures writer.old < 2 ^ 64 - 1 }
     ensures ok { OnOk result (Appends (W.contents writer.old) (W.contents writer.new) text.now) }
-    ensures err { IfErr result (λ fault. (fault ≡ ProgramFault.WriteFailed) × (W.failures writer.old < W.failures writer.new)) }
+    ensures err { IfErr result
+        (λ fault. (fault ≡ ProgramFault.WriteFailed) × (W.failures writer.old < W.failures writer.new)) }
 {
     match write_all(writer, text.as_bytes()) {
         Ok(()) => Ok(()),
@@ -29,7 +30,8 @@ fn write_text<W: Sink>(writer: &mut W, text: &str) -> Result<(), ProgramFault>
     }
 }
 
-/// Runs a command on what the reader gives, and writes its text. `Run` and `Audit` may wait for their workers.
+/// Runs a command on what the reader gives, and writes its text. `Run` and `Audit` may wait for
+/// their workers.
 pub fn serve<R: Source, W: Sink, T: Threads + Wait + Sync>(
     rt: &T,
     command: Command,
@@ -43,11 +45,14 @@ pub fn serve<R: Source, W: Sink, T: Threads + Wait + Sync>(
     // The reader gave all that it had, at most the limit.
     ensures read { OnOk result (ReadsAll (R.remaining reader.old) (R.remaining reader.new)) }
     // The command's text of the bytes that were read, and nothing else.
-    ensures ok { OnOk result (Serves command (R.remaining reader.old) (W.contents writer.old) (W.contents writer.new)) }
+    ensures ok { OnOk result
+        (Serves command (R.remaining reader.old) (W.contents writer.old) (W.contents writer.new)) }
     // After another fault nothing was written.
-    ensures silent { IfErr result (λ fault. fault ≢ ProgramFault.WriteFailed → Keeps (W.contents writer.old) (W.contents writer.new)) }
+    ensures silent { IfErr result
+        (λ fault. fault ≢ ProgramFault.WriteFailed → Keeps (W.contents writer.old) (W.contents writer.new)) }
     // Each fault comes only where it has a cause.
-    ensures err { IfErr result (IsFaultOf command (R.remaining reader.old) (R.failures reader.old < R.failures reader.new) (W.failures writer.old < W.failures writer.new)) }
+    ensures err { IfErr result (IsFaultOf command (R.remaining reader.old)
+        (R.failures reader.old < R.failures reader.new) (W.failures writer.old < W.failures writer.new)) }
 {
     match command {
         Command::Serial => serve_serial(alloc, reader, writer),
@@ -68,11 +73,14 @@ pub fn serve_serial<R: Source, W: Sink>(
     // The reader gave all that it had, at most the limit.
     ensures read { OnOk result (ReadsAll (R.remaining reader.old) (R.remaining reader.new)) }
     // The text of the bytes that were read, and nothing else.
-    ensures ok { OnOk result (WritesTextOf (R.remaining reader.old) (W.contents writer.old) (W.contents writer.new)) }
+    ensures ok { OnOk result
+        (WritesTextOf (R.remaining reader.old) (W.contents writer.old) (W.contents writer.new)) }
     // After another fault nothing was written.
-    ensures silent { IfErr result (λ fault. fault ≢ ProgramFault.WriteFailed → Keeps (W.contents writer.old) (W.contents writer.new)) }
+    ensures silent { IfErr result
+        (λ fault. fault ≢ ProgramFault.WriteFailed → Keeps (W.contents writer.old) (W.contents writer.new)) }
     // Each fault comes only where it has a cause.
-    ensures err { IfErr result (IsFaultOf Serial (R.remaining reader.old) (R.failures reader.old < R.failures reader.new) (W.failures writer.old < W.failures writer.new)) }
+    ensures err { IfErr result (IsFaultOf Serial (R.remaining reader.old)
+        (R.failures reader.old < R.failures reader.new) (W.failures writer.old < W.failures writer.new)) }
 {
     let input = read_all(alloc, reader)?;
     let text = serial(alloc, input)?;
@@ -89,9 +97,12 @@ fn serve_run<R: Source, W: Sink, T: Threads + Wait + Sync>(
     requires reader { R.failures reader.old < 2 ^ 64 - 1 }
     requires writer { W.failures writer.old < 2 ^ 64 - 1 }
     ensures read { OnOk result (ReadsAll (R.remaining reader.old) (R.remaining reader.new)) }
-    ensures ok { OnOk result (Serves Run (R.remaining reader.old) (W.contents writer.old) (W.contents writer.new)) }
-    ensures silent { IfErr result (λ fault. fault ≢ ProgramFault.WriteFailed → Keeps (W.contents writer.old) (W.contents writer.new)) }
-    ensures err { IfErr result (IsFaultOf Run (R.remaining reader.old) (R.failures reader.old < R.failures reader.new) (W.failures writer.old < W.failures writer.new)) }
+    ensures ok { OnOk result
+        (Serves Run (R.remaining reader.old) (W.contents writer.old) (W.contents writer.new)) }
+    ensures silent { IfErr result
+        (λ fault. fault ≢ ProgramFault.WriteFailed → Keeps (W.contents writer.old) (W.contents writer.new)) }
+    ensures err { IfErr result (IsFaultOf Run (R.remaining reader.old)
+        (R.failures reader.old < R.failures reader.new) (W.failures writer.old < W.failures writer.new)) }
 {
     let input = read_all(alloc, reader)?;
     let text = run(rt, alloc, &input)?;
@@ -108,9 +119,12 @@ fn serve_audit<R: Source, W: Sink, T: Threads + Wait + Sync>(
     requires reader { R.failures reader.old < 2 ^ 64 - 1 }
     requires writer { W.failures writer.old < 2 ^ 64 - 1 }
     ensures read { OnOk result (ReadsAll (R.remaining reader.old) (R.remaining reader.new)) }
-    ensures ok { OnOk result (Serves Audit (R.remaining reader.old) (W.contents writer.old) (W.contents writer.new)) }
-    ensures silent { IfErr result (λ fault. fault ≢ ProgramFault.WriteFailed → Keeps (W.contents writer.old) (W.contents writer.new)) }
-    ensures err { IfErr result (IsFaultOf Audit (R.remaining reader.old) (R.failures reader.old < R.failures reader.new) (W.failures writer.old < W.failures writer.new)) }
+    ensures ok { OnOk result
+        (Serves Audit (R.remaining reader.old) (W.contents writer.old) (W.contents writer.new)) }
+    ensures silent { IfErr result
+        (λ fault. fault ≢ ProgramFault.WriteFailed → Keeps (W.contents writer.old) (W.contents writer.new)) }
+    ensures err { IfErr result (IsFaultOf Audit (R.remaining reader.old)
+        (R.failures reader.old < R.failures reader.new) (W.failures writer.old < W.failures writer.new)) }
 {
     let input = read_all(alloc, reader)?;
     let text = audit(rt, alloc, &input)?;

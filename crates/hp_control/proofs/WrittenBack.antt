@@ -11,7 +11,8 @@ use Rattle.hp_control.specs.Writes.{auto_of, request_of, request_to}
 use Rattle.hp_control.specs.declared.writes.Request.TheVariants.{Event}
 
 -- each of the four words with its newline
-word_back : (auto : Auto) → request_of (codes "auto_online_blocks") (line (auto_text auto)) ≡ Ok (Event (SetAuto auto))
+word_back : (auto : Auto)
+    → request_of (codes "auto_online_blocks") (line (auto_text auto)) ≡ Ok (Event (SetAuto auto))
 unfolding request_of request_to auto_of file_at
 word_back OfflineAuto = refl
 word_back OnlineAuto = refl
@@ -23,6 +24,10 @@ same_text : (r : Result (List ℕ) ControlFault) (a b : List ℕ) → r ≡ Ok a
 same_text r a b e f = cc
 
 -- what is shown can be written back
-pub written_back : (l : LayoutParts) (s : Memory) (text : List ℕ) → file_text l s (codes "auto_online_blocks") ≡ Ok text → request_of (codes "auto_online_blocks") text ≡ Ok (Event (SetAuto s.blocks.auto))
+pub written_back : (l : LayoutParts) (s : Memory) (text : List ℕ)
+    → file_text l s (codes "auto_online_blocks") ≡ Ok text
+    → request_of (codes "auto_online_blocks") text ≡ Ok (Event (SetAuto s.blocks.auto))
 unfolding file_text text_of file_at
-written_back l s text shown = ap (request_of (codes "auto_online_blocks")) (sym (same_text (file_text l s (codes "auto_online_blocks")) (line (auto_text s.blocks.auto)) text refl shown)) ∙ word_back s.blocks.auto
+written_back l s text shown =
+    ap (request_of (codes "auto_online_blocks")) (sym (same_text (file_text l s (codes "auto_online_blocks"))
+    (line (auto_text s.blocks.auto)) text refl shown)) ∙ word_back s.blocks.auto

@@ -1,4 +1,5 @@
--- The control files by their paths, relative to the directory of memory devices (Linux guide, Memory Hot(Un)Plug).
+-- The control files by their paths, relative to the directory of memory devices (Linux guide,
+-- Memory Hot(Un)Plug).
 use Rattle.std.specs.Prelude.{ℕ, ◌==◌, List, codes, length, nat_lt, Option, Some, None, if◌then◌else◌}
 use Rattle.std.specs.Option.{option_and_then, option_map}
 use Rattle.std.specs.List.{before_first, after_first, position_or_len}
@@ -9,7 +10,8 @@ use Rattle.hp_control.specs.Names.{File, BlockSizeBytes, Buddyinfo, Probe, AutoO
 -- the text before the first slash, and the text after it
 unfoldable pub halves_of : List ℕ → Option (List ℕ × List ℕ)
 halves_of path =
-    if nat_lt (position_or_len (λ b. b == 47) path) (length path) then Some (before_first (λ b. b == 47) path, after_first (λ b. b == 47) path)
+    if nat_lt (position_or_len (λ b. b == 47) path) (length path) then Some
+    (before_first (λ b. b == 47) path, after_first (λ b. b == 47) path)
     else None
 
 -- the file of a memory block with this name
@@ -24,7 +26,8 @@ block_file_named name =
 -- the file with this name in the directory of a memory block
 abbrev pub file_of_block : (directory name : List ℕ) → Option File
 file_of_block directory name =
-    option_and_then (λ block. option_map (λ kind. OfBlock block kind) (block_file_named name)) (block_named directory)
+    option_and_then (λ block. option_map (λ kind. OfBlock block kind) (block_file_named name))
+    (block_named directory)
 
 -- the file at a path
 unfoldable pub file_at : List ℕ → Option File

@@ -9,7 +9,8 @@ or_fault fault (Some x) = Ok x
 
 -- the answer to what came before it, unless that was a fault
 infixl 10 ◌>>=◌
-abbrev pub ◌>>=◌ : {A B : Type 0} → Result A ControlFault → (A → Result B ControlFault) → Result B ControlFault
+abbrev pub ◌>>=◌ : {A B : Type 0} → Result A ControlFault → (A → Result B ControlFault)
+    → Result B ControlFault
 (Ok x) >>= f = f x
 (Err fault) >>= f = Err fault
 

@@ -25,12 +25,19 @@ block_path block file = (codes "memory" ++ decimal block) ++ (codes "/" ++ file_
 
 -- a path stands for a file of a memory block just where it is spelled so
 abbrev pub BlockPathsAreSpelled : Type 0
-BlockPathsAreSpelled = (path : List ℕ) (block : ℕ) (file : BlockFile) → (file_at path ≡ Some (OfBlock block file)) ↔ ((path ≡ block_path block file) × (block < 2 ^ 32))
+BlockPathsAreSpelled =
+    (path : List ℕ) (block : ℕ) (file : BlockFile)
+    → (file_at path ≡ Some (OfBlock block file)) ↔ ((path ≡ block_path block file) × (block < 2 ^ 32))
 
 -- a text is an address just where it is `0x` and 1 to 16 hexadecimal digits, of the number that they write
 abbrev pub AddressesAreSpelled : Type 0
-AddressesAreSpelled = (text : List ℕ) (address : ℕ) → (address_of text ≡ Some address) ↔ ((digits : List ℕ) × (text ≡ codes "0x" ++ digits) × IsNumeral 16 digits × (length digits ≤ 16) × (digits_value 16 digits ≡ address))
+AddressesAreSpelled =
+    (text : List ℕ) (address : ℕ)
+    → (address_of text ≡ Some address) ↔ ((digits : List ℕ) × (text ≡ codes "0x" ++ digits)
+    × IsNumeral 16 digits × (length digits ≤ 16) × (digits_value 16 digits ≡ address))
 
 -- what `auto_online_blocks` shows, written back, asks for what it is
 abbrev pub AutoIsWrittenBack : Type 0
-AutoIsWrittenBack = (l : LayoutParts) (s : Memory) (text : List ℕ) → file_text l s (codes "auto_online_blocks") ≡ Ok text → request_of (codes "auto_online_blocks") text ≡ Ok (Event (SetAuto s.blocks.auto))
+AutoIsWrittenBack =
+    (l : LayoutParts) (s : Memory) (text : List ℕ) → file_text l s (codes "auto_online_blocks") ≡ Ok text
+    → request_of (codes "auto_online_blocks") text ≡ Ok (Event (SetAuto s.blocks.auto))

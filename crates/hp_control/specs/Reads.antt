@@ -1,4 +1,5 @@
--- What reading a control file gives (Linux guide, Memory Hot(Un)Plug; which words a going block shows is own).
+-- What reading a control file gives (Linux guide, Memory Hot(Un)Plug; which words a going block
+-- shows is own).
 use Rattle.std.specs.Prelude.{ℕ, false, List, [], ◌∷◌, ◌++◌, codes, Option, Some, None, Result, Ok, Err, slice_get}
 use Rattle.std.specs.Fmt.{digits}
 use Rattle.std.specs.Option.{option_and_then, option_map}

@@ -16,7 +16,8 @@ hex_digit byte = if nat_lt (digit_value byte) 16 then Some (digit_value byte) el
 -- the number that hexadecimal digits write after those of another number
 abbrev pub hex_after : ℕ → List ℕ → Option ℕ
 hex_after number [] = Some number
-hex_after number (byte ∷ bytes) = option_and_then (λ digit. hex_after (number * 16 + digit) bytes) (hex_digit byte)
+hex_after number (byte ∷ bytes) =
+    option_and_then (λ digit. hex_after (number * 16 + digit) bytes) (hex_digit byte)
 
 -- the number that 1 to 16 hexadecimal digits are
 unfoldable pub hex_number : List ℕ → Option ℕ
@@ -28,4 +29,6 @@ address_of text = if starts_with nat_eq text (codes "0x") then hex_number (drop 
 
 -- a written text without one final newline, if it ends with one
 abbrev pub without_newline : List ℕ → List ℕ
-without_newline bytes = if nat_lt 0 (length bytes) && (slice_index bytes (length bytes - 1) == 10) then take (length bytes - 1) bytes else bytes
+without_newline bytes =
+    if nat_lt 0 (length bytes)
+    && (slice_index bytes (length bytes - 1) == 10) then take (length bytes - 1) bytes else bytes

@@ -54,7 +54,8 @@ auto_of text =
 unfoldable pub request_to : File → List ℕ → Result Request ControlFault
 request_to BlockSizeBytes text = Err ReadOnly
 request_to Buddyinfo text = Err ReadOnly
-request_to Probe text = or_fault BadText (option_map (λ address. Event (ProbeEvent address)) (address_of text))
+request_to Probe text =
+    or_fault BadText (option_map (λ address. Event (ProbeEvent address)) (address_of text))
 request_to AutoOnlineBlocks text = or_fault BadText (option_map (λ auto. Event (SetAuto auto)) (auto_of text))
 request_to (OfBlock block file) text = block_request block file text
 

@@ -13,18 +13,20 @@ use hp_machine::Machine;
 use hp_units::{Block, Layout, Row, State, Zone};
 use std::alloc::{AllocError, Global};
 
-/// The text of the control file at a path, relative to the directory of memory devices (Linux guide, Memory Hot(Un)Plug). Each
-/// text ends with one newline.
+/// The text of the control file at a path, relative to the directory of memory devices (Linux
+/// guide, Memory Hot(Un)Plug). Each text ends with one newline.
 ///
-/// `block_size_bytes`: the bytes of a memory block in hexadecimal. `buddyinfo`: see [`buddyinfo`]. `auto_online_blocks`: what a
-/// block that is added becomes. `memoryN/state`: `online`, `offline` or `going-offline`. `memoryN/online`: `1` for an online and a
-/// going block, `0` for an offline one. `memoryN/valid_zones`: the zone of an online and a going block, `Normal Movable` of an
+/// `block_size_bytes`: the bytes of a memory block in hexadecimal. `buddyinfo`: see [`buddyinfo`].
+/// `auto_online_blocks`: what a block that is added becomes. `memoryN/state`: `online`, `offline`
+/// or `going-offline`. `memoryN/online`: `1` for an online and a going block, `0` for an offline
+/// one. `memoryN/valid_zones`: the zone of an online and a going block, `Normal Movable` of an
 /// offline one. `memoryN/removable`: `1`.
 ///
-/// Errors: NoFile for another path, and for a block that is not in the layout or is absent; WriteOnly for `probe`; OutOfMemory,
-/// which may come in place of any answer.
+/// Errors: NoFile for another path, and for a block that is not in the layout or is absent;
+/// WriteOnly for `probe`; OutOfMemory, which may come in place of any answer.
 pub fn read_file(alloc: Global, machine: &Machine, path: &str) -> Result<Vec<u8>, ControlFault>
-    ensures { Gives (λ text. text.items) result (means.file_text machine.now.layout machine.now.state path.now) }
+    ensures { Gives (λ text. text.items) result
+        (means.file_text machine.now.layout machine.now.state path.now) }
 {
     match read_text(alloc, machine, path) {
         Ok(text) => Ok(text.into_bytes()),
@@ -35,7 +37,8 @@ pub fn read_file(alloc: Global, machine: &Machine, path: &str) -> Result<Vec<u8>
 /// The text of the control file at a path, as [`read_file`] gives it, as a string. The errors are the same.
 #[tactic(auto, unfolding(crate::specs::Reads::file_text))]
 pub fn read_text(alloc: Global, machine: &Machine, path: &str) -> Result<String, ControlFault>
-    ensures { Gives (λ text. string_bytes text) result (means.file_text machine.now.layout machine.now.state path.now) }
+    ensures { Gives (λ text. string_bytes text) result
+        (means.file_text machine.now.layout machine.now.state path.now) }
 {
     match file_at(path) {
         Some(file) => text_of(alloc, machine, file),
@@ -46,7 +49,8 @@ pub fn read_text(alloc: Global, machine: &Machine, path: &str) -> Result<String,
 /// The text of a file.
 #[tactic(auto, unfolding(crate::specs::Reads::text_of))]
 fn text_of(alloc: Global, machine: &Machine, file: File) -> Result<String, ControlFault>
-    ensures { Gives (λ text. string_bytes text) result (means.text_of machine.now.layout machine.now.state file) }
+    ensures { Gives (λ text. string_bytes text) result
+        (means.text_of machine.now.layout machine.now.state file) }
 {
     match file {
         File::BlockSizeBytes => Ok(block_size_text(alloc, machine.layout())?),
@@ -59,7 +63,8 @@ fn text_of(alloc: Global, machine: &Machine, file: File) -> Result<String, Contr
 
 /// The bytes of a memory block in hexadecimal.
 fn block_size_text(alloc: Global, layout: &Layout) -> Result<String, AllocError>
-    ensures { IfOk result (λ text. string_bytes text ≡ means.line (digits 16 false (block_bytes layout.now))) }
+    ensures { IfOk result
+        (λ text. string_bytes text ≡ means.line (digits 16 false (block_bytes layout.now))) }
 {
     let bytes = block_bytes(layout);
     format!(in alloc; "{bytes:x}\n")
@@ -88,7 +93,8 @@ fn block_text(
     block: Block,
     file: BlockFile,
 ) -> Result<String, ControlFault>
-    ensures { Gives (λ text. string_bytes text) result (or_fault ControlFault.NoFile (option_map means.line (means.word_at machine.now.state.blocks.rows block file))) }
+    ensures { Gives (λ text. string_bytes text) result (or_fault ControlFault.NoFile
+        (option_map means.line (means.word_at machine.now.state.blocks.rows block file))) }
 {
     match word_at(machine, block, file) {
         Some(word) => Ok(line(alloc, word)?),

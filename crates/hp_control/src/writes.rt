@@ -21,15 +21,17 @@ pub enum Request {
     Plan(Plan),
 }
 
-/// What bytes that are written to the control file at a path ask for (Linux guide, Memory Hot(Un)Plug). One final newline is taken
-/// off; what is left must be one of the words. No machine is looked at: a block that isn't there is refused later.
+/// What bytes that are written to the control file at a path ask for (Linux guide, Memory
+/// Hot(Un)Plug). One final newline is taken off; what is left must be one of the words. No machine
+/// is looked at: a block that isn't there is refused later.
 ///
-/// `memoryN/state`: `online` and `online_kernel` for zone Normal, `online_movable` for zone Movable, `offline`. `memoryN/online`: `1`
-/// for zone Normal, `0` for offline. `probe`: `0x` and 1 to 16 hexadecimal digits, a byte address. `auto_online_blocks`: `offline`,
-/// `online`, `online_kernel` or `online_movable`.
+/// `memoryN/state`: `online` and `online_kernel` for zone Normal, `online_movable` for zone
+/// Movable, `offline`. `memoryN/online`: `1` for zone Normal, `0` for offline. `probe`: `0x` and 1
+/// to 16 hexadecimal digits, a byte address. `auto_online_blocks`: `offline`, `online`,
+/// `online_kernel` or `online_movable`.
 ///
-/// Errors in their order: NoFile for another path; ReadOnly for another file; BadText; OutOfMemory, which may come in place of any
-/// answer.
+/// Errors in their order: NoFile for another path; ReadOnly for another file; BadText; OutOfMemory,
+/// which may come in place of any answer.
 #[tactic(auto, unfolding(crate::specs::Writes::request_of))]
 pub fn parse_write(alloc: Global, path: &str, bytes: &[u8]) -> Result<Request, ControlFault>
     ensures { Gives (λ request. request) result (means.request_of path.now bytes.now) }
@@ -40,7 +42,8 @@ pub fn parse_write(alloc: Global, path: &str, bytes: &[u8]) -> Result<Request, C
     }
 }
 
-/// What a word asks for that `echo` writes to the control file at a path: a newline follows the word. Errors as of `parse_write`.
+/// What a word asks for that `echo` writes to the control file at a path: a newline follows the
+/// word. Errors as of `parse_write`.
 pub fn parse_echo(alloc: Global, path: &str, word: &str) -> Result<Request, ControlFault>
     ensures { Gives (λ request. request) result (means.echo_request path.now word.now) }
 {
@@ -49,8 +52,8 @@ pub fn parse_echo(alloc: Global, path: &str, word: &str) -> Result<Request, Cont
     parse_write(alloc, path, line.as_bytes())
 }
 
-/// The same, with the file's refusal as an answer: what a word asks for, or why the file does not take it. An error is out of
-/// memory.
+/// The same, with the file's refusal as an answer: what a word asks for, or why the file does not
+/// take it. An error is out of memory.
 pub fn echo_answer(
     alloc: Global,
     path: &str,

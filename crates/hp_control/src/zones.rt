@@ -6,10 +6,12 @@ use hp_machine::Machine;
 use hp_units::{Class, Order, Zone};
 use std::alloc::{AllocError, Global};
 
-/// The free blocks of each zone by order: a line for Normal and one for Movable, isolated blocks counted too and frames on
-/// processors' lists not (Linux, /proc/buddyinfo; own rule: no space ends a line). Errors: memory was refused.
+/// The free blocks of each zone by order: a line for Normal and one for Movable, isolated blocks
+/// counted too and frames on processors' lists not (Linux, /proc/buddyinfo; own rule: no space ends
+/// a line). Errors: memory was refused.
 pub fn buddyinfo(alloc: Global, machine: &Machine) -> Result<Vec<u8>, AllocError>
-    ensures { IfOk result (λ text. text.items ≡ means.buddyinfo_text machine.now.layout machine.now.state.free.areas) }
+    ensures { IfOk result
+        (λ text. text.items ≡ means.buddyinfo_text machine.now.layout machine.now.state.free.areas) }
 {
     let text = zones_text(alloc, machine)?;
     Ok(text.into_bytes())
@@ -18,7 +20,8 @@ pub fn buddyinfo(alloc: Global, machine: &Machine) -> Result<Vec<u8>, AllocError
 /// The line of each zone.
 #[tactic(auto, unfolding(crate::specs::Zones::buddyinfo_text))]
 pub(crate) fn zones_text(alloc: Global, machine: &Machine) -> Result<String, AllocError>
-    ensures { IfOk result (λ text. string_bytes text ≡ means.buddyinfo_text machine.now.layout machine.now.state.free.areas) }
+    ensures { IfOk result
+        (λ text. string_bytes text ≡ means.buddyinfo_text machine.now.layout machine.now.state.free.areas) }
 {
     let mut text = String::new(alloc);
     write_zone(&mut text, machine, Zone::Normal)?;
@@ -29,7 +32,8 @@ pub(crate) fn zones_text(alloc: Global, machine: &Machine) -> Result<String, All
 /// One zone's line.
 #[tactic(auto, unfolding(crate::specs::Zones::zone_line))]
 fn write_zone(text: &mut String, machine: &Machine, zone: Zone) -> Result<(), AllocError>
-    ensures { OnOk result (string_bytes text.new ≡ string_bytes text.old ++ means.zone_line machine.now.layout machine.now.state.free.areas zone) }
+    ensures { OnOk result (string_bytes text.new
+        ≡ string_bytes text.old ++ means.zone_line machine.now.layout machine.now.state.free.areas zone) }
 {
     text.push_str(zone_head(zone))?;
     write_counts(text, machine, zone)?;
@@ -39,7 +43,8 @@ fn write_zone(text: &mut String, machine: &Machine, zone: Zone) -> Result<(), Al
 
 /// The counts of the orders from 0 to the greatest.
 fn write_counts(text: &mut String, machine: &Machine, zone: Zone) -> Result<(), AllocError>
-    ensures { OnOk result (string_bytes text.new ≡ string_bytes text.old ++ means.counts_below machine.now.state.free.areas zone (machine.now.layout.order + 1)) }
+    ensures { OnOk result (string_bytes text.new ≡ string_bytes text.old
+        ++ means.counts_below machine.now.state.free.areas zone (machine.now.layout.order + 1)) }
 {
     for order in 0..machine.layout().order() + 1 {
         write_count(text, zone_count(machine, zone, Order(order)))?;

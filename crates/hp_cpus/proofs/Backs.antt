@@ -22,50 +22,70 @@ use Rattle.hp_cpus.proofs.Edits.{Seen, cpus_of, number, unlink-cached}
 -- ---- a frame that was put on a list leaves it
 
 -- a delta that fits says that its frame is on its list
-pub linked-on : (v : CpusValue) (areas : FreeAreas) (delta : Delta) (list : ListId) (cpu : ℕ) (pool : Pool) (f : ℕ) (after : Option ℕ) → delta ≡ Link list f after → list ≡ CpuList cpu pool
+pub linked-on : (v : CpusValue) (areas : FreeAreas) (delta : Delta) (list : ListId) (cpu : ℕ) (pool : Pool)
+    (f : ℕ) (after : Option ℕ)
+    → delta ≡ Link list f after → list ≡ CpuList cpu pool
     → FitsCached delta (frames_of areas v) → is_on f (list_of v cpu pool) ≡ true
 linked-on v areas delta list cpu pool f after is list_is fits =
-    behind-on after f (list_of v cpu pool) (subst (λ (d : Delta). FitsCached d (frames_of areas v)) (is ∙ ap (λ (k : ListId). Link k f after) list_is) fits)
+    behind-on after f (list_of v cpu pool) (subst (λ (d : Delta). FitsCached d (frames_of areas v))
+    (is ∙ ap (λ (k : ListId). Link k f after) list_is) fits)
 
 -- and its number is in the layout
-linked-in : (l : LayoutParts) (delta : Delta) (list : ListId) (cpu : ℕ) (pool : Pool) (f : ℕ) (after : Option ℕ) → delta ≡ Link list f after → list ≡ CpuList cpu pool
+linked-in : (l : LayoutParts) (delta : Delta) (list : ListId) (cpu : ℕ) (pool : Pool) (f : ℕ)
+    (after : Option ℕ)
+    → delta ≡ Link list f after → list ≡ CpuList cpu pool
     → IsDeltaOf l delta → cpu < l.cpus
 linked-in l delta list cpu pool f after is list_is numbers =
     (subst (λ (d : Delta). IsDeltaOf l d) (is ∙ ap (λ (k : ListId). Link k f after) list_is) numbers).0
 
 -- it leaves the list
-pub link-undone : (v : CpusValue) (l : LayoutParts) (links new : LinkedLists) (delta : Delta) (list : ListId) (cpu : ℕ) (pool : Pool) (f : ℕ) (after before : Option ℕ) (given : FreeAreas)
-    → Seen v l links → delta ≡ Link list f after → list ≡ CpuList cpu pool → FitsCached delta (frames_of given v) → IsDeltaOf v.layout delta → IsUnlinked links new f before
+pub link-undone : (v : CpusValue) (l : LayoutParts) (links new : LinkedLists) (delta : Delta) (list : ListId)
+    (cpu : ℕ) (pool : Pool) (f : ℕ) (after before : Option ℕ) (given : FreeAreas)
+    → Seen v l links → delta ≡ Link list f after → list ≡ CpuList cpu pool
+    → FitsCached delta (frames_of given v) → IsDeltaOf v.layout delta → IsUnlinked links new f before
     → (areas : FreeAreas) → frames_of areas (cpus_of l new) ≡ cached_undo delta (frames_of areas v)
 link-undone v l links new delta list cpu pool f after before given s is list_is fits numbers u areas =
-    subst (λ (w : CpusValue). FitsCached delta (frames_of given w) → IsDeltaOf w.layout delta → frames_of areas (cpus_of l new) ≡ cached_undo delta (frames_of areas w)) s.is
+    subst (λ (w : CpusValue). FitsCached delta (frames_of given w) → IsDeltaOf w.layout delta
+    → frames_of areas (cpus_of l new) ≡ cached_undo delta (frames_of areas w)) s.is
     (λ fits numbers.
     ap (λ (w : CpusValue). frames_of areas w)
-    (unlink-cached l links new cpu pool f before s.kept (linked-in l delta list cpu pool f after is list_is numbers)
+    (unlink-cached l links new cpu pool f before s.kept
+    (linked-in l delta list cpu pool f after is list_is numbers)
     (linked-on (cpus_of l links) given delta list cpu pool f after is list_is fits) u)
-    ∙ ap (λ (d : Delta). cached_undo d (frames_of areas (cpus_of l links))) (sym (is ∙ ap (λ (k : ListId). Link k f after) list_is))) fits numbers
+    ∙ ap (λ (d : Delta). cached_undo d (frames_of areas (cpus_of l links)))
+    (sym (is ∙ ap (λ (k : ListId). Link k f after) list_is))) fits numbers
 
 -- ---- a frame that left its list comes back
 
 -- what it is put after is on the list
-pub unlinked-after : (v : CpusValue) (l : LayoutParts) (links : LinkedLists) (delta : Delta) (list : ListId) (cpu : ℕ) (pool : Pool) (f n : ℕ) (after : Option ℕ) (given : FreeAreas)
-    → Seen v l links → delta ≡ Unlink list f after → list ≡ CpuList cpu pool → FitsCached delta (frames_of given v) → n ≡ 3 * cpu + pool_index pool
+pub unlinked-after : (v : CpusValue) (l : LayoutParts) (links : LinkedLists) (delta : Delta) (list : ListId)
+    (cpu : ℕ) (pool : Pool) (f n : ℕ) (after : Option ℕ) (given : FreeAreas)
+    → Seen v l links → delta ≡ Unlink list f after → list ≡ CpuList cpu pool
+    → FitsCached delta (frames_of given v) → n ≡ 3 * cpu + pool_index pool
     → ForSome after (λ a. IsOn links n a)
 unlinked-after v l links delta list cpu pool f n after given s is list_is fits place a e =
     let xs : List ℕ = get_or links.lists (number cpu pool) [] in
     let fit : FitsCached (Unlink (CpuList cpu pool) f after) (frames_of given (cpus_of l links)) =
-    subst (λ (d : Delta). FitsCached d (frames_of given (cpus_of l links))) (is ∙ ap (λ (k : ListId). Unlink k f after) list_is)
+    subst (λ (d : Delta). FitsCached d (frames_of given (cpus_of l links)))
+    (is ∙ ap (λ (k : ListId). Unlink k f after) list_is)
     (subst (λ (w : CpusValue). FitsCached delta (frames_of given w)) (sym s.is) fits) in
-    let parts = and_parts (list_all (λ other. not (is_on f other)) links.lists) (option_map_or (λ first. is_on first xs) after true) fit in
+    let parts =
+    and_parts (list_all (λ other. not (is_on f other)) links.lists)
+    (option_map_or (λ first. is_on first xs) after true) fit in
     subst (λ (m : ℕ). IsOn links m a) (sym place) (on_contains a xs (after-true after xs parts.1 a e))
 
 -- it comes back
-pub unlink-undone : (v : CpusValue) (l : LayoutParts) (links new : LinkedLists) (delta : Delta) (list : ListId) (cpu : ℕ) (pool : Pool) (f n : ℕ) (after : Option ℕ)
+pub unlink-undone : (v : CpusValue) (l : LayoutParts) (links new : LinkedLists) (delta : Delta)
+    (list : ListId) (cpu : ℕ) (pool : Pool) (f n : ℕ) (after : Option ℕ)
     → Seen v l links → delta ≡ Unlink list f after → list ≡ CpuList cpu pool → n ≡ 3 * cpu + pool_index pool
-    → new ≡ with_list links n (with_behind after f (list_at links n)) → (areas : FreeAreas) → frames_of areas (cpus_of l new) ≡ cached_undo delta (frames_of areas v)
+    → new ≡ with_list links n (with_behind after f (list_at links n)) → (areas : FreeAreas)
+    → frames_of areas (cpus_of l new) ≡ cached_undo delta (frames_of areas v)
 unlink-undone v l links new delta list cpu pool f n after s is list_is place relinked areas =
     subst (λ (w : CpusValue). frames_of areas (cpus_of l new) ≡ cached_undo delta (frames_of areas w)) s.is
     (ap (λ (k : LinkedLists). frames_of areas (cpus_of l k)) relinked
-    ∙ ap (λ (m : ℕ). frames_of areas (cpus_of l (with_list links m (with_behind after f (list_at links m))))) place
-    ∙ ap (λ (ys : List ℕ). frames_of areas (cpus_of l (with_list links (number cpu pool) ys))) (sym (put_behind-same after f (get_or links.lists (number cpu pool) [])))
-    ∙ ap (λ (d : Delta). cached_undo d (frames_of areas (cpus_of l links))) (sym (is ∙ ap (λ (k : ListId). Unlink k f after) list_is)))
+    ∙ ap (λ (m : ℕ). frames_of areas (cpus_of l (with_list links m (with_behind after f (list_at links m)))))
+    place
+    ∙ ap (λ (ys : List ℕ). frames_of areas (cpus_of l (with_list links (number cpu pool) ys)))
+    (sym (put_behind-same after f (get_or links.lists (number cpu pool) [])))
+    ∙ ap (λ (d : Delta). cached_undo d (frames_of areas (cpus_of l links)))
+    (sym (is ∙ ap (λ (k : ListId). Unlink k f after) list_is)))

@@ -17,7 +17,8 @@ beside cached a = record { areas = a; cached = cached }
 
 -- ---- one delta of the areas
 
-undo-beside : (d : Delta) (cached : List (List ℕ)) (a : FreeAreas) → IsOfAreas d → free_undo d (beside cached a) ≡ beside cached (areas_undo d a)
+undo-beside : (d : Delta) (cached : List (List ℕ)) (a : FreeAreas) → IsOfAreas d
+    → free_undo d (beside cached a) ≡ beside cached (areas_undo d a)
 undo-beside (Link (Area class order) frame after) cached a own = refl
 undo-beside (Link (Cpu cpu pool) frame after) cached a own = absurd own
 undo-beside (Unlink (Area class order) frame after) cached a own = refl
@@ -32,7 +33,8 @@ undo-beside (Emptied frame words) cached a own = absurd own
 undo-beside (RowDelta block was now) cached a own = absurd own
 undo-beside (AutoDelta was now) cached a own = absurd own
 
-fits-beside : (d : Delta) (cached : List (List ℕ)) (a : FreeAreas) → IsOfAreas d → FitsAreas d a → FitsFree d (beside cached a)
+fits-beside : (d : Delta) (cached : List (List ℕ)) (a : FreeAreas) → IsOfAreas d → FitsAreas d a
+    → FitsFree d (beside cached a)
 fits-beside (Link (Area class order) frame after) cached a own h = (h, tt)
 fits-beside (Link (Cpu cpu pool) frame after) cached a own h = absurd own
 fits-beside (Unlink (Area class order) frame after) cached a own h = (h, tt)
@@ -62,17 +64,22 @@ own-beside (AutoDelta was now) own = own
 
 -- ---- all of them
 
-undo_all-beside : (deltas : List Delta) (cached : List (List ℕ)) (a : FreeAreas) → AllByRecursion IsOfAreas deltas
+undo_all-beside : (deltas : List Delta) (cached : List (List ℕ)) (a : FreeAreas)
+    → AllByRecursion IsOfAreas deltas
     → undo_all free_undo deltas (beside cached a) ≡ beside cached (undo_all areas_undo deltas a)
 undo_all-beside [] cached a own = refl
-undo_all-beside (d ∷ deltas) cached a own = ap (free_undo d) (undo_all-beside deltas cached a own.1) ∙ undo-beside d cached (undo_all areas_undo deltas a) own.0
+undo_all-beside (d ∷ deltas) cached a own =
+    ap (free_undo d) (undo_all-beside deltas cached a own.1)
+    ∙ undo-beside d cached (undo_all areas_undo deltas a) own.0
 
-all_fit-beside : (deltas : List Delta) (cached : List (List ℕ)) (a : FreeAreas) → AllByRecursion IsOfAreas deltas → AllFit FitsAreas areas_undo deltas a
+all_fit-beside : (deltas : List Delta) (cached : List (List ℕ)) (a : FreeAreas)
+    → AllByRecursion IsOfAreas deltas → AllFit FitsAreas areas_undo deltas a
     → AllFit FitsFree free_undo deltas (beside cached a)
 all_fit-beside [] cached a own h = tt
 all_fit-beside (d ∷ deltas) cached a own h = (
   all_fit-beside deltas cached a own.1 h.0,
-  subst (λ (fs : FreeFrames). FitsFree d fs) (sym (undo_all-beside deltas cached a own.1)) (fits-beside d cached (undo_all areas_undo deltas a) own.0 h.1),
+  subst (λ (fs : FreeFrames). FitsFree d fs) (sym (undo_all-beside deltas cached a own.1))
+      (fits-beside d cached (undo_all areas_undo deltas a) own.0 h.1),
 )
 
 all_own-beside : (deltas : List Delta) → AllByRecursion IsOfAreas deltas → AllByRecursion IsOfFree deltas
@@ -80,7 +87,9 @@ all_own-beside [] own = tt
 all_own-beside (d ∷ deltas) own = (own-beside d own.0, all_own-beside deltas own.1)
 
 -- what a call of the free areas notes
-pub notes-beside : (l : LayoutParts) (most : ℕ) (was now : TapeValue) (cached : List (List ℕ)) (later earlier : FreeAreas) → NotesAreas l most was now later earlier
+pub notes-beside : (l : LayoutParts) (most : ℕ) (was now : TapeValue) (cached : List (List ℕ))
+    (later earlier : FreeAreas)
+    → NotesAreas l most was now later earlier
     → NotesFree l most was now (beside cached later) (beside cached earlier)
 notes-beside l most was now cached later earlier n = record {
   deltas = n.deltas;
@@ -97,19 +106,26 @@ notes-beside l most was now cached later earlier n = record {
 -- ---- the notes of several calls
 
 -- one call, and then another
-pub notes-then : (l m : LayoutParts) (most more total : ℕ) (was mid now : TapeValue) (before between after : FreeFrames) → m ≡ l → most + more ≤ total
-    → NotesFree l most was mid between before → NotesFree m more mid now after between → NotesFree l total was now after before
+pub notes-then : (l m : LayoutParts) (most more total : ℕ) (was mid now : TapeValue)
+    (before between after : FreeFrames)
+    → m ≡ l → most + more ≤ total
+    → NotesFree l most was mid between before → NotesFree m more mid now after between
+    → NotesFree l total was now after before
 notes-then l m most more total was mid now before between after same le a b =
     notes-more IsOfFree FitsFree free_undo l (most + more) total was now after before le
-    (notes-append IsOfFree FitsFree free_undo l most more was mid now after between before a (subst (λ (k : LayoutParts). NotesFree k more mid now after between) same b))
+    (notes-append IsOfFree FitsFree free_undo l most more was mid now after between before a
+    (subst (λ (k : LayoutParts). NotesFree k more mid now after between) same b))
 
 -- what room a call leaves
-pub room_left : (l : LayoutParts) (most more : ℕ) (was now : TapeValue) (before after : FreeFrames) → NotesFree l most was now after before → HasRoom was (most + more) → HasRoom now more
+pub room_left : (l : LayoutParts) (most more : ℕ) (was now : TapeValue) (before after : FreeFrames)
+    → NotesFree l most was now after before → HasRoom was (most + more) → HasRoom now more
 room_left l most more was now before after n room =
-    let size : length now.deltas ≡ length (was.deltas ++ n.deltas) = ap (λ (t : TapeValue). length t.deltas) n.tape in
+    let size : length now.deltas ≡ length (was.deltas ++ n.deltas) =
+    ap (λ (t : TapeValue). length t.deltas) n.tape in
     let same : now.room ≡ was.room = ap (λ (t : TapeValue). t.room) n.tape in
     omega (arith, n.few, length-append was.deltas n.deltas)
 
 -- no call
-pub nothing-noted : (l : LayoutParts) (most : ℕ) (tape : TapeValue) (fs : FreeFrames) → NotesFree l most tape tape fs fs
+pub nothing-noted : (l : LayoutParts) (most : ℕ) (tape : TapeValue) (fs : FreeFrames)
+    → NotesFree l most tape tape fs fs
 nothing-noted l most tape fs = notes-none IsOfFree FitsFree free_undo l most tape fs

@@ -24,26 +24,38 @@ use Rattle.hp_cpus.proofs.Refills.{taken-some, taken-none}
 pub record IsPopped (c d : CpusValue) (b : BuddyValue) (o : Option ℕ) : Type 0 where
   pub together : AreTogether d b
   pub frame : IfSome o (MayBePut d b)
-  pub places : IfSome o (λ f. (other : ℕ) → places_among b.areas c other ≡ places_among b.areas d other + one_at f other)
+  pub places : IfSome o
+      (λ f. (other : ℕ) → places_among b.areas c other ≡ places_among b.areas d other + one_at f other)
 
 -- by what a list gave
-pub popped : (c d : CpusValue) (b : BuddyValue) (cpu : ℕ) (pool : Pool) (o : Option ℕ) (P : Type 0) → AreTogether c b → cpu < c.layout.cpus
-    → MatchOption o (list_of c cpu pool ≡ []) (λ f. list_of c cpu pool ≡ f ∷ list_of d cpu pool) → MatchOption o ((d ≡ c) × P) (λ _. Unit {0})
+pub popped : (c d : CpusValue) (b : BuddyValue) (cpu : ℕ) (pool : Pool) (o : Option ℕ) (P : Type 0)
+    → AreTogether c b → cpu < c.layout.cpus
+    → MatchOption o (list_of c cpu pool ≡ []) (λ f. list_of c cpu pool ≡ f ∷ list_of d cpu pool)
+    → MatchOption o ((d ≡ c) × P) (λ _. Unit {0})
     → d ≡ with_list_of c cpu pool (list_of d cpu pool) → IsPopped c d b o
-popped c d b cpu pool None P h low split none is = record { together = subst (λ (e : CpusValue). AreTogether e b) (sym none.0) h; frame = tt; places = tt }
+popped c d b cpu pool None P h low split none is =
+    record { together = subst (λ (e : CpusValue). AreTogether e b) (sym none.0) h; frame = tt; places = tt }
 popped c d b cpu pool (Some f) P h low split none is =
-    let out : IsOut c d b b f = list-out c d b cpu pool f (list_of d cpu pool) h low is (front-times (list_of c cpu pool) (list_of d cpu pool) f split) in
+    let out : IsOut c d b b f =
+    list-out c d b cpu pool f (list_of d cpu pool) h low is
+    (front-times (list_of c cpu pool) (list_of d cpu pool) f split) in
     record { together = out.together; frame = out.frame; places = out.places }
 
 -- the definition's frame is the one that the list gave
-pub taken_one : (l : LayoutParts) (fs gs new : FreeFrames) (cpu : ℕ) (pool : Pool) (o : Option ℕ) (rest : List ℕ) → gs ≡ refilled l fs cpu pool
-    → MatchOption o (cached_list gs cpu pool ≡ []) (λ f. cached_list gs cpu pool ≡ f ∷ rest) → new ≡ with_cached_list gs cpu pool rest
-    → MatchOption o (take_one l fs cpu pool ≡ None) (λ f. take_one l fs cpu pool ≡ Some (record { free = new; frame = f }))
+pub taken_one : (l : LayoutParts) (fs gs new : FreeFrames) (cpu : ℕ) (pool : Pool) (o : Option ℕ)
+    (rest : List ℕ)
+    → gs ≡ refilled l fs cpu pool
+    → MatchOption o (cached_list gs cpu pool ≡ []) (λ f. cached_list gs cpu pool ≡ f ∷ rest)
+    → new ≡ with_cached_list gs cpu pool rest
+    → MatchOption o (take_one l fs cpu pool ≡ None)
+    (λ f. take_one l fs cpu pool ≡ Some (record { free = new; frame = f }))
 taken_one l fs gs new cpu pool None rest is split popped = taken-none l fs gs cpu pool is split
-taken_one l fs gs new cpu pool (Some f) rest is split popped = taken-some l fs gs new cpu pool f rest is split popped
+taken_one l fs gs new cpu pool (Some f) rest is split popped =
+    taken-some l fs gs new cpu pool f rest is split popped
 
 -- the same places counted otherwise
-pub same_places : (o : Option ℕ) (p q r : ℕ → ℕ) → ((other : ℕ) → p other ≡ q other) → IfSome o (λ f. (other : ℕ) → p other ≡ r other + one_at f other)
+pub same_places : (o : Option ℕ) (p q r : ℕ → ℕ) → ((other : ℕ) → p other ≡ q other)
+    → IfSome o (λ f. (other : ℕ) → p other ≡ r other + one_at f other)
     → IfSome o (λ f. (other : ℕ) → q other ≡ r other + one_at f other)
 same_places None p q r same h = tt
 same_places (Some f) p q r same h = λ other. omega (arith, same other, h other)
@@ -59,41 +71,58 @@ bound-none l xs none = ap (λ (ys : List ℕ). take_one_from l ys) (nil_from_len
 -- ---- one frame back
 
 -- a frame of an isolated pageblock goes to the areas
-pub put_one-isolated : (l : LayoutParts) (fs : FreeFrames) (cpu : ℕ) (zone : Zone) (f at : ℕ) (kind : Kind) → at ≡ pageblock_of l f → kind ≡ kind_of fs.areas at → kind.isolated ≡ true
+pub put_one-isolated : (l : LayoutParts) (fs : FreeFrames) (cpu : ℕ) (zone : Zone) (f at : ℕ) (kind : Kind)
+    → at ≡ pageblock_of l f → kind ≡ kind_of fs.areas at → kind.isolated ≡ true
     → put_one l fs cpu zone f ≡ record fs { areas = give_block l fs.areas zone f 0 }
 unfolding put_one
 put_one-isolated l fs cpu zone f at kind at_is is isolated =
     let known : kind ≡ kind_of fs.areas (pageblock_of l f) = is ∙ ap (λ (n : ℕ). kind_of fs.areas n) at_is in
-    cond-true (kind_of fs.areas (pageblock_of l f)).isolated _ _ (sym (ap (λ (k : Kind). k.isolated) known) ∙ isolated)
+    cond-true (kind_of fs.areas (pageblock_of l f)).isolated _ _
+    (sym (ap (λ (k : Kind). k.isolated) known) ∙ isolated)
 
 -- another one to its list
-pub put_one-cached : (l : LayoutParts) (fs : FreeFrames) (cpu : ℕ) (zone : Zone) (f at : ℕ) (kind : Kind) (pool : Pool) → at ≡ pageblock_of l f → kind ≡ kind_of fs.areas at → kind.isolated ≡ false
-    → pool ≡ pool_of zone kind.mobility → put_one l fs cpu zone f ≡ spilled l (with_cached_list fs cpu pool (f ∷ cached_list fs cpu pool)) cpu pool
+pub put_one-cached : (l : LayoutParts) (fs : FreeFrames) (cpu : ℕ) (zone : Zone) (f at : ℕ) (kind : Kind)
+    (pool : Pool)
+    → at ≡ pageblock_of l f → kind ≡ kind_of fs.areas at → kind.isolated ≡ false
+    → pool ≡ pool_of zone kind.mobility
+    → put_one l fs cpu zone f
+    ≡ spilled l (with_cached_list fs cpu pool (f ∷ cached_list fs cpu pool)) cpu pool
 unfolding put_one
 put_one-cached l fs cpu zone f at kind pool at_is is cached pool_is =
     let known : kind ≡ kind_of fs.areas (pageblock_of l f) = is ∙ ap (λ (n : ℕ). kind_of fs.areas n) at_is in
-    cond-false (kind_of fs.areas (pageblock_of l f)).isolated _ _ (sym (ap (λ (k : Kind). k.isolated) known) ∙ cached)
-    ∙ ap (λ (p : Pool). spilled l (with_cached_list fs cpu p (f ∷ cached_list fs cpu p)) cpu p) (sym (pool_is ∙ ap (λ (k : Kind). pool_of zone k.mobility) known))
+    cond-false (kind_of fs.areas (pageblock_of l f)).isolated _ _
+    (sym (ap (λ (k : Kind). k.isolated) known) ∙ cached)
+    ∙ ap (λ (p : Pool). spilled l (with_cached_list fs cpu p (f ∷ cached_list fs cpu p)) cpu p)
+    (sym (pool_is ∙ ap (λ (k : Kind). pool_of zone k.mobility) known))
 
 -- the bound of a list that is past its mark with one more
-pub put_bound : (l : LayoutParts) (size : ℕ) → l.high < size + 1 → cond (nat_le (size + 1) l.high) 1 (batch_bound l) ≡ batch_bound l
-put_bound l size past = cond-false (nat_le (size + 1) l.high) 1 (batch_bound l) (lt-leb (size + 1) l.high past)
+pub put_bound : (l : LayoutParts) (size : ℕ) → l.high < size + 1
+    → cond (nat_le (size + 1) l.high) 1 (batch_bound l) ≡ batch_bound l
+put_bound l size past =
+    cond-false (nat_le (size + 1) l.high) 1 (batch_bound l) (lt-leb (size + 1) l.high past)
 
 -- ---- a drain
 
 -- a list of another pool stays
-pub other_list : (l : LayoutParts) (fs gs : FreeFrames) (cpu : ℕ) (pool other : Pool) → gs ≡ drain_pool l cpu fs pool → pool_index other ≢ pool_index pool → cached_list gs cpu other ≡ cached_list fs cpu other
+pub other_list : (l : LayoutParts) (fs gs : FreeFrames) (cpu : ℕ) (pool other : Pool)
+    → gs ≡ drain_pool l cpu fs pool → pool_index other ≢ pool_index pool
+    → cached_list gs cpu other ≡ cached_list fs cpu other
 other_list l fs gs cpu pool other is apart =
     ap (λ (hs : FreeFrames). cached_list hs cpu other) is
-    ∙ get_or-set_other fs.cached (3 * cpu + pool_index pool) (3 * cpu + pool_index other) [] [] (λ same. apart (omega arith))
+    ∙ get_or-set_other fs.cached (3 * cpu + pool_index pool) (3 * cpu + pool_index other) [] []
+    (λ same. apart (omega arith))
 
 -- the three lists one after another
-pub drained : (l m n : LayoutParts) (fs gs hs js : FreeFrames) (cpu : ℕ) → m ≡ l → n ≡ l → gs ≡ drain_pool l cpu fs Nu → hs ≡ drain_pool m cpu gs Nm → js ≡ drain_pool n cpu hs Mm → js ≡ drain_lists l fs cpu
+pub drained : (l m n : LayoutParts) (fs gs hs js : FreeFrames) (cpu : ℕ) → m ≡ l → n ≡ l
+    → gs ≡ drain_pool l cpu fs Nu → hs ≡ drain_pool m cpu gs Nm → js ≡ drain_pool n cpu hs Mm
+    → js ≡ drain_lists l fs cpu
 unfolding drain_lists
 drained l m n fs gs hs js cpu same other first second third =
     third ∙ ap (λ (k : LayoutParts). drain_pool k cpu hs Mm) other
-    ∙ ap (λ (is : FreeFrames). drain_pool l cpu is Mm) (second ∙ ap (λ (k : LayoutParts). drain_pool k cpu gs Nm) same ∙ ap (λ (is : FreeFrames). drain_pool l cpu is Nm) first)
+    ∙ ap (λ (is : FreeFrames). drain_pool l cpu is Mm) (second ∙ ap (λ (k : LayoutParts).
+    drain_pool k cpu gs Nm) same ∙ ap (λ (is : FreeFrames). drain_pool l cpu is Nm) first)
 
 -- so many deltas for each frame of three lists
 pub three_lists : (nu nm mm each : ℕ) → nu * each + nm * each + mm * each ≡ (nu + nm + mm) * each
-three_lists nu nm mm each = sym (add-mul (nu + nm) mm each ∙ ap (λ (n : ℕ). n + mm * each) (add-mul nu nm each))
+three_lists nu nm mm each =
+    sym (add-mul (nu + nm) mm each ∙ ap (λ (n : ℕ). n + mm * each) (add-mul nu nm each))

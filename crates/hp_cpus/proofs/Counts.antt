@@ -43,14 +43,16 @@ times-on f (x ∷ xs) e = elim (on_cases f x xs e) [
 pub distinct : (xs : List ℕ) → ((f : ℕ) → times f xs ≤ 1) → AreDistinct xs
 distinct [] few = tt
 distinct (x ∷ xs) few = (
-  false_from_ne_true (is_on x xs) (λ on. absurd (omega (arith, few x, times-cons x x xs, one-self x x refl, times-on x xs on))),
+  false_from_ne_true (is_on x xs)
+      (λ on. absurd (omega (arith, few x, times-cons x x xs, one-self x x refl, times-on x xs on))),
   distinct xs (λ f. omega (arith, few f, times-cons f x xs)),
 )
 
 -- ---- all lists
 
 -- a processor's list is one of the lists
-pub list_in : (cpus cpu count : ℕ) (pool : Pool) → cpu < cpus → count ≡ 3 * cpus → 3 * cpu + pool_index pool < count
+pub list_in : (cpus cpu count : ℕ) (pool : Pool) → cpu < cpus → count ≡ 3 * cpus
+    → 3 * cpu + pool_index pool < count
 list_in cpus cpu count pool low size = omega (arith, pool_index-lt pool)
 
 -- there are lists for each processor
@@ -58,30 +60,46 @@ abbrev pub HasLists : CpusValue → Type 0
 HasLists c = length c.cached ≡ 3 * c.layout.cpus
 
 -- another list
-pub with_list_of-places : (c : CpusValue) (cpu : ℕ) (pool : Pool) (xs : List ℕ) (f : ℕ) → cpu < c.layout.cpus → HasLists c
+pub with_list_of-places : (c : CpusValue) (cpu : ℕ) (pool : Pool) (xs : List ℕ) (f : ℕ) → cpu < c.layout.cpus
+    → HasLists c
     → places_in (with_list_of c cpu pool xs) f + times f (list_of c cpu pool) ≡ places_in c f + times f xs
 with_list_of-places c cpu pool xs f low size =
-    sum_by-set (λ (ys : List ℕ). times f ys) c.cached (3 * cpu + pool_index pool) xs [] (list_in c.layout.cpus cpu (length c.cached) pool low size)
+    sum_by-set (λ (ys : List ℕ). times f ys) c.cached (3 * cpu + pool_index pool) xs []
+    (list_in c.layout.cpus cpu (length c.cached) pool low size)
 
 -- a list has a frame no more often than all
-pub list_of-le : (c : CpusValue) (cpu : ℕ) (pool : Pool) (f : ℕ) → cpu < c.layout.cpus → HasLists c → times f (list_of c cpu pool) ≤ places_in c f
+pub list_of-le : (c : CpusValue) (cpu : ℕ) (pool : Pool) (f : ℕ) → cpu < c.layout.cpus → HasLists c
+    → times f (list_of c cpu pool) ≤ places_in c f
 list_of-le c cpu pool f low size =
-    get_or-le-sum_by (λ (ys : List ℕ). times f ys) c.cached (3 * cpu + pool_index pool) [] (list_in c.layout.cpus cpu (length c.cached) pool low size)
+    get_or-le-sum_by (λ (ys : List ℕ). times f ys) c.cached (3 * cpu + pool_index pool) []
+    (list_in c.layout.cpus cpu (length c.cached) pool low size)
 
 -- the list that was set
-pub list_of-same : (c : CpusValue) (cpu : ℕ) (pool : Pool) (xs : List ℕ) → cpu < c.layout.cpus → HasLists c → list_of (with_list_of c cpu pool xs) cpu pool ≡ xs
+pub list_of-same : (c : CpusValue) (cpu : ℕ) (pool : Pool) (xs : List ℕ) → cpu < c.layout.cpus → HasLists c
+    → list_of (with_list_of c cpu pool xs) cpu pool ≡ xs
 list_of-same c cpu pool xs low size =
-    get_or-set_same c.cached (3 * cpu + pool_index pool) xs [] (list_in c.layout.cpus cpu (length c.cached) pool low size)
+    get_or-set_same c.cached (3 * cpu + pool_index pool) xs []
+    (list_in c.layout.cpus cpu (length c.cached) pool low size)
 
 -- there are as many lists
-pub with_list_of-size : (c : CpusValue) (cpu : ℕ) (pool : Pool) (xs : List ℕ) → HasLists c → HasLists (with_list_of c cpu pool xs)
+pub with_list_of-size : (c : CpusValue) (cpu : ℕ) (pool : Pool) (xs : List ℕ) → HasLists c
+    → HasLists (with_list_of c cpu pool xs)
 with_list_of-size c cpu pool xs size = omega (arith, size, length-set c.cached (3 * cpu + pool_index pool) xs)
 
 -- a frame that stands nowhere is on no list
-pub unlisted : (links : LinkedLists) (f : ℕ) → sum_by (λ (xs : List ℕ). times f xs) links.lists ≡ 0 → IsUnlisted links f
+pub unlisted : (links : LinkedLists) (f : ℕ) → sum_by (λ (xs : List ℕ). times f xs) links.lists ≡ 0
+    → IsUnlisted links f
 unlisted links f none n on =
     let there : is_on f (get_or links.lists n []) ≡ true = contains_on f (get_or links.lists n []) on in
     elim (cases_lt n (length links.lists)) [
-      | inl below ↦ omega (arith, none, times-on f (get_or links.lists n []) there, get_or-le-sum_by (λ (xs : List ℕ). times f xs) links.lists n [] below)
-      | inr past ↦ both_ways (is_on f []) refl (subst (λ (xs : List ℕ). is_on f xs ≡ true) (get_or_past links.lists n [] past) there)
+      | inl below ↦
+          omega (
+            arith,
+            none,
+            times-on f (get_or links.lists n []) there,
+            get_or-le-sum_by (λ (xs : List ℕ). times f xs) links.lists n [] below,
+          )
+      | inr past ↦
+          both_ways (is_on f []) refl
+          (subst (λ (xs : List ℕ). is_on f xs ≡ true) (get_or_past links.lists n [] past) there)
     ]

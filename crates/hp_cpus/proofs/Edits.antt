@@ -1,4 +1,5 @@
--- What each small change of a processor's list notes: its delta fits the lists that it left, and leads back to those that it found.
+-- What each small change of a processor's list notes: its delta fits the lists that it left, and
+-- leads back to those that it found.
 use Rattle.std.proofs.Common.{◌≡◌, ℕ, ◌+◌, ◌*◌, ◌<◌, List, [], ◌∷◌, ◌++◌, length, get_or, set, true, false, not, Option, None, refl, sym, ◌∙◌, ap, subst, arith, eq-eqb}
 use Rattle.std.specs.Option.{option_map_or}
 use Rattle.std.specs.List.{list_all}
@@ -33,11 +34,15 @@ pub record Seen (v : CpusValue) (l : LayoutParts) (links : LinkedLists) : Type 0
   pub kept : IsCpusOf l links
 
 -- one delta
-pub notes-one : (l : LayoutParts) (delta : Delta) (was now : TapeValue) (later earlier : FreeFrames) → now.room ≡ was.room → now.deltas ≡ was.deltas ++ delta ∷ []
-    → IsOfFree delta → IsDeltaOf l delta → FitsFree delta later → free_undo delta later ≡ earlier → NotesFree l 1 was now later earlier
+pub notes-one : (l : LayoutParts) (delta : Delta) (was now : TapeValue) (later earlier : FreeFrames)
+    → now.room ≡ was.room → now.deltas ≡ was.deltas ++ delta ∷ []
+    → IsOfFree delta → IsDeltaOf l delta → FitsFree delta later → free_undo delta later ≡ earlier
+    → NotesFree l 1 was now later earlier
 notes-one l delta was now later earlier room noted own numbers fits back = record {
   deltas = delta ∷ [];
-  tape = ap (λ (n : ℕ). record { room = n; deltas = now.deltas }) room ∙ ap (λ (ds : List Delta). record { room = was.room; deltas = ds }) noted;
+  tape =
+      ap (λ (n : ℕ). record { room = n; deltas = now.deltas }) room
+      ∙ ap (λ (ds : List Delta). record { room = was.room; deltas = ds }) noted;
   few = omega arith;
   own = (own, tt);
   numbers = (numbers, tt);
@@ -45,18 +50,25 @@ notes-one l delta was now later earlier room noted own numbers fits back = recor
 }
 
 -- the number is in the table
-number_in : (l : LayoutParts) (links : LinkedLists) (cpu : ℕ) (pool : Pool) → IsCpusOf l links → cpu < l.cpus → number cpu pool < length links.lists
+number_in : (l : LayoutParts) (links : LinkedLists) (cpu : ℕ) (pool : Pool) → IsCpusOf l links → cpu < l.cpus
+    → number cpu pool < length links.lists
 number_in l links cpu pool kept low = list_in l.cpus cpu (length links.lists) pool low kept.list_count
 
 -- ---- a frame leaves its list
 
 -- it is on a list
-pub seen-listed : (v : CpusValue) (l : LayoutParts) (links : LinkedLists) (cpu : ℕ) (pool : Pool) (f : ℕ) → Seen v l links → is_on f (list_of v cpu pool) ≡ true → IsListed links f
-seen-listed v l links cpu pool f s on =
-    (number cpu pool, on_contains f (get_or links.lists (number cpu pool) []) (subst (λ (w : CpusValue). is_on f (list_of w cpu pool) ≡ true) (sym s.is) on))
+pub seen-listed : (v : CpusValue) (l : LayoutParts) (links : LinkedLists) (cpu : ℕ) (pool : Pool) (f : ℕ)
+    → Seen v l links → is_on f (list_of v cpu pool) ≡ true → IsListed links f
+seen-listed v l links cpu pool f s on = (
+  number cpu pool,
+  on_contains f (get_or links.lists (number cpu pool) [])
+      (subst (λ (w : CpusValue). is_on f (list_of w cpu pool) ≡ true) (sym s.is) on),
+)
 
 -- the lists without it
-pub unlink-cached : (l : LayoutParts) (links new : LinkedLists) (cpu : ℕ) (pool : Pool) (f : ℕ) (after : Option ℕ) → IsCpusOf l links → cpu < l.cpus
+pub unlink-cached : (l : LayoutParts) (links new : LinkedLists) (cpu : ℕ) (pool : Pool) (f : ℕ)
+    (after : Option ℕ)
+    → IsCpusOf l links → cpu < l.cpus
     → is_on f (list_of (cpus_of l links) cpu pool) ≡ true → IsUnlinked links new f after
     → cpus_of l new ≡ with_list_of (cpus_of l links) cpu pool (without f (list_of (cpus_of l links) cpu pool))
 unlink-cached l links new cpu pool f after kept low on u =
@@ -64,37 +76,54 @@ unlink-cached l links new cpu pool f after kept low on u =
     let xs : List ℕ = get_or links.lists n [] in
     let is : new ≡ with_list links n (without_first f xs) = u.one_list n (on_contains f xs on) in
     let here : get_or new.lists n [] ≡ without_first f xs =
-    ap (λ (k : LinkedLists). get_or k.lists n []) is ∙ get_or-set_same links.lists n (without_first f xs) [] (number_in l links cpu pool kept low) in
-    let off : is_on f (without_first f xs) ≡ false = subst (λ (ys : List ℕ). is_on f ys ≡ false) here (off_list new f n u.free) in
-    ap (λ (k : LinkedLists). cpus_of l k) is ∙ ap (λ (ys : List ℕ). cpus_of l (with_list links n ys)) (without-same f xs off)
+    ap (λ (k : LinkedLists). get_or k.lists n []) is
+    ∙ get_or-set_same links.lists n (without_first f xs) [] (number_in l links cpu pool kept low) in
+    let off : is_on f (without_first f xs) ≡ false =
+    subst (λ (ys : List ℕ). is_on f ys ≡ false) here (off_list new f n u.free) in
+    ap (λ (k : LinkedLists). cpus_of l k) is
+    ∙ ap (λ (ys : List ℕ). cpus_of l (with_list links n ys)) (without-same f xs off)
 
 -- and its delta
-pub unlink-notes : (l : LayoutParts) (links new : LinkedLists) (cpu : ℕ) (pool : Pool) (f : ℕ) (after : Option ℕ) (was now : TapeValue) (delta : Delta) → cpu < l.cpus → f < frame_count l
+pub unlink-notes : (l : LayoutParts) (links new : LinkedLists) (cpu : ℕ) (pool : Pool) (f : ℕ)
+    (after : Option ℕ) (was now : TapeValue) (delta : Delta)
+    → cpu < l.cpus → f < frame_count l
     → is_on f (list_of (cpus_of l links) cpu pool) ≡ true → IsUnlinked links new f after
     → now.room ≡ was.room → now.deltas ≡ was.deltas ++ delta ∷ [] → delta ≡ Unlink (CpuList cpu pool) f after
-    → (areas : FreeAreas) → NotesFree l 1 was now (frames_of areas (cpus_of l new)) (frames_of areas (cpus_of l links))
+    → (areas : FreeAreas)
+    → NotesFree l 1 was now (frames_of areas (cpus_of l new)) (frames_of areas (cpus_of l links))
 unlink-notes l links new cpu pool f after was now delta low frame on u room noted is areas =
     let n : ℕ = number cpu pool in
     let there = on_contains f (get_or links.lists n []) on in
     let xs : List ℕ = get_or new.lists n [] in
-    let off : list_all (λ other. not (is_on f other)) new.lists ≡ true = off_all f new.lists (λ k. off_list new f k u.free) in
-    let behind : option_map_or (λ first. is_on first xs) after true ≡ true = after-on after xs (λ b e. contains_on b xs (u.before_on n there b e)) in
-    notes-one l (Unlink (CpuList cpu pool) f after) was now (frames_of areas (cpus_of l new)) (frames_of areas (cpus_of l links)) room (noted ∙ ap (λ (d : Delta). was.deltas ++ d ∷ []) is)
-    tt (low, frame)
-    (tt, both (list_all (λ other. not (is_on f other)) new.lists) (option_map_or (λ first. is_on first xs) after true) off behind)
-    (ap (λ (ys : List ℕ). frames_of areas (cpus_of l (with_list new n ys))) (put_behind-same after f xs) ∙ ap (λ (k : LinkedLists). frames_of areas (cpus_of l k)) (u.undone n there))
+    let off : list_all (λ other. not (is_on f other)) new.lists ≡ true =
+    off_all f new.lists (λ k. off_list new f k u.free) in
+    let behind : option_map_or (λ first. is_on first xs) after true ≡ true =
+    after-on after xs (λ b e. contains_on b xs (u.before_on n there b e)) in
+    notes-one l (Unlink (CpuList cpu pool) f after) was now (frames_of areas (cpus_of l new))
+    (frames_of areas (cpus_of l links)) room (noted ∙ ap (λ (d : Delta). was.deltas ++ d ∷ []) is)
+    tt (low, frame) (
+      tt,
+      both (list_all (λ other. not (is_on f other)) new.lists)
+          (option_map_or (λ first. is_on first xs) after true) off behind,
+    )
+    (ap (λ (ys : List ℕ). frames_of areas (cpus_of l (with_list new n ys))) (put_behind-same after f xs)
+    ∙ ap (λ (k : LinkedLists). frames_of areas (cpus_of l k)) (u.undone n there))
 
 -- both of the value that contracts see
 pub record UnlinkSeen (v new : CpusValue) (cpu : ℕ) (pool : Pool) (f : ℕ) (was now : TapeValue) : Type 0 where
   pub cached : new ≡ with_list_of v cpu pool (without f (list_of v cpu pool))
   pub notes : (areas : FreeAreas) → NotesFree v.layout 1 was now (frames_of areas new) (frames_of areas v)
 
-pub seen-unlink : (v : CpusValue) (l : LayoutParts) (links new : LinkedLists) (cpu : ℕ) (pool : Pool) (f : ℕ) (after : Option ℕ) (was now : TapeValue) (delta : Delta) → Seen v l links
-    → cpu < v.layout.cpus → f < frame_count v.layout → is_on f (list_of v cpu pool) ≡ true → IsUnlinked links new f after
+pub seen-unlink : (v : CpusValue) (l : LayoutParts) (links new : LinkedLists) (cpu : ℕ) (pool : Pool) (f : ℕ)
+    (after : Option ℕ) (was now : TapeValue) (delta : Delta)
+    → Seen v l links
+    → cpu < v.layout.cpus → f < frame_count v.layout → is_on f (list_of v cpu pool) ≡ true
+    → IsUnlinked links new f after
     → now.room ≡ was.room → now.deltas ≡ was.deltas ++ delta ∷ [] → delta ≡ Unlink (CpuList cpu pool) f after
     → UnlinkSeen v (cpus_of l new) cpu pool f was now
 seen-unlink v l links new cpu pool f after was now delta s low frame on u room noted is =
-    subst (λ (w : CpusValue). cpu < w.layout.cpus → f < frame_count w.layout → is_on f (list_of w cpu pool) ≡ true → UnlinkSeen w (cpus_of l new) cpu pool f was now) s.is
+    subst (λ (w : CpusValue). cpu < w.layout.cpus → f < frame_count w.layout
+    → is_on f (list_of w cpu pool) ≡ true → UnlinkSeen w (cpus_of l new) cpu pool f was now) s.is
     (λ low frame on. record {
       cached = unlink-cached l links new cpu pool f after s.kept low on u;
       notes = unlink-notes l links new cpu pool f after was now delta low frame on u room noted is;
@@ -103,15 +132,21 @@ seen-unlink v l links new cpu pool f after was now delta s low frame on u room n
 -- ---- a frame comes to a list
 
 -- it comes to a list of the table, and what it left is undone when it leaves
-link-notes : (l : LayoutParts) (links : LinkedLists) (cpu : ℕ) (pool : Pool) (f : ℕ) (frames : List ℕ) (after : Option ℕ) (was now : TapeValue) (delta : Delta)
-    → IsCpusOf l links → cpu < l.cpus → f < frame_count l → is_behind after f frames ≡ true → without f frames ≡ list_of (cpus_of l links) cpu pool
+link-notes : (l : LayoutParts) (links : LinkedLists) (cpu : ℕ) (pool : Pool) (f : ℕ) (frames : List ℕ)
+    (after : Option ℕ) (was now : TapeValue) (delta : Delta)
+    → IsCpusOf l links → cpu < l.cpus → f < frame_count l → is_behind after f frames ≡ true
+    → without f frames ≡ list_of (cpus_of l links) cpu pool
     → now.room ≡ was.room → now.deltas ≡ was.deltas ++ delta ∷ [] → delta ≡ Link (CpuList cpu pool) f after
-    → (areas : FreeAreas) → NotesFree l 1 was now (frames_of areas (with_list_of (cpus_of l links) cpu pool frames)) (frames_of areas (cpus_of l links))
+    → (areas : FreeAreas)
+    → NotesFree l 1 was now (frames_of areas (with_list_of (cpus_of l links) cpu pool frames))
+    (frames_of areas (cpus_of l links))
 link-notes l links cpu pool f frames after was now delta kept low frame behind leaves room noted is areas =
     let n : ℕ = number cpu pool in
     let xs : List ℕ = get_or links.lists n [] in
-    let here : get_or (set links.lists n frames) n [] ≡ frames = get_or-set_same links.lists n frames [] (number_in l links cpu pool kept low) in
-    notes-one l (Link (CpuList cpu pool) f after) was now (frames_of areas (with_list_of (cpus_of l links) cpu pool frames)) (frames_of areas (cpus_of l links)) room
+    let here : get_or (set links.lists n frames) n [] ≡ frames =
+    get_or-set_same links.lists n frames [] (number_in l links cpu pool kept low) in
+    notes-one l (Link (CpuList cpu pool) f after) was now (frames_of areas
+    (with_list_of (cpus_of l links) cpu pool frames)) (frames_of areas (cpus_of l links)) room
     (noted ∙ ap (λ (d : Delta). was.deltas ++ d ∷ []) is)
     tt (low, frame)
     (tt, ap (λ (ys : List ℕ). is_behind after f ys) here ∙ behind)
@@ -121,45 +156,64 @@ link-notes l links cpu pool f frames after was now delta kept low frame behind l
     ∙ set-set links.lists n frames xs ∙ set-get_or links.lists n []))
 
 -- the value that contracts see, and what was noted
-pub record LinkSeen (v new : CpusValue) (cpu : ℕ) (pool : Pool) (frames : List ℕ) (was now : TapeValue) : Type 0 where
+pub record LinkSeen (v new : CpusValue) (cpu : ℕ) (pool : Pool) (frames : List ℕ)
+    (was now : TapeValue) : Type 0 where
   pub cached : new ≡ with_list_of v cpu pool frames
   pub notes : (areas : FreeAreas) → NotesFree v.layout 1 was now (frames_of areas new) (frames_of areas v)
 
 -- of one value
-linked : (v new : CpusValue) (cpu : ℕ) (pool : Pool) (frames : List ℕ) (was now : TapeValue) → new ≡ with_list_of v cpu pool frames
-    → ((areas : FreeAreas) → NotesFree v.layout 1 was now (frames_of areas (with_list_of v cpu pool frames)) (frames_of areas v)) → LinkSeen v new cpu pool frames was now
+linked : (v new : CpusValue) (cpu : ℕ) (pool : Pool) (frames : List ℕ) (was now : TapeValue)
+    → new ≡ with_list_of v cpu pool frames
+    → ((areas : FreeAreas)
+    → NotesFree v.layout 1 was now (frames_of areas (with_list_of v cpu pool frames)) (frames_of areas v))
+    → LinkSeen v new cpu pool frames was now
 linked v new cpu pool frames was now is notes = record {
   cached = is;
-  notes = λ areas. subst (λ (w : CpusValue). NotesFree v.layout 1 was now (frames_of areas w) (frames_of areas v)) (sym is) (notes areas);
+  notes =
+      λ areas. subst (λ (w : CpusValue). NotesFree v.layout 1 was now (frames_of areas w) (frames_of areas v))
+      (sym is) (notes areas);
 }
 
 -- in front
-pub seen-front : (v : CpusValue) (l : LayoutParts) (links new : LinkedLists) (cpu : ℕ) (pool : Pool) (f n : ℕ) (was now : TapeValue) (delta : Delta) → Seen v l links
-    → cpu < v.layout.cpus → f < frame_count v.layout → is_on f (list_of v cpu pool) ≡ false → n ≡ 3 * cpu + pool_index pool → new ≡ with_list links n (f ∷ list_at links n)
+pub seen-front : (v : CpusValue) (l : LayoutParts) (links new : LinkedLists) (cpu : ℕ) (pool : Pool) (f n : ℕ)
+    (was now : TapeValue) (delta : Delta)
+    → Seen v l links
+    → cpu < v.layout.cpus → f < frame_count v.layout → is_on f (list_of v cpu pool) ≡ false
+    → n ≡ 3 * cpu + pool_index pool → new ≡ with_list links n (f ∷ list_at links n)
     → now.room ≡ was.room → now.deltas ≡ was.deltas ++ delta ∷ [] → delta ≡ Link (CpuList cpu pool) f None
     → LinkSeen v (cpus_of l new) cpu pool (f ∷ list_of v cpu pool) was now
 seen-front v l links new cpu pool f n was now delta s low frame off place pushed room noted is =
-    subst (λ (w : CpusValue). cpu < w.layout.cpus → f < frame_count w.layout → is_on f (list_of w cpu pool) ≡ false → LinkSeen w (cpus_of l new) cpu pool (f ∷ list_of w cpu pool) was now) s.is
+    subst (λ (w : CpusValue). cpu < w.layout.cpus → f < frame_count w.layout → is_on f (list_of w cpu pool)
+    ≡ false → LinkSeen w (cpus_of l new) cpu pool (f ∷ list_of w cpu pool) was now) s.is
     (λ low frame off.
     let xs : List ℕ = list_of (cpus_of l links) cpu pool in
     linked (cpus_of l links) (cpus_of l new) cpu pool (f ∷ xs) was now
-    (ap (λ (k : LinkedLists). cpus_of l k) pushed ∙ ap (λ (m : ℕ). cpus_of l (with_list links m (f ∷ list_at links m))) place)
-    (link-notes l links cpu pool f (f ∷ xs) None was now delta s.kept low frame (eq-eqb f f refl) (without-front f xs off) room noted is)) low frame off
+    (ap (λ (k : LinkedLists). cpus_of l k) pushed
+    ∙ ap (λ (m : ℕ). cpus_of l (with_list links m (f ∷ list_at links m))) place)
+    (link-notes l links cpu pool f (f ∷ xs) None was now delta s.kept low frame (eq-eqb f f refl)
+    (without-front f xs off) room noted is)) low frame off
 
 -- at the back
-pub seen-back : (v : CpusValue) (l : LayoutParts) (links new : LinkedLists) (cpu : ℕ) (pool : Pool) (f n m : ℕ) (after : Option ℕ) (was now : TapeValue) (delta : Delta) → Seen v l links
-    → cpu < v.layout.cpus → f < frame_count v.layout → is_on f (list_of v cpu pool) ≡ false → AreDistinct (list_of v cpu pool)
+pub seen-back : (v : CpusValue) (l : LayoutParts) (links new : LinkedLists) (cpu : ℕ) (pool : Pool)
+    (f n m : ℕ) (after : Option ℕ) (was now : TapeValue) (delta : Delta)
+    → Seen v l links
+    → cpu < v.layout.cpus → f < frame_count v.layout → is_on f (list_of v cpu pool) ≡ false
+    → AreDistinct (list_of v cpu pool)
     → m ≡ 3 * cpu + pool_index pool → after ≡ last (list_at links m)
     → n ≡ 3 * cpu + pool_index pool → new ≡ with_list links n (list_at links n ++ f ∷ [])
     → now.room ≡ was.room → now.deltas ≡ was.deltas ++ delta ∷ [] → delta ≡ Link (CpuList cpu pool) f after
     → LinkSeen v (cpus_of l new) cpu pool (list_of v cpu pool ++ f ∷ []) was now
-seen-back v l links new cpu pool f n m after was now delta s low frame off apart found after_is place pushed room noted is =
-    subst (λ (w : CpusValue). cpu < w.layout.cpus → f < frame_count w.layout → is_on f (list_of w cpu pool) ≡ false → AreDistinct (list_of w cpu pool)
+seen-back v l links new cpu pool f n m after was now delta s low frame off apart found after_is place pushed
+    room noted is =
+    subst (λ (w : CpusValue). cpu < w.layout.cpus → f < frame_count w.layout
+    → is_on f (list_of w cpu pool) ≡ false → AreDistinct (list_of w cpu pool)
     → LinkSeen w (cpus_of l new) cpu pool (list_of w cpu pool ++ f ∷ []) was now) s.is
     (λ low frame off apart.
     let xs : List ℕ = list_of (cpus_of l links) cpu pool in
     linked (cpus_of l links) (cpus_of l new) cpu pool (xs ++ f ∷ []) was now
-    (ap (λ (k : LinkedLists). cpus_of l k) pushed ∙ ap (λ (i : ℕ). cpus_of l (with_list links i (list_at links i ++ f ∷ []))) place)
+    (ap (λ (k : LinkedLists). cpus_of l k) pushed
+    ∙ ap (λ (i : ℕ). cpus_of l (with_list links i (list_at links i ++ f ∷ []))) place)
     (link-notes l links cpu pool f (xs ++ f ∷ []) after was now delta s.kept low frame
-    (ap (λ (o : Option ℕ). is_behind o f (xs ++ f ∷ [])) (after_is ∙ ap (λ (i : ℕ). last (list_at links i)) found) ∙ behind-last f xs apart)
+    (ap (λ (o : Option ℕ). is_behind o f (xs ++ f ∷ []))
+    (after_is ∙ ap (λ (i : ℕ). last (list_at links i)) found) ∙ behind-last f xs apart)
     (without-back f xs off) room noted is)) low frame off apart

@@ -30,7 +30,11 @@ first_is : (f : ℕ) (xs : List ℕ) → Some f ≡ first xs → IsFirst f xs
 first_is f [] e = cc
 first_is f (x ∷ xs) e =
     let same : x ≡ f = cc in
-    record { rest = xs; is = ap (λ (y : ℕ). y ∷ xs) same; on = or_left (x == f) (is_on f xs) (eq-eqb x f same) }
+    record {
+      rest = xs;
+      is = ap (λ (y : ℕ). y ∷ xs) same;
+      on = or_left (x == f) (is_on f xs) (eq-eqb x f same);
+    }
 
 -- by the last frame
 last_from-is : (f x : ℕ) (xs : List ℕ) → Some f ≡ last_from (Some x) xs → IsLast f (x ∷ xs)
@@ -64,50 +68,79 @@ pub seen-lists : (v : CpusValue) (l : LayoutParts) (links : LinkedLists) → See
 seen-lists v l links s = subst (λ (w : CpusValue). HasLists w) s.is s.kept.list_count
 
 -- the first frame that the table shows, and the last one
-pub seen-first : (v : CpusValue) (l : LayoutParts) (links : LinkedLists) (cpu : ℕ) (pool : Pool) (n f : ℕ) → Seen v l links → n ≡ 3 * cpu + pool_index pool
+pub seen-first : (v : CpusValue) (l : LayoutParts) (links : LinkedLists) (cpu : ℕ) (pool : Pool) (n f : ℕ)
+    → Seen v l links → n ≡ 3 * cpu + pool_index pool
     → Some f ≡ first (list_at links n) → IsFirst f (list_of v cpu pool)
 seen-first v l links cpu pool n f s place e =
-    subst (λ (w : CpusValue). IsFirst f (list_of w cpu pool)) s.is (subst (λ (m : ℕ). IsFirst f (get_or links.lists m [])) place (first_is f (list_at links n) e))
+    subst (λ (w : CpusValue). IsFirst f (list_of w cpu pool)) s.is
+    (subst (λ (m : ℕ). IsFirst f (get_or links.lists m [])) place (first_is f (list_at links n) e))
 
-pub seen-last : (v : CpusValue) (l : LayoutParts) (links : LinkedLists) (cpu : ℕ) (pool : Pool) (n f : ℕ) → Seen v l links → n ≡ 3 * cpu + pool_index pool
+pub seen-last : (v : CpusValue) (l : LayoutParts) (links : LinkedLists) (cpu : ℕ) (pool : Pool) (n f : ℕ)
+    → Seen v l links → n ≡ 3 * cpu + pool_index pool
     → Some f ≡ last (list_at links n) → IsLast f (list_of v cpu pool)
 seen-last v l links cpu pool n f s place e =
-    subst (λ (w : CpusValue). IsLast f (list_of w cpu pool)) s.is (subst (λ (m : ℕ). IsLast f (get_or links.lists m [])) place (last_is f (list_at links n) e))
+    subst (λ (w : CpusValue). IsLast f (list_of w cpu pool)) s.is
+    (subst (λ (m : ℕ). IsLast f (get_or links.lists m [])) place (last_is f (list_at links n) e))
 
-pub seen-no_last : (v : CpusValue) (l : LayoutParts) (links : LinkedLists) (cpu : ℕ) (pool : Pool) (n : ℕ) → Seen v l links → n ≡ 3 * cpu + pool_index pool
+pub seen-no_last : (v : CpusValue) (l : LayoutParts) (links : LinkedLists) (cpu : ℕ) (pool : Pool) (n : ℕ)
+    → Seen v l links → n ≡ 3 * cpu + pool_index pool
     → None ≡ last (list_at links n) → list_of v cpu pool ≡ []
 seen-no_last v l links cpu pool n s place e =
-    subst (λ (w : CpusValue). list_of w cpu pool ≡ []) s.is (subst (λ (m : ℕ). get_or links.lists m [] ≡ []) place (last-none (list_at links n) e))
+    subst (λ (w : CpusValue). list_of w cpu pool ≡ []) s.is
+    (subst (λ (m : ℕ). get_or links.lists m [] ≡ []) place (last-none (list_at links n) e))
 
 -- ---- the end left
 
 -- the first frame stands nowhere else on the list
 off_rest : (f : ℕ) (xs rest : List ℕ) → times f xs ≤ 1 → xs ≡ f ∷ rest → is_on f rest ≡ false
-off_rest f xs rest few is = false_from_ne_true (is_on f rest) (λ on. omega (arith, ap (λ (ys : List ℕ). times f ys) is ∙ times-cons f f rest, times-on f rest on, one-self f f refl))
+off_rest f xs rest few is =
+    false_from_ne_true (is_on f rest) (λ on. omega (
+      arith,
+      ap (λ (ys : List ℕ). times f ys) is
+          ∙ times-cons f f rest,
+      times-on f rest on,
+      one-self f f refl,
+    ))
 
 -- nor does the last one
 off_back : (f : ℕ) (xs rest : List ℕ) → times f xs ≤ 1 → xs ≡ rest ++ f ∷ [] → is_on f rest ≡ false
-off_back f xs rest few is = false_from_ne_true (is_on f rest) (λ on. omega (arith, ap (λ (ys : List ℕ). times f ys) is ∙ times-push f f rest, times-on f rest on, one-self f f refl))
+off_back f xs rest few is =
+    false_from_ne_true (is_on f rest) (λ on. omega (
+      arith,
+      ap (λ (ys : List ℕ). times f ys) is
+          ∙ times-push f f rest,
+      times-on f rest on,
+      one-self f f refl,
+    ))
 
 -- the list that a frame left
-left : (v new : CpusValue) (cpu : ℕ) (pool : Pool) (f : ℕ) → HasLists v → cpu < v.layout.cpus → new ≡ with_list_of v cpu pool (without f (list_of v cpu pool))
+left : (v new : CpusValue) (cpu : ℕ) (pool : Pool) (f : ℕ) → HasLists v → cpu < v.layout.cpus
+    → new ≡ with_list_of v cpu pool (without f (list_of v cpu pool))
     → list_of new cpu pool ≡ without f (list_of v cpu pool)
-left v new cpu pool f size low is = ap (λ (w : CpusValue). list_of w cpu pool) is ∙ list_of-same v cpu pool (without f (list_of v cpu pool)) low size
+left v new cpu pool f size low is =
+    ap (λ (w : CpusValue). list_of w cpu pool) is
+    ∙ list_of-same v cpu pool (without f (list_of v cpu pool)) low size
 
 -- the others stand after the first one
-pub first-left : (v new : CpusValue) (cpu : ℕ) (pool : Pool) (f : ℕ) → HasLists v → cpu < v.layout.cpus → ((o : ℕ) → places_in v o ≤ 1) → IsFirst f (list_of v cpu pool)
-    → new ≡ with_list_of v cpu pool (without f (list_of v cpu pool)) → list_of v cpu pool ≡ f ∷ list_of new cpu pool
+pub first-left : (v new : CpusValue) (cpu : ℕ) (pool : Pool) (f : ℕ) → HasLists v → cpu < v.layout.cpus
+    → ((o : ℕ) → places_in v o ≤ 1) → IsFirst f (list_of v cpu pool)
+    → new ≡ with_list_of v cpu pool (without f (list_of v cpu pool))
+    → list_of v cpu pool ≡ f ∷ list_of new cpu pool
 first-left v new cpu pool f size low once end is =
     let few : times f (list_of v cpu pool) ≤ 1 = omega (arith, once f, list_of-le v cpu pool f low size) in
     let rest : list_of new cpu pool ≡ end.rest =
-    left v new cpu pool f size low is ∙ ap (λ (xs : List ℕ). without f xs) end.is ∙ without-front f end.rest (off_rest f (list_of v cpu pool) end.rest few end.is) in
+    left v new cpu pool f size low is ∙ ap (λ (xs : List ℕ). without f xs) end.is
+    ∙ without-front f end.rest (off_rest f (list_of v cpu pool) end.rest few end.is) in
     end.is ∙ ap (λ (xs : List ℕ). f ∷ xs) (sym rest)
 
 -- and before the last one
-pub last-left : (v new : CpusValue) (cpu : ℕ) (pool : Pool) (f : ℕ) → HasLists v → cpu < v.layout.cpus → ((o : ℕ) → places_in v o ≤ 1) → IsLast f (list_of v cpu pool)
-    → new ≡ with_list_of v cpu pool (without f (list_of v cpu pool)) → list_of v cpu pool ≡ list_of new cpu pool ++ f ∷ []
+pub last-left : (v new : CpusValue) (cpu : ℕ) (pool : Pool) (f : ℕ) → HasLists v → cpu < v.layout.cpus
+    → ((o : ℕ) → places_in v o ≤ 1) → IsLast f (list_of v cpu pool)
+    → new ≡ with_list_of v cpu pool (without f (list_of v cpu pool))
+    → list_of v cpu pool ≡ list_of new cpu pool ++ f ∷ []
 last-left v new cpu pool f size low once end is =
     let few : times f (list_of v cpu pool) ≤ 1 = omega (arith, once f, list_of-le v cpu pool f low size) in
     let rest : list_of new cpu pool ≡ end.rest =
-    left v new cpu pool f size low is ∙ ap (λ (xs : List ℕ). without f xs) end.is ∙ without-back f end.rest (off_back f (list_of v cpu pool) end.rest few end.is) in
+    left v new cpu pool f size low is ∙ ap (λ (xs : List ℕ). without f xs) end.is
+    ∙ without-back f end.rest (off_back f (list_of v cpu pool) end.rest few end.is) in
     end.is ∙ ap (λ (xs : List ℕ). xs ++ f ∷ []) (sym rest)

@@ -29,31 +29,40 @@ pub record IsTurn (l : LayoutParts) (c d : CpusValue) (b e : BuddyValue) (was no
 -- ---- a frame is taken
 
 -- what a take of one frame says
-pub record IsTaken (l : LayoutParts) (class : Class) (b e : BuddyValue) (f : ℕ) (was now : TapeValue) : Type 0 where
+pub record IsTaken (l : LayoutParts) (class : Class) (b e : BuddyValue) (f : ℕ)
+    (was now : TapeValue) : Type 0 where
   pub taken : take_block l b.areas class 0 ≡ Some (record { areas = e.areas; frame = f })
   pub layout : e.layout ≡ l
   pub notes : NotesAreas l (take_bound l) was now e.areas b.areas
 
 -- of the processors' layout
-pub taken_as : (l : LayoutParts) (class known : Class) (b e : BuddyValue) (f : ℕ) (was now : TapeValue) → b.layout ≡ l → class ≡ known
-    → take_block b.layout b.areas class 0 ≡ Some (record { areas = e.areas; frame = f }) → e.layout ≡ b.layout → NotesAreas b.layout (take_bound b.layout) was now e.areas b.areas
+pub taken_as : (l : LayoutParts) (class known : Class) (b e : BuddyValue) (f : ℕ) (was now : TapeValue)
+    → b.layout ≡ l → class ≡ known
+    → take_block b.layout b.areas class 0 ≡ Some (record { areas = e.areas; frame = f }) → e.layout ≡ b.layout
+    → NotesAreas b.layout (take_bound b.layout) was now e.areas b.areas
     → IsTaken l known b e f was now
 taken_as l class known b e f was now same class_is taken layout notes =
     subst (λ (k : Class). IsTaken l k b e f was now) class_is
-    (subst (λ (k : LayoutParts). IsTaken k class b e f was now) same (record { taken = taken; layout = layout; notes = notes }))
+    (subst (λ (k : LayoutParts). IsTaken k class b e f was now) same
+    (record { taken = taken; layout = layout; notes = notes }))
 
 -- a frame that was taken came to the back of a list
-pub taken-turn : (l : LayoutParts) (c d : CpusValue) (b e : BuddyValue) (cpu : ℕ) (pool : Pool) (f : ℕ) (was mid now : TapeValue) → c.layout ≡ l → cpu < l.cpus
+pub taken-turn : (l : LayoutParts) (c d : CpusValue) (b e : BuddyValue) (cpu : ℕ) (pool : Pool) (f : ℕ)
+    (was mid now : TapeValue)
+    → c.layout ≡ l → cpu < l.cpus
     → IsTaken l (class_of_pool pool) b e f was mid → IsOut c c b e f
-    → d ≡ with_list_of c cpu pool (list_of c cpu pool ++ f ∷ []) → NotesFree c.layout 1 mid now (frames_of e.areas d) (frames_of e.areas c) → IsTurn l c d b e was now
+    → d ≡ with_list_of c cpu pool (list_of c cpu pool ++ f ∷ [])
+    → NotesFree c.layout 1 mid now (frames_of e.areas d) (frames_of e.areas c) → IsTurn l c d b e was now
 taken-turn l c d b e cpu pool f was mid now same low taken out is notes =
     let put : IsIn c d e e f =
-    list-in c d e cpu pool f (list_of c cpu pool ++ f ∷ []) out.together out.frame (subst (λ (k : LayoutParts). cpu < k.cpus) (sym same) low) is (λ o. times-push o f (list_of c cpu pool)) in
+    list-in c d e cpu pool f (list_of c cpu pool ++ f ∷ []) out.together out.frame (subst
+    (λ (k : LayoutParts). cpu < k.cpus) (sym same) low) is (λ o. times-push o f (list_of c cpu pool)) in
     record {
       layout = ap (λ (w : CpusValue). w.layout) is ∙ same;
       together = put.together;
       notes =
-          notes-then l c.layout (take_bound l) 1 (l.order + 2) was mid now (frames_of b.areas c) (frames_of e.areas c) (frames_of e.areas d) same (omega arith)
+          notes-then l c.layout (take_bound l) 1 (l.order + 2) was mid now (frames_of b.areas c)
+          (frames_of e.areas c) (frames_of e.areas d) same (omega arith)
           (notes-beside l (take_bound l) was mid c.cached e.areas b.areas taken.notes) notes;
       places = λ o. omega (arith, put.places o, out.places o);
     }
@@ -61,46 +70,63 @@ taken-turn l c d b e cpu pool f was mid now same low taken out is notes =
 -- ---- a frame is given
 
 -- a frame left a list, which has the others, and was given
-pub given-turn : (l : LayoutParts) (c d : CpusValue) (b e : BuddyValue) (f : ℕ) (was mid now : TapeValue) → c.layout ≡ l → d.layout ≡ c.layout
-    → IsOut c d b b f → AreTogether d e → ((o : ℕ) → places_among e.areas d o ≡ places_among b.areas d o + one_at f o)
-    → NotesFree c.layout 1 was mid (frames_of b.areas d) (frames_of b.areas c) → NotesFree d.layout (give_bound d.layout) mid now (frames_of e.areas d) (frames_of b.areas d)
+pub given-turn : (l : LayoutParts) (c d : CpusValue) (b e : BuddyValue) (f : ℕ) (was mid now : TapeValue)
+    → c.layout ≡ l → d.layout ≡ c.layout
+    → IsOut c d b b f → AreTogether d e
+    → ((o : ℕ) → places_among e.areas d o ≡ places_among b.areas d o + one_at f o)
+    → NotesFree c.layout 1 was mid (frames_of b.areas d) (frames_of b.areas c)
+    → NotesFree d.layout (give_bound d.layout) mid now (frames_of e.areas d) (frames_of b.areas d)
     → IsTurn l c d b e was now
 given-turn l c d b e f was mid now same kept out together places first then = record {
   layout = kept ∙ same;
   together = together;
   notes =
-      notes-then l l 1 (give_bound l) (l.order + 2) was mid now (frames_of b.areas c) (frames_of b.areas d) (frames_of e.areas d) refl (omega arith)
-      (subst (λ (k : LayoutParts). NotesFree k 1 was mid (frames_of b.areas d) (frames_of b.areas c)) same first)
-      (subst (λ (k : LayoutParts). NotesFree k (give_bound k) mid now (frames_of e.areas d) (frames_of b.areas d)) (kept ∙ same) then);
+      notes-then l l 1 (give_bound l) (l.order + 2) was mid now (frames_of b.areas c) (frames_of b.areas d)
+      (frames_of e.areas d) refl (omega arith)
+      (subst (λ (k : LayoutParts). NotesFree k 1 was mid (frames_of b.areas d) (frames_of b.areas c)) same
+      first)
+      (subst (λ (k : LayoutParts).
+      NotesFree k (give_bound k) mid now (frames_of e.areas d) (frames_of b.areas d)) (kept ∙ same) then);
   places = λ o. omega (arith, places o, out.places o);
 }
 
 -- the lists and the areas then
-pub given_is : (l : LayoutParts) (c d : CpusValue) (b e : BuddyValue) (cpu : ℕ) (pool : Pool) (zone : Zone) (f : ℕ) → d.layout ≡ l → zone ≡ zone_of_pool pool
+pub given_is : (l : LayoutParts) (c d : CpusValue) (b e : BuddyValue) (cpu : ℕ) (pool : Pool) (zone : Zone)
+    (f : ℕ)
+    → d.layout ≡ l → zone ≡ zone_of_pool pool
     → d ≡ with_list_of c cpu pool (list_of d cpu pool) → e.areas ≡ give_block d.layout b.areas zone f 0
     → frames_of e.areas d ≡ given l (frames_of b.areas c) cpu pool f (list_of d cpu pool)
 given_is l c d b e cpu pool zone f same zone_is is gave =
     let areas : e.areas ≡ give_block l b.areas (zone_of_pool pool) f 0 =
-    gave ∙ ap (λ (k : LayoutParts). give_block k b.areas zone f 0) same ∙ ap (λ (z : Zone). give_block l b.areas z f 0) zone_is in
-    ap (λ (w : CpusValue). frames_of e.areas w) is ∙ ap (λ (a : FreeAreas). frames_of a (with_list_of c cpu pool (list_of d cpu pool))) areas
+    gave ∙ ap (λ (k : LayoutParts). give_block k b.areas zone f 0) same
+    ∙ ap (λ (z : Zone). give_block l b.areas z f 0) zone_is in
+    ap (λ (w : CpusValue). frames_of e.areas w) is
+    ∙ ap (λ (a : FreeAreas). frames_of a (with_list_of c cpu pool (list_of d cpu pool))) areas
 
 -- ---- many turns
 
 -- one turn more
-pub notes-turn : (l : LayoutParts) (done : ℕ) (was mid now : TapeValue) (c d e : CpusValue) (a b g : FreeAreas)
-    → NotesFree l (done * (l.order + 2)) was mid (frames_of b d) (frames_of a c) → NotesFree l (l.order + 2) mid now (frames_of g e) (frames_of b d)
+pub notes-turn : (l : LayoutParts) (done : ℕ) (was mid now : TapeValue) (c d e : CpusValue)
+    (a b g : FreeAreas)
+    → NotesFree l (done * (l.order + 2)) was mid (frames_of b d) (frames_of a c)
+    → NotesFree l (l.order + 2) mid now (frames_of g e) (frames_of b d)
     → NotesFree l ((done + 1) * (l.order + 2)) was now (frames_of g e) (frames_of a c)
 notes-turn l done was mid now c d e a b g before turn =
-    notes-then l l (done * (l.order + 2)) (l.order + 2) ((done + 1) * (l.order + 2)) was mid now (frames_of a c) (frames_of b d) (frames_of g e) refl (omega (arith, one_done done (l.order + 2))) before turn
+    notes-then l l (done * (l.order + 2)) (l.order + 2) ((done + 1) * (l.order + 2)) was mid now (frames_of a
+    c) (frames_of b d) (frames_of g e) refl (omega (arith, one_done done (l.order + 2))) before turn
 
 -- there is room for one turn more
-pub turn_room : (l : LayoutParts) (done all : ℕ) (was now : TapeValue) (c d : CpusValue) (a b : FreeAreas) → done < all → HasRoom was (all * (l.order + 2))
+pub turn_room : (l : LayoutParts) (done all : ℕ) (was now : TapeValue) (c d : CpusValue) (a b : FreeAreas)
+    → done < all → HasRoom was (all * (l.order + 2))
     → NotesFree l (done * (l.order + 2)) was now (frames_of b d) (frames_of a c) → HasRoom now (l.order + 2)
 turn_room l done all was now c d a b below room notes =
-    room_left l (done * (l.order + 2)) (l.order + 2) was now (frames_of a c) (frames_of b d) notes (omega (arith, room, room_for_one done all (l.order + 2) below))
+    room_left l (done * (l.order + 2)) (l.order + 2) was now (frames_of a c) (frames_of b d) notes
+    (omega (arith, room, room_for_one done all (l.order + 2) below))
 
 -- so many turns are no more than all
-pub few_turns : (l : LayoutParts) (done all : ℕ) (was now : TapeValue) (later earlier : FreeFrames) → done ≤ all → NotesFree l (done * (l.order + 2)) was now later earlier
+pub few_turns : (l : LayoutParts) (done all : ℕ) (was now : TapeValue) (later earlier : FreeFrames)
+    → done ≤ all → NotesFree l (done * (l.order + 2)) was now later earlier
     → NotesFree l (all * (l.order + 2)) was now later earlier
 few_turns l done all was now later earlier le notes =
-    notes-more IsOfFree FitsFree free_undo l (done * (l.order + 2)) (all * (l.order + 2)) was now later earlier (mul-le-mul_right {m = done} {n = all} (l.order + 2) le) notes
+    notes-more IsOfFree FitsFree free_undo l (done * (l.order + 2)) (all * (l.order + 2)) was now later
+    earlier (mul-le-mul_right {m = done} {n = all} (l.order + 2) le) notes

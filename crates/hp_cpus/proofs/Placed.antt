@@ -1,4 +1,5 @@
--- In a well placed state the free areas and the processors' lists are together, and frames in use may come back.
+-- In a well placed state the free areas and the processors' lists are together, and frames in use
+-- may come back.
 use Rattle.std.proofs.Common.{ℕ, refl, arith}
 use Rattle.hp_units.specs.LayoutParts.{LayoutParts, IsLayout}
 use Rattle.hp_units.specs.Memory.{Memory}
@@ -9,7 +10,8 @@ use Rattle.hp_cpus.specs.Cpus.{AreTogether, MayBePut}
 
 -- no frame is in two of their places
 pub placed-together : (l : LayoutParts) (s : Memory) → IsLayout l → IsWellPlaced l s
-    → AreTogether (record { layout = l; cached = s.free.cached }) (record { layout = l; areas = s.free.areas })
+    → AreTogether (record { layout = l; cached = s.free.cached })
+    (record { layout = l; areas = s.free.areas })
 placed-together l s layout h = record {
   layout = refl;
   lists = h.in_order.shape.cached;
@@ -20,5 +22,7 @@ placed-together l s layout h = record {
 
 -- a frame in use is in neither
 pub in_use-put : (l : LayoutParts) (s : Memory) (frame : ℕ) → IsInUse l s 0 frame
-    → MayBePut (record { layout = l; cached = s.free.cached }) (record { layout = l; areas = s.free.areas }) frame
-in_use-put l s frame block = record { within = omega (arith, block.within); nowhere = block.nowhere frame (omega arith) (omega arith) }
+    → MayBePut (record { layout = l; cached = s.free.cached }) (record { layout = l; areas = s.free.areas })
+    frame
+in_use-put l s frame block =
+    record { within = omega (arith, block.within); nowhere = block.nowhere frame (omega arith) (omega arith) }

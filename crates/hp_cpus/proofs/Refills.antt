@@ -12,10 +12,12 @@ use Rattle.hp_cpus.specs.Cpus.{CpusValue, list_of, with_list_of}
 use Rattle.hp_cpus.proofs.Counts.{HasLists, list_in, list_of-same}
 
 -- no frames more stand where nothing was taken
-with_refill-none : (fs : FreeFrames) (cpu : ℕ) (pool : Pool) → with_refill fs cpu pool (record { areas = fs.areas; frames = [] }) ≡ fs
+with_refill-none : (fs : FreeFrames) (cpu : ℕ) (pool : Pool)
+    → with_refill fs cpu pool (record { areas = fs.areas; frames = [] }) ≡ fs
 with_refill-none fs cpu pool =
     ap (λ (xs : List ℕ). with_cached_list fs cpu pool xs) (append-nil (cached_list fs cpu pool))
-    ∙ ap (λ (lists : List (List ℕ)). record fs { cached = lists }) (set-get_or fs.cached (3 * cpu + pool_index pool) [])
+    ∙ ap (λ (lists : List (List ℕ)). record fs { cached = lists })
+    (set-get_or fs.cached (3 * cpu + pool_index pool) [])
 
 -- no frame is asked for
 pub filled-zero : (l : LayoutParts) (fs : FreeFrames) (cpu : ℕ) (pool : Pool) → filled l fs cpu pool 0 ≡ fs
@@ -23,64 +25,82 @@ unfolding take_frames
 filled-zero l fs cpu pool = with_refill-none fs cpu pool
 
 -- there is none to take
-pub filled-none : (l : LayoutParts) (fs : FreeFrames) (cpu : ℕ) (pool : Pool) (count : ℕ) → take_block l fs.areas (class_of_pool pool) 0 ≡ None → filled l fs cpu pool count ≡ fs
+pub filled-none : (l : LayoutParts) (fs : FreeFrames) (cpu : ℕ) (pool : Pool) (count : ℕ)
+    → take_block l fs.areas (class_of_pool pool) 0 ≡ None → filled l fs cpu pool count ≡ fs
 unfolding take_frames
 filled-none l fs cpu pool zero none = with_refill-none fs cpu pool
 filled-none l fs cpu pool (suc count) none =
-    ap (λ (o : Option Taken). with_refill fs cpu pool (option_map_or (λ taken. with_first taken.frame (take_frames l pool count taken.areas)) o (record { areas = fs.areas; frames = [] }))) none
+    ap (λ (o : Option Taken). with_refill fs cpu pool (option_map_or
+    (λ taken. with_first taken.frame (take_frames l pool count taken.areas)) o
+    (record { areas = fs.areas; frames = [] }))) none
     ∙ with_refill-none fs cpu pool
 
 -- the frames after the first one
-with_refill-more : (fs : FreeFrames) (a : FreeAreas) (cpu : ℕ) (pool : Pool) (f cpus : ℕ) (refill : Refill) → cpu < cpus → length fs.cached ≡ 3 * cpus
-    → with_refill fs cpu pool (with_first f refill) ≡ with_refill (with_cached_list (record fs { areas = a }) cpu pool (cached_list fs cpu pool ++ f ∷ [])) cpu pool refill
+with_refill-more : (fs : FreeFrames) (a : FreeAreas) (cpu : ℕ) (pool : Pool) (f cpus : ℕ) (refill : Refill)
+    → cpu < cpus → length fs.cached ≡ 3 * cpus
+    → with_refill fs cpu pool (with_first f refill) ≡ with_refill (with_cached_list (record fs { areas = a })
+    cpu pool (cached_list fs cpu pool ++ f ∷ [])) cpu pool refill
 with_refill-more fs a cpu pool f cpus refill low size =
     let n : ℕ = 3 * cpu + pool_index pool in
     let xs : List ℕ = get_or fs.cached n [] in
-    let here : get_or (set fs.cached n (xs ++ f ∷ [])) n [] ≡ xs ++ f ∷ [] = get_or-set_same fs.cached n (xs ++ f ∷ []) [] (list_in cpus cpu (length fs.cached) pool low size) in
+    let here : get_or (set fs.cached n (xs ++ f ∷ [])) n [] ≡ xs ++ f ∷ [] =
+    get_or-set_same fs.cached n (xs ++ f ∷ []) [] (list_in cpus cpu (length fs.cached) pool low size) in
     sym (ap (λ (lists : List (List ℕ)). record { areas = refill.areas; cached = lists })
     (ap (λ (ys : List ℕ). set (set fs.cached n (xs ++ f ∷ [])) n (ys ++ refill.frames)) here
     ∙ set-set fs.cached n (xs ++ f ∷ []) (xs ++ f ∷ [] ++ refill.frames)
     ∙ ap (λ (ys : List ℕ). set fs.cached n ys) (append_assoc xs (f ∷ []) refill.frames)))
 
 -- one is taken, and the others then
-filled-suc : (l : LayoutParts) (fs : FreeFrames) (a : FreeAreas) (cpu : ℕ) (pool : Pool) (f count cpus : ℕ) → cpu < cpus → length fs.cached ≡ 3 * cpus
+filled-suc : (l : LayoutParts) (fs : FreeFrames) (a : FreeAreas) (cpu : ℕ) (pool : Pool) (f count cpus : ℕ)
+    → cpu < cpus → length fs.cached ≡ 3 * cpus
     → take_block l fs.areas (class_of_pool pool) 0 ≡ Some (record { areas = a; frame = f })
-    → filled l fs cpu pool (suc count) ≡ filled l (with_cached_list (record fs { areas = a }) cpu pool (cached_list fs cpu pool ++ f ∷ [])) cpu pool count
+    → filled l fs cpu pool (suc count) ≡ filled l
+    (with_cached_list (record fs { areas = a }) cpu pool (cached_list fs cpu pool ++ f ∷ [])) cpu pool count
 unfolding take_frames
 filled-suc l fs a cpu pool f count cpus low size some =
-    ap (λ (o : Option Taken). with_refill fs cpu pool (option_map_or (λ taken. with_first taken.frame (take_frames l pool count taken.areas)) o (record { areas = fs.areas; frames = [] }))) some
+    ap (λ (o : Option Taken). with_refill fs cpu pool (option_map_or
+    (λ taken. with_first taken.frame (take_frames l pool count taken.areas)) o
+    (record { areas = fs.areas; frames = [] }))) some
     ∙ with_refill-more fs a cpu pool f cpus (take_frames l pool count a) low size
 
 -- the same of a loop that has taken some of all
-pub filled-more : (l : LayoutParts) (fs gs : FreeFrames) (a : FreeAreas) (cpu : ℕ) (pool : Pool) (f done all cpus : ℕ) → cpu < cpus → length fs.cached ≡ 3 * cpus → done < all
+pub filled-more : (l : LayoutParts) (fs gs : FreeFrames) (a : FreeAreas) (cpu : ℕ) (pool : Pool)
+    (f done all cpus : ℕ)
+    → cpu < cpus → length fs.cached ≡ 3 * cpus → done < all
     → take_block l fs.areas (class_of_pool pool) 0 ≡ Some (record { areas = a; frame = f })
     → gs ≡ with_cached_list (record fs { areas = a }) cpu pool (cached_list fs cpu pool ++ f ∷ [])
     → filled l fs cpu pool (all - done) ≡ filled l gs cpu pool (all - (done + 1))
 filled-more l fs gs a cpu pool f done all cpus low size below some is =
     let next : all - done ≡ suc (all - (done + 1)) = omega arith in
-    ap (λ (n : ℕ). filled l fs cpu pool n) next ∙ filled-suc l fs a cpu pool f (all - (done + 1)) cpus low size some
+    ap (λ (n : ℕ). filled l fs cpu pool n) next
+    ∙ filled-suc l fs a cpu pool f (all - (done + 1)) cpus low size some
     ∙ ap (λ (hs : FreeFrames). filled l hs cpu pool (all - (done + 1))) (sym is)
 
 -- ---- one frame from a list
 
 -- a list that is empty is filled
-pub refilled-empty : (l : LayoutParts) (fs : FreeFrames) (cpu : ℕ) (pool : Pool) → cached_list fs cpu pool ≡ [] → filled l fs cpu pool l.batch ≡ refilled l fs cpu pool
+pub refilled-empty : (l : LayoutParts) (fs : FreeFrames) (cpu : ℕ) (pool : Pool)
+    → cached_list fs cpu pool ≡ [] → filled l fs cpu pool l.batch ≡ refilled l fs cpu pool
 refilled-empty l fs cpu pool empty =
     let r : Refill = take_frames l pool l.batch fs.areas in
     ap (λ (xs : List ℕ). with_cached_list (record fs { areas = r.areas }) cpu pool (xs ++ r.frames)) empty
     ∙ sym (ap (λ (xs : List ℕ). refilled_from l fs cpu pool xs) empty)
 
 -- another one stays
-pub refilled-some : (l : LayoutParts) (fs : FreeFrames) (cpu : ℕ) (pool : Pool) → 0 < length (cached_list fs cpu pool) → fs ≡ refilled l fs cpu pool
+pub refilled-some : (l : LayoutParts) (fs : FreeFrames) (cpu : ℕ) (pool : Pool)
+    → 0 < length (cached_list fs cpu pool) → fs ≡ refilled l fs cpu pool
 refilled-some l fs cpu pool some = from l fs cpu pool (cached_list fs cpu pool) some
   where
-    from : (l : LayoutParts) (fs : FreeFrames) (cpu : ℕ) (pool : Pool) (xs : List ℕ) → 0 < length xs → fs ≡ refilled_from l fs cpu pool xs
+    from : (l : LayoutParts) (fs : FreeFrames) (cpu : ℕ) (pool : Pool) (xs : List ℕ) → 0 < length xs
+        → fs ≡ refilled_from l fs cpu pool xs
     from l fs cpu pool [] some = absurd (omega arith)
     from l fs cpu pool (x ∷ xs) some = refl
 
 -- its front frame
-pub taken-some : (l : LayoutParts) (fs gs new : FreeFrames) (cpu : ℕ) (pool : Pool) (f : ℕ) (rest : List ℕ) → gs ≡ refilled l fs cpu pool → cached_list gs cpu pool ≡ f ∷ rest
-    → new ≡ with_cached_list gs cpu pool rest → take_one l fs cpu pool ≡ Some (record { free = new; frame = f })
+pub taken-some : (l : LayoutParts) (fs gs new : FreeFrames) (cpu : ℕ) (pool : Pool) (f : ℕ) (rest : List ℕ)
+    → gs ≡ refilled l fs cpu pool → cached_list gs cpu pool ≡ f ∷ rest
+    → new ≡ with_cached_list gs cpu pool rest
+    → take_one l fs cpu pool ≡ Some (record { free = new; frame = f })
 unfolding take_one
 taken-some l fs gs new cpu pool f rest is front popped =
     ap (λ (hs : FreeFrames). pop_cached hs cpu pool) (sym is)
@@ -88,15 +108,21 @@ taken-some l fs gs new cpu pool f rest is front popped =
     ∙ ap (λ (hs : FreeFrames). Some (record { free = hs; frame = f })) (sym popped)
 
 -- no frame
-pub taken-none : (l : LayoutParts) (fs gs : FreeFrames) (cpu : ℕ) (pool : Pool) → gs ≡ refilled l fs cpu pool → cached_list gs cpu pool ≡ [] → take_one l fs cpu pool ≡ None
+pub taken-none : (l : LayoutParts) (fs gs : FreeFrames) (cpu : ℕ) (pool : Pool) → gs ≡ refilled l fs cpu pool
+    → cached_list gs cpu pool ≡ [] → take_one l fs cpu pool ≡ None
 unfolding take_one
-taken-none l fs gs cpu pool is empty = ap (λ (hs : FreeFrames). pop_cached hs cpu pool) (sym is) ∙ ap (λ (xs : List ℕ). pop_from gs cpu pool xs) empty
+taken-none l fs gs cpu pool is empty =
+    ap (λ (hs : FreeFrames). pop_cached hs cpu pool) (sym is)
+    ∙ ap (λ (xs : List ℕ). pop_from gs cpu pool xs) empty
 
 -- ---- a list that got a frame
 
 -- the list then
-pub pushed-some : (v new : CpusValue) (cpu : ℕ) (pool : Pool) (f : ℕ) → HasLists v → cpu < v.layout.cpus → new ≡ with_list_of v cpu pool (list_of v cpu pool ++ f ∷ []) → list_of new cpu pool ≡ [] → ⊥
+pub pushed-some : (v new : CpusValue) (cpu : ℕ) (pool : Pool) (f : ℕ) → HasLists v → cpu < v.layout.cpus
+    → new ≡ with_list_of v cpu pool (list_of v cpu pool ++ f ∷ []) → list_of new cpu pool ≡ [] → ⊥
 pushed-some v new cpu pool f size low is empty =
-    let list : list_of new cpu pool ≡ list_of v cpu pool ++ f ∷ [] = ap (λ (w : CpusValue). list_of w cpu pool) is ∙ list_of-same v cpu pool (list_of v cpu pool ++ f ∷ []) low size in
+    let list : list_of new cpu pool ≡ list_of v cpu pool ++ f ∷ [] =
+    ap (λ (w : CpusValue). list_of w cpu pool) is
+    ∙ list_of-same v cpu pool (list_of v cpu pool ++ f ∷ []) low size in
     let none : length (list_of new cpu pool) ≡ 0 = ap length empty in
     omega (arith, ap length list ∙ length-append (list_of v cpu pool) (f ∷ []))

@@ -45,10 +45,12 @@ pub record IsIn (c d : CpusValue) (b e : BuddyValue) (f : ℕ) : Type 0 where
   pub places : (o : ℕ) → places_among e.areas d o ≡ places_among b.areas c o + one_at f o
 
 -- it left a processor's list
-pub list-out : (c d : CpusValue) (b : BuddyValue) (cpu : ℕ) (pool : Pool) (f : ℕ) (xs : List ℕ) → AreTogether c b → cpu < c.layout.cpus → d ≡ with_list_of c cpu pool xs
+pub list-out : (c d : CpusValue) (b : BuddyValue) (cpu : ℕ) (pool : Pool) (f : ℕ) (xs : List ℕ)
+    → AreTogether c b → cpu < c.layout.cpus → d ≡ with_list_of c cpu pool xs
     → ((o : ℕ) → times o (list_of c cpu pool) ≡ times o xs + one_at f o) → IsOut c d b b f
 list-out c d b cpu pool f xs h low is parts =
-    let fewer : (o : ℕ) → places_in c o ≡ places_in (with_list_of c cpu pool xs) o + one_at f o = λ o. omega (arith, with_list_of-places c cpu pool xs o low h.lists, parts o) in
+    let fewer : (o : ℕ) → places_in c o ≡ places_in (with_list_of c cpu pool xs) o + one_at f o =
+    λ o. omega (arith, with_list_of-places c cpu pool xs o low h.lists, parts o) in
     subst (λ (e : CpusValue). IsOut c e b b f) (sym is) (record {
       together = record {
         layout = h.layout;
@@ -57,12 +59,19 @@ list-out c d b cpu pool f xs h low is parts =
         within = λ o past. omega (arith, h.within o past, fewer o);
         once = λ o. omega (arith, h.once o, fewer o);
       };
-      frame = record { within = inside c b f h (omega (arith, fewer f, one-self f f refl)); nowhere = omega (arith, h.once f, fewer f, one-self f f refl) };
+      frame =
+          record {
+            within = inside c b f h (omega (arith, fewer f, one-self f f refl));
+            nowhere = omega (arith, h.once f, fewer f, one-self f f refl);
+          };
       places = λ o. omega (arith, fewer o);
     })
   where
-    inside : (c : CpusValue) (b : BuddyValue) (f : ℕ) → AreTogether c b → 1 ≤ places_in c f → f < frame_count c.layout
-    inside c b f h some = elim (cases_lt f (frame_count c.layout)) [ inl low ↦ low | inr past ↦ absurd (omega (arith, h.within f past)) ]
+    inside : (c : CpusValue) (b : BuddyValue) (f : ℕ) → AreTogether c b → 1 ≤ places_in c f
+        → f < frame_count c.layout
+    inside c b f h some =
+        elim (cases_lt f (frame_count c.layout))
+        [ inl low ↦ low | inr past ↦ absurd (omega (arith, h.within f past)) ]
 
 -- there is at most one of it when it comes to where it was nowhere
 once-more : (places : ℕ → ℕ) (f o : ℕ) → places f ≡ 0 → places o ≤ 1 → places o + one_at f o ≤ 1
@@ -72,36 +81,50 @@ once-more places f o none few = elim (cases_eq f o) [
 ]
 
 -- it came to a processor's list
-pub list-in : (c d : CpusValue) (b : BuddyValue) (cpu : ℕ) (pool : Pool) (f : ℕ) (xs : List ℕ) → AreTogether c b → MayBePut c b f → cpu < c.layout.cpus → d ≡ with_list_of c cpu pool xs
+pub list-in : (c d : CpusValue) (b : BuddyValue) (cpu : ℕ) (pool : Pool) (f : ℕ) (xs : List ℕ)
+    → AreTogether c b → MayBePut c b f → cpu < c.layout.cpus → d ≡ with_list_of c cpu pool xs
     → ((o : ℕ) → times o xs ≡ times o (list_of c cpu pool) + one_at f o) → IsIn c d b b f
 list-in c d b cpu pool f xs h may low is parts =
-    let more : (o : ℕ) → places_in (with_list_of c cpu pool xs) o ≡ places_in c o + one_at f o = λ o. omega (arith, with_list_of-places c cpu pool xs o low h.lists, parts o) in
+    let more : (o : ℕ) → places_in (with_list_of c cpu pool xs) o ≡ places_in c o + one_at f o =
+    λ o. omega (arith, with_list_of-places c cpu pool xs o low h.lists, parts o) in
     subst (λ (e : CpusValue). IsIn c e b b f) (sym is) (record {
       together = record {
         layout = h.layout;
         lists = with_list_of-size c cpu pool xs h.lists;
         areas = h.areas;
-        within = λ o past. omega (arith, h.within o past, more o, one-other f o (λ same. omega (arith, may.within)));
-        once = λ o. omega (arith, once-more (λ p. places_among b.areas c p) f o may.nowhere (h.once o), more o);
+        within =
+            λ o past.
+            omega (arith, h.within o past, more o, one-other f o (λ same. omega (arith, may.within)));
+        once =
+            λ o. omega (arith, once-more (λ p. places_among b.areas c p) f o may.nowhere (h.once o), more o);
       };
       places = λ o. omega (arith, more o);
     })
 
 -- it came to the free areas
-pub area-in : (c : CpusValue) (b e : BuddyValue) (f : ℕ) → AreTogether c b → MayBePut c b f → e.layout ≡ b.layout → AreApart e.layout e.areas → HasBlockMore e.areas b.areas 0 f → IsIn c c b e f
+pub area-in : (c : CpusValue) (b e : BuddyValue) (f : ℕ) → AreTogether c b → MayBePut c b f
+    → e.layout ≡ b.layout → AreApart e.layout e.areas → HasBlockMore e.areas b.areas 0 f → IsIn c c b e f
 area-in c b e f h may same apart more = record {
   together = record {
     layout = same ∙ h.layout;
     lists = h.lists;
     areas = subst (λ (l : LayoutParts). AreApart l e.areas) (same ∙ h.layout) apart;
     within = h.within;
-    once = λ o. omega (arith, once-more (λ p. places_among b.areas c p) f o may.nowhere (h.once o), more o, covered-one o f);
+    once =
+        λ o. omega (
+          arith,
+          once-more (λ p. places_among b.areas c p) f o may.nowhere (h.once o),
+          more o,
+          covered-one o f,
+        );
   };
   places = λ o. omega (arith, more o, covered-one o f);
 }
 
 -- it left the free areas
-pub area-out : (c : CpusValue) (b e : BuddyValue) (f : ℕ) → AreTogether c b → e.layout ≡ b.layout → AreApart e.layout e.areas → MayBeGiven e.layout e.areas 0 f → HasBlockMore b.areas e.areas 0 f → IsOut c c b e f
+pub area-out : (c : CpusValue) (b e : BuddyValue) (f : ℕ) → AreTogether c b → e.layout ≡ b.layout
+    → AreApart e.layout e.areas → MayBeGiven e.layout e.areas 0 f → HasBlockMore b.areas e.areas 0 f
+    → IsOut c c b e f
 area-out c b e f h same apart block more = record {
   together = record {
     layout = same ∙ h.layout;
@@ -120,14 +143,18 @@ area-out c b e f h same apart block more = record {
 -- ---- what calls need
 
 -- a frame that is nowhere may be given
-pub may_be_given : (c : CpusValue) (b : BuddyValue) (f : ℕ) → AreTogether c b → MayBePut c b f → MayBeGiven b.layout b.areas 0 f
+pub may_be_given : (c : CpusValue) (b : BuddyValue) (f : ℕ) → AreTogether c b → MayBePut c b f
+    → MayBeGiven b.layout b.areas 0 f
 may_be_given c b f h may =
-    let inside : f < frame_count b.layout = subst (λ (l : LayoutParts). f < frame_count l) (sym h.layout) may.within in
+    let inside : f < frame_count b.layout =
+    subst (λ (l : LayoutParts). f < frame_count l) (sym h.layout) may.within in
     record {
       in_order = omega arith;
       aligned = omega arith;
       within = omega (arith, inside);
-      unfree = λ o low high. let same : f ≡ o = omega arith in subst (λ (p : ℕ). free_places b.areas p ≡ 0) same (omega (arith, may.nowhere));
+      unfree =
+          λ o low high. let same : f ≡ o = omega arith in
+          subst (λ (p : ℕ). free_places b.areas p ≡ 0) same (omega (arith, may.nowhere));
     }
 
 -- the free areas of one layout
@@ -139,20 +166,27 @@ pub listed_once : (c : CpusValue) (b : BuddyValue) → AreTogether c b → (o : 
 listed_once c b h o = omega (arith, h.once o)
 
 -- a frame that stands nowhere is not on this list
-pub off_list_of : (c : CpusValue) (cpu : ℕ) (pool : Pool) (f : ℕ) → HasLists c → cpu < c.layout.cpus → places_in c f ≡ 0 → is_on f (list_of c cpu pool) ≡ false
+pub off_list_of : (c : CpusValue) (cpu : ℕ) (pool : Pool) (f : ℕ) → HasLists c → cpu < c.layout.cpus
+    → places_in c f ≡ 0 → is_on f (list_of c cpu pool) ≡ false
 off_list_of c cpu pool f size low none =
-    false_from_ne_true (is_on f (list_of c cpu pool)) (λ on. omega (arith, times-on f (list_of c cpu pool) on, list_of-le c cpu pool f low size))
+    false_from_ne_true (is_on f (list_of c cpu pool))
+    (λ on. omega (arith, times-on f (list_of c cpu pool) on, list_of-le c cpu pool f low size))
 
 -- a list has no frame twice
-pub distinct_list_of : (c : CpusValue) (cpu : ℕ) (pool : Pool) → HasLists c → cpu < c.layout.cpus → ((o : ℕ) → places_in c o ≤ 1) → AreDistinct (list_of c cpu pool)
-distinct_list_of c cpu pool size low once = distinct (list_of c cpu pool) (λ o. omega (arith, once o, list_of-le c cpu pool o low size))
+pub distinct_list_of : (c : CpusValue) (cpu : ℕ) (pool : Pool) → HasLists c → cpu < c.layout.cpus
+    → ((o : ℕ) → places_in c o ≤ 1) → AreDistinct (list_of c cpu pool)
+distinct_list_of c cpu pool size low once =
+    distinct (list_of c cpu pool) (λ o. omega (arith, once o, list_of-le c cpu pool o low size))
 
 -- a frame on a list is one of the layout
-pub frame_of_list : (c : CpusValue) (cpu : ℕ) (pool : Pool) (f : ℕ) → HasLists c → cpu < c.layout.cpus → ((o : ℕ) → frame_count c.layout ≤ o → places_in c o ≡ 0)
+pub frame_of_list : (c : CpusValue) (cpu : ℕ) (pool : Pool) (f : ℕ) → HasLists c → cpu < c.layout.cpus
+    → ((o : ℕ) → frame_count c.layout ≤ o → places_in c o ≡ 0)
     → is_on f (list_of c cpu pool) ≡ true → f < frame_count c.layout
 frame_of_list c cpu pool f size low within on = elim (cases_lt f (frame_count c.layout)) [
   | inl inside ↦ inside
-  | inr past ↦ absurd (omega (arith, within f past, times-on f (list_of c cpu pool) on, list_of-le c cpu pool f low size))
+  | inr past ↦
+      absurd
+      (omega (arith, within f past, times-on f (list_of c cpu pool) on, list_of-le c cpu pool f low size))
 ]
 
 -- how often frames stand on a list with one more in front, or at the back
@@ -169,10 +203,12 @@ none-places : (count f : ℕ) → sum_by (λ (xs : List ℕ). times f xs) (repli
 none-places count f = sum_by-replicate (λ (xs : List ℕ). times f xs) count [] ∙ omega arith
 
 -- empty lists beside any free areas of the layout
-pub empty-together : (l : LayoutParts) (cached : List (List ℕ)) → cached ≡ replicate (3 * l.cpus) [] → (b : BuddyValue) → b.layout ≡ l → AreApart b.layout b.areas
+pub empty-together : (l : LayoutParts) (cached : List (List ℕ)) → cached ≡ replicate (3 * l.cpus) []
+    → (b : BuddyValue) → b.layout ≡ l → AreApart b.layout b.areas
     → AreTogether (record { layout = l; cached = cached }) b
 empty-together l cached is b same apart =
-    subst (λ (lists : List (List ℕ)). AreTogether (record { layout = l; cached = lists }) b) (sym is) (record {
+    subst (λ (lists : List (List ℕ)). AreTogether (record { layout = l; cached = lists }) b) (sym is)
+    (record {
       layout = same;
       lists = length-replicate (3 * l.cpus) [];
       areas = subst (λ (k : LayoutParts). AreApart k b.areas) same apart;

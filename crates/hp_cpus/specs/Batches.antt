@@ -7,7 +7,8 @@ use Rattle.hp_units.specs.ProcessorLists.{Refill, take_frames, give_all}
 
 -- frames that were taken stand at the back of a processor's list
 abbrev pub with_refill : FreeFrames → ℕ → Pool → Refill → FreeFrames
-with_refill fs cpu pool refill = with_cached_list (record fs { areas = refill.areas }) cpu pool (cached_list fs cpu pool ++ refill.frames)
+with_refill fs cpu pool refill =
+    with_cached_list (record fs { areas = refill.areas }) cpu pool (cached_list fs cpu pool ++ refill.frames)
 
 -- up to so many frames are taken to the back of a processor's list
 abbrev pub filled : LayoutParts → FreeFrames → (cpu : ℕ) → Pool → (count : ℕ) → FreeFrames
@@ -18,4 +19,6 @@ abbrev pub given_last : LayoutParts → FreeFrames → (cpu : ℕ) → Pool → 
 given_last l fs cpu pool count =
     let frames = cached_list fs cpu pool in
     let kept = length frames - count in
-    with_cached_list (record fs { areas = give_all l fs.areas (zone_of_pool pool) (reverse (drop kept frames)) }) cpu pool (take kept frames)
+    with_cached_list
+    (record fs { areas = give_all l fs.areas (zone_of_pool pool) (reverse (drop kept frames)) }) cpu pool
+    (take kept frames)

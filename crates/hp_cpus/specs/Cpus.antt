@@ -1,4 +1,5 @@
--- What a contract sees of the processors' lists, and what the calls need of them and of the free areas together.
+-- What a contract sees of the processors' lists, and what the calls need of them and of the free
+-- areas together.
 use Rattle.std.specs.Prelude.{ℕ, ◌≡◌, ◌+◌, ◌*◌, ◌≤◌, ◌==◌, List, [], length, slice_index_or, slice_set, sum_by, count_by, if◌then◌else◌}
 use Rattle.hp_units.specs.declared.rows.Pool.{Pool}
 use Rattle.hp_units.specs.LayoutParts.{LayoutParts, IsLayout}
@@ -40,8 +41,9 @@ one_at frame other = if frame == other then 1 else 0
 
 -- ---- what calls need and keep
 
--- the free areas and the processors' lists are of one layout, free blocks lie apart, a frame on a processor's list is one of
--- the layout, and no frame is in two of these places: so it is of every well placed state
+-- the free areas and the processors' lists are of one layout, free blocks lie apart, a frame on a
+-- processor's list is one of the layout, and no frame is in two of these places: so it is of every
+-- well placed state
 pub record AreTogether (c : CpusValue) (b : BuddyValue) : Type 0 where
   pub layout : b.layout ≡ c.layout
   pub lists : length c.cached ≡ 3 * c.layout.cpus
@@ -49,7 +51,8 @@ pub record AreTogether (c : CpusValue) (b : BuddyValue) : Type 0 where
   pub within : (frame : ℕ) → frame_count c.layout ≤ frame → places_in c frame ≡ 0
   pub once : (frame : ℕ) → places_among b.areas c frame ≤ 1
 
--- a frame that may be put on a list or given to the areas: it is one of the layout, in no free block and on no processor's list
+-- a frame that may be put on a list or given to the areas: it is one of the layout, in no free
+-- block and on no processor's list
 pub record MayBePut (c : CpusValue) (b : BuddyValue) (frame : ℕ) : Type 0 where
   pub within : IsFrame c.layout frame
   pub nowhere : places_among b.areas c frame ≡ 0

@@ -50,8 +50,10 @@ impl Model for Cpus {
 impl Cpus {
     /// The lists of a layout's processors, all empty: by as many requests for memory whatever the layout.
     pub fn new(alloc: Global, layout: &Layout) -> Result<Cpus, AllocError>
-        ensures value { IfOk result (λ c. c ≡ record { layout = layout.now; cached = empty_cached layout.now }) }
-        ensures together { IfOk result (λ c. (b : BuddyValue) → b.layout ≡ c.layout → AreApart b.layout b.areas → AreTogether c b) }
+        ensures value { IfOk result
+            (λ c. c ≡ record { layout = layout.now; cached = empty_cached layout.now }) }
+        ensures together { IfOk result
+            (λ c. (b : BuddyValue) → b.layout ≡ c.layout → AreApart b.layout b.areas → AreTogether c b) }
     {
         let layout = layout.copy(alloc)?;
         let links = Links::new(alloc, layout.frames(), 3 * layout.cpus())?;
@@ -93,8 +95,9 @@ impl Cpus {
         }
     }
 
-    /// Takes the front frame of a processor's list; a list that is empty is first refilled by a batch from the free areas.
-    /// None if these have none for the pool, and then nothing changes (Gorman, chapter 6: per-cpu lists; the end is own).
+    /// Takes the front frame of a processor's list; a list that is empty is first refilled by a
+    /// batch from the free areas. None if these have none for the pool, and then nothing changes
+    /// (Gorman, chapter 6: per-cpu lists; the end is own).
     pub fn take_one(
         &mut self,
         cpu: Cpu,
@@ -104,14 +107,21 @@ impl Cpus {
     ) -> Option<Frame>
         requires cpu { cpu < self.old.layout.cpus }
         requires together { AreTogether self.old buddy.old }
-        requires room { HasRoom tape.old (take_one_bound self.old.layout (frames_of buddy.old.areas self.old) cpu pool) }
-        ensures taken { MatchOption result (take_one self.old.layout (frames_of buddy.old.areas self.old) cpu pool ≡ None) (λ frame. take_one self.old.layout (frames_of buddy.old.areas self.old) cpu pool ≡ Some (record { free = frames_of buddy.new.areas self.new; frame = frame })) }
-        ensures none { MatchOption result ((self.new ≡ self.old) × (buddy.new ≡ buddy.old) × (tape.new ≡ tape.old)) (λ _. Unit {0}) }
+        requires room { HasRoom tape.old
+            (take_one_bound self.old.layout (frames_of buddy.old.areas self.old) cpu pool) }
+        ensures taken { MatchOption result (take_one self.old.layout (frames_of buddy.old.areas self.old) cpu
+            pool ≡ None) (λ frame. take_one self.old.layout (frames_of buddy.old.areas self.old) cpu
+            pool ≡ Some (record { free = frames_of buddy.new.areas self.new; frame = frame })) }
+        ensures none { MatchOption result
+            ((self.new ≡ self.old) × (buddy.new ≡ buddy.old) × (tape.new ≡ tape.old)) (λ _. Unit {0}) }
         ensures layout { self.new.layout ≡ self.old.layout }
-        ensures notes { NotesFree self.old.layout (take_one_bound self.old.layout (frames_of buddy.old.areas self.old) cpu pool) tape.old tape.new (frames_of buddy.new.areas self.new) (frames_of buddy.old.areas self.old) }
+        ensures notes { NotesFree self.old.layout
+            (take_one_bound self.old.layout (frames_of buddy.old.areas self.old) cpu pool) tape.old tape.new
+            (frames_of buddy.new.areas self.new) (frames_of buddy.old.areas self.old) }
         ensures together { AreTogether self.new buddy.new }
         ensures frame { IfSome result (MayBePut self.new buddy.new) }
-        ensures places { IfSome result (λ frame. (other : ℕ) → places_among buddy.old.areas self.old other ≡ places_among buddy.new.areas self.new other + one_at frame other) }
+        ensures places { IfSome result (λ frame. (other : ℕ) → places_among buddy.old.areas self.old other
+            ≡ places_among buddy.new.areas self.new other + one_at frame other) }
     {
         if self.len(cpu, pool) > 0 {
             return self.pop(cpu, pool, tape);
@@ -120,9 +130,10 @@ impl Cpus {
         self.pop(cpu, pool, tape)
     }
 
-    /// Puts a frame of a zone at the front of the processor's list of its pool; a list that is then longer than its mark gives
-    /// a batch back to the free areas, the last frame first. A frame of an isolated pageblock goes to the free areas at once
-    /// (Gorman, chapter 6: per-cpu lists; the ends are own).
+    /// Puts a frame of a zone at the front of the processor's list of its pool; a list that is then
+    /// longer than its mark gives a batch back to the free areas, the last frame first. A frame of
+    /// an isolated pageblock goes to the free areas at once (Gorman, chapter 6: per-cpu lists; the
+    /// ends are own).
     pub fn put_one(
         &mut self,
         cpu: Cpu,
@@ -134,12 +145,18 @@ impl Cpus {
         requires cpu { cpu < self.old.layout.cpus }
         requires together { AreTogether self.old buddy.old }
         requires frame { MayBePut self.old buddy.old frame }
-        requires room { HasRoom tape.old (put_one_bound self.old.layout (frames_of buddy.old.areas self.old) cpu zone frame) }
-        ensures put { frames_of buddy.new.areas self.new ≡ put_one self.old.layout (frames_of buddy.old.areas self.old) cpu zone frame }
+        requires room { HasRoom tape.old
+            (put_one_bound self.old.layout (frames_of buddy.old.areas self.old) cpu zone frame) }
+        ensures put { frames_of buddy.new.areas self.new
+            ≡ put_one self.old.layout (frames_of buddy.old.areas self.old) cpu zone frame }
         ensures layout { self.new.layout ≡ self.old.layout }
-        ensures notes { NotesFree self.old.layout (put_one_bound self.old.layout (frames_of buddy.old.areas self.old) cpu zone frame) tape.old tape.new (frames_of buddy.new.areas self.new) (frames_of buddy.old.areas self.old) }
+        ensures notes { NotesFree self.old.layout
+            (put_one_bound self.old.layout (frames_of buddy.old.areas self.old) cpu zone frame) tape.old
+            tape.new (frames_of buddy.new.areas self.new) (frames_of buddy.old.areas self.old) }
         ensures together { AreTogether self.new buddy.new }
-        ensures places { (other : ℕ) → places_among buddy.new.areas self.new other ≡ places_among buddy.old.areas self.old other + one_at frame other }
+        ensures places { (other : ℕ)
+            → places_among buddy.new.areas self.new other
+            ≡ places_among buddy.old.areas self.old other + one_at frame other }
     {
         let kind = buddy.kind(pageblock_of(&self.layout, frame));
         if kind.isolated {
@@ -160,23 +177,30 @@ impl Cpus {
     pub fn drain(&mut self, cpu: Cpu, buddy: &mut Buddy, tape: &mut Tape)
         requires cpu { cpu < self.old.layout.cpus }
         requires together { AreTogether self.old buddy.old }
-        requires room { HasRoom tape.old (drain_bound self.old.layout (frames_of buddy.old.areas self.old) cpu) }
-        ensures drained { frames_of buddy.new.areas self.new ≡ drain_lists self.old.layout (frames_of buddy.old.areas self.old) cpu }
+        requires room { HasRoom tape.old
+            (drain_bound self.old.layout (frames_of buddy.old.areas self.old) cpu) }
+        ensures drained { frames_of buddy.new.areas self.new
+            ≡ drain_lists self.old.layout (frames_of buddy.old.areas self.old) cpu }
         ensures layout { self.new.layout ≡ self.old.layout }
-        ensures notes { NotesFree self.old.layout (drain_bound self.old.layout (frames_of buddy.old.areas self.old) cpu) tape.old tape.new (frames_of buddy.new.areas self.new) (frames_of buddy.old.areas self.old) }
+        ensures notes { NotesFree self.old.layout
+            (drain_bound self.old.layout (frames_of buddy.old.areas self.old) cpu) tape.old tape.new
+            (frames_of buddy.new.areas self.new) (frames_of buddy.old.areas self.old) }
         ensures together { AreTogether self.new buddy.new }
-        ensures places { (other : ℕ) → places_among buddy.new.areas self.new other ≡ places_among buddy.old.areas self.old other }
+        ensures places { (other : ℕ)
+            → places_among buddy.new.areas self.new other ≡ places_among buddy.old.areas self.old other }
     {
         self.drain_pool(cpu, Pool::Nu, buddy, tape);
         self.drain_pool(cpu, Pool::Nm, buddy, tape);
         self.drain_pool(cpu, Pool::Mm, buddy, tape);
     }
 
-    /// Does the opposite of a delta of the layout that fits, whatever the free areas are; one of another layer changes nothing.
+    /// Does the opposite of a delta of the layout that fits, whatever the free areas are; one of
+    /// another layer changes nothing.
     pub fn back(&mut self, delta: Delta)
         requires fits { (areas : FreeAreas) × FitsCached delta (frames_of areas self.old) }
         requires numbers { IsDeltaOf self.old.layout delta }
-        ensures back { (areas : FreeAreas) → frames_of areas self.new ≡ cached_undo delta (frames_of areas self.old) }
+        ensures back { (areas : FreeAreas)
+            → frames_of areas self.new ≡ cached_undo delta (frames_of areas self.old) }
         ensures layout { self.new.layout ≡ self.old.layout }
     {
         match &delta {

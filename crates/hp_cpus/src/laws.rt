@@ -11,15 +11,19 @@ ghost use Rattle.hp_cpus.specs.Cpus.{AreTogether, MayBePut};
 /// in two of their places: what each call asks of both (own rule).
 pub fn well_placed_frames_are_together()
     ensures { (l : LayoutParts) (s : Memory) → IsLayout l → IsWellPlaced l s
-        → AreTogether (record { layout = l; cached = s.free.cached }) (record { layout = l; areas = s.free.areas }) }
+        → AreTogether (record { layout = l; cached = s.free.cached })
+        (record { layout = l; areas = s.free.areas }) }
 {}
 
 /// In a well placed state each single frame of the kernel and each page's frame may come back to a
 /// processor's list (own rule).
 pub fn frames_in_use_may_be_put()
-    ensures kernel { (l : LayoutParts) (s : Memory) (frame : ℕ) → IsLayout l → IsWellPlaced l s → kernel_order s frame ≡ Some 0
-        → MayBePut (record { layout = l; cached = s.free.cached }) (record { layout = l; areas = s.free.areas }) frame }
+    ensures kernel { (l : LayoutParts) (s : Memory) (frame : ℕ) → IsLayout l → IsWellPlaced l s
+        → kernel_order s frame ≡ Some 0
+        → MayBePut (record { layout = l; cached = s.free.cached })
+        (record { layout = l; areas = s.free.areas }) frame }
     ensures page { (l : LayoutParts) (s : Memory) (owner page frame : ℕ) → IsLayout l → IsWellPlaced l s
         → frame_at s.pages owner page ≡ Some frame
-        → MayBePut (record { layout = l; cached = s.free.cached }) (record { layout = l; areas = s.free.areas }) frame }
+        → MayBePut (record { layout = l; cached = s.free.cached })
+        (record { layout = l; areas = s.free.areas }) frame }
 {}

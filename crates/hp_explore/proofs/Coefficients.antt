@@ -18,24 +18,37 @@ factorials_positive (n ∷ ns) = mul-pos (factorial_positive n) (factorials_posi
 
 factorials_push : (ns : List ℕ) (n : ℕ) → factorials (ns ++ n ∷ []) ≡ factorials ns * factorial n
 factorials_push [] n = omega arith
-factorials_push (k ∷ ns) n = ap (λ (f : ℕ). factorial k * f) (factorials_push ns n) ∙ sym (mul_assoc (factorial k) (factorials ns) (factorial n))
+factorials_push (k ∷ ns) n =
+    ap (λ (f : ℕ). factorial k * f) (factorials_push ns n)
+    ∙ sym (mul_assoc (factorial k) (factorials ns) (factorial n))
 
 -- there is one coefficient
 pub only_one : (ns : List ℕ) (a b : ℕ) → IsMultinomial ns a → IsMultinomial ns b → a ≡ b
 only_one ns a b is also =
-    eq_of_mul-eq-mul_left (factorials ns) (factorials_positive ns) a b (mul_comm (factorials ns) a ∙ (is ∙ (sym also ∙ mul_comm b (factorials ns))))
+    eq_of_mul-eq-mul_left (factorials ns) (factorials_positive ns) a b
+    (mul_comm (factorials ns) a ∙ (is ∙ (sym also ∙ mul_comm b (factorials ns))))
 
 -- with no turn of a further processor it is the same
 pub with_none : (ns : List ℕ) (m : ℕ) → IsMultinomial ns m → IsMultinomial (ns ++ 0 ∷ []) m
 with_none ns m is =
-    ap (λ (f : ℕ). m * f) (factorials_push ns 0 ∙ omega arith) ∙ (is ∙ ap factorial (omega (arith, sum_by_push (λ (n : ℕ). n) ns 0)))
+    ap (λ (f : ℕ). m * f) (factorials_push ns 0 ∙ omega arith)
+    ∙ (is ∙ ap factorial (omega (arith, sum_by_push (λ (n : ℕ). n) ns 0)))
 
 -- with one turn more
 abbrev pub IsNext : List ℕ → (turns m next : ℕ) → Type 0
-IsNext ns turns m next = IsMultinomial (ns ++ suc turns ∷ []) next × (next * suc turns ≡ m * suc (sum ns + turns))
+IsNext ns turns m next =
+    IsMultinomial (ns ++ suc turns ∷ []) next × (next * suc turns ≡ m * suc (sum ns + turns))
 
-pub next_one : (ns : List ℕ) (turns m : ℕ) → IsMultinomial (ns ++ turns ∷ []) m → (next : ℕ) × IsNext ns turns m next
-next_one ns turns m is = (one.0, (one.2, eq_of_mul-eq-mul_left F (factorials_positive (ns ++ turns ∷ [])) (one.0 * suc turns) (m * suc (sum ns + turns)) times))
+pub next_one : (ns : List ℕ) (turns m : ℕ) → IsMultinomial (ns ++ turns ∷ []) m
+    → (next : ℕ) × IsNext ns turns m next
+next_one ns turns m is = (
+  one.0,
+  (
+    one.2,
+    eq_of_mul-eq-mul_left F (factorials_positive (ns ++ turns ∷ [])) (one.0 * suc turns)
+        (m * suc (sum ns + turns)) times,
+  ),
+)
   where
     one : AreInterleaved (ns ++ suc turns ∷ [])
     one = interleaved (sum (ns ++ suc turns ∷ [])) (ns ++ suc turns ∷ []) refl
@@ -46,7 +59,8 @@ next_one ns turns m is = (one.0, (one.2, eq_of_mul-eq-mul_left F (factorials_pos
     more : factorials (ns ++ suc turns ∷ []) ≡ suc turns * F
     more =
         factorials_push ns (suc turns)
-        ∙ (mul_left_comm (factorials ns) (suc turns) (factorial turns) ∙ ap (λ (f : ℕ). suc turns * f) (sym (factorials_push ns turns)))
+        ∙ (mul_left_comm (factorials ns) (suc turns) (factorial turns)
+        ∙ ap (λ (f : ℕ). suc turns * f) (sym (factorials_push ns turns)))
 
     all : sum (ns ++ suc turns ∷ []) ≡ suc (sum ns + turns)
     all = omega (arith, sum_by_push (λ (n : ℕ). n) ns (suc turns))
@@ -72,7 +86,8 @@ next_up ns turns m next is =
     le_of_mul-le-mul_right (subst (λ (k : ℕ). m * suc turns ≤ k) (sym is.1) all) (omega arith)
 
 -- and is found by a division
-pub next_found : (ns : List ℕ) (turns m next total : ℕ) → sum ns ≡ total → IsNext ns turns m next → m * (total + turns + 1) / (turns + 1) ≡ next
+pub next_found : (ns : List ℕ) (turns m next total : ℕ) → sum ns ≡ total → IsNext ns turns m next
+    → m * (total + turns + 1) / (turns + 1) ≡ next
 next_found ns turns m next total all is = div-eq_of_eq-mul_left (omega arith) (shown ∙ sym is.1 ∙ plain)
   where
     shown : m * (total + turns + 1) ≡ m * suc (sum ns + turns)
@@ -82,21 +97,38 @@ next_found ns turns m next total all is = div-eq_of_eq-mul_left (omega arith) (s
     plain = ap (λ (k : ℕ). next * k) (omega arith)
 
 -- with more turns it is no less
-pub turns_up : (ns : List ℕ) (turns more a b : ℕ) → IsMultinomial (ns ++ turns ∷ []) a → IsMultinomial (ns ++ (turns + more) ∷ []) b → a ≤ b
+pub turns_up : (ns : List ℕ) (turns more a b : ℕ) → IsMultinomial (ns ++ turns ∷ []) a
+    → IsMultinomial (ns ++ (turns + more) ∷ []) b → a ≤ b
 turns_up ns turns zero a b is also =
     let same : turns + 0 ≡ turns = omega arith in
-    omega (arith, only_one (ns ++ turns ∷ []) a b is (subst (λ (k : ℕ). IsMultinomial (ns ++ k ∷ []) b) same also))
+    omega (
+      arith,
+      only_one (ns ++ turns ∷ []) a b is (subst (λ (k : ℕ). IsMultinomial (ns ++ k ∷ []) b) same also),
+    )
 turns_up ns turns (suc more) a b is also =
     let next = next_one ns turns a is in
     let same : turns + suc more ≡ suc turns + more = omega arith in
-    omega (arith, next_up ns turns a next.0 next.1, turns_up ns (suc turns) more next.0 b next.1.0 (subst (λ (k : ℕ). IsMultinomial (ns ++ k ∷ []) b) same also))
+    omega (
+      arith,
+      next_up ns turns a next.0 next.1,
+      turns_up ns (suc turns) more next.0 b next.1.0
+          (subst (λ (k : ℕ). IsMultinomial (ns ++ k ∷ []) b) same also),
+    )
 
 -- and with more processors
 pub list_up : (ns ms : List ℕ) (a b : ℕ) → IsMultinomial ns a → IsMultinomial (ns ++ ms) b → a ≤ b
-list_up ns [] a b is also = omega (arith, only_one ns a b is (subst (λ (ks : List ℕ). IsMultinomial ks b) (append-nil ns) also))
+list_up ns [] a b is also =
+    omega (arith, only_one ns a b is (subst (λ (ks : List ℕ). IsMultinomial ks b) (append-nil ns) also))
 list_up ns (k ∷ ms) a b is also =
     let one : AreInterleaved (ns ++ k ∷ []) = interleaved (sum (ns ++ k ∷ [])) (ns ++ k ∷ []) refl in
-    omega (arith, turns_up ns 0 k a one.0 (with_none ns a is) (subst (λ (n : ℕ). IsMultinomial (ns ++ n ∷ []) one.0) (zeroed k) one.2), list_up (ns ++ k ∷ []) ms one.0 b one.2 (subst (λ (ks : List ℕ). IsMultinomial ks b) (sym (append_assoc ns (k ∷ []) ms)) also))
+    omega (
+      arith,
+      turns_up ns 0 k a one.0 (with_none ns a is)
+          (subst (λ (n : ℕ). IsMultinomial (ns ++ n ∷ []) one.0) (zeroed k) one.2),
+      list_up (ns ++ k ∷ []) ms
+          one.0 b one.2
+          (subst (λ (ks : List ℕ). IsMultinomial ks b) (sym (append_assoc ns (k ∷ []) ms)) also),
+    )
   where
     zeroed : (k : ℕ) → k ≡ 0 + k
     zeroed k = omega arith
@@ -104,51 +136,86 @@ list_up ns (k ∷ ms) a b is also =
 -- ---- as the code has them
 
 -- one turn more
-pub with_next : (count total turn reached a b d : ℕ) → IsMultinomialWith count total turn reached → a ≡ reached → b ≡ total + turn + 1 → d ≡ turn + 1 → IsMultinomialWith count total (turn + 1) (a * b / d)
+pub with_next : (count total turn reached a b d : ℕ) → IsMultinomialWith count total turn reached
+    → a ≡ reached → b ≡ total + turn + 1 → d ≡ turn + 1 → IsMultinomialWith count total (turn + 1) (a * b / d)
 with_next count total turn reached a b d so_far is_a is_b is_d ns all is =
     let next = next_one ns turn reached (so_far ns all is) in
     let found : a * b / d ≡ next.0 =
     ap (λ (k : ℕ). k * b / d) is_a
-    ∙ (ap (λ (k : ℕ). reached * k / d) is_b ∙ (ap (λ (k : ℕ). reached * (total + turn + 1) / k) is_d ∙ next_found ns turn reached next.0 total all next.1)) in
+    ∙ (ap (λ (k : ℕ). reached * k / d) is_b ∙ (ap (λ (k : ℕ). reached * (total + turn + 1) / k) is_d
+    ∙ next_found ns turn reached next.0 total all next.1)) in
     let one : suc turn ≡ turn + 1 = omega arith in
-    subst (λ (m : ℕ). IsMultinomial (ns ++ (turn + 1) ∷ []) m) (sym found) (subst (λ (k : ℕ). IsMultinomial (ns ++ k ∷ []) next.0) one next.1.0)
+    subst (λ (m : ℕ). IsMultinomial (ns ++ (turn + 1) ∷ []) m) (sym found)
+    (subst (λ (k : ℕ). IsMultinomial (ns ++ k ∷ []) next.0) one next.1.0)
 
 -- which is above the limit
-pub with_exceeded : (count total length limit turn reached a b d e : ℕ) → turn < length → IsMultinomialWith count total turn reached → a ≡ reached → b ≡ total + turn + 1 → d ≡ turn + 1 → e ≡ limit → e < a * b / d → ExceedsWith count total length limit
-with_exceeded count total length limit turn reached a b d e less so_far is_a is_b is_d is_e above ns m all is also =
-    let now : IsMultinomial (ns ++ (turn + 1) ∷ []) (a * b / d) = with_next count total turn reached a b d so_far is_a is_b is_d ns all is in
+pub with_exceeded : (count total length limit turn reached a b d e : ℕ) → turn < length
+    → IsMultinomialWith count total turn reached → a ≡ reached → b ≡ total + turn + 1 → d ≡ turn + 1
+    → e ≡ limit → e < a * b / d → ExceedsWith count total length limit
+with_exceeded count total length limit turn reached a b d e less so_far is_a is_b is_d is_e above ns m all is
+    also =
+    let now : IsMultinomial (ns ++ (turn + 1) ∷ []) (a * b / d) =
+    with_next count total turn reached a b d so_far is_a is_b is_d ns all is in
     let whole : length ≡ turn + 1 + (length - (turn + 1)) = omega arith in
-    omega (arith, above, is_e, turns_up ns (turn + 1) (length - (turn + 1)) (a * b / d) m now (subst (λ (k : ℕ). IsMultinomial (ns ++ k ∷ []) m) whole also))
+    omega (
+      arith,
+      above,
+      is_e,
+      turns_up ns (turn + 1) (length - (turn + 1)) (a * b / d) m now
+          (subst (λ (k : ℕ). IsMultinomial (ns ++ k ∷ []) m) whole also),
+    )
 
 -- after all turns
-pub with_ended : (count total length turn reached : ℕ) → turn ≡ length → IsMultinomialWith count total turn reached → IsMultinomialWith count total length reached
-with_ended count total length turn reached all so_far = subst (λ (n : ℕ). IsMultinomialWith count total n reached) all so_far
+pub with_ended : (count total length turn reached : ℕ) → turn ≡ length
+    → IsMultinomialWith count total turn reached → IsMultinomialWith count total length reached
+with_ended count total length turn reached all so_far =
+    subst (λ (n : ℕ). IsMultinomialWith count total n reached) all so_far
 
 -- ---- all lengths
 
 -- the limit is exceeded by the first of them, and so by all
-pub exceeded : (ns : List ℕ) (m count total at limit : ℕ) → at < length ns → IsMultinomial (take at ns) count → total ≡ sum (take at ns) → ExceedsWith count total (get_or ns at 0) limit → IsMultinomial ns m → limit < m
+pub exceeded : (ns : List ℕ) (m count total at limit : ℕ) → at < length ns → IsMultinomial (take at ns) count
+    → total ≡ sum (take at ns) → ExceedsWith count total (get_or ns at 0) limit → IsMultinomial ns m
+    → limit < m
 exceeded ns m count total at limit within so_far all above is =
-    let one : AreInterleaved (take at ns ++ get_or ns at 0 ∷ []) = interleaved (sum (take at ns ++ get_or ns at 0 ∷ [])) (take at ns ++ get_or ns at 0 ∷ []) refl in
-    omega (arith, above (take at ns) one.0 (sym all) so_far one.2, list_up (take at ns ++ get_or ns at 0 ∷ []) (drop (at + 1) ns) one.0 m one.2 (subst (λ (ks : List ℕ). IsMultinomial ks m) (whole ns at within) is))
+    let one : AreInterleaved (take at ns ++ get_or ns at 0 ∷ []) =
+    interleaved (sum (take at ns ++ get_or ns at 0 ∷ [])) (take at ns ++ get_or ns at 0 ∷ []) refl in
+    omega (
+      arith,
+      above (take at ns) one.0 (sym all) so_far one.2,
+      list_up (take at ns ++ get_or ns at 0 ∷ [])
+          (drop (at + 1) ns) one.0 m one.2
+          (subst (λ (ks : List ℕ). IsMultinomial ks m) (whole ns at within) is),
+    )
   where
-    whole : (ns : List ℕ) (at : ℕ) → at < length ns → ns ≡ (take at ns ++ get_or ns at 0 ∷ []) ++ drop (at + 1) ns
-    whole ns at within = sym (take-append-drop (at + 1) ns) ∙ ap (λ (ks : List ℕ). ks ++ drop (at + 1) ns) (take_more ns at 0 within)
+    whole : (ns : List ℕ) (at : ℕ) → at < length ns
+        → ns ≡ (take at ns ++ get_or ns at 0 ∷ []) ++ drop (at + 1) ns
+    whole ns at within =
+        sym (take-append-drop (at + 1) ns)
+        ∙ ap (λ (ks : List ℕ). ks ++ drop (at + 1) ns) (take_more ns at 0 within)
 
 -- after all of them it is the coefficient
-pub all_counted : (ns : List ℕ) (count at limit : ℕ) → length ns ≤ at → IsMultinomial (take at ns) count → (m : ℕ) → IsMultinomial ns m → IsTrue (nat_lt limit count) ↔ limit < m
-all_counted ns count at limit past so_far m is =
-    (λ told. omega (arith, same, ltb-true limit count told), λ above. lt-ltb limit count (omega (arith, same, above)))
+pub all_counted : (ns : List ℕ) (count at limit : ℕ) → length ns ≤ at → IsMultinomial (take at ns) count
+    → (m : ℕ) → IsMultinomial ns m → IsTrue (nat_lt limit count) ↔ limit < m
+all_counted ns count at limit past so_far m is = (
+  λ told. omega (arith, same, ltb-true limit count told),
+  λ above. lt-ltb limit count (omega (arith, same, above)),
+)
   where
     same : count ≡ m
-    same = only_one ns count m (subst (λ (ks : List ℕ). IsMultinomial ks count) (take_all at ns past) so_far) is
+    same =
+        only_one ns count m (subst (λ (ks : List ℕ). IsMultinomial ks count) (take_all at ns past) so_far) is
 
 -- and their sum fits
-pub all_summed : (ns : List ℕ) (total at : ℕ) → length ns ≤ at → total ≡ sum (take at ns) → total < 18446744073709551616 → IsTrue true ↔ sum ns < 18446744073709551616
-all_summed ns total at past so_far fits = (λ told. omega (arith, fits, so_far, ap sum (take_all at ns past)), λ less. refl)
+pub all_summed : (ns : List ℕ) (total at : ℕ) → length ns ≤ at → total ≡ sum (take at ns)
+    → total < 18446744073709551616 → IsTrue true ↔ sum ns < 18446744073709551616
+all_summed ns total at past so_far fits =
+    (λ told. omega (arith, fits, so_far, ap sum (take_all at ns past)), λ less. refl)
 
 -- a coefficient that is not above the limit
-pub not_above : (ns : List ℕ) (limit : ℕ) (above : Bool) → ((m : ℕ) → IsMultinomial ns m → IsTrue above ↔ limit < m) → above ≡ false → ((m : ℕ) → IsMultinomial ns m → limit < m) → ⊥
+pub not_above : (ns : List ℕ) (limit : ℕ) (above : Bool)
+    → ((m : ℕ) → IsMultinomial ns m → IsTrue above ↔ limit < m) → above ≡ false
+    → ((m : ℕ) → IsMultinomial ns m → limit < m) → ⊥
 not_above ns limit above exact unset all =
     let one : AreInterleaved ns = interleaved (sum ns) ns refl in
     let told : above ≡ true = (exact one.0 one.2).1 (all one.0 one.2) in

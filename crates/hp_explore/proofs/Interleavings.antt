@@ -29,13 +29,17 @@ abbrev AllOne : List Line → Type 0
 AllOne lines = holds_no_plan lines ≡ true
 
 -- a script of such scripts is one
-one_script : (scripts : List (List Line)) (cpu : ℕ) (lines : List Line) → AreOneCalls scripts → slice_get scripts cpu ≡ Some lines → AllOne lines
+one_script : (scripts : List (List Line)) (cpu : ℕ) (lines : List Line) → AreOneCalls scripts
+    → slice_get scripts cpu ≡ Some lines → AllOne lines
 one_script [] cpu lines all here = absurd cc
-one_script (first ∷ scripts) zero lines all here = subst AllOne (same_Some first lines here) (and_parts _ _ all).0
-one_script (first ∷ scripts) (suc cpu) lines all here = one_script scripts cpu lines (and_parts _ _ all).1 here
+one_script (first ∷ scripts) zero lines all here =
+    subst AllOne (same_Some first lines here) (and_parts _ _ all).0
+one_script (first ∷ scripts) (suc cpu) lines all here =
+    one_script scripts cpu lines (and_parts _ _ all).1 here
 
 -- lines ask for something where there are fewer receipts than lines
-asks : (cpus op : ℕ) (lines : List Line) (rs : List Receipt) → AllOne lines → length rs < length lines → (e : Event) × (next_in cpus op lines rs ≡ Some e)
+asks : (cpus op : ℕ) (lines : List Line) (rs : List Receipt) → AllOne lines → length rs < length lines
+    → (e : Event) × (next_in cpus op lines rs ≡ Some e)
 asks cpus op [] rs all less = absurd (omega arith)
 asks cpus op (line ∷ lines) [] all less =
     let first = asks_once cpus op line (and_parts _ _ all).0 in
@@ -45,10 +49,13 @@ asks cpus op (line ∷ lines) (r ∷ rs) all less =
     (later.0, skips cpus op line lines r rs (and_parts _ _ all).0 ∙ later.1)
 
 -- and for nothing where there are as many
-asks_none : (cpus op : ℕ) (lines : List Line) (rs : List Receipt) → AllOne lines → length lines ≤ length rs → next_in cpus op lines rs ≡ None
+asks_none : (cpus op : ℕ) (lines : List Line) (rs : List Receipt) → AllOne lines → length lines ≤ length rs
+    → next_in cpus op lines rs ≡ None
 asks_none cpus op [] rs all le = refl
 asks_none cpus op (line ∷ lines) [] all le = absurd (omega arith)
-asks_none cpus op (line ∷ lines) (r ∷ rs) all le = skips cpus op line lines r rs (and_parts _ _ all).0 ∙ asks_none cpus op lines rs (and_parts _ _ all).1 (omega arith)
+asks_none cpus op (line ∷ lines) (r ∷ rs) all le =
+    skips cpus op line lines r rs (and_parts _ _ all).0
+    ∙ asks_none cpus op lines rs (and_parts _ _ all).1 (omega arith)
 
 -- ---- scripts
 
@@ -57,73 +64,123 @@ abbrev made : (cpu : ℕ) → List Record → ℕ
 made cpu news = length (receipts_of cpu news)
 
 -- a processor asks where it has made fewer calls than its script has lines
-call_asks : (g : Setting) (cpu : ℕ) (news : List Record) → AreOneCalls g.scripts → made cpu news < script_length g.scripts cpu → (e : Event) × (next_call g cpu news ≡ Some e)
+call_asks : (g : Setting) (cpu : ℕ) (news : List Record) → AreOneCalls g.scripts
+    → made cpu news < script_length g.scripts cpu → (e : Event) × (next_call g cpu news ≡ Some e)
 unfolding next_call
 call_asks g cpu news all less = by_script (slice_get g.scripts cpu) refl less
   where
-    by_script : (o : Option (List Line)) → slice_get g.scripts cpu ≡ o → made cpu news < option_map_or (λ lines. length lines) o 0 → (e : Event) × (option_and_then (λ lines. next_of g.layout.cpus lines (receipts_of cpu news)) (slice_get g.scripts cpu) ≡ Some e)
+    by_script : (o : Option (List Line)) → slice_get g.scripts cpu ≡ o
+        → made cpu news < option_map_or (λ lines. length lines) o 0
+        → (e : Event) × (option_and_then (λ lines. next_of g.layout.cpus lines (receipts_of cpu news))
+        (slice_get g.scripts cpu) ≡ Some e)
     by_script None is h = absurd (omega arith)
     by_script (Some lines) is h =
-        let e = asks g.layout.cpus (own_operation (receipts_of cpu news)) lines (receipts_of cpu news) (one_script g.scripts cpu lines all is) h in
-        (e.0, ap (option_and_then (λ (ls : List Line). next_of g.layout.cpus ls (receipts_of cpu news))) is ∙ e.1)
+        let e =
+        asks g.layout.cpus (own_operation (receipts_of cpu news)) lines (receipts_of cpu news)
+        (one_script g.scripts cpu lines all is) h in (
+          e.0,
+          ap (option_and_then (λ (ls : List Line). next_of g.layout.cpus ls (receipts_of cpu news))) is
+              ∙ e.1,
+        )
 
-call_none : (g : Setting) (cpu : ℕ) (news : List Record) → AreOneCalls g.scripts → script_length g.scripts cpu ≤ made cpu news → next_call g cpu news ≡ None
+call_none : (g : Setting) (cpu : ℕ) (news : List Record) → AreOneCalls g.scripts
+    → script_length g.scripts cpu ≤ made cpu news → next_call g cpu news ≡ None
 unfolding next_call
 call_none g cpu news all le = by_script (slice_get g.scripts cpu) refl le
   where
-    by_script : (o : Option (List Line)) → slice_get g.scripts cpu ≡ o → option_map_or (λ lines. length lines) o 0 ≤ made cpu news → option_and_then (λ lines. next_of g.layout.cpus lines (receipts_of cpu news)) (slice_get g.scripts cpu) ≡ None
-    by_script None is h = ap (option_and_then (λ (ls : List Line). next_of g.layout.cpus ls (receipts_of cpu news))) is
+    by_script : (o : Option (List Line)) → slice_get g.scripts cpu ≡ o
+        → option_map_or (λ lines. length lines) o 0 ≤ made cpu news
+        → option_and_then (λ lines. next_of g.layout.cpus lines (receipts_of cpu news))
+        (slice_get g.scripts cpu) ≡ None
+    by_script None is h =
+        ap (option_and_then (λ (ls : List Line). next_of g.layout.cpus ls (receipts_of cpu news))) is
     by_script (Some lines) is h =
         ap (option_and_then (λ (ls : List Line). next_of g.layout.cpus ls (receipts_of cpu news))) is
-        ∙ asks_none g.layout.cpus (own_operation (receipts_of cpu news)) lines (receipts_of cpu news) (one_script g.scripts cpu lines all is) h
+        ∙ asks_none g.layout.cpus (own_operation (receipts_of cpu news)) lines (receipts_of cpu news)
+        (one_script g.scripts cpu lines all is) h
 
 -- a processor's call is one more of its own
-made_more : (g : Setting) (cpu c : ℕ) (news : List Record) (e : Event) (own : Bool) → eqb c cpu ≡ own → made cpu (news ++ record_of_call g news c e ∷ []) ≡ made cpu news + cond own 1 0
+made_more : (g : Setting) (cpu c : ℕ) (news : List Record) (e : Event) (own : Bool) → eqb c cpu ≡ own
+    → made cpu (news ++ record_of_call g news c e ∷ []) ≡ made cpu news + cond own 1 0
 unfolding record_of_call
-made_more g cpu c news e true own = ap length (receipts_push cpu news (record_of_call g news c e) true own) ∙ length_push (receipts_of cpu news) (receipt_of (record_of_call g news c e))
+made_more g cpu c news e true own =
+    ap length (receipts_push cpu news (record_of_call g news c e) true own)
+    ∙ length_push (receipts_of cpu news) (receipt_of (record_of_call g news c e))
 made_more g cpu c news e false own =
-    ap length (receipts_push cpu news (record_of_call g news c e) false own) ∙ (ap length (append-nil (receipts_of cpu news)) ∙ omega arith)
+    ap length (receipts_push cpu news (record_of_call g news c e) false own)
+    ∙ (ap length (append-nil (receipts_of cpu news)) ∙ omega arith)
 
 -- ---- schedules
 
 -- each processor has made the calls of its turns, and no more than its script has
-turns_made : (g : Setting) (cpu : ℕ) (s : List ℕ) (news end : List Record) → AreOneCalls g.scripts → from_news g news s ≡ Some end → made cpu news ≤ script_length g.scripts cpu
+turns_made : (g : Setting) (cpu : ℕ) (s : List ℕ) (news end : List Record) → AreOneCalls g.scripts
+    → from_news g news s ≡ Some end → made cpu news ≤ script_length g.scripts cpu
     → (made cpu end ≡ made cpu news + turns_of cpu s) × (made cpu end ≤ script_length g.scripts cpu)
 turns_made g cpu [] news end all is le =
-    let same : news ≡ end = same_Some news end is in
-    (ap (made cpu) (sym same) ∙ omega arith, subst (λ (h : List Record). made cpu h ≤ script_length g.scripts cpu) same le)
-turns_made g cpu (c ∷ s) news end all is le = by_next (next_call g c news) refl (eqb c cpu) refl (λ later on few. turns_made g cpu s later end all on few)
+    let same : news ≡ end = same_Some news end is in (
+      ap (made cpu) (sym same)
+          ∙ omega arith,
+      subst (λ (h : List Record). made cpu h ≤ script_length g.scripts cpu) same le,
+    )
+turns_made g cpu (c ∷ s) news end all is le =
+    by_next (next_call g c news) refl (eqb c cpu) refl
+    (λ later on few. turns_made g cpu s later end all on few)
   where
-    by_next : (o : Option Event) → next_call g c news ≡ o → (own : Bool) → eqb c cpu ≡ own → ((later : List Record) → from_news g later s ≡ Some end → made cpu later ≤ script_length g.scripts cpu → (made cpu end ≡ made cpu later + turns_of cpu s) × (made cpu end ≤ script_length g.scripts cpu)) → (made cpu end ≡ made cpu news + turns_of cpu (c ∷ s)) × (made cpu end ≤ script_length g.scripts cpu)
-    by_next None next own which rest = absurd (none-some end (sym (ap (λ (x : Option (List Record)). fold (play_one g) x s) (plays_one g news c None next) ∙ stays_none g s) ∙ is))
+    by_next : (o : Option Event) → next_call g c news ≡ o → (own : Bool) → eqb c cpu ≡ own
+        → ((later : List Record) → from_news g later s ≡ Some end
+        → made cpu later ≤ script_length g.scripts cpu
+        → (made cpu end ≡ made cpu later + turns_of cpu s) × (made cpu end ≤ script_length g.scripts cpu))
+        → (made cpu end ≡ made cpu news + turns_of cpu (c ∷ s)) × (made cpu end ≤ script_length g.scripts cpu)
+    by_next None next own which rest =
+        absurd (none-some end
+        (sym (ap (λ (x : Option (List Record)). fold (play_one g) x s) (plays_one g news c None next)
+        ∙ stays_none g s) ∙ is))
     by_next (Some e) next own which rest =
         let more = made_more g cpu c news e own which in
-        let on : from_news g (news ++ record_of_call g news c e ∷ []) s ≡ Some end = sym (ap (λ (x : Option (List Record)). fold (play_one g) x s) (plays_one g news c (Some e) next)) ∙ is in
+        let on : from_news g (news ++ record_of_call g news c e ∷ []) s ≡ Some end =
+        sym (ap (λ (x : Option (List Record)). fold (play_one g) x s) (plays_one g news c (Some e) next))
+        ∙ is in
         let later = rest (news ++ record_of_call g news c e ∷ []) on (room own which more) in
         (omega (arith, later.0, more, turns_cons cpu c s own which), later.1)
       where
-        room : (own : Bool) → eqb c cpu ≡ own → made cpu (news ++ record_of_call g news c e ∷ []) ≡ made cpu news + cond own 1 0 → made cpu (news ++ record_of_call g news c e ∷ []) ≤ script_length g.scripts cpu
+        room : (own : Bool) → eqb c cpu ≡ own
+            → made cpu (news ++ record_of_call g news c e ∷ []) ≡ made cpu news + cond own 1 0
+            → made cpu (news ++ record_of_call g news c e ∷ []) ≤ script_length g.scripts cpu
         room false which more = omega (arith, more, le)
         room true which more =
             let same : c ≡ cpu = eqb-true c cpu which in
             elim (cases_lt (made cpu news) (script_length g.scripts cpu)) [
               | inl less ↦ omega (arith, more, less)
-              | inr past ↦ absurd (none-some e (sym (subst (λ (d : ℕ). next_call g d news ≡ None) (sym same) (call_none g cpu news all past)) ∙ next))
+              | inr past ↦
+                  absurd (none-some e (sym
+                  (subst (λ (d : ℕ). next_call g d news ≡ None) (sym same) (call_none g cpu news all past))
+                  ∙ next))
             ]
 
 -- a schedule in which each processor stands as often as its script has lines can be played
-turns_play : (g : Setting) (s : List ℕ) (news : List Record) → AreOneCalls g.scripts → ((cpu : ℕ) → made cpu news + turns_of cpu s ≡ script_length g.scripts cpu) → (end : List Record) × (from_news g news s ≡ Some end)
+turns_play : (g : Setting) (s : List ℕ) (news : List Record) → AreOneCalls g.scripts
+    → ((cpu : ℕ) → made cpu news + turns_of cpu s ≡ script_length g.scripts cpu)
+    → (end : List Record) × (from_news g news s ≡ Some end)
 turns_play g [] news all counts = (news, refl)
 turns_play g (c ∷ s) news all counts =
     let asked = call_asks g c news all (omega (arith, counts c, turns_cons c c s true (eq-eqb c c refl))) in
-    let later = turns_play g s (news ++ record_of_call g news c asked.0 ∷ []) all (λ cpu. by_owner cpu (eqb c cpu) refl asked.0) in
-    (later.0, ap (λ (x : Option (List Record)). fold (play_one g) x s) (plays_one g news c (Some asked.0) asked.1) ∙ later.1)
+    let later =
+    turns_play g s (news ++ record_of_call g news c asked.0 ∷ []) all
+    (λ cpu. by_owner cpu (eqb c cpu) refl asked.0) in (
+      later.0,
+      ap (λ (x : Option (List Record)). fold (play_one g) x s)
+          (plays_one g news c (Some asked.0) asked.1) ∙ later.1,
+    )
   where
-    by_owner : (cpu : ℕ) (own : Bool) → eqb c cpu ≡ own → (e : Event) → made cpu (news ++ record_of_call g news c e ∷ []) + turns_of cpu s ≡ script_length g.scripts cpu
-    by_owner cpu own which e = omega (arith, counts cpu, turns_cons cpu c s own which, made_more g cpu c news e own which)
+    by_owner : (cpu : ℕ) (own : Bool) → eqb c cpu ≡ own → (e : Event)
+        → made cpu (news ++ record_of_call g news c e ∷ []) + turns_of cpu s ≡ script_length g.scripts cpu
+    by_owner cpu own which e =
+        omega (arith, counts cpu, turns_cons cpu c s own which, made_more g cpu c news e own which)
 
--- the complete schedules of such scripts are those in which each processor stands as often as its script has lines
-pub complete_schedules : (g : Setting) (s : List ℕ) → AreOneCalls g.scripts → IsComplete g s ↔ IsInterleaving g.scripts s
+-- the complete schedules of such scripts are those in which each processor stands as often as its
+-- script has lines
+pub complete_schedules : (g : Setting) (s : List ℕ) → AreOneCalls g.scripts
+    → IsComplete g s ↔ IsInterleaving g.scripts s
 unfolding plays
 complete_schedules g s all = (to, from)
   where
@@ -131,7 +188,8 @@ complete_schedules g s all = (to, from)
     to h cpu =
         let made_all = turns_made g cpu s [] h.1.news all h.1.played (omega arith) in
         elim (cases_lt (made cpu h.1.news) (script_length g.scripts cpu)) [
-          | inl less ↦ absurd (let e = call_asks g cpu h.1.news all less in none-some e.0 (sym (h.1.over cpu) ∙ e.1))
+          | inl less ↦
+              absurd (let e = call_asks g cpu h.1.news all less in none-some e.0 (sym (h.1.over cpu) ∙ e.1))
           | inr past ↦ omega (arith, made_all.0, made_all.1, past)
         ]
 
@@ -142,7 +200,10 @@ complete_schedules g s all = (to, from)
           record {
             news = end.0;
             played = end.1;
-            over = λ cpu. call_none g cpu end.0 all (let m = turns_made g cpu s [] end.0 all end.1 (omega arith) in omega (arith, m.0, counts cpu));
+            over =
+                λ cpu.
+                call_none g cpu end.0 all (let m = turns_made g cpu s [] end.0 all end.1 (omega arith) in
+                omega (arith, m.0, counts cpu));
             ends = refl;
           },
         )
@@ -150,16 +211,21 @@ complete_schedules g s all = (to, from)
 -- ---- how many there are
 
 -- the length of a processor's script
-length_at : (scripts : List (List Line)) (cpu : ℕ) → get_or (script_lengths scripts) cpu 0 ≡ script_length scripts cpu
+length_at : (scripts : List (List Line)) (cpu : ℕ)
+    → get_or (script_lengths scripts) cpu 0 ≡ script_length scripts cpu
 length_at [] cpu = refl
 length_at (lines ∷ scripts) zero = refl
 length_at (lines ∷ scripts) (suc cpu) = length_at scripts cpu
 
 -- as many as the multinomial coefficient of the scripts' lengths
-complete_counted : (g : Setting) → AreOneCalls g.scripts → (m : ℕ) × HasCount (IsComplete g) m × IsMultinomial (script_lengths g.scripts) m
+complete_counted : (g : Setting) → AreOneCalls g.scripts
+    → (m : ℕ) × HasCount (IsComplete g) m × IsMultinomial (script_lengths g.scripts) m
 complete_counted g all =
-    let counted = interleaved (sum (script_lengths g.scripts)) (script_lengths g.scripts) refl in
-    (counted.0, same_count (HasTurns (script_lengths g.scripts)) (IsComplete g) counted.0 to from counted.1, counted.2)
+    let counted = interleaved (sum (script_lengths g.scripts)) (script_lengths g.scripts) refl in (
+      counted.0,
+      same_count (HasTurns (script_lengths g.scripts)) (IsComplete g) counted.0 to from counted.1,
+      counted.2,
+    )
   where
     to : (s : List ℕ) → HasTurns (script_lengths g.scripts) s → IsComplete g s
     to s h = (complete_schedules g s all).1 (λ cpu. h cpu ∙ length_at g.scripts cpu)
@@ -167,7 +233,8 @@ complete_counted g all =
     from : (s : List ℕ) → IsComplete g s → HasTurns (script_lengths g.scripts) s
     from s h cpu = (complete_schedules g s all).0 h cpu ∙ sym (length_at g.scripts cpu)
 
-pub counted_by_lengths : (g : Setting) (m : ℕ) → AreOneCalls g.scripts → HasCount (IsComplete g) m → IsMultinomial (script_lengths g.scripts) m
+pub counted_by_lengths : (g : Setting) (m : ℕ) → AreOneCalls g.scripts → HasCount (IsComplete g) m
+    → IsMultinomial (script_lengths g.scripts) m
 counted_by_lengths g m all counted =
     let one = complete_counted g all in
     subst (IsMultinomial (script_lengths g.scripts)) (only_count (IsComplete g) one.0 m one.1 counted) one.2

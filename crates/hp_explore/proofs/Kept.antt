@@ -29,36 +29,50 @@ use Rattle.hp_explore.proofs.Merges.{like_alike, merged, walked_seen}
 abbrev counts_of : List Ending → List ℕ
 counts_of ends = map (λ (e : Ending). e.count) ends
 
-count_read : (ends : List Ending) (k : ℕ) (e : Ending) → slice_get ends k ≡ Some e → get_or (counts_of ends) k 0 ≡ e.count
+count_read : (ends : List Ending) (k : ℕ) (e : Ending) → slice_get ends k ≡ Some e
+    → get_or (counts_of ends) k 0 ≡ e.count
 count_read [] k e h = absurd cc
 count_read (f ∷ ends) zero e h = ap (λ (g : Ending). g.count) (same_Some f e h)
 count_read (f ∷ ends) (suc k) e h = count_read ends k e h
 
 count_past : (ends : List Ending) (k : ℕ) → length ends ≤ k → get_or (counts_of ends) k 0 ≡ 0
-count_past ends k past = get_or_past (counts_of ends) k 0 (omega (arith, past, length-map ends (λ (e : Ending). e.count)))
+count_past ends k past =
+    get_or_past (counts_of ends) k 0 (omega (arith, past, length-map ends (λ (e : Ending). e.count)))
 
 -- ends that grew count no less
-pub grown_no_more : (old new : List Ending) (earlier : List ℕ) → earlier ≡ counts_of old → Grow old new → AreNoMore earlier new
+pub grown_no_more : (old new : List Ending) (earlier : List ℕ) → earlier ≡ counts_of old → Grow old new
+    → AreNoMore earlier new
 grown_no_more old new earlier is grow = subst (λ (ks : List ℕ). AreNoMore ks new) (sym is) no_more
   where
     no_more : (k : ℕ) (f : Ending) → slice_get new k ≡ Some f → get_or (counts_of old) k 0 ≤ f.count
     no_more k f h =
         elim (cases_lt k (length old)) [
-          | inl less ↦ (let e = get_some old k less in omega (arith, count_read old k e.0 e.1, (grow.kept k e.0 f e.1 h).1))
+          | inl less ↦
+              (let e = get_some old k less in
+              omega (arith, count_read old k e.0 e.1, (grow.kept k e.0 f e.1 h).1))
           | inr past ↦ omega (arith, count_past old k past)
         ]
 
 -- an end counts no less than it did
-pub was_below : (ends shown : List Ending) (earlier : List ℕ) (place was : ℕ) (e : Ending) → shown ≡ ends → place < length shown → e ≡ get_or shown place e → AreNoMore earlier ends → was ≡ get_or earlier place 0 → was ≤ e.count
-was_below ends shown earlier place was e is within read no_more was_is = omega (arith, was_is, no_more place e here)
+pub was_below : (ends shown : List Ending) (earlier : List ℕ) (place was : ℕ) (e : Ending) → shown ≡ ends
+    → place < length shown → e ≡ get_or shown place e → AreNoMore earlier ends → was ≡ get_or earlier place 0
+    → was ≤ e.count
+was_below ends shown earlier place was e is within read no_more was_is =
+    omega (arith, was_is, no_more place e here)
   where
     here : slice_get ends place ≡ Some e
-    here = subst (λ (es : List Ending). slice_get es place ≡ Some e) is (slice_get_read shown (length shown) place e refl within read)
+    here =
+        subst (λ (es : List Ending). slice_get es place ≡ Some e) is
+        (slice_get_read shown (length shown) place e refl within read)
 
 -- what one end more counts more
-pub since_more : (ends : List Ending) (earlier before after : List ℕ) (place was : ℕ) (e : Ending) → slice_get ends place ≡ Some e → AreNoMore earlier ends → was ≡ get_or earlier place 0 → after ≡ before ++ (e.count - was) ∷ [] → length before ≡ place
-    → ((k : ℕ) (f : Ending) → k < place → slice_get ends k ≡ Some f → get_or earlier k 0 + get_or before k 0 ≡ f.count)
-    → (length after ≡ place + 1) × ((k : ℕ) (f : Ending) → k < place + 1 → slice_get ends k ≡ Some f → get_or earlier k 0 + get_or after k 0 ≡ f.count)
+pub since_more : (ends : List Ending) (earlier before after : List ℕ) (place was : ℕ) (e : Ending)
+    → slice_get ends place ≡ Some e → AreNoMore earlier ends → was ≡ get_or earlier place 0
+    → after ≡ before ++ (e.count - was) ∷ [] → length before ≡ place
+    → ((k : ℕ) (f : Ending) → k < place → slice_get ends k ≡ Some f
+    → get_or earlier k 0 + get_or before k 0 ≡ f.count)
+    → (length after ≡ place + 1) × ((k : ℕ) (f : Ending) → k < place + 1 → slice_get ends k ≡ Some f
+    → get_or earlier k 0 + get_or after k 0 ≡ f.count)
 since_more ends earlier before after place was e here no_more was_is after_is many so_far = (
   omega (arith, ap (λ (ks : List ℕ). length ks) after_is, length_push before (e.count - was), many),
   each,
@@ -69,19 +83,36 @@ since_more ends earlier before after place was e here no_more was_is after_is ma
         ap (λ (ks : List ℕ). get_or ks place 0) after_is
         ∙ get_or_push before (e.count - was) 0 place many
 
-    each : (k : ℕ) (f : Ending) → k < place + 1 → slice_get ends k ≡ Some f → get_or earlier k 0 + get_or after k 0 ≡ f.count
+    each : (k : ℕ) (f : Ending) → k < place + 1 → slice_get ends k ≡ Some f
+        → get_or earlier k 0 + get_or after k 0 ≡ f.count
     each k f less h =
         elim (cases_lt k place) [
-          | inl earlier_one ↦ omega (arith, so_far k f earlier_one h, ap (λ (ks : List ℕ). get_or ks k 0) after_is, get_or_append_left before ((e.count - was) ∷ []) 0 k (omega (arith, many)))
+          | inl earlier_one ↦
+              omega (
+                arith,
+                so_far k f earlier_one h,
+                ap (λ (ks : List ℕ). get_or ks k 0) after_is,
+                get_or_append_left before ((e.count - was) ∷ []) 0 k (omega (arith, many)),
+              )
           | inr past ↦ (let same : k ≡ place = omega (arith, less, past) in
               let end : e ≡ f = same_Some e f (sym here ∙ (ap (slice_get ends) (sym same) ∙ h)) in
-              omega (arith, last, was_is, no_more place e here, ap (λ (y : Ending). y.count) end, ap (λ (n : ℕ). get_or earlier n 0) same, ap (λ (n : ℕ). get_or after n 0) same))
+              omega (
+                arith,
+                last,
+                was_is,
+                no_more place e here,
+                ap (λ (y : Ending). y.count) end,
+                ap (λ (n : ℕ). get_or earlier n 0) same,
+                ap (λ (n : ℕ). get_or after n 0) same,
+              ))
         ]
 
 -- ---- a place that was walked
 
-pub place_kept : (g : Setting) (p : StepsValue) (seen : SeenValue) (old new : List Ending) (earlier : List ℕ) → IsAt g p → seen.memory ≡ p.state → seen.news ≡ p.records → IsClosed (net_of (g.start ++ p.records))
-    → earlier ≡ counts_of old → AreSince earlier new seen.counts → Grow old new → CountsBefore g p old → CountsThrough g p new → IsSeen g new seen
+pub place_kept : (g : Setting) (p : StepsValue) (seen : SeenValue) (old new : List Ending) (earlier : List ℕ)
+    → IsAt g p → seen.memory ≡ p.state → seen.news ≡ p.records → IsClosed (net_of (g.start ++ p.records))
+    → earlier ≡ counts_of old → AreSince earlier new seen.counts → Grow old new → CountsBefore g p old
+    → CountsThrough g p new → IsSeen g new seen
 place_kept g p seen old new earlier here memory news closed is since grow before through =
     walked_seen g seen old new
     (ap (λ (h : List Record). plays_of h) news ∙ (here.played ∙ ap Some (sym news)))
@@ -94,23 +125,36 @@ place_kept g p seen old new earlier here memory news closed is since grow before
     plays_of : List Record → Option (List Record)
     plays_of h = plays g (schedule_of h)
 
-    more : (i : ℕ) (e f : Ending) → slice_get old i ≡ Some e → slice_get new i ≡ Some f → e.count + get_or seen.counts i 0 ≡ f.count
-    more i e f h k = omega (arith, since.each i f k, ap (λ (ks : List ℕ). get_or ks i 0) is, count_read old i e h)
+    more : (i : ℕ) (e f : Ending) → slice_get old i ≡ Some e → slice_get new i ≡ Some f
+        → e.count + get_or seen.counts i 0 ≡ f.count
+    more i e f h k =
+        omega (arith, since.each i f k, ap (λ (ks : List ℕ). get_or ks i 0) is, count_read old i e h)
 
     all : (i : ℕ) (f : Ending) → slice_get new i ≡ Some f → length old ≤ i → get_or seen.counts i 0 ≡ f.count
-    all i f k past = omega (arith, since.each i f k, ap (λ (ks : List ℕ). get_or ks i 0) is, count_past old i past)
+    all i f k past =
+        omega (arith, since.each i f k, ap (λ (ks : List ℕ). get_or ks i 0) is, count_past old i past)
 
 -- one more is kept
-pub memo_more : (g : Setting) (new : List Ending) (memo later : MemoValue) (seen : SeenValue) → later ≡ record memo { seen = memo.seen ++ seen ∷ [] } → IsMemo g new memo → IsSeen g new seen → IsMemo g new later
-memo_more g new memo later seen is kept one = subst (IsMemo g new) (sym is) (record { all = all_more g new memo.seen seen kept.all one; undo = kept.undo })
+pub memo_more : (g : Setting) (new : List Ending) (memo later : MemoValue) (seen : SeenValue)
+    → later ≡ record memo { seen = memo.seen ++ seen ∷ [] } → IsMemo g new memo → IsSeen g new seen
+    → IsMemo g new later
+memo_more g new memo later seen is kept one =
+    subst (IsMemo g new) (sym is)
+    (record { all = all_more g new memo.seen seen kept.all one; undo = kept.undo })
 
 -- ---- one that is found again
 
 -- what is added to the ends
-pub found_counted : (g : Setting) (p : StepsValue) (memo : MemoValue) (old new : List Ending) (memory : Memory) (news : List Record) (cpus : ℕ) (counts : List ℕ) → IsAt g p → IsMemo g old memo → memo.is_on ≡ true → IsClosed (net_of (g.start ++ p.records))
-    → memory ≡ p.state → news ≡ p.records → cpus ≡ length g.scripts → IsLikeAmong memo.seen memory news cpus counts → CountsBefore g p old → AddsCounts old counts new → CountsThrough g p new
-found_counted g p memo old new memory news cpus counts here kept on closed memory_is news_is cpus_is like before adds =
-    merged g (schedule_of p.records) p.records like.1 old new (kept.undo on) here.played (like_alike g p old like.1 here seen alike closed) seen before (subst (λ (ks : List ℕ). AddsCounts old ks new) like.4 adds)
+pub found_counted : (g : Setting) (p : StepsValue) (memo : MemoValue) (old new : List Ending)
+    (memory : Memory) (news : List Record) (cpus : ℕ) (counts : List ℕ)
+    → IsAt g p → IsMemo g old memo → memo.is_on ≡ true → IsClosed (net_of (g.start ++ p.records))
+    → memory ≡ p.state → news ≡ p.records → cpus ≡ length g.scripts
+    → IsLikeAmong memo.seen memory news cpus counts → CountsBefore g p old → AddsCounts old counts new
+    → CountsThrough g p new
+found_counted g p memo old new memory news cpus counts here kept on closed memory_is news_is cpus_is like
+    before adds =
+    merged g (schedule_of p.records) p.records like.1 old new (kept.undo on) here.played (like_alike g p old
+    like.1 here seen alike closed) seen before (subst (λ (ks : List ℕ). AddsCounts old ks new) like.4 adds)
   where
     seen : IsSeen g old like.1
     seen = kept.all like.0 like.1 like.2
@@ -118,13 +162,19 @@ found_counted g p memo old new memory news cpus counts here kept on closed memor
     alike : IsLike like.1 p.state p.records (length g.scripts)
     alike =
         subst (λ (s : Memory). IsLike like.1 s p.records (length g.scripts)) memory_is
-        (subst (λ (h : List Record). IsLike like.1 memory h (length g.scripts)) news_is (subst (λ (n : ℕ). IsLike like.1 memory news n) cpus_is like.3))
+        (subst (λ (h : List Record). IsLike like.1 memory h (length g.scripts)) news_is
+        (subst (λ (n : ℕ). IsLike like.1 memory news n) cpus_is like.3))
 
-pub found_few : (g : Setting) (memo : MemoValue) (ends : List Ending) (memory : Memory) (news : List Record) (cpus : ℕ) (counts : List ℕ) → IsMemo g ends memo → IsLikeAmong memo.seen memory news cpus counts → length counts ≤ length ends
-found_few g memo ends memory news cpus counts kept like = omega (arith, (kept.all like.0 like.1 like.2).few, ap (λ (ks : List ℕ). length ks) like.4)
+pub found_few : (g : Setting) (memo : MemoValue) (ends : List Ending) (memory : Memory) (news : List Record)
+    (cpus : ℕ) (counts : List ℕ)
+    → IsMemo g ends memo → IsLikeAmong memo.seen memory news cpus counts → length counts ≤ length ends
+found_few g memo ends memory news cpus counts kept like =
+    omega (arith, (kept.all like.0 like.1 like.2).few, ap (λ (ks : List ℕ). length ks) like.4)
 
-pub memo_added : (g : Setting) (old new : List Ending) (memo : MemoValue) → Grow old new → IsMemo g old memo → IsMemo g new memo
-memo_added g old new memo grow kept = record { all = all_grow g old new memo.seen grow kept.all; undo = kept.undo }
+pub memo_added : (g : Setting) (old new : List Ending) (memo : MemoValue) → Grow old new → IsMemo g old memo
+    → IsMemo g new memo
+memo_added g old new memo grow kept =
+    record { all = all_grow g old new memo.seen grow kept.all; undo = kept.undo }
 
 -- ---- counts that are added
 
@@ -132,16 +182,24 @@ memo_added g old new memo grow kept = record { all = all_grow g old new memo.see
 abbrev added_to : List Ending → List ℕ → List Ending
 added_to [] counts = []
 added_to (e ∷ ends) [] = e ∷ ends
-added_to (e ∷ ends) (c ∷ counts) = record { outcome = e.outcome; count = e.count + c; first = e.first } ∷ added_to ends counts
+added_to (e ∷ ends) (c ∷ counts) =
+    record { outcome = e.outcome; count = e.count + c; first = e.first } ∷ added_to ends counts
 
 added_many : (ends : List Ending) (counts : List ℕ) → length (added_to ends counts) ≡ length ends
 added_many [] counts = refl
 added_many (e ∷ ends) [] = refl
 added_many (e ∷ ends) (c ∷ counts) = ap suc (added_many ends counts)
 
-added_each : (ends : List Ending) (counts : List ℕ) (k : ℕ) (e f : Ending) → slice_get ends k ≡ Some e → slice_get (added_to ends counts) k ≡ Some f → (f.outcome ≡ e.outcome) × (f.first.items ≡ e.first.items) × (f.count ≡ e.count + get_or counts k 0)
+added_each : (ends : List Ending) (counts : List ℕ) (k : ℕ) (e f : Ending) → slice_get ends k ≡ Some e
+    → slice_get (added_to ends counts) k ≡ Some f
+    → (f.outcome ≡ e.outcome) × (f.first.items ≡ e.first.items) × (f.count ≡ e.count + get_or counts k 0)
 added_each [] counts k e f h i = absurd cc
-added_each (x ∷ ends) [] k e f h i = let same : e ≡ f = same_Some e f (sym h ∙ i) in (ap (λ (y : Ending). y.outcome) (sym same), ap (λ (y : Ending). y.first.items) (sym same), omega (arith, ap (λ (y : Ending). y.count) same))
+added_each (x ∷ ends) [] k e f h i =
+    let same : e ≡ f = same_Some e f (sym h ∙ i) in (
+      ap (λ (y : Ending). y.outcome) (sym same),
+      ap (λ (y : Ending). y.first.items) (sym same),
+      omega (arith, ap (λ (y : Ending). y.count) same),
+    )
 added_each (x ∷ ends) (c ∷ counts) zero e f h i =
     let first : x ≡ e = same_Some x e h in
     let more : record { outcome = x.outcome; count = x.count + c; first = x.first } ≡ f = same_Some _ f i in (
@@ -155,7 +213,10 @@ adds_counts : (ends : List Ending) (counts : List ℕ) → AddsCounts ends count
 adds_counts ends counts = record { as_many = added_many ends counts; more = added_each ends counts }
 
 -- so there are more than the limit where they could not all be added
-pub found_exceeds : (g : Setting) (q : List ℕ) (ends : List Ending) (counts : List ℕ) (limit : ℕ) → length counts ≤ length ends → ((new : List Ending) → AddsCounts ends counts new → AreCounted (Through g q) new) → limit < sum_by (λ (e : Ending). e.count) ends + sum counts → HasMoreThan (IsComplete g) limit
+pub found_exceeds : (g : Setting) (q : List ℕ) (ends : List Ending) (counts : List ℕ) (limit : ℕ)
+    → length counts ≤ length ends
+    → ((new : List Ending) → AddsCounts ends counts new → AreCounted (Through g q) new)
+    → limit < sum_by (λ (e : Ending). e.count) ends + sum counts → HasMoreThan (IsComplete g) limit
 found_exceeds g q ends counts limit few counted above = (
   more.0,
   record { each = λ i s h. let x = more.1.each i s h in (x.0, x.1.1); once = more.1.once },
@@ -164,12 +225,22 @@ found_exceeds g q ends counts limit few counted above = (
   where
     more : HasMoreThan (λ s. (x : OutcomeValue) × Through g q s x) limit
     more =
-        more_listed (λ s. (x : OutcomeValue) × Through g q s x) (sum_by (λ (e : Ending). e.count) (added_to ends counts)) limit (omega (arith, above, added_sums ends (added_to ends counts) counts few (adds_counts ends counts))) (counted (added_to ends counts) (adds_counts ends counts)).total
+        more_listed (λ s. (x : OutcomeValue) × Through g q s x)
+        (sum_by (λ (e : Ending). e.count) (added_to ends counts)) limit
+        (omega (arith, above, added_sums ends (added_to ends counts) counts few (adds_counts ends counts)))
+        (counted (added_to ends counts) (adds_counts ends counts)).total
 
 -- the fault where what was found could not be added
-pub found_fault : (g : Setting) (p : StepsValue) (memo : MemoValue) (tally : TallyValue) (memory : Memory) (news : List Record) (cpus : ℕ) (counts : List ℕ) (fault : ExploreFault) → IsAt g p → IsMemo g tally.ends memo → memo.is_on ≡ true → IsClosed (net_of (g.start ++ p.records))
-    → memory ≡ p.state → news ≡ p.records → cpus ≡ length g.scripts → IsLikeAmong memo.seen memory news cpus counts → CountsBefore g p tally.ends → IsAddCause tally counts fault → IsWalkCause g tally.limit fault
-found_fault g p memo tally memory news cpus counts fault here kept on closed memory_is news_is cpus_is like before cause =
+pub found_fault : (g : Setting) (p : StepsValue) (memo : MemoValue) (tally : TallyValue) (memory : Memory)
+    (news : List Record) (cpus : ℕ) (counts : List ℕ) (fault : ExploreFault)
+    → IsAt g p → IsMemo g tally.ends memo → memo.is_on ≡ true → IsClosed (net_of (g.start ++ p.records))
+    → memory ≡ p.state → news ≡ p.records → cpus ≡ length g.scripts
+    → IsLikeAmong memo.seen memory news cpus counts → CountsBefore g p tally.ends
+    → IsAddCause tally counts fault → IsWalkCause g tally.limit fault
+found_fault g p memo tally memory news cpus counts fault here kept on closed memory_is news_is cpus_is like
+    before cause =
     subst (IsWalkCause g tally.limit) (sym cause.0)
-    (found_exceeds g (schedule_of p.records) tally.ends counts tally.limit (found_few g memo tally.ends memory news cpus counts kept like)
-    (λ new adds. found_counted g p memo tally.ends new memory news cpus counts here kept on closed memory_is news_is cpus_is like before adds) cause.1)
+    (found_exceeds g (schedule_of p.records) tally.ends counts tally.limit
+    (found_few g memo tally.ends memory news cpus counts kept like)
+    (λ new adds. found_counted g p memo tally.ends new memory news cpus counts here kept on closed memory_is
+    news_is cpus_is like before adds) cause.1)

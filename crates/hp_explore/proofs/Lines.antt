@@ -16,7 +16,8 @@ use Rattle.hp_explore.specs.Scripts.{after_line, line_next, next_in}
 
 -- ---- the last receipt
 
-last_is : (o : Option Receipt) (rs : List Receipt) (r : Receipt) → 1 ≤ length rs → r ≡ get_or rs (length rs - 1) r → last_or o rs ≡ Some r
+last_is : (o : Option Receipt) (rs : List Receipt) (r : Receipt) → 1 ≤ length rs
+    → r ≡ get_or rs (length rs - 1) r → last_or o rs ≡ Some r
 last_is o [] r some is = absurd (omega arith)
 last_is o (x ∷ []) r some is = ap Some (sym is)
 last_is o (x ∷ y ∷ rs) r some is = last_is (Some x) (y ∷ rs) r (omega arith) (is ∙ step)
@@ -28,9 +29,12 @@ last_is o (x ∷ y ∷ rs) r some is = last_is (Some x) (y ∷ rs) r (omega arit
     step = ap (λ (k : ℕ). get_or (x ∷ y ∷ rs) k r) less
 
 -- a driver's next event follows from the last receipt
-pub run_on : (cpus turns : ℕ) (plan : List Item) (rs : List Receipt) (r : Receipt) (next : Option Event) → 1 ≤ length rs → r ≡ get_or rs (length rs - 1) r → next ≡ next_after cpus turns rs r.event r.reply → next ≡ next_event cpus turns plan rs
+pub run_on : (cpus turns : ℕ) (plan : List Item) (rs : List Receipt) (r : Receipt) (next : Option Event)
+    → 1 ≤ length rs → r ≡ get_or rs (length rs - 1) r → next ≡ next_after cpus turns rs r.event r.reply
+    → next ≡ next_event cpus turns plan rs
 run_on cpus turns plan rs r next some is here =
-    here ∙ sym (ap (λ (o : Option Receipt). option_map_or (λ q. next_after cpus turns rs q.event q.reply) o (Some (Begin plan))) (last_is None rs r some is))
+    here ∙ sym (ap (λ (o : Option Receipt). option_map_or (λ q. next_after cpus turns rs q.event q.reply) o
+    (Some (Begin plan))) (last_is None rs r some is))
 
 -- ---- where a line is over
 
@@ -38,50 +42,77 @@ not_some : (next : Option Event) (none : Bool) → is_some next ≡ not none →
 not_some None none is set = refl
 not_some (Some e) none is set = absurd (let f : true ≡ not true = is ∙ ap not set in cc)
 
-some_event : (next : Option Event) (none : Bool) → is_some next ≡ not none → none ≡ false → (e : Event) × (next ≡ Some e)
+some_event : (next : Option Event) (none : Bool) → is_some next ≡ not none → none ≡ false
+    → (e : Event) × (next ≡ Some e)
 some_event None none is unset = absurd (let f : false ≡ not false = is ∙ ap not unset in cc)
 some_event (Some e) none is unset = (e, refl)
 
 -- after the receipts so far
-pub over_now : (cpus op : ℕ) (line : Line) (earlier later : List Receipt) → line_next cpus op line earlier ≡ None → after_line cpus op line earlier later ≡ Some later
-over_now cpus op line earlier [] none = ap (λ (o : Option Event). option_map_or (λ event. None) o (Some [])) none
-over_now cpus op line earlier (r ∷ rs) none = ap (λ (o : Option Event). option_map_or (λ event. after_line cpus op line (earlier ++ r ∷ []) rs) o (Some (r ∷ rs))) none
+pub over_now : (cpus op : ℕ) (line : Line) (earlier later : List Receipt)
+    → line_next cpus op line earlier ≡ None → after_line cpus op line earlier later ≡ Some later
+over_now cpus op line earlier [] none =
+    ap (λ (o : Option Event). option_map_or (λ event. None) o (Some [])) none
+over_now cpus op line earlier (r ∷ rs) none =
+    ap (λ (o : Option Event).
+    option_map_or (λ event. after_line cpus op line (earlier ++ r ∷ []) rs) o (Some (r ∷ rs))) none
 
 -- not yet
-goes_on : (cpus op : ℕ) (line : Line) (earlier : List Receipt) (r : Receipt) (rs : List Receipt) (e : Event) → line_next cpus op line earlier ≡ Some e → after_line cpus op line earlier (r ∷ rs) ≡ after_line cpus op line (earlier ++ r ∷ []) rs
-goes_on cpus op line earlier r rs e some = ap (λ (o : Option Event). option_map_or (λ event. after_line cpus op line (earlier ++ r ∷ []) rs) o (Some (r ∷ rs))) some
+goes_on : (cpus op : ℕ) (line : Line) (earlier : List Receipt) (r : Receipt) (rs : List Receipt) (e : Event)
+    → line_next cpus op line earlier ≡ Some e
+    → after_line cpus op line earlier (r ∷ rs) ≡ after_line cpus op line (earlier ++ r ∷ []) rs
+goes_on cpus op line earlier r rs e some =
+    ap (λ (o : Option Event).
+    option_map_or (λ event. after_line cpus op line (earlier ++ r ∷ []) rs) o (Some (r ∷ rs))) some
 
-goes_on_all : (cpus op : ℕ) (line : Line) (earlier : List Receipt) (e : Event) → line_next cpus op line earlier ≡ Some e → after_line cpus op line earlier [] ≡ None
-goes_on_all cpus op line earlier e some = ap (λ (o : Option Event). option_map_or (λ event. None) o (Some [])) some
+goes_on_all : (cpus op : ℕ) (line : Line) (earlier : List Receipt) (e : Event)
+    → line_next cpus op line earlier ≡ Some e → after_line cpus op line earlier [] ≡ None
+goes_on_all cpus op line earlier e some =
+    ap (λ (o : Option Event). option_map_or (λ event. None) o (Some [])) some
 
-pub over_here : (cpus op : ℕ) (line : Line) (rs : List Receipt) (at : ℕ) (next : Option Event) (none : Bool) → next ≡ line_next cpus op line (take at rs) → is_some next ≡ not none → none ≡ true → after_line cpus op line (take at rs) (drop at rs) ≡ after_line cpus op line [] rs
+pub over_here : (cpus op : ℕ) (line : Line) (rs : List Receipt) (at : ℕ) (next : Option Event) (none : Bool)
+    → next ≡ line_next cpus op line (take at rs) → is_some next ≡ not none → none ≡ true
+    → after_line cpus op line (take at rs) (drop at rs) ≡ after_line cpus op line [] rs
     → after_line cpus op line [] rs ≡ Some (drop at rs)
-over_here cpus op line rs at next none is told set so_far = sym so_far ∙ over_now cpus op line (take at rs) (drop at rs) (sym is ∙ not_some next none told set)
+over_here cpus op line rs at next none is told set so_far =
+    sym so_far ∙ over_now cpus op line (take at rs) (drop at rs) (sym is ∙ not_some next none told set)
 
-pub over_more : (cpus op : ℕ) (line : Line) (rs : List Receipt) (at : ℕ) (next : Option Event) (none : Bool) → at < length rs → next ≡ line_next cpus op line (take at rs) → is_some next ≡ not none → none ≡ false → after_line cpus op line (take at rs) (drop at rs) ≡ after_line cpus op line [] rs
+pub over_more : (cpus op : ℕ) (line : Line) (rs : List Receipt) (at : ℕ) (next : Option Event) (none : Bool)
+    → at < length rs → next ≡ line_next cpus op line (take at rs) → is_some next ≡ not none → none ≡ false
+    → after_line cpus op line (take at rs) (drop at rs) ≡ after_line cpus op line [] rs
     → after_line cpus op line (take (at + 1) rs) (drop (at + 1) rs) ≡ after_line cpus op line [] rs
 over_more cpus op line rs at next none within is told unset so_far =
     let one = get_some rs at within in
     let event = some_event next none told unset in
     ap (λ (xs : List Receipt). after_line cpus op line xs (drop (at + 1) rs)) (take_one rs at one.0 one.1)
     ∙ (sym (goes_on cpus op line (take at rs) one.0 (drop (at + 1) rs) event.0 (sym is ∙ event.1))
-    ∙ (ap (after_line cpus op line (take at rs)) (ap (λ (k : ℕ). one.0 ∷ drop k rs) (add-one at) ∙ sym (split rs at one.0 one.1)) ∙ so_far))
+    ∙ (ap (after_line cpus op line (take at rs))
+    (ap (λ (k : ℕ). one.0 ∷ drop k rs) (add-one at) ∙ sym (split rs at one.0 one.1)) ∙ so_far))
   where
-    split : (xs : List Receipt) (k : ℕ) (r : Receipt) → slice_get xs k ≡ Some r → drop k xs ≡ r ∷ drop (suc k) xs
+    split : (xs : List Receipt) (k : ℕ) (r : Receipt) → slice_get xs k ≡ Some r
+        → drop k xs ≡ r ∷ drop (suc k) xs
     split [] k r h = absurd cc
     split (x ∷ xs) zero r h = cc
     split (x ∷ xs) (suc k) r h = split xs k r h
 
 -- after all
-pub over_none : (cpus op : ℕ) (line : Line) (rs : List Receipt) (at : ℕ) (next : Option Event) (e : Event) → length rs ≤ at → next ≡ line_next cpus op line rs → next ≡ Some e → after_line cpus op line (take at rs) (drop at rs) ≡ after_line cpus op line [] rs → after_line cpus op line [] rs ≡ None
+pub over_none : (cpus op : ℕ) (line : Line) (rs : List Receipt) (at : ℕ) (next : Option Event) (e : Event)
+    → length rs ≤ at → next ≡ line_next cpus op line rs → next ≡ Some e
+    → after_line cpus op line (take at rs) (drop at rs) ≡ after_line cpus op line [] rs
+    → after_line cpus op line [] rs ≡ None
 over_none cpus op line rs at next e le is some so_far =
-    sym so_far ∙ (ap (λ (xs : List Receipt). after_line cpus op line xs (drop at rs)) (take_all at rs le) ∙ (ap (after_line cpus op line rs) (drop_of_length-le rs le) ∙ goes_on_all cpus op line rs e (sym is ∙ some)))
+    sym so_far ∙ (ap (λ (xs : List Receipt). after_line cpus op line xs (drop at rs)) (take_all at rs
+    le) ∙ (ap (after_line cpus op line rs) (drop_of_length-le rs le) ∙ goes_on_all cpus op line rs e
+    (sym is ∙ some)))
 
-pub over_all : (cpus op : ℕ) (line : Line) (rs : List Receipt) (at : ℕ) (next : Option Event) → length rs ≤ at → next ≡ line_next cpus op line rs → next ≡ None → after_line cpus op line (take at rs) (drop at rs) ≡ after_line cpus op line [] rs → after_line cpus op line [] rs ≡ Some (drop (length rs) rs)
+pub over_all : (cpus op : ℕ) (line : Line) (rs : List Receipt) (at : ℕ) (next : Option Event) → length rs ≤ at
+    → next ≡ line_next cpus op line rs → next ≡ None
+    → after_line cpus op line (take at rs) (drop at rs) ≡ after_line cpus op line [] rs
+    → after_line cpus op line [] rs ≡ Some (drop (length rs) rs)
 over_all cpus op line rs at next le is none so_far =
     sym so_far
     ∙ (ap (λ (xs : List Receipt). after_line cpus op line xs (drop at rs)) (take_all at rs le)
-    ∙ (over_now cpus op line rs (drop at rs) (sym is ∙ none) ∙ ap Some (drop_of_length-le rs le ∙ sym (drop_of_length-le rs (omega arith)))))
+    ∙ (over_now cpus op line rs (drop at rs) (sym is ∙ none)
+    ∙ ap Some (drop_of_length-le rs le ∙ sym (drop_of_length-le rs (omega arith)))))
 
 -- ---- lines
 
@@ -90,18 +121,25 @@ pub rest_all : {A : Type 0} (n : ℕ) (xs : List A) → take (length xs - n) (dr
 rest_all n xs = take_all (length xs - n) (drop n xs) (omega (arith, length-drop n xs))
 
 -- no line is left
-pub lines_none : (cpus op : ℕ) (lines : List Line) (rs : List Receipt) → length lines < 1 → None ≡ next_in cpus op lines rs
+pub lines_none : (cpus op : ℕ) (lines : List Line) (rs : List Receipt) → length lines < 1
+    → None ≡ next_in cpus op lines rs
 lines_none cpus op [] rs less = refl
 lines_none cpus op (line ∷ lines) rs less = absurd (omega arith)
 
 -- the first is over, or not
-pub lines_next : (cpus op : ℕ) (lines : List Line) (line : Line) (rs rest : List Receipt) → 1 ≤ length lines → line ≡ get_or lines 0 line → after_line cpus op line [] rs ≡ Some rest → next_in cpus op (drop 1 lines) rest ≡ next_in cpus op lines rs
+pub lines_next : (cpus op : ℕ) (lines : List Line) (line : Line) (rs rest : List Receipt) → 1 ≤ length lines
+    → line ≡ get_or lines 0 line → after_line cpus op line [] rs ≡ Some rest
+    → next_in cpus op (drop 1 lines) rest ≡ next_in cpus op lines rs
 lines_next cpus op [] line rs rest some is over = absurd (omega arith)
 lines_next cpus op (first ∷ lines) line rs rest some is over =
-    sym (ap (λ (o : Option (List Receipt)). option_map_or (λ xs. next_in cpus op lines xs) o (line_next cpus op first rs)) (sym (ap (λ (x : Line). after_line cpus op x [] rs) is) ∙ over))
+    sym (ap (λ (o : Option (List Receipt)). option_map_or (λ xs. next_in cpus op lines xs) o
+    (line_next cpus op first rs)) (sym (ap (λ (x : Line). after_line cpus op x [] rs) is) ∙ over))
 
-pub lines_stay : (cpus op : ℕ) (lines : List Line) (line : Line) (rs : List Receipt) → 1 ≤ length lines → line ≡ get_or lines 0 line → after_line cpus op line [] rs ≡ None → line_next cpus op line rs ≡ next_in cpus op lines rs
+pub lines_stay : (cpus op : ℕ) (lines : List Line) (line : Line) (rs : List Receipt) → 1 ≤ length lines
+    → line ≡ get_or lines 0 line → after_line cpus op line [] rs ≡ None
+    → line_next cpus op line rs ≡ next_in cpus op lines rs
 lines_stay cpus op [] line rs some is on = absurd (omega arith)
 lines_stay cpus op (first ∷ lines) line rs some is on =
     ap (λ (x : Line). line_next cpus op x rs) is
-    ∙ sym (ap (λ (o : Option (List Receipt)). option_map_or (λ xs. next_in cpus op lines xs) o (line_next cpus op first rs)) (sym (ap (λ (x : Line). after_line cpus op x [] rs) is) ∙ on))
+    ∙ sym (ap (λ (o : Option (List Receipt)). option_map_or (λ xs. next_in cpus op lines xs) o
+    (line_next cpus op first rs)) (sym (ap (λ (x : Line). after_line cpus op x [] rs) is) ∙ on))

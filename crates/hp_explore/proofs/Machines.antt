@@ -19,10 +19,13 @@ use Rattle.hp_explore.specs.Walks.{IsFurther, IsReached, news_in, place_of}
 use Rattle.hp_explore.proofs.Plays.{plays_push, recorded}
 
 -- the event that a processor's script asks for
-pub asked_is : (g : Setting) (news : List Record) (cpus cpu : ℕ) (lines : List Line) (next : Option Event) → cpus ≡ g.layout.cpus → slice_get g.scripts cpu ≡ Some lines → next ≡ next_of cpus lines (receipts_of cpu news) → next_call g cpu news ≡ next
+pub asked_is : (g : Setting) (news : List Record) (cpus cpu : ℕ) (lines : List Line) (next : Option Event)
+    → cpus ≡ g.layout.cpus → slice_get g.scripts cpu ≡ Some lines
+    → next ≡ next_of cpus lines (receipts_of cpu news) → next_call g cpu news ≡ next
 unfolding next_call
 asked_is g news cpus cpu lines next same here is =
-    ap (option_and_then (λ (xs : List Line). next_of g.layout.cpus xs (receipts_of cpu news))) here ∙ (ap (λ (n : ℕ). next_of n lines (receipts_of cpu news)) (sym same) ∙ sym is)
+    ap (option_and_then (λ (xs : List Line). next_of g.layout.cpus xs (receipts_of cpu news))) here
+    ∙ (ap (λ (n : ℕ). next_of n lines (receipts_of cpu news)) (sym same) ∙ sym is)
 
 -- what stands after the start
 after_start : (start news : List Record) → drop (length start) (start ++ news) ≡ news
@@ -30,14 +33,17 @@ after_start [] news = refl
 after_start (r ∷ start) news = after_start start news
 
 -- the record of the call is the one that the schedule makes
-same_record : (g : Setting) (m n : MachineValue) (cpu : ℕ) (event : Event) (a : Receipt) → IsReached g m → IsCalled m cpu event a n → record_of cpu a ≡ record_of_call g (news_in g m) cpu event
+same_record : (g : Setting) (m n : MachineValue) (cpu : ℕ) (event : Event) (a : Receipt) → IsReached g m
+    → IsCalled m cpu event a n → record_of cpu a ≡ record_of_call g (news_in g m) cpu event
 unfolding record_of_call
 same_record g m n cpu event a here call =
-    ap (λ (k : ℕ). recorded k cpu a.event a.reply) (omega (arith, call.serial, here.before, ap length here.history))
+    ap (λ (k : ℕ). recorded k cpu a.event a.reply)
+    (omega (arith, call.serial, here.before, ap length here.history))
     ∙ (ap (λ (e : Event). recorded (g.before + length (g.start ++ news_in g m) + 1) cpu e a.reply) call.asked
     ∙ ap (recorded (g.before + length (g.start ++ news_in g m) + 1) cpu event) (call.reply ∙ reply))
   where
-    reply : reply_of m.layout m.base m.before m.history cpu event ≡ reply_of g.layout g.base g.before (g.start ++ news_in g m) cpu event
+    reply : reply_of m.layout m.base m.before m.history cpu event
+        ≡ reply_of g.layout g.base g.before (g.start ++ news_in g m) cpu event
     reply =
         ap (λ (l : LayoutParts). reply_of l m.base m.before m.history cpu event) here.layout
         ∙ (ap (λ (s : Memory). reply_of g.layout s m.before m.history cpu event) here.base
@@ -45,7 +51,9 @@ same_record g m n cpu event a here call =
         ∙ ap (λ (h : List Record). reply_of g.layout g.base g.before h cpu event) here.history))
 
 -- the machine after the call
-pub further : (g : Setting) (m n : MachineValue) (cpu : ℕ) (event : Event) (a : Receipt) → IsReached g m → next_call g cpu (news_in g m) ≡ Some event → is_full m ≡ false → IsCalled m cpu event a n → IsFurther g m cpu n
+pub further : (g : Setting) (m n : MachineValue) (cpu : ℕ) (event : Event) (a : Receipt) → IsReached g m
+    → next_call g cpu (news_in g m) ≡ Some event → is_full m ≡ false → IsCalled m cpu event a n
+    → IsFurther g m cpu n
 further g m n cpu event a here asked free call = record {
   event = event;
   asked = asked;
@@ -57,7 +65,8 @@ further g m n cpu event a here asked free call = record {
     played =
         ap (plays g) place
         ∙ (plays_push g (place_of g m) (news_in g m) cpu event here.played asked
-        ∙ ap Some (ap (λ (x : Record). news_in g m ++ x ∷ []) (sym (same_record g m n cpu event a here call)) ∙ sym news));
+        ∙ ap Some (ap (λ (x : Record). news_in g m ++ x ∷ []) (sym (same_record g m n cpu event a here call))
+        ∙ sym news));
   };
   place = place;
   longer = ap length call.history ∙ length_push m.history (record_of cpu a);
@@ -65,7 +74,9 @@ further g m n cpu event a here asked free call = record {
 }
   where
     longer : n.history ≡ g.start ++ (news_in g m ++ record_of cpu a ∷ [])
-    longer = call.history ∙ (ap (λ (h : List Record). h ++ record_of cpu a ∷ []) here.history ∙ append_assoc g.start (news_in g m) (record_of cpu a ∷ []))
+    longer =
+        call.history ∙ (ap (λ (h : List Record). h ++ record_of cpu a ∷ []) here.history
+        ∙ append_assoc g.start (news_in g m) (record_of cpu a ∷ []))
 
     news : news_in g n ≡ news_in g m ++ record_of cpu a ∷ []
     news = ap (drop (length g.start)) longer ∙ after_start g.start (news_in g m ++ record_of cpu a ∷ [])
@@ -74,7 +85,8 @@ further g m n cpu event a here asked free call = record {
     place = ap schedule_of news ∙ map-append (λ (r : Record). r.cpu) (news_in g m) (record_of cpu a ∷ [])
 
 -- a call that was answered found room
-pub had_room : {E : Type 0} (m : MachineValue) (result : Result Receipt E) (fault : E) (a : Receipt) → result ≡ Ok a → (IsTrue (is_full m) → result ≡ Err fault) → is_full m ≡ false
+pub had_room : {E : Type 0} (m : MachineValue) (result : Result Receipt E) (fault : E) (a : Receipt)
+    → result ≡ Ok a → (IsTrue (is_full m) → result ≡ Err fault) → is_full m ≡ false
 had_room m result fault a ok full = by_test (is_full m) refl
   where
     by_test : (b : Bool) → is_full m ≡ b → is_full m ≡ false
@@ -100,5 +112,8 @@ pub start_place : (m : MachineValue) (scripts : List (List Line)) → place_of (
 start_place m scripts = ap schedule_of (drop-length m.history)
 
 -- the records after the start, as they are read
-pub news_shown : (start m : MachineValue) (scripts : List (List Line)) (first all news : List Record) → first ≡ start.history → all ≡ m.history → news ≡ drop (length first) all → news ≡ news_in (setting start scripts) m
-news_shown start m scripts first all news is_first is_all is = is ∙ (ap (λ (h : List Record). drop (length h) all) is_first ∙ ap (drop (length start.history)) is_all)
+pub news_shown : (start m : MachineValue) (scripts : List (List Line)) (first all news : List Record)
+    → first ≡ start.history → all ≡ m.history → news ≡ drop (length first) all
+    → news ≡ news_in (setting start scripts) m
+news_shown start m scripts first all news is_first is_all is =
+    is ∙ (ap (λ (h : List Record). drop (length h) all) is_first ∙ ap (drop (length start.history)) is_all)

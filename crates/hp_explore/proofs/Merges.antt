@@ -47,8 +47,12 @@ turned g h k alike = record {
 }
 
 -- where two nets can't be cut, and lead to the same state
-pub alike_closed : (g : Setting) (h k : List Record) → length h ≡ length k → ((cpu : ℕ) → cpu < length g.scripts → exchanges cpu h ≡ exchanges cpu k) → ((cpu : ℕ) → cpu < length g.scripts → own_operation (receipts_of cpu h) ≡ own_operation (receipts_of cpu k))
-    → IsClosed (net_of (g.start ++ h)) → IsClosed (net_of (g.start ++ k)) → value_of g.layout g.base (g.start ++ h) ≡ value_of g.layout g.base (g.start ++ k) → AreAlike g h k
+pub alike_closed : (g : Setting) (h k : List Record) → length h ≡ length k
+    → ((cpu : ℕ) → cpu < length g.scripts → exchanges cpu h ≡ exchanges cpu k)
+    → ((cpu : ℕ) → cpu < length g.scripts
+    → own_operation (receipts_of cpu h) ≡ own_operation (receipts_of cpu k))
+    → IsClosed (net_of (g.start ++ h)) → IsClosed (net_of (g.start ++ k))
+    → value_of g.layout g.base (g.start ++ h) ≡ value_of g.layout g.base (g.start ++ k) → AreAlike g h k
 unfolding value_of
 alike_closed g h k calls exchanged begun closed other_closed state = record {
   calls = calls;
@@ -67,15 +71,20 @@ alike_closed g h k calls exchanged begun closed other_closed state = record {
 }
 
 -- as many schedules go on from there to each end
-moved_count : (g : Setting) (p q : List ℕ) (h k : List Record) (x : OutcomeValue) (n : ℕ) → UndoNothing g.scripts → plays g p ≡ Some h → plays g q ≡ Some k → AreAlike g h k → HasCount (GoesOn g p x) n → HasCount (GoesOn g q x) n
+moved_count : (g : Setting) (p q : List ℕ) (h k : List Record) (x : OutcomeValue) (n : ℕ)
+    → UndoNothing g.scripts → plays g p ≡ Some h → plays g q ≡ Some k → AreAlike g h k
+    → HasCount (GoesOn g p x) n → HasCount (GoesOn g q x) n
 moved_count g p q h k x n all first second alike counted =
-    moved (λ s. EndsWith g s x) (λ s. EndsWith g s x) p q n (λ rest on. ends_alike g p q rest h k x all first second alike on)
+    moved (λ s. EndsWith g s x) (λ s. EndsWith g s x) p q n
+    (λ rest on. ends_alike g p q rest h k x all first second alike on)
     (λ rest on. ends_alike g q p rest k h x all second first (turned g h k alike) on) counted
 
 -- ---- the ends, with those that go on from there
 
 apart_regions : (g : Setting) (q s : List ℕ) (x y : OutcomeValue) → Before g q s x → GoesOn g q y s → ⊥
-apart_regions g q s x y before on = not_before_longer (q ++ on.0.0) [] (subst (λ (t : List ℕ). IsBefore (q ++ on.0.0) t) (sym (append-nil (q ++ on.0.0))) here)
+apart_regions g q s x y before on =
+    not_before_longer (q ++ on.0.0) []
+    (subst (λ (t : List ℕ). IsBefore (q ++ on.0.0) t) (sym (append-nil (q ++ on.0.0))) here)
   where
     longer : IsBefore s (q ++ on.0.0)
     longer = before_longer s q on.0.0 before.0
@@ -84,27 +93,35 @@ apart_regions g q s x y before on = not_before_longer (q ++ on.0.0) [] (subst (�
     here = subst (λ (t : List ℕ). IsBefore t (q ++ on.0.0)) on.0.1 longer
 
 -- those up to the last continuation are those before the place, and those that go on from it
-through_to : (g : Setting) (q s : List ℕ) (x : OutcomeValue) → Before g q s x ⊎ GoesOn g q x s → Through g q s x
+through_to : (g : Setting) (q s : List ℕ) (x : OutcomeValue) → Before g q s x ⊎ GoesOn g q x s
+    → Through g q s x
 through_to g q s x h = elim h [ inl b ↦ (inl b.0, b.1) | inr on ↦ (inr on.0, on.1) ]
 
-through_from : (g : Setting) (q s : List ℕ) (x : OutcomeValue) → Through g q s x → Before g q s x ⊎ GoesOn g q x s
+through_from : (g : Setting) (q s : List ℕ) (x : OutcomeValue) → Through g q s x
+    → Before g q s x ⊎ GoesOn g q x s
 through_from g q s x h = elim h.0 [ inl b ↦ inl (b, h.1) | inr e ↦ inr (e, h.1) ]
 
 -- the kept counts are those of the place, each added to its end
-pub merged : (g : Setting) (q : List ℕ) (k : List Record) (seen : SeenValue) (old new : List Ending) → UndoNothing g.scripts → plays g q ≡ Some k → AreAlike g seen.news k → IsSeen g old seen → AreCounted (Before g q) old → AddsCounts old seen.counts new → AreCounted (Through g q) new
-merged g q k seen old new all second alike is ok adds = record { counts = counts; firsts = firsts; every = every; apart = apart; total = total }
+pub merged : (g : Setting) (q : List ℕ) (k : List Record) (seen : SeenValue) (old new : List Ending)
+    → UndoNothing g.scripts → plays g q ≡ Some k → AreAlike g seen.news k → IsSeen g old seen
+    → AreCounted (Before g q) old → AddsCounts old seen.counts new → AreCounted (Through g q) new
+merged g q k seen old new all second alike is ok adds =
+    record { counts = counts; firsts = firsts; every = every; apart = apart; total = total }
   where
     place : List ℕ
     place = schedule_of seen.news
 
-    was : (i : ℕ) (f : Ending) → slice_get new i ≡ Some f → (e : Ending) × (slice_get old i ≡ Some e) × (f.outcome ≡ e.outcome) × (f.first.items ≡ e.first.items) × (f.count ≡ e.count + get_or seen.counts i 0)
+    was : (i : ℕ) (f : Ending) → slice_get new i ≡ Some f
+        → (e : Ending) × (slice_get old i ≡ Some e) × (f.outcome ≡ e.outcome)
+        × (f.first.items ≡ e.first.items) × (f.count ≡ e.count + get_or seen.counts i 0)
     was i f h =
         let less : i < length old = (let l = slice_get_within new i f h in omega (arith, l, adds.as_many)) in
         let e = get_some old i less in
         let m = adds.more i e.0 f e.1 h in
         (e.0, e.1, m.0, m.1, m.2)
 
-    now : (i : ℕ) (e : Ending) → slice_get old i ≡ Some e → (f : Ending) × (slice_get new i ≡ Some f) × (f.outcome ≡ e.outcome)
+    now : (i : ℕ) (e : Ending) → slice_get old i ≡ Some e
+        → (f : Ending) × (slice_get new i ≡ Some f) × (f.outcome ≡ e.outcome)
     now i e h =
         let less : i < length new = (let l = slice_get_within old i e h in omega (arith, l, adds.as_many)) in
         let f = get_some new i less in
@@ -114,34 +131,55 @@ merged g q k seen old new all second alike is ok adds = record { counts = counts
     counts i f h =
         let e = was i f h in
         subst (HasCount (λ s. Through g q s f.outcome)) (sym e.4)
-        (subst (λ (x : OutcomeValue). HasCount (λ s. Through g q s x) (e.0.count + get_or seen.counts i 0)) (sym e.2)
-        (same_count (λ s. Before g q s e.0.outcome ⊎ GoesOn g q e.0.outcome s) (λ s. Through g q s e.0.outcome) (e.0.count + get_or seen.counts i 0) (λ s. through_to g q s e.0.outcome) (λ s. through_from g q s e.0.outcome)
-        (either_listed (λ s. Before g q s e.0.outcome) (GoesOn g q e.0.outcome) e.0.count (get_or seen.counts i 0) (λ s. apart_regions g q s e.0.outcome e.0.outcome) (ok.counts i e.0 e.1)
-        (moved_count g place q seen.news k e.0.outcome (get_or seen.counts i 0) all is.played second alike (is.counted i e.0 e.1)))))
+        (subst (λ (x : OutcomeValue). HasCount (λ s. Through g q s x) (e.0.count + get_or seen.counts i 0))
+        (sym e.2)
+        (same_count (λ s. Before g q s e.0.outcome ⊎ GoesOn g q e.0.outcome s)
+        (λ s. Through g q s e.0.outcome) (e.0.count + get_or seen.counts i 0)
+        (λ s. through_to g q s e.0.outcome) (λ s. through_from g q s e.0.outcome)
+        (either_listed (λ s. Before g q s e.0.outcome) (GoesOn g q e.0.outcome) e.0.count
+        (get_or seen.counts i 0) (λ s. apart_regions g q s e.0.outcome e.0.outcome) (ok.counts i e.0 e.1)
+        (moved_count g place q seen.news k e.0.outcome (get_or seen.counts i 0) all is.played second alike
+        (is.counted i e.0 e.1)))))
 
-    first_of : (x : OutcomeValue) (f : List ℕ) → IsFirst (λ s. Before g q s x) f → IsFirst (λ s. Through g q s x) f
+    first_of : (x : OutcomeValue) (f : List ℕ) → IsFirst (λ s. Before g q s x) f
+        → IsFirst (λ s. Through g q s x) f
     first_of x f first = record {
       holds = (inl first.holds.0, first.holds.1);
-      earliest = λ t h. elim (through_from g q t x h) [ inl b ↦ first.earliest t b | inr on ↦ inr (subst (IsBefore f) (sym on.0.1) (before_longer f q on.0.0 first.holds.0)) ];
+      earliest =
+          λ t h. elim (through_from g q t x h) [
+            | inl b ↦ first.earliest t b
+            | inr on ↦ inr (subst (IsBefore f) (sym on.0.1) (before_longer f q on.0.0 first.holds.0))
+          ];
     }
 
-    firsts : (i : ℕ) (f : Ending) → slice_get new i ≡ Some f → IsFirst (λ s. Through g q s f.outcome) f.first.items
+    firsts : (i : ℕ) (f : Ending) → slice_get new i ≡ Some f
+        → IsFirst (λ s. Through g q s f.outcome) f.first.items
     firsts i f h =
         let e = was i f h in
         subst (IsFirst (λ s. Through g q s f.outcome)) (sym e.3)
-        (subst (λ (x : OutcomeValue). IsFirst (λ s. Through g q s x) e.0.first.items) (sym e.2) (first_of e.0.outcome e.0.first.items (ok.firsts i e.0 e.1)))
+        (subst (λ (x : OutcomeValue). IsFirst (λ s. Through g q s x) e.0.first.items) (sym e.2)
+        (first_of e.0.outcome e.0.first.items (ok.firsts i e.0 e.1)))
 
-    shown : (x : OutcomeValue) → (i : ℕ) × (e : Ending) × (slice_get old i ≡ Some e) × (e.outcome ≡ x) → (i : ℕ) × (f : Ending) × (slice_get new i ≡ Some f) × (f.outcome ≡ x)
+    shown : (x : OutcomeValue) → (i : ℕ) × (e : Ending) × (slice_get old i ≡ Some e) × (e.outcome ≡ x)
+        → (i : ℕ) × (f : Ending) × (slice_get new i ≡ Some f) × (f.outcome ≡ x)
     shown x at = let f = now at.0 at.1 at.2 in (at.0, f.0, f.1, f.2 ∙ at.3)
 
-    every : (s : List ℕ) (x : OutcomeValue) → Through g q s x → (i : ℕ) × (f : Ending) × (slice_get new i ≡ Some f) × (f.outcome ≡ x)
+    every : (s : List ℕ) (x : OutcomeValue) → Through g q s x
+        → (i : ℕ) × (f : Ending) × (slice_get new i ≡ Some f) × (f.outcome ≡ x)
     every s x h =
         elim (through_from g q s x h) [
           | inl b ↦ shown x (ok.every s x b)
-          | inr on ↦ shown x (is.every (place ++ on.0.0) x ((on.0.0, refl), ends_alike g q place on.0.0 k seen.news x all second is.played (turned g seen.news k alike) (subst (λ (t : List ℕ). EndsWith g t x) on.0.1 on.1)))
+          | inr on ↦
+              shown x (is.every (place ++ on.0.0) x (
+                (on.0.0, refl),
+                ends_alike g q place on.0.0 k seen.news x
+                    all second is.played (turned g seen.news k alike)
+                    (subst (λ (t : List ℕ). EndsWith g t x) on.0.1 on.1),
+              ))
         ]
 
-    apart : (i j : ℕ) (e f : Ending) → slice_get new i ≡ Some e → slice_get new j ≡ Some f → e.outcome ≡ f.outcome → i ≡ j
+    apart : (i j : ℕ) (e f : Ending) → slice_get new i ≡ Some e → slice_get new j ≡ Some f
+        → e.outcome ≡ f.outcome → i ≡ j
     apart i j e f h m same =
         let a = was i e h in
         let b = was j f m in
@@ -153,9 +191,15 @@ merged g q k seen old new all second alike is ok adds = record { counts = counts
 -- ---- what is kept of a place that was walked
 
 -- its ends are known, and their counts are what came while it was walked
-pub walked_seen : (g : Setting) (seen : SeenValue) (old new : List Ending) → plays g (schedule_of seen.news) ≡ Some seen.news → seen.memory ≡ value_of g.layout g.base (g.start ++ seen.news) → IsClosed (net_of (g.start ++ seen.news)) → length seen.counts ≤ length new
-    → ((i : ℕ) (e f : Ending) → slice_get old i ≡ Some e → slice_get new i ≡ Some f → e.count + get_or seen.counts i 0 ≡ f.count) → ((i : ℕ) (f : Ending) → slice_get new i ≡ Some f → length old ≤ i → get_or seen.counts i 0 ≡ f.count)
-    → Grow old new → AreCounted (Before g (schedule_of seen.news)) old → AreCounted (Through g (schedule_of seen.news)) new → IsSeen g new seen
+pub walked_seen : (g : Setting) (seen : SeenValue) (old new : List Ending)
+    → plays g (schedule_of seen.news) ≡ Some seen.news
+    → seen.memory ≡ value_of g.layout g.base (g.start ++ seen.news) → IsClosed (net_of (g.start ++ seen.news))
+    → length seen.counts ≤ length new
+    → ((i : ℕ) (e f : Ending) → slice_get old i ≡ Some e → slice_get new i ≡ Some f
+    → e.count + get_or seen.counts i 0 ≡ f.count)
+    → ((i : ℕ) (f : Ending) → slice_get new i ≡ Some f → length old ≤ i → get_or seen.counts i 0 ≡ f.count)
+    → Grow old new → AreCounted (Before g (schedule_of seen.news)) old
+    → AreCounted (Through g (schedule_of seen.news)) new → IsSeen g new seen
 walked_seen g seen old new played state closed few more all grow before through = record {
   played = played;
   state = state;
@@ -168,34 +212,55 @@ walked_seen g seen old new played state closed few more all grow before through 
     p : List ℕ
     p = schedule_of seen.news
 
-    both : (x : OutcomeValue) (t : ℕ) → HasCount (λ s. Through g p s x) t → HasCount (λ s. Before g p s x ⊎ GoesOn g p x s) t
-    both x t counted = same_count (λ s. Through g p s x) (λ s. Before g p s x ⊎ GoesOn g p x s) t (λ s. through_from g p s x) (λ s. through_to g p s x) counted
+    both : (x : OutcomeValue) (t : ℕ) → HasCount (λ s. Through g p s x) t
+        → HasCount (λ s. Before g p s x ⊎ GoesOn g p x s) t
+    both x t counted =
+        same_count (λ s. Through g p s x) (λ s. Before g p s x ⊎ GoesOn g p x s) t (λ s. through_from g p s x)
+        (λ s. through_to g p s x) counted
 
-    left : (x : OutcomeValue) (m t c : ℕ) → m + c ≡ t → HasCount (λ s. Before g p s x) m → HasCount (λ s. Through g p s x) t → HasCount (GoesOn g p x) c
+    left : (x : OutcomeValue) (m t c : ℕ) → m + c ≡ t → HasCount (λ s. Before g p s x) m
+        → HasCount (λ s. Through g p s x) t → HasCount (GoesOn g p x) c
     left x m t c sum some whole =
-        let rest = difference (λ s. Before g p s x) (GoesOn g p x) m t (λ s. apart_regions g p s x x) some (both x t whole) in
+        let rest =
+        difference (λ s. Before g p s x) (GoesOn g p x) m t (λ s. apart_regions g p s x x) some
+        (both x t whole) in
         let same : rest.0 ≡ c = omega (arith, rest.2, sum) in
         subst (HasCount (GoesOn g p x)) same rest.1
 
-    counted : (i : ℕ) (f : Ending) → slice_get new i ≡ Some f → HasCount (GoesOn g p f.outcome) (get_or seen.counts i 0)
+    counted : (i : ℕ) (f : Ending) → slice_get new i ≡ Some f
+        → HasCount (GoesOn g p f.outcome) (get_or seen.counts i 0)
     counted i f h =
         elim (cases_lt i (length old)) [
           | inl less ↦ (let e = get_some old i less in
-              left f.outcome e.0.count f.count (get_or seen.counts i 0) (more i e.0 f e.1 h) (subst (λ (x : OutcomeValue). HasCount (λ s. Before g p s x) e.0.count) (sym (grow.kept i e.0 f e.1 h).0) (before.counts i e.0 e.1)) (through.counts i f h))
-          | inr past ↦ left f.outcome 0 f.count (get_or seen.counts i 0) (omega (arith, all i f h past)) (none_listed (λ s. Before g p s f.outcome) (λ s b. let at = before.every s f.outcome b in grow.fresh i f h past at.0 at.1 at.2 at.3)) (through.counts i f h)
+              left f.outcome e.0.count f.count (get_or seen.counts i 0) (more i e.0 f e.1 h) (subst
+              (λ (x : OutcomeValue). HasCount (λ s. Before g p s x) e.0.count)
+              (sym (grow.kept i e.0 f e.1 h).0) (before.counts i e.0 e.1)) (through.counts i f h))
+          | inr past ↦
+              left f.outcome 0 f.count (get_or seen.counts i 0) (omega (
+                arith,
+                all i f h
+                    past,
+              )) (none_listed (λ s. Before g p s f.outcome) (λ s b. let at = before.every s f.outcome
+              b in grow.fresh i f h past at.0 at.1 at.2 at.3)) (through.counts i f h)
         ]
 
 -- ---- a machine's place
 
 -- the machine's state is that of its place
-pub state_here : (g : Setting) (m : MachineValue) → IsReached g m → m.state ≡ value_of m.layout m.base m.history → m.state ≡ value_of g.layout g.base (g.start ++ news_in g m)
+pub state_here : (g : Setting) (m : MachineValue) → IsReached g m
+    → m.state ≡ value_of m.layout m.base m.history
+    → m.state ≡ value_of g.layout g.base (g.start ++ news_in g m)
 state_here g m here state =
     state
     ∙ (ap (λ (l : LayoutParts). value_of l m.base m.history) here.layout
-    ∙ (ap (λ (s : Memory). value_of g.layout s m.history) here.base ∙ ap (λ (h : List Record). value_of g.layout g.base h) here.history))
+    ∙ (ap (λ (s : Memory). value_of g.layout s m.history) here.base
+    ∙ ap (λ (h : List Record). value_of g.layout g.base h) here.history))
 
 -- a kept place with the same state and alike exchanges goes on like it
-pub like_alike : (g : Setting) (p : StepsValue) (ends : List Ending) (seen : SeenValue) → IsAt g p → IsSeen g ends seen → IsLike seen p.state p.records (length g.scripts) → IsClosed (net_of (g.start ++ p.records)) → AreAlike g seen.news p.records
+pub like_alike : (g : Setting) (p : StepsValue) (ends : List Ending) (seen : SeenValue) → IsAt g p
+    → IsSeen g ends seen → IsLike seen p.state p.records (length g.scripts)
+    → IsClosed (net_of (g.start ++ p.records)) → AreAlike g seen.news p.records
 like_alike g p ends seen here is like closed =
-    alike_closed g seen.news p.records like.calls (λ cpu within. (like.exchanges cpu within).exchanged) (λ cpu within. (like.exchanges cpu within).begun) is.closed closed
+    alike_closed g seen.news p.records like.calls (λ cpu within. (like.exchanges cpu within).exchanged)
+    (λ cpu within. (like.exchanges cpu within).begun) is.closed closed
     (sym is.state ∙ (like.state ∙ here.state))

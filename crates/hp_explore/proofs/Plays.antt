@@ -42,27 +42,38 @@ stays_none g [] = refl
 stays_none g (c ∷ q) = stays_none g q
 
 -- the next call of a processor
-pub plays_one : (g : Setting) (news : List Record) (cpu : ℕ) (next : Option Event) → next_call g cpu news ≡ next → play_one g (Some news) cpu ≡ option_map (λ event. news ++ record_of_call g news cpu event ∷ []) next
+pub plays_one : (g : Setting) (news : List Record) (cpu : ℕ) (next : Option Event)
+    → next_call g cpu news ≡ next
+    → play_one g (Some news) cpu ≡ option_map (λ event. news ++ record_of_call g news cpu event ∷ []) next
 plays_one g news cpu next is = ap (option_map (λ event. news ++ record_of_call g news cpu event ∷ [])) is
 
-pub plays_push : (g : Setting) (p : List ℕ) (news : List Record) (cpu : ℕ) (event : Event) → plays g p ≡ Some news → next_call g cpu news ≡ Some event → plays g (p ++ cpu ∷ []) ≡ Some (news ++ record_of_call g news cpu event ∷ [])
+pub plays_push : (g : Setting) (p : List ℕ) (news : List Record) (cpu : ℕ) (event : Event)
+    → plays g p ≡ Some news → next_call g cpu news ≡ Some event
+    → plays g (p ++ cpu ∷ []) ≡ Some (news ++ record_of_call g news cpu event ∷ [])
 plays_push g p news cpu event played asked =
-    plays_on g p (cpu ∷ []) ∙ (ap (λ (o : Option (List Record)). play_one g o cpu) played ∙ plays_one g news cpu (Some event) asked)
+    plays_on g p (cpu ∷ [])
+    ∙ (ap (λ (o : Option (List Record)). play_one g o cpu) played ∙ plays_one g news cpu (Some event) asked)
 
 -- no schedule goes on by a processor whose script asks for nothing
-pub stops : (g : Setting) (p rest : List ℕ) (news : List Record) (cpu : ℕ) → plays g p ≡ Some news → next_call g cpu news ≡ None → plays g (p ++ cpu ∷ rest) ≡ None
+pub stops : (g : Setting) (p rest : List ℕ) (news : List Record) (cpu : ℕ) → plays g p ≡ Some news
+    → next_call g cpu news ≡ None → plays g (p ++ cpu ∷ rest) ≡ None
 stops g p rest news cpu played over =
     plays_on g p (cpu ∷ rest)
     ∙ (ap (λ (o : Option (List Record)). fold (play_one g) (play_one g o cpu) rest) played
-    ∙ (ap (λ (o : Option (List Record)). fold (play_one g) o rest) (plays_one g news cpu None over) ∙ stays_none g rest))
+    ∙ (ap (λ (o : Option (List Record)). fold (play_one g) o rest) (plays_one g news cpu None over)
+    ∙ stays_none g rest))
 
 -- a processor that has no script asks for nothing
-pub none_past : (g : Setting) (news : List Record) (cpu : ℕ) → length g.scripts ≤ cpu → next_call g cpu news ≡ None
+pub none_past : (g : Setting) (news : List Record) (cpu : ℕ) → length g.scripts ≤ cpu
+    → next_call g cpu news ≡ None
 unfolding next_call
-none_past g news cpu past = ap (option_and_then (λ (lines : List Line). next_of g.layout.cpus lines (receipts_of cpu news))) (slice_get_past g.scripts cpu past)
+none_past g news cpu past =
+    ap (option_and_then (λ (lines : List Line). next_of g.layout.cpus lines (receipts_of cpu news)))
+    (slice_get_past g.scripts cpu past)
 
 -- so whoever asks has one
-pub asks_within : (g : Setting) (news : List Record) (cpu : ℕ) (event : Event) → next_call g cpu news ≡ Some event → cpu < length g.scripts
+pub asks_within : (g : Setting) (news : List Record) (cpu : ℕ) (event : Event)
+    → next_call g cpu news ≡ Some event → cpu < length g.scripts
 asks_within g news cpu event asked =
     elim (cases_lt cpu (length g.scripts)) [
       | inl less ↦ less
@@ -72,35 +83,50 @@ asks_within g news cpu event asked =
 -- ---- complete schedules
 
 -- none goes on by a processor whose script asks for nothing
-pub none_through : (g : Setting) (p : List ℕ) (news : List Record) (cpu : ℕ) (s : List ℕ) (x : OutcomeValue) → plays g p ≡ Some news → next_call g cpu news ≡ None → Extends s (p ++ cpu ∷ []) → EndsWith g s x → ⊥
+pub none_through : (g : Setting) (p : List ℕ) (news : List Record) (cpu : ℕ) (s : List ℕ) (x : OutcomeValue)
+    → plays g p ≡ Some news → next_call g cpu news ≡ None → Extends s (p ++ cpu ∷ []) → EndsWith g s x → ⊥
 none_through g p news cpu s x played over extends ends =
-    none-some ends.news (sym (ap (plays g) (extends.1 ∙ append_assoc p (cpu ∷ []) extends.0) ∙ stops g p extends.0 news cpu played over) ∙ ends.played)
+    none-some ends.news (sym (ap (plays g) (extends.1 ∙ append_assoc p (cpu ∷ []) extends.0)
+    ∙ stops g p extends.0 news cpu played over) ∙ ends.played)
 
 -- where no script asks for anything the one that comes there is the only one
-pub only_this : (g : Setting) (p : List ℕ) (news : List Record) (s : List ℕ) (x : OutcomeValue) → plays g p ≡ Some news → ((cpu : ℕ) → next_call g cpu news ≡ None) → Extends s p → EndsWith g s x → (s ≡ p) × (x ≡ outcome_after g news)
+pub only_this : (g : Setting) (p : List ℕ) (news : List Record) (s : List ℕ) (x : OutcomeValue)
+    → plays g p ≡ Some news → ((cpu : ℕ) → next_call g cpu news ≡ None) → Extends s p → EndsWith g s x
+    → (s ≡ p) × (x ≡ outcome_after g news)
 only_this g p news s x played over extends ends = by_rest extends.0 extends.1
   where
     by_rest : (rest : List ℕ) → s ≡ p ++ rest → (s ≡ p) × (x ≡ outcome_after g news)
     by_rest [] is =
         let same : s ≡ p = is ∙ append-nil p in
-        let news_same : ends.news ≡ news = same_Some ends.news news (sym ends.played ∙ (ap (plays g) same ∙ played)) in
+        let news_same : ends.news ≡ news =
+        same_Some ends.news news (sym ends.played ∙ (ap (plays g) same ∙ played)) in
         (same, sym ends.ends ∙ ap (outcome_after g) news_same)
-    by_rest (cpu ∷ rest) is = absurd (none-some ends.news (sym (ap (plays g) is ∙ stops g p rest news cpu played (over cpu)) ∙ ends.played))
+    by_rest (cpu ∷ rest) is =
+        absurd (none-some ends.news
+        (sym (ap (plays g) is ∙ stops g p rest news cpu played (over cpu)) ∙ ends.played))
 
 -- where one asks for something each goes on by one of the scripts' processors
-pub goes_on : (g : Setting) (p : List ℕ) (news : List Record) (cpu : ℕ) (event : Event) (s : List ℕ) (x : OutcomeValue) → plays g p ≡ Some news → next_call g cpu news ≡ Some event → Extends s p → EndsWith g s x
+pub goes_on : (g : Setting) (p : List ℕ) (news : List Record) (cpu : ℕ) (event : Event) (s : List ℕ)
+    (x : OutcomeValue)
+    → plays g p ≡ Some news → next_call g cpu news ≡ Some event → Extends s p → EndsWith g s x
     → (next : ℕ) × (next < length g.scripts) × Extends s (p ++ next ∷ [])
 goes_on g p news cpu event s x played asked extends ends = by_rest extends.0 extends.1
   where
-    by_next : (c : ℕ) (rest : List ℕ) → s ≡ p ++ c ∷ rest → (next : Option Event) → next_call g c news ≡ next → (next : ℕ) × (next < length g.scripts) × Extends s (p ++ next ∷ [])
-    by_next c rest is None over = absurd (none-some ends.news (sym (ap (plays g) is ∙ stops g p rest news c played over) ∙ ends.played))
-    by_next c rest is (Some e) asks = (c, asks_within g news c e asks, (rest, is ∙ sym (append_assoc p (c ∷ []) rest)))
+    by_next : (c : ℕ) (rest : List ℕ) → s ≡ p ++ c ∷ rest → (next : Option Event) → next_call g c news ≡ next
+        → (next : ℕ) × (next < length g.scripts) × Extends s (p ++ next ∷ [])
+    by_next c rest is None over =
+        absurd (none-some ends.news (sym (ap (plays g) is ∙ stops g p rest news c played over) ∙ ends.played))
+    by_next c rest is (Some e) asks =
+        (c, asks_within g news c e asks, (rest, is ∙ sym (append_assoc p (c ∷ []) rest)))
 
-    by_rest : (rest : List ℕ) → s ≡ p ++ rest → (next : ℕ) × (next < length g.scripts) × Extends s (p ++ next ∷ [])
+    by_rest : (rest : List ℕ) → s ≡ p ++ rest
+        → (next : ℕ) × (next < length g.scripts) × Extends s (p ++ next ∷ [])
     by_rest [] is =
         let same : s ≡ p = is ∙ append-nil p in
-        let news_same : ends.news ≡ news = same_Some ends.news news (sym ends.played ∙ (ap (plays g) same ∙ played)) in
-        absurd (none-some event (sym (subst (λ (h : List Record). next_call g cpu h ≡ None) news_same (ends.over cpu)) ∙ asked))
+        let news_same : ends.news ≡ news =
+        same_Some ends.news news (sym ends.played ∙ (ap (plays g) same ∙ played)) in
+        absurd (none-some event
+        (sym (subst (λ (h : List Record). next_call g cpu h ≡ None) news_same (ends.over cpu)) ∙ asked))
     by_rest (c ∷ rest) is = by_next c rest is (next_call g c news) refl
 
 -- ---- the walk
@@ -110,75 +136,125 @@ pub walk_begins : (g : Setting) → AreCounted (Before g []) []
 walk_begins g = none_counted (Before g []) (λ s x h. h.0)
 
 -- all are up to the last continuation of the first place
-pub walk_ends : (g : Setting) (ends : List Ending) → AreCounted (Through g []) ends → AreCounted (EndsWith g) ends
-walk_ends g ends ok = same_counted (Through g []) (EndsWith g) ends (λ s x h. h.1) (λ s x h. (inr (s, refl), h)) ok
+pub walk_ends : (g : Setting) (ends : List Ending) → AreCounted (Through g []) ends
+    → AreCounted (EndsWith g) ends
+walk_ends g ends ok =
+    same_counted (Through g []) (EndsWith g) ends (λ s x h. h.1) (λ s x h. (inr (s, refl), h)) ok
 
 -- from a place to its first continuation
-pub walk_down : (g : Setting) (p : List ℕ) (ends : List Ending) → AreCounted (Before g p) ends → AreCounted (Before g (p ++ 0 ∷ [])) ends
+pub walk_down : (g : Setting) (p : List ℕ) (ends : List Ending) → AreCounted (Before g p) ends
+    → AreCounted (Before g (p ++ 0 ∷ [])) ends
 walk_down g p ends ok =
-    same_counted (Before g p) (Before g (p ++ 0 ∷ [])) ends (λ s x h. (before_longer s p (0 ∷ []) h.0, h.1)) (λ s x h. (before_first s p h.0, h.1)) ok
+    same_counted (Before g p) (Before g (p ++ 0 ∷ [])) ends (λ s x h. (before_longer s p (0 ∷ []) h.0, h.1))
+    (λ s x h. (before_first s p h.0, h.1)) ok
 
 -- past a continuation that was walked
-pub walk_past : (g : Setting) (p : List ℕ) (cpu : ℕ) (ends : List Ending) → AreCounted (Through g (p ++ cpu ∷ [])) ends → AreCounted (Before g (p ++ (cpu + 1) ∷ [])) ends
+pub walk_past : (g : Setting) (p : List ℕ) (cpu : ℕ) (ends : List Ending)
+    → AreCounted (Through g (p ++ cpu ∷ [])) ends → AreCounted (Before g (p ++ (cpu + 1) ∷ [])) ends
 walk_past g p cpu ends ok =
     same_counted (Through g (p ++ cpu ∷ [])) (Before g (p ++ (cpu + 1) ∷ [])) ends
-    (λ s x h. (elim h.0 [ inl b ↦ before_later s p cpu (cpu + 1) (omega arith) b | inr e ↦ extends_before s p cpu (cpu + 1) (omega arith) e ], h.1))
+    (λ s x h. (
+      elim h.0 [
+        | inl b ↦ before_later s p cpu (cpu + 1) (omega arith) b
+        | inr e ↦ extends_before s p cpu (cpu + 1) (omega arith) e
+      ],
+      h.1,
+    ))
     (λ s x h. (before_next s p cpu h.0, h.1)) ok
 
 -- past a continuation that there is not
-pub walk_over : (g : Setting) (p : List ℕ) (news : List Record) (cpu : ℕ) (ends : List Ending) → plays g p ≡ Some news → next_call g cpu news ≡ None → AreCounted (Before g (p ++ cpu ∷ [])) ends → AreCounted (Before g (p ++ (cpu + 1) ∷ [])) ends
+pub walk_over : (g : Setting) (p : List ℕ) (news : List Record) (cpu : ℕ) (ends : List Ending)
+    → plays g p ≡ Some news → next_call g cpu news ≡ None → AreCounted (Before g (p ++ cpu ∷ [])) ends
+    → AreCounted (Before g (p ++ (cpu + 1) ∷ [])) ends
 walk_over g p news cpu ends played over ok =
     same_counted (Before g (p ++ cpu ∷ [])) (Before g (p ++ (cpu + 1) ∷ [])) ends
     (λ s x h. (before_later s p cpu (cpu + 1) (omega arith) h.0, h.1))
-    (λ s x h. (elim (before_next s p cpu h.0) [ inl b ↦ b | inr e ↦ absurd (none_through g p news cpu s x played over e h.1) ], h.1)) ok
+    (λ s x h. (
+      elim (before_next s p cpu h.0)
+          [ inl b ↦ b | inr e ↦ absurd (none_through g p news cpu s x played over e h.1) ],
+      h.1,
+    )) ok
 
 -- after the last continuation, where there was one
-pub walk_up : (g : Setting) (p : List ℕ) (news : List Record) (cpu : ℕ) (event : Event) (ends : List Ending) → plays g p ≡ Some news → next_call g cpu news ≡ Some event → AreCounted (Before g (p ++ length g.scripts ∷ [])) ends → AreCounted (Through g p) ends
+pub walk_up : (g : Setting) (p : List ℕ) (news : List Record) (cpu : ℕ) (event : Event) (ends : List Ending)
+    → plays g p ≡ Some news → next_call g cpu news ≡ Some event
+    → AreCounted (Before g (p ++ length g.scripts ∷ [])) ends → AreCounted (Through g p) ends
 walk_up g p news cpu event ends played asked ok =
     same_counted (Before g (p ++ length g.scripts ∷ [])) (Through g p) ends
     (λ s x h. (before_all s p (length g.scripts) h.0, h.1))
-    (λ s x h. (elim h.0 [ inl b ↦ before_longer s p (length g.scripts ∷ []) b | inr e ↦ below s (goes_on g p news cpu event s x played asked e h.1) ], h.1)) ok
+    (λ s x h. (
+      elim h.0 [
+        | inl b ↦ before_longer s p (length g.scripts ∷ []) b
+        | inr e ↦ below s (goes_on g p news cpu event s x played asked e h.1)
+      ],
+      h.1,
+    ))
+    ok
   where
-    below : (s : List ℕ) → (next : ℕ) × (next < length g.scripts) × Extends s (p ++ next ∷ []) → IsBefore s (p ++ length g.scripts ∷ [])
+    below : (s : List ℕ) → (next : ℕ) × (next < length g.scripts) × Extends s (p ++ next ∷ [])
+        → IsBefore s (p ++ length g.scripts ∷ [])
     below s on = extends_before s p on.0 (length g.scripts) on.1 on.2
 
 -- where no script asks for anything those before the last continuation are those before the place
-walk_here : (g : Setting) (p : List ℕ) (news : List Record) (ends : List Ending) → plays g p ≡ Some news → ((cpu : ℕ) → next_call g cpu news ≡ None) → AreCounted (Before g (p ++ length g.scripts ∷ [])) ends → AreCounted (Before g p) ends
+walk_here : (g : Setting) (p : List ℕ) (news : List Record) (ends : List Ending) → plays g p ≡ Some news
+    → ((cpu : ℕ) → next_call g cpu news ≡ None) → AreCounted (Before g (p ++ length g.scripts ∷ [])) ends
+    → AreCounted (Before g p) ends
 walk_here g p news ends played over ok =
     same_counted (Before g (p ++ length g.scripts ∷ [])) (Before g p) ends
-    (λ s x h. (elim (before_all s p (length g.scripts) h.0) [ inl b ↦ b | inr e ↦ absurd (not_before_longer p (length g.scripts ∷ []) (subst (λ (t : List ℕ). IsBefore t (p ++ length g.scripts ∷ [])) (only_this g p news s x played over e h.1).0 h.0)) ], h.1))
+    (λ s x h. (
+      elim (before_all s p (length g.scripts) h.0) [
+        | inl b ↦ b
+        | inr e ↦ absurd
+            (not_before_longer p (length g.scripts ∷ []) (subst (λ (t : List ℕ).
+            IsBefore t (p ++ length g.scripts ∷ [])) (only_this g p news s x played over e h.1).0 h.0))
+      ],
+      h.1,
+    ))
     (λ s x h. (before_longer s p (length g.scripts ∷ []) h.0, h.1)) ok
 
 -- the schedule that comes there is complete
-complete : (g : Setting) (p : List ℕ) (news : List Record) → plays g p ≡ Some news → ((cpu : ℕ) → next_call g cpu news ≡ None) → EndsWith g p (outcome_after g news)
+complete : (g : Setting) (p : List ℕ) (news : List Record) → plays g p ≡ Some news
+    → ((cpu : ℕ) → next_call g cpu news ≡ None) → EndsWith g p (outcome_after g news)
 complete g p news played over = record { news = news; played = played; over = over; ends = refl }
 
 -- and one more
-pub walk_notes : (g : Setting) (p : List ℕ) (news : List Record) (old new : List Ending) → plays g p ≡ Some news → ((cpu : ℕ) → next_call g cpu news ≡ None) → AreCounted (Before g (p ++ length g.scripts ∷ [])) old
+pub walk_notes : (g : Setting) (p : List ℕ) (news : List Record) (old new : List Ending)
+    → plays g p ≡ Some news → ((cpu : ℕ) → next_call g cpu news ≡ None)
+    → AreCounted (Before g (p ++ length g.scripts ∷ [])) old
     → IsNoted old (outcome_after g news) p new → AreCounted (Through g p) new
 walk_notes g p news old new played over ok adds =
-    same_counted (With (Before g p) p (outcome_after g news)) (Through g p) new to from (noted (Before g p) p (outcome_after g news) old new (walk_here g p news old played over ok) (λ s x h. h.0) adds)
+    same_counted (With (Before g p) p (outcome_after g news)) (Through g p) new to from (noted (Before g p) p
+    (outcome_after g news) old new (walk_here g p news old played over ok) (λ s x h. h.0) adds)
   where
     to : (s : List ℕ) (x : OutcomeValue) → With (Before g p) p (outcome_after g news) s x → Through g p s x
     to s x h =
         elim h [
           | inl b ↦ (inl b.0, b.1)
-          | inr at ↦ (inr ([], at.0 ∙ sym (append-nil p)), subst (λ (t : List ℕ). EndsWith g t x) (sym at.0) (subst (EndsWith g p) (sym at.1) (complete g p news played over)))
+          | inr at ↦ (
+            inr ([], at.0 ∙ sym (append-nil p)),
+            subst (λ (t : List ℕ). EndsWith g t x) (sym at.0)
+                (subst (EndsWith g p) (sym at.1) (complete g p news played over)),
+          )
         ]
 
     from : (s : List ℕ) (x : OutcomeValue) → Through g p s x → With (Before g p) p (outcome_after g news) s x
     from s x h = elim h.0 [ inl b ↦ inl (b, h.1) | inr e ↦ inr (only_this g p news s x played over e h.1) ]
 
 -- so there are more than those before it
-pub walk_exceeds : (g : Setting) (p : List ℕ) (news : List Record) (ends : List Ending) (limit : ℕ) → plays g p ≡ Some news → ((cpu : ℕ) → next_call g cpu news ≡ None) → AreCounted (Before g (p ++ length g.scripts ∷ [])) ends → sum_by (λ (e : Ending). e.count) ends ≡ limit
+pub walk_exceeds : (g : Setting) (p : List ℕ) (news : List Record) (ends : List Ending) (limit : ℕ)
+    → plays g p ≡ Some news → ((cpu : ℕ) → next_call g cpu news ≡ None)
+    → AreCounted (Before g (p ++ length g.scripts ∷ [])) ends → sum_by (λ (e : Ending). e.count) ends ≡ limit
     → HasMoreThan (IsComplete g) limit
 walk_exceeds g p news ends limit played over ok sum =
     subst (HasMoreThan (IsComplete g)) sum
-    (more_than (λ s. (x : OutcomeValue) × Before g p s x) (IsComplete g) (sum_by (λ (e : Ending). e.count) ends) p (λ h. not_before_itself p h.1.0) (λ s h. (h.0, h.1.1)) (outcome_after g news, complete g p news played over)
+    (more_than (λ s. (x : OutcomeValue) × Before g p s x) (IsComplete g)
+    (sum_by (λ (e : Ending). e.count) ends) p (λ h. not_before_itself p h.1.0) (λ s h. (h.0, h.1.1))
+    (outcome_after g news, complete g p news played over)
     (walk_here g p news ends played over ok).total)
 
 -- all scripts are at their ends where those of the scripts' processors are
-pub over_all : (g : Setting) (news : List Record) → IsOverBelow g news (length g.scripts) true → (cpu : ℕ) → next_call g cpu news ≡ None
+pub over_all : (g : Setting) (news : List Record) → IsOverBelow g news (length g.scripts) true → (cpu : ℕ)
+    → next_call g cpu news ≡ None
 over_all g news below cpu = by_next (next_call g cpu news) refl
   where
     by_next : (next : Option Event) → next_call g cpu news ≡ next → next_call g cpu news ≡ None

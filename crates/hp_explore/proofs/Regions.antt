@@ -33,7 +33,8 @@ before_first [] (c ∷ p) h = h
 before_first (d ∷ s) (c ∷ p) h = elim h [ inl l ↦ inl l | inr e ↦ inr (e.0, before_first s p e.1) ]
 
 -- what stands before the continuation by the next processor
-pub before_next : (s p : List ℕ) (c : ℕ) → IsBefore s (p ++ (c + 1) ∷ []) → IsBefore s (p ++ c ∷ []) ⊎ Extends s (p ++ c ∷ [])
+pub before_next : (s p : List ℕ) (c : ℕ) → IsBefore s (p ++ (c + 1) ∷ [])
+    → IsBefore s (p ++ c ∷ []) ⊎ Extends s (p ++ c ∷ [])
 before_next [] [] c h = absurd h
 before_next (d ∷ s) [] c h = elim h [ inl l ↦ here d c l | inr e ↦ absurd e.1 ]
   where
@@ -46,7 +47,9 @@ before_next [] (b ∷ p) c h = absurd h
 before_next (d ∷ s) (b ∷ p) c h =
     elim h [
       | inl l ↦ inl (inl l)
-      | inr e ↦ elim (before_next s p c e.1) [ inl k ↦ inl (inr (e.0, k)) | inr x ↦ inr (extends_cons b d s (p ++ c ∷ []) e.0 x) ]
+      | inr e ↦
+          elim (before_next s p c e.1)
+          [ inl k ↦ inl (inr (e.0, k)) | inr x ↦ inr (extends_cons b d s (p ++ c ∷ []) e.0 x) ]
     ]
 
 -- what stands before a continuation stands before each later one
@@ -54,7 +57,8 @@ pub before_later : (s p : List ℕ) (c d : ℕ) → c ≤ d → IsBefore s (p ++
 before_later [] [] c d le h = absurd h
 before_later (b ∷ s) [] c d le h = elim h [ inl l ↦ inl (omega arith) | inr e ↦ absurd e.1 ]
 before_later [] (b ∷ p) c d le h = absurd h
-before_later (a ∷ s) (b ∷ p) c d le h = elim h [ inl l ↦ inl l | inr e ↦ inr (e.0, before_later s p c d le e.1) ]
+before_later (a ∷ s) (b ∷ p) c d le h =
+    elim h [ inl l ↦ inl l | inr e ↦ inr (e.0, before_later s p c d le e.1) ]
 
 -- a continuation stands before each later one
 pub extends_before : (s p : List ℕ) (c d : ℕ) → c < d → Extends s (p ++ c ∷ []) → IsBefore s (p ++ d ∷ [])
@@ -71,5 +75,7 @@ before_all [] (b ∷ p) c h = absurd h
 before_all (d ∷ s) (b ∷ p) c h =
     elim h [
       | inl l ↦ inl (inl l)
-      | inr e ↦ elim (before_all s p c e.1) [ inl k ↦ inl (inr (e.0, k)) | inr x ↦ inr (extends_cons b d s p e.0 x) ]
+      | inr e ↦
+          elim (before_all s p c e.1)
+          [ inl k ↦ inl (inr (e.0, k)) | inr x ↦ inr (extends_cons b d s p e.0 x) ]
     ]

@@ -1,4 +1,5 @@
--- A step of a call is what the schedule makes of it, where the event may not go back; and where a machine stands.
+-- A step of a call is what the schedule makes of it, where the event may not go back; and where a
+-- machine stands.
 use Rattle.std.proofs.Common.{◌≡◌, ℕ, ◌+◌, Bool, true, false, List, [], ◌∷◌, ◌++◌, length, Some, None, refl, ap, sym, subst, ◌∙◌, arith}
 use Rattle.std.proofs.lemmas.List.{append_assoc, length-map, length_push, map-append}
 use Rattle.std.proofs.lemmas.Option.{none-some}
@@ -23,39 +24,54 @@ use Rattle.hp_explore.proofs.Plays.{plays_push}
 -- ---- one step
 
 -- its reply is that of the history
-plain_reply : (l : LayoutParts) (before last : ℕ) (net : List Record) (s : Memory) (serial cpu : ℕ) (event : Event) (e : Effect) → may_go_back e ≡ false → effect_reply l before last net s serial cpu event e ≡ (step l s serial cpu event).reply
+plain_reply : (l : LayoutParts) (before last : ℕ) (net : List Record) (s : Memory) (serial cpu : ℕ)
+    (event : Event) (e : Effect)
+    → may_go_back e ≡ false
+    → effect_reply l before last net s serial cpu event e ≡ (step l s serial cpu event).reply
 plain_reply l before last net s serial cpu event Looks goes = refl
 plain_reply l before last net s serial cpu event (Undoes kept) goes = absurd cc
 plain_reply l before last net s serial cpu event (Cancels op) goes = absurd cc
 plain_reply l before last net s serial cpu event Acts goes = refl
 
 -- and so is its state
-plain_state : (l : LayoutParts) (base : Memory) (h : List Record) (r : Record) → may_go_back (effect_of r.event) ≡ false → r.reply ≡ (step l (value_of l base h) r.serial r.cpu r.event).reply
+plain_state : (l : LayoutParts) (base : Memory) (h : List Record) (r : Record)
+    → may_go_back (effect_of r.event) ≡ false
+    → r.reply ≡ (step l (value_of l base h) r.serial r.cpu r.event).reply
     → (step l (value_of l base h) r.serial r.cpu r.event).memory ≡ value_of l base (h ++ r ∷ [])
 unfolding value_of
 plain_state l base h r goes reply = by_reply (is_refused r.reply) refl ∙ ap (run l base) (sym (net-push h r))
   where
-    law : IsOnward (run l base (net_of h)) r.serial r.event (step l (run l base (net_of h)) r.serial r.cpu r.event)
+    law : IsOnward (run l base (net_of h)) r.serial r.event
+        (step l (run l base (net_of h)) r.serial r.cpu r.event)
     law = steps l (run l base (net_of h)) r.serial r.cpu r.event
 
-    by_effect : (e : Effect) → effect_of r.event ≡ e → may_go_back e ≡ false → (step l (run l base (net_of h)) r.serial r.cpu r.event).memory ≡ run l base (net_with_effect (net_of h) r e)
+    by_effect : (e : Effect) → effect_of r.event ≡ e → may_go_back e ≡ false
+        → (step l (run l base (net_of h)) r.serial r.cpu r.event).memory
+        ≡ run l base (net_with_effect (net_of h) r e)
     by_effect Looks is plain = law.looks is
     by_effect (Undoes kept) is plain = absurd cc
     by_effect (Cancels op) is plain = absurd cc
     by_effect Acts is plain = sym (run-push l base (net_of h) r)
 
-    by_reply : (b : Bool) → is_refused r.reply ≡ b → (step l (run l base (net_of h)) r.serial r.cpu r.event).memory ≡ run l base (net_with (net_of h) r)
-    by_reply true bad = law.refused (ap is_refused (sym reply) ∙ bad) ∙ ap (run l base) (net_bad (net_of h) r bad)
-    by_reply false good = by_effect (effect_of r.event) refl goes ∙ ap (run l base) (sym (with_good (net_of h) r good))
+    by_reply : (b : Bool) → is_refused r.reply ≡ b
+        → (step l (run l base (net_of h)) r.serial r.cpu r.event).memory ≡ run l base (net_with (net_of h) r)
+    by_reply true bad =
+        law.refused (ap is_refused (sym reply) ∙ bad) ∙ ap (run l base) (net_bad (net_of h) r bad)
+    by_reply false good =
+        by_effect (effect_of r.event) refl goes ∙ ap (run l base) (sym (with_good (net_of h) r good))
 
 -- the record of the step is the one that the schedule makes
-step_recorded : (g : Setting) (p : StepsValue) (serial cpu : ℕ) (event : Event) → IsAt g p → may_go_back (effect_of event) ≡ false → serial ≡ g.before + length (g.start ++ p.records) + 1 → record_of_step p.layout p.state serial cpu event ≡ record_of_call g p.records cpu event
+step_recorded : (g : Setting) (p : StepsValue) (serial cpu : ℕ) (event : Event) → IsAt g p
+    → may_go_back (effect_of event) ≡ false → serial ≡ g.before + length (g.start ++ p.records) + 1
+    → record_of_step p.layout p.state serial cpu event ≡ record_of_call g p.records cpu event
 unfolding record_of_call reply_of
 step_recorded g p serial cpu event here goes is =
     ap (λ (l : LayoutParts). record_of_step l p.state serial cpu event) here.layout
     ∙ (ap (λ (s : Memory). record_of_step g.layout s serial cpu event) here.state
     ∙ (ap (λ (k : ℕ). record_of_step g.layout now k cpu event) is
-    ∙ ap (λ (reply : Reply). recorded reply) (sym (plain_reply g.layout g.before (g.before + length (g.start ++ p.records)) (net_of (g.start ++ p.records)) now next cpu event (effect_of event) goes))))
+    ∙ ap (λ (reply : Reply). recorded reply) (sym (plain_reply g.layout g.before
+    (g.before + length (g.start ++ p.records)) (net_of (g.start ++ p.records)) now next cpu event
+    (effect_of event) goes))))
   where
     now : Memory
     now = value_of g.layout g.base (g.start ++ p.records)
@@ -67,14 +83,17 @@ step_recorded g p serial cpu event here goes is =
     recorded reply = record { serial = next; cpu = cpu; event = event; reply = reply }
 
 -- where a step leads to
-pub stepped_at : (g : Setting) (p n : StepsValue) (serial cpu mark : ℕ) (event : Event) → IsAt g p → next_call g cpu p.records ≡ Some event → may_go_back (effect_of event) ≡ false → serial ≡ g.before + length (g.start ++ p.records) + 1 → IsStepped p serial cpu event mark n
+pub stepped_at : (g : Setting) (p n : StepsValue) (serial cpu mark : ℕ) (event : Event) → IsAt g p
+    → next_call g cpu p.records ≡ Some event → may_go_back (effect_of event) ≡ false
+    → serial ≡ g.before + length (g.start ++ p.records) + 1 → IsStepped p serial cpu event mark n
     → IsAt g n
 unfolding plays record_of_call
 stepped_at g p n serial cpu mark event here asked goes is made = record {
   layout = made.later.layout ∙ here.layout;
   played =
       ap (λ (h : List Record). plays g (schedule_of h)) longer
-      ∙ (ap (plays g) (map-append (λ (r : Record). r.cpu) p.records (record_of_call g p.records cpu event ∷ []))
+      ∙ (ap (plays g)
+      (map-append (λ (r : Record). r.cpu) p.records (record_of_call g p.records cpu event ∷ []))
       ∙ (plays_push g (schedule_of p.records) p.records cpu event here.played asked ∙ ap Some (sym longer)));
   state = state ∙ ap (λ (h : List Record). value_of g.layout g.base (g.start ++ h)) (sym made.later.records);
 }
@@ -83,40 +102,59 @@ stepped_at g p n serial cpu mark event here asked goes is made = record {
     made_record = record_of_step p.layout p.state serial cpu event
 
     longer : n.records ≡ p.records ++ record_of_call g p.records cpu event ∷ []
-    longer = made.later.records ∙ ap (λ (r : Record). p.records ++ r ∷ []) (step_recorded g p serial cpu event here goes is)
+    longer =
+        made.later.records
+        ∙ ap (λ (r : Record). p.records ++ r ∷ []) (step_recorded g p serial cpu event here goes is)
 
-    told : made_record.reply ≡ (step g.layout (value_of g.layout g.base (g.start ++ p.records)) serial cpu event).reply
+    told : made_record.reply
+        ≡ (step g.layout (value_of g.layout g.base (g.start ++ p.records)) serial cpu event).reply
     told =
-        ap (λ (l : LayoutParts). (step l p.state serial cpu event).reply) here.layout ∙ ap (λ (s : Memory). (step g.layout s serial cpu event).reply) here.state
+        ap (λ (l : LayoutParts). (step l p.state serial cpu event).reply) here.layout
+        ∙ ap (λ (s : Memory). (step g.layout s serial cpu event).reply) here.state
 
     state : n.state ≡ value_of g.layout g.base (g.start ++ (p.records ++ made_record ∷ []))
     state =
         made.state
         ∙ (ap (λ (l : LayoutParts). (step l p.state serial cpu event).memory) here.layout
         ∙ (ap (λ (s : Memory). (step g.layout s serial cpu event).memory) here.state
-        ∙ (plain_state g.layout g.base (g.start ++ p.records) made_record goes told ∙ ap (value_of g.layout g.base) (append_assoc g.start p.records (made_record ∷ [])))))
+        ∙ (plain_state g.layout g.base (g.start ++ p.records) made_record goes told
+        ∙ ap (value_of g.layout g.base) (append_assoc g.start p.records (made_record ∷ [])))))
 
 -- the schedule that led there
-pub stepped_place : (p n : StepsValue) (serial cpu mark : ℕ) (event : Event) → IsStepped p serial cpu event mark n → schedule_of n.records ≡ schedule_of p.records ++ cpu ∷ []
+pub stepped_place : (p n : StepsValue) (serial cpu mark : ℕ) (event : Event)
+    → IsStepped p serial cpu event mark n → schedule_of n.records ≡ schedule_of p.records ++ cpu ∷ []
 stepped_place p n serial cpu mark event made =
-    ap schedule_of made.later.records ∙ map-append (λ (r : Record). r.cpu) p.records (record_of_step p.layout p.state serial cpu event ∷ [])
+    ap schedule_of made.later.records
+    ∙ map-append (λ (r : Record). r.cpu) p.records (record_of_step p.layout p.state serial cpu event ∷ [])
 
 -- ---- a machine
 
 -- where a machine stands that a schedule led to
-pub machine_at : (g : Setting) (m : MachineValue) (p : StepsValue) → IsReached g m → m.state ≡ value_of m.layout m.base m.history → p.layout ≡ m.layout → p.state ≡ m.state → p.records ≡ news_in g m → IsAt g p
+pub machine_at : (g : Setting) (m : MachineValue) (p : StepsValue) → IsReached g m
+    → m.state ≡ value_of m.layout m.base m.history → p.layout ≡ m.layout → p.state ≡ m.state
+    → p.records ≡ news_in g m → IsAt g p
 machine_at g m p here kept layout state records = record {
   layout = layout ∙ here.layout;
   played = subst (λ (h : List Record). plays g (schedule_of h) ≡ Some h) (sym records) here.played;
-  state = state ∙ (state_here g m here kept ∙ ap (λ (h : List Record). value_of g.layout g.base (g.start ++ h)) (sym records));
+  state =
+      state ∙ (state_here g m here kept
+      ∙ ap (λ (h : List Record). value_of g.layout g.base (g.start ++ h)) (sym records));
 }
 
 -- a call that is asked for leads somewhere
-pub leads_on : (g : Setting) (p : StepsValue) (cpu : ℕ) (event : Event) → IsAt g p → next_call g cpu p.records ≡ Some event → plays g (schedule_of p.records ++ cpu ∷ []) ≡ None → ⊥
+pub leads_on : (g : Setting) (p : StepsValue) (cpu : ℕ) (event : Event) → IsAt g p
+    → next_call g cpu p.records ≡ Some event → plays g (schedule_of p.records ++ cpu ∷ []) ≡ None → ⊥
 leads_on g p cpu event here asked none =
     none-some _ (sym none ∙ plays_push g (schedule_of p.records) p.records cpu event here.played asked)
 
 -- one record more
-pub one_longer : (p n : StepsValue) (cpu : ℕ) → schedule_of n.records ≡ schedule_of p.records ++ cpu ∷ [] → length n.records ≡ length p.records + 1
+pub one_longer : (p n : StepsValue) (cpu : ℕ) → schedule_of n.records ≡ schedule_of p.records ++ cpu ∷ []
+    → length n.records ≡ length p.records + 1
 one_longer p n cpu is =
-    omega (arith, ap length is, length_push (schedule_of p.records) cpu, length-map p.records (λ (r : Record). r.cpu), length-map n.records (λ (r : Record). r.cpu))
+    omega (
+      arith,
+      ap length is,
+      length_push (schedule_of p.records) cpu,
+      length-map p.records (λ (r : Record). r.cpu),
+      length-map n.records (λ (r : Record). r.cpu),
+    )

@@ -7,11 +7,15 @@ use Rattle.hp_units.specs.declared.replies.Record.{Record}
 use Rattle.hp_units.specs.declared.replies.Receipt.{Receipt}
 
 -- the receipts with one record more, by whether it is the processor's
-pub receipts_push : (cpu : ℕ) (h : List Record) (r : Record) (own : Bool) → eqb r.cpu cpu ≡ own → receipts_of cpu (h ++ r ∷ []) ≡ receipts_of cpu h ++ cond own (receipt_of r ∷ []) []
+pub receipts_push : (cpu : ℕ) (h : List Record) (r : Record) (own : Bool) → eqb r.cpu cpu ≡ own
+    → receipts_of cpu (h ++ r ∷ []) ≡ receipts_of cpu h ++ cond own (receipt_of r ∷ []) []
 receipts_push cpu h r own is =
     ap (map receipt_of) (filter-append (λ (q : Record). eqb q.cpu cpu) h (r ∷ []))
-    ∙ (map-append receipt_of (filter (λ (q : Record). eqb q.cpu cpu) h) (filter (λ (q : Record). eqb q.cpu cpu) (r ∷ [])) ∙ ap (λ (xs : List Receipt). receipts_of cpu h ++ xs) (one own is))
+    ∙ (map-append receipt_of (filter (λ (q : Record). eqb q.cpu cpu) h)
+    (filter (λ (q : Record). eqb q.cpu cpu) (r ∷ [])) ∙ ap (λ (xs : List Receipt). receipts_of cpu h ++ xs)
+    (one own is))
   where
-    one : (b : Bool) → eqb r.cpu cpu ≡ b → map receipt_of (filter (λ (q : Record). eqb q.cpu cpu) (r ∷ [])) ≡ cond b (receipt_of r ∷ []) []
+    one : (b : Bool) → eqb r.cpu cpu ≡ b
+        → map receipt_of (filter (λ (q : Record). eqb q.cpu cpu) (r ∷ [])) ≡ cond b (receipt_of r ∷ []) []
     one true e = rw e refl
     one false e = rw e refl

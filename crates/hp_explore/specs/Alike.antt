@@ -44,7 +44,9 @@ exchanges cpu news = map unnumbered (receipts_of cpu news)
 -- no later Cancel can drop any of these steps: where one is sole, it is sole among the steps after them
 abbrev pub IsClosed : List Record → Type 0
 IsClosed steps =
-    (op : ℕ) (tail : List Record) → sole_at op (map tag_of (steps ++ tail)) ≡ option_map (λ place. length steps + place) (sole_at op (map tag_of tail))
+    (op : ℕ) (tail : List Record)
+    → sole_at op (map tag_of (steps ++ tail))
+    ≡ option_map (λ place. length steps + place) (sole_at op (map tag_of tail))
 
 -- two nets end in the same steps, after earlier ones that lead to the same state and that no Cancel can drop
 pub record AreJoined (l : LayoutParts) (base : Memory) (first second : List Record) : Type 0 where
@@ -57,16 +59,18 @@ pub record AreJoined (l : LayoutParts) (base : Memory) (first second : List Reco
   pub other_closed : IsClosed other
   pub state : run l base before ≡ run l base other
 
--- after as many new records each of the scripts' processors had the same answers to the same requests, and began its last operation with the
--- same number; and the steps that count join
+-- after as many new records each of the scripts' processors had the same answers to the same
+-- requests, and began its last operation with the same number; and the steps that count join
 pub record AreAlike (g : Setting) (h k : List Record) : Type 0 where
   pub calls : length h ≡ length k
   pub exchanged : (cpu : ℕ) → cpu < length g.scripts → exchanges cpu h ≡ exchanges cpu k
-  pub begun : (cpu : ℕ) → cpu < length g.scripts → own_operation (receipts_of cpu h) ≡ own_operation (receipts_of cpu k)
+  pub begun : (cpu : ℕ) → cpu < length g.scripts
+      → own_operation (receipts_of cpu h) ≡ own_operation (receipts_of cpu k)
   pub nets : AreJoined g.layout g.base (net_of (g.start ++ h)) (net_of (g.start ++ k))
 
--- whether no Cancel can drop the steps so far: so it is after a step that neither begins an operation nor is an operation's own
--- work, and it stays so as long as no operation begins and none is cancelled (own rule)
+-- whether no Cancel can drop the steps so far: so it is after a step that neither begins an
+-- operation nor is an operation's own work, and it stays so as long as no operation begins and none
+-- is cancelled (own rule)
 abbrev pub closed_by : (was : Bool) → Event → Bool
 closed_by was (Read owner page index) = was
 closed_by was (DrainFor op cpu) = was

@@ -17,12 +17,15 @@ HasMoreThan P n = (all : List (List ℕ)) × AreSome P all × (length all ≡ n 
 
 -- some schedule of the scripts leaves no room in the history, or no further serial
 abbrev pub is_full_after : Setting → List Record → Bool
-is_full_after g news = nat_le g.layout.history (length (g.start ++ news)) || nat_le 18446744073709551615 (g.before + length (g.start ++ news))
+is_full_after g news =
+    nat_le g.layout.history (length (g.start ++ news))
+    || nat_le 18446744073709551615 (g.before + length (g.start ++ news))
 
 abbrev pub FillsHistory : Setting → Type 0
 FillsHistory g = (s : List ℕ) × (news : List Record) × (plays g s ≡ Some news) × (is_full_after g news ≡ true)
 
--- the cause of a fault: a full history is one only where the limit was not known to be exceeded before any call
+-- the cause of a fault: a full history is one only where the limit was not known to be exceeded
+-- before any call
 abbrev pub IsCause : Setting → (limit : ℕ) → ExploreFault → Type 0
 IsCause g limit TooMany = HasMoreThan (IsComplete g) limit
 IsCause g limit HistoryFull = FillsHistory g × IsNotKnownTooMany g.scripts limit

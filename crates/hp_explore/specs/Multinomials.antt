@@ -23,8 +23,11 @@ IsMultinomial ns m = m * factorials ns ≡ factorial (sum ns)
 
 -- a number is the multinomial coefficient of any numbers of this coefficient and this sum with one more
 abbrev pub IsMultinomialWith : (count total length m : ℕ) → Type 0
-IsMultinomialWith count total length m = (ns : List ℕ) → sum ns ≡ total → IsMultinomial ns count → IsMultinomial (ns ++ length ∷ []) m
+IsMultinomialWith count total length m =
+    (ns : List ℕ) → sum ns ≡ total → IsMultinomial ns count → IsMultinomial (ns ++ length ∷ []) m
 
 -- that coefficient is above a limit
 abbrev pub ExceedsWith : (count total length limit : ℕ) → Type 0
-ExceedsWith count total length limit = (ns : List ℕ) (m : ℕ) → sum ns ≡ total → IsMultinomial ns count → IsMultinomial (ns ++ length ∷ []) m → limit < m
+ExceedsWith count total length limit =
+    (ns : List ℕ) (m : ℕ) → sum ns ≡ total → IsMultinomial ns count → IsMultinomial (ns ++ length ∷ []) m
+    → limit < m

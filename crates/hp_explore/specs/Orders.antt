@@ -1,8 +1,8 @@
 -- Schedules in the order of a walk, processor 0 first; and how many there are of a kind.
 use Rattle.std.specs.Prelude.{◌≡◌, ℕ, ◌<◌, ◌⊎◌, List, [], ◌∷◌, ◌++◌, Some, length, slice_get}
 
--- a schedule is the list of the processors in the order of their calls; one stands before another where it has the lower
--- processor at the first place where they differ
+-- a schedule is the list of the processors in the order of their calls; one stands before another
+-- where it has the lower processor at the first place where they differ
 abbrev pub IsBefore : List ℕ → List ℕ → Type 0
 IsBefore s [] = ⊥
 IsBefore [] (c ∷ t) = ⊥

@@ -13,7 +13,8 @@ pub record OutcomeValue : Type 0 where
   pub replies : List (List Reply)
   pub blocks : List Row
 
--- a reply but for the number of the operation that it opened, which is only how many calls came before: 0 stands in its place
+-- a reply but for the number of the operation that it opened, which is only how many calls came
+-- before: 0 stands in its place
 abbrev pub told : Reply → Reply
 told (Opened op) = Opened 0
 told reply = reply

@@ -11,8 +11,8 @@ use Rattle.hp_explore.specs.declared.scripts.Line.{Line}
 use Rattle.hp_explore.specs.Outcomes.{OutcomeValue, outcome}
 use Rattle.hp_explore.specs.Scripts.{next_of}
 
--- where the scripts begin: the layout, the base state with the number of records before it, and the records since; and each
--- processor's script, from processor 0 on
+-- where the scripts begin: the layout, the base state with the number of records before it, and the
+-- records since; and each processor's script, from processor 0 on
 pub record Setting : Type 0 where
   pub layout : LayoutParts
   pub base : Memory
@@ -22,13 +22,17 @@ pub record Setting : Type 0 where
 
 -- the scripts on a machine as it is
 abbrev pub setting : MachineValue → List (List Line) → Setting
-setting m scripts = record { layout = m.layout; base = m.base; before = m.before; start = m.history; scripts = scripts }
+setting m scripts =
+    record { layout = m.layout; base = m.base; before = m.before; start = m.history; scripts = scripts }
 
--- the event that a processor's script asks for after the new records; none where it is at its end, or has no script
+-- the event that a processor's script asks for after the new records; none where it is at its end,
+-- or has no script
 unfoldable pub next_call : Setting → (cpu : ℕ) → List Record → Option Event
-next_call g cpu news = option_and_then (λ lines. next_of g.layout.cpus lines (receipts_of cpu news)) (slice_get g.scripts cpu)
+next_call g cpu news =
+    option_and_then (λ lines. next_of g.layout.cpus lines (receipts_of cpu news)) (slice_get g.scripts cpu)
 
--- the record of a processor's event after the new records: its serial is the next, and its reply that of the definitions
+-- the record of a processor's event after the new records: its serial is the next, and its reply
+-- that of the definitions
 unfoldable pub record_of_call : Setting → List Record → (cpu : ℕ) → Event → Record
 record_of_call g news cpu event = record {
   serial = g.before + length (g.start ++ news) + 1;
@@ -40,7 +44,8 @@ record_of_call g news cpu event = record {
 -- a processor makes the next call of its script; None where it has none
 abbrev pub play_one : Setting → Option (List Record) → (cpu : ℕ) → Option (List Record)
 play_one g None cpu = None
-play_one g (Some news) cpu = option_map (λ event. news ++ record_of_call g news cpu event ∷ []) (next_call g cpu news)
+play_one g (Some news) cpu =
+    option_map (λ event. news ++ record_of_call g news cpu event ∷ []) (next_call g cpu news)
 
 -- the new records that a schedule leads to, each processor in turn making the next call of its script
 unfoldable pub plays : Setting → List ℕ → Option (List Record)
@@ -54,8 +59,8 @@ schedule_of news = map (λ r. r.cpu) news
 unfoldable pub outcome_after : Setting → List Record → OutcomeValue
 outcome_after g news = outcome (length g.scripts) news g.layout (value_of g.layout g.base (g.start ++ news))
 
--- the schedule is complete, with this outcome: each of its processors has a call to make in its turn, and in the end all
--- scripts are at their ends
+-- the schedule is complete, with this outcome: each of its processors has a call to make in its
+-- turn, and in the end all scripts are at their ends
 pub record EndsWith (g : Setting) (schedule : List ℕ) (x : OutcomeValue) : Type 0 where
   pub news : List Record
   pub played : plays g schedule ≡ Some news

@@ -11,7 +11,8 @@ use Rattle.hp_explore.specs.declared.scripts.Line.TheVariants.{Ask, Own, Carry}
 use Rattle.hp_explore.specs.declared.scripts.Work.{Work}
 use Rattle.hp_explore.specs.declared.scripts.Work.TheVariants.{DrainFor, Migrate, Commit, Cancel}
 
--- the operation that a processor began last: the serial of its last Begin, refused or not, and 0 where it made none
+-- the operation that a processor began last: the serial of its last Begin, refused or not, and 0
+-- where it made none
 abbrev pub later_operation : ℕ → Receipt → ℕ
 later_operation op r = if is_opening (mark_of r.event) then r.serial else op
 
@@ -30,18 +31,20 @@ abbrev pub once : Event → List Receipt → Option Event
 once event [] = Some event
 once event (r ∷ rs) = None
 
--- the event that a line asks for after its own receipts; None where it is over. A plan's line is a driver's run
+-- the event that a line asks for after its own receipts; None where it is over. A plan's line is a
+-- driver's run
 abbrev pub line_next : (cpus op : ℕ) → Line → List Receipt → Option Event
 line_next cpus op (Ask event) receipts = once event receipts
 line_next cpus op (Own work) receipts = once (work_of op work) receipts
 line_next cpus op (Carry plan turns) receipts = next_event cpus turns plan receipts
 
--- the later receipts after a line's own, where it is over after the earlier ones and so many of the later; None where it
--- goes on after all of them
+-- the later receipts after a line's own, where it is over after the earlier ones and so many of the
+-- later; None where it goes on after all of them
 abbrev pub after_line : (cpus op : ℕ) → Line → (earlier later : List Receipt) → Option (List Receipt)
 after_line cpus op line earlier [] = option_map_or (λ event. None) (line_next cpus op line earlier) (Some [])
 after_line cpus op line earlier (r ∷ rs) =
-    option_map_or (λ event. after_line cpus op line (earlier ++ r ∷ []) rs) (line_next cpus op line earlier) (Some (r ∷ rs))
+    option_map_or (λ event. after_line cpus op line (earlier ++ r ∷ []) rs) (line_next cpus op line earlier)
+    (Some (r ∷ rs))
 
 -- the receipts from a place on, if there is one
 abbrev pub rest_at : List Receipt → Option ℕ → Option (List Receipt)
@@ -51,7 +54,8 @@ rest_at receipts at = option_map (λ n. drop n receipts) at
 abbrev pub next_in : (cpus op : ℕ) → List Line → List Receipt → Option Event
 next_in cpus op [] receipts = None
 next_in cpus op (line ∷ lines) receipts =
-    option_map_or (λ rest. next_in cpus op lines rest) (after_line cpus op line [] receipts) (line_next cpus op line receipts)
+    option_map_or (λ rest. next_in cpus op lines rest) (after_line cpus op line [] receipts)
+    (line_next cpus op line receipts)
 
 -- the event that a script asks for after its processor's receipts
 abbrev pub next_of : (cpus : ℕ) → List Line → List Receipt → Option Event

@@ -14,8 +14,8 @@ use Rattle.hp_explore.specs.declared.exploring.ExploreFault.{ExploreFault}
 use Rattle.hp_explore.specs.declared.exploring.ExploreFault.TheVariants.{TooMany}
 use Rattle.hp_explore.specs.declared.tally.Ending.{Ending}
 
--- a place: the new records that lead there, the state, and how many complete schedules go on from there to each end, by the
--- end's place; none where the list has no number
+-- a place: the new records that lead there, the state, and how many complete schedules go on from
+-- there to each end, by the end's place; none where the list has no number
 pub record SeenValue : Type 0 where
   pub memory : Memory
   pub news : List Record
@@ -31,8 +31,10 @@ pub record IsSeen (g : Setting) (ends : List Ending) (seen : SeenValue) : Type 0
   pub state : seen.memory ≡ value_of g.layout g.base (g.start ++ seen.news)
   pub closed : IsClosed (net_of (g.start ++ seen.news))
   pub few : length seen.counts ≤ length ends
-  pub counted : (k : ℕ) (e : Ending) → slice_get ends k ≡ Some e → HasCount (GoesOn g (schedule_of seen.news) e.outcome) (slice_index_or seen.counts k 0)
-  pub every : (s : List ℕ) (x : OutcomeValue) → GoesOn g (schedule_of seen.news) x s → (k : ℕ) × (e : Ending) × (slice_get ends k ≡ Some e) × (e.outcome ≡ x)
+  pub counted : (k : ℕ) (e : Ending) → slice_get ends k ≡ Some e
+      → HasCount (GoesOn g (schedule_of seen.news) e.outcome) (slice_index_or seen.counts k 0)
+  pub every : (s : List ℕ) (x : OutcomeValue) → GoesOn g (schedule_of seen.news) x s
+      → (k : ℕ) × (e : Ending) × (slice_get ends k ≡ Some e) × (e.outcome ≡ x)
 
 abbrev pub AllSeen : Setting → List Ending → List SeenValue → Type 0
 AllSeen g ends all = (i : ℕ) (seen : SeenValue) → slice_get all i ≡ Some seen → IsSeen g ends seen
@@ -40,13 +42,16 @@ AllSeen g ends all = (i : ℕ) (seen : SeenValue) → slice_get all i ≡ Some s
 -- ends stay where they are, and count no less; those that come have other outcomes
 pub record Grow (old new : List Ending) : Type 0 where
   pub longer : length old ≤ length new
-  pub kept : (k : ℕ) (e f : Ending) → slice_get old k ≡ Some e → slice_get new k ≡ Some f → (f.outcome ≡ e.outcome) × (e.count ≤ f.count)
+  pub kept : (k : ℕ) (e f : Ending) → slice_get old k ≡ Some e → slice_get new k ≡ Some f
+      → (f.outcome ≡ e.outcome) × (e.count ≤ f.count)
   pub fresh : (k : ℕ) (f : Ending) → slice_get new k ≡ Some f → length old ≤ k → HasNoEnd old f.outcome
 
 -- each end counts so many more
 pub record AddsCounts (old : List Ending) (counts : List ℕ) (new : List Ending) : Type 0 where
   pub as_many : length new ≡ length old
-  pub more : (k : ℕ) (e f : Ending) → slice_get old k ≡ Some e → slice_get new k ≡ Some f → (f.outcome ≡ e.outcome) × (f.first.items ≡ e.first.items) × (f.count ≡ e.count + slice_index_or counts k 0)
+  pub more : (k : ℕ) (e f : Ending) → slice_get old k ≡ Some e → slice_get new k ≡ Some f
+      → (f.outcome ≡ e.outcome) × (f.first.items ≡ e.first.items)
+      × (f.count ≡ e.count + slice_index_or counts k 0)
 
 -- whether places are kept, and those that are
 pub record MemoValue : Type 0 where
@@ -65,15 +70,19 @@ pub record IsLike (seen : SeenValue) (memory : Memory) (news : List Record) (cpu
   pub exchanges : (cpu : ℕ) → cpu < cpus → AreExchangesAlike cpu seen.news news
 
 abbrev pub IsLikeAmong : List SeenValue → Memory → List Record → (cpus : ℕ) → (counts : List ℕ) → Type 0
-IsLikeAmong all memory news cpus counts = (i : ℕ) × (seen : SeenValue) × (slice_get all i ≡ Some seen) × IsLike seen memory news cpus × (counts ≡ seen.counts)
+IsLikeAmong all memory news cpus counts =
+    (i : ℕ) × (seen : SeenValue) × (slice_get all i ≡ Some seen) × IsLike seen memory news cpus
+    × (counts ≡ seen.counts)
 
 -- ends count no less than they did, and more by so many
 abbrev pub AreNoMore : List ℕ → List Ending → Type 0
-AreNoMore earlier ends = (k : ℕ) (e : Ending) → slice_get ends k ≡ Some e → slice_index_or earlier k 0 ≤ e.count
+AreNoMore earlier ends =
+    (k : ℕ) (e : Ending) → slice_get ends k ≡ Some e → slice_index_or earlier k 0 ≤ e.count
 
 pub record AreSince (earlier : List ℕ) (ends : List Ending) (counts : List ℕ) : Type 0 where
   pub as_many : length counts ≡ length ends
-  pub each : (k : ℕ) (e : Ending) → slice_get ends k ≡ Some e → slice_index_or earlier k 0 + slice_index_or counts k 0 ≡ e.count
+  pub each : (k : ℕ) (e : Ending) → slice_get ends k ≡ Some e
+      → slice_index_or earlier k 0 + slice_index_or counts k 0 ≡ e.count
 
 -- the end at a place counts so many more
 pub record AddsAt (old : List Ending) (at count : ℕ) (new : List Ending) : Type 0 where
@@ -89,7 +98,8 @@ pub record AddsAt (old : List Ending) (at count : ℕ) (new : List Ending) : Typ
 abbrev pub IsAddCause : TallyValue → List ℕ → ExploreFault → Type 0
 IsAddCause t counts fault = (fault ≡ TooMany) × (t.limit < sum_by (λ e. e.count) t.ends + sum counts)
 
--- the places that are kept, where the ends are these; where any are to be kept no script undoes steps by their serials
+-- the places that are kept, where the ends are these; where any are to be kept no script undoes
+-- steps by their serials
 pub record IsMemo (g : Setting) (ends : List Ending) (memo : MemoValue) : Type 0 where
   pub all : AllSeen g ends memo.seen
   pub undo : memo.is_on ≡ true → UndoNothing g.scripts

@@ -13,7 +13,8 @@ use Rattle.hp_explore.specs.Orders.{Extends, IsBefore}
 use Rattle.hp_explore.specs.Outcomes.{OutcomeValue, outcome}
 use Rattle.hp_explore.specs.Schedules.{EndsWith, Setting, next_call, plays, schedule_of}
 
--- the records of a machine since another, and since the scripts began; and the schedule that the latter came from
+-- the records of a machine since another, and since the scripts began; and the schedule that the
+-- latter came from
 abbrev pub news_since : MachineValue → MachineValue → List Record
 news_since start m = drop (length start.history) m.history
 
@@ -70,7 +71,8 @@ BeforeNext g p cpu = Before g (schedule_of p.records ++ cpu ∷ [])
 abbrev pub ThroughNext : Setting → StepsValue → (cpu : ℕ) → List ℕ → OutcomeValue → Type 0
 ThroughNext g p cpu = Through g (schedule_of p.records ++ cpu ∷ [])
 
--- the ends are those of the schedules before where the walk stands, and up to the last one that goes on from there
+-- the ends are those of the schedules before where the walk stands, and up to the last one that
+-- goes on from there
 abbrev pub CountsBefore : Setting → StepsValue → List Ending → Type 0
 CountsBefore g p ends = AreCounted (Before g (schedule_of p.records)) ends
 
@@ -79,19 +81,24 @@ CountsThrough g p ends = AreCounted (Through g (schedule_of p.records)) ends
 
 -- the schedule that led to where the walk stands is noted, with the outcome there for so many processors
 abbrev pub IsEndNoted : (processors : ℕ) → StepsValue → List Ending → List Ending → Type 0
-IsEndNoted processors p old new = IsNoted old (outcome processors p.records p.layout p.state) (schedule_of p.records) new
+IsEndNoted processors p old new =
+    IsNoted old (outcome processors p.records p.layout p.state) (schedule_of p.records) new
 
 -- the serial of the next record after the new ones of a machine, whose history has room for it
 abbrev pub IsNextSerial : (start : MachineValue) → List Record → (serial : ℕ) → Type 0
-IsNextSerial start news serial = (serial ≡ start.before + length (start.history ++ news) + 1) × (length (start.history ++ news) < start.layout.history)
+IsNextSerial start news serial =
+    (serial ≡ start.before + length (start.history ++ news) + 1)
+    × (length (start.history ++ news) < start.layout.history)
 
 -- an event is an undo of the steps above a serial that is no earlier one, by a processor of the layout
 abbrev pub IsGone : (start : MachineValue) → (cpu serial : ℕ) → Event → Type 0
-IsGone start cpu serial event = (kept : ℕ) × (event ≡ UndoAfter kept) × (serial ≤ kept) × (cpu < start.layout.cpus)
+IsGone start cpu serial event =
+    (kept : ℕ) × (event ≡ UndoAfter kept) × (serial ≤ kept) × (cpu < start.layout.cpus)
 
 -- the same state after one record more, with no way back
 abbrev pub with_record : StepsValue → Record → StepsValue
-with_record p latest = record { layout = p.layout; state = p.state; deltas = []; records = p.records ++ latest ∷ [] }
+with_record p latest =
+    record { layout = p.layout; state = p.state; deltas = []; records = p.records ++ latest ∷ [] }
 
 -- whether an event may go back to an earlier state
 abbrev pub may_go_back : Effect → Bool
@@ -100,7 +107,8 @@ may_go_back (Undoes serial) = true
 may_go_back (Cancels op) = true
 may_go_back Acts = false
 
--- whether the scripts of the processors so far ask for nothing after the new records, or one asks for an event
+-- whether the scripts of the processors so far ask for nothing after the new records, or one asks
+-- for an event
 abbrev pub IsOverBelow : Setting → List Record → (below : ℕ) → Bool → Type 0
 IsOverBelow g news below true = (cpu : ℕ) → cpu < below → next_call g cpu news ≡ None
 IsOverBelow g news below false = (cpu : ℕ) × (event : Event) × (next_call g cpu news ≡ Some event)

@@ -4,7 +4,8 @@ ghost use Rattle.hp_explore.specs.Alike.{closed_after, closed_by, is_closed};
 
 use hp_units::{Event, Record, Reply};
 
-/// Whether no later Cancel can drop a step of a history and of new records after it, as far as their events and refusals tell.
+/// Whether no later Cancel can drop a step of a history and of new records after it, as far as
+/// their events and refusals tell.
 pub(crate) fn is_closed(history: &[Record], news: &[Record]) -> bool
     ensures { result ≡ is_closed (history.now ++ news.now) }
 {

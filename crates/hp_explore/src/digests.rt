@@ -1,4 +1,5 @@
-//! Digests by which places and ends are found. What is found is compared; of ends it is proved that the same have the same digest.
+//! Digests by which places and ends are found. What is found is compared; of ends it is proved that
+//! the same have the same digest.
 ghost use Rattle.std.specs.Prelude.{◌≡◌, fold};
 ghost use Rattle.hp_explore.specs.Digests.{digest_of, mixed, mixed_reply, refusal_number, replies_digest, reply_number, row_number, state_number, zone_number};
 ghost use Rattle.hp_explore.specs.Outcomes.{outcome_with, replies_below, replies_to};
@@ -46,7 +47,8 @@ fn free_digest(memory: &Memory) -> u64 {
     digest
 }
 
-/// A digest of how a schedule ends: of the replies of so many processors among records, and of the blocks' rows.
+/// A digest of how a schedule ends: of the replies of so many processors among records, and of the
+/// blocks' rows.
 #[tactic(auto, unfolding(crate::specs::Digests::digest_of))]
 pub(crate) fn digest_of(processors: u32, records: &[Record], blocks: &[Row]) -> u64
     ensures { result ≡ digest_of (outcome_with processors records.now blocks.now) }

@@ -54,12 +54,14 @@ impl From<CallFault> for ExploreFault {
     }
 }
 
-/// The ends of all complete schedules of the processors' scripts on a machine as it stands (own rule): what each processor was
-/// answered, how many schedules end so, and the first of them in the order of a walk that takes processor 0 first. Script k is
-/// that of processor k. The machine stays as it is. The watch is told how far the search has come.
+/// The ends of all complete schedules of the processors' scripts on a machine as it stands (own
+/// rule): what each processor was answered, how many schedules end so, and the first of them in the
+/// order of a walk that takes processor 0 first. Script k is that of processor k. The machine stays
+/// as it is. The watch is told how far the search has come.
 ///
-/// An error is `TooMany` where there are more schedules than the limit, `HistoryFull` where the layout's history has no room for
-/// all calls of a schedule, and `OutOfMemory`. Where no script holds a plan `TooMany` comes before any call.
+/// An error is `TooMany` where there are more schedules than the limit, `HistoryFull` where the
+/// layout's history has no room for all calls of a schedule, and `OutOfMemory`. Where no script
+/// holds a plan `TooMany` comes before any call.
 pub fn explore<W: Watch>(
     alloc: Global,
     machine: &Machine,

@@ -1,8 +1,9 @@
 //! The explorer: every interleaving of short scripts on a machine, each counted once under its end.
 //!
-//! A script is what one processor asks for, line after line. A schedule says whose call comes next; it is complete when all
-//! scripts are over. The crate owns scripts, schedules and their ends. It changes no machine of its caller: the walk makes its
-//! steps on a memory of its own, and takes each back. It knows nothing of scenarios and of texts.
+//! A script is what one processor asks for, line after line. A schedule says whose call comes next;
+//! it is complete when all scripts are over. The crate owns scripts, schedules and their ends. It
+//! changes no machine of its caller: the walk makes its steps on a memory of its own, and takes
+//! each back. It knows nothing of scenarios and of texts.
 //!
 //! Read specs/Scripts first, then specs/Schedules and specs/Ends, and `explore` in `exploring`.
 #![tactic(auto)]

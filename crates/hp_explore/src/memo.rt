@@ -72,7 +72,8 @@ impl Seen {
         }
     }
 
-    /// Whether all goes on alike from here and after other records that lead to a state. An error is out of memory.
+    /// Whether all goes on alike from here and after other records that lead to a state. An error
+    /// is out of memory.
     fn is_like(
         &self,
         alloc: Global,
@@ -113,8 +114,8 @@ impl Memo {
         self.is_on
     }
 
-    /// The counts of a place from which all goes on as after these records, where the latest of their digest is one. An error is
-    /// out of memory.
+    /// The counts of a place from which all goes on as after these records, where the latest of
+    /// their digest is one. An error is out of memory.
     pub(crate) fn counts_like(
         &self,
         alloc: Global,
@@ -156,8 +157,8 @@ impl Memo {
     }
 }
 
-/// Whether a processor had the same answers to the same requests among records and among others, and began its last operation
-/// with the same number. An error is out of memory.
+/// Whether a processor had the same answers to the same requests among records and among others,
+/// and began its last operation with the same number. An error is out of memory.
 fn have_exchanges_alike(
     alloc: Global,
     cpu: Cpu,

@@ -7,8 +7,8 @@ ghost use Rattle.hp_explore.specs.Multinomials.{ExceedsWith, IsMultinomial, IsMu
 use crate::scripts::Script;
 use std::alloc::{AllocError, Global};
 
-/// Whether each line of the scripts is one call and there are more interleavings than the limit. Where the scripts have 2^64
-/// lines or more it may say no. An error is out of memory.
+/// Whether each line of the scripts is one call and there are more interleavings than the limit.
+/// Where the scripts have 2^64 lines or more it may say no. An error is out of memory.
 pub(crate) fn are_too_many(
     alloc: Global,
     scripts: &[Script],
@@ -55,8 +55,8 @@ fn fit(lengths: &[u64]) -> bool
     true
 }
 
-/// Whether sequences of these lengths have more interleavings than the limit: more than the lengths' multinomial coefficient
-/// (Knuth 1, 1.2.6).
+/// Whether sequences of these lengths have more interleavings than the limit: more than the
+/// lengths' multinomial coefficient (Knuth 1, 1.2.6).
 fn exceed(lengths: &[u64], limit: u64) -> bool
     requires { sum lengths.now < 2 ^ 64 }
     ensures { (m : ℕ) → IsMultinomial lengths.now m → (IsTrue result ↔ limit < m) }
@@ -73,8 +73,8 @@ fn exceed(lengths: &[u64], limit: u64) -> bool
     count > limit
 }
 
-/// The multinomial coefficient with one number more, where that of the numbers so far and their sum are known; none where it
-/// is above the limit.
+/// The multinomial coefficient with one number more, where that of the numbers so far and their sum
+/// are known; none where it is above the limit.
 fn with_length(count: u64, total: u64, length: u64, limit: u64) -> Option<u64>
     requires { total + length < 2 ^ 64 }
     ensures some { IfSome result (IsMultinomialWith count total length) }

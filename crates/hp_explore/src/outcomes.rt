@@ -55,7 +55,8 @@ impl Outcome {
         Outcome { replies, blocks }
     }
 
-    /// Each processor's replies, from processor 0 on; 0 stands for the number of an operation that was opened.
+    /// Each processor's replies, from processor 0 on; 0 stands for the number of an operation that
+    /// was opened.
     pub fn replies(&self) -> &[Answers]
         ensures { result.now ≡ self.now.replies }
     {
@@ -150,7 +151,8 @@ fn are_answers_below(answers: &[Answers], processors: u32, records: &[Record]) -
 /// Whether lists of replies are those of the processors from one on.
 fn are_answers_from(answers: &[Answers], cpu: u32, records: &[Record]) -> bool
     requires { cpu + length answers.now < 2 ^ 32 }
-    ensures { IsTrue result ↔ (answers.now ≡ map (λ c. replies_to c records.now) (range_with_len cpu (length answers.now))) }
+    ensures { IsTrue result
+        ↔ (answers.now ≡ map (λ c. replies_to c records.now) (range_with_len cpu (length answers.now))) }
 {
     match answers {
         [first, answers @ ..] => {

@@ -10,8 +10,9 @@ use hp_machine::Machine;
 use hp_units::{Cpu, Record};
 use std::alloc::Global;
 
-/// The machine that a schedule of the scripts leads to, on a copy; none where it asks a processor for a call when its script is
-/// over. So the records of an end's first schedule can be read. Errors come as those of `explore`, but never `TooMany`.
+/// The machine that a schedule of the scripts leads to, on a copy; none where it asks a processor
+/// for a call when its script is over. So the records of an end's first schedule can be read.
+/// Errors come as those of `explore`, but never `TooMany`.
 pub fn play(
     alloc: Global,
     machine: &Machine,

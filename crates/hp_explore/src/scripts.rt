@@ -32,7 +32,8 @@ pub enum Line {
     Ask(Event),
     /// It asks for work on the operation that it began last.
     Own(Work),
-    /// It lets the driver carry a plan out, with at most so many migrations; the driver's calls are the processor's.
+    /// It lets the driver carry a plan out, with at most so many migrations; the driver's calls are
+    /// the processor's.
     Carry { plan: Plan, turns: u32 },
 }
 
@@ -83,8 +84,8 @@ impl Line {
         }
     }
 
-    /// The event that a line asks for after its own receipts, where the processor's last operation is known; none where the
-    /// line is over. An error is out of memory.
+    /// The event that a line asks for after its own receipts, where the processor's last operation
+    /// is known; none where the line is over. An error is out of memory.
     fn next(
         &self,
         alloc: Global,
@@ -154,7 +155,8 @@ impl Script {
         self.lines.iter().all(|line| line.leaves_steps())
     }
 
-    /// The event that a processor asks for after records, its own among them; none at the script's end. An error is out of memory.
+    /// The event that a processor asks for after records, its own among them; none at the script's
+    /// end. An error is out of memory.
     pub(crate) fn next_event(
         &self,
         alloc: Global,
@@ -172,7 +174,8 @@ impl Script {
         next_in(alloc, cpus, op, self.lines.as_slice(), receipts.as_slice())
     }
 
-    /// The same where each line is one call: what the line after those that were asked for asks for. An error is out of memory.
+    /// The same where each line is one call: what the line after those that were asked for asks
+    /// for. An error is out of memory.
     fn next_line(
         &self,
         alloc: Global,

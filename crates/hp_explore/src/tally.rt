@@ -37,7 +37,8 @@ pub(crate) fn schedule_of(alloc: Global, records: &[Record]) -> Result<Vec<Cpu>,
 /// How many ends there may be for a place's counts to be kept (own rule).
 const FEW: usize = 1024;
 
-/// The ends so far, by a digest of an end the latest place of one that has it, and the limit of how many schedules may be counted.
+/// The ends so far, by a digest of an end the latest place of one that has it, and the limit of how
+/// many schedules may be counted.
 #[derive(Drop)]
 pub(crate) struct Tally {
     limit: u64,
@@ -54,7 +55,9 @@ impl Model for Tally {
 
     ghost view = { λ t. record { limit = t.limit; ends = t.ends.items } };
 
-    ghost invariant = { λ t. (t.total ≡ sum_by (λ e. e.count) t.ends.items) × (t.total ≤ t.limit) × AreKnown t.ends.items t.latest };
+    ghost invariant = { λ t.
+        (t.total ≡ sum_by (λ e. e.count) t.ends.items) × (t.total ≤ t.limit)
+        × AreKnown t.ends.items t.latest };
 }
 
 impl Tally {
@@ -70,8 +73,9 @@ impl Tally {
         }
     }
 
-    /// Counts the schedule that records came from under its end: that of so many processors' replies, with these rows. An error is
-    /// that the limit is reached, or out of memory; then nothing is counted.
+    /// Counts the schedule that records came from under its end: that of so many processors'
+    /// replies, with these rows. An error is that the limit is reached, or out of memory; then
+    /// nothing is counted.
     pub(crate) fn note(
         &mut self,
         alloc: Global,
@@ -79,7 +83,8 @@ impl Tally {
         records: &[Record],
         blocks: Vec<Row>,
     ) -> Result<(), ExploreFault>
-        ensures ok { OnOk result (IsNoted self.old.ends (outcome_with processors records.now blocks.items) (schedule_of records.now) self.new.ends) }
+        ensures ok { OnOk result (IsNoted self.old.ends (outcome_with processors records.now blocks.items)
+            (schedule_of records.now) self.new.ends) }
         ensures limit { self.new.limit ≡ self.old.limit }
         ensures err { IfErr result (IsNoteCause self.old) }
     {
@@ -136,7 +141,8 @@ impl Tally {
         self.ends.iter().map(|e| e.count).collect(alloc)
     }
 
-    /// What each end counts more than it did, by its place; an end that was not there did not count. An error is out of memory.
+    /// What each end counts more than it did, by its place; an end that was not there did not
+    /// count. An error is out of memory.
     pub(crate) fn since(&self, alloc: Global, earlier: &[u64]) -> Result<Vec<u64>, AllocError>
         requires { AreNoMore earlier.now self.now.ends }
         ensures { IfOk result (λ counts. AreSince earlier.now self.now.ends counts.items) }
@@ -150,8 +156,8 @@ impl Tally {
         Ok(counts)
     }
 
-    /// Counts so many schedules more under each end, by its place. An error is that there would be more than the limit; then some
-    /// may be counted.
+    /// Counts so many schedules more under each end, by its place. An error is that there would be
+    /// more than the limit; then some may be counted.
     pub(crate) fn add(&mut self, counts: &[u64]) -> Result<(), ExploreFault>
         requires { length counts.now ≤ length self.old.ends }
         ensures ok { OnOk result (AddsCounts self.old.ends counts.now self.new.ends) }
@@ -164,7 +170,8 @@ impl Tally {
         Ok(())
     }
 
-    /// Counts so many schedules more under the end at a place. An error is that there would be more than the limit.
+    /// Counts so many schedules more under the end at a place. An error is that there would be more
+    /// than the limit.
     fn add_at(&mut self, place: usize, count: u64) -> Result<(), ExploreFault>
         requires { place < length self.old.ends }
         ensures ok { OnOk result (AddsAt self.old.ends place count self.new.ends) }
@@ -208,8 +215,8 @@ fn learn(latest: &mut IndexMap<u64, usize>, digest: u64, place: usize) -> Result
     }
 }
 
-/// The place of the end that is the outcome of records, for so many processors, with these rows. It is mostly the latest with its
-/// digest; where it is not, all ends are compared.
+/// The place of the end that is the outcome of records, for so many processors, with these rows. It
+/// is mostly the latest with its digest; where it is not, all ends are compared.
 fn place_of(
     ends: &[Ending],
     latest: &IndexMap<u64, usize>,

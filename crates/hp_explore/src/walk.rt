@@ -25,9 +25,10 @@ use hp_steps::Steps;
 use hp_units::{Block, Claim, Cpu, Event, Record, Refusal, Reply, Row, Serial};
 use std::alloc::{AllocError, Global};
 
-/// Counts the complete schedules that go on from where the walk stands, each under its end, and comes back there. Where they go on
-/// as from a place that was walked before, what was counted there is counted once more, and nothing is played. A place that was
-/// walked is kept as long as there are few ends, since each place holds a count for each end.
+/// Counts the complete schedules that go on from where the walk stands, each under its end, and
+/// comes back there. Where they go on as from a place that was walked before, what was counted
+/// there is counted once more, and nothing is played. A place that was walked is kept as long as
+/// there are few ends, since each place holds a count for each end.
 #[cycle(walk)]
 pub(crate) fn visit<W: Watch>(
     alloc: Global,
@@ -114,8 +115,9 @@ fn walk_on<W: Watch>(
     }
 }
 
-/// Counts those that go on with a processor's next call. The call is a step that is taken back; only after an undo or a Cancel,
-/// which may go back themselves, the walk goes on from steps of their own.
+/// Counts those that go on with a processor's next call. The call is a step that is taken back;
+/// only after an undo or a Cancel, which may go back themselves, the walk goes on from steps of
+/// their own.
 #[cycle(walk)]
 fn visit_next<W: Watch>(
     alloc: Global,
@@ -133,7 +135,8 @@ fn visit_next<W: Watch>(
     requires asked { next_call (setting start.now scripts.now) cpu here.old.records ≡ Some event.now }
     requires counted { AreCounted (BeforeNext (setting start.now scripts.now) here.old cpu) tally.old.ends }
     requires memo { IsMemo (setting start.now scripts.now) tally.old.ends memo.old }
-    ensures ok { OnOk result (AreCounted (ThroughNext (setting start.now scripts.now) here.old cpu) tally.new.ends) }
+    ensures ok { OnOk result
+        (AreCounted (ThroughNext (setting start.now scripts.now) here.old cpu) tally.new.ends) }
     ensures back { OnOk result (here.new ≡ here.old) }
     ensures grows { OnOk result (Grow tally.old.ends tally.new.ends) }
     ensures memo { OnOk result (IsMemo (setting start.now scripts.now) tally.new.ends memo.new) }
@@ -164,7 +167,8 @@ fn next_at(
     cpu: u32,
 ) -> Result<Option<Event>, AllocError>
     requires { cpu < length scripts.now }
-    ensures { IfOk result (λ next. (g : Setting) → g.scripts ≡ scripts.now → g.layout ≡ here.now.layout → next_call g cpu here.now.records ≡ next) }
+    ensures { IfOk result (λ next. (g : Setting) → g.scripts ≡ scripts.now → g.layout ≡ here.now.layout
+        → next_call g cpu here.now.records ≡ next) }
 {
     let script = &scripts[cpu as usize];
     script.next_event(
@@ -175,10 +179,12 @@ fn next_at(
     )
 }
 
-/// The serial of the next record after the new ones. An error is that the history has no room for it, or that there is none.
+/// The serial of the next record after the new ones. An error is that the history has no room for
+/// it, or that there is none.
 fn next_serial(start: &Machine, news: &[Record]) -> Result<Serial, ExploreFault>
     ensures ok { IfOk result (λ serial. IsNextSerial start.now news.now serial) }
-    ensures err { IfErr result (λ fault. (fault ≡ HistoryFull) × (is_full_after (setting start.now []) news.now ≡ true)) }
+    ensures err { IfErr result
+        (λ fault. (fault ≡ HistoryFull) × (is_full_after (setting start.now []) news.now ≡ true)) }
 {
     let calls = news.len() as u64;
     let last = start.last_serial();
@@ -197,8 +203,8 @@ fn may_go_back(event: &Event) -> bool
     matches!(event, Event::UndoAfter { .. } | Event::Cancel { .. })
 }
 
-/// Where a processor's next call leads to that may go back. An undo of steps that there are not leaves the state as it is; after any
-/// other all calls are played again.
+/// Where a processor's next call leads to that may go back. An undo of steps that there are not
+/// leaves the state as it is; after any other all calls are played again.
 fn steps_after(
     alloc: Global,
     start: &Machine,
@@ -211,7 +217,8 @@ fn steps_after(
     requires at { IsAt (setting start.now scripts.now) here.now }
     requires asked { next_call (setting start.now scripts.now) cpu here.now.records ≡ Some event.now }
     requires serial { IsNextSerial start.now here.now.records serial }
-    ensures ok { IfOk result (LeadsTo (setting start.now scripts.now) (schedule_of here.now.records ++ cpu ∷ [])) }
+    ensures ok { IfOk result
+        (LeadsTo (setting start.now scripts.now) (schedule_of here.now.records ++ cpu ∷ [])) }
     ensures err { IfErr result (IsCallCause (setting start.now scripts.now)) }
 {
     if !is_gone(start, cpu, serial, event) {
@@ -227,7 +234,8 @@ fn steps_after(
     Ok(Some(steps))
 }
 
-/// Whether an event is an undo of the steps above a serial that is above the last one, by a processor of the layout.
+/// Whether an event is an undo of the steps above a serial that is above the last one, by a
+/// processor of the layout.
 fn is_gone(start: &Machine, cpu: u32, serial: Serial, event: &Event) -> bool
     ensures { IsTrue result → IsGone start.now cpu serial event.now }
 {
@@ -250,8 +258,8 @@ fn with_record(alloc: Global, here: &Steps, latest: Record) -> Result<Steps, All
     Steps::start(alloc, &image, news)
 }
 
-/// Where a processor's next call after new records leads to, none where its script asks for nothing: on a machine that plays all
-/// calls again. Errors come as those of `play`.
+/// Where a processor's next call after new records leads to, none where its script asks for
+/// nothing: on a machine that plays all calls again. Errors come as those of `play`.
 fn replayed(
     alloc: Global,
     start: &Machine,
@@ -278,7 +286,12 @@ pub(crate) fn steps_of(
     machine: &Machine,
 ) -> Result<Steps, AllocError>
     requires { length start.now.history ≤ length machine.now.history }
-    ensures value { IfOk result (λ steps. steps ≡ record { layout = machine.now.layout; state = machine.now.state; deltas = []; records = news_since start.now machine.now }) }
+    ensures value { IfOk result (λ steps. steps ≡ record {
+      layout = machine.now.layout;
+      state = machine.now.state;
+      deltas = [];
+      records = news_since start.now machine.now;
+    }) }
     ensures kept { IsHistory machine.now }
 {
     machine.stays_sound();

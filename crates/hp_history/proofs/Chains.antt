@@ -28,40 +28,60 @@ use Rattle.hp_history.proofs.Replays.{refutes}
 
 -- ---- one volume more
 
-pub count_more : (volumes : List Volume) (v : Volume) → records_in (volumes ++ v ∷ []) ≡ records_in volumes + length v.records
-count_more volumes v = omega (arith, sum_by-append (λ (x : Volume). length x.records) volumes (v ∷ []), sum_by-cons (λ (x : Volume). length x.records) v [])
+pub count_more : (volumes : List Volume) (v : Volume)
+    → records_in (volumes ++ v ∷ []) ≡ records_in volumes + length v.records
+count_more volumes v =
+    omega (
+      arith,
+      sum_by-append (λ (x : Volume). length x.records) volumes (v ∷ []),
+      sum_by-cons (λ (x : Volume). length x.records) v [],
+    )
 
-pub state_more : (l : LayoutParts) (volumes : List Volume) (v : Volume) → state_after l (volumes ++ v ∷ []) ≡ value_of l (state_after l volumes) v.records
-state_more l volumes v = fold-append (λ (s : Memory) (x : Volume). value_of l s x.records) (boot_memory l) volumes (v ∷ [])
+pub state_more : (l : LayoutParts) (volumes : List Volume) (v : Volume)
+    → state_after l (volumes ++ v ∷ []) ≡ value_of l (state_after l volumes) v.records
+state_more l volumes v =
+    fold-append (λ (s : Memory) (x : Volume). value_of l s x.records) (boot_memory l) volumes (v ∷ [])
 
-pub chain_more : (l : LayoutParts) (volumes : List Volume) (v : Volume) → IsChain l volumes → FollowsVolumes l volumes v → IsChain l (volumes ++ v ∷ [])
+pub chain_more : (l : LayoutParts) (volumes : List Volume) (v : Volume) → IsChain l volumes
+    → FollowsVolumes l volumes v → IsChain l (volumes ++ v ∷ [])
 chain_more l volumes v chain next at x e =
     elim (get_push_cases volumes v x at e) [
       | inl there ↦ (let lt : at < length volumes = slice_get_within volumes at x there in
           let le : at ≤ length volumes = omega arith in
-          subst (λ (g : List Volume). FollowsVolumes l g x) (sym (take-append-le at volumes (v ∷ []) le)) (chain at x there))
+          subst (λ (g : List Volume). FollowsVolumes l g x) (sym (take-append-le at volumes (v ∷ []) le))
+          (chain at x there))
       | inr last ↦ (let le : at ≤ length volumes = omega arith in
-          let whole : take at (volumes ++ v ∷ []) ≡ volumes = take-append-le at volumes (v ∷ []) le ∙ take_all at volumes (omega arith) in
-          subst (λ (g : List Volume). FollowsVolumes l g x) (sym whole) (subst (λ (y : Volume). FollowsVolumes l volumes y) last.1 next))
+          let whole : take at (volumes ++ v ∷ []) ≡ volumes =
+          take-append-le at volumes (v ∷ []) le ∙ take_all at volumes (omega arith) in
+          subst (λ (g : List Volume). FollowsVolumes l g x) (sym whole)
+          (subst (λ (y : Volume). FollowsVolumes l volumes y) last.1 next))
     ]
 
 -- ---- a list of volumes
 
 -- no volumes
-pub ends_none : (l : LayoutParts) (volumes : List Volume) (end : CourseValue) → end ≡ started l (boot_memory l) 0 → EndsVolumes l (take 0 volumes) end
-ends_none l volumes end is = rw is (record { start = refl; layout = refl; count = refl; state = refl; chain = λ at v e. absurd cc })
+pub ends_none : (l : LayoutParts) (volumes : List Volume) (end : CourseValue)
+    → end ≡ started l (boot_memory l) 0 → EndsVolumes l (take 0 volumes) end
+ends_none l volumes end is =
+    rw is (record { start = refl; layout = refl; count = refl; state = refl; chain = λ at v e. absurd cc })
 
 -- one volume more
-pub ends_more : (l : LayoutParts) (volumes : List Volume) (at : ℕ) (v : Volume) (end next : CourseValue) → slice_get volumes at ≡ Some v → EndsVolumes l (take at volumes) end → FollowsEnd end v
-    → IsLegal end.layout end.base end.before v.records → next ≡ sealed_after end v → EndsVolumes l (take (at + 1) volumes) next
+pub ends_more : (l : LayoutParts) (volumes : List Volume) (at : ℕ) (v : Volume) (end next : CourseValue)
+    → slice_get volumes at ≡ Some v → EndsVolumes l (take at volumes) end → FollowsEnd end v
+    → IsLegal end.layout end.base end.before v.records → next ≡ sealed_after end v
+    → EndsVolumes l (take (at + 1) volumes) next
 ends_more l volumes at v end next here ok follows legal is =
     subst (λ (g : List Volume). EndsVolumes l g next) (sym (take_one volumes at v here))
     (subst (λ (c : CourseValue). EndsVolumes l (take at volumes ++ v ∷ []) c) (sym is) (record {
       start = refl;
       layout = ok.layout;
       count = ap (λ (n : ℕ). n + length v.records) ok.count ∙ sym (count_more (take at volumes) v);
-      state = ap (λ (m : LayoutParts). value_of m end.base v.records) ok.layout ∙ (ap (λ (s : Memory). value_of l s v.records) ok.state ∙ sym (state_more l (take at volumes) v));
-      chain = chain_more l (take at volumes) v ok.chain (record { count = follows.count ∙ ok.count; base = follows.base ∙ ok.state; legal = legal_after });
+      state =
+          ap (λ (m : LayoutParts). value_of m end.base v.records) ok.layout
+          ∙ (ap (λ (s : Memory). value_of l s v.records) ok.state ∙ sym (state_more l (take at volumes) v));
+      chain =
+          chain_more l (take at volumes) v ok.chain
+          (record { count = follows.count ∙ ok.count; base = follows.base ∙ ok.state; legal = legal_after });
     }))
   where
     legal_after : IsLegal l (state_after l (take at volumes)) (records_in (take at volumes)) v.records
@@ -71,37 +91,55 @@ ends_more l volumes at v end next here ok follows legal is =
         (subst (λ (m : LayoutParts). IsLegal m end.base end.before v.records) ok.layout legal))
 
 -- the course after all volumes
-pub ends_all : (l : LayoutParts) (volumes : List Volume) (at : ℕ) (end : CourseValue) → length volumes ≤ at → EndsVolumes l (take at volumes) end → EndsVolumes l volumes end
+pub ends_all : (l : LayoutParts) (volumes : List Volume) (at : ℕ) (end : CourseValue) → length volumes ≤ at
+    → EndsVolumes l (take at volumes) end → EndsVolumes l volumes end
 ends_all l volumes at end le ok = subst (λ (g : List Volume). EndsVolumes l g end) (take_all at volumes le) ok
 
 -- what it shows
-pub end_shown : (l : LayoutParts) (volumes : List Volume) (end : CourseValue) → EndsVolumes l volumes end → pictured end.layout end.base ≡ pictured l (state_after l volumes)
-end_shown l volumes end ok = ap (λ (m : LayoutParts). pictured m end.base) ok.layout ∙ ap (pictured l) ok.state
+pub end_shown : (l : LayoutParts) (volumes : List Volume) (end : CourseValue) → EndsVolumes l volumes end
+    → pictured end.layout end.base ≡ pictured l (state_after l volumes)
+end_shown l volumes end ok =
+    ap (λ (m : LayoutParts). pictured m end.base) ok.layout ∙ ap (pictured l) ok.state
 
 -- the state that volumes lead to is well placed
-placed_after : (l : LayoutParts) (volumes : List Volume) (s : Memory) → IsLayout l → IsWellPlaced l s → IsWellPlaced l (fold (λ t v. value_of l t v.records) s volumes)
+placed_after : (l : LayoutParts) (volumes : List Volume) (s : Memory) → IsLayout l → IsWellPlaced l s
+    → IsWellPlaced l (fold (λ t v. value_of l t v.records) s volumes)
 placed_after l [] s limits placed = placed
-placed_after l (v ∷ volumes) s limits placed = placed_after l volumes (value_of l s v.records) limits (value-placed l s v.records limits placed)
+placed_after l (v ∷ volumes) s limits placed =
+    placed_after l volumes (value_of l s v.records) limits (value-placed l s v.records limits placed)
 
-pub end_placed : (l : LayoutParts) (volumes : List Volume) (image : Pictured) → IsLayout l → image ≡ pictured l (state_after l volumes) → IsWellPlaced image.layout image.memory
-end_placed l volumes image limits is = rw is (placed_after l volumes (boot_memory l) limits (boot-placed l limits))
+pub end_placed : (l : LayoutParts) (volumes : List Volume) (image : Pictured) → IsLayout l
+    → image ≡ pictured l (state_after l volumes) → IsWellPlaced image.layout image.memory
+end_placed l volumes image limits is =
+    rw is (placed_after l volumes (boot_memory l) limits (boot-placed l limits))
 
 -- ---- faults
 
-fault_at : (l : LayoutParts) (volumes : List Volume) (at : ℕ) (v : Volume) (end : CourseValue) (fault : ReplayFault) → EndsVolumes l (take at volumes) end → IsFault end.layout end.base end.before v.records fault
+fault_at : (l : LayoutParts) (volumes : List Volume) (at : ℕ) (v : Volume) (end : CourseValue)
+    (fault : ReplayFault)
+    → EndsVolumes l (take at volumes) end → IsFault end.layout end.base end.before v.records fault
     → IsFault l (state_after l (take at volumes)) (records_in (take at volumes)) v.records fault
 fault_at l volumes at v end fault ok wrong =
     subst (λ (n : ℕ). IsFault l (state_after l (take at volumes)) n v.records fault) ok.count
     (subst (λ (s : Memory). IsFault l s end.before v.records fault) ok.state
     (subst (λ (m : LayoutParts). IsFault m end.base end.before v.records fault) ok.layout wrong))
 
-pub fault_after : (l : LayoutParts) (volumes : List Volume) (at : ℕ) (v : Volume) (end : CourseValue) (fault : ChainFault) → slice_get volumes at ≡ Some v → EndsVolumes l (take at volumes) end → IsFaultAfter end at v fault → IsChainFault l volumes fault
+pub fault_after : (l : LayoutParts) (volumes : List Volume) (at : ℕ) (v : Volume) (end : CourseValue)
+    (fault : ChainFault)
+    → slice_get volumes at ≡ Some v → EndsVolumes l (take at volumes) end → IsFaultAfter end at v fault
+    → IsChainFault l volumes fault
 fault_after l volumes at v end (WrongCount place) here ok wrong =
     subst (λ (n : ℕ). IsChainFault l volumes (WrongCount n)) (sym wrong.0)
     (v, record { first = record { here = here; chain = ok.chain }; count = λ e. wrong.1 (e ∙ sym ok.count) })
 fault_after l volumes at v end (WrongBase place) here ok wrong =
-    subst (λ (n : ℕ). IsChainFault l volumes (WrongBase n)) (sym wrong.0)
-    (v, record { first = record { here = here; chain = ok.chain }; count = wrong.1 ∙ ok.count; base = λ e. wrong.2 (e ∙ sym ok.state) })
+    subst (λ (n : ℕ). IsChainFault l volumes (WrongBase n)) (sym wrong.0) (
+      v,
+      record {
+        first = record { here = here; chain = ok.chain };
+        count = wrong.1 ∙ ok.count;
+        base = λ e. wrong.2 (e ∙ sym ok.state);
+      },
+    )
 fault_after l volumes at v end (Replay place fault) here ok wrong =
     subst (λ (n : ℕ). IsChainFault l volumes (Replay n fault)) (sym wrong.0) (
       v,
@@ -116,30 +154,43 @@ fault_after l volumes at v end (Replay place fault) here ok wrong =
 fault_after l volumes at v end OutOfMemory here ok wrong = tt
 
 -- the course of a volume's records, once it is sealed
-pub sealed_so : (end next : CourseValue) (v : Volume) (asked : List Record) → asked ≡ v.records → IsCourseOf end.layout end.base end.before asked next
+pub sealed_so : (end next : CourseValue) (v : Volume) (asked : List Record) → asked ≡ v.records
+    → IsCourseOf end.layout end.base end.before asked next
     → started next.layout next.state (last_serial next) ≡ sealed_after end v
 sealed_so end next v asked same course =
-    let count : next.before + length next.history ≡ end.before + length v.records = omega (arith, course.before, ap (λ (h : List Record). length h) course.history, ap (λ (h : List Record). length h) same) in
+    let count : next.before + length next.history ≡ end.before + length v.records =
+    omega (
+      arith,
+      course.before,
+      ap (λ (h : List Record). length h) course.history,
+      ap (λ (h : List Record). length h) same,
+    ) in
     ap (λ (m : LayoutParts). started m next.state (last_serial next)) course.layout
     ∙ (ap (λ (s : Memory). started end.layout s (last_serial next)) course.state
     ∙ (ap (λ (h : List Record). started end.layout (value_of end.layout end.base h) (last_serial next)) same
     ∙ ap (started end.layout (value_of end.layout end.base v.records)) count))
 
 -- the fault of a volume's records
-pub records_fault : (end : CourseValue) (at : ℕ) (v : Volume) (asked : List Record) (fault : ReplayFault) → FollowsEnd end v → asked ≡ v.records → IsFault end.layout end.base end.before asked fault → IsFaultAfter end at v (chain_fault at fault)
-records_fault end at v asked fault follows same wrong = by_fault fault (subst (λ (g : List Record). IsFault end.layout end.base end.before g fault) same wrong)
+pub records_fault : (end : CourseValue) (at : ℕ) (v : Volume) (asked : List Record) (fault : ReplayFault)
+    → FollowsEnd end v → asked ≡ v.records → IsFault end.layout end.base end.before asked fault
+    → IsFaultAfter end at v (chain_fault at fault)
+records_fault end at v asked fault follows same wrong =
+    by_fault fault (subst (λ (g : List Record). IsFault end.layout end.base end.before g fault) same wrong)
   where
-    by_fault : (f : ReplayFault) → IsFault end.layout end.base end.before v.records f → IsFaultAfter end at v (chain_fault at f)
+    by_fault : (f : ReplayFault) → IsFault end.layout end.base end.before v.records f
+        → IsFaultAfter end at v (chain_fault at f)
     by_fault (WrongReply serial) here = (refl, follows, here, λ e. absurd cc)
     by_fault (WrongSerial place) here = (refl, follows, here, λ e. absurd cc)
     by_fault ReplayOutOfMemory here = tt
 
 -- out of memory may come in place of any answer
-pub memory_fault : (end : CourseValue) (at : ℕ) (v : Volume) (fault : ChainFault) → fault ≡ OutOfMemory → IsFaultAfter end at v fault
+pub memory_fault : (end : CourseValue) (at : ℕ) (v : Volume) (fault : ChainFault) → fault ≡ OutOfMemory
+    → IsFaultAfter end at v fault
 memory_fault end at v fault is = subst (IsFaultAfter end at v) (sym is) tt
 
 -- volumes with one at fault do not follow one another
-records_refute : (l : LayoutParts) (s : Memory) (before : ℕ) (h : List Record) (fault : ReplayFault) → (fault ≡ ReplayOutOfMemory → ⊥) → Refutes l s before h fault → IsLegal l s before h → ⊥
+records_refute : (l : LayoutParts) (s : Memory) (before : ℕ) (h : List Record) (fault : ReplayFault)
+    → (fault ≡ ReplayOutOfMemory → ⊥) → Refutes l s before h fault → IsLegal l s before h → ⊥
 records_refute l s before h fault known wrong legal = by_fault fault known wrong
   where
     by_fault : (f : ReplayFault) → (f ≡ ReplayOutOfMemory → ⊥) → Refutes l s before h f → ⊥
@@ -147,10 +198,15 @@ records_refute l s before h fault known wrong legal = by_fault fault known wrong
     by_fault (WrongSerial at) known wrong = wrong legal
     by_fault ReplayOutOfMemory known wrong = known refl
 
-pub chain_refuted : (l : LayoutParts) (volumes : List Volume) (fault : ChainFault) → IsChainFault l volumes fault → RefutesChain l volumes fault
-chain_refuted l volumes (WrongCount at) wrong = λ chain. wrong.1.count (chain at wrong.0 wrong.1.first.here).count
-chain_refuted l volumes (WrongBase at) wrong = λ chain. wrong.1.base (chain at wrong.0 wrong.1.first.here).base
+pub chain_refuted : (l : LayoutParts) (volumes : List Volume) (fault : ChainFault)
+    → IsChainFault l volumes fault → RefutesChain l volumes fault
+chain_refuted l volumes (WrongCount at) wrong =
+    λ chain. wrong.1.count (chain at wrong.0 wrong.1.first.here).count
+chain_refuted l volumes (WrongBase at) wrong =
+    λ chain. wrong.1.base (chain at wrong.0 wrong.1.first.here).base
 chain_refuted l volumes (Replay at fault) wrong = λ chain.
-    records_refute l (state_after l (take at volumes)) (records_in (take at volumes)) wrong.0.records fault wrong.1.known
-    (refutes l (state_after l (take at volumes)) (records_in (take at volumes)) wrong.0.records fault wrong.1.records) (chain at wrong.0 wrong.1.first.here).legal
+    records_refute l (state_after l (take at volumes)) (records_in (take at volumes)) wrong.0.records fault
+    wrong.1.known
+    (refutes l (state_after l (take at volumes)) (records_in (take at volumes)) wrong.0.records fault
+    wrong.1.records) (chain at wrong.0 wrong.1.first.here).legal
 chain_refuted l volumes OutOfMemory wrong = tt

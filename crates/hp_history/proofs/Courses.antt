@@ -1,7 +1,7 @@
 -- A course after an answer.
-use Rattle.std.proofs.Common.{◌≡◌, ℕ, ◌<◌, ◌≤◌, ◌+◌, ◌^◌, Bool, true, false, List, [], ◌∷◌, ◌++◌, drop, length, take, refl, ap, sym, subst, ◌∙◌, arith, inl, inr}
+use Rattle.std.proofs.Common.{◌≡◌, ℕ, ◌<◌, ◌+◌, ◌^◌, Bool, true, false, List, [], ◌∷◌, ◌++◌, length, take, refl, ap, sym, subst, ◌∙◌, arith, inl, inr}
 use Rattle.std.specs.Prelude.{◌&&◌, not, if◌then◌else◌}
-use Rattle.std.proofs.lemmas.List.{drop_at, length-append, length_push, take_at}
+use Rattle.std.proofs.lemmas.List.{length_push}
 use Rattle.std.proofs.lemmas.Bool.{leb-false, and_cases, not-false}
 use Rattle.hp_units.specs.Memory.{Memory}
 use Rattle.hp_units.specs.LayoutParts.{IsLayout, LayoutParts}
@@ -11,29 +11,32 @@ use Rattle.hp_units.specs.History.{is_look, is_refused, net_of, run, value_of, r
 use Rattle.hp_units.specs.declared.replies.Receipt.{Receipt}
 use Rattle.hp_tape.specs.Bounds.{delta_bound}
 use Rattle.hp_tape.specs.declared.deltas.Delta.{Delta}
-use Rattle.hp_tape.specs.Deltas.{FrameView, frame_view_of}
+use Rattle.hp_tape.specs.Deltas.{frame_view_of}
 use Rattle.hp_memory.specs.Layers.{AreNoted}
-use Rattle.hp_memory.specs.Memory.{LeadsBack, MemoryValue}
+use Rattle.hp_memory.specs.Memory.{MemoryValue}
 use Rattle.hp_plain.specs.Image.{Pictured}
-use Rattle.hp_laws.proofs.EventSteps.{run-placed, value-placed}
+use Rattle.hp_laws.proofs.EventSteps.{value-placed}
 use Rattle.hp_laws.proofs.Net.{net-push, run-push, legal_push}
 use Rattle.hp_laws.proofs.Steps.{steps, is_look_effect}
 use Rattle.hp_history.specs.declared.journal.Entry.{Entry}
 use Rattle.hp_history.specs.Course.{CourseValue, IsAnswered, IsHistory, is_spent, last_serial, record_of}
 use Rattle.hp_history.specs.Entries.{start_of}
-use Rattle.hp_history.specs.Kept.{IsCourse, IsCut, IsJournal, IsStep, pictured, remembered}
-use Rattle.hp_history.proofs.Names.{Event, Reply, Record}
-use Rattle.hp_history.proofs.Journals.{IsNext, journal_grown, journal_none, journal_push, journal_take}
-use Rattle.hp_history.proofs.Starts.{tag-last}
+use Rattle.hp_history.specs.Kept.{IsCourse, IsCut, IsStep, pictured, remembered}
+use Rattle.hp_history.proofs.Names.{Record}
+use Rattle.hp_history.proofs.Journals.{journal_grown, journal_none, journal_take}
 
 -- where there is a further serial
 pub room : (m : CourseValue) → is_spent m ≡ false → m.before + length m.history < 18446744073709551615
 room m free = leb-false 18446744073709551615 (m.before + length m.history) free
 
 -- the longer history is legal
-follows : (m : CourseValue) (cpu : ℕ) (r : Receipt) → r.serial ≡ last_serial m + 1 → r.reply ≡ reply_of m.layout m.base m.before m.history cpu r.event → IsLegal m.layout m.base m.before m.history
+pub follows : (m : CourseValue) (cpu : ℕ) (r : Receipt) → r.serial ≡ last_serial m + 1
+    → r.reply ≡ reply_of m.layout m.base m.before m.history cpu r.event
+    → IsLegal m.layout m.base m.before m.history
     → IsLegal m.layout m.base m.before (m.history ++ record_of cpu r ∷ [])
-follows m cpu r serial reply legal = legal_push m.layout m.base m.before m.history (record_of cpu r) legal (record { serial = serial; reply = reply })
+follows m cpu r serial reply legal =
+    legal_push m.layout m.base m.before m.history (record_of cpu r) legal
+    (record { serial = serial; reply = reply })
 
 -- the value after an answer that left this state
 abbrev pub answered_value : CourseValue → ℕ → Receipt → Memory → CourseValue
@@ -41,14 +44,18 @@ answered_value m cpu r state = record m { history = m.history ++ record_of cpu r
 
 -- the value of a course's fields
 abbrev pub value_with : (before : ℕ) → (base : Memory) → List Record → MemoryValue → CourseValue
-value_with before base h v = record { layout = v.layout; before = before; base = base; history = h; state = v.state }
+value_with before base h v =
+    record { layout = v.layout; before = before; base = base; history = h; state = v.state }
 
 -- a memory's value, by its parts
-pub memory_is : (v : MemoryValue) (l : LayoutParts) (s : Memory) → v.layout ≡ l → v.state ≡ s → v ≡ remembered l s
+pub memory_is : (v : MemoryValue) (l : LayoutParts) (s : Memory) → v.layout ≡ l → v.state ≡ s
+    → v ≡ remembered l s
 memory_is v l s layout state = ap (λ (k : LayoutParts). remembered k v.state) layout ∙ ap (remembered l) state
 
 -- a course with no records
-pub new_course : (l : LayoutParts) (s : Memory) (before : ℕ) (v : MemoryValue) (h : List Record) (es : List Entry) (ds : List Delta) → IsLayout l → IsWellPlaced l s → v ≡ remembered l s → h ≡ [] → es ≡ [] → ds ≡ [] → before < 2 ^ 64
+pub new_course : (l : LayoutParts) (s : Memory) (before : ℕ) (v : MemoryValue) (h : List Record)
+    (es : List Entry) (ds : List Delta)
+    → IsLayout l → IsWellPlaced l s → v ≡ remembered l s → h ≡ [] → es ≡ [] → ds ≡ [] → before < 2 ^ 64
     → IsCourse (value_with before s h v) es ds
 unfolding value_of net_of run
 new_course l s before v h es ds limits placed is none empty clear fits =
@@ -61,33 +68,52 @@ new_course l s before v h es ds limits placed is none empty clear fits =
     })
 
 -- a course's state is well placed
-pub state_placed : (m : CourseValue) (es : List Entry) (ds : List Delta) → IsCourse m es ds → IsWellPlaced m.layout m.state
-state_placed m es ds ok = subst (λ (s : Memory). IsWellPlaced m.layout s) (sym ok.history.state) (value-placed m.layout m.base m.history ok.limits ok.placed)
+pub state_placed : (m : CourseValue) (es : List Entry) (ds : List Delta) → IsCourse m es ds
+    → IsWellPlaced m.layout m.state
+state_placed m es ds ok =
+    subst (λ (s : Memory). IsWellPlaced m.layout s) (sym ok.history.state)
+    (value-placed m.layout m.base m.history ok.limits ok.placed)
 
 -- a course that was sealed
-pub sealed_course : (m : CourseValue) (es : List Entry) (ds : List Delta) (now : Pictured) (before : ℕ) (h : List Record) (left : List Entry) (kept : List Delta) → IsCourse m es ds → now ≡ pictured m.layout m.state → before ≡ last_serial m → h ≡ [] → left ≡ [] → kept ≡ []
-    → IsCourse (record { layout = m.layout; before = before; base = now.memory; history = h; state = m.state }) left kept
+pub sealed_course : (m : CourseValue) (es : List Entry) (ds : List Delta) (now : Pictured) (before : ℕ)
+    (h : List Record) (left : List Entry) (kept : List Delta)
+    → IsCourse m es ds → now ≡ pictured m.layout m.state → before ≡ last_serial m → h ≡ [] → left ≡ []
+    → kept ≡ []
+    → IsCourse (record {
+      layout = m.layout;
+      before = before;
+      base = now.memory;
+      history = h;
+      state = m.state;
+    }) left kept
 sealed_course m es ds now before h left kept ok is last none empty clear =
     let base : now.memory ≡ m.state = ap (λ (i : Pictured). i.memory) is in
     let fits : before < 2 ^ 64 = omega (arith, last, ok.fits) in
-    subst (λ (s : Memory). IsCourse (record { layout = m.layout; before = before; base = s; history = h; state = m.state }) left kept) (sym base)
-    (new_course m.layout m.state before (remembered m.layout m.state) h left kept ok.limits (state_placed m es ds ok) refl none empty clear fits)
+    subst (λ (s : Memory). IsCourse
+    (record { layout = m.layout; before = before; base = s; history = h; state = m.state }) left kept) (sym
+    base)
+    (new_course m.layout m.state before (remembered m.layout m.state) h left kept ok.limits
+    (state_placed m es ds ok) refl none empty clear fits)
 
 -- ---- going back
 
 -- the net after going back
-cut_net : (m : CourseValue) (cpu : ℕ) (keep : ℕ) (r : Receipt) → IsCut m cpu r.event keep r.reply → net_of (m.history ++ record_of cpu r ∷ []) ≡ take keep (net_of m.history)
+cut_net : (m : CourseValue) (cpu : ℕ) (keep : ℕ) (r : Receipt) → IsCut m cpu r.event keep r.reply
+    → net_of (m.history ++ record_of cpu r ∷ []) ≡ take keep (net_of m.history)
 cut_net m cpu keep r cut = net-push m.history (record_of cpu r) ∙ cut.cut (record_of cpu r) refl refl
 
 -- the state that it leads to is that of the longer history
-cut_state : (m : CourseValue) (cpu keep : ℕ) (r : Receipt) (s : Memory) → IsCut m cpu r.event keep r.reply → s ≡ run m.layout m.base (take keep (net_of m.history))
+cut_state : (m : CourseValue) (cpu keep : ℕ) (r : Receipt) (s : Memory) → IsCut m cpu r.event keep r.reply
+    → s ≡ run m.layout m.base (take keep (net_of m.history))
     → s ≡ value_of m.layout m.base (m.history ++ record_of cpu r ∷ [])
 unfolding value_of
 cut_state m cpu keep r s cut is = is ∙ ap (run m.layout m.base) (sym (cut_net m cpu keep r cut))
 
 -- what the course keeps after going back
-cut_course : (m : CourseValue) (es : List Entry) (ds : List Delta) (cpu keep : ℕ) (r : Receipt) → IsCourse m es ds → is_spent m ≡ false → IsCut m cpu r.event keep r.reply → r.serial ≡ last_serial m + 1
-    → IsCourse (answered_value m cpu r (value_of m.layout m.base (m.history ++ record_of cpu r ∷ []))) (take keep es) (take (start_of es (length ds) keep) ds)
+cut_course : (m : CourseValue) (es : List Entry) (ds : List Delta) (cpu keep : ℕ) (r : Receipt)
+    → IsCourse m es ds → is_spent m ≡ false → IsCut m cpu r.event keep r.reply → r.serial ≡ last_serial m + 1
+    → IsCourse (answered_value m cpu r (value_of m.layout m.base (m.history ++ record_of cpu r ∷ [])))
+    (take keep es) (take (start_of es (length ds) keep) ds)
 cut_course m es ds cpu keep r ok free cut serial =
     let space = room m free in
     record {
@@ -95,14 +121,17 @@ cut_course m es ds cpu keep r ok free cut serial =
       placed = ok.placed;
       history = record { legal = follows m cpu r serial cut.answers ok.history.legal; state = refl };
       journal =
-          rw (cut_net m cpu keep r cut) (journal_grown m.layout m.base m.history (take keep (net_of m.history)) (take keep es) (take (start_of es (length ds) keep) ds) (record_of cpu r)
+          rw (cut_net m cpu keep r cut) (journal_grown m.layout m.base m.history (take keep
+          (net_of m.history)) (take keep es) (take (start_of es (length ds) keep) ds) (record_of cpu r)
           (journal_take m.layout m.base m.history (net_of m.history) es ds keep ok.journal cut.within));
       fits = omega (arith, space, length_push m.history (record_of cpu r));
     }
 
 -- a receipt with the serial, the event and the reply that the definitions give
-answered : (m : CourseValue) (cpu : ℕ) (r : Receipt) → IsHistory m → r.serial ≡ last_serial m + 1 → r.reply ≡ reply_of m.layout m.base m.before m.history cpu r.event
-    → IsAnswered m cpu r.event r (answered_value m cpu r (value_of m.layout m.base (m.history ++ record_of cpu r ∷ [])))
+pub answered : (m : CourseValue) (cpu : ℕ) (r : Receipt) → IsHistory m → r.serial ≡ last_serial m + 1
+    → r.reply ≡ reply_of m.layout m.base m.before m.history cpu r.event
+    → IsAnswered m cpu r.event r
+    (answered_value m cpu r (value_of m.layout m.base (m.history ++ record_of cpu r ∷ [])))
 answered m cpu r ok serial reply = record {
   serial = serial;
   asked = refl;
@@ -116,7 +145,8 @@ answered m cpu r ok serial reply = record {
 }
 
 -- what is known where the course went back: the memory, the history, the entries and the deltas that it left
-pub record IsBack (m : CourseValue) (es : List Entry) (ds : List Delta) (cpu keep : ℕ) (r : Receipt) (v : MemoryValue) (h : List Record) (left : List Entry) (kept : List Delta) : Type 0 where
+pub record IsBack (m : CourseValue) (es : List Entry) (ds : List Delta) (cpu keep : ℕ) (r : Receipt)
+    (v : MemoryValue) (h : List Record) (left : List Entry) (kept : List Delta) : Type 0 where
   pub course : IsCourse m es ds
   pub free : is_spent m ≡ false
   pub cut : IsCut m cpu r.event keep r.reply
@@ -128,23 +158,33 @@ pub record IsBack (m : CourseValue) (es : List Entry) (ds : List Delta) (cpu kee
   pub deltas : kept ≡ take (start_of es (length ds) keep) ds
 
 -- the fields as going back leaves them
-pub cut_fields : (m : CourseValue) (es : List Entry) (ds : List Delta) (cpu keep : ℕ) (r : Receipt) (v : MemoryValue) (h : List Record) (left : List Entry) (kept : List Delta) → IsBack m es ds cpu keep r v h left kept
+pub cut_fields : (m : CourseValue) (es : List Entry) (ds : List Delta) (cpu keep : ℕ) (r : Receipt)
+    (v : MemoryValue) (h : List Record) (left : List Entry) (kept : List Delta)
+    → IsBack m es ds cpu keep r v h left kept
     → IsCourse (value_with m.before m.base h v) left kept
 cut_fields m es ds cpu keep r v h left kept back =
-    let shown = memory_is v m.layout (value_of m.layout m.base (m.history ++ record_of cpu r ∷ [])) back.layout (cut_state m cpu keep r v.state back.cut back.state) in
-    rw (back.history, back.entries, back.deltas, shown) (cut_course m es ds cpu keep r back.course back.free back.cut back.serial)
+    let shown =
+    memory_is v m.layout (value_of m.layout m.base (m.history ++ record_of cpu r ∷ [])) back.layout
+    (cut_state m cpu keep r v.state back.cut back.state) in
+    rw (back.history, back.entries, back.deltas, shown)
+    (cut_course m es ds cpu keep r back.course back.free back.cut back.serial)
 
 -- going back is the answer
-pub cut_answered : (m : CourseValue) (es : List Entry) (ds : List Delta) (cpu keep : ℕ) (r : Receipt) (v : MemoryValue) (h : List Record) (left : List Entry) (kept : List Delta) → IsBack m es ds cpu keep r v h left kept
+pub cut_answered : (m : CourseValue) (es : List Entry) (ds : List Delta) (cpu keep : ℕ) (r : Receipt)
+    (v : MemoryValue) (h : List Record) (left : List Entry) (kept : List Delta)
+    → IsBack m es ds cpu keep r v h left kept
     → IsAnswered m cpu r.event r (value_with m.before m.base h v)
 cut_answered m es ds cpu keep r v h left kept back =
-    let shown = memory_is v m.layout (value_of m.layout m.base (m.history ++ record_of cpu r ∷ [])) back.layout (cut_state m cpu keep r v.state back.cut back.state) in
+    let shown =
+    memory_is v m.layout (value_of m.layout m.base (m.history ++ record_of cpu r ∷ [])) back.layout
+    (cut_state m cpu keep r v.state back.cut back.state) in
     rw (back.history, shown) (answered m cpu r back.course.history back.serial back.cut.answers)
 
 -- ---- making a step
 
 -- what is known where the course made its step, before its entry is kept
-pub record IsMade (m : CourseValue) (es : List Entry) (ds : List Delta) (cpu : ℕ) (r : Receipt) (e : Entry) (v : MemoryValue) (now : List Delta) : Type 0 where
+pub record IsMade (m : CourseValue) (es : List Entry) (ds : List Delta) (cpu : ℕ) (r : Receipt) (e : Entry)
+    (v : MemoryValue) (now : List Delta) : Type 0 where
   pub course : IsCourse m es ds
   pub free : is_spent m ≡ false
   pub by_step : IsStep m cpu r.event
@@ -152,7 +192,8 @@ pub record IsMade (m : CourseValue) (es : List Entry) (ds : List Delta) (cpu : �
   pub state : v.state ≡ (step m.layout m.state r.serial cpu r.event).memory
   pub reply : r.reply ≡ (step m.layout m.state r.serial cpu r.event).reply
   pub layout : v.layout ≡ m.layout
-  pub noted : AreNoted m.layout (delta_bound m.layout m.state r.event) ds now (frame_view_of m.layout v.state) (frame_view_of m.layout m.state)
+  pub noted : AreNoted m.layout (delta_bound m.layout m.state r.event) ds now (frame_view_of m.layout v.state)
+      (frame_view_of m.layout m.state)
   pub place : e.place ≡ length m.history
   pub start : e.start ≡ length ds
 
@@ -161,7 +202,9 @@ abbrev pub is_kept : Receipt → Bool
 is_kept r = not (is_refused r.reply) && not (is_look r.event)
 
 -- the reply is that of a step in the history's state
-made_answer : (m : CourseValue) (es : List Entry) (ds : List Delta) (cpu : ℕ) (r : Receipt) (e : Entry) (v : MemoryValue) (now : List Delta) → IsMade m es ds cpu r e v now
+made_answer : (m : CourseValue) (es : List Entry) (ds : List Delta) (cpu : ℕ) (r : Receipt) (e : Entry)
+    (v : MemoryValue) (now : List Delta)
+    → IsMade m es ds cpu r e v now
     → r.reply ≡ (step m.layout (value_of m.layout m.base m.history) (last_serial m + 1) cpu r.event).reply
 made_answer m es ds cpu r e v now made =
     made.reply
@@ -169,17 +212,26 @@ made_answer m es ds cpu r e v now made =
     ∙ ap (λ (s : Memory). (step m.layout s (last_serial m + 1) cpu r.event).reply) made.course.history.state)
 
 -- the reply is the one that the definitions give
-made_reply : (m : CourseValue) (es : List Entry) (ds : List Delta) (cpu : ℕ) (r : Receipt) (e : Entry) (v : MemoryValue) (now : List Delta) → IsMade m es ds cpu r e v now
+pub made_reply : (m : CourseValue) (es : List Entry) (ds : List Delta) (cpu : ℕ) (r : Receipt) (e : Entry)
+    (v : MemoryValue) (now : List Delta)
+    → IsMade m es ds cpu r e v now
     → r.reply ≡ reply_of m.layout m.base m.before m.history cpu r.event
 made_reply m es ds cpu r e v now made = made_answer m es ds cpu r e v now made ∙ sym made.by_step.reply
 
 -- the net after the step
-made_net : (m : CourseValue) (es : List Entry) (ds : List Delta) (cpu : ℕ) (r : Receipt) (e : Entry) (v : MemoryValue) (now : List Delta) → IsMade m es ds cpu r e v now
-    → net_of (m.history ++ record_of cpu r ∷ []) ≡ (if is_kept r then net_of m.history ++ record_of cpu r ∷ [] else net_of m.history)
-made_net m es ds cpu r e v now made = net-push m.history (record_of cpu r) ∙ made.by_step.net (record_of cpu r) refl (made_answer m es ds cpu r e v now made)
+pub made_net : (m : CourseValue) (es : List Entry) (ds : List Delta) (cpu : ℕ) (r : Receipt) (e : Entry)
+    (v : MemoryValue) (now : List Delta)
+    → IsMade m es ds cpu r e v now
+    → net_of (m.history ++ record_of cpu r ∷ [])
+    ≡ (if is_kept r then net_of m.history ++ record_of cpu r ∷ [] else net_of m.history)
+made_net m es ds cpu r e v now made =
+    net-push m.history (record_of cpu r)
+    ∙ made.by_step.net (record_of cpu r) refl (made_answer m es ds cpu r e v now made)
 
 -- what is refused or only looks leaves the state
-made_same : (m : CourseValue) (es : List Entry) (ds : List Delta) (cpu : ℕ) (r : Receipt) (e : Entry) (v : MemoryValue) (now : List Delta) → IsMade m es ds cpu r e v now → is_kept r ≡ false → v.state ≡ m.state
+pub made_same : (m : CourseValue) (es : List Entry) (ds : List Delta) (cpu : ℕ) (r : Receipt) (e : Entry)
+    (v : MemoryValue) (now : List Delta)
+    → IsMade m es ds cpu r e v now → is_kept r ≡ false → v.state ≡ m.state
 made_same m es ds cpu r e v now made none =
     let law = steps m.layout m.state r.serial cpu r.event in
     made.state ∙ (elim (and_cases (not (is_refused r.reply)) (not (is_look r.event)) none) [
@@ -188,7 +240,9 @@ made_same m es ds cpu r e v now made none =
     ])
 
 -- the state after a step that counts
-made_next : (m : CourseValue) (es : List Entry) (ds : List Delta) (cpu : ℕ) (r : Receipt) (e : Entry) (v : MemoryValue) (now : List Delta) → IsMade m es ds cpu r e v now
+pub made_next : (m : CourseValue) (es : List Entry) (ds : List Delta) (cpu : ℕ) (r : Receipt) (e : Entry)
+    (v : MemoryValue) (now : List Delta)
+    → IsMade m es ds cpu r e v now
     → v.state ≡ run m.layout m.base (net_of m.history ++ record_of cpu r ∷ [])
 unfolding value_of
 made_next m es ds cpu r e v now made =
@@ -197,130 +251,21 @@ made_next m es ds cpu r e v now made =
     ∙ sym (run-push m.layout m.base (net_of m.history) (record_of cpu r)))
 
 -- the state after the step, by whether it counts
-made_state : (m : CourseValue) (es : List Entry) (ds : List Delta) (cpu : ℕ) (r : Receipt) (e : Entry) (v : MemoryValue) (now : List Delta) → IsMade m es ds cpu r e v now → (b : Bool) → is_kept r ≡ b
+made_state : (m : CourseValue) (es : List Entry) (ds : List Delta) (cpu : ℕ) (r : Receipt) (e : Entry)
+    (v : MemoryValue) (now : List Delta)
+    → IsMade m es ds cpu r e v now → (b : Bool) → is_kept r ≡ b
     → v.state ≡ run m.layout m.base (if b then net_of m.history ++ record_of cpu r ∷ [] else net_of m.history)
 unfolding value_of
 made_state m es ds cpu r e v now made true kept = made_next m es ds cpu r e v now made
-made_state m es ds cpu r e v now made false kept = made_same m es ds cpu r e v now made kept ∙ made.course.history.state
+made_state m es ds cpu r e v now made false kept =
+    made_same m es ds cpu r e v now made kept ∙ made.course.history.state
 
 -- the memory after the step shows the value of the longer history
-made_shown : (m : CourseValue) (es : List Entry) (ds : List Delta) (cpu : ℕ) (r : Receipt) (e : Entry) (v : MemoryValue) (now : List Delta) → IsMade m es ds cpu r e v now
+pub made_shown : (m : CourseValue) (es : List Entry) (ds : List Delta) (cpu : ℕ) (r : Receipt) (e : Entry)
+    (v : MemoryValue) (now : List Delta)
+    → IsMade m es ds cpu r e v now
     → v.state ≡ value_of m.layout m.base (m.history ++ record_of cpu r ∷ [])
 unfolding value_of
 made_shown m es ds cpu r e v now made =
-    made_state m es ds cpu r e v now made (is_kept r) refl ∙ ap (run m.layout m.base) (sym (made_net m es ds cpu r e v now made))
-
--- ---- what the step noted
-
--- it stands on the tape after what was there
-noted_past : (l : LayoutParts) (most : ℕ) (was now : List Delta) (later earlier : FrameView) (mark : ℕ) (noted : AreNoted l most was now later earlier) → mark ≡ length was → drop mark now ≡ noted.deltas
-noted_past l most was now later earlier mark noted is = ap (λ (xs : List Delta). drop mark xs) noted.after ∙ drop_at was noted.deltas mark (sym is)
-
-noted_before : (l : LayoutParts) (most : ℕ) (was now : List Delta) (later earlier : FrameView) (mark : ℕ) (noted : AreNoted l most was now later earlier) → mark ≡ length was → take mark now ≡ was
-noted_before l most was now later earlier mark noted is = ap (λ (xs : List Delta). take mark xs) noted.after ∙ take_at was noted.deltas mark (sym is)
-
--- it leads back to the state before
-made_leads : (m : CourseValue) (es : List Entry) (ds : List Delta) (cpu : ℕ) (r : Receipt) (e : Entry) (v : MemoryValue) (now : List Delta) (made : IsMade m es ds cpu r e v now) → LeadsBack m.layout made.noted.deltas v.state m.state
-made_leads m es ds cpu r e v now made = record { placed = state_placed m es ds made.course; numbers = made.noted.numbers; lead = made.noted.lead }
-
--- so what is no step can be taken off the tape
-pub made_off : (m : CourseValue) (es : List Entry) (ds : List Delta) (cpu : ℕ) (r : Receipt) (e : Entry) (v : MemoryValue) (now : List Delta) → IsMade m es ds cpu r e v now → is_kept r ≡ false
-    → LeadsBack v.layout (drop e.start now) v.state v.state
-made_off m es ds cpu r e v now made none =
-    let past = noted_past m.layout (delta_bound m.layout m.state r.event) ds now (frame_view_of m.layout v.state) (frame_view_of m.layout m.state) e.start made.noted made.start in
-    subst (λ (l : LayoutParts). LeadsBack l (drop e.start now) v.state v.state) (sym made.layout)
-    (subst (λ (xs : List Delta). LeadsBack m.layout xs v.state v.state) (sym past)
-    (subst (λ (s : Memory). LeadsBack m.layout made.noted.deltas v.state s) (sym (made_same m es ds cpu r e v now made none)) (made_leads m es ds cpu r e v now made)))
-
--- the tape is long enough
-pub made_start : (m : CourseValue) (es : List Entry) (ds : List Delta) (cpu : ℕ) (r : Receipt) (e : Entry) (v : MemoryValue) (now : List Delta) → IsMade m es ds cpu r e v now → e.start ≤ length now
-made_start m es ds cpu r e v now made =
-    omega (arith, made.start, ap (λ (xs : List Delta). length xs) made.noted.after, length-append ds made.noted.deltas)
-
--- the step as the next one of the journal
-made_entry : (m : CourseValue) (es : List Entry) (ds : List Delta) (cpu : ℕ) (r : Receipt) (e : Entry) (v : MemoryValue) (now : List Delta) (made : IsMade m es ds cpu r e v now)
-    → IsNext m.layout m.base (m.history ++ record_of cpu r ∷ []) (net_of m.history) ds (record_of cpu r) e made.noted.deltas
-unfolding value_of
-made_entry m es ds cpu r e v now made =
-    let l = m.layout in
-    let net = net_of m.history in
-    let longer = net ++ record_of cpu r ∷ [] in
-    let was : m.state ≡ run l m.base net = made.course.history.state in
-    record {
-      place = omega (arith, made.place, length_push m.history (record_of cpu r));
-      tag = tag-last m.history (record_of cpu r) e.place made.place;
-      start = made.start;
-      few = subst (λ (s : Memory). length made.noted.deltas ≤ delta_bound l s r.event) was made.noted.few;
-      leads = subst (λ (s : Memory). LeadsBack l made.noted.deltas s (run l m.base net)) (made_next m es ds cpu r e v now made)
-          (subst (λ (s : Memory). LeadsBack l made.noted.deltas v.state s) was (made_leads m es ds cpu r e v now made));
-      placed = run-placed l m.base longer made.course.limits made.course.placed;
-    }
-
--- the journal after the step, by whether it counts
-made_journal : (m : CourseValue) (es : List Entry) (ds : List Delta) (cpu : ℕ) (r : Receipt) (e : Entry) (v : MemoryValue) (now : List Delta) → IsMade m es ds cpu r e v now → (b : Bool)
-    → IsJournal m.layout m.base (m.history ++ record_of cpu r ∷ []) (if b then net_of m.history ++ record_of cpu r ∷ [] else net_of m.history) (if b then es ++ e ∷ [] else es) (if b then now else take e.start now)
-made_journal m es ds cpu r e v now made true =
-    let longer = m.history ++ record_of cpu r ∷ [] in
-    let net = net_of m.history in
-    let grown = journal_grown m.layout m.base m.history net es ds (record_of cpu r) made.course.journal in
-    subst (λ (xs : List Delta). IsJournal m.layout m.base longer (net ++ record_of cpu r ∷ []) (es ++ e ∷ []) xs) (sym made.noted.after)
-    (journal_push m.layout m.base longer net es ds (record_of cpu r) e made.noted.deltas grown (made_entry m es ds cpu r e v now made))
-made_journal m es ds cpu r e v now made false =
-    let longer = m.history ++ record_of cpu r ∷ [] in
-    let before = noted_before m.layout (delta_bound m.layout m.state r.event) ds now (frame_view_of m.layout v.state) (frame_view_of m.layout m.state) e.start made.noted made.start in
-    subst (λ (xs : List Delta). IsJournal m.layout m.base longer (net_of m.history) es xs) (sym before)
-    (journal_grown m.layout m.base m.history (net_of m.history) es ds (record_of cpu r) made.course.journal)
-
--- what the course keeps after the step
-made_course : (m : CourseValue) (es : List Entry) (ds : List Delta) (cpu : ℕ) (r : Receipt) (e : Entry) (v : MemoryValue) (now : List Delta) → IsMade m es ds cpu r e v now
-    → IsCourse (answered_value m cpu r (value_of m.layout m.base (m.history ++ record_of cpu r ∷ []))) (if is_kept r then es ++ e ∷ [] else es) (if is_kept r then now else take e.start now)
-made_course m es ds cpu r e v now made =
-    let space = room m made.free in
-    record {
-      limits = made.course.limits;
-      placed = made.course.placed;
-      history = record { legal = follows m cpu r made.serial (made_reply m es ds cpu r e v now made) made.course.history.legal; state = refl };
-      journal = rw (made_net m es ds cpu r e v now made) (made_journal m es ds cpu r e v now made (is_kept r));
-      fits = omega (arith, space, length_push m.history (record_of cpu r));
-    }
-
--- what the fields are once the entry is kept
-pub record IsLeft (m : CourseValue) (es : List Entry) (cpu : ℕ) (r : Receipt) (e : Entry) (v : MemoryValue) (now : List Delta) (b : Bool) (last : MemoryValue) (h : List Record) (left : List Entry) (kept : List Delta) : Type 0 where
-  pub steps : b ≡ is_kept r
-  pub state : last.state ≡ v.state
-  pub layout : last.layout ≡ v.layout
-  pub history : h ≡ m.history ++ record_of cpu r ∷ []
-  pub entries : left ≡ (if b then es ++ e ∷ [] else es)
-  pub deltas : kept ≡ (if b then now else take e.start now)
-
--- the fields as the step leaves them
-pub made_fields : (m : CourseValue) (es : List Entry) (ds : List Delta) (cpu : ℕ) (r : Receipt) (e : Entry) (v : MemoryValue) (now : List Delta) (b : Bool) (last : MemoryValue) (h : List Record) (left : List Entry) (kept : List Delta)
-    → IsMade m es ds cpu r e v now → IsLeft m es cpu r e v now b last h left kept → IsCourse (value_with m.before m.base h last) left kept
-made_fields m es ds cpu r e v now b last h left kept made fields =
-    let entries : left ≡ (if is_kept r then es ++ e ∷ [] else es) = fields.entries ∙ ap (λ (k : Bool). if k then es ++ e ∷ [] else es) fields.steps in
-    let deltas : kept ≡ (if is_kept r then now else take e.start now) = fields.deltas ∙ ap (λ (k : Bool). if k then now else take e.start now) fields.steps in
-    let shown = memory_is last m.layout (value_of m.layout m.base (m.history ++ record_of cpu r ∷ [])) (fields.layout ∙ made.layout) (fields.state ∙ made_shown m es ds cpu r e v now made) in
-    rw (fields.history, entries, deltas, shown) (made_course m es ds cpu r e v now made)
-
--- the step is the answer
-pub made_answered : (m : CourseValue) (es : List Entry) (ds : List Delta) (cpu : ℕ) (r : Receipt) (e : Entry) (v : MemoryValue) (now : List Delta) (b : Bool) (last : MemoryValue) (h : List Record) (left : List Entry) (kept : List Delta)
-    → IsMade m es ds cpu r e v now → IsLeft m es cpu r e v now b last h left kept → IsAnswered m cpu r.event r (value_with m.before m.base h last)
-made_answered m es ds cpu r e v now b last h left kept made fields =
-    let shown = memory_is last m.layout (value_of m.layout m.base (m.history ++ record_of cpu r ∷ [])) (fields.layout ∙ made.layout) (fields.state ∙ made_shown m es ds cpu r e v now made) in
-    rw (fields.history, shown) (answered m cpu r made.course.history made.serial (made_reply m es ds cpu r e v now made))
-
--- ---- the copies of the event in the record and in the receipt
-
--- the record with a copy of the event is the receipt's
-pub pushed : (old reserved new : List Record) (cpu : ℕ) (r : Receipt) (event : Event) → reserved ≡ old → new ≡ reserved ++ record { serial = r.serial; cpu = cpu; event = event; reply = r.reply } ∷ [] → event ≡ r.event
-    → new ≡ old ++ record_of cpu r ∷ []
-pushed old reserved new cpu r event same is copied =
-    is
-    ∙ (ap (λ (h : List Record). h ++ record { serial = r.serial; cpu = cpu; event = event; reply = r.reply } ∷ []) same
-    ∙ ap (λ (e : Event). old ++ record { serial = r.serial; cpu = cpu; event = e; reply = r.reply } ∷ []) copied)
-
--- and so is the receipt with a copy of it
-pub with_copy : (old new : CourseValue) (cpu serial : ℕ) (event copy : Event) (reply : Reply) → copy ≡ event → IsAnswered old cpu event (record { serial = serial; event = event; reply = reply }) new
-    → IsAnswered old cpu event (record { serial = serial; event = copy; reply = reply }) new
-with_copy old new cpu serial event copy reply copied answered_so =
-    subst (λ (e : Event). IsAnswered old cpu event (record { serial = serial; event = e; reply = reply }) new) (sym copied) answered_so
+    made_state m es ds cpu r e v now made (is_kept r) refl
+    ∙ ap (run m.layout m.base) (sym (made_net m es ds cpu r e v now made))

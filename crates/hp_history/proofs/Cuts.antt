@@ -27,31 +27,39 @@ use Rattle.hp_history.proofs.Journals.{entry_count}
 use Rattle.hp_history.proofs.Names.{Event, KernelAlloc, KernelFree, Map, Unmap, Write, Read, Drain, Online, Begin, DrainFor, Migrate, Commit, Cancel, UndoAfter, Probe, Remove, SetAuto, Reply, Undone, Restored, Refused, Refusal, NoCpu, NoOp, Gone, Record, Tag}
 
 -- what is refused cuts nothing
-cut_refused : (m : CourseValue) (cpu keep : ℕ) (event : Event) (why : Refusal) → keep ≡ length (net_of m.history) → Refused why ≡ reply_of m.layout m.base m.before m.history cpu event → IsCut m cpu event keep (Refused why)
+cut_refused : (m : CourseValue) (cpu keep : ℕ) (event : Event) (why : Refusal)
+    → keep ≡ length (net_of m.history) → Refused why ≡ reply_of m.layout m.base m.before m.history cpu event
+    → IsCut m cpu event keep (Refused why)
 unfolding net_with
 cut_refused m cpu keep event why all is = record {
   answers = is;
   within = omega (arith, all);
-  cut = λ r asked reply. rw (ap is_refused reply) (sym (take_all keep (net_of m.history) (omega (arith, all))));
+  cut =
+      λ r asked reply. rw (ap is_refused reply) (sym (take_all keep (net_of m.history) (omega (arith, all))));
 }
 
 -- the reply to an undo of a processor that is not in the layout
-no_cpu : (m : CourseValue) (cpu s : ℕ) → m.layout.cpus ≤ cpu → Refused NoCpu ≡ reply_of m.layout m.base m.before m.history cpu (UndoAfter s)
+no_cpu : (m : CourseValue) (cpu s : ℕ) → m.layout.cpus ≤ cpu
+    → Refused NoCpu ≡ reply_of m.layout m.base m.before m.history cpu (UndoAfter s)
 unfolding reply_of
 no_cpu m cpu s out = rw (le-ltb cpu m.layout.cpus out) refl
 
 -- such an undo cuts nothing
-pub undo_no_cpu : (m : CourseValue) (cpu keep s : ℕ) → keep ≡ length (net_of m.history) → m.layout.cpus ≤ cpu → IsCut m cpu (UndoAfter s) keep (Refused NoCpu)
+pub undo_no_cpu : (m : CourseValue) (cpu keep s : ℕ) → keep ≡ length (net_of m.history) → m.layout.cpus ≤ cpu
+    → IsCut m cpu (UndoAfter s) keep (Refused NoCpu)
 undo_no_cpu m cpu keep s all out = cut_refused m cpu keep (UndoAfter s) NoCpu all (no_cpu m cpu s out)
 
 -- the reply to an undo of what is gone
-gone : (m : CourseValue) (cpu s : ℕ) → cpu < m.layout.cpus → is_gone m s ≡ true → Refused Gone ≡ reply_of m.layout m.base m.before m.history cpu (UndoAfter s)
+gone : (m : CourseValue) (cpu s : ℕ) → cpu < m.layout.cpus → is_gone m s ≡ true
+    → Refused Gone ≡ reply_of m.layout m.base m.before m.history cpu (UndoAfter s)
 unfolding reply_of
 gone m cpu s inside is = rw (lt-ltb cpu m.layout.cpus inside, is) refl
 
 -- such an undo cuts nothing
-pub undo_gone : (m : CourseValue) (cpu keep s : ℕ) → keep ≡ length (net_of m.history) → cpu < m.layout.cpus → is_gone m s ≡ true → IsCut m cpu (UndoAfter s) keep (Refused Gone)
-undo_gone m cpu keep s all inside out = cut_refused m cpu keep (UndoAfter s) Gone all (gone m cpu s inside out)
+pub undo_gone : (m : CourseValue) (cpu keep s : ℕ) → keep ≡ length (net_of m.history) → cpu < m.layout.cpus
+    → is_gone m s ≡ true → IsCut m cpu (UndoAfter s) keep (Refused Gone)
+undo_gone m cpu keep s all inside out =
+    cut_refused m cpu keep (UndoAfter s) Gone all (gone m cpu s inside out)
 
 -- the place down to which the tags are above the serial
 pub record IsKeptPlace (s : ℕ) (n : List Record) (keep : ℕ) : Type 0 where
@@ -60,24 +68,32 @@ pub record IsKeptPlace (s : ℕ) (n : List Record) (keep : ℕ) : Type 0 where
   pub count : count_above s n + keep ≡ length n
 
 -- the tag of a step, at its place
-tag_of_place : (n : List Record) (tags : List Tag) (i : ℕ) (r : Record) → tags ≡ map tag_of n → slice_get n i ≡ Some r → slice_get tags i ≡ Some (tag_of r)
-tag_of_place n tags i r is at = ap (λ (ts : List Tag). slice_get ts i) is ∙ (slice_get-map tag_of n i ∙ ap (option_map tag_of) at)
+tag_of_place : (n : List Record) (tags : List Tag) (i : ℕ) (r : Record) → tags ≡ map tag_of n
+    → slice_get n i ≡ Some r → slice_get tags i ≡ Some (tag_of r)
+tag_of_place n tags i r is at =
+    ap (λ (ts : List Tag). slice_get ts i) is ∙ (slice_get-map tag_of n i ∙ ap (option_map tag_of) at)
 
 -- a place down to which all tags are above the serial, and before which there is one that is not
-kept_place : (before last s : ℕ) (n : List Record) (tags : List Tag) (keep : ℕ) → Numbered before last n → tags ≡ map tag_of n → keep ≤ length n
+kept_place : (before last s : ℕ) (n : List Record) (tags : List Tag) (keep : ℕ) → Numbered before last n
+    → tags ≡ map tag_of n → keep ≤ length n
     → ((i : ℕ) (t : Tag) → keep ≤ i → slice_get tags i ≡ Some t → s < t.serial)
     → ((t : Tag) → 0 < keep → slice_get tags (keep - 1) ≡ Some t → t.serial ≤ s)
     → IsKeptPlace s n keep
 kept_place before last s n tags keep ok is within above below = record {
   within = within;
-  kept_is = steps_until_at s n keep within (λ i r lt e. low i r lt e) (λ i r ge e. above i (tag_of r) ge (tag_of_place n tags i r is e));
-  count = count_above_at s n keep within (λ i r lt e. low i r lt e) (λ i r ge e. above i (tag_of r) ge (tag_of_place n tags i r is e));
+  kept_is =
+      steps_until_at s n keep within (λ i r lt e. low i r lt e)
+      (λ i r ge e. above i (tag_of r) ge (tag_of_place n tags i r is e));
+  count =
+      count_above_at s n keep within (λ i r lt e. low i r lt e)
+      (λ i r ge e. above i (tag_of r) ge (tag_of_place n tags i r is e));
 }
   where
     low : (i : ℕ) (r : Record) → i < keep → slice_get n i ≡ Some r → r.serial ≤ s
     low i r lt e =
         let q = get_some n (keep - 1) (omega arith) in
-        let last_kept : q.0.serial ≤ s = below (tag_of q.0) (omega arith) (tag_of_place n tags (keep - 1) q.0 is q.1) in
+        let last_kept : q.0.serial ≤ s =
+        below (tag_of q.0) (omega arith) (tag_of_place n tags (keep - 1) q.0 is q.1) in
         elim (cases_lt i (keep - 1)) [
           | inl less ↦ omega (arith, ok.rising i (keep - 1) r q.0 less e q.1)
           | inr ge ↦ (let same : i ≡ keep - 1 = omega arith in
@@ -86,25 +102,32 @@ kept_place before last s n tags keep ok is within above below = record {
         ]
 
 -- the reply to any other undo
-undone : (m : CourseValue) (cpu s count : ℕ) → cpu < m.layout.cpus → is_gone m s ≡ false → count ≡ count_above s (net_of m.history) → Undone count ≡ reply_of m.layout m.base m.before m.history cpu (UndoAfter s)
+undone : (m : CourseValue) (cpu s count : ℕ) → cpu < m.layout.cpus → is_gone m s ≡ false
+    → count ≡ count_above s (net_of m.history)
+    → Undone count ≡ reply_of m.layout m.base m.before m.history cpu (UndoAfter s)
 unfolding reply_of
 undone m cpu s count inside there is = rw (lt-ltb cpu m.layout.cpus inside, there) (ap Undone is)
 
 -- such an undo leaves the steps up to its serial
-net_undo : (n : List Record) (r : Record) (s count : ℕ) → r.event ≡ UndoAfter s → r.reply ≡ Undone count → net_with n r ≡ steps_until s n
+net_undo : (n : List Record) (r : Record) (s count : ℕ) → r.event ≡ UndoAfter s → r.reply ≡ Undone count
+    → net_with n r ≡ steps_until s n
 unfolding net_with
 net_undo n r s count asked reply = rw (ap is_refused reply, asked) refl
 
 -- an undo that is not refused cuts at the place that the tags show
-pub undo_done : (m : CourseValue) (es : List Entry) (ds : List Delta) (cpu s keep count : ℕ) → IsCourse m es ds → cpu < m.layout.cpus → is_gone m s ≡ false
+pub undo_done : (m : CourseValue) (es : List Entry) (ds : List Delta) (cpu s keep count : ℕ)
+    → IsCourse m es ds → cpu < m.layout.cpus → is_gone m s ≡ false
     → keep ≤ length es → count + keep ≡ length es
     → ((i : ℕ) (t : Tag) → keep ≤ i → slice_get (tags_of m.history es) i ≡ Some t → s < t.serial)
     → ((t : Tag) → 0 < keep → slice_get (tags_of m.history es) (keep - 1) ≡ Some t → t.serial ≤ s)
     → IsCut m cpu (UndoAfter s) keep (Undone count)
 undo_done m es ds cpu s keep count ok inside there within counted above below =
-    let len : length es ≡ length (net_of m.history) = entry_count m.layout m.base m.history (net_of m.history) es ds ok.journal in
+    let len : length es ≡ length (net_of m.history) =
+    entry_count m.layout m.base m.history (net_of m.history) es ds ok.journal in
     let place =
-    kept_place m.before (last_serial m) s (net_of m.history) (tags_of m.history es) keep (numbered_net m.layout m.base m.before m.history ok.history.legal) ok.journal.tagged (omega (arith, within, len)) above below in
+    kept_place m.before (last_serial m) s (net_of m.history) (tags_of m.history es) keep
+    (numbered_net m.layout m.base m.before m.history ok.history.legal) ok.journal.tagged
+    (omega (arith, within, len)) above below in
     record {
       answers = undone m cpu s count inside there (omega (arith, place.count, counted, len));
       within = place.within;
@@ -112,7 +135,10 @@ undo_done m es ds cpu s keep count ok inside there within counted above below =
     }
 
 -- a Cancel that the step doesn't refuse, where the operation's steps are the last
-pub cancel_back : (m : CourseValue) (cpu op keep : ℕ) → is_refused (step m.layout (value_of m.layout m.base m.history) (last_serial m + 1) cpu (Cancel op)).reply ≡ false → sole_at op (map tag_of (net_of m.history)) ≡ Some keep
+pub cancel_back : (m : CourseValue) (cpu op keep : ℕ)
+    → is_refused
+    (step m.layout (value_of m.layout m.base m.history) (last_serial m + 1) cpu (Cancel op)).reply ≡ false
+    → sole_at op (map tag_of (net_of m.history)) ≡ Some keep
     → IsCut m cpu (Cancel op) keep Restored
 unfolding reply_of net_with
 cancel_back m cpu op keep good place = record {
@@ -122,70 +148,109 @@ cancel_back m cpu op keep good place = record {
 }
 
 -- the net after a record, by the effect of its event. (A rewrite by r.event would take r apart.)
-net_is : (n : List Record) (r : Record) (k : Effect) → effect_of r.event ≡ k → net_with n r ≡ cond (is_refused r.reply) n (net_with_effect n r k)
+net_is : (n : List Record) (r : Record) (k : Effect) → effect_of r.event ≡ k
+    → net_with n r ≡ cond (is_refused r.reply) n (net_with_effect n r k)
 unfolding net_with
 net_is n r k is = ap (λ (effect : Effect). cond (is_refused r.reply) n (net_with_effect n r effect)) is
 
 -- by whether it is refused, for an event that is no look
-kept_or_not : {A : Type 0} (b look : Bool) (n m : A) → look ≡ false → cond b n m ≡ (if not b && not look then m else n)
+kept_or_not : {A : Type 0} (b look : Bool) (n m : A) → look ≡ false
+    → cond b n m ≡ (if not b && not look then m else n)
 kept_or_not true look n m is = refl
 kept_or_not false look n m is = rw is refl
 
 -- and for a look
-looked_at : {A : Type 0} (b look : Bool) (n m : A) → look ≡ true → cond b n n ≡ (if not b && not look then m else n)
+looked_at : {A : Type 0} (b look : Bool) (n m : A) → look ≡ true
+    → cond b n n ≡ (if not b && not look then m else n)
 looked_at true look n m is = refl
 looked_at false look n m is = rw is refl
 
 -- the net after an event that acts
-net_act : (n : List Record) (r : Record) (event : Event) → r.event ≡ event → effect_of event ≡ Acts → is_look event ≡ false → net_with n r ≡ (if not (is_refused r.reply) && not (is_look event) then n ++ r ∷ [] else n)
-net_act n r event asked effect look = net_is n r Acts (ap effect_of asked ∙ effect) ∙ kept_or_not (is_refused r.reply) (is_look event) n (n ++ r ∷ []) look
+net_act : (n : List Record) (r : Record) (event : Event) → r.event ≡ event → effect_of event ≡ Acts
+    → is_look event ≡ false
+    → net_with n r ≡ (if not (is_refused r.reply) && not (is_look event) then n ++ r ∷ [] else n)
+net_act n r event asked effect look =
+    net_is n r Acts (ap effect_of asked ∙ effect)
+    ∙ kept_or_not (is_refused r.reply) (is_look event) n (n ++ r ∷ []) look
 
 -- the net after a look
-net_look : (n : List Record) (r : Record) (event : Event) → r.event ≡ event → effect_of event ≡ Looks → is_look event ≡ true → net_with n r ≡ (if not (is_refused r.reply) && not (is_look event) then n ++ r ∷ [] else n)
-net_look n r event asked effect look = net_is n r Looks (ap effect_of asked ∙ effect) ∙ looked_at (is_refused r.reply) (is_look event) n (n ++ r ∷ []) look
+net_look : (n : List Record) (r : Record) (event : Event) → r.event ≡ event → effect_of event ≡ Looks
+    → is_look event ≡ true
+    → net_with n r ≡ (if not (is_refused r.reply) && not (is_look event) then n ++ r ∷ [] else n)
+net_look n r event asked effect look =
+    net_is n r Looks (ap effect_of asked ∙ effect)
+    ∙ looked_at (is_refused r.reply) (is_look event) n (n ++ r ∷ []) look
 
 -- any other Cancel is a step
-net_cancel : (n : List Record) (r : Record) (op : ℕ) → r.event ≡ Cancel op → (is_refused r.reply ≡ true) ⊎ (sole_at op (map tag_of n) ≡ None) → net_with n r ≡ (if not (is_refused r.reply) && not (is_look (Cancel op)) then n ++ r ∷ [] else n)
+net_cancel : (n : List Record) (r : Record) (op : ℕ) → r.event ≡ Cancel op
+    → (is_refused r.reply ≡ true) ⊎ (sole_at op (map tag_of n) ≡ None)
+    → net_with n r ≡ (if not (is_refused r.reply) && not (is_look (Cancel op)) then n ++ r ∷ [] else n)
 net_cancel n r op asked (inl bad) =
-    net_is n r (Cancels op) (ap effect_of asked) ∙ ap (λ (b : Bool). cond b n (net_with_effect n r (Cancels op))) bad ∙ ap (λ (b : Bool). if not b && true then n ++ r ∷ [] else n) (sym bad)
+    net_is n r (Cancels op) (ap effect_of asked)
+    ∙ ap (λ (b : Bool). cond b n (net_with_effect n r (Cancels op))) bad
+    ∙ ap (λ (b : Bool). if not b && true then n ++ r ∷ [] else n) (sym bad)
 net_cancel n r op asked (inr none) =
-    net_is n r (Cancels op) (ap effect_of asked) ∙ (ap (λ (o : Option ℕ). cond (is_refused r.reply) n (cut_or_add n r o)) none ∙ kept_or_not (is_refused r.reply) false n (n ++ r ∷ []) refl)
+    net_is n r (Cancels op) (ap effect_of asked) ∙ (ap (λ (o : Option ℕ). cond (is_refused r.reply) n
+    (cut_or_add n r o)) none ∙ kept_or_not (is_refused r.reply) false n (n ++ r ∷ []) refl)
 
 -- the reply to a Cancel that does not go back is that of its step
-cancel_reply_same : (l : LayoutParts) (base : Memory) (before : ℕ) (h : List Record) (cpu op : ℕ) → (is_refused (step l (value_of l base h) (before + length h + 1) cpu (Cancel op)).reply ≡ true) ⊎ (sole_at op (map tag_of (net_of h)) ≡ None)
-    → reply_of l base before h cpu (Cancel op) ≡ (step l (value_of l base h) (before + length h + 1) cpu (Cancel op)).reply
+cancel_reply_same : (l : LayoutParts) (base : Memory) (before : ℕ) (h : List Record) (cpu op : ℕ)
+    → (is_refused (step l (value_of l base h) (before + length h + 1) cpu (Cancel op)).reply ≡ true)
+    ⊎ (sole_at op (map tag_of (net_of h)) ≡ None)
+    → reply_of l base before h cpu (Cancel op)
+    ≡ (step l (value_of l base h) (before + length h + 1) cpu (Cancel op)).reply
 unfolding reply_of
-cancel_reply_same l base before h cpu op out = by_place (step l (value_of l base h) (before + length h + 1) cpu (Cancel op)).reply (sole_at op (map tag_of (net_of h))) out
+cancel_reply_same l base before h cpu op out =
+    by_place (step l (value_of l base h) (before + length h + 1) cpu (Cancel op)).reply
+    (sole_at op (map tag_of (net_of h))) out
   where
-    by_place : (reply : Reply) (o : Option ℕ) → (is_refused reply ≡ true) ⊎ (o ≡ None) → cancel_reply reply o ≡ reply
+    by_place : (reply : Reply) (o : Option ℕ) → (is_refused reply ≡ true) ⊎ (o ≡ None)
+        → cancel_reply reply o ≡ reply
     by_place reply None e = refl
     by_place reply (Some k) (inl bad) = rw bad refl
     by_place reply (Some k) (inr none) = absurd cc
 
 -- such a Cancel is a step
-pub cancel_step : (m : CourseValue) (cpu op : ℕ) → (is_refused (step m.layout (value_of m.layout m.base m.history) (last_serial m + 1) cpu (Cancel op)).reply ≡ true) ⊎ (sole_at op (map tag_of (net_of m.history)) ≡ None) → IsStep m cpu (Cancel op)
+pub cancel_step : (m : CourseValue) (cpu op : ℕ)
+    → (is_refused (step m.layout (value_of m.layout m.base m.history) (last_serial m + 1) cpu
+    (Cancel op)).reply ≡ true) ⊎ (sole_at op (map tag_of (net_of m.history)) ≡ None)
+    → IsStep m cpu (Cancel op)
 cancel_step m cpu op out = record {
   reply = cancel_reply_same m.layout m.base m.before m.history cpu op out;
-  net = λ r asked reply. net_cancel (net_of m.history) r op asked (elim out [ inl bad ↦ inl (ap is_refused reply ∙ bad) | inr none ↦ inr none ]);
+  net =
+      λ r asked reply. net_cancel (net_of m.history) r op asked
+      (elim out [ inl bad ↦ inl (ap is_refused reply ∙ bad) | inr none ↦ inr none ]);
 }
 
 -- an event that acts is a step
-act_step : (m : CourseValue) (cpu : ℕ) (event : Event) → effect_of event ≡ Acts → is_look event ≡ false → IsStep m cpu event
+act_step : (m : CourseValue) (cpu : ℕ) (event : Event) → effect_of event ≡ Acts → is_look event ≡ false
+    → IsStep m cpu event
 unfolding reply_of
-act_step m cpu event effect look = record { reply = rw effect refl; net = λ r asked reply. net_act (net_of m.history) r event asked effect look }
+act_step m cpu event effect look =
+    record {
+      reply = rw effect refl;
+      net = λ r asked reply. net_act (net_of m.history) r event asked effect look;
+    }
 
 -- a look is a step
-look_step : (m : CourseValue) (cpu : ℕ) (event : Event) → effect_of event ≡ Looks → is_look event ≡ true → IsStep m cpu event
+look_step : (m : CourseValue) (cpu : ℕ) (event : Event) → effect_of event ≡ Looks → is_look event ≡ true
+    → IsStep m cpu event
 unfolding reply_of
-look_step m cpu event effect look = record { reply = rw effect refl; net = λ r asked reply. net_look (net_of m.history) r event asked effect look }
+look_step m cpu event effect look =
+    record {
+      reply = rw effect refl;
+      net = λ r asked reply. net_look (net_of m.history) r event asked effect look;
+    }
 
 -- an event that is no UndoAfter and no Cancel is a step
-pub acts : (m : CourseValue) (cpu : ℕ) (event : Event) → ((serial : ℕ) → event ≡ UndoAfter serial → ⊥) → ((op : ℕ) → event ≡ Cancel op → ⊥) → IsStep m cpu event
+pub acts : (m : CourseValue) (cpu : ℕ) (event : Event) → ((serial : ℕ) → event ≡ UndoAfter serial → ⊥)
+    → ((op : ℕ) → event ≡ Cancel op → ⊥) → IsStep m cpu event
 acts m cpu (KernelAlloc order) undo cancel = act_step m cpu (KernelAlloc order) refl refl
 acts m cpu (KernelFree frame) undo cancel = act_step m cpu (KernelFree frame) refl refl
 acts m cpu (Map owner page) undo cancel = act_step m cpu (Map owner page) refl refl
 acts m cpu (Unmap owner page) undo cancel = act_step m cpu (Unmap owner page) refl refl
-acts m cpu (Write owner page index value) undo cancel = act_step m cpu (Write owner page index value) refl refl
+acts m cpu (Write owner page index value) undo cancel =
+    act_step m cpu (Write owner page index value) refl refl
 acts m cpu (Read owner page index) undo cancel = look_step m cpu (Read owner page index) refl refl
 acts m cpu (Drain drained) undo cancel = act_step m cpu (Drain drained) refl refl
 acts m cpu (Online block zone) undo cancel = act_step m cpu (Online block zone) refl refl
@@ -200,52 +265,67 @@ acts m cpu (Remove block) undo cancel = act_step m cpu (Remove block) refl refl
 acts m cpu (SetAuto auto) undo cancel = act_step m cpu (SetAuto auto) refl refl
 
 -- the journal has an entry for each step
-pub all_steps : (m : CourseValue) (es : List Entry) (ds : List Delta) (keep : ℕ) → IsCourse m es ds → keep ≡ length es → keep ≡ length (net_of m.history)
+pub all_steps : (m : CourseValue) (es : List Entry) (ds : List Delta) (keep : ℕ) → IsCourse m es ds
+    → keep ≡ length es → keep ≡ length (net_of m.history)
 all_steps m es ds keep ok is = is ∙ entry_count m.layout m.base m.history (net_of m.history) es ds ok.journal
 
 -- ---- whether a Cancel is refused
 
 -- by whether the layout has its processor
-step-no_cpu : (l : LayoutParts) (s : Memory) (serial cpu : ℕ) (event : Event) → l.cpus ≤ cpu → step l s serial cpu event ≡ record { memory = s; reply = Refused NoCpu }
+step-no_cpu : (l : LayoutParts) (s : Memory) (serial cpu : ℕ) (event : Event) → l.cpus ≤ cpu
+    → step l s serial cpu event ≡ record { memory = s; reply = Refused NoCpu }
 unfolding step refusal_of
 step-no_cpu l s serial cpu event past = rw (le-leb l.cpus cpu past) refl
 
-step-in : (l : LayoutParts) (s : Memory) (serial cpu : ℕ) (event : Event) → cpu < l.cpus → step l s serial cpu event ≡ answer l s serial cpu event (first_some (event_refusals l s cpu event))
+step-in : (l : LayoutParts) (s : Memory) (serial cpu : ℕ) (event : Event) → cpu < l.cpus
+    → step l s serial cpu event ≡ answer l s serial cpu event (first_some (event_refusals l s cpu event))
 unfolding step refusal_of
 step-in l s serial cpu event below =
-    ap (λ (b : Bool). answer l s serial cpu event (option_or (then_some b NoCpu) (first_some (event_refusals l s cpu event)))) (lt-leb l.cpus cpu below)
+    ap (λ (b : Bool). answer l s serial cpu event
+    (option_or (then_some b NoCpu) (first_some (event_refusals l s cpu event)))) (lt-leb l.cpus cpu below)
 
 -- by whether its operation is live
-by_live : (l : LayoutParts) (s : Memory) (serial cpu op : ℕ) (live : Bool) → is_refused (answer l s serial cpu (Cancel op) (first_some (then_some (not live) NoOp ∷ []))).reply ≡ not live
+by_live : (l : LayoutParts) (s : Memory) (serial cpu op : ℕ) (live : Bool)
+    → is_refused (answer l s serial cpu (Cancel op) (first_some (then_some (not live) NoOp ∷ []))).reply
+    ≡ not live
 by_live l s serial cpu op true = refl
 by_live l s serial cpu op false = refl
 
 -- it is, but where the layout has its processor and its operation is live
-cancel_refuses : (l : LayoutParts) (s : Memory) (serial cpu op : ℕ) → is_refused (step l s serial cpu (Cancel op)).reply ≡ not (may_cancel l s cpu op)
+cancel_refuses : (l : LayoutParts) (s : Memory) (serial cpu op : ℕ)
+    → is_refused (step l s serial cpu (Cancel op)).reply ≡ not (may_cancel l s cpu op)
 cancel_refuses l s serial cpu op =
     elim (cases_lt cpu l.cpus) [
       | inl below ↦ ap (λ (a : Answered). is_refused a.reply) (step-in l s serial cpu (Cancel op) below)
-          ∙ (by_live l s serial cpu op (is_live s.blocks op) ∙ sym (ap (λ (b : Bool). not (b && is_live s.blocks op)) (lt-ltb cpu l.cpus below)))
+          ∙ (by_live l s serial cpu op (is_live s.blocks op)
+          ∙ sym (ap (λ (b : Bool). not (b && is_live s.blocks op)) (lt-ltb cpu l.cpus below)))
       | inr past ↦ ap (λ (a : Answered). is_refused a.reply) (step-no_cpu l s serial cpu (Cancel op) past)
           ∙ sym (ap (λ (b : Bool). not (b && is_live s.blocks op)) (le-ltb cpu l.cpus past))
     ]
 
 -- the step that answers a Cancel, in the present state
-here : (m : CourseValue) (cpu op : ℕ) → IsHistory m → is_refused (step m.layout (value_of m.layout m.base m.history) (last_serial m + 1) cpu (Cancel op)).reply ≡ not (may_cancel m.layout m.state cpu op)
+here : (m : CourseValue) (cpu op : ℕ) → IsHistory m
+    → is_refused (step m.layout (value_of m.layout m.base m.history) (last_serial m + 1) cpu
+    (Cancel op)).reply ≡ not (may_cancel m.layout m.state cpu op)
 here m cpu op ok =
-    ap (λ (s : Memory). is_refused (step m.layout s (last_serial m + 1) cpu (Cancel op)).reply) (sym ok.state) ∙ cancel_refuses m.layout m.state (last_serial m + 1) cpu op
+    ap (λ (s : Memory). is_refused (step m.layout s (last_serial m + 1) cpu (Cancel op)).reply) (sym ok.state)
+    ∙ cancel_refuses m.layout m.state (last_serial m + 1) cpu op
 
 -- a Cancel that is not refused goes back where its operation is sole
-pub cancel_sole : (m : CourseValue) (cpu op : ℕ) (o : Option ℕ) → IsHistory m → may_cancel m.layout m.state cpu op ≡ true → o ≡ sole_at op (map tag_of (net_of m.history))
+pub cancel_sole : (m : CourseValue) (cpu op : ℕ) (o : Option ℕ) → IsHistory m
+    → may_cancel m.layout m.state cpu op ≡ true → o ≡ sole_at op (map tag_of (net_of m.history))
     → IfSome o (λ keep. IsCut m cpu (Cancel op) keep Restored)
 cancel_sole m cpu op None ok may place = tt
-cancel_sole m cpu op (Some keep) ok may place = cancel_back m cpu op keep (here m cpu op ok ∙ ap not may) (sym place)
+cancel_sole m cpu op (Some keep) ok may place =
+    cancel_back m cpu op keep (here m cpu op ok ∙ ap not may) (sym place)
 
 -- where its operation is not sole, a Cancel is a step
-pub cancel_other : (m : CourseValue) (cpu op : ℕ) (o : Option ℕ) → o ≡ sole_at op (map tag_of (net_of m.history)) → IfNone o (IsStep m cpu (Cancel op))
+pub cancel_other : (m : CourseValue) (cpu op : ℕ) (o : Option ℕ)
+    → o ≡ sole_at op (map tag_of (net_of m.history)) → IfNone o (IsStep m cpu (Cancel op))
 cancel_other m cpu op None place = cancel_step m cpu op (inr (sym place))
 cancel_other m cpu op (Some keep) place = tt
 
 -- and so is a Cancel that is refused
-pub cancel_refused : (m : CourseValue) (cpu op : ℕ) → IsHistory m → may_cancel m.layout m.state cpu op ≡ false → IsStep m cpu (Cancel op)
+pub cancel_refused : (m : CourseValue) (cpu op : ℕ) → IsHistory m → may_cancel m.layout m.state cpu op ≡ false
+    → IsStep m cpu (Cancel op)
 cancel_refused m cpu op ok may = cancel_step m cpu op (inl (here m cpu op ok ∙ ap not may))

@@ -1,9 +1,10 @@
-pub mod Names
-pub mod Places
-pub mod Deltas
-pub mod Starts
-pub mod Journals
-pub mod Cuts
-pub mod Courses
-pub mod Replays
 pub mod Chains
+pub mod Courses
+pub mod Cuts
+pub mod Deltas
+pub mod Journals
+pub mod Names
+mod NotedSteps
+pub mod Places
+pub mod Replays
+pub mod Starts

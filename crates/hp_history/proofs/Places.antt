@@ -8,8 +8,10 @@ use Rattle.hp_laws.proofs.Undo.{sole_complete, sole_none, no_opening_works}
 use Rattle.hp_history.proofs.Names.{Mark, Opens, Works, Other, Tag}
 
 -- one place more, from the end down
-pub down_more : (P : Tag → Type 0) (ts : List Tag) (k : ℕ) (t : Tag) → 0 < k → slice_get ts (k - 1) ≡ Some t → P t
-    → ((i : ℕ) (u : Tag) → k ≤ i → slice_get ts i ≡ Some u → P u) → (i : ℕ) (u : Tag) → k - 1 ≤ i → slice_get ts i ≡ Some u → P u
+pub down_more : (P : Tag → Type 0) (ts : List Tag) (k : ℕ) (t : Tag) → 0 < k → slice_get ts (k - 1) ≡ Some t
+    → P t
+    → ((i : ℕ) (u : Tag) → k ≤ i → slice_get ts i ≡ Some u → P u) → (i : ℕ) (u : Tag) → k - 1 ≤ i
+    → slice_get ts i ≡ Some u → P u
 down_more P ts k t pos here holds above i u ge at =
     elim (cases_order (k - 1) i) [
       | inl same ↦ subst P (same_Some t u (sym here ∙ (ap (λ j. slice_get ts j) same ∙ at))) holds
@@ -17,8 +19,10 @@ down_more P ts k t pos here holds above i u ge at =
     ]
 
 -- the operation's Begin, with nothing but its own work after it
-pub sole_found : (op : ℕ) (ts : List Tag) (k : ℕ) (t : Tag) → 0 < k → slice_get ts (k - 1) ≡ Some t → is_opening t.mark ≡ true → (t.serial == op) ≡ true
-    → ((i : ℕ) (u : Tag) → k ≤ i → slice_get ts i ≡ Some u → is_work_of op u.mark ≡ true) → Some (k - 1) ≡ sole_at op ts
+pub sole_found : (op : ℕ) (ts : List Tag) (k : ℕ) (t : Tag) → 0 < k → slice_get ts (k - 1) ≡ Some t
+    → is_opening t.mark ≡ true → (t.serial == op) ≡ true
+    → ((i : ℕ) (u : Tag) → k ≤ i → slice_get ts i ≡ Some u → is_work_of op u.mark ≡ true)
+    → Some (k - 1) ≡ sole_at op ts
 sole_found op ts k t pos here opens serial works =
     sym (sole_complete op ts (k - 1) (record {
       tag = t;
@@ -28,21 +32,31 @@ sole_found op ts k t pos here opens serial works =
     }))
 
 -- a step that is neither the operation's Begin nor its own work: what stands after it doesn't matter
-sole_missed : (op : ℕ) (ts : List Tag) (k : ℕ) (t : Tag) → 0 < k → slice_get ts (k - 1) ≡ Some t → begins op t ≡ false → is_work_of op t.mark ≡ false
-    → ((i : ℕ) (u : Tag) → k ≤ i → slice_get ts i ≡ Some u → is_work_of op u.mark ≡ true) → None ≡ sole_at op ts
+sole_missed : (op : ℕ) (ts : List Tag) (k : ℕ) (t : Tag) → 0 < k → slice_get ts (k - 1) ≡ Some t
+    → begins op t ≡ false → is_work_of op t.mark ≡ false
+    → ((i : ℕ) (u : Tag) → k ≤ i → slice_get ts i ≡ Some u → is_work_of op u.mark ≡ true)
+    → None ≡ sole_at op ts
 sole_missed op ts k t pos here opens work works =
     sym (sole_none op ts (λ j is. elim (cases_order (k - 1) j) [
-      | inl same ↦ false≢true (sym opens ∙ subst (λ (u : Tag). begins op u ≡ true) (sym (same_Some t is.tag (sym here ∙ (ap (λ i. slice_get ts i) same ∙ is.here)))) is.opens)
+      | inl same ↦
+          false≢true (sym opens ∙ subst (λ (u : Tag). begins op u ≡ true)
+          (sym (same_Some t is.tag (sym here ∙ (ap (λ i. slice_get ts i) same ∙ is.here)))) is.opens)
       | inr either ↦ elim either [
-        | inl less ↦ no_opening_works op is.tag.mark (and_parts (is_opening is.tag.mark) (is.tag.serial == op) is.opens).0 (works j is.tag (omega arith) is.here)
+        | inl less ↦
+            no_opening_works op is.tag.mark (and_parts (is_opening is.tag.mark) (is.tag.serial == op)
+            is.opens).0 (works j is.tag (omega arith) is.here)
         | inr more ↦ false≢true (sym work ∙ is.rest (k - 1) t more here)
       ]
     ]))
 
 -- another operation's Begin
-pub sole_other : (op : ℕ) (ts : List Tag) (k : ℕ) (t : Tag) → 0 < k → slice_get ts (k - 1) ≡ Some t → is_opening t.mark ≡ true → (t.serial == op) ≡ false
-    → ((i : ℕ) (u : Tag) → k ≤ i → slice_get ts i ≡ Some u → is_work_of op u.mark ≡ true) → None ≡ sole_at op ts
-sole_other op ts k t pos here opens serial works = sole_missed op ts k t pos here (neither (is_opening t.mark) (t.serial == op) serial) (no_work t.mark opens) works
+pub sole_other : (op : ℕ) (ts : List Tag) (k : ℕ) (t : Tag) → 0 < k → slice_get ts (k - 1) ≡ Some t
+    → is_opening t.mark ≡ true → (t.serial == op) ≡ false
+    → ((i : ℕ) (u : Tag) → k ≤ i → slice_get ts i ≡ Some u → is_work_of op u.mark ≡ true)
+    → None ≡ sole_at op ts
+sole_other op ts k t pos here opens serial works =
+    sole_missed op ts k t pos here (neither (is_opening t.mark) (t.serial == op) serial)
+    (no_work t.mark opens) works
   where
     neither : (a b : Bool) → b ≡ false → (a && b) ≡ false
     neither true b e = e
@@ -54,11 +68,18 @@ sole_other op ts k t pos here opens serial works = sole_missed op ts k t pos her
     no_work Other e = refl
 
 -- a step of no operation, or of another one
-pub sole_broken : (op : ℕ) (ts : List Tag) (k : ℕ) (t : Tag) → 0 < k → slice_get ts (k - 1) ≡ Some t → is_opening t.mark ≡ false → is_work_of op t.mark ≡ false
-    → ((i : ℕ) (u : Tag) → k ≤ i → slice_get ts i ≡ Some u → is_work_of op u.mark ≡ true) → None ≡ sole_at op ts
-sole_broken op ts k t pos here opens work works = sole_missed op ts k t pos here (ap (λ (b : Bool). b && (t.serial == op)) opens) work works
+pub sole_broken : (op : ℕ) (ts : List Tag) (k : ℕ) (t : Tag) → 0 < k → slice_get ts (k - 1) ≡ Some t
+    → is_opening t.mark ≡ false → is_work_of op t.mark ≡ false
+    → ((i : ℕ) (u : Tag) → k ≤ i → slice_get ts i ≡ Some u → is_work_of op u.mark ≡ true)
+    → None ≡ sole_at op ts
+sole_broken op ts k t pos here opens work works =
+    sole_missed op ts k t pos here (ap (λ (b : Bool). b && (t.serial == op)) opens) work works
 
 -- nothing but work of the operation
-pub sole_empty : (op : ℕ) (ts : List Tag) → ((i : ℕ) (u : Tag) → 0 ≤ i → slice_get ts i ≡ Some u → is_work_of op u.mark ≡ true) → None ≡ sole_at op ts
+pub sole_empty : (op : ℕ) (ts : List Tag)
+    → ((i : ℕ) (u : Tag) → 0 ≤ i → slice_get ts i ≡ Some u → is_work_of op u.mark ≡ true)
+    → None ≡ sole_at op ts
 sole_empty op ts works =
-    sym (sole_none op ts (λ j is. no_opening_works op is.tag.mark (and_parts (is_opening is.tag.mark) (is.tag.serial == op) is.opens).0 (works j is.tag (omega arith) is.here)))
+    sym (sole_none op ts (λ j is. no_opening_works op is.tag.mark
+    (and_parts (is_opening is.tag.mark) (is.tag.serial == op) is.opens).0
+    (works j is.tag (omega arith) is.here)))

@@ -25,17 +25,21 @@ abbrev recorded : (serial cpu : ℕ) → Event → Reply → Record
 recorded serial cpu event reply = record { serial = serial; cpu = cpu; event = event; reply = reply }
 
 -- the record with the receipt's reply is the receipt's
-same_record : (r : Record) (a : Receipt) → a.serial ≡ r.serial → a.event ≡ r.event → a.reply ≡ r.reply → record_of r.cpu a ≡ r
+same_record : (r : Record) (a : Receipt) → a.serial ≡ r.serial → a.event ≡ r.event → a.reply ≡ r.reply
+    → record_of r.cpu a ≡ r
 same_record r a serial event reply =
     ap (λ (n : ℕ). recorded n r.cpu a.event a.reply) serial
     ∙ (ap (λ (e : Event). recorded r.serial r.cpu e a.reply) event
     ∙ ap (recorded r.serial r.cpu r.event) reply)
 
 -- a record whose serial and reply are those of the answer follows
-pub followed : (old new : CourseValue) (r : Record) (a : Receipt) → r.serial ≡ last_serial old + 1 → IsAnswered old r.cpu r.event a new → a.reply ≡ r.reply → IsFollowed old r new
+pub followed : (old new : CourseValue) (r : Record) (a : Receipt) → r.serial ≡ last_serial old + 1
+    → IsAnswered old r.cpu r.event a new → a.reply ≡ r.reply → IsFollowed old r new
 followed old new r a serial answer reply = record {
   follows = record { serial = serial; reply = sym reply ∙ answer.reply };
-  history = answer.history ∙ ap (λ (x : Record). old.history ++ x ∷ []) (same_record r a (answer.serial ∙ sym serial) answer.asked reply);
+  history =
+      answer.history ∙ ap (λ (x : Record). old.history ++ x ∷ [])
+      (same_record r a (answer.serial ∙ sym serial) answer.asked reply);
   state = answer.state;
   layout = answer.layout;
   before = answer.before;
@@ -43,27 +47,40 @@ followed old new r a serial answer reply = record {
 }
 
 -- another reply is a fault
-pub another_reply : (old new : CourseValue) (r : Record) (a : Receipt) (at : ℕ) → r.serial ≡ last_serial old + 1 → IsAnswered old r.cpu r.event a new → (a.reply ≡ r.reply → ⊥) → IsFaultHere old at r (WrongReply r.serial)
+pub another_reply : (old new : CourseValue) (r : Record) (a : Receipt) (at : ℕ)
+    → r.serial ≡ last_serial old + 1 → IsAnswered old r.cpu r.event a new → (a.reply ≡ r.reply → ⊥)
+    → IsFaultHere old at r (WrongReply r.serial)
 another_reply old new r a at serial answer differs = (refl, serial, λ e. differs (answer.reply ∙ sym e))
 
 -- ---- a list of records
 
 -- a course of no records begins again where it began
-pub started_again : (l : LayoutParts) (base : Memory) (before : ℕ) (c : CourseValue) → c ≡ started l base before → c ≡ started c.layout c.base c.before
-started_again l base before c is = subst (λ (d : CourseValue). d ≡ started d.layout d.base d.before) (sym is) refl
+pub started_again : (l : LayoutParts) (base : Memory) (before : ℕ) (c : CourseValue)
+    → c ≡ started l base before → c ≡ started c.layout c.base c.before
+started_again l base before c is =
+    subst (λ (d : CourseValue). d ≡ started d.layout d.base d.before) (sym is) refl
 
 -- what is found of records over such a course is found of them over its base
-pub course_again : (l : LayoutParts) (base : Memory) (before : ℕ) (h : List Record) (c next : CourseValue) → c ≡ started l base before → IsCourseOf c.layout c.base c.before h next → IsCourseOf l base before h next
-course_again l base before h c next is ok = subst (λ (d : CourseValue). IsCourseOf d.layout d.base d.before h next) is ok
+pub course_again : (l : LayoutParts) (base : Memory) (before : ℕ) (h : List Record) (c next : CourseValue)
+    → c ≡ started l base before → IsCourseOf c.layout c.base c.before h next → IsCourseOf l base before h next
+course_again l base before h c next is ok =
+    subst (λ (d : CourseValue). IsCourseOf d.layout d.base d.before h next) is ok
 
-pub fault_again : (l : LayoutParts) (base : Memory) (before : ℕ) (h : List Record) (c : CourseValue) (fault : ReplayFault) → c ≡ started l base before → IsFault c.layout c.base c.before h fault → IsFault l base before h fault
-fault_again l base before h c fault is wrong = subst (λ (d : CourseValue). IsFault d.layout d.base d.before h fault) is wrong
+pub fault_again : (l : LayoutParts) (base : Memory) (before : ℕ) (h : List Record) (c : CourseValue)
+    (fault : ReplayFault)
+    → c ≡ started l base before → IsFault c.layout c.base c.before h fault → IsFault l base before h fault
+fault_again l base before h c fault is wrong =
+    subst (λ (d : CourseValue). IsFault d.layout d.base d.before h fault) is wrong
 
-pub refutes_again : (l : LayoutParts) (base : Memory) (before : ℕ) (h : List Record) (c : CourseValue) (fault : ReplayFault) → c ≡ started l base before → Refutes c.layout c.base c.before h fault → Refutes l base before h fault
-refutes_again l base before h c fault is wrong = subst (λ (d : CourseValue). Refutes d.layout d.base d.before h fault) is wrong
+pub refutes_again : (l : LayoutParts) (base : Memory) (before : ℕ) (h : List Record) (c : CourseValue)
+    (fault : ReplayFault)
+    → c ≡ started l base before → Refutes c.layout c.base c.before h fault → Refutes l base before h fault
+refutes_again l base before h c fault is wrong =
+    subst (λ (d : CourseValue). Refutes d.layout d.base d.before h fault) is wrong
 
 -- the course of no records
-pub starts : (c : CourseValue) (h : List Record) → c ≡ started c.layout c.base c.before → IsCourseOf c.layout c.base c.before (take 0 h) c
+pub starts : (c : CourseValue) (h : List Record) → c ≡ started c.layout c.base c.before
+    → IsCourseOf c.layout c.base c.before (take 0 h) c
 unfolding value_of net_of run
 starts c h is = record {
   layout = refl;
@@ -81,21 +98,29 @@ before_place h at r here =
     length-take-le at h (omega arith)
 
 -- the last serial of the course of the records before a place
-last_before : (l : LayoutParts) (base : Memory) (before : ℕ) (h : List Record) (at : ℕ) (r : Record) (c : CourseValue) → slice_get h at ≡ Some r → IsCourseOf l base before (take at h) c → last_serial c + 1 ≡ before + at + 1
-last_before l base before h at r c here ok = omega (arith, ok.before, ap length ok.history, before_place h at r here)
+last_before : (l : LayoutParts) (base : Memory) (before : ℕ) (h : List Record) (at : ℕ) (r : Record)
+    (c : CourseValue)
+    → slice_get h at ≡ Some r → IsCourseOf l base before (take at h) c → last_serial c + 1 ≡ before + at + 1
+last_before l base before h at r c here ok =
+    omega (arith, ok.before, ap length ok.history, before_place h at r here)
 
 -- the course of one record more
-pub follow_one : (l : LayoutParts) (base : Memory) (before : ℕ) (h : List Record) (at : ℕ) (r : Record) (old new : CourseValue) → slice_get h at ≡ Some r → IsCourseOf l base before (take at h) old → IsFollowed old r new
+pub follow_one : (l : LayoutParts) (base : Memory) (before : ℕ) (h : List Record) (at : ℕ) (r : Record)
+    (old new : CourseValue)
+    → slice_get h at ≡ Some r → IsCourseOf l base before (take at h) old → IsFollowed old r new
     → IsCourseOf l base before (take (at + 1) h) new
 follow_one l base before h at r old new here ok next =
-    let longer : new.history ≡ take (at + 1) h = next.history ∙ (ap (λ (g : List Record). g ++ r ∷ []) ok.history ∙ sym (take_one h at r here)) in
+    let longer : new.history ≡ take (at + 1) h =
+    next.history ∙ (ap (λ (g : List Record). g ++ r ∷ []) ok.history ∙ sym (take_one h at r here)) in
     record {
       layout = next.layout ∙ ok.layout;
       before = next.before ∙ ok.before;
       base = next.base ∙ ok.base;
       history = longer;
       legal = rw (take_one h at r here) (legal_push l base before (take at h) r ok.legal follows);
-      state = next.state ∙ (ap (λ (m : LayoutParts). value_of m old.base new.history) ok.layout ∙ (ap (λ (s : Memory). value_of l s new.history) ok.base ∙ ap (value_of l base) longer));
+      state =
+          next.state ∙ (ap (λ (m : LayoutParts). value_of m old.base new.history) ok.layout
+          ∙ (ap (λ (s : Memory). value_of l s new.history) ok.base ∙ ap (value_of l base) longer));
     }
   where
     follows : Follows l base before (take at h) r
@@ -106,7 +131,9 @@ follow_one l base before h at r old new here ok next =
         (subst (λ (m : LayoutParts). Follows m old.base old.before old.history r) ok.layout next.follows)))
 
 -- a fault of the record after a course is one of the list
-pub fault_at : (l : LayoutParts) (base : Memory) (before : ℕ) (h : List Record) (at : ℕ) (r : Record) (c : CourseValue) (fault : ReplayFault) → slice_get h at ≡ Some r → IsCourseOf l base before (take at h) c → IsFaultHere c at r fault
+pub fault_at : (l : LayoutParts) (base : Memory) (before : ℕ) (h : List Record) (at : ℕ) (r : Record)
+    (c : CourseValue) (fault : ReplayFault)
+    → slice_get h at ≡ Some r → IsCourseOf l base before (take at h) c → IsFaultHere c at r fault
     → IsFault l base before h fault
 fault_at l base before h at r c (WrongSerial place) here ok wrong =
     subst (λ (n : ℕ). IsFault l base before h (WrongSerial n)) (sym wrong.0) (
@@ -127,7 +154,10 @@ fault_at l base before h at r c (WrongReply serial) here ok wrong = (
   sym wrong.0,
 )
   where
-    reply_here : (l : LayoutParts) (base : Memory) (before : ℕ) (g : List Record) (c : CourseValue) (cpu : ℕ) (event : Event) → IsCourseOf l base before g c → reply_of c.layout c.base c.before c.history cpu event ≡ reply_of l base before g cpu event
+    reply_here : (l : LayoutParts) (base : Memory) (before : ℕ) (g : List Record) (c : CourseValue) (cpu : ℕ)
+        (event : Event)
+        → IsCourseOf l base before g c
+        → reply_of c.layout c.base c.before c.history cpu event ≡ reply_of l base before g cpu event
     reply_here l base before g c cpu event ok =
         ap (λ (m : LayoutParts). reply_of m c.base c.before c.history cpu event) ok.layout
         ∙ (ap (λ (s : Memory). reply_of l s c.before c.history cpu event) ok.base
@@ -136,26 +166,36 @@ fault_at l base before h at r c (WrongReply serial) here ok wrong = (
 fault_at l base before h at r c OutOfMemory here ok wrong = tt
 
 -- records with one at fault are no legal history
-serial_refutes : (l : LayoutParts) (base : Memory) (before : ℕ) (h : List Record) (at : ℕ) (r : Record) → HasWrongSerial l base before h at r → IsLegal l base before h → ⊥
+serial_refutes : (l : LayoutParts) (base : Memory) (before : ℕ) (h : List Record) (at : ℕ) (r : Record)
+    → HasWrongSerial l base before h at r → IsLegal l base before h → ⊥
 serial_refutes l base before h at r wrong legal =
     wrong.serial (omega (arith, (legal at r wrong.first.here).serial, before_place h at r wrong.first.here))
 
-reply_refutes : (l : LayoutParts) (base : Memory) (before : ℕ) (h : List Record) (at : ℕ) (r : Record) → HasWrongReply l base before h at r → IsLegal l base before h → ⊥
+reply_refutes : (l : LayoutParts) (base : Memory) (before : ℕ) (h : List Record) (at : ℕ) (r : Record)
+    → HasWrongReply l base before h at r → IsLegal l base before h → ⊥
 reply_refutes l base before h at r wrong legal = wrong.reply (legal at r wrong.first.here).reply
 
-pub refutes : (l : LayoutParts) (base : Memory) (before : ℕ) (h : List Record) (fault : ReplayFault) → IsFault l base before h fault → Refutes l base before h fault
-refutes l base before h (WrongSerial at) wrong = λ legal. serial_refutes l base before h at wrong.0 wrong.1 legal
-refutes l base before h (WrongReply serial) wrong = λ legal. reply_refutes l base before h wrong.0 wrong.1 wrong.2 legal
+pub refutes : (l : LayoutParts) (base : Memory) (before : ℕ) (h : List Record) (fault : ReplayFault)
+    → IsFault l base before h fault → Refutes l base before h fault
+refutes l base before h (WrongSerial at) wrong =
+    λ legal. serial_refutes l base before h at wrong.0 wrong.1 legal
+refutes l base before h (WrongReply serial) wrong =
+    λ legal. reply_refutes l base before h wrong.0 wrong.1 wrong.2 legal
 refutes l base before h OutOfMemory wrong = tt
 
 -- the course of all records
-pub whole : (l : LayoutParts) (base : Memory) (before : ℕ) (h : List Record) (at : ℕ) (c : CourseValue) → length h ≤ at → IsCourseOf l base before (take at h) c → IsCourseOf l base before h c
-whole l base before h at c le ok = subst (λ (g : List Record). IsCourseOf l base before g c) (take_all at h le) ok
+pub whole : (l : LayoutParts) (base : Memory) (before : ℕ) (h : List Record) (at : ℕ) (c : CourseValue)
+    → length h ≤ at → IsCourseOf l base before (take at h) c → IsCourseOf l base before h c
+whole l base before h at c le ok =
+    subst (λ (g : List Record). IsCourseOf l base before g c) (take_all at h le) ok
 
 -- its state
-pub shown : (l : LayoutParts) (base : Memory) (before : ℕ) (h : List Record) (c : CourseValue) → IsCourseOf l base before h c → pictured c.layout c.state ≡ pictured l (value_of l base h)
+pub shown : (l : LayoutParts) (base : Memory) (before : ℕ) (h : List Record) (c : CourseValue)
+    → IsCourseOf l base before h c → pictured c.layout c.state ≡ pictured l (value_of l base h)
 shown l base before h c ok = ap (λ (m : LayoutParts). pictured m c.state) ok.layout ∙ ap (pictured l) ok.state
 
 -- its state is well placed, where the base is
-pub placed : (l : LayoutParts) (base : Memory) (before : ℕ) (h : List Record) (image : Pictured) → image ≡ pictured l (value_of l base h) → IsLayout l → IsWellPlaced l base → IsWellPlaced image.layout image.memory
+pub placed : (l : LayoutParts) (base : Memory) (before : ℕ) (h : List Record) (image : Pictured)
+    → image ≡ pictured l (value_of l base h) → IsLayout l → IsWellPlaced l base
+    → IsWellPlaced image.layout image.memory
 placed l base before h image is limits start = rw is (value-placed l base h limits start)

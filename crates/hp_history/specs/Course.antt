@@ -19,8 +19,8 @@ pub record CourseValue : Type 0 where
 abbrev pub started : LayoutParts → Memory → (before : ℕ) → CourseValue
 started l base before = record { layout = l; before = before; base = base; history = []; state = base }
 
--- its history is legal, and its state is what the plain machine reaches from the base by the steps of the history that are
--- not undone
+-- its history is legal, and its state is what the plain machine reaches from the base by the steps
+-- of the history that are not undone
 pub record IsHistory (c : CourseValue) : Type 0 where
   pub legal : IsLegal c.layout c.base c.before c.history
   pub state : c.state ≡ value_of c.layout c.base c.history
@@ -37,9 +37,11 @@ is_spent c = nat_le 18446744073709551615 (c.before + length c.history)
 abbrev pub record_of : ℕ → Receipt → Record
 record_of cpu r = record { serial = r.serial; cpu = cpu; event = r.event; reply = r.reply }
 
--- the event of a processor was answered so, and made the new course of the old: one record is appended, with the next serial
--- and the reply that the definitions give, and the state is that of the longer history
-pub record IsAnswered (old : CourseValue) (cpu : ℕ) (event : Event) (r : Receipt) (new : CourseValue) : Type 0 where
+-- the event of a processor was answered so, and made the new course of the old: one record is
+-- appended, with the next serial and the reply that the definitions give, and the state is that of
+-- the longer history
+pub record IsAnswered (old : CourseValue) (cpu : ℕ) (event : Event) (r : Receipt)
+    (new : CourseValue) : Type 0 where
   pub serial : r.serial ≡ last_serial old + 1
   pub asked : r.event ≡ event
   pub reply : r.reply ≡ reply_of old.layout old.base old.before old.history cpu event

@@ -1,4 +1,5 @@
--- The journal's entries: the records that they stand for, where their deltas begin on the tape, and what they show.
+-- The journal's entries: the records that they stand for, where their deltas begin on the tape, and
+-- what they show.
 use Rattle.std.specs.Prelude.{ℕ, ◌≡◌, ◌+◌, ◌<◌, ◌≤◌, List, Some, length, map, slice_get, take}
 use Rattle.std.specs.Option.{option_map_or}
 use Rattle.hp_units.specs.Marks.{tag_of}
@@ -38,14 +39,16 @@ start_of entries deltas step = option_map_or (λ e. e.start) (slice_get entries 
 
 -- ---- what they show
 
--- deltas are those of a step that is not undone: no more than its bound, and they lead from the state after the step back to
--- the state before it, latest first, each fitting when its turn comes
+-- deltas are those of a step that is not undone: no more than its bound, and they lead from the
+-- state after the step back to the state before it, latest first, each fitting when its turn comes
 pub record IsEntry (c : CourseValue) (at : ℕ) (deltas : List Delta) : Type 0 where
   pub made : Record
   pub here : slice_get (net_of c.history) at ≡ Some made
   pub few : length deltas ≤ delta_bound c.layout (run c.layout c.base (take at (net_of c.history))) made.event
-  pub leads : LeadsBack c.layout deltas (run c.layout c.base (take (at + 1) (net_of c.history))) (run c.layout c.base (take at (net_of c.history)))
+  pub leads : LeadsBack c.layout deltas (run c.layout c.base (take (at + 1) (net_of c.history)))
+      (run c.layout c.base (take at (net_of c.history)))
 
--- deltas lead from the present state back to the state before a step, or to itself where all steps come before
+-- deltas lead from the present state back to the state before a step, or to itself where all steps
+-- come before
 abbrev pub IsWayBack : CourseValue → (at : ℕ) → List Delta → Type 0
 IsWayBack c at deltas = LeadsBack c.layout deltas c.state (run c.layout c.base (take at (net_of c.history)))

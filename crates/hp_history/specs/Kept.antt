@@ -25,14 +25,20 @@ pictured l s = record { layout = l; memory = s }
 abbrev pub remembered : LayoutParts → Memory → MemoryValue
 remembered l s = record { layout = l; state = s }
 
--- one entry for each step of the net, in the net's order. From where the deltas of a step begin, all that stand on the tape
--- lead back from the state of the whole net to the state before that step; those of the step alone are no more than its bound.
-pub record IsJournal (l : LayoutParts) (base : Memory) (h net : List Record) (entries : List Entry) (deltas : List Delta) : Type 0 where
+-- one entry for each step of the net, in the net's order. From where the deltas of a step begin,
+-- all that stand on the tape lead back from the state of the whole net to the state before that
+-- step; those of the step alone are no more than its bound.
+pub record IsJournal (l : LayoutParts) (base : Memory) (h net : List Record) (entries : List Entry)
+    (deltas : List Delta) : Type 0 where
   pub tagged : tags_of h entries ≡ map tag_of net
   pub within : AreWithin (length h) entries
   pub rising : (i j : ℕ) → i ≤ j → start_of entries (length deltas) i ≤ start_of entries (length deltas) j
-  pub few : (j : ℕ) (r : Record) → slice_get net j ≡ Some r → start_of entries (length deltas) (j + 1) ≤ start_of entries (length deltas) j + delta_bound l (run l base (take j net)) r.event
-  pub leads : (j : ℕ) → j ≤ length net → LeadsBack l (drop (start_of entries (length deltas) j) deltas) (run l base net) (run l base (take j net))
+  pub few : (j : ℕ) (r : Record) → slice_get net j ≡ Some r
+      → start_of entries (length deltas) (j + 1)
+      ≤ start_of entries (length deltas) j + delta_bound l (run l base (take j net)) r.event
+  pub leads : (j : ℕ) → j ≤ length net
+      → LeadsBack l (drop (start_of entries (length deltas) j) deltas) (run l base net)
+      (run l base (take j net))
 
 -- what every course keeps
 pub record IsCourse (m : CourseValue) (entries : List Entry) (deltas : List Delta) : Type 0 where
@@ -54,9 +60,15 @@ may_cancel l s cpu op = nat_lt cpu l.cpus && is_live s.blocks op
 pub record IsCut (m : CourseValue) (cpu : ℕ) (event : Event) (keep : ℕ) (reply : Reply) : Type 0 where
   pub answers : reply ≡ reply_of m.layout m.base m.before m.history cpu event
   pub within : keep ≤ length (net_of m.history)
-  pub cut : (r : Record) → r.event ≡ event → r.reply ≡ reply → net_with (net_of m.history) r ≡ take keep (net_of m.history)
+  pub cut : (r : Record) → r.event ≡ event → r.reply ≡ reply
+      → net_with (net_of m.history) r ≡ take keep (net_of m.history)
 
--- the event is answered by a step of the plain machine, which is then part of the net unless it is refused or only looks
+-- the event is answered by a step of the plain machine, which is then part of the net unless it is
+-- refused or only looks
 pub record IsStep (m : CourseValue) (cpu : ℕ) (event : Event) : Type 0 where
-  pub reply : reply_of m.layout m.base m.before m.history cpu event ≡ (step m.layout (value_of m.layout m.base m.history) (last_serial m + 1) cpu event).reply
-  pub net : (r : Record) → r.event ≡ event → r.reply ≡ (step m.layout (value_of m.layout m.base m.history) (last_serial m + 1) cpu event).reply → net_with (net_of m.history) r ≡ (if not (is_refused r.reply) && not (is_look event) then net_of m.history ++ r ∷ [] else net_of m.history)
+  pub reply : reply_of m.layout m.base m.before m.history cpu event
+      ≡ (step m.layout (value_of m.layout m.base m.history) (last_serial m + 1) cpu event).reply
+  pub net : (r : Record) → r.event ≡ event
+      → r.reply ≡ (step m.layout (value_of m.layout m.base m.history) (last_serial m + 1) cpu event).reply
+      → net_with (net_of m.history) r ≡ (if not (is_refused r.reply)
+      && not (is_look event) then net_of m.history ++ r ∷ [] else net_of m.history)

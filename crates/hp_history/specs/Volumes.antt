@@ -24,8 +24,8 @@ records_in volumes = sum_by (λ v. length v.records) volumes
 abbrev pub state_after : LayoutParts → List Volume → Memory
 state_after l volumes = fold (λ s v. value_of l s v.records) (boot_memory l) volumes
 
--- a volume follows the earlier ones: it was sealed after as many records as they hold, its base is the state that they lead
--- to, and its records are a legal history over it (own rule)
+-- a volume follows the earlier ones: it was sealed after as many records as they hold, its base is
+-- the state that they lead to, and its records are a legal history over it (own rule)
 pub record FollowsVolumes (l : LayoutParts) (earlier : List Volume) (v : Volume) : Type 0 where
   pub count : v.before ≡ records_in earlier
   pub base : v.base.memory ≡ state_after l earlier
@@ -33,7 +33,8 @@ pub record FollowsVolumes (l : LayoutParts) (earlier : List Volume) (v : Volume)
 
 -- each volume follows those before it
 abbrev pub IsChain : LayoutParts → List Volume → Type 0
-IsChain l volumes = (at : ℕ) (v : Volume) → slice_get volumes at ≡ Some v → FollowsVolumes l (take at volumes) v
+IsChain l volumes =
+    (at : ℕ) (v : Volume) → slice_get volumes at ≡ Some v → FollowsVolumes l (take at volumes) v
 
 -- ---- faults
 
@@ -54,7 +55,8 @@ pub record HasWrongBase (l : LayoutParts) (volumes : List Volume) (at : ℕ) (v 
   pub base : v.base.memory ≢ state_after l (take at volumes)
 
 -- its count and its base are right, and its records are at fault
-pub record HasWrongRecords (l : LayoutParts) (volumes : List Volume) (at : ℕ) (v : Volume) (fault : ReplayFault) : Type 0 where
+pub record HasWrongRecords (l : LayoutParts) (volumes : List Volume) (at : ℕ) (v : Volume)
+    (fault : ReplayFault) : Type 0 where
   pub first : StandsAfter l volumes at v
   pub count : v.before ≡ records_in (take at volumes)
   pub base : v.base.memory ≡ state_after l (take at volumes)
@@ -92,14 +94,16 @@ pub record FollowsEnd (end : CourseValue) (v : Volume) : Type 0 where
 
 -- the course after the volume's records, sealed
 abbrev pub sealed_after : CourseValue → Volume → CourseValue
-sealed_after end v = started end.layout (value_of end.layout end.base v.records) (end.before + length v.records)
+sealed_after end v =
+    started end.layout (value_of end.layout end.base v.records) (end.before + length v.records)
 
 -- the fault of a volume that stands at a place after such a course
 abbrev pub IsFaultAfter : CourseValue → (at : ℕ) → Volume → ChainFault → Type 0
 IsFaultAfter end at v (WrongCount place) = (place ≡ at) × (v.before ≢ end.before)
 IsFaultAfter end at v (WrongBase place) = (place ≡ at) × (v.before ≡ end.before) × (v.base.memory ≢ end.base)
 IsFaultAfter end at v (Replay place fault) =
-    (place ≡ at) × FollowsEnd end v × IsFault end.layout end.base end.before v.records fault × (fault ≢ ReplayOutOfMemory)
+    (place ≡ at) × FollowsEnd end v × IsFault end.layout end.base end.before v.records fault
+    × (fault ≢ ReplayOutOfMemory)
 IsFaultAfter end at v OutOfMemory = Unit {0}
 
 -- the fault of a volume whose records are at fault

@@ -1,29 +1,30 @@
-//! The course of a history: the memory that its records lead to, and a journal of its steps, kept from record to record.
-ghost use Rattle.std.specs.Prelude.{◌≡◌, ◌≢◌, ◌↔◌, ◌+◌, ◌<◌, ◌≤◌, false, true, MatchBool, MatchOption, IfOk, IfNone, IfSome, OnErr, OnOk, IsTrue, length};
+//! The course of a history: the memory that its records lead to, and a journal of its steps, kept
+//! from record to record.
+ghost use Rattle.std.specs.Prelude.{◌≡◌, ◌≢◌, ◌↔◌, ◌+◌, ◌<◌, false, true, MatchBool, IfOk, IfNone, IfSome, OnErr, OnOk, IsTrue};
 ghost use Rattle.hp_units.specs.Boot.{boot_memory};
-ghost use Rattle.hp_units.specs.History.{net_of};
 ghost use Rattle.hp_units.specs.LayoutParts.{IsLayout};
 ghost use Rattle.hp_units.specs.Placement.{IsWellPlaced};
 ghost use Rattle.hp_units.specs.declared.events.Event.TheVariants.{Cancel, UndoAfter};
 ghost use Rattle.hp_units.specs.declared.replies.Reply.TheVariants.{Restored};
 ghost use Rattle.hp_history.specs.Course.{IsAnswered, IsHistory, is_spent, last_serial, started};
-ghost use Rattle.hp_history.specs.Entries.{IsEntry, IsWayBack};
 ghost use Rattle.hp_history.specs.Kept.{IsCut, IsStep, is_gone, may_cancel};
 ghost use Rattle.hp_history.specs.Volumes.{volume_of};
 
-use crate::journal::{Entry, between, keep_step, kept_len, sole_place, start_of};
+use crate::journal::{Entry, keep_step, kept_len, sole_place, start_of};
 use crate::records::{Records, copy_records};
 use crate::volumes::Volume;
 use hp_memory::Memory;
 use hp_plain::Image;
-use hp_tape::{Delta, Tape};
+use hp_tape::Tape;
 use hp_units::{Cpu, Event, Layout, Receipt, Record, Refusal, Reply, Serial, is_step};
 use std::alloc::{AllocError, Global};
 use std::marker::Model;
 use std::mem::replace;
 
-/// A memory with its history and its journal. Every course keeps its history legal, its state that of the history, and a way
-/// back over each step that is not undone.
+mod entries;
+
+/// A memory with its history and its journal. Every course keeps its history legal, its state that
+/// of the history, and a way back over each step that is not undone.
 pub struct Course {
     before: u64,
     base: Image,
@@ -57,7 +58,8 @@ impl Model for Course {
 
     ghost view = { seen };
 
-    ghost invariant = { λ m. IsCourse (seen m) m.entries.items m.deltas.deltas × (m.base.layout ≡ m.memory.layout) };
+    ghost invariant = { λ m.
+        IsCourse (seen m) m.entries.items m.deltas.deltas × (m.base.layout ≡ m.memory.layout) };
 }
 
 impl Course {
@@ -101,9 +103,9 @@ impl Course {
         })
     }
 
-    /// Answers and records an event of a processor, where there is a further serial. An undo goes back, and so does a Cancel
-    /// where nothing but its operation's own work stands after its Begin; any other event makes a step. An error is out of
-    /// memory; then all is as before.
+    /// Answers and records an event of a processor, where there is a further serial. An undo goes
+    /// back, and so does a Cancel where nothing but its operation's own work stands after its
+    /// Begin; any other event makes a step. An error is out of memory; then all is as before.
     #[inline(always)]
     pub fn answer(&mut self, alloc: Global, cpu: Cpu, event: &Event) -> Result<Receipt, AllocError>
         requires free { is_spent self.old ≡ false }
@@ -123,12 +125,14 @@ impl Course {
         }
     }
 
-    /// Hands out the base and the records, and goes on from the present state without them: it becomes the base, and no step
-    /// from before can be undone (own rule). It makes no record. An error is out of memory; then all is as before.
+    /// Hands out the base and the records, and goes on from the present state without them: it
+    /// becomes the base, and no step from before can be undone (own rule). It makes no record. An
+    /// error is out of memory; then all is as before.
     pub fn seal(&mut self, alloc: Global) -> Result<Volume, AllocError>
         ensures err { OnErr result (self.new ≡ self.old) }
         ensures volume { IfOk result (λ volume. volume ≡ volume_of self.old) }
-        ensures goes_on { OnOk result (self.new ≡ started self.old.layout self.old.state (last_serial self.old)) }
+        ensures goes_on { OnOk result
+            (self.new ≡ started self.old.layout self.old.state (last_serial self.old)) }
     {
         let last = self.last_serial();
         let now = self.memory.image(alloc)?;
@@ -214,7 +218,8 @@ impl Course {
 
     /// The present state, as an Image of its own. An error is out of memory.
     pub fn image(&self, alloc: Global) -> Result<Image, AllocError>
-        ensures { IfOk result (λ image. image ≡ record { layout = self.now.layout; memory = self.now.state }) }
+        ensures { IfOk result
+            (λ image. image ≡ record { layout = self.now.layout; memory = self.now.state }) }
     {
         self.memory.image(alloc)
     }
@@ -225,44 +230,6 @@ impl Course {
         ensures kept { IsHistory self.now }
     {
         self.history.as_slice()
-    }
-
-    /// The number of steps that are not undone (own rule).
-    pub fn journal_len(&self) -> u64
-        ensures { result ≡ length (net_of self.now.history) }
-    {
-        self.entries.len() as u64
-    }
-
-    /// What a step that is not undone did, counted from 0; None past the last. Its deltas, latest first, lead back from the
-    /// state after the step to the state before it (own rule).
-    pub fn entry(&self, at: u64) -> Option<&[Delta]>
-        ensures { MatchOption result (length (net_of self.now.history) ≤ at) (λ deltas. IsEntry self.now at deltas.now) }
-    {
-        let entries = self.entries.as_slice();
-        let deltas = self.deltas.as_slice();
-        if at >= entries.len() as u64 {
-            return None;
-        }
-        let count = self.deltas.len();
-        let start = start_of(entries, count, at as usize);
-        let end = start_of(entries, count, at as usize + 1);
-        Some(between(deltas, start, end))
-    }
-
-    /// What the steps from one on did, counted from 0; None past the end of the journal. Their deltas, latest first, lead back
-    /// from the present state to the state before the first of them: an undo that drops these steps takes these deltas off.
-    pub fn way_back(&self, at: u64) -> Option<&[Delta]>
-        ensures { MatchOption result (length (net_of self.now.history) < at) (λ deltas. IsWayBack self.now at deltas.now) }
-    {
-        let entries = self.entries.as_slice();
-        let deltas = self.deltas.as_slice();
-        if at > entries.len() as u64 {
-            return None;
-        }
-        let count = self.deltas.len();
-        let start = start_of(entries, count, at as usize);
-        Some(between(deltas, start, count))
     }
 
     /// The course of no records over a base state of its own.
@@ -319,7 +286,8 @@ impl Course {
         serial.0 > self.last_serial() || serial.0 < self.before
     }
 
-    /// How many steps a Cancel keeps that goes back to before its operation began; None where it makes a step.
+    /// How many steps a Cancel keeps that goes back to before its operation began; None where it
+    /// makes a step.
     fn cancel_cut(&self, cpu: Cpu, op: Serial) -> Option<usize>
         ensures back { IfSome result (λ keep. IsCut self.now cpu (Cancel op) keep Restored) }
         ensures step { IfNone result (IsStep self.now cpu (Cancel op)) }

@@ -11,8 +11,8 @@ use hp_tape::{Delta, Tape};
 use hp_units::{Mark, Record, Serial, Tag, mark_of};
 use std::mem::size_of;
 
-/// A step that is not undone: its record's place in the history, counted from 0, and how many deltas stand on the tape before
-/// its own. Its deltas end where those of the next step begin.
+/// A step that is not undone: its record's place in the history, counted from 0, and how many
+/// deltas stand on the tape before its own. Its deltas end where those of the next step begin.
 #[derive(Clone, Copy, Debug, PartialEq, Eq, Drop)]
 pub(crate) struct Entry {
     pub(crate) place: usize,
@@ -51,8 +51,10 @@ fn step_tag(entries: &[Entry], history: &[Record], place: usize) -> Tag
 pub(crate) fn kept_len(entries: &[Entry], history: &[Record], serial: Serial) -> usize
     requires { AreWithin (length history.now) entries.now }
     ensures within { result ≤ length entries.now }
-    ensures above { (i : ℕ) (t : Tag) → result ≤ i → slice_get (tags_of history.now entries.now) i ≡ Some t → serial < t.serial }
-    ensures below { (t : Tag) → 0 < result → slice_get (tags_of history.now entries.now) (result - 1) ≡ Some t → t.serial ≤ serial }
+    ensures above { (i : ℕ) (t : Tag) → result ≤ i → slice_get (tags_of history.now entries.now) i ≡ Some t
+        → serial < t.serial }
+    ensures below { (t : Tag) → 0 < result → slice_get (tags_of history.now entries.now) (result - 1) ≡ Some t
+        → t.serial ≤ serial }
 {
     let mut keep = entries.len();
     while keep > 0 && step_tag(entries, history, keep - 1).serial > serial {
@@ -97,7 +99,8 @@ pub(crate) fn sole_place(entries: &[Entry], history: &[Record], op: Serial) -> O
     None
 }
 
-/// How many of so many deltas stand on the tape before those of a step, which are all of them where there is no such step.
+/// How many of so many deltas stand on the tape before those of a step, which are all of them where
+/// there is no such step.
 pub(crate) fn start_of(entries: &[Entry], deltas: usize, step: usize) -> usize
     ensures { result ≡ start_of entries.now deltas step }
 {
@@ -116,8 +119,8 @@ pub(crate) fn between(deltas: &[Delta], start: usize, end: usize) -> &[Delta]
     &deltas[start..end]
 }
 
-/// Keeps the entry of what is a step, for which there is room. What is none changed nothing, and what it noted is taken off
-/// the tape.
+/// Keeps the entry of what is a step, for which there is room. What is none changed nothing, and
+/// what it noted is taken off the tape.
 #[inline(always)]
 pub(crate) fn keep_step(
     entries: &mut Vec<Entry>,
@@ -128,9 +131,12 @@ pub(crate) fn keep_step(
 )
     requires room { vec_len entries.old < vec_capacity entries.old }
     requires start { entry.start ≤ length deltas.old.deltas }
-    requires same { is_step ≡ false → LeadsBack memory.old.layout (drop entry.start deltas.old.deltas) memory.old.state memory.old.state }
-    ensures entries { entries.new.items ≡ (if is_step then entries.old.items ++ entry ∷ [] else entries.old.items) }
-    ensures deltas { deltas.new.deltas ≡ (if is_step then deltas.old.deltas else take entry.start deltas.old.deltas) }
+    requires same { is_step ≡ false
+        → LeadsBack memory.old.layout (drop entry.start deltas.old.deltas) memory.old.state memory.old.state }
+    ensures entries { entries.new.items
+        ≡ (if is_step then entries.old.items ++ entry ∷ [] else entries.old.items) }
+    ensures deltas { deltas.new.deltas
+        ≡ (if is_step then deltas.old.deltas else take entry.start deltas.old.deltas) }
     ensures state { memory.new.state ≡ memory.old.state }
     ensures layout { memory.new.layout ≡ memory.old.layout }
 {

@@ -12,8 +12,8 @@ use hp_plain::Image;
 use hp_units::{Layout, Record, Serial};
 use std::alloc::{AllocError, Global};
 
-/// Why records are no legal history: the first record at fault, its serial looked at before its reply; or out of memory,
-/// which may come in place of any answer.
+/// Why records are no legal history: the first record at fault, its serial looked at before its
+/// reply; or out of memory, which may come in place of any answer.
 #[derive(Clone, Copy, Debug, PartialEq, Eq, Drop)]
 pub enum ReplayFault {
     /// The record of this serial has another reply than the plain machine gives.
@@ -35,11 +35,12 @@ impl From<AllocError> for ReplayFault {
     }
 }
 
-/// The state after the records, from the state at boot and the first serial on, if they are a legal history (own rule).
-/// Time and memory are linear in the records and the layout.
+/// The state after the records, from the state at boot and the first serial on, if they are a legal
+/// history (own rule). Time and memory are linear in the records and the layout.
 pub fn replay(alloc: Global, layout: &Layout, records: &[Record]) -> Result<Image, ReplayFault>
     ensures legal { OnOk result (IsLegal layout.now (boot_memory layout.now) 0 records.now) }
-    ensures value { IfOk result (λ image. image ≡ record { layout = layout.now; memory = value_of layout.now (boot_memory layout.now) records.now }) }
+    ensures value { IfOk result (λ image. image
+        ≡ record { layout = layout.now; memory = value_of layout.now (boot_memory layout.now) records.now }) }
     ensures placed { IfOk result (λ image. IsWellPlaced image.layout image.memory) }
     ensures fault { IfErr result (IsFault layout.now (boot_memory layout.now) 0 records.now) }
     ensures only { IfErr result (Refutes layout.now (boot_memory layout.now) 0 records.now) }
@@ -50,8 +51,8 @@ pub fn replay(alloc: Global, layout: &Layout, records: &[Record]) -> Result<Imag
     Ok(image)
 }
 
-/// The state after the records, from a base state and the number of all earlier records on, if they are a legal history
-/// (own rule). Time and memory are linear in the records and the layout.
+/// The state after the records, from a base state and the number of all earlier records on, if they
+/// are a legal history (own rule). Time and memory are linear in the records and the layout.
 pub fn replay_from(
     alloc: Global,
     base: &Image,
@@ -61,7 +62,10 @@ pub fn replay_from(
     requires limits { IsLayout base.now.layout }
     requires placed { IsWellPlaced base.now.layout base.now.memory }
     ensures legal { OnOk result (IsLegal base.now.layout base.now.memory before records.now) }
-    ensures value { IfOk result (λ image. image ≡ record { layout = base.now.layout; memory = value_of base.now.layout base.now.memory records.now }) }
+    ensures value { IfOk result (λ image. image ≡ record {
+      layout = base.now.layout;
+      memory = value_of base.now.layout base.now.memory records.now;
+    }) }
     ensures placed { IfOk result (λ image. IsWellPlaced image.layout image.memory) }
     ensures fault { IfErr result (IsFault base.now.layout base.now.memory before records.now) }
     ensures only { IfErr result (Refutes base.now.layout base.now.memory before records.now) }
@@ -79,7 +83,8 @@ pub(crate) fn followed(
     records: &[Record],
 ) -> Result<(), ReplayFault>
     requires { course.old ≡ started course.old.layout course.old.base course.old.before }
-    ensures course { OnOk result (IsCourseOf course.old.layout course.old.base course.old.before records.now course.new) }
+    ensures course { OnOk result
+        (IsCourseOf course.old.layout course.old.base course.old.before records.now course.new) }
     ensures fault { IfErr result (IsFault course.old.layout course.old.base course.old.before records.now) }
     ensures only { IfErr result (Refutes course.old.layout course.old.base course.old.before records.now) }
 {

@@ -12,7 +12,8 @@ use hp_plain::Image;
 use hp_units::Layout;
 use std::alloc::{AllocError, Global};
 
-/// What a seal hands out: the state that the records began with, the records, and how many there were before them.
+/// What a seal hands out: the state that the records began with, the records, and how many there
+/// were before them.
 #[derive(Drop)]
 pub struct Volume {
     /// The number of all earlier records.
@@ -23,8 +24,9 @@ pub struct Volume {
     pub records: Records,
 }
 
-/// Why volumes do not follow one another: the first volume at fault, counted from 0, its count looked at before its base, and
-/// its base before its records; or out of memory, which may come in place of any answer.
+/// Why volumes do not follow one another: the first volume at fault, counted from 0, its count
+/// looked at before its base, and its base before its records; or out of memory, which may come in
+/// place of any answer.
 #[derive(Clone, Copy, Debug, PartialEq, Eq, Drop)]
 pub enum ChainFault {
     /// The volume at this place was not sealed after as many records as the volumes before it hold.
@@ -48,13 +50,14 @@ impl From<AllocError> for ChainFault {
     }
 }
 
-/// The state that volumes lead to from the state at boot, if each follows those before it (own rule): it was sealed after
-/// as many records as they hold, its base is the state that they lead to, and its records are a legal history over it.
-/// No volumes lead to the state at boot. Time is linear in the records and in the volumes' bases, and memory in the longest
-/// volume.
+/// The state that volumes lead to from the state at boot, if each follows those before it (own
+/// rule): it was sealed after as many records as they hold, its base is the state that they lead
+/// to, and its records are a legal history over it. No volumes lead to the state at boot. Time is
+/// linear in the records and in the volumes' bases, and memory in the longest volume.
 pub fn audit_chain(alloc: Global, layout: &Layout, volumes: &[Volume]) -> Result<Image, ChainFault>
     ensures chain { OnOk result (IsChain layout.now volumes.now) }
-    ensures value { IfOk result (λ image. image ≡ record { layout = layout.now; memory = state_after layout.now volumes.now }) }
+    ensures value { IfOk result
+        (λ image. image ≡ record { layout = layout.now; memory = state_after layout.now volumes.now }) }
     ensures placed { IfOk result (λ image. IsWellPlaced image.layout image.memory) }
     ensures fault { IfErr result (IsChainFault layout.now volumes.now) }
     ensures only { IfErr result (RefutesChain layout.now volumes.now) }

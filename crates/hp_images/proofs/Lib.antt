@@ -1,3 +1,4 @@
+mod FilledLists
 pub mod Images
 mod Lists
 mod Pages

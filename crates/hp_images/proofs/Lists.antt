@@ -1,17 +1,13 @@
 -- A list that is filled from its back.
-use Rattle.std.proofs.Common.{ℕ, zero, suc, ◌≡◌, ◌+◌, ◌-◌, ◌*◌, ◌/◌, ◌%◌, ◌<◌, ◌≤◌, List, [], ◌∷◌, Bool, true, false, not, ◌&&◌, None, length, get_or, set, drop, take, ◌++◌, ◌^◌, refl, sym, ◌∙◌, ap, subst, arith, inl, inr, eq-eqb}
+use Rattle.std.proofs.Common.{ℕ, zero, suc, ◌≡◌, ◌+◌, ◌-◌, ◌*◌, ◌/◌, ◌%◌, ◌<◌, ◌≤◌, List, [], ◌∷◌, Bool, true, false, not, ◌&&◌, None, length, get_or, set, drop, refl, sym, ◌∙◌, ap, subst, arith, inl, inr, eq-eqb}
 use Rattle.std.proofs.lemmas.Bool.{cases_eq, cases_lt}
-use Rattle.std.proofs.lemmas.List.{drop_more, get_or_past, get_or_read, take_more, get_or-set_other, get_or-set_same, length-set, set-get_or, set-set}
+use Rattle.std.proofs.lemmas.List.{drop_more, get_or_past, get_or-set_other, get_or-set_same, length-set, set-get_or, set-set}
 use Rattle.std.proofs.lemmas.List.Sums.{get_or-le-sum_by, sum_by-set}
 use Rattle.std.specs.List.{list_all}
 use Rattle.std.specs.Prelude.{sum_by}
 use Rattle.hp_units.specs.declared.rows.Class.{Class}
-use Rattle.hp_units.specs.declared.rows.Kind.{Kind}
-use Rattle.hp_units.specs.Arithmetic.{IsFrame, frame_count}
-use Rattle.std.proofs.lemmas.Nat.{pow_pos}
-use Rattle.hp_lemmas.proofs.Placed.{free-within, past-offline}
 use Rattle.hp_units.specs.declared.rows.Pool.{Pool}
-use Rattle.hp_units.specs.LayoutParts.{LayoutParts, IsLayout}
+use Rattle.hp_units.specs.LayoutParts.{LayoutParts}
 use Rattle.hp_units.specs.Memory.{FreeAreas, Memory, cached_list, class_index, class_numbered, free_list, pool_index, with_free_list}
 use Rattle.hp_units.specs.FreeAreas.{is_on}
 use Rattle.hp_units.specs.Placement.{IsWellPlaced, covered, free_places, list_places}
@@ -23,37 +19,42 @@ use Rattle.hp_buddy.proofs.Standing.{number_back}
 use Rattle.hp_cpus.proofs.Counts.{one-self, times, times-cons, times-on}
 use Rattle.std.proofs.lemmas.Bool.{false_from_ne_true}
 use Rattle.hp_cpus.specs.Cpus.{CpusValue, list_of, with_list_of}
-use Rattle.hp_images.specs.Pools.{pool_numbered}
-use Rattle.hp_images.specs.Tables.{AreCopied, ArePartly}
-use Rattle.hp_images.proofs.Tables.{copied-next}
+use Rattle.hp_images.specs.Tables.{ArePartly}
 
 -- ---- the entries of a list from its back
 
 -- one entry more
-pub longer : (xs : List ℕ) (number at : ℕ) → number < length xs → at ≡ length xs - 1 - number → get_or xs at 0 ∷ drop (length xs - number) xs ≡ drop (length xs - (number + 1)) xs
+pub longer : (xs : List ℕ) (number at : ℕ) → number < length xs → at ≡ length xs - 1 - number
+    → get_or xs at 0 ∷ drop (length xs - number) xs ≡ drop (length xs - (number + 1)) xs
 longer xs number at low is =
     let here : length xs - (number + 1) ≡ at = omega arith in
     let next : length xs - number ≡ at + 1 = omega arith in
-    sym (ap (λ (n : ℕ). drop n xs) here ∙ (drop_more xs at 0 (omega arith) ∙ ap (λ (n : ℕ). get_or xs at 0 ∷ drop n xs) (sym next)))
+    sym (ap (λ (n : ℕ). drop n xs) here
+    ∙ (drop_more xs at 0 (omega arith) ∙ ap (λ (n : ℕ). get_or xs at 0 ∷ drop n xs) (sym next)))
 
 -- no entry
-pub none-yet : (xs : List ℕ) (lists : List (List ℕ)) (n : ℕ) → get_or lists n [] ≡ [] → set lists n (drop (length xs - 0) xs) ≡ lists
+pub none-yet : (xs : List ℕ) (lists : List (List ℕ)) (n : ℕ) → get_or lists n [] ≡ []
+    → set lists n (drop (length xs - 0) xs) ≡ lists
 none-yet xs lists n none =
     let all : length xs - 0 ≡ length xs = omega arith in
-    ap (λ (ys : List ℕ). set lists n ys) (ap (λ (m : ℕ). drop m xs) all ∙ (past xs ∙ sym none)) ∙ set-get_or lists n []
+    ap (λ (ys : List ℕ). set lists n ys) (ap (λ (m : ℕ). drop m xs) all ∙ (past xs ∙ sym none))
+    ∙ set-get_or lists n []
   where
     past : (ys : List ℕ) → drop (length ys) ys ≡ []
     past [] = refl
     past (y ∷ ys) = past ys
 
 -- a list that has one entry more
-pub filled-more : (lists : List (List ℕ)) (n : ℕ) (xs : List ℕ) (number at frame : ℕ) → n < length lists → number < length xs → at ≡ length xs - 1 - number → frame ≡ get_or xs at 0
-    → set (set lists n (drop (length xs - number) xs)) n (frame ∷ get_or (set lists n (drop (length xs - number) xs)) n []) ≡ set lists n (drop (length xs - (number + 1)) xs)
+pub filled-more : (lists : List (List ℕ)) (n : ℕ) (xs : List ℕ) (number at frame : ℕ) → n < length lists
+    → number < length xs → at ≡ length xs - 1 - number → frame ≡ get_or xs at 0
+    → set (set lists n (drop (length xs - number) xs)) n (frame ∷ get_or
+    (set lists n (drop (length xs - number) xs)) n []) ≡ set lists n (drop (length xs - (number + 1)) xs)
 filled-more lists n xs number at frame inside low is e =
     let rest = drop (length xs - number) xs in
     set-set lists n rest (frame ∷ get_or (set lists n rest) n [])
     ∙ ap (λ (ys : List ℕ). set lists n ys)
-    (ap (λ (ys : List ℕ). frame ∷ ys) (get_or-set_same lists n rest [] inside) ∙ (ap (λ (f : ℕ). f ∷ rest) e ∙ longer xs number at low is))
+    (ap (λ (ys : List ℕ). frame ∷ ys) (get_or-set_same lists n rest [] inside)
+    ∙ (ap (λ (f : ℕ). f ∷ rest) e ∙ longer xs number at low is))
 
 -- all entries
 pub filled-all : (xs : List ℕ) (number : ℕ) → length xs ≤ number → drop (length xs - number) xs ≡ xs
@@ -61,18 +62,22 @@ filled-all xs number all = let none : length xs - number ≡ 0 = omega arith in 
 
 -- ---- a frame that stands on none of the lists
 
-all_off : (f : ℕ) (lists : List (List ℕ)) → ((j : ℕ) → is_on f (get_or lists j []) ≡ false) → list_all (λ frames. not (is_on f frames)) lists ≡ true
+all_off : (f : ℕ) (lists : List (List ℕ)) → ((j : ℕ) → is_on f (get_or lists j []) ≡ false)
+    → list_all (λ frames. not (is_on f frames)) lists ≡ true
 all_off f [] off = refl
 all_off f (xs ∷ lists) off = rw (off 0) (all_off f lists (λ j. off (suc j)))
 
 -- the lists of which each is one that is wanted or empty
-partly-off : (f n : ℕ) (rest frames : List ℕ) (wanted now : List (List ℕ)) → n < length wanted → ArePartly wanted now → ((j : ℕ) → is_on f (get_or (set wanted n rest) j []) ≡ false)
+partly-off : (f n : ℕ) (rest frames : List ℕ) (wanted now : List (List ℕ)) → n < length wanted
+    → ArePartly wanted now → ((j : ℕ) → is_on f (get_or (set wanted n rest) j []) ≡ false)
     → may_go_behind (set now n rest) None f frames ≡ true
-partly-off f n rest frames wanted now low partly off = ap (λ (b : Bool). b && true) (all_off f (set now n rest) each)
+partly-off f n rest frames wanted now low partly off =
+    ap (λ (b : Bool). b && true) (all_off f (set now n rest) each)
   where
     at_other : (j : ℕ) → (j ≡ n → ⊥) → is_on f (get_or now j []) ≡ false
     at_other j apart = elim (partly.each j) [
-      | inl same ↦ ap (λ (xs : List ℕ). is_on f xs) (same ∙ sym (get_or-set_other wanted n j rest [] apart)) ∙ off j
+      | inl same ↦
+          ap (λ (xs : List ℕ). is_on f xs) (same ∙ sym (get_or-set_other wanted n j rest [] apart)) ∙ off j
       | inr none ↦ ap (λ (xs : List ℕ). is_on f xs) none
     ]
 
@@ -80,33 +85,46 @@ partly-off f n rest frames wanted now low partly off = ap (λ (b : Bool). b && t
     each j = elim (cases_eq j n) [
       | inl same ↦
           subst (λ (k : ℕ). is_on f (get_or (set now n rest) k []) ≡ false) (sym same)
-          (ap (λ (xs : List ℕ). is_on f xs) (get_or-set_same now n rest [] (omega (arith, low, partly.size)) ∙ sym (get_or-set_same wanted n rest [] low)) ∙ off n)
-      | inr apart ↦ ap (λ (xs : List ℕ). is_on f xs) (get_or-set_other now n j rest [] apart) ∙ at_other j apart
+          (ap (λ (xs : List ℕ). is_on f xs) (get_or-set_same now n rest [] (omega (arith, low, partly.size))
+          ∙ sym (get_or-set_same wanted n rest [] low)) ∙ off n)
+      | inr apart ↦
+          ap (λ (xs : List ℕ). is_on f xs) (get_or-set_other now n j rest [] apart) ∙ at_other j apart
     ]
 
 -- ---- the free blocks
 
 -- the blocks after one on a list are fewer
-later-places : (f order at : ℕ) (xs : List ℕ) → at < length xs → get_or xs at 0 ≡ f → 1 + list_places f order (drop (suc at) xs) ≤ list_places f order xs
+later-places : (f order at : ℕ) (xs : List ℕ) → at < length xs → get_or xs at 0 ≡ f
+    → 1 + list_places f order (drop (suc at) xs) ≤ list_places f order xs
 later-places f order at [] low is = absurd (omega arith)
 later-places f order zero (x ∷ xs) low is =
-    let self : covered f order x ≡ 1 = subst (λ (n : ℕ). covered f order n ≡ 1) (sym is) (covered-self order f) in
+    let self : covered f order x ≡ 1 =
+    subst (λ (n : ℕ). covered f order n ≡ 1) (sym is) (covered-self order f) in
     omega (arith, list_places-cons f order x xs, self)
-later-places f order (suc at) (x ∷ xs) low is = omega (arith, list_places-cons f order x xs, later-places f order at xs (omega arith) is)
+later-places f order (suc at) (x ∷ xs) low is =
+    omega (arith, list_places-cons f order x xs, later-places f order at xs (omega arith) is)
 
 -- a frame in no free block is on none of the lists
-off_areas : (a : FreeAreas) (f n : ℕ) → length a.lists ≡ 5 * n → free_places a f ≡ 0 → (j : ℕ) → is_on f (get_or a.lists j []) ≡ false
+off_areas : (a : FreeAreas) (f n : ℕ) → length a.lists ≡ 5 * n → free_places a f ≡ 0 → (j : ℕ)
+    → is_on f (get_or a.lists j []) ≡ false
 off_areas a f n size none j = elim (cases_lt j (length a.lists)) [
   | inl low ↦
-      subst (λ (k : ℕ). is_on f (get_or a.lists k []) ≡ false) (number_back j) (off-free a (class_numbered (j % 5)) (j / 5) f (omega (arith, low, size)) none)
+      subst (λ (k : ℕ). is_on f (get_or a.lists k []) ≡ false) (number_back j)
+      (off-free a (class_numbered (j % 5)) (j / 5) f (omega (arith, low, size)) none)
   | inr past ↦ ap (λ (xs : List ℕ). is_on f xs) (get_or_past a.lists j [] past)
 ]
 
 -- a free block may come in front of those after it
-pub fits-free : (l : LayoutParts) (s : Memory) (class : Class) (order number at frame : ℕ) (lists : List (List ℕ)) (frames : List ℕ) → IsWellPlaced l s → order ≤ l.order
-    → number < length (free_list s.free.areas class order) → at ≡ length (free_list s.free.areas class order) - 1 - number → frame ≡ get_or (free_list s.free.areas class order) at 0
+pub fits-free : (l : LayoutParts) (s : Memory) (class : Class) (order number at frame : ℕ)
+    (lists : List (List ℕ)) (frames : List ℕ)
+    → IsWellPlaced l s → order ≤ l.order
+    → number < length (free_list s.free.areas class order)
+    → at ≡ length (free_list s.free.areas class order) - 1 - number
+    → frame ≡ get_or (free_list s.free.areas class order) at 0
     → ArePartly s.free.areas.lists lists
-    → may_go_behind (set lists (5 * order + class_index class) (drop (length (free_list s.free.areas class order) - number) (free_list s.free.areas class order))) None frame frames ≡ true
+    → may_go_behind (set lists (5 * order + class_index class) (drop
+    (length (free_list s.free.areas class order) - number)
+    (free_list s.free.areas class order))) None frame frames ≡ true
 fits-free l s class order number at frame lists frames p in_order low is e partly =
     let a = s.free.areas in
     let xs = free_list a class order in
@@ -116,30 +134,45 @@ fits-free l s class order number at frame lists frames p in_order low is e partl
     let inside : n < length a.lists = omega (arith, has, class_index-lt class) in
     let next : length xs - number ≡ suc at = omega arith in
     let fewer : 1 + list_places frame order rest ≤ list_places frame order xs =
-    subst (λ (k : ℕ). 1 + list_places frame order (drop k xs) ≤ list_places frame order xs) (sym next) (later-places frame order at xs (omega arith) (sym e)) in
-    let none : free_places (with_free_list a class order rest) frame ≡ 0 = omega (arith, with_free_list-places a class order frame rest has, fewer, p.once frame) in
+    subst (λ (k : ℕ). 1 + list_places frame order (drop k xs) ≤ list_places frame order xs) (sym next)
+    (later-places frame order at xs (omega arith) (sym e)) in
+    let none : free_places (with_free_list a class order rest) frame ≡ 0 =
+    omega (arith, with_free_list-places a class order frame rest has, fewer, p.once frame) in
     partly-off frame n rest frames a.lists lists inside partly
-    (off_areas (with_free_list a class order rest) frame (l.order + 1) (length-set a.lists n rest ∙ p.in_order.shape.lists) none)
+    (off_areas (with_free_list a class order rest) frame (l.order + 1)
+    (length-set a.lists n rest ∙ p.in_order.shape.lists) none)
 
 -- ---- the single frames
 
-later-times : (f at : ℕ) (xs : List ℕ) → at < length xs → get_or xs at 0 ≡ f → 1 + times f (drop (suc at) xs) ≤ times f xs
+later-times : (f at : ℕ) (xs : List ℕ) → at < length xs → get_or xs at 0 ≡ f
+    → 1 + times f (drop (suc at) xs) ≤ times f xs
 later-times f at [] low is = absurd (omega arith)
 later-times f zero (x ∷ xs) low is = omega (arith, times-cons f x xs, one-self x f is)
-later-times f (suc at) (x ∷ xs) low is = omega (arith, times-cons f x xs, later-times f at xs (omega arith) is)
+later-times f (suc at) (x ∷ xs) low is =
+    omega (arith, times-cons f x xs, later-times f at xs (omega arith) is)
 
-off_cached : (lists : List (List ℕ)) (f : ℕ) → sum_by (λ (xs : List ℕ). times f xs) lists ≡ 0 → (j : ℕ) → is_on f (get_or lists j []) ≡ false
+off_cached : (lists : List (List ℕ)) (f : ℕ) → sum_by (λ (xs : List ℕ). times f xs) lists ≡ 0 → (j : ℕ)
+    → is_on f (get_or lists j []) ≡ false
 off_cached lists f none j = elim (cases_lt j (length lists)) [
   | inl low ↦
       false_from_ne_true (is_on f (get_or lists j []))
-      (λ on. absurd (omega (arith, none, times-on f (get_or lists j []) on, get_or-le-sum_by (λ (xs : List ℕ). times f xs) lists j [] low)))
+      (λ on. absurd (omega (
+        arith,
+        none,
+        times-on f (get_or lists j []) on,
+        get_or-le-sum_by (λ (xs : List ℕ). times f xs) lists j [] low,
+      )))
   | inr past ↦ ap (λ (xs : List ℕ). is_on f xs) (get_or_past lists j [] past)
 ]
 
 -- a frame may come in front of those after it
-pub fits-cached : (l : LayoutParts) (s : Memory) (cpu : ℕ) (pool : Pool) (number at frame : ℕ) (lists : List (List ℕ)) (frames : List ℕ) → IsWellPlaced l s → cpu < l.cpus
-    → number < length (cached_list s.free cpu pool) → at ≡ length (cached_list s.free cpu pool) - 1 - number → frame ≡ get_or (cached_list s.free cpu pool) at 0 → ArePartly s.free.cached lists
-    → may_go_behind (set lists (3 * cpu + pool_index pool) (drop (length (cached_list s.free cpu pool) - number) (cached_list s.free cpu pool))) None frame frames ≡ true
+pub fits-cached : (l : LayoutParts) (s : Memory) (cpu : ℕ) (pool : Pool) (number at frame : ℕ)
+    (lists : List (List ℕ)) (frames : List ℕ)
+    → IsWellPlaced l s → cpu < l.cpus
+    → number < length (cached_list s.free cpu pool) → at ≡ length (cached_list s.free cpu pool) - 1 - number
+    → frame ≡ get_or (cached_list s.free cpu pool) at 0 → ArePartly s.free.cached lists
+    → may_go_behind (set lists (3 * cpu + pool_index pool) (drop
+    (length (cached_list s.free cpu pool) - number) (cached_list s.free cpu pool))) None frame frames ≡ true
 fits-cached l s cpu pool number at frame lists frames p in_cpus low is e partly =
     let wanted = s.free.cached in
     let xs = cached_list s.free cpu pool in
@@ -147,9 +180,12 @@ fits-cached l s cpu pool number at frame lists frames p in_cpus low is e partly 
     let n : ℕ = 3 * cpu + pool_index pool in
     let inside : n < length wanted = omega (arith, p.in_order.shape.cached, in_cpus, pool_index-lt pool) in
     let next : length xs - number ≡ suc at = omega arith in
-    let fewer : 1 + times frame rest ≤ times frame xs = subst (λ (k : ℕ). 1 + times frame (drop k xs) ≤ times frame xs) (sym next) (later-times frame at xs (omega arith) (sym e)) in
+    let fewer : 1 + times frame rest ≤ times frame xs =
+    subst (λ (k : ℕ). 1 + times frame (drop k xs) ≤ times frame xs) (sym next)
+    (later-times frame at xs (omega arith) (sym e)) in
     let none : sum_by (λ (ys : List ℕ). times frame ys) (set wanted n rest) ≡ 0 =
-    omega (arith, sum_by-set (λ (ys : List ℕ). times frame ys) wanted n rest [] inside, fewer, p.once frame) in
+    omega
+    (arith, sum_by-set (λ (ys : List ℕ). times frame ys) wanted n rest [] inside, fewer, p.once frame) in
     partly-off frame n rest frames wanted lists inside partly (off_cached (set wanted n rest) frame none)
 
 -- ---- the lists of the free areas and of the processors, as they are filled
@@ -167,145 +203,74 @@ pub record IsNext (xs : List ℕ) (number at frame : ℕ) : Type 0 where
   pub frame_is : frame ≡ get_or xs at 0
 
 -- it is on the list
-pub next-on : (xs ys : List ℕ) (number at frame : ℕ) → xs ≡ ys → IsNext xs number at frame → is_on frame ys ≡ true
+pub next-on : (xs ys : List ℕ) (number at frame : ℕ) → xs ≡ ys → IsNext xs number at frame
+    → is_on frame ys ≡ true
 next-on xs ys number at frame same n =
-    subst (λ (f : ℕ). is_on f ys ≡ true) (sym n.frame_is) (subst (λ (zs : List ℕ). is_on (get_or xs at 0) zs ≡ true) same (on-at xs at (let low = n.low in let at_is = n.at_is in omega arith)))
+    subst (λ (f : ℕ). is_on f ys ≡ true) (sym n.frame_is) (subst (λ (zs : List ℕ). is_on (get_or xs at 0) zs
+    ≡ true) same (on-at xs at (let low = n.low in let at_is = n.at_is in omega arith)))
 
 -- a free block may come in front
-pub area-fits : (l : LayoutParts) (s : Memory) (class : Class) (order number at frame : ℕ) (xs : List ℕ) (a now : FreeAreas) → IsWellPlaced l s → order ≤ l.order → xs ≡ free_list s.free.areas class order
-    → IsNext xs number at frame → ArePartly s.free.areas.lists a.lists → now ≡ with_free_list a class order (drop (length xs - number) xs)
+pub area-fits : (l : LayoutParts) (s : Memory) (class : Class) (order number at frame : ℕ) (xs : List ℕ)
+    (a now : FreeAreas)
+    → IsWellPlaced l s → order ≤ l.order → xs ≡ free_list s.free.areas class order
+    → IsNext xs number at frame → ArePartly s.free.areas.lists a.lists
+    → now ≡ with_free_list a class order (drop (length xs - number) xs)
     → may_go_behind now.lists None frame (free_list now class order) ≡ true
 area-fits l s class order number at frame xs a now p in_order same n partly filled =
     let frames = free_list now class order in
-    let P : List ℕ → Type 0 = λ ys. IsNext ys number at frame → may_go_behind (set a.lists (5 * order + class_index class) (drop (length ys - number) ys)) None frame frames ≡ true in
+    let P : List ℕ → Type 0 =
+    λ ys. IsNext ys number at frame
+    → may_go_behind (set a.lists (5 * order + class_index class) (drop (length ys - number) ys)) None
+    frame frames ≡ true in
     subst (λ (v : FreeAreas). may_go_behind v.lists None frame frames ≡ true) (sym filled)
-    (subst P (sym same) (λ m. fits-free l s class order number at frame a.lists frames p in_order m.low m.at_is m.frame_is partly) n)
+    (subst P (sym same) (λ m.
+    fits-free l s class order number at frame a.lists frames p in_order m.low m.at_is m.frame_is partly) n)
 
 -- and then it stands there
-pub area-next : (class : Class) (order number at frame : ℕ) (xs : List ℕ) (a now new : FreeAreas) → HasOrder a order → IsNext xs number at frame
-    → now ≡ with_free_list a class order (drop (length xs - number) xs) → new ≡ with_free_list now class order (frame ∷ free_list now class order)
+pub area-next : (class : Class) (order number at frame : ℕ) (xs : List ℕ) (a now new : FreeAreas)
+    → HasOrder a order → IsNext xs number at frame
+    → now ≡ with_free_list a class order (drop (length xs - number) xs)
+    → new ≡ with_free_list now class order (frame ∷ free_list now class order)
     → new ≡ with_free_list a class order (drop (length xs - (number + 1)) xs)
 area-next class order number at frame xs a now new has n filled e =
     let inside : 5 * order + class_index class < length a.lists = omega (arith, has, class_index-lt class) in
     e ∙ (ap (λ (v : FreeAreas). with_free_list v class order (frame ∷ free_list v class order)) filled
-    ∙ ap (λ (ls : List (List ℕ)). record a { lists = ls }) (filled-more a.lists (5 * order + class_index class) xs number at frame inside n.low n.at_is n.frame_is))
+    ∙ ap (λ (ls : List (List ℕ)). record a { lists = ls }) (filled-more a.lists
+    (5 * order + class_index class) xs number at frame inside n.low n.at_is n.frame_is))
 
 -- a single frame may come in front
-pub cached-fits : (l : LayoutParts) (s : Memory) (cpu : ℕ) (pool : Pool) (number at frame : ℕ) (xs : List ℕ) (c now : CpusValue) → IsWellPlaced l s → cpu < l.cpus → xs ≡ cached_list s.free cpu pool
-    → IsNext xs number at frame → ArePartly s.free.cached c.cached → now ≡ with_list_of c cpu pool (drop (length xs - number) xs) → may_go_behind now.cached None frame (list_of now cpu pool) ≡ true
+pub cached-fits : (l : LayoutParts) (s : Memory) (cpu : ℕ) (pool : Pool) (number at frame : ℕ) (xs : List ℕ)
+    (c now : CpusValue)
+    → IsWellPlaced l s → cpu < l.cpus → xs ≡ cached_list s.free cpu pool
+    → IsNext xs number at frame → ArePartly s.free.cached c.cached
+    → now ≡ with_list_of c cpu pool (drop (length xs - number) xs)
+    → may_go_behind now.cached None frame (list_of now cpu pool) ≡ true
 cached-fits l s cpu pool number at frame xs c now p in_cpus same n partly filled =
     let frames = list_of now cpu pool in
-    let P : List ℕ → Type 0 = λ ys. IsNext ys number at frame → may_go_behind (set c.cached (3 * cpu + pool_index pool) (drop (length ys - number) ys)) None frame frames ≡ true in
+    let P : List ℕ → Type 0 =
+    λ ys. IsNext ys number at frame
+    → may_go_behind (set c.cached (3 * cpu + pool_index pool) (drop (length ys - number) ys)) None frame
+    frames ≡ true in
     subst (λ (v : CpusValue). may_go_behind v.cached None frame frames ≡ true) (sym filled)
-    (subst P (sym same) (λ m. fits-cached l s cpu pool number at frame c.cached frames p in_cpus m.low m.at_is m.frame_is partly) n)
+    (subst P (sym same) (λ m.
+    fits-cached l s cpu pool number at frame c.cached frames p in_cpus m.low m.at_is m.frame_is partly) n)
 
 -- values of one layout and the same lists
 pub same_lists : (v w : CpusValue) → v.layout ≡ w.layout → v.cached ≡ w.cached → v ≡ w
 same_lists v w layout cached =
-    ap (λ (l : LayoutParts). record { layout = l; cached = v.cached }) layout ∙ ap (λ (ls : List (List ℕ)). record { layout = w.layout; cached = ls }) cached
+    ap (λ (l : LayoutParts). record { layout = l; cached = v.cached }) layout
+    ∙ ap (λ (ls : List (List ℕ)). record { layout = w.layout; cached = ls }) cached
 
 -- and then it stands there
-pub cached-next : (cpu : ℕ) (pool : Pool) (number at frame : ℕ) (xs : List ℕ) (c now new : CpusValue) → 3 * cpu + pool_index pool < length c.cached → IsNext xs number at frame
-    → now ≡ with_list_of c cpu pool (drop (length xs - number) xs) → new.layout ≡ now.layout → new.cached ≡ set now.cached (3 * cpu + pool_index pool) (frame ∷ list_of now cpu pool)
+pub cached-next : (cpu : ℕ) (pool : Pool) (number at frame : ℕ) (xs : List ℕ) (c now new : CpusValue)
+    → 3 * cpu + pool_index pool < length c.cached → IsNext xs number at frame
+    → now ≡ with_list_of c cpu pool (drop (length xs - number) xs) → new.layout ≡ now.layout
+    → new.cached ≡ set now.cached (3 * cpu + pool_index pool) (frame ∷ list_of now cpu pool)
     → new ≡ with_list_of c cpu pool (drop (length xs - (number + 1)) xs)
 cached-next cpu pool number at frame xs c now new inside n filled layout e =
     let place : ℕ = 3 * cpu + pool_index pool in
     let lists : new.cached ≡ set c.cached place (drop (length xs - (number + 1)) xs) =
-    e ∙ (ap (λ (v : CpusValue). set v.cached place (frame ∷ list_of v cpu pool)) filled ∙ filled-more c.cached place xs number at frame inside n.low n.at_is n.frame_is) in
-    same_lists new (with_list_of c cpu pool (drop (length xs - (number + 1)) xs)) (layout ∙ ap (λ (v : CpusValue). v.layout) filled) lists
-
--- ---- a list of many
-
--- lists that are copied up to one are partly there
-pub copied-partly : (number : ℕ) (wanted now : List (List ℕ)) → AreCopied [] [] number wanted now → ArePartly wanted now
-copied-partly number wanted now c = record {
-  size = c.size;
-  each = λ at. elim (cases_lt at number) [
-    | inl done ↦ inl (c.done at done)
-    | inr rest ↦ elim (cases_lt at (length wanted)) [
-      | inl inside ↦ inr (c.later at (omega arith) inside)
-      | inr past ↦ inr (get_or_past now at [] (omega (arith, past, c.size)))
-    ]
-  ];
-}
-
--- the list of a number, by its class and its order
-pub areas-at : (a : FreeAreas) (n : ℕ) → free_list a (class_numbered (n % 5)) (n / 5) ≡ get_or a.lists n []
-areas-at a n = ap (λ (k : ℕ). get_or a.lists k []) (number_back n)
-
--- one list of the free areas more
-pub areas-more : (number : ℕ) (wanted a new : FreeAreas) → number < length wanted.lists → AreCopied [] [] number wanted.lists a.lists
-    → new ≡ with_free_list a (class_numbered (number % 5)) (number / 5) (free_list wanted (class_numbered (number % 5)) (number / 5)) → AreCopied [] [] (number + 1) wanted.lists new.lists
-areas-more number wanted a new low c e =
-    copied-next [] [] number wanted.lists a.lists new.lists low c
-    (ap (λ (v : FreeAreas). v.lists) e
-    ∙ (ap (λ (k : ℕ). set a.lists k (free_list wanted (class_numbered (number % 5)) (number / 5))) (number_back number) ∙ ap (λ (xs : List ℕ). set a.lists number xs) (areas-at wanted number)))
-
--- pools by their numbers
-pool-numbered : (n : ℕ) → n < 3 → pool_index (pool_numbered n) ≡ n
-pool-numbered zero low = refl
-pool-numbered (suc zero) low = refl
-pool-numbered (suc (suc zero)) low = refl
-pool-numbered (suc (suc (suc n))) low = absurd (omega arith)
-
-pub pool_back : (n : ℕ) → 3 * (n / 3) + pool_index (pool_numbered (n % 3)) ≡ n
-pool_back n = let rest : n % 3 < 3 = omega arith in rw (pool-numbered (n % 3) rest) (omega arith)
-
--- the list of a number, by its processor and its pool
-pub cached-at : (lists : List (List ℕ)) (n : ℕ) → get_or lists (3 * (n / 3) + pool_index (pool_numbered (n % 3))) [] ≡ get_or lists n []
-cached-at lists n = ap (λ (k : ℕ). get_or lists k []) (pool_back n)
-
-pub cached-more : (number : ℕ) (wanted lists new : List (List ℕ)) → number < length wanted → AreCopied [] [] number wanted lists
-    → new ≡ set lists (3 * (number / 3) + pool_index (pool_numbered (number % 3))) (get_or wanted (3 * (number / 3) + pool_index (pool_numbered (number % 3))) [])
-    → AreCopied [] [] (number + 1) wanted new
-cached-more number wanted lists new low c e =
-    copied-next [] [] number wanted lists new low c (e ∙ ap (λ (k : ℕ). set lists k (get_or wanted k [])) (pool_back number))
-
--- ---- the numbers of what comes onto a list
-
--- the next entry from the back
-pub next-of : (xs : List ℕ) (number frame : ℕ) → number < length xs → frame ≡ get_or xs (length xs - 1 - number) frame → IsNext xs number (length xs - 1 - number) frame
-next-of xs number frame low is = record { low = low; at_is = refl; frame_is = get_or_read xs (length xs - 1 - number) frame (omega (arith, low)) is 0 }
-
-pub area-numbers : (l k : LayoutParts) (s : Memory) (class : Class) (order number at frame : ℕ) (xs : List ℕ) → IsLayout l → IsWellPlaced l s → k ≡ l → order ≤ l.order → xs ≡ free_list s.free.areas class order
-    → IsNext xs number at frame → (order ≤ k.order) × IsFrame k frame
-area-numbers l k s class order number at frame xs limits p same in_order is n =
-    let within = free-within l s class order frame limits p (next-on xs (free_list s.free.areas class order) number at frame is n) in
-    let some : 0 < 2 ^ order = pow_pos order in
-    let inside : frame < frame_count l = omega (arith, within, some) in
-    subst (λ (m : LayoutParts). (order ≤ m.order) × IsFrame m frame) (sym same) (in_order, inside)
-
-cached-within : (l : LayoutParts) (s : Memory) (cpu : ℕ) (pool : Pool) (frame : ℕ) → IsLayout l → IsWellPlaced l s → cpu < l.cpus → is_on frame (cached_list s.free cpu pool) ≡ true → frame < frame_count l
-cached-within l s cpu pool frame limits p in_cpus on = elim (cases_lt frame (frame_count l)) [
-  | inl inside ↦ inside
-  | inr past ↦
-      let place : 3 * cpu + pool_index pool < length s.free.cached = omega (arith, p.in_order.shape.cached, in_cpus, pool_index-lt pool) in
-      let among = get_or-le-sum_by (λ (ys : List ℕ). times frame ys) s.free.cached (3 * cpu + pool_index pool) [] place in
-      absurd (omega (arith, p.once frame, past-offline l s frame limits p.in_order.shape.rows past, times-on frame (cached_list s.free cpu pool) on, among))
-]
-
-pub cached-numbers : (l k : LayoutParts) (s : Memory) (cpu : ℕ) (pool : Pool) (number at frame : ℕ) (xs : List ℕ) → IsLayout l → IsWellPlaced l s → k ≡ l → cpu < l.cpus → xs ≡ cached_list s.free cpu pool
-    → IsNext xs number at frame → (cpu < k.cpus) × IsFrame k frame
-cached-numbers l k s cpu pool number at frame xs limits p same in_cpus is n =
-    subst (λ (m : LayoutParts). (cpu < m.cpus) × IsFrame m frame) (sym same)
-    (in_cpus, cached-within l s cpu pool frame limits p in_cpus (next-on xs (cached_list s.free cpu pool) number at frame is n))
-
--- areas of the same lists and kinds
-pub same_areas : (v w : FreeAreas) → v.lists ≡ w.lists → v.kinds ≡ w.kinds → v ≡ w
-same_areas v w lists kinds = ap (λ (ls : List (List ℕ)). record { lists = ls; kinds = v.kinds }) lists ∙ ap (λ (ks : List Kind). record { lists = w.lists; kinds = ks }) kinds
-
--- ---- a list that is filled from its front
-
-pub appended-more : (lists : List (List ℕ)) (n : ℕ) (xs : List ℕ) (number frame : ℕ) → n < length lists → number < length xs → frame ≡ get_or xs number frame
-    → set (set lists n (take number xs)) n (get_or (set lists n (take number xs)) n [] ++ frame ∷ []) ≡ set lists n (take (number + 1) xs)
-appended-more lists n xs number frame inside low is =
-    let ys = take number xs in
-    set-set lists n ys (get_or (set lists n ys) n [] ++ frame ∷ [])
-    ∙ ap (λ (zs : List ℕ). set lists n zs)
-    (ap (λ (zs : List ℕ). zs ++ frame ∷ []) (get_or-set_same lists n ys [] inside)
-    ∙ (ap (λ (f : ℕ). ys ++ f ∷ []) (get_or_read xs number frame low is 0) ∙ sym (take_more xs number 0 low)))
-
--- an entry of a list is on it
-pub item-on : (xs ys : List ℕ) (number frame : ℕ) → xs ≡ ys → number < length xs → frame ≡ get_or xs number frame → is_on frame ys ≡ true
-item-on xs ys number frame same low is =
-    subst (λ (f : ℕ). is_on f ys ≡ true) (sym (get_or_read xs number frame low is 0)) (subst (λ (zs : List ℕ). is_on (get_or xs number 0) zs ≡ true) same (on-at xs number low))
+    e ∙ (ap (λ (v : CpusValue). set v.cached place (frame ∷ list_of v cpu pool)) filled
+    ∙ filled-more c.cached place xs number at frame inside n.low n.at_is n.frame_is) in
+    same_lists new (with_list_of c cpu pool (drop (length xs - (number + 1)) xs))
+    (layout ∙ ap (λ (v : CpusValue). v.layout) filled) lists

@@ -8,41 +8,54 @@ use Rattle.hp_units.specs.Memory.{Blocks}
 use Rattle.hp_images.specs.Tables.{AreCopied}
 
 -- nothing is copied to an empty table
-pub copied-none : {A : Type 0} (past none : A) (size : ℕ) (wanted now : List A) → now ≡ replicate size none → length wanted ≡ size → AreCopied past none 0 wanted now
+pub copied-none : {A : Type 0} (past none : A) (size : ℕ) (wanted now : List A) → now ≡ replicate size none
+    → length wanted ≡ size → AreCopied past none 0 wanted now
 copied-none past none size wanted now e is = record {
   size = ap length e ∙ (length-replicate size none ∙ sym is);
   done = λ at low. absurd (omega arith);
-  later = λ at low below. ap (λ xs. get_or xs at past) e ∙ get_or-replicate size at none past (omega (arith, below, is));
+  later =
+      λ at low below.
+      ap (λ xs. get_or xs at past) e ∙ get_or-replicate size at none past (omega (arith, below, is));
 }
 
 -- one entry more
-pub copied-next : {A : Type 0} (past none : A) (number : ℕ) (wanted now new : List A) → number < length wanted → AreCopied past none number wanted now → new ≡ set now number (get_or wanted number past)
+pub copied-next : {A : Type 0} (past none : A) (number : ℕ) (wanted now new : List A) → number < length wanted
+    → AreCopied past none number wanted now → new ≡ set now number (get_or wanted number past)
     → AreCopied past none (number + 1) wanted new
 copied-next past none number wanted now new low c e = record {
   size = ap length e ∙ (length-set now number (get_or wanted number past) ∙ c.size);
   done = λ at below. ap (λ xs. get_or xs at past) e ∙ here at below;
   later = λ at above inside.
-      ap (λ xs. get_or xs at past) e ∙ (get_or-set_other now number at (get_or wanted number past) past (λ same. omega arith) ∙ c.later at (omega arith) inside);
+      ap (λ xs. get_or xs at past) e ∙ (get_or-set_other now number at (get_or wanted number past) past
+      (λ same. omega arith) ∙ c.later at (omega arith) inside);
 }
   where
-    here : (at : ℕ) → at < number + 1 → get_or (set now number (get_or wanted number past)) at past ≡ get_or wanted at past
+    here : (at : ℕ) → at < number + 1
+        → get_or (set now number (get_or wanted number past)) at past ≡ get_or wanted at past
     here at below = elim (cases_eq at number) [
       | inl same ↦
-          subst (λ (n : ℕ). get_or (set now number (get_or wanted number past)) n past ≡ get_or wanted n past) (sym same)
+          subst (λ (n : ℕ). get_or (set now number (get_or wanted number past)) n past ≡ get_or wanted n past)
+          (sym same)
           (get_or-set_same now number (get_or wanted number past) past (omega (arith, c.size, low)))
-      | inr apart ↦ get_or-set_other now number at (get_or wanted number past) past apart ∙ c.done at (omega arith)
+      | inr apart ↦
+          get_or-set_other now number at (get_or wanted number past) past apart ∙ c.done at (omega arith)
     ]
 
 -- all entries
-pub copied-all : {A : Type 0} (past none : A) (number : ℕ) (wanted now : List A) → length wanted ≤ number → AreCopied past none number wanted now → now ≡ wanted
-copied-all past none number wanted now all c = ext_get_or past now wanted c.size (λ at low. c.done at (omega (arith, low, c.size, all)))
+pub copied-all : {A : Type 0} (past none : A) (number : ℕ) (wanted now : List A) → length wanted ≤ number
+    → AreCopied past none number wanted now → now ≡ wanted
+copied-all past none number wanted now all c =
+    ext_get_or past now wanted c.size (λ at low. c.done at (omega (arith, low, c.size, all)))
 
 -- ---- where a loop ends
 
 -- all of so many times so many
 pub product-end : (a b c d size number : ℕ) → a ≡ c → b ≡ d → size ≡ c * d → a * b ≤ number → size ≤ number
-product-end a b c d size number e f is all = subst (λ (n : ℕ). n ≤ number) (ap (λ (n : ℕ). n * b) e ∙ (ap (λ (n : ℕ). c * n) f ∙ sym is)) all
+product-end a b c d size number e f is all =
+    subst (λ (n : ℕ). n ≤ number) (ap (λ (n : ℕ). n * b) e ∙ (ap (λ (n : ℕ). c * n) f ∙ sym is)) all
 
 -- blocks of the same rows
 pub same_blocks : (v w : Blocks) → v.rows ≡ w.rows → v.auto ≡ w.auto → v ≡ w
-same_blocks v w rows auto = ap (λ (rs : List Row). record { rows = rs; auto = v.auto }) rows ∙ ap (λ (a : Auto). record { rows = w.rows; auto = a }) auto
+same_blocks v w rows auto =
+    ap (λ (rs : List Row). record { rows = rs; auto = v.auto }) rows
+    ∙ ap (λ (a : Auto). record { rows = w.rows; auto = a }) auto

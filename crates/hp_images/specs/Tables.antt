@@ -10,4 +10,5 @@ pub record AreCopied {A : Type 0} (past none : A) (number : ℕ) (wanted now : L
 -- each list is the one that is wanted, or empty
 pub record ArePartly (wanted now : List (List ℕ)) : Type 0 where
   pub size : length now ≡ length wanted
-  pub each : (at : ℕ) → (slice_index_or now at [] ≡ slice_index_or wanted at []) ⊎ (slice_index_or now at [] ≡ [])
+  pub each : (at : ℕ)
+      → (slice_index_or now at [] ≡ slice_index_or wanted at []) ⊎ (slice_index_or now at [] ≡ [])

@@ -26,24 +26,33 @@ pub record AreParts (s : ScenarioValue) (setup cpus : ℕ) (before after : List 
   pub front : before ≡ take setup s.lines
   pub rest : after ≡ drop setup s.lines
 
-pub parted : (s : ScenarioValue) (setup cpus : ℕ) (lines before after : List Line) → cpus ≡ s.layout.cpus → lines ≡ s.lines → before ≡ take setup lines → after ≡ drop setup lines → AreParts s setup cpus before after
+pub parted : (s : ScenarioValue) (setup cpus : ℕ) (lines before after : List Line) → cpus ≡ s.layout.cpus
+    → lines ≡ s.lines → before ≡ take setup lines → after ≡ drop setup lines
+    → AreParts s setup cpus before after
 parted s setup cpus lines before after processors all front rest =
     record { processors = processors; front = front ∙ ap (take setup) all; rest = rest ∙ ap (drop setup) all }
 
 -- ---- a line that cannot stand in a script
 
-unfit_at : (s : ScenarioValue) (setup cpus : ℕ) (before after : List Line) (place : ℕ) (why : Unfit) → AreParts s setup cpus before after → IsFirstUnfit cpus (length before) after place why → IsUnfitAfter setup place why s
+unfit_at : (s : ScenarioValue) (setup cpus : ℕ) (before after : List Line) (place : ℕ) (why : Unfit)
+    → AreParts s setup cpus before after → IsFirstUnfit cpus (length before) after place why
+    → IsUnfitAfter setup place why s
 unfit_at s setup cpus before after place why parts h =
-    subst (λ (xs : List Line). IsFirstUnfit s.layout.cpus (length (take setup s.lines)) xs place why) parts.rest
+    subst (λ (xs : List Line). IsFirstUnfit s.layout.cpus (length (take setup s.lines)) xs place why)
+    parts.rest
     (subst (λ (xs : List Line). IsFirstUnfit s.layout.cpus (length xs) after place why) parts.front
     (subst (λ (k : ℕ). IsFirstUnfit k (length before) after place why) parts.processors h))
 
-pub unfit_known : (input : List ℕ) (s : ScenarioValue) (setup limit cpus : ℕ) (before after : List Line) (fault : LabFault) → scenario_in input ≡ Ok s → AreParts s setup cpus before after → IsUnfit cpus (length before) after fault → IsFaultOf input setup limit fault
+pub unfit_known : (input : List ℕ) (s : ScenarioValue) (setup limit cpus : ℕ) (before after : List Line)
+    (fault : LabFault)
+    → scenario_in input ≡ Ok s → AreParts s setup cpus before after → IsUnfit cpus (length before) after fault
+    → IsFaultOf input setup limit fault
 unfit_known input s setup limit cpus before after NotJson read parts h = absurd h
 unfit_known input s setup limit cpus before after BadShape read parts h = absurd h
 unfit_known input s setup limit cpus before after (Layout f) read parts h = absurd h
 unfit_known input s setup limit cpus before after (BadLine n) read parts h = absurd h
-unfit_known input s setup limit cpus before after (NotForScript place why) read parts h = (s, read, unfit_at s setup cpus before after place why parts h)
+unfit_known input s setup limit cpus before after (NotForScript place why) read parts h =
+    (s, read, unfit_at s setup cpus before after place why parts h)
 unfit_known input s setup limit cpus before after TooMany read parts h = absurd h
 unfit_known input s setup limit cpus before after HistoryFull read parts h = absurd h
 unfit_known input s setup limit cpus before after OutOfMemory read parts h = tt
@@ -51,48 +60,81 @@ unfit_known input s setup limit cpus before after OutOfMemory read parts h = tt
 -- ---- the search
 
 -- where the ends were counted within the limit, it was not known to be exceeded
-not_too_many : (g : Setting) (ends : List Ending) (limit : ℕ) → AreEnds g ends → sum_by (λ (e : Ending). e.count) ends ≤ limit → IsNotKnownTooMany g.scripts limit
+not_too_many : (g : Setting) (ends : List Ending) (limit : ℕ) → AreEnds g ends
+    → sum_by (λ (e : Ending). e.count) ends ≤ limit → IsNotKnownTooMany g.scripts limit
 not_too_many g ends limit are within =
-    λ many. absurd (omega (arith, within, many.1 (sum_by (λ (e : Ending). e.count) ends) (counted_by_lengths g (sum_by (λ (e : Ending). e.count) ends) many.0 are.total)))
+    λ many. absurd (omega (
+      arith,
+      within,
+      many.1 (sum_by (λ (e : Ending). e.count) ends)
+          (counted_by_lengths g (sum_by (λ (e : Ending). e.count) ends) many.0 are.total),
+    ))
 
 -- a fault in writing the ends is one of the search
-pub written_cause : (g : Setting) (ends : List Ending) (limit : ℕ) (fault : ExploreFault) → AreEnds g ends → sum_by (λ (e : Ending). e.count) ends ≤ limit → IsCallCause g fault → IsCause g limit fault
+pub written_cause : (g : Setting) (ends : List Ending) (limit : ℕ) (fault : ExploreFault) → AreEnds g ends
+    → sum_by (λ (e : Ending). e.count) ends ≤ limit → IsCallCause g fault → IsCause g limit fault
 written_cause g ends limit search.TooMany are within h = absurd h
 written_cause g ends limit search.HistoryFull are within h = (h, not_too_many g ends limit are within)
 written_cause g ends limit search.OutOfMemory are within h = tt
 
-fit_after : (s : ScenarioValue) (setup cpus : ℕ) (before after : List Line) → AreParts s setup cpus before after → AreFit cpus after (length after) → AreFit s.layout.cpus (drop setup s.lines) (length (drop setup s.lines))
+fit_after : (s : ScenarioValue) (setup cpus : ℕ) (before after : List Line)
+    → AreParts s setup cpus before after → AreFit cpus after (length after)
+    → AreFit s.layout.cpus (drop setup s.lines) (length (drop setup s.lines))
 fit_after s setup cpus before after parts h =
-    subst (λ (xs : List Line). AreFit s.layout.cpus xs (length xs)) parts.rest (subst (λ (k : ℕ). AreFit k after (length after)) parts.processors h)
+    subst (λ (xs : List Line). AreFit s.layout.cpus xs (length xs)) parts.rest
+    (subst (λ (k : ℕ). AreFit k after (length after)) parts.processors h)
 
-scripts_are : (s : ScenarioValue) (setup cpus : ℕ) (before after : List Line) (scripts : List (List Step)) → AreParts s setup cpus before after → scripts ≡ scripts_of cpus after → scripts ≡ scripts_of s.layout.cpus (drop setup s.lines)
-scripts_are s setup cpus before after scripts parts h = h ∙ (ap (λ (k : ℕ). scripts_of k after) parts.processors ∙ ap (scripts_of s.layout.cpus) parts.rest)
+scripts_are : (s : ScenarioValue) (setup cpus : ℕ) (before after : List Line) (scripts : List (List Step))
+    → AreParts s setup cpus before after → scripts ≡ scripts_of cpus after
+    → scripts ≡ scripts_of s.layout.cpus (drop setup s.lines)
+scripts_are s setup cpus before after scripts parts h =
+    h ∙ (ap (λ (k : ℕ). scripts_of k after) parts.processors ∙ ap (scripts_of s.layout.cpus) parts.rest)
 
-stopped_after : (s : ScenarioValue) (setup limit cpus : ℕ) (before after : List Line) (scripts : List (List Step)) (fault : ExploreFault) → AreParts s setup cpus before after → AreFit cpus after (length after) → scripts ≡ scripts_of cpus after
+stopped_after : (s : ScenarioValue) (setup limit cpus : ℕ) (before after : List Line)
+    (scripts : List (List Step)) (fault : ExploreFault)
+    → AreParts s setup cpus before after → AreFit cpus after (length after) → scripts ≡ scripts_of cpus after
     → IsStopped s.layout before scripts limit fault → IsStoppedAfter setup limit fault s
 stopped_after s setup limit cpus before after scripts fault parts fit are h = (
   fit_after s setup cpus before after parts fit,
-  subst (λ (xs : List (List Step)). IsStopped s.layout (take setup s.lines) xs limit fault) (scripts_are s setup cpus before after scripts parts are)
+  subst (λ (xs : List (List Step)). IsStopped s.layout (take setup s.lines) xs limit fault)
+      (scripts_are s setup cpus before after scripts parts are)
       (subst (λ (xs : List Line). IsStopped s.layout xs scripts limit fault) parts.front h),
 )
 
-pub stopped_known : (input : List ℕ) (s : ScenarioValue) (setup limit cpus : ℕ) (before after : List Line) (scripts : List (List Step)) (fault : ExploreFault) → scenario_in input ≡ Ok s → AreParts s setup cpus before after → AreFit cpus after (length after)
-    → scripts ≡ scripts_of cpus after → IsUnexplored s.layout before scripts limit fault → IsFaultOf input setup limit (search_fault_from fault)
-stopped_known input s setup limit cpus before after scripts search.TooMany read parts fit are h = (s, read, stopped_after s setup limit cpus before after scripts search.TooMany parts fit are h)
-stopped_known input s setup limit cpus before after scripts search.HistoryFull read parts fit are h = (s, read, stopped_after s setup limit cpus before after scripts search.HistoryFull parts fit are h)
+pub stopped_known : (input : List ℕ) (s : ScenarioValue) (setup limit cpus : ℕ) (before after : List Line)
+    (scripts : List (List Step)) (fault : ExploreFault)
+    → scenario_in input ≡ Ok s → AreParts s setup cpus before after → AreFit cpus after (length after)
+    → scripts ≡ scripts_of cpus after → IsUnexplored s.layout before scripts limit fault
+    → IsFaultOf input setup limit (search_fault_from fault)
+stopped_known input s setup limit cpus before after scripts search.TooMany read parts fit are h =
+    (s, read, stopped_after s setup limit cpus before after scripts search.TooMany parts fit are h)
+stopped_known input s setup limit cpus before after scripts search.HistoryFull read parts fit are h =
+    (s, read, stopped_after s setup limit cpus before after scripts search.HistoryFull parts fit are h)
 stopped_known input s setup limit cpus before after scripts search.OutOfMemory read parts fit are h = tt
 
-pub explored_known : (input : List ℕ) (s : ScenarioValue) (setup limit cpus : ℕ) (before after : List Line) (scripts : List (List Step)) (text : List ℕ) → scenario_in input ≡ Ok s → AreParts s setup cpus before after → AreFit cpus after (length after)
-    → scripts ≡ scripts_of cpus after → IsExploredAfter s.layout s.names before scripts limit text → IsExplorationOf input setup limit text
+pub explored_known : (input : List ℕ) (s : ScenarioValue) (setup limit cpus : ℕ) (before after : List Line)
+    (scripts : List (List Step)) (text : List ℕ)
+    → scenario_in input ≡ Ok s → AreParts s setup cpus before after → AreFit cpus after (length after)
+    → scripts ≡ scripts_of cpus after → IsExploredAfter s.layout s.names before scripts limit text
+    → IsExplorationOf input setup limit text
 explored_known input s setup limit cpus before after scripts text read parts fit are h = record {
   scenario = s;
   read = read;
   fit = fit_after s setup cpus before after parts fit;
-  explored = subst (λ (xs : List (List Step)). IsExploredAfter s.layout s.names (take setup s.lines) xs limit text) (scripts_are s setup cpus before after scripts parts are)
+  explored =
+      subst (λ (xs : List (List Step)). IsExploredAfter s.layout s.names (take setup s.lines) xs limit text)
+      (scripts_are s setup cpus before after scripts parts are)
       (subst (λ (xs : List Line). IsExploredAfter s.layout s.names xs scripts limit text) parts.front h);
 }
 
 -- ---- the number of scripts
 
-pub scripts_fit : (cpus : ℕ) (lines : List Line) (scripts : List (List Step)) → cpus < 2 ^ 32 → scripts ≡ scripts_of cpus lines → length scripts < 2 ^ 32
-scripts_fit cpus lines scripts fits are = omega (arith, fits, ap (λ (xs : List (List Step)). length xs) are, length-map-range_with_len (script_of lines) 0 cpus)
+pub scripts_fit : (cpus : ℕ) (lines : List Line) (scripts : List (List Step)) → cpus < 2 ^ 32
+    → scripts ≡ scripts_of cpus lines → length scripts < 2 ^ 32
+scripts_fit cpus lines scripts fits are =
+    omega (
+      arith,
+      fits,
+      ap (λ (xs : List (List Step)). length xs) are,
+      length-map-range_with_len (script_of lines) 0 cpus,
+    )

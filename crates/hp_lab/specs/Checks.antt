@@ -30,7 +30,8 @@ unfit cpus line = if nat_lt line.cpu cpus then unfit_work line.work else Some Pr
 
 -- the lines below a place can all stand in scripts
 abbrev pub AreFit : (cpus : ℕ) → List Line → (below : ℕ) → Type 0
-AreFit cpus lines below = (k : ℕ) (line : Line) → k < below → slice_get lines k ≡ Some line → unfit cpus line ≡ None
+AreFit cpus lines below =
+    (k : ℕ) (line : Line) → k < below → slice_get lines k ≡ Some line → unfit cpus line ≡ None
 
 -- a line that is counted so cannot stand in a script, and the fault says why
 abbrev pub IsLineFault : (cpus place : ℕ) → Line → LabFault → Type 0

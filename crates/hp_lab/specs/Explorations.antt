@@ -29,28 +29,32 @@ pub record IsExploredOn (names : List (List ℕ)) (g : Setting) (limit : ℕ) (t
   pub is : text ≡ exploration_text names g ends
 
 -- on the machine after lines that were run in order from boot on
-pub record IsExploredAfter (l : LayoutParts) (names : List (List ℕ)) (before : List Line) (scripts : List (List step.Line)) (limit : ℕ) (text : List ℕ) : Type 0 where
+pub record IsExploredAfter (l : LayoutParts) (names : List (List ℕ)) (before : List Line)
+    (scripts : List (List step.Line)) (limit : ℕ) (text : List ℕ) : Type 0 where
   pub start : MachineValue
   pub run : RunsLines (booted l) before start
   pub explored : IsExploredOn names (setting start scripts) limit text
 
--- the bytes are a scenario; its lines after the first so many can all stand in scripts, and the text is that of their exploration
--- after those
+-- the bytes are a scenario; its lines after the first so many can all stand in scripts, and the
+-- text is that of their exploration after those
 pub record IsExplorationOf (input : List ℕ) (setup limit : ℕ) (text : List ℕ) : Type 0 where
   pub scenario : ScenarioValue
   pub read : scenario_in input ≡ Ok scenario
   pub fit : AreFit scenario.layout.cpus (drop setup scenario.lines) (length (drop setup scenario.lines))
-  pub explored : IsExploredAfter scenario.layout scenario.names (take setup scenario.lines) (scripts_of scenario.layout.cpus (drop setup scenario.lines)) limit text
+  pub explored : IsExploredAfter scenario.layout scenario.names (take setup scenario.lines)
+      (scripts_of scenario.layout.cpus (drop setup scenario.lines)) limit text
 
 -- ---- faults
 
 -- the lines before were run, and the search on the machine after them has this fault
-pub record IsStopped (l : LayoutParts) (before : List Line) (scripts : List (List step.Line)) (limit : ℕ) (fault : ExploreFault) : Type 0 where
+pub record IsStopped (l : LayoutParts) (before : List Line) (scripts : List (List step.Line)) (limit : ℕ)
+    (fault : ExploreFault) : Type 0 where
   pub start : MachineValue
   pub run : RunsLines (booted l) before start
   pub cause : IsCause (setting start scripts) limit fault
 
-abbrev pub IsUnexplored : LayoutParts → (before : List Line) → List (List step.Line) → (limit : ℕ) → ExploreFault → Type 0
+abbrev pub IsUnexplored : LayoutParts → (before : List Line) → List (List step.Line) → (limit : ℕ)
+    → ExploreFault → Type 0
 IsUnexplored l before scripts limit search.OutOfMemory = Unit {0}
 IsUnexplored l before scripts limit fault = IsStopped l before scripts limit fault
 
@@ -60,7 +64,8 @@ InScenario input P = (scenario : ScenarioValue) × (scenario_in input ≡ Ok sce
 
 -- a line after the setup cannot stand in a script, and it is the first
 abbrev pub IsUnfitAfter : (setup place : ℕ) → Unfit → ScenarioValue → Type 0
-IsUnfitAfter setup place why s = IsFirstUnfit s.layout.cpus (length (take setup s.lines)) (drop setup s.lines) place why
+IsUnfitAfter setup place why s =
+    IsFirstUnfit s.layout.cpus (length (take setup s.lines)) (drop setup s.lines) place why
 
 -- all of them can, and the search has this fault
 abbrev pub IsStoppedAfter : (setup limit : ℕ) → ExploreFault → ScenarioValue → Type 0

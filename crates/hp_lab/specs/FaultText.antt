@@ -20,7 +20,8 @@ fault_text NotJson = codes "not JSON"
 fault_text BadShape = codes "wrong shape"
 fault_text (Layout fault) = codes "layout fault " ++ layout_fault_text fault
 fault_text (BadLine line) = codes "line " ++ decimal line ++ codes " not understood"
-fault_text (NotForScript line why) = codes "line " ++ decimal line ++ codes " not for a script: " ++ unfit_text why
+fault_text (NotForScript line why) =
+    codes "line " ++ decimal line ++ codes " not for a script: " ++ unfit_text why
 fault_text TooMany = codes "more interleavings than the limit"
 fault_text HistoryFull = codes "no room in the history for all calls of an interleaving"
 fault_text OutOfMemory = codes "out of memory"

@@ -33,10 +33,12 @@ is_out_of_memory end = false
 
 -- a plan was carried out, and no call of it was out of memory
 abbrev pub RunsPlan : MachineValue → (cpu turns : ℕ) → List Item → (new : MachineValue) → Type 0
-RunsPlan m cpu turns plan new = (end : OpEnd) × IsPlanRun m cpu turns plan end new × (is_out_of_memory end ≡ false)
+RunsPlan m cpu turns plan new =
+    (end : OpEnd) × IsPlanRun m cpu turns plan end new × (is_out_of_memory end ≡ false)
 
 -- what a control file was asked for was done; a text that it does not take does nothing
-abbrev pub RunsRequest : MachineValue → (cpu : ℕ) → Result Request ControlFault → (new : MachineValue) → Type 0
+abbrev pub RunsRequest : MachineValue → (cpu : ℕ) → Result Request ControlFault → (new : MachineValue)
+    → Type 0
 RunsRequest m cpu (Ok (request.Event event)) new = RunsEvent m cpu event new
 RunsRequest m cpu (Ok (request.Plan plan)) new = RunsPlan m cpu control_turns plan new
 RunsRequest m cpu (Err fault) new = new ≡ m
@@ -56,4 +58,5 @@ RunsWork m cpu work.Seal new = RunsSeal m new
 -- the lines were run one after another
 abbrev pub RunsLines : MachineValue → List Line → (new : MachineValue) → Type 0
 RunsLines m [] new = new ≡ m
-RunsLines m (line ∷ lines) new = (next : MachineValue) × RunsWork m line.cpu line.work next × RunsLines next lines new
+RunsLines m (line ∷ lines) new =
+    (next : MachineValue) × RunsWork m line.cpu line.work next × RunsLines next lines new

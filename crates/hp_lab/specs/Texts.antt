@@ -58,7 +58,8 @@ first_text names g schedule = played_text names (plays g schedule)
 -- an end: how many interleavings lead to it, the outcome, and the calls of the first
 abbrev pub end_text : (names : List (List ℕ)) → Setting → Ending → List ℕ
 end_text names g e =
-    codes "interleavings: " ++ decimal e.count ++ newline ++ outcome_text g.layout e.outcome ++ codes "first:\n" ++ first_text names g e.first.items
+    codes "interleavings: " ++ decimal e.count ++ newline ++ outcome_text g.layout e.outcome
+    ++ codes "first:\n" ++ first_text names g e.first.items
 
 -- after its number
 abbrev pub heading_text : (number : ℕ) → List ℕ
@@ -70,7 +71,9 @@ numbered_text names g number (Some e) = heading_text number ++ end_text names g 
 
 -- how many interleavings and ends there are
 abbrev pub counts_text : List Ending → List ℕ
-counts_text ends = codes "interleavings: " ++ decimal (sum_by (λ e. e.count) ends) ++ codes "\nends: " ++ decimal (length ends) ++ newline
+counts_text ends =
+    codes "interleavings: " ++ decimal (sum_by (λ e. e.count) ends) ++ codes "\nends: "
+    ++ decimal (length ends) ++ newline
 
 -- the end at a place; ends are counted from 1
 abbrev pub end_at_text : (names : List (List ℕ)) → Setting → List Ending → (place : ℕ) → List ℕ

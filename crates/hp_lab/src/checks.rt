@@ -7,7 +7,8 @@ use hp_control::echo_answer;
 use hp_scenario::{Line, Work};
 use std::alloc::{AllocError, Global};
 
-/// Looks whether all lines can stand in scripts. So many lines stand before them. An error is the first line that cannot.
+/// Looks whether all lines can stand in scripts. So many lines stand before them. An error is the
+/// first line that cannot.
 pub(crate) fn check_lines(
     alloc: Global,
     cpus: u32,

@@ -14,8 +14,8 @@ use hp_units::{Block, Cpu, Layout, Record, Reply, Row, Text};
 use indexmap::IndexSet;
 use std::alloc::{AllocError, Global};
 
-/// Writes how many interleavings and ends there are, and then each end. Owners are written by their names. A fault is that of a
-/// call: the first interleaving of each end is played once more.
+/// Writes how many interleavings and ends there are, and then each end. Owners are written by their
+/// names. A fault is that of a call: the first interleaving of each end is played once more.
 pub(crate) fn write_ends(
     out: &mut String,
     alloc: Global,
@@ -24,7 +24,8 @@ pub(crate) fn write_ends(
     scripts: &[Script],
     ends: &[Ending],
 ) -> Result<(), ExploreFault>
-    ensures ok { OnOk result (string_bytes out.new ≡ string_bytes out.old ++ exploration_text names.now.keys (setting machine.now scripts.now) ends.now) }
+    ensures ok { OnOk result (string_bytes out.new ≡ string_bytes out.old
+        ++ exploration_text names.now.keys (setting machine.now scripts.now) ends.now) }
     ensures err { IfErr result (IsCallCause (setting machine.now scripts.now)) }
 {
     write_counts(out, ends)?;
@@ -62,8 +63,8 @@ fn write_heading(out: &mut String, number: usize) -> Result<(), AllocError>
     writeln!(out, "\nend {number}")
 }
 
-/// Writes how many interleavings lead to an end, what the processors were answered, what became of the memory blocks, and the
-/// calls of the first interleaving.
+/// Writes how many interleavings lead to an end, what the processors were answered, what became of
+/// the memory blocks, and the calls of the first interleaving.
 fn write_end(
     out: &mut String,
     alloc: Global,
@@ -72,7 +73,8 @@ fn write_end(
     scripts: &[Script],
     end: &Ending,
 ) -> Result<(), ExploreFault>
-    ensures ok { OnOk result (string_bytes out.new ≡ string_bytes out.old ++ end_text names.now.keys (setting machine.now scripts.now) end.now) }
+    ensures ok { OnOk result (string_bytes out.new
+        ≡ string_bytes out.old ++ end_text names.now.keys (setting machine.now scripts.now) end.now) }
     ensures err { IfErr result (IsCallCause (setting machine.now scripts.now)) }
 {
     let count = end.count;
@@ -84,7 +86,8 @@ fn write_end(
 
 /// Writes what the processors were answered, and what became of the memory blocks.
 fn write_outcome(out: &mut String, layout: &Layout, outcome: &Outcome) -> Result<(), AllocError>
-    ensures { OnOk result (string_bytes out.new ≡ string_bytes out.old ++ outcome_text layout.now outcome.now) }
+    ensures { OnOk result
+        (string_bytes out.new ≡ string_bytes out.old ++ outcome_text layout.now outcome.now) }
 {
     write_processors(out, layout.cpus(), outcome.replies())?;
     write_blocks(out, layout.blocks(), outcome.blocks())
@@ -102,7 +105,8 @@ fn write_processors(out: &mut String, cpus: u32, replies: &[Answers]) -> Result<
 
 /// Writes a processor's number and what it was answered.
 fn write_answers(out: &mut String, cpu: Cpu, answers: Option<&Answers>) -> Result<(), AllocError>
-    ensures { OnOk result (string_bytes out.new ≡ string_bytes out.old ++ answers_text cpu (option_map (λ a. a.now) answers.entry)) }
+    ensures { OnOk result (string_bytes out.new
+        ≡ string_bytes out.old ++ answers_text cpu (option_map (λ a. a.now) answers.entry)) }
 {
     match answers {
         Some(answers) => {
@@ -115,7 +119,8 @@ fn write_answers(out: &mut String, cpu: Cpu, answers: Option<&Answers>) -> Resul
 
 /// Writes replies without their serials.
 fn write_replies(out: &mut String, replies: &[Reply]) -> Result<(), AllocError>
-    ensures { OnOk result (string_bytes out.new ≡ string_bytes out.old ++ flat_map bare_reply_line replies.now) }
+    ensures { OnOk result
+        (string_bytes out.new ≡ string_bytes out.old ++ flat_map bare_reply_line replies.now) }
 {
     for reply in replies {
         write_reply(out, *reply)?;
@@ -152,7 +157,8 @@ fn write_first(
     scripts: &[Script],
     schedule: &[Cpu],
 ) -> Result<(), ExploreFault>
-    ensures ok { OnOk result (string_bytes out.new ≡ string_bytes out.old ++ first_text names.now.keys (setting machine.now scripts.now) schedule.now) }
+    ensures ok { OnOk result (string_bytes out.new
+        ≡ string_bytes out.old ++ first_text names.now.keys (setting machine.now scripts.now) schedule.now) }
     ensures err { IfErr result (IsCallCause (setting machine.now scripts.now)) }
 {
     if let Some(played) = play(alloc, machine, scripts, schedule)? {
@@ -164,7 +170,8 @@ fn write_first(
 
 /// Writes calls as texts of a scenario's `calls`, one a line, with a comma between two.
 fn write_calls(out: &mut String, names: &IndexSet<Text>, calls: &[Record]) -> Result<(), AllocError>
-    ensures { OnOk result (string_bytes out.new ≡ string_bytes out.old ++ calls_text names.now.keys calls.now) }
+    ensures { OnOk result
+        (string_bytes out.new ≡ string_bytes out.old ++ calls_text names.now.keys calls.now) }
 {
     match calls {
         [call, rest @ ..] => {
@@ -189,7 +196,8 @@ fn write_quoted(
     call: &Record,
     end: &str,
 ) -> Result<(), AllocError>
-    ensures { OnOk result (string_bytes out.new ≡ string_bytes out.old ++ quoted names.now.keys call.now ++ end.now) }
+    ensures { OnOk result
+        (string_bytes out.new ≡ string_bytes out.old ++ quoted names.now.keys call.now ++ end.now) }
 {
     out.push_str("\"")?;
     write_call(out, names, call.cpu, &call.event)?;

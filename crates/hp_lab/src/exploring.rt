@@ -16,16 +16,18 @@ use hp_units::{Layout, Text};
 use indexmap::IndexSet;
 use std::alloc::Global;
 
-/// The text of an exploration of the scenario that the bytes are. The first `setup` lines are run in order; each later line goes
-/// to the script of its processor, where 0 for the number of an operation stands for the one that this processor began last. All
-/// interleavings of the scripts' calls are counted, at most `limit` of them. The text says how many there are, and for each
-/// different end how many lead to it, what the processors were answered, what became of the memory blocks, and the calls of the
-/// first that leads to it (own rule).
+/// The text of an exploration of the scenario that the bytes are. The first `setup` lines are run
+/// in order; each later line goes to the script of its processor, where 0 for the number of an
+/// operation stands for the one that this processor began last. All interleavings of the scripts'
+/// calls are counted, at most `limit` of them. The text says how many there are, and for each
+/// different end how many lead to it, what the processors were answered, what became of the memory
+/// blocks, and the calls of the first that leads to it (own rule).
 ///
 /// The watch is told while the search runs how many interleavings are counted so far.
 ///
-/// Errors: those of reading the scenario; NotForScript with the first line after the setup that cannot stand in a script;
-/// TooMany, HistoryFull; OutOfMemory, which may come in place of any answer.
+/// Errors: those of reading the scenario; NotForScript with the first line after the setup that
+/// cannot stand in a script; TooMany, HistoryFull; OutOfMemory, which may come in place of any
+/// answer.
 pub fn explore_text<W: Watch>(
     alloc: Global,
     input: &[u8],
@@ -88,7 +90,8 @@ fn explored_after<W: Watch>(
     watch: &mut W,
 ) -> Result<String, ExploreFault>
     requires { length scripts.now < 2 ^ 32 }
-    ensures ok { IfOk result (λ out. IsExploredAfter layout.now names.now.keys before.now scripts.now limit (string_bytes out)) }
+    ensures ok { IfOk result
+        (λ out. IsExploredAfter layout.now names.now.keys before.now scripts.now limit (string_bytes out)) }
     ensures err { IfErr result (IsUnexplored layout.now before.now scripts.now limit) }
 {
     let mut machine = Machine::boot(alloc, layout)?;
@@ -106,7 +109,8 @@ fn explored_on<W: Watch>(
     watch: &mut W,
 ) -> Result<String, ExploreFault>
     requires { length scripts.now < 2 ^ 32 }
-    ensures ok { IfOk result (λ out. IsExploredOn names.now.keys (setting machine.now scripts.now) limit (string_bytes out)) }
+    ensures ok { IfOk result
+        (λ out. IsExploredOn names.now.keys (setting machine.now scripts.now) limit (string_bytes out)) }
     ensures err { IfErr result (IsCause (setting machine.now scripts.now) limit) }
 {
     let ends = explore(alloc, machine, scripts, limit, watch)?;

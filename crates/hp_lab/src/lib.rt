@@ -1,10 +1,12 @@
 //! The laboratory: what a scenario does in every interleaving of its processors' calls, as text.
 //!
-//! The first lines of a scenario are its setup, run in order on one machine as `hotplug serial` does; each later line goes to the
-//! script of its processor. hp_explore counts every interleaving of the scripts, and this crate writes how many there are, and each
-//! different end with the first interleaving that leads to it. It owns that text and the faults; it opens no file and no stream.
+//! The first lines of a scenario are its setup, run in order on one machine as `hotplug serial`
+//! does; each later line goes to the script of its processor. hp_explore counts every interleaving
+//! of the scripts, and this crate writes how many there are, and each different end with the first
+//! interleaving that leads to it. It owns that text and the faults; it opens no file and no stream.
 //!
-//! Read specs/Explorations first: what `explore_text` promises. Then specs/Scripts, specs/Setup and specs/Texts.
+//! Read specs/Explorations first: what `explore_text` promises. Then specs/Scripts, specs/Setup and
+//! specs/Texts.
 #![tactic(auto)]
 
 mod checks;

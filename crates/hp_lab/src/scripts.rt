@@ -8,7 +8,8 @@ use hp_scenario::{Line, Work};
 use hp_units::{Cpu, Event, Plan, Serial};
 use std::alloc::{AllocError, Global};
 
-/// The script of each processor, from 0 on. A line that cannot stand in a script is left out. An error is out of memory.
+/// The script of each processor, from 0 on. A line that cannot stand in a script is left out. An
+/// error is out of memory.
 pub(crate) fn scripts_of(
     alloc: Global,
     cpus: u32,
@@ -75,7 +76,8 @@ fn requested(alloc: Global, request: &Request) -> Result<Step, AllocError>
     }
 }
 
-/// An event as a step. Where it works on operation 0, that is the one that the processor began last. An error is out of memory.
+/// An event as a step. Where it works on operation 0, that is the one that the processor began
+/// last. An error is out of memory.
 fn asked(alloc: Global, event: &Event) -> Result<Step, AllocError>
     ensures { IfOk result (λ step. step ≡ asked event.now) }
 {

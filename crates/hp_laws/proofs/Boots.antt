@@ -29,25 +29,41 @@ use Rattle.hp_laws.proofs.Onlines.{online_block-placed}
 -- ---- nothing is anywhere in an empty memory
 
 same_everywhere : {X : Type 0} (n i : ℕ) (d : X) → get_or (replicate n d) i d ≡ d
-same_everywhere n i d = elim (cases_lt i n) [ inl low ↦ get_or-replicate n i d d low | inr high ↦ get_or_past (replicate n d) i d (omega (arith, length-replicate n d)) ]
+same_everywhere n i d =
+    elim (cases_lt i n) [
+      | inl low ↦ get_or-replicate n i d d low
+      | inr high ↦ get_or_past (replicate n d) i d (omega (arith, length-replicate n d))
+    ]
 
 no_free : (frame number n : ℕ) → places_from frame number (replicate n []) ≡ 0
 no_free frame number zero = refl
 no_free frame number (suc n) = omega (arith, no_free frame (number + 1) n)
 
-no_kernel : (frame from n : ℕ) → sum_by (λ (e : ℕ × Option ℕ). kernel_covered frame e.0 e.1) (enumerate_from from (replicate n None)) ≡ 0
+no_kernel : (frame from n : ℕ)
+    → sum_by (λ (e : ℕ × Option ℕ). kernel_covered frame e.0 e.1) (enumerate_from from (replicate n None)) ≡ 0
 no_kernel frame from zero = refl
 no_kernel frame from (suc n) =
-    omega (arith, sum_by-cons (λ (e : ℕ × Option ℕ). kernel_covered frame e.0 e.1) (from, None) (enumerate_from (from + 1) (replicate n None)), no_kernel frame (from + 1) n)
+    omega (
+      arith,
+      sum_by-cons (λ (e : ℕ × Option ℕ). kernel_covered frame e.0 e.1) (from, None)
+          (enumerate_from (from + 1) (replicate n None)),
+      no_kernel frame (from + 1) n,
+    )
 
 all_same : {X : Type 0} (P : X → Type 0) (n : ℕ) (x : X) → P x → AllByRecursion P (replicate n x)
 all_same P zero x h = tt
 all_same P (suc n) x h = (h, all_same P n x h)
 
-no_entry : (A : Type 0) (none : Option A) (owners pages owner page : ℕ) → none ≡ None → get_or (get_or (replicate owners (replicate pages none)) owner []) page none ≡ None
+no_entry : (A : Type 0) (none : Option A) (owners pages owner page : ℕ) → none ≡ None
+    → get_or (get_or (replicate owners (replicate pages none)) owner []) page none ≡ None
 no_entry A none owners pages owner page e = elim (cases_lt owner owners) [
-  | inl low ↦ subst (λ (row : List (Option A)). get_or row page none ≡ None) (sym (get_or-replicate owners owner (replicate pages none) [] low)) (same_everywhere pages page none ∙ e)
-  | inr high ↦ subst (λ (row : List (Option A)). get_or row page none ≡ None) (sym (get_or_past (replicate owners (replicate pages none)) owner [] (omega (arith, length-replicate owners (replicate pages none))))) e
+  | inl low ↦
+      subst (λ (row : List (Option A)). get_or row page none ≡ None) (sym
+      (get_or-replicate owners owner (replicate pages none) [] low)) (same_everywhere pages page none ∙ e)
+  | inr high ↦
+      subst (λ (row : List (Option A)). get_or row page none ≡ None) (sym (get_or_past
+      (replicate owners (replicate pages none)) owner []
+      (omega (arith, length-replicate owners (replicate pages none))))) e
 ]
 
 off_none : (frame : ℕ) (frames : List ℕ) → frames ≡ [] → is_on frame frames ≡ true → ⊥
@@ -74,19 +90,36 @@ empty-placed l = record {
       kernel = length-replicate (frame_count l) None;
       rows = length-replicate l.blocks offline_row;
     };
-    blocks = λ class order first on. absurd (off_none first _ (same_everywhere (5 * (l.order + 1)) (5 * order + class_index class) []) on);
-    joined = λ class order first below on. absurd (off_none first _ (same_everywhere (5 * (l.order + 1)) (5 * order + class_index class) []) on);
-    cached = λ cpu pool frame on. absurd (off_none frame _ (same_everywhere (3 * l.cpus) (3 * cpu + pool_index pool) []) on);
-    kernel = λ first. subst (λ (o : Option ℕ). IfSome o (IsKernelAt l (replicate l.blocks offline_row) first)) (sym (same_everywhere (frame_count l) first None)) tt;
-    mobility = λ pageblock unmovable. absurd (plain_movable _ (same_everywhere (pageblock_count l) pageblock plain_kind) unmovable);
-    isolated = λ pageblock. ap (λ (k : Kind). k.isolated) (same_everywhere (pageblock_count l) pageblock plain_kind)
+    blocks =
+        λ class order first on.
+        absurd (off_none first _ (same_everywhere (5 * (l.order + 1)) (5 * order + class_index class) []) on);
+    joined =
+        λ class order first below on.
+        absurd (off_none first _ (same_everywhere (5 * (l.order + 1)) (5 * order + class_index class) []) on);
+    cached =
+        λ cpu pool frame on.
+        absurd (off_none frame _ (same_everywhere (3 * l.cpus) (3 * cpu + pool_index pool) []) on);
+    kernel =
+        λ first. subst (λ (o : Option ℕ). IfSome o (IsKernelAt l (replicate l.blocks offline_row) first))
+        (sym (same_everywhere (frame_count l) first None)) tt;
+    mobility =
+        λ pageblock unmovable.
+        absurd (plain_movable _ (same_everywhere (pageblock_count l) pageblock plain_kind) unmovable);
+    isolated =
+        λ pageblock. ap (λ (k : Kind). k.isolated) (same_everywhere (pageblock_count l) pageblock plain_kind)
         ∙ sym (ap is_going (same_everywhere l.blocks (block_of_pageblock l pageblock) offline_row));
-    rows = λ block. subst (λ (r : Row). IsRow r) (sym (same_everywhere l.blocks block offline_row)) (refl, refl);
-    words = λ owner page. subst (λ (f : Option ℕ). IsPage l f (words_at (empty_memory l).pages owner page)) (sym (no_entry ℕ None l.owners l.pages owner page refl))
-        (subst (λ (w : Option (List ℕ)). IsPage l None w) (sym (no_entry (List ℕ) None l.owners l.pages owner page refl)) tt);
+    rows =
+        λ block. subst (λ (r : Row). IsRow r) (sym (same_everywhere l.blocks block offline_row)) (refl, refl);
+    words =
+        λ owner page. subst (λ (f : Option ℕ). IsPage l f (words_at (empty_memory l).pages owner page))
+        (sym (no_entry ℕ None l.owners l.pages owner page refl))
+        (subst (λ (w : Option (List ℕ)). IsPage l None w)
+        (sym (no_entry (List ℕ) None l.owners l.pages owner page refl)) tt);
   };
   once = λ frame.
-      let offline : offline_places l (empty_memory l) frame ≡ 1 = ap (λ (r : Row). cond (is_unplugged r) 1 0) (same_everywhere l.blocks (block_of l frame) offline_row) in
+      let offline : offline_places l (empty_memory l) frame ≡ 1 =
+      ap (λ (r : Row). cond (is_unplugged r) 1 0)
+      (same_everywhere l.blocks (block_of l frame) offline_row) in
       let free : free_places (empty_memory l).free.areas frame ≡ 0 = no_free frame 0 (5 * (l.order + 1)) in
       let cached : cached_places (empty_memory l).free frame ≡ 0 = cached_none frame (3 * l.cpus) in
       let mapped : mapped_places (empty_memory l).pages frame ≡ 0 = mapped_none frame l.owners l.pages in
@@ -94,17 +127,23 @@ empty-placed l = record {
       omega arith;
 }
   where
-    cached_none : (frame n : ℕ) → sum_by (λ (frames : List ℕ). count_by (λ other. other == frame) frames) (replicate n []) ≡ 0
-    cached_none frame n = omega (arith, sum_by-replicate (λ (frames : List ℕ). count_by (λ other. other == frame) frames) n [])
+    cached_none : (frame n : ℕ)
+        → sum_by (λ (frames : List ℕ). count_by (λ other. other == frame) frames) (replicate n []) ≡ 0
+    cached_none frame n =
+        omega (arith, sum_by-replicate (λ (frames : List ℕ). count_by (λ other. other == frame) frames) n [])
 
     row_none : (frame n : ℕ) → count_by (holds frame) (replicate n None) ≡ 0
     row_none frame n = omega (arith, sum_by-replicate (λ (e : Option ℕ). cond (holds frame e) 1 0) n None)
 
-    mapped_none : (frame owners pages : ℕ) → sum_by (λ (row : List (Option ℕ)). count_by (holds frame) row) (replicate owners (replicate pages None)) ≡ 0
+    mapped_none : (frame owners pages : ℕ)
+        → sum_by (λ (row : List (Option ℕ)). count_by (holds frame) row)
+        (replicate owners (replicate pages None)) ≡ 0
     mapped_none frame owners pages =
         let none : count_by (holds frame) (replicate pages None) ≡ 0 = row_none frame pages in
-        let all : sum_by (λ (row : List (Option ℕ)). count_by (holds frame) row) (replicate owners (replicate pages None)) ≡ owners * 0 =
-        sum_by-replicate (λ (row : List (Option ℕ)). count_by (holds frame) row) owners (replicate pages None) ∙ ap (λ (n : ℕ). owners * n) none in
+        let all : sum_by (λ (row : List (Option ℕ)). count_by (holds frame) row)
+        (replicate owners (replicate pages None)) ≡ owners * 0 =
+        sum_by-replicate (λ (row : List (Option ℕ)). count_by (holds frame) row) owners (replicate pages None)
+        ∙ ap (λ (n : ℕ). owners * n) none in
         omega arith
 
 -- ---- each block becomes what the layout says
@@ -114,34 +153,48 @@ record BootsOn (l : LayoutParts) (from : ℕ) (s : Memory) : Type 0 where
   pub placed : IsWellPlaced l s
   pub later : (block : ℕ) → from ≤ block → row_of s.blocks block ≡ offline_row
 
-later_rows : (rows : List Row) (from : ℕ) (row : Row) → ((block : ℕ) → from ≤ block → get_or rows block offline_row ≡ offline_row)
+later_rows : (rows : List Row) (from : ℕ) (row : Row)
+    → ((block : ℕ) → from ≤ block → get_or rows block offline_row ≡ offline_row)
     → (block : ℕ) → from + 1 ≤ block → get_or (set rows from row) block offline_row ≡ offline_row
-later_rows rows from row h block above = get_or-set_other rows from block row offline_row (λ same. absurd (omega arith)) ∙ h block (omega arith)
+later_rows rows from row h block above =
+    get_or-set_other rows from block row offline_row (λ same. absurd (omega arith)) ∙ h block (omega arith)
 
-boot_block-placed : (l : LayoutParts) (s : Memory) (block : ℕ) (boot : Boot) → IsLayout l → block < l.blocks → BootsOn l block s → BootsOn l (block + 1) (boot_block l s block boot)
+boot_block-placed : (l : LayoutParts) (s : Memory) (block : ℕ) (boot : Boot) → IsLayout l → block < l.blocks
+    → BootsOn l block s → BootsOn l (block + 1) (boot_block l s block boot)
 unfolding online_block
-boot_block-placed l s block OfflineBoot layout low h = record { placed = h.placed; later = λ other above. h.later other (omega arith) }
+boot_block-placed l s block OfflineBoot layout low h =
+    record { placed = h.placed; later = λ other above. h.later other (omega arith) }
 boot_block-placed l s block NormalBoot layout low h = record {
-  placed = online_block-placed l NormalZone s block layout h.placed (ap is_unplugged (h.later block (omega arith))) low;
+  placed =
+      online_block-placed l NormalZone s block layout h.placed (ap is_unplugged (h.later block (omega arith)))
+      low;
   later = later_rows s.blocks.rows block _ h.later;
 }
 boot_block-placed l s block MovableBoot layout low h = record {
-  placed = online_block-placed l MovableZone s block layout h.placed (ap is_unplugged (h.later block (omega arith))) low;
+  placed =
+      online_block-placed l MovableZone s block layout h.placed
+      (ap is_unplugged (h.later block (omega arith)))
+      low;
   later = later_rows s.blocks.rows block _ h.later;
 }
 boot_block-placed l s block AbsentBoot layout low h = record {
-  placed = unplugged-placed l s block (record offline_row { state = AbsentState }) h.placed (ap is_unplugged (h.later block (omega arith))) low (refl, refl) refl refl;
+  placed =
+      unplugged-placed l s block (record offline_row { state = AbsentState }) h.placed
+      (ap is_unplugged (h.later block (omega arith))) low (refl, refl) refl refl;
   later = later_rows s.blocks.rows block _ h.later;
 }
 
-boots-placed : (l : LayoutParts) (s : Memory) (from : ℕ) (boots : List Boot) → IsLayout l → from + length boots ≤ l.blocks → BootsOn l from s
+boots-placed : (l : LayoutParts) (s : Memory) (from : ℕ) (boots : List Boot) → IsLayout l
+    → from + length boots ≤ l.blocks → BootsOn l from s
     → IsWellPlaced l (fold (λ t entry. boot_block l t entry.0 entry.1) s (enumerate_from from boots))
 boots-placed l s from [] layout low h = h.placed
 boots-placed l s from (boot ∷ boots) layout low h =
-    boots-placed l (boot_block l s from boot) (from + 1) boots layout (omega arith) (boot_block-placed l s from boot layout (omega arith) h)
+    boots-placed l (boot_block l s from boot) (from + 1) boots layout (omega arith)
+    (boot_block-placed l s from boot layout (omega arith) h)
 
 -- the state that a machine starts in is well placed
 pub boot-placed : (l : LayoutParts) → IsLayout l → IsWellPlaced l (boot_memory l)
 unfolding boot_memory
 boot-placed l layout =
-    boots-placed l (empty_memory l) 0 l.boot layout (omega (arith, layout.boot)) (record { placed = empty-placed l; later = λ block above. same_everywhere l.blocks block offline_row })
+    boots-placed l (empty_memory l) 0 l.boot layout (omega (arith, layout.boot))
+    (record { placed = empty-placed l; later = λ block above. same_everywhere l.blocks block offline_row })

@@ -45,7 +45,8 @@ pub record HasOn (frame order : ℕ) (frames : List ℕ) : Type 0 where
   pub within : IsFrameOf frame order first
 
 -- a list with a place for a frame has a block with it
-pub list_some : (frame order : ℕ) (frames : List ℕ) → 1 ≤ list_places frame order frames → HasOn frame order frames
+pub list_some : (frame order : ℕ) (frames : List ℕ) → 1 ≤ list_places frame order frames
+    → HasOn frame order frames
 list_some frame order [] some = absurd (omega arith)
 list_some frame order (x ∷ xs) some = elim (cases_lt (covered frame order x) 1) [
   | inl none ↦
@@ -55,10 +56,16 @@ list_some frame order (x ∷ xs) some = elim (cases_lt (covered frame order x) 1
 ]
 
 -- and a list that has a block with a frame has a place for it
-pub some_list : (frame order first : ℕ) (frames : List ℕ) → is_on first frames ≡ true → IsFrameOf frame order first → 1 ≤ list_places frame order frames
+pub some_list : (frame order first : ℕ) (frames : List ℕ) → is_on first frames ≡ true
+    → IsFrameOf frame order first → 1 ≤ list_places frame order frames
 some_list frame order first [] on h = cc
 some_list frame order first (x ∷ xs) on h = elim (on_cases first x xs on) [
-  | inl same ↦ omega (arith, list_places-cons frame order x xs, subst (λ (n : ℕ). covered frame order n ≡ 1) (sym same) (in_covered frame order first h))
+  | inl same ↦
+      omega (
+        arith,
+        list_places-cons frame order x xs,
+        subst (λ (n : ℕ). covered frame order n ≡ 1) (sym same) (in_covered frame order first h),
+      )
   | inr there ↦ omega (arith, list_places-cons frame order x xs, some_list frame order first xs there h)
 ]
 
@@ -69,16 +76,25 @@ record HasList (frame number : ℕ) (lists : List (List ℕ)) : Type 0 where
   pub some : 1 ≤ list_places frame ((number + at) / 5) (get_or lists at [])
 
 -- one of several lists has the frame
-places_some : (frame number : ℕ) (lists : List (List ℕ)) → 1 ≤ places_from frame number lists → HasList frame number lists
+places_some : (frame number : ℕ) (lists : List (List ℕ)) → 1 ≤ places_from frame number lists
+    → HasList frame number lists
 places_some frame number [] some = absurd (omega arith)
 places_some frame number (frames ∷ lists) some = elim (cases_lt (list_places frame (number / 5) frames) 1) [
   | inl none ↦
       let rest = places_some frame (number + 1) lists (omega arith) in
       let sum : number + 1 + rest.at ≡ number + suc rest.at = omega arith in
-      record { at = suc rest.at; low = omega (arith, rest.low); some = subst (λ (n : ℕ). 1 ≤ list_places frame (n / 5) (get_or lists rest.at [])) sum rest.some }
+      record {
+        at = suc rest.at;
+        low = omega (arith, rest.low);
+        some = subst (λ (n : ℕ). 1 ≤ list_places frame (n / 5) (get_or lists rest.at [])) sum rest.some;
+      }
   | inr here ↦
       let sum : number ≡ number + 0 = omega arith in
-      record { at = 0; low = omega arith; some = subst (λ (n : ℕ). 1 ≤ list_places frame (n / 5) frames) sum here }
+      record {
+        at = 0;
+        low = omega arith;
+        some = subst (λ (n : ℕ). 1 ≤ list_places frame (n / 5) frames) sum here;
+      }
 ]
 
 -- the class of a number
@@ -98,7 +114,9 @@ free_block a frame some =
     let order : ℕ = list.at / 5 in
     let start : 0 + list.at ≡ list.at = omega arith in
     let number : 5 * order + class_index class.0 ≡ list.at = omega (arith, class.1) in
-    let found = list_some frame order (get_or a.lists list.at []) (subst (λ (n : ℕ). 1 ≤ list_places frame (n / 5) (get_or a.lists list.at [])) start list.some) in
+    let found =
+    list_some frame order (get_or a.lists list.at [])
+    (subst (λ (n : ℕ). 1 ≤ list_places frame (n / 5) (get_or a.lists list.at [])) start list.some) in
     record {
       class = class.0;
       order = order;
@@ -108,45 +126,63 @@ free_block a frame some =
     }
 
 -- a frame that a free block has is in a free place
-pub block_free : (l : LayoutParts) (class_at : ℕ → Option Class) (a : FreeAreas) (frame : ℕ) → AreOrdered l class_at a → IsInFreeBlock a frame → 1 ≤ free_places a frame
+pub block_free : (l : LayoutParts) (class_at : ℕ → Option Class) (a : FreeAreas) (frame : ℕ)
+    → AreOrdered l class_at a → IsInFreeBlock a frame → 1 ≤ free_places a frame
 block_free l class_at a frame h b =
     let here = on_free l class_at a b.class b.order b.first h b.on in
-    omega (arith, some_list frame b.order b.first (free_list a b.class b.order) b.on b.within, list_places-le a b.class b.order frame (has_order l class_at a b.order h here.low))
+    omega (
+      arith,
+      some_list frame b.order b.first (free_list a b.class b.order) b.on b.within,
+      list_places-le a b.class b.order frame (has_order l class_at a b.order h here.low),
+    )
 
 -- a frame is in two places if blocks on two lists have it
-pub two_lists : (a : FreeAreas) (class : Class) (order : ℕ) (c : Class) (o frame : ℕ) → HasOrder a order → HasOrder a o → order ≢ o
-    → list_places frame order (free_list a class order) + list_places frame o (free_list a c o) ≤ free_places a frame
+pub two_lists : (a : FreeAreas) (class : Class) (order : ℕ) (c : Class) (o frame : ℕ) → HasOrder a order
+    → HasOrder a o → order ≢ o
+    → list_places frame order (free_list a class order) + list_places frame o (free_list a c o)
+    ≤ free_places a frame
 two_lists a class order c o frame has has_o ne =
     let low : class_index class < 5 = class_index-lt class in
     let lower : class_index c < 5 = class_index-lt c in
     let b : FreeAreas = with_free_list a class order [] in
-    let other : free_list b c o ≡ free_list a c o = free_list-apart a class order [] c o (λ same. ne (omega arith)) in
+    let other : free_list b c o ≡ free_list a c o =
+    free_list-apart a class order [] c o (λ same. ne (omega arith)) in
     let has_b : HasOrder b o = has_set a class order o has_o in
-    omega (arith, with_free_list-places a class order frame [] has, subst (λ (xs : List ℕ). list_places frame o xs ≤ free_places b frame) other (list_places-le b c o frame has_b))
+    omega (
+      arith,
+      with_free_list-places a class order frame [] has,
+      subst (λ (xs : List ℕ).
+          list_places frame o xs ≤ free_places b frame) other (list_places-le b c o frame has_b),
+    )
   where
-    has_set : (a : FreeAreas) (class : Class) (order o : ℕ) → HasOrder a o → HasOrder (with_free_list a class order []) o
+    has_set : (a : FreeAreas) (class : Class) (order o : ℕ) → HasOrder a o
+        → HasOrder (with_free_list a class order []) o
     has_set a class order o h = omega (arith, (with_free_list-size a class order []).lists)
 
 -- ---- aligned blocks
 
 -- an aligned block has the frames of one number
-pub in_number : (frame order first : ℕ) → first % 2 ^ order ≡ 0 → IsFrameOf frame order first → frame / 2 ^ order ≡ first / 2 ^ order
+pub in_number : (frame order first : ℕ) → first % 2 ^ order ≡ 0 → IsFrameOf frame order first
+    → frame / 2 ^ order ≡ first / 2 ^ order
 in_number frame order first aligned h =
     let is : first ≡ first / 2 ^ order * 2 ^ order = multiple first order aligned in
     quotient frame (2 ^ order) (first / 2 ^ order) (omega (arith, h.low)) (omega (arith, h.high))
 
 -- and the frames of one number are in the block
-pub number_in : (frame order first : ℕ) → first % 2 ^ order ≡ 0 → frame / 2 ^ order ≡ first / 2 ^ order → IsFrameOf frame order first
+pub number_in : (frame order first : ℕ) → first % 2 ^ order ≡ 0 → frame / 2 ^ order ≡ first / 2 ^ order
+    → IsFrameOf frame order first
 number_in frame order first aligned same =
     let is : first ≡ first / 2 ^ order * 2 ^ order = multiple first order aligned in
     let some : 0 < 2 ^ order = pow_pos order in
     let high : frame < frame / 2 ^ order * 2 ^ order + 2 ^ order = lt-div-mul-add some in
     let low : frame / 2 ^ order * 2 ^ order ≤ frame = omega (arith, div-add-mod' frame (2 ^ order)) in
-    let both : frame / 2 ^ order * 2 ^ order ≡ first / 2 ^ order * 2 ^ order = ap (λ (n : ℕ). n * 2 ^ order) same in
+    let both : frame / 2 ^ order * 2 ^ order ≡ first / 2 ^ order * 2 ^ order =
+    ap (λ (n : ℕ). n * 2 ^ order) same in
     record { low = omega arith; high = omega arith }
 
 -- two aligned blocks of one order, of which one has the other's first frame, are one
-pub in_aligned : (frame order first : ℕ) → frame % 2 ^ order ≡ 0 → first % 2 ^ order ≡ 0 → IsFrameOf frame order first → first ≡ frame
+pub in_aligned : (frame order first : ℕ) → frame % 2 ^ order ≡ 0 → first % 2 ^ order ≡ 0
+    → IsFrameOf frame order first → first ≡ frame
 in_aligned frame order first even aligned h =
     let same = in_number frame order first aligned h in
     multiple first order aligned ∙ ap (λ (n : ℕ). n * 2 ^ order) (sym same) ∙ sym (multiple frame order even)
@@ -155,13 +191,22 @@ in_aligned frame order first even aligned h =
 pub buddy_aligned : (first order : ℕ) → first % 2 ^ order ≡ 0 → buddy first order % 2 ^ order ≡ 0
 buddy_aligned first order aligned = elim (cases_eq (first / 2 ^ order % 2) 0) [
   | inl even ↦
-      let is : first ≡ first / 2 ^ order / 2 * 2 * 2 ^ order = multiple first order aligned ∙ ap (λ (n : ℕ). n * 2 ^ order) (half_even (first / 2 ^ order) even) in
-      let next : first / 2 ^ order / 2 * 2 * 2 ^ order + 2 ^ order ≡ (first / 2 ^ order / 2 * 2 + 1) * 2 ^ order = grind arith in
-      subst (λ (n : ℕ). buddy n order % 2 ^ order ≡ 0) (sym is) (rw (buddy_even, next) (multiple_aligned (first / 2 ^ order / 2 * 2 + 1) order))
+      let is : first ≡ first / 2 ^ order / 2 * 2 * 2 ^ order =
+      multiple first order aligned ∙ ap (λ (n : ℕ). n * 2 ^ order) (half_even (first / 2 ^ order) even) in
+      let next : first / 2 ^ order / 2 * 2 * 2 ^ order + 2 ^ order
+      ≡ (first / 2 ^ order / 2 * 2 + 1) * 2 ^ order =
+      grind arith in
+      subst (λ (n : ℕ). buddy n order % 2 ^ order ≡ 0) (sym is)
+      (rw (buddy_even, next) (multiple_aligned (first / 2 ^ order / 2 * 2 + 1) order))
   | inr odd ↦
-      let next : (first / 2 ^ order / 2 * 2 + 1) * 2 ^ order ≡ first / 2 ^ order / 2 * 2 * 2 ^ order + 2 ^ order = grind arith in
-      let is : first ≡ first / 2 ^ order / 2 * 2 * 2 ^ order + 2 ^ order = multiple first order aligned ∙ ap (λ (n : ℕ). n * 2 ^ order) (half_odd (first / 2 ^ order) odd) ∙ next in
-      subst (λ (n : ℕ). buddy n order % 2 ^ order ≡ 0) (sym is) (rw buddy_odd (multiple_aligned (first / 2 ^ order / 2 * 2) order))
+      let next : (first / 2 ^ order / 2 * 2 + 1) * 2 ^ order
+      ≡ first / 2 ^ order / 2 * 2 * 2 ^ order + 2 ^ order =
+      grind arith in
+      let is : first ≡ first / 2 ^ order / 2 * 2 * 2 ^ order + 2 ^ order =
+      multiple first order aligned ∙ ap (λ (n : ℕ). n * 2 ^ order) (half_odd (first / 2 ^ order) odd)
+      ∙ next in
+      subst (λ (n : ℕ). buddy n order % 2 ^ order ≡ 0) (sym is)
+      (rw buddy_odd (multiple_aligned (first / 2 ^ order / 2 * 2) order))
 ]
   where
     half_even : (q : ℕ) → q % 2 ≡ 0 → q ≡ q / 2 * 2
@@ -173,8 +218,10 @@ buddy_aligned first order aligned = elim (cases_eq (first / 2 ^ order % 2) 0) [
 -- ---- pageblocks all of whose frames are free
 
 -- a free block whose buddy is all free, in blocks no smaller, would have been joined with it
-unjoined : (l : LayoutParts) (class_at : ℕ → Option Class) (a : FreeAreas) (class : Class) (order first : ℕ) → AreOrdered l class_at a → order < l.order
-    → is_on first (free_list a class order) ≡ true → (other : IsInFreeBlock a (buddy first order)) → pageblock_of l other.first ≡ pageblock_of l first → order ≤ other.order → ⊥
+unjoined : (l : LayoutParts) (class_at : ℕ → Option Class) (a : FreeAreas) (class : Class) (order first : ℕ)
+    → AreOrdered l class_at a → order < l.order
+    → is_on first (free_list a class order) ≡ true → (other : IsInFreeBlock a (buddy first order))
+    → pageblock_of l other.first ≡ pageblock_of l first → order ≤ other.order → ⊥
 unjoined l class_at a class order first h below on other same above =
     let block = h.blocks class order first on in
     let its = h.blocks other.class other.order other.first other.on in
@@ -183,21 +230,29 @@ unjoined l class_at a class order first h below on other same above =
       | inl is ↦
           let even : buddy first order % 2 ^ order ≡ 0 = buddy_aligned first order block.aligned in
           let that : other.first ≡ buddy first order = in_aligned (buddy first order) order other.first even
-          (subst (λ (n : ℕ). other.first % 2 ^ n ≡ 0) (sym is) its.aligned) (subst (λ (n : ℕ). IsFrameOf (buddy first order) n other.first) (sym is) other.within) in
-          let one : class ≡ other.class = same_Some class other.class (sym block.class_agrees ∙ ap class_at (sym same) ∙ its.class_agrees) in
+          (subst (λ (n : ℕ). other.first % 2 ^ n ≡ 0) (sym is) its.aligned)
+          (subst (λ (n : ℕ). IsFrameOf (buddy first order) n other.first) (sym is) other.within) in
+          let one : class ≡ other.class =
+          same_Some class other.class
+          (sym block.class_agrees ∙ ap class_at (sym same) ∙ its.class_agrees) in
           let joined : is_on (buddy first order) (free_list a class order) ≡ true =
           subst (λ (f : ℕ). is_on f (free_list a class order) ≡ true) that
-          (subst (λ (c : Class). is_on other.first (free_list a c order) ≡ true) (sym one) (subst (λ (n : ℕ). is_on other.first (free_list a other.class n) ≡ true) (sym is) other.on)) in
-          both_ways (is_on (buddy first order) (free_list a class order)) (h.joined class order first below on) joined
+          (subst (λ (c : Class). is_on other.first (free_list a c order) ≡ true) (sym one)
+          (subst (λ (n : ℕ). is_on other.first (free_list a other.class n) ≡ true) (sym is) other.on)) in
+          both_ways (is_on (buddy first order) (free_list a class order))
+          (h.joined class order first below on) joined
       | inr ne ↦
           let greater : suc order ≤ other.order = omega arith in
           let one : buddy first order / 2 ^ other.order ≡ first / 2 ^ other.order =
-          same_above (buddy first order) first (suc order) other.order greater (buddy_above first order (suc order) block.aligned (omega arith)) in
+          same_above (buddy first order) first (suc order) other.order greater
+          (buddy_above first order (suc order) block.aligned (omega arith)) in
           let there : IsFrameOf first other.order other.first =
-          number_in first other.order other.first its.aligned (sym one ∙ in_number (buddy first order) other.order other.first its.aligned other.within) in
+          number_in first other.order other.first its.aligned
+          (sym one ∙ in_number (buddy first order) other.order other.first its.aligned other.within) in
           absurd (omega (
             arith,
-            two_lists a class order other.class other.order first (has_order l class_at a order h (omega arith)) (has_order l class_at a other.order h here.low) ne,
+            two_lists a class order other.class other.order first (has_order l class_at a order h
+                (omega arith)) (has_order l class_at a other.order h here.low) ne,
             on-places first order (free_list a class order) on,
             some_list first other.order other.first (free_list a other.class other.order) other.on there,
             h.few first,
@@ -205,39 +260,56 @@ unjoined l class_at a class order first h below on other same above =
     ]
 
 -- each free block of such a pageblock is of an order from one on
-orders_from : (l : LayoutParts) (class_at : ℕ → Option Class) (a : FreeAreas) (pageblock order : ℕ) → AreOrdered l class_at a
+orders_from : (l : LayoutParts) (class_at : ℕ → Option Class) (a : FreeAreas) (pageblock order : ℕ)
+    → AreOrdered l class_at a
     → ((frame : ℕ) → pageblock_of l frame ≡ pageblock → 1 ≤ free_places a frame) → order ≤ l.order
-    → (class : Class) (o first : ℕ) → is_on first (free_list a class o) ≡ true → pageblock_of l first ≡ pageblock → order ≤ o
+    → (class : Class) (o first : ℕ) → is_on first (free_list a class o) ≡ true
+    → pageblock_of l first ≡ pageblock → order ≤ o
 orders_from l class_at a pageblock zero h free low class o first on here = omega arith
 orders_from l class_at a pageblock (suc order) h free low class o first on here = elim (cases_eq o order) [
   | inl same ↦
-      let there : is_on first (free_list a class order) ≡ true = subst (λ (n : ℕ). is_on first (free_list a class n) ≡ true) same on in
+      let there : is_on first (free_list a class order) ≡ true =
+      subst (λ (n : ℕ). is_on first (free_list a class n) ≡ true) same on in
       let aligned = (h.blocks class order first there).aligned in
-      let beside : pageblock_of l (buddy first order) ≡ pageblock = buddy_above first order l.order aligned low ∙ here in
+      let beside : pageblock_of l (buddy first order) ≡ pageblock =
+      buddy_above first order l.order aligned low ∙ here in
       let other = free_block a (buddy first order) (free (buddy first order) beside) in
       let its = h.blocks other.class other.order other.first other.on in
       let small = (on_free l class_at a other.class other.order other.first h other.on).low in
       let close : pageblock_of l other.first ≡ pageblock =
-      sym (same_above (buddy first order) other.first other.order l.order small (in_number (buddy first order) other.order other.first its.aligned other.within)) ∙ beside in
+      sym (same_above (buddy first order) other.first other.order l.order small
+      (in_number (buddy first order) other.order other.first its.aligned other.within)) ∙ beside in
       absurd (unjoined l class_at a class order first h (omega arith) there other (close ∙ sym here)
-      (orders_from l class_at a pageblock order h free (omega arith) other.class other.order other.first other.on close))
-  | inr ne ↦ omega (arith, orders_from l class_at a pageblock order h free (omega arith) class o first on here)
+      (orders_from l class_at a pageblock order h free (omega arith) other.class other.order other.first
+      other.on close))
+  | inr ne ↦
+      omega (arith, orders_from l class_at a pageblock order h free (omega arith) class o first on here)
 ]
 
 -- such a pageblock is one free block of the greatest order
-pub whole_pageblock : (l : LayoutParts) (class_at : ℕ → Option Class) (a : FreeAreas) (pageblock : ℕ) (class : Class) → AreOrdered l class_at a → class_at pageblock ≡ Some class
-    → ((frame : ℕ) → pageblock_of l frame ≡ pageblock → 1 ≤ free_places a frame) → is_on (pageblock * 2 ^ l.order) (free_list a class l.order) ≡ true
+pub whole_pageblock : (l : LayoutParts) (class_at : ℕ → Option Class) (a : FreeAreas) (pageblock : ℕ)
+    (class : Class)
+    → AreOrdered l class_at a → class_at pageblock ≡ Some class
+    → ((frame : ℕ) → pageblock_of l frame ≡ pageblock → 1 ≤ free_places a frame)
+    → is_on (pageblock * 2 ^ l.order) (free_list a class l.order) ≡ true
 whole_pageblock l class_at a pageblock class h is free =
     let start : ℕ = pageblock * 2 ^ l.order in
     let here : pageblock_of l start ≡ pageblock = shl-shr pageblock l.order in
     let block = free_block a start (free start here) in
     let its = h.blocks block.class block.order block.first block.on in
     let small = (on_free l class_at a block.class block.order block.first h block.on).low in
-    let close : pageblock_of l block.first ≡ pageblock = sym (same_above start block.first block.order l.order small (in_number start block.order block.first its.aligned block.within)) ∙ here in
-    let large : l.order ≤ block.order = orders_from l class_at a pageblock l.order h free (omega arith) block.class block.order block.first block.on close in
+    let close : pageblock_of l block.first ≡ pageblock =
+    sym (same_above start block.first block.order l.order small
+    (in_number start block.order block.first its.aligned block.within)) ∙ here in
+    let large : l.order ≤ block.order =
+    orders_from l class_at a pageblock l.order h free (omega arith) block.class block.order block.first
+    block.on close in
     let whole : block.order ≡ l.order = omega arith in
     let that : block.first ≡ start = in_aligned start l.order block.first (multiple_aligned pageblock l.order)
-    (subst (λ (n : ℕ). block.first % 2 ^ n ≡ 0) whole its.aligned) (subst (λ (n : ℕ). IsFrameOf start n block.first) whole block.within) in
-    let one : block.class ≡ class = same_Some block.class class (sym its.class_agrees ∙ ap class_at close ∙ is) in
+    (subst (λ (n : ℕ). block.first % 2 ^ n ≡ 0) whole its.aligned)
+    (subst (λ (n : ℕ). IsFrameOf start n block.first) whole block.within) in
+    let one : block.class ≡ class =
+    same_Some block.class class (sym its.class_agrees ∙ ap class_at close ∙ is) in
     subst (λ (f : ℕ). is_on f (free_list a class l.order) ≡ true) that
-    (subst (λ (c : Class). is_on block.first (free_list a c l.order) ≡ true) one (subst (λ (n : ℕ). is_on block.first (free_list a block.class n) ≡ true) whole block.on))
+    (subst (λ (c : Class). is_on block.first (free_list a c l.order) ≡ true) one
+    (subst (λ (n : ℕ). is_on block.first (free_list a block.class n) ≡ true) whole block.on))

@@ -1,4 +1,5 @@
--- A going block is all free where each of its frames is in a free block, and the search for a frame that is in none.
+-- A going block is all free where each of its frames is in a free block, and the search for a frame
+-- that is in none.
 use Rattle.std.proofs.Common.{◌≡◌, ℕ, zero, suc, ◌+◌, ◌*◌, ◌/◌, ◌^◌, ◌<◌, ◌≤◌, List, [], ◌∷◌, ◌++◌, length, get_or, Bool, true, false, not, cond, Option, Some, None, refl, sym, ◌∙◌, ap, subst, arith, ◌⊎◌, inl, inr, ◌==◌}
 use Rattle.std.specs.Prelude.{find, flat_map, is_none}
 use Rattle.std.specs.List.{list_all, list_any, range_with_len}
@@ -54,17 +55,21 @@ on_any p (y ∷ ys) x on e = elim (on_cases x y ys on) [
 ]
 
 -- all pass a test that each number on the list passes
-pub all_from : (p : ℕ → Bool) (xs : List ℕ) → ((x : ℕ) → is_on x xs ≡ true → p x ≡ true) → list_all p xs ≡ true
+pub all_from : (p : ℕ → Bool) (xs : List ℕ) → ((x : ℕ) → is_on x xs ≡ true → p x ≡ true)
+    → list_all p xs ≡ true
 all_from p [] h = refl
-all_from p (x ∷ xs) h = and_from (p x) (list_all p xs) (h x (on_head x xs)) (all_from p xs (λ y on. h y (on_tail y x xs on)))
+all_from p (x ∷ xs) h =
+    and_from (p x) (list_all p xs) (h x (on_head x xs)) (all_from p xs (λ y on. h y (on_tail y x xs on)))
 
 -- what is found is on the list
 found_on : (p : ℕ → Bool) (xs : List ℕ) (x : ℕ) → find p xs ≡ Some x → is_on x xs ≡ true
 found_on p [] x e = cc
 found_on p (y ∷ ys) x e = by_test (p y) e (found_on p ys x)
   where
-    by_test : (b : Bool) → cond b (Some y) (find p ys) ≡ Some x → (find p ys ≡ Some x → is_on x ys ≡ true) → is_on x (y ∷ ys) ≡ true
-    by_test true e later = (let same : y ≡ x = cc in subst (λ (n : ℕ). is_on n (y ∷ ys) ≡ true) same (on_head y ys))
+    by_test : (b : Bool) → cond b (Some y) (find p ys) ≡ Some x → (find p ys ≡ Some x → is_on x ys ≡ true)
+        → is_on x (y ∷ ys) ≡ true
+    by_test true e later =
+        (let same : y ≡ x = cc in subst (λ (n : ℕ). is_on n (y ∷ ys) ≡ true) same (on_head y ys))
     by_test false e later = on_tail x y ys (later e)
 
 -- where nothing is found, nothing on the list passes
@@ -72,7 +77,8 @@ pub not_found : (p : ℕ → Bool) (xs : List ℕ) (x : ℕ) → find p xs ≡ N
 not_found p [] x e on = cc
 not_found p (y ∷ ys) x e on = by_test (p y) refl e (not_found p ys x)
   where
-    by_test : (b : Bool) → p y ≡ b → cond b (Some y) (find p ys) ≡ None → (find p ys ≡ None → is_on x ys ≡ true → p x ≡ false) → p x ≡ false
+    by_test : (b : Bool) → p y ≡ b → cond b (Some y) (find p ys) ≡ None
+        → (find p ys ≡ None → is_on x ys ≡ true → p x ≡ false) → p x ≡ false
     by_test true is e later = cc
     by_test false is e later = elim (on_cases x y ys on) [
       | inl same ↦ subst (λ (n : ℕ). p n ≡ false) same is
@@ -81,10 +87,12 @@ not_found p (y ∷ ys) x e on = by_test (p y) refl e (not_found p ys x)
 
 -- a number on one of two lists
 on_append : (x : ℕ) (xs ys : List ℕ) → is_on x (xs ++ ys) ≡ true → (is_on x xs ≡ true) ⊎ (is_on x ys ≡ true)
-on_append x xs ys on = or_cases (is_on x xs) (is_on x ys) (sym (list_any-append (λ other. other == x) xs ys) ∙ on)
+on_append x xs ys on =
+    or_cases (is_on x xs) (is_on x ys) (sym (list_any-append (λ other. other == x) xs ys) ∙ on)
 
 -- a number on one of several lists
-pub flat_on : (f : ℕ → List ℕ) (blocks : List ℕ) (x : ℕ) → is_on x (flat_map f blocks) ≡ true → (block : ℕ) × (is_on block blocks ≡ true) × (is_on x (f block) ≡ true)
+pub flat_on : (f : ℕ → List ℕ) (blocks : List ℕ) (x : ℕ) → is_on x (flat_map f blocks) ≡ true
+    → (block : ℕ) × (is_on block blocks ≡ true) × (is_on x (f block) ≡ true)
 flat_on f [] x on = cc
 flat_on f (b ∷ bs) x on = elim (on_append x (f b) (flat_map f bs) on) [
   | inl here ↦ (b, on_head b bs, here)
@@ -92,11 +100,16 @@ flat_on f (b ∷ bs) x on = elim (on_append x (f b) (flat_map f bs) on) [
 ]
 
 -- and each number of each list is on all of them
-pub on_flat : (f : ℕ → List ℕ) (blocks : List ℕ) (block x : ℕ) → is_on block blocks ≡ true → is_on x (f block) ≡ true → is_on x (flat_map f blocks) ≡ true
+pub on_flat : (f : ℕ → List ℕ) (blocks : List ℕ) (block x : ℕ) → is_on block blocks ≡ true
+    → is_on x (f block) ≡ true → is_on x (flat_map f blocks) ≡ true
 on_flat f [] block x on there = cc
 on_flat f (b ∷ bs) block x on there = elim (on_cases block b bs on) [
-  | inl same ↦ list_any-append (λ other. other == x) (f b) (flat_map f bs) ∙ or_left (is_on x (f b)) (is_on x (flat_map f bs)) (subst (λ (n : ℕ). is_on x (f n) ≡ true) (sym same) there)
-  | inr later ↦ list_any-append (λ other. other == x) (f b) (flat_map f bs) ∙ or_right (is_on x (f b)) (is_on x (flat_map f bs)) (on_flat f bs block x later there)
+  | inl same ↦
+      list_any-append (λ other. other == x) (f b) (flat_map f bs) ∙ or_left (is_on x (f b))
+      (is_on x (flat_map f bs)) (subst (λ (n : ℕ). is_on x (f n) ≡ true) (sym same) there)
+  | inr later ↦
+      list_any-append (λ other. other == x) (f b) (flat_map f bs)
+      ∙ or_right (is_on x (f b)) (is_on x (flat_map f bs)) (on_flat f bs block x later there)
 ]
 
 -- ---- the test of a frame
@@ -109,64 +122,101 @@ ancestor_has frame order =
     record { low = omega (arith, div-add-mod' frame (2 ^ order)); high = omega arith }
 
 -- a test of the five classes
-on_class : (p : Class → Bool) (class : Class) → p class ≡ true → list_any p (Nu ∷ Nm ∷ Mm ∷ IsoN ∷ IsoM ∷ []) ≡ true
+on_class : (p : Class → Bool) (class : Class) → p class ≡ true
+    → list_any p (Nu ∷ Nm ∷ Mm ∷ IsoN ∷ IsoM ∷ []) ≡ true
 on_class p Nu e = or_left (p Nu) _ e
 on_class p Nm e = or_right (p Nu) _ (or_left (p Nm) _ e)
 on_class p Mm e = or_right (p Nu) _ (or_right (p Nm) _ (or_left (p Mm) _ e))
 on_class p IsoN e = or_right (p Nu) _ (or_right (p Nm) _ (or_right (p Mm) _ (or_left (p IsoN) _ e)))
-on_class p IsoM e = or_right (p Nu) _ (or_right (p Nm) _ (or_right (p Mm) _ (or_right (p IsoN) _ (or_left (p IsoM) _ e))))
+on_class p IsoM e =
+    or_right (p Nu) _ (or_right (p Nm) _ (or_right (p Mm) _ (or_right (p IsoN) _ (or_left (p IsoM) _ e))))
 
 -- the test finds the free block that has the frame
-pub tested_block : (l : LayoutParts) (a : FreeAreas) (frame : ℕ) → is_in_free_block l a frame ≡ true → IsInFreeBlock a frame
+pub tested_block : (l : LayoutParts) (a : FreeAreas) (frame : ℕ) → is_in_free_block l a frame ≡ true
+    → IsInFreeBlock a frame
 tested_block l a frame e =
-    let order = any_some (λ (o : ℕ). is_free_start a o (ancestor frame o)) (range_with_len 0 (l.order + 1)) e in
-    let class = any_some (λ (c : Class). is_on (ancestor frame order.0) (free_list a c order.0)) (Nu ∷ Nm ∷ Mm ∷ IsoN ∷ IsoM ∷ []) order.1 in
-    record { class = class.0; order = order.0; first = ancestor frame order.0; on = class.1; within = ancestor_has frame order.0 }
+    let order =
+    any_some (λ (o : ℕ). is_free_start a o (ancestor frame o)) (range_with_len 0 (l.order + 1)) e in
+    let class =
+    any_some (λ (c : Class). is_on (ancestor frame order.0) (free_list a c order.0))
+    (Nu ∷ Nm ∷ Mm ∷ IsoN ∷ IsoM ∷ []) order.1 in
+    record {
+      class = class.0;
+      order = order.0;
+      first = ancestor frame order.0;
+      on = class.1;
+      within = ancestor_has frame order.0;
+    }
 
 -- and it finds each that there is
-pub block_tested : (l : LayoutParts) (class_at : ℕ → Option Class) (a : FreeAreas) (frame : ℕ) → AreOrdered l class_at a → IsInFreeBlock a frame → is_in_free_block l a frame ≡ true
+pub block_tested : (l : LayoutParts) (class_at : ℕ → Option Class) (a : FreeAreas) (frame : ℕ)
+    → AreOrdered l class_at a → IsInFreeBlock a frame → is_in_free_block l a frame ≡ true
 block_tested l class_at a frame h b =
     let aligned = (h.blocks b.class b.order b.first b.on).aligned in
     let low = (on_free l class_at a b.class b.order b.first h b.on).low in
-    let is : b.first ≡ ancestor frame b.order = multiple b.first b.order aligned ∙ ap (λ (n : ℕ). n * 2 ^ b.order) (sym (in_number frame b.order b.first aligned b.within)) in
-    on_any (λ (o : ℕ). is_free_start a o (ancestor frame o)) (range_with_len 0 (l.order + 1)) b.order (range_on 0 (l.order + 1) b.order (omega arith) (omega arith))
-    (on_class (λ (c : Class). is_on (ancestor frame b.order) (free_list a c b.order)) b.class (subst (λ (f : ℕ). is_on f (free_list a b.class b.order) ≡ true) is b.on))
+    let is : b.first ≡ ancestor frame b.order =
+    multiple b.first b.order aligned
+    ∙ ap (λ (n : ℕ). n * 2 ^ b.order) (sym (in_number frame b.order b.first aligned b.within)) in
+    on_any (λ (o : ℕ). is_free_start a o (ancestor frame o)) (range_with_len 0 (l.order + 1)) b.order
+    (range_on 0 (l.order + 1) b.order (omega arith) (omega arith))
+    (on_class (λ (c : Class). is_on (ancestor frame b.order) (free_list a c b.order)) b.class
+    (subst (λ (f : ℕ). is_on f (free_list a b.class b.order) ≡ true) is b.on))
 
 -- ---- the test of a block
 
 -- the class of a pageblock that is isolated
-isolated_at : (zone : Option Zone) (kind : Kind) (z : Zone) → zone ≡ Some z → kind.isolated ≡ true → option_map (λ (y : Zone). class_of_kind y kind) zone ≡ Some (isolated_class z)
+isolated_at : (zone : Option Zone) (kind : Kind) (z : Zone) → zone ≡ Some z → kind.isolated ≡ true
+    → option_map (λ (y : Zone). class_of_kind y kind) zone ≡ Some (isolated_class z)
 isolated_at zone kind z e f = rw (e, f) refl
 
 -- a going block of whose frames each is free is all free
-pub frames_all_free : (l : LayoutParts) (s : Memory) (block : ℕ) → IsWellPlaced l s → is_going (row_of s.blocks block) ≡ true → ((frame : ℕ) → block_of l frame ≡ block → IsInFreeBlock s.free.areas frame)
+pub frames_all_free : (l : LayoutParts) (s : Memory) (block : ℕ) → IsWellPlaced l s
+    → is_going (row_of s.blocks block) ≡ true
+    → ((frame : ℕ) → block_of l frame ≡ block → IsInFreeBlock s.free.areas frame)
     → is_all_free l s block ≡ true
 frames_all_free l s block p going free =
     let zone : Zone = zone_of_block s.blocks block in
     let row : Row = row_of s.blocks block in
-    let zoned : row.zone ≡ Some zone = some_zone row.zone (going_zone row.state row.zone row.claim going (p.in_order.rows block)) in
-    all_from (λ (n : ℕ). is_on (n * 2 ^ l.order) (free_list s.free.areas (isolated_class zone) l.order)) (pageblocks_of l block) (λ pageblock on.
+    let zoned : row.zone ≡ Some zone =
+    some_zone row.zone (going_zone row.state row.zone row.claim going (p.in_order.rows block)) in
+    all_from (λ (n : ℕ). is_on (n * 2 ^ l.order) (free_list s.free.areas (isolated_class zone) l.order))
+    (pageblocks_of l block) (λ pageblock on.
     let among = on_range pageblock (block * l.pageblocks) l.pageblocks on in
-    let here : block_of_pageblock l pageblock ≡ block = quotient pageblock l.pageblocks block among.low among.high in
-    let zone_is : (row_at l s.blocks.rows pageblock).zone ≡ Some zone = subst (λ (b : ℕ). (row_of s.blocks b).zone ≡ Some zone) (sym here) zoned in
-    let isolated : (kind_at s.free.areas.kinds pageblock).isolated ≡ true = p.in_order.isolated pageblock ∙ subst (λ (b : ℕ). is_going (row_of s.blocks b) ≡ true) (sym here) going in
-    whole_pageblock l (class_at l s.free.areas.kinds s.blocks.rows) s.free.areas pageblock (isolated_class zone) (areas_of l s p)
-    (isolated_at (row_at l s.blocks.rows pageblock).zone (kind_at s.free.areas.kinds pageblock) zone zone_is isolated)
-    (λ frame inside. block_free l (class_at l s.free.areas.kinds s.blocks.rows) s.free.areas frame (areas_of l s p)
+    let here : block_of_pageblock l pageblock ≡ block =
+    quotient pageblock l.pageblocks block among.low among.high in
+    let zone_is : (row_at l s.blocks.rows pageblock).zone ≡ Some zone =
+    subst (λ (b : ℕ). (row_of s.blocks b).zone ≡ Some zone) (sym here) zoned in
+    let isolated : (kind_at s.free.areas.kinds pageblock).isolated ≡ true =
+    p.in_order.isolated pageblock
+    ∙ subst (λ (b : ℕ). is_going (row_of s.blocks b) ≡ true) (sym here) going in
+    whole_pageblock l (class_at l s.free.areas.kinds s.blocks.rows) s.free.areas pageblock
+    (isolated_class zone) (areas_of l s p)
+    (isolated_at (row_at l s.blocks.rows pageblock).zone (kind_at s.free.areas.kinds pageblock) zone zone_is
+    isolated)
+    (λ frame inside.
+    block_free l (class_at l s.free.areas.kinds s.blocks.rows) s.free.areas frame (areas_of l s p)
     (free frame (block_of-pageblock l frame ∙ ap (λ (n : ℕ). block_of_pageblock l n) inside ∙ here))))
 
 -- each frame of a block that is all free is in a free block
-pub all_free_frames : (l : LayoutParts) (s : Memory) (block frame : ℕ) → IsLayout l → is_all_free l s block ≡ true → block_of l frame ≡ block → IsInFreeBlock s.free.areas frame
+pub all_free_frames : (l : LayoutParts) (s : Memory) (block frame : ℕ) → IsLayout l
+    → is_all_free l s block ≡ true → block_of l frame ≡ block → IsInFreeBlock s.free.areas frame
 all_free_frames l s block frame layout all here =
     let class : Class = isolated_class (zone_of_block s.blocks block) in
     let pageblock : ℕ = pageblock_of l frame in
-    let among = pageblock_range l block pageblock (some_pageblocks l layout) (sym (block_of-pageblock l frame) ∙ here) in
+    let among =
+    pageblock_range l block pageblock (some_pageblocks l layout)
+    (sym (block_of-pageblock l frame) ∙ here) in
     record {
       class = class;
       order = l.order;
       first = pageblock * 2 ^ l.order;
-      on = list_all_on (λ (n : ℕ). is_on (n * 2 ^ l.order) (free_list s.free.areas class l.order)) (pageblocks_of l block) pageblock all (range_on (block * l.pageblocks) l.pageblocks pageblock among.low among.high);
-      within = number_in frame l.order (pageblock * 2 ^ l.order) (multiple_aligned pageblock l.order) (sym (shl-shr pageblock l.order));
+      on =
+          list_all_on (λ (n : ℕ). is_on (n * 2 ^ l.order) (free_list s.free.areas class l.order))
+          (pageblocks_of l block) pageblock all
+          (range_on (block * l.pageblocks) l.pageblocks pageblock among.low among.high);
+      within =
+          number_in frame l.order (pageblock * 2 ^ l.order) (multiple_aligned pageblock l.order)
+          (sym (shl-shr pageblock l.order));
     }
 
 -- ---- the frames of an operation's going blocks
@@ -178,26 +228,34 @@ some_frames l layout =
     omega (arith, mul-le 1 1 l.pageblocks (2 ^ l.order) (some_pageblocks l layout) some)
 
 -- they are the frames that lie in it
-pub block_has : (l : LayoutParts) (block frame : ℕ) → IsLayout l → block_of l frame ≡ block → is_on frame (frames_of_block l block) ≡ true
+pub block_has : (l : LayoutParts) (block frame : ℕ) → IsLayout l → block_of l frame ≡ block
+    → is_on frame (frames_of_block l block) ≡ true
 block_has l block frame layout e =
-    let high : frame < frame / block_size l * block_size l + block_size l = lt-div-mul-add (some_frames l layout) in
-    let low : frame / block_size l * block_size l ≤ frame = omega (arith, div-add-mod' frame (block_size l)) in
-    subst (λ (b : ℕ). is_on frame (frames_of_block l b) ≡ true) e (range_on (frame / block_size l * block_size l) (block_size l) frame low high)
+    let high : frame < frame / block_size l * block_size l + block_size l =
+    lt-div-mul-add (some_frames l layout) in
+    let low : frame / block_size l * block_size l ≤ frame =
+    omega (arith, div-add-mod' frame (block_size l)) in
+    subst (λ (b : ℕ). is_on frame (frames_of_block l b) ≡ true) e
+    (range_on (frame / block_size l * block_size l) (block_size l) frame low high)
 
 -- a row that is claimed is one of the layout's
-claimed_low : (rows : List Row) (op block : ℕ) → is_claimed_by op (get_or rows block offline_row) ≡ true → block < length rows
+claimed_low : (rows : List Row) (op block : ℕ) → is_claimed_by op (get_or rows block offline_row) ≡ true
+    → block < length rows
 claimed_low rows op block e = elim (cases_lt block (length rows)) [
   | inl low ↦ low
   | inr high ↦
       let past : get_or rows block offline_row ≡ offline_row = get_or_past rows block offline_row high in
-      absurd (both_ways (is_claimed_by op offline_row) refl (subst (λ (r : Row). is_claimed_by op r ≡ true) past e))
+      absurd (both_ways (is_claimed_by op offline_row) refl
+      (subst (λ (r : Row). is_claimed_by op r ≡ true) past e))
 ]
 
 -- an operation is live where a row carries its number
-pub claimed_live : (rows : List Row) (op block : ℕ) → is_claimed_by op (get_or rows block offline_row) ≡ true → list_any (is_claimed_by op) rows ≡ true
+pub claimed_live : (rows : List Row) (op block : ℕ) → is_claimed_by op (get_or rows block offline_row) ≡ true
+    → list_any (is_claimed_by op) rows ≡ true
 claimed_live [] op block e = cc
 claimed_live (row ∷ rows) op zero e = or_left (is_claimed_by op row) (list_any (is_claimed_by op) rows) e
-claimed_live (row ∷ rows) op (suc block) e = or_right (is_claimed_by op row) (list_any (is_claimed_by op) rows) (claimed_live rows op block e)
+claimed_live (row ∷ rows) op (suc block) e =
+    or_right (is_claimed_by op row) (list_any (is_claimed_by op) rows) (claimed_live rows op block e)
 
 -- the operation is taking the block offline
 pub record IsGoingBlock (l : LayoutParts) (s : Memory) (op block : ℕ) : Type 0 where
@@ -205,25 +263,31 @@ pub record IsGoingBlock (l : LayoutParts) (s : Memory) (op block : ℕ) : Type 0
   pub going : is_going (row_of s.blocks block) ≡ true
 
 -- the going blocks of an operation
-pub going_on : (l : LayoutParts) (s : Memory) (op block : ℕ) → is_on block (going_blocks l s.blocks op) ≡ true → IsGoingBlock l s op block
+pub going_on : (l : LayoutParts) (s : Memory) (op block : ℕ) → is_on block (going_blocks l s.blocks op) ≡ true
+    → IsGoingBlock l s op block
 going_on l s op block on =
     let outer = on_filter (λ (b : ℕ). is_going (row_of s.blocks b)) block (blocks_of l s.blocks op) on in
-    let inner = on_filter (λ (b : ℕ). is_claimed_by op (row_of s.blocks b)) block (all_blocks l) outer.right in
+    let inner =
+    on_filter (λ (b : ℕ). is_claimed_by op (row_of s.blocks b)) block (all_blocks l) outer.right in
     record { claimed = inner.left; going = outer.left }
 
 -- each of them is among them
-on_going : (l : LayoutParts) (s : Memory) (op block : ℕ) → IsWellPlaced l s → IsGoingBlock l s op block → is_on block (going_blocks l s.blocks op) ≡ true
+on_going : (l : LayoutParts) (s : Memory) (op block : ℕ) → IsWellPlaced l s → IsGoingBlock l s op block
+    → is_on block (going_blocks l s.blocks op) ≡ true
 on_going l s op block p h =
-    let low : block < l.blocks = omega (arith, claimed_low s.blocks.rows op block h.claimed, p.in_order.shape.rows) in
+    let low : block < l.blocks =
+    omega (arith, claimed_low s.blocks.rows op block h.claimed, p.in_order.shape.rows) in
     filter_on (λ (b : ℕ). is_going (row_of s.blocks b)) (blocks_of l s.blocks op) block h.going
-    (filter_on (λ (b : ℕ). is_claimed_by op (row_of s.blocks b)) (all_blocks l) block h.claimed (range_on 0 l.blocks block (omega arith) (omega arith)))
+    (filter_on (λ (b : ℕ). is_claimed_by op (row_of s.blocks b)) (all_blocks l) block h.claimed
+    (range_on 0 l.blocks block (omega arith) (omega arith)))
 
 -- the frames that the search for one in use goes over
 abbrev pub going_frames : LayoutParts → Memory → ℕ → List ℕ
 going_frames l s op = flat_map (frames_of_block l) (going_blocks l s.blocks op)
 
 -- the frames of its going blocks
-pub frame_going : (l : LayoutParts) (s : Memory) (op frame : ℕ) → is_on frame (going_frames l s op) ≡ true → IsGoingFor l s op frame
+pub frame_going : (l : LayoutParts) (s : Memory) (op frame : ℕ) → is_on frame (going_frames l s op) ≡ true
+    → IsGoingFor l s op frame
 frame_going l s op frame on =
     let found = flat_on (frames_of_block l) (going_blocks l s.blocks op) frame on in
     let among = on_range frame (found.0 * block_size l) (block_size l) found.2 in
@@ -235,9 +299,12 @@ frame_going l s op frame on =
     }
 
 -- each of them is among them
-pub going_frame : (l : LayoutParts) (s : Memory) (op frame : ℕ) → IsLayout l → IsWellPlaced l s → IsGoingFor l s op frame → is_on frame (going_frames l s op) ≡ true
+pub going_frame : (l : LayoutParts) (s : Memory) (op frame : ℕ) → IsLayout l → IsWellPlaced l s
+    → IsGoingFor l s op frame → is_on frame (going_frames l s op) ≡ true
 going_frame l s op frame layout p h =
-    on_flat (frames_of_block l) (going_blocks l s.blocks op) (block_of l frame) frame (on_going l s op (block_of l frame) p (record { claimed = h.claimed; going = h.going })) (block_has l (block_of l frame) frame layout refl)
+    on_flat (frames_of_block l) (going_blocks l s.blocks op) (block_of l frame) frame
+    (on_going l s op (block_of l frame) p (record { claimed = h.claimed; going = h.going }))
+    (block_has l (block_of l frame) frame layout refl)
 
 -- ---- the search for a frame that no free block has
 
@@ -247,31 +314,44 @@ not_true true e f = cc
 not_true false e f = cc
 
 -- the frame that is found is in use
-pub found_in_use : (l : LayoutParts) (s : Memory) (op frame : ℕ) → IsWellPlaced l s → frame_in_use l s op ≡ Some frame → IsFrameInUse l s op frame
+pub found_in_use : (l : LayoutParts) (s : Memory) (op frame : ℕ) → IsWellPlaced l s
+    → frame_in_use l s op ≡ Some frame → IsFrameInUse l s op frame
 found_in_use l s op frame p e = record {
-  going = frame_going l s op frame (found_on (λ (f : ℕ). not (is_in_free_block l s.free.areas f)) (going_frames l s op) frame e);
-  not_free = λ block. not_true (is_in_free_block l s.free.areas frame) (found_passes (λ (f : ℕ). not (is_in_free_block l s.free.areas f)) (going_frames l s op) frame e)
-      (block_tested l (class_at l s.free.areas.kinds s.blocks.rows) s.free.areas frame (areas_of l s p) block);
+  going =
+      frame_going l s op frame
+      (found_on (λ (f : ℕ). not (is_in_free_block l s.free.areas f)) (going_frames l s op) frame e);
+  not_free =
+      λ block. not_true (is_in_free_block l s.free.areas frame)
+      (found_passes (λ (f : ℕ). not (is_in_free_block l s.free.areas f)) (going_frames l s op) frame e)
+      (block_tested l (class_at l s.free.areas.kinds s.blocks.rows) s.free.areas frame (areas_of l s p)
+      block);
 }
 
 -- where none is found, each frame is in a free block
-pub none_in_use : (l : LayoutParts) (s : Memory) (op frame : ℕ) → IsLayout l → IsWellPlaced l s → frame_in_use l s op ≡ None → IsGoingFor l s op frame → IsInFreeBlock s.free.areas frame
+pub none_in_use : (l : LayoutParts) (s : Memory) (op frame : ℕ) → IsLayout l → IsWellPlaced l s
+    → frame_in_use l s op ≡ None → IsGoingFor l s op frame → IsInFreeBlock s.free.areas frame
 none_in_use l s op frame layout p e h =
     tested_block l s.free.areas frame
-    (not-false (is_in_free_block l s.free.areas frame) (not_found (λ (f : ℕ). not (is_in_free_block l s.free.areas f)) (going_frames l s op) frame e (going_frame l s op frame layout p h)))
+    (not-false (is_in_free_block l s.free.areas frame) (not_found
+    (λ (f : ℕ). not (is_in_free_block l s.free.areas f)) (going_frames l s op) frame e
+    (going_frame l s op frame layout p h)))
 
 -- each going block is all free where no frame is found
-pub all_free-none : (l : LayoutParts) (s : Memory) (op : ℕ) → IsLayout l → IsWellPlaced l s → list_all (is_all_free l s) (going_blocks l s.blocks op) ≡ is_none (frame_in_use l s op)
+pub all_free-none : (l : LayoutParts) (s : Memory) (op : ℕ) → IsLayout l → IsWellPlaced l s
+    → list_all (is_all_free l s) (going_blocks l s.blocks op) ≡ is_none (frame_in_use l s op)
 all_free-none l s op layout p = by_found (frame_in_use l s op) refl
   where
-    by_found : (o : Option ℕ) → frame_in_use l s op ≡ o → list_all (is_all_free l s) (going_blocks l s.blocks op) ≡ is_none o
+    by_found : (o : Option ℕ) → frame_in_use l s op ≡ o
+        → list_all (is_all_free l s) (going_blocks l s.blocks op) ≡ is_none o
     by_found None e = all_from (is_all_free l s) (going_blocks l s.blocks op) (λ block on.
         let h = going_on l s op block on in
         frames_all_free l s block p h.going (λ frame here. none_in_use l s op frame layout p e (record {
           claimed = subst (λ (b : ℕ). is_claimed_by op (row_of s.blocks b) ≡ true) (sym here) h.claimed;
           going = subst (λ (b : ℕ). is_going (row_of s.blocks b) ≡ true) (sym here) h.going;
         })))
-    by_found (Some frame) e = false_from_ne_true (list_all (is_all_free l s) (going_blocks l s.blocks op)) (λ all.
+    by_found (Some frame) e =
+        false_from_ne_true (list_all (is_all_free l s) (going_blocks l s.blocks op)) (λ all.
         let h = found_in_use l s op frame p e in
         h.not_free (all_free_frames l s (block_of l frame) frame layout
-        (list_all_on (is_all_free l s) (going_blocks l s.blocks op) (block_of l frame) all (on_going l s op (block_of l frame) p (record { claimed = h.going.claimed; going = h.going.going }))) refl))
+        (list_all_on (is_all_free l s) (going_blocks l s.blocks op) (block_of l frame) all (on_going l s op
+        (block_of l frame) p (record { claimed = h.going.claimed; going = h.going.going }))) refl))

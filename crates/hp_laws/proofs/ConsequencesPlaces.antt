@@ -1,4 +1,5 @@
--- Frames of processors' lists, kernel's blocks and pages lie in blocks with a zone, and no list is longer than there are frames.
+-- Frames of processors' lists, kernel's blocks and pages lie in blocks with a zone, and no list is
+-- longer than there are frames.
 use Rattle.std.proofs.Common.{◌≡◌, ℕ, zero, suc, ◌+◌, ◌*◌, ◌<◌, ◌≤◌, List, [], ◌∷◌, length, get_or, Bool, true, false, cond, Option, Some, None, refl, sym, ◌∙◌, subst, arith, inl, inr, IfSome, ◌==◌, ◌||◌}
 use Rattle.std.specs.List.{count_by}
 use Rattle.std.specs.Option.{option_map}
@@ -35,41 +36,55 @@ use Rattle.hp_laws.proofs.ConsequencesBlocks.{in_number, on_head}
 -- ---- the zone of a frame's block
 
 -- the zone of the pageblock that a frame lies in is that of its block
-pub row_zone : (l : LayoutParts) (rows : List Row) (frame : ℕ) (zone : Zone) → (row_at l rows (pageblock_of l frame)).zone ≡ Some zone → (get_or rows (block_of l frame) offline_row).zone ≡ Some zone
-row_zone l rows frame zone e = subst (λ (b : ℕ). (get_or rows b offline_row).zone ≡ Some zone) (sym (block_of-pageblock l frame)) e
+pub row_zone : (l : LayoutParts) (rows : List Row) (frame : ℕ) (zone : Zone)
+    → (row_at l rows (pageblock_of l frame)).zone ≡ Some zone
+    → (get_or rows (block_of l frame) offline_row).zone ≡ Some zone
+row_zone l rows frame zone e =
+    subst (λ (b : ℕ). (get_or rows b offline_row).zone ≡ Some zone) (sym (block_of-pageblock l frame)) e
 
 -- a frame on a processor's list
-pub cached_zone : (l : LayoutParts) (s : Memory) (cpu : ℕ) (pool : Pool) (frame : ℕ) → IsWellPlaced l s → is_on frame (cached_list s.free cpu pool) ≡ true
+pub cached_zone : (l : LayoutParts) (s : Memory) (cpu : ℕ) (pool : Pool) (frame : ℕ) → IsWellPlaced l s
+    → is_on frame (cached_list s.free cpu pool) ≡ true
     → (row_of s.blocks (block_of l frame)).zone ≡ Some (zone_of_pool pool)
 cached_zone l s cpu pool frame p on =
     row_zone l s.blocks.rows frame (zone_of_pool pool)
-    (pool_zone (row_at l s.blocks.rows (pageblock_of l frame)).zone (kind_at s.free.areas.kinds (pageblock_of l frame)).mobility pool (p.in_order.cached cpu pool frame on))
+    (pool_zone (row_at l s.blocks.rows (pageblock_of l frame)).zone
+    (kind_at s.free.areas.kinds (pageblock_of l frame)).mobility pool (p.in_order.cached cpu pool frame on))
 
 -- a block of the kernel lies in one pageblock
-kernel_at : (l : LayoutParts) (s : Memory) (first order : ℕ) → IsWellPlaced l s → (entry : Option ℕ) → kernel_order s first ≡ entry → entry ≡ Some order → IsKernelAt l s.blocks.rows first order
-kernel_at l s first order p entry is e = subst (λ (o : Option ℕ). IfSome o (IsKernelAt l s.blocks.rows first)) (is ∙ e) (p.in_order.kernel first)
+kernel_at : (l : LayoutParts) (s : Memory) (first order : ℕ) → IsWellPlaced l s → (entry : Option ℕ)
+    → kernel_order s first ≡ entry → entry ≡ Some order → IsKernelAt l s.blocks.rows first order
+kernel_at l s first order p entry is e =
+    subst (λ (o : Option ℕ). IfSome o (IsKernelAt l s.blocks.rows first)) (is ∙ e) (p.in_order.kernel first)
 
 -- all of its frames lie in the pageblock that it starts in
-pub kernel_inside : (l : LayoutParts) (s : Memory) (first order frame : ℕ) → IsWellPlaced l s → kernel_order s first ≡ Some order → IsFrameOf frame order first → pageblock_of l frame ≡ pageblock_of l first
+pub kernel_inside : (l : LayoutParts) (s : Memory) (first order frame : ℕ) → IsWellPlaced l s
+    → kernel_order s first ≡ Some order → IsFrameOf frame order first
+    → pageblock_of l frame ≡ pageblock_of l first
 kernel_inside l s first order frame p e within =
     let k = kernel_at l s first order p (kernel_order s first) refl e in
     same_above frame first order l.order k.in_order (in_number frame order first k.aligned within)
 
 -- a frame of the kernel's
-pub kernel_zone : (l : LayoutParts) (s : Memory) (first order frame : ℕ) → IsWellPlaced l s → kernel_order s first ≡ Some order → IsFrameOf frame order first
+pub kernel_zone : (l : LayoutParts) (s : Memory) (first order frame : ℕ) → IsWellPlaced l s
+    → kernel_order s first ≡ Some order → IsFrameOf frame order first
     → (row_of s.blocks (block_of l frame)).zone ≡ Some NormalZone
 kernel_zone l s first order frame p e within =
     let k = kernel_at l s first order p (kernel_order s first) refl e in
-    row_zone l s.blocks.rows frame NormalZone (subst (λ (n : ℕ). (row_at l s.blocks.rows n).zone ≡ Some NormalZone) (sym (kernel_inside l s first order frame p e within)) k.normal)
+    row_zone l s.blocks.rows frame NormalZone (subst (λ (n : ℕ). (row_at l s.blocks.rows n).zone
+    ≡ Some NormalZone) (sym (kernel_inside l s first order frame p e within)) k.normal)
 
 -- a page's frame is in no offline or absent block
-pub page_plugged : (l : LayoutParts) (s : Memory) (owner page frame : ℕ) → IsWellPlaced l s → frame_at s.pages owner page ≡ Some frame → offline_places l s frame ≡ 0
+pub page_plugged : (l : LayoutParts) (s : Memory) (owner page frame : ℕ) → IsWellPlaced l s
+    → frame_at s.pages owner page ≡ Some frame → offline_places l s frame ≡ 0
 page_plugged l s owner page frame p e =
-    let some : 1 ≤ mapped_places s.pages frame = mapped_some l.owners l.pages s.pages.table owner page frame (table_of l s p.in_order) e in
+    let some : 1 ≤ mapped_places s.pages frame =
+    mapped_some l.owners l.pages s.pages.table owner page frame (table_of l s p.in_order) e in
     omega (arith, p.once frame)
 
 -- a block that is neither offline nor absent is online or going
-plugged_state : (state : State) → (is_offline_state state || is_absent_state state) ≡ false → (is_online_state state || is_going_state state) ≡ true
+plugged_state : (state : State) → (is_offline_state state || is_absent_state state) ≡ false
+    → (is_online_state state || is_going_state state) ≡ true
 plugged_state OnlineState e = refl
 plugged_state GoingState e = refl
 plugged_state OfflineState e = cc
@@ -80,7 +95,8 @@ abbrev one_if : Bool → ℕ
 one_if b = cond b 1 0
 
 -- the block of a frame that is in no such place
-not_unplugged : (l : LayoutParts) (s : Memory) (frame : ℕ) → offline_places l s frame ≡ 0 → is_unplugged (row_of s.blocks (block_of l frame)) ≡ false
+not_unplugged : (l : LayoutParts) (s : Memory) (frame : ℕ) → offline_places l s frame ≡ 0
+    → is_unplugged (row_of s.blocks (block_of l frame)) ≡ false
 not_unplugged l s frame e = by_row (is_unplugged (row_of s.blocks (block_of l frame))) refl e
   where
     by_row : (b : Bool) → is_unplugged (row_of s.blocks (block_of l frame)) ≡ b → one_if b ≡ 0 → b ≡ false
@@ -88,7 +104,8 @@ not_unplugged l s frame e = by_row (is_unplugged (row_of s.blocks (block_of l fr
     by_row false is e = refl
 
 -- it is plugged in
-pub plugged : (l : LayoutParts) (s : Memory) (frame : ℕ) → IsWellPlaced l s → offline_places l s frame ≡ 0 → IsPluggedIn l s frame
+pub plugged : (l : LayoutParts) (s : Memory) (frame : ℕ) → IsWellPlaced l s → offline_places l s frame ≡ 0
+    → IsPluggedIn l s frame
 plugged l s frame p e =
     let live = live_row l s frame p.in_order e in
     record {
@@ -97,7 +114,8 @@ plugged l s frame p e =
     }
 
 -- a block with a zone is online or going
-zoned_state : (state : State) (zone : Option Zone) (claim : Option Claim) (z : Zone) → zone ≡ Some z → IsRowOf state zone claim → (is_online_state state || is_going_state state) ≡ true
+zoned_state : (state : State) (zone : Option Zone) (claim : Option Claim) (z : Zone) → zone ≡ Some z
+    → IsRowOf state zone claim → (is_online_state state || is_going_state state) ≡ true
 zoned_state OnlineState zone claim z e h = refl
 zoned_state GoingState zone claim z e h = refl
 zoned_state OfflineState zone claim z e h = absurd (no_zone (sym h.0 ∙ e))
@@ -110,10 +128,14 @@ zoned_state AbsentState zone claim z e h = absurd (no_zone (sym h.0 ∙ e))
     no_zone e = cc
 
 -- a frame whose block has a zone is plugged in
-pub zone_plugged : (l : LayoutParts) (s : Memory) (frame : ℕ) (zone : Zone) → IsWellPlaced l s → (row_of s.blocks (block_of l frame)).zone ≡ Some zone → IsPluggedIn l s frame
+pub zone_plugged : (l : LayoutParts) (s : Memory) (frame : ℕ) (zone : Zone) → IsWellPlaced l s
+    → (row_of s.blocks (block_of l frame)).zone ≡ Some zone → IsPluggedIn l s frame
 zone_plugged l s frame zone p e =
     let row : Row = row_of s.blocks (block_of l frame) in
-    record { zone = (zone, e); state = zoned_state row.state row.zone row.claim zone e (p.in_order.rows (block_of l frame)) }
+    record {
+      zone = (zone, e);
+      state = zoned_state row.state row.zone row.claim zone e (p.in_order.rows (block_of l frame));
+    }
 
 -- ---- how long a list is
 
@@ -129,7 +151,8 @@ sum_most zero f h = omega arith
 sum_most (suc n) f h = omega (arith, sum_most n f h, h n)
 
 -- sums add up
-sum_both : (n : ℕ) (f g h : ℕ → ℕ) → ((k : ℕ) → f k ≡ g k + h k) → sum_below n f ≡ sum_below n g + sum_below n h
+sum_both : (n : ℕ) (f g h : ℕ → ℕ) → ((k : ℕ) → f k ≡ g k + h k)
+    → sum_below n f ≡ sum_below n g + sum_below n h
 unfolding sum_below
 sum_both zero f g h e = refl
 sum_both (suc n) f g h e = omega (arith, sum_both n f g h e, e n)
@@ -152,7 +175,8 @@ times_split : (k x : ℕ) (xs : List ℕ) → times k (x ∷ xs) ≡ times k (x 
 times_split k x xs = omega (arith, times-cons k x xs, times-cons k x [])
 
 -- a list of numbers below one has a place for each
-length_sum : (n : ℕ) (xs : List ℕ) → ((x : ℕ) → is_on x xs ≡ true → x < n) → length xs ≤ sum_below n (λ k. times k xs)
+length_sum : (n : ℕ) (xs : List ℕ) → ((x : ℕ) → is_on x xs ≡ true → x < n)
+    → length xs ≤ sum_below n (λ k. times k xs)
 length_sum n [] low = omega arith
 length_sum n (x ∷ xs) low =
     omega (
@@ -163,54 +187,76 @@ length_sum n (x ∷ xs) low =
     )
 
 -- numbers below one, each at most once, are no more than that one
-pub few_below : (n : ℕ) (xs : List ℕ) → ((x : ℕ) → is_on x xs ≡ true → x < n) → ((k : ℕ) → times k xs ≤ 1) → length xs ≤ n
+pub few_below : (n : ℕ) (xs : List ℕ) → ((x : ℕ) → is_on x xs ≡ true → x < n) → ((k : ℕ) → times k xs ≤ 1)
+    → length xs ≤ n
 few_below n xs low once = omega (arith, length_sum n xs low, sum_most n (λ k. times k xs) once)
 
 -- a frame is covered as often as it is on the list
 times_covered : (k order : ℕ) (xs : List ℕ) → times k xs ≤ list_places k order xs
 times_covered k order [] = omega arith
-times_covered k order (x ∷ xs) = omega (arith, times_covered k order xs, times-cons k x xs, list_places-cons k order x xs, one k x)
+times_covered k order (x ∷ xs) =
+    omega (arith, times_covered k order xs, times-cons k x xs, list_places-cons k order x xs, one k x)
   where
     one : (k x : ℕ) → covered k 0 x ≤ covered k order x
     one k x = elim (cases_lt (covered k 0 x) 1) [
       | inl none ↦ omega arith
-      | inr some ↦ (let same = in_single k x some in subst (λ (n : ℕ). covered k 0 n ≤ covered k order n) same (omega (arith, covered-self order k, covered-self 0 k)))
+      | inr some ↦
+          (let same = in_single k x some in
+          subst (λ (n : ℕ). covered k 0 n ≤ covered k order n) same
+          (omega (arith, covered-self order k, covered-self 0 k)))
     ]
       where
         in_single : (k x : ℕ) → 1 ≤ covered k 0 x → k ≡ x
         in_single k x some = grind (arith, nat_tests)
 
 -- a pageblock with a class has a zone
-pub class_zone : (zone : Option Zone) {class : Option Class} (f : Zone → Class) (c : Class) → class ≡ option_map f zone → class ≡ Some c → (z : Zone) × (zone ≡ Some z)
+pub class_zone : (zone : Option Zone) {class : Option Class} (f : Zone → Class) (c : Class)
+    → class ≡ option_map f zone → class ≡ Some c → (z : Zone) × (zone ≡ Some z)
 class_zone None f c is e = cc
 class_zone (Some z) f c is e = (z, refl)
 
 -- a free list has no more blocks than there are frames
-pub free_length : (l : LayoutParts) (s : Memory) (class : Class) (order : ℕ) → IsLayout l → IsWellPlaced l s → length (free_list s.free.areas class order) ≤ frame_count l
+pub free_length : (l : LayoutParts) (s : Memory) (class : Class) (order : ℕ) → IsLayout l → IsWellPlaced l s
+    → length (free_list s.free.areas class order) ≤ frame_count l
 free_length l s class order layout p = elim (cases_lt l.order order) [
   | inl above ↦
-      let past : free_list s.free.areas class order ≡ [] = get_or_past s.free.areas.lists (5 * order + class_index class) [] (omega (arith, p.in_order.shape.lists)) in
+      let past : free_list s.free.areas class order ≡ [] =
+      get_or_past s.free.areas.lists (5 * order + class_index class) []
+      (omega (arith, p.in_order.shape.lists)) in
       subst (λ (xs : List ℕ). length xs ≤ frame_count l) (sym past) (omega arith)
   | inr low ↦ few_below (frame_count l) (free_list s.free.areas class order)
       (λ first on.
       let block = p.in_order.blocks class order first on in
-      let zone = class_zone (row_at l s.blocks.rows (pageblock_of l first)).zone (λ (z : Zone). class_of_kind z (kind_at s.free.areas.kinds (pageblock_of l first))) class refl block.class_agrees in
+      let zone =
+      class_zone (row_at l s.blocks.rows (pageblock_of l first)).zone (λ (z : Zone). class_of_kind z
+      (kind_at s.free.areas.kinds (pageblock_of l first))) class refl block.class_agrees in
       in_layout l s first zone.0 layout p.in_order.shape.rows zone.1)
-      (λ frame. omega (arith, times_covered frame order (free_list s.free.areas class order), list_places-le s.free.areas class order frame (has_order l _ s.free.areas order (areas_of l s p) low), p.once frame))
+      (λ frame. omega (
+        arith,
+        times_covered frame order (free_list s.free.areas class order),
+        list_places-le
+            s.free.areas class order frame (has_order l _ s.free.areas order (areas_of l s p) low),
+        p.once frame,
+      ))
 ]
 
 -- and so has a processor's list
-pub cached_length : (l : LayoutParts) (s : Memory) (cpu : ℕ) (pool : Pool) → IsLayout l → IsWellPlaced l s → length (cached_list s.free cpu pool) ≤ frame_count l
+pub cached_length : (l : LayoutParts) (s : Memory) (cpu : ℕ) (pool : Pool) → IsLayout l → IsWellPlaced l s
+    → length (cached_list s.free cpu pool) ≤ frame_count l
 cached_length l s cpu pool layout p =
     few_below (frame_count l) (cached_list s.free cpu pool)
     (λ frame on. in_layout l s frame (zone_of_pool pool) layout p.in_order.shape.rows
-    (pool_zone (row_at l s.blocks.rows (pageblock_of l frame)).zone (kind_at s.free.areas.kinds (pageblock_of l frame)).mobility pool (p.in_order.cached cpu pool frame on)))
+    (pool_zone (row_at l s.blocks.rows (pageblock_of l frame)).zone (kind_at s.free.areas.kinds
+    (pageblock_of l frame)).mobility pool (p.in_order.cached cpu pool frame on)))
     (λ frame. omega (arith, p.once frame, times_le frame))
   where
     times_le : (frame : ℕ) → times frame (cached_list s.free cpu pool) ≤ cached_places s.free frame
     times_le frame = elim (cases_lt (3 * cpu + pool_index pool) (length s.free.cached)) [
-      | inl low ↦ get_or-le-sum_by (λ (frames : List ℕ). count_by (λ other. other == frame) frames) s.free.cached (3 * cpu + pool_index pool) [] low
+      | inl low ↦
+          get_or-le-sum_by (λ (frames : List ℕ). count_by (λ other. other == frame) frames) s.free.cached
+          (3 * cpu + pool_index pool) [] low
       | inr high ↦
-          let past : cached_list s.free cpu pool ≡ [] = get_or_past s.free.cached (3 * cpu + pool_index pool) [] high in
+          let past : cached_list s.free cpu pool ≡ [] =
+          get_or_past s.free.cached (3 * cpu + pool_index pool) [] high in
           subst (λ (xs : List ℕ). times frame xs ≤ cached_places s.free frame) (sym past) (omega arith)
     ]

@@ -30,14 +30,22 @@ IsCommitReply None true reply = reply ≡ Done
 IsCommitReply None false reply = reply ≡ Refused NoOp
 
 -- the reply of a Commit by a processor of the layout
-pub commit_reply : (l : LayoutParts) (s : Memory) (serial cpu op : ℕ) → IsLayout l → IsWellPlaced l s → cpu < l.cpus → IsCommitReply (frame_in_use l s op) (is_live s.blocks op) (step l s serial cpu (Commit op)).reply
+pub commit_reply : (l : LayoutParts) (s : Memory) (serial cpu op : ℕ) → IsLayout l → IsWellPlaced l s
+    → cpu < l.cpus
+    → IsCommitReply (frame_in_use l s op) (is_live s.blocks op) (step l s serial cpu (Commit op)).reply
 unfolding step refusal_of
 commit_reply l s serial cpu op layout p low =
-    by_tests (nat_le l.cpus cpu) (is_live s.blocks op) (list_all (is_all_free l s) (going_blocks l s.blocks op)) (frame_in_use l s op) (lt-leb l.cpus cpu low) (all_free-none l s op layout p)
-    (λ frame e. (let h = found_in_use l s op frame p e in claimed_live s.blocks.rows op (block_of l frame) h.going.claimed))
+    by_tests (nat_le l.cpus cpu) (is_live s.blocks op)
+    (list_all (is_all_free l s) (going_blocks l s.blocks op)) (frame_in_use l s op) (lt-leb l.cpus cpu low)
+    (all_free-none l s op layout p)
+    (λ frame e. (let h = found_in_use l s op frame p e in
+    claimed_live s.blocks.rows op (block_of l frame) h.going.claimed))
   where
-    by_tests : (bad live all : Bool) (o : Option ℕ) → bad ≡ false → all ≡ is_none o → ((frame : ℕ) → o ≡ Some frame → live ≡ true)
-        → IsCommitReply o live (answer l s serial cpu (Commit op) (first_some (then_some bad NoCpu ∷ then_some (not live) NoOp ∷ then_some (not all) (NotFree (unwrap_or o 0)) ∷ []))).reply
+    by_tests : (bad live all : Bool) (o : Option ℕ) → bad ≡ false → all ≡ is_none o
+        → ((frame : ℕ) → o ≡ Some frame → live ≡ true)
+        → IsCommitReply o live
+        (answer l s serial cpu (Commit op) (first_some (then_some bad NoCpu ∷ then_some (not live) NoOp
+        ∷ then_some (not all) (NotFree (unwrap_or o 0)) ∷ []))).reply
     by_tests true live all o e f g = cc
     by_tests false true true None e f g = refl
     by_tests false true false None e f g = cc
@@ -76,18 +84,24 @@ rising_filter : (p : ℕ → Bool) (low : ℕ) (xs : List ℕ) → IsRising low 
 rising_filter p low [] h = tt
 rising_filter p low (x ∷ xs) h = by_test (p x) h.0 (rising_filter p (x + 1) xs h.1)
   where
-    by_test : (b : Bool) → low ≤ x → IsRising (x + 1) (filter p xs) → IsRising low (cond b (x ∷ filter p xs) (filter p xs))
+    by_test : (b : Bool) → low ≤ x → IsRising (x + 1) (filter p xs)
+        → IsRising low (cond b (x ∷ filter p xs) (filter p xs))
     by_test true le rest = (le, rest)
     by_test false le rest = rising_low low (x + 1) (filter p xs) (omega arith) rest
 
 -- and so do two lists one above the other
-rising_append : (low middle : ℕ) (xs ys : List ℕ) → IsRising low xs → ((x : ℕ) → is_on x xs ≡ true → x < middle) → low ≤ middle → IsRising middle ys → IsRising low (xs ++ ys)
+rising_append : (low middle : ℕ) (xs ys : List ℕ) → IsRising low xs
+    → ((x : ℕ) → is_on x xs ≡ true → x < middle) → low ≤ middle → IsRising middle ys → IsRising low (xs ++ ys)
 rising_append low middle [] ys h below le k = rising_low low middle ys le k
-rising_append low middle (x ∷ xs) ys h below le k =
-    (h.0, rising_append (x + 1) middle xs ys h.1 (λ y on. below y (on_tail y x xs on)) (omega (arith, below x (on_head x xs))) k)
+rising_append low middle (x ∷ xs) ys h below le k = (
+  h.0,
+  rising_append (x + 1) middle xs ys h.1 (λ y on. below y (on_tail y x xs on))
+      (omega (arith, below x (on_head x xs))) k,
+)
 
 -- the frames of rising blocks rise
-rising_blocks : (l : LayoutParts) (low : ℕ) (blocks : List ℕ) → IsRising low blocks → IsRising (low * block_size l) (flat_map (frames_of_block l) blocks)
+rising_blocks : (l : LayoutParts) (low : ℕ) (blocks : List ℕ) → IsRising low blocks
+    → IsRising (low * block_size l) (flat_map (frames_of_block l) blocks)
 rising_blocks l low [] h = tt
 rising_blocks l low (b ∷ bs) h =
     let size : ℕ = block_size l in
@@ -95,14 +109,18 @@ rising_blocks l low (b ∷ bs) h =
     let next : (b + 1) * size ≡ b * size + size = grind arith in
     rising_append (low * size) ((b + 1) * size) (frames_of_block l b) (flat_map (frames_of_block l) bs)
     (rising_low (low * size) (b * size) (frames_of_block l b) le (rising_range (b * size) size))
-    (λ x on. omega (arith, next, (on_range x (b * size) size on).high)) (omega (arith, next)) (rising_blocks l (b + 1) bs h.1)
+    (λ x on. omega (arith, next, (on_range x (b * size) size on).high)) (omega (arith, next))
+    (rising_blocks l (b + 1) bs h.1)
 
 -- what is found on a rising list is the lowest that passes
-find_lowest : (p : ℕ → Bool) (low x y : ℕ) (xs : List ℕ) → IsRising low xs → find p xs ≡ Some x → is_on y xs ≡ true → p y ≡ true → x ≤ y
+find_lowest : (p : ℕ → Bool) (low x y : ℕ) (xs : List ℕ) → IsRising low xs → find p xs ≡ Some x
+    → is_on y xs ≡ true → p y ≡ true → x ≤ y
 find_lowest p low x y [] h e on passes = cc
-find_lowest p low x y (z ∷ zs) h e on passes = by_test (p z) refl e (λ f there. find_lowest p (z + 1) x y zs h.1 f there passes)
+find_lowest p low x y (z ∷ zs) h e on passes =
+    by_test (p z) refl e (λ f there. find_lowest p (z + 1) x y zs h.1 f there passes)
   where
-    by_test : (b : Bool) → p z ≡ b → cond b (Some z) (find p zs) ≡ Some x → (find p zs ≡ Some x → is_on y zs ≡ true → x ≤ y) → x ≤ y
+    by_test : (b : Bool) → p z ≡ b → cond b (Some z) (find p zs) ≡ Some x
+        → (find p zs ≡ Some x → is_on y zs ≡ true → x ≤ y) → x ≤ y
     by_test true is f later =
         let same : z ≡ x = cc in
         elim (on_cases y z zs on) [
@@ -120,17 +138,25 @@ still_true true h = absurd (h refl)
 still_true false h = refl
 
 -- the frame that is found is the lowest in use
-pub found_lowest : (l : LayoutParts) (s : Memory) (op frame : ℕ) → IsLayout l → IsWellPlaced l s → frame_in_use l s op ≡ Some frame → IsLowestInUse l s op frame
+pub found_lowest : (l : LayoutParts) (s : Memory) (op frame : ℕ) → IsLayout l → IsWellPlaced l s
+    → frame_in_use l s op ≡ Some frame → IsLowestInUse l s op frame
 found_lowest l s op frame layout p e = record {
   here = found_in_use l s op frame p e;
-  lowest = λ other h. find_lowest (λ (f : ℕ). not (is_in_free_block l s.free.areas f)) (0 * block_size l) frame other (going_frames l s op)
-      (rising_blocks l 0 (going_blocks l s.blocks op) (rising_filter (λ (b : ℕ). is_going (row_of s.blocks b)) 0 (blocks_of l s.blocks op)
-      (rising_filter (λ (b : ℕ). is_claimed_by op (row_of s.blocks b)) 0 (all_blocks l) (rising_range 0 l.blocks)))) e
-      (going_frame l s op other layout p h.going) (still_true (is_in_free_block l s.free.areas other) (λ t. h.not_free (tested_block l s.free.areas other t)));
+  lowest =
+      λ other h. find_lowest (λ (f : ℕ). not (is_in_free_block l s.free.areas f)) (0 * block_size l) frame
+      other (going_frames l s op)
+      (rising_blocks l 0 (going_blocks l s.blocks op)
+      (rising_filter (λ (b : ℕ). is_going (row_of s.blocks b)) 0 (blocks_of l s.blocks op)
+      (rising_filter (λ (b : ℕ). is_claimed_by op (row_of s.blocks b)) 0 (all_blocks l)
+      (rising_range 0 l.blocks))))
+      e
+      (going_frame l s op other layout p h.going) (still_true (is_in_free_block l s.free.areas other)
+      (λ t. h.not_free (tested_block l s.free.areas other t)));
 }
 
 -- where a frame is in use, one is found
-pub in_use_found : (l : LayoutParts) (s : Memory) (op frame : ℕ) → IsLayout l → IsWellPlaced l s → IsFrameInUse l s op frame → (found : ℕ) × (frame_in_use l s op ≡ Some found)
+pub in_use_found : (l : LayoutParts) (s : Memory) (op frame : ℕ) → IsLayout l → IsWellPlaced l s
+    → IsFrameInUse l s op frame → (found : ℕ) × (frame_in_use l s op ≡ Some found)
 in_use_found l s op frame layout p h = by_found (frame_in_use l s op) refl
   where
     by_found : (o : Option ℕ) → frame_in_use l s op ≡ o → (found : ℕ) × (frame_in_use l s op ≡ Some found)
@@ -138,7 +164,8 @@ in_use_found l s op frame layout p h = by_found (frame_in_use l s op) refl
     by_found (Some found) e = (found, e)
 
 -- and the lowest is the one that is found
-pub lowest_found : (l : LayoutParts) (s : Memory) (op frame : ℕ) → IsLayout l → IsWellPlaced l s → IsLowestInUse l s op frame → frame_in_use l s op ≡ Some frame
+pub lowest_found : (l : LayoutParts) (s : Memory) (op frame : ℕ) → IsLayout l → IsWellPlaced l s
+    → IsLowestInUse l s op frame → frame_in_use l s op ≡ Some frame
 lowest_found l s op frame layout p h =
     let found = in_use_found l s op frame layout p h.here in
     let least = found_lowest l s op found.0 layout p found.1 in
@@ -150,36 +177,49 @@ lowest_found l s op frame layout p h =
 -- ---- which Commit is refused, and which is done
 
 -- a refusal names the frame that is found
-reply_found : (o : Option ℕ) (live : Bool) (reply : Reply) (frame : ℕ) → IsCommitReply o live reply → reply ≡ Refused (NotFree frame) → o ≡ Some frame
+reply_found : (o : Option ℕ) (live : Bool) (reply : Reply) (frame : ℕ) → IsCommitReply o live reply
+    → reply ≡ Refused (NotFree frame) → o ≡ Some frame
 reply_found (Some found) live reply frame is e = cc
 reply_found None true reply frame is e = cc
 reply_found None false reply frame is e = cc
 
 -- and the frame that is found is named
-found_reply : (o : Option ℕ) (live : Bool) (reply : Reply) (frame : ℕ) → IsCommitReply o live reply → o ≡ Some frame → reply ≡ Refused (NotFree frame)
+found_reply : (o : Option ℕ) (live : Bool) (reply : Reply) (frame : ℕ) → IsCommitReply o live reply
+    → o ≡ Some frame → reply ≡ Refused (NotFree frame)
 found_reply (Some found) live reply frame is e = cc
 found_reply None live reply frame is e = cc
 
 -- it is refused exactly where a frame is in use, and names the lowest
-pub commit_refused : (l : LayoutParts) (s : Memory) (serial cpu op frame : ℕ) → IsLayout l → IsWellPlaced l s → cpu < l.cpus
+pub commit_refused : (l : LayoutParts) (s : Memory) (serial cpu op frame : ℕ) → IsLayout l → IsWellPlaced l s
+    → cpu < l.cpus
     → ((step l s serial cpu (Commit op)).reply ≡ Refused (NotFree frame)) ↔ IsLowestInUse l s op frame
 commit_refused l s serial cpu op frame layout p low =
     let reply : Reply = (step l s serial cpu (Commit op)).reply in
-    let is : IsCommitReply (frame_in_use l s op) (is_live s.blocks op) reply = commit_reply l s serial cpu op layout p low in (
-      λ e. found_lowest l s op frame layout p (reply_found (frame_in_use l s op) (is_live s.blocks op) reply frame is e),
-      λ h. found_reply (frame_in_use l s op) (is_live s.blocks op) reply frame is (lowest_found l s op frame layout p h),
+    let is : IsCommitReply (frame_in_use l s op) (is_live s.blocks op) reply =
+    commit_reply l s serial cpu op layout p low in (
+      λ e. found_lowest l s op frame layout p
+          (reply_found (frame_in_use l s op) (is_live s.blocks op) reply frame is e),
+      λ h. found_reply (frame_in_use l s op) (is_live s.blocks op) reply frame is
+          (lowest_found l s op frame layout p h),
     )
 
 -- it is refused exactly where there is such a frame
-pub commit_some : (l : LayoutParts) (s : Memory) (serial cpu op : ℕ) → IsLayout l → IsWellPlaced l s → cpu < l.cpus
-    → ((frame : ℕ) × ((step l s serial cpu (Commit op)).reply ≡ Refused (NotFree frame))) ↔ ((frame : ℕ) × IsFrameInUse l s op frame)
+pub commit_some : (l : LayoutParts) (s : Memory) (serial cpu op : ℕ) → IsLayout l → IsWellPlaced l s
+    → cpu < l.cpus
+    → ((frame : ℕ) × ((step l s serial cpu (Commit op)).reply ≡ Refused (NotFree frame)))
+    ↔ ((frame : ℕ) × IsFrameInUse l s op frame)
 commit_some l s serial cpu op layout p low = (
   λ e. (e.0, ((commit_refused l s serial cpu op e.0 layout p low).0 e.1).here),
-  λ h. (let found = in_use_found l s op h.0 layout p h.1 in (found.0, (commit_refused l s serial cpu op found.0 layout p low).1 (found_lowest l s op found.0 layout p found.1))),
+  λ h. (let found = in_use_found l s op h.0 layout p h.1 in (
+    found.0,
+    (commit_refused l s serial cpu op found.0 layout p low).1
+        (found_lowest l s op found.0 layout p found.1),
+  )),
 )
 
 -- where it is done the operation is live and none is found
-reply_done : (o : Option ℕ) (live : Bool) (reply : Reply) → IsCommitReply o live reply → reply ≡ Done → (live ≡ true) × (o ≡ None)
+reply_done : (o : Option ℕ) (live : Bool) (reply : Reply) → IsCommitReply o live reply → reply ≡ Done
+    → (live ≡ true) × (o ≡ None)
 reply_done (Some found) live reply is e = absurd (no_refusal (sym is ∙ e))
   where
     no_refusal : Refused (NotFree found) ≡ Done → ⊥
@@ -191,19 +231,27 @@ reply_done None false reply is e = absurd (no_refusal (sym is ∙ e))
     no_refusal e = cc
 
 -- and where these hold it is done
-done_reply : (o : Option ℕ) (live : Bool) (reply : Reply) → IsCommitReply o live reply → live ≡ true → ((frame : ℕ) → o ≡ Some frame → ⊥) → reply ≡ Done
+done_reply : (o : Option ℕ) (live : Bool) (reply : Reply) → IsCommitReply o live reply → live ≡ true
+    → ((frame : ℕ) → o ≡ Some frame → ⊥) → reply ≡ Done
 done_reply (Some found) live reply is e none = absurd (none found refl)
 done_reply None true reply is e none = is
 done_reply None false reply is e none = cc
 
 -- it is done exactly where the operation is live and no frame is in use
-pub commit_done : (l : LayoutParts) (s : Memory) (serial cpu op : ℕ) → IsLayout l → IsWellPlaced l s → cpu < l.cpus
-    → ((step l s serial cpu (Commit op)).reply ≡ Done) ↔ ((is_live s.blocks op ≡ true) × ((frame : ℕ) → IsFrameInUse l s op frame → ⊥))
+pub commit_done : (l : LayoutParts) (s : Memory) (serial cpu op : ℕ) → IsLayout l → IsWellPlaced l s
+    → cpu < l.cpus
+    → ((step l s serial cpu (Commit op)).reply ≡ Done)
+    ↔ ((is_live s.blocks op ≡ true) × ((frame : ℕ) → IsFrameInUse l s op frame → ⊥))
 commit_done l s serial cpu op layout p low =
     let reply : Reply = (step l s serial cpu (Commit op)).reply in
-    let is : IsCommitReply (frame_in_use l s op) (is_live s.blocks op) reply = commit_reply l s serial cpu op layout p low in (
-      λ e. (let done = reply_done (frame_in_use l s op) (is_live s.blocks op) reply is e in (done.0, λ frame h. (let found = in_use_found l s op frame layout p h in none_some (sym done.1 ∙ found.1)))),
-      λ h. done_reply (frame_in_use l s op) (is_live s.blocks op) reply is h.0 (λ frame e. h.1 frame (found_in_use l s op frame p e)),
+    let is : IsCommitReply (frame_in_use l s op) (is_live s.blocks op) reply =
+    commit_reply l s serial cpu op layout p low in (
+      λ e. (let done = reply_done (frame_in_use l s op) (is_live s.blocks op) reply is e in (
+        done.0,
+        λ frame h. (let found = in_use_found l s op frame layout p h in none_some (sym done.1 ∙ found.1)),
+      )),
+      λ h. done_reply (frame_in_use l s op) (is_live s.blocks op) reply is h.0
+          (λ frame e. h.1 frame (found_in_use l s op frame p e)),
     )
   where
     none_some : {found : ℕ} → None ≡ Some found → ⊥

@@ -24,9 +24,23 @@ unfoldable everything : Unit {0}
 unfolding online_block boot_memory
 everything = tt
 
--- four blocks of one pageblock of four frames, in zones Normal, Normal and Movable and one offline, and two processors
+-- four blocks of one pageblock of four frames, in zones Normal, Normal and Movable and one offline,
+-- and two processors
 abbrev small : LayoutParts
-small = record { order = 2; pageblocks = 1; blocks = 4; cpus = 2; batch = 2; high = 2; owners = 2; pages = 8; words = 2; history = 1000; boot = (NormalBoot ∷ NormalBoot ∷ MovableBoot ∷ OfflineBoot ∷ []) }
+small =
+    record {
+      order = 2;
+      pageblocks = 1;
+      blocks = 4;
+      cpus = 2;
+      batch = 2;
+      high = 2;
+      owners = 2;
+      pages = 8;
+      words = 2;
+      history = 1000;
+      boot = (NormalBoot ∷ NormalBoot ∷ MovableBoot ∷ OfflineBoot ∷ []);
+    }
 
 -- it is within its limits
 small_layout : IsLayout small
@@ -73,7 +87,8 @@ wrong_kernel = with_kernel_order (boot_memory small) 8 (Some 1)
 
 wrong_kernel_excluded : IsWellPlaced small wrong_kernel → ⊥
 unfolding everything
-wrong_kernel_excluded p = two_zones (kernel_zone small wrong_kernel 8 1 9 p refl (record { low = omega arith; high = omega arith }))
+wrong_kernel_excluded p =
+    two_zones (kernel_zone small wrong_kernel 8 1 9 p refl (record { low = omega arith; high = omega arith }))
 
 -- a page at a frame of an offline block
 abbrev wrong_page : Memory
@@ -81,24 +96,33 @@ wrong_page = (let s : Memory = boot_memory small in with_pages s (map_page s.pag
 
 wrong_page_excluded : IsWellPlaced small wrong_page → ⊥
 unfolding everything
-wrong_page_excluded p = no_zone (plugged small wrong_page 12 p (page_plugged small wrong_page 0 0 12 p refl)).zone.1
+wrong_page_excluded p =
+    no_zone (plugged small wrong_page 12 p (page_plugged small wrong_page 0 0 12 p refl)).zone.1
 
 -- a list with more blocks than there are frames
 abbrev long_list : Memory
 long_list =
     let s : Memory = boot_memory small in
-    with_areas s (with_free_list s.free.areas Nm 0 (0 ∷ 1 ∷ 2 ∷ 3 ∷ 4 ∷ 5 ∷ 6 ∷ 7 ∷ 0 ∷ 1 ∷ 2 ∷ 3 ∷ 4 ∷ 5 ∷ 6 ∷ 7 ∷ 0 ∷ []))
+    with_areas s (with_free_list s.free.areas Nm 0
+    (0 ∷ 1 ∷ 2 ∷ 3 ∷ 4 ∷ 5 ∷ 6 ∷ 7 ∷ 0 ∷ 1 ∷ 2 ∷ 3 ∷ 4 ∷ 5 ∷ 6 ∷ 7 ∷ 0 ∷ []))
 
 long_list_excluded : IsWellPlaced small long_list → ⊥
 unfolding everything
-long_list_excluded p = (let short : 17 ≤ 16 = free_length small long_list Nm 0 small_layout p in absurd (omega arith))
+long_list_excluded p =
+    (let short : 17 ≤ 16 = free_length small long_list Nm 0 small_layout p in absurd (omega arith))
 
 -- a going block of which each frame is free, in two halves that are not joined: a Commit would name no frame
 abbrev in_halves : Memory
 in_halves =
     let s : Memory = boot_memory small in
-    let areas = with_kind (with_free_list s.free.areas IsoM 1 (8 ∷ 10 ∷ [])) 2 (record plain_kind { isolated = true }) in
-    with_block_row (with_areas s areas) 2 (record { state = GoingState; zone = Some MovableZone; claim = Some (record { op = 1; wish = OffWish }) })
+    let areas =
+    with_kind (with_free_list s.free.areas IsoM 1 (8 ∷ 10 ∷ [])) 2
+    (record plain_kind { isolated = true }) in
+    with_block_row (with_areas s areas) 2 (record {
+      state = GoingState;
+      zone = Some MovableZone;
+      claim = Some (record { op = 1; wish = OffWish });
+    })
 
 none_found : frame_in_use small in_halves 1 ≡ None
 unfolding everything

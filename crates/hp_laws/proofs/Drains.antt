@@ -1,4 +1,5 @@
--- The processors' lists: frames given back one after another, frames taken one after another, a list written; Drain.
+-- The processors' lists: frames given back one after another, frames taken one after another, a
+-- list written; Drain.
 use Rattle.std.proofs.Common.{◌≡◌, ℕ, zero, suc, ◌+◌, ◌*◌, ◌%◌, ◌^◌, ◌<◌, ◌≤◌, List, [], ◌∷◌, length, get_or, set, true, cond, Option, Some, None, refl, sym, ◌∙◌, ap, subst, arith, inl, inr, IfSome, length-set, eq-eqb, ◌==◌}
 use Rattle.std.specs.List.{count_by}
 use Rattle.std.specs.Option.{option_map, option_map_or}
@@ -46,53 +47,80 @@ single frame = omega arith
 
 -- ---- frames given back
 
-pub record GivesAll (l : LayoutParts) (class_at : ℕ → Option Class) (a : FreeAreas) (frames : List ℕ) (b : FreeAreas) : Type 0 where
+pub record GivesAll (l : LayoutParts) (class_at : ℕ → Option Class) (a : FreeAreas) (frames : List ℕ)
+    (b : FreeAreas) : Type 0 where
   pub ordered : AreOrdered l class_at b
   pub places : (frame : ℕ) → free_places b frame ≡ free_places a frame + times frame frames
   pub kinds : b.kinds ≡ a.kinds
 
-pub give_all-ordered : (l : LayoutParts) (class_at : ℕ → Option Class) (a : FreeAreas) (zone : Zone) (frames : List ℕ) → AreOrdered l class_at a
-    → ((frame : ℕ) → is_on frame frames ≡ true → class_at (pageblock_of l frame) ≡ Some (class_of l a zone frame))
-    → ((frame : ℕ) → free_places a frame + times frame frames ≤ 1) → GivesAll l class_at a frames (give_all l a zone frames)
-give_all-ordered l class_at a zone [] h agrees room = record { ordered = h; places = λ frame. omega arith; kinds = refl }
+pub give_all-ordered : (l : LayoutParts) (class_at : ℕ → Option Class) (a : FreeAreas) (zone : Zone)
+    (frames : List ℕ)
+    → AreOrdered l class_at a
+    → ((frame : ℕ) → is_on frame frames ≡ true
+    → class_at (pageblock_of l frame) ≡ Some (class_of l a zone frame))
+    → ((frame : ℕ) → free_places a frame + times frame frames ≤ 1)
+    → GivesAll l class_at a frames (give_all l a zone frames)
+give_all-ordered l class_at a zone [] h agrees room =
+    record { ordered = h; places = λ frame. omega arith; kinds = refl }
 give_all-ordered l class_at a zone (x ∷ xs) h agrees room =
     let b : FreeAreas = give_block l a zone x 0 in
     let same : b.kinds ≡ a.kinds = give_block-kinds l a zone x 0 in
-    let here : (frame : ℕ) → free_places a frame + covered frame 0 x ≤ 1 = λ frame. omega (arith, room frame, times-cons frame x xs) in
+    let here : (frame : ℕ) → free_places a frame + covered frame 0 x ≤ 1 =
+    λ frame. omega (arith, room frame, times-cons frame x xs) in
     let given : (frame : ℕ) → free_places b frame ≡ free_places a frame + covered frame 0 x =
-    λ frame. give_block-places l a zone x 0 frame h.lists (omega arith) (aligned_ancestor x 0 (single x)) h.few in
-    let ordered = give_block-ordered l class_at a zone x 0 (omega arith) (single x) (agrees x (or_left (x == x) (is_on x xs) (eq-eqb x x refl))) here h in
+    λ frame.
+    give_block-places l a zone x 0 frame h.lists (omega arith) (aligned_ancestor x 0 (single x)) h.few in
+    let ordered =
+    give_block-ordered l class_at a zone x 0 (omega arith) (single x)
+    (agrees x (or_left (x == x) (is_on x xs) (eq-eqb x x refl))) here h in
     let rest = give_all-ordered l class_at b zone xs ordered
-    (λ frame on. agrees frame (on_tail frame x xs on) ∙ ap (λ (ks : List Kind). Some (class_of_kind zone (kind_at ks (pageblock_of l frame)))) (sym same))
+    (λ frame on. agrees frame (on_tail frame x xs on)
+    ∙ ap (λ (ks : List Kind). Some (class_of_kind zone (kind_at ks (pageblock_of l frame)))) (sym same))
     (λ frame. omega (arith, room frame, times-cons frame x xs, given frame)) in
-    record { ordered = rest.ordered; places = λ frame. omega (arith, rest.places frame, given frame, times-cons frame x xs); kinds = rest.kinds ∙ same }
+    record {
+      ordered = rest.ordered;
+      places = λ frame. omega (arith, rest.places frame, given frame, times-cons frame x xs);
+      kinds = rest.kinds ∙ same;
+    }
 
 -- ---- frames taken
 
-pub record RefillOrdered (l : LayoutParts) (class_at : ℕ → Option Class) (a : FreeAreas) (class : Class) (refill : Refill) : Type 0 where
+pub record RefillOrdered (l : LayoutParts) (class_at : ℕ → Option Class) (a : FreeAreas) (class : Class)
+    (refill : Refill) : Type 0 where
   pub ordered : AreOrdered l class_at refill.areas
   pub places : (frame : ℕ) → free_places refill.areas frame + times frame refill.frames ≡ free_places a frame
   pub classes : (frame : ℕ) → is_on frame refill.frames ≡ true → class_at (pageblock_of l frame) ≡ Some class
   pub kinds : refill.areas.kinds ≡ a.kinds
 
-pub take_frames-ordered : (l : LayoutParts) (class_at : ℕ → Option Class) (pool : Pool) (count : ℕ) (a : FreeAreas) → AreOrdered l class_at a
+pub take_frames-ordered : (l : LayoutParts) (class_at : ℕ → Option Class) (pool : Pool) (count : ℕ)
+    (a : FreeAreas)
+    → AreOrdered l class_at a
     → RefillOrdered l class_at a (class_of_pool pool) (take_frames l pool count a)
 unfolding take_frames
-take_frames-ordered l class_at pool zero a h = record { ordered = h; places = λ frame. omega arith; classes = λ frame on. cc; kinds = refl }
+take_frames-ordered l class_at pool zero a h =
+    record { ordered = h; places = λ frame. omega arith; classes = λ frame on. cc; kinds = refl }
 take_frames-ordered l class_at pool (suc count) a h =
-    after (take_block l a (class_of_pool pool) 0) (take_block-ordered l class_at a (class_of_pool pool) 0 h) (take_frames l pool count) (λ b k. take_frames-ordered l class_at pool count b k)
+    after (take_block l a (class_of_pool pool) 0) (take_block-ordered l class_at a (class_of_pool pool) 0 h)
+    (take_frames l pool count) (λ b k. take_frames-ordered l class_at pool count b k)
   where
-    after : (o : Option Taken) → IfSome o (TakesOrdered l class_at a (class_of_pool pool) 0) → (f : FreeAreas → Refill)
+    after : (o : Option Taken) → IfSome o (TakesOrdered l class_at a (class_of_pool pool) 0)
+        → (f : FreeAreas → Refill)
         → ((b : FreeAreas) → AreOrdered l class_at b → RefillOrdered l class_at b (class_of_pool pool) (f b))
-        → RefillOrdered l class_at a (class_of_pool pool) (option_map_or (λ taken. with_first taken.frame (f taken.areas)) o (record { areas = a; frames = [] }))
-    after None t f k = record { ordered = h; places = λ frame. omega arith; classes = λ frame on. cc; kinds = refl }
+        → RefillOrdered l class_at a (class_of_pool pool) (option_map_or
+        (λ taken. with_first taken.frame (f taken.areas)) o (record { areas = a; frames = [] }))
+    after None t f k =
+        record { ordered = h; places = λ frame. omega arith; classes = λ frame on. cc; kinds = refl }
     after (Some taken) t f k =
         let rest = k taken.areas t.ordered in
         record {
           ordered = rest.ordered;
-          places = λ frame. omega (arith, rest.places frame, t.places frame, times-cons frame taken.frame (f taken.areas).frames);
+          places =
+              λ frame. omega
+              (arith, rest.places frame, t.places frame, times-cons frame taken.frame (f taken.areas).frames);
           classes = λ frame on. elim (on_cases frame taken.frame (f taken.areas).frames on) [
-            | inl same ↦ subst (λ (n : ℕ). class_at (pageblock_of l n) ≡ Some (class_of_pool pool)) same t.block.class_agrees
+            | inl same ↦
+                subst (λ (n : ℕ). class_at (pageblock_of l n) ≡ Some (class_of_pool pool)) same
+                t.block.class_agrees
             | inr there ↦ rest.classes frame there
           ];
           kinds = rest.kinds ∙ t.kinds;
@@ -118,23 +146,40 @@ same_pool cpu other pool p e =
     let same : pool_index p ≡ pool_index pool = omega arith in
     sym (pool_from-index p) ∙ ap pool_from same ∙ pool_from-index pool
 
-pub cached-in_order : (l : LayoutParts) (s : Memory) (cpu : ℕ) (pool : Pool) (frames : List ℕ) → IsInOrder l s → cpu < l.cpus
-    → ((frame : ℕ) → is_on frame frames ≡ true → pool_at l s.free.areas.kinds s.blocks.rows (pageblock_of l frame) ≡ Some pool)
+pub cached-in_order : (l : LayoutParts) (s : Memory) (cpu : ℕ) (pool : Pool) (frames : List ℕ) → IsInOrder l s
+    → cpu < l.cpus
+    → ((frame : ℕ) → is_on frame frames ≡ true
+    → pool_at l s.free.areas.kinds s.blocks.rows (pageblock_of l frame) ≡ Some pool)
     → IsInOrder l (with_free s (with_cached_list s.free cpu pool frames))
 cached-in_order l s cpu pool frames h low agrees =
     let below : pool_index pool < 3 = pool_index-lt pool in
     let short : 3 * cpu + pool_index pool < length s.free.cached = omega (arith, h.shape.cached) in
     record {
-      shape = record { lists = h.shape.lists; kinds = h.shape.kinds; cached = length-set s.free.cached (3 * cpu + pool_index pool) frames ∙ h.shape.cached; owners = h.shape.owners; pages = h.shape.pages; content_owners = h.shape.content_owners; content_pages = h.shape.content_pages; kernel = h.shape.kernel; rows = h.shape.rows };
+      shape =
+          record {
+            lists = h.shape.lists;
+            kinds = h.shape.kinds;
+            cached = length-set s.free.cached (3 * cpu + pool_index pool) frames ∙ h.shape.cached;
+            owners = h.shape.owners;
+            pages = h.shape.pages;
+            content_owners = h.shape.content_owners;
+            content_pages = h.shape.content_pages;
+            kernel = h.shape.kernel;
+            rows = h.shape.rows;
+          };
       blocks = h.blocks;
       joined = h.joined;
       cached = λ other p frame. elim (cases_eq (3 * other + pool_index p) (3 * cpu + pool_index pool)) [
         | inl same ↦ λ on.
-            let is : get_or (set s.free.cached (3 * cpu + pool_index pool) frames) (3 * other + pool_index p) [] ≡ frames =
-            ap (λ (i : ℕ). get_or (set s.free.cached (3 * cpu + pool_index pool) frames) i []) same ∙ get_or-set_same s.free.cached (3 * cpu + pool_index pool) frames [] short in
-            agrees frame (subst (λ (xs : List ℕ). is_on frame xs ≡ true) is on) ∙ ap (λ (q : Pool). Some q) (sym (same_pool cpu other pool p same))
+            let is : get_or (set s.free.cached (3 * cpu + pool_index pool) frames) (3 * other + pool_index p)
+            [] ≡ frames =
+            ap (λ (i : ℕ). get_or (set s.free.cached (3 * cpu + pool_index pool) frames) i []) same
+            ∙ get_or-set_same s.free.cached (3 * cpu + pool_index pool) frames [] short in
+            agrees frame (subst (λ (xs : List ℕ). is_on frame xs ≡ true) is on)
+            ∙ ap (λ (q : Pool). Some q) (sym (same_pool cpu other pool p same))
         | inr ne ↦ λ on. h.cached other p frame
-            (subst (λ (xs : List ℕ). is_on frame xs ≡ true) (get_or-set_other s.free.cached (3 * cpu + pool_index pool) (3 * other + pool_index p) frames [] ne) on)
+            (subst (λ (xs : List ℕ). is_on frame xs ≡ true) (get_or-set_other s.free.cached
+            (3 * cpu + pool_index pool) (3 * other + pool_index p) frames [] ne) on)
       ];
       kernel = h.kernel;
       mobility = h.mobility;
@@ -143,7 +188,8 @@ cached-in_order l s cpu pool frames h low agrees =
       words = h.words;
     }
 
-pub pool_zone : (zone : Option Zone) (mobility : Mobility) (pool : Pool) → option_map (λ z. pool_of z mobility) zone ≡ Some pool → zone ≡ Some (zone_of_pool pool)
+pub pool_zone : (zone : Option Zone) (mobility : Mobility) (pool : Pool)
+    → option_map (λ z. pool_of z mobility) zone ≡ Some pool → zone ≡ Some (zone_of_pool pool)
 pool_zone None mobility pool e = cc
 pool_zone (Some NormalZone) Unmovable NuPool e = refl
 pool_zone (Some NormalZone) Unmovable NmPool e = cc
@@ -157,26 +203,39 @@ pool_zone (Some MovableZone) mobility MmPool e = refl
 
 -- ---- Drain
 
-pub drain_pool-placed : (l : LayoutParts) (s : Memory) (cpu : ℕ) (pool : Pool) → cpu < l.cpus → IsWellPlaced l s → IsWellPlaced l (with_free s (drain_pool l cpu s.free pool))
+pub drain_pool-placed : (l : LayoutParts) (s : Memory) (cpu : ℕ) (pool : Pool) → cpu < l.cpus
+    → IsWellPlaced l s → IsWellPlaced l (with_free s (drain_pool l cpu s.free pool))
 drain_pool-placed l s cpu pool low p =
     let frames : List ℕ = cached_list s.free cpu pool in
     let below : pool_index pool < 3 = pool_index-lt pool in
     let short : 3 * cpu + pool_index pool < length s.free.cached = omega (arith, p.in_order.shape.cached) in
-    let left : (frame : ℕ) → cached_places (with_cached_list s.free cpu pool []) frame + times frame frames ≡ cached_places s.free frame =
-    λ frame. omega (arith, sum_by-set (λ (xs : List ℕ). times frame xs) s.free.cached (3 * cpu + pool_index pool) [] [] short) in
-    let given = give_all-ordered l (class_at l s.free.areas.kinds s.blocks.rows) s.free.areas (zone_of_pool pool) frames (areas_of l s p)
+    let left : (frame : ℕ)
+    → cached_places (with_cached_list s.free cpu pool []) frame + times frame frames
+    ≡ cached_places s.free frame =
+    λ frame. omega (
+      arith,
+      sum_by-set (λ (xs : List ℕ). times frame xs) s.free.cached (3 * cpu + pool_index pool) [] [] short,
+    ) in
+    let given =
+    give_all-ordered l (class_at l s.free.areas.kinds s.blocks.rows) s.free.areas (zone_of_pool pool) frames
+    (areas_of l s p)
     (λ frame on. ap (option_map (λ z. class_of_kind z (kind_at s.free.areas.kinds (pageblock_of l frame))))
-    (pool_zone (row_at l s.blocks.rows (pageblock_of l frame)).zone (kind_at s.free.areas.kinds (pageblock_of l frame)).mobility pool (p.in_order.cached cpu pool frame on)))
+    (pool_zone (row_at l s.blocks.rows (pageblock_of l frame)).zone (kind_at s.free.areas.kinds
+    (pageblock_of l frame)).mobility pool (p.in_order.cached cpu pool frame on)))
     (λ frame. omega (arith, left frame, p.once frame)) in
     record {
-      in_order = cached-in_order l (with_areas s (give_all l s.free.areas (zone_of_pool pool) frames)) cpu pool []
-          (areas-in_order l s (give_all l s.free.areas (zone_of_pool pool) frames) p.in_order given.ordered given.kinds) low (λ frame on. cc);
+      in_order =
+          cached-in_order l (with_areas s (give_all l s.free.areas (zone_of_pool pool) frames)) cpu pool []
+          (areas-in_order l s (give_all l s.free.areas (zone_of_pool pool) frames) p.in_order given.ordered
+          given.kinds) low (λ frame on. cc);
       once = λ frame. omega (arith, p.once frame, given.places frame, left frame);
     }
 
-pub drain_lists-placed : (l : LayoutParts) (s : Memory) (cpu : ℕ) → cpu < l.cpus → IsWellPlaced l s → IsWellPlaced l (with_free s (drain_lists l s.free cpu))
+pub drain_lists-placed : (l : LayoutParts) (s : Memory) (cpu : ℕ) → cpu < l.cpus → IsWellPlaced l s
+    → IsWellPlaced l (with_free s (drain_lists l s.free cpu))
 unfolding drain_lists
 drain_lists-placed l s cpu low p =
     let a = drain_pool-placed l s cpu NuPool low p in
     let b = drain_pool-placed l (with_free s (drain_pool l cpu s.free NuPool)) cpu NmPool low a in
-    drain_pool-placed l (with_free s (drain_pool l cpu (drain_pool l cpu s.free NuPool) NmPool)) cpu MmPool low b
+    drain_pool-placed l (with_free s (drain_pool l cpu (drain_pool l cpu s.free NuPool) NmPool)) cpu MmPool
+    low b

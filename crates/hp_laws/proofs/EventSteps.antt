@@ -46,18 +46,23 @@ absent_unplugged row e = or_true (is_offline row) (is_absent row) e
     or_true true b h = refl
     or_true false b h = h
 
-auto-placed : (l : LayoutParts) (auto : Auto) (s : Memory) (block : ℕ) → IsLayout l → IsWellPlaced l s → is_unplugged (row_of s.blocks block) ≡ true → block < l.blocks
+auto-placed : (l : LayoutParts) (auto : Auto) (s : Memory) (block : ℕ) → IsLayout l → IsWellPlaced l s
+    → is_unplugged (row_of s.blocks block) ≡ true → block < l.blocks
     → IsWellPlaced l (auto_online l auto s block)
 auto-placed l OfflineAuto s block layout p off low = p
 auto-placed l OnlineAuto s block layout p off low = online_block-placed l NormalZone s block layout p off low
 auto-placed l KernelAuto s block layout p off low = online_block-placed l NormalZone s block layout p off low
-auto-placed l MovableAuto s block layout p off low = online_block-placed l MovableZone s block layout p off low
+auto-placed l MovableAuto s block layout p off low =
+    online_block-placed l MovableZone s block layout p off low
 
-pub probe-placed : (l : LayoutParts) (s : Memory) (block : ℕ) → IsLayout l → IsWellPlaced l s → is_unplugged (row_of s.blocks block) ≡ true → block < l.blocks
+pub probe-placed : (l : LayoutParts) (s : Memory) (block : ℕ) → IsLayout l → IsWellPlaced l s
+    → is_unplugged (row_of s.blocks block) ≡ true → block < l.blocks
     → IsWellPlaced l (auto_online l s.blocks.auto (with_block_row s block offline_row) block)
 probe-placed l s block layout p off low =
-    let there : row_of (with_block_row s block offline_row).blocks block ≡ offline_row = get_or-set_same s.blocks.rows block offline_row offline_row (omega (arith, p.in_order.shape.rows)) in
-    auto-placed l s.blocks.auto (with_block_row s block offline_row) block layout (unplugged-placed l s block offline_row p off low (refl, refl) refl refl) (ap is_unplugged there) low
+    let there : row_of (with_block_row s block offline_row).blocks block ≡ offline_row =
+    get_or-set_same s.blocks.rows block offline_row offline_row (omega (arith, p.in_order.shape.rows)) in
+    auto-placed l s.blocks.auto (with_block_row s block offline_row) block layout
+    (unplugged-placed l s block offline_row p off low (refl, refl) refl refl) (ap is_unplugged there) low
 
 at_most : {A : Type 0} (n m : ℕ) (x : A) → then_some (nat_lt n m) x ≡ None → m ≤ n
 at_most n m x e = not_below n m (then_none (nat_lt n m) x e)
@@ -70,60 +75,79 @@ not_there None e = refl
 not_there (Some x) e = cc
 
 -- what an event that isn't refused does keeps a state well placed
-pub perform-placed : (l : LayoutParts) (s : Memory) (serial cpu : ℕ) (event : Event) → IsLayout l → IsWellPlaced l s → cpu < l.cpus → first_some (event_refusals l s cpu event) ≡ None
+pub perform-placed : (l : LayoutParts) (s : Memory) (serial cpu : ℕ) (event : Event) → IsLayout l
+    → IsWellPlaced l s → cpu < l.cpus → first_some (event_refusals l s cpu event) ≡ None
     → IsWellPlaced l (perform l s serial cpu event).memory
 perform-placed l s serial cpu (KernelAlloc order) layout p low e =
-    kernel_alloc-placed l s cpu order low layout p (at_most l.order order _ (all_none (event_refusals l s cpu (KernelAlloc order)) e).0)
-perform-placed l s serial cpu (KernelFree frame) layout p low e = kernel_free-placed l s cpu frame low layout p
+    kernel_alloc-placed l s cpu order low layout p
+    (at_most l.order order _ (all_none (event_refusals l s cpu (KernelAlloc order)) e).0)
+perform-placed l s serial cpu (KernelFree frame) layout p low e =
+    kernel_free-placed l s cpu frame low layout p
 perform-placed l s serial cpu (Map owner page) layout p low e =
     let none = all_none (event_refusals l s cpu (Map owner page)) e in
-    map-placed l s cpu owner page low layout p (below l.owners owner _ none.0) (below l.pages page _ none.1.0) (not_there (frame_at s.pages owner page) (then_none _ _ none.1.1.0))
+    map-placed l s cpu owner page low layout p (below l.owners owner _ none.0) (below l.pages page _ none.1.0)
+    (not_there (frame_at s.pages owner page) (then_none _ _ none.1.1.0))
 perform-placed l s serial cpu (Unmap owner page) layout p low e = unmap-placed l s cpu owner page low p
 perform-placed l s serial cpu (Write owner page index value) layout p low e =
     let none = all_none (event_refusals l s cpu (Write owner page index value)) e in
     write-placed l s owner page index value p (below l.owners owner _ none.0) (below l.pages page _ none.1.0)
 perform-placed l s serial cpu (Read owner page index) layout p low e = p
 perform-placed l s serial cpu (Drain drained) layout p low e =
-    drain_lists-placed l s drained (below l.cpus drained _ (all_none (event_refusals l s cpu (Drain drained)) e).0) p
+    drain_lists-placed l s drained
+    (below l.cpus drained _ (all_none (event_refusals l s cpu (Drain drained)) e).0) p
 perform-placed l s serial cpu (Online block zone) layout p low e =
     let none = all_none (event_refusals l s cpu (Online block zone)) e in
-    online_block-placed l zone s block layout p (or_left (is_offline (row_of s.blocks block)) (is_absent (row_of s.blocks block)) (not-false _ (then_none _ _ none.1.1.0))) (below l.blocks block _ none.0)
+    online_block-placed l zone s block layout p (or_left (is_offline (row_of s.blocks block)) (is_absent
+    (row_of s.blocks block)) (not-false _ (then_none _ _ none.1.1.0))) (below l.blocks block _ none.0)
 perform-placed l s serial cpu (Begin plan) layout p low e = begin-placed l s serial plan layout p e
 perform-placed l s serial cpu (DrainFor op drained) layout p low e =
-    drain_lists-placed l s drained (below l.cpus drained _ (all_none (event_refusals l s cpu (DrainFor op drained)) e).0) p
+    drain_lists-placed l s drained
+    (below l.cpus drained _ (all_none (event_refusals l s cpu (DrainFor op drained)) e).0) p
 perform-placed l s serial cpu (Migrate op) layout p low e = migrate-placed l s op layout p
 perform-placed l s serial cpu (Commit op) layout p low e =
-    commit-placed l s op layout p (not-false _ (then_none _ _ (all_none (event_refusals l s cpu (Commit op)) e).1.0))
+    commit-placed l s op layout p
+    (not-false _ (then_none _ _ (all_none (event_refusals l s cpu (Commit op)) e).1.0))
 perform-placed l s serial cpu (Cancel op) layout p low e = release-placed l s op layout p
 perform-placed l s serial cpu (UndoAfter after) layout p low e = p
 perform-placed l s serial cpu (Probe address) layout p low e =
     let none = all_none (event_refusals l s cpu (Probe address)) e in
     probe-placed l s (address / block_bytes l) layout p
-    (absent_unplugged (row_of s.blocks (address / block_bytes l)) (not-false _ (then_none _ _ none.1.1.0))) (below l.blocks (address / block_bytes l) _ none.1.0)
+    (absent_unplugged (row_of s.blocks (address / block_bytes l)) (not-false _ (then_none _ _ none.1.1.0)))
+    (below l.blocks (address / block_bytes l) _ none.1.0)
 perform-placed l s serial cpu (Remove block) layout p low e =
     let none = all_none (event_refusals l s cpu (Remove block)) e in
     unplugged-placed l s block (record offline_row { state = AbsentState }) p
-    (or_left (is_offline (row_of s.blocks block)) (is_absent (row_of s.blocks block)) (not-false _ (then_none _ _ none.1.1.0))) (below l.blocks block _ none.0) (refl, refl) refl refl
+    (or_left (is_offline (row_of s.blocks block)) (is_absent (row_of s.blocks block))
+    (not-false _ (then_none _ _ none.1.1.0))) (below l.blocks block _ none.0) (refl, refl) refl refl
 perform-placed l s serial cpu (SetAuto auto) layout p low e = set_auto-placed l s auto p
 
-answer-placed : (l : LayoutParts) (s : Memory) (serial cpu : ℕ) (event : Event) (o : Option Refusal) → IsLayout l → IsWellPlaced l s → refusal_of l s cpu event ≡ o → IsWellPlaced l (answer l s serial cpu event o).memory
+answer-placed : (l : LayoutParts) (s : Memory) (serial cpu : ℕ) (event : Event) (o : Option Refusal)
+    → IsLayout l → IsWellPlaced l s → refusal_of l s cpu event ≡ o
+    → IsWellPlaced l (answer l s serial cpu event o).memory
 unfolding refusal_of
 answer-placed l s serial cpu event (Some refusal) layout p e = p
 answer-placed l s serial cpu event None layout p e =
     let none = all_none (then_some (nat_le l.cpus cpu) NoCpu ∷ event_refusals l s cpu event) e in
-    perform-placed l s serial cpu event layout p (below l.cpus cpu _ none.0) (none_rest (then_some (nat_le l.cpus cpu) NoCpu) (event_refusals l s cpu event) e)
+    perform-placed l s serial cpu event layout p (below l.cpus cpu _ none.0)
+    (none_rest (then_some (nat_le l.cpus cpu) NoCpu) (event_refusals l s cpu event) e)
 
 -- each step keeps a state well placed
-pub step-placed : (l : LayoutParts) (s : Memory) (serial cpu : ℕ) (event : Event) → IsLayout l → IsWellPlaced l s → IsWellPlaced l (step l s serial cpu event).memory
+pub step-placed : (l : LayoutParts) (s : Memory) (serial cpu : ℕ) (event : Event) → IsLayout l
+    → IsWellPlaced l s → IsWellPlaced l (step l s serial cpu event).memory
 unfolding step
-step-placed l s serial cpu event layout p = answer-placed l s serial cpu event (refusal_of l s cpu event) layout p refl
+step-placed l s serial cpu event layout p =
+    answer-placed l s serial cpu event (refusal_of l s cpu event) layout p refl
 
 -- and so do steps one after another, and each history
-pub run-placed : (l : LayoutParts) (s : Memory) (steps : List Record) → IsLayout l → IsWellPlaced l s → IsWellPlaced l (run l s steps)
+pub run-placed : (l : LayoutParts) (s : Memory) (steps : List Record) → IsLayout l → IsWellPlaced l s
+    → IsWellPlaced l (run l s steps)
 unfolding run
 run-placed l s [] layout p = p
-run-placed l s (r ∷ rs) layout p = run-placed l (step l s r.serial r.cpu r.event).memory rs layout (step-placed l s r.serial r.cpu r.event layout p)
+run-placed l s (r ∷ rs) layout p =
+    run-placed l (step l s r.serial r.cpu r.event).memory rs layout
+    (step-placed l s r.serial r.cpu r.event layout p)
 
-pub value-placed : (l : LayoutParts) (base : Memory) (history : List Record) → IsLayout l → IsWellPlaced l base → IsWellPlaced l (value_of l base history)
+pub value-placed : (l : LayoutParts) (base : Memory) (history : List Record) → IsLayout l
+    → IsWellPlaced l base → IsWellPlaced l (value_of l base history)
 unfolding value_of
 value-placed l base history layout p = run-placed l base (net_of history) layout p

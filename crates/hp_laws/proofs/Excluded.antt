@@ -29,12 +29,28 @@ use Rattle.hp_laws.proofs.LawProofs.{last_follows}
 
 -- opens every definition
 unfoldable everything : Unit {0}
-unfolding take_block give_block steal_block take_frames take_one put_one drain_lists move_pageblock online_block begin_plan commit_blocks release_blocks refusal_of kernel_takes kernel_gives map_step unmap_step migrate_step step sole_at steps_until count_above net_with net_of run value_of reply_of boot_memory
+unfolding take_block give_block steal_block take_frames take_one put_one drain_lists move_pageblock
+    online_block begin_plan commit_blocks release_blocks refusal_of kernel_takes kernel_gives map_step
+    unmap_step migrate_step step sole_at steps_until count_above net_with net_of run value_of reply_of
+    boot_memory
 everything = tt
 
 -- four blocks of one pageblock of four frames: zones Normal, Normal and Movable, and one offline block
 abbrev small : LayoutParts
-small = record { order = 2; pageblocks = 1; blocks = 4; cpus = 2; batch = 2; high = 2; owners = 2; pages = 8; words = 2; history = 1000; boot = (NormalBoot ∷ NormalBoot ∷ MovableBoot ∷ OfflineBoot ∷ []) }
+small =
+    record {
+      order = 2;
+      pageblocks = 1;
+      blocks = 4;
+      cpus = 2;
+      batch = 2;
+      high = 2;
+      owners = 2;
+      pages = 8;
+      words = 2;
+      history = 1000;
+      boot = (NormalBoot ∷ NormalBoot ∷ MovableBoot ∷ OfflineBoot ∷ []);
+    }
 
 abbrev booted : Memory
 booted = boot_memory small
@@ -81,7 +97,9 @@ past_excluded p = absurd (omega (arith, p.once 16, mapped_past))
 
 -- pageblock 2 is still isolated, and its block isn't going
 abbrev stale : Memory
-stale = with_areas booted (with_kind booted.free.areas 2 (record (kind_of booted.free.areas 2) { isolated = true }))
+stale =
+    with_areas booted
+    (with_kind booted.free.areas 2 (record (kind_of booted.free.areas 2) { isolated = true }))
 
 stale_once : each_once stale ≡ true
 unfolding everything
@@ -95,14 +113,18 @@ stale_excluded h = let flag : true ≡ false = h.isolated 2 in cc
 
 -- the record that an event makes after earlier ones, if it is answered as told
 abbrev record_of : List Record → (cpu : ℕ) → Event → Reply → Record
-record_of earlier cpu event reply = record { serial = length earlier + 1; cpu = cpu; event = event; reply = reply }
+record_of earlier cpu event reply =
+    record { serial = length earlier + 1; cpu = cpu; event = event; reply = reply }
 
 abbrev with_call : List Record → ℕ × Event × Reply → List Record
 with_call earlier call = earlier ++ record_of earlier call.0 call.1 call.2 ∷ []
 
 -- a record with another reply than the definitions give may not stand there
-wrong_reply : (h : List Record) (cpu : ℕ) (event : Event) (reply right : Reply) → reply_of small booted 0 h cpu event ≡ right → reply ≢ right → IsLegal small booted 0 (h ++ record_of h cpu event reply ∷ []) → ⊥
-wrong_reply h cpu event reply right is ne legal = ne ((last_follows small booted 0 h (record_of h cpu event reply) legal).reply ∙ is)
+wrong_reply : (h : List Record) (cpu : ℕ) (event : Event) (reply right : Reply)
+    → reply_of small booted 0 h cpu event ≡ right → reply ≢ right
+    → IsLegal small booted 0 (h ++ record_of h cpu event reply ∷ []) → ⊥
+wrong_reply h cpu event reply right is ne legal =
+    ne ((last_follows small booted 0 h (record_of h cpu event reply) legal).reply ∙ is)
 
 -- ---- the frames that are handed out
 
@@ -140,19 +162,24 @@ moved_within = wrong_reply leaving 0 (Migrate 2) (Moved 8 10) (Moved 8 0) moved_
 -- ---- the contents of pages
 
 abbrev written : List Record
-written = with_call (with_call (with_call [] (0, Map 0 0, Done)) (0, Write 0 0 1 5, Done)) (0, Begin off_2, Opened 3)
+written =
+    with_call (with_call (with_call [] (0, Map 0 0, Done)) (0, Write 0 0 1 5, Done))
+    (0, Begin off_2, Opened 3)
 
 abbrev migrated : List Record
 migrated = with_call written (0, Migrate 3, Moved 8 0)
 
-moved_contents : entry_of (contents_of_net small booted.pages.contents (net_of migrated)) 0 0 ≡ Some (0 ∷ 5 ∷ [])
+moved_contents : entry_of (contents_of_net small booted.pages.contents (net_of migrated)) 0 0
+    ≡ Some (0 ∷ 5 ∷ [])
 unfolding everything
 moved_contents = refl
 
 -- a migration that does not take the words along
-words_lost : (s : Memory) → s.pages.contents ≡ contents_of_net small booted.pages.contents (net_of migrated) → entry_of s.pages.contents 0 0 ≡ Some (0 ∷ 0 ∷ []) → ⊥
+words_lost : (s : Memory) → s.pages.contents ≡ contents_of_net small booted.pages.contents (net_of migrated)
+    → entry_of s.pages.contents 0 0 ≡ Some (0 ∷ 0 ∷ []) → ⊥
 words_lost s same zeros =
-    two_contents (entry_of s.pages.contents 0 0) zeros (ap (λ (c : List (List (Option (List ℕ)))). entry_of c 0 0) same ∙ moved_contents)
+    two_contents (entry_of s.pages.contents 0 0) zeros
+    (ap (λ (c : List (List (Option (List ℕ)))). entry_of c 0 0) same ∙ moved_contents)
   where
     two_contents : (o : Option (List ℕ)) → o ≡ Some (0 ∷ 0 ∷ []) → o ≡ Some (0 ∷ 5 ∷ []) → ⊥
     two_contents o e f = cc
@@ -190,11 +217,15 @@ cancel_excluded stayed = two_frames (frame_at (value_of small booted restored).p
 -- ---- operations
 
 abbrev three : List Item
-three = record { block = 0; wish = OffWish } ∷ record { block = 2; wish = OffWish } ∷ record { block = 3; wish = MovableWish } ∷ []
+three =
+    record { block = 0; wish = OffWish } ∷ record { block = 2; wish = OffWish }
+    ∷ record { block = 3; wish = MovableWish } ∷ []
 
 -- a Commit that grants two of three wishes
 abbrev half : Memory
-half = with_block_row (with_block_row (with_block_row booted 0 offline_row) 3 (record { state = OnlineState; zone = Some MovableZone; claim = None })) 2
+half =
+    with_block_row (with_block_row (with_block_row booted 0 offline_row) 3
+    (record { state = OnlineState; zone = Some MovableZone; claim = None })) 2
     (record { state = GoingState; zone = Some MovableZone; claim = Some (record { op = 1; wish = OffWish }) })
 
 half_excluded : RowsAre half three (λ item. wished_row item.wish) → ⊥
@@ -208,12 +239,15 @@ half_excluded rows = still_going (row_of half.blocks 2) refl rows.1.0
     still_going row e f = two_states (sym e ∙ ap (λ (r : Row). r.state) f)
 
 abbrev drained : List Record
-drained = with_call (with_call (with_call leaving (0, Migrate 2, Moved 8 0)) (0, DrainFor 2 0, Done)) (0, DrainFor 2 1, Done)
+drained =
+    with_call (with_call (with_call leaving (0, Migrate 2, Moved 8 0)) (0, DrainFor 2 0, Done))
+    (0, DrainFor 2 1, Done)
 
 commit_done : reply_of small booted 0 drained 0 (Commit 2) ≡ Done
 unfolding everything
 commit_done = refl
 
 -- the page of block 2 moved, both processors' lists were drained, and the Commit is refused all the same
-refused_commit : IsLegal small booted 0 (drained ++ record_of drained 0 (Commit 2) (Refused (NotFree 9)) ∷ []) → ⊥
+refused_commit : IsLegal small booted 0 (drained ++ record_of drained 0 (Commit 2) (Refused (NotFree 9)) ∷ [])
+    → ⊥
 refused_commit = wrong_reply drained 0 (Commit 2) (Refused (NotFree 9)) Done commit_done (λ e. cc)

@@ -12,13 +12,17 @@ use Rattle.hp_laws.proofs.States.{in_layout}
 use Rattle.hp_laws.proofs.Drains.{pool_zone}
 
 -- a frame on a processor's list is one of the layout's
-cached_fits : (l : LayoutParts) (s : Memory) (cpu : ℕ) (pool : Pool) (frame : ℕ) → IsLayout l → IsWellPlaced l s → is_on frame (cached_list s.free cpu pool) ≡ true → IsFrame l frame
+cached_fits : (l : LayoutParts) (s : Memory) (cpu : ℕ) (pool : Pool) (frame : ℕ) → IsLayout l
+    → IsWellPlaced l s → is_on frame (cached_list s.free cpu pool) ≡ true → IsFrame l frame
 cached_fits l s cpu pool frame layout p on =
-    let zone = pool_zone (row_at l s.blocks.rows (pageblock_of l frame)).zone (kind_at s.free.areas.kinds (pageblock_of l frame)).mobility pool (p.in_order.cached cpu pool frame on) in
+    let zone =
+    pool_zone (row_at l s.blocks.rows (pageblock_of l frame)).zone (kind_at s.free.areas.kinds
+    (pageblock_of l frame)).mobility pool (p.in_order.cached cpu pool frame on) in
     in_layout l s frame _ layout p.in_order.shape.rows zone
 
 -- the order of a kernel's block
-order_fits : (l : LayoutParts) (s : Memory) (first : ℕ) (order : Option ℕ) → IfSome order (IsKernelAt l s.blocks.rows first) → IfSome order (λ order. order ≤ l.order)
+order_fits : (l : LayoutParts) (s : Memory) (first : ℕ) (order : Option ℕ)
+    → IfSome order (IsKernelAt l s.blocks.rows first) → IfSome order (λ order. order ≤ l.order)
 order_fits l s first None h = tt
 order_fits l s first (Some order) h = h.in_order
 
@@ -26,11 +30,20 @@ order_fits l s first (Some order) h = h.in_order
 pub placed-fits : (l : LayoutParts) (s : Memory) → IsLayout l → IsWellPlaced l s → IsMemoryOf l s
 placed-fits l s layout p = record {
   free = record {
-    areas = record { lists = p.in_order.shape.lists; kinds = p.in_order.shape.kinds; free = λ class order first on. free-within l s class order first layout p on };
+    areas =
+        record {
+          lists = p.in_order.shape.lists;
+          kinds = p.in_order.shape.kinds;
+          free = λ class order first on. free-within l s class order first layout p on;
+        };
     lists = p.in_order.shape.cached;
     cached = λ cpu pool frame on. cached_fits l s cpu pool frame layout p on;
   };
   pages = pages_fit l s layout p;
-  kernel = record { frames = p.in_order.shape.kernel; orders = λ first. order_fits l s first (kernel_order s first) (p.in_order.kernel first) };
+  kernel =
+      record {
+        frames = p.in_order.shape.kernel;
+        orders = λ first. order_fits l s first (kernel_order s first) (p.in_order.kernel first);
+      };
   blocks = record { rows = p.in_order.shape.rows };
 }

@@ -39,11 +39,14 @@ use Rattle.hp_laws.proofs.EventSteps.{below, not_there, then_none}
 abbrev pub IsPlugged : LayoutParts → Memory → ℕ → Type 0
 IsPlugged l s frame = is_unplugged (row_of s.blocks (block_of l frame)) ≡ false
 
-zone_plugged : (l : LayoutParts) (s : Memory) (frame : ℕ) (zone : Zone) → IsInOrder l s → (row_at l s.blocks.rows (pageblock_of l frame)).zone ≡ Some zone → IsPlugged l s frame
+zone_plugged : (l : LayoutParts) (s : Memory) (frame : ℕ) (zone : Zone) → IsInOrder l s
+    → (row_at l s.blocks.rows (pageblock_of l frame)).zone ≡ Some zone → IsPlugged l s frame
 zone_plugged l s frame zone h e =
     let row : Row = row_of s.blocks (block_of l frame) in
-    let is : row.zone ≡ Some zone = subst (λ (b : ℕ). (row_of s.blocks b).zone ≡ Some zone) (sym (block_of-pageblock l frame)) e in
-    false_from_ne_true (is_unplugged row) (λ off. no_zone (sym (unplugged_zone row.state row.zone row.claim off (h.rows (block_of l frame))) ∙ is))
+    let is : row.zone ≡ Some zone =
+    subst (λ (b : ℕ). (row_of s.blocks b).zone ≡ Some zone) (sym (block_of-pageblock l frame)) e in
+    false_from_ne_true (is_unplugged row) (λ off.
+    no_zone (sym (unplugged_zone row.state row.zone row.claim off (h.rows (block_of l frame))) ∙ is))
   where
     no_zone : None ≡ Some zone → ⊥
     no_zone e = cc
@@ -54,50 +57,71 @@ zone_plugged l s frame zone h e =
 abbrev HandsPlugged : LayoutParts → Memory → Event → Answered → Type 0
 HandsPlugged l s event a = IfSome (handed_by_reply a.memory event a.reply) (IsPlugged l s)
 
-kernel_block-plugged : (l : LayoutParts) (s : Memory) (cpu order : ℕ) → cpu < l.cpus → IsLayout l → IsWellPlaced l s → IfSome (kernel_block l s.free cpu order) (λ handed. IsPlugged l s handed.frame)
+kernel_block-plugged : (l : LayoutParts) (s : Memory) (cpu order : ℕ) → cpu < l.cpus → IsLayout l
+    → IsWellPlaced l s → IfSome (kernel_block l s.free cpu order) (λ handed. IsPlugged l s handed.frame)
 kernel_block-plugged l s cpu zero low layout p =
-    some_weaker (HandsPlaced l s NormalZone) (λ handed. IsPlugged l s handed.frame) (λ handed h. zone_plugged l s handed.frame NormalZone p.in_order h.zone_is) (kernel_frame l s.free cpu) (kernel_frame-placed l s cpu low layout p)
+    some_weaker (HandsPlaced l s NormalZone) (λ handed. IsPlugged l s handed.frame)
+    (λ handed h. zone_plugged l s handed.frame NormalZone p.in_order h.zone_is) (kernel_frame l s.free cpu)
+    (kernel_frame-placed l s cpu low layout p)
 kernel_block-plugged l s cpu (suc below) low layout p =
-    from_taken (option_or (take_block l s.free.areas Nu (suc below)) (steal_block l s.free.areas Unmovable (suc below))) (kernel_large-placed l s below layout p)
+    from_taken (option_or (take_block l s.free.areas Nu (suc below))
+    (steal_block l s.free.areas Unmovable (suc below))) (kernel_large-placed l s below layout p)
   where
-    from_taken : (o : Option Taken) → IfSome o (TakesPlaced l s NormalZone (suc below)) → IfSome (handed_from s.free o) (λ handed. IsPlugged l s handed.frame)
+    from_taken : (o : Option Taken) → IfSome o (TakesPlaced l s NormalZone (suc below))
+        → IfSome (handed_from s.free o) (λ handed. IsPlugged l s handed.frame)
     from_taken None h = tt
     from_taken (Some taken) h = zone_plugged l s taken.frame NormalZone p.in_order h.zone_is
 
-alloc-plugged : (l : LayoutParts) (s : Memory) (cpu order : ℕ) → cpu < l.cpus → IsLayout l → IsWellPlaced l s → HandsPlugged l s (KernelAlloc order) (kernel_takes l s cpu order)
+alloc-plugged : (l : LayoutParts) (s : Memory) (cpu order : ℕ) → cpu < l.cpus → IsLayout l → IsWellPlaced l s
+    → HandsPlugged l s (KernelAlloc order) (kernel_takes l s cpu order)
 unfolding kernel_takes
-alloc-plugged l s cpu order low layout p = handed (kernel_block l s.free cpu order) (kernel_block-plugged l s cpu order low layout p)
+alloc-plugged l s cpu order low layout p =
+    handed (kernel_block l s.free cpu order) (kernel_block-plugged l s cpu order low layout p)
   where
     handed : (o : Option Handed) → IfSome o (λ h. IsPlugged l s h.frame)
-        → HandsPlugged l s (KernelAlloc order) (option_map_or (λ h. record { memory = with_kernel_order (with_free s h.free) h.frame (Some order); reply = GivesFrame h.frame }) o (done s))
+        → HandsPlugged l s (KernelAlloc order)
+        (option_map_or (λ h. record {
+          memory = with_kernel_order (with_free s h.free) h.frame (Some order);
+          reply = GivesFrame h.frame;
+        }) o (done s))
     handed None h = tt
     handed (Some frame) h = h
 
-free-plugged : (l : LayoutParts) (s : Memory) (cpu frame : ℕ) → HandsPlugged l s (KernelFree frame) (kernel_gives l s cpu frame)
+free-plugged : (l : LayoutParts) (s : Memory) (cpu frame : ℕ)
+    → HandsPlugged l s (KernelFree frame) (kernel_gives l s cpu frame)
 unfolding kernel_gives
 free-plugged l s cpu frame = given (kernel_order s frame)
   where
-    given : (o : Option ℕ) → HandsPlugged l s (KernelFree frame) (option_map_or (λ order. done (give_back l (with_kernel_order s frame None) cpu frame order)) o (done s))
+    given : (o : Option ℕ)
+        → HandsPlugged l s (KernelFree frame) (option_map_or
+        (λ order. done (give_back l (with_kernel_order s frame None) cpu frame order)) o (done s))
     given None = tt
     given (Some order) = tt
 
-map-plugged : (l : LayoutParts) (s : Memory) (cpu owner page : ℕ) → cpu < l.cpus → IsLayout l → IsWellPlaced l s → owner < l.owners → page < l.pages → frame_at s.pages owner page ≡ None
+map-plugged : (l : LayoutParts) (s : Memory) (cpu owner page : ℕ) → cpu < l.cpus → IsLayout l
+    → IsWellPlaced l s → owner < l.owners → page < l.pages → frame_at s.pages owner page ≡ None
     → HandsPlugged l s (Map owner page) (map_step l s cpu owner page)
 unfolding map_step
-map-plugged l s cpu owner page low layout p some_owner some_page none = handed (page_frame l s.free cpu) (page_frame-placed l s cpu low layout p)
+map-plugged l s cpu owner page low layout p some_owner some_page none =
+    handed (page_frame l s.free cpu) (page_frame-placed l s cpu low layout p)
   where
     handed : (o : Option Handed) → IfSome o (HandsSome l s)
-        → HandsPlugged l s (Map owner page) (option_map_or (λ h. done (with_pages (with_free s h.free) (map_page s.pages owner page h.frame (fresh_words l)))) o (done s))
+        → HandsPlugged l s (Map owner page) (option_map_or (λ h. done
+        (with_pages (with_free s h.free) (map_page s.pages owner page h.frame (fresh_words l)))) o (done s))
     handed None h = subst (λ (o : Option ℕ). IfSome o (IsPlugged l s)) (sym none) tt
     handed (Some given) h =
-        subst (λ (o : Option ℕ). IfSome o (IsPlugged l s)) (sym (entry-same l.owners l.pages s.pages.table owner page (Some given.frame) some_owner some_page (table_of l s p.in_order)))
+        subst (λ (o : Option ℕ). IfSome o (IsPlugged l s)) (sym (entry-same l.owners l.pages s.pages.table
+        owner page (Some given.frame) some_owner some_page (table_of l s p.in_order)))
         (zone_plugged l s given.frame h.0 p.in_order h.1.zone_is)
 
-unmap-plugged : (l : LayoutParts) (s : Memory) (cpu owner page : ℕ) → HandsPlugged l s (Unmap owner page) (unmap_step l s cpu owner page)
+unmap-plugged : (l : LayoutParts) (s : Memory) (cpu owner page : ℕ)
+    → HandsPlugged l s (Unmap owner page) (unmap_step l s cpu owner page)
 unfolding unmap_step
 unmap-plugged l s cpu owner page = taken (frame_at s.pages owner page)
   where
-    taken : (o : Option ℕ) → HandsPlugged l s (Unmap owner page) (option_map_or (λ frame. done (give_back l (with_pages s (unmap_page s.pages owner page)) cpu frame 0)) o (done s))
+    taken : (o : Option ℕ)
+        → HandsPlugged l s (Unmap owner page) (option_map_or
+        (λ frame. done (give_back l (with_pages s (unmap_page s.pages owner page)) cpu frame 0)) o (done s))
     taken None = tt
     taken (Some frame) = tt
 
@@ -113,19 +137,25 @@ pub record IsStaying (l : LayoutParts) (s : Memory) (frame : ℕ) : Type 0 where
   pub plugged : IsPlugged l s frame
   pub still : is_going (row_of s.blocks (block_of l frame)) ≡ false
 
-staying : (l : LayoutParts) (s : Memory) (taken : Taken) → IsWellPlaced l s → TakesSome l s taken → IsStaying l s taken.frame
+staying : (l : LayoutParts) (s : Memory) (taken : Taken) → IsWellPlaced l s → TakesSome l s taken
+    → IsStaying l s taken.frame
 staying l s taken p t = record {
   plugged = zone_plugged l s taken.frame t.0 p.in_order t.1.zone_is;
-  still = subst (λ (b : ℕ). is_going (row_of s.blocks b) ≡ false) (sym (block_of-pageblock l taken.frame)) (sym (p.in_order.isolated (pageblock_of l taken.frame)) ∙ t.1.shown);
+  still =
+      subst (λ (b : ℕ). is_going (row_of s.blocks b) ≡ false) (sym (block_of-pageblock l taken.frame))
+      (sym (p.in_order.isolated (pageblock_of l taken.frame)) ∙ t.1.shown);
 }
 
-migrate-staying : (l : LayoutParts) (s : Memory) (op : ℕ) → IsLayout l → IsWellPlaced l s → IfSome (to_of (migrate_step l s op).reply) (IsStaying l s)
+migrate-staying : (l : LayoutParts) (s : Memory) (op : ℕ) → IsLayout l → IsWellPlaced l s
+    → IfSome (to_of (migrate_step l s op).reply) (IsStaying l s)
 unfolding migrate_step
 migrate-staying l s op layout p = by_source (migration_source l s op)
   where
     by_target : (from : ℕ) (o : Option Taken) → IfSome o (TakesSome l s)
         → IfSome (to_of (option_map_or (λ taken. record {
-          memory = with_areas (with_pages s (move_page s.pages from taken.frame)) (give_block l taken.areas (zone_of l s from) from 0);
+          memory =
+              with_areas (with_pages s (move_page s.pages from taken.frame))
+              (give_block l taken.areas (zone_of l s from) from 0);
           reply = Moved from taken.frame;
         }) o (done s)).reply) (IsStaying l s)
     by_target from None h = tt
@@ -133,19 +163,24 @@ migrate-staying l s op layout p = by_source (migration_source l s op)
 
     by_source : (o : Option ℕ)
         → IfSome (to_of (option_map_or (λ from. option_map_or (λ taken. record {
-          memory = with_areas (with_pages s (move_page s.pages from taken.frame)) (give_block l taken.areas (zone_of l s from) from 0);
+          memory =
+              with_areas (with_pages s (move_page s.pages from taken.frame))
+              (give_block l taken.areas (zone_of l s from) from 0);
           reply = Moved from taken.frame;
         }) (migration_target l s.free.areas) (done s)) o (done s)).reply) (IsStaying l s)
     by_source None = tt
     by_source (Some from) = by_target from (migration_target l s.free.areas) (target-placed l s layout p)
 
-migrate-plugged : (l : LayoutParts) (s : Memory) (op : ℕ) → IsLayout l → IsWellPlaced l s → HandsPlugged l s (Migrate op) (migrate_step l s op)
+migrate-plugged : (l : LayoutParts) (s : Memory) (op : ℕ) → IsLayout l → IsWellPlaced l s
+    → HandsPlugged l s (Migrate op) (migrate_step l s op)
 unfolding migrate_step
 migrate-plugged l s op layout p = by_source (migration_source l s op)
   where
     by_target : (from : ℕ) (o : Option Taken) → IfSome o (TakesSome l s)
         → HandsPlugged l s (Migrate op) (option_map_or (λ taken. record {
-          memory = with_areas (with_pages s (move_page s.pages from taken.frame)) (give_block l taken.areas (zone_of l s from) from 0);
+          memory =
+              with_areas (with_pages s (move_page s.pages from taken.frame))
+              (give_block l taken.areas (zone_of l s from) from 0);
           reply = Moved from taken.frame;
         }) o (done s))
     by_target from None h = tt
@@ -153,7 +188,9 @@ migrate-plugged l s op layout p = by_source (migration_source l s op)
 
     by_source : (o : Option ℕ)
         → HandsPlugged l s (Migrate op) (option_map_or (λ from. option_map_or (λ taken. record {
-          memory = with_areas (with_pages s (move_page s.pages from taken.frame)) (give_block l taken.areas (zone_of l s from) from 0);
+          memory =
+              with_areas (with_pages s (move_page s.pages from taken.frame))
+              (give_block l taken.areas (zone_of l s from) from 0);
           reply = Moved from taken.frame;
         }) (migration_target l s.free.areas) (done s)) o (done s))
     by_source None = tt
@@ -161,13 +198,15 @@ migrate-plugged l s op layout p = by_source (migration_source l s op)
 
 -- ---- a step
 
-perform-plugged : (l : LayoutParts) (s : Memory) (serial cpu : ℕ) (event : Event) → IsLayout l → IsWellPlaced l s → cpu < l.cpus → first_some (event_refusals l s cpu event) ≡ None
+perform-plugged : (l : LayoutParts) (s : Memory) (serial cpu : ℕ) (event : Event) → IsLayout l
+    → IsWellPlaced l s → cpu < l.cpus → first_some (event_refusals l s cpu event) ≡ None
     → HandsPlugged l s event (perform l s serial cpu event)
 perform-plugged l s serial cpu (KernelAlloc order) layout p low e = alloc-plugged l s cpu order low layout p
 perform-plugged l s serial cpu (KernelFree frame) layout p low e = free-plugged l s cpu frame
 perform-plugged l s serial cpu (Map owner page) layout p low e =
     let none = all_none (event_refusals l s cpu (Map owner page)) e in
-    map-plugged l s cpu owner page low layout p (below l.owners owner _ none.0) (below l.pages page _ none.1.0) (not_there (frame_at s.pages owner page) (then_none _ _ none.1.1.0))
+    map-plugged l s cpu owner page low layout p (below l.owners owner _ none.0)
+    (below l.pages page _ none.1.0) (not_there (frame_at s.pages owner page) (then_none _ _ none.1.1.0))
 perform-plugged l s serial cpu (Unmap owner page) layout p low e = unmap-plugged l s cpu owner page
 perform-plugged l s serial cpu (Write owner page index value) layout p low e = tt
 perform-plugged l s serial cpu (Read owner page index) layout p low e = tt
@@ -183,44 +222,65 @@ perform-plugged l s serial cpu (Probe address) layout p low e = tt
 perform-plugged l s serial cpu (Remove block) layout p low e = tt
 perform-plugged l s serial cpu (SetAuto auto) layout p low e = tt
 
-answer-plugged : (l : LayoutParts) (s : Memory) (serial cpu : ℕ) (event : Event) (o : Option Refusal) → IsLayout l → IsWellPlaced l s → refusal_of l s cpu event ≡ o → HandsPlugged l s event (answer l s serial cpu event o)
+answer-plugged : (l : LayoutParts) (s : Memory) (serial cpu : ℕ) (event : Event) (o : Option Refusal)
+    → IsLayout l → IsWellPlaced l s → refusal_of l s cpu event ≡ o
+    → HandsPlugged l s event (answer l s serial cpu event o)
 unfolding refusal_of
 answer-plugged l s serial cpu event (Some refusal) layout p e = tt
 answer-plugged l s serial cpu event None layout p e =
     let none = all_none (then_some (nat_le l.cpus cpu) NoCpu ∷ event_refusals l s cpu event) e in
-    perform-plugged l s serial cpu event layout p (below l.cpus cpu _ none.0) (none_rest (then_some (nat_le l.cpus cpu) NoCpu) (event_refusals l s cpu event) e)
+    perform-plugged l s serial cpu event layout p (below l.cpus cpu _ none.0)
+    (none_rest (then_some (nat_le l.cpus cpu) NoCpu) (event_refusals l s cpu event) e)
 
 -- a frame that a step hands out lies in no block that was offline or absent
-pub step-plugged : (l : LayoutParts) (s : Memory) (serial cpu : ℕ) (event : Event) → IsLayout l → IsWellPlaced l s → HandsPlugged l s event (step l s serial cpu event)
+pub step-plugged : (l : LayoutParts) (s : Memory) (serial cpu : ℕ) (event : Event) → IsLayout l
+    → IsWellPlaced l s → HandsPlugged l s event (step l s serial cpu event)
 unfolding step
-step-plugged l s serial cpu event layout p = answer-plugged l s serial cpu event (refusal_of l s cpu event) layout p refl
+step-plugged l s serial cpu event layout p =
+    answer-plugged l s serial cpu event (refusal_of l s cpu event) layout p refl
 
 -- ---- only a migration moves a page
 
-moves_nothing : {X : Type 0} (l : LayoutParts) (s : Memory) (f : X → Answered) (o : Option X) → ((x : X) → to_of (f x).reply ≡ None) → IfSome (to_of (option_map_or f o (done s)).reply) (IsStaying l s)
+moves_nothing : {X : Type 0} (l : LayoutParts) (s : Memory) (f : X → Answered) (o : Option X)
+    → ((x : X) → to_of (f x).reply ≡ None) → IfSome (to_of (option_map_or f o (done s)).reply) (IsStaying l s)
 moves_nothing l s f None h = tt
 moves_nothing l s f (Some x) h = subst (λ (o : Option ℕ). IfSome o (IsStaying l s)) (sym (h x)) tt
 
-alloc-staying : (l : LayoutParts) (s : Memory) (cpu order : ℕ) → IfSome (to_of (kernel_takes l s cpu order).reply) (IsStaying l s)
+alloc-staying : (l : LayoutParts) (s : Memory) (cpu order : ℕ)
+    → IfSome (to_of (kernel_takes l s cpu order).reply) (IsStaying l s)
 unfolding kernel_takes
 alloc-staying l s cpu order =
-    moves_nothing l s (λ (handed : Handed). record { memory = with_kernel_order (with_free s handed.free) handed.frame (Some order); reply = GivesFrame handed.frame }) (kernel_block l s.free cpu order) (λ handed. refl)
+    moves_nothing l s (λ (handed : Handed). record {
+      memory = with_kernel_order (with_free s handed.free)
+          handed.frame (Some order);
+      reply = GivesFrame
+          handed.frame;
+    }) (kernel_block l s.free cpu order) (λ handed. refl)
 
-free-staying : (l : LayoutParts) (s : Memory) (cpu frame : ℕ) → IfSome (to_of (kernel_gives l s cpu frame).reply) (IsStaying l s)
+free-staying : (l : LayoutParts) (s : Memory) (cpu frame : ℕ)
+    → IfSome (to_of (kernel_gives l s cpu frame).reply) (IsStaying l s)
 unfolding kernel_gives
-free-staying l s cpu frame = moves_nothing l s (λ (order : ℕ). done (give_back l (with_kernel_order s frame None) cpu frame order)) (kernel_order s frame) (λ order. refl)
+free-staying l s cpu frame =
+    moves_nothing l s (λ (order : ℕ). done (give_back l (with_kernel_order s frame None) cpu frame order))
+    (kernel_order s frame) (λ order. refl)
 
-map-staying : (l : LayoutParts) (s : Memory) (cpu owner page : ℕ) → IfSome (to_of (map_step l s cpu owner page).reply) (IsStaying l s)
+map-staying : (l : LayoutParts) (s : Memory) (cpu owner page : ℕ)
+    → IfSome (to_of (map_step l s cpu owner page).reply) (IsStaying l s)
 unfolding map_step
 map-staying l s cpu owner page =
-    moves_nothing l s (λ (handed : Handed). done (with_pages (with_free s handed.free) (map_page s.pages owner page handed.frame (fresh_words l)))) (page_frame l s.free cpu) (λ handed. refl)
+    moves_nothing l s (λ (handed : Handed). done (with_pages (with_free s handed.free)
+    (map_page s.pages owner page handed.frame (fresh_words l)))) (page_frame l s.free cpu) (λ handed. refl)
 
-unmap-staying : (l : LayoutParts) (s : Memory) (cpu owner page : ℕ) → IfSome (to_of (unmap_step l s cpu owner page).reply) (IsStaying l s)
+unmap-staying : (l : LayoutParts) (s : Memory) (cpu owner page : ℕ)
+    → IfSome (to_of (unmap_step l s cpu owner page).reply) (IsStaying l s)
 unfolding unmap_step
 unmap-staying l s cpu owner page =
-    moves_nothing l s (λ (frame : ℕ). done (give_back l (with_pages s (unmap_page s.pages owner page)) cpu frame 0)) (frame_at s.pages owner page) (λ frame. refl)
+    moves_nothing l s
+    (λ (frame : ℕ). done (give_back l (with_pages s (unmap_page s.pages owner page)) cpu frame 0))
+    (frame_at s.pages owner page) (λ frame. refl)
 
-perform-staying : (l : LayoutParts) (s : Memory) (serial cpu : ℕ) (event : Event) → IsLayout l → IsWellPlaced l s → IfSome (to_of (perform l s serial cpu event).reply) (IsStaying l s)
+perform-staying : (l : LayoutParts) (s : Memory) (serial cpu : ℕ) (event : Event) → IsLayout l
+    → IsWellPlaced l s → IfSome (to_of (perform l s serial cpu event).reply) (IsStaying l s)
 perform-staying l s serial cpu (KernelAlloc order) layout p = alloc-staying l s cpu order
 perform-staying l s serial cpu (KernelFree frame) layout p = free-staying l s cpu frame
 perform-staying l s serial cpu (Map owner page) layout p = map-staying l s cpu owner page
@@ -239,11 +299,14 @@ perform-staying l s serial cpu (Probe address) layout p = tt
 perform-staying l s serial cpu (Remove block) layout p = tt
 perform-staying l s serial cpu (SetAuto auto) layout p = tt
 
-answer-staying : (l : LayoutParts) (s : Memory) (serial cpu : ℕ) (event : Event) (o : Option Refusal) → IsLayout l → IsWellPlaced l s → IfSome (to_of (answer l s serial cpu event o).reply) (IsStaying l s)
+answer-staying : (l : LayoutParts) (s : Memory) (serial cpu : ℕ) (event : Event) (o : Option Refusal)
+    → IsLayout l → IsWellPlaced l s → IfSome (to_of (answer l s serial cpu event o).reply) (IsStaying l s)
 answer-staying l s serial cpu event (Some refusal) layout p = tt
 answer-staying l s serial cpu event None layout p = perform-staying l s serial cpu event layout p
 
 -- a page that a step moves goes to a block that isn't going
-pub step-staying : (l : LayoutParts) (s : Memory) (serial cpu : ℕ) (event : Event) → IsLayout l → IsWellPlaced l s → IfSome (to_of (step l s serial cpu event).reply) (IsStaying l s)
+pub step-staying : (l : LayoutParts) (s : Memory) (serial cpu : ℕ) (event : Event) → IsLayout l
+    → IsWellPlaced l s → IfSome (to_of (step l s serial cpu event).reply) (IsStaying l s)
 unfolding step
-step-staying l s serial cpu event layout p = answer-staying l s serial cpu event (refusal_of l s cpu event) layout p
+step-staying l s serial cpu event layout p =
+    answer-staying l s serial cpu event (refusal_of l s cpu event) layout p

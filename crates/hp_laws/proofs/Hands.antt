@@ -26,13 +26,19 @@ use Rattle.hp_lemmas.proofs.Pools.{pool_index-lt}
 -- what a processor hands out: the frame leaves its place, and it was one of the pool
 pub record HandsPlaced (l : LayoutParts) (s : Memory) (zone : Zone) (handed : Handed) : Type 0 where
   pub in_order : IsInOrder l (with_free s handed.free)
-  pub places : (frame : ℕ) → free_places handed.free.areas frame + cached_places handed.free frame + covered frame 0 handed.frame ≡ free_places s.free.areas frame + cached_places s.free frame
+  pub places : (frame : ℕ)
+      → free_places handed.free.areas frame + cached_places handed.free frame + covered frame 0 handed.frame
+      ≡ free_places s.free.areas frame + cached_places s.free frame
   pub zone_is : (row_at l s.blocks.rows (pageblock_of l handed.frame)).zone ≡ Some zone
 
-pub class_pool : (zone : Option Zone) (kind : Kind) (pool : Pool) → option_map (λ z. class_of_kind z kind) zone ≡ Some (class_of_pool pool) → option_map (λ z. pool_of z kind.mobility) zone ≡ Some pool
+pub class_pool : (zone : Option Zone) (kind : Kind) (pool : Pool)
+    → option_map (λ z. class_of_kind z kind) zone ≡ Some (class_of_pool pool)
+    → option_map (λ z. pool_of z kind.mobility) zone ≡ Some pool
 class_pool zone kind pool e = cases zone kind.isolated kind.mobility pool e
   where
-    cases : (zone : Option Zone) (isolated : Bool) (m : Mobility) (pool : Pool) → option_map (λ z. cond isolated (isolated_class z) (usable_class z m)) zone ≡ Some (class_of_pool pool)
+    cases : (zone : Option Zone) (isolated : Bool) (m : Mobility) (pool : Pool)
+        → option_map (λ z. cond isolated (isolated_class z) (usable_class z m)) zone
+        ≡ Some (class_of_pool pool)
         → option_map (λ z. pool_of z m) zone ≡ Some pool
     cases None isolated m pool e = cc
     cases (Some NormalZone) true m NuPool e = cc
@@ -52,10 +58,14 @@ class_pool zone kind pool e = cases zone kind.isolated kind.mobility pool e
     cases (Some MovableZone) false m MmPool e = refl
 
 -- a pageblock whose free blocks are of a pool's class isn't isolated
-pub class_shown : (zone : Option Zone) (kind : Kind) (pool : Pool) → option_map (λ z. class_of_kind z kind) zone ≡ Some (class_of_pool pool) → kind.isolated ≡ false
+pub class_shown : (zone : Option Zone) (kind : Kind) (pool : Pool)
+    → option_map (λ z. class_of_kind z kind) zone ≡ Some (class_of_pool pool) → kind.isolated ≡ false
 class_shown zone kind pool e = cases zone kind.isolated kind.mobility pool e
   where
-    cases : (zone : Option Zone) (isolated : Bool) (m : Mobility) (pool : Pool) → option_map (λ z. cond isolated (isolated_class z) (usable_class z m)) zone ≡ Some (class_of_pool pool) → isolated ≡ false
+    cases : (zone : Option Zone) (isolated : Bool) (m : Mobility) (pool : Pool)
+        → option_map (λ z. cond isolated (isolated_class z) (usable_class z m)) zone
+        ≡ Some (class_of_pool pool)
+        → isolated ≡ false
     cases zone false m pool e = refl
     cases None true m pool e = cc
     cases (Some NormalZone) true m NuPool e = cc
@@ -65,38 +75,60 @@ class_shown zone kind pool e = cases zone kind.isolated kind.mobility pool e
     cases (Some MovableZone) true m NmPool e = cc
     cases (Some MovableZone) true m MmPool e = cc
 
-pub cached-places : (fs : FreeFrames) (cpu : ℕ) (pool : Pool) (frames : List ℕ) (frame : ℕ) → 3 * cpu + pool_index pool < length fs.cached
-    → cached_places (with_cached_list fs cpu pool frames) frame + times frame (cached_list fs cpu pool) ≡ cached_places fs frame + times frame frames
-cached-places fs cpu pool frames frame h = sum_by-set (λ (xs : List ℕ). times frame xs) fs.cached (3 * cpu + pool_index pool) frames [] h
+pub cached-places : (fs : FreeFrames) (cpu : ℕ) (pool : Pool) (frames : List ℕ) (frame : ℕ)
+    → 3 * cpu + pool_index pool < length fs.cached
+    → cached_places (with_cached_list fs cpu pool frames) frame + times frame (cached_list fs cpu pool)
+    ≡ cached_places fs frame + times frame frames
+cached-places fs cpu pool frames frame h =
+    sum_by-set (λ (xs : List ℕ). times frame xs) fs.cached (3 * cpu + pool_index pool) frames [] h
 
 -- a list that is empty is refilled
-pub refilled-placed : (l : LayoutParts) (s : Memory) (cpu : ℕ) (pool : Pool) (frames : List ℕ) → cached_list s.free cpu pool ≡ frames → cpu < l.cpus → IsWellPlaced l s
+pub refilled-placed : (l : LayoutParts) (s : Memory) (cpu : ℕ) (pool : Pool) (frames : List ℕ)
+    → cached_list s.free cpu pool ≡ frames → cpu < l.cpus → IsWellPlaced l s
     → IsWellPlaced l (with_free s (refilled_from l s.free cpu pool frames))
 refilled-placed l s cpu pool (x ∷ xs) e low p = p
 refilled-placed l s cpu pool [] e low p =
     let below : pool_index pool < 3 = pool_index-lt pool in
     let refill : Refill = take_frames l pool l.batch s.free.areas in
     let short : 3 * cpu + pool_index pool < length s.free.cached = omega (arith, p.in_order.shape.cached) in
-    let taken : RefillOrdered l (class_at l s.free.areas.kinds s.blocks.rows) s.free.areas (class_of_pool pool) refill =
-    take_frames-ordered l (class_at l s.free.areas.kinds s.blocks.rows) pool l.batch s.free.areas (areas_of l s p) in
+    let taken : RefillOrdered l (class_at l s.free.areas.kinds s.blocks.rows) s.free.areas
+    (class_of_pool pool) refill =
+    take_frames-ordered l (class_at l s.free.areas.kinds s.blocks.rows) pool l.batch s.free.areas
+    (areas_of l s p) in
     let areas = areas-in_order l s refill.areas p.in_order taken.ordered taken.kinds in
     record {
       in_order = cached-in_order l (with_areas s refill.areas) cpu pool refill.frames areas low (λ frame on.
-          subst (λ (ks : List Kind). pool_at l ks s.blocks.rows (pageblock_of l frame) ≡ Some pool) (sym taken.kinds)
-          (class_pool (row_at l s.blocks.rows (pageblock_of l frame)).zone (kind_at s.free.areas.kinds (pageblock_of l frame)) pool (taken.classes frame on)));
-      once = λ frame. omega (arith, p.once frame, taken.places frame, rw e at (cached-places s.free cpu pool refill.frames frame short));
+          subst (λ (ks : List Kind). pool_at l ks s.blocks.rows (pageblock_of l frame) ≡ Some pool)
+          (sym taken.kinds)
+          (class_pool (row_at l s.blocks.rows (pageblock_of l frame)).zone
+          (kind_at s.free.areas.kinds (pageblock_of l frame)) pool (taken.classes frame on)));
+      once =
+          λ frame. omega (
+            arith,
+            p.once frame,
+            taken.places frame,
+            rw e at (cached-places s.free cpu pool refill.frames frame short),
+          );
     }
 
-pub pop-placed : (l : LayoutParts) (s : Memory) (cpu : ℕ) (pool : Pool) (frames : List ℕ) → cached_list s.free cpu pool ≡ frames → cpu < l.cpus → IsWellPlaced l s
+pub pop-placed : (l : LayoutParts) (s : Memory) (cpu : ℕ) (pool : Pool) (frames : List ℕ)
+    → cached_list s.free cpu pool ≡ frames → cpu < l.cpus → IsWellPlaced l s
     → IfSome (pop_from s.free cpu pool frames) (HandsPlaced l s (zone_of_pool pool))
 pop-placed l s cpu pool [] e low p = tt
 pop-placed l s cpu pool (x ∷ xs) e low p =
     let below : pool_index pool < 3 = pool_index-lt pool in
     let short : 3 * cpu + pool_index pool < length s.free.cached = omega (arith, p.in_order.shape.cached) in
-    let of : (frame : ℕ) → is_on frame (x ∷ xs) ≡ true → pool_at l s.free.areas.kinds s.blocks.rows (pageblock_of l frame) ≡ Some pool =
-    subst (λ (ys : List ℕ). (frame : ℕ) → is_on frame ys ≡ true → pool_at l s.free.areas.kinds s.blocks.rows (pageblock_of l frame) ≡ Some pool) e (p.in_order.cached cpu pool) in
+    let of : (frame : ℕ) → is_on frame (x ∷ xs) ≡ true
+    → pool_at l s.free.areas.kinds s.blocks.rows (pageblock_of l frame) ≡ Some pool =
+    subst (λ (ys : List ℕ). (frame : ℕ) → is_on frame ys ≡ true → pool_at l s.free.areas.kinds s.blocks.rows
+    (pageblock_of l frame) ≡ Some pool) e (p.in_order.cached cpu pool) in
     record {
-      in_order = cached-in_order l s cpu pool xs p.in_order low (λ frame on. of frame (on_tail frame x xs on));
-      places = λ frame. omega (arith, rw e at (cached-places s.free cpu pool xs frame short), times-cons frame x xs);
-      zone_is = pool_zone (row_at l s.blocks.rows (pageblock_of l x)).zone (kind_at s.free.areas.kinds (pageblock_of l x)).mobility pool (of x (or_left (x == x) (is_on x xs) (eq-eqb x x refl)));
+      in_order =
+          cached-in_order l s cpu pool xs p.in_order low (λ frame on. of frame (on_tail frame x xs on));
+      places =
+          λ frame.
+          omega (arith, rw e at (cached-places s.free cpu pool xs frame short), times-cons frame x xs);
+      zone_is =
+          pool_zone (row_at l s.blocks.rows (pageblock_of l x)).zone (kind_at s.free.areas.kinds
+          (pageblock_of l x)).mobility pool (of x (or_left (x == x) (is_on x xs) (eq-eqb x x refl)));
     }

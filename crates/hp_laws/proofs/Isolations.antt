@@ -36,42 +36,75 @@ pub record MovesOrdered (l : LayoutParts) (now : ℕ → Option Class) (a b : Fr
   pub kinds : b.kinds ≡ a.kinds
 
 -- a block that was kept is of another pageblock
-kept_away : (l : LayoutParts) (at : ℕ → Option Class) (a : FreeAreas) (from : Class) (pageblock : ℕ) (class : Class) (order first : ℕ) → at pageblock ≡ Some from → AreOrdered l at a
+kept_away : (l : LayoutParts) (at : ℕ → Option Class) (a : FreeAreas) (from : Class) (pageblock : ℕ)
+    (class : Class) (order first : ℕ)
+    → at pageblock ≡ Some from → AreOrdered l at a
     → IsKeptBlock l a from pageblock (l.order + 1) class order first → pageblock_of l first ≢ pageblock
 kept_away l at a from pageblock class order first is h kept here =
     let free = on_free l at a class order first h kept.was in
-    let same : class ≡ from = same_Some class from (sym (h.blocks class order first kept.was).class_agrees ∙ ap at here ∙ is) in
+    let same : class ≡ from =
+    same_Some class from (sym (h.blocks class order first kept.was).class_agrees ∙ ap at here ∙ is) in
     kept.away (omega (arith, free.low)) same here
 
-moves-block : (l : LayoutParts) (at now : ℕ → Option Class) (a : FreeAreas) (from to : Class) (pageblock : ℕ) (class : Class) (order first : ℕ) → at pageblock ≡ Some from → now pageblock ≡ Some to
-    → ((other : ℕ) → other ≢ pageblock → now other ≡ at other) → AreOrdered l at a → WasBlock l a from to pageblock (l.order + 1) class order first → IsBlockOf l now class order first
+moves-block : (l : LayoutParts) (at now : ℕ → Option Class) (a : FreeAreas) (from to : Class) (pageblock : ℕ)
+    (class : Class) (order first : ℕ)
+    → at pageblock ≡ Some from → now pageblock ≡ Some to
+    → ((other : ℕ) → other ≢ pageblock → now other ≡ at other) → AreOrdered l at a
+    → WasBlock l a from to pageblock (l.order + 1) class order first → IsBlockOf l now class order first
 moves-block l at now a from to pageblock class order first is becomes others h (inl m) =
-    record { aligned = (h.blocks from order first m.was).aligned; class_agrees = ap now m.here ∙ becomes ∙ ap (λ (c : Class). Some c) (sym m.class_is) }
+    record {
+      aligned = (h.blocks from order first m.was).aligned;
+      class_agrees = ap now m.here ∙ becomes ∙ ap (λ (c : Class). Some c) (sym m.class_is);
+    }
 moves-block l at now a from to pageblock class order first is becomes others h (inr k) =
     let block = h.blocks class order first k.was in
-    record { aligned = block.aligned; class_agrees = others (pageblock_of l first) (kept_away l at a from pageblock class order first is h k) ∙ block.class_agrees }
+    record {
+      aligned = block.aligned;
+      class_agrees =
+          others (pageblock_of l first) (kept_away l at a from pageblock class order first is h k)
+          ∙ block.class_agrees;
+    }
 
-moves-joined : (l : LayoutParts) (at : ℕ → Option Class) (a : FreeAreas) (from to : Class) (pageblock : ℕ) (class : Class) (order first : ℕ) → at pageblock ≡ Some from → AreOrdered l at a → order < l.order
-    → WasBlock l a from to pageblock (l.order + 1) class order first → WasBlock l a from to pageblock (l.order + 1) class order (buddy first order) → ⊥
-moves-joined l at a from to pageblock class order first is h below (inl m) (inl n) = both_ways (is_on (buddy first order) (free_list a from order)) (h.joined from order first below m.was) n.was
+moves-joined : (l : LayoutParts) (at : ℕ → Option Class) (a : FreeAreas) (from to : Class) (pageblock : ℕ)
+    (class : Class) (order first : ℕ)
+    → at pageblock ≡ Some from → AreOrdered l at a → order < l.order
+    → WasBlock l a from to pageblock (l.order + 1) class order first
+    → WasBlock l a from to pageblock (l.order + 1) class order (buddy first order) → ⊥
+moves-joined l at a from to pageblock class order first is h below (inl m) (inl n) =
+    both_ways (is_on (buddy first order) (free_list a from order)) (h.joined from order first below m.was)
+    n.was
 moves-joined l at a from to pageblock class order first is h below (inl m) (inr n) =
-    kept_away l at a from pageblock class order (buddy first order) is h n (buddy_above first order l.order (h.blocks from order first m.was).aligned below ∙ m.here)
+    kept_away l at a from pageblock class order (buddy first order) is h n
+    (buddy_above first order l.order (h.blocks from order first m.was).aligned below ∙ m.here)
 moves-joined l at a from to pageblock class order first is h below (inr k) (inl n) =
-    kept_away l at a from pageblock class order first is h k (sym (buddy_above first order l.order (h.blocks class order first k.was).aligned below) ∙ n.here)
-moves-joined l at a from to pageblock class order first is h below (inr k) (inr n) = both_ways (is_on (buddy first order) (free_list a class order)) (h.joined class order first below k.was) n.was
+    kept_away l at a from pageblock class order first is h k
+    (sym (buddy_above first order l.order (h.blocks class order first k.was).aligned below) ∙ n.here)
+moves-joined l at a from to pageblock class order first is h below (inr k) (inr n) =
+    both_ways (is_on (buddy first order) (free_list a class order)) (h.joined class order first below k.was)
+    n.was
 
-pub moves-ordered : (l : LayoutParts) (at now : ℕ → Option Class) (a : FreeAreas) (from to : Class) (pageblock : ℕ) → at pageblock ≡ Some from → now pageblock ≡ Some to
-    → ((other : ℕ) → other ≢ pageblock → now other ≡ at other) → AreOrdered l at a → MovesOrdered l now a (move_free_below l a from to pageblock (l.order + 1))
+pub moves-ordered : (l : LayoutParts) (at now : ℕ → Option Class) (a : FreeAreas) (from to : Class)
+    (pageblock : ℕ)
+    → at pageblock ≡ Some from → now pageblock ≡ Some to
+    → ((other : ℕ) → other ≢ pageblock → now other ≡ at other) → AreOrdered l at a
+    → MovesOrdered l now a (move_free_below l a from to pageblock (l.order + 1))
 moves-ordered l at now a from to pageblock is becomes others h =
     let b : FreeAreas = move_free_below l a from to pageblock (l.order + 1) in
-    let moved : MovesBelow l a from to pageblock (l.order + 1) b = moves_below l a from to pageblock (l.order + 1) (omega (arith, h.lists)) h.few in
+    let moved : MovesBelow l a from to pageblock (l.order + 1) b =
+    moves_below l a from to pageblock (l.order + 1) (omega (arith, h.lists)) h.few in
     record {
       ordered = record {
         lists = moved.lists ∙ h.lists;
         few = λ frame. omega (arith, moved.places frame, h.few frame);
-        blocks = λ class order first on. moves-block l at now a from to pageblock class order first is becomes others h (moved.blocks class order first on);
-        joined = λ class order first below on. false_from_ne_true (is_on (buddy first order) (free_list b class order)) (λ there.
-            moves-joined l at a from to pageblock class order first is h below (moved.blocks class order first on) (moved.blocks class order (buddy first order) there));
+        blocks =
+            λ class order first on.
+            moves-block l at now a from to pageblock class order first is becomes others
+            h (moved.blocks class order first on);
+        joined =
+            λ class order first below on.
+            false_from_ne_true (is_on (buddy first order) (free_list b class order)) (λ there.
+            moves-joined l at a from to pageblock class order first is h below
+            (moved.blocks class order first on) (moved.blocks class order (buddy first order) there));
       };
       places = moved.places;
       kinds = moved.kinds;
@@ -79,16 +112,22 @@ moves-ordered l at now a from to pageblock is becomes others h =
 
 -- ---- one pageblock after another
 
-pub record MovesRange (l : LayoutParts) (rows : List Row) (isolated : Bool) (from count : ℕ) (a b : FreeAreas) : Type 0 where
+pub record MovesRange (l : LayoutParts) (rows : List Row) (isolated : Bool) (from count : ℕ)
+    (a b : FreeAreas) : Type 0 where
   pub ordered : AreOrdered l (class_at l b.kinds rows) b
   pub places : (frame : ℕ) → free_places b frame ≡ free_places a frame
   pub size : length b.kinds ≡ length a.kinds
   pub mobility : (pageblock : ℕ) → (kind_at b.kinds pageblock).mobility ≡ (kind_at a.kinds pageblock).mobility
-  pub inside : (pageblock : ℕ) → IsInRange from count pageblock → (kind_at b.kinds pageblock).isolated ≡ isolated
-  pub outside : (pageblock : ℕ) → (pageblock < from) ⊎ (from + count ≤ pageblock) → (kind_at b.kinds pageblock).isolated ≡ (kind_at a.kinds pageblock).isolated
+  pub inside : (pageblock : ℕ) → IsInRange from count pageblock
+      → (kind_at b.kinds pageblock).isolated ≡ isolated
+  pub outside : (pageblock : ℕ) → (pageblock < from) ⊎ (from + count ≤ pageblock)
+      → (kind_at b.kinds pageblock).isolated ≡ (kind_at a.kinds pageblock).isolated
 
-move_pageblock-range : (l : LayoutParts) (rows : List Row) (zone : Zone) (isolated : Bool) (a : FreeAreas) (pageblock : ℕ) → pageblock < length a.kinds → (row_at l rows pageblock).zone ≡ Some zone
-    → AreOrdered l (class_at l a.kinds rows) a → MovesRange l rows isolated pageblock 1 a (move_pageblock l zone isolated a pageblock)
+move_pageblock-range : (l : LayoutParts) (rows : List Row) (zone : Zone) (isolated : Bool) (a : FreeAreas)
+    (pageblock : ℕ)
+    → pageblock < length a.kinds → (row_at l rows pageblock).zone ≡ Some zone
+    → AreOrdered l (class_at l a.kinds rows) a
+    → MovesRange l rows isolated pageblock 1 a (move_pageblock l zone isolated a pageblock)
 unfolding move_pageblock
 move_pageblock-range l rows zone isolated a pageblock short zone_is h =
     let ks : List Kind = a.kinds in
@@ -97,33 +136,54 @@ move_pageblock-range l rows zone isolated a pageblock short zone_is h =
     let from : Class = class_of_kind zone kind in
     let to : Class = class_of_kind zone moved in
     let b : FreeAreas = move_free_below l a from to pageblock (l.order + 1) in
-    let now : get_or (set ks pageblock moved) pageblock plain_kind ≡ moved = get_or-set_same ks pageblock moved plain_kind short in
-    let others : (other : ℕ) → other ≢ pageblock → get_or (set ks pageblock moved) other plain_kind ≡ get_or ks other plain_kind = λ other ne. get_or-set_other ks pageblock other moved plain_kind ne in
-    let moves : MovesOrdered l (class_at l (set ks pageblock moved) rows) a b = moves-ordered l (class_at l ks rows) (class_at l (set ks pageblock moved) rows) a from to pageblock
+    let now : get_or (set ks pageblock moved) pageblock plain_kind ≡ moved =
+    get_or-set_same ks pageblock moved plain_kind short in
+    let others : (other : ℕ) → other ≢ pageblock
+    → get_or (set ks pageblock moved) other plain_kind ≡ get_or ks other plain_kind =
+    λ other ne. get_or-set_other ks pageblock other moved plain_kind ne in
+    let moves : MovesOrdered l (class_at l (set ks pageblock moved) rows) a b =
+    moves-ordered l (class_at l ks rows) (class_at l (set ks pageblock moved) rows) a from to pageblock
     (ap (option_map (λ z. class_of_kind z kind)) zone_is)
-    (ap (λ (k : Kind). option_map (λ z. class_of_kind z k) (row_at l rows pageblock).zone) now ∙ ap (option_map (λ z. class_of_kind z moved)) zone_is)
-    (λ other ne. ap (λ (k : Kind). option_map (λ z. class_of_kind z k) (row_at l rows other).zone) (others other ne)) h in
-    let whole : MovesRange l rows isolated pageblock 1 a (record b { kinds = set ks pageblock moved }) = record {
-      ordered = record { lists = moves.ordered.lists; few = moves.ordered.few; blocks = moves.ordered.blocks; joined = moves.ordered.joined };
+    (ap (λ (k : Kind). option_map (λ z. class_of_kind z k) (row_at l rows pageblock).zone) now
+    ∙ ap (option_map (λ z. class_of_kind z moved)) zone_is)
+    (λ other ne. ap (λ (k : Kind). option_map (λ z. class_of_kind z k) (row_at l rows other).zone)
+    (others other ne)) h in
+    let whole : MovesRange l rows isolated pageblock 1 a (record b { kinds = set ks pageblock moved }) =
+    record {
+      ordered =
+          record {
+            lists = moves.ordered.lists;
+            few = moves.ordered.few;
+            blocks = moves.ordered.blocks;
+            joined = moves.ordered.joined;
+          };
       places = moves.places;
       size = length-set ks pageblock moved;
       mobility = λ other. elim (cases_eq other pageblock) [
-        | inl same ↦ subst (λ (n : ℕ). (kind_at (set ks pageblock moved) n).mobility ≡ (kind_at ks n).mobility) (sym same) (ap (λ (k : Kind). k.mobility) now)
+        | inl same ↦
+            subst (λ (n : ℕ). (kind_at (set ks pageblock moved) n).mobility ≡ (kind_at ks n).mobility)
+            (sym same) (ap (λ (k : Kind). k.mobility) now)
         | inr ne ↦ ap (λ (k : Kind). k.mobility) (others other ne)
       ];
       inside = λ other among. (let same : other ≡ pageblock = omega (arith, among.low, among.high) in
-          subst (λ (n : ℕ). (kind_at (set ks pageblock moved) n).isolated ≡ isolated) (sym same) (ap (λ (k : Kind). k.isolated) now));
+          subst (λ (n : ℕ). (kind_at (set ks pageblock moved) n).isolated ≡ isolated) (sym same)
+          (ap (λ (k : Kind). k.isolated) now));
       outside = λ other away. ap (λ (k : Kind). k.isolated) (others other (λ same. apart other same away));
     } in
-    subst (λ (k : List Kind). MovesRange l rows isolated pageblock 1 a (record b { kinds = set k pageblock moved })) (sym moves.kinds) whole
+    subst (λ (k : List Kind). MovesRange l rows isolated pageblock 1 a
+    (record b { kinds = set k pageblock moved })) (sym moves.kinds) whole
   where
     apart : (other : ℕ) → other ≡ pageblock → (other < pageblock) ⊎ (pageblock + 1 ≤ other) → ⊥
     apart other same (inl low) = absurd (omega arith)
     apart other same (inr high) = absurd (omega arith)
 
-pub move_all-range : (l : LayoutParts) (rows : List Row) (zone : Zone) (isolated : Bool) (a : FreeAreas) (from count : ℕ) → from + count ≤ length a.kinds
-    → ((pageblock : ℕ) → IsInRange from count pageblock → (row_at l rows pageblock).zone ≡ Some zone) → AreOrdered l (class_at l a.kinds rows) a
-    → MovesRange l rows isolated from count a (fold (move_pageblock l zone isolated) a (range_with_len from count))
+pub move_all-range : (l : LayoutParts) (rows : List Row) (zone : Zone) (isolated : Bool) (a : FreeAreas)
+    (from count : ℕ)
+    → from + count ≤ length a.kinds
+    → ((pageblock : ℕ) → IsInRange from count pageblock → (row_at l rows pageblock).zone ≡ Some zone)
+    → AreOrdered l (class_at l a.kinds rows) a
+    → MovesRange l rows isolated from count a
+    (fold (move_pageblock l zone isolated) a (range_with_len from count))
 move_all-range l rows zone isolated a from zero short zones h = record {
   ordered = h;
   places = λ frame. refl;
@@ -134,21 +194,29 @@ move_all-range l rows zone isolated a from zero short zones h = record {
 }
 move_all-range l rows zone isolated a from (suc count) short zones h =
     let b : FreeAreas = move_pageblock l zone isolated a from in
-    let first = move_pageblock-range l rows zone isolated a from (omega arith) (zones from (record { low = omega arith; high = omega arith })) h in
-    let rest = move_all-range l rows zone isolated b (from + 1) count (omega (arith, first.size)) (λ pageblock among. zones pageblock (record { low = omega (arith, among.low); high = omega (arith, among.high) })) first.ordered in
+    let first =
+    move_pageblock-range l rows zone isolated a from (omega arith)
+    (zones from (record { low = omega arith; high = omega arith })) h in
+    let rest =
+    move_all-range l rows zone isolated b (from + 1) count (omega
+    (arith, first.size)) (λ pageblock among. zones pageblock
+    (record { low = omega (arith, among.low); high = omega (arith, among.high) })) first.ordered in
     record {
       ordered = rest.ordered;
       places = λ frame. rest.places frame ∙ first.places frame;
       size = rest.size ∙ first.size;
       mobility = λ pageblock. rest.mobility pageblock ∙ first.mobility pageblock;
       inside = λ pageblock among. elim (cases_lt pageblock (from + 1)) [
-        | inl low ↦ rest.outside pageblock (inl low) ∙ first.inside pageblock (record { low = among.low; high = low })
+        | inl low ↦
+            rest.outside pageblock (inl low) ∙ first.inside pageblock (record { low = among.low; high = low })
         | inr high ↦ rest.inside pageblock (record { low = high; high = omega (arith, among.high) })
       ];
-      outside = λ pageblock away. before_after pageblock away (rest.outside pageblock) (first.outside pageblock);
+      outside =
+          λ pageblock away. before_after pageblock away (rest.outside pageblock) (first.outside pageblock);
     }
   where
-    before_after : (pageblock : ℕ) {x y z : Bool} → (pageblock < from) ⊎ (from + suc count ≤ pageblock) → ((pageblock < from + 1) ⊎ (from + 1 + count ≤ pageblock) → x ≡ y)
+    before_after : (pageblock : ℕ) {x y z : Bool} → (pageblock < from) ⊎ (from + suc count ≤ pageblock)
+        → ((pageblock < from + 1) ⊎ (from + 1 + count ≤ pageblock) → x ≡ y)
         → ((pageblock < from) ⊎ (from + 1 ≤ pageblock) → y ≡ z) → x ≡ z
     before_after pageblock (inl low) f g = f (inl (omega arith)) ∙ g (inl low)
     before_after pageblock (inr high) f g = f (inr (omega arith)) ∙ g (inr (omega arith))
@@ -156,13 +224,17 @@ move_all-range l rows zone isolated a from (suc count) short zones h =
 -- ---- a block and its row
 
 -- the pageblocks of a block
-pub pageblock_range : (l : LayoutParts) (block pageblock : ℕ) → 0 < l.pageblocks → block_of_pageblock l pageblock ≡ block → IsInRange (block * l.pageblocks) l.pageblocks pageblock
+pub pageblock_range : (l : LayoutParts) (block pageblock : ℕ) → 0 < l.pageblocks
+    → block_of_pageblock l pageblock ≡ block → IsInRange (block * l.pageblocks) l.pageblocks pageblock
 pageblock_range l block pageblock some e =
     let high : pageblock < pageblock / l.pageblocks * l.pageblocks + l.pageblocks = lt-div-mul-add some in
-    let low : pageblock / l.pageblocks * l.pageblocks ≤ pageblock = omega (arith, div-add-mod' pageblock l.pageblocks) in
-    subst (λ (b : ℕ). IsInRange (b * l.pageblocks) l.pageblocks pageblock) e (record { low = low; high = high })
+    let low : pageblock / l.pageblocks * l.pageblocks ≤ pageblock =
+    omega (arith, div-add-mod' pageblock l.pageblocks) in
+    subst (λ (b : ℕ). IsInRange (b * l.pageblocks) l.pageblocks pageblock) e
+    (record { low = low; high = high })
 
-pub pageblock_elsewhere : (l : LayoutParts) (block pageblock : ℕ) → block_of_pageblock l pageblock ≢ block → (pageblock < block * l.pageblocks) ⊎ (block * l.pageblocks + l.pageblocks ≤ pageblock)
+pub pageblock_elsewhere : (l : LayoutParts) (block pageblock : ℕ) → block_of_pageblock l pageblock ≢ block
+    → (pageblock < block * l.pageblocks) ⊎ (block * l.pageblocks + l.pageblocks ≤ pageblock)
 pageblock_elsewhere l block pageblock ne = elim (cases_lt pageblock (block * l.pageblocks)) [
   | inl low ↦ inl low
   | inr from ↦ elim (cases_lt pageblock (block * l.pageblocks + l.pageblocks)) [
@@ -180,8 +252,11 @@ some_pageblocks l layout =
 abbrev one_if : Bool → ℕ
 one_if b = cond b 1 0
 
-pub moved_block-placed : (l : LayoutParts) (s : Memory) (block : ℕ) (zone : Zone) (isolated : Bool) (row : Row) → IsLayout l → IsWellPlaced l s → block < l.blocks
-    → (row_of s.blocks block).zone ≡ Some zone → row.zone ≡ Some zone → IsRow row → is_going row ≡ isolated → is_unplugged row ≡ false
+pub moved_block-placed : (l : LayoutParts) (s : Memory) (block : ℕ) (zone : Zone) (isolated : Bool)
+    (row : Row)
+    → IsLayout l → IsWellPlaced l s → block < l.blocks
+    → (row_of s.blocks block).zone ≡ Some zone → row.zone ≡ Some zone → IsRow row → is_going row ≡ isolated
+    → is_unplugged row ≡ false
     → IsWellPlaced l (with_areas (with_block_row s block row) (move_block l zone isolated s.free.areas block))
 moved_block-placed l s block zone isolated row layout p low was is is_row going plugged =
     let h : IsInOrder l s = p.in_order in
@@ -189,53 +264,99 @@ moved_block-placed l s block zone isolated row layout p low was is is_row going 
     let b : FreeAreas = move_block l zone isolated s.free.areas block in
     let some : 0 < l.pageblocks = some_pageblocks l layout in
     let short : block < length s.blocks.rows = omega (arith, h.shape.rows) in
-    let far : (block + 1) * l.pageblocks ≤ l.blocks * l.pageblocks = mul-le (block + 1) l.pageblocks l.blocks l.pageblocks (omega arith) (omega arith) in
+    let far : (block + 1) * l.pageblocks ≤ l.blocks * l.pageblocks =
+    mul-le (block + 1) l.pageblocks l.blocks l.pageblocks (omega arith) (omega arith) in
     let next : (block + 1) * l.pageblocks ≡ block * l.pageblocks + l.pageblocks = grind arith in
     let range : MovesRange l s.blocks.rows isolated (block * l.pageblocks) l.pageblocks s.free.areas b =
-    move_all-range l s.blocks.rows zone isolated s.free.areas (block * l.pageblocks) l.pageblocks (omega (arith, h.shape.kinds))
-    (λ pageblock among. subst (λ (n : ℕ). (row_of s.blocks n).zone ≡ Some zone) (sym (quotient pageblock l.pageblocks block among.low among.high)) was) (areas_of l s p) in
-    let now : get_or rows block offline_row ≡ row = get_or-set_same s.blocks.rows block row offline_row short in
-    let zones : (pageblock : ℕ) → (row_at l rows pageblock).zone ≡ (row_at l s.blocks.rows pageblock).zone = λ pageblock. elim (cases_eq (block_of_pageblock l pageblock) block) [
-      | inl same ↦ subst (λ (n : ℕ). (get_or rows n offline_row).zone ≡ (get_or s.blocks.rows n offline_row).zone) (sym same) (ap (λ (r : Row). r.zone) now ∙ is ∙ sym was)
-      | inr ne ↦ ap (λ (r : Row). r.zone) (get_or-set_other s.blocks.rows block (block_of_pageblock l pageblock) row offline_row ne)
+    move_all-range l s.blocks.rows zone isolated s.free.areas (block * l.pageblocks) l.pageblocks
+    (omega (arith, h.shape.kinds))
+    (λ pageblock among. subst (λ (n : ℕ). (row_of s.blocks n).zone ≡ Some zone)
+    (sym (quotient pageblock l.pageblocks block among.low among.high)) was) (areas_of l s p) in
+    let now : get_or rows block offline_row ≡ row =
+    get_or-set_same s.blocks.rows block row offline_row short in
+    let zones : (pageblock : ℕ) → (row_at l rows pageblock).zone ≡ (row_at l s.blocks.rows pageblock).zone =
+    λ pageblock. elim (cases_eq (block_of_pageblock l pageblock) block) [
+      | inl same ↦
+          subst (λ (n : ℕ). (get_or rows n offline_row).zone ≡ (get_or s.blocks.rows n offline_row).zone)
+          (sym same) (ap (λ (r : Row). r.zone) now ∙ is ∙ sym was)
+      | inr ne ↦
+          ap (λ (r : Row). r.zone)
+          (get_or-set_other s.blocks.rows block (block_of_pageblock l pageblock) row offline_row ne)
     ] in
-    let ordered : AreOrdered l (class_at l b.kinds rows) b = other-ordered l (class_at l b.kinds s.blocks.rows) (class_at l b.kinds rows) b
-    (λ first there. ap (option_map (λ z. class_of_kind z (kind_at b.kinds (pageblock_of l first)))) (zones (pageblock_of l first))) range.ordered in
+    let ordered : AreOrdered l (class_at l b.kinds rows) b =
+    other-ordered l (class_at l b.kinds s.blocks.rows) (class_at l b.kinds rows) b
+    (λ first there. ap (option_map (λ z. class_of_kind z (kind_at b.kinds (pageblock_of l first))))
+    (zones (pageblock_of l first))) range.ordered in
     record {
       in_order = record {
-        shape = record { lists = ordered.lists; kinds = range.size ∙ h.shape.kinds; cached = h.shape.cached; owners = h.shape.owners; pages = h.shape.pages; content_owners = h.shape.content_owners; content_pages = h.shape.content_pages; kernel = h.shape.kernel; rows = length-set s.blocks.rows block row ∙ h.shape.rows };
+        shape =
+            record {
+              lists = ordered.lists;
+              kinds = range.size ∙ h.shape.kinds;
+              cached = h.shape.cached;
+              owners = h.shape.owners;
+              pages = h.shape.pages;
+              content_owners = h.shape.content_owners;
+              content_pages = h.shape.content_pages;
+              kernel = h.shape.kernel;
+              rows = length-set s.blocks.rows block row ∙ h.shape.rows;
+            };
         blocks = ordered.blocks;
         joined = ordered.joined;
         cached = λ cpu pool frame on.
-            ap (option_map (λ z. pool_of z (kind_at b.kinds (pageblock_of l frame)).mobility)) (zones (pageblock_of l frame))
-            ∙ ap (λ m. option_map (λ z. pool_of z m) (row_at l s.blocks.rows (pageblock_of l frame)).zone) (range.mobility (pageblock_of l frame))
+            ap (option_map (λ z. pool_of z (kind_at b.kinds (pageblock_of l frame)).mobility))
+            (zones (pageblock_of l frame))
+            ∙ ap (λ m. option_map (λ z. pool_of z m) (row_at l s.blocks.rows (pageblock_of l frame)).zone)
+            (range.mobility (pageblock_of l frame))
             ∙ h.cached cpu pool frame on;
         kernel = λ first. some_weaker (IsKernelAt l s.blocks.rows first) (IsKernelAt l rows first)
-            (λ order k. record { in_order = k.in_order; aligned = k.aligned; normal = zones (pageblock_of l first) ∙ k.normal }) (kernel_order s first) (h.kernel first);
-        mobility = λ pageblock unmovable. zones pageblock ∙ h.mobility pageblock (sym (range.mobility pageblock) ∙ unmovable);
+            (λ order k. record {
+              in_order = k.in_order;
+              aligned = k.aligned;
+              normal = zones (pageblock_of l first) ∙ k.normal;
+            }) (kernel_order s first) (h.kernel first);
+        mobility =
+            λ pageblock unmovable.
+            zones pageblock ∙ h.mobility pageblock (sym (range.mobility pageblock) ∙ unmovable);
         isolated = λ pageblock. elim (cases_eq (block_of_pageblock l pageblock) block) [
           | inl same ↦ range.inside pageblock (pageblock_range l block pageblock some same)
-              ∙ sym (subst (λ (n : ℕ). is_going (get_or rows n offline_row) ≡ isolated) (sym same) (ap is_going now ∙ going))
+              ∙ sym (subst (λ (n : ℕ). is_going (get_or rows n offline_row) ≡ isolated) (sym same)
+              (ap is_going now ∙ going))
           | inr ne ↦ range.outside pageblock (pageblock_elsewhere l block pageblock ne) ∙ h.isolated pageblock
-              ∙ sym (ap is_going (get_or-set_other s.blocks.rows block (block_of_pageblock l pageblock) row offline_row ne))
+              ∙ sym (ap is_going
+              (get_or-set_other s.blocks.rows block (block_of_pageblock l pageblock) row offline_row ne))
         ];
-        rows = get_or-cases (λ (n : ℕ) (r : Row). IsRow r) s.blocks.rows block row offline_row short is_row h.rows;
+        rows =
+            get_or-cases (λ (n : ℕ) (r : Row). IsRow r) s.blocks.rows block row offline_row short is_row
+            h.rows;
         words = h.words;
       };
-      once = λ frame. omega (arith, p.once frame, range.places frame, same_offline frame (old_plugged (row_of s.blocks block) refl (h.rows block)) now short);
+      once =
+          λ frame. omega (
+            arith,
+            p.once frame,
+            range.places frame,
+            same_offline frame (old_plugged (row_of s.blocks block) refl (h.rows block)) now short,
+          );
     }
   where
     old_plugged : (r : Row) → r ≡ row_of s.blocks block → IsRow r → is_unplugged r ≡ false
-    old_plugged r e is_r = false_from_ne_true (is_unplugged r) (λ off. no_zone (sym (unplugged_zone r.state r.zone r.claim off is_r) ∙ ap (λ (q : Row). q.zone) e ∙ was))
+    old_plugged r e is_r =
+        false_from_ne_true (is_unplugged r) (λ off.
+        no_zone (sym (unplugged_zone r.state r.zone r.claim off is_r) ∙ ap (λ (q : Row). q.zone) e ∙ was))
       where
         no_zone : None ≡ Some zone → ⊥
         no_zone e = cc
 
-    same_offline : (frame : ℕ) → is_unplugged (row_of s.blocks block) ≡ false → get_or (set s.blocks.rows block row) block offline_row ≡ row → block < length s.blocks.rows
+    same_offline : (frame : ℕ) → is_unplugged (row_of s.blocks block) ≡ false
+        → get_or (set s.blocks.rows block row) block offline_row ≡ row → block < length s.blocks.rows
         → offline_places l (with_block_row s block row) frame ≡ offline_places l s frame
     same_offline frame old now short = elim (cases_eq (block_of l frame) block) [
       | inl same ↦
-          subst (λ (n : ℕ). one_if (is_unplugged (get_or (set s.blocks.rows block row) n offline_row)) ≡ one_if (is_unplugged (get_or s.blocks.rows n offline_row))) (sym same)
+          subst (λ (n : ℕ). one_if (is_unplugged (get_or (set s.blocks.rows block row) n offline_row))
+          ≡ one_if (is_unplugged (get_or s.blocks.rows n offline_row))) (sym same)
           (ap (λ (r : Row). one_if (is_unplugged r)) now ∙ ap one_if (plugged ∙ sym old))
-      | inr ne ↦ ap (λ (r : Row). one_if (is_unplugged r)) (get_or-set_other s.blocks.rows block (block_of l frame) row offline_row ne)
+      | inr ne ↦
+          ap (λ (r : Row). one_if (is_unplugged r))
+          (get_or-set_other s.blocks.rows block (block_of l frame) row offline_row ne)
     ]

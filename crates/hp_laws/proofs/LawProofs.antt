@@ -17,22 +17,28 @@ use Rattle.hp_laws.proofs.Earlier.{rooted_net}
 use Rattle.hp_laws.proofs.Steps.{steps}
 
 -- what the last record of a legal history follows, and that what is before it is legal
-pub last_follows : (l : LayoutParts) (base : Memory) (before : ℕ) (h : List Record) (r : Record) → IsLegal l base before (h ++ r ∷ []) → Follows l base before h r
+pub last_follows : (l : LayoutParts) (base : Memory) (before : ℕ) (h : List Record) (r : Record)
+    → IsLegal l base before (h ++ r ∷ []) → Follows l base before h r
 last_follows l base before h r legal =
-    subst (λ (g : List Record). Follows l base before g r) (take-append-le (length h) h (r ∷ []) (omega arith) ∙ take_all (length h) h (omega arith)) (legal (length h) r (get_end h r))
+    subst (λ (g : List Record). Follows l base before g r) (take-append-le (length h) h (r ∷ []) (omega arith)
+    ∙ take_all (length h) h (omega arith)) (legal (length h) r (get_end h r))
 
 -- a legal history without its last record is legal
-pub front_legal : (l : LayoutParts) (base : Memory) (before : ℕ) (h : List Record) (r : Record) → IsLegal l base before (h ++ r ∷ []) → IsLegal l base before h
+pub front_legal : (l : LayoutParts) (base : Memory) (before : ℕ) (h : List Record) (r : Record)
+    → IsLegal l base before (h ++ r ∷ []) → IsLegal l base before h
 front_legal l base before h r legal =
-    subst (λ (g : List Record). IsLegal l base before g) (take-append-le (length h) h (r ∷ []) (omega arith) ∙ take_all (length h) h (omega arith)) (legal_take l base before (h ++ r ∷ []) (length h) legal)
+    subst (λ (g : List Record). IsLegal l base before g) (take-append-le (length h) h (r ∷ []) (omega arith)
+    ∙ take_all (length h) h (omega arith)) (legal_take l base before (h ++ r ∷ []) (length h) legal)
 
 -- the state after an undo
-pub undone : (l : LayoutParts) (base : Memory) (s : ℕ) (h : List Record) (r : Record) → r.event ≡ UndoAfter s → is_refused r.reply ≡ false → value_of l base (h ++ r ∷ []) ≡ run l base (steps_until s (net_of h))
+pub undone : (l : LayoutParts) (base : Memory) (s : ℕ) (h : List Record) (r : Record) → r.event ≡ UndoAfter s
+    → is_refused r.reply ≡ false → value_of l base (h ++ r ∷ []) ≡ run l base (steps_until s (net_of h))
 unfolding value_of net_with
 undone l base s h r event good = rw (net-push h r, good, event) refl
 
 -- a Cancel that is not refused cuts at the place
-pub net_restored : (op k : ℕ) (n : List Record) (r : Record) → r.event ≡ Cancel op → is_refused r.reply ≡ false → sole_at op (map tag_of n) ≡ Some k → net_with n r ≡ take k n
+pub net_restored : (op k : ℕ) (n : List Record) (r : Record) → r.event ≡ Cancel op
+    → is_refused r.reply ≡ false → sole_at op (map tag_of n) ≡ Some k → net_with n r ≡ take k n
 unfolding net_with
 net_restored op k n r event good place = rw (good, event, place) refl
 
@@ -57,39 +63,55 @@ opening_is_begin (Remove block) h = absurd cc
 opening_is_begin (SetAuto auto) h = absurd cc
 
 -- the record at a place that is sole
-pub sole_record : (op : ℕ) (n : List Record) (k : ℕ) → IsSole op (map tag_of n) k → (b : Record) × (slice_get n k ≡ Some b) × (b.serial ≡ op) × (is_opening (mark_of b.event) ≡ true)
+pub sole_record : (op : ℕ) (n : List Record) (k : ℕ) → IsSole op (map tag_of n) k
+    → (b : Record) × (slice_get n k ≡ Some b) × (b.serial ≡ op) × (is_opening (mark_of b.event) ≡ true)
 sole_record op n k is = by_record (slice_get n k) refl
   where
-    by_record : (o : Option Record) → slice_get n k ≡ o → (b : Record) × (slice_get n k ≡ Some b) × (b.serial ≡ op) × (is_opening (mark_of b.event) ≡ true)
-    by_record None at = absurd (none-some is.tag (ap (option_map tag_of) (sym at) ∙ (sym (slice_get-map tag_of n k) ∙ is.here)))
+    by_record : (o : Option Record) → slice_get n k ≡ o
+        → (b : Record) × (slice_get n k ≡ Some b) × (b.serial ≡ op) × (is_opening (mark_of b.event) ≡ true)
+    by_record None at =
+        absurd
+        (none-some is.tag (ap (option_map tag_of) (sym at) ∙ (sym (slice_get-map tag_of n k) ∙ is.here)))
     by_record (Some b) at =
-        let same : tag_of b ≡ is.tag = same_Some (tag_of b) is.tag (ap (option_map tag_of) (sym at) ∙ (sym (slice_get-map tag_of n k) ∙ is.here)) in
-        let opens : begins op (tag_of b) ≡ true = subst (λ (t : Tag). begins op t ≡ true) (sym same) is.opens in
+        let same : tag_of b ≡ is.tag =
+        same_Some (tag_of b) is.tag
+        (ap (option_map tag_of) (sym at) ∙ (sym (slice_get-map tag_of n k) ∙ is.here)) in
+        let opens : begins op (tag_of b) ≡ true =
+        subst (λ (t : Tag). begins op t ≡ true) (sym same) is.opens in
         let parts = and_parts (is_opening (mark_of b.event)) (b.serial == op) opens in
         (b, at, eqb-true b.serial op parts.1, parts.0)
 
 -- the reply to a Cancel was Restored only where the operation's steps are the last
-restored_place : (l : LayoutParts) (base : Memory) (before op : ℕ) (h : List Record) (r : Record) → IsLegal l base before (h ++ r ∷ []) → r.event ≡ Cancel op → r.reply ≡ Restored
+restored_place : (l : LayoutParts) (base : Memory) (before op : ℕ) (h : List Record) (r : Record)
+    → IsLegal l base before (h ++ r ∷ []) → r.event ≡ Cancel op → r.reply ≡ Restored
     → (k : ℕ) × (sole_at op (map tag_of (net_of h)) ≡ Some k)
 unfolding reply_of
 restored_place l base before op h r legal event restored = by_place (sole_at op (map tag_of (net_of h))) refl
   where
     answers : reply_of l base before h r.cpu (Cancel op) ≡ Restored
-    answers = ap (λ (e : Event). reply_of l base before h r.cpu e) (sym event) ∙ (sym (last_follows l base before h r legal).reply ∙ restored)
+    answers =
+        ap (λ (e : Event). reply_of l base before h r.cpu e) (sym event)
+        ∙ (sym (last_follows l base before h r legal).reply ∙ restored)
 
-    by_place : (o : Option ℕ) → sole_at op (map tag_of (net_of h)) ≡ o → (k : ℕ) × (sole_at op (map tag_of (net_of h)) ≡ Some k)
-    by_place None at = absurd (false≢true (sym (steps l (value_of l base h) (before + length h + 1) r.cpu (Cancel op)).onward ∙ ap goes_back (rw at at answers)))
+    by_place : (o : Option ℕ) → sole_at op (map tag_of (net_of h)) ≡ o
+        → (k : ℕ) × (sole_at op (map tag_of (net_of h)) ≡ Some k)
+    by_place None at =
+        absurd (false≢true (sym (steps l (value_of l base h) (before + length h + 1) r.cpu (Cancel op)).onward
+        ∙ ap goes_back (rw at at answers)))
     by_place (Some k) at = (k, at)
 
 -- the state after a Cancel that restores
-pub restored : (l : LayoutParts) (base : Memory) (before op : ℕ) (h : List Record) (r : Record) → IsLegal l base before (h ++ r ∷ []) → r.event ≡ Cancel op → r.reply ≡ Restored
-    → (b : Record) × (plan : List Item) × (slice_get h (op - before - 1) ≡ Some b) × (b.serial ≡ op) × (b.event ≡ Begin plan) × (value_of l base (h ++ r ∷ []) ≡ value_of l base (take (op - before - 1) h))
+pub restored : (l : LayoutParts) (base : Memory) (before op : ℕ) (h : List Record) (r : Record)
+    → IsLegal l base before (h ++ r ∷ []) → r.event ≡ Cancel op → r.reply ≡ Restored
+    → (b : Record) × (plan : List Item) × (slice_get h (op - before - 1) ≡ Some b) × (b.serial ≡ op)
+    × (b.event ≡ Begin plan) × (value_of l base (h ++ r ∷ []) ≡ value_of l base (take (op - before - 1) h))
 unfolding value_of
 restored l base before op h r legal event is =
     let place = restored_place l base before op h r legal event is in
     let sole = sole_record op (net_of h) place.0 (sole_sound op (map tag_of (net_of h)) place.0 place.1) in
     let roots = rooted_net l base before h (front_legal l base before h r legal) in
-    let cut : net_of (h ++ r ∷ []) ≡ take place.0 (net_of h) = net-push h r ∙ net_restored op place.0 (net_of h) r event (ap is_refused is) place.1 in
+    let cut : net_of (h ++ r ∷ []) ≡ take place.0 (net_of h) =
+    net-push h r ∙ net_restored op place.0 (net_of h) r event (ap is_refused is) place.1 in
     let opens = opening_is_begin sole.0.event sole.3 in
     let serial : sole.0.serial - before - 1 ≡ op - before - 1 = ap (λ (x : ℕ). x - before - 1) sole.2 in (
       sole.0,

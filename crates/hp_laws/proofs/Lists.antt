@@ -14,14 +14,17 @@ get_end [] y = refl
 get_end (x ∷ xs) y = get_end xs y
 
 -- each place of a list with one item more is a place of the list, or the last
-pub get_push_cases : {A : Type 0} (xs : List A) (y x : A) (k : ℕ) → slice_get (xs ++ y ∷ []) k ≡ Some x → (slice_get xs k ≡ Some x) ⊎ ((k ≡ length xs) × (y ≡ x))
+pub get_push_cases : {A : Type 0} (xs : List A) (y x : A) (k : ℕ) → slice_get (xs ++ y ∷ []) k ≡ Some x
+    → (slice_get xs k ≡ Some x) ⊎ ((k ≡ length xs) × (y ≡ x))
 get_push_cases [] y x zero h = inr (refl, cc)
 get_push_cases [] y x (suc k) h = absurd cc
 get_push_cases (z ∷ xs) y x zero h = inl h
-get_push_cases (z ∷ xs) y x (suc k) h = elim (get_push_cases xs y x k h) [ inl e ↦ inl e | inr e ↦ inr (ap suc e.0, e.1) ]
+get_push_cases (z ∷ xs) y x (suc k) h =
+    elim (get_push_cases xs y x k h) [ inl e ↦ inl e | inr e ↦ inr (ap suc e.0, e.1) ]
 
 -- a place in the beginning of a list
-pub get_take : {A : Type 0} (n : ℕ) (xs : List A) (x : A) (k : ℕ) → slice_get (take n xs) k ≡ Some x → (k < n) × (slice_get xs k ≡ Some x)
+pub get_take : {A : Type 0} (n : ℕ) (xs : List A) (x : A) (k : ℕ) → slice_get (take n xs) k ≡ Some x
+    → (k < n) × (slice_get xs k ≡ Some x)
 get_take zero xs x k h = absurd cc
 get_take (suc n) [] x k h = absurd cc
 get_take (suc n) (z ∷ xs) x zero h = (omega arith, h)
@@ -34,7 +37,8 @@ get_some (x ∷ xs) zero h = (x, refl)
 get_some (x ∷ xs) (suc k) h = get_some xs k (omega arith)
 
 -- a beginning that is longer by one item
-pub take_next : {A : Type 0} (xs : List A) (k : ℕ) (x : A) → slice_get xs k ≡ Some x → take (suc k) xs ≡ take k xs ++ x ∷ []
+pub take_next : {A : Type 0} (xs : List A) (k : ℕ) (x : A) → slice_get xs k ≡ Some x
+    → take (suc k) xs ≡ take k xs ++ x ∷ []
 take_next [] k x h = absurd cc
 take_next (y ∷ xs) zero x h = cc
 take_next (y ∷ xs) (suc k) x h = ap (λ ys. y ∷ ys) (take_next xs k x h)

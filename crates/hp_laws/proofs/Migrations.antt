@@ -45,22 +45,29 @@ held_entry : (frame : ℕ) (e : Option ℕ) → holds frame e ≡ true → e ≡
 held_entry frame None h = cc
 held_entry frame (Some other) h = ap (λ (n : ℕ). Some n) (eqb-true other frame h)
 
-pub page_from-at : (first frame owner page : ℕ) (rows : List (List (Option ℕ))) → page_from first rows frame ≡ Some (owner, page) → IsPageAt rows first frame owner page
+pub page_from-at : (first frame owner page : ℕ) (rows : List (List (Option ℕ)))
+    → page_from first rows frame ≡ Some (owner, page) → IsPageAt rows first frame owner page
 page_from-at first frame owner page [] e = cc
-page_from-at first frame owner page (row ∷ rows) e = by_position (position (holds frame) row) refl e (page_from-at (first + 1) frame owner page rows)
+page_from-at first frame owner page (row ∷ rows) e =
+    by_position (position (holds frame) row) refl e (page_from-at (first + 1) frame owner page rows)
   where
-    by_position : (o : Option ℕ) → position (holds frame) row ≡ o → option_or (option_map (λ p. (first, p)) o) (page_from (first + 1) rows frame) ≡ Some (owner, page)
-        → (page_from (first + 1) rows frame ≡ Some (owner, page) → IsPageAt rows (first + 1) frame owner page) → IsPageAt (row ∷ rows) first frame owner page
+    by_position : (o : Option ℕ) → position (holds frame) row ≡ o
+        → option_or (option_map (λ p. (first, p)) o) (page_from (first + 1) rows frame) ≡ Some (owner, page)
+        → (page_from (first + 1) rows frame ≡ Some (owner, page) → IsPageAt rows (first + 1) frame owner page)
+        → IsPageAt (row ∷ rows) first frame owner page
     by_position None is f later =
         let rest = later f in
         record { row = suc rest.row; sum = omega (arith, rest.sum); entry = rest.entry }
     by_position (Some p) is f later =
-        let owner_is : first ≡ owner = ap (λ (o : Option (ℕ × ℕ)). (option_map_or (λ (x : ℕ × ℕ). x.0) o 0)) f in
+        let owner_is : first ≡ owner =
+        ap (λ (o : Option (ℕ × ℕ)). (option_map_or (λ (x : ℕ × ℕ). x.0) o 0)) f in
         let page_is : p ≡ page = ap (λ (o : Option (ℕ × ℕ)). (option_map_or (λ (x : ℕ × ℕ). x.1) o 0)) f in
         record {
           row = 0;
           sum = omega (arith, owner_is);
-          entry = subst (λ (n : ℕ). get_or row n None ≡ Some frame) page_is (held_entry frame (get_or row p None) (position-Some (holds frame) row p None is).1);
+          entry =
+              subst (λ (n : ℕ). get_or row n None ≡ Some frame) page_is
+              (held_entry frame (get_or row p None) (position-Some (holds frame) row p None is).1);
         }
 
 -- ---- the frame that it moves to
@@ -68,76 +75,126 @@ page_from-at first frame owner page (row ∷ rows) e = by_position (position (ho
 abbrev pub TakesSome : LayoutParts → Memory → Taken → Type 0
 TakesSome l s taken = (zone : Zone) × TakesPlaced l s zone 0 taken
 
-pool_taken : (l : LayoutParts) (s : Memory) (pool : Pool) → IsWellPlaced l s → IfSome (take_block l s.free.areas (class_of_pool pool) 0) (TakesSome l s)
+pool_taken : (l : LayoutParts) (s : Memory) (pool : Pool) → IsWellPlaced l s
+    → IfSome (take_block l s.free.areas (class_of_pool pool) 0) (TakesSome l s)
 pool_taken l s pool p =
-    some_weaker (TakesOrdered l (class_at l s.free.areas.kinds s.blocks.rows) s.free.areas (class_of_pool pool) 0) (TakesSome l s)
+    some_weaker (TakesOrdered l (class_at l s.free.areas.kinds s.blocks.rows) s.free.areas
+    (class_of_pool pool) 0) (TakesSome l s)
     (λ taken t. (
       zone_of_pool pool,
       record {
         in_order = areas-in_order l s taken.areas p.in_order t.ordered t.kinds;
         places = t.places;
         aligned = t.block.aligned;
-        zone_is = pool_zone (row_at l s.blocks.rows (pageblock_of l taken.frame)).zone (kind_at s.free.areas.kinds (pageblock_of l taken.frame)).mobility pool
-            (class_pool (row_at l s.blocks.rows (pageblock_of l taken.frame)).zone (kind_at s.free.areas.kinds (pageblock_of l taken.frame)) pool t.block.class_agrees);
-        shown = class_shown (row_at l s.blocks.rows (pageblock_of l taken.frame)).zone (kind_at s.free.areas.kinds (pageblock_of l taken.frame)) pool t.block.class_agrees;
+        zone_is =
+            pool_zone (row_at l s.blocks.rows (pageblock_of l taken.frame)).zone
+            (kind_at s.free.areas.kinds (pageblock_of l taken.frame)).mobility pool
+            (class_pool (row_at l s.blocks.rows (pageblock_of l taken.frame)).zone
+            (kind_at s.free.areas.kinds (pageblock_of l taken.frame)) pool t.block.class_agrees);
+        shown =
+            class_shown (row_at l s.blocks.rows (pageblock_of l taken.frame)).zone
+            (kind_at s.free.areas.kinds (pageblock_of l taken.frame)) pool t.block.class_agrees;
       },
     ))
     (take_block l s.free.areas (class_of_pool pool) 0)
-    (take_block-ordered l (class_at l s.free.areas.kinds s.blocks.rows) s.free.areas (class_of_pool pool) 0 (areas_of l s p))
+    (take_block-ordered l (class_at l s.free.areas.kinds s.blocks.rows) s.free.areas (class_of_pool pool) 0
+    (areas_of l s p))
 
-pub target-placed : (l : LayoutParts) (s : Memory) → IsLayout l → IsWellPlaced l s → IfSome (migration_target l s.free.areas) (TakesSome l s)
+pub target-placed : (l : LayoutParts) (s : Memory) → IsLayout l → IsWellPlaced l s
+    → IfSome (migration_target l s.free.areas) (TakesSome l s)
 target-placed l s layout p =
-    or_some (TakesSome l s) (take_block l s.free.areas Mm 0) (option_or (take_block l s.free.areas Nm 0) (steal_block l s.free.areas Movable 0)) (pool_taken l s MmPool p)
-    (or_some (TakesSome l s) (take_block l s.free.areas Nm 0) (steal_block l s.free.areas Movable 0) (pool_taken l s NmPool p)
-    (some_weaker (TakesPlaced l s NormalZone 0) (TakesSome l s) (λ taken t. (NormalZone, t)) (steal_block l s.free.areas Movable 0) (steal_block-placed l s Movable 0 layout p)))
+    or_some (TakesSome l s) (take_block l s.free.areas Mm 0) (option_or (take_block l s.free.areas Nm 0)
+    (steal_block l s.free.areas Movable 0)) (pool_taken l s MmPool p)
+    (or_some (TakesSome l s) (take_block l s.free.areas Nm 0) (steal_block l s.free.areas Movable 0)
+    (pool_taken l s NmPool p)
+    (some_weaker (TakesPlaced l s NormalZone 0) (TakesSome l s) (λ taken t. (NormalZone, t))
+    (steal_block l s.free.areas Movable 0) (steal_block-placed l s Movable 0 layout p)))
 
 -- ---- it moves, and its old frame goes back
 
-moved_page : (l : LayoutParts) (from to : ℕ) (f : Option ℕ) (w : Option (List ℕ)) → f ≡ Some from → IsPage l f w → IsPage l (Some to) w
+moved_page : (l : LayoutParts) (from to : ℕ) (f : Option ℕ) (w : Option (List ℕ)) → f ≡ Some from
+    → IsPage l f w → IsPage l (Some to) w
 moved_page l from to None w e h = cc
 moved_page l from to (Some frame) None e h = absurd h
 moved_page l from to (Some frame) (Some words) e h = h
 
-moved-placed : (l : LayoutParts) (s : Memory) (from owner page : ℕ) (taken : Taken) → IsWellPlaced l s → frame_at s.pages owner page ≡ Some from → TakesSome l s taken
-    → IsWellPlaced l (with_areas (with_pages s (record s.pages { table = with_entry s.pages.table owner page (Some taken.frame) })) (give_block l taken.areas (zone_of l s from) from 0))
+moved-placed : (l : LayoutParts) (s : Memory) (from owner page : ℕ) (taken : Taken) → IsWellPlaced l s
+    → frame_at s.pages owner page ≡ Some from → TakesSome l s taken
+    → IsWellPlaced l (with_areas
+    (with_pages s (record s.pages { table = with_entry s.pages.table owner page (Some taken.frame) }))
+    (give_block l taken.areas (zone_of l s from) from 0))
 moved-placed l s from owner page taken p e t =
     let table = table_of l s p.in_order in
     let within = entry_within l.owners l.pages s.pages.table owner page from table e in
     let ps : Pages = record s.pages { table = with_entry s.pages.table owner page (Some taken.frame) } in
-    let h : IsInOrder l (with_pages (with_areas s taken.areas) ps) = pages-in_order l (with_areas s taken.areas) ps t.1.in_order
-    (with_entry-table l.owners l.pages s.pages.table owner page (Some taken.frame) within.owner_in table) (contents_of l s p.in_order)
-    (entry-cases (λ (o q : ℕ) (x : Option ℕ). IsPage l x (entry_of s.pages.contents o q)) l.owners l.pages s.pages.table owner page (Some taken.frame) within.owner_in within.page_in table
-    (moved_page l from taken.frame (frame_at s.pages owner page) (words_at s.pages owner page) e (p.in_order.words owner page)) (λ o q elsewhere. p.in_order.words o q)) in
-    let moved : (frame : ℕ) → mapped_places ps frame + covered frame 0 from ≡ mapped_places s.pages frame + covered frame 0 taken.frame =
-    λ frame. omega (arith, rw e at (mapped-places l.owners l.pages s.pages.table owner page (Some taken.frame) frame within.owner_in within.page_in table), held-some frame from, held-some frame taken.frame) in
+    let h : IsInOrder l (with_pages (with_areas s taken.areas) ps) =
+    pages-in_order l (with_areas s taken.areas) ps t.1.in_order
+    (with_entry-table l.owners l.pages s.pages.table owner page (Some taken.frame) within.owner_in table)
+    (contents_of l s p.in_order)
+    (entry-cases (λ (o q : ℕ) (x : Option ℕ). IsPage l x (entry_of s.pages.contents o q)) l.owners l.pages
+    s.pages.table owner page (Some taken.frame) within.owner_in within.page_in table
+    (moved_page l from taken.frame (frame_at s.pages owner page) (words_at s.pages owner page) e
+    (p.in_order.words owner page)) (λ o q elsewhere. p.in_order.words o q)) in
+    let moved : (frame : ℕ)
+    → mapped_places ps frame + covered frame 0 from
+    ≡ mapped_places s.pages frame + covered frame 0 taken.frame =
+    λ frame. omega (
+      arith,
+      rw e at (mapped-places l.owners l.pages s.pages.table owner page (Some taken.frame)
+          frame within.owner_in within.page_in table),
+      held-some frame from,
+      held-some frame taken.frame,
+    ) in
     let zone_is = mapped_zone l s owner page from p e in
     let ordered : AreOrdered l (class_at l taken.areas.kinds s.blocks.rows) taken.areas =
-    record { lists = h.shape.lists; few = λ frame. omega (arith, p.once frame, t.1.places frame); blocks = h.blocks; joined = h.joined } in
-    let room : (frame : ℕ) → free_places taken.areas frame + covered frame 0 from ≤ 1 = λ frame. omega (arith, p.once frame, t.1.places frame, moved frame) in
-    let given = give_block-ordered l (class_at l taken.areas.kinds s.blocks.rows) taken.areas (zone_of l s from) from 0 (omega arith) (single from)
-    (ap (option_map (λ z. class_of_kind z (kind_at taken.areas.kinds (pageblock_of l from)))) zone_is) room ordered in
     record {
-      in_order = areas-in_order l (with_pages (with_areas s taken.areas) ps) (give_block l taken.areas (zone_of l s from) from 0) h given (give_block-kinds l taken.areas (zone_of l s from) from 0);
+      lists = h.shape.lists;
+      few = λ frame. omega (arith, p.once frame, t.1.places frame);
+      blocks = h.blocks;
+      joined = h.joined;
+    } in
+    let room : (frame : ℕ) → free_places taken.areas frame + covered frame 0 from ≤ 1 =
+    λ frame. omega (arith, p.once frame, t.1.places frame, moved frame) in
+    let given =
+    give_block-ordered l (class_at l taken.areas.kinds s.blocks.rows) taken.areas (zone_of l s from) from 0
+    (omega arith) (single from)
+    (ap (option_map (λ z. class_of_kind z (kind_at taken.areas.kinds (pageblock_of l from)))) zone_is) room
+    ordered in
+    record {
+      in_order =
+          areas-in_order l (with_pages (with_areas s taken.areas) ps) (give_block l taken.areas
+          (zone_of l s from) from 0) h given (give_block-kinds l taken.areas (zone_of l s from) from 0);
       once = λ frame.
-          let places = give_block-places l taken.areas (zone_of l s from) from 0 frame ordered.lists (omega arith) (aligned_ancestor from 0 (single from)) ordered.few in
+          let places =
+          give_block-places l taken.areas (zone_of l s from) from 0 frame ordered.lists (omega arith)
+          (aligned_ancestor from 0 (single from)) ordered.few in
           omega (arith, p.once frame, t.1.places frame, moved frame, places);
     }
 
-pub migrate-placed : (l : LayoutParts) (s : Memory) (op : ℕ) → IsLayout l → IsWellPlaced l s → IsWellPlaced l (migrate_step l s op).memory
+pub migrate-placed : (l : LayoutParts) (s : Memory) (op : ℕ) → IsLayout l → IsWellPlaced l s
+    → IsWellPlaced l (migrate_step l s op).memory
 unfolding migrate_step
 migrate-placed l s op layout p = by_source (migration_source l s op) refl
   where
-    by_page : (from : ℕ) (taken : Taken) (o : Option (ℕ × ℕ)) → page_at s.pages from ≡ o → is_some o ≡ true → TakesSome l s taken
-        → IsWellPlaced l (with_areas (with_pages s (option_map_or (λ page. record s.pages { table = with_entry s.pages.table page.0 page.1 (Some taken.frame) }) o s.pages)) (give_block l taken.areas (zone_of l s from) from 0))
+    by_page : (from : ℕ) (taken : Taken) (o : Option (ℕ × ℕ)) → page_at s.pages from ≡ o → is_some o ≡ true
+        → TakesSome l s taken
+        → IsWellPlaced l
+        (with_areas (with_pages s (option_map_or
+        (λ page. record s.pages { table = with_entry s.pages.table page.0 page.1 (Some taken.frame) }) o
+        s.pages)) (give_block l taken.areas (zone_of l s from) from 0))
     by_page from taken None e some t = cc
     by_page from taken (Some page) e some t =
         let at = page_from-at 0 from page.0 page.1 s.pages.table e in
         let same : at.row ≡ page.0 = omega (arith, at.sum) in
-        moved-placed l s from page.0 page.1 taken p (subst (λ (n : ℕ). entry_of s.pages.table n page.1 ≡ Some from) same at.entry) t
+        moved-placed l s from page.0 page.1 taken p
+        (subst (λ (n : ℕ). entry_of s.pages.table n page.1 ≡ Some from) same at.entry) t
 
-    by_target : (from : ℕ) → is_some (page_at s.pages from) ≡ true → (o : Option Taken) → IfSome o (TakesSome l s)
+    by_target : (from : ℕ) → is_some (page_at s.pages from) ≡ true → (o : Option Taken)
+        → IfSome o (TakesSome l s)
         → IsWellPlaced l (option_map_or (λ taken. record {
-          memory = with_areas (with_pages s (move_page s.pages from taken.frame)) (give_block l taken.areas (zone_of l s from) from 0);
+          memory =
+              with_areas (with_pages s (move_page s.pages from taken.frame))
+              (give_block l taken.areas (zone_of l s from) from 0);
           reply = Moved from taken.frame;
         }) o (done s)).memory
     by_target from some None t = p
@@ -145,9 +202,12 @@ migrate-placed l s op layout p = by_source (migration_source l s op) refl
 
     by_source : (o : Option ℕ) → migration_source l s op ≡ o
         → IsWellPlaced l (option_map_or (λ from. option_map_or (λ taken. record {
-          memory = with_areas (with_pages s (move_page s.pages from taken.frame)) (give_block l taken.areas (zone_of l s from) from 0);
+          memory =
+              with_areas (with_pages s (move_page s.pages from taken.frame))
+              (give_block l taken.areas (zone_of l s from) from 0);
           reply = Moved from taken.frame;
         }) (migration_target l s.free.areas) (done s)) o (done s)).memory
     by_source None e = p
     by_source (Some from) e =
-        by_target from (found_passes (λ frame. is_some (page_at s.pages frame)) (flat_map (frames_of_block l) (going_blocks l s.blocks op)) from e) (migration_target l s.free.areas) (target-placed l s layout p)
+        by_target from (found_passes (λ frame. is_some (page_at s.pages frame)) (flat_map (frames_of_block l)
+        (going_blocks l s.blocks op)) from e) (migration_target l s.free.areas) (target-placed l s layout p)

@@ -26,11 +26,13 @@ use Rattle.hp_laws.proofs.OwnedContents.{migrate_step-contents}
 -- ---- no word changes
 
 -- by the answer
-answer-words : (l : LayoutParts) (s : Memory) (serial cpu op : ℕ) (o : Option Refusal) → (answer l s serial cpu (Migrate op) o).memory.pages.contents ≡ s.pages.contents
+answer-words : (l : LayoutParts) (s : Memory) (serial cpu op : ℕ) (o : Option Refusal)
+    → (answer l s serial cpu (Migrate op) o).memory.pages.contents ≡ s.pages.contents
 answer-words l s serial cpu op (Some refusal) = refl
 answer-words l s serial cpu op None = migrate_step-contents l s op
 
-pub migrate-words : (l : LayoutParts) (s : Memory) (serial cpu op : ℕ) → (step l s serial cpu (Migrate op)).memory.pages.contents ≡ s.pages.contents
+pub migrate-words : (l : LayoutParts) (s : Memory) (serial cpu op : ℕ)
+    → (step l s serial cpu (Migrate op)).memory.pages.contents ≡ s.pages.contents
 unfolding step
 migrate-words l s serial cpu op = answer-words l s serial cpu op (refusal_of l s cpu (Migrate op))
 
@@ -45,32 +47,41 @@ frame_after reply frame = frame
 stays : (from to : ℕ) (e : Option ℕ) → e ≢ Some from → e ≡ option_map (frame_after (Moved from to)) e
 stays from to None ne = refl
 stays from to (Some frame) ne =
-    ap (λ (n : ℕ). Some n) (sym (cond-false (frame == from) to frame (ne_eqb frame from (λ same. ne (ap (λ (n : ℕ). Some n) same)))))
+    ap (λ (n : ℕ). Some n) (sym
+    (cond-false (frame == from) to frame (ne_eqb frame from (λ same. ne (ap (λ (n : ℕ). Some n) same)))))
 
 -- the page at the old frame gets the new one
 comes : (from to : ℕ) → Some to ≡ option_map (frame_after (Moved from to)) (Some from)
 comes from to = ap (λ (n : ℕ). Some n) (sym (cond-true (from == from) to from (eq-eqb from from refl)))
 
 -- of two pages at most one is at a frame
-at_another : (owners pages : ℕ) (table : List (List (Option ℕ))) (owner page from o p : ℕ) → IsTable owners pages table → entry_of table owner page ≡ Some from → in_pages from table ≤ 1
+at_another : (owners pages : ℕ) (table : List (List (Option ℕ))) (owner page from o p : ℕ)
+    → IsTable owners pages table → entry_of table owner page ≡ Some from → in_pages from table ≤ 1
     → IsElsewhere owner page o p → entry_of table o p ≢ Some from
 at_another owners pages table owner page from o p is e once elsewhere there =
     let within = entry_within owners pages table owner page from is e in
-    let less = rw e at (mapped-places owners pages table owner page None from within.owner_in within.page_in is) in
+    let less =
+    rw e at (mapped-places owners pages table owner page None from within.owner_in within.page_in is) in
     let one : held from (Some from) ≡ covered from 0 from = held-some from from in
     let self : covered from 0 from ≡ 1 = covered-self 0 from in
     let some : 1 ≤ in_pages from (with_entry table owner page None) =
-    mapped_some owners pages (with_entry table owner page None) o p from (with_entry-table owners pages table owner page None within.owner_in is) (entry-apart table owner page None o p elsewhere ∙ there) in
+    mapped_some owners pages (with_entry table owner page None) o p from (with_entry-table owners pages table
+    owner page None within.owner_in is) (entry-apart table owner page None o p elsewhere ∙ there) in
     omega arith
 
 -- one entry is written
-written-frames : (owners pages : ℕ) (table : List (List (Option ℕ))) (owner page from to : ℕ) → IsTable owners pages table → entry_of table owner page ≡ Some from → in_pages from table ≤ 1
-    → (o p : ℕ) → entry_of (with_entry table owner page (Some to)) o p ≡ option_map (frame_after (Moved from to)) (entry_of table o p)
+written-frames : (owners pages : ℕ) (table : List (List (Option ℕ))) (owner page from to : ℕ)
+    → IsTable owners pages table → entry_of table owner page ≡ Some from → in_pages from table ≤ 1
+    → (o p : ℕ)
+    → entry_of (with_entry table owner page (Some to)) o p
+    ≡ option_map (frame_after (Moved from to)) (entry_of table o p)
 written-frames owners pages table owner page from to is e once =
     let within = entry_within owners pages table owner page from is e in
-    entry-cases (λ (o p : ℕ) (x : Option ℕ). x ≡ option_map (frame_after (Moved from to)) (entry_of table o p)) owners pages table owner page (Some to) within.owner_in within.page_in is
+    entry-cases (λ (o p : ℕ) (x : Option ℕ). x ≡ option_map (frame_after (Moved from to))
+    (entry_of table o p)) owners pages table owner page (Some to) within.owner_in within.page_in is
     (comes from to ∙ ap (λ (x : Option ℕ). option_map (frame_after (Moved from to)) x) (sym e))
-    (λ o p elsewhere. stays from to (entry_of table o p) (at_another owners pages table owner page from o p is e once elsewhere))
+    (λ o p elsewhere. stays from to (entry_of table o p)
+    (at_another owners pages table owner page from o p is e once elsewhere))
 
 -- no page moves
 same-frame : (e : Option ℕ) → e ≡ option_map (frame_after Done) e
@@ -83,25 +94,33 @@ refused-frame refusal (Some frame) = refl
 
 -- where the pages of a state are after the step
 pub migrate_step-frames : (l : LayoutParts) (s : Memory) (op o p : ℕ) → IsWellPlaced l s
-    → frame_at (migrate_step l s op).memory.pages o p ≡ option_map (frame_after (migrate_step l s op).reply) (frame_at s.pages o p)
+    → frame_at (migrate_step l s op).memory.pages o p
+    ≡ option_map (frame_after (migrate_step l s op).reply) (frame_at s.pages o p)
 unfolding migrate_step
 migrate_step-frames l s op o p placed = by_source (migration_source l s op) refl
   where
     by_page : (from to : ℕ) (found : Option (ℕ × ℕ)) → page_at s.pages from ≡ found → is_some found ≡ true
-        → frame_at (option_map_or (λ page. record s.pages { table = with_entry s.pages.table page.0 page.1 (Some to) }) found s.pages) o p ≡ option_map (frame_after (Moved from to)) (frame_at s.pages o p)
+        → frame_at (option_map_or
+        (λ page. record s.pages { table = with_entry s.pages.table page.0 page.1 (Some to) }) found
+        s.pages) o p ≡ option_map (frame_after (Moved from to)) (frame_at s.pages o p)
     by_page from to None e some = cc
     by_page from to (Some page) e some =
         let at = page_from-at 0 from page.0 page.1 s.pages.table e in
         let same : at.row ≡ page.0 = omega (arith, at.sum) in
-        written-frames l.owners l.pages s.pages.table page.0 page.1 from to (table_of l s placed.in_order) (subst (λ (n : ℕ). entry_of s.pages.table n page.1 ≡ Some from) same at.entry)
+        written-frames l.owners l.pages s.pages.table page.0 page.1 from to (table_of l s placed.in_order)
+        (subst (λ (n : ℕ). entry_of s.pages.table n page.1 ≡ Some from) same at.entry)
         (let once : mapped_places s.pages from ≤ 1 = omega (arith, placed.once from) in once) o p
 
     by_target : (from : ℕ) → is_some (page_at s.pages from) ≡ true → (t : Option Taken)
         → frame_at (option_map_or (λ taken. record {
-          memory = with_areas (with_pages s (move_page s.pages from taken.frame)) (give_block l taken.areas (zone_of l s from) from 0);
+          memory =
+              with_areas (with_pages s (move_page s.pages from taken.frame))
+              (give_block l taken.areas (zone_of l s from) from 0);
           reply = Moved from taken.frame;
         }) t (done s)).memory.pages o p ≡ option_map (frame_after (option_map_or (λ taken. record {
-          memory = with_areas (with_pages s (move_page s.pages from taken.frame)) (give_block l taken.areas (zone_of l s from) from 0);
+          memory =
+              with_areas (with_pages s (move_page s.pages from taken.frame))
+              (give_block l taken.areas (zone_of l s from) from 0);
           reply = Moved from taken.frame;
         }) t (done s)).reply) (frame_at s.pages o p)
     by_target from some None = same-frame (frame_at s.pages o p)
@@ -109,25 +128,35 @@ migrate_step-frames l s op o p placed = by_source (migration_source l s op) refl
 
     by_source : (f : Option ℕ) → migration_source l s op ≡ f
         → frame_at (option_map_or (λ from. option_map_or (λ taken. record {
-          memory = with_areas (with_pages s (move_page s.pages from taken.frame)) (give_block l taken.areas (zone_of l s from) from 0);
+          memory =
+              with_areas (with_pages s (move_page s.pages from taken.frame))
+              (give_block l taken.areas (zone_of l s from) from 0);
           reply = Moved from taken.frame;
-        }) (migration_target l s.free.areas) (done s)) f (done s)).memory.pages o p ≡ option_map (frame_after (option_map_or (λ from. option_map_or (λ taken. record {
-          memory = with_areas (with_pages s (move_page s.pages from taken.frame)) (give_block l taken.areas (zone_of l s from) from 0);
+        }) (migration_target l s.free.areas) (done s)) f (done s)).memory.pages o p
+        ≡ option_map (frame_after (option_map_or (λ from. option_map_or (λ taken. record {
+          memory =
+              with_areas (with_pages s (move_page s.pages from taken.frame))
+              (give_block l taken.areas (zone_of l s from) from 0);
           reply = Moved from taken.frame;
         }) (migration_target l s.free.areas) (done s)) f (done s)).reply) (frame_at s.pages o p)
     by_source None e = same-frame (frame_at s.pages o p)
     by_source (Some from) e =
-        by_target from (found_passes (λ frame. is_some (page_at s.pages frame)) (flat_map (frames_of_block l) (going_blocks l s.blocks op)) from e) (migration_target l s.free.areas)
+        by_target from (found_passes (λ frame. is_some (page_at s.pages frame)) (flat_map (frames_of_block l)
+        (going_blocks l s.blocks op)) from e) (migration_target l s.free.areas)
 
 -- by the answer
-answer-frames : (l : LayoutParts) (s : Memory) (serial cpu op o p : ℕ) (refused : Option Refusal) → IsWellPlaced l s
-    → frame_at (answer l s serial cpu (Migrate op) refused).memory.pages o p ≡ option_map (frame_after (answer l s serial cpu (Migrate op) refused).reply) (frame_at s.pages o p)
+answer-frames : (l : LayoutParts) (s : Memory) (serial cpu op o p : ℕ) (refused : Option Refusal)
+    → IsWellPlaced l s
+    → frame_at (answer l s serial cpu (Migrate op) refused).memory.pages o p
+    ≡ option_map (frame_after (answer l s serial cpu (Migrate op) refused).reply) (frame_at s.pages o p)
 answer-frames l s serial cpu op o p (Some refusal) placed = refused-frame refusal (frame_at s.pages o p)
 answer-frames l s serial cpu op o p None placed = migrate_step-frames l s op o p placed
 
 -- the page that was at the old frame is at the new one, and each other page where it was
-pub migrate-frames : (l : LayoutParts) (s : Memory) (serial cpu op from to o p : ℕ) → IsWellPlaced l s → (step l s serial cpu (Migrate op)).reply ≡ Moved from to
-    → frame_at (step l s serial cpu (Migrate op)).memory.pages o p ≡ option_map (λ frame. cond (frame == from) to frame) (frame_at s.pages o p)
+pub migrate-frames : (l : LayoutParts) (s : Memory) (serial cpu op from to o p : ℕ) → IsWellPlaced l s
+    → (step l s serial cpu (Migrate op)).reply ≡ Moved from to
+    → frame_at (step l s serial cpu (Migrate op)).memory.pages o p
+    ≡ option_map (λ frame. cond (frame == from) to frame) (frame_at s.pages o p)
 unfolding step
 migrate-frames l s serial cpu op from to o p placed replied =
     answer-frames l s serial cpu op o p (refusal_of l s cpu (Migrate op)) placed

@@ -1,4 +1,5 @@
--- The frames of a range that are on a list, and those of the list that are not in the range, are the list's frames.
+-- The frames of a range that are on a list, and those of the list that are not in the range, are
+-- the list's frames.
 use Rattle.std.proofs.Common.{◌≡◌, ℕ, zero, suc, ◌+◌, ◌≤◌, List, [], ◌∷◌, Bool, true, false, not, cond, refl, ◌∙◌, subst, arith, inl, inr, ◌==◌, ◌||◌, ◌&&◌, eq-eqb, ne_eqb}
 use Rattle.std.specs.Prelude.{filter, nat_le, nat_lt}
 use Rattle.std.specs.List.{sum_by, range_with_len}
@@ -15,12 +16,15 @@ total : (w : ℕ → ℕ) (p : ℕ → Bool) (from count : ℕ) → ℕ
 total w p from zero = 0
 total w p from (suc count) = cond (p from) (w from) 0 + total w p (from + 1) count
 
-sum-filter : (w : ℕ → ℕ) (p : ℕ → Bool) (from count : ℕ) → sum_by w (filter p (range_with_len from count)) ≡ total w p from count
+sum-filter : (w : ℕ → ℕ) (p : ℕ → Bool) (from count : ℕ)
+    → sum_by w (filter p (range_with_len from count)) ≡ total w p from count
 unfolding total
 sum-filter w p from zero = refl
-sum-filter w p from (suc count) = step (p from) (filter p (range_with_len (from + 1) count)) (sum-filter w p (from + 1) count)
+sum-filter w p from (suc count) =
+    step (p from) (filter p (range_with_len (from + 1) count)) (sum-filter w p (from + 1) count)
   where
-    step : (b : Bool) (xs : List ℕ) {n : ℕ} → sum_by w xs ≡ n → sum_by w (cond b (from ∷ xs) xs) ≡ cond b (w from) 0 + n
+    step : (b : Bool) (xs : List ℕ) {n : ℕ} → sum_by w xs ≡ n
+        → sum_by w (cond b (from ∷ xs) xs) ≡ cond b (w from) 0 + n
     step true xs e = omega (arith, e, sum_by-cons w from xs)
     step false xs e = omega (arith, e)
 
@@ -31,7 +35,8 @@ total-none w from (suc count) = omega (arith, total-none w (from + 1) count)
 
 -- one number more that passes
 total-more : (w : ℕ → ℕ) (p : ℕ → Bool) (x from count : ℕ) → p x ≡ false
-    → total w (λ y. (x == y) || p y) from count ≡ cond (nat_le from x && nat_lt x (from + count)) (w x) 0 + total w p from count
+    → total w (λ y. (x == y) || p y) from count
+    ≡ cond (nat_le from x && nat_lt x (from + count)) (w x) 0 + total w p from count
 unfolding total
 total-more w p x from zero e =
     let no : (nat_le from x && nat_lt x (from + 0)) ≡ false = within_none x from in
@@ -54,8 +59,12 @@ total-more w p x from (suc count) e = elim (cases_eq x from) [
   | inr ne ↦
       let off : (x == from) ≡ false = ne_eqb x from ne in
       let here : cond ((x == from) || p from) (w from) 0 ≡ cond (p from) (w from) 0 = rw off refl in
-      let same : (nat_le from x && nat_lt x (from + suc count)) ≡ (nat_le (from + 1) x && nat_lt x (from + 1 + count)) = grind (arith, nat_tests) in
-      let both : cond (nat_le from x && nat_lt x (from + suc count)) (w x) 0 ≡ cond (nat_le (from + 1) x && nat_lt x (from + 1 + count)) (w x) 0 = rw same refl in
+      let same : (nat_le from x && nat_lt x (from + suc count))
+      ≡ (nat_le (from + 1) x && nat_lt x (from + 1 + count)) =
+      grind (arith, nat_tests) in
+      let both : cond (nat_le from x && nat_lt x (from + suc count)) (w x) 0
+      ≡ cond (nat_le (from + 1) x && nat_lt x (from + 1 + count)) (w x) 0 =
+      rw same refl in
       omega (arith, here, both, total-more w p x (from + 1) count e)
 ]
 
@@ -77,16 +86,19 @@ abbrev pub is_among : (from count x : ℕ) → Bool
 is_among from count x = nat_le from x && nat_lt x (from + count)
 
 pub moved-sum : (w : ℕ → ℕ) (from count : ℕ) (xs : List ℕ) → AreApart xs
-    → sum_by w (filter (λ x. is_on x xs) (range_with_len from count)) + sum_by w (filter (λ x. not (is_among from count x)) xs) ≡ sum_by w xs
+    → sum_by w (filter (λ x. is_on x xs) (range_with_len from count))
+    + sum_by w (filter (λ x. not (is_among from count x)) xs) ≡ sum_by w xs
 moved-sum w from count [] apart = omega (arith, sum-filter w (λ x. false) from count, total-none w from count)
 moved-sum w from count (x ∷ xs) apart =
     let rest = moved-sum w from count xs apart.1 in
     let more = total-more w (λ y. is_on y xs) x from count apart.0 in
     let whole = sum-filter w (λ y. is_on y (x ∷ xs)) from count in
     let part = sum-filter w (λ y. is_on y xs) from count in
-    step (is_among from count x) (filter (λ y. not (is_among from count y)) xs) rest (whole ∙ more) part (sum_by-cons w x xs)
+    step (is_among from count x) (filter (λ y. not (is_among from count y)) xs) rest (whole ∙ more) part
+    (sum_by-cons w x xs)
   where
-    step : (b : Bool) (ys : List ℕ) {part whole old now t : ℕ} → part + sum_by w ys ≡ old → whole ≡ cond b (w x) 0 + t → part ≡ t → now ≡ w x + old
+    step : (b : Bool) (ys : List ℕ) {part whole old now t : ℕ} → part + sum_by w ys ≡ old
+        → whole ≡ cond b (w x) 0 + t → part ≡ t → now ≡ w x + old
         → whole + sum_by w (cond (not b) (x ∷ ys) ys) ≡ now
     step true ys r m p n = omega arith
     step false ys r m p n = omega (arith, sum_by-cons w x ys)

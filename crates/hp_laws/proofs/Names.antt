@@ -1,4 +1,5 @@
--- The variants of the events and replies under names of their own, passed on from one place. Declares nothing.
+-- The variants of the events and replies under names of their own, passed on from one place.
+-- Declares nothing.
 pub use Rattle.hp_units.specs.declared.events.Event.TheVariants.{KernelAlloc, KernelFree, Map, Unmap, Write, Read, Drain, Online, Begin, DrainFor, Migrate, Commit, Cancel, UndoAfter, Probe, Remove, SetAuto}
 pub use Rattle.hp_units.specs.declared.replies.Reply.TheVariants.{Done, Frame as GivesFrame, Word, Moved, Opened, Restored, Released, Undone, Refused}
 pub use Rattle.hp_units.specs.declared.replies.Refusal.TheVariants.{NoOwner, NoPage, NoWord, AlreadyMapped, NotMapped, BadOrder, NoFrame, NoSuchFrame, NotKernel, NoCpu, NoBlock, EmptyPlan, Twice, Busy, NotOnline, NotOffline, Unmovable as HoldsUnmovable, NoOp, NothingToMove, NotFree, Gone, BadAddress, NotAbsent}

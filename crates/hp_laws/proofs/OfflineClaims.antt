@@ -32,19 +32,22 @@ use Rattle.hp_laws.proofs.StepBlocks.{answered-blocks, kernel_takes-blocks, kern
 -- ---- rows written one after another
 
 -- one row
-claimed_set : (P : ℕ → Type 0) (rows : List Row) (block : ℕ) (row : Row) → AllByRecursion (IsHeldBy P) rows → IsHeldBy P row → AllByRecursion (IsHeldBy P) (set rows block row)
+claimed_set : (P : ℕ → Type 0) (rows : List Row) (block : ℕ) (row : Row) → AllByRecursion (IsHeldBy P) rows
+    → IsHeldBy P row → AllByRecursion (IsHeldBy P) (set rows block row)
 claimed_set P [] block row h k = h
 claimed_set P (x ∷ xs) zero row h k = (k, h.1)
 claimed_set P (x ∷ xs) (suc block) row h k = (h.0, claimed_set P xs block row h.1 k)
 
 -- a block's claim
-pub claimed_at : (P : ℕ → Type 0) (rows : List Row) (block : ℕ) → AllByRecursion (IsHeldBy P) rows → IsHeldBy P (get_or rows block offline_row)
+pub claimed_at : (P : ℕ → Type 0) (rows : List Row) (block : ℕ) → AllByRecursion (IsHeldBy P) rows
+    → IsHeldBy P (get_or rows block offline_row)
 claimed_at P [] block h = tt
 claimed_at P (x ∷ xs) zero h = h.0
 claimed_at P (x ∷ xs) (suc block) h = claimed_at P xs block h.1
 
 -- by other numbers too
-held_weaker : (P Q : ℕ → Type 0) (rows : List Row) → ((op : ℕ) → P op → Q op) → AllByRecursion (IsHeldBy P) rows → AllByRecursion (IsHeldBy Q) rows
+held_weaker : (P Q : ℕ → Type 0) (rows : List Row) → ((op : ℕ) → P op → Q op)
+    → AllByRecursion (IsHeldBy P) rows → AllByRecursion (IsHeldBy Q) rows
 held_weaker P Q [] more h = tt
 held_weaker P Q (row ∷ rows) more h = (by_claim row.claim h.0, held_weaker P Q rows more h.1)
   where
@@ -53,79 +56,103 @@ held_weaker P Q (row ∷ rows) more h = (by_claim row.claim h.0, held_weaker P Q
     by_claim (Some c) k = more c.op k
 
 -- no row carries a number that isn't live
-pub held_others : (op : ℕ) (rows : List Row) → list_any (is_claimed_by op) rows ≡ false → AllByRecursion (IsHeldBy (λ n. n ≢ op)) rows
+pub held_others : (op : ℕ) (rows : List Row) → list_any (is_claimed_by op) rows ≡ false
+    → AllByRecursion (IsHeldBy (λ n. n ≢ op)) rows
 held_others op [] e = tt
-held_others op (row ∷ rows) e = (by_claim row.claim (or_parts (is_claimed_by op row) (list_any (is_claimed_by op) rows) e).0, held_others op rows (or_parts (is_claimed_by op row) (list_any (is_claimed_by op) rows) e).1)
+held_others op (row ∷ rows) e = (
+  by_claim row.claim (or_parts (is_claimed_by op row) (list_any (is_claimed_by op) rows) e).0,
+  held_others op rows (or_parts (is_claimed_by op row) (list_any (is_claimed_by op) rows) e).1,
+)
   where
     or_parts : (a b : Bool) → (a || b) ≡ false → (a ≡ false) × (b ≡ false)
     or_parts false b e = (refl, e)
     or_parts true b e = cc
 
-    by_claim : (claim : Option Claim) → option_map_or (λ c. c.op == op) claim false ≡ false → IfSome claim (λ c. c.op ≢ op)
+    by_claim : (claim : Option Claim) → option_map_or (λ c. c.op == op) claim false ≡ false
+        → IfSome claim (λ c. c.op ≢ op)
     by_claim None e = tt
     by_claim (Some c) e = λ same. both_ways (c.op == op) e (eq-eqb c.op op same)
 
 -- and a number that no row carries isn't live
-pub others_live : (op : ℕ) (rows : List Row) → AllByRecursion (IsHeldBy (λ n. n ≢ op)) rows → list_any (is_claimed_by op) rows ≡ false
+pub others_live : (op : ℕ) (rows : List Row) → AllByRecursion (IsHeldBy (λ n. n ≢ op)) rows
+    → list_any (is_claimed_by op) rows ≡ false
 others_live op [] h = refl
-others_live op (row ∷ rows) h = or_from (is_claimed_by op row) (list_any (is_claimed_by op) rows) (by_claim row.claim h.0) (others_live op rows h.1)
+others_live op (row ∷ rows) h =
+    or_from (is_claimed_by op row) (list_any (is_claimed_by op) rows) (by_claim row.claim h.0)
+    (others_live op rows h.1)
   where
-    by_claim : (claim : Option Claim) → IfSome claim (λ c. c.op ≢ op) → option_map_or (λ c. c.op == op) claim false ≡ false
+    by_claim : (claim : Option Claim) → IfSome claim (λ c. c.op ≢ op)
+        → option_map_or (λ c. c.op == op) claim false ≡ false
     by_claim None k = refl
     by_claim (Some c) k = ne_eqb c.op op k
 
 -- each of several blocks is written
-claims_fold : {X : Type 0} (P : ℕ → Type 0) (f : Memory → X → Memory) → ((s : Memory) (x : X) → AreHeldBy P s.blocks → AreHeldBy P (f s x).blocks) → (s : Memory) (xs : List X)
+claims_fold : {X : Type 0} (P : ℕ → Type 0) (f : Memory → X → Memory)
+    → ((s : Memory) (x : X) → AreHeldBy P s.blocks → AreHeldBy P (f s x).blocks) → (s : Memory) (xs : List X)
     → AreHeldBy P s.blocks → AreHeldBy P (fold f s xs).blocks
 claims_fold P f k s [] h = h
 claims_fold P f k s (x ∷ xs) h = claims_fold P f k (f s x) xs (k s x h)
 
 -- a block goes online
-online-claims : (l : LayoutParts) (P : ℕ → Type 0) (zone : Zone) (s : Memory) (block : ℕ) → AreHeldBy P s.blocks → AreHeldBy P (online_block l zone s block).blocks
+online-claims : (l : LayoutParts) (P : ℕ → Type 0) (zone : Zone) (s : Memory) (block : ℕ)
+    → AreHeldBy P s.blocks → AreHeldBy P (online_block l zone s block).blocks
 unfolding online_block
 online-claims l P zone s block h = claimed_set P s.blocks.rows block _ h tt
 
 -- a block is claimed
-claim-claims : (l : LayoutParts) (P : ℕ → Type 0) (op : ℕ) (s : Memory) (block : ℕ) (wish : Wish) → P op → AreHeldBy P s.blocks → AreHeldBy P (claim_block l op s block wish).blocks
+claim-claims : (l : LayoutParts) (P : ℕ → Type 0) (op : ℕ) (s : Memory) (block : ℕ) (wish : Wish) → P op
+    → AreHeldBy P s.blocks → AreHeldBy P (claim_block l op s block wish).blocks
 claim-claims l P op s block OffWish le h = claimed_set P s.blocks.rows block _ h le
 claim-claims l P op s block NormalWish le h = claimed_set P s.blocks.rows block _ h le
 claim-claims l P op s block MovableWish le h = claimed_set P s.blocks.rows block _ h le
 
 -- a block is written or not
-option-claims : {X : Type 0} (P : ℕ → Type 0) (f : X → Memory) (s : Memory) (o : Option X) → ((x : X) → AreHeldBy P (f x).blocks) → AreHeldBy P s.blocks → AreHeldBy P (option_map_or f o s).blocks
+option-claims : {X : Type 0} (P : ℕ → Type 0) (f : X → Memory) (s : Memory) (o : Option X)
+    → ((x : X) → AreHeldBy P (f x).blocks) → AreHeldBy P s.blocks → AreHeldBy P (option_map_or f o s).blocks
 option-claims P f s None k h = h
 option-claims P f s (Some x) k h = k x
 
 -- an operation begins
-begin-claims : (l : LayoutParts) (P : ℕ → Type 0) (op : ℕ) (s : Memory) (plan : List Item) → P op → AreHeldBy P s.blocks → AreHeldBy P (begin_plan l s op plan).blocks
+begin-claims : (l : LayoutParts) (P : ℕ → Type 0) (op : ℕ) (s : Memory) (plan : List Item) → P op
+    → AreHeldBy P s.blocks → AreHeldBy P (begin_plan l s op plan).blocks
 unfolding begin_plan
 begin-claims l P op s plan le h =
-    claims_fold P (begin_block l op plan) (λ t block k. option-claims P (claim_block l op t block) t (wish_of plan block) (λ wish. claim-claims l P op t block wish le k) k) s (all_blocks l) h
+    claims_fold P (begin_block l op plan) (λ t block k. option-claims P (claim_block l op t block) t
+    (wish_of plan block) (λ wish. claim-claims l P op t block wish le k) k) s (all_blocks l) h
 
 -- a block gets its wish
-grant-claims : (l : LayoutParts) (P : ℕ → Type 0) (s : Memory) (block : ℕ) (wish : Wish) → AreHeldBy P s.blocks → AreHeldBy P (grant l s block wish).blocks
+grant-claims : (l : LayoutParts) (P : ℕ → Type 0) (s : Memory) (block : ℕ) (wish : Wish)
+    → AreHeldBy P s.blocks → AreHeldBy P (grant l s block wish).blocks
 grant-claims l P s block OffWish h = claimed_set P s.blocks.rows block offline_row h tt
 grant-claims l P s block NormalWish h = online-claims l P NormalZone s block h
 grant-claims l P s block MovableWish h = online-claims l P MovableZone s block h
 
 -- an operation commits
-commit-claims : (l : LayoutParts) (P : ℕ → Type 0) (op : ℕ) (s : Memory) → AreHeldBy P s.blocks → AreHeldBy P (commit_blocks l s op).blocks
+commit-claims : (l : LayoutParts) (P : ℕ → Type 0) (op : ℕ) (s : Memory) → AreHeldBy P s.blocks
+    → AreHeldBy P (commit_blocks l s op).blocks
 unfolding commit_blocks
 commit-claims l P op s h =
-    claims_fold P (commit_block l) (λ t block k. option-claims P (λ claim. grant l t block claim.wish) t (row_of t.blocks block).claim (λ claim. grant-claims l P t block claim.wish k) k) s (blocks_of l s.blocks op) h
+    claims_fold P (commit_block l) (λ t block k. option-claims P (λ claim. grant l t block claim.wish) t
+    (row_of t.blocks block).claim (λ claim. grant-claims l P t block claim.wish k) k) s (blocks_of l
+    s.blocks op) h
 
 -- an operation is released
-release-claims : (l : LayoutParts) (P : ℕ → Type 0) (op : ℕ) (s : Memory) → AreHeldBy P s.blocks → AreHeldBy P (release_blocks l s op).blocks
+release-claims : (l : LayoutParts) (P : ℕ → Type 0) (op : ℕ) (s : Memory) → AreHeldBy P s.blocks
+    → AreHeldBy P (release_blocks l s op).blocks
 unfolding release_blocks
-release-claims l P op s h = claims_fold P (release_block l) (λ t block k. by_state t block (is_going (row_of t.blocks block)) k) s (blocks_of l s.blocks op) h
+release-claims l P op s h =
+    claims_fold P (release_block l) (λ t block k. by_state t block (is_going (row_of t.blocks block)) k) s
+    (blocks_of l s.blocks op) h
   where
     by_state : (t : Memory) (block : ℕ) (b : Bool) → AreHeldBy P t.blocks
-        → AreHeldBy P (cond b (online_again l t block) (with_block_row t block (record (row_of t.blocks block) { claim = None }))).blocks
+        → AreHeldBy P (cond b (online_again l t block)
+        (with_block_row t block (record (row_of t.blocks block) { claim = None }))).blocks
     by_state t block true k = claimed_set P t.blocks.rows block _ k tt
     by_state t block false k = claimed_set P t.blocks.rows block _ k tt
 
 -- a block is added
-auto-claims : (l : LayoutParts) (P : ℕ → Type 0) (auto : Auto) (s : Memory) (block : ℕ) → AreHeldBy P s.blocks → AreHeldBy P (auto_online l auto s block).blocks
+auto-claims : (l : LayoutParts) (P : ℕ → Type 0) (auto : Auto) (s : Memory) (block : ℕ) → AreHeldBy P s.blocks
+    → AreHeldBy P (auto_online l auto s block).blocks
 auto-claims l P OfflineAuto s block h = h
 auto-claims l P OnlineAuto s block h = online-claims l P NormalZone s block h
 auto-claims l P KernelAuto s block h = online-claims l P NormalZone s block h
@@ -134,20 +161,28 @@ auto-claims l P MovableAuto s block h = online-claims l P MovableZone s block h
 -- a page moves
 migrate_step-blocks : (l : LayoutParts) (s : Memory) (op : ℕ) → (migrate_step l s op).memory.blocks ≡ s.blocks
 unfolding migrate_step
-migrate_step-blocks l s op = answered-blocks _ s (migration_source l s op) (λ from. answered-blocks _ s (migration_target l s.free.areas) (λ taken. refl))
+migrate_step-blocks l s op =
+    answered-blocks _ s (migration_source l s op)
+    (λ from. answered-blocks _ s (migration_target l s.free.areas) (λ taken. refl))
 
 -- ---- each step
 
 -- what leaves the blocks leaves the claims
-same-claims : (P : ℕ → Type 0) (s : Memory) (blocks : Blocks) → blocks ≡ s.blocks → AreHeldBy P s.blocks → AreHeldBy P blocks
+same-claims : (P : ℕ → Type 0) (s : Memory) (blocks : Blocks) → blocks ≡ s.blocks → AreHeldBy P s.blocks
+    → AreHeldBy P blocks
 same-claims P s blocks e h = subst (λ (b : Blocks). AreHeldBy P b) (sym e) h
 
 -- an event that is not refused
-perform-claims : (l : LayoutParts) (P : ℕ → Type 0) (s : Memory) (serial cpu : ℕ) (event : Event) → P serial → AreHeldBy P s.blocks → AreHeldBy P (perform l s serial cpu event).memory.blocks
-perform-claims l P s serial cpu (KernelAlloc order) le h = same-claims P s _ (kernel_takes-blocks l s cpu order) h
-perform-claims l P s serial cpu (KernelFree frame) le h = same-claims P s _ (kernel_gives-blocks l s cpu frame) h
-perform-claims l P s serial cpu (Map owner page) le h = same-claims P s _ (map_step-blocks l s cpu owner page) h
-perform-claims l P s serial cpu (Unmap owner page) le h = same-claims P s _ (unmap_step-blocks l s cpu owner page) h
+perform-claims : (l : LayoutParts) (P : ℕ → Type 0) (s : Memory) (serial cpu : ℕ) (event : Event) → P serial
+    → AreHeldBy P s.blocks → AreHeldBy P (perform l s serial cpu event).memory.blocks
+perform-claims l P s serial cpu (KernelAlloc order) le h =
+    same-claims P s _ (kernel_takes-blocks l s cpu order) h
+perform-claims l P s serial cpu (KernelFree frame) le h =
+    same-claims P s _ (kernel_gives-blocks l s cpu frame) h
+perform-claims l P s serial cpu (Map owner page) le h =
+    same-claims P s _ (map_step-blocks l s cpu owner page) h
+perform-claims l P s serial cpu (Unmap owner page) le h =
+    same-claims P s _ (unmap_step-blocks l s cpu owner page) h
 perform-claims l P s serial cpu (Write owner page index value) le h = h
 perform-claims l P s serial cpu (Read owner page index) le h = h
 perform-claims l P s serial cpu (Drain drained) le h = h
@@ -159,39 +194,51 @@ perform-claims l P s serial cpu (Commit op) le h = commit-claims l P op s h
 perform-claims l P s serial cpu (Cancel op) le h = release-claims l P op s h
 perform-claims l P s serial cpu (UndoAfter after) le h = h
 perform-claims l P s serial cpu (Probe address) le h =
-    auto-claims l P s.blocks.auto _ (address / block_bytes l) (claimed_set P s.blocks.rows (address / block_bytes l) offline_row h tt)
+    auto-claims l P s.blocks.auto _ (address / block_bytes l)
+    (claimed_set P s.blocks.rows (address / block_bytes l) offline_row h tt)
 perform-claims l P s serial cpu (Remove block) le h = claimed_set P s.blocks.rows block _ h tt
 perform-claims l P s serial cpu (SetAuto auto) le h = h
 
 -- an event, by its refusal
-answer-claims : (l : LayoutParts) (P : ℕ → Type 0) (s : Memory) (serial cpu : ℕ) (event : Event) (o : Option Refusal) → P serial → AreHeldBy P s.blocks → AreHeldBy P (answer l s serial cpu event o).memory.blocks
+answer-claims : (l : LayoutParts) (P : ℕ → Type 0) (s : Memory) (serial cpu : ℕ) (event : Event)
+    (o : Option Refusal)
+    → P serial → AreHeldBy P s.blocks → AreHeldBy P (answer l s serial cpu event o).memory.blocks
 answer-claims l P s serial cpu event (Some refusal) le h = h
 answer-claims l P s serial cpu event None le h = perform-claims l P s serial cpu event le h
 
 -- each step
-pub step-claims : (l : LayoutParts) (P : ℕ → Type 0) (s : Memory) (serial cpu : ℕ) (event : Event) → P serial → AreHeldBy P s.blocks → AreHeldBy P (step l s serial cpu event).memory.blocks
+pub step-claims : (l : LayoutParts) (P : ℕ → Type 0) (s : Memory) (serial cpu : ℕ) (event : Event) → P serial
+    → AreHeldBy P s.blocks → AreHeldBy P (step l s serial cpu event).memory.blocks
 unfolding step
 step-claims l P s serial cpu event le h = answer-claims l P s serial cpu event (refusal_of l s cpu event) le h
 
 -- ---- histories
 
 -- steps one after another
-pub run-claims : (l : LayoutParts) (P : ℕ → Type 0) (s : Memory) (steps : List Record) → ((i : ℕ) (r : Record) → slice_get steps i ≡ Some r → P r.serial) → AreHeldBy P s.blocks → AreHeldBy P (run l s steps).blocks
+pub run-claims : (l : LayoutParts) (P : ℕ → Type 0) (s : Memory) (steps : List Record)
+    → ((i : ℕ) (r : Record) → slice_get steps i ≡ Some r → P r.serial) → AreHeldBy P s.blocks
+    → AreHeldBy P (run l s steps).blocks
 unfolding run
 run-claims l P s [] low h = h
 run-claims l P s (r ∷ rs) low h =
-    run-claims l P (step l s r.serial r.cpu r.event).memory rs (λ i x e. low (suc i) x e) (step-claims l P s r.serial r.cpu r.event (low 0 r refl) h)
+    run-claims l P (step l s r.serial r.cpu r.event).memory rs (λ i x e. low (suc i) x e)
+    (step-claims l P s r.serial r.cpu r.event (low 0 r refl) h)
 
 -- the operations of a legal history have numbers up to its last record's
-pub value-claims : (l : LayoutParts) (base : Memory) (before : ℕ) (h : List Record) → IsLegal l base before h → AreClaimedUpTo before base.blocks → AreClaimedUpTo (before + length h) (value_of l base h).blocks
+pub value-claims : (l : LayoutParts) (base : Memory) (before : ℕ) (h : List Record) → IsLegal l base before h
+    → AreClaimedUpTo before base.blocks → AreClaimedUpTo (before + length h) (value_of l base h).blocks
 unfolding value_of
 value-claims l base before h legal claims =
     run-claims l (λ op. op ≤ before + length h) base (net_of h) (numbered_net l base before h legal).under
-    (held_weaker (λ op. op ≤ before) (λ op. op ≤ before + length h) base.blocks.rows (λ op le. omega arith) claims)
+    (held_weaker (λ op. op ≤ before) (λ op. op ≤ before + length h) base.blocks.rows (λ op le. omega arith)
+    claims)
 
 -- so a greater number is not live
-pub numbered_others : (last op : ℕ) (blocks : Blocks) → last < op → AreClaimedUpTo last blocks → list_any (is_claimed_by op) blocks.rows ≡ false
-numbered_others last op blocks low h = others_live op blocks.rows (held_weaker (λ n. n ≤ last) (λ n. n ≢ op) blocks.rows (λ n le same. absurd (omega arith)) h)
+pub numbered_others : (last op : ℕ) (blocks : Blocks) → last < op → AreClaimedUpTo last blocks
+    → list_any (is_claimed_by op) blocks.rows ≡ false
+numbered_others last op blocks low h =
+    others_live op blocks.rows
+    (held_weaker (λ n. n ≤ last) (λ n. n ≢ op) blocks.rows (λ n le same. absurd (omega arith)) h)
 
 -- no operation holds a block when a machine starts
 replicated : (P : ℕ → Type 0) (n : ℕ) → AllByRecursion (IsHeldBy P) (replicate n offline_row)
@@ -201,9 +248,12 @@ replicated P (suc n) = (tt, replicated P n)
 -- so the state at the start has no claims
 pub boot-claims : (l : LayoutParts) (P : ℕ → Type 0) → AreHeldBy P (boot_memory l).blocks
 unfolding boot_memory
-boot-claims l P = claims_fold P (λ s entry. boot_block l s entry.0 entry.1) (λ s entry k. by_boot s entry.0 entry.1 k) (empty_memory l) (enumerate_from 0 l.boot) (replicated P l.blocks)
+boot-claims l P =
+    claims_fold P (λ s entry. boot_block l s entry.0 entry.1) (λ s entry k. by_boot s entry.0 entry.1 k)
+    (empty_memory l) (enumerate_from 0 l.boot) (replicated P l.blocks)
   where
-    by_boot : (s : Memory) (block : ℕ) (boot : Boot) → AreHeldBy P s.blocks → AreHeldBy P (boot_block l s block boot).blocks
+    by_boot : (s : Memory) (block : ℕ) (boot : Boot) → AreHeldBy P s.blocks
+        → AreHeldBy P (boot_block l s block boot).blocks
     by_boot s block OfflineBoot k = k
     by_boot s block NormalBoot k = online-claims l P NormalZone s block k
     by_boot s block MovableBoot k = online-claims l P MovableZone s block k

@@ -18,19 +18,22 @@ use Rattle.hp_laws.proofs.OwnedContents.{AllSucceed, none_rest}
 -- ---- runs of which no step is refused
 
 -- one run after another
-succeed_both : (l : LayoutParts) (s : Memory) (a b : List Record) → AllSucceed l s a → AllSucceed l (run l s a) b → AllSucceed l s (a ++ b)
+succeed_both : (l : LayoutParts) (s : Memory) (a b : List Record) → AllSucceed l s a
+    → AllSucceed l (run l s a) b → AllSucceed l s (a ++ b)
 unfolding run
 succeed_both l s [] b h k = k
 succeed_both l s (r ∷ a) b h k = (h.0, succeed_both l (step l s r.serial r.cpu r.event).memory a b h.1 k)
 
 -- the second of two
-pub succeed_behind : (l : LayoutParts) (s : Memory) (a b : List Record) → AllSucceed l s (a ++ b) → AllSucceed l (run l s a) b
+pub succeed_behind : (l : LayoutParts) (s : Memory) (a b : List Record) → AllSucceed l s (a ++ b)
+    → AllSucceed l (run l s a) b
 unfolding run
 succeed_behind l s [] b h = h
 succeed_behind l s (r ∷ a) b h = succeed_behind l (step l s r.serial r.cpu r.event).memory a b h.1
 
 -- a beginning
-succeed_take : (l : LayoutParts) (s : Memory) (k : ℕ) (n : List Record) → AllSucceed l s n → AllSucceed l s (take k n)
+succeed_take : (l : LayoutParts) (s : Memory) (k : ℕ) (n : List Record) → AllSucceed l s n
+    → AllSucceed l s (take k n)
 succeed_take l s zero n h = tt
 succeed_take l s (suc k) [] h = tt
 succeed_take l s (suc k) (r ∷ n) h = (h.0, succeed_take l (step l s r.serial r.cpu r.event).memory k n h.1)
@@ -41,13 +44,16 @@ record IsGood (l : LayoutParts) (base : Memory) (before : ℕ) (g : List Record)
   pub good : AllSucceed l base (net_of g)
 
 -- with one more record
-good_more : (l : LayoutParts) (base : Memory) (before : ℕ) (g : List Record) (r : Record) → Follows l base before g r → IsGood l base before g → IsGood l base before (g ++ r ∷ [])
+good_more : (l : LayoutParts) (base : Memory) (before : ℕ) (g : List Record) (r : Record)
+    → Follows l base before g r → IsGood l base before g → IsGood l base before (g ++ r ∷ [])
 unfolding value_of
 good_more l base before g r follows h = record {
   legal = legal_push l base before g r h.legal follows;
   good = subst (λ (n : List Record). AllSucceed l base n) (sym (net-push g r))
       (elim (net_cases before (before + length g) (net_of g) r (numbered_net l base before g h.legal)) [
-        | inl cut ↦ subst (λ (n : List Record). AllSucceed l base n) (sym cut.2) (succeed_take l base cut.0 (net_of g) h.good)
+        | inl cut ↦
+            subst (λ (n : List Record). AllSucceed l base n) (sym cut.2)
+            (succeed_take l base cut.0 (net_of g) h.good)
         | inr adds ↦ subst (λ (n : List Record). AllSucceed l base n) (sym adds)
             (succeed_both l base (net_of g) (r ∷ []) h.good (added_good l base before g r follows adds, tt))
       ]);
@@ -59,9 +65,11 @@ unfolding net_of
 none_good l base before = record { legal = λ n r e. absurd cc; good = tt }
 
 -- no step of the net of a legal history is refused
-pub net_good : (l : LayoutParts) (base : Memory) (before : ℕ) (h : List Record) → IsLegal l base before h → AllSucceed l base (net_of h)
+pub net_good : (l : LayoutParts) (base : Memory) (before : ℕ) (h : List Record) → IsLegal l base before h
+    → AllSucceed l base (net_of h)
 net_good l base before h legal =
-    (legal_all l base before (IsGood l base before) (none_good l base before) (λ g r follows is. good_more l base before g r follows is) h legal).good
+    (legal_all l base before (IsGood l base before) (none_good l base before)
+    (λ g r follows is. good_more l base before g r follows is) h legal).good
 
 -- ---- a step that isn't refused
 
@@ -71,7 +79,8 @@ pub record IsPerformed (l : LayoutParts) (s : Memory) (serial cpu : ℕ) (event 
   pub free : first_some (event_refusals l s cpu event) ≡ None
 
 -- each step that is not refused
-pub step_performed : (l : LayoutParts) (s : Memory) (serial cpu : ℕ) (event : Event) → is_refused (step l s serial cpu event).reply ≡ false → IsPerformed l s serial cpu event
+pub step_performed : (l : LayoutParts) (s : Memory) (serial cpu : ℕ) (event : Event)
+    → is_refused (step l s serial cpu event).reply ≡ false → IsPerformed l s serial cpu event
 unfolding step refusal_of
 step_performed l s serial cpu event good =
     let none : refusal_of l s cpu event ≡ None = no_refusal (refusal_of l s cpu event) good in

@@ -45,12 +45,16 @@ drained_lists : (l : LayoutParts) (fs : FreeFrames) (cpu : ℕ) → IsDrained (d
 unfolding drain_lists
 drained_lists l fs cpu NuPool =
     still_empty _ (3 * cpu + pool_index MmPool) (3 * cpu + pool_index NuPool)
-    (still_empty _ (3 * cpu + pool_index NmPool) (3 * cpu + pool_index NuPool) (emptied fs.cached (3 * cpu + pool_index NuPool)))
-drained_lists l fs cpu NmPool = still_empty _ (3 * cpu + pool_index MmPool) (3 * cpu + pool_index NmPool) (emptied _ (3 * cpu + pool_index NmPool))
+    (still_empty _ (3 * cpu + pool_index NmPool) (3 * cpu + pool_index NuPool)
+    (emptied fs.cached (3 * cpu + pool_index NuPool)))
+drained_lists l fs cpu NmPool =
+    still_empty _ (3 * cpu + pool_index MmPool) (3 * cpu + pool_index NmPool)
+    (emptied _ (3 * cpu + pool_index NmPool))
 drained_lists l fs cpu MmPool = emptied _ (3 * cpu + pool_index MmPool)
 
 -- and those that were
-drained_others : (l : LayoutParts) (fs : FreeFrames) (cpu other : ℕ) → IsDrained fs other → IsDrained (drain_lists l fs cpu) other
+drained_others : (l : LayoutParts) (fs : FreeFrames) (cpu other : ℕ) → IsDrained fs other
+    → IsDrained (drain_lists l fs cpu) other
 unfolding drain_lists
 drained_others l fs cpu other e pool =
     still_empty _ (3 * cpu + pool_index MmPool) (3 * other + pool_index pool)
@@ -71,10 +75,16 @@ work_none s = record { blocks = refl; kernel = refl; empty = λ cpu e. e }
 
 -- one after another
 work_then : (s t u : Memory) → IsWork s t → IsWork t u → IsWork s u
-work_then s t u h k = record { blocks = k.blocks ∙ h.blocks; kernel = k.kernel ∙ h.kernel; empty = λ cpu e. k.empty cpu (h.empty cpu e) }
+work_then s t u h k =
+    record {
+      blocks = k.blocks ∙ h.blocks;
+      kernel = k.kernel ∙ h.kernel;
+      empty = λ cpu e. k.empty cpu (h.empty cpu e);
+    }
 
 -- whether there is what the event asks for or not
-answered-work : {X : Type 0} (f : X → Answered) (s : Memory) (o : Option X) → ((x : X) → IsWork s (f x).memory) → IsWork s (option_map_or f o (done s)).memory
+answered-work : {X : Type 0} (f : X → Answered) (s : Memory) (o : Option X)
+    → ((x : X) → IsWork s (f x).memory) → IsWork s (option_map_or f o (done s)).memory
 answered-work f s None h = work_none s
 answered-work f s (Some x) h = h x
 
@@ -83,11 +93,13 @@ migrate-work : (l : LayoutParts) (s : Memory) (op : ℕ) → IsWork s (migrate_s
 unfolding migrate_step
 migrate-work l s op =
     answered-work _ s (migration_source l s op)
-    (λ from. answered-work _ s (migration_target l s.free.areas) (λ taken. record { blocks = refl; kernel = refl; empty = λ cpu e. e }))
+    (λ from. answered-work _ s (migration_target l s.free.areas)
+    (λ taken. record { blocks = refl; kernel = refl; empty = λ cpu e. e }))
 
 -- a drain
 drain-work : (l : LayoutParts) (s : Memory) (cpu : ℕ) → IsWork s (with_free s (drain_lists l s.free cpu))
-drain-work l s cpu = record { blocks = refl; kernel = refl; empty = λ other e. drained_others l s.free cpu other e }
+drain-work l s cpu =
+    record { blocks = refl; kernel = refl; empty = λ other e. drained_others l s.free cpu other e }
 
 -- what one of its own steps does
 pub record OwnStep (l : LayoutParts) (op : ℕ) (s : Memory) (event : Event) (t : Memory) : Type 0 where
@@ -96,20 +108,28 @@ pub record OwnStep (l : LayoutParts) (op : ℕ) (s : Memory) (event : Event) (t 
   pub live : is_live s.blocks op ≡ true
 
 -- each of its own events
-own_perform : (l : LayoutParts) (op : ℕ) (s : Memory) (serial cpu : ℕ) (event : Event) → is_work_of op (mark_of event) ≡ true → IsPerformed l s serial cpu event → OwnStep l op s event (perform l s serial cpu event).memory
+own_perform : (l : LayoutParts) (op : ℕ) (s : Memory) (serial cpu : ℕ) (event : Event)
+    → is_work_of op (mark_of event) ≡ true → IsPerformed l s serial cpu event
+    → OwnStep l op s event (perform l s serial cpu event).memory
 own_perform l op s serial cpu (DrainFor other drained) own h =
     let same : other ≡ op = eqb-true other op own in
     record {
       work = drain-work l s drained;
-      drained = λ c e. subst (λ (n : ℕ). IsDrained (drain_lists l s.free drained) n) (eqb-true drained c (and_parts (other == op) (drained == c) e).1) (drained_lists l s.free drained);
-      live = subst (λ (n : ℕ). is_live s.blocks n ≡ true) same (not-false (is_live s.blocks other) (then_none _ _ (all_none (event_refusals l s cpu (DrainFor other drained)) h.free).1.0));
+      drained =
+          λ c e. subst (λ (n : ℕ). IsDrained (drain_lists l s.free drained) n)
+          (eqb-true drained c (and_parts (other == op) (drained == c) e).1) (drained_lists l s.free drained);
+      live =
+          subst (λ (n : ℕ). is_live s.blocks n ≡ true) same (not-false (is_live s.blocks other)
+          (then_none _ _ (all_none (event_refusals l s cpu (DrainFor other drained)) h.free).1.0));
     }
 own_perform l op s serial cpu (Migrate other) own h =
     let same : other ≡ op = eqb-true other op own in
     record {
       work = migrate-work l s other;
       drained = λ c e. cc;
-      live = subst (λ (n : ℕ). is_live s.blocks n ≡ true) same (not-false (is_live s.blocks other) (then_none _ _ (all_none (event_refusals l s cpu (Migrate other)) h.free).0));
+      live =
+          subst (λ (n : ℕ). is_live s.blocks n ≡ true) same (not-false (is_live s.blocks other)
+          (then_none _ _ (all_none (event_refusals l s cpu (Migrate other)) h.free).0));
     }
 own_perform l op s serial cpu (KernelAlloc order) own h = absurd cc
 own_perform l op s serial cpu (KernelFree frame) own h = absurd cc
@@ -128,22 +148,28 @@ own_perform l op s serial cpu (Remove block) own h = absurd cc
 own_perform l op s serial cpu (SetAuto auto) own h = absurd cc
 
 -- each of its own steps
-own_step : (l : LayoutParts) (op : ℕ) (s : Memory) (serial cpu : ℕ) (event : Event) → is_work_of op (mark_of event) ≡ true → is_refused (step l s serial cpu event).reply ≡ false
+own_step : (l : LayoutParts) (op : ℕ) (s : Memory) (serial cpu : ℕ) (event : Event)
+    → is_work_of op (mark_of event) ≡ true → is_refused (step l s serial cpu event).reply ≡ false
     → OwnStep l op s event (step l s serial cpu event).memory
 own_step l op s serial cpu event own good =
     let performed = step_performed l s serial cpu event good in
-    subst (λ (t : Memory). OwnStep l op s event t) (sym performed.memory) (own_perform l op s serial cpu event own performed)
+    subst (λ (t : Memory). OwnStep l op s event t) (sym performed.memory)
+    (own_perform l op s serial cpu event own performed)
 
 -- ---- one of its own steps after another
 
 -- what several of them do
 pub record OwnRun (l : LayoutParts) (op : ℕ) (s : Memory) (steps : List Record) (t : Memory) : Type 0 where
   pub work : IsWork s t
-  pub drained : (cpu : ℕ) → list_any (λ (r : Record). drains_for op cpu r.event) steps ≡ true → IsDrained t.free cpu
-  pub live : (cpu : ℕ) → list_any (λ (r : Record). drains_for op cpu r.event) steps ≡ true → is_live s.blocks op ≡ true
+  pub drained : (cpu : ℕ) → list_any (λ (r : Record). drains_for op cpu r.event) steps ≡ true
+      → IsDrained t.free cpu
+  pub live : (cpu : ℕ) → list_any (λ (r : Record). drains_for op cpu r.event) steps ≡ true
+      → is_live s.blocks op ≡ true
 
 -- all of them
-pub own_run : (l : LayoutParts) (op : ℕ) (s : Memory) (steps : List Record) → holds_only_own_work op (map tag_of steps) ≡ true → AllSucceed l s steps → OwnRun l op s steps (run l s steps)
+pub own_run : (l : LayoutParts) (op : ℕ) (s : Memory) (steps : List Record)
+    → holds_only_own_work op (map tag_of steps) ≡ true → AllSucceed l s steps
+    → OwnRun l op s steps (run l s steps)
 unfolding run
 own_run l op s [] own good = record { work = work_none s; drained = λ cpu e. cc; live = λ cpu e. cc }
 own_run l op s (r ∷ rs) own good =
@@ -153,9 +179,11 @@ own_run l op s (r ∷ rs) own good =
     let rest = own_run l op t rs parts.1 good.1 in
     record {
       work = work_then s t (run l t rs) first.work rest.work;
-      drained = λ cpu e. elim (or_cases (drains_for op cpu r.event) (list_any (λ (x : Record). drains_for op cpu x.event) rs) e) [
-        | inl here ↦ rest.work.empty cpu (first.drained cpu here)
-        | inr there ↦ rest.drained cpu there
-      ];
+      drained =
+          λ cpu e. elim (or_cases (drains_for op cpu r.event)
+          (list_any (λ (x : Record). drains_for op cpu x.event) rs) e) [
+            | inl here ↦ rest.work.empty cpu (first.drained cpu here)
+            | inr there ↦ rest.drained cpu there
+          ];
       live = λ cpu e. first.live;
     }

@@ -1,4 +1,5 @@
--- Worked operations, computed: one that nothing disturbed and that commits, and one for each condition that is missing.
+-- Worked operations, computed: one that nothing disturbed and that commits, and one for each
+-- condition that is missing.
 use Rattle.std.proofs.Common.{◌≡◌, ℕ, zero, suc, ◌<◌, List, [], ◌∷◌, ◌++◌, map, Some, true, refl, arith, ◌==◌}
 use Rattle.std.specs.List.{list_all, list_any}
 use Rattle.hp_units.specs.declared.plans.Item.{Item}
@@ -25,12 +26,27 @@ use Rattle.hp_laws.proofs.Names.{Begin, Commit, Done, DrainFor, GivesFrame, Kern
 
 -- opens every definition
 unfoldable everything : Unit {0}
-unfolding take_block give_block steal_block take_frames take_one put_one drain_lists move_pageblock online_block begin_plan commit_blocks release_blocks refusal_of kernel_takes kernel_gives map_step unmap_step migrate_step step boot_memory run
+unfolding take_block give_block steal_block take_frames take_one put_one drain_lists move_pageblock
+    online_block begin_plan commit_blocks release_blocks refusal_of kernel_takes kernel_gives map_step
+    unmap_step migrate_step step boot_memory run
 everything = tt
 
 -- four blocks of one pageblock of four frames, and two processors
 abbrev small : LayoutParts
-small = record { order = 2; pageblocks = 1; blocks = 4; cpus = 2; batch = 2; high = 2; owners = 2; pages = 8; words = 2; history = 1000; boot = (NormalBoot ∷ NormalBoot ∷ MovableBoot ∷ OfflineBoot ∷ []) }
+small =
+    record {
+      order = 2;
+      pageblocks = 1;
+      blocks = 4;
+      cpus = 2;
+      batch = 2;
+      high = 2;
+      owners = 2;
+      pages = 8;
+      words = 2;
+      history = 1000;
+      boot = (NormalBoot ∷ NormalBoot ∷ MovableBoot ∷ OfflineBoot ∷ []);
+    }
 
 -- a plan that wishes a block off
 abbrev off : ℕ → List Item
@@ -39,7 +55,8 @@ off block = record { block = block; wish = OffWish } ∷ []
 -- the replies that the steps give, one after another, and that each record has its step's
 abbrev answers : Memory → List Record → List Reply
 answers s [] = []
-answers s (r ∷ rs) = (step small s r.serial r.cpu r.event).reply ∷ answers (step small s r.serial r.cpu r.event).memory rs
+answers s (r ∷ rs) =
+    (step small s r.serial r.cpu r.event).reply ∷ answers (step small s r.serial r.cpu r.event).memory rs
 
 -- each record has its step's reply
 abbrev AreAnswered : Memory → List Record → Type 0
@@ -90,7 +107,8 @@ undisturbed = record {
 }
 
 -- and its Commit is done
-it_commits : AreAnswered (boot_memory small) (used ++ opening ∷ drains ++ record { serial = 6; cpu = 1; event = Commit 3; reply = Done } ∷ [])
+it_commits : AreAnswered (boot_memory small)
+    (used ++ opening ∷ drains ++ record { serial = 6; cpu = 1; event = Commit 3; reply = Done } ∷ [])
 unfolding everything
 it_commits = refl
 
@@ -140,8 +158,14 @@ not_alone = refl
 abbrev claimed_early : Memory
 claimed_early =
     let s : Memory = boot_memory small in
-    let areas = with_kind (with_free_list s.free.areas Nm 2 (4 ∷ [])) 0 (record { mobility = Unmovable; isolated = true }) in
-    with_block_row (with_kernel_order (with_areas s areas) 0 (Some 2)) 0 (record { state = GoingState; zone = Some NormalZone; claim = Some (record { op = 1; wish = OffWish }) })
+    let areas =
+    with_kind (with_free_list s.free.areas Nm 2 (4 ∷ [])) 0
+    (record { mobility = Unmovable; isolated = true }) in
+    with_block_row (with_kernel_order (with_areas s areas) 0 (Some 2)) 0 (record {
+      state = GoingState;
+      zone = Some NormalZone;
+      claim = Some (record { op = 1; wish = OffWish });
+    })
 
 -- an operation takes the number
 abbrev second_claim : List Record

@@ -31,29 +31,40 @@ abbrev new_at : LayoutParts → Memory → List Record → ℕ → Memory
 new_at l base h place = run l base (take (suc place) (net_of h))
 
 -- what is known of a Begin in the net
-record IsBegin (l : LayoutParts) (base : Memory) (before : ℕ) (h : List Record) (place : ℕ) (b : Record) (plan : List Item) : Type 0 where
+record IsBegin (l : LayoutParts) (base : Memory) (before : ℕ) (h : List Record) (place : ℕ) (b : Record)
+    (plan : List Item) : Type 0 where
   opens : IsBeginOf l (old_at l base h place) (new_at l base h place) b.serial plan
   was : state_before l base before h b ≡ old_at l base h place
   is : state_behind l base before h b ≡ new_at l base h place
 
-begin_opens : (l : LayoutParts) (base : Memory) (before : ℕ) (h : List Record) (place : ℕ) (b : Record) (plan : List Item) → IsLegal l base before h → BeginsAt (net_of h) place b plan
+begin_opens : (l : LayoutParts) (base : Memory) (before : ℕ) (h : List Record) (place : ℕ) (b : Record)
+    (plan : List Item)
+    → IsLegal l base before h → BeginsAt (net_of h) place b plan
     → IsBeginOf l (old_at l base h place) (new_at l base h place) b.serial plan
 begin_opens l base before h place b plan legal at =
     subst (λ (t : Memory). IsBeginOf l (old_at l base h place) t b.serial plan)
-    (sym (ap (λ (e : Event). (step l (old_at l base h place) b.serial b.cpu e).memory) at.opens) ∙ sym (run-push l base (take place (net_of h)) b) ∙ ap (run l base) (sym (take_next (net_of h) place b at.here)))
+    (sym (ap (λ (e : Event). (step l (old_at l base h place) b.serial b.cpu e).memory) at.opens)
+    ∙ sym (run-push l base (take place (net_of h)) b)
+    ∙ ap (run l base) (sym (take_next (net_of h) place b at.here)))
     (begin-good l (old_at l base h place) b.serial b.cpu plan
-    (ap (λ (e : Event). is_refused (step l (old_at l base h place) b.serial b.cpu e).reply) (sym at.opens) ∙ net_good l base before h legal place b at.here))
+    (ap (λ (e : Event). is_refused (step l (old_at l base h place) b.serial b.cpu e).reply) (sym at.opens)
+    ∙ net_good l base before h legal place b at.here))
 
 -- the Begin's own reply isn't a refusal
-begin_reply : (l : LayoutParts) (base : Memory) (before : ℕ) (g : List Record) (b : Record) (plan : List Item) → Follows l base before g b → b.event ≡ Begin plan
-    → is_refused (step l (value_of l base g) b.serial b.cpu b.event).reply ≡ false → net_with (net_of g) b ≡ net_of g ++ b ∷ []
+begin_reply : (l : LayoutParts) (base : Memory) (before : ℕ) (g : List Record) (b : Record) (plan : List Item)
+    → Follows l base before g b → b.event ≡ Begin plan
+    → is_refused (step l (value_of l base g) b.serial b.cpu b.event).reply ≡ false
+    → net_with (net_of g) b ≡ net_of g ++ b ∷ []
 begin_reply l base before g b plan follows opens good =
     let acts : effect_of b.event ≡ Acts = ap effect_of opens in
     let same : b.reply ≡ (step l (value_of l base g) b.serial b.cpu b.event).reply =
-    reply_at l base before g b follows ∙ ap (effect_reply l before (before + length g) (net_of g) (value_of l base g) b.serial b.cpu b.event) acts in
+    reply_at l base before g b follows ∙ ap (effect_reply l before (before + length g) (net_of g)
+    (value_of l base g) b.serial b.cpu b.event) acts in
     with_good (net_of g) b (ap is_refused same ∙ good) ∙ ap (net_with_effect (net_of g) b) acts
 
-is_begin : (l : LayoutParts) (base : Memory) (before : ℕ) (h : List Record) (place : ℕ) (b : Record) (plan : List Item) → IsLegal l base before h → BeginsAt (net_of h) place b plan
+is_begin : (l : LayoutParts) (base : Memory) (before : ℕ) (h : List Record) (place : ℕ) (b : Record)
+    (plan : List Item)
+    → IsLegal l base before h → BeginsAt (net_of h) place b plan
     → IsBegin l base before h place b plan
 unfolding value_of
 is_begin l base before h place b plan legal at =
@@ -64,139 +75,218 @@ is_begin l base before h place b plan legal at =
     let over : before < b.serial = roots.over place b at.here in
     let next : b.serial - before ≡ suc m = omega (arith, over) in
     let good : is_refused (step l (value_of l base (take m h)) b.serial b.cpu b.event).reply ≡ false =
-    subst (λ (n : List Record). is_refused (step l (run l base n) b.serial b.cpu b.event).reply ≡ false) comes (net_good l base before h legal place b at.here) in
+    subst (λ (n : List Record). is_refused (step l (run l base n) b.serial b.cpu b.event).reply ≡ false) comes
+    (net_good l base before h legal place b at.here) in
     record {
       opens = begin_opens l base before h place b plan legal at;
       was = ap (run l base) (sym comes);
       is =
           ap (λ (n : ℕ). value_of l base (take n h)) next
           ∙ ap (value_of l base) (take_next h m b stands)
-          ∙ ap (run l base) (net-push (take m h) b ∙ begin_reply l base before (take m h) b plan (legal m b stands) at.opens good ∙ ap (λ (n : List Record). n ++ b ∷ []) (sym comes) ∙ sym (take_next (net_of h) place b at.here));
+          ∙ ap (run l base) (net-push (take m h) b
+          ∙ begin_reply l base before (take m h) b plan (legal m b stands) at.opens good
+          ∙ ap (λ (n : List Record). n ++ b ∷ []) (sym comes) ∙ sym (take_next (net_of h) place b at.here));
     }
 
 -- the state after all steps, from the one after the Begin
-rest_of : (l : LayoutParts) (base : Memory) (h : List Record) (place : ℕ) → value_of l base h ≡ run l (new_at l base h place) (drop (suc place) (net_of h))
+rest_of : (l : LayoutParts) (base : Memory) (h : List Record) (place : ℕ)
+    → value_of l base h ≡ run l (new_at l base h place) (drop (suc place) (net_of h))
 unfolding value_of
 rest_of l base h place =
-    ap (run l base) (sym (take-append-drop (suc place) (net_of h))) ∙ run-append l base (take (suc place) (net_of h)) (drop (suc place) (net_of h))
+    ap (run l base) (sym (take-append-drop (suc place) (net_of h)))
+    ∙ run-append l base (take (suc place) (net_of h)) (drop (suc place) (net_of h))
 
-new_begun : (l : LayoutParts) (base : Memory) (before : ℕ) (h : List Record) (place : ℕ) (b : Record) (plan : List Item) → IsLayout l → IsWellPlaced l base → IsLegal l base before h → BeginsAt (net_of h) place b plan
+new_begun : (l : LayoutParts) (base : Memory) (before : ℕ) (h : List Record) (place : ℕ) (b : Record)
+    (plan : List Item)
+    → IsLayout l → IsWellPlaced l base → IsLegal l base before h → BeginsAt (net_of h) place b plan
     → AreBegun b.serial (old_at l base h place) (new_at l base h place) plan
 new_begun l base before h place b plan layout p legal at =
-    let opens : IsBeginOf l (old_at l base h place) (new_at l base h place) b.serial plan = begin_opens l base before h place b plan legal at in
+    let opens : IsBeginOf l (old_at l base h place) (new_at l base h place) b.serial plan =
+    begin_opens l base before h place b plan legal at in
     subst (λ (t : Memory). AreBegun b.serial (old_at l base h place) t plan) (sym opens.memory)
-    (plan-begun l (old_at l base h place) b.serial plan (run-placed l base (take place (net_of h)) layout p) opens.fine)
+    (plan-begun l (old_at l base h place) b.serial plan (run-placed l base (take place (net_of h)) layout p)
+    opens.fine)
 
 -- ---- the laws
 
-pub claimed : (l : LayoutParts) (base : Memory) (before : ℕ) (h : List Record) (place : ℕ) (b : Record) (plan : List Item) → IsLayout l → IsWellPlaced l base → IsLegal l base before h → BeginsAt (net_of h) place b plan
-    → RowsAre (state_behind l base before h b) plan (λ item. claimed_row (row_of (state_before l base before h b).blocks item.block) b.serial item.wish)
+pub claimed : (l : LayoutParts) (base : Memory) (before : ℕ) (h : List Record) (place : ℕ) (b : Record)
+    (plan : List Item)
+    → IsLayout l → IsWellPlaced l base → IsLegal l base before h → BeginsAt (net_of h) place b plan
+    → RowsAre (state_behind l base before h b) plan
+    (λ item. claimed_row (row_of (state_before l base before h b).blocks item.block) b.serial item.wish)
 claimed l base before h place b plan layout p legal at =
     let begin : IsBegin l base before h place b plan = is_begin l base before h place b plan legal at in
-    subst (λ (t : Memory). RowsAre t plan (λ item. claimed_row (row_of (state_before l base before h b).blocks item.block) b.serial item.wish)) (sym begin.is)
-    (subst (λ (s : Memory). RowsAre (new_at l base h place) plan (λ item. claimed_row (row_of s.blocks item.block) b.serial item.wish)) (sym begin.was)
-    (each_map (IsBegun b.serial (old_at l base h place) (new_at l base h place)) (λ item. row_of (new_at l base h place).blocks item.block ≡ claimed_row (row_of (old_at l base h place).blocks item.block) b.serial item.wish)
+    subst (λ (t : Memory). RowsAre t plan (λ item. claimed_row
+    (row_of (state_before l base before h b).blocks item.block) b.serial item.wish)) (sym begin.is)
+    (subst (λ (s : Memory). RowsAre (new_at l base h place) plan
+    (λ item. claimed_row (row_of s.blocks item.block) b.serial item.wish)) (sym begin.was)
+    (each_map (IsBegun b.serial (old_at l base h place) (new_at l base h place)) (λ item. row_of
+    (new_at l base h place).blocks item.block ≡ claimed_row
+    (row_of (old_at l base h place).blocks item.block) b.serial item.wish)
     (λ item is. is.held) plan (new_begun l base before h place b plan layout p legal at)))
 
 -- rows that are held now are those that the Begin left
-as_left : (l : LayoutParts) (base : Memory) (before : ℕ) (h : List Record) (place : ℕ) (b : Record) (plan : List Item) (s : Memory) → IsLayout l → IsWellPlaced l base → IsLegal l base before h → BeginsAt (net_of h) place b plan
-    → AreBegun b.serial (old_at l base h place) s plan → RowsAre s plan (λ item. row_of (state_behind l base before h b).blocks item.block)
+as_left : (l : LayoutParts) (base : Memory) (before : ℕ) (h : List Record) (place : ℕ) (b : Record)
+    (plan : List Item) (s : Memory)
+    → IsLayout l → IsWellPlaced l base → IsLegal l base before h → BeginsAt (net_of h) place b plan
+    → AreBegun b.serial (old_at l base h place) s plan
+    → RowsAre s plan (λ item. row_of (state_behind l base before h b).blocks item.block)
 as_left l base before h place b plan s layout p legal at begun =
-    subst (λ (t : Memory). RowsAre s plan (λ item. row_of t.blocks item.block)) (sym (is_begin l base before h place b plan legal at).is)
-    (each_both (IsBegun b.serial (old_at l base h place) s) (IsBegun b.serial (old_at l base h place) (new_at l base h place)) (λ item. row_of s.blocks item.block ≡ row_of (new_at l base h place).blocks item.block)
-    (λ item now left. now.held ∙ sym left.held) plan begun (new_begun l base before h place b plan layout p legal at))
+    subst (λ (t : Memory). RowsAre s plan (λ item. row_of t.blocks item.block))
+    (sym (is_begin l base before h place b plan legal at).is)
+    (each_both (IsBegun b.serial (old_at l base h place) s)
+    (IsBegun b.serial (old_at l base h place) (new_at l base h place))
+    (λ item. row_of s.blocks item.block ≡ row_of (new_at l base h place).blocks item.block)
+    (λ item now left. now.held ∙ sym left.held) plan begun
+    (new_begun l base before h place b plan layout p legal at))
 
-pub held : (l : LayoutParts) (base : Memory) (before : ℕ) (h : List Record) (place : ℕ) (b : Record) (plan : List Item) → IsLayout l → IsWellPlaced l base → IsLegal l base before h → BeginsAt (net_of h) place b plan
-    → IsOpenBehind b.serial place (net_of h) → RowsAre (value_of l base h) plan (λ item. row_of (state_behind l base before h b).blocks item.block)
+pub held : (l : LayoutParts) (base : Memory) (before : ℕ) (h : List Record) (place : ℕ) (b : Record)
+    (plan : List Item)
+    → IsLayout l → IsWellPlaced l base → IsLegal l base before h → BeginsAt (net_of h) place b plan
+    → IsOpenBehind b.serial place (net_of h)
+    → RowsAre (value_of l base h) plan (λ item. row_of (state_behind l base before h b).blocks item.block)
 held l base before h place b plan layout p legal at stays =
     as_left l base before h place b plan (value_of l base h) layout p legal at
     (subst (λ (s : Memory). AreBegun b.serial (old_at l base h place) s plan) (sym (rest_of l base h place))
-    (run-held l (new_at l base h place) b.serial (old_at l base h place) plan (drop (suc place) (net_of h)) layout (run-placed l base (take (suc place) (net_of h)) layout p) stays
+    (run-held l (new_at l base h place) b.serial (old_at l base h place) plan (drop (suc place) (net_of h))
+    layout (run-placed l base (take (suc place) (net_of h)) layout p) stays
     (new_begun l base before h place b plan layout p legal at)))
 
 -- the operation holds its rows or is over, after all steps
-phase : (l : LayoutParts) (base : Memory) (before : ℕ) (h : List Record) (place : ℕ) (b : Record) (plan : List Item) → IsLayout l → IsWellPlaced l base → IsLegal l base before h → BeginsAt (net_of h) place b plan
+phase : (l : LayoutParts) (base : Memory) (before : ℕ) (h : List Record) (place : ℕ) (b : Record)
+    (plan : List Item)
+    → IsLayout l → IsWellPlaced l base → IsLegal l base before h → BeginsAt (net_of h) place b plan
     → HoldsOrIsOver b.serial (old_at l base h place) (value_of l base h) plan
 phase l base before h place b plan layout p legal at =
     let numbered : Numbered before (before + length h) (net_of h) = numbered_net l base before h legal in
-    subst (λ (s : Memory). HoldsOrIsOver b.serial (old_at l base h place) s plan) (sym (rest_of l base h place))
-    (run-phase l (new_at l base h place) b.serial (old_at l base h place) plan (drop (suc place) (net_of h)) layout (run-placed l base (take (suc place) (net_of h)) layout p)
-    (each_from (λ (r : Record). r.serial ≢ b.serial) (net_of h) (suc place) (λ j r le e. λ same. absurd (omega (arith, same, numbered.rising place j b r (omega arith) at.here e))))
+    subst (λ (s : Memory). HoldsOrIsOver b.serial (old_at l base h place) s plan)
+    (sym (rest_of l base h place))
+    (run-phase l (new_at l base h place) b.serial (old_at l base h place) plan (drop (suc place) (net_of h))
+    layout (run-placed l base (take (suc place) (net_of h)) layout p)
+    (each_from (λ (r : Record). r.serial ≢ b.serial) (net_of h) (suc place)
+    (λ j r le e. λ same. absurd (omega (arith, same, numbered.rising place j b r (omega arith) at.here e))))
     (inl (new_begun l base before h place b plan layout p legal at)))
 
 -- a Commit that isn't refused is a step, of an operation that holds its rows
-record IsCommit (l : LayoutParts) (base : Memory) (h : List Record) (r : Record) (op : ℕ) (old : Memory) (plan : List Item) : Type 0 where
+record IsCommit (l : LayoutParts) (base : Memory) (h : List Record) (r : Record) (op : ℕ) (old : Memory)
+    (plan : List Item) : Type 0 where
   memory : value_of l base (h ++ r ∷ []) ≡ commit_blocks l (value_of l base h) op
   begun : AreBegun op old (value_of l base h) plan
 
-is_commit : (l : LayoutParts) (base : Memory) (before : ℕ) (h : List Record) (r : Record) (place : ℕ) (b : Record) (plan : List Item) → IsLayout l → IsWellPlaced l base → IsLegal l base before (h ++ r ∷ [])
-    → BeginsAt (net_of h) place b plan → r.event ≡ Commit b.serial → is_refused r.reply ≡ false → IsCommit l base h r b.serial (old_at l base h place) plan
+is_commit : (l : LayoutParts) (base : Memory) (before : ℕ) (h : List Record) (r : Record) (place : ℕ)
+    (b : Record) (plan : List Item)
+    → IsLayout l → IsWellPlaced l base → IsLegal l base before (h ++ r ∷ [])
+    → BeginsAt (net_of h) place b plan → r.event ≡ Commit b.serial → is_refused r.reply ≡ false
+    → IsCommit l base h r b.serial (old_at l base h place) plan
 is_commit l base before h r place b plan layout p legal at is good =
     let follows : Follows l base before h r = last_follows l base before h r legal in
     let acts : effect_of r.event ≡ Acts = ap effect_of is in
     let same : r.reply ≡ (step l (value_of l base h) r.serial r.cpu r.event).reply =
-    reply_at l base before h r follows ∙ ap (effect_reply l before (before + length h) (net_of h) (value_of l base h) r.serial r.cpu r.event) acts in
+    reply_at l base before h r follows ∙ ap (effect_reply l before (before + length h) (net_of h)
+    (value_of l base h) r.serial r.cpu r.event) acts in
     elim (record_cases l base before h r follows good) [
-      | inl back ↦ absurd (both_ways (goes_back r.reply) (ap goes_back same ∙ (steps l (value_of l base h) r.serial r.cpu r.event).onward) back)
+      | inl back ↦
+          absurd (both_ways (goes_back r.reply)
+          (ap goes_back same ∙ (steps l (value_of l base h) r.serial r.cpu r.event).onward) back)
       | inr stepped ↦ (
-          let closes : IsEndOf (value_of l base h) (step l (value_of l base h) r.serial r.cpu (Commit b.serial)).memory (commit_blocks l (value_of l base h) b.serial) b.serial =
-          commit-good l (value_of l base h) r.serial r.cpu b.serial (ap (λ (e : Event). is_refused (step l (value_of l base h) r.serial r.cpu e).reply) (sym is) ∙ ap is_refused (sym same) ∙ good) in
+          let closes : IsEndOf (value_of l base h) (step l (value_of l base h) r.serial r.cpu
+          (Commit b.serial)).memory (commit_blocks l (value_of l base h) b.serial) b.serial =
+          commit-good l (value_of l base h) r.serial r.cpu b.serial (ap
+          (λ (e : Event). is_refused (step l (value_of l base h) r.serial r.cpu e).reply) (sym is) ∙ ap
+          is_refused (sym same) ∙ good) in
           record {
-            memory = stepped.memory ∙ ap (λ (e : Event). (step l (value_of l base h) r.serial r.cpu e).memory) is ∙ closes.memory;
-            begun = live_holds b.serial (old_at l base h place) (value_of l base h) plan closes.live (phase l base before h place b plan layout p (front_legal l base before h r legal) at);
+            memory =
+                stepped.memory ∙ ap (λ (e : Event). (step l (value_of l base h) r.serial r.cpu e).memory) is
+                ∙ closes.memory;
+            begun =
+                live_holds b.serial (old_at l base h place) (value_of l base h) plan closes.live
+                (phase l base before h place b plan layout p (front_legal l base before h r legal) at);
           })
     ]
 
-pub commit_held : (l : LayoutParts) (base : Memory) (before : ℕ) (h : List Record) (r : Record) (place : ℕ) (b : Record) (plan : List Item) → IsLayout l → IsWellPlaced l base → IsLegal l base before (h ++ r ∷ [])
-    → BeginsAt (net_of h) place b plan → r.event ≡ Commit b.serial → is_refused r.reply ≡ false → RowsAre (value_of l base h) plan (λ item. row_of (state_behind l base before h b).blocks item.block)
+pub commit_held : (l : LayoutParts) (base : Memory) (before : ℕ) (h : List Record) (r : Record) (place : ℕ)
+    (b : Record) (plan : List Item)
+    → IsLayout l → IsWellPlaced l base → IsLegal l base before (h ++ r ∷ [])
+    → BeginsAt (net_of h) place b plan → r.event ≡ Commit b.serial → is_refused r.reply ≡ false
+    → RowsAre (value_of l base h) plan (λ item. row_of (state_behind l base before h b).blocks item.block)
 commit_held l base before h r place b plan layout p legal at is good =
-    as_left l base before h place b plan (value_of l base h) layout p (front_legal l base before h r legal) at (is_commit l base before h r place b plan layout p legal at is good).begun
+    as_left l base before h place b plan (value_of l base h) layout p (front_legal l base before h r legal) at
+    (is_commit l base before h r place b plan layout p legal at is good).begun
 
-pub commit_granted : (l : LayoutParts) (base : Memory) (before : ℕ) (h : List Record) (r : Record) (place : ℕ) (b : Record) (plan : List Item) → IsLayout l → IsWellPlaced l base → IsLegal l base before (h ++ r ∷ [])
-    → BeginsAt (net_of h) place b plan → r.event ≡ Commit b.serial → is_refused r.reply ≡ false → RowsAre (value_of l base (h ++ r ∷ [])) plan (λ item. wished_row item.wish)
+pub commit_granted : (l : LayoutParts) (base : Memory) (before : ℕ) (h : List Record) (r : Record) (place : ℕ)
+    (b : Record) (plan : List Item)
+    → IsLayout l → IsWellPlaced l base → IsLegal l base before (h ++ r ∷ [])
+    → BeginsAt (net_of h) place b plan → r.event ≡ Commit b.serial → is_refused r.reply ≡ false
+    → RowsAre (value_of l base (h ++ r ∷ [])) plan (λ item. wished_row item.wish)
 commit_granted l base before h r place b plan layout p legal at is good =
-    let commit : IsCommit l base h r b.serial (old_at l base h place) plan = is_commit l base before h r place b plan layout p legal at is good in
+    let commit : IsCommit l base h r b.serial (old_at l base h place) plan =
+    is_commit l base before h r place b plan layout p legal at is good in
     subst (λ (t : Memory). RowsAre t plan (λ item. wished_row item.wish)) (sym commit.memory)
-    (commit-grants l (value_of l base h) b.serial (old_at l base h place) plan (value-placed l base h layout p) commit.begun)
+    (commit-grants l (value_of l base h) b.serial (old_at l base h place) plan
+    (value-placed l base h layout p) commit.begun)
 
 -- a Cancel that goes back was answered Restored
-back_restored : (reply answer : Reply) (o : Option ℕ) → reply ≡ cancel_reply answer o → is_refused reply ≡ false → goes_back answer ≡ false → goes_back reply ≡ true → reply ≡ Restored
-back_restored reply answer None e good onward back = absurd (both_ways (goes_back reply) (ap goes_back e ∙ onward) back)
+back_restored : (reply answer : Reply) (o : Option ℕ) → reply ≡ cancel_reply answer o
+    → is_refused reply ≡ false → goes_back answer ≡ false → goes_back reply ≡ true → reply ≡ Restored
+back_restored reply answer None e good onward back =
+    absurd (both_ways (goes_back reply) (ap goes_back e ∙ onward) back)
 back_restored reply answer (Some place) e good onward back = by_refusal (is_refused answer) refl e
   where
     by_refusal : (b : Bool) → is_refused answer ≡ b → reply ≡ cond b answer Restored → reply ≡ Restored
     by_refusal true bad f = absurd (both_ways (is_refused reply) good (ap is_refused f ∙ bad))
     by_refusal false bad f = f
 
-pub given_back : (l : LayoutParts) (base : Memory) (before : ℕ) (h : List Record) (r : Record) (place : ℕ) (b : Record) (plan : List Item) → IsLayout l → IsWellPlaced l base → IsLegal l base before (h ++ r ∷ [])
-    → BeginsAt (net_of h) place b plan → r.event ≡ Cancel b.serial → is_refused r.reply ≡ false → RowsAre (value_of l base (h ++ r ∷ [])) plan (λ item. row_of (state_before l base before h b).blocks item.block)
+pub given_back : (l : LayoutParts) (base : Memory) (before : ℕ) (h : List Record) (r : Record) (place : ℕ)
+    (b : Record) (plan : List Item)
+    → IsLayout l → IsWellPlaced l base → IsLegal l base before (h ++ r ∷ [])
+    → BeginsAt (net_of h) place b plan → r.event ≡ Cancel b.serial → is_refused r.reply ≡ false
+    → RowsAre (value_of l base (h ++ r ∷ [])) plan
+    (λ item. row_of (state_before l base before h b).blocks item.block)
 given_back l base before h r place b plan layout p legal at is good =
-    elim (record_cases l base before h r follows good) [ inl back ↦ by_restore back | inr stepped ↦ by_release stepped ]
+    elim (record_cases l base before h r follows good)
+    [ inl back ↦ by_restore back | inr stepped ↦ by_release stepped ]
   where
     follows : Follows l base before h r
     follows = last_follows l base before h r legal
 
-    answers : r.reply ≡ cancel_reply (step l (value_of l base h) r.serial r.cpu r.event).reply (sole_at b.serial (map tag_of (net_of h)))
-    answers = reply_at l base before h r follows ∙ ap (λ (e : Event). effect_reply l before (before + length h) (net_of h) (value_of l base h) r.serial r.cpu r.event (effect_of e)) is
+    answers : r.reply ≡ cancel_reply (step l (value_of l base h) r.serial r.cpu r.event).reply
+        (sole_at b.serial (map tag_of (net_of h)))
+    answers =
+        reply_at l base before h r follows ∙ ap (λ (e : Event). effect_reply l before (before + length h)
+        (net_of h) (value_of l base h) r.serial r.cpu r.event (effect_of e)) is
 
     each_same : (s : Memory) (items : List Item) → RowsAre s items (λ item. row_of s.blocks item.block)
     each_same s [] = tt
     each_same s (item ∷ items) = (refl, each_same s items)
 
-    by_restore : goes_back r.reply ≡ true → RowsAre (value_of l base (h ++ r ∷ [])) plan (λ item. row_of (state_before l base before h b).blocks item.block)
+    by_restore : goes_back r.reply ≡ true
+        → RowsAre (value_of l base (h ++ r ∷ [])) plan
+        (λ item. row_of (state_before l base before h b).blocks item.block)
     by_restore back =
-        let is_restored : r.reply ≡ Restored = back_restored r.reply (step l (value_of l base h) r.serial r.cpu r.event).reply (sole_at b.serial (map tag_of (net_of h))) answers good (steps l (value_of l base h) r.serial r.cpu r.event).onward back in
+        let is_restored : r.reply ≡ Restored =
+        back_restored r.reply (step l (value_of l base h) r.serial r.cpu r.event).reply
+        (sole_at b.serial (map tag_of (net_of h))) answers good
+        (steps l (value_of l base h) r.serial r.cpu r.event).onward back in
         let whole = restored l base before b.serial h r legal is is_restored in
-        subst (λ (s : Memory). RowsAre s plan (λ item. row_of (state_before l base before h b).blocks item.block)) (sym whole.5) (each_same (state_before l base before h b) plan)
+        subst (λ (s : Memory). RowsAre s plan (λ item. row_of (state_before l base before h b).blocks
+        item.block)) (sym whole.5) (each_same (state_before l base before h b) plan)
 
-    by_release : IsStep l base h r → RowsAre (value_of l base (h ++ r ∷ [])) plan (λ item. row_of (state_before l base before h b).blocks item.block)
+    by_release : IsStep l base h r
+        → RowsAre (value_of l base (h ++ r ∷ [])) plan
+        (λ item. row_of (state_before l base before h b).blocks item.block)
     by_release stepped =
         let s : Memory = value_of l base h in
-        let closes : IsEndOf s (step l s r.serial r.cpu (Cancel b.serial)).memory (release_blocks l s b.serial) b.serial =
-        cancel-good l s r.serial r.cpu b.serial (ap (λ (e : Event). is_refused (step l s r.serial r.cpu e).reply) (sym is) ∙ ap is_refused (sym stepped.reply) ∙ good) in
+        let closes : IsEndOf s (step l s r.serial r.cpu (Cancel b.serial)).memory
+        (release_blocks l s b.serial) b.serial =
+        cancel-good l s r.serial r.cpu b.serial (ap (λ (e : Event). is_refused
+        (step l s r.serial r.cpu e).reply) (sym is) ∙ ap is_refused (sym stepped.reply) ∙ good) in
         let front : IsLegal l base before h = front_legal l base before h r legal in
-        let ends_in : value_of l base (h ++ r ∷ []) ≡ release_blocks l s b.serial = stepped.memory ∙ ap (λ (e : Event). (step l s r.serial r.cpu e).memory) is ∙ closes.memory in
-        subst (λ (t : Memory). RowsAre t plan (λ item. row_of (state_before l base before h b).blocks item.block)) (sym ends_in)
-        (subst (λ (o : Memory). RowsAre (release_blocks l s b.serial) plan (λ item. row_of o.blocks item.block)) (sym (is_begin l base before h place b plan front at).was)
+        let ends_in : value_of l base (h ++ r ∷ []) ≡ release_blocks l s b.serial =
+        stepped.memory ∙ ap (λ (e : Event). (step l s r.serial r.cpu e).memory) is ∙ closes.memory in
+        subst (λ (t : Memory).
+        RowsAre t plan (λ item. row_of (state_before l base before h b).blocks item.block)) (sym ends_in)
+        (subst (λ (o : Memory). RowsAre (release_blocks l s b.serial) plan
+        (λ item. row_of o.blocks item.block)) (sym (is_begin l base before h place b plan front at).was)
         (cancel-gives_back l s b.serial (old_at l base h place) plan (value-placed l base h layout p)
-        (live_holds b.serial (old_at l base h place) s plan closes.live (phase l base before h place b plan layout p front at))))
+        (live_holds b.serial (old_at l base h place) s plan closes.live
+        (phase l base before h place b plan layout p front at))))

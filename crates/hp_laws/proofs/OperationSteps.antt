@@ -1,253 +1,101 @@
 -- What one step does to the rows of memory blocks: a claimed row changes only where its operation ends.
-use Rattle.std.proofs.Common.{◌≡◌, ◌≢◌, ℕ, ◌/◌, ◌<◌, ◌≤◌, List, length, get_or, set, Bool, true, false, cond, Option, Some, None, refl, ap, sym, subst, ◌∙◌, arith, ◌⊎◌, inl, inr, length-set, eq-eqb, eqb-true, ne_eqb, ◌==◌}
-use Rattle.std.specs.Prelude.{find, nat_le}
+use Rattle.std.proofs.Common.{◌≡◌, ◌≢◌, ℕ, ◌/◌, ◌<◌, ◌≤◌, Bool, true, false, cond, Option, Some, None, refl, ap, sym, subst, arith, ◌⊎◌, inl, inr, eqb-true}
+use Rattle.std.specs.Prelude.{nat_le}
 use Rattle.std.specs.Bool.{then_some}
-use Rattle.std.specs.Option.{option_map, option_map_or}
-use Rattle.std.proofs.lemmas.Bool.{both_ways, cases_eq, cases_lt, not-false}
-use Rattle.std.proofs.lemmas.List.{get_or-set_other, get_or-set_same, get_or_past}
-use Rattle.hp_units.specs.declared.plans.Item.{Item}
-use Rattle.hp_units.specs.declared.rows.Auto.{Auto}
-use Rattle.hp_units.specs.declared.rows.Auto.TheVariants.{Offline as OfflineAuto, Online as OnlineAuto, OnlineKernel as KernelAuto, OnlineMovable as MovableAuto}
-use Rattle.hp_units.specs.declared.rows.Claim.{Claim}
+use Rattle.std.proofs.lemmas.Bool.{both_ways, cases_lt, not-false}
+use Rattle.std.proofs.lemmas.List.{get_or_past}
 use Rattle.hp_units.specs.declared.rows.Row.{Row}
-use Rattle.hp_units.specs.declared.rows.State.{State}
-use Rattle.hp_units.specs.declared.rows.State.TheVariants.{Offline as OfflineState, Online as OnlineState, Going as GoingState, Absent as AbsentState}
-use Rattle.hp_units.specs.declared.rows.Wish.{Wish}
-use Rattle.hp_units.specs.declared.rows.Wish.TheVariants.{Off as OffWish, Normal as NormalWish, Movable as MovableWish}
-use Rattle.hp_units.specs.declared.rows.Zone.{Zone}
-use Rattle.hp_units.specs.declared.rows.Zone.TheVariants.{Normal as NormalZone, Movable as MovableZone}
+use Rattle.hp_units.specs.declared.rows.State.TheVariants.{Absent as AbsentState}
 use Rattle.hp_units.specs.LayoutParts.{LayoutParts, IsLayout}
 use Rattle.hp_units.specs.Arithmetic.{block_bytes}
 use Rattle.hp_units.specs.Choices.{first_some}
-use Rattle.hp_units.specs.Memory.{Blocks, Memory, offline_row, row_of}
-use Rattle.hp_units.specs.Migrations.{migration_source, migration_target}
-use Rattle.hp_units.specs.Refusals.{event_refusals, plan_refusals, refusal_of}
-use Rattle.hp_units.specs.Rows.{is_absent, is_absent_state, is_claimed, is_claimed_by, begin_plan, commit_blocks, online_block, release_blocks, with_block_row, is_going, wish_of}
-use Rattle.hp_units.specs.Step.{answer, auto_online, kernel_gives, kernel_takes, map_step, migrate_step, perform, step, unmap_step}
-use Rattle.hp_units.specs.Placement.{IsRowOf, IsWellPlaced}
-use Rattle.hp_laws.specs.Operations.{ends, wished_row}
+use Rattle.hp_units.specs.Memory.{Memory, offline_row, row_of}
+use Rattle.hp_units.specs.Refusals.{event_refusals, refusal_of}
+use Rattle.hp_units.specs.Rows.{is_claimed_by, commit_blocks, online_block, release_blocks}
+use Rattle.hp_units.specs.Step.{answer, kernel_gives, kernel_takes, map_step, migrate_step, perform, step, unmap_step}
+use Rattle.hp_units.specs.Placement.{IsWellPlaced}
+use Rattle.hp_laws.specs.Operations.{ends}
 use Rattle.hp_laws.proofs.Names.{Event, Refusal, NoCpu, KernelAlloc, KernelFree, Map, Unmap, Write, Read, Drain, Online, Begin, DrainFor, Migrate, Commit, Cancel, UndoAfter, Probe, Remove, SetAuto}
-use Rattle.hp_laws.proofs.EventSteps.{below, not_there, step-placed, then_none}
-use Rattle.hp_laws.proofs.Options.{found_fails, found_passes, map_none}
+use Rattle.hp_laws.proofs.EventSteps.{below, step-placed, then_none}
 use Rattle.hp_laws.proofs.OwnedContents.{all_none, none_rest}
-use Rattle.hp_laws.proofs.OperationRows.{begin-row, begun_row, commit-row, committed_row, release-row, released_row, row_with}
-use Rattle.hp_laws.proofs.StepBlocks.{answered-blocks, kernel_takes-blocks, kernel_gives-blocks, map_step-blocks, unmap_step-blocks}
-
--- ---- a row and what a step makes of it
-
--- a row that an operation claims stays where the event doesn't end it, and one that it doesn't claim is claimed only by a step
--- with the operation's number
-pub record IsRowStep (op serial : ℕ) (event : Event) (old new : Row) : Type 0 where
-  pub kept : is_claimed_by op old ≡ true → ends op event ≡ false → new ≡ old
-  pub free : is_claimed_by op old ≡ false → serial ≢ op → is_claimed_by op new ≡ false
-
-row_stays : (op serial : ℕ) (event : Event) (old new : Row) → new ≡ old → IsRowStep op serial event old new
-row_stays op serial event old new same = record {
-  kept = λ mine stays. same;
-  free = λ unclaimed ne. ap (is_claimed_by op) same ∙ unclaimed;
-}
-
-no_claim : (op : ℕ) (claim : Option Claim) → claim ≡ None → option_map_or (λ c. c.op == op) claim false ≡ false
-no_claim op claim e = ap (λ (o : Option Claim). option_map_or (λ c. c.op == op) o false) e
-
--- a row without a claim may become any other without one
-row_free : (op serial : ℕ) (event : Event) (old new : Row) → old.claim ≡ None → new.claim ≡ None → IsRowStep op serial event old new
-row_free op serial event old new was is = record {
-  kept = λ mine stays. absurd (both_ways (is_claimed_by op old) (no_claim op old.claim was) mine);
-  free = λ unclaimed ne. no_claim op new.claim is;
-}
-
-rows_trans : (op serial : ℕ) (event : Event) (old mid new : Row) → IsRowStep op serial event old mid → IsRowStep op serial event mid new → IsRowStep op serial event old new
-rows_trans op serial event old mid new h k = record {
-  kept = λ mine stays.
-      let first : mid ≡ old = h.kept mine stays in
-      k.kept (ap (is_claimed_by op) first ∙ mine) stays ∙ first;
-  free = λ unclaimed ne. k.free (h.free unclaimed ne) ne;
-}
-
-without_claim : (row : Row) → is_claimed row ≡ false → row.claim ≡ None
-without_claim row e = not_there row.claim e
-
--- one row is set, which has no claim before and after
-set_free : (op serial : ℕ) (event : Event) (rows : List Row) (at block : ℕ) (row : Row) → block < length rows → (get_or rows at offline_row).claim ≡ None → row.claim ≡ None
-    → IsRowStep op serial event (get_or rows block offline_row) (get_or (set rows at row) block offline_row)
-set_free op serial event rows at block row short was is = elim (cases_eq block at) [
-  | inl same ↦
-      let here : get_or (set rows at row) block offline_row ≡ row =
-      subst (λ (b : ℕ). get_or (set rows b row) block offline_row ≡ row) same (get_or-set_same rows block row offline_row short) in
-      row_free op serial event (get_or rows block offline_row) (get_or (set rows at row) block offline_row)
-      (ap (λ (b : ℕ). (get_or rows b offline_row).claim) same ∙ was) (ap (λ (r : Row). r.claim) here ∙ is)
-  | inr ne ↦ row_stays op serial event (get_or rows block offline_row) (get_or (set rows at row) block offline_row) (get_or-set_other rows at block row offline_row ne)
-]
-
--- ---- events that leave the rows
-
-migrate_step-blocks : (l : LayoutParts) (s : Memory) (op : ℕ) → (migrate_step l s op).memory.blocks ≡ s.blocks
-unfolding migrate_step
-migrate_step-blocks l s op =
-    answered-blocks _ s (migration_source l s op) (λ from. answered-blocks _ s (migration_target l s.free.areas) (λ taken. refl))
-
-blocks_stay : (op serial : ℕ) (event : Event) (s t : Memory) (block : ℕ) → t.blocks ≡ s.blocks → IsRowStep op serial event (row_of s.blocks block) (row_of t.blocks block)
-blocks_stay op serial event s t block same = row_stays op serial event (row_of s.blocks block) (row_of t.blocks block) (ap (λ (bs : Blocks). row_of bs block) same)
-
--- ---- events that change rows
-
--- a block goes online, or is added, or removed
-online_block-row : (l : LayoutParts) (op serial : ℕ) (event : Event) (zone : Zone) (s : Memory) (at block : ℕ) → block < length s.blocks.rows → (row_of s.blocks at).claim ≡ None
-    → IsRowStep op serial event (row_of s.blocks block) (row_of (online_block l zone s at).blocks block)
-unfolding online_block
-online_block-row l op serial event zone s at block short was =
-    set_free op serial event s.blocks.rows at block (record { state = OnlineState; zone = Some zone; claim = None }) short was refl
-
-auto-row : (l : LayoutParts) (op serial : ℕ) (event : Event) (auto : Auto) (s : Memory) (at block : ℕ) → block < length s.blocks.rows → (row_of s.blocks at).claim ≡ None
-    → IsRowStep op serial event (row_of s.blocks block) (row_of (auto_online l auto s at).blocks block)
-auto-row l op serial event OfflineAuto s at block short was = row_stays op serial event (row_of s.blocks block) (row_of s.blocks block) refl
-auto-row l op serial event OnlineAuto s at block short was = online_block-row l op serial event NormalZone s at block short was
-auto-row l op serial event KernelAuto s at block short was = online_block-row l op serial event NormalZone s at block short was
-auto-row l op serial event MovableAuto s at block short was = online_block-row l op serial event MovableZone s at block short was
-
-absent_claim : (state : State) (zone : Option Zone) (claim : Option Claim) → is_absent_state state ≡ true → IsRowOf state zone claim → claim ≡ None
-absent_claim AbsentState _ claim e h = h.1
-absent_claim OfflineState _ claim e h = cc
-absent_claim OnlineState _ claim e h = cc
-absent_claim GoingState _ claim e h = cc
-
-probe-row : (l : LayoutParts) (op serial : ℕ) (event : Event) (s : Memory) (at block : ℕ) → IsWellPlaced l s → at < l.blocks → is_absent (row_of s.blocks at) ≡ true → block < length s.blocks.rows
-    → IsRowStep op serial event (row_of s.blocks block) (row_of (auto_online l s.blocks.auto (with_block_row s at offline_row) at).blocks block)
-probe-row l op serial event s at block p low absent short =
-    let old : Row = row_of s.blocks at in
-    let was : old.claim ≡ None = absent_claim old.state old.zone old.claim absent (p.in_order.rows at) in
-    let there : row_of (with_block_row s at offline_row).blocks at ≡ offline_row = get_or-set_same s.blocks.rows at offline_row offline_row (omega (arith, p.in_order.shape.rows)) in
-    rows_trans op serial event (row_of s.blocks block) (row_of (with_block_row s at offline_row).blocks block) (row_of (auto_online l s.blocks.auto (with_block_row s at offline_row) at).blocks block)
-    (set_free op serial event s.blocks.rows at block offline_row short was refl)
-    (auto-row l op serial event s.blocks.auto (with_block_row s at offline_row) at block (omega (arith, length-set s.blocks.rows at offline_row)) (ap (λ (r : Row). r.claim) there))
-
--- an operation begins: it claims rows that had no claim
-claims_it : (op serial : ℕ) (row : Row) (wish : Wish) → serial ≢ op → is_claimed_by op (begun_row serial (Some wish) row) ≡ false
-claims_it op serial row OffWish ne = ne_eqb serial op ne
-claims_it op serial row NormalWish ne = ne_eqb serial op ne
-claims_it op serial row MovableWish ne = ne_eqb serial op ne
-
--- what a plan that isn't refused wishes for has no claim
-pub plan_free : (l : LayoutParts) (s : Memory) (plan : List Item) (block : ℕ) (wish : Wish) → first_some (plan_refusals l s plan) ≡ None → wish_of plan block ≡ Some wish → is_claimed (row_of s.blocks block) ≡ false
-plan_free l s plan block wish e is =
-    by_item (find (λ item. item.block == block) plan) refl is (map_none _ (find (λ item. is_claimed (row_of s.blocks item.block)) plan) (all_none (plan_refusals l s plan) e).1.1.1.0)
-  where
-    by_item : (o : Option Item) → find (λ item. item.block == block) plan ≡ o → option_map (λ item. item.wish) o ≡ Some wish → find (λ item. is_claimed (row_of s.blocks item.block)) plan ≡ None
-        → is_claimed (row_of s.blocks block) ≡ false
-    by_item None found f none = cc
-    by_item (Some item) found f none =
-        let same : item.block ≡ block = eqb-true item.block block (found_passes (λ i. i.block == block) plan item found) in
-        subst (λ (b : ℕ). is_claimed (row_of s.blocks b) ≡ false) same (found_fails (λ i. is_claimed (row_of s.blocks i.block)) (λ i. i.block == block) plan item none found)
-
-begin_step-row : (l : LayoutParts) (op serial : ℕ) (s : Memory) (plan : List Item) (block : ℕ) → block < l.blocks → length s.blocks.rows ≡ l.blocks → first_some (plan_refusals l s plan) ≡ None
-    → IsRowStep op serial (Begin plan) (row_of s.blocks block) (row_of (begin_plan l s serial plan).blocks block)
-begin_step-row l op serial s plan block low shape e =
-    subst (λ (row : Row). IsRowStep op serial (Begin plan) (row_of s.blocks block) row) (sym (begin-row l s serial plan block low shape)) (by_wish (wish_of plan block) refl)
-  where
-    by_wish : (o : Option Wish) → wish_of plan block ≡ o → IsRowStep op serial (Begin plan) (row_of s.blocks block) (begun_row serial o (row_of s.blocks block))
-    by_wish None is = row_stays op serial (Begin plan) (row_of s.blocks block) (row_of s.blocks block) refl
-    by_wish (Some wish) is = record {
-      kept = λ mine stays. absurd (both_ways (is_claimed_by op (row_of s.blocks block)) (no_claim op (row_of s.blocks block).claim (without_claim (row_of s.blocks block) (plan_free l s plan block wish e is))) mine);
-      free = λ unclaimed ne. claims_it op serial (row_of s.blocks block) wish ne;
-    }
-
--- a row that two operations claim shows that they are one
-one_claim : (op other : ℕ) (claim : Option Claim) → option_map_or (λ c. c.op == op) claim false ≡ true → option_map_or (λ c. c.op == other) claim false ≡ true → other ≡ op
-one_claim op other None e f = cc
-one_claim op other (Some claim) e f = sym (eqb-true claim.op other f) ∙ eqb-true claim.op op e
-
-no_end : (op other : ℕ) → other ≡ op → (other == op) ≡ false → ⊥
-no_end op other same e = absurd (both_ways (other == op) e (eq-eqb other op same))
-
--- what an operation that ends makes of its own rows has no claim, so no other row changes
-ended_row : (op other serial : ℕ) (event : Event) (old new : Row) → ends op event ≡ (other == op) → new.claim ≡ None → (b : Bool) → is_claimed_by other old ≡ b
-    → IsRowStep op serial event old (cond b new old)
-ended_row op other serial event old new is none false e = row_stays op serial event old old refl
-ended_row op other serial event old new is none true e = record {
-  kept = λ mine stays. absurd (no_end op other (one_claim op other old.claim mine e) (sym is ∙ stays));
-  free = λ unclaimed ne. no_claim op new.claim none;
-}
-
-wished_claim : (wish : Wish) → (wished_row wish).claim ≡ None
-wished_claim OffWish = refl
-wished_claim NormalWish = refl
-wished_claim MovableWish = refl
-
-released_claim : (row : Row) → (released_row row).claim ≡ None
-released_claim row = by_state (is_going row)
-  where
-    by_state : (b : Bool) → (cond b (row_with OnlineState row.zone None) (row_with row.state row.zone None)).claim ≡ None
-    by_state true = refl
-    by_state false = refl
-
--- a row that is claimed has a claim with that operation's number
-claimed_some : (op : ℕ) (claim : Option Claim) → option_map_or (λ c. c.op == op) claim false ≡ true → (c : Claim) × (claim ≡ Some c)
-claimed_some op None e = cc
-claimed_some op (Some c) e = (c, refl)
-
-committed_claim : (op : ℕ) (row : Row) → is_claimed_by op row ≡ true → (committed_row row).claim ≡ None
-committed_claim op row mine =
-    let c = claimed_some op row.claim mine in
-    subst (λ (o : Option Claim). (option_map_or (λ claim. wished_row claim.wish) o row).claim ≡ None) (sym c.1) (wished_claim c.0.wish)
-
-ended_committed : (op other serial : ℕ) (old : Row) (b : Bool) → is_claimed_by other old ≡ b → IsRowStep op serial (Commit other) old (cond b (committed_row old) old)
-ended_committed op other serial old false e = row_stays op serial (Commit other) old old refl
-ended_committed op other serial old true e = ended_row op other serial (Commit other) old (committed_row old) refl (committed_claim other old e) true e
-
-commit_step-row : (l : LayoutParts) (op serial other : ℕ) (s : Memory) (block : ℕ) → block < l.blocks → length s.blocks.rows ≡ l.blocks
-    → IsRowStep op serial (Commit other) (row_of s.blocks block) (row_of (commit_blocks l s other).blocks block)
-commit_step-row l op serial other s block low shape =
-    subst (λ (row : Row). IsRowStep op serial (Commit other) (row_of s.blocks block) row) (sym (commit-row l s other block low shape))
-    (ended_committed op other serial (row_of s.blocks block) (is_claimed_by other (row_of s.blocks block)) refl)
-
-cancel_step-row : (l : LayoutParts) (op serial other : ℕ) (s : Memory) (block : ℕ) → block < l.blocks → length s.blocks.rows ≡ l.blocks
-    → IsRowStep op serial (Cancel other) (row_of s.blocks block) (row_of (release_blocks l s other).blocks block)
-cancel_step-row l op serial other s block low shape =
-    subst (λ (row : Row). IsRowStep op serial (Cancel other) (row_of s.blocks block) row) (sym (release-row l s other block low shape))
-    (ended_row op other serial (Cancel other) (row_of s.blocks block) (released_row (row_of s.blocks block)) refl (released_claim (row_of s.blocks block)) (is_claimed_by other (row_of s.blocks block)) refl)
+use Rattle.hp_laws.proofs.OperationRows.{commit-row, committed_row, release-row, released_row}
+use Rattle.hp_laws.proofs.StepBlocks.{kernel_takes-blocks, kernel_gives-blocks, map_step-blocks, unmap_step-blocks}
+use Rattle.hp_laws.proofs.OperationEvents.{IsRowStep, row_stays, no_claim, without_claim, set_free, migrate_step-blocks, blocks_stay, online_block-row, probe-row, begin_step-row, released_claim, committed_claim, commit_step-row, cancel_step-row}
 
 -- ---- a step
 
-perform-row : (l : LayoutParts) (s : Memory) (serial cpu : ℕ) (event : Event) (op block : ℕ) → IsWellPlaced l s → first_some (event_refusals l s cpu event) ≡ None → block < l.blocks
-    → IsRowStep op serial event (row_of s.blocks block) (row_of (perform l s serial cpu event).memory.blocks block)
-perform-row l s serial cpu (KernelAlloc order) op block p e low = blocks_stay op serial (KernelAlloc order) s (kernel_takes l s cpu order).memory block (kernel_takes-blocks l s cpu order)
-perform-row l s serial cpu (KernelFree frame) op block p e low = blocks_stay op serial (KernelFree frame) s (kernel_gives l s cpu frame).memory block (kernel_gives-blocks l s cpu frame)
-perform-row l s serial cpu (Map owner page) op block p e low = blocks_stay op serial (Map owner page) s (map_step l s cpu owner page).memory block (map_step-blocks l s cpu owner page)
-perform-row l s serial cpu (Unmap owner page) op block p e low = blocks_stay op serial (Unmap owner page) s (unmap_step l s cpu owner page).memory block (unmap_step-blocks l s cpu owner page)
-perform-row l s serial cpu (Write owner page index value) op block p e low = blocks_stay op serial (Write owner page index value) s s block refl
-perform-row l s serial cpu (Read owner page index) op block p e low = blocks_stay op serial (Read owner page index) s s block refl
-perform-row l s serial cpu (Drain drained) op block p e low = blocks_stay op serial (Drain drained) s s block refl
+perform-row : (l : LayoutParts) (s : Memory) (serial cpu : ℕ) (event : Event) (op block : ℕ)
+    → IsWellPlaced l s → first_some (event_refusals l s cpu event) ≡ None → block < l.blocks
+    → IsRowStep op serial event (row_of s.blocks block)
+    (row_of (perform l s serial cpu event).memory.blocks block)
+perform-row l s serial cpu (KernelAlloc order) op block p e low =
+    blocks_stay op serial (KernelAlloc order) s (kernel_takes l s cpu order).memory block
+    (kernel_takes-blocks l s cpu order)
+perform-row l s serial cpu (KernelFree frame) op block p e low =
+    blocks_stay op serial (KernelFree frame) s (kernel_gives l s cpu frame).memory block
+    (kernel_gives-blocks l s cpu frame)
+perform-row l s serial cpu (Map owner page) op block p e low =
+    blocks_stay op serial (Map owner page) s (map_step l s cpu owner page).memory block
+    (map_step-blocks l s cpu owner page)
+perform-row l s serial cpu (Unmap owner page) op block p e low =
+    blocks_stay op serial (Unmap owner page) s (unmap_step l s cpu owner page).memory block
+    (unmap_step-blocks l s cpu owner page)
+perform-row l s serial cpu (Write owner page index value) op block p e low =
+    blocks_stay op serial (Write owner page index value) s s block refl
+perform-row l s serial cpu (Read owner page index) op block p e low =
+    blocks_stay op serial (Read owner page index) s s block refl
+perform-row l s serial cpu (Drain drained) op block p e low =
+    blocks_stay op serial (Drain drained) s s block refl
 perform-row l s serial cpu (Online at zone) op block p e low =
     online_block-row l op serial (Online at zone) zone s at block (omega (arith, p.in_order.shape.rows))
-    (without_claim (row_of s.blocks at) (then_none _ _ (all_none (event_refusals l s cpu (Online at zone)) e).1.0))
-perform-row l s serial cpu (Begin plan) op block p e low = begin_step-row l op serial s plan block low p.in_order.shape.rows e
-perform-row l s serial cpu (DrainFor other drained) op block p e low = blocks_stay op serial (DrainFor other drained) s s block refl
-perform-row l s serial cpu (Migrate other) op block p e low = blocks_stay op serial (Migrate other) s (migrate_step l s other).memory block (migrate_step-blocks l s other)
-perform-row l s serial cpu (Commit other) op block p e low = commit_step-row l op serial other s block low p.in_order.shape.rows
-perform-row l s serial cpu (Cancel other) op block p e low = cancel_step-row l op serial other s block low p.in_order.shape.rows
-perform-row l s serial cpu (UndoAfter after) op block p e low = blocks_stay op serial (UndoAfter after) s s block refl
+    (without_claim (row_of s.blocks at)
+    (then_none _ _ (all_none (event_refusals l s cpu (Online at zone)) e).1.0))
+perform-row l s serial cpu (Begin plan) op block p e low =
+    begin_step-row l op serial s plan block low p.in_order.shape.rows e
+perform-row l s serial cpu (DrainFor other drained) op block p e low =
+    blocks_stay op serial (DrainFor other drained) s s block refl
+perform-row l s serial cpu (Migrate other) op block p e low =
+    blocks_stay op serial (Migrate other) s (migrate_step l s other).memory block
+    (migrate_step-blocks l s other)
+perform-row l s serial cpu (Commit other) op block p e low =
+    commit_step-row l op serial other s block low p.in_order.shape.rows
+perform-row l s serial cpu (Cancel other) op block p e low =
+    cancel_step-row l op serial other s block low p.in_order.shape.rows
+perform-row l s serial cpu (UndoAfter after) op block p e low =
+    blocks_stay op serial (UndoAfter after) s s block refl
 perform-row l s serial cpu (Probe address) op block p e low =
     let none = all_none (event_refusals l s cpu (Probe address)) e in
-    probe-row l op serial (Probe address) s (address / block_bytes l) block p (below l.blocks (address / block_bytes l) _ none.1.0)
+    probe-row l op serial (Probe address) s (address / block_bytes l) block p
+    (below l.blocks (address / block_bytes l) _ none.1.0)
     (not-false _ (then_none _ _ none.1.1.0)) (omega (arith, p.in_order.shape.rows))
 perform-row l s serial cpu (Remove at) op block p e low =
-    set_free op serial (Remove at) s.blocks.rows at block (record offline_row { state = AbsentState }) (omega (arith, p.in_order.shape.rows))
-    (without_claim (row_of s.blocks at) (then_none _ _ (all_none (event_refusals l s cpu (Remove at)) e).1.0)) refl
-perform-row l s serial cpu (SetAuto auto) op block p e low = row_stays op serial (SetAuto auto) (row_of s.blocks block) (row_of s.blocks block) refl
+    set_free op serial (Remove at) s.blocks.rows at block (record offline_row { state = AbsentState })
+    (omega (arith, p.in_order.shape.rows))
+    (without_claim (row_of s.blocks at) (then_none _ _ (all_none (event_refusals l s cpu (Remove at)) e).1.0))
+    refl
+perform-row l s serial cpu (SetAuto auto) op block p e low =
+    row_stays op serial (SetAuto auto) (row_of s.blocks block) (row_of s.blocks block) refl
 
-answer-row : (l : LayoutParts) (s : Memory) (serial cpu : ℕ) (event : Event) (o : Option Refusal) (op block : ℕ) → IsWellPlaced l s → refusal_of l s cpu event ≡ o → block < l.blocks
-    → IsRowStep op serial event (row_of s.blocks block) (row_of (answer l s serial cpu event o).memory.blocks block)
+answer-row : (l : LayoutParts) (s : Memory) (serial cpu : ℕ) (event : Event) (o : Option Refusal)
+    (op block : ℕ)
+    → IsWellPlaced l s → refusal_of l s cpu event ≡ o → block < l.blocks
+    → IsRowStep op serial event (row_of s.blocks block)
+    (row_of (answer l s serial cpu event o).memory.blocks block)
 unfolding refusal_of
-answer-row l s serial cpu event (Some refusal) op block p e low = row_stays op serial event (row_of s.blocks block) (row_of s.blocks block) refl
+answer-row l s serial cpu event (Some refusal) op block p e low =
+    row_stays op serial event (row_of s.blocks block) (row_of s.blocks block) refl
 answer-row l s serial cpu event None op block p e low =
-    perform-row l s serial cpu event op block p (none_rest (then_some (nat_le l.cpus cpu) NoCpu) (event_refusals l s cpu event) e) low
+    perform-row l s serial cpu event op block p
+    (none_rest (then_some (nat_le l.cpus cpu) NoCpu) (event_refusals l s cpu event) e) low
 
 -- each row of the layout is changed by a step as told above
-pub step-row : (l : LayoutParts) (s : Memory) (serial cpu : ℕ) (event : Event) (op block : ℕ) → IsWellPlaced l s → block < l.blocks
-    → IsRowStep op serial event (row_of s.blocks block) (row_of (step l s serial cpu event).memory.blocks block)
+pub step-row : (l : LayoutParts) (s : Memory) (serial cpu : ℕ) (event : Event) (op block : ℕ)
+    → IsWellPlaced l s → block < l.blocks
+    → IsRowStep op serial event (row_of s.blocks block)
+    (row_of (step l s serial cpu event).memory.blocks block)
 unfolding step
-step-row l s serial cpu event op block p low = answer-row l s serial cpu event (refusal_of l s cpu event) op block p refl low
+step-row l s serial cpu event op block p low =
+    answer-row l s serial cpu event (refusal_of l s cpu event) op block p refl low
 
 -- ---- an operation ends
 
@@ -256,27 +104,43 @@ end_event op (Commit other) e = inl (ap Commit (eqb-true other op e))
 end_event op (Cancel other) e = inr (ap Cancel (eqb-true other op e))
 end_event op event e = absurd cc
 
-commit_frees : (l : LayoutParts) (s : Memory) (op block : ℕ) → IsWellPlaced l s → block < l.blocks → is_claimed_by op (row_of (commit_blocks l s op).blocks block) ≡ false
+commit_frees : (l : LayoutParts) (s : Memory) (op block : ℕ) → IsWellPlaced l s → block < l.blocks
+    → is_claimed_by op (row_of (commit_blocks l s op).blocks block) ≡ false
 commit_frees l s op block p low =
-    subst (λ (row : Row). is_claimed_by op row ≡ false) (sym (commit-row l s op block low p.in_order.shape.rows)) (by_claim (is_claimed_by op (row_of s.blocks block)) refl)
+    subst (λ (row : Row). is_claimed_by op row ≡ false)
+    (sym (commit-row l s op block low p.in_order.shape.rows))
+    (by_claim (is_claimed_by op (row_of s.blocks block)) refl)
   where
-    by_claim : (b : Bool) → is_claimed_by op (row_of s.blocks block) ≡ b → is_claimed_by op (cond b (committed_row (row_of s.blocks block)) (row_of s.blocks block)) ≡ false
-    by_claim true e = no_claim op (committed_row (row_of s.blocks block)).claim (committed_claim op (row_of s.blocks block) e)
+    by_claim : (b : Bool) → is_claimed_by op (row_of s.blocks block) ≡ b
+        → is_claimed_by op (cond b (committed_row (row_of s.blocks block)) (row_of s.blocks block)) ≡ false
+    by_claim true e =
+        no_claim op (committed_row (row_of s.blocks block)).claim
+        (committed_claim op (row_of s.blocks block) e)
     by_claim false e = e
 
-cancel_frees : (l : LayoutParts) (s : Memory) (op block : ℕ) → IsWellPlaced l s → block < l.blocks → is_claimed_by op (row_of (release_blocks l s op).blocks block) ≡ false
+cancel_frees : (l : LayoutParts) (s : Memory) (op block : ℕ) → IsWellPlaced l s → block < l.blocks
+    → is_claimed_by op (row_of (release_blocks l s op).blocks block) ≡ false
 cancel_frees l s op block p low =
-    subst (λ (row : Row). is_claimed_by op row ≡ false) (sym (release-row l s op block low p.in_order.shape.rows)) (by_claim (is_claimed_by op (row_of s.blocks block)) refl)
+    subst (λ (row : Row). is_claimed_by op row ≡ false)
+    (sym (release-row l s op block low p.in_order.shape.rows))
+    (by_claim (is_claimed_by op (row_of s.blocks block)) refl)
   where
-    by_claim : (b : Bool) → is_claimed_by op (row_of s.blocks block) ≡ b → is_claimed_by op (cond b (released_row (row_of s.blocks block)) (row_of s.blocks block)) ≡ false
-    by_claim true e = no_claim op (released_row (row_of s.blocks block)).claim (released_claim (row_of s.blocks block))
+    by_claim : (b : Bool) → is_claimed_by op (row_of s.blocks block) ≡ b
+        → is_claimed_by op (cond b (released_row (row_of s.blocks block)) (row_of s.blocks block)) ≡ false
+    by_claim true e =
+        no_claim op (released_row (row_of s.blocks block)).claim (released_claim (row_of s.blocks block))
     by_claim false e = e
 
-perform_frees : (l : LayoutParts) (s : Memory) (serial cpu : ℕ) (event : Event) (op block : ℕ) → IsWellPlaced l s → ends op event ≡ true → block < l.blocks
+perform_frees : (l : LayoutParts) (s : Memory) (serial cpu : ℕ) (event : Event) (op block : ℕ)
+    → IsWellPlaced l s → ends op event ≡ true → block < l.blocks
     → is_claimed_by op (row_of (perform l s serial cpu event).memory.blocks block) ≡ false
 perform_frees l s serial cpu event op block p e low = elim (end_event op event e) [
-  | inl is ↦ subst (λ (x : Event). is_claimed_by op (row_of (perform l s serial cpu x).memory.blocks block) ≡ false) (sym is) (commit_frees l s op block p low)
-  | inr is ↦ subst (λ (x : Event). is_claimed_by op (row_of (perform l s serial cpu x).memory.blocks block) ≡ false) (sym is) (cancel_frees l s op block p low)
+  | inl is ↦
+      subst (λ (x : Event). is_claimed_by op (row_of (perform l s serial cpu x).memory.blocks block) ≡ false)
+      (sym is) (commit_frees l s op block p low)
+  | inr is ↦
+      subst (λ (x : Event). is_claimed_by op (row_of (perform l s serial cpu x).memory.blocks block) ≡ false)
+      (sym is) (cancel_frees l s op block p low)
 ]
 
 -- no row carries the operation's claim
@@ -284,36 +148,50 @@ abbrev pub IsOver : ℕ → Memory → Type 0
 IsOver op s = (block : ℕ) → is_claimed_by op (row_of s.blocks block) ≡ false
 
 -- rows that aren't there have no claim
-past_over : (l : LayoutParts) (s : Memory) (op block : ℕ) → IsWellPlaced l s → l.blocks ≤ block → is_claimed_by op (row_of s.blocks block) ≡ false
-past_over l s op block p high = ap (is_claimed_by op) (get_or_past s.blocks.rows block offline_row (omega (arith, p.in_order.shape.rows)))
+past_over : (l : LayoutParts) (s : Memory) (op block : ℕ) → IsWellPlaced l s → l.blocks ≤ block
+    → is_claimed_by op (row_of s.blocks block) ≡ false
+past_over l s op block p high =
+    ap (is_claimed_by op) (get_or_past s.blocks.rows block offline_row (omega (arith, p.in_order.shape.rows)))
 
 -- so a claimed row is a row of the layout
-pub claimed_low : (l : LayoutParts) (s : Memory) (op block : ℕ) → IsWellPlaced l s → is_claimed_by op (row_of s.blocks block) ≡ true → block < l.blocks
+pub claimed_low : (l : LayoutParts) (s : Memory) (op block : ℕ) → IsWellPlaced l s
+    → is_claimed_by op (row_of s.blocks block) ≡ true → block < l.blocks
 claimed_low l s op block p mine = elim (cases_lt block l.blocks) [
   | inl low ↦ low
-  | inr high ↦ absurd (both_ways (is_claimed_by op (row_of s.blocks block)) (past_over l s op block p high) mine)
+  | inr high ↦
+      absurd (both_ways (is_claimed_by op (row_of s.blocks block)) (past_over l s op block p high) mine)
 ]
 
-ended_answer : (l : LayoutParts) (s : Memory) (serial cpu : ℕ) (event : Event) (o : Option Refusal) (op : ℕ) → IsWellPlaced l s → ends op event ≡ true
-    → ((answer l s serial cpu event o).memory ≡ s) ⊎ ((block : ℕ) → block < l.blocks → is_claimed_by op (row_of (answer l s serial cpu event o).memory.blocks block) ≡ false)
+ended_answer : (l : LayoutParts) (s : Memory) (serial cpu : ℕ) (event : Event) (o : Option Refusal) (op : ℕ)
+    → IsWellPlaced l s → ends op event ≡ true
+    → ((answer l s serial cpu event o).memory ≡ s) ⊎ ((block : ℕ) → block < l.blocks
+    → is_claimed_by op (row_of (answer l s serial cpu event o).memory.blocks block) ≡ false)
 ended_answer l s serial cpu event (Some refusal) op p e = inl refl
-ended_answer l s serial cpu event None op p e = inr (λ block low. perform_frees l s serial cpu event op block p e low)
+ended_answer l s serial cpu event None op p e =
+    inr (λ block low. perform_frees l s serial cpu event op block p e low)
 
 -- an event that ends the operation is refused, or ends it
-pub step-ends : (l : LayoutParts) (s : Memory) (serial cpu : ℕ) (event : Event) (op : ℕ) → IsLayout l → IsWellPlaced l s → ends op event ≡ true
+pub step-ends : (l : LayoutParts) (s : Memory) (serial cpu : ℕ) (event : Event) (op : ℕ) → IsLayout l
+    → IsWellPlaced l s → ends op event ≡ true
     → ((step l s serial cpu event).memory ≡ s) ⊎ IsOver op (step l s serial cpu event).memory
 unfolding step
-step-ends l s serial cpu event op layout p e = elim (ended_answer l s serial cpu event (refusal_of l s cpu event) op p e) [
-  | inl same ↦ inl same
-  | inr frees ↦ inr (λ block. elim (cases_lt block l.blocks) [
-    | inl low ↦ frees block low
-    | inr high ↦ past_over l (step l s serial cpu event).memory op block (step-placed l s serial cpu event layout p) high
-  ])
-]
+step-ends l s serial cpu event op layout p e =
+    elim (ended_answer l s serial cpu event (refusal_of l s cpu event) op p e) [
+      | inl same ↦ inl same
+      | inr frees ↦ inr (λ block. elim (cases_lt block l.blocks) [
+        | inl low ↦ frees block low
+        | inr high ↦
+            past_over l (step l s serial cpu event).memory op block
+            (step-placed l s serial cpu event layout p)
+            high
+      ])
+    ]
 
 -- an operation that is over stays over, as no later step has its number
-pub step-over : (l : LayoutParts) (s : Memory) (serial cpu : ℕ) (event : Event) (op : ℕ) → IsLayout l → IsWellPlaced l s → serial ≢ op → IsOver op s → IsOver op (step l s serial cpu event).memory
+pub step-over : (l : LayoutParts) (s : Memory) (serial cpu : ℕ) (event : Event) (op : ℕ) → IsLayout l
+    → IsWellPlaced l s → serial ≢ op → IsOver op s → IsOver op (step l s serial cpu event).memory
 step-over l s serial cpu event op layout p ne over block = elim (cases_lt block l.blocks) [
   | inl low ↦ (step-row l s serial cpu event op block p low).free (over block) ne
-  | inr high ↦ past_over l (step l s serial cpu event).memory op block (step-placed l s serial cpu event layout p) high
+  | inr high ↦
+      past_over l (step l s serial cpu event).memory op block (step-placed l s serial cpu event layout p) high
 ]

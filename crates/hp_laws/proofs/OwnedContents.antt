@@ -34,29 +34,36 @@ Contents = List (List (Option (List ℕ)))
 
 -- ---- operations on blocks leave the pages
 
-fold-pages : {X : Type 0} (f : Memory → X → Memory) → ((s : Memory) (x : X) → (f s x).pages ≡ s.pages) → (s : Memory) (xs : List X) → (fold f s xs).pages ≡ s.pages
+fold-pages : {X : Type 0} (f : Memory → X → Memory) → ((s : Memory) (x : X) → (f s x).pages ≡ s.pages)
+    → (s : Memory) (xs : List X) → (fold f s xs).pages ≡ s.pages
 fold-pages f h s [] = refl
 fold-pages f h s (x ∷ xs) = fold-pages f h (f s x) xs ∙ h s x
 
-online_block-pages : (l : LayoutParts) (zone : Zone) (s : Memory) (block : ℕ) → (online_block l zone s block).pages ≡ s.pages
+online_block-pages : (l : LayoutParts) (zone : Zone) (s : Memory) (block : ℕ)
+    → (online_block l zone s block).pages ≡ s.pages
 unfolding online_block
 online_block-pages l zone s block = refl
 
-claim_block-pages : (l : LayoutParts) (op : ℕ) (s : Memory) (block : ℕ) (wish : Wish) → (claim_block l op s block wish).pages ≡ s.pages
+claim_block-pages : (l : LayoutParts) (op : ℕ) (s : Memory) (block : ℕ) (wish : Wish)
+    → (claim_block l op s block wish).pages ≡ s.pages
 claim_block-pages l op s block OffWish = refl
 claim_block-pages l op s block NormalWish = refl
 claim_block-pages l op s block MovableWish = refl
 
-option-pages : {X : Type 0} (f : X → Memory) (s : Memory) (o : Option X) → ((x : X) → (f x).pages ≡ s.pages) → (option_map_or f o s).pages ≡ s.pages
+option-pages : {X : Type 0} (f : X → Memory) (s : Memory) (o : Option X) → ((x : X) → (f x).pages ≡ s.pages)
+    → (option_map_or f o s).pages ≡ s.pages
 option-pages f s None h = refl
 option-pages f s (Some x) h = h x
 
-begin_plan-pages : (l : LayoutParts) (s : Memory) (op : ℕ) (plan : List Item) → (begin_plan l s op plan).pages ≡ s.pages
+begin_plan-pages : (l : LayoutParts) (s : Memory) (op : ℕ) (plan : List Item)
+    → (begin_plan l s op plan).pages ≡ s.pages
 unfolding begin_plan
 begin_plan-pages l s op plan =
-    fold-pages (begin_block l op plan) (λ t block. option-pages (claim_block l op t block) t (wish_of plan block) (claim_block-pages l op t block)) s (all_blocks l)
+    fold-pages (begin_block l op plan) (λ t block. option-pages (claim_block l op t block) t
+    (wish_of plan block) (claim_block-pages l op t block)) s (all_blocks l)
 
-grant-pages : (l : LayoutParts) (s : Memory) (block : ℕ) (wish : Wish) → (grant l s block wish).pages ≡ s.pages
+grant-pages : (l : LayoutParts) (s : Memory) (block : ℕ) (wish : Wish)
+    → (grant l s block wish).pages ≡ s.pages
 unfolding online_block
 grant-pages l s block OffWish = refl
 grant-pages l s block NormalWish = refl
@@ -65,70 +72,92 @@ grant-pages l s block MovableWish = refl
 commit_blocks-pages : (l : LayoutParts) (s : Memory) (op : ℕ) → (commit_blocks l s op).pages ≡ s.pages
 unfolding commit_blocks
 commit_blocks-pages l s op =
-    fold-pages (commit_block l) (λ t block. option-pages (λ (claim : Claim). grant l t block claim.wish) t (row_of t.blocks block).claim (λ claim. grant-pages l t block claim.wish)) s (blocks_of l s.blocks op)
+    fold-pages (commit_block l) (λ t block. option-pages (λ (claim : Claim). grant l t block claim.wish) t
+    (row_of t.blocks block).claim (λ claim. grant-pages l t block claim.wish)) s (blocks_of l s.blocks op)
 
-cond-pages : (b : Bool) (s t u : Memory) → s.pages ≡ u.pages → t.pages ≡ u.pages → (cond b s t).pages ≡ u.pages
+cond-pages : (b : Bool) (s t u : Memory) → s.pages ≡ u.pages → t.pages ≡ u.pages
+    → (cond b s t).pages ≡ u.pages
 cond-pages true s t u h k = h
 cond-pages false s t u h k = k
 
 release_blocks-pages : (l : LayoutParts) (s : Memory) (op : ℕ) → (release_blocks l s op).pages ≡ s.pages
 unfolding release_blocks
-release_blocks-pages l s op = fold-pages (release_block l) (λ t block. cond-pages (is_going (row_of t.blocks block)) _ _ t refl refl) s (blocks_of l s.blocks op)
+release_blocks-pages l s op =
+    fold-pages (release_block l) (λ t block. cond-pages (is_going (row_of t.blocks block)) _ _ t refl refl) s
+    (blocks_of l s.blocks op)
 
-auto_online-pages : (l : LayoutParts) (auto : Auto) (s : Memory) (block : ℕ) → (auto_online l auto s block).pages ≡ s.pages
+auto_online-pages : (l : LayoutParts) (auto : Auto) (s : Memory) (block : ℕ)
+    → (auto_online l auto s block).pages ≡ s.pages
 unfolding online_block
 auto_online-pages l OfflineAuto s block = refl
 auto_online-pages l OnlineAuto s block = refl
 auto_online-pages l KernelAuto s block = refl
 auto_online-pages l MovableAuto s block = refl
 
-give_back-pages : (l : LayoutParts) (s : Memory) (cpu frame order : ℕ) → (give_back l s cpu frame order).pages ≡ s.pages
+give_back-pages : (l : LayoutParts) (s : Memory) (cpu frame order : ℕ)
+    → (give_back l s cpu frame order).pages ≡ s.pages
 give_back-pages l s cpu frame zero = refl
 give_back-pages l s cpu frame (suc below) = refl
 
 -- ---- what an event that isn't refused does to the contents
 
-answered-contents : {X : Type 0} (f : X → Answered) (s : Memory) (o : Option X) → ((x : X) → (f x).memory.pages.contents ≡ s.pages.contents)
+answered-contents : {X : Type 0} (f : X → Answered) (s : Memory) (o : Option X)
+    → ((x : X) → (f x).memory.pages.contents ≡ s.pages.contents)
     → (option_map_or f o (done s)).memory.pages.contents ≡ s.pages.contents
 answered-contents f s None h = refl
 answered-contents f s (Some x) h = h x
 
-kernel_takes-contents : (l : LayoutParts) (s : Memory) (cpu order : ℕ) → (kernel_takes l s cpu order).memory.pages.contents ≡ s.pages.contents
+kernel_takes-contents : (l : LayoutParts) (s : Memory) (cpu order : ℕ)
+    → (kernel_takes l s cpu order).memory.pages.contents ≡ s.pages.contents
 unfolding kernel_takes
 kernel_takes-contents l s cpu order = answered-contents _ s (kernel_block l s.free cpu order) (λ handed. refl)
 
-kernel_gives-contents : (l : LayoutParts) (s : Memory) (cpu frame : ℕ) → (kernel_gives l s cpu frame).memory.pages.contents ≡ s.pages.contents
+kernel_gives-contents : (l : LayoutParts) (s : Memory) (cpu frame : ℕ)
+    → (kernel_gives l s cpu frame).memory.pages.contents ≡ s.pages.contents
 unfolding kernel_gives
 kernel_gives-contents l s cpu frame =
-    answered-contents _ s (kernel_order s frame) (λ order. ap (λ (p : Pages). p.contents) (give_back-pages l _ cpu frame order))
+    answered-contents _ s (kernel_order s frame)
+    (λ order. ap (λ (p : Pages). p.contents) (give_back-pages l _ cpu frame order))
 
 move_page-contents : (ps : Pages) (from to : ℕ) → (move_page ps from to).contents ≡ ps.contents
 move_page-contents ps from to = at (page_at ps from)
   where
-    at : (o : Option (ℕ × ℕ)) → (option_map_or (λ (page : ℕ × ℕ). record ps { table = with_entry ps.table page.0 page.1 (Some to) }) o ps).contents ≡ ps.contents
+    at : (o : Option (ℕ × ℕ))
+        → (option_map_or (λ (page : ℕ × ℕ). record ps { table = with_entry ps.table page.0 page.1 (Some to) })
+        o ps).contents ≡ ps.contents
     at None = refl
     at (Some page) = refl
 
-pub migrate_step-contents : (l : LayoutParts) (s : Memory) (op : ℕ) → (migrate_step l s op).memory.pages.contents ≡ s.pages.contents
+pub migrate_step-contents : (l : LayoutParts) (s : Memory) (op : ℕ)
+    → (migrate_step l s op).memory.pages.contents ≡ s.pages.contents
 unfolding migrate_step
 migrate_step-contents l s op =
-    answered-contents _ s (migration_source l s op) (λ from. answered-contents _ s (migration_target l s.free.areas) (λ taken. move_page-contents s.pages from taken.frame))
+    answered-contents _ s (migration_source l s op) (λ from. answered-contents _ s
+    (migration_target l s.free.areas) (λ taken. move_page-contents s.pages from taken.frame))
 
-answered-present : {X : Type 0} (f : X → Answered) (s : Memory) (o : Option X) (refusal : Refusal) (contents : Contents)
-    → ((x : X) → (f x).memory.pages.contents ≡ contents) → unless_some o refusal ≡ None → (option_map_or f o (done s)).memory.pages.contents ≡ contents
+answered-present : {X : Type 0} (f : X → Answered) (s : Memory) (o : Option X) (refusal : Refusal)
+    (contents : Contents)
+    → ((x : X) → (f x).memory.pages.contents ≡ contents) → unless_some o refusal ≡ None
+    → (option_map_or f o (done s)).memory.pages.contents ≡ contents
 answered-present f s None refusal contents h e = cc
 answered-present f s (Some x) refusal contents h e = h x
 
-map_step-contents : (l : LayoutParts) (s : Memory) (cpu owner page : ℕ) → unless_some (page_frame l s.free cpu) NoFrame ≡ None
+map_step-contents : (l : LayoutParts) (s : Memory) (cpu owner page : ℕ)
+    → unless_some (page_frame l s.free cpu) NoFrame ≡ None
     → (map_step l s cpu owner page).memory.pages.contents ≡ contents_after l s.pages.contents (Map owner page)
 unfolding map_step
-map_step-contents l s cpu owner page e = answered-present _ s (page_frame l s.free cpu) NoFrame (contents_after l s.pages.contents (Map owner page)) (λ handed. refl) e
+map_step-contents l s cpu owner page e =
+    answered-present _ s (page_frame l s.free cpu) NoFrame
+    (contents_after l s.pages.contents (Map owner page)) (λ handed. refl) e
 
-unmap_step-contents : (l : LayoutParts) (s : Memory) (cpu owner page : ℕ) → unless_some (frame_at s.pages owner page) NotMapped ≡ None
-    → (unmap_step l s cpu owner page).memory.pages.contents ≡ contents_after l s.pages.contents (Unmap owner page)
+unmap_step-contents : (l : LayoutParts) (s : Memory) (cpu owner page : ℕ)
+    → unless_some (frame_at s.pages owner page) NotMapped ≡ None
+    → (unmap_step l s cpu owner page).memory.pages.contents
+    ≡ contents_after l s.pages.contents (Unmap owner page)
 unfolding unmap_step
 unmap_step-contents l s cpu owner page e =
-    answered-present _ s (frame_at s.pages owner page) NotMapped (contents_after l s.pages.contents (Unmap owner page)) (λ frame. refl) e
+    answered-present _ s (frame_at s.pages owner page) NotMapped
+    (contents_after l s.pages.contents (Unmap owner page)) (λ frame. refl) e
 
 -- the first of several is none: so each is
 abbrev pub AllNone : {A : Type 0} → List (Option A) → Type 0
@@ -140,39 +169,50 @@ all_none [] e = tt
 all_none (None ∷ os) e = (refl, all_none os e)
 all_none (Some x ∷ os) e = cc
 
-pub none_rest : {A : Type 0} (o : Option A) (os : List (Option A)) → first_some (o ∷ os) ≡ None → first_some os ≡ None
+pub none_rest : {A : Type 0} (o : Option A) (os : List (Option A)) → first_some (o ∷ os) ≡ None
+    → first_some os ≡ None
 none_rest None os e = e
 none_rest (Some x) os e = cc
 
-perform-contents : (l : LayoutParts) (s : Memory) (serial cpu : ℕ) (event : Event) → first_some (event_refusals l s cpu event) ≡ None
+perform-contents : (l : LayoutParts) (s : Memory) (serial cpu : ℕ) (event : Event)
+    → first_some (event_refusals l s cpu event) ≡ None
     → (perform l s serial cpu event).memory.pages.contents ≡ contents_after l s.pages.contents event
 perform-contents l s serial cpu (KernelAlloc order) e = kernel_takes-contents l s cpu order
 perform-contents l s serial cpu (KernelFree frame) e = kernel_gives-contents l s cpu frame
 perform-contents l s serial cpu (Map owner page) e =
     map_step-contents l s cpu owner page (all_none (event_refusals l s cpu (Map owner page)) e).1.1.1.0
-perform-contents l s serial cpu (Unmap owner page) e = unmap_step-contents l s cpu owner page (all_none (event_refusals l s cpu (Unmap owner page)) e).1.1.0
+perform-contents l s serial cpu (Unmap owner page) e =
+    unmap_step-contents l s cpu owner page (all_none (event_refusals l s cpu (Unmap owner page)) e).1.1.0
 perform-contents l s serial cpu (Write owner page index value) e = refl
 perform-contents l s serial cpu (Read owner page index) e = refl
 perform-contents l s serial cpu (Drain drained) e = refl
-perform-contents l s serial cpu (Online block zone) e = ap (λ (p : Pages). p.contents) (online_block-pages l zone s block)
-perform-contents l s serial cpu (Begin plan) e = ap (λ (p : Pages). p.contents) (begin_plan-pages l s serial plan)
+perform-contents l s serial cpu (Online block zone) e =
+    ap (λ (p : Pages). p.contents) (online_block-pages l zone s block)
+perform-contents l s serial cpu (Begin plan) e =
+    ap (λ (p : Pages). p.contents) (begin_plan-pages l s serial plan)
 perform-contents l s serial cpu (DrainFor op drained) e = refl
 perform-contents l s serial cpu (Migrate op) e = migrate_step-contents l s op
 perform-contents l s serial cpu (Commit op) e = ap (λ (p : Pages). p.contents) (commit_blocks-pages l s op)
 perform-contents l s serial cpu (Cancel op) e = ap (λ (p : Pages). p.contents) (release_blocks-pages l s op)
 perform-contents l s serial cpu (UndoAfter after) e = refl
-perform-contents l s serial cpu (Probe address) e = ap (λ (p : Pages). p.contents) (auto_online-pages l s.blocks.auto _ (address / block_bytes l))
+perform-contents l s serial cpu (Probe address) e =
+    ap (λ (p : Pages). p.contents) (auto_online-pages l s.blocks.auto _ (address / block_bytes l))
 perform-contents l s serial cpu (Remove block) e = refl
 perform-contents l s serial cpu (SetAuto auto) e = refl
 
-answer-contents : (l : LayoutParts) (s : Memory) (serial cpu : ℕ) (event : Event) (o : Option Refusal) → refusal_of l s cpu event ≡ o
-    → is_refused (answer l s serial cpu event o).reply ≡ false → (answer l s serial cpu event o).memory.pages.contents ≡ contents_after l s.pages.contents event
+answer-contents : (l : LayoutParts) (s : Memory) (serial cpu : ℕ) (event : Event) (o : Option Refusal)
+    → refusal_of l s cpu event ≡ o
+    → is_refused (answer l s serial cpu event o).reply ≡ false
+    → (answer l s serial cpu event o).memory.pages.contents ≡ contents_after l s.pages.contents event
 unfolding refusal_of
 answer-contents l s serial cpu event (Some refusal) e h = cc
-answer-contents l s serial cpu event None e h = perform-contents l s serial cpu event (none_rest (then_some (nat_le l.cpus cpu) NoCpu) (event_refusals l s cpu event) e)
+answer-contents l s serial cpu event None e h =
+    perform-contents l s serial cpu event
+    (none_rest (then_some (nat_le l.cpus cpu) NoCpu) (event_refusals l s cpu event) e)
 
 -- a step that isn't refused changes the contents by its event alone
-pub step-contents : (l : LayoutParts) (s : Memory) (serial cpu : ℕ) (event : Event) → is_refused (step l s serial cpu event).reply ≡ false
+pub step-contents : (l : LayoutParts) (s : Memory) (serial cpu : ℕ) (event : Event)
+    → is_refused (step l s serial cpu event).reply ≡ false
     → (step l s serial cpu event).memory.pages.contents ≡ contents_after l s.pages.contents event
 unfolding step
 step-contents l s serial cpu event h = answer-contents l s serial cpu event (refusal_of l s cpu event) refl h
@@ -180,11 +220,15 @@ step-contents l s serial cpu event h = answer-contents l s serial cpu event (ref
 -- no step of a run is refused
 abbrev pub AllSucceed : LayoutParts → Memory → List Record → Type 0
 AllSucceed l s [] = Unit {0}
-AllSucceed l s (r ∷ rs) = (is_refused (step l s r.serial r.cpu r.event).reply ≡ false) × AllSucceed l (step l s r.serial r.cpu r.event).memory rs
+AllSucceed l s (r ∷ rs) =
+    (is_refused (step l s r.serial r.cpu r.event).reply ≡ false)
+    × AllSucceed l (step l s r.serial r.cpu r.event).memory rs
 
 -- so the contents after a run are those that its steps alone give
-pub run-contents : (l : LayoutParts) (s : Memory) (steps : List Record) → AllSucceed l s steps → (run l s steps).pages.contents ≡ contents_of_net l s.pages.contents steps
+pub run-contents : (l : LayoutParts) (s : Memory) (steps : List Record) → AllSucceed l s steps
+    → (run l s steps).pages.contents ≡ contents_of_net l s.pages.contents steps
 unfolding run
 run-contents l s [] h = refl
 run-contents l s (r ∷ rs) h =
-    run-contents l (step l s r.serial r.cpu r.event).memory rs h.1 ∙ ap (λ (c : Contents). contents_of_net l c rs) (step-contents l s r.serial r.cpu r.event h.0)
+    run-contents l (step l s r.serial r.cpu r.event).memory rs h.1
+    ∙ ap (λ (c : Contents). contents_of_net l c rs) (step-contents l s r.serial r.cpu r.event h.0)

@@ -28,7 +28,8 @@ pub record IsBoth (a b : Bool) : Type 0 where
   pub left : a ≡ true
   pub right : b ≡ true
 
-pub on_filter : (p : ℕ → Bool) (frame : ℕ) (xs : List ℕ) → is_on frame (filter p xs) ≡ true → IsBoth (p frame) (is_on frame xs)
+pub on_filter : (p : ℕ → Bool) (frame : ℕ) (xs : List ℕ) → is_on frame (filter p xs) ≡ true
+    → IsBoth (p frame) (is_on frame xs)
 on_filter p frame [] on = cc
 on_filter p frame (x ∷ xs) on = step (p x) refl on (on_filter p frame xs)
   where
@@ -40,10 +41,16 @@ on_filter p frame (x ∷ xs) on = step (p x) refl on (on_filter p frame xs)
     first true e = refl
     first false e = cc
 
-    step : (b : Bool) → p x ≡ b → is_on frame (cond b (x ∷ filter p xs) (filter p xs)) ≡ true → (is_on frame (filter p xs) ≡ true → IsBoth (p frame) (is_on frame xs)) → IsBoth (p frame) (is_on frame (x ∷ xs))
+    step : (b : Bool) → p x ≡ b → is_on frame (cond b (x ∷ filter p xs) (filter p xs)) ≡ true
+        → (is_on frame (filter p xs) ≡ true → IsBoth (p frame) (is_on frame xs))
+        → IsBoth (p frame) (is_on frame (x ∷ xs))
     step false e on rest = record { left = (rest on).left; right = later (x == frame) (rest on).right }
     step true e on rest = elim (or_cases (x == frame) (is_on frame (filter p xs)) on) [
-      | inl same ↦ record { left = subst (λ (n : ℕ). p n ≡ true) (eqb-true x frame same) e; right = first (x == frame) same }
+      | inl same ↦
+          record {
+            left = subst (λ (n : ℕ). p n ≡ true) (eqb-true x frame same) e;
+            right = first (x == frame) same;
+          }
       | inr there ↦ record { left = (rest there).left; right = later (x == frame) (rest there).right }
     ]
 
@@ -51,12 +58,18 @@ pub record IsInRange (from count x : ℕ) : Type 0 where
   pub low : from ≤ x
   pub high : x < from + count
 
-pub on_range : (frame from count : ℕ) → is_on frame (range_with_len from count) ≡ true → IsInRange from count frame
+pub on_range : (frame from count : ℕ) → is_on frame (range_with_len from count) ≡ true
+    → IsInRange from count frame
 on_range frame from zero on = cc
-on_range frame from (suc count) on = elim (or_cases (from == frame) (is_on frame (range_with_len (from + 1) count)) on) [
-  | inl same ↦ (let is : from ≡ frame = eqb-true from frame same in record { low = omega arith; high = omega arith })
-  | inr there ↦ (let rest = on_range frame (from + 1) count there in record { low = omega (arith, rest.low); high = omega (arith, rest.high) })
-]
+on_range frame from (suc count) on =
+    elim (or_cases (from == frame) (is_on frame (range_with_len (from + 1) count)) on) [
+      | inl same ↦
+          (let is : from ≡ frame = eqb-true from frame same in
+          record { low = omega arith; high = omega arith })
+      | inr there ↦
+          (let rest = on_range frame (from + 1) count there in
+          record { low = omega (arith, rest.low); high = omega (arith, rest.high) })
+    ]
 
 -- a frame is in a pageblock where it is among its frames
 among_block : (size block x : ℕ) → 0 < size → is_among (block * size) size x ≡ (x / size == block)
@@ -85,42 +98,58 @@ among_block size block x some = elim (cases_eq (x / size) block) [
 
 -- ---- one list written, where the old one is known to be another
 
-other_cases : (P : Class → ℕ → List ℕ → Type 0) (a : FreeAreas) (class : Class) (order : ℕ) (frames : List ℕ) → HasOrder a order
-    → P class order frames → ((c : Class) (o : ℕ) → 5 * o + class_index c ≢ 5 * order + class_index class → P c o (free_list a c o)) → (c : Class) (o : ℕ) → P c o (free_list (with_free_list a class order frames) c o)
-other_cases P a class order frames h new old c o = elim (cases_eq (5 * o + class_index c) (5 * order + class_index class)) [
-  | inl same ↦
-      let that = that_list class order c o same in
-      subst (λ (k : Class). P k o (free_list (with_free_list a class order frames) k o)) (sym that.class_is)
-      (subst (λ (n : ℕ). P class n (free_list (with_free_list a class order frames) class n)) (sym that.order_is)
-      (subst (λ (xs : List ℕ). P class order xs) (sym (free_list-same a class order frames h)) new))
-  | inr apart ↦ subst (λ (xs : List ℕ). P c o xs) (sym (free_list-apart a class order frames c o apart)) (old c o apart)
-]
+other_cases : (P : Class → ℕ → List ℕ → Type 0) (a : FreeAreas) (class : Class) (order : ℕ) (frames : List ℕ)
+    → HasOrder a order
+    → P class order frames
+    → ((c : Class) (o : ℕ) → 5 * o + class_index c ≢ 5 * order + class_index class → P c o (free_list a c o))
+    → (c : Class) (o : ℕ) → P c o (free_list (with_free_list a class order frames) c o)
+other_cases P a class order frames h new old c o =
+    elim (cases_eq (5 * o + class_index c) (5 * order + class_index class)) [
+      | inl same ↦
+          let that = that_list class order c o same in
+          subst (λ (k : Class). P k o (free_list (with_free_list a class order frames) k o))
+          (sym that.class_is)
+          (subst (λ (n : ℕ). P class n (free_list (with_free_list a class order frames) class n))
+          (sym that.order_is)
+          (subst (λ (xs : List ℕ). P class order xs) (sym (free_list-same a class order frames h)) new))
+      | inr apart ↦
+          subst (λ (xs : List ℕ). P c o xs) (sym (free_list-apart a class order frames c o apart))
+          (old c o apart)
+    ]
 
 -- ---- where a block of the lists was before so many orders were moved
 
-pub record IsMovedBlock (l : LayoutParts) (a : FreeAreas) (from to : Class) (pageblock moved : ℕ) (class : Class) (order first : ℕ) : Type 0 where
+pub record IsMovedBlock (l : LayoutParts) (a : FreeAreas) (from to : Class) (pageblock moved : ℕ)
+    (class : Class) (order first : ℕ) : Type 0 where
   pub below : order < moved
   pub class_is : class ≡ to
   pub here : pageblock_of l first ≡ pageblock
   pub was : is_on first (free_list a from order) ≡ true
 
-pub record IsKeptBlock (l : LayoutParts) (a : FreeAreas) (from : Class) (pageblock moved : ℕ) (class : Class) (order first : ℕ) : Type 0 where
+pub record IsKeptBlock (l : LayoutParts) (a : FreeAreas) (from : Class) (pageblock moved : ℕ) (class : Class)
+    (order first : ℕ) : Type 0 where
   pub was : is_on first (free_list a class order) ≡ true
   pub away : order < moved → class ≡ from → pageblock_of l first ≢ pageblock
 
-abbrev pub WasBlock : LayoutParts → FreeAreas → (from to : Class) → (pageblock moved : ℕ) → Class → (order first : ℕ) → Type 0
+abbrev pub WasBlock : LayoutParts → FreeAreas → (from to : Class) → (pageblock moved : ℕ) → Class
+    → (order first : ℕ) → Type 0
 WasBlock l a from to pageblock moved class order first =
-    IsMovedBlock l a from to pageblock moved class order first ⊎ IsKeptBlock l a from pageblock moved class order first
+    IsMovedBlock l a from to pageblock moved class order first
+    ⊎ IsKeptBlock l a from pageblock moved class order first
 
-pub record MovesBelow (l : LayoutParts) (a : FreeAreas) (from to : Class) (pageblock moved : ℕ) (b : FreeAreas) : Type 0 where
+pub record MovesBelow (l : LayoutParts) (a : FreeAreas) (from to : Class) (pageblock moved : ℕ)
+    (b : FreeAreas) : Type 0 where
   pub lists : length b.lists ≡ length a.lists
   pub kinds : b.kinds ≡ a.kinds
   pub places : (frame : ℕ) → free_places b frame ≡ free_places a frame
-  pub blocks : (class : Class) (order first : ℕ) → is_on first (free_list b class order) ≡ true → WasBlock l a from to pageblock moved class order first
+  pub blocks : (class : Class) (order first : ℕ) → is_on first (free_list b class order) ≡ true
+      → WasBlock l a from to pageblock moved class order first
 
 -- one order more
-move_free-below : (l : LayoutParts) (a b : FreeAreas) (from to : Class) (pageblock order : ℕ) → HasOrder a order → ((frame : ℕ) → free_places a frame ≤ 1)
-    → MovesBelow l a from to pageblock order b → MovesBelow l a from to pageblock (suc order) (move_free l b from to pageblock order)
+move_free-below : (l : LayoutParts) (a b : FreeAreas) (from to : Class) (pageblock order : ℕ)
+    → HasOrder a order → ((frame : ℕ) → free_places a frame ≤ 1)
+    → MovesBelow l a from to pageblock order b
+    → MovesBelow l a from to pageblock (suc order) (move_free l b from to pageblock order)
 move_free-below l a b from to pageblock order has few h =
     let size : ℕ = 2 ^ l.order in
     let frames : List ℕ = free_list b from order in
@@ -128,21 +157,34 @@ move_free-below l a b from to pageblock order has few h =
     let gone : List ℕ = filter (λ frame. is_on frame frames) (frames_of_pageblock l pageblock) in
     let left : FreeAreas = with_free_list b from order kept in
     let has_b : HasOrder b order = omega (arith, h.lists) in
-    let has_left : HasOrder left order = omega (arith, h.lists, (with_free_list-size b from order kept).lists) in
-    let apart : AreApart frames = apart_by_places order frames (λ frame. omega (arith, list_places-le b from order frame has_b, h.places frame, few frame)) in
+    let has_left : HasOrder left order =
+    omega (arith, h.lists, (with_free_list-size b from order kept).lists) in
+    let apart : AreApart frames =
+    apart_by_places order frames
+    (λ frame. omega (arith, list_places-le b from order frame has_b, h.places frame, few frame)) in
     let same : kept ≡ filter (λ x. not (is_among (pageblock * size) size x)) frames =
-    filter_agree (λ frame. not (pageblock_of l frame == pageblock)) (λ x. not (is_among (pageblock * size) size x)) (λ x. ap not (sym (among_block size pageblock x (pow_pos l.order)))) frames in
-    let sums : (frame : ℕ) → list_places frame order gone + list_places frame order kept ≡ list_places frame order frames =
-    λ frame. subst (λ (xs : List ℕ). list_places frame order gone + list_places frame order xs ≡ list_places frame order frames) (sym same)
+    filter_agree (λ frame. not (pageblock_of l frame == pageblock))
+    (λ x. not (is_among (pageblock * size) size x))
+    (λ x. ap not (sym (among_block size pageblock x (pow_pos l.order)))) frames in
+    let sums : (frame : ℕ)
+    → list_places frame order gone + list_places frame order kept ≡ list_places frame order frames =
+    λ frame. subst (λ (xs : List ℕ).
+    list_places frame order gone + list_places frame order xs ≡ list_places frame order frames) (sym same)
     (moved-sum (λ x. covered frame order x) (pageblock * size) size frames apart) in
     let put : List ℕ = free_list left to order ++ gone in
-    let still : (c : Class) (o : ℕ) → 5 * o + class_index c ≢ 5 * order + class_index from → (first : ℕ) → is_on first (free_list b c o) ≡ true → WasBlock l a from to pageblock (suc order) c o first =
+    let still : (c : Class) (o : ℕ) → 5 * o + class_index c ≢ 5 * order + class_index from → (first : ℕ)
+    → is_on first (free_list b c o) ≡ true → WasBlock l a from to pageblock (suc order) c o first =
     λ c o ne first on. later c o first ne (h.blocks c o first on) in
-    let in_left : (c : Class) (o : ℕ) → (first : ℕ) → is_on first (free_list left c o) ≡ true → WasBlock l a from to pageblock (suc order) c o first =
-    other_cases (λ (c : Class) (o : ℕ) (xs : List ℕ). (first : ℕ) → is_on first xs ≡ true → WasBlock l a from to pageblock (suc order) c o first) b from order kept has_b
-    (λ first on. kept_here first (on_filter (λ frame. not (pageblock_of l frame == pageblock)) first frames on) (h.blocks from order first)) still in
+    let in_left : (c : Class) (o : ℕ) → (first : ℕ) → is_on first (free_list left c o) ≡ true
+    → WasBlock l a from to pageblock (suc order) c o first =
+    other_cases (λ (c : Class) (o : ℕ) (xs : List ℕ). (first : ℕ) → is_on first xs ≡ true
+    → WasBlock l a from to pageblock (suc order) c o first) b from order kept has_b
+    (λ first on. kept_here first (on_filter (λ frame. not (pageblock_of l frame == pageblock)) first frames
+    on) (h.blocks from order first)) still in
     record {
-      lists = (with_free_list-size left to order put).lists ∙ (with_free_list-size b from order kept).lists ∙ h.lists;
+      lists =
+          (with_free_list-size left to order put).lists ∙ (with_free_list-size b from order kept).lists
+          ∙ h.lists;
       kinds = h.kinds;
       places = λ frame. omega (
         arith,
@@ -152,33 +194,57 @@ move_free-below l a b from to pageblock order has few h =
         sums frame,
         h.places frame,
       );
-      blocks = free_list-cases (λ (c : Class) (o : ℕ) (xs : List ℕ). (first : ℕ) → is_on first xs ≡ true → WasBlock l a from to pageblock (suc order) c o first) left to order put has_left
+      blocks =
+          free_list-cases (λ (c : Class) (o : ℕ) (xs : List ℕ). (first : ℕ) → is_on first xs ≡ true
+          → WasBlock l a from to pageblock (suc order) c o first) left to order put has_left
           (λ first on. elim (on_append first (free_list left to order) gone on) [
             | inl there ↦ in_left to order first there
-            | inr new ↦ (let both = on_filter (λ frame. is_on frame frames) first (frames_of_pageblock l pageblock) new in
+            | inr new ↦
+                (let both =
+                on_filter (λ frame. is_on frame frames) first (frames_of_pageblock l pageblock) new in
                 let in_range = on_range first (pageblock * size) size both.right in
-                inl (record { below = omega arith; class_is = refl; here = quotient first size pageblock in_range.low in_range.high; was = old_here first (h.blocks from order first both.left) }))
+                inl (record {
+                  below = omega arith;
+                  class_is = refl;
+                  here = quotient first size pageblock
+                      in_range.low in_range.high;
+                  was = old_here first (h.blocks from order first both.left);
+                }))
           ]) in_left;
     }
   where
-    on_append : (first : ℕ) (xs ys : List ℕ) → is_on first (xs ++ ys) ≡ true → (is_on first xs ≡ true) ⊎ (is_on first ys ≡ true)
-    on_append first xs ys on = or_cases (is_on first xs) (is_on first ys) (sym (list_any-append (λ other. other == first) xs ys) ∙ on)
+    on_append : (first : ℕ) (xs ys : List ℕ) → is_on first (xs ++ ys) ≡ true
+        → (is_on first xs ≡ true) ⊎ (is_on first ys ≡ true)
+    on_append first xs ys on =
+        or_cases (is_on first xs) (is_on first ys)
+        (sym (list_any-append (λ other. other == first) xs ys) ∙ on)
 
-    old_here : (first : ℕ) → WasBlock l a from to pageblock order from order first → is_on first (free_list a from order) ≡ true
+    old_here : (first : ℕ) → WasBlock l a from to pageblock order from order first
+        → is_on first (free_list a from order) ≡ true
     old_here first (inl m) = m.was
     old_here first (inr k) = k.was
 
-    kept_here : (first : ℕ) → IsBoth (not (pageblock_of l first == pageblock)) (is_on first (free_list b from order))
-        → (is_on first (free_list b from order) ≡ true → WasBlock l a from to pageblock order from order first) → WasBlock l a from to pageblock (suc order) from order first
+    kept_here : (first : ℕ)
+        → IsBoth (not (pageblock_of l first == pageblock)) (is_on first (free_list b from order))
+        → (is_on first (free_list b from order) ≡ true
+        → WasBlock l a from to pageblock order from order first)
+        → WasBlock l a from to pageblock (suc order) from order first
     kept_here first both was =
-        inr (record { was = old_here first (was both.right); away = λ below same here. not_both (pageblock_of l first == pageblock) (eq-eqb (pageblock_of l first) pageblock here) both.left })
+        inr (record {
+          was = old_here first (was both.right);
+          away = λ below same here. not_both
+              (pageblock_of l first == pageblock) (eq-eqb (pageblock_of l first) pageblock here) both.left;
+        })
       where
         not_both : (b : Bool) → b ≡ true → not b ≡ true → ⊥
         not_both true e f = cc
         not_both false e f = cc
 
-    later : (c : Class) (o first : ℕ) → 5 * o + class_index c ≢ 5 * order + class_index from → WasBlock l a from to pageblock order c o first → WasBlock l a from to pageblock (suc order) c o first
-    later c o first ne (inl m) = inl (record { below = omega (arith, m.below); class_is = m.class_is; here = m.here; was = m.was })
+    later : (c : Class) (o first : ℕ) → 5 * o + class_index c ≢ 5 * order + class_index from
+        → WasBlock l a from to pageblock order c o first
+        → WasBlock l a from to pageblock (suc order) c o first
+    later c o first ne (inl m) =
+        inl (record { below = omega (arith, m.below); class_is = m.class_is; here = m.here; was = m.was })
     later c o first ne (inr k) = inr (record {
       was = k.was;
       away = λ below same. elim (cases_lt o order) [
@@ -189,9 +255,16 @@ move_free-below l a b from to pageblock order has few h =
       ];
     })
 
-pub moves_below : (l : LayoutParts) (a : FreeAreas) (from to : Class) (pageblock moved : ℕ) → 5 * moved ≤ length a.lists → ((frame : ℕ) → free_places a frame ≤ 1)
+pub moves_below : (l : LayoutParts) (a : FreeAreas) (from to : Class) (pageblock moved : ℕ)
+    → 5 * moved ≤ length a.lists → ((frame : ℕ) → free_places a frame ≤ 1)
     → MovesBelow l a from to pageblock moved (move_free_below l a from to pageblock moved)
 moves_below l a from to pageblock zero has few =
-    record { lists = refl; kinds = refl; places = λ frame. refl; blocks = λ class order first on. inr (record { was = on; away = λ below. absurd (omega arith) }) }
+    record {
+      lists = refl;
+      kinds = refl;
+      places = λ frame. refl;
+      blocks = λ class order first on. inr (record { was = on; away = λ below. absurd (omega arith) });
+    }
 moves_below l a from to pageblock (suc order) has few =
-    move_free-below l a (move_free_below l a from to pageblock order) from to pageblock order (omega arith) few (moves_below l a from to pageblock order (omega arith) few)
+    move_free-below l a (move_free_below l a from to pageblock order) from to pageblock order (omega arith)
+    few (moves_below l a from to pageblock order (omega arith) few)

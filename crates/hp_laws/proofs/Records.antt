@@ -1,4 +1,5 @@
--- What a record of a legal history that isn't refused says: it goes back to an earlier state, or it is a step.
+-- What a record of a legal history that isn't refused says: it goes back to an earlier state, or it
+-- is a step.
 use Rattle.std.proofs.Common.{◌≡◌, ℕ, ◌+◌, ◌≤◌, List, [], ◌∷◌, ◌++◌, length, take, map, Bool, true, false, cond, Option, Some, None, slice_get, refl, ap, sym, subst, ◌∙◌, arith, ◌⊎◌, inl, inr}
 use Rattle.std.specs.Prelude.{nat_lt, ◌||◌}
 use Rattle.std.proofs.lemmas.Bool.{both_ways}
@@ -23,108 +24,145 @@ pub record IsStep (l : LayoutParts) (base : Memory) (h : List Record) (r : Recor
   pub memory : value_of l base (h ++ r ∷ []) ≡ (step l (value_of l base h) r.serial r.cpu r.event).memory
 
 -- the net with a record that isn't refused
-pub with_good : (n : List Record) (r : Record) → is_refused r.reply ≡ false → net_with n r ≡ net_with_effect n r (effect_of r.event)
+pub with_good : (n : List Record) (r : Record) → is_refused r.reply ≡ false
+    → net_with n r ≡ net_with_effect n r (effect_of r.event)
 unfolding net_with
 with_good n r good = ap (λ (b : Bool). cond b n (net_with_effect n r (effect_of r.event))) good
 
 -- the state after one record more, by the net with it
-value-push : (l : LayoutParts) (base : Memory) (h : List Record) (r : Record) → value_of l base (h ++ r ∷ []) ≡ run l base (net_with (net_of h) r)
+value-push : (l : LayoutParts) (base : Memory) (h : List Record) (r : Record)
+    → value_of l base (h ++ r ∷ []) ≡ run l base (net_with (net_of h) r)
 unfolding value_of
 value-push l base h r = ap (run l base) (net-push h r)
 
 -- a record that is added to the net is a step
-added_memory : (l : LayoutParts) (base : Memory) (h : List Record) (r : Record) → net_with (net_of h) r ≡ net_of h ++ r ∷ [] → value_of l base (h ++ r ∷ []) ≡ (step l (value_of l base h) r.serial r.cpu r.event).memory
+added_memory : (l : LayoutParts) (base : Memory) (h : List Record) (r : Record)
+    → net_with (net_of h) r ≡ net_of h ++ r ∷ []
+    → value_of l base (h ++ r ∷ []) ≡ (step l (value_of l base h) r.serial r.cpu r.event).memory
 unfolding value_of
 added_memory l base h r adds = ap (run l base) (net-push h r ∙ adds) ∙ run-push l base (net_of h) r
 
 -- an undo that isn't refused goes back
-undo_back : (l : LayoutParts) (before last kept cpu : ℕ) (n : List Record) (reply : Reply) → is_refused reply ≡ false
-    → reply ≡ cond (nat_lt cpu l.cpus) (undo_reply before last n kept) (Refused NoCpu) → goes_back reply ≡ true
+undo_back : (l : LayoutParts) (before last kept cpu : ℕ) (n : List Record) (reply : Reply)
+    → is_refused reply ≡ false
+    → reply ≡ cond (nat_lt cpu l.cpus) (undo_reply before last n kept) (Refused NoCpu)
+    → goes_back reply ≡ true
 undo_back l before last kept cpu n reply good e = by_cpu (nat_lt cpu l.cpus) e
   where
     refused : (refusal : Refusal) → reply ≡ Refused refusal → goes_back reply ≡ true
     refused refusal f = absurd (both_ways (is_refused reply) good (ap is_refused f))
 
-    by_range : (b : Bool) → reply ≡ cond b (Refused Gone) (Undone (count_above kept n)) → goes_back reply ≡ true
+    by_range : (b : Bool) → reply ≡ cond b (Refused Gone) (Undone (count_above kept n))
+        → goes_back reply ≡ true
     by_range true f = refused Gone f
     by_range false f = ap goes_back f
 
-    by_cpu : (b : Bool) → reply ≡ cond b (undo_reply before last n kept) (Refused NoCpu) → goes_back reply ≡ true
+    by_cpu : (b : Bool) → reply ≡ cond b (undo_reply before last n kept) (Refused NoCpu)
+        → goes_back reply ≡ true
     by_cpu true f = by_range (nat_lt last kept || nat_lt kept before) f
     by_cpu false f = refused NoCpu f
 
-by_effect : (l : LayoutParts) (base : Memory) (before : ℕ) (h : List Record) (r : Record) (effect : Effect) → is_refused r.reply ≡ false → effect_of r.event ≡ effect
-    → r.reply ≡ effect_reply l before (before + length h) (net_of h) (value_of l base h) r.serial r.cpu r.event effect
-    → net_with (net_of h) r ≡ net_with_effect (net_of h) r effect → (goes_back r.reply ≡ true) ⊎ IsStep l base h r
+by_effect : (l : LayoutParts) (base : Memory) (before : ℕ) (h : List Record) (r : Record) (effect : Effect)
+    → is_refused r.reply ≡ false → effect_of r.event ≡ effect
+    → r.reply
+    ≡ effect_reply l before (before + length h) (net_of h) (value_of l base h) r.serial r.cpu r.event effect
+    → net_with (net_of h) r ≡ net_with_effect (net_of h) r effect
+    → (goes_back r.reply ≡ true) ⊎ IsStep l base h r
 unfolding value_of
 by_effect l base before h r Looks good is reply nets = inr (record {
   reply = reply;
-  memory = value-push l base h r ∙ ap (run l base) nets ∙ sym ((steps l (value_of l base h) r.serial r.cpu r.event).looks is);
+  memory =
+      value-push l base h r ∙ ap (run l base) nets
+      ∙ sym ((steps l (value_of l base h) r.serial r.cpu r.event).looks is);
 })
-by_effect l base before h r (Undoes kept) good is reply nets = inl (undo_back l before (before + length h) kept r.cpu (net_of h) r.reply good reply)
-by_effect l base before h r (Cancels op) good is reply nets = by_place (sole_at op (map tag_of (net_of h))) reply nets
+by_effect l base before h r (Undoes kept) good is reply nets =
+    inl (undo_back l before (before + length h) kept r.cpu (net_of h) r.reply good reply)
+by_effect l base before h r (Cancels op) good is reply nets =
+    by_place (sole_at op (map tag_of (net_of h))) reply nets
   where
     restores : (b : Bool) → is_refused (step l (value_of l base h) r.serial r.cpu r.event).reply ≡ b
-        → r.reply ≡ cond b (step l (value_of l base h) r.serial r.cpu r.event).reply Restored → goes_back r.reply ≡ true
+        → r.reply ≡ cond b (step l (value_of l base h) r.serial r.cpu r.event).reply Restored
+        → goes_back r.reply ≡ true
     restores true bad e = absurd (both_ways (is_refused r.reply) good (ap is_refused e ∙ bad))
     restores false bad e = ap goes_back e
 
-    by_place : (o : Option ℕ) → r.reply ≡ cancel_reply (step l (value_of l base h) r.serial r.cpu r.event).reply o → net_with (net_of h) r ≡ cut_or_add (net_of h) r o
+    by_place : (o : Option ℕ)
+        → r.reply ≡ cancel_reply (step l (value_of l base h) r.serial r.cpu r.event).reply o
+        → net_with (net_of h) r ≡ cut_or_add (net_of h) r o
         → (goes_back r.reply ≡ true) ⊎ IsStep l base h r
     by_place None e f = inr (record { reply = e; memory = added_memory l base h r f })
-    by_place (Some place) e f = inl (restores (is_refused (step l (value_of l base h) r.serial r.cpu r.event).reply) refl e)
-by_effect l base before h r Acts good is reply nets = inr (record { reply = reply; memory = added_memory l base h r nets })
+    by_place (Some place) e f =
+        inl (restores (is_refused (step l (value_of l base h) r.serial r.cpu r.event).reply) refl e)
+by_effect l base before h r Acts good is reply nets =
+    inr (record { reply = reply; memory = added_memory l base h r nets })
 
 -- the reply of a record, at its own serial
-pub reply_at : (l : LayoutParts) (base : Memory) (before : ℕ) (h : List Record) (r : Record) → Follows l base before h r
-    → r.reply ≡ effect_reply l before (before + length h) (net_of h) (value_of l base h) r.serial r.cpu r.event (effect_of r.event)
+pub reply_at : (l : LayoutParts) (base : Memory) (before : ℕ) (h : List Record) (r : Record)
+    → Follows l base before h r
+    → r.reply ≡ effect_reply l before (before + length h) (net_of h) (value_of l base h) r.serial r.cpu
+    r.event (effect_of r.event)
 unfolding reply_of
 reply_at l base before h r follows =
-    follows.reply ∙ ap (λ (serial : ℕ). effect_reply l before (before + length h) (net_of h) (value_of l base h) serial r.cpu r.event (effect_of r.event)) (sym follows.serial)
+    follows.reply ∙ ap (λ (serial : ℕ). effect_reply l before (before + length h) (net_of h)
+    (value_of l base h) serial r.cpu r.event (effect_of r.event)) (sym follows.serial)
 
 -- a record that isn't refused goes back to an earlier state, or is a step
-pub record_cases : (l : LayoutParts) (base : Memory) (before : ℕ) (h : List Record) (r : Record) → Follows l base before h r → is_refused r.reply ≡ false
+pub record_cases : (l : LayoutParts) (base : Memory) (before : ℕ) (h : List Record) (r : Record)
+    → Follows l base before h r → is_refused r.reply ≡ false
     → (goes_back r.reply ≡ true) ⊎ IsStep l base h r
 record_cases l base before h r follows good =
-    by_effect l base before h r (effect_of r.event) good refl (reply_at l base before h r follows) (with_good (net_of h) r good)
+    by_effect l base before h r (effect_of r.event) good refl (reply_at l base before h r follows)
+    (with_good (net_of h) r good)
 
 -- ---- no step of the net was refused
 
 -- each step succeeds in the state that those before it lead to
 abbrev pub AllGood : LayoutParts → Memory → List Record → Type 0
-AllGood l base n = (i : ℕ) (r : Record) → slice_get n i ≡ Some r → is_refused (step l (run l base (take i n)) r.serial r.cpu r.event).reply ≡ false
+AllGood l base n =
+    (i : ℕ) (r : Record) → slice_get n i ≡ Some r
+    → is_refused (step l (run l base (take i n)) r.serial r.cpu r.event).reply ≡ false
 
-good_take : (l : LayoutParts) (base : Memory) (k : ℕ) (n : List Record) → AllGood l base n → AllGood l base (take k n)
+good_take : (l : LayoutParts) (base : Memory) (k : ℕ) (n : List Record) → AllGood l base n
+    → AllGood l base (take k n)
 good_take l base k n h i r e =
     let at = get_take k n r i e in
     let le : i ≤ k = omega (arith, at.0) in
-    subst (λ (m : List Record). is_refused (step l (run l base m) r.serial r.cpu r.event).reply ≡ false) (sym (take-take i k n le)) (h i r at.1)
+    subst (λ (m : List Record). is_refused (step l (run l base m) r.serial r.cpu r.event).reply ≡ false)
+    (sym (take-take i k n le)) (h i r at.1)
 
-good_push : (l : LayoutParts) (base : Memory) (n : List Record) (r : Record) → AllGood l base n → is_refused (step l (run l base n) r.serial r.cpu r.event).reply ≡ false → AllGood l base (n ++ r ∷ [])
+good_push : (l : LayoutParts) (base : Memory) (n : List Record) (r : Record) → AllGood l base n
+    → is_refused (step l (run l base n) r.serial r.cpu r.event).reply ≡ false → AllGood l base (n ++ r ∷ [])
 good_push l base n r h good i x e = elim (get_push_cases n r x i e) [
   | inl at ↦
       let within = slice_get_within n i x at in
       let le : i ≤ length n = omega (arith, within) in
-      subst (λ (m : List Record). is_refused (step l (run l base m) x.serial x.cpu x.event).reply ≡ false) (sym (take-append-le i n (r ∷ []) le)) (h i x at)
+      subst (λ (m : List Record). is_refused (step l (run l base m) x.serial x.cpu x.event).reply ≡ false)
+      (sym (take-append-le i n (r ∷ []) le)) (h i x at)
   | inr at ↦
       let le : i ≤ length n = omega (arith, at.0) in
-      let whole : take i (n ++ r ∷ []) ≡ n = take-append-le i n (r ∷ []) le ∙ take_all i n (omega (arith, at.0)) in
-      subst (λ (m : List Record). is_refused (step l (run l base m) x.serial x.cpu x.event).reply ≡ false) (sym whole)
-      (subst (λ (y : Record). is_refused (step l (run l base n) y.serial y.cpu y.event).reply ≡ false) at.1 good)
+      let whole : take i (n ++ r ∷ []) ≡ n =
+      take-append-le i n (r ∷ []) le ∙ take_all i n (omega (arith, at.0)) in
+      subst (λ (m : List Record). is_refused (step l (run l base m) x.serial x.cpu x.event).reply ≡ false)
+      (sym whole)
+      (subst (λ (y : Record). is_refused (step l (run l base n) y.serial y.cpu y.event).reply ≡ false) at.1
+      good)
 ]
 
 record IsSound (l : LayoutParts) (base : Memory) (before : ℕ) (g : List Record) : Type 0 where
   pub legal : IsLegal l base before g
   pub good : AllGood l base (net_of g)
 
-sound_more : (l : LayoutParts) (base : Memory) (before : ℕ) (g : List Record) (r : Record) → Follows l base before g r → IsSound l base before g → IsSound l base before (g ++ r ∷ [])
+sound_more : (l : LayoutParts) (base : Memory) (before : ℕ) (g : List Record) (r : Record)
+    → Follows l base before g r → IsSound l base before g → IsSound l base before (g ++ r ∷ [])
 unfolding value_of
 sound_more l base before g r follows h = record {
   legal = legal_push l base before g r h.legal follows;
   good = subst (AllGood l base) (sym (net-push g r))
       (elim (net_cases before (before + length g) (net_of g) r (numbered_net l base before g h.legal)) [
         | inl cut ↦ subst (AllGood l base) (sym cut.2) (good_take l base cut.0 (net_of g) h.good)
-        | inr adds ↦ subst (AllGood l base) (sym adds) (good_push l base (net_of g) r h.good (added_good l base before g r follows adds))
+        | inr adds ↦
+            subst (AllGood l base) (sym adds)
+            (good_push l base (net_of g) r h.good (added_good l base before g r follows adds))
       ]);
 }
 
@@ -133,6 +171,8 @@ unfolding net_of
 none_sound l base before = record { legal = λ n r e. absurd cc; good = λ i r e. absurd cc }
 
 -- each step of the net of a legal history succeeds
-pub net_good : (l : LayoutParts) (base : Memory) (before : ℕ) (h : List Record) → IsLegal l base before h → AllGood l base (net_of h)
+pub net_good : (l : LayoutParts) (base : Memory) (before : ℕ) (h : List Record) → IsLegal l base before h
+    → AllGood l base (net_of h)
 net_good l base before h legal =
-    (legal_all l base before (IsSound l base before) (none_sound l base before) (λ g r follows is. sound_more l base before g r follows is) h legal).good
+    (legal_all l base before (IsSound l base before) (none_sound l base before)
+    (λ g r follows is. sound_more l base before g r follows is) h legal).good

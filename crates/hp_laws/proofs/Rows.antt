@@ -28,26 +28,36 @@ use Rattle.hp_lemmas.proofs.KernelBlocks.{kernel-places}
 
 -- ---- what is in a place isn't in an unplugged block
 
-on_count : (frame : ℕ) (frames : List ℕ) → is_on frame frames ≡ true → 1 ≤ count_by (λ other. other == frame) frames
+on_count : (frame : ℕ) (frames : List ℕ) → is_on frame frames ≡ true
+    → 1 ≤ count_by (λ other. other == frame) frames
 on_count frame [] on = cc
 on_count frame (x ∷ xs) on =
-    step (x == frame) (is_on frame xs) (count_by (λ other. other == frame) xs) on (on_count frame xs) (sum_by-cons (λ y. cond (y == frame) 1 0) x xs)
+    step (x == frame) (is_on frame xs) (count_by (λ other. other == frame) xs) on (on_count frame xs)
+    (sum_by-cons (λ y. cond (y == frame) 1 0) x xs)
   where
-    step : (same other : Bool) (count : ℕ) {whole : ℕ} → (same || other) ≡ true → (other ≡ true → 1 ≤ count) → whole ≡ cond same 1 0 + count → 1 ≤ whole
+    step : (same other : Bool) (count : ℕ) {whole : ℕ} → (same || other) ≡ true → (other ≡ true → 1 ≤ count)
+        → whole ≡ cond same 1 0 + count → 1 ≤ whole
     step true other count on h e = omega arith
     step false other count on h e = omega (arith, h on)
 
-pub on_cached : (fs : FreeFrames) (cpu : ℕ) (pool : Pool) (frame : ℕ) → is_on frame (cached_list fs cpu pool) ≡ true → 1 ≤ cached_places fs frame
+pub on_cached : (fs : FreeFrames) (cpu : ℕ) (pool : Pool) (frame : ℕ)
+    → is_on frame (cached_list fs cpu pool) ≡ true → 1 ≤ cached_places fs frame
 on_cached fs cpu pool frame on = elim (cases_lt (3 * cpu + pool_index pool) (length fs.cached)) [
   | inl low ↦
-      let some : 1 ≤ count_by (λ other. other == frame) (cached_list fs cpu pool) = on_count frame (cached_list fs cpu pool) on in
-      omega (arith, get_or-le-sum_by (λ (frames : List ℕ). count_by (λ other. other == frame) frames) fs.cached (3 * cpu + pool_index pool) [] low)
+      let some : 1 ≤ count_by (λ other. other == frame) (cached_list fs cpu pool) =
+      on_count frame (cached_list fs cpu pool) on in
+      omega (
+        arith,
+        get_or-le-sum_by (λ (frames : List ℕ). count_by (λ other. other == frame) frames)
+            fs.cached (3 * cpu + pool_index pool) [] low,
+      )
   | inr high ↦
       let past : cached_list fs cpu pool ≡ [] = get_or_past fs.cached (3 * cpu + pool_index pool) [] high in
       absurd (both_ways (is_on frame []) refl (subst (λ (xs : List ℕ). is_on frame xs ≡ true) past on))
 ]
 
-pub kernel_some : (s : Memory) (first order : ℕ) → kernel_order s first ≡ Some order → 1 ≤ kernel_places s first
+pub kernel_some : (s : Memory) (first order : ℕ) → kernel_order s first ≡ Some order
+    → 1 ≤ kernel_places s first
 kernel_some s first order e = elim (cases_lt first (length s.kernel)) [
   | inl low ↦ omega (arith, rw e at (kernel-places s first first None low), covered-self order first)
   | inr high ↦
@@ -55,86 +65,134 @@ kernel_some s first order e = elim (cases_lt first (length s.kernel)) [
       cc
 ]
 
-pub away : (l : LayoutParts) (s : Memory) (block frame : ℕ) → IsWellPlaced l s → is_unplugged (row_of s.blocks block) ≡ true
-    → 1 ≤ free_places s.free.areas frame + cached_places s.free frame + mapped_places s.pages frame + kernel_places s frame → block_of l frame ≢ block
+pub away : (l : LayoutParts) (s : Memory) (block frame : ℕ) → IsWellPlaced l s
+    → is_unplugged (row_of s.blocks block) ≡ true
+    → 1 ≤ free_places s.free.areas frame + cached_places s.free frame + mapped_places s.pages frame
+    + kernel_places s frame
+    → block_of l frame ≢ block
 away l s block frame p off some same =
-    let here : is_unplugged (row_of s.blocks (block_of l frame)) ≡ true = subst (λ (b : ℕ). is_unplugged (row_of s.blocks b) ≡ true) (sym same) off in
+    let here : is_unplugged (row_of s.blocks (block_of l frame)) ≡ true =
+    subst (λ (b : ℕ). is_unplugged (row_of s.blocks b) ≡ true) (sym same) off in
     let one : offline_places l s frame ≡ 1 = ap (λ (t : Bool). cond t 1 0) here in
     omega (arith, p.once frame)
 
 -- ---- another row
 
-pub row_at-other : (l : LayoutParts) (rows : List Row) (block frame : ℕ) (row : Row) → block_of l frame ≢ block → row_at l (set rows block row) (pageblock_of l frame) ≡ row_at l rows (pageblock_of l frame)
+pub row_at-other : (l : LayoutParts) (rows : List Row) (block frame : ℕ) (row : Row)
+    → block_of l frame ≢ block
+    → row_at l (set rows block row) (pageblock_of l frame) ≡ row_at l rows (pageblock_of l frame)
 row_at-other l rows block frame row ne =
-    get_or-set_other rows block (block_of_pageblock l (pageblock_of l frame)) row offline_row (λ same. ne (block_of-pageblock l frame ∙ same))
+    get_or-set_other rows block (block_of_pageblock l (pageblock_of l frame)) row offline_row
+    (λ same. ne (block_of-pageblock l frame ∙ same))
 
-pub class_at-other : (l : LayoutParts) (kinds : List Kind) (rows : List Row) (block frame : ℕ) (row : Row) → block_of l frame ≢ block
-    → class_at l kinds (set rows block row) (pageblock_of l frame) ≡ class_at l kinds rows (pageblock_of l frame)
+pub class_at-other : (l : LayoutParts) (kinds : List Kind) (rows : List Row) (block frame : ℕ) (row : Row)
+    → block_of l frame ≢ block
+    → class_at l kinds (set rows block row) (pageblock_of l frame)
+    ≡ class_at l kinds rows (pageblock_of l frame)
 class_at-other l kinds rows block frame row ne =
-    ap (λ (r : Row). option_map (λ zone. class_of_kind zone (kind_at kinds (pageblock_of l frame))) r.zone) (row_at-other l rows block frame row ne)
+    ap (λ (r : Row). option_map (λ zone. class_of_kind zone (kind_at kinds (pageblock_of l frame))) r.zone)
+    (row_at-other l rows block frame row ne)
 
-pool_at-other : (l : LayoutParts) (kinds : List Kind) (rows : List Row) (block frame : ℕ) (row : Row) → block_of l frame ≢ block
-    → pool_at l kinds (set rows block row) (pageblock_of l frame) ≡ pool_at l kinds rows (pageblock_of l frame)
+pool_at-other : (l : LayoutParts) (kinds : List Kind) (rows : List Row) (block frame : ℕ) (row : Row)
+    → block_of l frame ≢ block
+    → pool_at l kinds (set rows block row) (pageblock_of l frame)
+    ≡ pool_at l kinds rows (pageblock_of l frame)
 pool_at-other l kinds rows block frame row ne =
-    ap (λ (r : Row). option_map (λ zone. pool_of zone (kind_at kinds (pageblock_of l frame)).mobility) r.zone) (row_at-other l rows block frame row ne)
+    ap (λ (r : Row). option_map (λ zone. pool_of zone (kind_at kinds (pageblock_of l frame)).mobility) r.zone)
+    (row_at-other l rows block frame row ne)
 
 -- an unplugged row has no zone and isn't going
-pub unplugged_zone : (state : State) (zone : Option Zone) (claim : Option Claim) → (is_offline_state state || is_absent_state state) ≡ true → IsRowOf state zone claim → zone ≡ None
+pub unplugged_zone : (state : State) (zone : Option Zone) (claim : Option Claim)
+    → (is_offline_state state || is_absent_state state) ≡ true → IsRowOf state zone claim → zone ≡ None
 unplugged_zone OfflineState zone claim e h = h.0
 unplugged_zone AbsentState zone claim e h = h.0
 unplugged_zone OnlineState zone claim e h = cc
 unplugged_zone GoingState zone claim e h = cc
 
-pub unplugged_stays : (state : State) → (is_offline_state state || is_absent_state state) ≡ true → is_going_state state ≡ false
+pub unplugged_stays : (state : State) → (is_offline_state state || is_absent_state state) ≡ true
+    → is_going_state state ≡ false
 unplugged_stays OfflineState e = refl
 unplugged_stays AbsentState e = refl
 unplugged_stays OnlineState e = refl
 unplugged_stays GoingState e = cc
 
 pub record HasPlainKinds (l : LayoutParts) (s : Memory) (block : ℕ) : Type 0 where
-  pub mobility : (pageblock : ℕ) → block_of_pageblock l pageblock ≡ block → (kind_at s.free.areas.kinds pageblock).mobility ≡ Movable
-  pub isolated : (pageblock : ℕ) → block_of_pageblock l pageblock ≡ block → (kind_at s.free.areas.kinds pageblock).isolated ≡ false
+  pub mobility : (pageblock : ℕ) → block_of_pageblock l pageblock ≡ block
+      → (kind_at s.free.areas.kinds pageblock).mobility ≡ Movable
+  pub isolated : (pageblock : ℕ) → block_of_pageblock l pageblock ≡ block
+      → (kind_at s.free.areas.kinds pageblock).isolated ≡ false
 
-movable : (mobility : Mobility) (zone : Option Zone) → (mobility ≡ Unmovable → zone ≡ Some NormalZone) → zone ≡ None → mobility ≡ Movable
+movable : (mobility : Mobility) (zone : Option Zone) → (mobility ≡ Unmovable → zone ≡ Some NormalZone)
+    → zone ≡ None → mobility ≡ Movable
 movable Movable zone h e = refl
 movable Unmovable zone h e =
     let normal : zone ≡ Some NormalZone = h refl in
     cc
 
-pub plain_kinds : (l : LayoutParts) (s : Memory) (block : ℕ) → IsWellPlaced l s → is_unplugged (row_of s.blocks block) ≡ true → HasPlainKinds l s block
+pub plain_kinds : (l : LayoutParts) (s : Memory) (block : ℕ) → IsWellPlaced l s
+    → is_unplugged (row_of s.blocks block) ≡ true → HasPlainKinds l s block
 plain_kinds l s block p off =
     let row : Row = row_of s.blocks block in
     let none : row.zone ≡ None = unplugged_zone row.state row.zone row.claim off (p.in_order.rows block) in
     record {
-      mobility = λ pageblock e. movable (kind_at s.free.areas.kinds pageblock).mobility (row_at l s.blocks.rows pageblock).zone (p.in_order.mobility pageblock)
+      mobility =
+          λ pageblock e. movable (kind_at s.free.areas.kinds pageblock).mobility
+          (row_at l s.blocks.rows pageblock).zone (p.in_order.mobility pageblock)
           (subst (λ (b : ℕ). (row_of s.blocks b).zone ≡ None) (sym e) none);
-      isolated = λ pageblock e. p.in_order.isolated pageblock ∙ ap (λ (b : ℕ). is_going (row_of s.blocks b)) e ∙ unplugged_stays row.state off;
+      isolated =
+          λ pageblock e. p.in_order.isolated pageblock ∙ ap (λ (b : ℕ). is_going (row_of s.blocks b)) e
+          ∙ unplugged_stays row.state off;
     }
 
 -- the row of an unplugged block changes to any other that isn't going
-pub row-in_order : (l : LayoutParts) (s : Memory) (block : ℕ) (row : Row) → IsWellPlaced l s → is_unplugged (row_of s.blocks block) ≡ true → block < l.blocks
+pub row-in_order : (l : LayoutParts) (s : Memory) (block : ℕ) (row : Row) → IsWellPlaced l s
+    → is_unplugged (row_of s.blocks block) ≡ true → block < l.blocks
     → IsRow row → is_going row ≡ false → IsInOrder l (with_block_row s block row)
 row-in_order l s block row p off low is still =
     let h = p.in_order in
     let plain : HasPlainKinds l s block = plain_kinds l s block p off in
     let short : block < length s.blocks.rows = omega (arith, h.shape.rows) in
-    let ordered = other-ordered l (class_at l s.free.areas.kinds s.blocks.rows) (class_at l s.free.areas.kinds (set s.blocks.rows block row)) s.free.areas
-    (λ first some. class_at-other l s.free.areas.kinds s.blocks.rows block first row (away l s block first p off (omega arith))) (areas_of l s p) in
+    let ordered =
+    other-ordered l (class_at l s.free.areas.kinds s.blocks.rows)
+    (class_at l s.free.areas.kinds (set s.blocks.rows block row)) s.free.areas
+    (λ first some. class_at-other l s.free.areas.kinds s.blocks.rows block first row
+    (away l s block first p off (omega arith))) (areas_of l s p) in
     record {
-      shape = record { lists = h.shape.lists; kinds = h.shape.kinds; cached = h.shape.cached; owners = h.shape.owners; pages = h.shape.pages; content_owners = h.shape.content_owners; content_pages = h.shape.content_pages; kernel = h.shape.kernel; rows = length-set s.blocks.rows block row ∙ h.shape.rows };
+      shape =
+          record {
+            lists = h.shape.lists;
+            kinds = h.shape.kinds;
+            cached = h.shape.cached;
+            owners = h.shape.owners;
+            pages = h.shape.pages;
+            content_owners = h.shape.content_owners;
+            content_pages = h.shape.content_pages;
+            kernel = h.shape.kernel;
+            rows = length-set s.blocks.rows block row ∙ h.shape.rows;
+          };
       blocks = ordered.blocks;
       joined = h.joined;
       cached = λ cpu pool frame on.
           let some : 1 ≤ cached_places s.free frame = on_cached s.free cpu pool frame on in
-          pool_at-other l s.free.areas.kinds s.blocks.rows block frame row (away l s block frame p off (omega arith)) ∙ h.cached cpu pool frame on;
+          pool_at-other l s.free.areas.kinds s.blocks.rows block frame row
+          (away l s block frame p off (omega arith)) ∙ h.cached cpu pool frame on;
       kernel = λ first. kernel_at first (kernel_order s first) refl (h.kernel first);
       mobility = λ pageblock unmovable. elim (cases_eq (block_of_pageblock l pageblock) block) [
-        | inl same ↦ absurd (apart (kind_at s.free.areas.kinds pageblock).mobility unmovable (plain.mobility pageblock same))
-        | inr ne ↦ ap (λ (r : Row). r.zone) (get_or-set_other s.blocks.rows block (block_of_pageblock l pageblock) row offline_row ne) ∙ h.mobility pageblock unmovable
+        | inl same ↦
+            absurd (apart (kind_at s.free.areas.kinds pageblock).mobility unmovable
+            (plain.mobility pageblock same))
+        | inr ne ↦
+            ap (λ (r : Row). r.zone) (get_or-set_other s.blocks.rows block (block_of_pageblock l pageblock)
+            row offline_row ne) ∙ h.mobility pageblock unmovable
       ];
       isolated = λ pageblock. elim (cases_eq (block_of_pageblock l pageblock) block) [
-        | inl same ↦ plain.isolated pageblock same ∙ sym (ap (λ (b : ℕ). is_going (get_or (set s.blocks.rows block row) b offline_row)) same ∙ ap is_going (get_or-set_same s.blocks.rows block row offline_row short) ∙ still)
-        | inr ne ↦ h.isolated pageblock ∙ sym (ap is_going (get_or-set_other s.blocks.rows block (block_of_pageblock l pageblock) row offline_row ne))
+        | inl same ↦
+            plain.isolated pageblock same ∙ sym (ap
+            (λ (b : ℕ). is_going (get_or (set s.blocks.rows block row) b offline_row)) same ∙ ap is_going
+            (get_or-set_same s.blocks.rows block row offline_row short) ∙ still)
+        | inr ne ↦
+            h.isolated pageblock ∙ sym (ap is_going
+            (get_or-set_other s.blocks.rows block (block_of_pageblock l pageblock) row offline_row ne))
       ];
       rows = get_or-cases (λ (b : ℕ) (r : Row). IsRow r) s.blocks.rows block row offline_row short is h.rows;
       words = h.words;
@@ -143,19 +201,30 @@ row-in_order l s block row p off low is still =
     apart : (m : Mobility) → m ≡ Unmovable → m ≡ Movable → ⊥
     apart m e f = cc
 
-    kernel_at : (first : ℕ) (entry : Option ℕ) → kernel_order s first ≡ entry → IfSome entry (IsKernelAt l s.blocks.rows first) → IfSome entry (IsKernelAt l (set s.blocks.rows block row) first)
+    kernel_at : (first : ℕ) (entry : Option ℕ) → kernel_order s first ≡ entry
+        → IfSome entry (IsKernelAt l s.blocks.rows first)
+        → IfSome entry (IsKernelAt l (set s.blocks.rows block row) first)
     kernel_at first None e k = tt
     kernel_at first (Some order) e k =
         let some : 1 ≤ kernel_places s first = kernel_some s first order e in
-        record { in_order = k.in_order; aligned = k.aligned; normal = ap (λ (r : Row). r.zone) (row_at-other l s.blocks.rows block first row (away l s block first p off (omega arith))) ∙ k.normal }
+        record {
+          in_order = k.in_order;
+          aligned = k.aligned;
+          normal =
+              ap (λ (r : Row). r.zone) (row_at-other l s.blocks.rows block first row
+              (away l s block first p off (omega arith))) ∙ k.normal;
+        }
 
 -- ---- Remove, and Probe of a block that stays offline
 
-pub unplugged-placed : (l : LayoutParts) (s : Memory) (block : ℕ) (row : Row) → IsWellPlaced l s → is_unplugged (row_of s.blocks block) ≡ true → block < l.blocks
+pub unplugged-placed : (l : LayoutParts) (s : Memory) (block : ℕ) (row : Row) → IsWellPlaced l s
+    → is_unplugged (row_of s.blocks block) ≡ true → block < l.blocks
     → IsRow row → is_going row ≡ false → is_unplugged row ≡ true → IsWellPlaced l (with_block_row s block row)
 unplugged-placed l s block row p off low is still gone = record {
   in_order = row-in_order l s block row p off low is still;
-  once = λ frame. subst (λ (n : ℕ). free_places s.free.areas frame + cached_places s.free frame + mapped_places s.pages frame + kernel_places s frame + n ≡ 1)
+  once =
+      λ frame. subst (λ (n : ℕ). free_places s.free.areas frame + cached_places s.free frame
+      + mapped_places s.pages frame + kernel_places s frame + n ≡ 1)
       (sym (same_places frame)) (p.once frame);
 }
   where
@@ -163,8 +232,11 @@ unplugged-placed l s block row p off low is still gone = record {
     same_places frame = elim (cases_eq (block_of l frame) block) [
       | inl same ↦
           ap (λ (b : ℕ). cond (is_unplugged (get_or (set s.blocks.rows block row) b offline_row)) 1 0) same
-          ∙ ap (λ (r : Row). cond (is_unplugged r) 1 0) (get_or-set_same s.blocks.rows block row offline_row (omega (arith, p.in_order.shape.rows)))
+          ∙ ap (λ (r : Row). cond (is_unplugged r) 1 0)
+          (get_or-set_same s.blocks.rows block row offline_row (omega (arith, p.in_order.shape.rows)))
           ∙ ap (λ (t : Bool). cond t 1 0) (gone ∙ sym off)
           ∙ sym (ap (λ (b : ℕ). cond (is_unplugged (get_or s.blocks.rows b offline_row)) 1 0) same)
-      | inr ne ↦ ap (λ (r : Row). cond (is_unplugged r) 1 0) (get_or-set_other s.blocks.rows block (block_of l frame) row offline_row ne)
+      | inr ne ↦
+          ap (λ (r : Row). cond (is_unplugged r) 1 0)
+          (get_or-set_other s.blocks.rows block (block_of l frame) row offline_row ne)
     ]

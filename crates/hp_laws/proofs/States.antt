@@ -31,53 +31,111 @@ use Rattle.hp_laws.proofs.Gives.{give_block-ordered, give_block-kinds}
 use Rattle.hp_lemmas.proofs.KernelBlocks.{kernel-places}
 
 -- a list written at one index: whatever holds there of what is written, and of all before, holds of all
-pub get_or-cases : {X : Type 0} (P : ℕ → X → Type 0) (xs : List X) (i : ℕ) (x d : X) → i < length xs → P i x → ((k : ℕ) → P k (get_or xs k d)) → (k : ℕ) → P k (get_or (set xs i x) k d)
+pub get_or-cases : {X : Type 0} (P : ℕ → X → Type 0) (xs : List X) (i : ℕ) (x d : X) → i < length xs → P i x
+    → ((k : ℕ) → P k (get_or xs k d)) → (k : ℕ) → P k (get_or (set xs i x) k d)
 get_or-cases P xs i x d h new old k = elim (cases_eq k i) [
-  | inl same ↦ subst (λ (n : ℕ). P n (get_or (set xs i x) n d)) (sym same) (subst (λ y. P i y) (sym (get_or-set_same xs i x d h)) new)
+  | inl same ↦
+      subst (λ (n : ℕ). P n (get_or (set xs i x) n d)) (sym same)
+      (subst (λ y. P i y) (sym (get_or-set_same xs i x d h)) new)
   | inr apart ↦ subst (λ y. P k y) (sym (get_or-set_other xs i k x d apart)) (old k)
 ]
 
 -- ---- the areas of a state
 
-pub areas_of : (l : LayoutParts) (s : Memory) → IsWellPlaced l s → AreOrdered l (class_at l s.free.areas.kinds s.blocks.rows) s.free.areas
-areas_of l s h = record { lists = h.in_order.shape.lists; few = λ frame. omega (arith, h.once frame); blocks = h.in_order.blocks; joined = h.in_order.joined }
+pub areas_of : (l : LayoutParts) (s : Memory) → IsWellPlaced l s
+    → AreOrdered l (class_at l s.free.areas.kinds s.blocks.rows) s.free.areas
+areas_of l s h =
+    record {
+      lists = h.in_order.shape.lists;
+      few = λ frame. omega (arith, h.once frame);
+      blocks = h.in_order.blocks;
+      joined = h.in_order.joined;
+    }
 
 -- other areas with the same kinds
-pub areas-in_order : (l : LayoutParts) (s : Memory) (b : FreeAreas) → IsInOrder l s → AreOrdered l (class_at l s.free.areas.kinds s.blocks.rows) b → b.kinds ≡ s.free.areas.kinds
+pub areas-in_order : (l : LayoutParts) (s : Memory) (b : FreeAreas) → IsInOrder l s
+    → AreOrdered l (class_at l s.free.areas.kinds s.blocks.rows) b → b.kinds ≡ s.free.areas.kinds
     → IsInOrder l (with_areas s b)
 areas-in_order l s b h ordered same = record {
-  shape = record { lists = ordered.lists; kinds = ap length same ∙ h.shape.kinds; cached = h.shape.cached; owners = h.shape.owners; pages = h.shape.pages; content_owners = h.shape.content_owners; content_pages = h.shape.content_pages; kernel = h.shape.kernel; rows = h.shape.rows };
-  blocks = subst (λ (ks : List Kind). (class : Class) (order first : ℕ) → is_on first (free_list b class order) ≡ true → IsBlockOf l (class_at l ks s.blocks.rows) class order first) (sym same) ordered.blocks;
+  shape =
+      record {
+        lists = ordered.lists;
+        kinds = ap length same ∙ h.shape.kinds;
+        cached = h.shape.cached;
+        owners = h.shape.owners;
+        pages = h.shape.pages;
+        content_owners = h.shape.content_owners;
+        content_pages = h.shape.content_pages;
+        kernel = h.shape.kernel;
+        rows = h.shape.rows;
+      };
+  blocks =
+      subst (λ (ks : List Kind). (class : Class) (order first : ℕ) → is_on first (free_list b class order)
+      ≡ true → IsBlockOf l (class_at l ks s.blocks.rows) class order first) (sym same) ordered.blocks;
   joined = ordered.joined;
-  cached = subst (λ (ks : List Kind). (cpu : ℕ) (pool : Pool) (frame : ℕ) → is_on frame (cached_list s.free cpu pool) ≡ true → pool_at l ks s.blocks.rows (pageblock_of l frame) ≡ Some pool) (sym same) h.cached;
+  cached =
+      subst (λ (ks : List Kind). (cpu : ℕ) (pool : Pool) (frame : ℕ)
+      → is_on frame (cached_list s.free cpu pool)
+      ≡ true → pool_at l ks s.blocks.rows (pageblock_of l frame) ≡ Some pool) (sym same) h.cached;
   kernel = h.kernel;
-  mobility = subst (λ (ks : List Kind). (pageblock : ℕ) → (kind_at ks pageblock).mobility ≡ Unmovable → (row_at l s.blocks.rows pageblock).zone ≡ Some NormalZone) (sym same) h.mobility;
-  isolated = subst (λ (ks : List Kind). (pageblock : ℕ) → (kind_at ks pageblock).isolated ≡ is_going (row_at l s.blocks.rows pageblock)) (sym same) h.isolated;
+  mobility =
+      subst (λ (ks : List Kind). (pageblock : ℕ) → (kind_at ks pageblock).mobility ≡ Unmovable
+      → (row_at l s.blocks.rows pageblock).zone ≡ Some NormalZone) (sym same) h.mobility;
+  isolated =
+      subst (λ (ks : List Kind). (pageblock : ℕ)
+      → (kind_at ks pageblock).isolated ≡ is_going (row_at l s.blocks.rows pageblock)) (sym same) h.isolated;
   rows = h.rows;
   words = h.words;
 }
 
 -- another entry among the kernel's
-pub kernel-in_order : (l : LayoutParts) (s : Memory) (first : ℕ) (entry : Option ℕ) → IsInOrder l s → first < frame_count l → IfSome entry (IsKernelAt l s.blocks.rows first)
+pub kernel-in_order : (l : LayoutParts) (s : Memory) (first : ℕ) (entry : Option ℕ) → IsInOrder l s
+    → first < frame_count l → IfSome entry (IsKernelAt l s.blocks.rows first)
     → IsInOrder l (with_kernel_order s first entry)
 kernel-in_order l s first entry h low block = record {
-  shape = record { lists = h.shape.lists; kinds = h.shape.kinds; cached = h.shape.cached; owners = h.shape.owners; pages = h.shape.pages; content_owners = h.shape.content_owners; content_pages = h.shape.content_pages; kernel = length-set s.kernel first entry ∙ h.shape.kernel; rows = h.shape.rows };
+  shape =
+      record {
+        lists = h.shape.lists;
+        kinds = h.shape.kinds;
+        cached = h.shape.cached;
+        owners = h.shape.owners;
+        pages = h.shape.pages;
+        content_owners = h.shape.content_owners;
+        content_pages = h.shape.content_pages;
+        kernel = length-set s.kernel first entry ∙ h.shape.kernel;
+        rows = h.shape.rows;
+      };
   blocks = h.blocks;
   joined = h.joined;
   cached = h.cached;
-  kernel = get_or-cases (λ (k : ℕ) (o : Option ℕ). IfSome o (IsKernelAt l s.blocks.rows k)) s.kernel first entry None (omega (arith, h.shape.kernel)) block h.kernel;
+  kernel =
+      get_or-cases (λ (k : ℕ) (o : Option ℕ). IfSome o (IsKernelAt l s.blocks.rows k)) s.kernel first entry
+      None
+      (omega (arith, h.shape.kernel)) block h.kernel;
   mobility = h.mobility;
   isolated = h.isolated;
   rows = h.rows;
   words = h.words;
 }
 
-pub set_auto-placed : (l : LayoutParts) (s : Memory) (auto : Auto) → IsWellPlaced l s → IsWellPlaced l (record s { blocks = record s.blocks { auto = auto } })
+pub set_auto-placed : (l : LayoutParts) (s : Memory) (auto : Auto) → IsWellPlaced l s
+    → IsWellPlaced l (record s { blocks = record s.blocks { auto = auto } })
 set_auto-placed l s auto p =
     let h = p.in_order in
     record {
       in_order = record {
-        shape = record { lists = h.shape.lists; kinds = h.shape.kinds; cached = h.shape.cached; owners = h.shape.owners; pages = h.shape.pages; content_owners = h.shape.content_owners; content_pages = h.shape.content_pages; kernel = h.shape.kernel; rows = h.shape.rows };
+        shape =
+            record {
+              lists = h.shape.lists;
+              kinds = h.shape.kinds;
+              cached = h.shape.cached;
+              owners = h.shape.owners;
+              pages = h.shape.pages;
+              content_owners = h.shape.content_owners;
+              content_pages = h.shape.content_pages;
+              kernel = h.shape.kernel;
+              rows = h.shape.rows;
+            };
         blocks = h.blocks;
         joined = h.joined;
         cached = h.cached;
@@ -95,13 +153,16 @@ set_auto-placed l s auto p =
 -- ---- blocks of the kernel of an order above zero, straight from the areas and back
 
 -- a class is of a zone, and a zone is in the layout
-nu_normal : (zone : Option Zone) (isolated : Bool) (mobility : Mobility) → option_map (λ z. cond isolated (isolated_class z) (usable_class z mobility)) zone ≡ Some Nu → zone ≡ Some NormalZone
+nu_normal : (zone : Option Zone) (isolated : Bool) (mobility : Mobility)
+    → option_map (λ z. cond isolated (isolated_class z) (usable_class z mobility)) zone ≡ Some Nu
+    → zone ≡ Some NormalZone
 nu_normal None isolated mobility e = cc
 nu_normal (Some NormalZone) isolated mobility e = refl
 nu_normal (Some MovableZone) true mobility e = cc
 nu_normal (Some MovableZone) false mobility e = cc
 
-pub block_of-pageblock : (l : LayoutParts) (frame : ℕ) → block_of l frame ≡ block_of_pageblock l (pageblock_of l frame)
+pub block_of-pageblock : (l : LayoutParts) (frame : ℕ)
+    → block_of l frame ≡ block_of_pageblock l (pageblock_of l frame)
 block_of-pageblock l frame =
     let turned : l.pageblocks * 2 ^ l.order ≡ 2 ^ l.order * l.pageblocks = omega arith in
     rw turned (sym (div-div-eq-div-mul frame (2 ^ l.order) l.pageblocks))
@@ -112,7 +173,8 @@ div_lt n k m some low =
     let more : (n / k + 1) * k ≤ m * k = mul-le (n / k + 1) k m k (omega arith) (omega arith) in
     grind arith
 
-in_rows : (rows : List Row) (block : ℕ) (zone : Zone) → (get_or rows block offline_row).zone ≡ Some zone → block < length rows
+in_rows : (rows : List Row) (block : ℕ) (zone : Zone) → (get_or rows block offline_row).zone ≡ Some zone
+    → block < length rows
 in_rows rows block zone e = elim (cases_lt block (length rows)) [
   | inl low ↦ low
   | inr high ↦
@@ -121,7 +183,8 @@ in_rows rows block zone e = elim (cases_lt block (length rows)) [
       cc
 ]
 
-pub in_layout : (l : LayoutParts) (s : Memory) (frame : ℕ) (zone : Zone) → IsLayout l → length s.blocks.rows ≡ l.blocks → (row_at l s.blocks.rows (pageblock_of l frame)).zone ≡ Some zone
+pub in_layout : (l : LayoutParts) (s : Memory) (frame : ℕ) (zone : Zone) → IsLayout l
+    → length s.blocks.rows ≡ l.blocks → (row_at l s.blocks.rows (pageblock_of l frame)).zone ≡ Some zone
     → frame < frame_count l
 in_layout l s frame zone layout size e =
     let k : ℕ = layout.pageblocks.0 in
@@ -129,31 +192,44 @@ in_layout l s frame zone layout size e =
     let more : 0 < 2 ^ l.order = pow_pos l.order in
     let is : l.pageblocks ≡ 2 ^ k = layout.pageblocks.2 in
     let some' : 0 < l.pageblocks = omega arith in
-    let low : pageblock_of l frame / l.pageblocks < l.blocks = omega (arith, in_rows s.blocks.rows (block_of_pageblock l (pageblock_of l frame)) zone e) in
-    let middle : pageblock_of l frame < l.blocks * l.pageblocks = div_lt (pageblock_of l frame) l.pageblocks l.blocks some' low in
-    let all : frame < l.blocks * l.pageblocks * 2 ^ l.order = div_lt frame (2 ^ l.order) (l.blocks * l.pageblocks) more middle in
-    let turned : l.blocks * l.pageblocks * 2 ^ l.order ≡ l.blocks * (l.pageblocks * 2 ^ l.order) = omega arith in
+    let low : pageblock_of l frame / l.pageblocks < l.blocks =
+    omega (arith, in_rows s.blocks.rows (block_of_pageblock l (pageblock_of l frame)) zone e) in
+    let middle : pageblock_of l frame < l.blocks * l.pageblocks =
+    div_lt (pageblock_of l frame) l.pageblocks l.blocks some' low in
+    let all : frame < l.blocks * l.pageblocks * 2 ^ l.order =
+    div_lt frame (2 ^ l.order) (l.blocks * l.pageblocks) more middle in
+    let turned : l.blocks * l.pageblocks * 2 ^ l.order ≡ l.blocks * (l.pageblocks * 2 ^ l.order) =
+    omega arith in
     omega arith
 
 -- a frame in a free block has no kernel's block at it
-pub kernel_free : (l : LayoutParts) (s : Memory) (first : ℕ) (entry : Option ℕ) → kernel_order s first ≡ entry → first < length s.kernel → kernel_places s first ≡ 0 → entry ≡ None
+pub kernel_free : (l : LayoutParts) (s : Memory) (first : ℕ) (entry : Option ℕ) → kernel_order s first ≡ entry
+    → first < length s.kernel → kernel_places s first ≡ 0 → entry ≡ None
 kernel_free l s first None e low none = refl
 kernel_free l s first (Some order) e low none =
     let places = rw e at (kernel-places s first first None low) in
     let self : covered first order first ≡ 1 = covered-self order first in
     absurd (omega arith)
 
-pub kernel_take-placed : (l : LayoutParts) (s : Memory) (order : ℕ) (taken : Taken) → IsLayout l → IsWellPlaced l s → order ≤ l.order
+pub kernel_take-placed : (l : LayoutParts) (s : Memory) (order : ℕ) (taken : Taken) → IsLayout l
+    → IsWellPlaced l s → order ≤ l.order
     → TakesOrdered l (class_at l s.free.areas.kinds s.blocks.rows) s.free.areas Nu order taken
     → IsWellPlaced l (with_kernel_order (with_areas s taken.areas) taken.frame (Some order))
 kernel_take-placed l s order taken layout p low t =
-    let zone : (row_at l s.blocks.rows (pageblock_of l taken.frame)).zone ≡ Some NormalZone = nu_normal _ (kind_at s.free.areas.kinds (pageblock_of l taken.frame)).isolated (kind_at s.free.areas.kinds (pageblock_of l taken.frame)).mobility t.block.class_agrees in
-    let within : taken.frame < frame_count l = in_layout l s taken.frame NormalZone layout p.in_order.shape.rows zone in
+    let zone : (row_at l s.blocks.rows (pageblock_of l taken.frame)).zone ≡ Some NormalZone =
+    nu_normal _ (kind_at s.free.areas.kinds (pageblock_of l taken.frame)).isolated
+    (kind_at s.free.areas.kinds (pageblock_of l taken.frame)).mobility t.block.class_agrees in
+    let within : taken.frame < frame_count l =
+    in_layout l s taken.frame NormalZone layout p.in_order.shape.rows zone in
     let short : taken.frame < length s.kernel = omega (arith, p.in_order.shape.kernel) in
-    let gone : kernel_places s taken.frame ≡ 0 = omega (arith, p.once taken.frame, t.places taken.frame, covered-self order taken.frame) in
-    let none : kernel_order s taken.frame ≡ None = kernel_free l s taken.frame (kernel_order s taken.frame) refl short gone in
+    let gone : kernel_places s taken.frame ≡ 0 =
+    omega (arith, p.once taken.frame, t.places taken.frame, covered-self order taken.frame) in
+    let none : kernel_order s taken.frame ≡ None =
+    kernel_free l s taken.frame (kernel_order s taken.frame) refl short gone in
     record {
-      in_order = kernel-in_order l (with_areas s taken.areas) taken.frame (Some order) (areas-in_order l s taken.areas p.in_order t.ordered t.kinds) within
+      in_order =
+          kernel-in_order l (with_areas s taken.areas) taken.frame (Some order)
+          (areas-in_order l s taken.areas p.in_order t.ordered t.kinds) within
           (record { in_order = low; aligned = t.block.aligned; normal = zone });
       once = λ frame.
           let kernel = rw none at (kernel-places s taken.frame frame (Some order) short) in
@@ -161,34 +237,56 @@ kernel_take-placed l s order taken layout p low t =
     }
 
 -- the zone of a frame that has one
-pub zone_known : (l : LayoutParts) (s : Memory) (frame : ℕ) (zone : Zone) → (row_at l s.blocks.rows (pageblock_of l frame)).zone ≡ Some zone → zone_of l s frame ≡ zone
+pub zone_known : (l : LayoutParts) (s : Memory) (frame : ℕ) (zone : Zone)
+    → (row_at l s.blocks.rows (pageblock_of l frame)).zone ≡ Some zone → zone_of l s frame ≡ zone
 zone_known l s frame zone e =
-    subst (λ (b : ℕ). unwrap_or (get_or s.blocks.rows b offline_row).zone NormalZone ≡ zone) (sym (block_of-pageblock l frame)) (ap (λ (o : Option Zone). unwrap_or o NormalZone) e)
+    subst (λ (b : ℕ). unwrap_or (get_or s.blocks.rows b offline_row).zone NormalZone ≡ zone)
+    (sym (block_of-pageblock l frame)) (ap (λ (o : Option Zone). unwrap_or o NormalZone) e)
 
-pub class_known : (l : LayoutParts) (s : Memory) (frame : ℕ) (zone : Zone) → (row_at l s.blocks.rows (pageblock_of l frame)).zone ≡ Some zone
-    → class_at l s.free.areas.kinds s.blocks.rows (pageblock_of l frame) ≡ Some (class_of l s.free.areas (zone_of l s frame) frame)
+pub class_known : (l : LayoutParts) (s : Memory) (frame : ℕ) (zone : Zone)
+    → (row_at l s.blocks.rows (pageblock_of l frame)).zone ≡ Some zone
+    → class_at l s.free.areas.kinds s.blocks.rows (pageblock_of l frame)
+    ≡ Some (class_of l s.free.areas (zone_of l s frame) frame)
 class_known l s frame zone e =
-    subst (λ (z : Zone). class_at l s.free.areas.kinds s.blocks.rows (pageblock_of l frame) ≡ Some (class_of l s.free.areas z frame)) (sym (zone_known l s frame zone e))
+    subst (λ (z : Zone). class_at l s.free.areas.kinds s.blocks.rows (pageblock_of l frame)
+    ≡ Some (class_of l s.free.areas z frame)) (sym (zone_known l s frame zone e))
     (ap (option_map (λ z. class_of_kind z (kind_at s.free.areas.kinds (pageblock_of l frame)))) e)
 
-kernel_there : (l : LayoutParts) (s : Memory) (first order : ℕ) → (entry : Option ℕ) → entry ≡ Some order → IfSome entry (IsKernelAt l s.blocks.rows first) → IsKernelAt l s.blocks.rows first order
-kernel_there l s first order entry e h = subst (λ (o : Option ℕ). IfSome o (IsKernelAt l s.blocks.rows first)) e h
+kernel_there : (l : LayoutParts) (s : Memory) (first order : ℕ) → (entry : Option ℕ) → entry ≡ Some order
+    → IfSome entry (IsKernelAt l s.blocks.rows first) → IsKernelAt l s.blocks.rows first order
+kernel_there l s first order entry e h =
+    subst (λ (o : Option ℕ). IfSome o (IsKernelAt l s.blocks.rows first)) e h
 
-pub kernel_give-placed : (l : LayoutParts) (s : Memory) (first order : ℕ) → IsLayout l → IsWellPlaced l s → kernel_order s first ≡ Some order
-    → IsWellPlaced l (with_areas (with_kernel_order s first None) (give_block l s.free.areas (zone_of l s first) first order))
+pub kernel_give-placed : (l : LayoutParts) (s : Memory) (first order : ℕ) → IsLayout l → IsWellPlaced l s
+    → kernel_order s first ≡ Some order
+    → IsWellPlaced l (with_areas (with_kernel_order s first None)
+    (give_block l s.free.areas (zone_of l s first) first order))
 kernel_give-placed l s first order layout p e =
-    let block : IsKernelAt l s.blocks.rows first order = kernel_there l s first order (kernel_order s first) e (p.in_order.kernel first) in
-    let within : first < frame_count l = in_layout l s first NormalZone layout p.in_order.shape.rows block.normal in
+    let block : IsKernelAt l s.blocks.rows first order =
+    kernel_there l s first order (kernel_order s first) e (p.in_order.kernel first) in
+    let within : first < frame_count l =
+    in_layout l s first NormalZone layout p.in_order.shape.rows block.normal in
     let short : first < length s.kernel = omega (arith, p.in_order.shape.kernel) in
-    let left : (frame : ℕ) → kernel_places (with_kernel_order s first None) frame + covered frame order first ≡ kernel_places s frame =
+    let left : (frame : ℕ)
+    → kernel_places (with_kernel_order s first None) frame + covered frame order first
+    ≡ kernel_places s frame =
     λ frame. omega (arith, rw e at (kernel-places s first frame None short)) in
-    let room : (frame : ℕ) → free_places s.free.areas frame + covered frame order first ≤ 1 = λ frame. omega (arith, left frame, p.once frame) in
+    let room : (frame : ℕ) → free_places s.free.areas frame + covered frame order first ≤ 1 =
+    λ frame. omega (arith, left frame, p.once frame) in
     let ordered = areas_of l s p in
-    let given = give_block-ordered l (class_at l s.free.areas.kinds s.blocks.rows) s.free.areas (zone_of l s first) first order block.in_order block.aligned (class_known l s first NormalZone block.normal) room ordered in
+    let given =
+    give_block-ordered l (class_at l s.free.areas.kinds s.blocks.rows) s.free.areas (zone_of l s first)
+    first order block.in_order block.aligned (class_known l s first NormalZone block.normal) room
+    ordered in
     record {
-      in_order = areas-in_order l (with_kernel_order s first None) (give_block l s.free.areas (zone_of l s first) first order)
-          (kernel-in_order l s first None p.in_order within tt) given (give_block-kinds l s.free.areas (zone_of l s first) first order);
+      in_order =
+          areas-in_order l (with_kernel_order s first None)
+          (give_block l s.free.areas (zone_of l s first) first order)
+          (kernel-in_order l s first None p.in_order within tt) given
+          (give_block-kinds l s.free.areas (zone_of l s first) first order);
       once = λ frame.
-          let places = give_block-places l s.free.areas (zone_of l s first) first order frame ordered.lists block.in_order (aligned_ancestor first order block.aligned) ordered.few in
+          let places =
+          give_block-places l s.free.areas (zone_of l s first) first order frame ordered.lists
+          block.in_order (aligned_ancestor first order block.aligned) ordered.few in
           omega (arith, places, left frame, p.once frame);
     }

@@ -17,10 +17,23 @@ use Rattle.hp_lemmas.proofs.Tables.{IsTable, contents_of, entry-apart, entry-cas
 
 -- ---- the pages of a state
 
-pub pages-in_order : (l : LayoutParts) (s : Memory) (ps : Pages) → IsInOrder l s → IsTable l.owners l.pages ps.table → IsTable l.owners l.pages ps.contents
-    → ((owner page : ℕ) → IsPage l (frame_at ps owner page) (words_at ps owner page)) → IsInOrder l (with_pages s ps)
+pub pages-in_order : (l : LayoutParts) (s : Memory) (ps : Pages) → IsInOrder l s
+    → IsTable l.owners l.pages ps.table → IsTable l.owners l.pages ps.contents
+    → ((owner page : ℕ) → IsPage l (frame_at ps owner page) (words_at ps owner page))
+    → IsInOrder l (with_pages s ps)
 pages-in_order l s ps h table contents words = record {
-  shape = record { lists = h.shape.lists; kinds = h.shape.kinds; cached = h.shape.cached; owners = table.tall; pages = table.wide; content_owners = contents.tall; content_pages = contents.wide; kernel = h.shape.kernel; rows = h.shape.rows };
+  shape =
+      record {
+        lists = h.shape.lists;
+        kinds = h.shape.kinds;
+        cached = h.shape.cached;
+        owners = table.tall;
+        pages = table.wide;
+        content_owners = contents.tall;
+        content_pages = contents.wide;
+        kernel = h.shape.kernel;
+        rows = h.shape.rows;
+      };
   blocks = h.blocks;
   joined = h.joined;
   cached = h.cached;
@@ -32,23 +45,35 @@ pages-in_order l s ps h table contents words = record {
 }
 
 -- a page's frame and its words written together
-pub both-in_order : (l : LayoutParts) (s : Memory) (owner page : ℕ) (f : Option ℕ) (w : Option (List ℕ)) → owner < l.owners → page < l.pages → IsInOrder l s → IsPage l f w
-    → IsInOrder l (with_pages s (record s.pages { table = with_entry s.pages.table owner page f; contents = with_entry s.pages.contents owner page w }))
+pub both-in_order : (l : LayoutParts) (s : Memory) (owner page : ℕ) (f : Option ℕ) (w : Option (List ℕ))
+    → owner < l.owners → page < l.pages → IsInOrder l s → IsPage l f w
+    → IsInOrder l (with_pages s (record s.pages
+    { table = with_entry s.pages.table owner page f; contents = with_entry s.pages.contents owner page w }))
 both-in_order l s owner page f w low short h is =
     let table = table_of l s h in
     let contents = contents_of l s h in
-    pages-in_order l s (record s.pages { table = with_entry s.pages.table owner page f; contents = with_entry s.pages.contents owner page w }) h
-    (with_entry-table l.owners l.pages s.pages.table owner page f low table) (with_entry-table l.owners l.pages s.pages.contents owner page w low contents)
-    (entry-cases (λ (o p : ℕ) (e : Option ℕ). IsPage l e (entry_of (with_entry s.pages.contents owner page w) o p)) l.owners l.pages s.pages.table owner page f low short table
-    (subst (λ (x : Option (List ℕ)). IsPage l f x) (sym (entry-same l.owners l.pages s.pages.contents owner page w low short contents)) is)
-    (λ o p elsewhere. subst (λ (x : Option (List ℕ)). IsPage l (entry_of s.pages.table o p) x) (sym (entry-apart s.pages.contents owner page w o p elsewhere)) (h.words o p)))
+    pages-in_order l s (record s.pages {
+      table = with_entry s.pages.table owner page f;
+      contents = with_entry s.pages.contents owner page w;
+    }) h
+    (with_entry-table l.owners l.pages s.pages.table owner page f low table)
+    (with_entry-table l.owners l.pages s.pages.contents owner page w low contents)
+    (entry-cases
+    (λ (o p : ℕ) (e : Option ℕ). IsPage l e (entry_of (with_entry s.pages.contents owner page w) o p))
+    l.owners l.pages s.pages.table owner page f low short table
+    (subst (λ (x : Option (List ℕ)). IsPage l f x)
+    (sym (entry-same l.owners l.pages s.pages.contents owner page w low short contents)) is)
+    (λ o p elsewhere. subst (λ (x : Option (List ℕ)). IsPage l (entry_of s.pages.table o p) x)
+    (sym (entry-apart s.pages.contents owner page w o p elsewhere)) (h.words o p)))
 
 -- a frame that is mapped has a zone
 pub record HasZone (l : LayoutParts) (rows : List Row) (frame : ℕ) : Type 0 where
   pub zone : Zone
   pub zone_is : (row_at l rows (pageblock_of l frame)).zone ≡ Some zone
 
-live_zone : (state : State) (zone : Option Zone) (claim : Option Claim) → (is_offline_state state || is_absent_state state) ≡ false → IsRowOf state zone claim → (z : Zone) × (zone ≡ Some z)
+live_zone : (state : State) (zone : Option Zone) (claim : Option Claim)
+    → (is_offline_state state || is_absent_state state) ≡ false → IsRowOf state zone claim
+    → (z : Zone) × (zone ≡ Some z)
 live_zone OfflineState zone claim e h = cc
 live_zone AbsentState zone claim e h = cc
 live_zone OnlineState (Some z) claim e h = (z, refl)
@@ -56,11 +81,19 @@ live_zone OnlineState None claim e h = absurd (cc h.0)
 live_zone GoingState (Some z) claim e h = (z, refl)
 live_zone GoingState None claim e h = absurd (cc h.0)
 
-pub live_row : (l : LayoutParts) (s : Memory) (frame : ℕ) → IsInOrder l s → offline_places l s frame ≡ 0 → HasZone l s.blocks.rows frame
+pub live_row : (l : LayoutParts) (s : Memory) (frame : ℕ) → IsInOrder l s → offline_places l s frame ≡ 0
+    → HasZone l s.blocks.rows frame
 live_row l s frame h e =
     let row : Row = row_of s.blocks (block_of l frame) in
-    let found = live_zone row.state row.zone row.claim (plugged (is_unplugged row) (offline_places l s frame) refl e) (h.rows (block_of l frame)) in
-    record { zone = found.0; zone_is = subst (λ (b : ℕ). (get_or s.blocks.rows b offline_row).zone ≡ Some found.0) (block_of-pageblock l frame) found.1 }
+    let found =
+    live_zone row.state row.zone row.claim (plugged (is_unplugged row) (offline_places l s frame) refl e)
+    (h.rows (block_of l frame)) in
+    record {
+      zone = found.0;
+      zone_is =
+          subst (λ (b : ℕ). (get_or s.blocks.rows b offline_row).zone ≡ Some found.0)
+          (block_of-pageblock l frame) found.1;
+    }
   where
     plugged : (b : Bool) (n : ℕ) → n ≡ cond b 1 0 → n ≡ 0 → b ≡ false
     plugged true n e f = absurd (omega arith)

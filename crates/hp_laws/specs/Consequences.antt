@@ -39,4 +39,5 @@ pub record IsLowestInUse (l : LayoutParts) (s : Memory) (op frame : ℕ) : Type 
 -- the frame lies in a block that is online or going, and so has a zone
 pub record IsPluggedIn (l : LayoutParts) (s : Memory) (frame : ℕ) : Type 0 where
   pub zone : (zone : Zone) × ((row_of s.blocks (block_of l frame)).zone ≡ Some zone)
-  pub state : (is_online (row_of s.blocks (block_of l frame)) || is_going (row_of s.blocks (block_of l frame))) ≡ true
+  pub state : (is_online (row_of s.blocks (block_of l frame))
+      || is_going (row_of s.blocks (block_of l frame))) ≡ true

@@ -16,8 +16,9 @@ abbrev pub drains_for : (op cpu : ℕ) → Event → Bool
 drains_for op cpu (DrainFor other drained) = (other == op) && (drained == cpu)
 drains_for op cpu event = false
 
--- from the operation's Begin on, the steps are its own drains and migrations, with a drain of each processor among them,
--- and in the state that they lead to no frame of the blocks that it takes offline holds a page
+-- from the operation's Begin on, the steps are its own drains and migrations, with a drain of each
+-- processor among them, and in the state that they lead to no frame of the blocks that it takes
+-- offline holds a page
 pub record IsUndisturbed (l : LayoutParts) (s : Memory) (op : ℕ) (net : List Record) : Type 0 where
   pub earlier : List Record
   pub begin : Record
@@ -28,7 +29,8 @@ pub record IsUndisturbed (l : LayoutParts) (s : Memory) (op : ℕ) (net : List R
   pub drained : (cpu : ℕ) → cpu < l.cpus → list_any (λ r. drains_for op cpu r.event) work ≡ true
   pub moved : (frame : ℕ) → IsGoingFor l s op frame → page_at s.pages frame ≡ None
 
--- the number of the operation that holds a block, if one does, is such a number; and so is that of each that holds a block
+-- the number of the operation that holds a block, if one does, is such a number; and so is that of
+-- each that holds a block
 abbrev pub IsHeldBy : (ℕ → Type 0) → Row → Type 0
 IsHeldBy IsNumber row = IfSome row.claim (λ claim. IsNumber claim.op)
 

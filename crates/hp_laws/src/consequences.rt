@@ -1,4 +1,5 @@
-//! What follows from a state being well placed. Each is a function that does nothing; what it ensures is the law.
+//! What follows from a state being well placed. Each is a function that does nothing; what it
+//! ensures is the law.
 ghost use Rattle.std.specs.Prelude.{◌≡◌, ℕ, ◌^◌, ◌<◌, ◌≤◌, ◌↔◌, true, Some, List, ◌∷◌, ◌++◌, [], is_none, length};
 ghost use Rattle.std.specs.List.{list_all};
 ghost use Rattle.hp_units.specs.Arithmetic.{block_of, frame_count};
@@ -22,45 +23,69 @@ ghost use Rattle.hp_laws.specs.Consequences.{IsFrameOf, IsFrameInUse, IsLowestIn
 
 /// A frame on a processor's list lies in a block of the zone of the list's pool (own rule).
 pub fn cached_frames_lie_in_zone()
-    ensures state { (l : LayoutParts) (s : Memory) (cpu : ℕ) (pool : Pool) (frame : ℕ) → IsWellPlaced l s → is_on frame (cached_list s.free cpu pool) ≡ true
+    ensures state { (l : LayoutParts) (s : Memory) (cpu : ℕ) (pool : Pool) (frame : ℕ) → IsWellPlaced l s
+        → is_on frame (cached_list s.free cpu pool) ≡ true
         → (row_of s.blocks (block_of l frame)).zone ≡ Some (zone_of_pool pool) }
-    ensures history { (l : LayoutParts) (base : Memory) (h : List Record) (cpu : ℕ) (pool : Pool) (frame : ℕ) → IsLayout l → IsWellPlaced l base → is_on frame (cached_list (value_of l base h).free cpu pool) ≡ true
+    ensures history { (l : LayoutParts) (base : Memory) (h : List Record) (cpu : ℕ) (pool : Pool) (frame : ℕ)
+        → IsLayout l → IsWellPlaced l base
+        → is_on frame (cached_list (value_of l base h).free cpu pool) ≡ true
         → (row_of (value_of l base h).blocks (block_of l frame)).zone ≡ Some (zone_of_pool pool) }
 {}
 
-/// A frame in use lies in a block that is online or going offline, and so has a zone: a frame of the kernel's in zone
-/// Normal, a frame that holds a page in either zone (own rule).
+/// A frame in use lies in a block that is online or going offline, and so has a zone: a frame of
+/// the kernel's in zone Normal, a frame that holds a page in either zone (own rule).
 pub fn frames_in_use_have_zone()
-    ensures kernel { (l : LayoutParts) (s : Memory) (first order frame : ℕ) → IsWellPlaced l s → kernel_order s first ≡ Some order → IsFrameOf frame order first
+    ensures kernel { (l : LayoutParts) (s : Memory) (first order frame : ℕ) → IsWellPlaced l s
+        → kernel_order s first ≡ Some order → IsFrameOf frame order first
         → ((row_of s.blocks (block_of l frame)).zone ≡ Some NormalZone) × IsPluggedIn l s frame }
-    ensures page { (l : LayoutParts) (s : Memory) (owner page frame : ℕ) → IsWellPlaced l s → frame_at s.pages owner page ≡ Some frame → IsPluggedIn l s frame }
-    ensures kernel_history { (l : LayoutParts) (base : Memory) (h : List Record) (first order frame : ℕ) → IsLayout l → IsWellPlaced l base → kernel_order (value_of l base h) first ≡ Some order → IsFrameOf frame order first
-        → ((row_of (value_of l base h).blocks (block_of l frame)).zone ≡ Some NormalZone) × IsPluggedIn l (value_of l base h) frame }
-    ensures page_history { (l : LayoutParts) (base : Memory) (h : List Record) (owner page frame : ℕ) → IsLayout l → IsWellPlaced l base → frame_at (value_of l base h).pages owner page ≡ Some frame
+    ensures page { (l : LayoutParts) (s : Memory) (owner page frame : ℕ) → IsWellPlaced l s
+        → frame_at s.pages owner page ≡ Some frame → IsPluggedIn l s frame }
+    ensures kernel_history { (l : LayoutParts) (base : Memory) (h : List Record) (first order frame : ℕ)
+        → IsLayout l → IsWellPlaced l base → kernel_order (value_of l base h) first ≡ Some order
+        → IsFrameOf frame order first
+        → ((row_of (value_of l base h).blocks (block_of l frame)).zone ≡ Some NormalZone)
+        × IsPluggedIn l (value_of l base h) frame }
+    ensures page_history { (l : LayoutParts) (base : Memory) (h : List Record) (owner page frame : ℕ)
+        → IsLayout l → IsWellPlaced l base → frame_at (value_of l base h).pages owner page ≡ Some frame
         → IsPluggedIn l (value_of l base h) frame }
 {}
 
-/// A free list has no more blocks than there are frames, and a processor's list no more frames; there are at most 2^20
-/// frames (own rule).
+/// A free list has no more blocks than there are frames, and a processor's list no more frames;
+/// there are at most 2^20 frames (own rule).
 pub fn lists_are_short()
-    ensures free { (l : LayoutParts) (s : Memory) (class : Class) (order : ℕ) → IsLayout l → IsWellPlaced l s → length (free_list s.free.areas class order) ≤ frame_count l }
-    ensures cached { (l : LayoutParts) (s : Memory) (cpu : ℕ) (pool : Pool) → IsLayout l → IsWellPlaced l s → length (cached_list s.free cpu pool) ≤ frame_count l }
-    ensures free_history { (l : LayoutParts) (base : Memory) (h : List Record) (class : Class) (order : ℕ) → IsLayout l → IsWellPlaced l base → length (free_list (value_of l base h).free.areas class order) ≤ frame_count l }
-    ensures cached_history { (l : LayoutParts) (base : Memory) (h : List Record) (cpu : ℕ) (pool : Pool) → IsLayout l → IsWellPlaced l base → length (cached_list (value_of l base h).free cpu pool) ≤ frame_count l }
+    ensures free { (l : LayoutParts) (s : Memory) (class : Class) (order : ℕ) → IsLayout l → IsWellPlaced l s
+        → length (free_list s.free.areas class order) ≤ frame_count l }
+    ensures cached { (l : LayoutParts) (s : Memory) (cpu : ℕ) (pool : Pool) → IsLayout l → IsWellPlaced l s
+        → length (cached_list s.free cpu pool) ≤ frame_count l }
+    ensures free_history { (l : LayoutParts) (base : Memory) (h : List Record) (class : Class) (order : ℕ)
+        → IsLayout l → IsWellPlaced l base
+        → length (free_list (value_of l base h).free.areas class order) ≤ frame_count l }
+    ensures cached_history { (l : LayoutParts) (base : Memory) (h : List Record) (cpu : ℕ) (pool : Pool)
+        → IsLayout l → IsWellPlaced l base
+        → length (cached_list (value_of l base h).free cpu pool) ≤ frame_count l }
     ensures frames { (l : LayoutParts) → IsLayout l → frame_count l ≤ 2 ^ 20 }
 {}
 
-/// A Commit by a processor of the layout is refused as NotFree exactly where some frame of a block that its operation
-/// takes offline is in no free block, and the refusal names the lowest such frame; it is done exactly where the
-/// operation is live and there is none (Linux, memory hotplug: offlining; own rule).
+/// A Commit by a processor of the layout is refused as NotFree exactly where some frame of a block
+/// that its operation takes offline is in no free block, and the refusal names the lowest such
+/// frame; it is done exactly where the operation is live and there is none (Linux, memory hotplug:
+/// offlining; own rule).
 pub fn commits_need_free_frames()
-    ensures lowest { (l : LayoutParts) (s : Memory) (serial cpu op frame : ℕ) → IsLayout l → IsWellPlaced l s → cpu < l.cpus
+    ensures lowest { (l : LayoutParts) (s : Memory) (serial cpu op frame : ℕ) → IsLayout l → IsWellPlaced l s
+        → cpu < l.cpus
         → ((step l s serial cpu (Commit op)).reply ≡ Refused (NotFree frame)) ↔ IsLowestInUse l s op frame }
-    ensures some { (l : LayoutParts) (s : Memory) (serial cpu op : ℕ) → IsLayout l → IsWellPlaced l s → cpu < l.cpus
-        → ((frame : ℕ) × ((step l s serial cpu (Commit op)).reply ≡ Refused (NotFree frame))) ↔ ((frame : ℕ) × IsFrameInUse l s op frame) }
-    ensures done { (l : LayoutParts) (s : Memory) (serial cpu op : ℕ) → IsLayout l → IsWellPlaced l s → cpu < l.cpus
-        → ((step l s serial cpu (Commit op)).reply ≡ Done) ↔ ((is_live s.blocks op ≡ true) × ((frame : ℕ) → IsFrameInUse l s op frame → ⊥)) }
-    ensures tests { (l : LayoutParts) (s : Memory) (op : ℕ) → IsLayout l → IsWellPlaced l s → list_all (is_all_free l s) (going_blocks l s.blocks op) ≡ is_none (frame_in_use l s op) }
-    ensures history { (l : LayoutParts) (base : Memory) (before op frame : ℕ) (h : List Record) (r : Record) → IsLayout l → IsWellPlaced l base → IsLegal l base before (h ++ r ∷ []) → r.event ≡ Commit op → r.cpu < l.cpus
+    ensures some { (l : LayoutParts) (s : Memory) (serial cpu op : ℕ) → IsLayout l → IsWellPlaced l s
+        → cpu < l.cpus
+        → ((frame : ℕ) × ((step l s serial cpu (Commit op)).reply ≡ Refused (NotFree frame)))
+        ↔ ((frame : ℕ) × IsFrameInUse l s op frame) }
+    ensures done { (l : LayoutParts) (s : Memory) (serial cpu op : ℕ) → IsLayout l → IsWellPlaced l s
+        → cpu < l.cpus
+        → ((step l s serial cpu (Commit op)).reply ≡ Done)
+        ↔ ((is_live s.blocks op ≡ true) × ((frame : ℕ) → IsFrameInUse l s op frame → ⊥)) }
+    ensures tests { (l : LayoutParts) (s : Memory) (op : ℕ) → IsLayout l → IsWellPlaced l s
+        → list_all (is_all_free l s) (going_blocks l s.blocks op) ≡ is_none (frame_in_use l s op) }
+    ensures history { (l : LayoutParts) (base : Memory) (before op frame : ℕ) (h : List Record) (r : Record)
+        → IsLayout l → IsWellPlaced l base → IsLegal l base before (h ++ r ∷ []) → r.event ≡ Commit op
+        → r.cpu < l.cpus
         → (r.reply ≡ Refused (NotFree frame)) ↔ IsLowestInUse l (value_of l base h) op frame }
 {}

@@ -10,14 +10,19 @@ ghost use Rattle.hp_units.specs.Rows.{is_going};
 ghost use Rattle.hp_units.specs.declared.replies.Record.{Record};
 ghost use Rattle.hp_units.specs.declared.replies.Reply.TheVariants.{Moved};
 
-/// A frame that a record hands out, to the kernel, to a page that is mapped or to one that moves, lies in no block that was
-/// offline or absent just before it; one that a page moves to lies in no block that was going (own rule).
+/// A frame that a record hands out, to the kernel, to a page that is mapped or to one that moves,
+/// lies in no block that was offline or absent just before it; one that a page moves to lies in no
+/// block that was going (own rule).
 pub fn handed_frames_are_plugged()
-    ensures plugged { (l : LayoutParts) (base : Memory) (before : ℕ) (h : List Record) (r : Record) (frame : ℕ) → IsLayout l → IsWellPlaced l base
+    ensures plugged { (l : LayoutParts) (base : Memory) (before : ℕ) (h : List Record) (r : Record)
+        (frame : ℕ)
+        → IsLayout l → IsWellPlaced l base
         → IsLegal l base before (h ++ r ∷ [])
         → handed_frame (value_of l base (h ++ r ∷ [])) r ≡ Some frame
         → is_unplugged (row_of (value_of l base h).blocks (block_of l frame)) ≡ false }
-    ensures staying { (l : LayoutParts) (base : Memory) (before : ℕ) (h : List Record) (r : Record) (from to : ℕ) → IsLayout l → IsWellPlaced l base
+    ensures staying { (l : LayoutParts) (base : Memory) (before : ℕ) (h : List Record) (r : Record)
+        (from to : ℕ)
+        → IsLayout l → IsWellPlaced l base
         → IsLegal l base before (h ++ r ∷ [])
         → r.reply ≡ Moved from to
         → is_going (row_of (value_of l base h).blocks (block_of l to)) ≡ false }

@@ -10,27 +10,34 @@ ghost use Rattle.hp_units.specs.declared.replies.Reply.TheVariants.{Restored};
 
 /// An undo that is not refused leaves the state that the steps up to its serial lead to (own rule).
 pub fn undone_state()
-    ensures { (l : LayoutParts) (base : Memory) (serial : ℕ) (h : List Record) (r : Record) → r.event ≡ UndoAfter serial
+    ensures { (l : LayoutParts) (base : Memory) (serial : ℕ) (h : List Record) (r : Record)
+        → r.event ≡ UndoAfter serial
         → is_refused r.reply ≡ false
         → value_of l base (h ++ r ∷ []) ≡ run l base (steps_until serial (net_of h)) }
 {}
 
-/// A Cancel that restores leaves the state that was there just before its operation's Begin, whose record has the
-/// operation's number as its serial (own rule).
+/// A Cancel that restores leaves the state that was there just before its operation's Begin, whose
+/// record has the operation's number as its serial (own rule).
 pub fn restored_state()
-    ensures { (l : LayoutParts) (base : Memory) (before op : ℕ) (h : List Record) (r : Record) → IsLegal l base before (h ++ r ∷ [])
+    ensures { (l : LayoutParts) (base : Memory) (before op : ℕ) (h : List Record) (r : Record)
+        → IsLegal l base before (h ++ r ∷ [])
         → r.event ≡ Cancel op
         → r.reply ≡ Restored
-        → (b : Record) × (plan : List Item) × (slice_get h (op - before - 1) ≡ Some b) × (b.serial ≡ op) × (b.event ≡ Begin plan) × (value_of l base (h ++ r ∷ []) ≡ value_of l base (take (op - before - 1) h)) }
+        → (b : Record) × (plan : List Item) × (slice_get h (op - before - 1) ≡ Some b) × (b.serial ≡ op)
+        × (b.event ≡ Begin plan)
+        × (value_of l base (h ++ r ∷ []) ≡ value_of l base (take (op - before - 1) h)) }
 {}
 
-/// Each prefix of the steps is what some undo keeps, and its state was there just before the step that comes after it
-/// (own rule).
+/// Each prefix of the steps is what some undo keeps, and its state was there just before the step
+/// that comes after it (own rule).
 pub fn earlier_states()
-    ensures prefix { (l : LayoutParts) (base : Memory) (before k : ℕ) (h : List Record) → IsLegal l base before h
+    ensures prefix { (l : LayoutParts) (base : Memory) (before k : ℕ) (h : List Record)
+        → IsLegal l base before h
         → k ≤ length (net_of h)
-        → (serial : ℕ) × (before ≤ serial) × (serial ≤ before + length h) × (steps_until serial (net_of h) ≡ take k (net_of h)) }
-    ensures state { (l : LayoutParts) (base : Memory) (before k : ℕ) (h : List Record) (r : Record) → IsLegal l base before h
+        → (serial : ℕ) × (before ≤ serial) × (serial ≤ before + length h)
+        × (steps_until serial (net_of h) ≡ take k (net_of h)) }
+    ensures state { (l : LayoutParts) (base : Memory) (before k : ℕ) (h : List Record) (r : Record)
+        → IsLegal l base before h
         → slice_get (net_of h) k ≡ Some r
         → run l base (take k (net_of h)) ≡ value_of l base (take (r.serial - before - 1) h) }
 {}

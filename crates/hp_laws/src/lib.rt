@@ -1,6 +1,7 @@
-//! Laws of the definitions, over all histories: what an undo and a restoring Cancel leave, how each earlier state is
-//! reached, that each frame stays in one place and what follows from it, what the pages hold, which frames are handed out,
-//! how operations go, and that an offline which nothing disturbs commits.
+//! Laws of the definitions, over all histories: what an undo and a restoring Cancel leave, how each
+//! earlier state is reached, that each frame stays in one place and what follows from it, what the
+//! pages hold, which frames are handed out, how operations go, and that an offline which nothing
+//! disturbs commits.
 #![tactic(auto)]
 
 mod consequences;

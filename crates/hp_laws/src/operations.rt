@@ -10,32 +10,51 @@ ghost use Rattle.hp_units.specs.declared.events.Event.TheVariants.{Cancel, Commi
 ghost use Rattle.hp_units.specs.declared.plans.Item.{Item};
 ghost use Rattle.hp_units.specs.declared.replies.Record.{Record};
 
-/// A Begin that is not undone claims each block of its plan, and as long as no Commit and no Cancel of its operation
-/// follows, the rows of these blocks are those that it left (own rule).
+/// A Begin that is not undone claims each block of its plan, and as long as no Commit and no Cancel
+/// of its operation follows, the rows of these blocks are those that it left (own rule).
 pub fn operations_hold_their_rows()
-    ensures claimed { (l : LayoutParts) (base : Memory) (before : ℕ) (h : List Record) (place : ℕ) (b : Record) (plan : List Item) → IsLayout l → IsWellPlaced l base
+    ensures claimed { (l : LayoutParts) (base : Memory) (before : ℕ) (h : List Record) (place : ℕ)
+        (b : Record) (plan : List Item)
+        → IsLayout l → IsWellPlaced l base
         → IsLegal l base before h → BeginsAt (net_of h) place b plan
-        → RowsAre (state_behind l base before h b) plan (λ item. claimed_row (row_of (state_before l base before h b).blocks item.block) b.serial item.wish) }
-    ensures held { (l : LayoutParts) (base : Memory) (before : ℕ) (h : List Record) (place : ℕ) (b : Record) (plan : List Item) → IsLayout l → IsWellPlaced l base
+        → RowsAre (state_behind l base before h b) plan (λ item.
+        claimed_row (row_of (state_before l base before h b).blocks item.block) b.serial item.wish) }
+    ensures held { (l : LayoutParts) (base : Memory) (before : ℕ) (h : List Record) (place : ℕ) (b : Record)
+        (plan : List Item)
+        → IsLayout l → IsWellPlaced l base
         → IsLegal l base before h → BeginsAt (net_of h) place b plan → IsOpenBehind b.serial place (net_of h)
-        → RowsAre (value_of l base h) plan (λ item. row_of (state_behind l base before h b).blocks item.block) }
+        → RowsAre (value_of l base h) plan
+        (λ item. row_of (state_behind l base before h b).blocks item.block) }
 {}
 
-/// A Commit that is not refused gives each block of its operation's plan its wish, all in this one step: just before it
-/// their rows are still those that the Begin left (Linux, memory hotplug: offlining; own rule).
+/// A Commit that is not refused gives each block of its operation's plan its wish, all in this one
+/// step: just before it their rows are still those that the Begin left (Linux, memory hotplug:
+/// offlining; own rule).
 pub fn commits_grant_wishes()
-    ensures held { (l : LayoutParts) (base : Memory) (before : ℕ) (h : List Record) (r : Record) (place : ℕ) (b : Record) (plan : List Item) → IsLayout l → IsWellPlaced l base
-        → IsLegal l base before (h ++ r ∷ []) → BeginsAt (net_of h) place b plan → r.event ≡ Commit b.serial → is_refused r.reply ≡ false
-        → RowsAre (value_of l base h) plan (λ item. row_of (state_behind l base before h b).blocks item.block) }
-    ensures granted { (l : LayoutParts) (base : Memory) (before : ℕ) (h : List Record) (r : Record) (place : ℕ) (b : Record) (plan : List Item) → IsLayout l → IsWellPlaced l base
-        → IsLegal l base before (h ++ r ∷ []) → BeginsAt (net_of h) place b plan → r.event ≡ Commit b.serial → is_refused r.reply ≡ false
+    ensures held { (l : LayoutParts) (base : Memory) (before : ℕ) (h : List Record) (r : Record) (place : ℕ)
+        (b : Record) (plan : List Item)
+        → IsLayout l → IsWellPlaced l base
+        → IsLegal l base before (h ++ r ∷ []) → BeginsAt (net_of h) place b plan → r.event ≡ Commit b.serial
+        → is_refused r.reply ≡ false
+        → RowsAre (value_of l base h) plan
+        (λ item. row_of (state_behind l base before h b).blocks item.block) }
+    ensures granted { (l : LayoutParts) (base : Memory) (before : ℕ) (h : List Record) (r : Record)
+        (place : ℕ) (b : Record) (plan : List Item)
+        → IsLayout l → IsWellPlaced l base
+        → IsLegal l base before (h ++ r ∷ []) → BeginsAt (net_of h) place b plan → r.event ≡ Commit b.serial
+        → is_refused r.reply ≡ false
         → RowsAre (value_of l base (h ++ r ∷ [])) plan (λ item. wished_row item.wish) }
 {}
 
-/// A Cancel that is not refused, whether it restores or releases, gives each block of its operation's plan the row that it
-/// had just before the Begin (Linux, memory hotplug: undo_isolate; own rule).
+/// A Cancel that is not refused, whether it restores or releases, gives each block of its
+/// operation's plan the row that it had just before the Begin (Linux, memory hotplug: undo_isolate;
+/// own rule).
 pub fn cancels_give_rows_back()
-    ensures { (l : LayoutParts) (base : Memory) (before : ℕ) (h : List Record) (r : Record) (place : ℕ) (b : Record) (plan : List Item) → IsLayout l → IsWellPlaced l base
-        → IsLegal l base before (h ++ r ∷ []) → BeginsAt (net_of h) place b plan → r.event ≡ Cancel b.serial → is_refused r.reply ≡ false
-        → RowsAre (value_of l base (h ++ r ∷ [])) plan (λ item. row_of (state_before l base before h b).blocks item.block) }
+    ensures { (l : LayoutParts) (base : Memory) (before : ℕ) (h : List Record) (r : Record) (place : ℕ)
+        (b : Record) (plan : List Item)
+        → IsLayout l → IsWellPlaced l base
+        → IsLegal l base before (h ++ r ∷ []) → BeginsAt (net_of h) place b plan → r.event ≡ Cancel b.serial
+        → is_refused r.reply ≡ false
+        → RowsAre (value_of l base (h ++ r ∷ [])) plan
+        (λ item. row_of (state_before l base before h b).blocks item.block) }
 {}

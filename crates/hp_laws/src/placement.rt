@@ -21,22 +21,27 @@ pub fn boot_is_well_placed()
     ensures { (l : LayoutParts) → IsLayout l → IsWellPlaced l (boot_memory l) }
 {}
 
-/// Each step of a well placed state leads to a well placed state, whatever the event and the processor (own rule).
+/// Each step of a well placed state leads to a well placed state, whatever the event and the
+/// processor (own rule).
 pub fn steps_keep_placement()
-    ensures { (l : LayoutParts) (s : Memory) (serial cpu : ℕ) (event : Event) → IsLayout l → IsWellPlaced l s → IsWellPlaced l (step l s serial cpu event).memory }
+    ensures { (l : LayoutParts) (s : Memory) (serial cpu : ℕ) (event : Event) → IsLayout l → IsWellPlaced l s
+        → IsWellPlaced l (step l s serial cpu event).memory }
 {}
 
-/// The numbers in a well placed state are those of its layout: frames, orders and words, and how many lists, kinds, pages
-/// and rows there are. That is what each step needs of the state that it works on (own rule).
+/// The numbers in a well placed state are those of its layout: frames, orders and words, and how
+/// many lists, kinds, pages and rows there are. That is what each step needs of the state that it
+/// works on (own rule).
 pub fn well_placed_states_fit_their_layout()
     ensures { (l : LayoutParts) (s : Memory) → IsLayout l → IsWellPlaced l s → IsMemoryOf l s }
 {}
 
-/// Each history from a well placed base state leads to a well placed state, and so does each from the state at the start
-/// (own rule).
+/// Each history from a well placed base state leads to a well placed state, and so does each from
+/// the state at the start (own rule).
 pub fn histories_keep_placement()
-    ensures base { (l : LayoutParts) (base : Memory) (h : List Record) → IsLayout l → IsWellPlaced l base → IsWellPlaced l (value_of l base h) }
-    ensures boot { (l : LayoutParts) (h : List Record) → IsLayout l → IsWellPlaced l (value_of l (boot_memory l) h) }
+    ensures base { (l : LayoutParts) (base : Memory) (h : List Record) → IsLayout l → IsWellPlaced l base
+        → IsWellPlaced l (value_of l base h) }
+    ensures boot { (l : LayoutParts) (h : List Record) → IsLayout l
+        → IsWellPlaced l (value_of l (boot_memory l) h) }
 {}
 
 /// In a well placed state a free frame, in the areas or on a processor's list, holds no page and is
@@ -47,7 +52,8 @@ pub fn free_frames_are_not_in_use()
         → mapped_places s.pages frame + kernel_places s frame ≡ 0 }
     ensures unplugged { (l : LayoutParts) (s : Memory) (frame : ℕ) → IsWellPlaced l s
         → is_unplugged (row_of s.blocks (block_of l frame)) ≡ true
-        → free_places s.free.areas frame + cached_places s.free frame + mapped_places s.pages frame + kernel_places s frame ≡ 0 }
+        → free_places s.free.areas frame + cached_places s.free frame + mapped_places s.pages frame
+        + kernel_places s frame ≡ 0 }
 {}
 
 /// A migration gives the page at its old frame the new one and leaves each other page where it is; it
@@ -61,8 +67,8 @@ pub fn migrations_move_no_word()
         ≡ option_map (λ frame. if frame == from then to else frame) (frame_at s.pages owner page) }
 {}
 
-/// The contents of the pages are what Map, Unmap and Write of the net make of the base state's: no drain, migration,
-/// operation or block changes them (own rule).
+/// The contents of the pages are what Map, Unmap and Write of the net make of the base state's: no
+/// drain, migration, operation or block changes them (own rule).
 pub fn contents_follow_net()
     ensures { (l : LayoutParts) (base : Memory) (before : ℕ) (h : List Record) → IsLegal l base before h
         → (value_of l base h).pages.contents ≡ contents_of_net l base.pages.contents (net_of h) }

@@ -28,7 +28,8 @@ xor_odd t =
 pub buddy-multiple : (q order : ℕ) → buddy (q * 2 ^ order) order ≡ bit_xor q 1 * 2 ^ order
 buddy-multiple q order =
     let some : 0 < 2 ^ order = pow_pos order in
-    let e : bit_xor (q * 2 ^ order + 0) (1 * 2 ^ order + 0) ≡ bit_xor q 1 * 2 ^ order + 0 = xor_block order q 1 0 0 some some in
+    let e : bit_xor (q * 2 ^ order + 0) (1 * 2 ^ order + 0) ≡ bit_xor q 1 * 2 ^ order + 0 =
+    xor_block order q 1 0 0 some some in
     let one : 1 * 2 ^ order ≡ 2 ^ order = omega arith in
     simp (add-zero, one) at e
 
@@ -54,15 +55,18 @@ aligned_ancestor first order e = sym (multiple first order e)
 
 -- a multiple is aligned
 pub multiple_aligned : (q order : ℕ) → q * 2 ^ order % 2 ^ order ≡ 0
-multiple_aligned q order = omega (arith, shr_split (q * 2 ^ order) order, ap (λ (n : ℕ). n * 2 ^ order) (shl-shr q order))
+multiple_aligned q order =
+    omega (arith, shr_split (q * 2 ^ order) order, ap (λ (n : ℕ). n * 2 ^ order) (shl-shr q order))
 
 -- a block and its buddy are two, and each is the other's
-pub twice : (t order first : ℕ) → (first ≡ t * 2 * 2 ^ order) ⊎ (first ≡ t * 2 * 2 ^ order + 2 ^ order) → buddy (buddy first order) order ≡ first
+pub twice : (t order first : ℕ) → (first ≡ t * 2 * 2 ^ order) ⊎ (first ≡ t * 2 * 2 ^ order + 2 ^ order)
+    → buddy (buddy first order) order ≡ first
 twice t order first (inl e) = rw (e, buddy_even, buddy_odd) refl
 twice t order first (inr e) = rw (e, buddy_odd, buddy_even) refl
 
 -- a block is not its buddy, by its parity
-pub two : (t order first : ℕ) → (first ≡ t * 2 * 2 ^ order) ⊎ (first ≡ t * 2 * 2 ^ order + 2 ^ order) → first ≢ buddy first order
+pub two : (t order first : ℕ) → (first ≡ t * 2 * 2 ^ order) ⊎ (first ≡ t * 2 * 2 ^ order + 2 ^ order)
+    → first ≢ buddy first order
 two t order first (inl e) same =
     let some : 0 < 2 ^ order = pow_pos order in
     let b = rw (e, buddy_even) at same in
@@ -82,11 +86,15 @@ parity first order q e (inr h) =
 
 -- each is the other one's buddy
 pub buddy-buddy : (first order : ℕ) → first % 2 ^ order ≡ 0 → buddy (buddy first order) order ≡ first
-buddy-buddy first order e = twice (first / 2 ^ order / 2) order first (parity first order (first / 2 ^ order) (multiple first order e) (half_cases (first / 2 ^ order)))
+buddy-buddy first order e =
+    twice (first / 2 ^ order / 2) order first
+    (parity first order (first / 2 ^ order) (multiple first order e) (half_cases (first / 2 ^ order)))
 
 -- a block is not its buddy
 pub buddy-other : (first order : ℕ) → first % 2 ^ order ≡ 0 → first ≢ buddy first order
-buddy-other first order e = two (first / 2 ^ order / 2) order first (parity first order (first / 2 ^ order) (multiple first order e) (half_cases (first / 2 ^ order)))
+buddy-other first order e =
+    two (first / 2 ^ order / 2) order first
+    (parity first order (first / 2 ^ order) (multiple first order e) (half_cases (first / 2 ^ order)))
 
 -- ---- pageblocks
 
@@ -94,13 +102,15 @@ buddy-other first order e = two (first / 2 ^ order / 2) order first (parity firs
 pub same_above : (f g order top : ℕ) → order ≤ top → f / 2 ^ order ≡ g / 2 ^ order → f / 2 ^ top ≡ g / 2 ^ top
 same_above f g order top h e =
     let sum : top ≡ order + (top - order) = omega arith in
-    rw sum (sym (shr-shr f order (top - order)) ∙ ap (λ (n : ℕ). n / 2 ^ (top - order)) e ∙ shr-shr g order (top - order))
+    rw sum (sym (shr-shr f order (top - order)) ∙ ap (λ (n : ℕ). n / 2 ^ (top - order)) e
+    ∙ shr-shr g order (top - order))
 
 -- a block lies in the same greater blocks
 pub ancestor_above : (f order top : ℕ) → order ≤ top → ancestor f order / 2 ^ top ≡ f / 2 ^ top
 ancestor_above f order top h = same_above (ancestor f order) f order top h (shl-shr (f / 2 ^ order) order)
 
--- the upper half of a block: it is aligned, its buddy is the lower half, and it lies in the same greater blocks
+-- the upper half of a block: it is aligned, its buddy is the lower half, and it lies in the same
+-- greater blocks
 pub record IsUpperHalf (first last top : ℕ) : Type 0 where
   pub aligned : (first + 2 ^ last) % 2 ^ last ≡ 0
   pub lower_aligned : first % 2 ^ last ≡ 0
@@ -108,13 +118,15 @@ pub record IsUpperHalf (first last top : ℕ) : Type 0 where
   pub above : (first + 2 ^ last) / 2 ^ top ≡ first / 2 ^ top
 
 -- of a multiple
-pub upper_half_of : (q first last top : ℕ) → first ≡ q * 2 ^ suc last → suc last ≤ top → IsUpperHalf first last top
+pub upper_half_of : (q first last top : ℕ) → first ≡ q * 2 ^ suc last → suc last ≤ top
+    → IsUpperHalf first last top
 upper_half_of q first last top e h =
     let some : 0 < 2 ^ last = pow_pos last in
     let less : 2 ^ last < 2 ^ suc last = rw pow-suc (omega arith) in
     let double : first ≡ q * 2 * 2 ^ last = e ∙ rw pow-suc (grind arith) in
     let next : first + 2 ^ last ≡ (q * 2 + 1) * 2 ^ last = grind arith in
-    let here : (q * 2 ^ suc last + 2 ^ last) / 2 ^ suc last ≡ q = div-mul-add q (2 ^ suc last) (2 ^ last) less in
+    let here : (q * 2 ^ suc last + 2 ^ last) / 2 ^ suc last ≡ q =
+    div-mul-add q (2 ^ suc last) (2 ^ last) less in
     let there : q * 2 ^ suc last / 2 ^ suc last ≡ q = shl-shr q (suc last) in
     record {
       aligned = rw next (multiple_aligned (q * 2 + 1) last);
@@ -125,18 +137,22 @@ upper_half_of q first last top e h =
 
 -- of an aligned block
 pub upper_half : (first last top : ℕ) → first % 2 ^ suc last ≡ 0 → suc last ≤ top → IsUpperHalf first last top
-upper_half first last top e h = upper_half_of (first / 2 ^ suc last) first last top (multiple first (suc last) e) h
+upper_half first last top e h =
+    upper_half_of (first / 2 ^ suc last) first last top (multiple first (suc last) e) h
 
 -- a block aligned to an order is aligned to each lower one
 pub below_aligned : (order count first : ℕ) → first % 2 ^ (order + count) ≡ 0 → first % 2 ^ order ≡ 0
 below_aligned order count first e =
     let some : 0 < 2 ^ order = pow_pos order in
     let here : first ≡ first / 2 ^ (order + count) * 2 ^ (order + count) = multiple first (order + count) e in
-    let there : first ≡ first / 2 ^ (order + count) * 2 ^ count * 2 ^ order = here ∙ rw pow-add (grind arith) in
+    let there : first ≡ first / 2 ^ (order + count) * 2 ^ count * 2 ^ order =
+    here ∙ rw pow-add (grind arith) in
     rw there (multiple_aligned (first / 2 ^ (order + count) * 2 ^ count) order)
 
 -- a block and its buddy lie in the same greater blocks
-pub above_of : (t order top first : ℕ) → suc order ≤ top → (first ≡ t * 2 * 2 ^ order) ⊎ (first ≡ t * 2 * 2 ^ order + 2 ^ order) → buddy first order / 2 ^ top ≡ first / 2 ^ top
+pub above_of : (t order top first : ℕ) → suc order ≤ top
+    → (first ≡ t * 2 * 2 ^ order) ⊎ (first ≡ t * 2 * 2 ^ order + 2 ^ order)
+    → buddy first order / 2 ^ top ≡ first / 2 ^ top
 above_of t order top first h (inl e) =
     let double : t * 2 * 2 ^ order ≡ t * 2 ^ suc order = rw pow-suc (grind arith) in
     let half = upper_half_of t (t * 2 * 2 ^ order) order top double h in
@@ -147,12 +163,16 @@ above_of t order top first h (inr e) =
     rw (e, buddy_odd) (sym half.above)
 
 -- of an aligned block
-pub buddy_above : (first order top : ℕ) → first % 2 ^ order ≡ 0 → suc order ≤ top → buddy first order / 2 ^ top ≡ first / 2 ^ top
+pub buddy_above : (first order top : ℕ) → first % 2 ^ order ≡ 0 → suc order ≤ top
+    → buddy first order / 2 ^ top ≡ first / 2 ^ top
 buddy_above first order top e h =
-    above_of (first / 2 ^ order / 2) order top first h (parity first order (first / 2 ^ order) (multiple first order e) (half_cases (first / 2 ^ order)))
+    above_of (first / 2 ^ order / 2) order top first h
+    (parity first order (first / 2 ^ order) (multiple first order e) (half_cases (first / 2 ^ order)))
 
 -- a frame of the layout is in a pageblock of the layout
-pub pageblock_in : (l : LayoutParts) (frame : ℕ) → frame < frame_count l → pageblock_of l frame < pageblock_count l
+pub pageblock_in : (l : LayoutParts) (frame : ℕ) → frame < frame_count l
+    → pageblock_of l frame < pageblock_count l
 pageblock_in l frame h =
-    let turned : l.blocks * (l.pageblocks * 2 ^ l.order) ≡ l.blocks * l.pageblocks * 2 ^ l.order = grind arith in
+    let turned : l.blocks * (l.pageblocks * 2 ^ l.order) ≡ l.blocks * l.pageblocks * 2 ^ l.order =
+    grind arith in
     div_below frame (2 ^ l.order) (l.blocks * l.pageblocks) (pow_pos l.order) (omega arith)

@@ -17,11 +17,13 @@ use Rattle.hp_lemmas.proofs.Places.{covered-halves, list_places-cons, HasOrder, 
 
 -- a block and its buddy are the two halves of the block above them
 pub covered-buddies : (frame order q : ℕ)
-    → covered frame order (q * 2 ^ order) + covered frame order (buddy (q * 2 ^ order) order) ≡ covered frame (suc order) (q / 2 * 2 ^ suc order)
+    → covered frame order (q * 2 ^ order) + covered frame order (buddy (q * 2 ^ order) order)
+    ≡ covered frame (suc order) (q / 2 * 2 ^ suc order)
 covered-buddies frame order q = by_half (q / 2) (half_cases q)
   where
     by_half : (t : ℕ) → (q ≡ t * 2) ⊎ (q ≡ t * 2 + 1)
-        → covered frame order (q * 2 ^ order) + covered frame order (buddy (q * 2 ^ order) order) ≡ covered frame (suc order) (t * 2 ^ suc order)
+        → covered frame order (q * 2 ^ order) + covered frame order (buddy (q * 2 ^ order) order)
+        ≡ covered frame (suc order) (t * 2 ^ suc order)
     by_half t (inl e) =
         let double : t * 2 * 2 ^ order ≡ t * 2 ^ suc order = rw pow-suc (grind arith) in
         let next : (t * 2 + 1) * 2 ^ order ≡ t * 2 ^ suc order + 2 ^ order = rw pow-suc (grind arith) in
@@ -29,32 +31,41 @@ covered-buddies frame order q = by_half (q / 2) (half_cases q)
     by_half t (inr e) =
         let double : t * 2 * 2 ^ order ≡ t * 2 ^ suc order = rw pow-suc (grind arith) in
         let next : (t * 2 + 1) * 2 ^ order ≡ t * 2 ^ suc order + 2 ^ order = rw pow-suc (grind arith) in
-        rw (e, buddy-multiple, xor_odd, double, next) (omega (arith, covered-halves frame order (t * 2 ^ suc order)))
+        rw (e, buddy-multiple, xor_odd, double, next)
+        (omega (arith, covered-halves frame order (t * 2 ^ suc order)))
 
 -- the same of the blocks that a frame lies in
 pub covered-ancestors : (frame order first : ℕ)
-    → covered frame order (ancestor first order) + covered frame order (buddy (ancestor first order) order) ≡ covered frame (suc order) (ancestor first (suc order))
+    → covered frame order (ancestor first order) + covered frame order (buddy (ancestor first order) order)
+    ≡ covered frame (suc order) (ancestor first (suc order))
 covered-ancestors frame order first =
-    let half : first / 2 ^ suc order ≡ first / 2 ^ order / 2 = rw pow-suc (sym (div-div-eq-div-mul first (2 ^ order) 2)) in
+    let half : first / 2 ^ suc order ≡ first / 2 ^ order / 2 =
+    rw pow-suc (sym (div-div-eq-div-mul first (2 ^ order) 2)) in
     rw half (covered-buddies frame order (first / 2 ^ order))
 
 -- ---- a free block leaves its list
 
 -- a list keeps its first frame
-pub keep : (same other : Bool) (x : ℕ) (xs ys : List ℕ) → (same || other) ≡ false → (other ≡ false → ys ≡ xs) → cond (not same) (x ∷ ys) ys ≡ x ∷ xs
+pub keep : (same other : Bool) (x : ℕ) (xs ys : List ℕ) → (same || other) ≡ false → (other ≡ false → ys ≡ xs)
+    → cond (not same) (x ∷ ys) ys ≡ x ∷ xs
 keep true other x xs ys e h = cc
 keep false other x xs ys e h = ap (λ (r : List ℕ). x ∷ r) (h e)
 
 -- a list without a frame that is not on it
 pub is_on-none : (block : ℕ) (frames : List ℕ) → is_on block frames ≡ false → without block frames ≡ frames
 is_on-none block [] e = refl
-is_on-none block (x ∷ xs) e = keep (x == block) (is_on block xs) x xs (without block xs) e (is_on-none block xs)
+is_on-none block (x ∷ xs) e =
+    keep (x == block) (is_on block xs) x xs (without block xs) e (is_on-none block xs)
 
 -- one frame of a list
-pub leaves-step : (same other : Bool) (frame order block x : ℕ) (xs ys : List ℕ) → (same ≡ true → x ≡ block) → (same || other) ≡ true
-    → list_places block order (x ∷ xs) ≤ 1 → (other ≡ true → 1 ≤ list_places block order xs) → (other ≡ false → ys ≡ xs)
-    → (other ≡ true → list_places block order xs ≤ 1 → list_places frame order ys + covered frame order block ≡ list_places frame order xs)
-    → list_places frame order (cond (not same) (x ∷ ys) ys) + covered frame order block ≡ list_places frame order (x ∷ xs)
+pub leaves-step : (same other : Bool) (frame order block x : ℕ) (xs ys : List ℕ) → (same ≡ true → x ≡ block)
+    → (same || other) ≡ true
+    → list_places block order (x ∷ xs) ≤ 1 → (other ≡ true → 1 ≤ list_places block order xs)
+    → (other ≡ false → ys ≡ xs)
+    → (other ≡ true → list_places block order xs ≤ 1
+    → list_places frame order ys + covered frame order block ≡ list_places frame order xs)
+    → list_places frame order (cond (not same) (x ∷ ys) ys) + covered frame order block
+    ≡ list_places frame order (x ∷ xs)
 leaves-step true true frame order block x xs ys is e once some none rest =
     let same : x ≡ block = is refl in
     let two : 1 + list_places block order xs ≤ 1 = rw (list_places-cons, same, covered-self) at once in
@@ -69,11 +80,14 @@ leaves-step false other frame order block x xs ys is e once some none rest =
     omega (arith, rest e less, list_places-cons frame order x xs, list_places-cons frame order x ys)
 
 -- a block leaves a list
-pub without-places : (frame order block : ℕ) (frames : List ℕ) → is_on block frames ≡ true → list_places block order frames ≤ 1
-    → list_places frame order (without block frames) + covered frame order block ≡ list_places frame order frames
+pub without-places : (frame order block : ℕ) (frames : List ℕ) → is_on block frames ≡ true
+    → list_places block order frames ≤ 1
+    → list_places frame order (without block frames) + covered frame order block
+    ≡ list_places frame order frames
 without-places frame order block [] on once = cc
 without-places frame order block (x ∷ xs) on once =
-    leaves-step (x == block) (is_on block xs) frame order block x xs (without block xs) (eqb-true x block) on once
+    leaves-step (x == block) (is_on block xs) frame order block x xs (without block xs) (eqb-true x block) on
+    once
     (on-places block order xs) (is_on-none block xs) (without-places frame order block xs)
 
 -- the lists of other orders
@@ -84,30 +98,38 @@ free_list-other a class order other frames ne =
     get_or-set_other a.lists (5 * order + class_index class) (5 * other + class_index class) frames [] apart
 
 -- a free block leaves
-pub without_free-places : (a : FreeAreas) (class : Class) (order block frame : ℕ) → HasOrder a order → free_places a block ≤ 1
-    → is_on block (free_list a class order) ≡ true → free_places (without_free a class order block) frame + covered frame order block ≡ free_places a frame
+pub without_free-places : (a : FreeAreas) (class : Class) (order block frame : ℕ) → HasOrder a order
+    → free_places a block ≤ 1
+    → is_on block (free_list a class order) ≡ true
+    → free_places (without_free a class order block) frame + covered frame order block ≡ free_places a frame
 without_free-places a class order block frame h once on =
     omega (
       arith,
       with_free_list-places a class order frame (without block (free_list a class order)) h,
-      without-places frame order block (free_list a class order) on (omega (arith, list_places-le a class order block h)),
+      without-places frame order block (free_list a class order) on
+          (omega (arith, list_places-le a class order block h)),
     )
 
 -- one frame of a list
-pub less-step : (same : Bool) (frame order x : ℕ) (xs ys : List ℕ) → list_places frame order ys ≤ list_places frame order xs
+pub less-step : (same : Bool) (frame order x : ℕ) (xs ys : List ℕ)
+    → list_places frame order ys ≤ list_places frame order xs
     → list_places frame order (cond (not same) (x ∷ ys) ys) ≤ list_places frame order (x ∷ xs)
 less-step true frame order x xs ys h = omega (arith, list_places-cons frame order x xs)
-less-step false frame order x xs ys h = omega (arith, list_places-cons frame order x xs, list_places-cons frame order x ys)
+less-step false frame order x xs ys h =
+    omega (arith, list_places-cons frame order x xs, list_places-cons frame order x ys)
 
 -- a list without a frame has no more
-pub without-le : (frame order block : ℕ) (frames : List ℕ) → list_places frame order (without block frames) ≤ list_places frame order frames
+pub without-le : (frame order block : ℕ) (frames : List ℕ)
+    → list_places frame order (without block frames) ≤ list_places frame order frames
 without-le frame order block [] = omega arith
-without-le frame order block (x ∷ xs) = less-step (x == block) frame order x xs (without block xs) (without-le frame order block xs)
+without-le frame order block (x ∷ xs) =
+    less-step (x == block) frame order x xs (without block xs) (without-le frame order block xs)
 
 -- ---- the buddies leave
 
 -- without buddies there are no more
-pub without_buddies-le : (a : FreeAreas) (class : Class) (first order count frame : ℕ) → 5 * (order + count) ≤ length a.lists
+pub without_buddies-le : (a : FreeAreas) (class : Class) (first order count frame : ℕ)
+    → 5 * (order + count) ≤ length a.lists
     → free_places (without_buddies a class first order count) frame ≤ free_places a frame
 without_buddies-le a class first order zero frame h = omega arith
 without_buddies-le a class first order (suc count) frame h =
@@ -117,7 +139,8 @@ without_buddies-le a class first order (suc count) frame h =
     let has : HasOrder rest (order + count) = omega (arith, size.lists) in
     omega (
       arith,
-      with_free_list-places rest class (order + count) frame (without block (free_list rest class (order + count))) has,
+      with_free_list-places rest class (order + count) frame
+          (without block (free_list rest class (order + count))) has,
       without-le frame (order + count) block (free_list rest class (order + count)),
       without_buddies-le a class first order count frame (omega arith),
     )
@@ -128,7 +151,8 @@ HasBuddies a class first order count =
     (i : ℕ) → order ≤ i → i < order + count → is_on (buddy (ancestor first i) i) (free_list a class i) ≡ true
 
 -- the lists of orders above
-pub without_buddies-other : (a : FreeAreas) (class : Class) (first order count other : ℕ) → order + count ≤ other
+pub without_buddies-other : (a : FreeAreas) (class : Class) (first order count other : ℕ)
+    → order + count ≤ other
     → free_list (without_buddies a class first order count) class other ≡ free_list a class other
 without_buddies-other a class first order zero other h = refl
 without_buddies-other a class first order (suc count) other h =
@@ -136,9 +160,11 @@ without_buddies-other a class first order (suc count) other h =
     ∙ without_buddies-other a class first order count other (omega arith)
 
 -- the buddies and the block are the block joined
-pub without_buddies-places : (a : FreeAreas) (class : Class) (first order count frame : ℕ) → 5 * (order + count) ≤ length a.lists
+pub without_buddies-places : (a : FreeAreas) (class : Class) (first order count frame : ℕ)
+    → 5 * (order + count) ≤ length a.lists
     → ((g : ℕ) → free_places a g ≤ 1) → HasBuddies a class first order count
-    → free_places (without_buddies a class first order count) frame + covered frame (order + count) (ancestor first (order + count))
+    → free_places (without_buddies a class first order count) frame
+    + covered frame (order + count) (ancestor first (order + count))
     ≡ free_places a frame + covered frame order (ancestor first order)
 without_buddies-places a class first order zero frame h once buddies = rw add-zero refl
 without_buddies-places a class first order (suc count) frame h once buddies =
@@ -148,8 +174,11 @@ without_buddies-places a class first order (suc count) frame h once buddies =
     let size = without_buddies-size a class first order count in
     let has : HasOrder rest (order + count) = omega (arith, size.lists) in
     let before : HasBuddies a class first order count = λ i low high. buddies i low (omega arith) in
-    let here = rw (sym (without_buddies-other a class first order count (order + count) (omega arith))) at (buddies (order + count) (omega arith) (omega arith)) in
-    let few : free_places rest block ≤ 1 = omega (arith, once block, without_buddies-le a class first order count block (omega arith)) in
+    let here =
+    rw (sym (without_buddies-other a class first order count (order + count) (omega arith))) at
+    (buddies (order + count) (omega arith) (omega arith)) in
+    let few : free_places rest block ≤ 1 =
+    omega (arith, once block, without_buddies-le a class first order count block (omega arith)) in
     rw add-suc (omega (
       arith,
       without_free-places rest class (order + count) block frame has few here,
@@ -163,41 +192,63 @@ without_buddies-places a class first order (suc count) frame h once buddies =
 pub record JoinsTo (a : FreeAreas) (class : Class) (first order count joined : ℕ) : Type 0 where
   pub low : order ≤ joined
   pub high : joined ≤ order + count
-  pub buddies : (i : ℕ) → order ≤ i → i < joined → is_on (buddy (ancestor first i) i) (free_list a class i) ≡ true
+  pub buddies : (i : ℕ) → order ≤ i → i < joined
+      → is_on (buddy (ancestor first i) i) (free_list a class i) ≡ true
 
 -- the first order, or one above
 pub order_cases : (order i : ℕ) → order ≤ i → (order ≡ i) ⊎ (suc order ≤ i)
 order_cases order i h = grind arith
 
 -- one order more
-pub joins-step : (on : Bool) (a : FreeAreas) (class : Class) (first order count joined : ℕ) → is_on (buddy (ancestor first order) order) (free_list a class order) ≡ on
-    → JoinsTo a class first (suc order) count joined → JoinsTo a class first order (suc count) (cond on joined order)
+pub joins-step : (on : Bool) (a : FreeAreas) (class : Class) (first order count joined : ℕ)
+    → is_on (buddy (ancestor first order) order) (free_list a class order) ≡ on
+    → JoinsTo a class first (suc order) count joined
+    → JoinsTo a class first order (suc count) (cond on joined order)
 joins-step true a class first order count joined e h = record {
   low = omega (arith, h.low);
   high = omega (arith, h.high);
-  buddies = λ i low high. elim (order_cases order i low) [ inl same ↦ subst (λ (j : ℕ). is_on (buddy (ancestor first j) j) (free_list a class j) ≡ true) same e | inr above ↦ h.buddies i above high ];
+  buddies =
+      λ i low high. elim (order_cases order i low) [
+        | inl same ↦ subst (λ (j : ℕ). is_on (buddy (ancestor first j) j) (free_list a class j) ≡ true) same e
+        | inr above ↦ h.buddies i above high
+      ];
 }
-joins-step false a class first order count joined e h = record { low = omega arith; high = omega arith; buddies = λ i low high. absurd (omega arith) }
+joins-step false a class first order count joined e h =
+    record { low = omega arith; high = omega arith; buddies = λ i low high. absurd (omega arith) }
 
 -- it is what is joined up to
-pub join_order-joins : (a : FreeAreas) (class : Class) (first order count : ℕ) → JoinsTo a class first order count (join_order a class first order count)
-join_order-joins a class first order zero = record { low = omega arith; high = omega arith; buddies = λ i low high. absurd (omega arith) }
+pub join_order-joins : (a : FreeAreas) (class : Class) (first order count : ℕ)
+    → JoinsTo a class first order count (join_order a class first order count)
+join_order-joins a class first order zero =
+    record { low = omega arith; high = omega arith; buddies = λ i low high. absurd (omega arith) }
 join_order-joins a class first order (suc count) =
-    joins-step (is_on (buddy (ancestor first order) order) (free_list a class order)) a class first order count (join_order a class first (suc order) count)
+    joins-step (is_on (buddy (ancestor first order) order) (free_list a class order)) a class first order
+    count (join_order a class first (suc order) count)
     refl (join_order-joins a class first (suc order) count)
 
 -- ---- a block comes back: its frames are in one free block more, and all others in as many
-pub give_block-places : (l : LayoutParts) (a : FreeAreas) (zone : Zone) (first order frame : ℕ) → length a.lists ≡ 5 * (l.order + 1) → order ≤ l.order
+pub give_block-places : (l : LayoutParts) (a : FreeAreas) (zone : Zone) (first order frame : ℕ)
+    → length a.lists ≡ 5 * (l.order + 1) → order ≤ l.order
     → ancestor first order ≡ first → ((g : ℕ) → free_places a g ≤ 1)
     → free_places (give_block l a zone first order) frame ≡ free_places a frame + covered frame order first
 unfolding give_block
 give_block-places l a zone first order frame size h aligned once =
     let class : Class = class_of l a zone first in
     let joined : ℕ = join_order a class first order (l.order - order) in
-    let joins : JoinsTo a class first order (l.order - order) joined = join_order-joins a class first order (l.order - order) in
+    let joins : JoinsTo a class first order (l.order - order) joined =
+    join_order-joins a class first order (l.order - order) in
     let top : order + (joined - order) ≡ joined = omega (arith, joins.low) in
-    let buddies : HasBuddies a class first order (joined - order) = λ i low high. joins.buddies i low (omega (arith, joins.low)) in
-    let left = rw (top, aligned) at (without_buddies-places a class first order (joined - order) frame (omega (arith, joins.low, joins.high)) once buddies) in
+    let buddies : HasBuddies a class first order (joined - order) =
+    λ i low high. joins.buddies i low (omega (arith, joins.low)) in
+    let left =
+    rw (top, aligned) at (without_buddies-places a class first order (joined - order) frame
+    (omega (arith, joins.low, joins.high)) once buddies) in
     let sizes = without_buddies-size a class first order (joined - order) in
-    let has : HasOrder (without_buddies a class first order (joined - order)) joined = omega (arith, sizes.lists, joins.high) in
-    omega (arith, left, with_front-places (without_buddies a class first order (joined - order)) class joined (ancestor first joined) frame has)
+    let has : HasOrder (without_buddies a class first order (joined - order)) joined =
+    omega (arith, sizes.lists, joins.high) in
+    omega (
+      arith,
+      left,
+      with_front-places (without_buddies a class first order (joined - order)) class joined
+          (ancestor first joined) frame has,
+    )

@@ -7,7 +7,8 @@ use Rattle.std.proofs.lemmas.List.Sums.{sum_by-set}
 use Rattle.hp_units.specs.Memory.{Memory, kernel_order, with_kernel_order}
 use Rattle.hp_units.specs.Placement.{covers, kernel_places}
 
-pub enumerate-set : {X : Type 0} (n : ℕ) (xs : List X) (i : ℕ) (x : X) → enumerate_from n (set xs i x) ≡ set (enumerate_from n xs) i (n + i, x)
+pub enumerate-set : {X : Type 0} (n : ℕ) (xs : List X) (i : ℕ) (x : X)
+    → enumerate_from n (set xs i x) ≡ set (enumerate_from n xs) i (n + i, x)
 enumerate-set n [] i x = refl
 enumerate-set n (y ∷ ys) zero x = rw add-zero refl
 enumerate-set n (y ∷ ys) (suc i) x =
@@ -19,14 +20,23 @@ abbrev pub kernel_covered : (frame first : ℕ) → Option ℕ → ℕ
 kernel_covered frame first entry = cond (option_map_or (λ order. covers frame order first) entry false) 1 0
 
 pub kernel-places : (s : Memory) (first frame : ℕ) (entry : Option ℕ) → first < length s.kernel
-    → kernel_places (with_kernel_order s first entry) frame + kernel_covered frame first (kernel_order s first) ≡ kernel_places s frame + kernel_covered frame first entry
+    → kernel_places (with_kernel_order s first entry) frame + kernel_covered frame first
+    (kernel_order s first) ≡ kernel_places s frame + kernel_covered frame first entry
 kernel-places s first frame entry h =
     let f = λ (e : ℕ × Option ℕ). kernel_covered frame e.0 e.1 in
     let low : first < length (enumerate_from 0 s.kernel) = rw length-enumerate_from h in
-    let at : get_or (enumerate_from 0 s.kernel) first (0, None) ≡ (0 + first, get_or s.kernel first None) = get_or-enumerate_from 0 s.kernel first (0, None) h in
+    let at : get_or (enumerate_from 0 s.kernel) first (0, None) ≡ (0 + first, get_or s.kernel first None) =
+    get_or-enumerate_from 0 s.kernel first (0, None) h in
     let zero_sum : 0 + first ≡ first = omega arith in
-    let sum : sum_by f (set (enumerate_from 0 s.kernel) first (0 + first, entry)) + f (get_or (enumerate_from 0 s.kernel) first (0, None)) ≡ sum_by f (enumerate_from 0 s.kernel) + f (0 + first, entry) =
+    let sum : sum_by f (set (enumerate_from 0 s.kernel) first (0 + first, entry))
+    + f (get_or (enumerate_from 0 s.kernel) first (0, None)) ≡ sum_by f (enumerate_from 0 s.kernel)
+    + f (0 + first, entry) =
     sum_by-set f (enumerate_from 0 s.kernel) first (0 + first, entry) (0, None) low in
-    let there = subst (λ (e : ℕ × Option ℕ). sum_by f (set (enumerate_from 0 s.kernel) first (0 + first, entry)) + f e ≡ sum_by f (enumerate_from 0 s.kernel) + f (0 + first, entry)) at sum in
-    let whole = subst (λ (es : List (ℕ × Option ℕ)). sum_by f es + f (0 + first, get_or s.kernel first None) ≡ sum_by f (enumerate_from 0 s.kernel) + f (0 + first, entry)) (sym (enumerate-set 0 s.kernel first entry)) there in
+    let there =
+    subst (λ (e : ℕ × Option ℕ). sum_by f (set (enumerate_from 0 s.kernel) first (0 + first, entry)) + f e
+    ≡ sum_by f (enumerate_from 0 s.kernel) + f (0 + first, entry)) at sum in
+    let whole =
+    subst (λ (es : List (ℕ × Option ℕ)). sum_by f es
+    + f (0 + first, get_or s.kernel first None) ≡ sum_by f (enumerate_from 0 s.kernel)
+    + f (0 + first, entry)) (sym (enumerate-set 0 s.kernel first entry)) there in
     rw zero_sum at whole

@@ -14,8 +14,11 @@ use Rattle.hp_lemmas.proofs.Places.{list_places-cons, HasOrder, with_free_list-p
 -- ---- whether a frame is on a list
 
 -- a frame on a list is its first one or on the rest
-pub on_cases : (frame x : ℕ) (xs : List ℕ) → is_on frame (x ∷ xs) ≡ true → (x ≡ frame) ⊎ (is_on frame xs ≡ true)
-on_cases frame x xs e = elim (or_cases (x == frame) (is_on frame xs) e) [ inl same ↦ inl (eqb-true x frame same) | inr on ↦ inr on ]
+pub on_cases : (frame x : ℕ) (xs : List ℕ) → is_on frame (x ∷ xs) ≡ true
+    → (x ≡ frame) ⊎ (is_on frame xs ≡ true)
+on_cases frame x xs e =
+    elim (or_cases (x == frame) (is_on frame xs) e)
+    [ inl same ↦ inl (eqb-true x frame same) | inr on ↦ inr on ]
 
 -- a frame on the rest is on the list
 pub on_tail : (frame x : ℕ) (xs : List ℕ) → is_on frame xs ≡ true → is_on frame (x ∷ xs) ≡ true
@@ -30,7 +33,8 @@ pub off_cons : (frame x : ℕ) (xs : List ℕ) → x ≢ frame → is_on frame x
 off_cons frame x xs ne e = or_from (x == frame) (is_on frame xs) (ne_eqb x frame ne) e
 
 -- one frame of a list
-pub without-step : (same : Bool) (frame x : ℕ) (xs ys : List ℕ) → (is_on frame ys ≡ true → is_on frame xs ≡ true)
+pub without-step : (same : Bool) (frame x : ℕ) (xs ys : List ℕ)
+    → (is_on frame ys ≡ true → is_on frame xs ≡ true)
     → is_on frame (cond (not same) (x ∷ ys) ys) ≡ true → is_on frame (x ∷ xs) ≡ true
 without-step true frame x xs ys h e = on_tail frame x xs (h e)
 without-step false frame x xs ys h e = or_true (x == frame) (is_on frame ys) (is_on frame xs) h e
@@ -40,9 +44,11 @@ without-step false frame x xs ys h e = or_true (x == frame) (is_on frame ys) (is
     or_true false b c k f = k f
 
 -- a frame on a list without another is on the list
-pub on-without : (frame block : ℕ) (frames : List ℕ) → is_on frame (without block frames) ≡ true → is_on frame frames ≡ true
+pub on-without : (frame block : ℕ) (frames : List ℕ) → is_on frame (without block frames) ≡ true
+    → is_on frame frames ≡ true
 on-without frame block [] e = e
-on-without frame block (x ∷ xs) e = without-step (x == block) frame x xs (without block xs) (on-without frame block xs) e
+on-without frame block (x ∷ xs) e =
+    without-step (x == block) frame x xs (without block xs) (on-without frame block xs) e
 
 -- a block has its first frame
 pub covered-self : (order block : ℕ) → covered block order block ≡ 1
@@ -51,7 +57,8 @@ covered-self order block =
     grind (arith, nat_tests)
 
 -- a block on a list is in a place
-pub on-places : (block order : ℕ) (frames : List ℕ) → is_on block frames ≡ true → 1 ≤ list_places block order frames
+pub on-places : (block order : ℕ) (frames : List ℕ) → is_on block frames ≡ true
+    → 1 ≤ list_places block order frames
 on-places block order [] e = cc
 on-places block order (x ∷ xs) e = elim (on_cases block x xs e) [
   | inl same ↦ rw (list_places-cons, same, covered-self) (omega arith)
@@ -59,16 +66,22 @@ on-places block order (x ∷ xs) e = elim (on_cases block x xs e) [
 ]
 
 -- a frame in no block of a list is not on it
-pub off_by_places : (block order : ℕ) (frames : List ℕ) → list_places block order frames ≡ 0 → is_on block frames ≡ false
-off_by_places block order frames e = false_from_ne_true (is_on block frames) (λ on. let some : 1 ≤ list_places block order frames = on-places block order frames on in omega arith)
+pub off_by_places : (block order : ℕ) (frames : List ℕ) → list_places block order frames ≡ 0
+    → is_on block frames ≡ false
+off_by_places block order frames e =
+    false_from_ne_true (is_on block frames)
+    (λ on. let some : 1 ≤ list_places block order frames = on-places block order frames on in omega arith)
 
 -- a list has no more blocks than all
-pub list_places-le : (a : FreeAreas) (class : Class) (order frame : ℕ) → HasOrder a order → list_places frame order (free_list a class order) ≤ free_places a frame
+pub list_places-le : (a : FreeAreas) (class : Class) (order frame : ℕ) → HasOrder a order
+    → list_places frame order (free_list a class order) ≤ free_places a frame
 list_places-le a class order frame h = omega (arith, with_free_list-places a class order frame [] h)
 
 -- a frame in no free block is on no list
-pub off-free : (a : FreeAreas) (class : Class) (order frame : ℕ) → HasOrder a order → free_places a frame ≡ 0 → is_on frame (free_list a class order) ≡ false
-off-free a class order frame h e = off_by_places frame order (free_list a class order) (omega (arith, list_places-le a class order frame h))
+pub off-free : (a : FreeAreas) (class : Class) (order frame : ℕ) → HasOrder a order → free_places a frame ≡ 0
+    → is_on frame (free_list a class order) ≡ false
+off-free a class order frame h e =
+    off_by_places frame order (free_list a class order) (omega (arith, list_places-le a class order frame h))
 
 -- ---- one list written: whatever holds of the list written, and of all before, holds of all
 
@@ -82,18 +95,22 @@ class_numbered-index IsoM = refl
 
 -- classes of one index are one
 pub class_index-same : (class other : Class) → class_index class ≡ class_index other → class ≡ other
-class_index-same class other e = sym (class_numbered-index class) ∙ ap class_numbered e ∙ class_numbered-index other
+class_index-same class other e =
+    sym (class_numbered-index class) ∙ ap class_numbered e ∙ class_numbered-index other
 
 -- the list that was written
-pub free_list-same : (a : FreeAreas) (class : Class) (order : ℕ) (frames : List ℕ) → HasOrder a order → free_list (with_free_list a class order frames) class order ≡ frames
+pub free_list-same : (a : FreeAreas) (class : Class) (order : ℕ) (frames : List ℕ) → HasOrder a order
+    → free_list (with_free_list a class order frames) class order ≡ frames
 free_list-same a class order frames h =
     let low : class_index class < 5 = class_index-lt class in
     get_or-set_same a.lists (5 * order + class_index class) frames [] (omega arith)
 
 -- a list that is not the one written
-pub free_list-apart : (a : FreeAreas) (class : Class) (order : ℕ) (frames : List ℕ) (c : Class) (o : ℕ) → 5 * o + class_index c ≢ 5 * order + class_index class
+pub free_list-apart : (a : FreeAreas) (class : Class) (order : ℕ) (frames : List ℕ) (c : Class) (o : ℕ)
+    → 5 * o + class_index c ≢ 5 * order + class_index class
     → free_list (with_free_list a class order frames) c o ≡ free_list a c o
-free_list-apart a class order frames c o ne = get_or-set_other a.lists (5 * order + class_index class) (5 * o + class_index c) frames [] ne
+free_list-apart a class order frames c o ne =
+    get_or-set_other a.lists (5 * order + class_index class) (5 * o + class_index c) frames [] ne
 
 -- of that class and order
 pub record IsThatList (class : Class) (order : ℕ) (c : Class) (o : ℕ) : Type 0 where
@@ -101,20 +118,28 @@ pub record IsThatList (class : Class) (order : ℕ) (c : Class) (o : ℕ) : Type
   pub order_is : o ≡ order
 
 -- by the number
-pub that_list : (class : Class) (order : ℕ) (c : Class) (o : ℕ) → 5 * o + class_index c ≡ 5 * order + class_index class → IsThatList class order c o
+pub that_list : (class : Class) (order : ℕ) (c : Class) (o : ℕ)
+    → 5 * o + class_index c ≡ 5 * order + class_index class → IsThatList class order c o
 that_list class order c o e =
     let low : class_index class < 5 = class_index-lt class in
     let lower : class_index c < 5 = class_index-lt c in
     record { class_is = class_index-same c class (omega arith); order_is = omega arith }
 
 -- what holds of the list written, and of each before, holds of each after
-pub free_list-cases : (P : Class → ℕ → List ℕ → Type 0) (a : FreeAreas) (class : Class) (order : ℕ) (frames : List ℕ) → HasOrder a order
-    → P class order frames → ((c : Class) (o : ℕ) → P c o (free_list a c o)) → (c : Class) (o : ℕ) → P c o (free_list (with_free_list a class order frames) c o)
-free_list-cases P a class order frames h new old c o = elim (cases_eq (5 * o + class_index c) (5 * order + class_index class)) [
-  | inl same ↦
-      let that = that_list class order c o same in
-      subst (λ (k : Class). P k o (free_list (with_free_list a class order frames) k o)) (sym that.class_is)
-      (subst (λ (n : ℕ). P class n (free_list (with_free_list a class order frames) class n)) (sym that.order_is)
-      (subst (λ (xs : List ℕ). P class order xs) (sym (free_list-same a class order frames h)) new))
-  | inr apart ↦ subst (λ (xs : List ℕ). P c o xs) (sym (free_list-apart a class order frames c o apart)) (old c o)
-]
+pub free_list-cases : (P : Class → ℕ → List ℕ → Type 0) (a : FreeAreas) (class : Class) (order : ℕ)
+    (frames : List ℕ)
+    → HasOrder a order
+    → P class order frames → ((c : Class) (o : ℕ) → P c o (free_list a c o)) → (c : Class) (o : ℕ)
+    → P c o (free_list (with_free_list a class order frames) c o)
+free_list-cases P a class order frames h new old c o =
+    elim (cases_eq (5 * o + class_index c) (5 * order + class_index class)) [
+      | inl same ↦
+          let that = that_list class order c o same in
+          subst (λ (k : Class). P k o (free_list (with_free_list a class order frames) k o))
+          (sym that.class_is)
+          (subst (λ (n : ℕ). P class n (free_list (with_free_list a class order frames) class n))
+          (sym that.order_is)
+          (subst (λ (xs : List ℕ). P class order xs) (sym (free_list-same a class order frames h)) new))
+      | inr apart ↦
+          subst (λ (xs : List ℕ). P c o xs) (sym (free_list-apart a class order frames c o apart)) (old c o)
+    ]

@@ -17,27 +17,42 @@ pub record IsPart (order : ℕ) (frames old : List ℕ) : Type 0 where
 
 -- the rest of a list is a part
 pub tail-part : (order first : ℕ) (frames : List ℕ) → IsPart order frames (first ∷ frames)
-tail-part order first frames = record { on = λ frame on. on_tail frame first frames on; places = λ frame. omega (arith, list_places-cons frame order first frames) }
+tail-part order first frames =
+    record {
+      on = λ frame on. on_tail frame first frames on;
+      places = λ frame. omega (arith, list_places-cons frame order first frames);
+    }
 
 -- a list without a block is a part of it
 pub without-part : (order block : ℕ) (frames : List ℕ) → IsPart order (without block frames) frames
-without-part order block frames = record { on = λ frame on. on-without frame block frames on; places = λ frame. without-le frame order block frames }
+without-part order block frames =
+    record {
+      on = λ frame on. on-without frame block frames on;
+      places = λ frame. without-le frame order block frames;
+    }
 
 -- a list with one block more: wherever it stands
 pub record IsMore (order first : ℕ) (frames old : List ℕ) : Type 0 where
   pub on : (frame : ℕ) → is_on frame frames ≡ true → (first ≡ frame) ⊎ (is_on frame old ≡ true)
-  pub places : (frame : ℕ) → list_places frame order frames ≡ covered frame order first + list_places frame order old
+  pub places : (frame : ℕ)
+      → list_places frame order frames ≡ covered frame order first + list_places frame order old
 
 -- a block at the front
 pub front-more : (order first : ℕ) (frames : List ℕ) → IsMore order first (first ∷ frames) frames
-front-more order first frames = record { on = λ frame on. on_cases frame first frames on; places = λ frame. list_places-cons frame order first frames }
+front-more order first frames =
+    record {
+      on = λ frame on. on_cases frame first frames on;
+      places = λ frame. list_places-cons frame order first frames;
+    }
 
 -- on a list with a block at its back
-pub back-on : (first frame : ℕ) (frames : List ℕ) → is_on frame (frames ++ first ∷ []) ≡ true → (first ≡ frame) ⊎ (is_on frame frames ≡ true)
+pub back-on : (first frame : ℕ) (frames : List ℕ) → is_on frame (frames ++ first ∷ []) ≡ true
+    → (first ≡ frame) ⊎ (is_on frame frames ≡ true)
 back-on first frame [] on = on_cases frame first [] on
 back-on first frame (x ∷ xs) on = elim (on_cases frame x (xs ++ first ∷ []) on) [
   | inl same ↦ inr (or_left (x == frame) (is_on frame xs) (eq-eqb x frame same))
-  | inr there ↦ elim (back-on first frame xs there) [ inl same ↦ inl same | inr old ↦ inr (on_tail frame x xs old) ]
+  | inr there ↦
+      elim (back-on first frame xs there) [ inl same ↦ inl same | inr old ↦ inr (on_tail frame x xs old) ]
 ]
 
 -- a block at the back
@@ -51,4 +66,8 @@ back-more order first frames = record {
 pub with_back-places : (a : FreeAreas) (class : Class) (order first frame : ℕ) → HasOrder a order
     → free_places (with_back a class order first) frame ≡ free_places a frame + covered frame order first
 with_back-places a class order first frame h =
-    omega (arith, with_free_list-places a class order frame (free_list a class order ++ first ∷ []) h, (back-more order first (free_list a class order)).places frame)
+    omega (
+      arith,
+      with_free_list-places a class order frame (free_list a class order ++ first ∷ []) h,
+      (back-more order first (free_list a class order)).places frame,
+    )

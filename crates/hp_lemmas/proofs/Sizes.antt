@@ -19,7 +19,8 @@ pub same_areas-then : {a b c : FreeAreas} → SameAreas a b → SameAreas b c �
 same_areas-then h k = record { lists = k.lists ∙ h.lists; kinds = k.kinds ∙ h.kinds }
 
 -- one list is written
-pub with_free_list-size : (a : FreeAreas) (class : Class) (order : ℕ) (frames : List ℕ) → SameAreas a (with_free_list a class order frames)
+pub with_free_list-size : (a : FreeAreas) (class : Class) (order : ℕ) (frames : List ℕ)
+    → SameAreas a (with_free_list a class order frames)
 with_free_list-size a class order frames = record { lists = length-set a.lists _ frames; kinds = refl }
 
 -- one kind is written
@@ -27,23 +28,28 @@ pub with_kind-size : (a : FreeAreas) (pageblock : ℕ) (kind : Kind) → SameAre
 with_kind-size a pageblock kind = record { lists = refl; kinds = length-set a.kinds pageblock kind }
 
 -- a block is split
-pub with_halves-size : (a : FreeAreas) (class : Class) (frame last count : ℕ) → SameAreas a (with_halves a class frame last count)
+pub with_halves-size : (a : FreeAreas) (class : Class) (frame last count : ℕ)
+    → SameAreas a (with_halves a class frame last count)
 with_halves-size a class frame last zero = same_areas a
 with_halves-size a class frame last (suc count) =
     same_areas-then (with_halves-size a class frame (suc last) count) (with_free_list-size _ class last _)
 
 -- buddies leave
-pub without_buddies-size : (a : FreeAreas) (class : Class) (frame order count : ℕ) → SameAreas a (without_buddies a class frame order count)
+pub without_buddies-size : (a : FreeAreas) (class : Class) (frame order count : ℕ)
+    → SameAreas a (without_buddies a class frame order count)
 without_buddies-size a class frame order zero = same_areas a
 without_buddies-size a class frame order (suc count) =
-    same_areas-then (without_buddies-size a class frame order count) (with_free_list-size _ class (order + count) _)
+    same_areas-then (without_buddies-size a class frame order count)
+    (with_free_list-size _ class (order + count) _)
 
 -- a split changes no kind
-pub halves-kinds : (a : FreeAreas) (class : Class) (frame last count : ℕ) → (with_halves a class frame last count).kinds ≡ a.kinds
+pub halves-kinds : (a : FreeAreas) (class : Class) (frame last count : ℕ)
+    → (with_halves a class frame last count).kinds ≡ a.kinds
 halves-kinds a class frame last zero = refl
 halves-kinds a class frame last (suc count) = halves-kinds a class frame (suc last) count
 
 -- nor do buddies that leave
-pub buddies-kinds : (a : FreeAreas) (class : Class) (first order count : ℕ) → (without_buddies a class first order count).kinds ≡ a.kinds
+pub buddies-kinds : (a : FreeAreas) (class : Class) (first order count : ℕ)
+    → (without_buddies a class first order count).kinds ≡ a.kinds
 buddies-kinds a class first order zero = refl
 buddies-kinds a class first order (suc count) = buddies-kinds a class first order count

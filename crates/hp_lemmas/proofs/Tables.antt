@@ -16,15 +16,18 @@ use Rattle.hp_units.specs.Placement.{IsInOrder, covered}
 
 -- what was set is read
 pub get_set : {X : Type 0} (xs : List X) (i : ℕ) (x : X) → i < length xs → slice_get (set xs i x) i ≡ Some x
-get_set xs i x lt = slice_get-get_or (set xs i x) i x (rw length-set lt) ∙ ap (λ y. Some y) (get_or-set_same xs i x x lt)
+get_set xs i x lt =
+    slice_get-get_or (set xs i x) i x (rw length-set lt) ∙ ap (λ y. Some y) (get_or-set_same xs i x x lt)
 
-pub row_length : {A : Type 0} (pages : ℕ) (table : List (List (Option A))) (owner : ℕ) → AllByRecursion (λ row. length row ≡ pages) table → owner < length table
+pub row_length : {A : Type 0} (pages : ℕ) (table : List (List (Option A))) (owner : ℕ)
+    → AllByRecursion (λ row. length row ≡ pages) table → owner < length table
     → length (get_or table owner []) ≡ pages
 row_length pages [] owner all low = absurd (omega arith)
 row_length pages (row ∷ rows) zero all low = all.0
 row_length pages (row ∷ rows) (suc owner) all low = row_length pages rows owner all.1 (omega arith)
 
-pub all-set : {X : Type 0} (P : X → Type 0) (xs : List X) (i : ℕ) (x : X) → AllByRecursion P xs → P x → AllByRecursion P (set xs i x)
+pub all-set : {X : Type 0} (P : X → Type 0) (xs : List X) (i : ℕ) (x : X) → AllByRecursion P xs → P x
+    → AllByRecursion P (set xs i x)
 all-set P [] i x all h = tt
 all-set P (y ∷ ys) zero x all h = (h, all.1)
 all-set P (y ∷ ys) (suc i) x all h = (all.0, all-set P ys i x all.1 h)
@@ -34,42 +37,60 @@ pub record IsTable {A : Type 0} (owners pages : ℕ) (table : List (List (Option
   pub tall : length table ≡ owners
   pub wide : AllByRecursion (λ row. length row ≡ pages) table
 
-pub with_entry-table : {A : Type 0} (owners pages : ℕ) (table : List (List (Option A))) (owner page : ℕ) (e : Option A) → owner < owners → IsTable owners pages table
+pub with_entry-table : {A : Type 0} (owners pages : ℕ) (table : List (List (Option A))) (owner page : ℕ)
+    (e : Option A)
+    → owner < owners → IsTable owners pages table
     → IsTable owners pages (with_entry table owner page e)
 with_entry-table owners pages table owner page e low is = record {
   tall = length-set table owner (set (get_or table owner []) page e) ∙ is.tall;
-  wide = all-set _ table owner (set (get_or table owner []) page e) is.wide (length-set (get_or table owner []) page e ∙ row_length pages table owner is.wide (omega (arith, is.tall)));
+  wide =
+      all-set _ table owner (set (get_or table owner []) page e) is.wide (length-set (get_or table owner [])
+      page e ∙ row_length pages table owner is.wide (omega (arith, is.tall)));
 }
 
-pub entry-same : {A : Type 0} (owners pages : ℕ) (table : List (List (Option A))) (owner page : ℕ) (e : Option A) → owner < owners → page < pages → IsTable owners pages table
+pub entry-same : {A : Type 0} (owners pages : ℕ) (table : List (List (Option A))) (owner page : ℕ)
+    (e : Option A)
+    → owner < owners → page < pages → IsTable owners pages table
     → entry_of (with_entry table owner page e) owner page ≡ e
 entry-same owners pages table owner page e low short is =
-    ap (λ row. get_or row page None) (get_or-set_same table owner (set (get_or table owner []) page e) [] (omega (arith, is.tall)))
-    ∙ get_or-set_same (get_or table owner []) page e None (omega (arith, row_length pages table owner is.wide (omega (arith, is.tall))))
+    ap (λ row. get_or row page None)
+    (get_or-set_same table owner (set (get_or table owner []) page e) [] (omega (arith, is.tall)))
+    ∙ get_or-set_same (get_or table owner []) page e None
+    (omega (arith, row_length pages table owner is.wide (omega (arith, is.tall))))
 
 -- another place of a table
 abbrev pub IsElsewhere : (owner page o p : ℕ) → Type 0
 IsElsewhere owner page o p = (o ≢ owner) ⊎ (p ≢ page)
 
-pub entry-apart : {A : Type 0} (table : List (List (Option A))) (owner page : ℕ) (e : Option A) (o p : ℕ) → IsElsewhere owner page o p
+pub entry-apart : {A : Type 0} (table : List (List (Option A))) (owner page : ℕ) (e : Option A) (o p : ℕ)
+    → IsElsewhere owner page o p
     → entry_of (with_entry table owner page e) o p ≡ entry_of table o p
-entry-apart table owner page e o p (inl ne) = ap (λ row. get_or row p None) (get_or-set_other table owner o (set (get_or table owner []) page e) [] ne)
+entry-apart table owner page e o p (inl ne) =
+    ap (λ row. get_or row p None) (get_or-set_other table owner o (set (get_or table owner []) page e) [] ne)
 entry-apart table owner page e o p (inr ne) = elim (cases_eq o owner) [
   | inl same ↦ elim (cases_lt owner (length table)) [
     | inl low ↦
-        subst (λ (n : ℕ). get_or (get_or (set table owner (set (get_or table owner []) page e)) n []) p None ≡ get_or (get_or table n []) p None) (sym same)
-        (ap (λ row. get_or row p None) (get_or-set_same table owner (set (get_or table owner []) page e) [] low)
+        subst (λ (n : ℕ). get_or (get_or (set table owner (set (get_or table owner []) page e)) n []) p None
+        ≡ get_or (get_or table n []) p None) (sym same)
+        (ap (λ row. get_or row p None)
+        (get_or-set_same table owner (set (get_or table owner []) page e) [] low)
         ∙ get_or-set_other (get_or table owner []) page p e None ne)
     | inr high ↦
         ap (λ row. get_or row p None)
-        (get_or_past (set table owner (set (get_or table owner []) page e)) o [] (omega (arith, length-set table owner (set (get_or table owner []) page e)))
+        (get_or_past (set table owner (set (get_or table owner []) page e)) o []
+        (omega (arith, length-set table owner (set (get_or table owner []) page e)))
         ∙ sym (get_or_past table o [] (omega arith)))
   ]
-  | inr apart ↦ ap (λ row. get_or row p None) (get_or-set_other table owner o (set (get_or table owner []) page e) [] apart)
+  | inr apart ↦
+      ap (λ row. get_or row p None)
+      (get_or-set_other table owner o (set (get_or table owner []) page e) [] apart)
 ]
 
-pub entry-cases : {A : Type 0} (P : ℕ → ℕ → Option A → Type 0) (owners pages : ℕ) (table : List (List (Option A))) (owner page : ℕ) (e : Option A) → owner < owners → page < pages
-    → IsTable owners pages table → P owner page e → ((o p : ℕ) → IsElsewhere owner page o p → P o p (entry_of table o p))
+pub entry-cases : {A : Type 0} (P : ℕ → ℕ → Option A → Type 0) (owners pages : ℕ)
+    (table : List (List (Option A))) (owner page : ℕ) (e : Option A)
+    → owner < owners → page < pages
+    → IsTable owners pages table → P owner page e
+    → ((o p : ℕ) → IsElsewhere owner page o p → P o p (entry_of table o p))
     → (o p : ℕ) → P o p (entry_of (with_entry table owner page e) o p)
 entry-cases P owners pages table owner page e low short is new old o p = elim (cases_eq o owner) [
   | inr ne ↦ subst (λ x. P o p x) (sym (entry-apart table owner page e o p (inl ne))) (old o p (inl ne))
@@ -87,14 +108,20 @@ pub record IsWithin (owners pages owner page : ℕ) : Type 0 where
   pub owner_in : owner < owners
   pub page_in : page < pages
 
-pub entry_within : {A : Type 0} (owners pages : ℕ) (table : List (List (Option A))) (owner page : ℕ) (x : A) → IsTable owners pages table → entry_of table owner page ≡ Some x
+pub entry_within : {A : Type 0} (owners pages : ℕ) (table : List (List (Option A))) (owner page : ℕ) (x : A)
+    → IsTable owners pages table → entry_of table owner page ≡ Some x
     → IsWithin owners pages owner page
 entry_within owners pages table owner page x is e = elim (cases_lt owner (length table)) [
   | inl low ↦ elim (cases_lt page (length (get_or table owner []))) [
-    | inl short ↦ record { owner_in = omega (arith, is.tall); page_in = omega (arith, row_length pages table owner is.wide low) }
+    | inl short ↦
+        record {
+          owner_in = omega (arith, is.tall);
+          page_in = omega (arith, row_length pages table owner is.wide low);
+        }
     | inr past ↦ absurd (no_entry (sym (get_or_past (get_or table owner []) page None past) ∙ e))
   ]
-  | inr high ↦ absurd (no_entry (sym (ap (λ row. get_or row page None) (get_or_past table owner [] high)) ∙ e))
+  | inr high ↦
+      absurd (no_entry (sym (ap (λ row. get_or row page None) (get_or_past table owner [] high)) ∙ e))
 ]
   where
     no_entry : None ≡ Some x → ⊥
@@ -112,22 +139,32 @@ held-some frame x = grind (arith, nat_tests)
 abbrev pub in_pages : ℕ → List (List (Option ℕ)) → ℕ
 in_pages frame table = sum_by (λ row. count_by (holds frame) row) table
 
-pub mapped-places : (owners pages : ℕ) (table : List (List (Option ℕ))) (owner page : ℕ) (e : Option ℕ) (frame : ℕ) → owner < owners → page < pages → IsTable owners pages table
-    → in_pages frame (with_entry table owner page e) + held frame (entry_of table owner page) ≡ in_pages frame table + held frame e
+pub mapped-places : (owners pages : ℕ) (table : List (List (Option ℕ))) (owner page : ℕ) (e : Option ℕ)
+    (frame : ℕ)
+    → owner < owners → page < pages → IsTable owners pages table
+    → in_pages frame (with_entry table owner page e) + held frame (entry_of table owner page)
+    ≡ in_pages frame table + held frame e
 mapped-places owners pages table owner page e frame low short is =
     let row : List (Option ℕ) = get_or table owner [] in
     let size : length row ≡ pages = row_length pages table owner is.wide (omega (arith, is.tall)) in
-    let rows : sum_by (λ r. count_by (holds frame) r) (set table owner (set row page e)) + count_by (holds frame) row ≡ sum_by (λ r. count_by (holds frame) r) table + count_by (holds frame) (set row page e) =
-    sum_by-set (λ (r : List (Option ℕ)). count_by (holds frame) r) table owner (set row page e) [] (omega (arith, is.tall)) in
-    let entries : count_by (holds frame) (set row page e) + held frame (get_or row page None) ≡ count_by (holds frame) row + held frame e =
+    let rows : sum_by (λ r. count_by (holds frame) r) (set table owner (set row page e)) + count_by (holds
+    frame) row ≡ sum_by (λ r. count_by (holds frame) r) table + count_by (holds frame) (set row page e) =
+    sum_by-set (λ (r : List (Option ℕ)). count_by (holds frame) r) table owner (set row page e) []
+    (omega (arith, is.tall)) in
+    let entries : count_by (holds frame) (set row page e) + held frame (get_or row page None)
+    ≡ count_by (holds frame) row + held frame e =
     sum_by-set (λ (x : Option ℕ). held frame x) row page e None (omega arith) in
     omega arith
 
-pub mapped_some : (owners pages : ℕ) (table : List (List (Option ℕ))) (owner page frame : ℕ) → IsTable owners pages table → entry_of table owner page ≡ Some frame → 1 ≤ in_pages frame table
+pub mapped_some : (owners pages : ℕ) (table : List (List (Option ℕ))) (owner page frame : ℕ)
+    → IsTable owners pages table → entry_of table owner page ≡ Some frame → 1 ≤ in_pages frame table
 mapped_some owners pages table owner page frame is e =
     let within = entry_within owners pages table owner page frame is e in
     let one : held frame (Some frame) ≡ 1 = self frame in
-    omega (arith, rw e at (mapped-places owners pages table owner page None frame within.owner_in within.page_in is))
+    omega (
+      arith,
+      rw e at (mapped-places owners pages table owner page None frame within.owner_in within.page_in is),
+    )
   where
     self : (frame : ℕ) → held frame (Some frame) ≡ 1
     self frame = grind (arith, nat_tests)

@@ -1,41 +1,15 @@
--- What the invariant and the view of a `Links` say of the lists that contracts see, and what each change leaves.
-use Rattle.std.proofs.Common.{ℕ, zero, suc, ◌≡◌, ◌≢◌, ◌<◌, ◌≤◌, ◌+◌, ◌-◌, inl, inr, List, [], ◌∷◌, ◌++◌, Option, None, Some, IfSome, IfNone, true, is_some, length, get_or, map, set, replicate, refl, sym, ◌∙◌, ap, subst, arith}
-use Rattle.std.proofs.lemmas.List.{append-nil, append_assoc, length-append, get_or-replicate, get_or_past, length-replicate, get_or-set_same, get_or-set_other, set-set, set-get_or, ext_get_or, get_or-map, length-map, length-set}
-use Rattle.std.proofs.lemmas.Bool.{cases_lt, cases_eq, false≢true}
+-- What the invariant and the view of a `Links` say of the lists that contracts see, and what each
+-- change leaves.
+use Rattle.std.proofs.Common.{ℕ, ◌≡◌, ◌≢◌, ◌<◌, ◌≤◌, ◌+◌, ◌-◌, inl, inr, List, [], ◌∷◌, ◌++◌, Option, None, Some, IfSome, IfNone, true, is_some, length, get_or, map, set, refl, sym, ◌∙◌, ap, subst, arith}
+use Rattle.std.proofs.lemmas.List.{append-nil, append_assoc, length-append, get_or-set_same, get_or-set_other, set-set, set-get_or, ext_get_or, get_or-map, length-map, length-set}
+use Rattle.std.proofs.lemmas.Bool.{cases_eq, false≢true}
 use Rattle.hp_links.specs.LinkedLists.{LinkedLists, list_at, with_list, IsOn, IsListed, IsUnlisted, IsApart, first, last, last_from, without, predecessor_from, predecessor, successor, with_behind, off_lists}
-use Rattle.hp_links.specs.Rings.{Table, Inserts, Removes, IsAlone, Member, Absent, Distinct, Chain, Linked, Keeps, shown, frame_at}
+use Rattle.hp_links.specs.Rings.{Table, Inserts, Removes, Member, Absent, Distinct, Chain, Linked, Keeps, shown, frame_at}
 use Rattle.hp_links.proofs.Chains.{last_or, first_or, chain_first, chain_last, chain_list, chain_at, not_last, not_first, Distinct-append_right, absent_not, not_absent, Member-append_left, Member-append_right}
-use Rattle.hp_links.proofs.Linking.{lists_are, IsNode, last_node, first_node, one_list, Linked-insert, Linked-remove, Linked-empty}
+use Rattle.hp_links.proofs.Linking.{IsNode, last_node, first_node, one_list, Linked-insert, Linked-remove}
 use Rattle.hp_links.proofs.Members.{Member-from_Contains, Contains-from_Member, place_unique, length-le_below}
 use Rattle.hp_links.proofs.Sequences.{split_at, frame_at-head, without-split, predecessor-split, first-frame, last-frame, successor-split, with_behind-split, predecessor_on, back, without-absent}
-
--- a table that keeps these lists shows them
-pub keeps : (frames : ℕ) (t : Table) (lens : List ℕ) (lists : List (List ℕ)) → Linked frames t lens lists → Keeps frames t lens
-keeps frames t lens lists k = subst (λ (ls : List (List ℕ)). Linked frames t lens ls) (sym (lists_are frames t lens lists k)) k
-
-pub shows : (frames : ℕ) (t : Table) (lens : List ℕ) (lists : List (List ℕ)) → Linked frames t lens lists → shown frames t lens ≡ record { frame_count = frames; lists = lists }
-shows frames t lens lists k = ap (λ (ls : List (List ℕ)). record { frame_count = frames; lists = ls }) (lists_are frames t lens lists k)
-
--- a frame is on a list only where there is such a list
-listed_in : (ls : List (List ℕ)) (l x : ℕ) → Member x (get_or ls l []) → l < length ls
-listed_in [] l x m = absurd m
-listed_in (xs ∷ ls) zero x m = omega arith
-listed_in (xs ∷ ls) (suc l) x m = let lt = listed_in ls l x m in omega (arith, lt)
-
-get_or-replicate_same : {X : Type 0} (n i : ℕ) (d : X) → get_or (replicate n d) i d ≡ d
-get_or-replicate_same n i d =
-    elim (cases_lt i n) [
-      | inl lt ↦ get_or-replicate n i d d lt
-      | inr le ↦ get_or_past (replicate n d) i d (omega (arith, length-replicate n d, le))
-    ]
-
--- a new table keeps empty lists
-pub Linked-new : (frames lists : ℕ) (t : Table) (lens : List ℕ) → IsAlone t (frames + lists) → lens ≡ replicate lists 0 → Linked frames t lens (replicate lists [])
-Linked-new frames lists t lens alone e =
-    let n : length lens ≡ lists = ap length e ∙ length-replicate lists 0 in
-    Linked-empty frames t lens (replicate lists []) (length-replicate lists [] ∙ sym n) (λ l. get_or-replicate_same lists l [])
-    (λ l. ap (λ (ns : List ℕ). get_or ns l 0) e ∙ get_or-replicate_same lists l 0)
-    (subst (λ (m : ℕ). IsAlone t (frames + m)) (sym n) alone)
+use Rattle.hp_links.proofs.Shown.{keeps, shows, listed_in}
 
 -- contracts see v of this table and these lengths
 pub record Seen (v : LinkedLists) (frames : ℕ) (t : Table) (lens : List ℕ) : Type 0 where
@@ -68,51 +42,69 @@ module _ {v : LinkedLists} {frames : ℕ} {t : Table} {lens : List ℕ} (s : See
   free_absent f free m = not_absent f (list_at v m) (λ on. free m (Contains-from_Member f (list_at v m) on))
 
   -- a place of a ring is in the table, and is no free frame
-  pub node_in : (l a : ℕ) → l < length v.lists → IsNode (frames + l) (list_at v l) a → a < frames + length lens
+  pub node_in : (l a : ℕ) → l < length v.lists → IsNode (frames + l) (list_at v l) a
+      → a < frames + length lens
   node_in l a lt (inl e) = omega (arith, linked.count)
   node_in l a lt (inr m) = let below = linked.below l a m in omega (arith, below)
 
-  pub node_not_free : (l a f : ℕ) → l < length v.lists → f < v.frame_count → IsUnlisted v f → IsNode (frames + l) (list_at v l) a → a ≢ f
+  pub node_not_free : (l a f : ℕ) → l < length v.lists → f < v.frame_count → IsUnlisted v f
+      → IsNode (frames + l) (list_at v l) a → a ≢ f
   node_not_free l a f lt in_f free (inl e) same = omega (arith, frames_are)
-  node_not_free l a f lt in_f free (inr m) same = absent_not f (list_at v l) (free_absent f free l) (subst (λ (z : ℕ). Member z (list_at v l)) same m)
+  node_not_free l a f lt in_f free (inr m) same =
+      absent_not f (list_at v l) (free_absent f free l) (subst (λ (z : ℕ). Member z (list_at v l)) same m)
 
   -- the neighbours of a place of a ring are of that ring
-  next_of_node : (l a : ℕ) → l < length v.lists → IsNode (frames + l) (list_at v l) a → IsNode (frames + l) (list_at v l) (t.next a)
+  next_of_node : (l a : ℕ) → l < length v.lists → IsNode (frames + l) (list_at v l) a
+      → IsNode (frames + l) (list_at v l) (t.next a)
   next_of_node l a lt (inl e) =
       subst (λ (z : ℕ). IsNode (frames + l) (list_at v l) z)
-      (sym (ap (λ (z : ℕ). t.next z) e ∙ chain_first t l (frames + l) (list_at v l) (frames + l) (linked.rings l lt)))
+      (sym (ap (λ (z : ℕ). t.next z) e
+      ∙ chain_first t l (frames + l) (list_at v l) (frames + l) (linked.rings l lt)))
       (first_node (frames + l) [] (list_at v l))
   next_of_node l a lt (inr m) =
       let at = split_at a (list_at v l) m in
-      let c = chain_at t l (frames + l) a at.ahead at.behind (frames + l) (subst (λ (xs : List ℕ). Chain t l (frames + l) xs (frames + l)) at.is (linked.rings l lt)) in
+      let c =
+      chain_at t l (frames + l) a at.ahead at.behind (frames + l)
+      (subst (λ (xs : List ℕ). Chain t l (frames + l) xs (frames + l)) at.is (linked.rings l lt)) in
       subst (λ (xs : List ℕ). IsNode (frames + l) xs (t.next a)) (sym at.is)
       (subst (λ (z : ℕ). IsNode (frames + l) (at.ahead ++ a ∷ at.behind) z) (sym c.1)
-      (subst (λ (xs : List ℕ). IsNode (frames + l) xs (first_or (frames + l) at.behind)) (append_assoc at.ahead (a ∷ []) at.behind)
+      (subst (λ (xs : List ℕ). IsNode (frames + l) xs (first_or (frames + l) at.behind))
+      (append_assoc at.ahead (a ∷ []) at.behind)
       (first_node (frames + l) (at.ahead ++ a ∷ []) at.behind)))
 
-  prev_of_node : (l a : ℕ) → l < length v.lists → IsNode (frames + l) (list_at v l) a → IsNode (frames + l) (list_at v l) (t.prev a)
+  prev_of_node : (l a : ℕ) → l < length v.lists → IsNode (frames + l) (list_at v l) a
+      → IsNode (frames + l) (list_at v l) (t.prev a)
   prev_of_node l a lt (inl e) =
       subst (λ (z : ℕ). IsNode (frames + l) (list_at v l) z)
-      (sym (ap (λ (z : ℕ). t.prev z) e ∙ chain_last t l (frames + l) (list_at v l) (frames + l) (linked.rings l lt)))
-      (subst (λ (xs : List ℕ). IsNode (frames + l) xs (last_or (frames + l) (list_at v l))) (append-nil (list_at v l))
+      (sym (ap (λ (z : ℕ). t.prev z) e
+      ∙ chain_last t l (frames + l) (list_at v l) (frames + l) (linked.rings l lt)))
+      (subst (λ (xs : List ℕ). IsNode (frames + l) xs (last_or (frames + l) (list_at v l)))
+      (append-nil (list_at v l))
       (last_node (frames + l) (list_at v l) []))
   prev_of_node l a lt (inr m) =
       let at = split_at a (list_at v l) m in
-      let c = chain_at t l (frames + l) a at.ahead at.behind (frames + l) (subst (λ (xs : List ℕ). Chain t l (frames + l) xs (frames + l)) at.is (linked.rings l lt)) in
+      let c =
+      chain_at t l (frames + l) a at.ahead at.behind (frames + l)
+      (subst (λ (xs : List ℕ). Chain t l (frames + l) xs (frames + l)) at.is (linked.rings l lt)) in
       subst (λ (xs : List ℕ). IsNode (frames + l) xs (t.prev a)) (sym at.is)
-      (subst (λ (z : ℕ). IsNode (frames + l) (at.ahead ++ a ∷ at.behind) z) (sym c.0) (last_node (frames + l) at.ahead (a ∷ at.behind)))
+      (subst (λ (z : ℕ). IsNode (frames + l) (at.ahead ++ a ∷ at.behind) z) (sym c.0)
+      (last_node (frames + l) at.ahead (a ∷ at.behind)))
 
   -- the neighbours of a place are in the table, and are no free frame
-  pub next_in : (l a : ℕ) → l < length v.lists → IsNode (frames + l) (list_at v l) a → t.next a < frames + length lens
+  pub next_in : (l a : ℕ) → l < length v.lists → IsNode (frames + l) (list_at v l) a
+      → t.next a < frames + length lens
   next_in l a lt is = node_in l (t.next a) lt (next_of_node l a lt is)
 
-  pub prev_in : (l a : ℕ) → l < length v.lists → IsNode (frames + l) (list_at v l) a → t.prev a < frames + length lens
+  pub prev_in : (l a : ℕ) → l < length v.lists → IsNode (frames + l) (list_at v l) a
+      → t.prev a < frames + length lens
   prev_in l a lt is = node_in l (t.prev a) lt (prev_of_node l a lt is)
 
-  pub next_not_free : (l a f : ℕ) → l < length v.lists → f < v.frame_count → IsUnlisted v f → IsNode (frames + l) (list_at v l) a → t.next a ≢ f
+  pub next_not_free : (l a f : ℕ) → l < length v.lists → f < v.frame_count → IsUnlisted v f
+      → IsNode (frames + l) (list_at v l) a → t.next a ≢ f
   next_not_free l a f lt in_f free is = node_not_free l (t.next a) f lt in_f free (next_of_node l a lt is)
 
-  pub prev_not_free : (l a f : ℕ) → l < length v.lists → f < v.frame_count → IsUnlisted v f → IsNode (frames + l) (list_at v l) a → t.prev a ≢ f
+  pub prev_not_free : (l a f : ℕ) → l < length v.lists → f < v.frame_count → IsUnlisted v f
+      → IsNode (frames + l) (list_at v l) a → t.prev a ≢ f
   prev_not_free l a f lt in_f free is = node_not_free l (t.prev a) f lt in_f free (prev_of_node l a lt is)
 
   -- the ends of a list
@@ -131,80 +123,125 @@ module _ {v : LinkedLists} {frames : ℕ} {t : Table} {lens : List ℕ} (s : See
       omega (arith, len_is l lt)
 
   -- another table that keeps other lists
-  becomes : (frames' : ℕ) (u : Table) (lens' : List ℕ) (lists' : List (List ℕ)) → frames' ≡ frames → Linked frames' u lens' lists' → Seen (record v { lists = lists' }) frames' u lens'
+  becomes : (frames' : ℕ) (u : Table) (lens' : List ℕ) (lists' : List (List ℕ)) → frames' ≡ frames
+      → Linked frames' u lens' lists' → Seen (record v { lists = lists' }) frames' u lens'
   becomes frames' u lens' lists' same k = record {
-    is = shows frames' u lens' lists' k ∙ ap (λ (n : ℕ). record { frame_count = n; lists = lists' }) (same ∙ frames_are);
+    is =
+        shows frames' u lens' lists' k
+        ∙ ap (λ (n : ℕ). record { frame_count = n; lists = lists' }) (same ∙ frames_are);
     kept = keeps frames' u lens' lists' k;
   }
 
-  inserted : (l f before after : ℕ) (ys zs : List ℕ) (frames' : ℕ) (u : Table) (lens' : List ℕ) → l < length v.lists → f < v.frame_count → IsUnlisted v f → list_at v l ≡ ys ++ zs → before ≡ last_or (frames + l) ys → after ≡ first_or (frames + l) zs → frames' ≡ frames → lens' ≡ set lens l (get_or lens l 0 + 1) → Inserts t u l before f after → Seen (with_list v l (ys ++ f ∷ zs)) frames' u lens'
+  inserted : (l f before after : ℕ) (ys zs : List ℕ) (frames' : ℕ) (u : Table) (lens' : List ℕ)
+      → l < length v.lists → f < v.frame_count → IsUnlisted v f → list_at v l ≡ ys ++ zs
+      → before ≡ last_or (frames + l) ys → after ≡ first_or (frames + l) zs → frames' ≡ frames
+      → lens' ≡ set lens l (get_or lens l 0 + 1) → Inserts t u l before f after
+      → Seen (with_list v l (ys ++ f ∷ zs)) frames' u lens'
   inserted l f before after ys zs frames' u lens' lt in_f free split before_is after_is same lens_are i =
-      let k = Linked-insert frames t u lens v.lists l ys zs f (get_or lens l 0 + 1) before after linked lt split (omega (arith, frames_are)) (free_absent f free)
+      let k =
+      Linked-insert frames t u lens v.lists l ys zs f (get_or lens l 0 + 1) before after linked lt split
+      (omega (arith, frames_are)) (free_absent f free)
       (ap (λ n. n + 1) (len_is l lt ∙ ap length split)) before_is after_is i in
       becomes frames' u lens' (set v.lists l (ys ++ f ∷ zs)) same
-      (subst (λ (n : ℕ). Linked n u lens' (set v.lists l (ys ++ f ∷ zs))) (sym same) (subst (λ (ns : List ℕ). Linked frames u ns (set v.lists l (ys ++ f ∷ zs))) (sym lens_are) k))
+      (subst (λ (n : ℕ). Linked n u lens' (set v.lists l (ys ++ f ∷ zs))) (sym same)
+      (subst (λ (ns : List ℕ). Linked frames u ns (set v.lists l (ys ++ f ∷ zs))) (sym lens_are) k))
 
   -- what each change leaves
-  pub pushed_front : (l f before after frames' : ℕ) (u : Table) (lens' : List ℕ) → l < length v.lists → f < v.frame_count → IsUnlisted v f → before ≡ frames + l → after ≡ t.next before → frames' ≡ frames → lens' ≡ set lens l (get_or lens l 0 + 1) → Inserts t u l before f after → Seen (with_list v l (f ∷ list_at v l)) frames' u lens'
+  pub pushed_front : (l f before after frames' : ℕ) (u : Table) (lens' : List ℕ) → l < length v.lists
+      → f < v.frame_count → IsUnlisted v f → before ≡ frames + l → after ≡ t.next before → frames' ≡ frames
+      → lens' ≡ set lens l (get_or lens l 0 + 1) → Inserts t u l before f after
+      → Seen (with_list v l (f ∷ list_at v l)) frames' u lens'
   pushed_front l f before after frames' u lens' lt in_f free before_is after_is =
-      inserted l f before after [] (list_at v l) frames' u lens' lt in_f free refl before_is (after_is ∙ ap (λ (z : ℕ). t.next z) before_is ∙ first_is l lt)
+      inserted l f before after [] (list_at v l) frames' u lens' lt in_f free refl before_is
+      (after_is ∙ ap (λ (z : ℕ). t.next z) before_is ∙ first_is l lt)
 
-  pub pushed_back : (l f before after frames' : ℕ) (u : Table) (lens' : List ℕ) → l < length v.lists → f < v.frame_count → IsUnlisted v f → before ≡ t.prev after → after ≡ frames + l → frames' ≡ frames → lens' ≡ set lens l (get_or lens l 0 + 1) → Inserts t u l before f after → Seen (with_list v l (list_at v l ++ f ∷ [])) frames' u lens'
+  pub pushed_back : (l f before after frames' : ℕ) (u : Table) (lens' : List ℕ) → l < length v.lists
+      → f < v.frame_count → IsUnlisted v f → before ≡ t.prev after → after ≡ frames + l → frames' ≡ frames
+      → lens' ≡ set lens l (get_or lens l 0 + 1) → Inserts t u l before f after
+      → Seen (with_list v l (list_at v l ++ f ∷ [])) frames' u lens'
   pushed_back l f before after frames' u lens' lt in_f free before_is after_is =
-      inserted l f before after (list_at v l) [] frames' u lens' lt in_f free (sym (append-nil (list_at v l))) (before_is ∙ ap (λ (z : ℕ). t.prev z) after_is ∙ last_is l lt) after_is
+      inserted l f before after (list_at v l) [] frames' u lens' lt in_f free (sym (append-nil (list_at v l)))
+      (before_is ∙ ap (λ (z : ℕ). t.prev z) after_is ∙ last_is l lt) after_is
 
-  pub put_behind : (l f p after frames' : ℕ) (u : Table) (lens' : List ℕ) → f < v.frame_count → IsUnlisted v f → Member p (list_at v l) → after ≡ t.next p → frames' ≡ frames → lens' ≡ set lens l (get_or lens l 0 + 1) → Inserts t u l p f after → Seen (with_list v l (with_behind (Some p) f (list_at v l))) frames' u lens'
+  pub put_behind : (l f p after frames' : ℕ) (u : Table) (lens' : List ℕ) → f < v.frame_count → IsUnlisted v f
+      → Member p (list_at v l) → after ≡ t.next p → frames' ≡ frames
+      → lens' ≡ set lens l (get_or lens l 0 + 1) → Inserts t u l p f after
+      → Seen (with_list v l (with_behind (Some p) f (list_at v l))) frames' u lens'
   put_behind l f p after frames' u lens' in_f free on after_is same lens_are i =
       let lt = on_in l p on in
       let at = split_at p (list_at v l) on in
-      let split : list_at v l ≡ (at.ahead ++ p ∷ []) ++ at.behind = at.is ∙ sym (append_assoc at.ahead (p ∷ []) at.behind) in
-      let c = chain_at t l (frames + l) p at.ahead at.behind (frames + l) (subst (λ (xs : List ℕ). Chain t l (frames + l) xs (frames + l)) at.is (linked.rings l lt)) in
+      let split : list_at v l ≡ (at.ahead ++ p ∷ []) ++ at.behind =
+      at.is ∙ sym (append_assoc at.ahead (p ∷ []) at.behind) in
+      let c =
+      chain_at t l (frames + l) p at.ahead at.behind (frames + l)
+      (subst (λ (xs : List ℕ). Chain t l (frames + l) xs (frames + l)) at.is (linked.rings l lt)) in
       let result : (at.ahead ++ p ∷ []) ++ f ∷ at.behind ≡ with_behind (Some p) f (list_at v l) =
-      append_assoc at.ahead (p ∷ []) (f ∷ at.behind) ∙ sym (ap (with_behind (Some p) f) at.is ∙ with_behind-split p f at.ahead at.behind at.new) in
+      append_assoc at.ahead (p ∷ []) (f ∷ at.behind)
+      ∙ sym (ap (with_behind (Some p) f) at.is ∙ with_behind-split p f at.ahead at.behind at.new) in
       subst (λ (xs : List ℕ). Seen (with_list v l xs) frames' u lens') result
-      (inserted l f p after (at.ahead ++ p ∷ []) at.behind frames' u lens' lt in_f free split (sym (last_or-push (frames + l) p at.ahead)) (after_is ∙ c.1) same lens_are i)
+      (inserted l f p after (at.ahead ++ p ∷ []) at.behind frames' u lens' lt in_f free split
+      (sym (last_or-push (frames + l) p at.ahead)) (after_is ∙ c.1) same lens_are i)
 
-  pub unlinked : (l f before after frames' : ℕ) (u : Table) (lens' : List ℕ) → Member f (list_at v l) → before ≡ t.prev f → after ≡ t.next f → frames' ≡ frames → lens' ≡ set lens l (get_or lens l 0 - 1) → Removes t u before f after → Seen (with_list v l (without f (list_at v l))) frames' u lens'
+  pub unlinked : (l f before after frames' : ℕ) (u : Table) (lens' : List ℕ) → Member f (list_at v l)
+      → before ≡ t.prev f → after ≡ t.next f → frames' ≡ frames → lens' ≡ set lens l (get_or lens l 0 - 1)
+      → Removes t u before f after → Seen (with_list v l (without f (list_at v l))) frames' u lens'
   unlinked l f before after frames' u lens' on before_is after_is same lens_are r =
       let lt = on_in l f on in
       let at = split_at f (list_at v l) on in
-      let c = chain_at t l (frames + l) f at.ahead at.behind (frames + l) (subst (λ (xs : List ℕ). Chain t l (frames + l) xs (frames + l)) at.is (linked.rings l lt)) in
+      let c =
+      chain_at t l (frames + l) f at.ahead at.behind (frames + l)
+      (subst (λ (xs : List ℕ). Chain t l (frames + l) xs (frames + l)) at.is (linked.rings l lt)) in
       let longer : get_or lens l 0 - 1 + 1 ≡ length (at.ahead ++ f ∷ at.behind) =
       let n = len_is l lt ∙ ap length at.is in omega (arith, n, length-append at.ahead (f ∷ at.behind)) in
-      let k = Linked-remove frames t u lens v.lists l at.ahead at.behind f (get_or lens l 0 - 1) before after linked lt at.is longer (before_is ∙ c.0) (after_is ∙ c.1) r in
-      subst (λ (xs : List ℕ). Seen (with_list v l xs) frames' u lens') (sym (ap (without f) at.is ∙ without-split f at.ahead at.behind at.new))
+      let k =
+      Linked-remove frames t u lens v.lists l at.ahead at.behind f (get_or lens l 0 - 1) before after linked
+      lt at.is longer (before_is ∙ c.0) (after_is ∙ c.1) r in
+      subst (λ (xs : List ℕ). Seen (with_list v l xs) frames' u lens')
+      (sym (ap (without f) at.is ∙ without-split f at.ahead at.behind at.new))
       (becomes frames' u lens' (set v.lists l (at.ahead ++ at.behind)) same
-      (subst (λ (n : ℕ). Linked n u lens' (set v.lists l (at.ahead ++ at.behind))) (sym same) (subst (λ (ns : List ℕ). Linked frames u ns (set v.lists l (at.ahead ++ at.behind))) (sym lens_are) k)))
+      (subst (λ (n : ℕ). Linked n u lens' (set v.lists l (at.ahead ++ at.behind))) (sym same) (subst
+      (λ (ns : List ℕ). Linked frames u ns (set v.lists l (at.ahead ++ at.behind))) (sym lens_are) k)))
 
   -- what each look-up finds
   pub front_is : (l : ℕ) → l < length v.lists → frame_at frames (t.next (frames + l)) ≡ first (list_at v l)
-  front_is l lt = ap (frame_at frames) (first_is l lt) ∙ first-frame frames (frames + l) (list_at v l) (omega arith) (linked.below l)
+  front_is l lt =
+      ap (frame_at frames) (first_is l lt)
+      ∙ first-frame frames (frames + l) (list_at v l) (omega arith) (linked.below l)
 
-  pub last_frame_is : (l : ℕ) → l < length v.lists → frame_at frames (t.prev (frames + l)) ≡ last (list_at v l)
+  pub last_frame_is : (l : ℕ) → l < length v.lists
+      → frame_at frames (t.prev (frames + l)) ≡ last (list_at v l)
   last_frame_is l lt =
       ap (frame_at frames) (chain_last t l (frames + l) (list_at v l) (frames + l) (linked.rings l lt))
       ∙ last-frame frames (frames + l) (list_at v l) (linked.below l)
       ∙ ap (λ (o : Option ℕ). last_from o (list_at v l)) (frame_at-head frames (frames + l) (omega arith))
 
-  pub before_is : (l f : ℕ) → Member f (list_at v l) → frame_at frames (t.prev f) ≡ predecessor f (list_at v l)
+  pub before_is : (l f : ℕ) → Member f (list_at v l)
+      → frame_at frames (t.prev f) ≡ predecessor f (list_at v l)
   before_is l f on =
       let lt = on_in l f on in
       let at = split_at f (list_at v l) on in
-      let c = chain_at t l (frames + l) f at.ahead at.behind (frames + l) (subst (λ (xs : List ℕ). Chain t l (frames + l) xs (frames + l)) at.is (linked.rings l lt)) in
+      let c =
+      chain_at t l (frames + l) f at.ahead at.behind (frames + l)
+      (subst (λ (xs : List ℕ). Chain t l (frames + l) xs (frames + l)) at.is (linked.rings l lt)) in
       let below : (x : ℕ) → Member x at.ahead → x < frames =
-      λ x m. linked.below l x (subst (λ (xs : List ℕ). Member x xs) (sym at.is) (Member-append_left x at.ahead (f ∷ at.behind) m)) in
+      λ x m. linked.below l x (subst (λ (xs : List ℕ). Member x xs) (sym at.is)
+      (Member-append_left x at.ahead (f ∷ at.behind) m)) in
       ap (frame_at frames) c.0
       ∙ sym (predecessor-split frames f (frames + l) at.ahead at.behind at.new below)
-      ∙ ap (λ (o : Option ℕ). predecessor_from o f (at.ahead ++ f ∷ at.behind)) (frame_at-head frames (frames + l) (omega arith))
+      ∙ ap (λ (o : Option ℕ). predecessor_from o f (at.ahead ++ f ∷ at.behind))
+      (frame_at-head frames (frames + l) (omega arith))
       ∙ ap (predecessor f) (sym at.is)
 
   pub behind_is : (l f : ℕ) → Member f (list_at v l) → frame_at frames (t.next f) ≡ successor f (list_at v l)
   behind_is l f on =
       let lt = on_in l f on in
       let at = split_at f (list_at v l) on in
-      let c = chain_at t l (frames + l) f at.ahead at.behind (frames + l) (subst (λ (xs : List ℕ). Chain t l (frames + l) xs (frames + l)) at.is (linked.rings l lt)) in
+      let c =
+      chain_at t l (frames + l) f at.ahead at.behind (frames + l)
+      (subst (λ (xs : List ℕ). Chain t l (frames + l) xs (frames + l)) at.is (linked.rings l lt)) in
       let below : (x : ℕ) → Member x at.behind → x < frames =
-      λ x m. linked.below l x (subst (λ (xs : List ℕ). Member x xs) (sym at.is) (Member-append_right x at.ahead (f ∷ at.behind) (inr m))) in
+      λ x m. linked.below l x (subst (λ (xs : List ℕ). Member x xs) (sym at.is)
+      (Member-append_right x at.ahead (f ∷ at.behind) (inr m))) in
       ap (frame_at frames) c.1
       ∙ first-frame frames (frames + l) at.behind (omega arith) below
       ∙ sym (ap (successor f) at.is ∙ successor-split f at.ahead at.behind at.new)
@@ -220,7 +257,9 @@ module _ {v : LinkedLists} {frames : ℕ} {t : Table} {lens : List ℕ} (s : See
   prev_not_self l f on e =
       let lt = on_in l f on in
       let at = split_at f (list_at v l) on in
-      let c = chain_at t l (frames + l) f at.ahead at.behind (frames + l) (subst (λ (xs : List ℕ). Chain t l (frames + l) xs (frames + l)) at.is (linked.rings l lt)) in
+      let c =
+      chain_at t l (frames + l) f at.ahead at.behind (frames + l)
+      (subst (λ (xs : List ℕ). Chain t l (frames + l) xs (frames + l)) at.is (linked.rings l lt)) in
       let below = linked.below l f on in
       not_last f (frames + l) at.ahead (λ same. omega arith) at.new (sym c.0 ∙ e)
 
@@ -228,10 +267,14 @@ module _ {v : LinkedLists} {frames : ℕ} {t : Table} {lens : List ℕ} (s : See
   next_not_self l f on e =
       let lt = on_in l f on in
       let at = split_at f (list_at v l) on in
-      let c = chain_at t l (frames + l) f at.ahead at.behind (frames + l) (subst (λ (xs : List ℕ). Chain t l (frames + l) xs (frames + l)) at.is (linked.rings l lt)) in
+      let c =
+      chain_at t l (frames + l) f at.ahead at.behind (frames + l)
+      (subst (λ (xs : List ℕ). Chain t l (frames + l) xs (frames + l)) at.is (linked.rings l lt)) in
       let below = linked.below l f on in
-      let d : Distinct (at.ahead ++ f ∷ at.behind) = subst (λ (xs : List ℕ). Distinct xs) at.is (linked.distinct l) in
-      not_first f (frames + l) at.behind (λ same. omega arith) ((Distinct-append_right at.ahead (f ∷ at.behind) d).0) (sym c.1 ∙ e)
+      let d : Distinct (at.ahead ++ f ∷ at.behind) =
+      subst (λ (xs : List ℕ). Distinct xs) at.is (linked.distinct l) in
+      not_first f (frames + l) at.behind (λ same. omega arith)
+      ((Distinct-append_right at.ahead (f ∷ at.behind) d).0) (sym c.1 ∙ e)
 
   pub len_not_zero : (l f : ℕ) → Member f (list_at v l) → 0 < get_or lens l 0
   len_not_zero l f on =
@@ -247,25 +290,31 @@ module _ {v : LinkedLists} {frames : ℕ} {t : Table} {lens : List ℕ} (s : See
   found_on None f in_f e = tt
   found_on (Some l) f in_f e = on_list l f in_f (sym e)
 
-  pub found_in : (o : Option ℕ) (f : ℕ) → f < v.frame_count → o ≡ t.list f → IfSome o (λ l. l < length v.lists)
+  pub found_in : (o : Option ℕ) (f : ℕ) → f < v.frame_count → o ≡ t.list f
+      → IfSome o (λ l. l < length v.lists)
   found_in None f in_f e = tt
   found_in (Some l) f in_f e = on_in l f (linked.owned l f (omega (arith, frames_are)) (sym e))
 
   pub found_none : (o : Option ℕ) (f : ℕ) → o ≡ t.list f → IfNone o (IsUnlisted v f)
   found_none None f e =
-      λ l on. let is = list_is l f (Member-from_Contains f (list_at v l) on) in let no : None ≡ Some l = cc (e, is) in cc no
+      λ l on. let is = list_is l f (Member-from_Contains f (list_at v l) on) in
+      let no : None ≡ Some l = cc (e, is) in
+      cc no
   found_none (Some l) f e = tt
 
   pub found_some : (o : Option ℕ) (l f : ℕ) → o ≡ t.list f → Member f (list_at v l) → o ≡ Some l
   found_some o l f e on = e ∙ list_is l f on
 
-  pub found_listed : (o : Option ℕ) (f : ℕ) → f < v.frame_count → o ≡ t.list f → is_some o ≡ true → IsListed v f
+  pub found_listed : (o : Option ℕ) (f : ℕ) → f < v.frame_count → o ≡ t.list f → is_some o ≡ true
+      → IsListed v f
   found_listed None f in_f e some = absurd (false≢true some)
   found_listed (Some l) f in_f e some = (l, on_list l f in_f (sym e))
 
   pub apart : IsApart v
   apart = record {
-    in_range = λ l f on. let below = linked.below l f (Member-from_Contains f (list_at v l) on) in omega (arith, frames_are, below);
+    in_range =
+        λ l f on. let below = linked.below l f (Member-from_Contains f (list_at v l) on) in
+        omega (arith, frames_are, below);
     one_list = λ l m f on other.
         let a = Member-from_Contains f (list_at v l) on in
         let b = Member-from_Contains f (list_at v m) other in
@@ -274,16 +323,23 @@ module _ {v : LinkedLists} {frames : ℕ} {t : Table} {lens : List ℕ} (s : See
   }
 
   -- a frame that left its list comes back to its place
-  list_left : (l f : ℕ) (w : LinkedLists) → Member f (list_at v l) → w ≡ with_list v l (without f (list_at v l)) → list_at w l ≡ without f (list_at v l)
+  list_left : (l f : ℕ) (w : LinkedLists) → Member f (list_at v l)
+      → w ≡ with_list v l (without f (list_at v l)) → list_at w l ≡ without f (list_at v l)
   list_left l f w on w_is =
-      ap (λ (x : LinkedLists). list_at x l) w_is ∙ get_or-set_same v.lists l (without f (list_at v l)) [] (on_in l f on)
+      ap (λ (x : LinkedLists). list_at x l) w_is
+      ∙ get_or-set_same v.lists l (without f (list_at v l)) [] (on_in l f on)
 
-  pub before_stays : (l f : ℕ) (w : LinkedLists) (o : Option ℕ) → Member f (list_at v l) → w ≡ with_list v l (without f (list_at v l)) → o ≡ predecessor f (list_at v l) → (p : ℕ) → o ≡ Some p → IsOn w l p
+  pub before_stays : (l f : ℕ) (w : LinkedLists) (o : Option ℕ) → Member f (list_at v l)
+      → w ≡ with_list v l (without f (list_at v l)) → o ≡ predecessor f (list_at v l) → (p : ℕ) → o ≡ Some p
+      → IsOn w l p
   before_stays l f w o on w_is o_is p is =
       Contains-from_Member p (list_at w l)
-      (subst (λ (xs : List ℕ). Member p xs) (sym (list_left l f w on w_is)) (predecessor_on f (list_at v l) on p (sym o_is ∙ is)))
+      (subst (λ (xs : List ℕ). Member p xs) (sym (list_left l f w on w_is))
+      (predecessor_on f (list_at v l) on p (sym o_is ∙ is)))
 
-  pub comes_back : (l f : ℕ) (w : LinkedLists) (o : Option ℕ) → Member f (list_at v l) → w ≡ with_list v l (without f (list_at v l)) → o ≡ predecessor f (list_at v l) → with_list w l (with_behind o f (list_at w l)) ≡ v
+  pub comes_back : (l f : ℕ) (w : LinkedLists) (o : Option ℕ) → Member f (list_at v l)
+      → w ≡ with_list v l (without f (list_at v l)) → o ≡ predecessor f (list_at v l)
+      → with_list w l (with_behind o f (list_at w l)) ≡ v
   comes_back l f w o on w_is o_is =
       let old : with_behind o f (list_at w l) ≡ list_at v l =
       ap (λ (xs : List ℕ). with_behind o f xs) (list_left l f w on w_is)
@@ -291,10 +347,12 @@ module _ {v : LinkedLists} {frames : ℕ} {t : Table} {lens : List ℕ} (s : See
       ∙ back f (list_at v l) on (linked.distinct l) in
       ap (with_list w l) old
       ∙ ap (λ (x : LinkedLists). with_list x l (list_at v l)) w_is
-      ∙ ap (λ (ls : List (List ℕ)). record v { lists = ls }) (set-set v.lists l (without f (list_at v l)) (list_at v l) ∙ set-get_or v.lists l [])
+      ∙ ap (λ (ls : List (List ℕ)). record v { lists = ls })
+      (set-set v.lists l (without f (list_at v l)) (list_at v l) ∙ set-get_or v.lists l [])
 
   -- a frame is on no other list
-  pub off_lists_are : (l f : ℕ) → Member f (list_at v l) → off_lists f v ≡ with_list v l (without f (list_at v l))
+  pub off_lists_are : (l f : ℕ) → Member f (list_at v l)
+      → off_lists f v ≡ with_list v l (without f (list_at v l))
   off_lists_are l f on =
       let lt = on_in l f on in
       let same : map (without f) v.lists ≡ set v.lists l (without f (list_at v l)) =
@@ -305,9 +363,11 @@ module _ {v : LinkedLists} {frames : ℕ} {t : Table} {lens : List ℕ} (s : See
       get_or-map (without f) v.lists k [] [] in_k
       ∙ elim (cases_eq k l) [
         | inl e ↦ ap (λ (m : ℕ). without f (list_at v m)) e
-            ∙ sym (ap (λ (m : ℕ). get_or (set v.lists l (without f (list_at v l))) m []) e ∙ get_or-set_same v.lists l (without f (list_at v l)) [] lt)
+            ∙ sym (ap (λ (m : ℕ). get_or (set v.lists l (without f (list_at v l))) m []) e
+            ∙ get_or-set_same v.lists l (without f (list_at v l)) [] lt)
         | inr ne ↦
-            without-absent f (list_at v k) (not_absent f (list_at v k) (λ other. ne (one_list frames t lens v.lists linked k l f in_k lt other on)))
+            without-absent f (list_at v k) (not_absent f (list_at v k)
+            (λ other. ne (one_list frames t lens v.lists linked k l f in_k lt other on)))
             ∙ sym (get_or-set_other v.lists l k (without f (list_at v l)) [] ne)
       ]) in
       ap (λ (ls : List (List ℕ)). record v { lists = ls }) same

@@ -18,34 +18,46 @@ record Meets (xs walked : List ℕ) (frame : ℕ) : Type 0 where
   pub behind : List ℕ
   pub is : xs ≡ walked ++ frame ∷ behind
 
-meets : (xs walked : List ℕ) (frame : ℕ) (next : Option ℕ) → next ≡ Some frame → IsWalked xs walked next → Meets xs walked frame
+meets : (xs walked : List ℕ) (frame : ℕ) (next : Option ℕ) → next ≡ Some frame → IsWalked xs walked next
+    → Meets xs walked frame
 meets xs walked frame next some w = at w.rest w.is (sym some ∙ w.next_is)
   where
     at : (rest : List ℕ) → xs ≡ walked ++ rest → Some frame ≡ first rest → Meets xs walked frame
     at [] is e = absurd (cc)
-    at (x ∷ rest) is e = record { behind = rest; is = is ∙ ap (λ (y : ℕ). walked ++ y ∷ rest) (sym (same_Some frame x e)) }
+    at (x ∷ rest) is e =
+        record { behind = rest; is = is ∙ ap (λ (y : ℕ). walked ++ y ∷ rest) (sym (same_Some frame x e)) }
 
-pub walked-none : (xs walked : List ℕ) (next : Option ℕ) → walked ≡ [] → next ≡ first xs → IsWalked xs walked next
-walked-none xs walked next none e = record { rest = xs; is = ap (λ (ys : List ℕ). ys ++ xs) (sym none); next_is = e }
+pub walked-none : (xs walked : List ℕ) (next : Option ℕ) → walked ≡ [] → next ≡ first xs
+    → IsWalked xs walked next
+walked-none xs walked next none e =
+    record { rest = xs; is = ap (λ (ys : List ℕ). ys ++ xs) (sym none); next_is = e }
 
-pub walked-on : (xs walked : List ℕ) (frame : ℕ) (next : Option ℕ) → next ≡ Some frame → IsWalked xs walked next → Member frame xs
+pub walked-on : (xs walked : List ℕ) (frame : ℕ) (next : Option ℕ) → next ≡ Some frame
+    → IsWalked xs walked next → Member frame xs
 walked-on xs walked frame next some w =
     let m = meets xs walked frame next some w in
-    subst (λ (ys : List ℕ). Member frame ys) (sym m.is) (Member-append_right frame walked (frame ∷ m.behind) (inl refl))
+    subst (λ (ys : List ℕ). Member frame ys) (sym m.is)
+    (Member-append_right frame walked (frame ∷ m.behind) (inl refl))
 
-pub walked-fewer : (xs walked : List ℕ) (frame : ℕ) (next : Option ℕ) → next ≡ Some frame → IsWalked xs walked next → length walked < length xs
+pub walked-fewer : (xs walked : List ℕ) (frame : ℕ) (next : Option ℕ) → next ≡ Some frame
+    → IsWalked xs walked next → length walked < length xs
 walked-fewer xs walked frame next some w =
     let m = meets xs walked frame next some w in
     omega (arith, ap length m.is, length-append walked (frame ∷ m.behind))
 
-pub walked-more : (xs walked further : List ℕ) (frame : ℕ) (next after : Option ℕ) → Distinct xs → next ≡ Some frame → IsWalked xs walked next → further ≡ walked ++ frame ∷ []
+pub walked-more : (xs walked further : List ℕ) (frame : ℕ) (next after : Option ℕ) → Distinct xs
+    → next ≡ Some frame → IsWalked xs walked next → further ≡ walked ++ frame ∷ []
     → after ≡ successor frame xs → IsWalked xs further after
 walked-more xs walked further frame next after distinct some w is e =
     let m = meets xs walked frame next some w in
-    let apart = Absent-append_left frame walked m.behind (Distinct-remove frame walked m.behind (subst Distinct m.is distinct)).0 in
+    let apart =
+    Absent-append_left frame walked m.behind
+    (Distinct-remove frame walked m.behind (subst Distinct m.is distinct)).0 in
     record {
       rest = m.behind;
-      is = m.is ∙ (sym (append_assoc walked (frame ∷ []) m.behind) ∙ ap (λ (ys : List ℕ). ys ++ m.behind) (sym is));
+      is =
+          m.is
+          ∙ (sym (append_assoc walked (frame ∷ []) m.behind) ∙ ap (λ (ys : List ℕ). ys ++ m.behind) (sym is));
       next_is = e ∙ (ap (successor frame) m.is ∙ successor-split frame walked m.behind apart);
     }
 

@@ -73,4 +73,5 @@ with_behind (Some after) frame (x ∷ xs) =
 pub record IsApart (links : LinkedLists) : Type 0 where
   pub in_range : (list frame : ℕ) → IsOn links list frame → frame < links.frame_count
   pub one_list : (list other frame : ℕ) → IsOn links list frame → IsOn links other frame → list ≡ other
-  pub once : (list i j : ℕ) → i < length (list_at links list) → j < length (list_at links list) → slice_index_or (list_at links list) i 0 ≡ slice_index_or (list_at links list) j 0 → i ≡ j
+  pub once : (list i j : ℕ) → i < length (list_at links list) → j < length (list_at links list)
+      → slice_index_or (list_at links list) i 0 ≡ slice_index_or (list_at links list) j 0 → i ≡ j

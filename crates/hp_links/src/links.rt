@@ -76,7 +76,8 @@ impl Links {
     /// The frame after a frame on its list.
     pub fn next(&self, frame: Frame) -> Option<Frame>
         requires { frame < self.now.frame_count }
-        ensures on { (list : ℕ) → IsOn self.now list frame → result ≡ successor frame (list_at self.now list) }
+        ensures on { (list : ℕ) → IsOn self.now list frame
+            → result ≡ successor frame (list_at self.now list) }
         ensures free { IsUnlisted self.now frame → result ≡ None }
     {
         let place = place_of(frame);
@@ -127,14 +128,18 @@ impl Links {
     /// Takes a frame off its list, and answers the frame that stood before it.
     pub fn unlink(&mut self, frame: Frame) -> Option<Frame>
         requires { IsListed self.old frame }
-        ensures before { (list : ℕ) → IsOn self.old list frame → result ≡ predecessor frame (list_at self.old list) }
+        ensures before { (list : ℕ) → IsOn self.old list frame
+            → result ≡ predecessor frame (list_at self.old list) }
         ensures links { self.new ≡ off_lists frame self.old }
-        ensures one_list { (list : ℕ) → IsOn self.old list frame → self.new ≡ with_list self.old list (without frame (list_at self.old list)) }
+        ensures one_list { (list : ℕ) → IsOn self.old list frame
+            → self.new ≡ with_list self.old list (without frame (list_at self.old list)) }
         ensures free { IsUnlisted self.new frame }
 
         // What `relink_after` needs to undo this, and that it does.
-        ensures before_on { (list : ℕ) → IsOn self.old list frame → ForSome result (λ before. IsOn self.new list before) }
-        ensures undone { (list : ℕ) → IsOn self.old list frame → with_list self.new list (with_behind result frame (list_at self.new list)) ≡ self.old }
+        ensures before_on { (list : ℕ) → IsOn self.old list frame
+            → ForSome result (λ before. IsOn self.new list before) }
+        ensures undone { (list : ℕ) → IsOn self.old list frame
+            → with_list self.new list (with_behind result frame (list_at self.new list)) ≡ self.old }
     {
         let place = place_of(frame);
         let list = self.rings.list(place).unwrap();
@@ -149,14 +154,16 @@ impl Links {
         requires frame_in { frame < self.old.frame_count }
         requires free { IsUnlisted self.old frame }
         requires after_on { IsOn self.old list after }
-        ensures { self.new ≡ with_list self.old list (with_behind (Some after) frame (list_at self.old list)) }
+        ensures { self.new
+            ≡ with_list self.old list (with_behind (Some after) frame (list_at self.old list)) }
     {
         let before = place_of(after);
         let next = self.rings.next(before);
         self.rings.insert(list, before, place_of(frame), next);
     }
 
-    /// Puts a frame after `after`, or in front where that is `None`. It undoes an `unlink` that answered `after`.
+    /// Puts a frame after `after`, or in front where that is `None`. It undoes an `unlink` that
+    /// answered `after`.
     pub fn relink_after(&mut self, list: ListNumber, frame: Frame, after: Option<Frame>)
         requires list_in { list < length self.old.lists }
         requires frame_in { frame < self.old.frame_count }

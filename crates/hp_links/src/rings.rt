@@ -13,7 +13,8 @@ pub fn place_of(frame: Frame) -> u32
     frame.0
 }
 
-/// A place in the table: a frame's, or a head's. One on no list, and the head of an empty list, is its own neighbour.
+/// A place in the table: a frame's, or a head's. One on no list, and the head of an empty list, is
+/// its own neighbour.
 #[derive(Clone, Copy, Debug)]
 pub struct Node {
     pub next: u32,
@@ -142,8 +143,10 @@ impl Rings {
         requires not_before { before ≢ frame }
         requires not_after { after ≢ frame }
         requires room { slice_index self.old.lens.items list < self.old.frames }
-        ensures links { Inserts (table self.old.nodes.items) (table self.new.nodes.items) list before frame after }
-        ensures lens { self.new.lens.items ≡ slice_set self.old.lens.items list (slice_index self.old.lens.items list + 1) }
+        ensures links { Inserts (table self.old.nodes.items) (table self.new.nodes.items) list before frame
+            after }
+        ensures lens { self.new.lens.items
+            ≡ slice_set self.old.lens.items list (slice_index self.old.lens.items list + 1) }
         ensures frames { self.new.frames ≡ self.old.frames }
     {
         self.nodes[before as usize].next = frame;
@@ -166,7 +169,8 @@ impl Rings {
         requires not_after { after ≢ frame }
         requires some { 0 < slice_index self.old.lens.items list }
         ensures links { Removes (table self.old.nodes.items) (table self.new.nodes.items) before frame after }
-        ensures lens { self.new.lens.items ≡ slice_set self.old.lens.items list (slice_index self.old.lens.items list - 1) }
+        ensures lens { self.new.lens.items
+            ≡ slice_set self.old.lens.items list (slice_index self.old.lens.items list - 1) }
         ensures frames { self.new.frames ≡ self.old.frames }
     {
         self.nodes[before as usize].next = after;

@@ -11,21 +11,34 @@ use Rattle.hp_ops.proofs.Gained.{opened_more}
 use Rattle.hp_machine.proofs.Replies.{begin_known, driver_known, opened_inside, receipts_more}
 
 -- the processor's receipts after a call
-called_receipts : (old new : MachineValue) (cpu : ℕ) (event : Event) (r : Receipt) → IsCalled old cpu event r new → receipts_of cpu new.history ≡ receipts_of cpu old.history ++ r ∷ []
-called_receipts old new cpu event r called = ap (receipts_of cpu) called.history ∙ receipts_more cpu old.history (record_of cpu r) refl
+called_receipts : (old new : MachineValue) (cpu : ℕ) (event : Event) (r : Receipt)
+    → IsCalled old cpu event r new → receipts_of cpu new.history ≡ receipts_of cpu old.history ++ r ∷ []
+called_receipts old new cpu event r called =
+    ap (receipts_of cpu) called.history ∙ receipts_more cpu old.history (record_of cpu r) refl
 
 -- what a call gives to the processor's port
-pub called_is_given : (old new : MachineValue) (cpu : ℕ) (event : Event) (r : Receipt) (fault : Option CallFault) → IsCalled old cpu event r new → IsGiven (port_value old cpu fault) event r (port_value new cpu None)
+pub called_is_given : (old new : MachineValue) (cpu : ℕ) (event : Event) (r : Receipt)
+    (fault : Option CallFault)
+    → IsCalled old cpu event r new → IsGiven (port_value old cpu fault) event r (port_value new cpu None)
 called_is_given old new cpu event r fault called =
     let receipts = called_receipts old new cpu event r called in
     record {
       asked = called.asked;
-      value = ap (λ (rs : List Receipt). record { receipts = rs; fault = None; cpus = new.layout.cpus }) receipts ∙ ap (λ (n : ℕ). record { receipts = receipts_of cpu old.history ++ r ∷ []; fault = None; cpus = n }) (ap (λ (l : LayoutParts). l.cpus) called.layout);
-      begun = λ plan is. subst IsBeginReply (sym called.reply) (subst (λ (e : Event). IsBeginReply (reply_of old.layout old.base old.before old.history cpu e)) (sym is) (begin_known old.layout old.base old.before old.history cpu plan));
+      value =
+          ap (λ (rs : List Receipt). record { receipts = rs; fault = None; cpus = new.layout.cpus })
+          receipts ∙ ap
+          (λ (n : ℕ). record { receipts = receipts_of cpu old.history ++ r ∷ []; fault = None; cpus = n })
+          (ap (λ (l : LayoutParts). l.cpus) called.layout);
+      begun =
+          λ plan is. subst IsBeginReply (sym called.reply) (subst
+          (λ (e : Event). IsBeginReply (reply_of old.layout old.base old.before old.history cpu e)) (sym is)
+          (begin_known old.layout old.base old.before old.history cpu plan));
       known = λ opened.
-          let later : has_opened (receipts_of cpu new.history) ≡ true = ap has_opened receipts ∙ opened_more (receipts_of cpu old.history) (r ∷ []) opened in
+          let later : has_opened (receipts_of cpu new.history) ≡ true =
+          ap has_opened receipts ∙ opened_more (receipts_of cpu old.history) (r ∷ []) opened in
           let inside = opened_inside old.layout old.base old.before new.history cpu called.legal later in
-          subst (IsDriverReply old.layout.cpus event) (sym called.reply) (driver_known old.layout old.base old.before old.history cpu event inside);
+          subst (IsDriverReply old.layout.cpus event) (sym called.reply)
+          (driver_known old.layout old.base old.before old.history cpu event inside);
     }
 
 -- ---- what it makes of the machine
@@ -44,26 +57,43 @@ room_wanted true tells = let e = tells.1 refl in absurd cc
 room_wanted false tells = refl
 
 -- one receipt
-pub called_once : (old new : MachineValue) (cpu : ℕ) (event : Event) (r : Receipt) → TellsFull (Ok r) (is_full old) → IsCalled old cpu event r new → AreCalls old cpu (r ∷ []) new
-called_once old new cpu event r tells called =
-    (new, room_of (is_full old) r tells, subst (λ (e : Event). IsCalled old cpu e r new) (sym called.asked) called, refl)
+pub called_once : (old new : MachineValue) (cpu : ℕ) (event : Event) (r : Receipt)
+    → TellsFull (Ok r) (is_full old) → IsCalled old cpu event r new → AreCalls old cpu (r ∷ []) new
+called_once old new cpu event r tells called = (
+  new,
+  room_of (is_full old) r tells,
+  subst (λ (e : Event). IsCalled old cpu e r new) (sym called.asked) called,
+  refl,
+)
 
 -- a fault's cause
-pub cause_of : (old : MachineValue) (fault : CallFault) → TellsFull (Err fault) (is_full old) → HasCause (Some fault) old
+pub cause_of : (old : MachineValue) (fault : CallFault) → TellsFull (Err fault) (is_full old)
+    → HasCause (Some fault) old
 cause_of old HistoryFull tells = tells.0 refl
 cause_of old OutOfMemory tells = room_wanted (is_full old) tells
 
 -- ---- a run of calls, for whoever drives a port on a machine
 
--- what the calls that gave receipts and the one that left a fault made of the machine, of its name and of the processor
-pub calls_made : {S N : Type 0} (makes : S → List Receipt → S → Type 0) (leaves : S → CallFault → S → Type 0) (name : S → N) (cpu : S → ℕ) (machine : S → MachineValue)
-    → ((p q : S) (gained : List Receipt) → makes p gained q → (name q ≡ name p) × (cpu q ≡ cpu p) × AreCalls (machine p) (cpu p) gained (machine q))
-    → ((p q : S) (fault : CallFault) → leaves p fault q → (name q ≡ name p) × (cpu q ≡ cpu p) × (machine q ≡ machine p) × HasCause (Some fault) (machine p))
-    → (old new : S) (gained : List Receipt) (fault : Option CallFault) → AreMade makes leaves old gained fault new → (name new ≡ name old) × AreCalls (machine old) (cpu old) gained (machine new) × HasCause fault (machine new)
+-- what the calls that gave receipts and the one that left a fault made of the machine, of its name
+-- and of the processor
+pub calls_made : {S N : Type 0} (makes : S → List Receipt → S → Type 0) (leaves : S → CallFault → S → Type 0)
+    (name : S → N) (cpu : S → ℕ) (machine : S → MachineValue)
+    → ((p q : S) (gained : List Receipt) → makes p gained q
+    → (name q ≡ name p) × (cpu q ≡ cpu p) × AreCalls (machine p) (cpu p) gained (machine q))
+    → ((p q : S) (fault : CallFault) → leaves p fault q
+    → (name q ≡ name p) × (cpu q ≡ cpu p) × (machine q ≡ machine p) × HasCause (Some fault) (machine p))
+    → (old new : S) (gained : List Receipt) (fault : Option CallFault)
+    → AreMade makes leaves old gained fault new
+    → (name new ≡ name old) × AreCalls (machine old) (cpu old) gained (machine new)
+    × HasCause fault (machine new)
 calls_made makes leaves name cpu machine as_calls as_left old new gained None made =
     let calls = as_calls old new gained made in
     (calls.0, calls.2, tt)
 calls_made makes leaves name cpu machine as_calls as_left old new gained (Some fault) made =
     let calls = as_calls old made.0 gained made.1 in
-    let left = as_left made.0 new fault made.2 in
-    (left.0 ∙ calls.0, subst (λ (m : MachineValue). AreCalls (machine old) (cpu old) gained m) (sym left.2) calls.2, subst (HasCause (Some fault)) (sym left.2) left.3)
+    let left = as_left made.0 new fault made.2 in (
+      left.0 ∙ calls.0,
+      subst (λ (m : MachineValue). AreCalls (machine old) (cpu old) gained m) (sym left.2)
+          calls.2,
+      subst (HasCause (Some fault)) (sym left.2) left.3,
+    )

@@ -35,22 +35,32 @@ booted_machine l m is limits =
     })
 
 -- where the history is not full there is room for one more record
-pub room : (m : MachineValue) → is_full m ≡ false → (length m.history < m.layout.history) × (nat_le 18446744073709551615 (m.before + length m.history) ≡ false)
+pub room : (m : MachineValue) → is_full m ≡ false
+    → (length m.history < m.layout.history)
+    × (nat_le 18446744073709551615 (m.before + length m.history) ≡ false)
 room m free =
-    let parts = or_parts (nat_le m.layout.history (length m.history)) (nat_le 18446744073709551615 (m.before + length m.history)) free in
+    let parts =
+    or_parts (nat_le m.layout.history (length m.history))
+    (nat_le 18446744073709551615 (m.before + length m.history)) free in
     (leb-false m.layout.history (length m.history) parts.0, parts.1)
 
 -- the longer history is within the limit
-few_called : (h new : List Record) (r : Record) (limit : ℕ) → length h < limit → new ≡ h ++ r ∷ [] → length new ≤ limit
+few_called : (h new : List Record) (r : Record) (limit : ℕ) → length h < limit → new ≡ h ++ r ∷ []
+    → length new ≤ limit
 few_called h new r limit less is = omega (arith, less, ap length is, length_push h r)
 
 -- a call keeps it
-pub called_machine : (old new : MachineValue) (cpu : ℕ) (event : Event) (r : Receipt) → IsMachine old → is_full old ≡ false → IsCalled old cpu event r new → IsMachine new
+pub called_machine : (old new : MachineValue) (cpu : ℕ) (event : Event) (r : Receipt) → IsMachine old
+    → is_full old ≡ false → IsCalled old cpu event r new → IsMachine new
 called_machine old new cpu event r ok free call = record {
   limits = subst IsLayout (sym call.layout) ok.limits;
-  placed = subst (λ (l : LayoutParts). IsWellPlaced l new.base) (sym call.layout) (subst (λ (s : Memory). IsWellPlaced old.layout s) (sym call.base) ok.placed);
+  placed =
+      subst (λ (l : LayoutParts). IsWellPlaced l new.base) (sym call.layout)
+      (subst (λ (s : Memory). IsWellPlaced old.layout s) (sym call.base) ok.placed);
   history = record { legal = legal; state = call.state ∙ sym value };
-  few = subst (λ (l : LayoutParts). length new.history ≤ l.history) (sym call.layout) (few_called old.history new.history (record_of cpu r) old.layout.history (room old free).0 call.history);
+  few =
+      subst (λ (l : LayoutParts). length new.history ≤ l.history) (sym call.layout) (few_called old.history
+      new.history (record_of cpu r) old.layout.history (room old free).0 call.history);
   boots = λ none. call.base ∙ (ok.boots (sym call.before ∙ none) ∙ ap boot_memory (sym call.layout));
 }
   where
@@ -61,10 +71,14 @@ called_machine old new cpu event r ok free call = record {
         (subst (λ (n : ℕ). IsLegal old.layout old.base n new.history) (sym call.before) call.legal))
 
     value : value_of new.layout new.base new.history ≡ value_of old.layout old.base new.history
-    value = ap (λ (l : LayoutParts). value_of l new.base new.history) call.layout ∙ ap (λ (s : Memory). value_of old.layout s new.history) call.base
+    value =
+        ap (λ (l : LayoutParts). value_of l new.base new.history) call.layout
+        ∙ ap (λ (s : Memory). value_of old.layout s new.history) call.base
 
 -- so does one that left no record
-pub call_kept : {E : Type 0} (old new : MachineValue) (cpu : ℕ) (event : Event) (result : Result Receipt E) → IsMachine old → is_full old ≡ false → OnErr result (new ≡ old) → IfOk result (λ r. IsCalled old cpu event r new) → IsMachine new
+pub call_kept : {E : Type 0} (old new : MachineValue) (cpu : ℕ) (event : Event) (result : Result Receipt E)
+    → IsMachine old → is_full old ≡ false → OnErr result (new ≡ old)
+    → IfOk result (λ r. IsCalled old cpu event r new) → IsMachine new
 call_kept old new cpu event (Ok r) ok free same call = called_machine old new cpu event r ok free call
 call_kept old new cpu event (Err e) ok free same call = subst IsMachine (sym same) ok
 
@@ -72,8 +86,12 @@ call_kept old new cpu event (Err e) ok free same call = subst IsMachine (sym sam
 pub sound : (m : MachineValue) → IsMachine m → IsSound m
 sound m ok = record {
   limits = ok.limits;
-  placed = subst (λ (s : Memory). IsWellPlaced m.layout s) (sym ok.history.state) (value-placed m.layout m.base m.history ok.limits ok.placed);
-  contents = ap (λ (s : Memory). s.pages.contents) ok.history.state ∙ value-contents m.layout m.base m.before m.history ok.history.legal;
+  placed =
+      subst (λ (s : Memory). IsWellPlaced m.layout s) (sym ok.history.state)
+      (value-placed m.layout m.base m.history ok.limits ok.placed);
+  contents =
+      ap (λ (s : Memory). s.pages.contents) ok.history.state
+      ∙ value-contents m.layout m.base m.before m.history ok.history.legal;
 }
 
 -- where no record is there to be sealed, the state is that at boot
@@ -83,7 +101,9 @@ no_records l base [] none = refl
 no_records l base (r ∷ h) none = absurd cc
 
 at_boot : (m : MachineValue) → IsMachine m → last_serial m ≡ 0 → m.state ≡ boot_memory m.layout
-at_boot m ok none = ok.history.state ∙ (no_records m.layout m.base m.history (omega (arith, none)) ∙ ok.boots (omega (arith, none)))
+at_boot m ok none =
+    ok.history.state
+    ∙ (no_records m.layout m.base m.history (omega (arith, none)) ∙ ok.boots (omega (arith, none)))
 
 -- a seal keeps it
 sealed_machine : (m new : MachineValue) → IsMachine m → new ≡ sealed m → IsMachine new
@@ -98,36 +118,51 @@ sealed_machine m new ok is =
     })
 
 -- and so does one that was out of memory
-pub seal_kept : {V E : Type 0} (m new : MachineValue) (result : Result V E) → IsMachine m → OnErr result (new ≡ m) → OnOk result (new ≡ sealed m) → IsMachine new
+pub seal_kept : {V E : Type 0} (m new : MachineValue) (result : Result V E) → IsMachine m
+    → OnErr result (new ≡ m) → OnOk result (new ≡ sealed m) → IsMachine new
 seal_kept m new (Ok v) ok same goes_on = sealed_machine m new ok goes_on
 seal_kept m new (Err e) ok same goes_on = subst IsMachine (sym same) ok
 
 -- the history up to one of its records is legal
-up_to : (m : MachineValue) (h rest : List Record) (r : Record) → IsMachine m → m.history ≡ h ++ r ∷ rest → IsLegal m.layout m.base m.before (h ++ r ∷ [])
+up_to : (m : MachineValue) (h rest : List Record) (r : Record) → IsMachine m → m.history ≡ h ++ r ∷ rest
+    → IsLegal m.layout m.base m.before (h ++ r ∷ [])
 up_to m h rest r ok is =
-    subst (λ (g : List Record). IsLegal m.layout m.base m.before g) first (legal_take m.layout m.base m.before m.history (length (h ++ r ∷ [])) ok.history.legal)
+    subst (λ (g : List Record). IsLegal m.layout m.base m.before g) first
+    (legal_take m.layout m.base m.before m.history (length (h ++ r ∷ [])) ok.history.legal)
   where
     first : take (length (h ++ r ∷ [])) m.history ≡ h ++ r ∷ []
     first =
         ap (take (length (h ++ r ∷ []))) (is ∙ sym (append_assoc h (r ∷ []) rest))
-        ∙ (take-append-le (length (h ++ r ∷ [])) (h ++ r ∷ []) rest (omega arith) ∙ take_all (length (h ++ r ∷ [])) (h ++ r ∷ []) (omega arith))
+        ∙ (take-append-le (length (h ++ r ∷ [])) (h ++ r ∷ []) rest (omega arith)
+        ∙ take_all (length (h ++ r ∷ [])) (h ++ r ∷ []) (omega arith))
 
 -- and so do the laws of operations
 pub operations : (m : MachineValue) → IsMachine m → KeepsOperations m
 operations m ok = record {
   rows = record {
-    claimed = λ place b plan at. claimed m.layout m.base m.before m.history place b plan ok.limits ok.placed ok.history.legal at;
+    claimed =
+        λ place b plan at.
+        claimed m.layout m.base m.before m.history place b plan ok.limits ok.placed ok.history.legal at;
     held = λ place b plan at open_behind. still_held place b plan at open_behind;
   };
   commits = record {
-    held = λ h rest r place b plan is at asked good. commit_held m.layout m.base m.before h r place b plan ok.limits ok.placed (up_to m h rest r ok is) at asked good;
-    granted = λ h rest r place b plan is at asked good. commit_granted m.layout m.base m.before h r place b plan ok.limits ok.placed (up_to m h rest r ok is) at asked good;
+    held =
+        λ h rest r place b plan is at asked good. commit_held m.layout m.base m.before h r place b plan
+        ok.limits ok.placed (up_to m h rest r ok is) at asked good;
+    granted =
+        λ h rest r place b plan is at asked good. commit_granted m.layout m.base m.before h r place b plan
+        ok.limits ok.placed (up_to m h rest r ok is) at asked good;
   };
-  cancels = λ h rest r place b plan is at asked good. given_back m.layout m.base m.before h r place b plan ok.limits ok.placed (up_to m h rest r ok is) at asked good;
+  cancels =
+      λ h rest r place b plan is at asked good. given_back m.layout m.base m.before h r place b plan ok.limits
+      ok.placed (up_to m h rest r ok is) at asked good;
 }
   where
-    still_held : (place : ℕ) (b : Record) (plan : List Item) → BeginsAt (net_of m.history) place b plan → IsOpenBehind b.serial place (net_of m.history)
-        → RowsAre m.state plan (λ item. row_of (state_behind m.layout m.base m.before m.history b).blocks item.block)
+    still_held : (place : ℕ) (b : Record) (plan : List Item) → BeginsAt (net_of m.history) place b plan
+        → IsOpenBehind b.serial place (net_of m.history)
+        → RowsAre m.state plan
+        (λ item. row_of (state_behind m.layout m.base m.before m.history b).blocks item.block)
     still_held place b plan at stays =
-        subst (λ (s : Memory). RowsAre s plan (λ item. row_of (state_behind m.layout m.base m.before m.history b).blocks item.block)) (sym ok.history.state)
+        subst (λ (s : Memory). RowsAre s plan (λ item. row_of
+        (state_behind m.layout m.base m.before m.history b).blocks item.block)) (sym ok.history.state)
         (held m.layout m.base m.before m.history place b plan ok.limits ok.placed ok.history.legal at stays)

@@ -5,8 +5,8 @@ use Rattle.hp_units.specs.LayoutParts.{IsLayout}
 use Rattle.hp_units.specs.Placement.{IsWellPlaced}
 use Rattle.hp_machine.specs.Machine.{IsHistory, MachineValue}
 
--- what every machine keeps: each frame of the base is in exactly one place, the history is within the layout's limit, and
--- the base is the state at boot as long as no record was sealed
+-- what every machine keeps: each frame of the base is in exactly one place, the history is within
+-- the layout's limit, and the base is the state at boot as long as no record was sealed
 pub record IsMachine (m : MachineValue) : Type 0 where
   pub limits : IsLayout m.layout
   pub placed : IsWellPlaced m.layout m.base

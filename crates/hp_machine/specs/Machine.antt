@@ -10,8 +10,8 @@ use Rattle.hp_units.specs.declared.replies.Receipt.{Receipt}
 use Rattle.hp_history.specs.Course.{CourseValue, IsAnswered, IsHistory as IsCourseHistory, is_spent, started}
 pub use Rattle.hp_history.specs.Course.{last_serial, record_of}
 
--- a course's value: `layout`, `before`, the number of records that were sealed before the history, `base`, the state that the
--- history began with, `history` and `state`
+-- a course's value: `layout`, `before`, the number of records that were sealed before the history,
+-- `base`, the state that the history began with, `history` and `state`
 abbrev pub MachineValue : Type 0
 MachineValue = CourseValue
 
@@ -19,13 +19,14 @@ MachineValue = CourseValue
 abbrev pub booted : LayoutParts → MachineValue
 booted l = record { layout = l; before = 0; base = boot_memory l; history = []; state = boot_memory l }
 
--- the headline for one machine: its history is legal, and its state is what the plain machine reaches from the base by the
--- steps of the history that are not undone
+-- the headline for one machine: its history is legal, and its state is what the plain machine
+-- reaches from the base by the steps of the history that are not undone
 abbrev pub IsHistory : MachineValue → Type 0
 IsHistory = IsCourseHistory
 
--- what a user relies on in every machine: its layout is within the limits, each frame is in exactly one place, and its pages
--- hold what Map, Unmap and Write of the steps that are not undone make of the base's pages
+-- what a user relies on in every machine: its layout is within the limits, each frame is in exactly
+-- one place, and its pages hold what Map, Unmap and Write of the steps that are not undone make of
+-- the base's pages
 pub record IsSound (m : MachineValue) : Type 0 where
   pub limits : IsLayout m.layout
   pub placed : IsWellPlaced m.layout m.state
@@ -39,7 +40,8 @@ is_full m = nat_le m.layout.history (length m.history) || is_spent m
 abbrev pub sealed : MachineValue → MachineValue
 sealed m = started m.layout m.state (last_serial m)
 
--- the call of an event by a processor was answered so, and made the new machine of the old: one record is appended, with the
--- next serial and the reply that the definitions give, and the state is that of the longer history
+-- the call of an event by a processor was answered so, and made the new machine of the old: one
+-- record is appended, with the next serial and the reply that the definitions give, and the state
+-- is that of the longer history
 abbrev pub IsCalled : MachineValue → ℕ → Event → Receipt → MachineValue → Type 0
 IsCalled = IsAnswered

@@ -1,4 +1,5 @@
--- The variants of the events and replies under names of their own, passed on from one place. Declares nothing.
+-- The variants of the events and replies under names of their own, passed on from one place.
+-- Declares nothing.
 pub use Rattle.hp_units.specs.declared.events.Event.TheVariants.{KernelAlloc, KernelFree, Map, Unmap, Write, Read, Drain, Online, Begin, DrainFor, Migrate, Commit, Cancel, UndoAfter, Probe, Remove, SetAuto}
 pub use Rattle.hp_units.specs.declared.replies.Reply.TheVariants.{Done, Moved, Released, Refused}
 pub use Rattle.hp_units.specs.declared.replies.Refusal.TheVariants.{NoCpu, NoFrame, NoOp, NothingToMove, NotFree}

@@ -9,28 +9,39 @@ use Rattle.hp_units.specs.declared.replies.Record.{Record}
 use Rattle.hp_laws.specs.Operations.{BeginsAt, IsOpenBehind, RowsAre, state_before, state_behind, wished_row}
 use Rattle.hp_machine.specs.Machine.{MachineValue}
 
--- a Begin that is not undone claims each block of its plan; as long as no Commit and no Cancel of its operation follows, their
--- rows are those that it left
+-- a Begin that is not undone claims each block of its plan; as long as no Commit and no Cancel of
+-- its operation follows, their rows are those that it left
 pub record HoldsRows (m : MachineValue) : Type 0 where
   pub claimed : (place : ℕ) (b : Record) (plan : List Item) → BeginsAt (net_of m.history) place b plan
-      → RowsAre (state_behind m.layout m.base m.before m.history b) plan (λ item. claimed_row (row_of (state_before m.layout m.base m.before m.history b).blocks item.block) b.serial item.wish)
-  pub held : (place : ℕ) (b : Record) (plan : List Item) → BeginsAt (net_of m.history) place b plan → IsOpenBehind b.serial place (net_of m.history)
-      → RowsAre m.state plan (λ item. row_of (state_behind m.layout m.base m.before m.history b).blocks item.block)
+      → RowsAre (state_behind m.layout m.base m.before m.history b) plan (λ item. claimed_row
+      (row_of (state_before m.layout m.base m.before m.history b).blocks item.block) b.serial item.wish)
+  pub held : (place : ℕ) (b : Record) (plan : List Item) → BeginsAt (net_of m.history) place b plan
+      → IsOpenBehind b.serial place (net_of m.history)
+      → RowsAre m.state plan
+      (λ item. row_of (state_behind m.layout m.base m.before m.history b).blocks item.block)
 
--- a Commit that is not refused, wherever it stands in the history after the records h, gives each block its wish, all in one
--- step: just before it their rows are those that the Begin left
+-- a Commit that is not refused, wherever it stands in the history after the records h, gives each
+-- block its wish, all in one step: just before it their rows are those that the Begin left
 pub record GrantsWishes (m : MachineValue) : Type 0 where
-  pub held : (h rest : List Record) (r : Record) (place : ℕ) (b : Record) (plan : List Item) → m.history ≡ h ++ r ∷ rest → BeginsAt (net_of h) place b plan → r.event ≡ Commit b.serial → is_refused r.reply ≡ false
-      → RowsAre (value_of m.layout m.base h) plan (λ item. row_of (state_behind m.layout m.base m.before h b).blocks item.block)
-  pub granted : (h rest : List Record) (r : Record) (place : ℕ) (b : Record) (plan : List Item) → m.history ≡ h ++ r ∷ rest → BeginsAt (net_of h) place b plan → r.event ≡ Commit b.serial → is_refused r.reply ≡ false
+  pub held : (h rest : List Record) (r : Record) (place : ℕ) (b : Record) (plan : List Item)
+      → m.history ≡ h ++ r ∷ rest → BeginsAt (net_of h) place b plan → r.event ≡ Commit b.serial
+      → is_refused r.reply ≡ false
+      → RowsAre (value_of m.layout m.base h) plan
+      (λ item. row_of (state_behind m.layout m.base m.before h b).blocks item.block)
+  pub granted : (h rest : List Record) (r : Record) (place : ℕ) (b : Record) (plan : List Item)
+      → m.history ≡ h ++ r ∷ rest → BeginsAt (net_of h) place b plan → r.event ≡ Commit b.serial
+      → is_refused r.reply ≡ false
       → RowsAre (value_of m.layout m.base (h ++ r ∷ [])) plan (λ item. wished_row item.wish)
 
--- a Cancel that is not refused, wherever it stands in the history after the records h, gives each block the row that it had
--- just before the Begin
+-- a Cancel that is not refused, wherever it stands in the history after the records h, gives each
+-- block the row that it had just before the Begin
 abbrev pub GivesRowsBack : MachineValue → Type 0
 GivesRowsBack m =
-    (h rest : List Record) (r : Record) (place : ℕ) (b : Record) (plan : List Item) → m.history ≡ h ++ r ∷ rest → BeginsAt (net_of h) place b plan → r.event ≡ Cancel b.serial → is_refused r.reply ≡ false
-    → RowsAre (value_of m.layout m.base (h ++ r ∷ [])) plan (λ item. row_of (state_before m.layout m.base m.before h b).blocks item.block)
+    (h rest : List Record) (r : Record) (place : ℕ) (b : Record) (plan : List Item)
+    → m.history ≡ h ++ r ∷ rest → BeginsAt (net_of h) place b plan → r.event ≡ Cancel b.serial
+    → is_refused r.reply ≡ false
+    → RowsAre (value_of m.layout m.base (h ++ r ∷ [])) plan
+    (λ item. row_of (state_before m.layout m.base m.before h b).blocks item.block)
 
 -- all of these
 pub record KeepsOperations (m : MachineValue) : Type 0 where

@@ -25,8 +25,8 @@ use hp_units::{
 use std::alloc::{AllocError, Global};
 use std::marker::Model;
 
-/// A machine with its history: a course whose history has the layout's limit. Every machine keeps its history legal, and its state
-/// that of the history.
+/// A machine with its history: a course whose history has the layout's limit. Every machine keeps
+/// its history legal, and its state that of the history.
 #[derive(Drop)]
 pub struct Machine {
     course: Course,
@@ -60,9 +60,9 @@ impl Machine {
         Ok(Machine { course })
     }
 
-    /// One call: the event of a processor is answered and recorded (own rule). It answers `HistoryFull` where the history
-    /// holds its limit of records or the last serial is 2^64 - 1, and otherwise `OutOfMemory` where it is out of memory; then
-    /// all is as before.
+    /// One call: the event of a processor is answered and recorded (own rule). It answers
+    /// `HistoryFull` where the history holds its limit of records or the last serial is 2^64 - 1,
+    /// and otherwise `OutOfMemory` where it is out of memory; then all is as before.
     pub fn call(&mut self, alloc: Global, cpu: Cpu, event: &Event) -> Result<Receipt, CallFault>
         ensures full { (result ≡ Err CallFault.HistoryFull) ↔ IsTrue (is_full self.old) }
         ensures err { OnErr result (self.new ≡ self.old) }
@@ -77,9 +77,9 @@ impl Machine {
         }
     }
 
-    /// Hands out the records with the state that they began with, and goes on without them: the present state becomes the
-    /// base, and no step from before can be undone (own rule). It makes no record. An error is out of memory; then all is
-    /// as before.
+    /// Hands out the records with the state that they began with, and goes on without them: the
+    /// present state becomes the base, and no step from before can be undone (own rule). It makes
+    /// no record. An error is out of memory; then all is as before.
     pub fn seal(&mut self, alloc: Global) -> Result<Volume, AllocError>
         ensures err { OnErr result (self.new ≡ self.old) }
         ensures volume { IfOk result (λ volume. volume ≡ volume_of self.old) }
@@ -109,7 +109,8 @@ impl Machine {
         self.course.memory().layout()
     }
 
-    /// The records since the last seal, oldest first. Every machine keeps its history legal, and its state that of the history.
+    /// The records since the last seal, oldest first. Every machine keeps its history legal, and
+    /// its state that of the history.
     pub fn history(&self) -> &[Record]
         ensures records { result.now ≡ self.now.history }
         ensures kept { IsHistory self.now }
@@ -131,8 +132,9 @@ impl Machine {
         let _ = &self.course;
     }
 
-    /// From a Begin that is not undone to its operation's Commit or Cancel the rows of its plan's blocks are those that it left; a
-    /// Commit gives each its wish, and a Cancel the row from before the Begin (Linux, memory hotplug: offlining; own rule).
+    /// From a Begin that is not undone to its operation's Commit or Cancel the rows of its plan's
+    /// blocks are those that it left; a Commit gives each its wish, and a Cancel the row from
+    /// before the Begin (Linux, memory hotplug: offlining; own rule).
     pub fn keeps_operations(&self)
         ensures { KeepsOperations self.now }
     {
@@ -141,34 +143,38 @@ impl Machine {
 
     /// The present state, as an `Image` of its own. An error is out of memory.
     pub fn image(&self, alloc: Global) -> Result<Image, AllocError>
-        ensures { IfOk result (λ image. image ≡ record { layout = self.now.layout; memory = self.now.state }) }
+        ensures { IfOk result
+            (λ image. image ≡ record { layout = self.now.layout; memory = self.now.state }) }
     {
         self.course.image(alloc)
     }
 
-    /// The front block of the free list of a class and an order (Gorman, chapter 6: free_area). None where the list is empty
-    /// and past the greatest order.
+    /// The front block of the free list of a class and an order (Gorman, chapter 6: free_area).
+    /// None where the list is empty and past the greatest order.
     pub fn front(&self, class: Class, order: Order) -> Option<Frame>
         ensures { result ≡ slice_get (free_list self.now.state.free.areas class order) 0 }
     {
         self.course.memory().front(class, order)
     }
 
-    /// How many free blocks of 2^order frames a class has; 0 past the greatest order (Gorman, chapter 6: nr_free).
+    /// How many free blocks of 2^order frames a class has; 0 past the greatest order (Gorman,
+    /// chapter 6: nr_free).
     pub fn list_len(&self, class: Class, order: Order) -> u32
         ensures { result ≡ length (free_list self.now.state.free.areas class order) }
     {
         self.course.memory().list_len(class, order)
     }
 
-    /// The kind of a pageblock (Linux, memory hotplug: isolated pageblocks; Gorman, chapter 6). None past the last pageblock.
+    /// The kind of a pageblock (Linux, memory hotplug: isolated pageblocks; Gorman, chapter 6).
+    /// None past the last pageblock.
     pub fn kind(&self, pageblock: Pageblock) -> Option<Kind>
         ensures { result ≡ slice_get self.now.state.free.areas.kinds pageblock }
     {
         self.course.memory().kind(pageblock)
     }
 
-    /// The order of the kernel's block that starts at a frame. None where no such block does, and past the last frame.
+    /// The order of the kernel's block that starts at a frame. None where no such block does, and
+    /// past the last frame.
     pub fn kernel_at(&self, frame: Frame) -> Option<Order>
         ensures { result ≡ kernel_order self.now.state frame }
     {
@@ -182,7 +188,8 @@ impl Machine {
         self.course.memory().row(block)
     }
 
-    /// The frame that holds an owner's page. None where the page is not mapped, and past the last owner or page.
+    /// The frame that holds an owner's page. None where the page is not mapped, and past the last
+    /// owner or page.
     pub fn frame_at(&self, owner: Owner, page: Page) -> Option<Frame>
         ensures { result ≡ frame_at self.now.state.pages owner page }
     {
@@ -203,10 +210,12 @@ impl Machine {
         self.course.journal_len()
     }
 
-    /// What a step that is not undone did, counted from 0; None past the last. Its deltas, latest first, lead back from the
-    /// state after the step to the state before it, and are no more than the bound (own rule).
+    /// What a step that is not undone did, counted from 0; None past the last. Its deltas, latest
+    /// first, lead back from the state after the step to the state before it, and are no more than
+    /// the bound (own rule).
     pub fn entry(&self, at: u64) -> Option<&[Delta]>
-        ensures { MatchOption result (length (net_of self.now.history) ≤ at) (λ deltas. IsEntry self.now at deltas.now) }
+        ensures { MatchOption result (length (net_of self.now.history) ≤ at)
+            (λ deltas. IsEntry self.now at deltas.now) }
     {
         self.course.entry(at)
     }
@@ -228,7 +237,10 @@ impl Machine {
     /// The owners' pages by their frames: a mapped frame has its page's words in a buffer where one of them
     /// is not 0, and no other frame has one.
     pub fn pages(&self) -> &Pages
-        ensures value { result.now ≡ record { layout = self.now.layout; pages = page_frames_of self.now.layout self.now.state.pages } }
+        ensures value { result.now ≡ record {
+          layout = self.now.layout;
+          pages = page_frames_of self.now.layout self.now.state.pages;
+        } }
         ensures settled { AreSettled result.now.pages }
     {
         self.course.memory().pages()

@@ -41,9 +41,11 @@ impl<'a> Port for MachinePort<'a> {
 
     ghost shows = { λ p. port_value p.machine.now p.cpu p.fault };
 
-    ghost makes = { λ p gained q. (q.machine.ghost_name ≡ p.machine.ghost_name) × (q.cpu ≡ p.cpu) × AreCalls p.machine.now p.cpu gained q.machine.now };
+    ghost makes = { λ p gained q. (q.machine.ghost_name ≡ p.machine.ghost_name) × (q.cpu ≡ p.cpu)
+        × AreCalls p.machine.now p.cpu gained q.machine.now };
 
-    ghost leaves = { λ p fault q. (q.machine.ghost_name ≡ p.machine.ghost_name) × (q.cpu ≡ p.cpu) × (q.machine.now ≡ p.machine.now) × HasCause (Some fault) p.machine.now };
+    ghost leaves = { λ p fault q. (q.machine.ghost_name ≡ p.machine.ghost_name) × (q.cpu ≡ p.cpu)
+        × (q.machine.now ≡ p.machine.now) × HasCause (Some fault) p.machine.now };
 
     fn cpus(&self) -> u32 {
         self.machine.layout().cpus()
@@ -64,12 +66,18 @@ impl<'a> Port for MachinePort<'a> {
 
     ghost nothing = { λ p. (refl, refl, refl) };
 
-    ghost joined = { λ p q r xs ys a b. (b.0 ∙ a.0, b.1 ∙ a.1, makes_joined p.cpu q.cpu xs ys p.machine.now q.machine.now r.machine.now a.1 a.2 b.2) };
+    ghost joined = { λ p q r xs ys a b. (
+      b.0 ∙ a.0,
+      b.1
+          ∙ a.1,
+      makes_joined p.cpu q.cpu xs ys p.machine.now q.machine.now r.machine.now a.1 a.2 b.2,
+    ) };
 }
 
 impl Machine {
-    /// Carries out a plan as a processor, with at most `turns` migrations, and answers how its operation ended: `run_plan` of hp_ops
-    /// through the processor's port. Each call leaves a record, but for one that ends the run as `Left`.
+    /// Carries out a plan as a processor, with at most `turns` migrations, and answers how its
+    /// operation ended: `run_plan` of hp_ops through the processor's port. Each call leaves a
+    /// record, but for one that ends the run as `Left`.
     pub fn run_plan(&mut self, alloc: Global, cpu: Cpu, plan: Plan, turns: u32) -> OpEnd
         ensures { IsPlanRun self.old cpu turns plan result self.new }
     {

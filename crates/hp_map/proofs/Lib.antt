@@ -1,4 +1,5 @@
 pub mod MarkLemmas
 pub mod PlaceLemmas
+mod PlacesTogether
 pub mod Texts
 pub mod Walks

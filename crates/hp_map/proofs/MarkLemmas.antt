@@ -14,7 +14,8 @@ pub map_same : (f : Place → Place) → ((p : Place) → f p ≡ p) → (o : Op
 map_same f same None = refl
 map_same f same (Some p) = ap (λ q. Some q) (same p)
 
-pub map_then : (f g h : Place → Place) → ((p : Place) → g (f p) ≡ h p) → (o : Option Place) → option_map g (option_map f o) ≡ option_map h o
+pub map_then : (f g h : Place → Place) → ((p : Place) → g (f p) ≡ h p) → (o : Option Place)
+    → option_map g (option_map f o) ≡ option_map h o
 map_then f g h then None = refl
 map_then f g h then (Some p) = ap (λ q. Some q) (then p)
 
@@ -22,7 +23,8 @@ map_then f g h then (Some p) = ap (λ q. Some q) (then p)
 get_other : (xs : List Place) (i k : ℕ) (p : Place) → (k ≡ i → ⊥) → slice_get (set xs i p) k ≡ slice_get xs k
 get_other xs i k p other = elim (cases_lt k (length xs)) [
   | inl within ↦
-      slice_get-get_or (set xs i p) k p (rw length-set within) ∙ (ap (λ y. Some y) (get_or-set_other xs i k p p other) ∙ sym (slice_get-get_or xs k p within))
+      slice_get-get_or (set xs i p) k p (rw length-set within)
+      ∙ (ap (λ y. Some y) (get_or-set_other xs i k p p other) ∙ sym (slice_get-get_or xs k p within))
   | inr past ↦ slice_get_past (set xs i p) k (rw length-set past) ∙ sym (slice_get_past xs k past)
 ]
 
@@ -33,26 +35,32 @@ miss_is : (i k : ℕ) (p q : Place) → (i ≡ k → ⊥) → at_frame i p k q �
 miss_is i k p q other = ap (λ (b : Bool). cond b p q) (ne_eqb i k other)
 
 -- one frame's place is set
-pub set_marks : (xs : List Place) (i : ℕ) (p : Place) → i < length xs → AreMarked (at_frame i p) xs (set xs i p)
+pub set_marks : (xs : List Place) (i : ℕ) (p : Place) → i < length xs
+    → AreMarked (at_frame i p) xs (set xs i p)
 set_marks xs i p lt = λ k. elim (cases_eq i k) [
   | inl same ↦
       let base : slice_get (set xs i p) i ≡ option_map (at_frame i p i) (slice_get xs i) =
-      get_set xs i p lt ∙ sym (ap (option_map (at_frame i p i)) (slice_get-get_or xs i p lt) ∙ ap (λ q. Some q) (hit_is i p (get_or xs i p))) in
+      get_set xs i p lt ∙ sym (ap (option_map (at_frame i p i)) (slice_get-get_or xs i p lt)
+      ∙ ap (λ q. Some q) (hit_is i p (get_or xs i p))) in
       subst (λ (n : ℕ). slice_get (set xs i p) n ≡ option_map (at_frame i p n) (slice_get xs n)) same base
-  | inr other ↦ get_other xs i k p (λ e. other (sym e)) ∙ sym (map_same (at_frame i p k) (λ q. miss_is i k p q other) (slice_get xs k))
+  | inr other ↦
+      get_other xs i k p (λ e. other (sym e))
+      ∙ sym (map_same (at_frame i p k) (λ q. miss_is i k p q other) (slice_get xs k))
 ]
 
 -- there is no such frame
 pub past_marks : (xs : List Place) (i : ℕ) (p : Place) → length xs ≤ i → AreMarked (at_frame i p) xs xs
 past_marks xs i p past = λ k. elim (cases_eq i k) [
   | inl same ↦
-      let none : slice_get xs k ≡ None = subst (λ (n : ℕ). slice_get xs n ≡ None) same (slice_get_past xs i past) in
+      let none : slice_get xs k ≡ None =
+      subst (λ (n : ℕ). slice_get xs n ≡ None) same (slice_get_past xs i past) in
       none ∙ sym (ap (option_map (at_frame i p k)) none)
   | inr other ↦ sym (map_same (at_frame i p k) (λ q. miss_is i k p q other) (slice_get xs k))
 ]
 
 -- marks after marks
-pub marks_then : (f g h : Mark) (old now new : List Place) → ((k : ℕ) (p : Place) → g k (f k p) ≡ h k p) → AreMarked f old now → AreMarked g now new → AreMarked h old new
+pub marks_then : (f g h : Mark) (old now new : List Place) → ((k : ℕ) (p : Place) → g k (f k p) ≡ h k p)
+    → AreMarked f old now → AreMarked g now new → AreMarked h old new
 marks_then f g h old now new same first second = λ k.
     second k ∙ (ap (option_map (g k)) (first k) ∙ map_then (f k) (g k) (h k) (same k) (slice_get old k))
 
@@ -64,14 +72,19 @@ pub marks_none : (marks : ℕ → Mark) (old : List Place) → AreMarked (marks_
 unfolding marks_below
 marks_none marks old = marks_same (marks_below marks 0) old (λ k p. refl)
 
-pub marks_more : (marks : ℕ → Mark) (n : ℕ) (old now new : List Place) → AreMarked (marks_below marks n) old now → AreMarked (marks n) now new → AreMarked (marks_below marks (n + 1)) old new
+pub marks_more : (marks : ℕ → Mark) (n : ℕ) (old now new : List Place)
+    → AreMarked (marks_below marks n) old now → AreMarked (marks n) now new
+    → AreMarked (marks_below marks (n + 1)) old new
 unfolding marks_below
 marks_more marks n old now new first second =
-    marks_then (marks_below marks n) (marks n) (marks_below marks (n + 1)) old now new (λ k p. ap (λ (m : ℕ). marks_below marks m k p) (sym (add-one n))) first second
+    marks_then (marks_below marks n) (marks n) (marks_below marks (n + 1)) old now new
+    (λ k p. ap (λ (m : ℕ). marks_below marks m k p) (sym (add-one n))) first second
 
-pub marks_more_as : (marks : ℕ → Mark) (n : ℕ) (mark : Mark) (old now new : List Place) → mark ≡ marks n → AreMarked (marks_below marks n) old now → AreMarked mark now new
+pub marks_more_as : (marks : ℕ → Mark) (n : ℕ) (mark : Mark) (old now new : List Place) → mark ≡ marks n
+    → AreMarked (marks_below marks n) old now → AreMarked mark now new
     → AreMarked (marks_below marks (n + 1)) old new
-marks_more_as marks n mark old now new is first second = marks_more marks n old now new first (subst (λ (m : Mark). AreMarked m now new) is second)
+marks_more_as marks n mark old now new is first second =
+    marks_more marks n old now new first (subst (λ (m : Mark). AreMarked m now new) is second)
 
 -- the first frames of a list, and one more
 list_one : (a b : Bool) (place p : Place) → cond b place (cond a place p) ≡ cond (a || (b || false)) place p
@@ -80,11 +93,16 @@ list_one true false place p = refl
 list_one false true place p = refl
 list_one false false place p = refl
 
-pub list_more : (frames : List ℕ) (i : ℕ) (frame : ℕ) (place : Place) (old now new : List Place) → i < length frames → frame ≡ get_or frames i frame
-    → AreMarked (on_list (take i frames) place) old now → AreMarked (at_frame frame place) now new → AreMarked (on_list (take (i + 1) frames) place) old new
+pub list_more : (frames : List ℕ) (i : ℕ) (frame : ℕ) (place : Place) (old now new : List Place)
+    → i < length frames → frame ≡ get_or frames i frame
+    → AreMarked (on_list (take i frames) place) old now → AreMarked (at_frame frame place) now new
+    → AreMarked (on_list (take (i + 1) frames) place) old new
 list_more frames i frame place old now new lt is first second =
-    let one : take (i + 1) frames ≡ take i frames ++ frame ∷ [] = take_more frames i frame lt ∙ ap (λ (x : ℕ). take i frames ++ x ∷ []) (sym is) in
+    let one : take (i + 1) frames ≡ take i frames ++ frame ∷ [] =
+    take_more frames i frame lt ∙ ap (λ (x : ℕ). take i frames ++ x ∷ []) (sym is) in
     let on : (k : ℕ) → is_on k (take (i + 1) frames) ≡ (is_on k (take i frames) || ((frame == k) || false)) =
     λ k. ap (is_on k) one ∙ list_any-append (λ other. other == k) (take i frames) (frame ∷ []) in
-    marks_then (on_list (take i frames) place) (at_frame frame place) (on_list (take (i + 1) frames) place) old now new
-    (λ k p. list_one (is_on k (take i frames)) (frame == k) place p ∙ ap (λ (b : Bool). cond b place p) (sym (on k))) first second
+    marks_then (on_list (take i frames) place) (at_frame frame place) (on_list (take (i + 1) frames) place)
+    old now new
+    (λ k p. list_one (is_on k (take i frames)) (frame == k) place p
+    ∙ ap (λ (b : Bool). cond b place p) (sym (on k))) first second

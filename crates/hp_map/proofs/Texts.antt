@@ -11,10 +11,12 @@ pub range_up : (n : ℕ) → range_with_len 0 (n + 1) ≡ range_with_len 0 n ++ 
 range_up n = ap (λ (k : ℕ). range_with_len 0 k) (add-one n) ∙ range_more 0 n n (omega arith)
 
 -- one more text
-pub text_more : (text : ℕ → List ℕ) (n : ℕ) (old now new piece : List ℕ) → now ≡ old ++ flat_map text (range_with_len 0 n) → new ≡ now ++ piece → piece ≡ text n
+pub text_more : (text : ℕ → List ℕ) (n : ℕ) (old now new piece : List ℕ)
+    → now ≡ old ++ flat_map text (range_with_len 0 n) → new ≡ now ++ piece → piece ≡ text n
     → new ≡ old ++ flat_map text (range_with_len 0 (n + 1))
 text_more text n old now new piece before written is =
     written
     ∙ (ap (λ (p : List ℕ). now ++ p) is
     ∙ (ap (λ (b : List ℕ). b ++ text n) before
-    ∙ (flat_map_more text old (range_with_len 0 n) n ∙ ap (λ (ns : List ℕ). old ++ flat_map text ns) (sym (range_up n)))))
+    ∙ (flat_map_more text old (range_with_len 0 n) n
+    ∙ ap (λ (ns : List ℕ). old ++ flat_map text ns) (sym (range_up n)))))

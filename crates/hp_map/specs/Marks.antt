@@ -32,7 +32,8 @@ on_list frames place frame was = if is_on frame frames then place else was
 -- the frames on a processor's lists
 abbrev pub on_cpu : FreeFrames → (cpu : ℕ) → Mark
 on_cpu fs cpu frame was =
-    on_list (cached_list fs cpu MmPool) (Cached cpu) frame (on_list (cached_list fs cpu NmPool) (Cached cpu) frame (on_list (cached_list fs cpu NuPool) (Cached cpu) frame was))
+    on_list (cached_list fs cpu MmPool) (Cached cpu) frame (on_list (cached_list fs cpu NmPool) (Cached cpu)
+    frame (on_list (cached_list fs cpu NuPool) (Cached cpu) frame was))
 
 -- the frame that holds a page, and those of an owner's pages
 abbrev pub on_entry : (owner : ℕ) → Option ℕ → Mark
@@ -72,8 +73,12 @@ unused_in None kind = Offline
 unused_in (Some row) kind = unused_at row.state kind
 
 abbrev pub unused_place : LayoutParts → Memory → (frame : ℕ) → Place
-unused_place l s frame = unused_in (slice_get s.blocks.rows (block_of l frame)) (slice_get s.free.areas.kinds (pageblock_of l frame))
+unused_place l s frame =
+    unused_in (slice_get s.blocks.rows (block_of l frame))
+    (slice_get s.free.areas.kinds (pageblock_of l frame))
 
 -- the frames of a pageblock, as if none were in use
 abbrev pub on_unused : LayoutParts → Memory → (pageblock : ℕ) → Mark
-on_unused l s pageblock = on_frames (pageblock * pageblock_size l) (pageblock_size l) (unused_place l s (pageblock * pageblock_size l))
+on_unused l s pageblock =
+    on_frames (pageblock * pageblock_size l) (pageblock_size l)
+    (unused_place l s (pageblock * pageblock_size l))

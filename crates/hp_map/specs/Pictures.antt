@@ -61,7 +61,8 @@ abbrev pub cell_text : (is_later : Bool) → Option Place → List ℕ
 cell_text is_later place = (if is_later then codes "|" else []) ++ found_text place
 
 abbrev pub frame_text : LayoutParts → List Place → (block number : ℕ) → List ℕ
-frame_text l places block number = cell_text (starts_later l number) (place_at places (block * block_size l + number))
+frame_text l places block number =
+    cell_text (starts_later l number) (place_at places (block * block_size l + number))
 
 -- the frames of the block by rising number, a bar between pageblocks
 abbrev pub frames_text : LayoutParts → List Place → (block : ℕ) → List ℕ
@@ -70,7 +71,9 @@ frames_text l places block = flat_map (frame_text l places block) (range_with_le
 -- ---- the whole
 
 abbrev pub block_text : LayoutParts → List Row → List Place → (block : ℕ) → List ℕ
-block_text l rows places block = decimal block ++ codes ":" ++ row_text (slice_get rows block) ++ codes "[" ++ frames_text l places block ++ codes "]"
+block_text l rows places block =
+    decimal block ++ codes ":" ++ row_text (slice_get rows block) ++ codes "[" ++ frames_text l places block
+    ++ codes "]"
 
 -- a text for each memory block by rising number, with each frame as it is placed
 pub record IsPicture (l : LayoutParts) (s : Memory) (blocks : List (List ℕ)) : Type 0 where

@@ -12,14 +12,18 @@ use Rattle.hp_units.specs.Rows.{is_absent, is_offline}
 use Rattle.hp_map.specs.declared.places.Place.{Place}
 use Rattle.hp_map.specs.declared.places.Place.TheVariants.{Absent, Offline, Free, Isolated, Kernel, Cached, Page}
 
--- the frame is in that place: its memory block is absent or offline; it is in one free block, whose pageblock is isolated or
--- not; a kernel's block has it; it is on a list of the processor; it holds a page of the owner
+-- the frame is in that place: its memory block is absent or offline; it is in one free block, whose
+-- pageblock is isolated or not; a kernel's block has it; it is on a list of the processor; it holds
+-- a page of the owner
 abbrev pub IsPlaceOf : LayoutParts → Memory → (frame : ℕ) → Place → Type 0
 IsPlaceOf l s frame Absent = is_absent (row_of s.blocks (block_of l frame)) ≡ true
 IsPlaceOf l s frame Offline = is_offline (row_of s.blocks (block_of l frame)) ≡ true
-IsPlaceOf l s frame Free = (free_places s.free.areas frame ≡ 1) × ((kind_of s.free.areas (pageblock_of l frame)).isolated ≡ false)
-IsPlaceOf l s frame Isolated = (free_places s.free.areas frame ≡ 1) × ((kind_of s.free.areas (pageblock_of l frame)).isolated ≡ true)
-IsPlaceOf l s frame Kernel = (first : ℕ) × (order : ℕ) × (kernel_order s first ≡ Some order) × (covers frame order first ≡ true)
+IsPlaceOf l s frame Free =
+    (free_places s.free.areas frame ≡ 1) × ((kind_of s.free.areas (pageblock_of l frame)).isolated ≡ false)
+IsPlaceOf l s frame Isolated =
+    (free_places s.free.areas frame ≡ 1) × ((kind_of s.free.areas (pageblock_of l frame)).isolated ≡ true)
+IsPlaceOf l s frame Kernel =
+    (first : ℕ) × (order : ℕ) × (kernel_order s first ≡ Some order) × (covers frame order first ≡ true)
 IsPlaceOf l s frame (Cached cpu) = (pool : Pool) × (is_on frame (cached_list s.free cpu pool) ≡ true)
 IsPlaceOf l s frame (Page owner) = (page : ℕ) × (frame_at s.pages owner page ≡ Some frame)
 

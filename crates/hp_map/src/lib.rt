@@ -1,8 +1,8 @@
 //! A map of a memory: in which place each frame is, and a picture of it as text.
 //!
-//! The crate owns places and pictures. It reads a machine and changes nothing; it knows nothing of scenarios, streams or command
-//! lines. Read specs/Places first: what it means that a frame is in a place; then specs/Pictures. specs/Marks says what each turn of
-//! the walk over a state sets.
+//! The crate owns places and pictures. It reads a machine and changes nothing; it knows nothing of
+//! scenarios, streams or command lines. Read specs/Places first: what it means that a frame is in a
+//! place; then specs/Pictures. specs/Marks says what each turn of the walk over a state sets.
 #![tactic(auto)]
 
 mod map;

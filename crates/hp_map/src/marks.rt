@@ -43,7 +43,8 @@ fn mark_pool(
     pool: Pool,
 ) -> Result<(), AllocError>
     requires { cpu < machine.now.layout.cpus }
-    ensures { OnOk result (AreMarked (on_list (cached_list machine.now.state.free cpu pool) (Cached cpu)) places.old.items places.new.items) }
+    ensures { OnOk result (AreMarked (on_list (cached_list machine.now.state.free cpu pool) (Cached cpu))
+        places.old.items places.new.items) }
 {
     let frames = machine.cpus().list(alloc, cpu, pool)?;
     mark_list(places, &frames, &Place::Cached(cpu));
@@ -71,7 +72,8 @@ pub(crate) fn mark_cpus(
     alloc: Global,
     machine: &Machine,
 ) -> Result<(), AllocError>
-    ensures { OnOk result (AreMarked (marks_below (on_cpu machine.now.state.free) machine.now.layout.cpus) places.old.items places.new.items) }
+    ensures { OnOk result (AreMarked (marks_below (on_cpu machine.now.state.free) machine.now.layout.cpus)
+        places.old.items places.new.items) }
 {
     for number in 0..machine.layout().cpus() {
         mark_cpu(places, alloc, machine, Cpu(number))?;
@@ -90,7 +92,8 @@ fn mark_page(places: &mut Vec<Place>, owner: Owner, frame: Option<Frame>)
 
 /// Marks the frames of an owner's pages.
 fn mark_owner(places: &mut Vec<Place>, machine: &Machine, owner: Owner)
-    ensures { AreMarked (on_owner machine.now.layout machine.now.state.pages owner) places.old.items places.new.items }
+    ensures { AreMarked (on_owner machine.now.layout machine.now.state.pages owner) places.old.items
+        places.new.items }
 {
     for number in 0..machine.layout().pages() {
         mark_page(places, owner, machine.frame_at(owner, Page(number)));
@@ -99,7 +102,9 @@ fn mark_owner(places: &mut Vec<Place>, machine: &Machine, owner: Owner)
 
 /// Marks the frames of all pages.
 pub(crate) fn mark_owners(places: &mut Vec<Place>, machine: &Machine)
-    ensures { AreMarked (marks_below (on_owner machine.now.layout machine.now.state.pages) machine.now.layout.owners) places.old.items places.new.items }
+    ensures { AreMarked
+        (marks_below (on_owner machine.now.layout machine.now.state.pages) machine.now.layout.owners)
+        places.old.items places.new.items }
 {
     for number in 0..machine.layout().owners() {
         mark_owner(places, machine, Owner(number));
@@ -138,7 +143,8 @@ fn mark_block(places: &mut Vec<Place>, first: u32, order: Option<Order>)
 pub(crate) fn mark_kernel(places: &mut Vec<Place>, machine: &Machine)
     requires limits { IsLayout machine.now.layout }
     requires placed { IsWellPlaced machine.now.layout machine.now.state }
-    ensures { AreMarked (marks_below (on_kernel machine.now.state) (frame_count machine.now.layout)) places.old.items places.new.items }
+    ensures { AreMarked (marks_below (on_kernel machine.now.state) (frame_count machine.now.layout))
+        places.old.items places.new.items }
 {
     for number in 0..machine.layout().frames() {
         mark_block(places, number, machine.kernel_at(Frame(number)));
@@ -172,7 +178,8 @@ fn free_in(kind: Option<Kind>) -> Place
 /// Marks the frames of a pageblock as if none were in use.
 fn mark_pageblock(places: &mut Vec<Place>, machine: &Machine, pageblock: Pageblock)
     requires { pageblock < pageblock_count machine.now.layout }
-    ensures { AreMarked (on_unused machine.now.layout machine.now.state pageblock) places.old.items places.new.items }
+    ensures { AreMarked (on_unused machine.now.layout machine.now.state pageblock) places.old.items
+        places.new.items }
 {
     let layout = machine.layout();
     let first = layout.first_frame(pageblock);
@@ -188,7 +195,9 @@ fn mark_pageblock(places: &mut Vec<Place>, machine: &Machine, pageblock: Pageblo
 
 /// Marks each frame as if none were in use.
 pub(crate) fn mark_unused(places: &mut Vec<Place>, machine: &Machine)
-    ensures { AreMarked (marks_below (on_unused machine.now.layout machine.now.state) (pageblock_count machine.now.layout)) places.old.items places.new.items }
+    ensures { AreMarked
+        (marks_below (on_unused machine.now.layout machine.now.state) (pageblock_count machine.now.layout))
+        places.old.items places.new.items }
 {
     let layout = machine.layout();
     for number in 0..layout.blocks() * layout.pageblocks() {

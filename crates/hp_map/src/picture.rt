@@ -10,8 +10,9 @@ use hp_machine::Machine;
 use hp_units::{Block, Claim, Layout, Row, State, Text, Wish, Zone};
 use std::alloc::{AllocError, Global};
 
-/// What is drawn of each memory block of a machine, by rising number: as `2:M>off[a1|::]`, its number, its zone or its state, what
-/// an operation that holds it wishes, and the place of each of its frames, by pageblock (own rule). An error is out of memory.
+/// What is drawn of each memory block of a machine, by rising number: as `2:M>off[a1|::]`, its
+/// number, its zone or its state, what an operation that holds it wishes, and the place of each of
+/// its frames, by pageblock (own rule). An error is out of memory.
 pub fn picture_of(alloc: Global, machine: &Machine) -> Result<Vec<Text>, AllocError>
     ensures { IfOk result (λ blocks. IsPicture machine.now.layout machine.now.state blocks.items) }
 {
@@ -25,7 +26,9 @@ fn draw_blocks(
     machine: &Machine,
     places: &Vec<Place>,
 ) -> Result<Vec<Text>, AllocError>
-    ensures { IfOk result (λ blocks. blocks.items ≡ map (block_text machine.now.layout machine.now.state.blocks.rows places.now.items) (range_with_len 0 machine.now.layout.blocks)) }
+    ensures { IfOk result (λ blocks. blocks.items ≡ map
+        (block_text machine.now.layout machine.now.state.blocks.rows places.now.items)
+        (range_with_len 0 machine.now.layout.blocks)) }
 {
     let mut blocks = Vec::new(alloc);
     for number in 0..machine.layout().blocks() {
@@ -43,7 +46,8 @@ fn draw_block(
     block: Block,
 ) -> Result<Text, AllocError>
     requires { block < machine.now.layout.blocks }
-    ensures { IfOk result (λ text. text ≡ block_text machine.now.layout machine.now.state.blocks.rows places.now.items block) }
+    ensures { IfOk result
+        (λ text. text ≡ block_text machine.now.layout machine.now.state.blocks.rows places.now.items block) }
 {
     let mut out = String::new(alloc);
     write!(&mut out, "{block}:")?;
@@ -109,7 +113,8 @@ fn write_frames(
     block: Block,
 ) -> Result<(), AllocError>
     requires { block < layout.now.blocks }
-    ensures { OnOk result (string_bytes out.new ≡ string_bytes out.old ++ frames_text layout.now places.now.items block) }
+    ensures { OnOk result
+        (string_bytes out.new ≡ string_bytes out.old ++ frames_text layout.now places.now.items block) }
 {
     let first = first_of(layout, block);
     for number in 0..layout.block_size() {

@@ -43,8 +43,8 @@ impl Place {
     }
 }
 
-/// One character: a space, `-`, `.`, `:`, `K`, the last digit of a processor's number, and `a` to `z` for an owner's, which
-/// begin again after 26 (own rule).
+/// One character: a space, `-`, `.`, `:`, `K`, the last digit of a processor's number, and `a` to
+/// `z` for an owner's, which begin again after 26 (own rule).
 #[tactic(auto, using(std::proofs::lemmas::Str::encode_ascii))]
 impl fmt::Display for Place {
     ghost use Rattle.hp_map.specs.Places.{place_text};

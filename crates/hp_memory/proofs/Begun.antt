@@ -24,24 +24,33 @@ use Rattle.hp_memory.proofs.Releases.{reworked-answered}
 use Rattle.hp_memory.proofs.Releases.{reworked-answered}
 
 -- room for as many items as the plan has, and no more than the layout has blocks
-pub plan-room : (plan : List Item) (blocks each items most size : ℕ) → items ≡ min most size → length plan ≤ most → blocks ≤ size → claimed_below plan blocks * each ≤ items * each
+pub plan-room : (plan : List Item) (blocks each items most size : ℕ) → items ≡ min most size
+    → length plan ≤ most → blocks ≤ size → claimed_below plan blocks * each ≤ items * each
 plan-room plan blocks each items most size is few below =
     mul-le-mul_right each (subst (λ (n : ℕ). claimed_below plan blocks ≤ n) (sym is)
-    (le-min (let a = claimed-few plan blocks in omega (arith, a, few)) (let b = claimed-below plan blocks in omega (arith, b, below))))
+    (le-min (let a = claimed-few plan blocks in omega (arith, a, few))
+    (let b = claimed-below plan blocks in omega (arith, b, below))))
 
 -- the answer
-begun : (l : LayoutParts) (s : Memory) (op : ℕ) (plan : List Item) → first_some (plan_refusals l s plan) ≡ None → opened l s op plan ≡ record { memory = begin_plan l s op plan; reply = Opened op }
+begun : (l : LayoutParts) (s : Memory) (op : ℕ) (plan : List Item)
+    → first_some (plan_refusals l s plan) ≡ None
+    → opened l s op plan ≡ record { memory = begin_plan l s op plan; reply = Opened op }
 begun l s op plan none = ap (answer l s op 0 (Begin plan)) none
 
-pub begin-refused : (l : LayoutParts) (s : Memory) (op : ℕ) (plan : List Item) (reason : Refusal) → first_some (plan_refusals l s plan) ≡ Some reason
+pub begin-refused : (l : LayoutParts) (s : Memory) (op : ℕ) (plan : List Item) (reason : Refusal)
+    → first_some (plan_refusals l s plan) ≡ Some reason
     → opened l s op plan ≡ record { memory = s; reply = Refused reason }
 begin-refused l s op plan reason is = ap (answer l s op 0 (Begin plan)) is
 
-pub begin-done : {before : List Delta} (m new : Layers) (op : ℕ) (plan : List Item) (was now : TapeValue) → ArePlaced m → was.deltas ≡ before
+pub begin-done : {before : List Delta} (m new : Layers) (op : ℕ) (plan : List Item) (was now : TapeValue)
+    → ArePlaced m → was.deltas ≡ before
     → first_some (plan_refusals m.layout (state_of m) plan) ≡ None
-    → IsReworked m (begin_plan m.layout (state_of m) op plan) (claimed_below plan m.layout.blocks * moved_block_bound m.layout) new was now
+    → IsReworked m (begin_plan m.layout (state_of m) op plan)
+    (claimed_below plan m.layout.blocks * moved_block_bound m.layout) new was now
     → IsAnswered m (Begin plan) (opened m.layout (state_of m) op plan) new before now.deltas (Opened op)
 begin-done {before} m new op plan was now p same none r =
-    subst (λ (a : Answered). IsAnswered m (Begin plan) a new before now.deltas (Opened op)) (sym (begun m.layout (state_of m) op plan none))
-    (reworked-answered m new (Begin plan) (begin_plan m.layout (state_of m) op plan) (Opened op) (claimed_below plan m.layout.blocks * moved_block_bound m.layout) was now p same
+    subst (λ (a : Answered). IsAnswered m (Begin plan) a new before now.deltas (Opened op))
+    (sym (begun m.layout (state_of m) op plan none))
+    (reworked-answered m new (Begin plan) (begin_plan m.layout (state_of m) op plan) (Opened op)
+    (claimed_below plan m.layout.blocks * moved_block_bound m.layout) was now p same
     (mul-le-mul_right (moved_block_bound m.layout) (claimed-few plan m.layout.blocks)) r)

@@ -12,7 +12,8 @@ use Rattle.hp_units.specs.Refusals.{is_free_start}
 
 -- where a frame stands at the front of a free block, if it does
 pub record IsPlaceOf (a : FreeAreas) (frame : ℕ) (place : Option (Class × ℕ)) : Type 0 where
-  pub on : (class : Class) (order : ℕ) → is_on frame (free_list a class order) ≡ true → place ≡ Some (class, order)
+  pub on : (class : Class) (order : ℕ) → is_on frame (free_list a class order) ≡ true
+      → place ≡ Some (class, order)
   pub free : IfSome place (λ p. is_on frame (free_list a p.0 p.1) ≡ true)
 
 -- ---- of all classes
@@ -21,36 +22,49 @@ or_right : (x y : Bool) → y ≡ true → (x || y) ≡ true
 or_right true y e = refl
 or_right false y e = e
 
-any-class : (p : Class → Bool) (class : Class) → p class ≡ true → list_any p (Nu ∷ Nm ∷ Mm ∷ IsoN ∷ IsoM ∷ []) ≡ true
+any-class : (p : Class → Bool) (class : Class) → p class ≡ true
+    → list_any p (Nu ∷ Nm ∷ Mm ∷ IsoN ∷ IsoM ∷ []) ≡ true
 any-class p Nu e = or_left (p Nu) _ e
 any-class p Nm e = or_right (p Nu) _ (or_left (p Nm) _ e)
 any-class p Mm e = or_right (p Nu) _ (or_right (p Nm) _ (or_left (p Mm) _ e))
 any-class p IsoN e = or_right (p Nu) _ (or_right (p Nm) _ (or_right (p Mm) _ (or_left (p IsoN) _ e)))
-any-class p IsoM e = or_right (p Nu) _ (or_right (p Nm) _ (or_right (p Mm) _ (or_right (p IsoN) _ (or_left (p IsoM) _ e))))
+any-class p IsoM e =
+    or_right (p Nu) _ (or_right (p Nm) _ (or_right (p Mm) _ (or_right (p IsoN) _ (or_left (p IsoM) _ e))))
 
-no-class : (p : Class → Bool) → ((class : Class) → p class ≡ false) → list_any p (Nu ∷ Nm ∷ Mm ∷ IsoN ∷ IsoM ∷ []) ≡ false
+no-class : (p : Class → Bool) → ((class : Class) → p class ≡ false)
+    → list_any p (Nu ∷ Nm ∷ Mm ∷ IsoN ∷ IsoM ∷ []) ≡ false
 no-class p none = rw (none Nu, none Nm, none Mm, none IsoN, none IsoM) refl
 
 -- ---- the place of a frame
 
 -- a frame on no list
-off-list : (a : FreeAreas) (frame : ℕ) (class : Class) (order : ℕ) → IsPlaceOf a frame None → is_on frame (free_list a class order) ≡ false
-off-list a frame class order h = false_from_ne_true (is_on frame (free_list a class order)) (λ on. nothing (class, order) (h.on class order on))
+off-list : (a : FreeAreas) (frame : ℕ) (class : Class) (order : ℕ) → IsPlaceOf a frame None
+    → is_on frame (free_list a class order) ≡ false
+off-list a frame class order h =
+    false_from_ne_true (is_on frame (free_list a class order))
+    (λ on. nothing (class, order) (h.on class order on))
   where
     nothing : (p : Class × ℕ) → None ≡ Some p → ⊥
     nothing p e = cc
 
 -- a frame on one list is on no other
-other-list : (a : FreeAreas) (frame : ℕ) (class : Class) (order : ℕ) (p : Class × ℕ) → IsPlaceOf a frame (Some p) → (p.1 ≡ order → ⊥) → is_on frame (free_list a class order) ≡ false
+other-list : (a : FreeAreas) (frame : ℕ) (class : Class) (order : ℕ) (p : Class × ℕ)
+    → IsPlaceOf a frame (Some p) → (p.1 ≡ order → ⊥) → is_on frame (free_list a class order) ≡ false
 other-list a frame class order p h ne =
-    false_from_ne_true (is_on frame (free_list a class order)) (λ on. ne (ap (λ (q : Class × ℕ). q.1) (same_Some p (class, order) (h.on class order on))))
+    false_from_ne_true (is_on frame (free_list a class order))
+    (λ on. ne (ap (λ (q : Class × ℕ). q.1) (same_Some p (class, order) (h.on class order on))))
 
 -- whether a free block of an order starts at it
-pub start-place : (a : FreeAreas) (frame order : ℕ) (place : Option (Class × ℕ)) → IsPlaceOf a frame place → option_map_or (λ p. p.1 == order) place false ≡ is_free_start a order frame
-start-place a frame order None h = sym (no-class (λ class. is_on frame (free_list a class order)) (λ class. off-list a frame class order h))
+pub start-place : (a : FreeAreas) (frame order : ℕ) (place : Option (Class × ℕ)) → IsPlaceOf a frame place
+    → option_map_or (λ p. p.1 == order) place false ≡ is_free_start a order frame
+start-place a frame order None h =
+    sym (no-class (λ class. is_on frame (free_list a class order)) (λ class. off-list a frame class order h))
 start-place a frame order (Some p) h = elim (cases_eq p.1 order) [
   | inl same ↦
       eq-eqb p.1 order same
-      ∙ sym (any-class (λ class. is_on frame (free_list a class order)) p.0 (subst (λ (n : ℕ). is_on frame (free_list a p.0 n) ≡ true) same h.free))
-  | inr ne ↦ ne_eqb p.1 order ne ∙ sym (no-class (λ class. is_on frame (free_list a class order)) (λ class. other-list a frame class order p h ne))
+      ∙ sym (any-class (λ class. is_on frame (free_list a class order)) p.0
+      (subst (λ (n : ℕ). is_on frame (free_list a p.0 n) ≡ true) same h.free))
+  | inr ne ↦
+      ne_eqb p.1 order ne ∙ sym (no-class (λ class. is_on frame (free_list a class order))
+      (λ class. other-list a frame class order p h ne))
 ]

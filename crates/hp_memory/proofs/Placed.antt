@@ -14,14 +14,17 @@ use Rattle.hp_memory.specs.Layers.{ArePlaced, state_of}
 -- the free areas and the processors' lists are of one layout, and no frame is in two of their places
 pub tidy-placed : (m : Layers) → ArePlaced m → IsTidy m.frames
 tidy-placed m p =
-    subst (λ (l : LayoutParts). AreTogether (record { layout = l; cached = m.frames.cpus.cached }) m.frames.buddy) (sym p.one.cpus)
-    (subst (λ (l : LayoutParts). AreTogether (record { layout = m.layout; cached = m.frames.cpus.cached }) (record { layout = l; areas = m.frames.buddy.areas })) (sym p.one.buddy)
+    subst (λ (l : LayoutParts).
+    AreTogether (record { layout = l; cached = m.frames.cpus.cached }) m.frames.buddy) (sym p.one.cpus)
+    (subst (λ (l : LayoutParts). AreTogether (record { layout = m.layout; cached = m.frames.cpus.cached })
+    (record { layout = l; areas = m.frames.buddy.areas })) (sym p.one.buddy)
     (placed-together m.layout (state_of m) p.one.layout p.placed))
 
 -- ---- blocks that come back
 
 -- a block in use
-used-returns : (m : Layers) (order first : ℕ) → ArePlaced m → IsInUse m.layout (state_of m) order first → MayReturn m.frames order first
+used-returns : (m : Layers) (order first : ℕ) → ArePlaced m → IsInUse m.layout (state_of m) order first
+    → MayReturn m.frames order first
 used-returns m order first p used = record {
   in_order = subst (λ (k : LayoutParts). order ≤ k.order) (sym p.one.cpus) used.in_order;
   aligned = used.aligned;
@@ -30,9 +33,13 @@ used-returns m order first p used = record {
 }
 
 -- a kernel's block
-pub kernel-returns : (m : Layers) (first order : ℕ) → ArePlaced m → kernel_order (state_of m) first ≡ Some order → MayReturn m.frames order first
-kernel-returns m first order p is = used-returns m order first p (kernel-in_use m.layout (state_of m) first order p.one.layout p.placed is)
+pub kernel-returns : (m : Layers) (first order : ℕ) → ArePlaced m
+    → kernel_order (state_of m) first ≡ Some order → MayReturn m.frames order first
+kernel-returns m first order p is =
+    used-returns m order first p (kernel-in_use m.layout (state_of m) first order p.one.layout p.placed is)
 
 -- a page's frame
-pub page-returns : (m : Layers) (owner page frame : ℕ) → ArePlaced m → frame_at (state_of m).pages owner page ≡ Some frame → MayReturn m.frames 0 frame
-page-returns m owner page frame p is = used-returns m 0 frame p (page-in_use m.layout (state_of m) owner page frame p.one.layout p.placed is)
+pub page-returns : (m : Layers) (owner page frame : ℕ) → ArePlaced m
+    → frame_at (state_of m).pages owner page ≡ Some frame → MayReturn m.frames 0 frame
+page-returns m owner page frame p is =
+    used-returns m 0 frame p (page-in_use m.layout (state_of m) owner page frame p.one.layout p.placed is)

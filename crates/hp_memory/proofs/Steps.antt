@@ -25,55 +25,72 @@ use Rattle.hp_units.specs.Step.{Answered, answer, perform, step}
 use Rattle.hp_plain.specs.Asked.{asked}
 
 -- a processor that isn't in the layout
-pub step-no_cpu : (l : LayoutParts) (s : Memory) (serial cpu : ℕ) (event : Event) → l.cpus ≤ cpu → step l s serial cpu event ≡ record { memory = s; reply = Refused NoCpu }
+pub step-no_cpu : (l : LayoutParts) (s : Memory) (serial cpu : ℕ) (event : Event) → l.cpus ≤ cpu
+    → step l s serial cpu event ≡ record { memory = s; reply = Refused NoCpu }
 unfolding step refusal_of
 step-no_cpu l s serial cpu event past = rw (le-leb l.cpus cpu past) refl
 
 -- one that is
-pub step-in : (l : LayoutParts) (s : Memory) (serial cpu : ℕ) (event : Event) → cpu < l.cpus → step l s serial cpu event ≡ answer l s serial cpu event (first_some (event_refusals l s cpu event))
+pub step-in : (l : LayoutParts) (s : Memory) (serial cpu : ℕ) (event : Event) → cpu < l.cpus
+    → step l s serial cpu event ≡ answer l s serial cpu event (first_some (event_refusals l s cpu event))
 unfolding step refusal_of
 step-in l s serial cpu event below =
-    ap (λ (b : Bool). answer l s serial cpu event (option_or (then_some b NoCpu) (first_some (event_refusals l s cpu event)))) (lt-leb l.cpus cpu below)
+    ap (λ (b : Bool). answer l s serial cpu event
+    (option_or (then_some b NoCpu) (first_some (event_refusals l s cpu event)))) (lt-leb l.cpus cpu below)
 
 answer-same : (l : LayoutParts) (s : Memory) (serial cpu other : ℕ) (event : Event) (refusal : Option Refusal)
-    → perform l s serial cpu event ≡ perform l s 0 other event → answer l s serial cpu event refusal ≡ answer l s 0 other event refusal
+    → perform l s serial cpu event ≡ perform l s 0 other event
+    → answer l s serial cpu event refusal ≡ answer l s 0 other event refusal
 answer-same l s serial cpu other event None e = e
 answer-same l s serial cpu other event (Some refusal) e = refl
 
 -- the answer of an event that doesn't read its serial
-pub step-asked : (l : LayoutParts) (s : Memory) (serial cpu other : ℕ) (event : Event) → cpu < l.cpus → perform l s serial cpu event ≡ perform l s 0 other event
-    → event_refusals l s cpu event ≡ event_refusals l s other event → step l s serial cpu event ≡ asked l s other event
+pub step-asked : (l : LayoutParts) (s : Memory) (serial cpu other : ℕ) (event : Event) → cpu < l.cpus
+    → perform l s serial cpu event ≡ perform l s 0 other event
+    → event_refusals l s cpu event ≡ event_refusals l s other event
+    → step l s serial cpu event ≡ asked l s other event
 step-asked l s serial cpu other event below e refusals =
     step-in l s serial cpu event below
-    ∙ (answer-same l s serial cpu other event (first_some (event_refusals l s cpu event)) e ∙ ap (λ rs. answer l s 0 other event (first_some rs)) refusals)
+    ∙ (answer-same l s serial cpu other event (first_some (event_refusals l s cpu event)) e
+    ∙ ap (λ rs. answer l s 0 other event (first_some rs)) refusals)
 
 -- the answer to an event as that of its step
-pub answered : (m new : Layers) (event other : Event) (serial cpu : ℕ) (a : Answered) (before now : List Delta) {E : Type 0} (result : Result Reply E) → event ≡ other
+pub answered : (m new : Layers) (event other : Event) (serial cpu : ℕ) (a : Answered)
+    (before now : List Delta) {E : Type 0} (result : Result Reply E)
+    → event ≡ other
     → step m.layout (state_of m) serial cpu other ≡ a → IfOk result (IsAnswered m other a new before now)
     → IfOk result (IsAnswered m event (step m.layout (state_of m) serial cpu event) new before now)
 answered m new event other serial cpu a before now result is steps h =
-    subst (λ (e : Event). IfOk result (IsAnswered m e (step m.layout (state_of m) serial cpu e) new before now)) (sym is)
+    subst (λ (e : Event).
+    IfOk result (IsAnswered m e (step m.layout (state_of m) serial cpu e) new before now)) (sym is)
     (subst (λ (b : Answered). IfOk result (IsAnswered m other b new before now)) (sym steps) h)
 
 -- what a step noted leads back
-pub noted-back : (l : LayoutParts) (most : ℕ) (was now : List Delta) (later earlier : Memory) → IsWellPlaced l earlier → AreNoted l most was now (frame_view_of l later) (frame_view_of l earlier)
+pub noted-back : (l : LayoutParts) (most : ℕ) (was now : List Delta) (later earlier : Memory)
+    → IsWellPlaced l earlier → AreNoted l most was now (frame_view_of l later) (frame_view_of l earlier)
     → LeadsBack l (drop (length was) now) later earlier
 noted-back l most was now later earlier placed n =
-    let behind : drop (length was) now ≡ n.deltas = ap (λ (ds : List Delta). drop (length was) ds) n.after ∙ drop-append_seam was n.deltas in
+    let behind : drop (length was) now ≡ n.deltas =
+    ap (λ (ds : List Delta). drop (length was) ds) n.after ∙ drop-append_seam was n.deltas in
     record {
       placed = placed;
       numbers = subst (λ (ds : List Delta). AllByRecursion (IsDeltaOf l) ds) (sym behind) n.numbers;
-      lead = subst (λ (ds : List Delta). LeadBack Fits undo ds (frame_view_of l later) (frame_view_of l earlier)) (sym behind) n.lead;
+      lead =
+          subst (λ (ds : List Delta). LeadBack Fits undo ds (frame_view_of l later) (frame_view_of l earlier))
+          (sym behind) n.lead;
     }
 
 -- of a caller that kept how many deltas there were, on what has the same layout
-pub step-leads : (l k : LayoutParts) (most mark : ℕ) (was now : List Delta) (later earlier : Memory) → IsWellPlaced l earlier → AreNoted l most was now (frame_view_of l later) (frame_view_of l earlier)
+pub step-leads : (l k : LayoutParts) (most mark : ℕ) (was now : List Delta) (later earlier : Memory)
+    → IsWellPlaced l earlier → AreNoted l most was now (frame_view_of l later) (frame_view_of l earlier)
     → mark ≡ length was → k ≡ l → LeadsBack k (drop mark now) later earlier
 step-leads l k most mark was now later earlier placed n at same =
     subst (λ (m : LayoutParts). LeadsBack m (drop mark now) later earlier) (sym same)
-    (subst (λ (i : ℕ). LeadsBack l (drop i now) later earlier) (sym at) (noted-back l most was now later earlier placed n))
+    (subst (λ (i : ℕ). LeadsBack l (drop i now) later earlier) (sym at)
+    (noted-back l most was now later earlier placed n))
 
 -- values of one layout and one state
 pub same_memory : (v w : MemoryValue) → v.layout ≡ w.layout → v.state ≡ w.state → v ≡ w
 same_memory v w layout state =
-    ap (λ (l : LayoutParts). record { layout = l; state = v.state }) layout ∙ ap (λ (s : Memory). record { layout = w.layout; state = s }) state
+    ap (λ (l : LayoutParts). record { layout = l; state = v.state }) layout
+    ∙ ap (λ (s : Memory). record { layout = w.layout; state = s }) state

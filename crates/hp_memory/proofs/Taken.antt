@@ -40,7 +40,8 @@ covered-one o f = elim (cases_lt o f) [
 -- ---- straight from the areas
 
 -- fewer frames in the areas are still in one place
-pub tidy-less : (c : CpusValue) (b e : BuddyValue) → AreTogether c b → e.layout ≡ b.layout → AreApart e.layout e.areas → ((o : ℕ) → free_places e.areas o ≤ free_places b.areas o)
+pub tidy-less : (c : CpusValue) (b e : BuddyValue) → AreTogether c b → e.layout ≡ b.layout
+    → AreApart e.layout e.areas → ((o : ℕ) → free_places e.areas o ≤ free_places b.areas o)
     → AreTogether c e
 tidy-less c b e h same apart less = record {
   layout = same ∙ h.layout;
@@ -55,8 +56,10 @@ abbrev pub with_buddy : Frames → BuddyValue → Frames
 with_buddy f b = record { buddy = b; cpus = f.cpus }
 
 -- what a call of the areas ensures
-pub record IsAreaTaken (wanted : Option Taken) (order most : ℕ) (b e : BuddyValue) (was now : TapeValue) (answer : Option ℕ) : Type 0 where
-  pub taken : MatchOption answer (wanted ≡ None) (λ frame. wanted ≡ Some (record { areas = e.areas; frame = frame }))
+pub record IsAreaTaken (wanted : Option Taken) (order most : ℕ) (b e : BuddyValue) (was now : TapeValue)
+    (answer : Option ℕ) : Type 0 where
+  pub taken : MatchOption answer (wanted ≡ None)
+      (λ frame. wanted ≡ Some (record { areas = e.areas; frame = frame }))
   pub none : MatchOption answer ((e ≡ b) × (now ≡ was)) (λ _. Unit {0})
   pub layout : e.layout ≡ b.layout
   pub notes : NotesAreas b.layout most was now e.areas b.areas
@@ -64,10 +67,15 @@ pub record IsAreaTaken (wanted : Option Taken) (order most : ℕ) (b e : BuddyVa
   pub block : IfSome answer (MayBeGiven e.layout e.areas order)
   pub places : IfSome answer (HasBlockMore b.areas e.areas order)
 
-area-taken-one : (f : Frames) (e : BuddyValue) (wanted : Option Taken) (order most : ℕ) (was now : TapeValue) (answer : Option ℕ) → IsTidy f → IsAreaTaken wanted order most f.buddy e was now answer
-    → NotesFree f.cpus.layout most was now (frames_of e.areas f.cpus) (free_of f) → IsTaken (handed_from (free_of f) wanted) order most f (with_buddy f e) was now answer
+area-taken-one : (f : Frames) (e : BuddyValue) (wanted : Option Taken) (order most : ℕ) (was now : TapeValue)
+    (answer : Option ℕ)
+    → IsTidy f → IsAreaTaken wanted order most f.buddy e was now answer
+    → NotesFree f.cpus.layout most was now (frames_of e.areas f.cpus) (free_of f)
+    → IsTaken (handed_from (free_of f) wanted) order most f (with_buddy f e) was now answer
 area-taken-one f e wanted order most was now None h t notes = record {
-  handed = subst (λ (w : Option Taken). HandsOut (handed_from (free_of f) w) (free_of f) (frames_of e.areas f.cpus) None) (sym t.taken)
+  handed =
+      subst (λ (w : Option Taken).
+      HandsOut (handed_from (free_of f) w) (free_of f) (frames_of e.areas f.cpus) None) (sym t.taken)
       (refl, ap (λ (b : BuddyValue). frames_of b.areas f.cpus) t.none.0);
   none = λ is. (ap (with_buddy f) t.none.0, t.none.1);
   layout = refl;
@@ -76,43 +84,59 @@ area-taken-one f e wanted order most was now None h t notes = record {
   notes = notes;
 }
 area-taken-one f e wanted order most was now (Some frame) h t notes = record {
-  handed = subst (λ (w : Option Taken). HandsOut (handed_from (free_of f) w) (free_of f) (frames_of e.areas f.cpus) (Some frame)) (sym t.taken) (refl, refl);
+  handed =
+      subst (λ (w : Option Taken). HandsOut (handed_from (free_of f) w) (free_of f) (frames_of e.areas f.cpus)
+      (Some frame)) (sym t.taken) (refl, refl);
   none = λ is. absurd cc;
   layout = refl;
   tidy = tidy-less f.cpus f.buddy e h t.layout t.apart (λ o. omega (arith, t.places o));
   block = record {
-    within = subst (λ (l : LayoutParts). frame + 2 ^ order ≤ frame_count l) (t.layout ∙ h.layout) t.block.within;
+    within =
+        subst (λ (l : LayoutParts). frame + 2 ^ order ≤ frame_count l) (t.layout ∙ h.layout) t.block.within;
     places = λ o. omega (arith, t.places o);
   };
   notes = notes;
 }
 
 -- a call of the areas, beside the processors' lists, by a rule of the layout
-pub area-taken : (rule : LayoutParts → Option Taken) (bound : LayoutParts → ℕ) (f : Frames) (e : BuddyValue) (order : ℕ) (was now : TapeValue) (answer : Option ℕ) → IsTidy f
+pub area-taken : (rule : LayoutParts → Option Taken) (bound : LayoutParts → ℕ) (f : Frames) (e : BuddyValue)
+    (order : ℕ) (was now : TapeValue) (answer : Option ℕ)
+    → IsTidy f
     → IsAreaTaken (rule f.buddy.layout) order (bound f.buddy.layout) f.buddy e was now answer
-    → IsTaken (handed_from (free_of f) (rule f.cpus.layout)) order (bound f.cpus.layout) f (with_buddy f e) was now answer
+    → IsTaken (handed_from (free_of f) (rule f.cpus.layout)) order (bound f.cpus.layout) f (with_buddy f e)
+    was now answer
 area-taken rule bound f e order was now answer h t =
-    subst (λ (l : LayoutParts). IsTaken (handed_from (free_of f) (rule l)) order (bound l) f (with_buddy f e) was now answer) h.layout
+    subst (λ (l : LayoutParts).
+    IsTaken (handed_from (free_of f) (rule l)) order (bound l) f (with_buddy f e) was now answer) h.layout
     (area-taken-one f e (rule f.buddy.layout) order (bound f.buddy.layout) was now answer h t
     (notes-beside f.cpus.layout (bound f.buddy.layout) was now f.cpus.cached e.areas f.buddy.areas
-    (subst (λ (l : LayoutParts). NotesAreas l (bound f.buddy.layout) was now e.areas f.buddy.areas) h.layout t.notes)))
+    (subst (λ (l : LayoutParts). NotesAreas l (bound f.buddy.layout) was now e.areas f.buddy.areas) h.layout
+    t.notes)))
 
 -- ---- by a processor's list
 
 -- what a call of the processors' lists ensures
-pub record IsListTaken (wanted : Option Handed) (most : ℕ) (old new : Frames) (was now : TapeValue) (answer : Option ℕ) : Type 0 where
-  pub taken : MatchOption answer (wanted ≡ None) (λ frame. wanted ≡ Some (record { free = free_of new; frame = frame }))
-  pub none : MatchOption answer ((new.cpus ≡ old.cpus) × (new.buddy ≡ old.buddy) × (now ≡ was)) (λ _. Unit {0})
+pub record IsListTaken (wanted : Option Handed) (most : ℕ) (old new : Frames) (was now : TapeValue)
+    (answer : Option ℕ) : Type 0 where
+  pub taken : MatchOption answer (wanted ≡ None)
+      (λ frame. wanted ≡ Some (record { free = free_of new; frame = frame }))
+  pub none : MatchOption answer ((new.cpus ≡ old.cpus) × (new.buddy ≡ old.buddy) × (now ≡ was))
+      (λ _. Unit {0})
   pub layout : new.cpus.layout ≡ old.cpus.layout
   pub notes : NotesFree old.cpus.layout most was now (free_of new) (free_of old)
   pub together : AreTogether new.cpus new.buddy
   pub frame : IfSome answer (MayBePut new.cpus new.buddy)
-  pub places : IfSome answer (λ frame. (other : ℕ) → places_of old other ≡ places_of new other + one_at frame other)
+  pub places : IfSome answer
+      (λ frame. (other : ℕ) → places_of old other ≡ places_of new other + one_at frame other)
 
-pub list-taken : (wanted : Option Handed) (most : ℕ) (old new : Frames) (was now : TapeValue) (answer : Option ℕ) → IsListTaken wanted most old new was now answer
+pub list-taken : (wanted : Option Handed) (most : ℕ) (old new : Frames) (was now : TapeValue)
+    (answer : Option ℕ)
+    → IsListTaken wanted most old new was now answer
     → IsTaken wanted 0 most old new was now answer
 list-taken wanted most old new was now None t = record {
-  handed = subst (λ (w : Option Handed). HandsOut w (free_of old) (free_of new) None) (sym t.taken) (refl, ap free_of (same old new t.none.0 t.none.1));
+  handed =
+      subst (λ (w : Option Handed). HandsOut w (free_of old) (free_of new) None) (sym t.taken)
+      (refl, ap free_of (same old new t.none.0 t.none.1));
   none = λ is. (same old new t.none.0 t.none.1, t.none.2);
   layout = t.layout;
   tidy = t.together;
@@ -121,9 +145,13 @@ list-taken wanted most old new was now None t = record {
 }
   where
     same : (old new : Frames) → new.cpus ≡ old.cpus → new.buddy ≡ old.buddy → new ≡ old
-    same old new cpus buddy = ap (λ (c : CpusValue). record { buddy = new.buddy; cpus = c }) cpus ∙ ap (λ (b : BuddyValue). record { buddy = b; cpus = old.cpus }) buddy
+    same old new cpus buddy =
+        ap (λ (c : CpusValue). record { buddy = new.buddy; cpus = c }) cpus
+        ∙ ap (λ (b : BuddyValue). record { buddy = b; cpus = old.cpus }) buddy
 list-taken wanted most old new was now (Some frame) t = record {
-  handed = subst (λ (w : Option Handed). HandsOut w (free_of old) (free_of new) (Some frame)) (sym t.taken) (refl, refl);
+  handed =
+      subst (λ (w : Option Handed). HandsOut w (free_of old) (free_of new) (Some frame)) (sym t.taken)
+      (refl, refl);
   none = λ is. absurd cc;
   layout = t.layout;
   tidy = t.together;
@@ -135,16 +163,20 @@ list-taken wanted most old new was now (Some frame) t = record {
 }
 
 -- a list that has a frame hands one out
-list-hands : (fs : FreeFrames) (cpu : ℕ) (pool : Pool) (frame : ℕ) (frames xs : List ℕ) → xs ≡ frame ∷ frames → pop_from fs cpu pool xs ≡ None → ⊥
+list-hands : (fs : FreeFrames) (cpu : ℕ) (pool : Pool) (frame : ℕ) (frames xs : List ℕ) → xs ≡ frame ∷ frames
+    → pop_from fs cpu pool xs ≡ None → ⊥
 list-hands fs cpu pool frame frames xs is none = let h = rw is at none in cc
 
-empty_from : (l : LayoutParts) (fs : FreeFrames) (cpu : ℕ) (pool : Pool) (xs : List ℕ) → cached_list fs cpu pool ≡ xs → pop_cached (refilled_from l fs cpu pool xs) cpu pool ≡ None
+empty_from : (l : LayoutParts) (fs : FreeFrames) (cpu : ℕ) (pool : Pool) (xs : List ℕ)
+    → cached_list fs cpu pool ≡ xs → pop_cached (refilled_from l fs cpu pool xs) cpu pool ≡ None
     → take_one_from l xs ≡ batch_bound l
 empty_from l fs cpu pool [] is none = refl
-empty_from l fs cpu pool (frame ∷ frames) is none = absurd (list-hands fs cpu pool frame frames (cached_list fs cpu pool) is none)
+empty_from l fs cpu pool (frame ∷ frames) is none =
+    absurd (list-hands fs cpu pool frame frames (cached_list fs cpu pool) is none)
 
 -- only a list that is empty hands none out
-pub empty-bound : (l : LayoutParts) (fs : FreeFrames) (cpu : ℕ) (pool : Pool) → take_one l fs cpu pool ≡ None → take_one_bound l fs cpu pool ≡ batch_bound l
+pub empty-bound : (l : LayoutParts) (fs : FreeFrames) (cpu : ℕ) (pool : Pool) → take_one l fs cpu pool ≡ None
+    → take_one_bound l fs cpu pool ≡ batch_bound l
 unfolding take_one
 empty-bound l fs cpu pool none = empty_from l fs cpu pool (cached_list fs cpu pool) refl none
 
@@ -155,12 +187,15 @@ wanted-none : (wanted : Option Handed) (old new : FreeFrames) → HandsOut wante
 wanted-none None old new h = refl
 wanted-none (Some handed) old new h = absurd (let e = h.0 in cc)
 
-wanted-some : (wanted other : Option Handed) (old new : FreeFrames) (frame : ℕ) → HandsOut wanted old new (Some frame) → HandsOut (option_or wanted other) old new (Some frame)
+wanted-some : (wanted other : Option Handed) (old new : FreeFrames) (frame : ℕ)
+    → HandsOut wanted old new (Some frame) → HandsOut (option_or wanted other) old new (Some frame)
 wanted-some None other old new frame h = absurd (let e = h.0 in cc)
 wanted-some (Some handed) other old new frame h = h
 
 -- the first source hands one out
-pub first-taken : (wanted other : Option Handed) (order most more : ℕ) (old new : Frames) (was now : TapeValue) (frame : ℕ) → most ≤ more → IsTaken wanted order most old new was now (Some frame)
+pub first-taken : (wanted other : Option Handed) (order most more : ℕ) (old new : Frames)
+    (was now : TapeValue) (frame : ℕ)
+    → most ≤ more → IsTaken wanted order most old new was now (Some frame)
     → IsTaken (option_or wanted other) order more old new was now (Some frame)
 first-taken wanted other order most more old new was now frame le t = record {
   handed = wanted-some wanted other (free_of old) (free_of new) frame t.handed;
@@ -168,12 +203,16 @@ first-taken wanted other order most more old new was now frame le t = record {
   layout = t.layout;
   tidy = t.tidy;
   block = t.block;
-  notes = notes-more IsOfFree FitsFree free_undo old.cpus.layout most more was now (free_of new) (free_of old) le t.notes;
+  notes =
+      notes-more IsOfFree FitsFree free_undo old.cpus.layout most more was now (free_of new) (free_of old) le
+      t.notes;
 }
 
 -- it hands none out, and the other does or doesn't
-pub then-taken : (wanted : Option Handed) (other : Frames → Option Handed) (order most : ℕ) (bound : Frames → ℕ) (old mid new : Frames) (was between now : TapeValue) (more : ℕ) (answer : Option ℕ)
-    → bound old ≤ more → IsTaken wanted order most old mid was between None → IsTaken (other mid) order (bound mid) mid new between now answer
+pub then-taken : (wanted : Option Handed) (other : Frames → Option Handed) (order most : ℕ)
+    (bound : Frames → ℕ) (old mid new : Frames) (was between now : TapeValue) (more : ℕ) (answer : Option ℕ)
+    → bound old ≤ more → IsTaken wanted order most old mid was between None
+    → IsTaken (other mid) order (bound mid) mid new between now answer
     → IsTaken (option_or wanted (other old)) order more old new was now answer
 then-taken wanted other order most bound old mid new was between now more answer le first second =
     let same = first.none refl in
@@ -181,13 +220,16 @@ then-taken wanted other order most bound old mid new was between now more answer
     subst (λ (t : TapeValue). IsTaken (other old) order (bound old) old new t now answer) same.1
     (subst (λ (f : Frames). IsTaken (other f) order (bound f) f new between now answer) same.0 second) in
     let none : wanted ≡ None = wanted-none wanted (free_of old) (free_of mid) first.handed in
-    subst (λ (w : Option Handed). IsTaken (option_or w (other old)) order more old new was now answer) (sym none) (record {
+    subst (λ (w : Option Handed). IsTaken (option_or w (other old)) order more old new was now answer)
+    (sym none) (record {
       handed = here.handed;
       none = here.none;
       layout = here.layout;
       tidy = here.tidy;
       block = here.block;
-      notes = notes-more IsOfFree FitsFree free_undo old.cpus.layout (bound old) more was now (free_of new) (free_of old) le here.notes;
+      notes =
+          notes-more IsOfFree FitsFree free_undo old.cpus.layout (bound old) more was now (free_of new)
+          (free_of old) le here.notes;
     })
 
 -- ---- a processor's list that hands none out
@@ -200,10 +242,15 @@ pub record IsListEmpty (f mid : Frames) (was between : TapeValue) (cpu : ℕ) (p
   pub bound : take_one_bound f.cpus.layout (free_of f) cpu pool ≡ batch_bound f.cpus.layout
 
 -- deltas that were none
-pub list-empty : (f mid : Frames) (was between : TapeValue) (cpu : ℕ) (pool : Pool) (most : ℕ) (answer : Option ℕ) → answer ≡ None
-    → IsTaken (take_one f.cpus.layout (free_of f) cpu pool) 0 most f mid was between answer → IsListEmpty f mid was between cpu pool
+pub list-empty : (f mid : Frames) (was between : TapeValue) (cpu : ℕ) (pool : Pool) (most : ℕ)
+    (answer : Option ℕ)
+    → answer ≡ None
+    → IsTaken (take_one f.cpus.layout (free_of f) cpu pool) 0 most f mid was between answer
+    → IsListEmpty f mid was between cpu pool
 list-empty f mid was between cpu pool most answer none t =
-    let h = subst (λ (a : Option ℕ). IsTaken (take_one f.cpus.layout (free_of f) cpu pool) 0 most f mid was between a) none t in
+    let h =
+    subst (λ (a : Option ℕ).
+    IsTaken (take_one f.cpus.layout (free_of f) cpu pool) 0 most f mid was between a) none t in
     let is = h.none refl in
     record {
       first = λ more. record {
@@ -212,27 +259,38 @@ list-empty f mid was between cpu pool most answer none t =
         layout = h.layout;
         tidy = h.tidy;
         block = tt;
-        notes = subst (λ (g : Frames). NotesFree f.cpus.layout more was between (free_of g) (free_of f)) (sym is.0)
-            (subst (λ (t : TapeValue). NotesFree f.cpus.layout more was t (free_of f) (free_of f)) (sym is.1) (nothing-noted f.cpus.layout more was (free_of f)));
+        notes =
+            subst (λ (g : Frames). NotesFree f.cpus.layout more was between (free_of g) (free_of f))
+            (sym is.0)
+            (subst (λ (t : TapeValue). NotesFree f.cpus.layout more was t (free_of f) (free_of f)) (sym is.1)
+            (nothing-noted f.cpus.layout more was (free_of f)));
       };
       same = is.0;
       tape = is.1;
-      bound = empty-bound f.cpus.layout (free_of f) cpu pool (wanted-none (take_one f.cpus.layout (free_of f) cpu pool) (free_of f) (free_of mid) h.handed);
+      bound =
+          empty-bound f.cpus.layout (free_of f) cpu pool
+          (wanted-none (take_one f.cpus.layout (free_of f) cpu pool) (free_of f) (free_of mid) h.handed);
     }
 
 -- a steal notes no more than a batch
 pub steal-few : (l : LayoutParts) → IsLayout l → steal_bound l ≤ batch_bound l
-steal-few l layout = let more = mul-le-mul_right {m = 1} {n = l.batch} (l.order + 2) layout.some_batch in omega (arith, more)
+steal-few l layout =
+    let more = mul-le-mul_right {m = 1} {n = l.batch} (l.order + 2) layout.some_batch in omega (arith, more)
 
 -- so there is still room for a steal, and for another list
-pub steal-room : (f mid : Frames) (was between : TapeValue) (cpu : ℕ) (pool : Pool) → IsLayout f.cpus.layout → IsListEmpty f mid was between cpu pool
-    → HasRoom was (take_one_bound f.cpus.layout (free_of f) cpu pool) → HasRoom between (steal_bound mid.cpus.layout)
+pub steal-room : (f mid : Frames) (was between : TapeValue) (cpu : ℕ) (pool : Pool) → IsLayout f.cpus.layout
+    → IsListEmpty f mid was between cpu pool
+    → HasRoom was (take_one_bound f.cpus.layout (free_of f) cpu pool)
+    → HasRoom between (steal_bound mid.cpus.layout)
 steal-room f mid was between cpu pool layout e room =
     subst (λ (g : Frames). HasRoom between (steal_bound g.cpus.layout)) (sym e.same)
-    (subst (λ (t : TapeValue). HasRoom t (steal_bound f.cpus.layout)) (sym e.tape) (let few = steal-few f.cpus.layout layout in omega (arith, few, room, e.bound)))
+    (subst (λ (t : TapeValue). HasRoom t (steal_bound f.cpus.layout)) (sym e.tape)
+    (let few = steal-few f.cpus.layout layout in omega (arith, few, room, e.bound)))
 
-pub list-room : (f mid : Frames) (was between : TapeValue) (cpu : ℕ) (pool other : Pool) → IsListEmpty f mid was between cpu pool
-    → HasRoom was (take_one_bound f.cpus.layout (free_of f) cpu pool) → HasRoom between (take_one_bound mid.cpus.layout (free_of mid) cpu other)
+pub list-room : (f mid : Frames) (was between : TapeValue) (cpu : ℕ) (pool other : Pool)
+    → IsListEmpty f mid was between cpu pool
+    → HasRoom was (take_one_bound f.cpus.layout (free_of f) cpu pool)
+    → HasRoom between (take_one_bound mid.cpus.layout (free_of mid) cpu other)
 list-room f mid was between cpu pool other e room =
     subst (λ (g : Frames). HasRoom between (take_one_bound g.cpus.layout (free_of g) cpu other)) (sym e.same)
     (subst (λ (t : TapeValue). HasRoom t (take_one_bound f.cpus.layout (free_of f) cpu other)) (sym e.tape)

@@ -38,34 +38,55 @@ pub record IsLatest (l : LayoutParts) (delta : Delta) (now : FrameView) : Type 0
   pub numbers : IsDeltaOf l delta
 
 -- it fits, and its numbers are in the layout
-pub latest : (l : LayoutParts) (all deltas : List Delta) (delta : Delta) (now first : FrameView) → IsUnwound l all now first → all ≡ deltas ++ delta ∷ [] → IsLatest l delta now
+pub latest : (l : LayoutParts) (all deltas : List Delta) (delta : Delta) (now first : FrameView)
+    → IsUnwound l all now first → all ≡ deltas ++ delta ∷ [] → IsLatest l delta now
 latest l all deltas delta now first u is = record {
-  fits = (all_fit-latest Fits undo deltas delta now (subst (λ (ds : List Delta). AllFit Fits undo ds now) is u.fits)).0;
-  numbers = (all-latest (IsDeltaOf l) deltas delta (subst (λ (ds : List Delta). AllByRecursion (IsDeltaOf l) ds) is u.numbers)).0;
+  fits =
+      (all_fit-latest Fits undo deltas delta now
+      (subst (λ (ds : List Delta). AllFit Fits undo ds now) is u.fits)).0;
+  numbers =
+      (all-latest (IsDeltaOf l) deltas delta
+      (subst (λ (ds : List Delta). AllByRecursion (IsDeltaOf l) ds) is u.numbers)).0;
 }
 
 -- the others, when the latest is undone
-pub unwound : (l : LayoutParts) (all deltas : List Delta) (delta : Delta) (now new first : FrameView) → IsUnwound l all now first → all ≡ deltas ++ delta ∷ [] → new ≡ undo delta now
+pub unwound : (l : LayoutParts) (all deltas : List Delta) (delta : Delta) (now new first : FrameView)
+    → IsUnwound l all now first → all ≡ deltas ++ delta ∷ [] → new ≡ undo delta now
     → IsUnwound l deltas new first
 unwound l all deltas delta now new first u is undone =
     subst (λ (w : FrameView). IsUnwound l deltas w first) (sym undone) (record {
-      fits = (all_fit-latest Fits undo deltas delta now (subst (λ (ds : List Delta). AllFit Fits undo ds now) is u.fits)).1;
-      numbers = (all-latest (IsDeltaOf l) deltas delta (subst (λ (ds : List Delta). AllByRecursion (IsDeltaOf l) ds) is u.numbers)).1;
-      ends = sym (undo_all-append undo deltas (delta ∷ []) now) ∙ ap (λ (ds : List Delta). undo_all undo ds now) (sym is) ∙ u.ends;
+      fits =
+          (all_fit-latest Fits undo deltas delta now
+          (subst (λ (ds : List Delta). AllFit Fits undo ds now) is u.fits)).1;
+      numbers =
+          (all-latest (IsDeltaOf l) deltas delta
+          (subst (λ (ds : List Delta). AllByRecursion (IsDeltaOf l) ds) is u.numbers)).1;
+      ends =
+          sym (undo_all-append undo deltas (delta ∷ []) now)
+          ∙ ap (λ (ds : List Delta). undo_all undo ds now) (sym is) ∙ u.ends;
     })
 
 -- ---- of a tape's deltas those past a mark
 
-pub past-length : (mark : ℕ) (all deltas : List Delta) (delta : Delta) → mark < length all → all ≡ deltas ++ delta ∷ [] → mark ≤ length deltas
-past-length mark all deltas delta more is = omega (arith, more, ap (λ (ds : List Delta). length ds) is, length-append deltas (delta ∷ []))
+pub past-length : (mark : ℕ) (all deltas : List Delta) (delta : Delta) → mark < length all
+    → all ≡ deltas ++ delta ∷ [] → mark ≤ length deltas
+past-length mark all deltas delta more is =
+    omega (arith, more, ap (λ (ds : List Delta). length ds) is, length-append deltas (delta ∷ []))
 
-pub past-drop : (mark : ℕ) (all deltas : List Delta) (delta : Delta) → mark < length all → all ≡ deltas ++ delta ∷ [] → drop mark all ≡ drop mark deltas ++ delta ∷ []
-past-drop mark all deltas delta more is = ap (λ (ds : List Delta). drop mark ds) is ∙ drop-append-le mark deltas (delta ∷ []) (past-length mark all deltas delta more is)
+pub past-drop : (mark : ℕ) (all deltas : List Delta) (delta : Delta) → mark < length all
+    → all ≡ deltas ++ delta ∷ [] → drop mark all ≡ drop mark deltas ++ delta ∷ []
+past-drop mark all deltas delta more is =
+    ap (λ (ds : List Delta). drop mark ds) is
+    ∙ drop-append-le mark deltas (delta ∷ []) (past-length mark all deltas delta more is)
 
-pub past-take : (mark : ℕ) (all deltas : List Delta) (delta : Delta) → mark < length all → all ≡ deltas ++ delta ∷ [] → take mark deltas ≡ take mark all
+pub past-take : (mark : ℕ) (all deltas : List Delta) (delta : Delta) → mark < length all
+    → all ≡ deltas ++ delta ∷ [] → take mark deltas ≡ take mark all
 past-take mark all deltas delta more is =
-    sym (ap (λ (ds : List Delta). take mark ds) is ∙ take-append-le mark deltas (delta ∷ []) (past-length mark all deltas delta more is))
+    sym (ap (λ (ds : List Delta). take mark ds) is
+    ∙ take-append-le mark deltas (delta ∷ []) (past-length mark all deltas delta more is))
 
 -- where nothing is past the mark, all is undone
-pub unwound-all : (l : LayoutParts) (mark : ℕ) (all : List Delta) (now first : FrameView) → IsUnwound l (drop mark all) now first → length all ≤ mark → now ≡ first
-unwound-all l mark all now first u none = ap (λ (ds : List Delta). undo_all undo ds now) (sym (drop_all mark all none)) ∙ u.ends
+pub unwound-all : (l : LayoutParts) (mark : ℕ) (all : List Delta) (now first : FrameView)
+    → IsUnwound l (drop mark all) now first → length all ≤ mark → now ≡ first
+unwound-all l mark all now first u none =
+    ap (λ (ds : List Delta). undo_all undo ds now) (sym (drop_all mark all none)) ∙ u.ends

@@ -22,7 +22,9 @@ is_in_use l s frame = not (is_in_free_block l s.free.areas frame)
 
 -- some block isn't ready, and the frame is the lowest one in use of those that are going
 abbrev pub IsHeldBy : LayoutParts → Memory → (blocks : List ℕ) → (frame : ℕ) → Type 0
-IsHeldBy l s blocks frame = (list_all (is_ready l s) blocks ≡ false) × (frame ≡ unwrap_or (find (is_in_use l s) (flat_map (leaving_frames l s) blocks)) 0)
+IsHeldBy l s blocks frame =
+    (list_all (is_ready l s) blocks ≡ false)
+    × (frame ≡ unwrap_or (find (is_in_use l s) (flat_map (leaving_frames l s) blocks)) 0)
 
 -- a frame stands in a free block of an order
 pub record IsCovered (l : LayoutParts) (a : FreeAreas) (frame order : ℕ) : Type 0 where

@@ -45,7 +45,8 @@ kernel_block_bound l fs cpu (suc below) = steal_bound l
 
 -- a movable frame of zone Normal: from the list, and else stolen
 abbrev pub normal_frame : LayoutParts → FreeFrames → ℕ → Option Handed
-normal_frame l fs cpu = option_or (take_one l fs cpu NmPool) (handed_from fs (steal_block l fs.areas Movable 0))
+normal_frame l fs cpu =
+    option_or (take_one l fs cpu NmPool) (handed_from fs (steal_block l fs.areas Movable 0))
 
 -- the answer and the frames are those of the rule
 abbrev pub HandsOut : Option Handed → (old new : FreeFrames) → Option ℕ → Type 0
@@ -58,7 +59,8 @@ pub record HasLeft (old new : Frames) (order first : ℕ) : Type 0 where
   pub places : (other : ℕ) → places_of old other ≡ places_of new other + covered other order first
 
 -- a block was handed out as a rule says, or none, and then nothing changed
-pub record IsTaken (wanted : Option Handed) (order most : ℕ) (old new : Frames) (was now : TapeValue) (answer : Option ℕ) : Type 0 where
+pub record IsTaken (wanted : Option Handed) (order most : ℕ) (old new : Frames) (was now : TapeValue)
+    (answer : Option ℕ) : Type 0 where
   pub handed : HandsOut wanted (free_of old) (free_of new) answer
   pub none : answer ≡ None → (new ≡ old) × (now ≡ was)
   pub layout : new.cpus.layout ≡ old.cpus.layout
@@ -68,7 +70,8 @@ pub record IsTaken (wanted : Option Handed) (order most : ℕ) (old new : Frames
 
 -- ---- what giving a block back does (own rule)
 
--- a block of an order that may come back: it lies within the layout at a multiple of its size, and none of its frames is free or on a list
+-- a block of an order that may come back: it lies within the layout at a multiple of its size, and
+-- none of its frames is free or on a list
 pub record MayReturn (f : Frames) (order first : ℕ) : Type 0 where
   pub in_order : order ≤ f.cpus.layout.order
   pub aligned : first % 2 ^ order ≡ 0
@@ -78,7 +81,8 @@ pub record MayReturn (f : Frames) (order first : ℕ) : Type 0 where
 -- a single frame by the processor's list, any other block straight to the areas
 abbrev pub given_back : LayoutParts → FreeFrames → ℕ → Zone → (frame order : ℕ) → FreeFrames
 given_back l fs cpu zone frame zero = put_one l fs cpu zone frame
-given_back l fs cpu zone frame (suc below) = record fs { areas = give_block l fs.areas zone frame (suc below) }
+given_back l fs cpu zone frame (suc below) =
+    record fs { areas = give_block l fs.areas zone frame (suc below) }
 
 -- how many deltas that may note in this state
 abbrev pub give_back_bound : LayoutParts → FreeFrames → (cpu : ℕ) → Zone → (frame order : ℕ) → ℕ

@@ -20,7 +20,8 @@ use Rattle.hp_memory.specs.Frames.{free_of}
 
 -- the frame view that the layers keep
 abbrev pub view_of : Layers → FrameView
-view_of m = record { free = free_of m.frames; pages = m.pages.pages; kernel = m.kernel; blocks = m.blocks.blocks }
+view_of m =
+    record { free = free_of m.frames; pages = m.pages.pages; kernel = m.kernel; blocks = m.blocks.blocks }
 
 -- the state of a frame view
 abbrev pub memory_of : LayoutParts → FrameView → Memory
@@ -61,7 +62,8 @@ abbrev pub NotesView : LayoutParts → ℕ → (was now : TapeValue) → (later 
 NotesView l most was now later earlier = Notes IsOfMemory Fits undo l most was now later earlier
 
 -- a step's deltas stand after those that were there: at most so many, of the layout, and they lead back
-pub record AreNoted (l : LayoutParts) (most : ℕ) (was now : List Delta) (later earlier : FrameView) : Type 0 where
+pub record AreNoted (l : LayoutParts) (most : ℕ) (was now : List Delta)
+    (later earlier : FrameView) : Type 0 where
   pub deltas : List Delta
   pub after : now ≡ was ++ deltas
   pub few : length deltas ≤ most
@@ -69,7 +71,9 @@ pub record AreNoted (l : LayoutParts) (most : ℕ) (was now : List Delta) (later
   pub lead : LeadBack Fits undo deltas later earlier
 
 -- an event was answered: the layers keep the state of the answer, the reply is its, and its deltas are noted
-pub record IsAnswered (old : Layers) (event : Event) (answered : Answered) (new : Layers) (was now : List Delta) (given : Reply) : Type 0 where
+pub record IsAnswered (old : Layers) (event : Event) (answered : Answered) (new : Layers)
+    (was now : List Delta) (given : Reply) : Type 0 where
   pub led : AreLedTo old answered.memory new
   pub reply : given ≡ answered.reply
-  pub noted : AreNoted old.layout (delta_bound old.layout (state_of old) event) was now (view_of new) (view_of old)
+  pub noted : AreNoted old.layout (delta_bound old.layout (state_of old) event) was now (view_of new)
+      (view_of old)

@@ -62,14 +62,18 @@ impl Frames {
         }
     }
 
-    /// A block for the kernel: of order 0 by the processor's list, of a greater order straight from the areas.
+    /// A block for the kernel: of order 0 by the processor's list, of a greater order straight from
+    /// the areas.
     pub(crate) fn kernel_block(&mut self, cpu: Cpu, order: Order, tape: &mut Tape) -> Option<Frame>
         requires cpu { cpu < self.old.cpus.layout.cpus }
         requires order { order ≤ self.old.cpus.layout.order }
         requires layout { IsLayout self.old.cpus.layout }
         requires tidy { IsTidy self.old }
-        requires room { HasRoom tape.old (kernel_block_bound self.old.cpus.layout (free_of self.old) cpu order) }
-        ensures { IsTaken (kernel_block self.old.cpus.layout (free_of self.old) cpu order) order (kernel_block_bound self.old.cpus.layout (free_of self.old) cpu order) self.old self.new tape.old tape.new result }
+        requires room { HasRoom tape.old
+            (kernel_block_bound self.old.cpus.layout (free_of self.old) cpu order) }
+        ensures { IsTaken (kernel_block self.old.cpus.layout (free_of self.old) cpu order) order
+            (kernel_block_bound self.old.cpus.layout (free_of self.old) cpu order) self.old self.new tape.old
+            tape.new result }
     {
         if order.0 == 0 {
             return self.kernel_frame(cpu, tape);
@@ -86,7 +90,9 @@ impl Frames {
         requires layout { IsLayout self.old.cpus.layout }
         requires tidy { IsTidy self.old }
         requires room { HasRoom tape.old (kernel_frame_bound self.old.cpus.layout (free_of self.old) cpu) }
-        ensures { IsTaken (kernel_frame self.old.cpus.layout (free_of self.old) cpu) 0 (kernel_frame_bound self.old.cpus.layout (free_of self.old) cpu) self.old self.new tape.old tape.new result }
+        ensures { IsTaken (kernel_frame self.old.cpus.layout (free_of self.old) cpu) 0
+            (kernel_frame_bound self.old.cpus.layout (free_of self.old) cpu) self.old self.new tape.old
+            tape.new result }
     {
         match self.take_one(cpu, Pool::Nu, tape) {
             Some(frame) => Some(frame),
@@ -100,7 +106,9 @@ impl Frames {
         requires layout { IsLayout self.old.cpus.layout }
         requires tidy { IsTidy self.old }
         requires room { HasRoom tape.old (page_frame_bound self.old.cpus.layout (free_of self.old) cpu) }
-        ensures { IsTaken (page_frame self.old.cpus.layout (free_of self.old) cpu) 0 (page_frame_bound self.old.cpus.layout (free_of self.old) cpu) self.old self.new tape.old tape.new result }
+        ensures { IsTaken (page_frame self.old.cpus.layout (free_of self.old) cpu) 0
+            (page_frame_bound self.old.cpus.layout (free_of self.old) cpu) self.old self.new tape.old tape.new
+            result }
     {
         match self.take_one(cpu, Pool::Mm, tape) {
             Some(frame) => Some(frame),
@@ -114,7 +122,9 @@ impl Frames {
         requires layout { IsLayout self.old.cpus.layout }
         requires tidy { IsTidy self.old }
         requires room { HasRoom tape.old (take_one_bound self.old.cpus.layout (free_of self.old) cpu NmPool) }
-        ensures { IsTaken (normal_frame self.old.cpus.layout (free_of self.old) cpu) 0 (take_one_bound self.old.cpus.layout (free_of self.old) cpu NmPool) self.old self.new tape.old tape.new result }
+        ensures { IsTaken (normal_frame self.old.cpus.layout (free_of self.old) cpu) 0
+            (take_one_bound self.old.cpus.layout (free_of self.old) cpu NmPool) self.old self.new tape.old
+            tape.new result }
     {
         match self.take_one(cpu, Pool::Nm, tape) {
             Some(frame) => Some(frame),
@@ -126,7 +136,9 @@ impl Frames {
     pub(crate) fn migration_target(&mut self, tape: &mut Tape) -> Option<Frame>
         requires tidy { IsTidy self.old }
         requires room { HasRoom tape.old (steal_bound self.old.cpus.layout) }
-        ensures { IsTaken (handed_from (free_of self.old) (migration_target self.old.cpus.layout self.old.buddy.areas)) 0 (steal_bound self.old.cpus.layout) self.old self.new tape.old tape.new result }
+        ensures { IsTaken
+            (handed_from (free_of self.old) (migration_target self.old.cpus.layout self.old.buddy.areas)) 0
+            (steal_bound self.old.cpus.layout) self.old self.new tape.old tape.new result }
     {
         if let Some(frame) = self.take(Class::Mm, Order(0), tape) {
             return Some(frame);
@@ -189,8 +201,11 @@ impl Frames {
         requires cpu { cpu < self.old.cpus.layout.cpus }
         requires tidy { IsTidy self.old }
         requires block { MayReturn self.old order frame }
-        requires room { HasRoom tape.old (give_back_bound self.old.cpus.layout (free_of self.old) cpu zone frame order) }
-        ensures { IsGiven (given_back self.old.cpus.layout (free_of self.old) cpu zone frame order) (give_back_bound self.old.cpus.layout (free_of self.old) cpu zone frame order) self.old self.new tape.old tape.new }
+        requires room { HasRoom tape.old
+            (give_back_bound self.old.cpus.layout (free_of self.old) cpu zone frame order) }
+        ensures { IsGiven (given_back self.old.cpus.layout (free_of self.old) cpu zone frame order)
+            (give_back_bound self.old.cpus.layout (free_of self.old) cpu zone frame order) self.old self.new
+            tape.old tape.new }
     {
         if order.0 == 0 {
             self.cpus.put_one(cpu, zone, frame, &mut self.buddy, tape);
@@ -204,7 +219,9 @@ impl Frames {
         requires tidy { IsTidy self.old }
         requires block { MayReturn self.old order frame }
         requires room { HasRoom tape.old (give_bound self.old.cpus.layout) }
-        ensures { IsGiven (record (free_of self.old) { areas = give_block self.old.cpus.layout self.old.buddy.areas zone frame order }) (give_bound self.old.cpus.layout) self.old self.new tape.old tape.new }
+        ensures { IsGiven (record (free_of self.old)
+            { areas = give_block self.old.cpus.layout self.old.buddy.areas zone frame order }) (give_bound
+            self.old.cpus.layout) self.old self.new tape.old tape.new }
     {
         self.buddy.give(zone, frame, order, tape);
     }
@@ -222,7 +239,11 @@ impl Frames {
         requires block { block < layout.now.blocks }
         requires tidy { IsTidy self.old }
         requires room { HasRoom tape.old (layout.now.pageblocks * move_bound layout.now) }
-        ensures { IsGiven (record (free_of self.old) { areas = move_block layout.now zone isolated self.old.buddy.areas block }) (layout.now.pageblocks * move_bound layout.now) self.old self.new tape.old tape.new }
+        ensures { IsGiven (record (free_of self.old) {
+          areas = move_block layout.now zone isolated
+              self.old.buddy.areas
+              block;
+        }) (layout.now.pageblocks * move_bound layout.now) self.old self.new tape.old tape.new }
     {
         let count = layout.pageblocks();
         let first = block.0 * count;
@@ -236,19 +257,28 @@ impl Frames {
         requires pageblock { pageblock < pageblock_count self.old.cpus.layout }
         requires tidy { IsTidy self.old }
         requires room { HasRoom tape.old (move_bound self.old.cpus.layout) }
-        ensures { IsGiven (record (free_of self.old) { areas = move_pageblock self.old.cpus.layout zone isolated self.old.buddy.areas pageblock }) (move_bound self.old.cpus.layout) self.old self.new tape.old tape.new }
+        ensures { IsGiven (record (free_of self.old) {
+          areas = move_pageblock self.old.cpus.layout zone
+              isolated self.old.buddy.areas
+              pageblock;
+        }) (move_bound self.old.cpus.layout) self.old self.new tape.old tape.new }
     {
         self.buddy.move_pageblock(zone, pageblock, isolated, tape);
     }
 
-    /// The pageblocks of a memory block of the layout, of which no frame is free or on a list, go to the back of their zone's list.
+    /// The pageblocks of a memory block of the layout, of which no frame is free or on a list, go
+    /// to the back of their zone's list.
     pub(crate) fn add_block(&mut self, layout: &Layout, zone: Zone, block: Block, tape: &mut Tape)
         requires same { self.old.cpus.layout ≡ layout.now }
         requires block { block < layout.now.blocks }
         requires tidy { IsTidy self.old }
-        requires nowhere { (other : ℕ) → block * layout.now.pageblocks * 2 ^ layout.now.order ≤ other → other < (block * layout.now.pageblocks + layout.now.pageblocks) * 2 ^ layout.now.order → places_of self.old other ≡ 0 }
+        requires nowhere { (other : ℕ) → block * layout.now.pageblocks * 2 ^ layout.now.order ≤ other
+            → other < (block * layout.now.pageblocks + layout.now.pageblocks) * 2 ^ layout.now.order
+            → places_of self.old other ≡ 0 }
         requires room { HasRoom tape.old layout.now.pageblocks }
-        ensures { IsGiven (record (free_of self.old) { areas = add_block layout.now zone self.old.buddy.areas block }) layout.now.pageblocks self.old self.new tape.old tape.new }
+        ensures { IsGiven
+            (record (free_of self.old) { areas = add_block layout.now zone self.old.buddy.areas block })
+            layout.now.pageblocks self.old self.new tape.old tape.new }
     {
         let count = layout.pageblocks();
         let first = block.0 * count;
@@ -257,15 +287,21 @@ impl Frames {
         }
     }
 
-    /// A whole pageblock of the layout, of which no frame is free or on a list, goes to the back of its zone's list.
+    /// A whole pageblock of the layout, of which no frame is free or on a list, goes to the back of
+    /// its zone's list.
     fn add_pageblock(&mut self, layout: &Layout, zone: Zone, pageblock: Pageblock, tape: &mut Tape)
         requires same { self.old.cpus.layout ≡ layout.now }
         requires pageblock { pageblock < pageblock_count layout.now }
         requires tidy { IsTidy self.old }
-        requires nowhere { (other : ℕ) → pageblock * 2 ^ layout.now.order ≤ other → other < pageblock * 2 ^ layout.now.order + 2 ^ layout.now.order → places_of self.old other ≡ 0 }
+        requires nowhere { (other : ℕ) → pageblock * 2 ^ layout.now.order ≤ other
+            → other < pageblock * 2 ^ layout.now.order + 2 ^ layout.now.order → places_of self.old other ≡ 0 }
         requires room { HasRoom tape.old 1 }
-        ensures given { IsGiven (record (free_of self.old) { areas = add_pageblock self.old.cpus.layout zone self.old.buddy.areas pageblock }) 1 self.old self.new tape.old tape.new }
-        ensures later { (other : ℕ) → pageblock * 2 ^ layout.now.order + 2 ^ layout.now.order ≤ other → places_of self.new other ≡ places_of self.old other }
+        ensures given { IsGiven (record (free_of self.old) {
+          areas = add_pageblock self.old.cpus.layout zone
+              self.old.buddy.areas pageblock;
+        }) 1 self.old self.new tape.old tape.new }
+        ensures later { (other : ℕ) → pageblock * 2 ^ layout.now.order + 2 ^ layout.now.order ≤ other
+            → places_of self.new other ≡ places_of self.old other }
     {
         self.buddy.add_pageblock(zone, pageblock, tape);
     }
@@ -286,7 +322,8 @@ impl Frames {
         requires cpu { cpu < self.old.cpus.layout.cpus }
         requires tidy { IsTidy self.old }
         requires room { HasRoom tape.old (drain_bound self.old.cpus.layout (free_of self.old) cpu) }
-        ensures { IsGiven (drain_lists self.old.cpus.layout (free_of self.old) cpu) (drain_bound self.old.cpus.layout (free_of self.old) cpu) self.old self.new tape.old tape.new }
+        ensures { IsGiven (drain_lists self.old.cpus.layout (free_of self.old) cpu)
+            (drain_bound self.old.cpus.layout (free_of self.old) cpu) self.old self.new tape.old tape.new }
     {
         self.cpus.drain(cpu, &mut self.buddy, tape);
     }
@@ -296,7 +333,9 @@ impl Frames {
         requires cpu { cpu < self.old.cpus.layout.cpus }
         requires tidy { IsTidy self.old }
         requires room { HasRoom tape.old (take_one_bound self.old.cpus.layout (free_of self.old) cpu pool) }
-        ensures { IsTaken (take_one self.old.cpus.layout (free_of self.old) cpu pool) 0 (take_one_bound self.old.cpus.layout (free_of self.old) cpu pool) self.old self.new tape.old tape.new result }
+        ensures { IsTaken (take_one self.old.cpus.layout (free_of self.old) cpu pool) 0
+            (take_one_bound self.old.cpus.layout (free_of self.old) cpu pool) self.old self.new tape.old
+            tape.new result }
     {
         self.cpus.take_one(cpu, pool, &mut self.buddy, tape)
     }
@@ -306,7 +345,9 @@ impl Frames {
         requires order { order ≤ self.old.cpus.layout.order }
         requires tidy { IsTidy self.old }
         requires room { HasRoom tape.old (take_bound self.old.cpus.layout) }
-        ensures { IsTaken (handed_from (free_of self.old) (take_block self.old.cpus.layout self.old.buddy.areas class order)) order (take_bound self.old.cpus.layout) self.old self.new tape.old tape.new result }
+        ensures { IsTaken (handed_from (free_of self.old)
+            (take_block self.old.cpus.layout self.old.buddy.areas class order)) order (take_bound
+            self.old.cpus.layout) self.old self.new tape.old tape.new result }
     {
         self.buddy.take(class, order, tape)
     }
@@ -316,7 +357,9 @@ impl Frames {
         requires order { order ≤ self.old.cpus.layout.order }
         requires tidy { IsTidy self.old }
         requires room { HasRoom tape.old (steal_bound self.old.cpus.layout) }
-        ensures { IsTaken (handed_from (free_of self.old) (steal_block self.old.cpus.layout self.old.buddy.areas wanted order)) order (steal_bound self.old.cpus.layout) self.old self.new tape.old tape.new result }
+        ensures { IsTaken (handed_from (free_of self.old)
+            (steal_block self.old.cpus.layout self.old.buddy.areas wanted order)) order (steal_bound
+            self.old.cpus.layout) self.old self.new tape.old tape.new result }
     {
         self.buddy.steal(wanted, order, tape)
     }

@@ -19,8 +19,9 @@ pub struct ImageStep {
     pub reply: Reply,
 }
 
-/// One step of the definitions from an Image, whose state must be well placed, to another. A Cancel is the release here, and an
-/// UndoAfter does nothing, as in `Memory::step`. An error is out of memory.
+/// One step of the definitions from an Image, whose state must be well placed, to another. A Cancel
+/// is the release here, and an UndoAfter does nothing, as in `Memory::step`. An error is out of
+/// memory.
 pub fn step_of_image(
     alloc: Global,
     image: &Image,
@@ -30,8 +31,12 @@ pub fn step_of_image(
 ) -> Result<ImageStep, AllocError>
     requires limits { IsLayout image.now.layout }
     requires placed { IsWellPlaced image.now.layout image.now.memory }
-    ensures image { IfOk result (λ s. s.image ≡ record { layout = image.now.layout; memory = (step image.now.layout image.now.memory serial cpu event.now).memory }) }
-    ensures reply { IfOk result (λ s. s.reply ≡ (step image.now.layout image.now.memory serial cpu event.now).reply) }
+    ensures image { IfOk result (λ s. s.image ≡ record {
+      layout = image.now.layout;
+      memory = (step image.now.layout image.now.memory serial cpu event.now).memory;
+    }) }
+    ensures reply { IfOk result
+        (λ s. s.reply ≡ (step image.now.layout image.now.memory serial cpu event.now).reply) }
 {
     let mut memory = Memory::from_image(alloc, image)?;
     step_into_image(alloc, &mut memory, serial, cpu, event)
@@ -45,8 +50,12 @@ fn step_into_image(
     cpu: Cpu,
     event: &Event,
 ) -> Result<ImageStep, AllocError>
-    ensures image { IfOk result (λ s. s.image ≡ record { layout = memory.old.layout; memory = (step memory.old.layout memory.old.state serial cpu event.now).memory }) }
-    ensures reply { IfOk result (λ s. s.reply ≡ (step memory.old.layout memory.old.state serial cpu event.now).reply) }
+    ensures image { IfOk result (λ s. s.image ≡ record {
+      layout = memory.old.layout;
+      memory = (step memory.old.layout memory.old.state serial cpu event.now).memory;
+    }) }
+    ensures reply { IfOk result
+        (λ s. s.reply ≡ (step memory.old.layout memory.old.state serial cpu event.now).reply) }
 {
     let mut tape = Tape::with_room(alloc, 0)?;
     let reply = memory.step(alloc, serial, cpu, event, &mut tape)?;

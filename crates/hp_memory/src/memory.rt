@@ -40,7 +40,8 @@ impl Model for Memory {
 impl Memory {
     /// The state at boot. An error is out of memory.
     pub fn boot(alloc: Global, layout: &Layout) -> Result<Memory, AllocError>
-        ensures { IfOk result (λ memory. memory ≡ record { layout = layout.now; state = boot_memory layout.now }) }
+        ensures { IfOk result
+            (λ memory. memory ≡ record { layout = layout.now; state = boot_memory layout.now }) }
     {
         let layers = Layers::boot(alloc, layout)?;
         Ok(Memory { layers })
@@ -50,7 +51,8 @@ impl Memory {
     pub fn from_image(alloc: Global, image: &Image) -> Result<Memory, AllocError>
         requires limits { IsLayout image.now.layout }
         requires placed { IsWellPlaced image.now.layout image.now.memory }
-        ensures { IfOk result (λ memory. memory ≡ record { layout = image.now.layout; state = image.now.memory }) }
+        ensures { IfOk result
+            (λ memory. memory ≡ record { layout = image.now.layout; state = image.now.memory }) }
     {
         let layers = Layers::from_image(alloc, image)?;
         Ok(Memory { layers })
@@ -58,7 +60,8 @@ impl Memory {
 
     /// The state, as an Image of its own. An error is out of memory.
     pub fn image(&self, alloc: Global) -> Result<Image, AllocError>
-        ensures { IfOk result (λ image. image ≡ record { layout = self.now.layout; memory = self.now.state }) }
+        ensures { IfOk result
+            (λ image. image ≡ record { layout = self.now.layout; memory = self.now.state }) }
     {
         self.layers.image(alloc)
     }
@@ -86,9 +89,9 @@ impl Memory {
         self.layers.blocks.is_live(op)
     }
 
-    /// One step of the definitions: what the step did to the layers is noted on the tape, after the deltas that are there. A
-    /// Cancel is the release here, and an UndoAfter does nothing. It takes its memory before it changes anything; an error is
-    /// out of memory.
+    /// One step of the definitions: what the step did to the layers is noted on the tape, after the
+    /// deltas that are there. A Cancel is the release here, and an UndoAfter does nothing. It takes
+    /// its memory before it changes anything; an error is out of memory.
     pub fn step(
         &mut self,
         alloc: Global,
@@ -97,9 +100,13 @@ impl Memory {
         event: &Event,
         tape: &mut Tape,
     ) -> Result<Reply, AllocError>
-        ensures state { OnOk result (self.new.state ≡ (step self.old.layout self.old.state serial cpu event.now).memory) }
-        ensures reply { IfOk result (λ reply. reply ≡ (step self.old.layout self.old.state serial cpu event.now).reply) }
-        ensures noted { OnOk result (AreNoted self.old.layout (delta_bound self.old.layout self.old.state event.now) tape.old.deltas tape.new.deltas (frame_view_of self.old.layout self.new.state) (frame_view_of self.old.layout self.old.state)) }
+        ensures state { OnOk result
+            (self.new.state ≡ (step self.old.layout self.old.state serial cpu event.now).memory) }
+        ensures reply { IfOk result
+            (λ reply. reply ≡ (step self.old.layout self.old.state serial cpu event.now).reply) }
+        ensures noted { OnOk result (AreNoted self.old.layout
+            (delta_bound self.old.layout self.old.state event.now) tape.old.deltas tape.new.deltas
+            (frame_view_of self.old.layout self.new.state) (frame_view_of self.old.layout self.old.state)) }
         ensures layout { self.new.layout ≡ self.old.layout }
         ensures err { OnErr result (self.new ≡ self.old) }
         ensures kept { OnErr result (tape.new ≡ tape.old) }
@@ -107,12 +114,14 @@ impl Memory {
         self.layers.step(alloc, serial, cpu, event, tape)
     }
 
-    /// Undoes the steps whose deltas stand on a tape after its first `mark`: does the opposites of those deltas, latest first,
-    /// and takes them off the tape. It takes no memory.
+    /// Undoes the steps whose deltas stand on a tape after its first `mark`: does the opposites of
+    /// those deltas, latest first, and takes them off the tape. It takes no memory.
     pub fn back(&mut self, tape: &mut Tape, mark: usize)
         requires mark { mark ≤ length tape.old.deltas }
-        requires leads { (s : State) × LeadsBack self.old.layout (drop mark tape.old.deltas) self.old.state s }
-        ensures state { (s : State) → LeadsBack self.old.layout (drop mark tape.old.deltas) self.old.state s → self.new.state ≡ s }
+        requires leads { (s : State)
+            × LeadsBack self.old.layout (drop mark tape.old.deltas) self.old.state s }
+        ensures state { (s : State) → LeadsBack self.old.layout (drop mark tape.old.deltas) self.old.state s
+            → self.new.state ≡ s }
         ensures tape { tape.new.deltas ≡ take mark tape.old.deltas }
         ensures room { tape.new.room ≡ tape.old.room }
         ensures layout { self.new.layout ≡ self.old.layout }

@@ -37,25 +37,38 @@ first_fails false b p = refl
 not_plus : (word : List ℕ) → is_bare word ≡ true → get_or word 0 0 ≡ 43 → ⊥
 not_plus word h e =
     let t : eqb (get_or word 0 0) 43 ≡ true = eq-eqb _ _ e in
-    let f : eqb (get_or word 0 0) 43 ≡ false = first_fails (eqb (get_or word 0 0) 43) (ltb (length word) 2 || not (eqb (get_or word 0 0) 48)) h in
+    let f : eqb (get_or word 0 0) 43 ≡ false =
+    first_fails (eqb (get_or word 0 0) 43) (ltb (length word) 2 || not (eqb (get_or word 0 0) 48)) h in
     cc
 
 -- a result by cases is the choice between them
-chosen : (b : Bool) (n : ℕ) (r : Option ℕ) → (b ≡ true → r ≡ Some n) → (b ≡ false → r ≡ None) → r ≡ cond b (Some n) None
+chosen : (b : Bool) (n : ℕ) (r : Option ℕ) → (b ≡ true → r ≡ Some n) → (b ≡ false → r ≡ None)
+    → r ≡ cond b (Some n) None
 chosen true n r p q = p refl
 chosen false n r p q = q refl
 
 -- what parsing digits gives is the number that they are
-gives : {E : Type 0} (bits : ℕ) (word : List ℕ) (r : Result ℕ E) → OkIff r ((all_ascii_digits word ≡ true) × (0 < length word) × (digits_value 10 word < 2 ^ bits)) (digits_value 10 word) → result_ok r ≡ digits_in bits word
+gives : {E : Type 0} (bits : ℕ) (word : List ℕ) (r : Result ℕ E)
+    → OkIff r ((all_ascii_digits word ≡ true) × (0 < length word) × (digits_value 10 word < 2 ^ bits))
+    (digits_value 10 word)
+    → result_ok r ≡ digits_in bits word
 unfolding digits_in
 gives bits word (Ok x) h =
-    let t : (is_digits word && ltb (digits_value 10 word) (2 ^ bits)) ≡ true = both _ _ (both _ _ h.0.0 (lt-ltb _ _ h.0.1)) (lt-ltb _ _ h.0.2) in
+    let t : (is_digits word && ltb (digits_value 10 word) (2 ^ bits)) ≡ true =
+    both _ _ (both _ _ h.0.0 (lt-ltb _ _ h.0.1)) (lt-ltb _ _ h.0.2) in
     rw (t, h.1) refl
 gives bits word (Err e) h =
-    chosen (is_digits word && ltb (digits_value 10 word) (2 ^ bits)) (digits_value 10 word) None (λ t. absurd (h (first_of_both _ _ (first_of_both _ _ t), ltb-true _ _ (second_of_both _ _ (first_of_both _ _ t)), ltb-true _ _ (second_of_both _ _ t)))) (λ _. refl)
+    chosen (is_digits word && ltb (digits_value 10 word) (2 ^ bits)) (digits_value 10 word) None
+    (λ t. absurd (h (
+      first_of_both _ _ (first_of_both _ _ t),
+      ltb-true _ _ (second_of_both _ _ (first_of_both _ _ t)),
+      ltb-true _ _ (second_of_both _ _ t),
+    )))
+    (λ _. refl)
 
 -- what parsing a bare word gives is the number that it is
-pub parsed : {E : Type 0} (bits : ℕ) (word : List ℕ) (r : Result ℕ E) → ParsesUnsigned bits 10 word r → is_bare word ≡ true → result_ok r ≡ number_of bits word
+pub parsed : {E : Type 0} (bits : ℕ) (word : List ℕ) (r : Result ℕ E) → ParsesUnsigned bits 10 word r
+    → is_bare word ≡ true → result_ok r ≡ number_of bits word
 unfolding number_of
 parsed bits word r h bare = rw bare (gives bits word r (parse_plain own bits word r h (not_plus word bare)))
 

@@ -14,7 +14,8 @@ is_digits word = all_ascii_digits word && nat_lt 0 (length word)
 
 -- the number that digits are, where it is below 2 ^ bits
 unfoldable pub digits_in : ℕ → List ℕ → Option ℕ
-digits_in bits word = if is_digits word && nat_lt (digits_value 10 word) (2 ^ bits) then Some (digits_value 10 word) else None
+digits_in bits word =
+    if is_digits word && nat_lt (digits_value 10 word) (2 ^ bits) then Some (digits_value 10 word) else None
 
 -- the number that a word is: digits with no leading zero, below 2 ^ bits
 unfoldable pub number_of : ℕ → List ℕ → Option ℕ
@@ -22,4 +23,6 @@ number_of bits word = if is_bare word then digits_in bits word else None
 
 -- a word is a number just where it is the number's decimal digits, and the number fits
 abbrev pub NumbersAreSpelled : Type 0
-NumbersAreSpelled = (bits : ℕ) (word : List ℕ) (n : ℕ) → bits ≤ 64 → (number_of bits word ≡ Some n) ↔ ((word ≡ decimal n) × (n < 2 ^ bits))
+NumbersAreSpelled =
+    (bits : ℕ) (word : List ℕ) (n : ℕ) → bits ≤ 64
+    → (number_of bits word ≡ Some n) ↔ ((word ≡ decimal n) × (n < 2 ^ bits))

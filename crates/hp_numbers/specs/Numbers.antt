@@ -1,4 +1,5 @@
--- What a number counts, in the signatures of the definitions: each is the number itself, and costs a proof nothing.
+-- What a number counts, in the signatures of the definitions: each is the number itself, and costs
+-- a proof nothing.
 use Rattle.std.specs.Prelude.{ℕ, ◌*◌, ◌/◌, ◌^◌}
 
 -- a page frame (Gorman, chapter 2), and the order of a block of 2^order frames (Knuth, volume 1, section 2.5)

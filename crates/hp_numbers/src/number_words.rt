@@ -9,7 +9,8 @@ fn is_bare(word: &str) -> bool
     !word.starts_with('+') && (word.len() < 2 || !word.starts_with('0'))
 }
 
-/// The number below 2^32 that a word is in decimal, with no sign and no leading zeros; None for any other word (own rule).
+/// The number below 2^32 that a word is in decimal, with no sign and no leading zeros; None for any
+/// other word (own rule).
 #[tactic(auto, using(crate::proofs::NumbersParsed::parsed, crate::proofs::NumbersParsed::refused))]
 pub fn number32(word: &str) -> Option<u32>
     ensures { result ≡ number_of 32 word.now }
@@ -20,7 +21,8 @@ pub fn number32(word: &str) -> Option<u32>
     word.parse::<u32>().ok()
 }
 
-/// The number below 2^64 that a word is in decimal, with no sign and no leading zeros; None for any other word (own rule).
+/// The number below 2^64 that a word is in decimal, with no sign and no leading zeros; None for any
+/// other word (own rule).
 #[tactic(auto, using(crate::proofs::NumbersParsed::parsed, crate::proofs::NumbersParsed::refused))]
 pub fn number64(word: &str) -> Option<u64>
     ensures { result ≡ number_of 64 word.now }

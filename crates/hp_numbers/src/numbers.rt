@@ -100,7 +100,8 @@ impl Model for Page {
     ghost inverse = { λ n. record { 0 = n } };
 }
 
-/// The serial of a record, counted from 1 and never used again. An operation is named by the serial of its Begin (own rule).
+/// The serial of a record, counted from 1 and never used again. An operation is named by the serial
+/// of its Begin (own rule).
 #[derive(Clone, Copy, Debug, PartialEq, Eq, PartialOrd, Ord, Hash)]
 pub struct Serial(pub u64);
 

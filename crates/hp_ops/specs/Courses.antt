@@ -42,17 +42,21 @@ is_work event = false
 
 -- the one receipt of an event and its reply
 abbrev pub IsAnswer : Event → Reply → List Receipt → Type 0
-IsAnswer event reply gained = (serial : ℕ) × (gained ≡ record { serial = serial; event = event; reply = reply } ∷ [])
+IsAnswer event reply gained =
+    (serial : ℕ) × (gained ≡ record { serial = serial; event = event; reply = reply } ∷ [])
 
 -- receipts that lead each run that stands at one event to another
-abbrev pub LeadsOn : (cpus op : ℕ) → (Course → Event) → (Course → Course) → (Course → Event) → List Receipt → Type 0
+abbrev pub LeadsOn : (cpus op : ℕ) → (Course → Event) → (Course → Course) → (Course → Event) → List Receipt
+    → Type 0
 LeadsOn cpus op from goes to gained =
-    (c : Course) (earlier : List Receipt) → StandsAt cpus op c (from c) earlier → StandsAt cpus op (goes c) (to (goes c)) (earlier ++ gained)
+    (c : Course) (earlier : List Receipt) → StandsAt cpus op c (from c) earlier
+    → StandsAt cpus op (goes c) (to (goes c)) (earlier ++ gained)
 
 -- receipts and a fault that end each run that stands at the event
 abbrev pub EndsRun : (cpus op : ℕ) → (Course → Event) → Option CallFault → OpEnd → List Receipt → Type 0
 EndsRun cpus op from fault end gained =
-    (c : Course) (earlier : List Receipt) → StandsAt cpus op c (from c) earlier → IsDriverRun cpus c.turns c.plan (earlier ++ gained) fault end
+    (c : Course) (earlier : List Receipt) → StandsAt cpus op c (from c) earlier
+    → IsDriverRun cpus c.turns c.plan (earlier ++ gained) fault end
 
 -- a run that has taken so many of its turns
 abbrev pub taken : List Item → (turns tries : ℕ) → Option Refusal → Course
@@ -68,24 +72,29 @@ spent plan turns why = taken plan turns turns why
 -- receipts that lead a fresh run so many turns on
 abbrev pub TurnsTaken : (cpus op turns tries : ℕ) → Option Refusal → List Receipt → Type 0
 TurnsTaken cpus op turns tries why gained =
-    (plan : List Item) (earlier : List Receipt) → StandsAt cpus op (fresh plan turns) (drain_of cpus op 0 (fresh plan turns)) earlier
-    → StandsAt cpus op (taken plan turns tries why) (turn_of op (taken plan turns tries why)) (earlier ++ gained)
+    (plan : List Item) (earlier : List Receipt)
+    → StandsAt cpus op (fresh plan turns) (drain_of cpus op 0 (fresh plan turns)) earlier
+    → StandsAt cpus op (taken plan turns tries why) (turn_of op (taken plan turns tries why))
+    (earlier ++ gained)
 
 -- receipts that lead a fresh run to its Cancel, and those that end one
 abbrev pub SpendsTurns : (cpus op turns : ℕ) → Option Refusal → List Receipt → Type 0
 SpendsTurns cpus op turns why gained =
-    (plan : List Item) (earlier : List Receipt) → StandsAt cpus op (fresh plan turns) (drain_of cpus op 0 (fresh plan turns)) earlier
+    (plan : List Item) (earlier : List Receipt)
+    → StandsAt cpus op (fresh plan turns) (drain_of cpus op 0 (fresh plan turns)) earlier
     → StandsAt cpus op (spent plan turns why) (Cancel op) (earlier ++ gained)
 
 abbrev pub EndsFreshRun : (cpus op turns : ℕ) → Option CallFault → OpEnd → List Receipt → Type 0
 EndsFreshRun cpus op turns fault end gained =
-    (plan : List Item) (earlier : List Receipt) → StandsAt cpus op (fresh plan turns) (drain_of cpus op 0 (fresh plan turns)) earlier
+    (plan : List Item) (earlier : List Receipt)
+    → StandsAt cpus op (fresh plan turns) (drain_of cpus op 0 (fresh plan turns)) earlier
     → IsDriverRun cpus turns plan (earlier ++ gained) fault end
 
 -- receipts that end a run at its Cancel
 abbrev pub EndsAtCancel : (cpus op : ℕ) → Option Refusal → Option CallFault → OpEnd → List Receipt → Type 0
 EndsAtCancel cpus op why fault end gained =
-    (c : Course) (earlier : List Receipt) → c.why ≡ why → StandsAt cpus op c (Cancel op) earlier → IsDriverRun cpus c.turns c.plan (earlier ++ gained) fault end
+    (c : Course) (earlier : List Receipt) → c.why ≡ why → StandsAt cpus op c (Cancel op) earlier
+    → IsDriverRun cpus c.turns c.plan (earlier ++ gained) fault end
 
 -- receipts of a turn: a page moved, or why none did, after which comes a round
 abbrev pub TakesTurn : (cpus op : ℕ) → Option Refusal → List Receipt → Type 0

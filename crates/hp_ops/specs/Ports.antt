@@ -3,7 +3,8 @@ use Rattle.std.specs.Prelude.{◌≡◌, ◌⊎◌, ℕ, ◌<◌, Bool, true, fa
 use Rattle.std.specs.List.{list_any}
 use Rattle.hp_ops.specs.Names.{Item, Event, Begin, DrainFor, Migrate, Commit, Cancel, Reply, Done, Moved, Opened, Restored, Released, Refused, Refusal, NoFrame, NoOp, NothingToMove, NotFree, Receipt, CallFault}
 
--- what a port shows: the receipts that it was given, oldest first, the fault of its last call, and how many processors there are
+-- what a port shows: the receipts that it was given, oldest first, the fault of its last call, and
+-- how many processors there are
 pub record PortValue : Type 0 where
   pub receipts : List Receipt
   pub fault : Option CallFault
@@ -29,7 +30,9 @@ IsBeginReply reply = ((op : ℕ) × (reply ≡ Opened op)) ⊎ ((refusal : Refus
 
 -- to the events of an operation that is live
 abbrev pub IsMigrateReply : Reply → Type 0
-IsMigrateReply reply = ((from : ℕ) × (to : ℕ) × (reply ≡ Moved from to)) ⊎ ((reply ≡ Refused NoFrame) ⊎ (reply ≡ Refused NothingToMove))
+IsMigrateReply reply =
+    ((from : ℕ) × (to : ℕ) × (reply ≡ Moved from to))
+    ⊎ ((reply ≡ Refused NoFrame) ⊎ (reply ≡ Refused NothingToMove))
 
 abbrev pub IsCommitReply : Reply → Type 0
 IsCommitReply reply = (reply ≡ Done) ⊎ ((frame : ℕ) × (reply ≡ Refused (NotFree frame)))
@@ -58,12 +61,16 @@ pub record IsGiven (old : PortValue) (event : Event) (r : Receipt) (new : PortVa
   pub known : has_opened old.receipts ≡ true → IsDriverReply old.cpus event r.reply
 
 -- calls that gave these receipts, and after them, where there is a fault, one more call, which left it
-abbrev pub AreMade : {S : Type 0} → (makes : S → List Receipt → S → Type 0) → (leaves : S → CallFault → S → Type 0) → S → List Receipt → Option CallFault → S → Type 0
+abbrev pub AreMade : {S : Type 0} → (makes : S → List Receipt → S → Type 0)
+    → (leaves : S → CallFault → S → Type 0) → S → List Receipt → Option CallFault → S → Type 0
 AreMade makes leaves old gained None new = makes old gained new
-AreMade {S} makes leaves old gained (Some fault) new = (last : S) × makes old gained last × leaves last fault new
+AreMade {S} makes leaves old gained (Some fault) new =
+    (last : S) × makes old gained last × leaves last fault new
 
 -- calls gave further receipts, of which P holds, and at most the last call left a fault
-pub record Gains {S : Type 0} (shows : S → PortValue) (makes : S → List Receipt → S → Type 0) (leaves : S → CallFault → S → Type 0) (old : S) (fault : Option CallFault) (new : S) (P : List Receipt → Type 0) : Type 0 where
+pub record Gains {S : Type 0} (shows : S → PortValue) (makes : S → List Receipt → S → Type 0)
+    (leaves : S → CallFault → S → Type 0) (old : S) (fault : Option CallFault) (new : S)
+    (P : List Receipt → Type 0) : Type 0 where
   pub gained : List Receipt
   pub value : shows new ≡ with_receipts (shows old) gained fault
   pub made : AreMade makes leaves old gained fault new

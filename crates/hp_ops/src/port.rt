@@ -22,17 +22,20 @@ pub trait Port {
     fn cpus(&self) -> u32
         ensures { result ≡ (shows self.now).cpus };
 
-    /// One call. It gives one receipt, of this event; or else a fault, which the port then shows, and no receipt.
+    /// One call. It gives one receipt, of this event; or else a fault, which the port then shows,
+    /// and no receipt.
     fn call(&mut self, alloc: Global, event: &Event) -> Result<Receipt, CallFault>
         ensures ok { IfOk result (λ receipt. IsGiven (shows self.old) event.now receipt (shows self.new)) }
-        ensures err { IfErr result (λ fault. shows self.new ≡ with_receipts (shows self.old) [] (Some fault)) }
+        ensures err { IfErr result
+            (λ fault. shows self.new ≡ with_receipts (shows self.old) [] (Some fault)) }
         ensures makes { IfOk result (λ receipt. makes self.old (receipt ∷ []) self.new) }
         ensures leaves { IfErr result (λ fault. leaves self.old fault self.new) };
 
     /// No call makes nothing.
     ghost nothing: { (p : Self) → makes p [] p };
 
-    /// Calls after calls that gave receipts. No law speaks of a call after a fault, so a caller that shows what its calls
-    /// make of every port makes none.
-    ghost joined: { (p q r : Self) (xs ys : List Receipt) → makes p xs q → makes q ys r → makes p (xs ++ ys) r };
+    /// Calls after calls that gave receipts. No law speaks of a call after a fault, so a caller
+    /// that shows what its calls make of every port makes none.
+    ghost joined: { (p q r : Self) (xs ys : List Receipt) → makes p xs q → makes q ys r
+        → makes p (xs ++ ys) r };
 }

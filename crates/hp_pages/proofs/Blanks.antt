@@ -23,7 +23,8 @@ rest-blank false rest e = absurd cc
 pub blank-zeros : (words : List ℕ) → is_blank words ≡ true → words ≡ replicate (length words) 0
 blank-zeros [] e = refl
 blank-zeros (w ∷ ws) e =
-    ap (λ (n : ℕ). n ∷ ws) (first-zero w (is_blank ws) e) ∙ ap (λ (xs : List ℕ). 0 ∷ xs) (blank-zeros ws (rest-blank (w == 0) (is_blank ws) e))
+    ap (λ (n : ℕ). n ∷ ws) (first-zero w (is_blank ws) e)
+    ∙ ap (λ (xs : List ℕ). 0 ∷ xs) (blank-zeros ws (rest-blank (w == 0) (is_blank ws) e))
 
 -- a zero that becomes 0
 pub set-zero : (n index : ℕ) → set {A = ℕ} (replicate n 0) index 0 ≡ replicate n 0
@@ -32,10 +33,12 @@ set-zero (suc n) zero = refl
 set-zero (suc n) (suc index) = ap (λ (xs : List ℕ). 0 ∷ xs) (set-zero n index)
 
 -- a word that is not 0
-pub set-some : (words : List ℕ) (index value : ℕ) → index < length words → (value ≡ 0 → ⊥) → is_blank (set words index value) ≡ false
+pub set-some : (words : List ℕ) (index value : ℕ) → index < length words → (value ≡ 0 → ⊥)
+    → is_blank (set words index value) ≡ false
 set-some [] index value within some = absurd (omega arith)
 set-some (w ∷ ws) zero value within some = ap (λ (b : Bool). b && is_blank ws) (ne_eqb value 0 some)
-set-some (w ∷ ws) (suc index) value within some = last (w == 0) (is_blank (set ws index value)) (set-some ws index value (omega arith) some)
+set-some (w ∷ ws) (suc index) value within some =
+    last (w == 0) (is_blank (set ws index value)) (set-some ws index value (omega arith) some)
   where
     last : (a b : Bool) → b ≡ false → (a && b) ≡ false
     last true b e = e
@@ -46,11 +49,13 @@ and-assoc : (a b c : Bool) → (a && (b && c)) ≡ ((a && b) && c)
 and-assoc true b c = refl
 and-assoc false b c = refl
 
-pub blank-beside : (words : List ℕ) (index : ℕ) → index < length words → is_blank (set words index 0) ≡ (is_blank (take index words) && is_blank (drop (suc index) words))
+pub blank-beside : (words : List ℕ) (index : ℕ) → index < length words
+    → is_blank (set words index 0) ≡ (is_blank (take index words) && is_blank (drop (suc index) words))
 blank-beside [] index within = absurd (omega arith)
 blank-beside (w ∷ ws) zero within = refl
 blank-beside (w ∷ ws) (suc index) within =
-    ap (λ (b : Bool). (w == 0) && b) (blank-beside ws index (omega arith)) ∙ and-assoc (w == 0) (is_blank (take index ws)) (is_blank (drop (suc index) ws))
+    ap (λ (b : Bool). (w == 0) && b) (blank-beside ws index (omega arith))
+    ∙ and-assoc (w == 0) (is_blank (take index ws)) (is_blank (drop (suc index) ws))
 
 -- ---- the buffer that words need
 
@@ -61,7 +66,8 @@ pub some-needed : (words : List ℕ) → is_blank words ≡ false → buffer_for
 some-needed words some = cond-false _ _ _ some
 
 -- the words are read off it
-pub buffer-words : (n : ℕ) (words : List ℕ) → length words ≡ n → unwrap_or (buffer_for words) (replicate n 0) ≡ words
+pub buffer-words : (n : ℕ) (words : List ℕ) → length words ≡ n
+    → unwrap_or (buffer_for words) (replicate n 0) ≡ words
 buffer-words n words size = elim (cases_Bool (is_blank words)) [
   | inl blank ↦ ap (λ (b : Option (List ℕ)). unwrap_or b (replicate n 0)) (none-needed words blank)
       ∙ (ap (λ (k : ℕ). replicate k 0) (sym size) ∙ sym (blank-zeros words blank))

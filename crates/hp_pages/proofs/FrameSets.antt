@@ -17,7 +17,8 @@ set_bit word at i is_in lt e = elim (cases_eq i at) [
 ]
 
 pub clear_bit : (word at i : ℕ) (is_in : Bool) → at < 64 → i < 64 → is_in ≡ false
-    → bit_at (bit_and word (bit_not w64 (1 * 2 ^ at % 2 ^ 64))) i ≡ cond (eqb i at) (bit_of is_in) (bit_at word i)
+    → bit_at (bit_and word (bit_not w64 (1 * 2 ^ at % 2 ^ 64))) i
+    ≡ cond (eqb i at) (bit_of is_in) (bit_at word i)
 clear_bit word at i is_in lt within e = elim (cases_eq i at) [
   | inl same ↦ rw (same, e, eq-eqb at at refl) (bit_at_clear_same w64 word at lt)
   | inr other ↦ rw (ne_eqb i at other) (bit_at_clear_other w64 word at lt i within other)
@@ -47,7 +48,9 @@ first_bit word from fits some =
     let zeros = trailing_zeros w64 rest in
     let small : rest < 2 ^ 64 = omega (arith, shr_le word from, fits) in
     let lowest = bit_at-trailing_zeros w64 rest some small in
-    let one : bit_at word (from + zeros) ≡ 1 = bit_up word from (from + zeros) (omega arith) ∙ ap (bit_at rest) (let e : from + zeros - from ≡ zeros = omega arith in e) ∙ lowest.1 in
+    let one : bit_at word (from + zeros) ≡ 1 =
+    bit_up word from (from + zeros) (omega arith)
+    ∙ ap (bit_at rest) (let e : from + zeros - from ≡ zeros = omega arith in e) ∙ lowest.1 in
     record {
       low = omega arith;
       high = first_bit_low word from (from + zeros) fits one;
@@ -56,7 +59,8 @@ first_bit word from fits some =
     }
 
 -- a number of a word's 64
-pub same_word : (at n : ℕ) → at ≤ n → n < at / 64 * 64 + 64 → (n / 64 ≡ at / 64) × (at % 64 ≤ n % 64) × (n % 64 < 64)
+pub same_word : (at n : ℕ) → at ≤ n → n < at / 64 * 64 + 64
+    → (n / 64 ≡ at / 64) × (at % 64 ≤ n % 64) × (n % 64 < 64)
 same_word at n low high = (omega arith, omega arith, omega arith)
 
 -- a word has no frame from one on
@@ -68,7 +72,8 @@ none_in_word words first at before none n low high = elim (cases_lt n at) [
   | inl less ↦ before n low less
   | inr more ↦
       let same = same_word at n more high in
-      subst (λ (k : ℕ). eqb (bit_at (get_or words k 0) (n % 64)) 1 ≡ false) (sym same.0) (none (n % 64) same.1 same.2)
+      subst (λ (k : ℕ). eqb (bit_at (get_or words k 0) (n % 64)) 1 ≡ false) (sym same.0)
+      (none (n % 64) same.1 same.2)
 ]
 
 -- no frame of the word is below its lowest
@@ -80,7 +85,8 @@ found_below words first at bit before lowest n low high = elim (cases_lt n at) [
   | inl less ↦ before n low less
   | inr more ↦
       let same = same_word at n more (omega (arith, lowest.high)) in
-      subst (λ (k : ℕ). eqb (bit_at (get_or words k 0) (n % 64)) 1 ≡ false) (sym same.0) (lowest.below (n % 64) same.1 (omega arith))
+      subst (λ (k : ℕ). eqb (bit_at (get_or words k 0) (n % 64)) 1 ≡ false) (sym same.0)
+      (lowest.below (n % 64) same.1 (omega arith))
 ]
 
 -- a word has its lowest frame from one on
@@ -101,7 +107,8 @@ found_in_word words first at bit from before lowest past within = record {
 -- ---- the lowest number of a range
 
 -- from the next number on
-next_lowest : (p : ℕ → Bool) (first count : ℕ) (found : Option ℕ) → p first ≡ false → FindsLowest p first (first + suc count) found → FindsLowest p (first + 1) (first + 1 + count) found
+next_lowest : (p : ℕ → Bool) (first count : ℕ) (found : Option ℕ) → p first ≡ false
+    → FindsLowest p first (first + suc count) found → FindsLowest p (first + 1) (first + 1 + count) found
 next_lowest p first count None not_here none = λ n low high. none n (omega arith) (omega arith)
 next_lowest p first count (Some found) not_here lowest = record {
   low = elim (cases_eq found first) [
@@ -114,18 +121,24 @@ next_lowest p first count (Some found) not_here lowest = record {
 }
 
 -- where the first number passes
-here_lowest : (p : ℕ → Bool) (first past : ℕ) (found : Option ℕ) → first < past → p first ≡ true → FindsLowest p first past found → found ≡ Some first
-here_lowest p first past None lt here none = absurd (let e : true ≡ false = sym here ∙ none first (omega arith) lt in cc)
+here_lowest : (p : ℕ → Bool) (first past : ℕ) (found : Option ℕ) → first < past → p first ≡ true
+    → FindsLowest p first past found → found ≡ Some first
+here_lowest p first past None lt here none =
+    absurd (let e : true ≡ false = sym here ∙ none first (omega arith) lt in cc)
 here_lowest p first past (Some found) lt here lowest = elim (cases_eq found first) [
   | inl same ↦ ap (λ n. Some n) same
-  | inr other ↦ absurd (let e : true ≡ false = sym here ∙ lowest.below first (omega arith) (omega (arith, lowest.low, other)) in cc)
+  | inr other ↦
+      absurd (let e : true ≡ false =
+      sym here ∙ lowest.below first (omega arith) (omega (arith, lowest.low, other)) in cc)
 ]
 
 -- the lowest number is what `find` finds
-pub found_is : (p : ℕ → Bool) (first count : ℕ) (found : Option ℕ) → FindsLowest p first (first + count) found → found ≡ find p (range_with_len first count)
+pub found_is : (p : ℕ → Bool) (first count : ℕ) (found : Option ℕ) → FindsLowest p first (first + count) found
+    → found ≡ find p (range_with_len first count)
 found_is p first zero None finds = refl
 found_is p first zero (Some found) finds = absurd (omega (arith, finds.low, finds.high))
 found_is p first (suc count) found finds = elim (cases_Bool (p first)) [
   | inl here ↦ rw here (here_lowest p first (first + suc count) found (omega arith) here finds)
-  | inr not_here ↦ rw not_here (found_is p (first + 1) count found (next_lowest p first count found not_here finds))
+  | inr not_here ↦
+      rw not_here (found_is p (first + 1) count found (next_lowest p first count found not_here finds))
 ]

@@ -1,34 +1,34 @@
 -- What the calls of the layer keep and note.
-use Rattle.std.proofs.Common.{◌≡◌, ℕ, ◌<◌, ◌+◌, Bool, true, false, List, [], ◌∷◌, ◌++◌, length, get_or, set, replicate, Option, Some, None, refl, sym, ap, ◌∙◌, subst, inl, inr, arith}
-use Rattle.std.specs.Prelude.{IfSome, option_map, slice_get, slice_index, unwrap_or}
-use Rattle.std.proofs.lemmas.Bool.{cases_Bool, cases_eq}
-use Rattle.std.proofs.lemmas.List.{get_or-set_same, get_or-set_other, length-replicate, length-set, set-set, set-get_or}
-use Rattle.std.proofs.lemmas.Option.{same_Some, slice_get-get_or}
+use Rattle.std.proofs.Common.{◌≡◌, ℕ, ◌<◌, ◌+◌, List, [], ◌∷◌, ◌++◌, length, get_or, set, Option, Some, None, refl, sym, ap, ◌∙◌, subst, inl, inr, arith}
+use Rattle.std.specs.Prelude.{IfSome}
+use Rattle.std.proofs.lemmas.Bool.{cases_eq}
+use Rattle.std.proofs.lemmas.List.{get_or-set_same, get_or-set_other, set-set, set-get_or}
 use Rattle.hp_units.specs.LayoutParts.{LayoutParts}
 use Rattle.hp_units.specs.Arithmetic.{IsFrame}
 use Rattle.hp_units.specs.Memory.{entry_of, with_entry}
-use Rattle.hp_units.specs.Pages.{fresh_words}
-use Rattle.hp_tape.specs.declared.deltas.Delta.TheVariants.{Map as MapDelta, Swap, Word as WordDelta, Filled, Emptied}
-use Rattle.hp_tape.specs.Deltas.{FitsPages, HasOneWord, IsOfPages, PageFrames, buffer_for, buffer_of, is_blank, pages_undo, with_buffer}
+use Rattle.hp_tape.specs.declared.deltas.Delta.TheVariants.{Map as MapDelta, Swap, Emptied}
+use Rattle.hp_tape.specs.Deltas.{FitsPages, IsOfPages, PageFrames, buffer_of, pages_undo, with_buffer}
 use Rattle.hp_tape.specs.Tapes.{TapeValue, NotesPages}
 use Rattle.hp_tape.proofs.Leads.{notes-none}
-use Rattle.hp_pages.specs.Pages.{ArePageFramesOf, AreSettled, IsNeeded, map_frame, move_entry, unmap_from, words_in, write_at}
+use Rattle.hp_pages.specs.Pages.{ArePageFramesOf, AreSettled, IsNeeded, map_frame, move_entry, unmap_from}
 use Rattle.hp_pages.specs.Places.{held, holders}
-use Rattle.hp_pages.proofs.Blanks.{none-needed, some-needed, set-some, set-zero, zeros-blank}
 use Rattle.hp_pages.proofs.Places.{IsIn, entry-back, entry-same, holders-entry, holds_some}
-use Rattle.hp_lemmas.proofs.Tables.{get_set}
 use Rattle.hp_pages.proofs.PageParts.{AreSized, has_none, held_no, held_yes, noted_one, noted_two, page_of, same_frames, swap_twice, swapped_a, swapped_b}
 
 -- ---- map
 
--- a buffer stays needed where its frame still holds one page, and where it comes to another frame that holds one
-needed_at : (v new : PageFrames) (f g : ℕ) (b : Option (List ℕ)) → (holders v.table f ≡ 1 → holders new.table g ≡ 1) → IfSome b (IsNeeded v f) → IfSome b (IsNeeded new g)
+-- a buffer stays needed where its frame still holds one page, and where it comes to another frame
+-- that holds one
+pub needed_at : (v new : PageFrames) (f g : ℕ) (b : Option (List ℕ))
+    → (holders v.table f ≡ 1 → holders new.table g ≡ 1) → IfSome b (IsNeeded v f) → IfSome b (IsNeeded new g)
 needed_at v new f g None one needed = tt
 needed_at v new f g (Some words) one needed = record { held = one needed.held; some = needed.some }
 
 -- what mapping a page notes
-pub notes-map : (l : LayoutParts) (v : PageFrames) (owner page frame : ℕ) (was now : TapeValue) → ArePageFramesOf l v → AreSettled v
-    → owner < l.owners → page < l.pages → IsFrame l frame → entry_of v.table owner page ≡ None → holders v.table frame ≡ 0
+pub notes-map : (l : LayoutParts) (v : PageFrames) (owner page frame : ℕ) (was now : TapeValue)
+    → ArePageFramesOf l v → AreSettled v
+    → owner < l.owners → page < l.pages → IsFrame l frame → entry_of v.table owner page ≡ None
+    → holders v.table frame ≡ 0
     → now.room ≡ was.room → now.deltas ≡ was.deltas ++ MapDelta owner page None (Some frame) ∷ []
     → NotesPages l 1 was now (map_frame v owner page frame) v
 notes-map l v owner page frame was now are settled in_owners in_pages in_frames unmapped free room noted =
@@ -46,7 +46,8 @@ notes-map l v owner page frame was now are settled in_owners in_pages in_frames 
     }
 
 -- how many pages each frame holds once a page is mapped
-map_counts : (v : PageFrames) (owner page frame : ℕ) → IsIn v.table owner page → entry_of v.table owner page ≡ None → (f : ℕ)
+map_counts : (v : PageFrames) (owner page frame : ℕ) → IsIn v.table owner page
+    → entry_of v.table owner page ≡ None → (f : ℕ)
     → holders (with_entry v.table owner page (Some frame)) f ≡ holders v.table f + held f (Some frame) 1
 map_counts v owner page frame is_in unmapped f =
     let e = holders-entry v.table owner page (Some frame) f is_in.in_owners is_in.in_pages in
@@ -54,7 +55,8 @@ map_counts v owner page frame is_in unmapped f =
     omega (arith, g)
 
 -- a view stays settled when a page is mapped
-pub settled-map : (l : LayoutParts) (v : PageFrames) (owner page frame : ℕ) → ArePageFramesOf l v → AreSettled v
+pub settled-map : (l : LayoutParts) (v : PageFrames) (owner page frame : ℕ) → ArePageFramesOf l v
+    → AreSettled v
     → owner < l.owners → page < l.pages → entry_of v.table owner page ≡ None → holders v.table frame ≡ 0
     → AreSettled (map_frame v owner page frame)
 settled-map l v owner page frame are settled in_owners in_pages unmapped free =
@@ -63,7 +65,8 @@ settled-map l v owner page frame are settled in_owners in_pages unmapped free =
     let new = map_frame v owner page frame in
     record {
       once = λ f. elim (cases_eq frame f) [
-        | inl same ↦ omega (arith, counts f, held_yes frame f same, subst (λ (n : ℕ). holders v.table n ≡ 0) same free)
+        | inl same ↦
+            omega (arith, counts f, held_yes frame f same, subst (λ (n : ℕ). holders v.table n ≡ 0) same free)
         | inr other ↦ omega (arith, counts f, held_no frame f other, settled.once f)
       ];
       buffers = λ f. needed_at v new f f (buffer_of v f) (λ one. elim (cases_eq frame f) [
@@ -76,19 +79,26 @@ settled-map l v owner page frame are settled in_owners in_pages unmapped free =
 
 -- a frame without a buffer, whose buffer is taken away
 pub kept-none : (v : PageFrames) (frame : ℕ) → buffer_of v frame ≡ None → with_buffer v frame None ≡ v
-kept-none v frame none = same_frames _ _ _ _ refl (ap (λ (b : Option (List ℕ)). set v.buffers frame b) (sym none) ∙ set-get_or v.buffers frame None)
+kept-none v frame none =
+    same_frames _ _ _ _ refl
+    (ap (λ (b : Option (List ℕ)). set v.buffers frame b) (sym none) ∙ set-get_or v.buffers frame None)
 
 -- what a call that changes nothing notes
-pub notes-nothing : (l : LayoutParts) (v new : PageFrames) (tape : TapeValue) → new ≡ v → NotesPages l 1 tape tape new v
+pub notes-nothing : (l : LayoutParts) (v new : PageFrames) (tape : TapeValue) → new ≡ v
+    → NotesPages l 1 tape tape new v
 notes-nothing l v new tape same =
-    subst (λ (w : PageFrames). NotesPages l 1 tape tape w v) (sym same) (notes-none IsOfPages FitsPages pages_undo l 1 tape v)
+    subst (λ (w : PageFrames). NotesPages l 1 tape tape w v) (sym same)
+    (notes-none IsOfPages FitsPages pages_undo l 1 tape v)
 
 -- what taking a buffer away notes
-pub notes-empty : (l : LayoutParts) (v : PageFrames) (frame : ℕ) (words : List ℕ) (was now : TapeValue) → AreSized l v
-    → IsFrame l frame → buffer_of v frame ≡ Some words → now.room ≡ was.room → now.deltas ≡ was.deltas ++ Emptied frame words ∷ []
+pub notes-empty : (l : LayoutParts) (v : PageFrames) (frame : ℕ) (words : List ℕ) (was now : TapeValue)
+    → AreSized l v
+    → IsFrame l frame → buffer_of v frame ≡ Some words → now.room ≡ was.room
+    → now.deltas ≡ was.deltas ++ Emptied frame words ∷ []
     → NotesPages l 1 was now (with_buffer v frame None) v
 notes-empty l v frame words was now are in_frames there room noted =
-    let len : length words ≡ l.words = subst (λ (b : Option (List ℕ)). IfSome b (λ ws. length ws ≡ l.words)) there (are.words frame) in
+    let len : length words ≡ l.words =
+    subst (λ (b : Option (List ℕ)). IfSome b (λ ws. length ws ≡ l.words)) there (are.words frame) in
     let within : frame < length v.buffers = omega (arith, are.frames, in_frames) in
     record {
       deltas = Emptied frame words ∷ [];
@@ -100,12 +110,14 @@ notes-empty l v frame words was now are in_frames there room noted =
         fit = (tt, get_or-set_same v.buffers frame None None within);
         back = same_frames _ _ _ _ refl
             (set-set v.buffers frame None (Some words)
-            ∙ (ap (λ (b : Option (List ℕ)). set v.buffers frame b) (sym there) ∙ set-get_or v.buffers frame None));
+            ∙ (ap (λ (b : Option (List ℕ)). set v.buffers frame b) (sym there)
+            ∙ set-get_or v.buffers frame None));
       };
     }
 
 -- what clearing an entry notes
-pub notes-clear : (l : LayoutParts) (v : PageFrames) (owner page frame : ℕ) (was now : TapeValue) → ArePageFramesOf l v
+pub notes-clear : (l : LayoutParts) (v : PageFrames) (owner page frame : ℕ) (was now : TapeValue)
+    → ArePageFramesOf l v
     → owner < l.owners → page < l.pages → IsFrame l frame → entry_of v.table owner page ≡ Some frame
     → now.room ≡ was.room → now.deltas ≡ was.deltas ++ MapDelta owner page (Some frame) None ∷ []
     → NotesPages l 1 was now (record v { table = with_entry v.table owner page None }) v
@@ -124,7 +136,8 @@ notes-clear l v owner page frame was now are in_owners in_pages in_frames mapped
     }
 
 -- how many pages each frame holds once a page is unmapped
-unmap_counts : (v : PageFrames) (owner page frame : ℕ) → IsIn v.table owner page → entry_of v.table owner page ≡ Some frame → (f : ℕ)
+unmap_counts : (v : PageFrames) (owner page frame : ℕ) → IsIn v.table owner page
+    → entry_of v.table owner page ≡ Some frame → (f : ℕ)
     → holders (with_entry v.table owner page None) f + held f (Some frame) 1 ≡ holders v.table f
 unmap_counts v owner page frame is_in mapped f =
     let e = holders-entry v.table owner page None f is_in.in_owners is_in.in_pages in
@@ -132,11 +145,14 @@ unmap_counts v owner page frame is_in mapped f =
     omega (arith, g)
 
 -- a view stays settled when a page is unmapped
-pub settled-unmap : (l : LayoutParts) (v : PageFrames) (owner page frame : ℕ) → ArePageFramesOf l v → AreSettled v
-    → owner < l.owners → page < l.pages → entry_of v.table owner page ≡ Some frame → AreSettled (unmap_from v owner page frame)
+pub settled-unmap : (l : LayoutParts) (v : PageFrames) (owner page frame : ℕ) → ArePageFramesOf l v
+    → AreSettled v
+    → owner < l.owners → page < l.pages → entry_of v.table owner page ≡ Some frame
+    → AreSettled (unmap_from v owner page frame)
 settled-unmap l v owner page frame are settled in_owners in_pages mapped =
     let is_in = page_of l v owner page are in_owners in_pages in
-    let in_frames : IsFrame l frame = subst (λ (entry : Option ℕ). IfSome entry (IsFrame l)) mapped (are.mapped owner page) in
+    let in_frames : IsFrame l frame =
+    subst (λ (entry : Option ℕ). IfSome entry (IsFrame l)) mapped (are.mapped owner page) in
     let within : frame < length v.buffers = omega (arith, are.frames, in_frames) in
     let counts = unmap_counts v owner page frame is_in mapped in
     let new = unmap_from v owner page frame in
@@ -145,161 +161,36 @@ settled-unmap l v owner page frame are settled in_owners in_pages mapped =
       buffers = λ f. elim (cases_eq frame f) [
         | inl same ↦
             let none : buffer_of new f ≡ None =
-            subst (λ (n : ℕ). get_or (set v.buffers frame None) n None ≡ None) same (get_or-set_same v.buffers frame None None within) in
+            subst (λ (n : ℕ). get_or (set v.buffers frame None) n None ≡ None) same
+            (get_or-set_same v.buffers frame None None within) in
             subst (λ (b : Option (List ℕ)). IfSome b (IsNeeded new f)) (sym none) tt
         | inr other ↦
-            subst (λ (b : Option (List ℕ)). IfSome b (IsNeeded new f)) (sym (get_or-set_other v.buffers frame f None None (λ e. other (sym e))))
-            (needed_at v new f f (buffer_of v f) (λ one. omega (arith, counts f, held_no frame f other, one)) (settled.buffers f))
-      ];
-    }
-
--- ---- write
-
--- what the first word that is not 0 does, and notes
-pub written-fill : (l : LayoutParts) (v : PageFrames) (frame index value : ℕ) → index < l.words → buffer_of v frame ≡ None → (value ≡ 0 → ⊥)
-    → with_buffer v frame (Some (set (fresh_words l) index value)) ≡ write_at l v frame index value
-written-fill l v frame index value in_words none some =
-    let fresh = replicate l.words 0 in
-    sym (ap (λ (b : Option (List ℕ)). with_buffer v frame (buffer_for (set (unwrap_or b fresh) index value))) none
-    ∙ ap (λ (b : Option (List ℕ)). with_buffer v frame b)
-    (some-needed (set fresh index value) (set-some fresh index value (let size = length-replicate {A = ℕ} l.words 0 in omega (arith, size, in_words)) some)))
-
-pub notes-fill : (l : LayoutParts) (v : PageFrames) (frame index value : ℕ) (was now : TapeValue) → AreSized l v
-    → IsFrame l frame → index < l.words → buffer_of v frame ≡ None
-    → now.room ≡ was.room → now.deltas ≡ was.deltas ++ Filled frame index value ∷ []
-    → NotesPages l 1 was now (with_buffer v frame (Some (set (fresh_words l) index value))) v
-notes-fill l v frame index value was now are in_frames in_words none room noted =
-    let within : frame < length v.buffers = omega (arith, are.frames, in_frames) in
-    let words = set (fresh_words l) index value in
-    let size : length words ≡ l.words = length-set (fresh_words l) index value ∙ length-replicate {A = ℕ} l.words 0 in
-    record {
-      deltas = Filled frame index value ∷ [];
-      tape = noted_one was now _ room noted;
-      few = omega arith;
-      own = (tt, tt);
-      numbers = ((in_frames, in_words), tt);
-      lead = record {
-        fit = (
-          tt,
-          subst (HasOneWord index value) (sym (get_or-set_same v.buffers frame (Some words) None within))
-              (ap (λ (n : ℕ). set (replicate n 0) index value) (sym size)),
-        );
-        back = same_frames _ _ _ _ refl
-            (set-set v.buffers frame (Some words) None ∙ (ap (λ (b : Option (List ℕ)). set v.buffers frame b) (sym none) ∙ set-get_or v.buffers frame None));
-      };
-    }
-
--- a word that stays 0 in a frame without a buffer
-pub written-none : (l : LayoutParts) (v : PageFrames) (frame index value : ℕ) → buffer_of v frame ≡ None → value ≡ 0 → v ≡ write_at l v frame index value
-written-none l v frame index value none zero =
-    let fresh = replicate l.words 0 in
-    sym (ap (λ (b : Option (List ℕ)). with_buffer v frame (buffer_for (set (unwrap_or b fresh) index value))) none
-    ∙ (ap (λ (n : ℕ). with_buffer v frame (buffer_for (set fresh index n))) zero
-    ∙ (ap (λ (b : Option (List ℕ)). with_buffer v frame b) (ap (λ (ws : List ℕ). buffer_for ws) (set-zero l.words index) ∙ none-needed fresh (zeros-blank l.words))
-    ∙ kept-none v frame none)))
-
--- the last word that is not 0 becomes 0
-pub written-blank : (l : LayoutParts) (v : PageFrames) (frame index value : ℕ) (words : List ℕ) → buffer_of v frame ≡ Some words → value ≡ 0
-    → is_blank (set words index 0) ≡ true → with_buffer v frame None ≡ write_at l v frame index value
-written-blank l v frame index value words there zero blank =
-    sym (ap (λ (b : Option (List ℕ)). with_buffer v frame (buffer_for (set (unwrap_or b (fresh_words l)) index value))) there
-    ∙ (ap (λ (n : ℕ). with_buffer v frame (buffer_for (set words index n))) zero
-    ∙ ap (λ (b : Option (List ℕ)). with_buffer v frame b) (none-needed (set words index 0) blank)))
-
--- any other word changes in its buffer
-pub written-word : (l : LayoutParts) (v : PageFrames) (frame index value : ℕ) (words : List ℕ) → buffer_of v frame ≡ Some words
-    → is_blank (set words index value) ≡ false → with_buffer v frame (option_map (λ ws. set ws index value) (buffer_of v frame)) ≡ write_at l v frame index value
-written-word l v frame index value words there some =
-    ap (λ (b : Option (List ℕ)). with_buffer v frame (option_map (λ ws. set ws index value) b)) there
-    ∙ sym (ap (λ (b : Option (List ℕ)). with_buffer v frame (buffer_for (set (unwrap_or b (fresh_words l)) index value))) there
-    ∙ ap (λ (b : Option (List ℕ)). with_buffer v frame b) (some-needed (set words index value) some))
-
--- some word is not 0 then
-pub left-some : (words : List ℕ) (index value : ℕ) (beside : Bool) → index < length words → beside ≡ is_blank (set words index 0) → (value ≡ 0 → beside ≡ false)
-    → is_blank (set words index value) ≡ false
-left-some words index value beside within is other = elim (cases_eq value 0) [
-  | inl zero ↦ ap (λ (n : ℕ). is_blank (set words index n)) zero ∙ (sym is ∙ other zero)
-  | inr some ↦ set-some words index value within some
-]
-
--- what changing a word in a buffer notes
-pub notes-word : (l : LayoutParts) (v : PageFrames) (frame index before value : ℕ) (words : List ℕ) (was now : TapeValue) → AreSized l v
-    → IsFrame l frame → index < l.words → buffer_of v frame ≡ Some words → before ≡ slice_index words index
-    → now.room ≡ was.room → now.deltas ≡ was.deltas ++ WordDelta frame index before value ∷ []
-    → NotesPages l 1 was now (with_buffer v frame (option_map (λ ws. set ws index value) (buffer_of v frame))) v
-notes-word l v frame index before value words was now are in_frames in_words there read room noted =
-    let len : length words ≡ l.words = subst (λ (b : Option (List ℕ)). IfSome b (λ ws. length ws ≡ l.words)) there (are.words frame) in
-    let within : frame < length v.buffers = omega (arith, are.frames, in_frames) in
-    let index_in : index < length words = omega (arith, len, in_words) in
-    let new : get_or (set v.buffers frame (option_map (λ ws. set ws index value) (buffer_of v frame))) frame None ≡ Some (set words index value) =
-    get_or-set_same v.buffers frame (option_map (λ ws. set ws index value) (buffer_of v frame)) None within ∙ ap (option_map (λ ws. set ws index value)) there in
-    record {
-      deltas = WordDelta frame index before value ∷ [];
-      tape = noted_one was now _ room noted;
-      few = omega arith;
-      own = (tt, tt);
-      numbers = ((in_frames, in_words), tt);
-      lead = record {
-        fit = (tt, ap (λ (b : Option (List ℕ)). slice_get (unwrap_or b []) index) new ∙ get_set words index value index_in);
-        back = same_frames _ _ _ _ refl
-            (ap (λ (b : Option (List ℕ)). set (set v.buffers frame (option_map (λ ws. set ws index value) (buffer_of v frame))) frame (option_map (λ ws. set ws index before) b)) new
-            ∙ (set-set v.buffers frame _ _
-            ∙ (ap (λ (ws : List ℕ). set v.buffers frame (Some ws)) (set-set words index value before ∙ (ap (λ (n : ℕ). set words index n) read ∙ set-get_or words index 0))
-            ∙ (ap (λ (b : Option (List ℕ)). set v.buffers frame b) (sym there) ∙ set-get_or v.buffers frame None))));
-      };
-    }
-
--- by what is read
-pub notes-changed : (l : LayoutParts) (v : PageFrames) (frame index before value : ℕ) (b : Option (List ℕ)) (was now : TapeValue) → AreSized l v
-    → IsFrame l frame → index < l.words → buffer_of v frame ≡ b → slice_get (unwrap_or b []) index ≡ Some before
-    → now.room ≡ was.room → now.deltas ≡ was.deltas ++ WordDelta frame index before value ∷ []
-    → NotesPages l 1 was now (with_buffer v frame (option_map (λ ws. set ws index value) (buffer_of v frame))) v
-notes-changed l v frame index before value None was now are in_frames in_words there read room noted = absurd cc
-notes-changed l v frame index before value (Some words) was now are in_frames in_words there read room noted =
-    let len : length words ≡ l.words = subst (λ (b : Option (List ℕ)). IfSome b (λ ws. length ws ≡ l.words)) there (are.words frame) in
-    notes-word l v frame index before value words was now are in_frames in_words there
-    (same_Some before (slice_index words index) (sym read ∙ slice_get-get_or words index 0 (omega (arith, len, in_words)))) room noted
-
--- a view stays settled when a word of a page is written
-needed_for : (v : PageFrames) (frame : ℕ) (words : List ℕ) → holders v.table frame ≡ 1 → IfSome (buffer_for words) (IsNeeded v frame)
-needed_for v frame words one = elim (cases_Bool (is_blank words)) [
-  | inl blank ↦ subst (λ (b : Option (List ℕ)). IfSome b (IsNeeded v frame)) (sym (none-needed words blank)) tt
-  | inr some ↦ subst (λ (b : Option (List ℕ)). IfSome b (IsNeeded v frame)) (sym (some-needed words some)) (record { held = one; some = some })
-]
-
-pub settled-write : (l : LayoutParts) (v : PageFrames) (owner page frame index value : ℕ) → ArePageFramesOf l v → AreSettled v → IsFrame l frame
-    → entry_of v.table owner page ≡ Some frame → AreSettled (write_at l v frame index value)
-settled-write l v owner page frame index value are settled in_frames mapped =
-    let within : frame < length v.buffers = omega (arith, are.frames, in_frames) in
-    let words = set (words_in l v frame) index value in
-    let new = write_at l v frame index value in
-    let one : holders v.table frame ≡ 1 = omega (arith, settled.once frame, holds_some v.table owner page frame mapped) in
-    record {
-      once = settled.once;
-      buffers = λ f. elim (cases_eq frame f) [
-        | inl same ↦ subst (λ (n : ℕ). IfSome (buffer_of new n) (IsNeeded new n)) same
-            (subst (λ (b : Option (List ℕ)). IfSome b (IsNeeded new frame)) (sym (get_or-set_same v.buffers frame (buffer_for words) None within)) (needed_for new frame words one))
-        | inr other ↦
-            subst (λ (b : Option (List ℕ)). IfSome b (IsNeeded new f)) (sym (get_or-set_other v.buffers frame f (buffer_for words) None (λ e. other (sym e))))
-            (needed_at v new f f (buffer_of v f) (λ one. one) (settled.buffers f))
+            subst (λ (b : Option (List ℕ)). IfSome b (IsNeeded new f))
+            (sym (get_or-set_other v.buffers frame f None None (λ e. other (sym e))))
+            (needed_at v new f f (buffer_of v f) (λ one. omega (arith, counts f, held_no frame f other, one))
+            (settled.buffers f))
       ];
     }
 
 -- ---- move
 
 -- a frame with a page is not one without
-apart_of : (v : PageFrames) (owner page from to : ℕ) → entry_of v.table owner page ≡ Some from → holders v.table to ≡ 0 → from ≡ to → ⊥
+apart_of : (v : PageFrames) (owner page from to : ℕ) → entry_of v.table owner page ≡ Some from
+    → holders v.table to ≡ 0 → from ≡ to → ⊥
 apart_of v owner page from to mapped free same =
     let none = subst (λ (n : ℕ). holders v.table n ≡ 0) (sym same) free in
     omega (arith, none, holds_some v.table owner page from mapped)
 
 -- what moving a page notes
-pub notes-move : (l : LayoutParts) (v : PageFrames) (owner page from to : ℕ) (was mid now : TapeValue) → ArePageFramesOf l v → AreSettled v
-    → IsFrame l from → IsFrame l to → entry_of v.table owner page ≡ Some from → holders v.table to ≡ 0 → owner < l.owners → page < l.pages
+pub notes-move : (l : LayoutParts) (v : PageFrames) (owner page from to : ℕ) (was mid now : TapeValue)
+    → ArePageFramesOf l v → AreSettled v
+    → IsFrame l from → IsFrame l to → entry_of v.table owner page ≡ Some from → holders v.table to ≡ 0
+    → owner < l.owners → page < l.pages
     → mid.room ≡ was.room → mid.deltas ≡ was.deltas ++ Swap from to ∷ []
     → now.room ≡ mid.room → now.deltas ≡ mid.deltas ++ MapDelta owner page (Some from) (Some to) ∷ []
     → NotesPages l 2 was now (move_entry v owner page from to) v
-notes-move l v owner page from to was mid now are settled from_in to_in mapped free in_owners in_pages mid_room mid_noted room noted =
+notes-move l v owner page from to was mid now are settled from_in to_in mapped free in_owners in_pages
+    mid_room mid_noted room noted =
     let is_in = page_of l v owner page are in_owners in_pages in
     let from_within : from < length v.buffers = omega (arith, are.frames, from_in) in
     let to_within : to < length v.buffers = omega (arith, are.frames, to_in) in
@@ -317,15 +208,19 @@ notes-move l v owner page from to was mid now are settled from_in to_in mapped f
     }
 
 -- how many pages each frame holds once a page has moved
-move_counts : (v : PageFrames) (owner page from to : ℕ) → IsIn v.table owner page → entry_of v.table owner page ≡ Some from → (f : ℕ)
-    → holders (with_entry v.table owner page (Some to)) f + held f (Some from) 1 ≡ holders v.table f + held f (Some to) 1
+move_counts : (v : PageFrames) (owner page from to : ℕ) → IsIn v.table owner page
+    → entry_of v.table owner page ≡ Some from → (f : ℕ)
+    → holders (with_entry v.table owner page (Some to)) f + held f (Some from) 1
+    ≡ holders v.table f + held f (Some to) 1
 move_counts v owner page from to is_in mapped f =
     let e = holders-entry v.table owner page (Some to) f is_in.in_owners is_in.in_pages in
     rw mapped at e
 
 -- a view stays settled when a page moves
-pub settled-move : (l : LayoutParts) (v : PageFrames) (owner page from to : ℕ) → ArePageFramesOf l v → AreSettled v
-    → IsFrame l from → IsFrame l to → entry_of v.table owner page ≡ Some from → holders v.table to ≡ 0 → owner < l.owners → page < l.pages
+pub settled-move : (l : LayoutParts) (v : PageFrames) (owner page from to : ℕ) → ArePageFramesOf l v
+    → AreSettled v
+    → IsFrame l from → IsFrame l to → entry_of v.table owner page ≡ Some from → holders v.table to ≡ 0
+    → owner < l.owners → page < l.pages
     → AreSettled (move_entry v owner page from to)
 settled-move l v owner page from to are settled from_in to_in mapped free in_owners in_pages =
     let is_in = page_of l v owner page are in_owners in_pages in
@@ -338,24 +233,35 @@ settled-move l v owner page from to are settled from_in to_in mapped free in_own
     let new = move_entry v owner page from to in
     record {
       once = λ f. elim (cases_eq to f) [
-        | inl same ↦ omega (arith, counts f, held_yes to f same, subst (λ (n : ℕ). holders v.table n ≡ 0) same free)
+        | inl same ↦
+            omega (arith, counts f, held_yes to f same, subst (λ (n : ℕ). holders v.table n ≡ 0) same free)
         | inr other ↦ omega (arith, counts f, held_no to f other, settled.once f)
       ];
       buffers = λ f. elim (cases_eq to f) [
         | inl same ↦
             let one : holders new.table f ≡ 1 =
-            omega (arith, counts f, held_yes to f same, held_no from f (λ e. apart (e ∙ sym same)), subst (λ (n : ℕ). holders v.table n ≡ 0) same free) in
+            omega (
+              arith,
+              counts f,
+              held_yes to f same,
+              held_no from f (λ e. apart (e ∙ sym same)),
+              subst (λ (n : ℕ). holders v.table n ≡ 0) same free,
+            ) in
             subst (λ (b : Option (List ℕ)). IfSome b (IsNeeded new f))
-            (sym (subst (λ (n : ℕ). get_or (set (set v.buffers from y) to x) n None ≡ x) same (swapped_b v.buffers from to x y to_within)))
+            (sym (subst (λ (n : ℕ). get_or (set (set v.buffers from y) to x) n None ≡ x) same
+            (swapped_b v.buffers from to x y to_within)))
             (needed_at v new from f x (λ _. one) (settled.buffers from))
         | inr other_to ↦ elim (cases_eq from f) [
           | inl same ↦
               subst (λ (b : Option (List ℕ)). IfSome b (IsNeeded new f))
-              (sym (subst (λ (n : ℕ). get_or (set (set v.buffers from y) to x) n None ≡ y) same (swapped_a v.buffers from to x y apart from_within) ∙ has_none v to settled free)) tt
+              (sym (subst (λ (n : ℕ). get_or (set (set v.buffers from y) to x) n None ≡ y) same
+              (swapped_a v.buffers from to x y apart from_within) ∙ has_none v to settled free)) tt
           | inr other_from ↦
               subst (λ (b : Option (List ℕ)). IfSome b (IsNeeded new f))
-              (sym (get_or-set_other (set v.buffers from y) to f x None (λ e. other_to (sym e)) ∙ get_or-set_other v.buffers from f y None (λ e. other_from (sym e))))
-              (needed_at v new f f (buffer_of v f) (λ one. omega (arith, counts f, held_no from f other_from, held_no to f other_to, one)) (settled.buffers f))
+              (sym (get_or-set_other (set v.buffers from y) to f x None (λ e. other_to (sym e))
+              ∙ get_or-set_other v.buffers from f y None (λ e. other_from (sym e))))
+              (needed_at v new f f (buffer_of v f) (λ one. omega
+              (arith, counts f, held_no from f other_from, held_no to f other_to, one)) (settled.buffers f))
         ]
       ];
     }

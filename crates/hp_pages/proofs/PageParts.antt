@@ -30,17 +30,22 @@ abbrev pub value_of : LayoutParts → List (List (Option ℕ)) → List (Option 
 value_of layout table buffers = value_with layout (view_of table buffers)
 
 -- two views with the same parts
-pub same_frames : (table other : List (List (Option ℕ))) (buffers others : List (Option (List ℕ))) → table ≡ other → buffers ≡ others
+pub same_frames : (table other : List (List (Option ℕ))) (buffers others : List (Option (List ℕ)))
+    → table ≡ other → buffers ≡ others
     → view_of table buffers ≡ view_of other others
 same_frames table other buffers others e f =
-    ap (λ (t : List (List (Option ℕ))). view_of t buffers) e ∙ ap (λ (b : List (Option (List ℕ))). view_of other b) f
+    ap (λ (t : List (List (Option ℕ))). view_of t buffers) e
+    ∙ ap (λ (b : List (Option (List ℕ))). view_of other b) f
 
 -- the numbers of a layer's parts
-pub are_of : (l : LayoutParts) (t : TableValue) (buffers : List (Option (List ℕ))) (zeros : List ℕ) → AreLayerOf l t buffers zeros → IsTable t → ArePageFramesOf l (view_of t.rows buffers)
+pub are_of : (l : LayoutParts) (t : TableValue) (buffers : List (Option (List ℕ))) (zeros : List ℕ)
+    → AreLayerOf l t buffers zeros → IsTable t → ArePageFramesOf l (view_of t.rows buffers)
 are_of l t buffers zeros layer table = record {
   owners = layer.owners;
   pages = subst (λ (n : ℕ). AllByRecursion (λ row. length row ≡ n) t.rows) layer.pages table.rows;
-  mapped = λ owner page. subst (λ (n : ℕ). IfSome (entry_of t.rows owner page) (λ frame. frame < n)) layer.frames (table.mapped owner page);
+  mapped =
+      λ owner page. subst (λ (n : ℕ). IfSome (entry_of t.rows owner page) (λ frame. frame < n)) layer.frames
+      (table.mapped owner page);
   frames = layer.buffers_of;
   words = layer.words;
 }
@@ -50,15 +55,19 @@ pub record AreSized (l : LayoutParts) (v : PageFrames) : Type 0 where
   pub frames : length v.buffers ≡ frame_count l
   pub words : (frame : ℕ) → IfSome (buffer_of v frame) (λ words. length words ≡ l.words)
 
-pub sized_of : (l : LayoutParts) (t : TableValue) (buffers : List (Option (List ℕ))) (zeros : List ℕ) → AreLayerOf l t buffers zeros → AreSized l (view_of t.rows buffers)
+pub sized_of : (l : LayoutParts) (t : TableValue) (buffers : List (Option (List ℕ))) (zeros : List ℕ)
+    → AreLayerOf l t buffers zeros → AreSized l (view_of t.rows buffers)
 sized_of l t buffers zeros layer = record { frames = layer.buffers_of; words = layer.words }
 
 -- a page of the layout
-pub page_of : (l : LayoutParts) (v : PageFrames) (owner page : ℕ) → ArePageFramesOf l v → owner < l.owners → page < l.pages → IsIn v.table owner page
-page_of l v owner page are in_owners in_pages = page_in l.pages v.table owner page are.pages (omega (arith, are.owners)) in_pages
+pub page_of : (l : LayoutParts) (v : PageFrames) (owner page : ℕ) → ArePageFramesOf l v → owner < l.owners
+    → page < l.pages → IsIn v.table owner page
+page_of l v owner page are in_owners in_pages =
+    page_in l.pages v.table owner page are.pages (omega (arith, are.owners)) in_pages
 
 -- a frame without a page has no buffer
-pub has_none : (v : PageFrames) (frame : ℕ) → AreSettled v → holders v.table frame ≡ 0 → buffer_of v frame ≡ None
+pub has_none : (v : PageFrames) (frame : ℕ) → AreSettled v → holders v.table frame ≡ 0
+    → buffer_of v frame ≡ None
 has_none v frame settled none = needless (buffer_of v frame) (settled.buffers frame)
   where
     needless : (b : Option (List ℕ)) → IfSome b (IsNeeded v frame) → b ≡ None
@@ -71,7 +80,8 @@ pub record IsFirstPage (l : LayoutParts) (v : PageFrames) (frame : ℕ) (page : 
   pub in_owners : page.0 < l.owners
   pub in_pages : page.1 < l.pages
 
-pub first_page : (l : LayoutParts) (v : PageFrames) (frame : ℕ) (page : ℕ × ℕ) → ArePageFramesOf l v → page_from 0 v.table frame ≡ Some page → IsFirstPage l v frame page
+pub first_page : (l : LayoutParts) (v : PageFrames) (frame : ℕ) (page : ℕ × ℕ) → ArePageFramesOf l v
+    → page_from 0 v.table frame ≡ Some page → IsFirstPage l v frame page
 first_page l v frame page are first =
     let is = page_from-Some 0 v.table frame page first in
     let row_is : is.row ≡ page.0 = omega (arith, is.owner_is) in
@@ -83,15 +93,19 @@ first_page l v frame page are first =
     }
 
 -- a tape by its parts, after one note and after two
-pub noted_one : (was now : TapeValue) (d : Delta) → now.room ≡ was.room → now.deltas ≡ was.deltas ++ d ∷ [] → now ≡ record { room = was.room; deltas = was.deltas ++ d ∷ [] }
+pub noted_one : (was now : TapeValue) (d : Delta) → now.room ≡ was.room → now.deltas ≡ was.deltas ++ d ∷ []
+    → now ≡ record { room = was.room; deltas = was.deltas ++ d ∷ [] }
 noted_one was now d room noted =
-    ap (λ (r : ℕ). record now { room = r }) room ∙ ap (λ (ds : List Delta). record { room = was.room; deltas = ds }) noted
+    ap (λ (r : ℕ). record now { room = r }) room
+    ∙ ap (λ (ds : List Delta). record { room = was.room; deltas = ds }) noted
 
-pub noted_two : (was mid now : TapeValue) (d e : Delta) → mid.room ≡ was.room → mid.deltas ≡ was.deltas ++ d ∷ [] → now.room ≡ mid.room → now.deltas ≡ mid.deltas ++ e ∷ []
+pub noted_two : (was mid now : TapeValue) (d e : Delta) → mid.room ≡ was.room
+    → mid.deltas ≡ was.deltas ++ d ∷ [] → now.room ≡ mid.room → now.deltas ≡ mid.deltas ++ e ∷ []
     → now ≡ record { room = was.room; deltas = was.deltas ++ (d ∷ e ∷ []) }
 noted_two was mid now d e mid_room mid_noted room noted =
     ap (λ (r : ℕ). record now { room = r }) (room ∙ mid_room)
-    ∙ ap (λ (ds : List Delta). record { room = was.room; deltas = ds }) (noted ∙ (ap (λ (ds : List Delta). ds ++ e ∷ []) mid_noted ∙ append_assoc was.deltas (d ∷ []) (e ∷ [])))
+    ∙ ap (λ (ds : List Delta). record { room = was.room; deltas = ds })
+    (noted ∙ (ap (λ (ds : List Delta). ds ++ e ∷ []) mid_noted ∙ append_assoc was.deltas (d ∷ []) (e ∷ [])))
 
 -- what an entry holds
 pub held_yes : (frame f : ℕ) → frame ≡ f → held f (Some frame) 1 ≡ 1
@@ -101,14 +115,19 @@ pub held_no : (frame f : ℕ) → (frame ≡ f → ⊥) → held f (Some frame) 
 held_no frame f ne = cond-false _ _ _ (ne_eqb frame f ne)
 
 -- two places of a list after a swap
-pub swapped_a : (buffers : List (Option (List ℕ))) (a b : ℕ) (x y : Option (List ℕ)) → (a ≡ b → ⊥) → a < length buffers → get_or (set (set buffers a y) b x) a None ≡ y
-swapped_a buffers a b x y apart a_in = get_or-set_other (set buffers a y) b a x None apart ∙ get_or-set_same buffers a y None a_in
+pub swapped_a : (buffers : List (Option (List ℕ))) (a b : ℕ) (x y : Option (List ℕ)) → (a ≡ b → ⊥)
+    → a < length buffers → get_or (set (set buffers a y) b x) a None ≡ y
+swapped_a buffers a b x y apart a_in =
+    get_or-set_other (set buffers a y) b a x None apart ∙ get_or-set_same buffers a y None a_in
 
-pub swapped_b : (buffers : List (Option (List ℕ))) (a b : ℕ) (x y : Option (List ℕ)) → b < length buffers → get_or (set (set buffers a y) b x) b None ≡ x
-swapped_b buffers a b x y b_in = get_or-set_same (set buffers a y) b x None (omega (arith, length-set buffers a y, b_in))
+pub swapped_b : (buffers : List (Option (List ℕ))) (a b : ℕ) (x y : Option (List ℕ)) → b < length buffers
+    → get_or (set (set buffers a y) b x) b None ≡ x
+swapped_b buffers a b x y b_in =
+    get_or-set_same (set buffers a y) b x None (omega (arith, length-set buffers a y, b_in))
 
 -- two swaps
-pub swap_twice : (buffers : List (Option (List ℕ))) (a b : ℕ) → (a ≡ b → ⊥) → a < length buffers → b < length buffers
+pub swap_twice : (buffers : List (Option (List ℕ))) (a b : ℕ) → (a ≡ b → ⊥) → a < length buffers
+    → b < length buffers
     → let once = set (set buffers a (get_or buffers b None)) b (get_or buffers a None) in
     set (set once a (get_or once b None)) b (get_or once a None) ≡ buffers
 swap_twice buffers a b apart a_in b_in =
@@ -125,21 +144,28 @@ swap_twice buffers a b apart a_in b_in =
 -- ---- no pages
 
 -- a list by a function that is always nothing
-pub map_none : {X : Type 0} (f : ℕ → Option X) → ((n : ℕ) → f n ≡ None) → (first count : ℕ) → map f (range_with_len first count) ≡ replicate count None
+pub map_none : {X : Type 0} (f : ℕ → Option X) → ((n : ℕ) → f n ≡ None) → (first count : ℕ)
+    → map f (range_with_len first count) ≡ replicate count None
 map_none f none first zero = refl
 map_none {X = X} f none first (suc count) =
-    ap (λ (x : Option X). x ∷ map f (range_with_len (first + 1) count)) (none first) ∙ ap (λ (xs : List (Option X)). None ∷ xs) (map_none f none (first + 1) count)
+    ap (λ (x : Option X). x ∷ map f (range_with_len (first + 1) count)) (none first)
+    ∙ ap (λ (xs : List (Option X)). None ∷ xs) (map_none f none (first + 1) count)
 
 -- the frame view of a layout without pages
 abbrev pub no_pages : LayoutParts → PageFrames
-no_pages l = record { table = replicate l.owners (replicate l.pages None); buffers = replicate (frame_count l) None }
+no_pages l =
+    record { table = replicate l.owners (replicate l.pages None); buffers = replicate (frame_count l) None }
 
 -- it is the frame view of no pages
 pub no_pages_is : (l : LayoutParts) → page_frames_of l (empty_pages l) ≡ no_pages l
 no_pages_is l =
-    ap (λ (b : List (Option (List ℕ))). record { table = replicate l.owners (replicate l.pages None); buffers = b })
-    (map_none (λ frame. option_and_then (λ page. option_and_then buffer_for (words_at (empty_pages l) page.0 page.1)) (page_at (empty_pages l) frame))
-    (λ frame. ap (option_and_then (λ page. option_and_then buffer_for (words_at (empty_pages l) page.0 page.1))) (empty_first l.owners l.pages frame)) 0 (frame_count l))
+    ap (λ (b : List (Option (List ℕ))).
+    record { table = replicate l.owners (replicate l.pages None); buffers = b })
+    (map_none (λ frame. option_and_then (λ page.
+    option_and_then buffer_for (words_at (empty_pages l) page.0 page.1)) (page_at (empty_pages l) frame))
+    (λ frame. ap
+    (option_and_then (λ page. option_and_then buffer_for (words_at (empty_pages l) page.0 page.1)))
+    (empty_first l.owners l.pages frame)) 0 (frame_count l))
 
 -- no buffer
 abbrev pub no_buffer : Option (List ℕ)
@@ -154,15 +180,24 @@ none_read (suc count) (suc frame) = none_read count frame
 -- and it is settled
 pub settled_no_pages : (l : LayoutParts) → AreSettled (no_pages l)
 settled_no_pages l = record {
-  once = λ frame. omega (arith, page_from-None 0 (replicate l.owners (replicate l.pages None)) frame (empty_first l.owners l.pages frame));
-  buffers = λ frame. subst (λ (b : Option (List ℕ)). IfSome b (IsNeeded (no_pages l) frame)) (sym (none_read (frame_count l) frame)) tt;
+  once =
+      λ frame. omega (
+        arith,
+        page_from-None 0 (replicate l.owners (replicate l.pages None)) frame
+            (empty_first l.owners l.pages frame),
+      );
+  buffers =
+      λ frame. subst (λ (b : Option (List ℕ)). IfSome b (IsNeeded (no_pages l) frame))
+      (sym (none_read (frame_count l) frame)) tt;
 }
 
 -- the new layer
-pub new_is : (l layout : LayoutParts) (rows : List (List (Option ℕ))) (buffers : List (Option (List ℕ))) → layout ≡ l
+pub new_is : (l layout : LayoutParts) (rows : List (List (Option ℕ))) (buffers : List (Option (List ℕ)))
+    → layout ≡ l
     → rows ≡ replicate l.owners (replicate l.pages None) → buffers ≡ replicate (frame_count l) None
     → value_of layout rows buffers ≡ record { layout = l; pages = page_frames_of l (empty_pages l) }
 new_is l layout rows buffers layout_is rows_are buffers_are =
     ap (λ (k : LayoutParts). value_of k rows buffers) layout_is
-    ∙ (ap (λ (v : PageFrames). value_with l v) (same_frames rows (replicate l.owners (replicate l.pages None)) buffers (replicate (frame_count l) None) rows_are buffers_are)
+    ∙ (ap (λ (v : PageFrames). value_with l v) (same_frames rows (replicate l.owners (replicate l.pages None))
+    buffers (replicate (frame_count l) None) rows_are buffers_are)
     ∙ ap (λ (v : PageFrames). value_with l v) (sym (no_pages_is l)))

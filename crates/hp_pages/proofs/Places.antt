@@ -25,44 +25,61 @@ is_held frame entry e = rw e (eq-eqb frame frame refl)
 -- ---- a changed entry
 
 -- the sum of a row after one entry changed
-pub row_sum-set : (base : ℕ) (row : List (Option ℕ)) (i place : ℕ) (x : Option ℕ) (f : ℕ) → i < length row → place ≡ base + i
+pub row_sum-set : (base : ℕ) (row : List (Option ℕ)) (i place : ℕ) (x : Option ℕ) (f : ℕ) → i < length row
+    → place ≡ base + i
     → row_sum base (set row i x) f + held f (get_or row i None) place ≡ row_sum base row f + held f x place
 row_sum-set base [] i place x f lt e = absurd (omega arith)
 row_sum-set base (y ∷ row) zero place x f lt e =
     let same : place ≡ base = omega arith in
-    rw same (let r = row_sum (base + 1) row f in let a = held f x base in let b = held f y base in let goal : a + r + b ≡ b + r + a = omega arith in goal)
+    rw same (let r = row_sum (base + 1) row f in let a = held f x base in let b = held f y
+    base in let goal : a + r + b ≡ b + r + a = omega arith in goal)
 row_sum-set base (y ∷ row) (suc i) place x f lt e =
     let step = row_sum-set (base + 1) row i place x f (omega arith) (omega arith) in
     omega (arith, step)
 
 -- the sum of a table after one row changed
-pub table_sum-set : (pages base : ℕ) (table : List (List (Option ℕ))) (owner place : ℕ) (row : List (Option ℕ)) (f : ℕ) → owner < length table
+pub table_sum-set : (pages base : ℕ) (table : List (List (Option ℕ))) (owner place : ℕ)
+    (row : List (Option ℕ)) (f : ℕ)
+    → owner < length table
     → place ≡ base + owner * pages
-    → table_sum pages base (set table owner row) f + row_sum place (get_or table owner []) f ≡ table_sum pages base table f + row_sum place row f
+    → table_sum pages base (set table owner row) f + row_sum place (get_or table owner []) f
+    ≡ table_sum pages base table f + row_sum place row f
 table_sum-set pages base [] owner place row f lt e = absurd (omega arith)
 table_sum-set pages base (first ∷ table) zero place row f lt e =
     let same : place ≡ base = omega arith in
-    rw same (let r = table_sum pages (base + pages) table f in let a = row_sum base row f in let b = row_sum base first f in let goal : a + r + b ≡ b + r + a = omega arith in goal)
+    rw same (let r = table_sum pages (base + pages) table f in let a = row_sum base row f in let b = row_sum
+    base first f in let goal : a + r + b ≡ b + r + a = omega arith in goal)
 table_sum-set pages base (first ∷ table) (suc owner) place row f lt e =
-    let step = table_sum-set pages (base + pages) table owner place row f (omega arith) (omega (arith, suc-mul owner pages, e)) in
+    let step =
+    table_sum-set pages (base + pages) table owner place row f (omega arith)
+    (omega (arith, suc-mul owner pages, e)) in
     omega (arith, step)
 
 -- the sum of a table after one entry changed
-pub table_sum-entry : (pages : ℕ) (table : List (List (Option ℕ))) (owner page : ℕ) (x : Option ℕ) (f : ℕ) → owner < length table → page < length (get_or table owner [])
-    → table_sum pages 1 (with_entry table owner page x) f + held f (entry_of table owner page) (place_of pages owner page)
+pub table_sum-entry : (pages : ℕ) (table : List (List (Option ℕ))) (owner page : ℕ) (x : Option ℕ) (f : ℕ)
+    → owner < length table → page < length (get_or table owner [])
+    → table_sum pages 1 (with_entry table owner page x) f
+    + held f (entry_of table owner page) (place_of pages owner page)
     ≡ table_sum pages 1 table f + held f x (place_of pages owner page)
 table_sum-entry pages table owner page x f in_owners in_pages =
     let base = 1 + owner * pages in
-    let whole = table_sum-set pages 1 table owner base (set (get_or table owner []) page x) f in_owners refl in
+    let whole =
+    table_sum-set pages 1 table owner base (set (get_or table owner []) page x) f in_owners refl in
     let part = row_sum-set base (get_or table owner []) page (place_of pages owner page) x f in_pages refl in
     omega (arith, whole, part)
 
 -- how many pages a frame holds after one entry changed
-pub holders-entry : (table : List (List (Option ℕ))) (owner page : ℕ) (x : Option ℕ) (f : ℕ) → owner < length table → page < length (get_or table owner [])
-    → holders (with_entry table owner page x) f + held f (entry_of table owner page) 1 ≡ holders table f + held f x 1
+pub holders-entry : (table : List (List (Option ℕ))) (owner page : ℕ) (x : Option ℕ) (f : ℕ)
+    → owner < length table → page < length (get_or table owner [])
+    → holders (with_entry table owner page x) f + held f (entry_of table owner page) 1
+    ≡ holders table f + held f x 1
 holders-entry table owner page x f in_owners in_pages =
-    let whole = sum_by-set (λ (row : List (Option ℕ)). count_by (holds f) row) table owner (set (get_or table owner []) page x) [] in_owners in
-    let part = sum_by-set (λ (entry : Option ℕ). cond (holds f entry) 1 0) (get_or table owner []) page x None in_pages in
+    let whole =
+    sum_by-set (λ (row : List (Option ℕ)). count_by (holds f) row) table owner
+    (set (get_or table owner []) page x) [] in_owners in
+    let part =
+    sum_by-set (λ (entry : Option ℕ). cond (holds f entry) 1 0) (get_or table owner []) page x None
+    in_pages in
     omega (arith, whole, part)
 
 -- ---- a frame that holds no page
@@ -70,7 +87,8 @@ holders-entry table owner page x f in_owners in_pages =
 row_none : (base : ℕ) (row : List (Option ℕ)) (f : ℕ) → count_by (holds f) row ≡ 0 → row_sum base row f ≡ 0
 row_none base [] f none = refl
 row_none base (entry ∷ row) f none =
-    let whole : cond (holds f entry) 1 0 + count_by (holds f) row ≡ 0 = sym (sum_by-cons (λ (e : Option ℕ). cond (holds f e) 1 0) entry row) ∙ none in
+    let whole : cond (holds f entry) 1 0 + count_by (holds f) row ≡ 0 =
+    sym (sum_by-cons (λ (e : Option ℕ). cond (holds f e) 1 0) entry row) ∙ none in
     let rest = row_none (base + 1) row f (omega (arith, whole)) in
     elim (cases_Bool (holds f entry)) [
       | inl is ↦ absurd (omega (arith, rw is at whole))
@@ -78,16 +96,23 @@ row_none base (entry ∷ row) f none =
     ]
 
 -- the sum of a frame that holds none
-pub sum_none : (pages base : ℕ) (table : List (List (Option ℕ))) (f : ℕ) → holders table f ≡ 0 → table_sum pages base table f ≡ 0
+pub sum_none : (pages base : ℕ) (table : List (List (Option ℕ))) (f : ℕ) → holders table f ≡ 0
+    → table_sum pages base table f ≡ 0
 sum_none pages base [] f none = refl
 sum_none pages base (row ∷ table) f none =
-    let whole : count_by (holds f) row + holders table f ≡ 0 = sym (sum_by-cons (λ (r : List (Option ℕ)). count_by (holds f) r) row table) ∙ none in
-    omega (arith, row_none base row f (omega (arith, whole)), sum_none pages (base + pages) table f (omega (arith, whole)))
+    let whole : count_by (holds f) row + holders table f ≡ 0 =
+    sym (sum_by-cons (λ (r : List (Option ℕ)). count_by (holds f) r) row table) ∙ none in
+    omega (
+      arith,
+      row_none base row f (omega (arith, whole)),
+      sum_none pages (base + pages) table f (omega (arith, whole)),
+    )
 
 -- ---- the first page of a frame
 
 -- no place of a row is the frame
-row_free : (f : ℕ) (row : List (Option ℕ)) → ((k : ℕ) → k < length row → holds f (get_or row k None) ≡ false) → count_by (holds f) row ≡ 0
+row_free : (f : ℕ) (row : List (Option ℕ)) → ((k : ℕ) → k < length row → holds f (get_or row k None) ≡ false)
+    → count_by (holds f) row ≡ 0
 row_free f [] none = refl
 row_free f (entry ∷ row) none =
     let here : holds f entry ≡ false = none 0 (omega arith) in
@@ -97,7 +122,9 @@ row_free f (entry ∷ row) none =
 -- `position` finds none
 no_position : (f : ℕ) (row : List (Option ℕ)) → position (holds f) row ≡ None → count_by (holds f) row ≡ 0
 no_position f row none = elim (cases_lt (position_or_len (holds f) row) (length row)) [
-  | inl within ↦ absurd (let e : Some (position_or_len (holds f) row) ≡ None = sym (cond-true _ _ _ (lt-ltb _ _ within)) ∙ none in cc)
+  | inl within ↦
+      absurd (let e : Some (position_or_len (holds f) row) ≡ None =
+      sym (cond-true _ _ _ (lt-ltb _ _ within)) ∙ none in cc)
   | inr past ↦ row_free f row (λ k lt. fails_before_first (holds f) row k None (omega arith))
 ]
 
@@ -110,9 +137,12 @@ pub record IsPageFrom (owner : ℕ) (table : List (List (Option ℕ))) (f : ℕ)
   pub entry : get_or (get_or table row []) found.1 None ≡ Some f
 
 -- by the first place of its first row
-from_row : (owner : ℕ) (row : List (Option ℕ)) (table : List (List (Option ℕ))) (f : ℕ) (found : ℕ × ℕ) (at : Option ℕ) → position (holds f) row ≡ at
+from_row : (owner : ℕ) (row : List (Option ℕ)) (table : List (List (Option ℕ))) (f : ℕ) (found : ℕ × ℕ)
+    (at : Option ℕ)
+    → position (holds f) row ≡ at
     → (page_from (owner + 1) table f ≡ Some found → IsPageFrom (owner + 1) table f found)
-    → option_or (option_map (λ page. (owner, page)) at) (page_from (owner + 1) table f) ≡ Some found → IsPageFrom owner (row ∷ table) f found
+    → option_or (option_map (λ page. (owner, page)) at) (page_from (owner + 1) table f) ≡ Some found
+    → IsPageFrom owner (row ∷ table) f found
 from_row owner row table f found (Some page) first rest e =
     let here = position-Some (holds f) row page None first in
     let same : (owner, page) ≡ found = cc in
@@ -133,23 +163,30 @@ from_row owner row table f found None first rest e =
     }
 
 -- what the first page of a frame is
-pub page_from-Some : (owner : ℕ) (table : List (List (Option ℕ))) (f : ℕ) (found : ℕ × ℕ) → page_from owner table f ≡ Some found → IsPageFrom owner table f found
+pub page_from-Some : (owner : ℕ) (table : List (List (Option ℕ))) (f : ℕ) (found : ℕ × ℕ)
+    → page_from owner table f ≡ Some found → IsPageFrom owner table f found
 page_from-Some owner [] f found e = cc
 page_from-Some owner (row ∷ table) f found e =
-    from_row owner row table f found (position (holds f) row) refl (page_from-Some (owner + 1) table f found) e
+    from_row owner row table f found (position (holds f) row) refl (page_from-Some (owner + 1) table f found)
+    e
 
 -- by the first place of its first row
-none_row : (owner : ℕ) (row : List (Option ℕ)) (table : List (List (Option ℕ))) (f : ℕ) (at : Option ℕ) → position (holds f) row ≡ at
+none_row : (owner : ℕ) (row : List (Option ℕ)) (table : List (List (Option ℕ))) (f : ℕ) (at : Option ℕ)
+    → position (holds f) row ≡ at
     → (page_from (owner + 1) table f ≡ None → holders table f ≡ 0)
-    → option_or (option_map (λ page. (owner, page)) at) (page_from (owner + 1) table f) ≡ None → holders (row ∷ table) f ≡ 0
+    → option_or (option_map (λ page. (owner, page)) at) (page_from (owner + 1) table f) ≡ None
+    → holders (row ∷ table) f ≡ 0
 none_row owner row table f (Some page) first rest e = cc
 none_row owner row table f None first rest e =
-    sum_by-cons (λ (r : List (Option ℕ)). count_by (holds f) r) row table ∙ omega (arith, no_position f row first, rest e)
+    sum_by-cons (λ (r : List (Option ℕ)). count_by (holds f) r) row table
+    ∙ omega (arith, no_position f row first, rest e)
 
 -- a frame with no first page holds none
-pub page_from-None : (owner : ℕ) (table : List (List (Option ℕ))) (f : ℕ) → page_from owner table f ≡ None → holders table f ≡ 0
+pub page_from-None : (owner : ℕ) (table : List (List (Option ℕ))) (f : ℕ) → page_from owner table f ≡ None
+    → holders table f ≡ 0
 page_from-None owner [] f e = refl
-page_from-None owner (row ∷ table) f e = none_row owner row table f (position (holds f) row) refl (page_from-None (owner + 1) table f) e
+page_from-None owner (row ∷ table) f e =
+    none_row owner row table f (position (holds f) row) refl (page_from-None (owner + 1) table f) e
 
 -- ---- entries
 
@@ -158,47 +195,64 @@ pub record IsIn {A : Type 0} (table : List (List (Option A))) (owner page : ℕ)
   pub in_owners : owner < length table
   pub in_pages : page < length (get_or table owner [])
 
-pub entry_in : {A : Type 0} (table : List (List (Option A))) (owner page : ℕ) (x : A) → entry_of table owner page ≡ Some x → IsIn table owner page
+pub entry_in : {A : Type 0} (table : List (List (Option A))) (owner page : ℕ) (x : A)
+    → entry_of table owner page ≡ Some x → IsIn table owner page
 entry_in {A = A} table owner page x e = record {
   in_owners = elim (cases_lt owner (length table)) [
     | inl within ↦ within
-    | inr past ↦ absurd (let n : None ≡ Some x = sym (ap (λ (row : List (Option A)). get_or row page None) (get_or_past table owner [] past)) ∙ e in cc)
+    | inr past ↦
+        absurd (let n : None ≡ Some x = sym
+        (ap (λ (row : List (Option A)). get_or row page None) (get_or_past table owner [] past)) ∙ e in cc)
   ];
   in_pages = elim (cases_lt page (length (get_or table owner []))) [
     | inl within ↦ within
-    | inr past ↦ absurd (let n : None ≡ Some x = sym (get_or_past (get_or table owner []) page None past) ∙ e in cc)
+    | inr past ↦
+        absurd (let n : None ≡ Some x = sym (get_or_past (get_or table owner []) page None past) ∙ e in cc)
   ];
 }
 
 -- a changed entry, and the others
-pub entry-same : {A : Type 0} (table : List (List (Option A))) (owner page : ℕ) (x : Option A) → IsIn table owner page → entry_of (with_entry table owner page x) owner page ≡ x
+pub entry-same : {A : Type 0} (table : List (List (Option A))) (owner page : ℕ) (x : Option A)
+    → IsIn table owner page → entry_of (with_entry table owner page x) owner page ≡ x
 entry-same {A = A} table owner page x is_in =
-    ap (λ (row : List (Option A)). get_or row page None) (get_or-set_same table owner (set (get_or table owner []) page x) [] is_in.in_owners)
+    ap (λ (row : List (Option A)). get_or row page None)
+    (get_or-set_same table owner (set (get_or table owner []) page x) [] is_in.in_owners)
     ∙ get_or-set_same (get_or table owner []) page x None is_in.in_pages
 
-pub entry-other : {A : Type 0} (table : List (List (Option A))) (owner page : ℕ) (x : Option A) (other_owner other_page : ℕ) → IsIn table owner page
-    → (other_owner ≡ owner → other_page ≡ page → ⊥) → entry_of (with_entry table owner page x) other_owner other_page ≡ entry_of table other_owner other_page
-entry-other {A = A} table owner page x other_owner other_page is_in apart = elim (cases_eq other_owner owner) [
-  | inl same ↦ rw same (
-      ap (λ (row : List (Option A)). get_or row other_page None) (get_or-set_same table owner (set (get_or table owner []) page x) [] is_in.in_owners)
-      ∙ get_or-set_other (get_or table owner []) page other_page x None (apart same))
-  | inr other ↦ ap (λ (row : List (Option A)). get_or row other_page None) (get_or-set_other table owner other_owner (set (get_or table owner []) page x) [] other)
-]
+pub entry-other : {A : Type 0} (table : List (List (Option A))) (owner page : ℕ) (x : Option A)
+    (other_owner other_page : ℕ)
+    → IsIn table owner page
+    → (other_owner ≡ owner → other_page ≡ page → ⊥)
+    → entry_of (with_entry table owner page x) other_owner other_page ≡ entry_of table other_owner other_page
+entry-other {A = A} table owner page x other_owner other_page is_in apart =
+    elim (cases_eq other_owner owner) [
+      | inl same ↦ rw same (
+          ap (λ (row : List (Option A)). get_or row other_page None)
+          (get_or-set_same table owner (set (get_or table owner []) page x) [] is_in.in_owners)
+          ∙ get_or-set_other (get_or table owner []) page other_page x None (apart same))
+      | inr other ↦
+          ap (λ (row : List (Option A)). get_or row other_page None)
+          (get_or-set_other table owner other_owner (set (get_or table owner []) page x) [] other)
+    ]
 
 -- an entry that is set back
-pub entry-back : {A : Type 0} (table : List (List (Option A))) (owner page : ℕ) (x was : Option A) → IsIn table owner page → entry_of table owner page ≡ was
+pub entry-back : {A : Type 0} (table : List (List (Option A))) (owner page : ℕ) (x was : Option A)
+    → IsIn table owner page → entry_of table owner page ≡ was
     → with_entry (with_entry table owner page x) owner page was ≡ table
 entry-back {A = A} table owner page x was is_in e =
     let row = get_or table owner [] in
-    ap (λ (r : List (Option A)). set (set table owner (set row page x)) owner (set r page was)) (get_or-set_same table owner (set row page x) [] is_in.in_owners)
+    ap (λ (r : List (Option A)). set (set table owner (set row page x)) owner (set r page was))
+    (get_or-set_same table owner (set row page x) [] is_in.in_owners)
     ∙ (set-set table owner (set row page x) (set (set row page x) page was)
-    ∙ (ap (λ (r : List (Option A)). set table owner r) (set-set row page x was ∙ (ap (λ (y : Option A). set row page y) (sym e) ∙ set-get_or row page None))
+    ∙ (ap (λ (r : List (Option A)). set table owner r)
+    (set-set row page x was ∙ (ap (λ (y : Option A). set row page y) (sym e) ∙ set-get_or row page None))
     ∙ set-get_or table owner []))
 
 -- ---- frames that hold at most one page
 
 -- a frame of an entry holds a page
-pub holds_some : (table : List (List (Option ℕ))) (owner page f : ℕ) → entry_of table owner page ≡ Some f → 1 ≤ holders table f
+pub holds_some : (table : List (List (Option ℕ))) (owner page f : ℕ) → entry_of table owner page ≡ Some f
+    → 1 ≤ holders table f
 holds_some table owner page f e =
     let is_in = entry_in table owner page f e in
     let cleared = holders-entry table owner page None f is_in.in_owners is_in.in_pages in
@@ -206,40 +260,51 @@ holds_some table owner page f e =
     omega (arith, one)
 
 -- two pages of one frame are one
-same_page : (table : List (List (Option ℕ))) (owner page f : ℕ) (row other : ℕ) → holders table f ≤ 1 → entry_of table owner page ≡ Some f → entry_of table row other ≡ Some f
+same_page : (table : List (List (Option ℕ))) (owner page f : ℕ) (row other : ℕ) → holders table f ≤ 1
+    → entry_of table owner page ≡ Some f → entry_of table row other ≡ Some f
     → (row ≡ owner → other ≡ page → ⊥) → ⊥
 same_page table owner page f row other once e also apart =
     let is_in = entry_in table owner page f e in
     let cleared = holders-entry table owner page None f is_in.in_owners is_in.in_pages in
     let one = rw (is_held f (entry_of table owner page) e) at cleared in
-    let more = holds_some (with_entry table owner page None) row other f (entry-other table owner page None row other is_in apart ∙ also) in
+    let more =
+    holds_some (with_entry table owner page None) row other f
+    (entry-other table owner page None row other is_in apart ∙ also) in
     omega (arith, one, more)
 
-only_of : (table : List (List (Option ℕ))) (owner page f : ℕ) (found : Option (ℕ × ℕ)) → holders table f ≤ 1 → entry_of table owner page ≡ Some f → page_from 0 table f ≡ found
+only_of : (table : List (List (Option ℕ))) (owner page f : ℕ) (found : Option (ℕ × ℕ)) → holders table f ≤ 1
+    → entry_of table owner page ≡ Some f → page_from 0 table f ≡ found
     → found ≡ Some (owner, page)
-only_of table owner page f None once e first = absurd (omega (arith, page_from-None 0 table f first, holds_some table owner page f e))
+only_of table owner page f None once e first =
+    absurd (omega (arith, page_from-None 0 table f first, holds_some table owner page f e))
 only_of table owner page f (Some found) once e first =
     let is = page_from-Some 0 table f found first in
     let row_is : is.row ≡ found.0 = omega (arith, is.owner_is) in
-    let entry : entry_of table found.0 found.1 ≡ Some f = subst (λ (o : ℕ). entry_of table o found.1 ≡ Some f) row_is is.entry in
-    let apart : (found.0 ≡ owner → found.1 ≡ page → ⊥) → ⊥ = same_page table owner page f found.0 found.1 once e entry in
+    let entry : entry_of table found.0 found.1 ≡ Some f =
+    subst (λ (o : ℕ). entry_of table o found.1 ≡ Some f) row_is is.entry in
+    let apart : (found.0 ≡ owner → found.1 ≡ page → ⊥) → ⊥ =
+    same_page table owner page f found.0 found.1 once e entry in
     elim (cases_eq found.0 owner) [
       | inl same ↦ elim (cases_eq found.1 page) [
-        | inl also ↦ ap (λ (p : ℕ × ℕ). Some p) (ap (λ (o : ℕ). (o, found.1)) same ∙ ap (λ (p : ℕ). (owner, p)) also)
+        | inl also ↦
+            ap (λ (p : ℕ × ℕ). Some p) (ap (λ (o : ℕ). (o, found.1)) same ∙ ap (λ (p : ℕ). (owner, p)) also)
         | inr other ↦ absurd (apart (λ a b. other b))
       ]
       | inr other ↦ absurd (apart (λ a b. other a))
     ]
 
 -- a page of a frame that holds no other is its first page
-pub only_page : (table : List (List (Option ℕ))) (owner page f : ℕ) → holders table f ≤ 1 → entry_of table owner page ≡ Some f → page_from 0 table f ≡ Some (owner, page)
+pub only_page : (table : List (List (Option ℕ))) (owner page f : ℕ) → holders table f ≤ 1
+    → entry_of table owner page ≡ Some f → page_from 0 table f ≡ Some (owner, page)
 only_page table owner page f once e = only_of table owner page f (page_from 0 table f) once e refl
 
 -- ---- what the sum of a frame tells
 
 -- without one of its pages
-pub sum_without : (pages : ℕ) (table : List (List (Option ℕ))) (owner page f : ℕ) → entry_of table owner page ≡ Some f
-    → table_sum pages 1 (with_entry table owner page None) f + place_of pages owner page ≡ table_sum pages 1 table f
+pub sum_without : (pages : ℕ) (table : List (List (Option ℕ))) (owner page f : ℕ)
+    → entry_of table owner page ≡ Some f
+    → table_sum pages 1 (with_entry table owner page None) f + place_of pages owner page
+    ≡ table_sum pages 1 table f
 sum_without pages table owner page f e =
     let is_in = entry_in table owner page f e in
     let cleared = table_sum-entry pages table owner page None f is_in.in_owners is_in.in_pages in
@@ -247,7 +312,8 @@ sum_without pages table owner page f e =
     omega (arith, one)
 
 -- the sum of a frame that holds one page is its place
-pub sum_one : (pages : ℕ) (table : List (List (Option ℕ))) (owner page f : ℕ) → holders table f ≤ 1 → entry_of table owner page ≡ Some f
+pub sum_one : (pages : ℕ) (table : List (List (Option ℕ))) (owner page f : ℕ) → holders table f ≤ 1
+    → entry_of table owner page ≡ Some f
     → table_sum pages 1 table f ≡ place_of pages owner page
 sum_one pages table owner page f once e =
     let is_in = entry_in table owner page f e in
@@ -257,26 +323,32 @@ sum_one pages table owner page f once e =
     omega (arith, rest, sum_without pages table owner page f e)
 
 -- the sum is 0 exactly where the frame holds none
-marks_of : (pages : ℕ) (table : List (List (Option ℕ))) (f : ℕ) (found : Option (ℕ × ℕ)) → page_from 0 table f ≡ found
+marks_of : (pages : ℕ) (table : List (List (Option ℕ))) (f : ℕ) (found : Option (ℕ × ℕ))
+    → page_from 0 table f ≡ found
     → ltb 0 (table_sum pages 1 table f) ≡ is_some found
-marks_of pages table f None first = le-ltb 0 _ (omega (arith, sum_none pages 1 table f (page_from-None 0 table f first)))
+marks_of pages table f None first =
+    le-ltb 0 _ (omega (arith, sum_none pages 1 table f (page_from-None 0 table f first)))
 marks_of pages table f (Some found) first =
     let is = page_from-Some 0 table f found first in
     lt-ltb 0 _ (omega (arith, sum_without pages table is.row found.1 f is.entry))
 
-pub sum_marks : (pages : ℕ) (table : List (List (Option ℕ))) (f : ℕ) → ltb 0 (table_sum pages 1 table f) ≡ is_some (page_from 0 table f)
+pub sum_marks : (pages : ℕ) (table : List (List (Option ℕ))) (f : ℕ)
+    → ltb 0 (table_sum pages 1 table f) ≡ is_some (page_from 0 table f)
 sum_marks pages table f = marks_of pages table f (page_from 0 table f) refl
 
 -- ---- how great a sum may be
 
-row_sum-le : (base most : ℕ) (row : List (Option ℕ)) (f : ℕ) → base + length row ≤ most → row_sum base row f ≤ length row * most
+row_sum-le : (base most : ℕ) (row : List (Option ℕ)) (f : ℕ) → base + length row ≤ most
+    → row_sum base row f ≤ length row * most
 row_sum-le base most [] f le = omega arith
 row_sum-le base most (entry ∷ row) f le =
     let rest = row_sum-le (base + 1) most row f (omega arith) in
-    let here : held f entry base ≤ base = elim (cases_Bool (holds f entry)) [ inl is ↦ rw is (omega arith) | inr isnt ↦ rw isnt (omega arith) ] in
+    let here : held f entry base ≤ base =
+    elim (cases_Bool (holds f entry)) [ inl is ↦ rw is (omega arith) | inr isnt ↦ rw isnt (omega arith) ] in
     omega (arith, rest, here, suc-mul (length row) most)
 
-pub table_sum-le : (pages base most : ℕ) (table : List (List (Option ℕ))) (f : ℕ) → AllByRecursion (λ row. length row ≡ pages) table
+pub table_sum-le : (pages base most : ℕ) (table : List (List (Option ℕ))) (f : ℕ)
+    → AllByRecursion (λ row. length row ≡ pages) table
     → base + length table * pages ≤ most → table_sum pages base table f ≤ length table * (pages * most)
 table_sum-le pages base most [] f all le = omega arith
 table_sum-le pages base most (row ∷ table) f all le =

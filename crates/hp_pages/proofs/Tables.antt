@@ -22,19 +22,23 @@ abbrev no_frame : Option ℕ
 no_frame = None
 
 -- each row of a table
-pub row_length : {A : Type 0} (pages : ℕ) (rows : List (List A)) (owner : ℕ) → AllByRecursion (λ row. length row ≡ pages) rows → owner < length rows → length (get_or rows owner []) ≡ pages
+pub row_length : {A : Type 0} (pages : ℕ) (rows : List (List A)) (owner : ℕ)
+    → AllByRecursion (λ row. length row ≡ pages) rows → owner < length rows
+    → length (get_or rows owner []) ≡ pages
 row_length pages [] owner all lt = absurd (omega arith)
 row_length pages (row ∷ rows) zero all lt = all.0
 row_length pages (row ∷ rows) (suc owner) all lt = row_length pages rows owner all.1 (omega arith)
 
-pub row_set : {A : Type 0} (pages : ℕ) (rows : List (List A)) (owner : ℕ) (row : List A) → AllByRecursion (λ row. length row ≡ pages) rows → length row ≡ pages
+pub row_set : {A : Type 0} (pages : ℕ) (rows : List (List A)) (owner : ℕ) (row : List A)
+    → AllByRecursion (λ row. length row ≡ pages) rows → length row ≡ pages
     → AllByRecursion (λ row. length row ≡ pages) (set rows owner row)
 row_set pages [] owner row all e = tt
 row_set pages (first ∷ rows) zero row all e = (e, all.1)
 row_set pages (first ∷ rows) (suc owner) row all e = (all.0, row_set pages rows owner row all.1 e)
 
 -- a page that is in the table
-pub page_in : {A : Type 0} (pages : ℕ) (rows : List (List (Option A))) (owner page : ℕ) → AllByRecursion (λ row. length row ≡ pages) rows → owner < length rows → page < pages
+pub page_in : {A : Type 0} (pages : ℕ) (rows : List (List (Option A))) (owner page : ℕ)
+    → AllByRecursion (λ row. length row ≡ pages) rows → owner < length rows → page < pages
     → IsIn rows owner page
 page_in pages rows owner page all in_owners in_pages = record {
   in_owners = in_owners;
@@ -43,7 +47,8 @@ page_in pages rows owner page all in_owners in_pages = record {
 
 -- ---- the lowest frame
 
-finds_same : (p q : ℕ → Bool) (first past : ℕ) (found : Option ℕ) → ((n : ℕ) → n < past → p n ≡ q n) → FindsLowest p first past found → FindsLowest q first past found
+finds_same : (p q : ℕ → Bool) (first past : ℕ) (found : Option ℕ) → ((n : ℕ) → n < past → p n ≡ q n)
+    → FindsLowest p first past found → FindsLowest q first past found
 finds_same p q first past None same none = λ n low high. sym (same n high) ∙ none n low high
 finds_same p q first past (Some found) same lowest = record {
   low = lowest.low;
@@ -53,11 +58,14 @@ finds_same p q first past (Some found) same lowest = record {
 }
 
 -- by the sums, and by the table
-pub lowest_of : (t : TableValue) (sums : List ℕ) (first count : ℕ) (found : Option ℕ) → AreSumsOf t sums → first + count ≤ t.frames
-    → FindsLowest (λ frame. ltb 0 (get_or sums frame 0)) first (first + count) found → found ≡ find (λ frame. is_some (page_from 0 t.rows frame)) (range_with_len first count)
+pub lowest_of : (t : TableValue) (sums : List ℕ) (first count : ℕ) (found : Option ℕ) → AreSumsOf t sums
+    → first + count ≤ t.frames
+    → FindsLowest (λ frame. ltb 0 (get_or sums frame 0)) first (first + count) found
+    → found ≡ find (λ frame. is_some (page_from 0 t.rows frame)) (range_with_len first count)
 lowest_of t sums first count found are le finds =
     let p : ℕ → Bool = λ frame. is_some (page_from 0 t.rows frame) in
-    found_is p first count found (finds_same (λ frame. ltb 0 (get_or sums frame 0)) p first (first + count) found
+    found_is p first count found
+    (finds_same (λ frame. ltb 0 (get_or sums frame 0)) p first (first + count) found
     (λ n high. ap (ltb 0) (are.each n (omega arith)) ∙ sum_marks t.pages t.rows n) finds)
 
 -- ---- the page of a frame
@@ -67,9 +75,11 @@ none_of None e = refl
 none_of (Some x) e = cc
 
 -- a sum of 0
-pub page_none : (t : TableValue) (sums : List ℕ) (frame : ℕ) → AreSumsOf t sums → frame < t.frames → get_or sums frame 0 ≡ 0 → None ≡ page_from 0 t.rows frame
+pub page_none : (t : TableValue) (sums : List ℕ) (frame : ℕ) → AreSumsOf t sums → frame < t.frames
+    → get_or sums frame 0 ≡ 0 → None ≡ page_from 0 t.rows frame
 page_none t sums frame are lt none =
-    none_of (page_from 0 t.rows frame) (sym (sum_marks t.pages t.rows frame) ∙ le-ltb 0 _ (omega (arith, are.each frame lt, none)))
+    none_of (page_from 0 t.rows frame)
+    (sym (sum_marks t.pages t.rows frame) ∙ le-ltb 0 _ (omega (arith, are.each frame lt, none)))
 
 -- the page that a sum tells
 pub record IsPageOf (t : TableValue) (sum frame : ℕ) : Type 0 where
@@ -80,9 +90,12 @@ pub record IsPageOf (t : TableValue) (sum frame : ℕ) : Type 0 where
   pub page_is : (sum - 1) % t.pages ≡ page
   pub small : owner < 64
 
-page_of_found : (t : TableValue) (sums : List ℕ) (frame : ℕ) (found : Option (ℕ × ℕ)) → AreSumsOf t sums → frame < t.frames → holders t.rows frame ≤ 1
-    → (get_or sums frame 0 ≡ 0 → ⊥) → page_from 0 t.rows frame ≡ found → IsPageOf t (get_or sums frame 0) frame
-page_of_found t sums frame None are lt once some first = absurd (some (are.each frame lt ∙ sum_none t.pages 1 t.rows frame (page_from-None 0 t.rows frame first)))
+page_of_found : (t : TableValue) (sums : List ℕ) (frame : ℕ) (found : Option (ℕ × ℕ)) → AreSumsOf t sums
+    → frame < t.frames → holders t.rows frame ≤ 1
+    → (get_or sums frame 0 ≡ 0 → ⊥) → page_from 0 t.rows frame ≡ found
+    → IsPageOf t (get_or sums frame 0) frame
+page_of_found t sums frame None are lt once some first =
+    absurd (some (are.each frame lt ∙ sum_none t.pages 1 t.rows frame (page_from-None 0 t.rows frame first)))
 page_of_found t sums frame (Some found) are lt once some first =
     let is = page_from-Some 0 t.rows frame found first in
     let length_is = row_length t.pages t.rows is.row are.table.rows is.in_owners in
@@ -93,18 +106,25 @@ page_of_found t sums frame (Some found) are lt once some first =
       owner = found.0;
       page = found.1;
       first = first;
-      owner_is = ap (λ n. n / t.pages) sum_is ∙ (div-mul-add is.row t.pages found.1 in_row ∙ omega (arith, is.owner_is));
+      owner_is =
+          ap (λ n. n / t.pages) sum_is
+          ∙ (div-mul-add is.row t.pages found.1 in_row ∙ omega (arith, is.owner_is));
       page_is = ap (λ n. n % t.pages) sum_is ∙ mod-mul-add is.row t.pages found.1 in_row;
       small = omega (arith, is.owner_is, is.in_owners, are.table.owners);
     }
 
-pub page_of_sum : (t : TableValue) (sums : List ℕ) (frame : ℕ) → AreSumsOf t sums → frame < t.frames → holders t.rows frame ≤ 1
+pub page_of_sum : (t : TableValue) (sums : List ℕ) (frame : ℕ) → AreSumsOf t sums → frame < t.frames
+    → holders t.rows frame ≤ 1
     → (get_or sums frame 0 ≡ 0 → ⊥) → IsPageOf t (get_or sums frame 0) frame
-page_of_sum t sums frame are lt once some = page_of_found t sums frame (page_from 0 t.rows frame) are lt once some refl
+page_of_sum t sums frame are lt once some =
+    page_of_found t sums frame (page_from 0 t.rows frame) are lt once some refl
 
 -- as the code works it out
-pub page_told : (t : TableValue) (sums : List ℕ) (frame sum : ℕ) → AreSumsOf t sums → frame < t.frames → holders t.rows frame ≤ 1 → sum ≡ get_or sums frame 0
-    → (sum ≡ 0 → ⊥) → (Some ((sum - 1) / t.pages, (sum - 1) % t.pages) ≡ page_from 0 t.rows frame) × ((sum - 1) / t.pages < 64)
+pub page_told : (t : TableValue) (sums : List ℕ) (frame sum : ℕ) → AreSumsOf t sums → frame < t.frames
+    → holders t.rows frame ≤ 1 → sum ≡ get_or sums frame 0
+    → (sum ≡ 0 → ⊥)
+    → (Some ((sum - 1) / t.pages, (sum - 1) % t.pages) ≡ page_from 0 t.rows frame)
+    × ((sum - 1) / t.pages < 64)
 page_told t sums frame sum are lt once e some =
     let told = page_of_sum t sums frame are lt once (λ none. some (e ∙ none)) in
     rw e (rw (told.owner_is, told.page_is) (sym told.first, told.small))
@@ -112,7 +132,8 @@ page_told t sums frame sum are lt once e some =
 -- ---- a changed entry
 
 -- the place may be taken from the sum of the entry's frame
-leave_at : (t : TableValue) (sums : List ℕ) (owner page : ℕ) (was : Option ℕ) → AreSumsOf t sums → t.frames ≡ length sums → IfSome was (λ frame. frame < t.frames)
+leave_at : (t : TableValue) (sums : List ℕ) (owner page : ℕ) (was : Option ℕ) → AreSumsOf t sums
+    → t.frames ≡ length sums → IfSome was (λ frame. frame < t.frames)
     → entry_of t.rows owner page ≡ was → IfSome was (CanLeave sums (place_of t.pages owner page))
 leave_at t sums owner page None are frames in_frames e = tt
 leave_at t sums owner page (Some frame) are frames in_frames e = record {
@@ -122,49 +143,62 @@ leave_at t sums owner page (Some frame) are frames in_frames e = record {
 
 pub can_leave : (t : TableValue) (sums : List ℕ) (owner page : ℕ) → AreSumsOf t sums → t.frames ≡ length sums
     → IfSome (entry_of t.rows owner page) (CanLeave sums (place_of t.pages owner page))
-can_leave t sums owner page are frames = leave_at t sums owner page (entry_of t.rows owner page) are frames (are.table.mapped owner page) refl
+can_leave t sums owner page are frames =
+    leave_at t sums owner page (entry_of t.rows owner page) are frames (are.table.mapped owner page) refl
 
 -- the sums after a frame left, and after one joined
-left_sum : (sums : List ℕ) (was : Option ℕ) (place f : ℕ) → IfSome was (CanLeave sums place) → get_or (left sums was place) f 0 + held f was place ≡ get_or sums f 0
+left_sum : (sums : List ℕ) (was : Option ℕ) (place f : ℕ) → IfSome was (CanLeave sums place)
+    → get_or (left sums was place) f 0 + held f was place ≡ get_or sums f 0
 left_sum sums None place f can = omega arith
 left_sum sums (Some frame) place f can = elim (cases_eq frame f) [
   | inl same ↦ rw (same, eq-eqb f f refl) (
       let lt : f < length sums = omega (arith, can.frame_in) in
       let le : place ≤ get_or sums f 0 = subst (λ (n : ℕ). place ≤ get_or sums n 0) same can.among in
       rw (get_or-set_same sums f (get_or sums f 0 - place) 0 lt) (omega arith))
-  | inr other ↦ rw (ne_eqb frame f other) (omega (arith, get_or-set_other sums frame f (get_or sums frame 0 - place) 0 (λ e. other (sym e))))
+  | inr other ↦
+      rw (ne_eqb frame f other)
+      (omega (arith, get_or-set_other sums frame f (get_or sums frame 0 - place) 0 (λ e. other (sym e))))
 ]
 
-joined_sum : (sums : List ℕ) (now : Option ℕ) (place f : ℕ) → IfSome now (λ frame. frame < length sums) → get_or (joined sums now place) f 0 ≡ get_or sums f 0 + held f now place
+joined_sum : (sums : List ℕ) (now : Option ℕ) (place f : ℕ) → IfSome now (λ frame. frame < length sums)
+    → get_or (joined sums now place) f 0 ≡ get_or sums f 0 + held f now place
 joined_sum sums None place f in_frames = omega arith
 joined_sum sums (Some frame) place f in_frames = elim (cases_eq frame f) [
   | inl same ↦ rw (same, eq-eqb f f refl) (
       let lt : f < length sums = omega (arith, in_frames) in
       get_or-set_same sums f (get_or sums f 0 + place) 0 lt)
-  | inr other ↦ rw (ne_eqb frame f other) (omega (arith, get_or-set_other sums frame f (get_or sums frame 0 + place) 0 (λ e. other (sym e))))
+  | inr other ↦
+      rw (ne_eqb frame f other)
+      (omega (arith, get_or-set_other sums frame f (get_or sums frame 0 + place) 0 (λ e. other (sym e))))
 ]
 
 pub length-left : (sums : List ℕ) (was : Option ℕ) (place : ℕ) → length (left sums was place) ≡ length sums
 length-left sums None place = refl
 length-left sums (Some frame) place = length-set sums frame _
 
-pub length-joined : (sums : List ℕ) (now : Option ℕ) (place : ℕ) → length (joined sums now place) ≡ length sums
+pub length-joined : (sums : List ℕ) (now : Option ℕ) (place : ℕ)
+    → length (joined sums now place) ≡ length sums
 length-joined sums None place = refl
 length-joined sums (Some frame) place = length-set sums frame _
 
 -- the sum of each frame after an entry changed
-new_sum : (t : TableValue) (sums : List ℕ) (owner page : ℕ) (now : Option ℕ) (f : ℕ) → AreSumsOf t sums → t.frames ≡ length sums
+new_sum : (t : TableValue) (sums : List ℕ) (owner page : ℕ) (now : Option ℕ) (f : ℕ) → AreSumsOf t sums
+    → t.frames ≡ length sums
     → owner < length t.rows → page < t.pages → f < t.frames
-    → get_or (left sums (entry_of t.rows owner page) (place_of t.pages owner page)) f 0 + held f now (place_of t.pages owner page)
+    → get_or (left sums (entry_of t.rows owner page) (place_of t.pages owner page)) f 0
+    + held f now (place_of t.pages owner page)
     ≡ table_sum t.pages 1 (with_entry t.rows owner page now) f
 new_sum t sums owner page now f are frames in_owners in_pages in_frames =
     let is_in = page_in t.pages t.rows owner page are.table.rows in_owners in_pages in
     let entry = table_sum-entry t.pages t.rows owner page now f is_in.in_owners is_in.in_pages in
-    let gone = left_sum sums (entry_of t.rows owner page) (place_of t.pages owner page) f (can_leave t sums owner page are frames) in
+    let gone =
+    left_sum sums (entry_of t.rows owner page) (place_of t.pages owner page) f
+    (can_leave t sums owner page are frames) in
     omega (arith, entry, gone, are.each f in_frames)
 
 -- a sum of a table fits
-sum_fits : (t : TableValue) (rows : List (List (Option ℕ))) (f : ℕ) → IsTable t → length rows ≤ 64 → AllByRecursion (λ row. length row ≡ t.pages) rows
+sum_fits : (t : TableValue) (rows : List (List (Option ℕ))) (f : ℕ) → IsTable t → length rows ≤ 64
+    → AllByRecursion (λ row. length row ≡ t.pages) rows
     → table_sum t.pages 1 rows f < 2 ^ 64
 sum_fits t rows f table owners all =
     let most = 1 + 64 * 2 ^ 16 in
@@ -175,39 +209,59 @@ sum_fits t rows f table owners all =
     omega (arith, sum, all_rows)
 
 -- a place may be added to the sum of the new frame
-pub can_join : (t : TableValue) (sums : List ℕ) (owner page : ℕ) (now : Option ℕ) → AreSumsOf t sums → t.frames ≡ length sums → owner < length t.rows → page < t.pages
-    → IfSome now (λ frame. frame < t.frames) → IfSome now (CanJoin (left sums (entry_of t.rows owner page) (place_of t.pages owner page)) (place_of t.pages owner page))
+pub can_join : (t : TableValue) (sums : List ℕ) (owner page : ℕ) (now : Option ℕ) → AreSumsOf t sums
+    → t.frames ≡ length sums → owner < length t.rows → page < t.pages
+    → IfSome now (λ frame. frame < t.frames)
+    → IfSome now (CanJoin (left sums (entry_of t.rows owner page) (place_of t.pages owner page))
+    (place_of t.pages owner page))
 can_join t sums owner page None are frames in_owners in_pages in_frames = tt
 can_join t sums owner page (Some frame) are frames in_owners in_pages in_frames =
     let is_in = page_in t.pages t.rows owner page are.table.rows in_owners in_pages in
     let new = with_entry t.rows owner page (Some frame) in
-    let sum = rw (eq-eqb frame frame refl) at (new_sum t sums owner page (Some frame) frame are frames in_owners in_pages in_frames) in
-    let fits = sum_fits t new frame are.table (omega (arith, length-set t.rows owner (set (get_or t.rows owner []) page (Some frame)), are.table.owners))
+    let sum =
+    rw (eq-eqb frame frame refl) at
+    (new_sum t sums owner page (Some frame) frame are frames in_owners in_pages in_frames) in
+    let fits =
+    sum_fits t new frame are.table (omega
+    (arith, length-set t.rows owner (set (get_or t.rows owner []) page (Some frame)), are.table.owners))
     (row_set t.pages t.rows owner (set (get_or t.rows owner []) page (Some frame)) are.table.rows
-    (length-set (get_or t.rows owner []) page (Some frame) ∙ row_length t.pages t.rows owner are.table.rows in_owners)) in
+    (length-set (get_or t.rows owner []) page (Some frame)
+    ∙ row_length t.pages t.rows owner are.table.rows in_owners)) in
     record {
-      frame_in = omega (arith, length-left sums (entry_of t.rows owner page) (place_of t.pages owner page), in_frames);
+      frame_in =
+          omega
+          (arith, length-left sums (entry_of t.rows owner page) (place_of t.pages owner page), in_frames);
       fits = omega (arith, sum, fits);
     }
 
 -- ---- the table after a changed entry
 
 -- each entry is still a frame
-mapped_at : (frames : ℕ) (rows : List (List (Option ℕ))) (owner page : ℕ) (now : Option ℕ) (other_owner other_page : ℕ) → IsIn rows owner page
-    → IfSome now (λ frame. frame < frames) → IfSome (entry_of rows other_owner other_page) (λ frame. frame < frames)
+mapped_at : (frames : ℕ) (rows : List (List (Option ℕ))) (owner page : ℕ) (now : Option ℕ)
+    (other_owner other_page : ℕ)
+    → IsIn rows owner page
+    → IfSome now (λ frame. frame < frames)
+    → IfSome (entry_of rows other_owner other_page) (λ frame. frame < frames)
     → IfSome (entry_of (with_entry rows owner page now) other_owner other_page) (λ frame. frame < frames)
 mapped_at frames rows owner page now other_owner other_page is_in in_frames was =
     let InFrames : Option ℕ → Type 0 = λ entry. IfSome entry (λ frame. frame < frames) in
     elim (cases_eq other_owner owner) [
       | inl same ↦ elim (cases_eq other_page page) [
-        | inl also ↦ subst InFrames (let e : now ≡ entry_of (with_entry rows owner page now) other_owner other_page = rw (same, also) (sym (entry-same rows owner page now is_in)) in e) in_frames
-        | inr other ↦ subst InFrames (sym (entry-other rows owner page now other_owner other_page is_in (λ a b. other b))) was
+        | inl also ↦
+            subst InFrames (let e : now ≡ entry_of (with_entry rows owner page now) other_owner other_page =
+            rw (same, also) (sym (entry-same rows owner page now is_in)) in e) in_frames
+        | inr other ↦
+            subst InFrames
+            (sym (entry-other rows owner page now other_owner other_page is_in (λ a b. other b))) was
       ]
-      | inr other ↦ subst InFrames (sym (entry-other rows owner page now other_owner other_page is_in (λ a b. other a))) was
+      | inr other ↦
+          subst InFrames (sym (entry-other rows owner page now other_owner other_page is_in (λ a b. other a)))
+          was
     ]
 
 -- the numbers of a table with another entry
-pub is_table-set : (t : TableValue) (owner page : ℕ) (now : Option ℕ) → IsTable t → owner < length t.rows → page < t.pages → IfSome now (λ frame. frame < t.frames)
+pub is_table-set : (t : TableValue) (owner page : ℕ) (now : Option ℕ) → IsTable t → owner < length t.rows
+    → page < t.pages → IfSome now (λ frame. frame < t.frames)
     → IsTable (record t { rows = with_entry t.rows owner page now })
 is_table-set t owner page now table in_owners in_pages in_frames = record {
   frames = table.frames;
@@ -216,15 +270,21 @@ is_table-set t owner page now table in_owners in_pages in_frames = record {
   owners = omega (arith, length-set t.rows owner (set (get_or t.rows owner []) page now), table.owners);
   rows = row_set t.pages t.rows owner (set (get_or t.rows owner []) page now) table.rows
       (length-set (get_or t.rows owner []) page now ∙ row_length t.pages t.rows owner table.rows in_owners);
-  mapped = λ other_owner other_page. mapped_at t.frames t.rows owner page now other_owner other_page (page_in t.pages t.rows owner page table.rows in_owners in_pages)
+  mapped =
+      λ other_owner other_page. mapped_at t.frames t.rows owner page now other_owner other_page
+      (page_in t.pages t.rows owner page table.rows in_owners in_pages)
       in_frames (table.mapped other_owner other_page);
 }
 
 -- the sums of a table with another entry
-pub are_sums-set : (sums : List ℕ) (pages : ℕ) (rows : List (List (Option ℕ))) (owner page : ℕ) (now : Option ℕ)
-    → AreSumsOf (table_of sums pages rows) sums → owner < length rows → page < pages → IfSome now (λ frame. frame < length sums)
-    → AreSumsOf (table_of (joined (left sums (entry_of rows owner page) (place_of pages owner page)) now (place_of pages owner page)) pages (with_entry rows owner page now))
-    (joined (left sums (entry_of rows owner page) (place_of pages owner page)) now (place_of pages owner page))
+pub are_sums-set : (sums : List ℕ) (pages : ℕ) (rows : List (List (Option ℕ))) (owner page : ℕ)
+    (now : Option ℕ)
+    → AreSumsOf (table_of sums pages rows) sums → owner < length rows → page < pages
+    → IfSome now (λ frame. frame < length sums)
+    → AreSumsOf (table_of (joined (left sums (entry_of rows owner page) (place_of pages owner page)) now
+    (place_of pages owner page)) pages (with_entry rows owner page now))
+    (joined (left sums (entry_of rows owner page) (place_of pages owner page)) now
+    (place_of pages owner page))
 are_sums-set sums pages rows owner page now are in_owners in_pages in_frames =
     let t = table_of sums pages rows in
     let place = place_of pages owner page in
@@ -233,9 +293,12 @@ are_sums-set sums pages rows owner page now are in_owners in_pages in_frames =
     let new_len : length (joined gone now place) ≡ length sums = length-joined gone now place ∙ gone_len in
     let new = with_entry rows owner page now in
     record {
-      table = subst (λ (n : ℕ). IsTable (record { frames = n; pages = pages; rows = new })) (sym new_len) (is_table-set t owner page now are.table in_owners in_pages in_frames);
+      table =
+          subst (λ (n : ℕ). IsTable (record { frames = n; pages = pages; rows = new })) (sym new_len)
+          (is_table-set t owner page now are.table in_owners in_pages in_frames);
       each = λ f lt.
-          joined_sum gone now place f (subst (λ (n : ℕ). IfSome now (λ frame. frame < n)) (sym gone_len) in_frames)
+          joined_sum gone now place f
+          (subst (λ (n : ℕ). IfSome now (λ frame. frame < n)) (sym gone_len) in_frames)
           ∙ new_sum t sums owner page now f are refl in_owners in_pages (omega (arith, lt, new_len));
     }
 
@@ -246,12 +309,14 @@ empty_row zero i = refl
 empty_row (suc n) zero = refl
 empty_row (suc n) (suc i) = empty_row n i
 
-empty_entry : (owners pages owner page : ℕ) → entry_of (replicate owners (replicate pages no_frame)) owner page ≡ None
+empty_entry : (owners pages owner page : ℕ)
+    → entry_of (replicate owners (replicate pages no_frame)) owner page ≡ None
 empty_entry zero pages owner page = refl
 empty_entry (suc owners) pages zero page = empty_row pages page
 empty_entry (suc owners) pages (suc owner) page = empty_entry owners pages owner page
 
-empty_rows : (owners pages : ℕ) → AllByRecursion (λ row. length row ≡ pages) (replicate owners (replicate pages no_frame))
+empty_rows : (owners pages : ℕ)
+    → AllByRecursion (λ row. length row ≡ pages) (replicate owners (replicate pages no_frame))
 empty_rows zero pages = tt
 empty_rows (suc owners) pages = (length-replicate pages no_frame, empty_rows owners pages)
 
@@ -259,19 +324,24 @@ empty_row_sum : (base n f : ℕ) → row_sum base (replicate n no_frame) f ≡ 0
 empty_row_sum base zero f = refl
 empty_row_sum base (suc n) f = omega (arith, empty_row_sum (base + 1) n f)
 
-empty_sum : (pages base owners f : ℕ) → table_sum pages base (replicate owners (replicate pages no_frame)) f ≡ 0
+empty_sum : (pages base owners f : ℕ)
+    → table_sum pages base (replicate owners (replicate pages no_frame)) f ≡ 0
 empty_sum pages base zero f = refl
-empty_sum pages base (suc owners) f = omega (arith, empty_row_sum base pages f, empty_sum pages (base + pages) owners f)
+empty_sum pages base (suc owners) f =
+    omega (arith, empty_row_sum base pages f, empty_sum pages (base + pages) owners f)
 
 -- no frame of the empty table holds a page
 pub empty_first : (owners pages f : ℕ) → page_from 0 (replicate owners (replicate pages None)) f ≡ None
 empty_first owners pages f =
     let table = replicate owners (replicate pages no_frame) in
-    sym (none_of (page_from 0 table f) (sym (sum_marks pages table f) ∙ le-ltb 0 _ (omega (arith, empty_sum pages 1 owners f))))
+    sym (none_of (page_from 0 table f)
+    (sym (sum_marks pages table f) ∙ le-ltb 0 _ (omega (arith, empty_sum pages 1 owners f))))
 
 -- the sums of the empty table
-pub are_sums-empty : (sums : List ℕ) (owners pages : ℕ) (rows : List (List (Option ℕ))) (frames : ℕ) → sums ≡ replicate frames 0
-    → rows ≡ replicate owners (replicate pages None) → frames ≤ 2 ^ 20 → 1 ≤ pages → pages ≤ 2 ^ 16 → owners ≤ 64 → AreSumsOf (table_of sums pages rows) sums
+pub are_sums-empty : (sums : List ℕ) (owners pages : ℕ) (rows : List (List (Option ℕ))) (frames : ℕ)
+    → sums ≡ replicate frames 0
+    → rows ≡ replicate owners (replicate pages None) → frames ≤ 2 ^ 20 → 1 ≤ pages → pages ≤ 2 ^ 16
+    → owners ≤ 64 → AreSumsOf (table_of sums pages rows) sums
 are_sums-empty sums owners pages rows frames sums_are rows_are small some_pages pages_le owners_le =
     let len : length sums ≡ frames = ap length sums_are ∙ length-replicate frames 0 in
     record {
@@ -279,10 +349,22 @@ are_sums-empty sums owners pages rows frames sums_are rows_are small some_pages 
         frames = omega (arith, len);
         some_pages = some_pages;
         pages = pages_le;
-        owners = let n : length rows ≡ owners = ap length rows_are ∙ length-replicate owners (replicate pages no_frame) in omega (arith, n);
-        rows = subst (λ (r : List (List (Option ℕ))). AllByRecursion (λ row. length row ≡ pages) r) (sym rows_are) (empty_rows owners pages);
-        mapped = λ owner page. MatchOption-from_none _ _ (ap (λ (r : List (List (Option ℕ))). entry_of r owner page) rows_are ∙ empty_entry owners pages owner page);
+        owners =
+            let n : length rows ≡ owners =
+            ap length rows_are ∙ length-replicate owners (replicate pages no_frame) in
+            omega (arith, n);
+        rows =
+            subst (λ (r : List (List (Option ℕ))). AllByRecursion (λ row. length row ≡ pages) r)
+            (sym rows_are)
+            (empty_rows owners pages);
+        mapped =
+            λ owner page.
+            MatchOption-from_none _ _ (ap (λ (r : List (List (Option ℕ))). entry_of r owner page)
+            rows_are ∙ empty_entry owners pages owner page);
       };
-      each = λ f lt. ap (λ (n : List ℕ). get_or n f 0) sums_are ∙ (get_or-replicate frames f 0 0 (omega (arith, lt, len))
-          ∙ sym (ap (λ (r : List (List (Option ℕ))). table_sum pages 1 r f) rows_are ∙ empty_sum pages 1 owners f));
+      each =
+          λ f lt. ap (λ (n : List ℕ). get_or n f 0) sums_are
+          ∙ (get_or-replicate frames f 0 0 (omega (arith, lt, len))
+          ∙ sym (ap (λ (r : List (List (Option ℕ))). table_sum pages 1 r f) rows_are
+          ∙ empty_sum pages 1 owners f));
     }

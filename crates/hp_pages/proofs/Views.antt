@@ -1,138 +1,31 @@
--- The calls of the layer and the definitions of the rules: the frame view of the pages after a rule is what the call makes of the
--- frame view before, where no frame holds two pages.
+-- The calls of the layer and the definitions of the rules: the frame view of the pages after a rule
+-- is what the call makes of the frame view before, where no frame holds two pages.
 use Rattle.std.proofs.Common.{◌≡◌, ℕ, ◌<◌, ◌≤◌, true, false, List, [], length, get_or, set, map, Option, Some, None, refl, sym, ap, ◌∙◌, subst, inl, inr, arith}
 use Rattle.std.specs.Prelude.{IfSome, is_some, option_map, slice_index, unwrap_or}
 use Rattle.std.specs.List.{range_with_len}
 use Rattle.std.specs.Option.{option_and_then, option_map_or}
-use Rattle.std.proofs.lemmas.Bool.{cases_eq, cases_lt, cases_Bool, cond-false, cond-true}
-use Rattle.std.proofs.lemmas.List.{ext_get_or, get_or_past, get_or-set_same, get_or-set_other, length-set, set-get_or}
-use Rattle.std.proofs.lemmas.List.FromFn.{get_or-map-range_with_len, length-map-range_with_len}
+use Rattle.std.proofs.lemmas.Bool.{cases_lt, cases_Bool}
+use Rattle.std.proofs.lemmas.List.{set-get_or}
+use Rattle.std.proofs.lemmas.List.FromFn.{length-map-range_with_len}
 use Rattle.hp_units.specs.LayoutParts.{LayoutParts}
-use Rattle.hp_units.specs.Arithmetic.{IsFrame, frame_count, all_frames}
+use Rattle.hp_units.specs.Arithmetic.{IsFrame, frame_count}
 use Rattle.hp_units.specs.InLayout.{ArePagesOf}
 use Rattle.hp_units.specs.Memory.{Memory, Pages, entry_of, with_entry}
-use Rattle.hp_units.specs.Pages.{frame_at, fresh_words, holds, map_page, move_page, page_at, page_from, read_word, unmap_page, words_at, write_word}
+use Rattle.hp_units.specs.Pages.{frame_at, fresh_words, map_page, move_page, page_at, read_word, unmap_page, words_at, write_word}
 use Rattle.hp_units.specs.Placement.{IsPage, IsWellPlaced, mapped_places}
 use Rattle.hp_tape.specs.Deltas.{PageFrames, buffer_for, buffer_of, is_blank, page_frames_of}
 use Rattle.hp_pages.specs.Pages.{ArePageFramesOf, AreSettled, IsNeeded, map_frame, move_entry, move_frame, unmap_frame, unmap_from, words_in, words_of, write_at, write_frame}
 use Rattle.hp_pages.specs.Places.{held, holders}
 use Rattle.hp_pages.proofs.Blanks.{none-needed, some-needed, buffer-words}
-use Rattle.hp_pages.proofs.Places.{IsIn, entry-other, entry-same, entry_in, holders-entry, holds_is, holds_some, is_held, only_page, page_from-None, page_from-Some}
+use Rattle.hp_pages.proofs.Places.{IsIn, entry-other, entry-same, entry_in, holders-entry, holds_some, only_page}
 use Rattle.hp_pages.proofs.PageParts.{same_frames}
 use Rattle.hp_pages.proofs.Tables.{page_in}
-
--- ---- the first page of a frame
-
--- the entry of a frame's first page
-entry_at : (table : List (List (Option ℕ))) (f : ℕ) (found : ℕ × ℕ) → page_from 0 table f ≡ Some found → entry_of table found.0 found.1 ≡ Some f
-entry_at table f found first =
-    let is = page_from-Some 0 table f found first in
-    subst (λ (o : ℕ). entry_of table o found.1 ≡ Some f) (let e : is.row ≡ found.0 = omega (arith, is.owner_is) in e) is.entry
-
--- a frame that holds none has no first page
-none_found : (table : List (List (Option ℕ))) (f : ℕ) (found : Option (ℕ × ℕ)) → holders table f ≡ 0 → page_from 0 table f ≡ found → found ≡ None
-none_found table f None none first = refl
-none_found table f (Some found) none first = absurd (omega (arith, none, holds_some table found.0 found.1 f (entry_at table f found first)))
-
-pub first_none : (table : List (List (Option ℕ))) (f : ℕ) → holders table f ≡ 0 → page_from 0 table f ≡ None
-first_none table f none = none_found table f (page_from 0 table f) none refl
-
--- an entry that is not the frame
-not_held : (f : ℕ) (entry : Option ℕ) → (entry ≡ Some f → ⊥) → held f entry 1 ≡ 0
-not_held f entry apart = elim (cases_Bool (holds f entry)) [
-  | inl is ↦ absurd (apart (holds_is f entry is))
-  | inr isnt ↦ cond-false _ _ _ isnt
-]
-
-held_self : (f : ℕ) → held f (Some f) 1 ≡ 1
-held_self f = cond-true _ _ _ (is_held f (Some f) refl)
-
-held_le : (f : ℕ) (entry : Option ℕ) → held f entry 1 ≤ 1
-held_le f entry = elim (cases_Bool (holds f entry)) [ inl is ↦ rw is (omega arith) | inr isnt ↦ rw isnt (omega arith) ]
-
--- an entry changed that was not the frame and is not: the frame's first page is the same
-kept_found : (table : List (List (Option ℕ))) (owner page : ℕ) (x : Option ℕ) (f : ℕ) (found : Option (ℕ × ℕ)) → IsIn table owner page → holders table f ≤ 1
-    → (entry_of table owner page ≡ Some f → ⊥) → (x ≡ Some f → ⊥) → page_from 0 table f ≡ found → page_from 0 (with_entry table owner page x) f ≡ found
-kept_found table owner page x f None is_in once was now first =
-    let counts = holders-entry table owner page x f is_in.in_owners is_in.in_pages in
-    first_none (with_entry table owner page x) f (omega (arith, counts, not_held f (entry_of table owner page) was, not_held f x now, page_from-None 0 table f first))
-kept_found table owner page x f (Some found) is_in once was now first =
-    let counts = holders-entry table owner page x f is_in.in_owners is_in.in_pages in
-    let entry = entry_at table f found first in
-    only_page (with_entry table owner page x) found.0 found.1 f (omega (arith, counts, not_held f (entry_of table owner page) was, not_held f x now, once))
-    (entry-other table owner page x found.0 found.1 is_in (λ a b. was (rw (← a, ← b) entry)) ∙ entry)
-
-pub first_kept : (table : List (List (Option ℕ))) (owner page : ℕ) (x : Option ℕ) (f : ℕ) → IsIn table owner page → holders table f ≤ 1
-    → (entry_of table owner page ≡ Some f → ⊥) → (x ≡ Some f → ⊥) → page_from 0 (with_entry table owner page x) f ≡ page_from 0 table f
-first_kept table owner page x f is_in once was now = kept_found table owner page x f (page_from 0 table f) is_in once was now refl
-
--- ---- the buffers of a frame view
-
--- the buffer of a page, and of a frame, by the definitions
-abbrev pub page_buffer : Pages → ℕ × ℕ → Option (List ℕ)
-page_buffer ps page = option_and_then buffer_for (words_at ps page.0 page.1)
-
-abbrev pub buffer_by : Pages → ℕ → Option (List ℕ)
-buffer_by ps frame = option_and_then (page_buffer ps) (page_at ps frame)
-
-pub buffer_is : (l : LayoutParts) (ps : Pages) (frame : ℕ) → IsFrame l frame → buffer_of (page_frames_of l ps) frame ≡ buffer_by ps frame
-buffer_is l ps frame in_frames = get_or-map-range_with_len (buffer_by ps) 0 (frame_count l) frame frame None in_frames (omega arith)
-
-no_buffer_past : (l : LayoutParts) (ps : Pages) (frame : ℕ) → frame_count l ≤ frame → buffer_of (page_frames_of l ps) frame ≡ None
-no_buffer_past l ps frame past =
-    get_or_past (map (buffer_by ps) (all_frames l)) frame None (let e = length-map-range_with_len (buffer_by ps) 0 (frame_count l) in omega (arith, e, past))
-
--- a list by a function that changed at one number, and at two
-one_changed : {X : Type 0} (b c : ℕ → Option X) (n at : ℕ) (x : Option X) → at < n → c at ≡ x → ((k : ℕ) → k < n → (k ≡ at → ⊥) → c k ≡ b k)
-    → map c (range_with_len 0 n) ≡ set (map b (range_with_len 0 n)) at x
-one_changed b c n at x lt here others =
-    let bs = map b (range_with_len 0 n) in
-    let cs = map c (range_with_len 0 n) in
-    let len : length bs ≡ n = length-map-range_with_len b 0 n in
-    let more : length cs ≡ n = length-map-range_with_len c 0 n in
-    ext_get_or None cs (set bs at x) (more ∙ sym (length-set bs at x ∙ len)) (λ k in_list.
-    let within : k < n = omega (arith, more, in_list) in
-    get_or-map-range_with_len c 0 n k k None within (omega arith)
-    ∙ elim (cases_eq k at) [
-      | inl same ↦ ap c same ∙ (here ∙ sym (ap (λ (i : ℕ). get_or (set bs at x) i None) same ∙ get_or-set_same bs at x None (omega (arith, len, lt))))
-      | inr other ↦ others k within other ∙ sym (get_or-set_other bs at k x None other ∙ get_or-map-range_with_len b 0 n k k None within (omega arith))
-    ])
-
-two_changed : {X : Type 0} (b c : ℕ → Option X) (n at also : ℕ) (x y : Option X) → at < n → also < n → (at ≡ also → ⊥) → c at ≡ x → c also ≡ y
-    → ((k : ℕ) → k < n → (k ≡ at → ⊥) → (k ≡ also → ⊥) → c k ≡ b k) → map c (range_with_len 0 n) ≡ set (set (map b (range_with_len 0 n)) at x) also y
-two_changed b c n at also x y lt also_lt apart here there others =
-    let bs = map b (range_with_len 0 n) in
-    let cs = map c (range_with_len 0 n) in
-    let once = set bs at x in
-    let len : length bs ≡ n = length-map-range_with_len b 0 n in
-    let once_len : length once ≡ n = length-set bs at x ∙ len in
-    let more : length cs ≡ n = length-map-range_with_len c 0 n in
-    ext_get_or None cs (set once also y) (more ∙ sym (length-set once also y ∙ once_len)) (λ k in_list.
-    let within : k < n = omega (arith, more, in_list) in
-    get_or-map-range_with_len c 0 n k k None within (omega arith)
-    ∙ elim (cases_eq k also) [
-      | inl same ↦ ap c same ∙ (there ∙ sym (ap (λ (i : ℕ). get_or (set once also y) i None) same ∙ get_or-set_same once also y None (omega (arith, once_len, also_lt))))
-      | inr other ↦ elim (cases_eq k at) [
-        | inl same ↦ ap c same ∙ (here ∙ sym (get_or-set_other once also k y None other ∙ (ap (λ (i : ℕ). get_or once i None) same ∙ get_or-set_same bs at x None (omega (arith, len, lt)))))
-        | inr too ↦ others k within too other
-            ∙ sym (get_or-set_other once also k y None other ∙ (get_or-set_other bs at k x None too ∙ get_or-map-range_with_len b 0 n k k None within (omega arith)))
-      ]
-    ])
-
--- a frame whose first page and its words are the same has the same buffer
-kept_by : (ps new : Pages) (found : Option (ℕ × ℕ)) → ((page : ℕ × ℕ) → found ≡ Some page → words_at new page.0 page.1 ≡ words_at ps page.0 page.1)
-    → option_and_then (page_buffer new) found ≡ option_and_then (page_buffer ps) found
-kept_by ps new None words = refl
-kept_by ps new (Some page) words = ap (option_and_then buffer_for) (words page refl)
-
-buffer_kept : (ps new : Pages) (f : ℕ) → page_at new f ≡ page_at ps f → ((page : ℕ × ℕ) → page_at ps f ≡ Some page → words_at new page.0 page.1 ≡ words_at ps page.0 page.1)
-    → buffer_by new f ≡ buffer_by ps f
-buffer_kept ps new f first words =
-    ap (option_and_then (page_buffer new)) first ∙ kept_by ps new (page_at ps f) words
+use Rattle.hp_pages.proofs.FrameViews.{entry_at, first_none, not_held, held_self, held_le, first_kept, page_buffer, buffer_by, buffer_is, no_buffer_past, one_changed, two_changed, buffer_kept}
 
 -- ---- the rules
 
--- what the rules and the calls have in common: numbers of the layout, no frame holds two pages, and a page has words where it has a frame
+-- what the rules and the calls have in common: numbers of the layout, no frame holds two pages, and
+-- a page has words where it has a frame
 pub record AreOnce (l : LayoutParts) (ps : Pages) : Type 0 where
   pub pages_of : ArePagesOf l ps
   pub once : (frame : ℕ) → holders ps.table frame ≤ 1
@@ -144,28 +37,40 @@ pub record HasWords (l : LayoutParts) (ps : Pages) (owner page : ℕ) : Type 0 w
   pub are : words_at ps owner page ≡ Some words
   pub size : length words ≡ l.words
 
-mapped_words : (l : LayoutParts) (ps : Pages) (owner page frame : ℕ) → AreOnce l ps → frame_at ps owner page ≡ Some frame → HasWords l ps owner page
+mapped_words : (l : LayoutParts) (ps : Pages) (owner page frame : ℕ) → AreOnce l ps
+    → frame_at ps owner page ≡ Some frame → HasWords l ps owner page
 mapped_words l ps owner page frame once mapped =
-    some_words (words_at ps owner page) refl (once.words owner page ∙ ap (λ (entry : Option ℕ). is_some entry) mapped) (once.pages_of.words owner page)
+    some_words (words_at ps owner page) refl (once.words owner page
+    ∙ ap (λ (entry : Option ℕ). is_some entry) mapped) (once.pages_of.words owner page)
   where
-    some_words : (o : Option (List ℕ)) → words_at ps owner page ≡ o → is_some o ≡ true → IfSome o (λ words. length words ≡ l.words) → HasWords l ps owner page
+    some_words : (o : Option (List ℕ)) → words_at ps owner page ≡ o → is_some o ≡ true
+        → IfSome o (λ words. length words ≡ l.words) → HasWords l ps owner page
     some_words None is some size = absurd cc
     some_words (Some words) is some size = record { words = words; are = is; size = size }
 
-in_table : (l : LayoutParts) (ps : Pages) (owner page : ℕ) → AreOnce l ps → owner < l.owners → page < l.pages → IsIn ps.table owner page
-in_table l ps owner page are in_owners in_pages = page_in l.pages ps.table owner page are.pages_of.pages (omega (arith, are.pages_of.owners)) in_pages
+in_table : (l : LayoutParts) (ps : Pages) (owner page : ℕ) → AreOnce l ps → owner < l.owners → page < l.pages
+    → IsIn ps.table owner page
+in_table l ps owner page are in_owners in_pages =
+    page_in l.pages ps.table owner page are.pages_of.pages (omega (arith, are.pages_of.owners)) in_pages
 
-in_contents : (l : LayoutParts) (ps : Pages) (owner page : ℕ) → AreOnce l ps → owner < l.owners → page < l.pages → IsIn ps.contents owner page
-in_contents l ps owner page are in_owners in_pages = page_in l.pages ps.contents owner page are.pages_of.content_pages (omega (arith, are.pages_of.content_owners)) in_pages
+in_contents : (l : LayoutParts) (ps : Pages) (owner page : ℕ) → AreOnce l ps → owner < l.owners
+    → page < l.pages → IsIn ps.contents owner page
+in_contents l ps owner page are in_owners in_pages =
+    page_in l.pages ps.contents owner page are.pages_of.content_pages
+    (omega (arith, are.pages_of.content_owners)) in_pages
 
 -- the words of another page
-other_words : (ps : Pages) (owner page : ℕ) (words : Option (List ℕ)) (f : ℕ) (found : ℕ × ℕ) → IsIn ps.contents owner page → (entry_of ps.table owner page ≡ Some f → ⊥)
-    → page_at ps f ≡ Some found → entry_of (with_entry ps.contents owner page words) found.0 found.1 ≡ words_at ps found.0 found.1
+other_words : (ps : Pages) (owner page : ℕ) (words : Option (List ℕ)) (f : ℕ) (found : ℕ × ℕ)
+    → IsIn ps.contents owner page → (entry_of ps.table owner page ≡ Some f → ⊥)
+    → page_at ps f ≡ Some found
+    → entry_of (with_entry ps.contents owner page words) found.0 found.1 ≡ words_at ps found.0 found.1
 other_words ps owner page words f found is_in apart first =
-    entry-other ps.contents owner page words found.0 found.1 is_in (λ a b. apart (rw (← a, ← b) (entry_at ps.table f found first)))
+    entry-other ps.contents owner page words found.0 found.1 is_in
+    (λ a b. apart (rw (← a, ← b) (entry_at ps.table f found first)))
 
 -- a page is mapped, with words that are all 0
-pub view-map_page : (l : LayoutParts) (ps : Pages) (owner page frame : ℕ) (words : List ℕ) → AreOnce l ps → owner < l.owners → page < l.pages → IsFrame l frame
+pub view-map_page : (l : LayoutParts) (ps : Pages) (owner page frame : ℕ) (words : List ℕ) → AreOnce l ps
+    → owner < l.owners → page < l.pages → IsFrame l frame
     → frame_at ps owner page ≡ None → holders ps.table frame ≡ 0 → is_blank words ≡ true
     → page_frames_of l (map_page ps owner page frame words) ≡ map_frame (page_frames_of l ps) owner page frame
 view-map_page l ps owner page frame words are in_owners in_pages in_frames unmapped free blank =
@@ -173,31 +78,41 @@ view-map_page l ps owner page frame words are in_owners in_pages in_frames unmap
     let has_words = in_contents l ps owner page are in_owners in_pages in
     let new = map_page ps owner page frame words in
     let counts = holders-entry ps.table owner page (Some frame) frame is_in.in_owners is_in.in_pages in
-    let unmapped_from : (f : ℕ) → entry_of ps.table owner page ≡ Some f → ⊥ = λ f e. let n : None ≡ Some f = sym unmapped ∙ e in cc in
+    let unmapped_from : (f : ℕ) → entry_of ps.table owner page ≡ Some f → ⊥ =
+    λ f e. let n : None ≡ Some f = sym unmapped ∙ e in
+    cc in
     let first : page_at new frame ≡ Some (owner, page) =
-    only_page new.table owner page frame (omega (arith, counts, held_le frame (Some frame), free)) (entry-same ps.table owner page (Some frame) is_in) in
+    only_page new.table owner page frame (omega (arith, counts, held_le frame (Some frame), free))
+    (entry-same ps.table owner page (Some frame) is_in) in
     let before : buffer_of (page_frames_of l ps) frame ≡ None =
     buffer_is l ps frame in_frames ∙ ap (option_and_then (page_buffer ps)) (first_none ps.table frame free) in
     same_frames _ _ _ _ refl (one_changed (buffer_by ps) (buffer_by new) (frame_count l) frame None in_frames
     (ap (option_and_then (page_buffer new)) first
-    ∙ (ap (option_and_then buffer_for) (entry-same ps.contents owner page (Some words) has_words) ∙ none-needed words blank))
+    ∙ (ap (option_and_then buffer_for) (entry-same ps.contents owner page (Some words) has_words)
+    ∙ none-needed words blank))
     (λ f lt other. buffer_kept ps new f
-    (first_kept ps.table owner page (Some frame) f is_in (are.once f) (unmapped_from f) (λ e. let n : frame ≡ f = cc in other (sym n)))
+    (first_kept ps.table owner page (Some frame) f is_in (are.once f) (unmapped_from f)
+    (λ e. let n : frame ≡ f = cc in other (sym n)))
     (λ found e. other_words ps owner page (Some words) f found has_words (unmapped_from f) e))
-    ∙ (ap (λ (b : Option (List ℕ)). set (page_frames_of l ps).buffers frame b) (sym before) ∙ set-get_or (page_frames_of l ps).buffers frame None))
+    ∙ (ap (λ (b : Option (List ℕ)). set (page_frames_of l ps).buffers frame b) (sym before)
+    ∙ set-get_or (page_frames_of l ps).buffers frame None))
 
 -- the frame of a page that is mapped
-frame_in : (l : LayoutParts) (ps : Pages) (owner page frame : ℕ) → AreOnce l ps → frame_at ps owner page ≡ Some frame → IsFrame l frame
-frame_in l ps owner page frame are mapped = subst (λ (entry : Option ℕ). IfSome entry (IsFrame l)) mapped (are.pages_of.mapped owner page)
+frame_in : (l : LayoutParts) (ps : Pages) (owner page frame : ℕ) → AreOnce l ps
+    → frame_at ps owner page ≡ Some frame → IsFrame l frame
+frame_in l ps owner page frame are mapped =
+    subst (λ (entry : Option ℕ). IfSome entry (IsFrame l)) mapped (are.pages_of.mapped owner page)
 
 -- a page's frame is no other
-apart_from : (ps : Pages) (owner page frame : ℕ) → frame_at ps owner page ≡ Some frame → (f : ℕ) → (f ≡ frame → ⊥) → entry_of ps.table owner page ≡ Some f → ⊥
+apart_from : (ps : Pages) (owner page frame : ℕ) → frame_at ps owner page ≡ Some frame → (f : ℕ)
+    → (f ≡ frame → ⊥) → entry_of ps.table owner page ≡ Some f → ⊥
 apart_from ps owner page frame mapped f other e =
     let both : Some frame ≡ Some f = sym mapped ∙ e in
     other (let same : f ≡ frame = cc in same)
 
 -- a page is unmapped
-pub view-unmap_page : (l : LayoutParts) (ps : Pages) (owner page frame : ℕ) → AreOnce l ps → owner < l.owners → page < l.pages → frame_at ps owner page ≡ Some frame
+pub view-unmap_page : (l : LayoutParts) (ps : Pages) (owner page frame : ℕ) → AreOnce l ps → owner < l.owners
+    → page < l.pages → frame_at ps owner page ≡ Some frame
     → page_frames_of l (unmap_page ps owner page) ≡ unmap_frame (page_frames_of l ps) owner page
 view-unmap_page l ps owner page frame are in_owners in_pages mapped =
     let is_in = in_table l ps owner page are in_owners in_pages in
@@ -210,23 +125,29 @@ view-unmap_page l ps owner page frame are in_owners in_pages mapped =
     same_frames _ _ _ _ refl (one_changed (buffer_by ps) (buffer_by new) (frame_count l) frame None in_frames
     (ap (option_and_then (page_buffer new)) (first_none new.table frame gone))
     (λ f lt other. buffer_kept ps new f
-    (first_kept ps.table owner page None f is_in (are.once f) (apart_from ps owner page frame mapped f other) (λ e. cc))
-    (λ found e. other_words ps owner page None f found has_words (apart_from ps owner page frame mapped f other) e)))
+    (first_kept ps.table owner page None f is_in (are.once f) (apart_from ps owner page frame mapped f other)
+    (λ e. cc))
+    (λ found e.
+    other_words ps owner page None f found has_words (apart_from ps owner page frame mapped f other) e)))
     ∙ sym (ap (λ (entry : Option ℕ). option_map_or (unmap_from view owner page) entry view) mapped)
 
 -- the words in the frame of a mapped page
-frame_words : (l : LayoutParts) (ps : Pages) (owner page frame : ℕ) (are : AreOnce l ps) (mapped : frame_at ps owner page ≡ Some frame)
+frame_words : (l : LayoutParts) (ps : Pages) (owner page frame : ℕ) (are : AreOnce l ps)
+    (mapped : frame_at ps owner page ≡ Some frame)
     → words_in l (page_frames_of l ps) frame ≡ (mapped_words l ps owner page frame are mapped).words
 frame_words l ps owner page frame are mapped =
     let has = mapped_words l ps owner page frame are mapped in
     let first = only_page ps.table owner page frame (are.once frame) mapped in
     ap (λ (b : Option (List ℕ)). unwrap_or b (fresh_words l))
-    (buffer_is l ps frame (frame_in l ps owner page frame are mapped) ∙ (ap (option_and_then (page_buffer ps)) first ∙ ap (option_and_then buffer_for) has.are))
+    (buffer_is l ps frame (frame_in l ps owner page frame are mapped)
+    ∙ (ap (option_and_then (page_buffer ps)) first ∙ ap (option_and_then buffer_for) has.are))
     ∙ buffer-words l.words has.words has.size
 
 -- one word is written
-pub view-write_word : (l : LayoutParts) (ps : Pages) (owner page frame index value : ℕ) → AreOnce l ps → owner < l.owners → page < l.pages → frame_at ps owner page ≡ Some frame
-    → page_frames_of l (write_word ps owner page index value) ≡ write_frame l (page_frames_of l ps) owner page index value
+pub view-write_word : (l : LayoutParts) (ps : Pages) (owner page frame index value : ℕ) → AreOnce l ps
+    → owner < l.owners → page < l.pages → frame_at ps owner page ≡ Some frame
+    → page_frames_of l (write_word ps owner page index value)
+    ≡ write_frame l (page_frames_of l ps) owner page index value
 view-write_word l ps owner page frame index value are in_owners in_pages mapped =
     let has_words = in_contents l ps owner page are in_owners in_pages in
     let in_frames = frame_in l ps owner page frame are mapped in
@@ -236,16 +157,20 @@ view-write_word l ps owner page frame index value are in_owners in_pages mapped 
     let write : Option (List ℕ) → Option (List ℕ) = option_map (λ words. set words index value) in
     let before = mapped_words l ps owner page frame are mapped in
     let there = frame_words l ps owner page frame are mapped in
-    same_frames _ _ _ _ refl (one_changed (buffer_by ps) (buffer_by new) (frame_count l) frame (buffer_for (set (words_in l view frame) index value)) in_frames
+    same_frames _ _ _ _ refl (one_changed (buffer_by ps) (buffer_by new) (frame_count l) frame
+    (buffer_for (set (words_in l view frame) index value)) in_frames
     (ap (option_and_then (page_buffer new)) first
-    ∙ (ap (option_and_then buffer_for) (entry-same ps.contents owner page (write (words_at ps owner page)) has_words ∙ ap write before.are)
+    ∙ (ap (option_and_then buffer_for)
+    (entry-same ps.contents owner page (write (words_at ps owner page)) has_words ∙ ap write before.are)
     ∙ ap (λ (ws : List ℕ). buffer_for (set ws index value)) (sym there)))
     (λ f lt other. buffer_kept ps new f refl
-    (λ found e. other_words ps owner page (write (words_at ps owner page)) f found has_words (apart_from ps owner page frame mapped f other) e)))
+    (λ found e. other_words ps owner page (write (words_at ps owner page)) f found has_words
+    (apart_from ps owner page frame mapped f other) e)))
     ∙ sym (ap (λ (entry : Option ℕ). option_map_or (λ n. write_at l view n index value) entry view) mapped)
 
 -- a page moves
-pub view-move_page : (l : LayoutParts) (ps : Pages) (owner page from to : ℕ) → AreOnce l ps → IsFrame l to → page_at ps from ≡ Some (owner, page) → holders ps.table to ≡ 0
+pub view-move_page : (l : LayoutParts) (ps : Pages) (owner page from to : ℕ) → AreOnce l ps → IsFrame l to
+    → page_at ps from ≡ Some (owner, page) → holders ps.table to ≡ 0
     → page_frames_of l (move_page ps from to) ≡ move_frame (page_frames_of l ps) from to
 view-move_page l ps owner page from to are to_in first free =
     let mapped : frame_at ps owner page ≡ Some from = entry_at ps.table from (owner, page) first in
@@ -253,87 +178,129 @@ view-move_page l ps owner page from to are to_in first free =
     let is_in = entry_in ps.table owner page from mapped in
     let new : Pages = record { table = with_entry ps.table owner page (Some to); contents = ps.contents } in
     let view = page_frames_of l ps in
-    let apart : from ≡ to → ⊥ = λ same. omega (arith, subst (λ (n : ℕ). holders ps.table n ≡ 0) (sym same) free, holds_some ps.table owner page from mapped) in
-    let to_counts = rw mapped at (holders-entry ps.table owner page (Some to) to is_in.in_owners is_in.in_pages) in
-    let from_counts = rw mapped at (holders-entry ps.table owner page (Some to) from is_in.in_owners is_in.in_pages) in
+    let apart : from ≡ to → ⊥ =
+    λ same. omega (
+      arith,
+      subst (λ (n : ℕ). holders ps.table n ≡ 0) (sym same) free,
+      holds_some ps.table owner page from mapped,
+    ) in
+    let to_counts =
+    rw mapped at (holders-entry ps.table owner page (Some to) to is_in.in_owners is_in.in_pages) in
+    let from_counts =
+    rw mapped at (holders-entry ps.table owner page (Some to) from is_in.in_owners is_in.in_pages) in
     let gone : holders new.table from ≡ 0 =
-    omega (arith, from_counts, held_self from, not_held from (Some to) (λ e. let same : from ≡ to = cc in apart same), are.once from) in
+    omega (
+      arith,
+      from_counts,
+      held_self from,
+      not_held from (Some to) (λ e. let same : from ≡ to = cc in apart same),
+      are.once from,
+    ) in
     let arrived : page_at new to ≡ Some (owner, page) =
-    only_page new.table owner page to (omega (arith, to_counts, held_le to (Some to), free)) (entry-same ps.table owner page (Some to) is_in) in
+    only_page new.table owner page to (omega (arith, to_counts, held_le to (Some to), free))
+    (entry-same ps.table owner page (Some to) is_in) in
     let words = page_buffer ps in
-    let from_buffer : buffer_of view from ≡ page_buffer ps (owner, page) = buffer_is l ps from from_in ∙ ap (option_and_then words) first in
-    let to_buffer : buffer_of view to ≡ None = buffer_is l ps to to_in ∙ ap (option_and_then words) (first_none ps.table to free) in
-    ap (λ (p : Option (ℕ × ℕ)). page_frames_of l (option_map_or (λ page. record ps { table = with_entry ps.table page.0 page.1 (Some to) }) p ps)) first
-    ∙ (same_frames _ _ _ _ refl (two_changed (buffer_by ps) (buffer_by new) (frame_count l) from to (buffer_of view to) (buffer_of view from) from_in to_in apart
+    let from_buffer : buffer_of view from ≡ page_buffer ps (owner, page) =
+    buffer_is l ps from from_in ∙ ap (option_and_then words) first in
+    let to_buffer : buffer_of view to ≡ None =
+    buffer_is l ps to to_in ∙ ap (option_and_then words) (first_none ps.table to free) in
+    ap (λ (p : Option (ℕ × ℕ)). page_frames_of l
+    (option_map_or (λ page. record ps { table = with_entry ps.table page.0 page.1 (Some to) }) p ps)) first
+    ∙ (same_frames _ _ _ _ refl (two_changed (buffer_by ps) (buffer_by new) (frame_count l) from to
+    (buffer_of view to) (buffer_of view from) from_in to_in apart
     (ap (option_and_then words) (first_none new.table from gone) ∙ sym to_buffer)
     (ap (option_and_then words) arrived ∙ sym from_buffer)
     (λ f lt not_from not_to. buffer_kept ps new f
-    (first_kept ps.table owner page (Some to) f is_in (are.once f) (apart_from ps owner page from mapped f not_from) (λ e. let same : f ≡ to = cc in not_to same))
+    (first_kept ps.table owner page (Some to) f is_in (are.once f)
+    (apart_from ps owner page from mapped f not_from) (λ e. let same : f ≡ to = cc in not_to same))
     (λ found e. refl)))
-    ∙ sym (ap (λ (p : Option (ℕ × ℕ)). option_map_or (λ page. move_entry view page.0 page.1 from to) p view) first))
+    ∙ sym (ap (λ (p : Option (ℕ × ℕ)). option_map_or (λ page. move_entry view page.0 page.1 from to) p view)
+    first))
 
 -- one word is read, and all words of a page
-pub view-words_at : (l : LayoutParts) (ps : Pages) (owner page frame : ℕ) → AreOnce l ps → frame_at ps owner page ≡ Some frame
+pub view-words_at : (l : LayoutParts) (ps : Pages) (owner page frame : ℕ) → AreOnce l ps
+    → frame_at ps owner page ≡ Some frame
     → words_of l (page_frames_of l ps) owner page ≡ words_at ps owner page
 view-words_at l ps owner page frame are mapped =
     ap (option_map (words_in l (page_frames_of l ps))) mapped
-    ∙ (ap (λ (ws : List ℕ). Some ws) (frame_words l ps owner page frame are mapped) ∙ sym (mapped_words l ps owner page frame are mapped).are)
+    ∙ (ap (λ (ws : List ℕ). Some ws) (frame_words l ps owner page frame are mapped)
+    ∙ sym (mapped_words l ps owner page frame are mapped).are)
 
-pub view-read_word : (l : LayoutParts) (ps : Pages) (owner page frame index : ℕ) → AreOnce l ps → frame_at ps owner page ≡ Some frame
-    → slice_index (unwrap_or (words_of l (page_frames_of l ps) owner page) []) index ≡ read_word ps owner page index
+pub view-read_word : (l : LayoutParts) (ps : Pages) (owner page frame index : ℕ) → AreOnce l ps
+    → frame_at ps owner page ≡ Some frame
+    → slice_index (unwrap_or (words_of l (page_frames_of l ps) owner page) []) index
+    ≡ read_word ps owner page index
 view-read_word l ps owner page frame index are mapped =
-    ap (λ (words : Option (List ℕ)). slice_index (unwrap_or words []) index) (view-words_at l ps owner page frame are mapped)
+    ap (λ (words : Option (List ℕ)). slice_index (unwrap_or words []) index)
+    (view-words_at l ps owner page frame are mapped)
 
 -- ---- the conditions of the calls
 
 -- the numbers of a frame view are those of the layout
-kept_words : (P : List ℕ → Type 0) (words : Option (List ℕ)) → IfSome words (λ ws. is_blank ws ≡ false → P ws) → IfSome (option_and_then buffer_for words) P
+kept_words : (P : List ℕ → Type 0) (words : Option (List ℕ)) → IfSome words (λ ws. is_blank ws ≡ false → P ws)
+    → IfSome (option_and_then buffer_for words) P
 kept_words P None have = tt
 kept_words P (Some words) have = elim (cases_Bool (is_blank words)) [
   | inl blank ↦ subst (λ (b : Option (List ℕ)). IfSome b P) (sym (none-needed words blank)) tt
   | inr some ↦ subst (λ (b : Option (List ℕ)). IfSome b P) (sym (some-needed words some)) (have some)
 ]
 
-any_words : (l : LayoutParts) (words : Option (List ℕ)) → IfSome words (λ ws. length ws ≡ l.words) → IfSome words (λ ws. is_blank ws ≡ false → length ws ≡ l.words)
+any_words : (l : LayoutParts) (words : Option (List ℕ)) → IfSome words (λ ws. length ws ≡ l.words)
+    → IfSome words (λ ws. is_blank ws ≡ false → length ws ≡ l.words)
 any_words l None have = tt
 any_words l (Some words) have = λ some. have
 
 buffer_words : (l : LayoutParts) (ps : Pages) (found : Option (ℕ × ℕ)) → ArePagesOf l ps
     → IfSome (option_and_then (page_buffer ps) found) (λ words. length words ≡ l.words)
 buffer_words l ps None are = tt
-buffer_words l ps (Some page) are = kept_words (λ ws. length ws ≡ l.words) (words_at ps page.0 page.1) (any_words l (words_at ps page.0 page.1) (are.words page.0 page.1))
+buffer_words l ps (Some page) are =
+    kept_words (λ ws. length ws ≡ l.words) (words_at ps page.0 page.1)
+    (any_words l (words_at ps page.0 page.1) (are.words page.0 page.1))
 
-pub are_page_frames : (l : LayoutParts) (ps : Pages) → ArePagesOf l ps → ArePageFramesOf l (page_frames_of l ps)
+pub are_page_frames : (l : LayoutParts) (ps : Pages) → ArePagesOf l ps
+    → ArePageFramesOf l (page_frames_of l ps)
 are_page_frames l ps are = record {
   owners = are.owners;
   pages = are.pages;
   mapped = are.mapped;
   frames = length-map-range_with_len (buffer_by ps) 0 (frame_count l);
   words = λ frame. elim (cases_lt frame (frame_count l)) [
-    | inl within ↦ subst (λ (b : Option (List ℕ)). IfSome b (λ words. length words ≡ l.words)) (sym (buffer_is l ps frame within)) (buffer_words l ps (page_at ps frame) are)
-    | inr past ↦ subst (λ (b : Option (List ℕ)). IfSome b (λ words. length words ≡ l.words)) (sym (no_buffer_past l ps frame past)) tt
+    | inl within ↦
+        subst (λ (b : Option (List ℕ)). IfSome b (λ words. length words ≡ l.words))
+        (sym (buffer_is l ps frame within)) (buffer_words l ps (page_at ps frame) are)
+    | inr past ↦
+        subst (λ (b : Option (List ℕ)). IfSome b (λ words. length words ≡ l.words))
+        (sym (no_buffer_past l ps frame past)) tt
   ];
 }
 
 -- the frame view is settled
-needed_words : (v : PageFrames) (frame : ℕ) (words : Option (List ℕ)) → holders v.table frame ≡ 1 → IfSome words (λ ws. is_blank ws ≡ false → IsNeeded v frame ws)
+needed_words : (v : PageFrames) (frame : ℕ) (words : Option (List ℕ)) → holders v.table frame ≡ 1
+    → IfSome words (λ ws. is_blank ws ≡ false → IsNeeded v frame ws)
 needed_words v frame None one = tt
 needed_words v frame (Some words) one = λ some. record { held = one; some = some }
 
-needed_found : (l : LayoutParts) (ps : Pages) (frame : ℕ) (found : Option (ℕ × ℕ)) → holders ps.table frame ≤ 1 → page_at ps frame ≡ found
+needed_found : (l : LayoutParts) (ps : Pages) (frame : ℕ) (found : Option (ℕ × ℕ))
+    → holders ps.table frame ≤ 1 → page_at ps frame ≡ found
     → IfSome (option_and_then (page_buffer ps) found) (IsNeeded (page_frames_of l ps) frame)
 needed_found l ps frame None once first = tt
 needed_found l ps frame (Some page) once first =
-    let one : holders ps.table frame ≡ 1 = omega (arith, once, holds_some ps.table page.0 page.1 frame (entry_at ps.table frame page first)) in
-    kept_words (IsNeeded (page_frames_of l ps) frame) (words_at ps page.0 page.1) (needed_words (page_frames_of l ps) frame (words_at ps page.0 page.1) one)
+    let one : holders ps.table frame ≡ 1 =
+    omega (arith, once, holds_some ps.table page.0 page.1 frame (entry_at ps.table frame page first)) in
+    kept_words (IsNeeded (page_frames_of l ps) frame) (words_at ps page.0 page.1)
+    (needed_words (page_frames_of l ps) frame (words_at ps page.0 page.1) one)
 
 pub settled_view : (l : LayoutParts) (ps : Pages) → AreOnce l ps → AreSettled (page_frames_of l ps)
 settled_view l ps are = record {
   once = are.once;
   buffers = λ frame. elim (cases_lt frame (frame_count l)) [
-    | inl within ↦ subst (λ (b : Option (List ℕ)). IfSome b (IsNeeded (page_frames_of l ps) frame)) (sym (buffer_is l ps frame within))
+    | inl within ↦
+        subst (λ (b : Option (List ℕ)). IfSome b (IsNeeded (page_frames_of l ps) frame))
+        (sym (buffer_is l ps frame within))
         (needed_found l ps frame (page_at ps frame) (are.once frame) refl)
-    | inr past ↦ subst (λ (b : Option (List ℕ)). IfSome b (IsNeeded (page_frames_of l ps) frame)) (sym (no_buffer_past l ps frame past)) tt
+    | inr past ↦
+        subst (λ (b : Option (List ℕ)). IfSome b (IsNeeded (page_frames_of l ps) frame))
+        (sym (no_buffer_past l ps frame past)) tt
   ];
 }
 
@@ -343,7 +310,8 @@ settled_view l ps are = record {
 pub holders_placed : (ps : Pages) (frame : ℕ) → mapped_places ps frame ≡ holders ps.table frame
 holders_placed ps frame = refl
 
-page_words : (l : LayoutParts) (entry : Option ℕ) (words : Option (List ℕ)) → IsPage l entry words → is_some words ≡ is_some entry
+page_words : (l : LayoutParts) (entry : Option ℕ) (words : Option (List ℕ)) → IsPage l entry words
+    → is_some words ≡ is_some entry
 page_words l None None is = refl
 page_words l None (Some words) is = absurd is
 page_words l (Some frame) None is = absurd is
@@ -354,8 +322,11 @@ pub once_placed : (l : LayoutParts) (s : Memory) → IsWellPlaced l s → ArePag
 once_placed l s placed are = record {
   pages_of = are;
   once = λ frame. omega (arith, placed.once frame);
-  words = λ owner page. page_words l (frame_at s.pages owner page) (words_at s.pages owner page) (placed.in_order.words owner page);
+  words =
+      λ owner page. page_words l (frame_at s.pages owner page) (words_at s.pages owner page)
+      (placed.in_order.words owner page);
 }
 
-pub settled_placed : (l : LayoutParts) (s : Memory) → IsWellPlaced l s → ArePagesOf l s.pages → AreSettled (page_frames_of l s.pages)
+pub settled_placed : (l : LayoutParts) (s : Memory) → IsWellPlaced l s → ArePagesOf l s.pages
+    → AreSettled (page_frames_of l s.pages)
 settled_placed l s placed are = settled_view l s.pages (once_placed l s placed are)

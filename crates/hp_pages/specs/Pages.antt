@@ -29,14 +29,15 @@ pub record IsNeeded (v : PageFrames) (frame : ℕ) (words : List ℕ) : Type 0 w
   pub held : holders v.table frame ≡ 1
   pub some : is_blank words ≡ false
 
--- a frame holds at most one page, and only the frame of a page has a buffer, where a word of the page is not 0:
--- each call but the opposite of a delta keeps this (own rule)
+-- a frame holds at most one page, and only the frame of a page has a buffer, where a word of the
+-- page is not 0: each call but the opposite of a delta keeps this (own rule)
 pub record AreSettled (v : PageFrames) : Type 0 where
   pub once : (frame : ℕ) → holders v.table frame ≤ 1
   pub buffers : (frame : ℕ) → IfSome (buffer_of v frame) (IsNeeded v frame)
 
 -- the table, the buffers and the zeros as the layer has them
-pub record AreLayerOf (l : LayoutParts) (t : TableValue) (buffers : List (Option (List ℕ))) (words_of_none : List ℕ) : Type 0 where
+pub record AreLayerOf (l : LayoutParts) (t : TableValue) (buffers : List (Option (List ℕ)))
+    (words_of_none : List ℕ) : Type 0 where
   pub frames : t.frames ≡ frame_count l
   pub pages : t.pages ≡ l.pages
   pub owners : length t.rows ≡ l.owners
@@ -59,7 +60,8 @@ abbrev pub map_frame : PageFrames → (owner page frame : ℕ) → PageFrames
 map_frame v owner page frame = record v { table = with_entry v.table owner page (Some frame) }
 
 abbrev pub unmap_from : PageFrames → (owner page frame : ℕ) → PageFrames
-unmap_from v owner page frame = record { table = with_entry v.table owner page None; buffers = slice_set v.buffers frame None }
+unmap_from v owner page frame =
+    record { table = with_entry v.table owner page None; buffers = slice_set v.buffers frame None }
 
 abbrev pub unmap_frame : PageFrames → (owner page : ℕ) → PageFrames
 unmap_frame v owner page = option_map_or (unmap_from v owner page) (entry_of v.table owner page) v
@@ -69,10 +71,11 @@ abbrev pub write_at : LayoutParts → PageFrames → (frame index value : ℕ) �
 write_at l v frame index value = with_buffer v frame (buffer_for (slice_set (words_in l v frame) index value))
 
 abbrev pub write_frame : LayoutParts → PageFrames → (owner page index value : ℕ) → PageFrames
-write_frame l v owner page index value = option_map_or (λ frame. write_at l v frame index value) (entry_of v.table owner page) v
+write_frame l v owner page index value =
+    option_map_or (λ frame. write_at l v frame index value) (entry_of v.table owner page) v
 
--- the buffer of a page's frame, and the one that a write of a value asks for: zeros, where the frame has none and
--- the value is not 0
+-- the buffer of a page's frame, and the one that a write of a value asks for: zeros, where the
+-- frame has none and the value is not 0
 abbrev pub buffer_at : PageFrames → (owner page : ℕ) → Option (List ℕ)
 buffer_at v owner page = option_and_then (buffer_of v) (entry_of v.table owner page)
 
@@ -80,12 +83,14 @@ abbrev pub spare_for : LayoutParts → Option (List ℕ) → (value : ℕ) → O
 spare_for l None value = if value == 0 then None else Some (fresh_words l)
 spare_for l (Some words) value = None
 
--- the buffers of two frames change places, and a page moves from one frame to another (Linux, memory hotplug: migration)
+-- the buffers of two frames change places, and a page moves from one frame to another (Linux,
+-- memory hotplug: migration)
 abbrev pub swap_buffers : PageFrames → (a b : ℕ) → PageFrames
 swap_buffers v a b = with_buffer (with_buffer v a (buffer_of v b)) b (buffer_of v a)
 
 abbrev pub move_entry : PageFrames → (owner page from to : ℕ) → PageFrames
-move_entry v owner page from to = record (swap_buffers v from to) { table = with_entry v.table owner page (Some to) }
+move_entry v owner page from to =
+    record (swap_buffers v from to) { table = with_entry v.table owner page (Some to) }
 
 abbrev pub move_frame : PageFrames → (from to : ℕ) → PageFrames
 move_frame v from to = option_map_or (λ page. move_entry v page.0 page.1 from to) (page_from 0 v.table from) v

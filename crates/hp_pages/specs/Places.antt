@@ -25,7 +25,8 @@ row_sum place (entry ∷ row) frame = held frame entry place + row_sum (place + 
 
 abbrev pub table_sum : (pages place : ℕ) → List (List (Option ℕ)) → (frame : ℕ) → ℕ
 table_sum pages place [] frame = 0
-table_sum pages place (row ∷ table) frame = row_sum place row frame + table_sum pages (place + pages) table frame
+table_sum pages place (row ∷ table) frame =
+    row_sum place row frame + table_sum pages (place + pages) table frame
 
 -- ---- the sums of all frames
 

@@ -74,7 +74,8 @@ impl Buffers {
     pub(crate) fn swap(&mut self, a: Frame, b: Frame)
         requires a { a < length self.old }
         requires b { b < length self.old }
-        ensures { self.new ≡ slice_set (slice_set self.old a (slice_index_or self.old b None)) b (slice_index_or self.old a None) }
+        ensures { self.new ≡ slice_set (slice_set self.old a (slice_index_or self.old b None)) b
+            (slice_index_or self.old a None) }
     {
         self.frames.swap(a.0 as usize, b.0 as usize);
     }
@@ -83,7 +84,8 @@ impl Buffers {
     pub(crate) fn set_word(&mut self, frame: Frame, index: u32, value: u64)
         requires frame { frame < length self.old }
         requires index { IfSome (slice_index_or self.old frame None) (λ words. index < length words) }
-        ensures { self.new ≡ slice_set self.old frame (option_map (λ words. slice_set words index value) (slice_index_or self.old frame None)) }
+        ensures { self.new ≡ slice_set self.old frame
+            (option_map (λ words. slice_set words index value) (slice_index_or self.old frame None)) }
     {
         if let Some(words) = &mut self.frames[frame.0 as usize] {
             words.set(index, value);

@@ -9,6 +9,8 @@ ghost use Rattle.hp_pages.specs.Pages.{ArePageFramesOf, AreSettled};
 /// In a well placed state no frame holds two pages, exactly the frames of pages have words, and all
 /// numbers are those of the layout: what each call asks of the pages (own rule).
 pub fn well_placed_pages_are_settled()
-    ensures settled { (l : LayoutParts) (s : Memory) → IsLayout l → IsWellPlaced l s → AreSettled (page_frames_of l s.pages) }
-    ensures numbers { (l : LayoutParts) (s : Memory) → IsLayout l → IsWellPlaced l s → ArePageFramesOf l (page_frames_of l s.pages) }
+    ensures settled { (l : LayoutParts) (s : Memory) → IsLayout l → IsWellPlaced l s
+        → AreSettled (page_frames_of l s.pages) }
+    ensures numbers { (l : LayoutParts) (s : Memory) → IsLayout l → IsWellPlaced l s
+        → ArePageFramesOf l (page_frames_of l s.pages) }
 {}

@@ -5,9 +5,9 @@ ghost use Rattle.hp_units.specs.Arithmetic.{IsFrame, frame_count};
 ghost use Rattle.hp_units.specs.Boot.{empty_pages};
 ghost use Rattle.hp_units.specs.Memory.{entry_of, with_entry};
 ghost use Rattle.hp_units.specs.Pages.{fresh_words, page_from};
-ghost use Rattle.hp_tape.specs.Deltas.{FitsPages, IsDeltaOf, buffer_of, page_frames_of, pages_undo, with_buffer};
+ghost use Rattle.hp_tape.specs.Deltas.{buffer_of, page_frames_of, with_buffer};
 ghost use Rattle.hp_tape.specs.Tapes.{HasRoom, NotesPages};
-ghost use Rattle.hp_pages.specs.Pages.{ArePageFramesOf, AreSettled, IsInPlace, buffer_at, map_frame, move_frame, spare_for, unmap_frame, words_in, words_of, write_at, write_frame};
+ghost use Rattle.hp_pages.specs.Pages.{ArePageFramesOf, AreSettled, buffer_at, map_frame, move_frame, spare_for, unmap_frame, words_in, words_of, write_at, write_frame};
 ghost use Rattle.hp_pages.specs.Places.{holders};
 
 use crate::buffers::{Buffers, is_blank_beside, zeros};
@@ -17,8 +17,11 @@ use hp_units::{Frame, Layout, Owner, Page, Words};
 use std::alloc::{AllocError, Global};
 use std::marker::Model;
 
-/// The owners' pages of a layout: the frame of each page, and the words of each mapped frame. A page whose words
-/// are all 0 has no buffer: one page of zeros serves all of them. No call but `new` and `spare_for` takes memory.
+mod back;
+
+/// The owners' pages of a layout: the frame of each page, and the words of each mapped frame. A
+/// page whose words are all 0 has no buffer: one page of zeros serves all of them. No call but
+/// `new` and `spare_for` takes memory.
 #[derive(Debug)]
 pub struct Pages {
     layout: Layout,
@@ -44,7 +47,8 @@ impl Model for Pages {
 
     ghost Value = { PagesValue };
 
-    ghost view = { λ p. record { layout = p.layout; pages = record { table = p.table.rows; buffers = p.buffers } } };
+    ghost view = { λ p.
+        record { layout = p.layout; pages = record { table = p.table.rows; buffers = p.buffers } } };
 
     ghost invariant = { λ p. AreLayerOf p.layout p.table p.buffers p.zeros };
 }
@@ -52,7 +56,8 @@ impl Model for Pages {
 impl Pages {
     /// The pages of a layout, none mapped.
     pub fn new(alloc: Global, layout: &Layout) -> Result<Pages, AllocError>
-        ensures empty { IfOk result (λ p. p ≡ record { layout = layout.now; pages = page_frames_of layout.now (empty_pages layout.now) }) }
+        ensures empty { IfOk result (λ p.
+            p ≡ record { layout = layout.now; pages = page_frames_of layout.now (empty_pages layout.now) }) }
         ensures settled { IfOk result (λ p. AreSettled p.pages) }
     {
         let frames = layout.frames();
@@ -87,7 +92,8 @@ impl Pages {
     /// The lowest mapped frame of so many frames from one on, all of the layout. A step for 64 frames.
     pub fn lowest_mapped(&self, first: Frame, count: u32) -> Option<Frame>
         requires { first + count ≤ frame_count self.now.layout }
-        ensures { result ≡ find (λ frame. is_some (page_from 0 self.now.pages.table frame)) (range_with_len first count) }
+        ensures { result
+            ≡ find (λ frame. is_some (page_from 0 self.now.pages.table frame)) (range_with_len first count) }
     {
         self.table.lowest(first.0, count)
     }
@@ -96,7 +102,8 @@ impl Pages {
     pub fn words(&self, owner: Owner, page: Page) -> Option<&[u64]>
         requires owner { owner < self.now.layout.owners }
         requires page { page < self.now.layout.pages }
-        ensures words { option_map (λ words. words.now) result ≡ words_of self.now.layout self.now.pages owner page }
+        ensures words { option_map (λ words. words.now) result
+            ≡ words_of self.now.layout self.now.pages owner page }
         ensures size { IfSome result (λ words. length words.now ≡ self.now.layout.words) }
     {
         match self.frame_at(owner, page) {
@@ -123,7 +130,8 @@ impl Pages {
         requires page { page < self.now.layout.pages }
         requires index { index < self.now.layout.words }
         requires mapped { IsSome (entry_of self.now.pages.table owner page) }
-        ensures { result ≡ slice_index (unwrap_or (words_of self.now.layout self.now.pages owner page) []) index }
+        ensures { result
+            ≡ slice_index (unwrap_or (words_of self.now.layout self.now.pages owner page) []) index }
     {
         let words = self.words(owner, page).unwrap();
         words[index as usize]
@@ -152,8 +160,8 @@ impl Pages {
         });
     }
 
-    /// Unmaps a mapped page of the layout; its frame is answered, and the frame's buffer, if it has one, moves
-    /// into the tape. One or two deltas.
+    /// Unmaps a mapped page of the layout; its frame is answered, and the frame's buffer, if it has
+    /// one, moves into the tape. One or two deltas.
     pub fn unmap(&mut self, owner: Owner, page: Page, tape: &mut Tape) -> Frame
         requires owner { owner < self.old.layout.owners }
         requires page { page < self.old.layout.pages }
@@ -192,7 +200,8 @@ impl Pages {
         requires frame { IsFrame self.old.layout frame }
         requires mapped { entry_of self.old.pages.table owner page ≡ Some frame }
         requires room { HasRoom tape.old 1 }
-        ensures cleared { self.new.pages ≡ record self.old.pages { table = with_entry self.old.pages.table owner page None } }
+        ensures cleared { self.new.pages
+            ≡ record self.old.pages { table = with_entry self.old.pages.table owner page None } }
         ensures layout { self.new.layout ≡ self.old.layout }
         ensures notes { NotesPages self.old.layout 1 tape.old tape.new self.new.pages self.old.pages }
     {
@@ -290,8 +299,8 @@ impl Pages {
         });
     }
 
-    /// A word changes in a frame of the layout, which has a buffer unless the word stays 0. A buffer whose words
-    /// are all 0 then moves into the tape, as it was.
+    /// A word changes in a frame of the layout, which has a buffer unless the word stays 0. A
+    /// buffer whose words are all 0 then moves into the tape, as it was.
     fn overwrite(&mut self, frame: Frame, index: u32, value: u64, tape: &mut Tape)
         requires frame { IsFrame self.old.layout frame }
         requires index { index < self.old.layout.words }
@@ -318,7 +327,8 @@ impl Pages {
         requires index { index < self.old.layout.words }
         requires was { slice_get (unwrap_or (buffer_of self.old.pages frame) []) index ≡ Some was }
         requires room { HasRoom tape.old 1 }
-        ensures set { self.new.pages ≡ with_buffer self.old.pages frame (option_map (λ words. slice_set words index now) (buffer_of self.old.pages frame)) }
+        ensures set { self.new.pages ≡ with_buffer self.old.pages frame
+            (option_map (λ words. slice_set words index now) (buffer_of self.old.pages frame)) }
         ensures layout { self.new.layout ≡ self.old.layout }
         ensures notes { NotesPages self.old.layout 1 tape.old tape.new self.new.pages self.old.pages }
     {
@@ -331,8 +341,8 @@ impl Pages {
         });
     }
 
-    /// Moves the page at one frame of the layout to another that holds none; the buffers change places, and no word is copied
-    /// (Linux guide, Memory Hot(Un)Plug: migration). Two deltas.
+    /// Moves the page at one frame of the layout to another that holds none; the buffers change
+    /// places, and no word is copied (Linux guide, Memory Hot(Un)Plug: migration). Two deltas.
     pub fn move_page(&mut self, from: Frame, to: Frame, tape: &mut Tape)
         requires from { IsFrame self.old.layout from }
         requires to { IsFrame self.old.layout to }
@@ -355,45 +365,5 @@ impl Pages {
             was: Some(from),
             now: Some(to),
         });
-    }
-
-    /// Does the opposite of a delta of the layout that fits; one of another layer changes nothing.
-    pub fn back(&mut self, delta: Delta)
-        requires fits { FitsPages delta self.old.pages }
-        requires numbers { IsDeltaOf self.old.layout delta }
-        ensures back { self.new.pages ≡ pages_undo delta self.old.pages }
-        ensures layout { self.new.layout ≡ self.old.layout }
-    {
-        match delta {
-            Delta::Emptied { frame, words } => self.buffers.put(frame, words),
-            other => self.back_in_place(&other),
-        }
-    }
-
-    /// The same, of a delta that has no buffer.
-    fn back_in_place(&mut self, delta: &Delta)
-        requires fits { FitsPages delta.now self.old.pages }
-        requires numbers { IsDeltaOf self.old.layout delta.now }
-        requires other { IsInPlace delta.now }
-        ensures back { self.new.pages ≡ pages_undo delta.now self.old.pages }
-        ensures layout { self.new.layout ≡ self.old.layout }
-    {
-        match delta {
-            Delta::Map {
-                owner,
-                page,
-                was,
-                ..
-            } => self.table.set(*owner, *page, *was),
-            Delta::Swap { a, b } => self.buffers.swap(*a, *b),
-            Delta::Word {
-                frame,
-                index,
-                was,
-                ..
-            } => self.buffers.set_word(*frame, *index, *was),
-            Delta::Filled { frame, .. } => self.buffers.clear(*frame),
-            _ => {}
-        }
     }
 }

@@ -66,11 +66,13 @@ impl Model for Table {
 
     ghost view = { λ t. record { frames = length t.sums; pages = t.pages; rows = t.rows.items } };
 
-    ghost invariant = { λ t. AreSumsOf (record { frames = length t.sums; pages = t.pages; rows = t.rows.items }) t.sums };
+    ghost invariant = { λ t.
+        AreSumsOf (record { frames = length t.sums; pages = t.pages; rows = t.rows.items }) t.sums };
 }
 
 impl Table {
-    /// So many owners with so many pages, none mapped, and so many frames: at most 64, 2^16 and 2^20, and at least one page.
+    /// So many owners with so many pages, none mapped, and so many frames: at most 64, 2^16 and
+    /// 2^20, and at least one page.
     pub(crate) fn empty(
         alloc: Global,
         owners: u32,
@@ -81,7 +83,8 @@ impl Table {
         requires some_pages { 1 ≤ pages }
         requires pages { pages ≤ 2 ^ 16 }
         requires frames { frames ≤ 2 ^ 20 }
-        ensures { IfOk result (λ t. t ≡ record { frames = frames; pages = pages; rows = replicate owners (replicate pages None) }) }
+        ensures { IfOk result (λ t.
+            t ≡ record { frames = frames; pages = pages; rows = replicate owners (replicate pages None) }) }
     {
         let rows = empty_rows(alloc, owners, pages)?;
         let sums = PlaceSums::none(alloc, frames)?;
@@ -137,7 +140,8 @@ impl Table {
     /// The lowest frame with a page, of so many frames from one on. A step for 64 frames.
     pub(crate) fn lowest(&self, first: u32, count: u32) -> Option<Frame>
         requires { first + count ≤ self.now.frames }
-        ensures { result ≡ find (λ frame. is_some (page_from 0 self.now.rows frame)) (range_with_len first count) }
+        ensures { result
+            ≡ find (λ frame. is_some (page_from 0 self.now.rows frame)) (range_with_len first count) }
     {
         self.sums.lowest(first, first + count)
     }

@@ -23,15 +23,18 @@ answer-same l s serial cpu plan None = refl
 answer-same l s serial cpu plan (Some refusal) = refl
 
 -- a processor that is in the layout isn't refused
-passes : (cpus cpu : ℕ) (past : Bool) (other : Option Refusal) → nat_le cpus cpu ≡ past → cpu < cpus → other ≡ option_or (then_some past NoCpu) other
+passes : (cpus cpu : ℕ) (past : Bool) (other : Option Refusal) → nat_le cpus cpu ≡ past → cpu < cpus
+    → other ≡ option_or (then_some past NoCpu) other
 passes cpus cpu false other e below = refl
 passes cpus cpu true other e below = let above : cpus ≤ cpu = leb-true cpus cpu e in absurd (omega arith)
 
 -- what a Begin answers and does is its step
-pub begins : (l : LayoutParts) (s : Memory) (serial cpu : ℕ) (plan : List Item) (event : Event) → cpu < l.cpus → event ≡ Begin plan
+pub begins : (l : LayoutParts) (s : Memory) (serial cpu : ℕ) (plan : List Item) (event : Event) → cpu < l.cpus
+    → event ≡ Begin plan
     → opened l s serial plan ≡ step l s serial cpu event
 unfolding step refusal_of
 begins l s serial cpu plan event below e =
     subst (λ (v : Event). opened l s serial plan ≡ step l s serial cpu v) (sym e)
     (answer-same l s serial cpu plan (first_some (plan_refusals l s plan))
-    ∙ ap (answer l s serial cpu (Begin plan)) (passes l.cpus cpu (nat_le l.cpus cpu) (first_some (plan_refusals l s plan)) refl below))
+    ∙ ap (answer l s serial cpu (Begin plan))
+    (passes l.cpus cpu (nat_le l.cpus cpu) (first_some (plan_refusals l s plan)) refl below))

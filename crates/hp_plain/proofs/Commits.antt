@@ -6,7 +6,8 @@ use Rattle.std.proofs.Math.Seq.{drop-cons}
 use Rattle.hp_plain.proofs.Scans.{find-flat_step}
 
 -- a test of all entries that are left
-pub all-step : {X : Type 0} (p : X → Bool) (xs : List X) (i : ℕ) (d : X) (holds : Bool) → i < length xs → p (get_or xs i d) ≡ holds
+pub all-step : {X : Type 0} (p : X → Bool) (xs : List X) (i : ℕ) (d : X) (holds : Bool) → i < length xs
+    → p (get_or xs i d) ≡ holds
     → list_all p (drop i xs) ≡ cond holds (list_all p (drop (i + 1) xs)) false
 all-step {X} p xs i d holds h e =
     ap (list_all p) (drop-cons xs i d h) ∙ and_cond (p (get_or xs i d)) holds (list_all p (drop (suc i) xs)) e
@@ -18,9 +19,12 @@ all-step {X} p xs i d holds h e =
     and_cond true false rest f = absurd cc
     and_cond false true rest f = absurd cc
 
--- the first number that passes a test among those of the blocks that are left, by the answer of the first of these
-pub find-flat_item : (p : ℕ → Bool) (f : ℕ → List ℕ) (xs : List ℕ) (i d : ℕ) (found : Option ℕ) → i < length xs → d ≡ get_or xs i d → found ≡ find p (f d)
+-- the first number that passes a test among those of the blocks that are left, by the answer of the
+-- first of these
+pub find-flat_item : (p : ℕ → Bool) (f : ℕ → List ℕ) (xs : List ℕ) (i d : ℕ) (found : Option ℕ)
+    → i < length xs → d ≡ get_or xs i d → found ≡ find p (f d)
     → find p (flat_map f (drop i xs)) ≡ option_or found (find p (flat_map f (drop (i + 1) xs)))
 find-flat_item p f xs i d found h item e =
     let rest : Option ℕ = find p (flat_map f (drop (i + 1) xs)) in
-    find-flat_step p f xs i d h ∙ ap (λ (n : ℕ). option_or (find p (f n)) rest) (sym item) ∙ ap (λ (o : Option ℕ). option_or o rest) (sym e)
+    find-flat_step p f xs i d h ∙ ap (λ (n : ℕ). option_or (find p (f n)) rest) (sym item)
+    ∙ ap (λ (o : Option ℕ). option_or o rest) (sym e)

@@ -20,7 +20,8 @@ all_replicate P zero x h = tt
 all_replicate P (suc n) x h = (h, all_replicate P n x h)
 
 -- no page of an empty table has an entry
-no_entry : {A : Type 0} (owners pages owner page : ℕ) → entry_of {A = A} (replicate owners (replicate pages None)) owner page ≡ None
+no_entry : {A : Type 0} (owners pages owner page : ℕ)
+    → entry_of {A = A} (replicate owners (replicate pages None)) owner page ≡ None
 no_entry zero pages owner page = refl
 no_entry (suc owners) pages zero page = at_replicate pages page None
 no_entry (suc owners) pages (suc owner) page = no_entry owners pages owner page
@@ -29,22 +30,33 @@ no_entry (suc owners) pages (suc owner) page = no_entry owners pages owner page
 pages_of : (l : LayoutParts) → ArePagesOf l (empty_pages l)
 pages_of l = record {
   owners = length-replicate l.owners (replicate l.pages None);
-  pages = all_replicate (λ (row : List (Option ℕ)). length row ≡ l.pages) l.owners (replicate l.pages None) (length-replicate l.pages None);
+  pages =
+      all_replicate (λ (row : List (Option ℕ)). length row ≡ l.pages) l.owners (replicate l.pages None)
+      (length-replicate l.pages None);
   content_owners = length-replicate l.owners (replicate l.pages None);
-  content_pages = all_replicate (λ (row : List (Option (List ℕ))). length row ≡ l.pages) l.owners (replicate l.pages None) (length-replicate l.pages None);
-  mapped = λ owner page. subst (λ (o : Option ℕ). IfSome o (IsFrame l)) (sym (no_entry l.owners l.pages owner page)) tt;
-  words = λ owner page. subst (λ (o : Option (List ℕ)). IfSome o (λ words. length words ≡ l.words)) (sym (no_entry l.owners l.pages owner page)) tt;
+  content_pages =
+      all_replicate (λ (row : List (Option (List ℕ))). length row ≡ l.pages) l.owners (replicate l.pages None)
+      (length-replicate l.pages None);
+  mapped =
+      λ owner page.
+      subst (λ (o : Option ℕ). IfSome o (IsFrame l)) (sym (no_entry l.owners l.pages owner page)) tt;
+  words =
+      λ owner page. subst (λ (o : Option (List ℕ)). IfSome o (λ words. length words ≡ l.words))
+      (sym (no_entry l.owners l.pages owner page)) tt;
 }
 
 -- its kernel's blocks
 kernel_of : (l : LayoutParts) → AreKernelBlocksOf l (replicate (frame_count l) None)
 kernel_of l = record {
   frames = length-replicate (frame_count l) None;
-  orders = λ first. subst (λ (o : Option ℕ). IfSome o (λ order. order ≤ l.order)) (sym (at_replicate (frame_count l) first None)) tt;
+  orders =
+      λ first. subst (λ (o : Option ℕ). IfSome o (λ order. order ≤ l.order))
+      (sym (at_replicate (frame_count l) first None)) tt;
 }
 
 -- and all of it
-pub memory_of : (l : LayoutParts) (s : Memory) → AreFreeFramesOf l s.free → s.pages ≡ empty_pages l → s.kernel ≡ replicate (frame_count l) None
+pub memory_of : (l : LayoutParts) (s : Memory) → AreFreeFramesOf l s.free → s.pages ≡ empty_pages l
+    → s.kernel ≡ replicate (frame_count l) None
     → s.blocks ≡ empty_blocks l → IsMemoryOf l s
 memory_of l s free pages kernel blocks = record {
   free = free;

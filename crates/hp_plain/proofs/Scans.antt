@@ -15,29 +15,40 @@ use Rattle.hp_areas.proofs.Ranges.{range_step, fold-range_more}
 
 -- a search for the first number
 pub find-range_step : (p : ℕ → Bool) (a n size : ℕ) (found : Bool) → n < size → p (a + n) ≡ found
-    → find p (range_with_len (a + n) (size - n)) ≡ cond found (Some (a + n)) (find p (range_with_len (a + (n + 1)) (size - (n + 1))))
+    → find p (range_with_len (a + n) (size - n))
+    ≡ cond found (Some (a + n)) (find p (range_with_len (a + (n + 1)) (size - (n + 1))))
 find-range_step p a n size found h e =
-    ap (find p) (range_step a n size h) ∙ ap (λ (b : Bool). cond b (Some (a + n)) (find p (range_with_len (a + (n + 1)) (size - (n + 1))))) e
+    ap (find p) (range_step a n size h)
+    ∙ ap (λ (b : Bool). cond b (Some (a + n)) (find p (range_with_len (a + (n + 1)) (size - (n + 1))))) e
 
 -- a fold over the numbers below one, one number further
-pub fold-below_more : {B : Type 0} (f : B → ℕ → B) (b : B) (n : ℕ) → fold f b (range_with_len 0 (n + 1)) ≡ f (fold f b (range_with_len 0 n)) n
+pub fold-below_more : {B : Type 0} (f : B → ℕ → B) (b : B) (n : ℕ)
+    → fold f b (range_with_len 0 (n + 1)) ≡ f (fold f b (range_with_len 0 n)) n
 fold-below_more f b n = fold-range_more f b 0 n ∙ ap (f (fold f b (range_with_len 0 n))) (zero-add n)
 
 -- ---- the entries of a list
 
 -- the first number that passes a test among those of the entries that are left
-pub find-flat_step : {X : Type 0} (p : ℕ → Bool) (f : X → List ℕ) (xs : List X) (i : ℕ) (d : X) → i < length xs
-    → find p (flat_map f (drop i xs)) ≡ option_or (find p (f (get_or xs i d))) (find p (flat_map f (drop (i + 1) xs)))
+pub find-flat_step : {X : Type 0} (p : ℕ → Bool) (f : X → List ℕ) (xs : List X) (i : ℕ) (d : X)
+    → i < length xs
+    → find p (flat_map f (drop i xs))
+    ≡ option_or (find p (f (get_or xs i d))) (find p (flat_map f (drop (i + 1) xs)))
 find-flat_step {X} p f xs i d h =
-    ap (λ (ys : List X). find p (flat_map f ys)) (drop-cons xs i d h) ∙ find-append p (f (get_or xs i d)) (flat_map f (drop (suc i) xs))
-    ∙ ap (λ (k : ℕ). option_or (find p (f (get_or xs i d))) (find p (flat_map f (drop k xs)))) (sym (add-one i))
+    ap (λ (ys : List X). find p (flat_map f ys)) (drop-cons xs i d h)
+    ∙ find-append p (f (get_or xs i d)) (flat_map f (drop (suc i) xs))
+    ∙ ap (λ (k : ℕ). option_or (find p (f (get_or xs i d))) (find p (flat_map f (drop k xs))))
+    (sym (add-one i))
 
 -- ---- the blocks of a plan
 
 -- a block among the blocks of items in front of others
-stands : (block : ℕ) (before : List ℕ) (items : List Item) → is_on block (blocks_in before items) ≡ (list_any (λ item. item.block == block) items || is_on block before)
+stands : (block : ℕ) (before : List ℕ) (items : List Item)
+    → is_on block (blocks_in before items)
+    ≡ (list_any (λ item. item.block == block) items || is_on block before)
 stands block before [] = refl
-stands block before (item ∷ items) = stands block (item.block ∷ before) items ∙ turn (item.block == block) (list_any (λ other. other.block == block) items) (is_on block before)
+stands block before (item ∷ items) =
+    stands block (item.block ∷ before) items
+    ∙ turn (item.block == block) (list_any (λ other. other.block == block) items) (is_on block before)
   where
     turn : (x y z : Bool) → (y || (x || z)) ≡ ((x || y) || z)
     turn true true z = refl
@@ -46,21 +57,28 @@ stands block before (item ∷ items) = stands block (item.block ∷ before) item
     turn false false z = refl
 
 -- the blocks of items, one item further
-blocks_in-push : (before : List ℕ) (items : List Item) (item : Item) → blocks_in before (items ++ item ∷ []) ≡ item.block ∷ blocks_in before items
+blocks_in-push : (before : List ℕ) (items : List Item) (item : Item)
+    → blocks_in before (items ++ item ∷ []) ≡ item.block ∷ blocks_in before items
 blocks_in-push before [] item = refl
 blocks_in-push before (first ∷ items) item = blocks_in-push (first.block ∷ before) items item
 
 -- one item further in the search for a block that stands a second time
-pub repeated-step : (plan : List Item) (n : ℕ) (d : Item) (found : Bool) → n < length plan → found ≡ list_any (λ item. item.block == (get_or plan n d).block) (take n plan)
+pub repeated-step : (plan : List Item) (n : ℕ) (d : Item) (found : Bool) → n < length plan
+    → found ≡ list_any (λ item. item.block == (get_or plan n d).block) (take n plan)
     → first_repeated (blocks_in [] (take n plan)) (drop n plan)
-    ≡ cond found (Some (get_or plan n d).block) (first_repeated (blocks_in [] (take (n + 1) plan)) (drop (n + 1) plan))
+    ≡ cond found (Some (get_or plan n d).block)
+    (first_repeated (blocks_in [] (take (n + 1) plan)) (drop (n + 1) plan))
 repeated-step plan n d found h e =
     let item : Item = get_or plan n d in
     let before : List ℕ = blocks_in [] (take n plan) in
-    let test : is_on item.block before ≡ found = stands item.block [] (take n plan) ∙ or_false (list_any (λ other. other.block == item.block) (take n plan)) ∙ sym e in
-    let after : item.block ∷ before ≡ blocks_in [] (take (n + 1) plan) = sym (ap (blocks_in []) (take_more plan n d h) ∙ blocks_in-push [] (take n plan) item) in
+    let test : is_on item.block before ≡ found =
+    stands item.block [] (take n plan)
+    ∙ or_false (list_any (λ other. other.block == item.block) (take n plan)) ∙ sym e in
+    let after : item.block ∷ before ≡ blocks_in [] (take (n + 1) plan) =
+    sym (ap (blocks_in []) (take_more plan n d h) ∙ blocks_in-push [] (take n plan) item) in
     ap (first_repeated before) (drop-cons plan n d h ∙ ap (λ (k : ℕ). item ∷ drop k plan) (sym (add-one n)))
-    ∙ ap (λ (b : Bool). cond b (Some item.block) (first_repeated (item.block ∷ before) (drop (n + 1) plan))) test
+    ∙ ap (λ (b : Bool). cond b (Some item.block) (first_repeated (item.block ∷ before) (drop (n + 1) plan)))
+    test
     ∙ ap (λ (bs : List ℕ). cond found (Some item.block) (first_repeated bs (drop (n + 1) plan))) after
   where
     or_false : (b : Bool) → (b || false) ≡ b

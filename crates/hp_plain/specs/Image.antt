@@ -18,7 +18,8 @@ pub record Pictured : Type 0 where
 abbrev pub IsPartOf : LayoutParts → Part → Type 0
 IsPartOf l (Free class order frame) = (order ≤ l.order) × (frame + 2 ^ order ≤ frame_count l)
 IsPartOf l (Cached cpu pool frame) = (cpu < l.cpus) × IsFrame l frame
-IsPartOf l (Mapped owner page frame words) = (owner < l.owners) × (page < l.pages) × IsFrame l frame × (length words ≡ l.words)
+IsPartOf l (Mapped owner page frame words) =
+    (owner < l.owners) × (page < l.pages) × IsFrame l frame × (length words ≡ l.words)
 IsPartOf l (Kernel frame order) = IsFrame l frame × (order ≤ l.order)
 IsPartOf l (Kind pageblock kind) = pageblock < pageblock_count l
 IsPartOf l (Row block row) = block < l.blocks
@@ -27,7 +28,8 @@ IsPartOf l (Auto auto) = Unit {0}
 -- the state with one part set, a list's frame at the back (own rule)
 abbrev pub with_part : Memory → Part → Memory
 with_part s (Free class order frame) = with_areas s (with_back s.free.areas class order frame)
-with_part s (Cached cpu pool frame) = record s { free = with_cached_list s.free cpu pool (cached_list s.free cpu pool ++ frame ∷ []) }
+with_part s (Cached cpu pool frame) =
+    record s { free = with_cached_list s.free cpu pool (cached_list s.free cpu pool ++ frame ∷ []) }
 with_part s (Mapped owner page frame words) = record s { pages = map_page s.pages owner page frame words }
 with_part s (Kernel frame order) = with_kernel_order s frame (Some order)
 with_part s (Kind pageblock kind) = with_areas s (with_kind s.free.areas pageblock kind)

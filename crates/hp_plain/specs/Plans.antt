@@ -23,14 +23,16 @@ blocks_in before (item ∷ items) = blocks_in (item.block ∷ before) items
 -- the last two refusals of a plan: of a block that is to go online, and of one that is to go offline
 abbrev pub change_refusals : LayoutParts → Memory → List Item → List (Option Refusal)
 change_refusals l s plan =
-    option_map (λ item. NotOffline item.block) (find (λ item. not (is_off item.wish) && not (is_offline (row_of s.blocks item.block))) plan)
+    option_map (λ item. NotOffline item.block)
+    (find (λ item. not (is_off item.wish) && not (is_offline (row_of s.blocks item.block))) plan)
     ∷ option_map HoldsUnmovable (first_some (map (kernel_frame_in l s) plan))
     ∷ []
 
 -- those and the refusal of a block that is to go offline and isn't online
 abbrev pub state_refusals : LayoutParts → Memory → List Item → List (Option Refusal)
 state_refusals l s plan =
-    option_map (λ item. NotOnline item.block) (find (λ item. is_off item.wish && not (is_online (row_of s.blocks item.block))) plan)
+    option_map (λ item. NotOnline item.block)
+    (find (λ item. is_off item.wish && not (is_online (row_of s.blocks item.block))) plan)
     ∷ change_refusals l s plan
 
 -- the refusals of a plan whose blocks are in the layout, each once

@@ -53,7 +53,8 @@ impl Model for Image {
       memory = record { free = i.free; pages = i.pages; kernel = i.kernel.items; blocks = i.blocks };
     } };
 
-    ghost invariant = { λ i. IsMemoryOf i.layout (record { free = i.free; pages = i.pages; kernel = i.kernel.items; blocks = i.blocks }) };
+    ghost invariant = { λ i. IsMemoryOf i.layout
+        (record { free = i.free; pages = i.pages; kernel = i.kernel.items; blocks = i.blocks }) };
 }
 
 impl Image {

@@ -13,32 +13,48 @@ use Rattle.hp_scenario.specs.Gives.{or_fault}
 abbrev pub after_front : {B : Type 0} → List B → Option (List B) → Option (List B)
 after_front front rest = option_map (λ xs. front ++ xs) rest
 
-pub after_front_step : {B : Type 0} (front : List B) (x : B) (r : Option (List B)) → after_front front (option_and_then (λ xs. Some (x ∷ xs)) r) ≡ after_front (front ++ x ∷ []) r
+pub after_front_step : {B : Type 0} (front : List B) (x : B) (r : Option (List B))
+    → after_front front (option_and_then (λ xs. Some (x ∷ xs)) r) ≡ after_front (front ++ x ∷ []) r
 after_front_step front x None = refl
 after_front_step front x (Some xs) = ap Some (sym (append_assoc front (x ∷ []) xs))
 
-at_index : (xs vs : List Value) (i : ℕ) (v : Value) → xs ≡ vs → i < length xs → v ≡ get_or xs i v → items_view (drop i vs) ≡ item (view v) (items_view (drop (i + 1) vs))
+at_index : (xs vs : List Value) (i : ℕ) (v : Value) → xs ≡ vs → i < length xs → v ≡ get_or xs i v
+    → items_view (drop i vs) ≡ item (view v) (items_view (drop (i + 1) vs))
 at_index xs vs i v same lt e = rw (← same, drop-cons xs i v lt, ← e, add-one) refl
 
-pub goes_on : {B : Type 0} (f : Data → Option B) (xs vs : List Value) (i : ℕ) (v : Value) (front new : List B) (x : B) (total : Option (List B)) → xs ≡ vs → i < length xs → v ≡ get_or xs i v → f (view v) ≡ Some x → new ≡ front ++ x ∷ []
-    → after_front front (each_in f (items_view (drop i vs))) ≡ total → after_front new (each_in f (items_view (drop (i + 1) vs))) ≡ total
+pub goes_on : {B : Type 0} (f : Data → Option B) (xs vs : List Value) (i : ℕ) (v : Value) (front new : List B)
+    (x : B) (total : Option (List B))
+    → xs ≡ vs → i < length xs → v ≡ get_or xs i v → f (view v) ≡ Some x → new ≡ front ++ x ∷ []
+    → after_front front (each_in f (items_view (drop i vs))) ≡ total
+    → after_front new (each_in f (items_view (drop (i + 1) vs))) ≡ total
 unfolding each_in
 goes_on {B = B} f xs vs i v front new x total same lt e h grown so_far =
-    let one : each_in f (items_view (drop i vs)) ≡ option_and_then (λ ys. Some (x ∷ ys)) (each_in f (items_view (drop (i + 1) vs))) = ap (each_in f) (at_index xs vs i v same lt e) ∙ rw h refl in
-    ap (λ (ys : List B). after_front ys (each_in f (items_view (drop (i + 1) vs)))) grown ∙ sym (after_front_step front x (each_in f (items_view (drop (i + 1) vs)))) ∙ ap (after_front front) (sym one) ∙ so_far
+    let one : each_in f (items_view (drop i vs))
+    ≡ option_and_then (λ ys. Some (x ∷ ys)) (each_in f (items_view (drop (i + 1) vs))) =
+    ap (each_in f) (at_index xs vs i v same lt e) ∙ rw h refl in
+    ap (λ (ys : List B). after_front ys (each_in f (items_view (drop (i + 1) vs)))) grown
+    ∙ sym (after_front_step front x (each_in f (items_view (drop (i + 1) vs))))
+    ∙ ap (after_front front) (sym one) ∙ so_far
 
-pub stops : {B : Type 0} (f : Data → Option B) (xs vs : List Value) (i : ℕ) (v : Value) (front : List B) (total : Option (List B)) → xs ≡ vs → i < length xs → v ≡ get_or xs i v → f (view v) ≡ None
+pub stops : {B : Type 0} (f : Data → Option B) (xs vs : List Value) (i : ℕ) (v : Value) (front : List B)
+    (total : Option (List B))
+    → xs ≡ vs → i < length xs → v ≡ get_or xs i v → f (view v) ≡ None
     → after_front front (each_in f (items_view (drop i vs))) ≡ total → or_fault BadShape total ≡ Err BadShape
 unfolding each_in
 stops {B = B} f xs vs i v front total same lt e h so_far =
-    let one : each_in f (items_view (drop i vs)) ≡ None = ap (each_in f) (at_index xs vs i v same lt e) ∙ rw h refl in
+    let one : each_in f (items_view (drop i vs)) ≡ None =
+    ap (each_in f) (at_index xs vs i v same lt e) ∙ rw h refl in
     let none : total ≡ None = sym so_far ∙ ap (after_front front) one in
     ap (or_fault BadShape) none
 
-pub is_done : {B : Type 0} (f : Data → Option B) (xs vs : List Value) (i : ℕ) (front : List B) (total : Option (List B)) → xs ≡ vs → length xs ≤ i
+pub is_done : {B : Type 0} (f : Data → Option B) (xs vs : List Value) (i : ℕ) (front : List B)
+    (total : Option (List B))
+    → xs ≡ vs → length xs ≤ i
     → after_front front (each_in f (items_view (drop i vs))) ≡ total → or_fault BadShape total ≡ Ok front
 unfolding each_in
 is_done {B = B} f xs vs i front total same le so_far =
     let none : drop i vs ≡ [] = ap (drop i) (sym same) ∙ drop_all _ _ le in
-    let all : total ≡ Some front = sym so_far ∙ ap (λ (rest : List Value). after_front front (each_in f (items_view rest))) none ∙ ap Some (append-nil front) in
+    let all : total ≡ Some front =
+    sym so_far ∙ ap (λ (rest : List Value). after_front front (each_in f (items_view rest))) none
+    ∙ ap Some (append-nil front) in
     ap (or_fault BadShape) all

@@ -11,11 +11,13 @@ use Rattle.hp_scenario.specs.Form.{are_keys, has_keys}
 use Rattle.hp_scenario.specs.Gives.{or_fault}
 use Rattle.hp_scenario.specs.Scenario.{json_of}
 
-pub keys_are : (d : Data) (ms : Members) (n count : ℕ) → Some ms ≡ as_object d → members_len ms ≡ n → eqb n count ≡ has_keys count d
+pub keys_are : (d : Data) (ms : Members) (n count : ℕ) → Some ms ≡ as_object d → members_len ms ≡ n
+    → eqb n count ≡ has_keys count d
 unfolding has_keys
 keys_are d ms n count e len = ap (λ (k : ℕ). eqb k count) (sym len) ∙ ap (are_keys count) e
 
-pub json_read : (bytes : List ℕ) (d : Data) → IsUtf8 bytes → read bytes ≡ Some d → or_fault NotJson (json_of bytes) ≡ Ok d
+pub json_read : (bytes : List ℕ) (d : Data) → IsUtf8 bytes → read bytes ≡ Some d
+    → or_fault NotJson (json_of bytes) ≡ Ok d
 unfolding json_of
 json_read bytes d text e = rw (is_utf8-from_IsUtf8 bytes text, e) refl
 
@@ -23,6 +25,10 @@ none_if : (b : Bool) (r : Option Data) → (b ≡ true → r ≡ None) → cond 
 none_if true r h = h refl
 none_if false r h = refl
 
-pub json_refused : (bytes : List ℕ) → (IsUtf8 bytes → read bytes ≡ None) → or_fault NotJson (json_of bytes) ≡ Err NotJson
+pub json_refused : (bytes : List ℕ) → (IsUtf8 bytes → read bytes ≡ None)
+    → or_fault NotJson (json_of bytes) ≡ Err NotJson
 unfolding json_of
-json_refused bytes h = let none : cond (is_utf8 bytes) (read bytes) None ≡ None = none_if (is_utf8 bytes) (read bytes) (λ t. h (IsUtf8-from_is_utf8 bytes t)) in rw none refl
+json_refused bytes h =
+    let none : cond (is_utf8 bytes) (read bytes) None ≡ None =
+    none_if (is_utf8 bytes) (read bytes) (λ t. h (IsUtf8-from_is_utf8 bytes t)) in
+    rw none refl

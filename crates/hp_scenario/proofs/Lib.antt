@@ -7,5 +7,6 @@ pub mod LinesRead
 pub mod LinesSpelled
 pub mod PlanItems
 pub mod ScriptLists
+mod SpelledParts
 pub mod TextLists
 pub mod WordsSpelled

@@ -14,33 +14,45 @@ abbrev pub with_names : List (List ℕ) → Line → Numbered
 with_names names line = record { names = names; line = line }
 
 -- the first of the texts that are left
-text_at : (xs : List (List ℕ)) (i : ℕ) (text : List ℕ) → slice_get xs i ≡ Some text → drop i xs ≡ text ∷ drop (i + 1) xs
+text_at : (xs : List (List ℕ)) (i : ℕ) (text : List ℕ) → slice_get xs i ≡ Some text
+    → drop i xs ≡ text ∷ drop (i + 1) xs
 text_at xs i text at =
     drop-cons xs i text (slice_get_within xs i text at)
     ∙ ap (λ (d : List ℕ). d ∷ drop (suc i) xs) (get_or_from_slice_get xs i text text at)
     ∙ ap (λ (n : ℕ). text ∷ drop n xs) (sym (add-one i))
 
 -- a text that is a line: what is left goes on after it
-pub line_goes_on : (xs : List (List ℕ)) (i : ℕ) (text : List ℕ) (script : Script) (o : Option Line) (line : Line) (names : List (List ℕ)) (lines : List Line) (total : Result Script ScenarioFault) → slice_get xs i ≡ Some text
-    → option_map (with_names names) o ≡ line_in script.names text → o ≡ Some line → lines ≡ script.lines ++ line ∷ []
-    → lines_from (i + 1) script (drop i xs) ≡ total → lines_from ((i + 1) + 1) (record { names = names; lines = lines }) (drop (i + 1) xs) ≡ total
+pub line_goes_on : (xs : List (List ℕ)) (i : ℕ) (text : List ℕ) (script : Script) (o : Option Line)
+    (line : Line) (names : List (List ℕ)) (lines : List Line) (total : Result Script ScenarioFault)
+    → slice_get xs i ≡ Some text
+    → option_map (with_names names) o ≡ line_in script.names text → o ≡ Some line
+    → lines ≡ script.lines ++ line ∷ []
+    → lines_from (i + 1) script (drop i xs) ≡ total
+    → lines_from ((i + 1) + 1) (record { names = names; lines = lines }) (drop (i + 1) xs) ≡ total
 unfolding lines_from
 line_goes_on xs i text script o line names lines total at h some l so_far =
-    let says : line_in script.names text ≡ Some (with_names names line) = sym h ∙ ap (option_map (with_names names)) some in
-    let two : lines_from (i + 1) script (drop i xs) ≡ lines_from ((i + 1) + 1) (with_line script (with_names names line)) (drop (i + 1) xs) = ap (lines_from (i + 1) script) (text_at xs i text at) ∙ rw says refl in
+    let says : line_in script.names text ≡ Some (with_names names line) =
+    sym h ∙ ap (option_map (with_names names)) some in
+    let two : lines_from (i + 1) script (drop i xs)
+    ≡ lines_from ((i + 1) + 1) (with_line script (with_names names line)) (drop (i + 1) xs) =
+    ap (lines_from (i + 1) script) (text_at xs i text at) ∙ rw says refl in
     rw l (sym two ∙ so_far)
 
 -- a text that is no line: the reading ends there
-pub line_stops : (xs : List (List ℕ)) (i : ℕ) (text : List ℕ) (script : Script) (o : Option Line) (names : List (List ℕ)) (total : Result Script ScenarioFault) → slice_get xs i ≡ Some text
+pub line_stops : (xs : List (List ℕ)) (i : ℕ) (text : List ℕ) (script : Script) (o : Option Line)
+    (names : List (List ℕ)) (total : Result Script ScenarioFault)
+    → slice_get xs i ≡ Some text
     → option_map (with_names names) o ≡ line_in script.names text → o ≡ None
     → lines_from (i + 1) script (drop i xs) ≡ total → total ≡ Err (BadLine (i + 1))
 unfolding lines_from
 line_stops xs i text script o names total at h none so_far =
     let says : line_in script.names text ≡ None = sym h ∙ ap (option_map (with_names names)) none in
-    let two : lines_from (i + 1) script (drop i xs) ≡ Err (BadLine (i + 1)) = ap (lines_from (i + 1) script) (text_at xs i text at) ∙ rw says refl in
+    let two : lines_from (i + 1) script (drop i xs) ≡ Err (BadLine (i + 1)) =
+    ap (lines_from (i + 1) script) (text_at xs i text at) ∙ rw says refl in
     sym so_far ∙ two
 
 -- no text is left
-pub lines_done : (xs : List (List ℕ)) (i : ℕ) (script : Script) (total : Result Script ScenarioFault) → length xs ≤ i → lines_from (i + 1) script (drop i xs) ≡ total → total ≡ Ok script
+pub lines_done : (xs : List (List ℕ)) (i : ℕ) (script : Script) (total : Result Script ScenarioFault)
+    → length xs ≤ i → lines_from (i + 1) script (drop i xs) ≡ total → total ≡ Ok script
 unfolding lines_from
 lines_done xs i script total le so_far = sym so_far ∙ ap (lines_from (i + 1) script) (drop_all _ _ le)

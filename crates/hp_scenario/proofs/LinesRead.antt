@@ -41,7 +41,8 @@ read_wish wish.Off = refl
 read_wish wish.Normal = refl
 read_wish wish.Movable = refl
 
-read_item : (item : Item) → item.block < 2 ^ 32 → item_of (wish_word item.wish) (decimal item.block) ≡ Some item
+read_item : (item : Item) → item.block < 2 ^ 32
+    → item_of (wish_word item.wish) (decimal item.block) ≡ Some item
 unfolding item_of
 read_item item fits = rw (read_wish item.wish, read32 item.block fits) refl
 
@@ -51,7 +52,9 @@ read_items [] fit = refl
 read_items (item ∷ items) fit = rw (read_item item fit.0, read_items items fit.1) refl
 
 pub read_request : (r : Request) → FitsRequest r → request_of (request_words r) ≡ Some r
-unfolding request_of event_of only_number kalloc_of kfree_of map_of unmap_of write_of read_of drain_of online_of begin_of drainfor_of migrate_of commit_of cancel_of undo_of remove_of plan_of echo_of cat_of seal_of
+unfolding request_of event_of only_number kalloc_of kfree_of map_of unmap_of write_of read_of drain_of
+    online_of begin_of drainfor_of migrate_of commit_of cancel_of undo_of remove_of plan_of echo_of cat_of
+    seal_of
 read_request (plain (work.Event (KernelAlloc order))) fits = rw (read32 order fits) refl
 read_request (plain (work.Event (KernelFree frame))) fits = rw (read32 frame fits) refl
 read_request (plain (work.Event (Map owner page))) fits = absurd fits
@@ -75,10 +78,13 @@ read_request (plain (work.Cat path)) fits = rw (read_text path fits) refl
 read_request (plain work.Seal) fits = refl
 read_request (named name (access.Map page)) fits = rw (read_name name fits.0, read32 page fits.1) refl
 read_request (named name (access.Unmap page)) fits = rw (read_name name fits.0, read32 page fits.1) refl
-read_request (named name (access.Write page index value)) fits = rw (read_name name fits.0, read32 page fits.1.0, read32 index fits.1.1, read64 value fits.1.2) refl
-read_request (named name (access.Read page index)) fits = rw (read_name name fits.0, read32 page fits.1.0, read32 index fits.1.1) refl
+read_request (named name (access.Write page index value)) fits =
+    rw (read_name name fits.0, read32 page fits.1.0, read32 index fits.1.1, read64 value fits.1.2) refl
+read_request (named name (access.Read page index)) fits =
+    rw (read_name name fits.0, read32 page fits.1.0, read32 index fits.1.1) refl
 
-pub read_said : (said : Said) → CanBeSaid said → words_say (decimal said.cpu ∷ request_words said.request) ≡ Some said
+pub read_said : (said : Said) → CanBeSaid said
+    → words_say (decimal said.cpu ∷ request_words said.request) ≡ Some said
 unfolding words_say
 read_said said fits = rw (read32 said.cpu fits.0, read_request said.request fits.1) refl
 
@@ -98,7 +104,8 @@ spaceless_zone zone.Movable = refl
 
 spaceless_items : (items : List Item) → FitItems items → AreSpaceless (item_words items)
 spaceless_items [] fit = tt
-spaceless_items (item ∷ items) fit = (spaceless_wish item.wish, (small item.block fit.0, spaceless_items items fit.1))
+spaceless_items (item ∷ items) fit =
+    (spaceless_wish item.wish, (small item.block fit.0, spaceless_items items fit.1))
 
 pub spaceless_request : (r : Request) → FitsRequest r → AreSpaceless (request_words r)
 spaceless_request (plain (work.Event (KernelAlloc order))) fits = (refl, (small order fits, tt))
@@ -108,9 +115,11 @@ spaceless_request (plain (work.Event (Unmap owner page))) fits = absurd fits
 spaceless_request (plain (work.Event (Write owner page index value))) fits = absurd fits
 spaceless_request (plain (work.Event (Read owner page index))) fits = absurd fits
 spaceless_request (plain (work.Event (Drain cpu))) fits = (refl, (small cpu fits, tt))
-spaceless_request (plain (work.Event (Online block zone))) fits = (refl, (small block fits, (spaceless_zone zone, tt)))
+spaceless_request (plain (work.Event (Online block zone))) fits =
+    (refl, (small block fits, (spaceless_zone zone, tt)))
 spaceless_request (plain (work.Event (Begin items))) fits = (refl, spaceless_items items fits)
-spaceless_request (plain (work.Event (DrainFor op cpu))) fits = (refl, (decimal_spaceless op fits.0, (small cpu fits.1, tt)))
+spaceless_request (plain (work.Event (DrainFor op cpu))) fits =
+    (refl, (decimal_spaceless op fits.0, (small cpu fits.1, tt)))
 spaceless_request (plain (work.Event (Migrate op))) fits = (refl, (decimal_spaceless op fits, tt))
 spaceless_request (plain (work.Event (Commit op))) fits = (refl, (decimal_spaceless op fits, tt))
 spaceless_request (plain (work.Event (Cancel op))) fits = (refl, (decimal_spaceless op fits, tt))
@@ -118,11 +127,21 @@ spaceless_request (plain (work.Event (UndoAfter serial))) fits = (refl, (decimal
 spaceless_request (plain (work.Event (Probe address))) fits = absurd fits
 spaceless_request (plain (work.Event (Remove block))) fits = (refl, (small block fits, tt))
 spaceless_request (plain (work.Event (SetAuto auto))) fits = absurd fits
-spaceless_request (plain (work.Plan items turns)) fits = (refl, (small turns fits.0, spaceless_items items fits.1))
+spaceless_request (plain (work.Plan items turns)) fits =
+    (refl, (small turns fits.0, spaceless_items items fits.1))
 spaceless_request (plain (work.Echo path text)) fits = (refl, (fits.0.0, (fits.1.0, tt)))
 spaceless_request (plain (work.Cat path)) fits = (refl, (fits.0, tt))
 spaceless_request (plain work.Seal) fits = (refl, tt)
-spaceless_request (named name (access.Map page)) fits = (refl, (name_spaceless name fits.0, (small page fits.1, tt)))
-spaceless_request (named name (access.Unmap page)) fits = (refl, (name_spaceless name fits.0, (small page fits.1, tt)))
-spaceless_request (named name (access.Write page index value)) fits = (refl, (name_spaceless name fits.0, (small page fits.1.0, (small index fits.1.1, (decimal_spaceless value fits.1.2, tt)))))
-spaceless_request (named name (access.Read page index)) fits = (refl, (name_spaceless name fits.0, (small page fits.1.0, (small index fits.1.1, tt))))
+spaceless_request (named name (access.Map page)) fits =
+    (refl, (name_spaceless name fits.0, (small page fits.1, tt)))
+spaceless_request (named name (access.Unmap page)) fits =
+    (refl, (name_spaceless name fits.0, (small page fits.1, tt)))
+spaceless_request (named name (access.Write page index value)) fits = (
+  refl,
+  (
+    name_spaceless name fits.0,
+    (small page fits.1.0, (small index fits.1.1, (decimal_spaceless value fits.1.2, tt))),
+  ),
+)
+spaceless_request (named name (access.Read page index)) fits =
+    (refl, (name_spaceless name fits.0, (small page fits.1.0, (small index fits.1.1, tt))))

@@ -9,7 +9,8 @@ abbrev pub bytes_of : List (Bor (List ℕ)) → List (List ℕ)
 bytes_of words = map (λ w. w.now) words
 
 -- the first two words, and the rest
-two_words : (xs : List (Bor (List ℕ))) (d e : Bor (List ℕ)) → 2 ≤ length xs → bytes_of xs ≡ (get_or xs 0 d).now ∷ (get_or xs 1 e).now ∷ bytes_of (drop 2 xs)
+two_words : (xs : List (Bor (List ℕ))) (d e : Bor (List ℕ)) → 2 ≤ length xs
+    → bytes_of xs ≡ (get_or xs 0 d).now ∷ (get_or xs 1 e).now ∷ bytes_of (drop 2 xs)
 two_words [] d e le = absurd (omega arith)
 two_words (x ∷ []) d e le = absurd (omega arith)
 two_words (x ∷ y ∷ rest) d e le = refl
@@ -17,27 +18,38 @@ two_words (x ∷ y ∷ rest) d e le = refl
 tail_is : (xs : List (Bor (List ℕ))) (n : ℕ) → n ≡ length xs → take (n - 2) (drop 2 xs) ≡ drop 2 xs
 tail_is xs n same = take_all _ _ (omega (arith, length-drop 2 xs))
 
-pub item_goes_on : (xs : List (Bor (List ℕ))) (n : ℕ) (d e : Bor (List ℕ)) (r : Option Item) (x : Item) (front new : List Item) (total : Option (List Item)) → 2 ≤ length xs → n ≡ length xs → r ≡ item_of (get_or xs 0 d).now (get_or xs 1 e).now → r ≡ Some x → new ≡ front ++ x ∷ []
-    → after_front front (items_of (bytes_of xs)) ≡ total → after_front new (items_of (bytes_of (take (n - 2) (drop 2 xs)))) ≡ total
+pub item_goes_on : (xs : List (Bor (List ℕ))) (n : ℕ) (d e : Bor (List ℕ)) (r : Option Item) (x : Item)
+    (front new : List Item) (total : Option (List Item))
+    → 2 ≤ length xs → n ≡ length xs → r ≡ item_of (get_or xs 0 d).now (get_or xs 1 e).now → r ≡ Some x
+    → new ≡ front ++ x ∷ []
+    → after_front front (items_of (bytes_of xs)) ≡ total
+    → after_front new (items_of (bytes_of (take (n - 2) (drop 2 xs)))) ≡ total
 unfolding items_of
 item_goes_on xs n d e r x front new total le same h some grown so_far =
-    let one : items_of (bytes_of xs) ≡ option_and_then (λ ys. Some (x ∷ ys)) (items_of (bytes_of (drop 2 xs))) = ap items_of (two_words xs d e le) ∙ rw (sym h ∙ some) refl in
-    rw (tail_is xs n same, grown) (sym (after_front_step front x (items_of (bytes_of (drop 2 xs)))) ∙ ap (after_front front) (sym one) ∙ so_far)
+    let one : items_of (bytes_of xs)
+    ≡ option_and_then (λ ys. Some (x ∷ ys)) (items_of (bytes_of (drop 2 xs))) =
+    ap items_of (two_words xs d e le) ∙ rw (sym h ∙ some) refl in
+    rw (tail_is xs n same, grown) (sym (after_front_step front x (items_of (bytes_of (drop 2 xs))))
+    ∙ ap (after_front front) (sym one) ∙ so_far)
 
-pub item_stops : (xs : List (Bor (List ℕ))) (d e : Bor (List ℕ)) (r : Option Item) (front : List Item) (total : Option (List Item)) → 2 ≤ length xs → r ≡ item_of (get_or xs 0 d).now (get_or xs 1 e).now → r ≡ None
+pub item_stops : (xs : List (Bor (List ℕ))) (d e : Bor (List ℕ)) (r : Option Item) (front : List Item)
+    (total : Option (List Item))
+    → 2 ≤ length xs → r ≡ item_of (get_or xs 0 d).now (get_or xs 1 e).now → r ≡ None
     → after_front front (items_of (bytes_of xs)) ≡ total → None ≡ total
 unfolding items_of
 item_stops xs d e r front total le h none so_far =
     let one : items_of (bytes_of xs) ≡ None = ap items_of (two_words xs d e le) ∙ rw (sym h ∙ none) refl in
     ap (after_front front) (sym one) ∙ so_far
 
-pub one_left : (xs : List (Bor (List ℕ))) (front : List Item) (total : Option (List Item)) → length xs < 2 → eqb (length xs) 0 ≡ false → after_front front (items_of (bytes_of xs)) ≡ total → None ≡ total
+pub one_left : (xs : List (Bor (List ℕ))) (front : List Item) (total : Option (List Item)) → length xs < 2
+    → eqb (length xs) 0 ≡ false → after_front front (items_of (bytes_of xs)) ≡ total → None ≡ total
 unfolding items_of
 one_left [] front total lt some so_far = absurd cc
 one_left (x ∷ []) front total lt some so_far = so_far
 one_left (x ∷ y ∷ rest) front total lt some so_far = absurd (omega arith)
 
-pub none_left : (xs : List (Bor (List ℕ))) (front : List Item) (total : Option (List Item)) → length xs ≡ 0 → after_front front (items_of (bytes_of xs)) ≡ total → Some front ≡ total
+pub none_left : (xs : List (Bor (List ℕ))) (front : List Item) (total : Option (List Item)) → length xs ≡ 0
+    → after_front front (items_of (bytes_of xs)) ≡ total → Some front ≡ total
 unfolding items_of
 none_left [] front total none so_far = ap Some (sym (append-nil front)) ∙ so_far
 none_left (x ∷ rest) front total none so_far = absurd (omega arith)

@@ -12,20 +12,30 @@ use Rattle.std.proofs.lemmas.Grind.{get_or-set_at}
 use Rattle.hp_scenario.specs.Scripts.{AreAllOf, AreForRun, IsForRun, first_unfit, is_cat, is_for_run, script_of}
 use Rattle.hp_scenario.specs.declared.lines.Line.{Line}
 
--- what the lines that are left, of which the last goes next, add to the scripts so far, makes the scripts of all lines
+-- what the lines that are left, of which the last goes next, add to the scripts so far, makes the
+-- scripts of all lines
 abbrev pub AreDealt : (lines left : List Line) (scripts : List (List Line)) → Type 0
-AreDealt lines left scripts = (cpu : ℕ) → cpu < length scripts → get_or scripts cpu [] ++ script_of (reverse left) cpu ≡ script_of lines cpu
+AreDealt lines left scripts =
+    (cpu : ℕ) → cpu < length scripts
+    → get_or scripts cpu [] ++ script_of (reverse left) cpu ≡ script_of lines cpu
 
 -- no line is dealt
-pub none_dealt : (lines left : List Line) (scripts : List (List Line)) (cpus : ℕ) → left ≡ reverse lines → scripts ≡ map (script_of []) (range_with_len 0 cpus) → AreDealt lines left scripts
+pub none_dealt : (lines left : List Line) (scripts : List (List Line)) (cpus : ℕ) → left ≡ reverse lines
+    → scripts ≡ map (script_of []) (range_with_len 0 cpus) → AreDealt lines left scripts
 none_dealt lines left scripts cpus left_is scripts_are cpu within =
-    let count : length scripts ≡ cpus = ap length scripts_are ∙ length-map-range_with_len (script_of []) 0 cpus in
-    let here : get_or scripts cpu [] ≡ [] = ap (λ (xs : List (List Line)). get_or xs cpu []) scripts_are ∙ get_or-map-range_with_len (script_of []) 0 cpus cpu cpu [] (omega (arith, within, count)) (omega arith) in
+    let count : length scripts ≡ cpus =
+    ap length scripts_are ∙ length-map-range_with_len (script_of []) 0 cpus in
+    let here : get_or scripts cpu [] ≡ [] =
+    ap (λ (xs : List (List Line)). get_or xs cpu []) scripts_are ∙ get_or-map-range_with_len (script_of [])
+    0 cpus cpu cpu [] (omega (arith, within, count)) (omega arith) in
     let all : reverse left ≡ lines = ap reverse left_is ∙ reverse-reverse lines in
-    ap (λ (xs : List Line). xs ++ script_of (reverse left) cpu) here ∙ ap (λ (xs : List Line). script_of xs cpu) all
+    ap (λ (xs : List Line). xs ++ script_of (reverse left) cpu) here
+    ∙ ap (λ (xs : List Line). script_of xs cpu) all
 
 -- a line more is dealt
-one_dealt : (lines old left : List Line) (line : Line) (scripts : List (List Line)) (own : List Line) → old ≡ left ++ line ∷ [] → own ≡ get_or scripts line.cpu [] ++ line ∷ [] → line.cpu < length scripts → AreDealt lines old scripts → AreDealt lines left (set scripts line.cpu own)
+one_dealt : (lines old left : List Line) (line : Line) (scripts : List (List Line)) (own : List Line)
+    → old ≡ left ++ line ∷ [] → own ≡ get_or scripts line.cpu [] ++ line ∷ [] → line.cpu < length scripts
+    → AreDealt lines old scripts → AreDealt lines left (set scripts line.cpu own)
 one_dealt lines old left line scripts own old_is own_is inside before cpu within =
     by_cpu (eqb line.cpu cpu) refl
   where
@@ -35,36 +45,50 @@ one_dealt lines old left line scripts own old_is own_is inside before cpu within
     room : cpu < length scripts
     room = omega (arith, within, length-set scripts line.cpu own)
 
-    due : get_or scripts cpu [] ++ cond (eqb line.cpu cpu) (line ∷ script_of (reverse left) cpu) (script_of (reverse left) cpu) ≡ script_of lines cpu
+    due : get_or scripts cpu [] ++ cond (eqb line.cpu cpu) (line ∷ script_of (reverse left) cpu)
+        (script_of (reverse left) cpu) ≡ script_of lines cpu
     due = ap (λ (xs : List Line). get_or scripts cpu [] ++ script_of xs cpu) (sym next) ∙ before cpu room
 
-    by_cpu : (is_own : Bool) → eqb line.cpu cpu ≡ is_own → get_or (set scripts line.cpu own) cpu [] ++ script_of (reverse left) cpu ≡ script_of lines cpu
+    by_cpu : (is_own : Bool) → eqb line.cpu cpu ≡ is_own
+        → get_or (set scripts line.cpu own) cpu [] ++ script_of (reverse left) cpu ≡ script_of lines cpu
     by_cpu true e =
         let same : line.cpu ≡ cpu = eqb-true line.cpu cpu e in
         let here : get_or (set scripts line.cpu own) cpu [] ≡ get_or scripts cpu [] ++ line ∷ [] =
-        get_or-set_at scripts line.cpu cpu own [] (sym same) inside ∙ (own_is ∙ ap (λ (k : ℕ). get_or scripts k [] ++ line ∷ []) same) in
+        get_or-set_at scripts line.cpu cpu own [] (sym same) inside
+        ∙ (own_is ∙ ap (λ (k : ℕ). get_or scripts k [] ++ line ∷ []) same) in
         ap (λ (xs : List Line). xs ++ script_of (reverse left) cpu) here
         ∙ (append_assoc (get_or scripts cpu []) (line ∷ []) (script_of (reverse left) cpu)
-        ∙ (ap (λ (t : Bool). get_or scripts cpu [] ++ cond t (line ∷ script_of (reverse left) cpu) (script_of (reverse left) cpu)) (sym e) ∙ due))
+        ∙ (ap (λ (t : Bool). get_or scripts cpu []
+        ++ cond t (line ∷ script_of (reverse left) cpu) (script_of (reverse left) cpu)) (sym e) ∙ due))
     by_cpu false e =
         let other : cpu ≢ line.cpu = λ same. eqb-false line.cpu cpu e (sym same) in
-        ap (λ (xs : List Line). xs ++ script_of (reverse left) cpu) (get_or-set_other scripts line.cpu cpu own [] other)
-        ∙ (ap (λ (t : Bool). get_or scripts cpu [] ++ cond t (line ∷ script_of (reverse left) cpu) (script_of (reverse left) cpu)) (sym e) ∙ due)
+        ap (λ (xs : List Line). xs ++ script_of (reverse left) cpu)
+        (get_or-set_other scripts line.cpu cpu own [] other)
+        ∙ (ap (λ (t : Bool). get_or scripts cpu []
+        ++ cond t (line ∷ script_of (reverse left) cpu) (script_of (reverse left) cpu)) (sym e) ∙ due)
 
 -- and where its place is said once more
-pub one_dealt_at : (lines old left : List Line) (line : Line) (scripts : List (List Line)) (own : List Line) (place : ℕ) → place ≡ line.cpu → old ≡ left ++ line ∷ [] → own ≡ get_or scripts place [] ++ line ∷ [] → place < length scripts → AreDealt lines old scripts → AreDealt lines left (set scripts place own)
+pub one_dealt_at : (lines old left : List Line) (line : Line) (scripts : List (List Line)) (own : List Line)
+    (place : ℕ)
+    → place ≡ line.cpu → old ≡ left ++ line ∷ [] → own ≡ get_or scripts place [] ++ line ∷ []
+    → place < length scripts → AreDealt lines old scripts → AreDealt lines left (set scripts place own)
 one_dealt_at lines old left line scripts own place is old_is own_is inside before =
     subst (λ (k : ℕ). AreDealt lines left (set scripts k own)) (sym is)
-    (one_dealt lines old left line scripts own old_is (own_is ∙ ap (λ (k : ℕ). get_or scripts k [] ++ line ∷ []) is) (omega (arith, inside, is)) before)
+    (one_dealt lines old left line scripts own old_is
+    (own_is ∙ ap (λ (k : ℕ). get_or scripts k [] ++ line ∷ []) is) (omega (arith, inside, is)) before)
 
 -- all lines are dealt
-pub all_dealt : (lines left : List Line) (scripts : List (List Line)) (cpus : ℕ) → left ≡ [] → length scripts ≡ cpus → AreDealt lines left scripts → scripts ≡ map (script_of lines) (range_with_len 0 cpus)
+pub all_dealt : (lines left : List Line) (scripts : List (List Line)) (cpus : ℕ) → left ≡ []
+    → length scripts ≡ cpus → AreDealt lines left scripts
+    → scripts ≡ map (script_of lines) (range_with_len 0 cpus)
 all_dealt lines left scripts cpus none count dealt =
-    ext_get_or [] scripts (map (script_of lines) (range_with_len 0 cpus)) (count ∙ sym (length-map-range_with_len (script_of lines) 0 cpus)) (λ cpu within.
+    ext_get_or [] scripts (map (script_of lines) (range_with_len 0 cpus))
+    (count ∙ sym (length-map-range_with_len (script_of lines) 0 cpus)) (λ cpu within.
     sym (append-nil (get_or scripts cpu []))
     ∙ (ap (λ (xs : List Line). get_or scripts cpu [] ++ script_of (reverse xs) cpu) (sym none)
     ∙ (dealt cpu within
-    ∙ sym (get_or-map-range_with_len (script_of lines) 0 cpus cpu cpu [] (omega (arith, within, count)) (omega arith)))))
+    ∙ sym (get_or-map-range_with_len (script_of lines) 0 cpus cpu cpu [] (omega (arith, within, count))
+    (omega arith)))))
 
 and_both : (s t : Bool) → (s && t) ≡ true → (s ≡ true) × (t ≡ true)
 and_both true true e = (refl, refl)
@@ -72,7 +96,8 @@ and_both true false e = absurd cc
 and_both false t e = absurd cc
 
 -- the script of the processor whose all lines are
-own_script : (cpu : ℕ) (lines : List Line) → list_all (λ line. line.cpu == cpu) lines ≡ true → script_of lines cpu ≡ lines
+own_script : (cpu : ℕ) (lines : List Line) → list_all (λ line. line.cpu == cpu) lines ≡ true
+    → script_of lines cpu ≡ lines
 own_script cpu [] all = refl
 own_script cpu (line ∷ lines) all =
     let both = and_both (eqb line.cpu cpu) (list_all (λ line. line.cpu == cpu) lines) all in
@@ -80,39 +105,51 @@ own_script cpu (line ∷ lines) all =
     ∙ ap (λ (xs : List Line). line ∷ xs) (own_script cpu lines both.1)
 
 -- and that of another processor
-other_script : (cpu other : ℕ) (lines : List Line) → other ≢ cpu → list_all (λ line. line.cpu == cpu) lines ≡ true → script_of lines other ≡ []
+other_script : (cpu other : ℕ) (lines : List Line) → other ≢ cpu
+    → list_all (λ line. line.cpu == cpu) lines ≡ true → script_of lines other ≡ []
 other_script cpu other [] apart all = refl
 other_script cpu other (line ∷ lines) apart all =
     let both = and_both (eqb line.cpu cpu) (list_all (λ line. line.cpu == cpu) lines) all in
-    ap (λ (t : Bool). cond t (line ∷ script_of lines other) (script_of lines other)) (differs (eqb-true line.cpu cpu both.0))
+    ap (λ (t : Bool). cond t (line ∷ script_of lines other) (script_of lines other))
+    (differs (eqb-true line.cpu cpu both.0))
     ∙ other_script cpu other lines apart both.1
   where
     differs : line.cpu ≡ cpu → eqb line.cpu other ≡ false
     differs same = ne_eqb line.cpu other (λ (e : line.cpu ≡ other). apart (sym e ∙ same))
 
 -- where all lines are one processor's, its number is in the layout
-pub one_within : (cpus cpu : ℕ) (lines : List Line) → AreAllOf lines cpu → list_all (is_for_run cpus) lines ≡ true → cpu < cpus
+pub one_within : (cpus cpu : ℕ) (lines : List Line) → AreAllOf lines cpu
+    → list_all (is_for_run cpus) lines ≡ true → cpu < cpus
 one_within cpus cpu [] all fit = absurd (omega (arith, all.0))
 one_within cpus cpu (line ∷ lines) all fit =
-    let same = eqb-true line.cpu cpu (and_both (eqb line.cpu cpu) (list_all (λ line. line.cpu == cpu) lines) all.1).0 in
+    let same =
+    eqb-true line.cpu cpu
+    (and_both (eqb line.cpu cpu) (list_all (λ line. line.cpu == cpu) lines) all.1).0 in
     let first = and_both (is_for_run cpus line) (list_all (is_for_run cpus) lines) fit in
-    let within = ltb-true line.cpu cpus (and_both (nat_lt line.cpu cpus) (not (is_cat line.work)) first.0).0 in
+    let within =
+    ltb-true line.cpu cpus (and_both (nat_lt line.cpu cpus) (not (is_cat line.work)) first.0).0 in
     omega (arith, same, within)
 
 -- the scripts where all lines are one processor's
-pub all_together : (cpus cpu : ℕ) (lines : List Line) (bare : List (List Line)) → bare ≡ map (script_of []) (range_with_len 0 cpus) → AreAllOf lines cpu → cpu < cpus → set bare cpu lines ≡ map (script_of lines) (range_with_len 0 cpus)
+pub all_together : (cpus cpu : ℕ) (lines : List Line) (bare : List (List Line))
+    → bare ≡ map (script_of []) (range_with_len 0 cpus) → AreAllOf lines cpu → cpu < cpus
+    → set bare cpu lines ≡ map (script_of lines) (range_with_len 0 cpus)
 all_together cpus cpu lines bare bare_is all inside =
-    ext_get_or [] (set bare cpu lines) (map (script_of lines) (range_with_len 0 cpus)) (length-set bare cpu lines ∙ (count ∙ sym (length-map-range_with_len (script_of lines) 0 cpus))) (λ at within.
+    ext_get_or [] (set bare cpu lines) (map (script_of lines) (range_with_len 0 cpus)) (length-set bare cpu
+    lines ∙ (count ∙ sym (length-map-range_with_len (script_of lines) 0 cpus))) (λ at within.
     let room : at < cpus = omega (arith, within, length-set bare cpu lines, count) in
-    by_place at room (eqb at cpu) refl ∙ sym (get_or-map-range_with_len (script_of lines) 0 cpus at at [] room (omega arith)))
+    by_place at room (eqb at cpu) refl
+    ∙ sym (get_or-map-range_with_len (script_of lines) 0 cpus at at [] room (omega arith)))
   where
     count : length bare ≡ cpus
     count = ap length bare_is ∙ length-map-range_with_len (script_of []) 0 cpus
 
-    by_place : (at : ℕ) → at < cpus → (is_own : Bool) → eqb at cpu ≡ is_own → get_or (set bare cpu lines) at [] ≡ script_of lines at
+    by_place : (at : ℕ) → at < cpus → (is_own : Bool) → eqb at cpu ≡ is_own
+        → get_or (set bare cpu lines) at [] ≡ script_of lines at
     by_place at room true e =
         let same : at ≡ cpu = eqb-true at cpu e in
-        get_or-set_at bare cpu at lines [] same (omega (arith, inside, count)) ∙ (sym (own_script cpu lines all.1) ∙ ap (script_of lines) (sym same))
+        get_or-set_at bare cpu at lines [] same (omega (arith, inside, count))
+        ∙ (sym (own_script cpu lines all.1) ∙ ap (script_of lines) (sym same))
     by_place at room false e =
         let apart : at ≢ cpu = eqb-false at cpu e in
         get_or-set_other bare cpu at lines [] apart
@@ -130,44 +167,61 @@ not_false true e = refl
 not_false false e = absurd cc
 
 -- the search comes to the end
-reached : (cpus : ℕ) (lines : List Line) → first_unfit cpus lines ≡ None → length lines ≤ position_or_len (λ line. not (is_for_run cpus line)) lines
-reached cpus lines none = by_test (nat_lt (position_or_len (λ line. not (is_for_run cpus line)) lines) (length lines)) refl none
+reached : (cpus : ℕ) (lines : List Line) → first_unfit cpus lines ≡ None
+    → length lines ≤ position_or_len (λ line. not (is_for_run cpus line)) lines
+reached cpus lines none =
+    by_test (nat_lt (position_or_len (λ line. not (is_for_run cpus line)) lines) (length lines)) refl none
   where
-    by_test : (t : Bool) → nat_lt (position_or_len (λ line. not (is_for_run cpus line)) lines) (length lines) ≡ t → cond t (Some (position_or_len (λ line. not (is_for_run cpus line)) lines)) None ≡ None → length lines ≤ position_or_len (λ line. not (is_for_run cpus line)) lines
+    by_test : (t : Bool)
+        → nat_lt (position_or_len (λ line. not (is_for_run cpus line)) lines) (length lines) ≡ t
+        → cond t (Some (position_or_len (λ line. not (is_for_run cpus line)) lines)) None ≡ None
+        → length lines ≤ position_or_len (λ line. not (is_for_run cpus line)) lines
     by_test true e found = absurd cc
     by_test false e found = ltb-false _ _ e
 
 -- a line that may be run reads no control file
 reads_none : (cpus : ℕ) (line : Line) → is_for_run cpus line ≡ true → IsForRun line
-reads_none cpus line fits = no_cat (is_cat line.work) (and_both (nat_lt line.cpu cpus) (not (is_cat line.work)) fits).1
+reads_none cpus line fits =
+    no_cat (is_cat line.work) (and_both (nat_lt line.cpu cpus) (not (is_cat line.work)) fits).1
   where
     no_cat : (t : Bool) → not t ≡ true → t ≡ false
     no_cat true e = absurd cc
     no_cat false e = refl
 
 -- of lines that all may be run, the last may be, and the others
-pub all_but_last : (cpus : ℕ) (old left : List Line) (line : Line) → old ≡ left ++ line ∷ [] → list_all (is_for_run cpus) old ≡ true → (list_all (is_for_run cpus) left ≡ true) × (line.cpu < cpus)
+pub all_but_last : (cpus : ℕ) (old left : List Line) (line : Line) → old ≡ left ++ line ∷ []
+    → list_all (is_for_run cpus) old ≡ true → (list_all (is_for_run cpus) left ≡ true) × (line.cpu < cpus)
 all_but_last cpus old left line old_is all =
-    let both = and_both (list_all (is_for_run cpus) left) (list_all (is_for_run cpus) (line ∷ [])) (sym (list_all-append (is_for_run cpus) left (line ∷ [])) ∙ (ap (list_all (is_for_run cpus)) (sym old_is) ∙ all)) in
+    let both =
+    and_both (list_all (is_for_run cpus) left) (list_all (is_for_run
+    cpus) (line ∷ [])) (sym (list_all-append (is_for_run cpus) left (line ∷ [])) ∙ (ap
+    (list_all (is_for_run cpus)) (sym old_is) ∙ all)) in
     let last = and_both (is_for_run cpus line) true both.1 in
     (both.0, ltb-true line.cpu cpus (and_both (nat_lt line.cpu cpus) (not (is_cat line.work)) last.0).0)
 
 -- lines that all may be run, in the other order
-pub all_reversed : (cpus : ℕ) (lines : List Line) → list_all (is_for_run cpus) lines ≡ true → list_all (is_for_run cpus) (reverse lines) ≡ true
+pub all_reversed : (cpus : ℕ) (lines : List Line) → list_all (is_for_run cpus) lines ≡ true
+    → list_all (is_for_run cpus) (reverse lines) ≡ true
 all_reversed cpus [] all = refl
 all_reversed cpus (line ∷ lines) all =
     let parts = and_both (is_for_run cpus line) (list_all (is_for_run cpus) lines) all in
     ap (list_all (is_for_run cpus)) (reverse-append (line ∷ []) lines)
     ∙ (list_all-append (is_for_run cpus) (reverse lines) (line ∷ [])
-    ∙ both_and (list_all (is_for_run cpus) (reverse lines)) (list_all (is_for_run cpus) (line ∷ [])) (all_reversed cpus lines parts.1) (both_and (is_for_run cpus line) true parts.0 refl))
+    ∙ both_and (list_all (is_for_run cpus) (reverse lines)) (list_all (is_for_run cpus) (line ∷ []))
+    (all_reversed cpus lines parts.1) (both_and (is_for_run cpus line) true parts.0 refl))
 
 -- where no line is found that no worker may run, all may be
-pub all_fit : (cpus : ℕ) (lines : List Line) → first_unfit cpus lines ≡ None → list_all (is_for_run cpus) lines ≡ true
+pub all_fit : (cpus : ℕ) (lines : List Line) → first_unfit cpus lines ≡ None
+    → list_all (is_for_run cpus) lines ≡ true
 all_fit cpus lines none =
-    list_all-from_AllPass (is_for_run cpus) lines (λ k d within. not_false (is_for_run cpus (get_or lines k d)) (fails_before_first (λ line. not (is_for_run cpus line)) lines k d (omega (arith, within, reached cpus lines none))))
+    list_all-from_AllPass (is_for_run cpus) lines (λ k d within. not_false (is_for_run cpus
+    (get_or lines k d)) (fails_before_first (λ line. not (is_for_run cpus line)) lines k d
+    (omega (arith, within, reached cpus lines none))))
 
 -- the scripts of lines that all may be run
-pub all_for_run : (cpus : ℕ) (lines : List Line) → list_all (is_for_run cpus) lines ≡ true → AreForRun (map (script_of lines) (range_with_len 0 cpus))
+pub all_for_run : (cpus : ℕ) (lines : List Line) → list_all (is_for_run cpus) lines ≡ true
+    → AreForRun (map (script_of lines) (range_with_len 0 cpus))
 all_for_run cpus lines all =
     All-map (λ script. All IsForRun script) (script_of lines) (range_with_len 0 cpus) (λ k d within.
-    All-filter _ IsForRun lines (λ at e inside. reads_none cpus (get_or lines at e) (AllPass-from_list_all (is_for_run cpus) lines all at e inside)))
+    All-filter _ IsForRun lines (λ at e inside.
+    reads_none cpus (get_or lines at e) (AllPass-from_list_all (is_for_run cpus) lines all at e inside)))

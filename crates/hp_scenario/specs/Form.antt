@@ -75,7 +75,19 @@ parts_with boot d = do
   pages ← number_at (codes "pages") d
   words ← number_at (codes "words") d
   history ← number_at (codes "history") d
-  Some (record { order = order; pageblocks = pageblocks; blocks = blocks; cpus = cpus; batch = batch; high = high; owners = owners; pages = pages; words = words; history = history; boot = boot })
+  Some (record {
+    order = order;
+    pageblocks = pageblocks;
+    blocks = blocks;
+    cpus = cpus;
+    batch = batch;
+    high = high;
+    owners = owners;
+    pages = pages;
+    words = words;
+    history = history;
+    boot = boot;
+  })
 
 -- an object with just the eleven keys of a layout
 unfoldable pub parts_of : Data → Option LayoutParts

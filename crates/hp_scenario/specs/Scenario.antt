@@ -33,7 +33,8 @@ with_line script n = record { names = n.names; lines = script.lines ++ n.line �
 -- the texts from number `at` on, after the lines so far
 unfoldable pub lines_from : ℕ → Script → List (List ℕ) → Result Script ScenarioFault
 lines_from at script [] = Ok script
-lines_from at script (text ∷ texts) = or_fault (BadLine at) (line_in script.names text) >>= λ n. lines_from (at + 1) (with_line script n) texts
+lines_from at script (text ∷ texts) =
+    or_fault (BadLine at) (line_in script.names text) >>= λ n. lines_from (at + 1) (with_line script n) texts
 
 -- a layout's parts, or their first fault
 abbrev pub layout_or : LayoutParts → Option LayoutFault → Result LayoutParts ScenarioFault

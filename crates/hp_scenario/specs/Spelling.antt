@@ -1,4 +1,5 @@
--- How each line is spelled (own rule): a text is a line just where it is spelled so, and what it says can be said.
+-- How each line is spelled (own rule): a text is a line just where it is spelled so, and what it
+-- says can be said.
 use Rattle.std.specs.Prelude.{◌≡◌, ℕ, ◌^◌, ◌<◌, ◌==◌, List, [], ◌∷◌, codes, Bool, true, not, length, Some, ◌↔◌}
 use Rattle.std.specs.Fmt.{decimal}
 use Rattle.std.specs.List.{join_with_byte, list_all}
@@ -48,7 +49,8 @@ event_words event = []
 abbrev pub access_words : List ℕ → Access → List (List ℕ)
 access_words name (access.Map page) = codes "map" ∷ name ∷ decimal page ∷ []
 access_words name (access.Unmap page) = codes "unmap" ∷ name ∷ decimal page ∷ []
-access_words name (access.Write page index value) = codes "write" ∷ name ∷ decimal page ∷ decimal index ∷ decimal value ∷ []
+access_words name (access.Write page index value) =
+    codes "write" ∷ name ∷ decimal page ∷ decimal index ∷ decimal value ∷ []
 access_words name (access.Read page index) = codes "read" ∷ name ∷ decimal page ∷ decimal index ∷ []
 
 abbrev pub work_words : Work → List (List ℕ)
@@ -113,4 +115,5 @@ abbrev pub CanBeSaid : Said → Type 0
 CanBeSaid said = (said.cpu < 2 ^ 32) × FitsRequest said.request
 
 abbrev pub LinesAreSpelled : Type 0
-LinesAreSpelled = (text : List ℕ) (said : Said) → (line_says text ≡ Some said) ↔ ((text ≡ line_text said) × CanBeSaid said)
+LinesAreSpelled =
+    (text : List ℕ) (said : Said) → (line_says text ≡ Some said) ↔ ((text ≡ line_text said) × CanBeSaid said)

@@ -51,7 +51,8 @@ pub fn boot_at(value: &Value) -> Option<Boot>
 }
 
 fn boots_from(alloc: Global, values: &Vec<Value>) -> Result<Vec<Boot>, ScenarioFault>
-    ensures { Gives (λ v. v.items) result (or_fault ScenarioFault.BadShape (each_in boot_in (items_view values.now.items))) }
+    ensures { Gives (λ v. v.items) result
+        (or_fault ScenarioFault.BadShape (each_in boot_in (items_view values.now.items))) }
 {
     let mut boots = Vec::new(alloc);
     for value in values {
@@ -73,7 +74,8 @@ pub(crate) fn texts_at<'a>(value: &'a Value, key: &str) -> Option<Texts<'a>>
     }
 }
 
-/// What the blocks are at boot, by the words at a key. Errors: BadShape where there is no list of such words; OutOfMemory.
+/// What the blocks are at boot, by the words at a key. Errors: BadShape where there is no list of
+/// such words; OutOfMemory.
 #[tactic(auto, unfolding(crate::specs::Form::boots_at))]
 pub fn boots_at(alloc: Global, value: &Value, key: &str) -> Result<Vec<Boot>, ScenarioFault>
     ensures { Gives (λ v. v.items) result (or_fault ScenarioFault.BadShape (boots key.now (view value.now))) }
@@ -84,8 +86,8 @@ pub fn boots_at(alloc: Global, value: &Value, key: &str) -> Result<Vec<Boot>, Sc
     }
 }
 
-/// The parts of a layout, with what its blocks are at boot; none where one of its ten numbers is missing or is no integer from 0 up
-/// below 2^64. Nothing is said of other keys, nor of limits.
+/// The parts of a layout, with what its blocks are at boot; none where one of its ten numbers is
+/// missing or is no integer from 0 up below 2^64. Nothing is said of other keys, nor of limits.
 #[tactic(auto, unfolding(crate::specs::Form::parts_with))]
 pub fn parts_with<'a>(layout: &Value, boot: &'a [Boot]) -> Option<Parts<'a>>
     ensures { option_map parts_seen result ≡ with_boot boot.now (view layout.now) }

@@ -21,7 +21,8 @@ pub(crate) fn line_from<'a>(
     words: &mut Vec<&'a str>,
     text: &'a str,
 ) -> Result<Option<Line>, AllocError>
-    ensures { IfOk result (λ line. option_map (λ line. record { names = names.new.keys; line = line }) line ≡ line_in names.old.keys text.now) }
+    ensures { IfOk result (λ line. option_map (λ line. record { names = names.new.keys; line = line }) line
+        ≡ line_in names.old.keys text.now) }
 {
     let Some(said) = line_says(alloc, words, text)? else {
         return Ok(None);
@@ -61,7 +62,8 @@ fn owner_of(alloc: Global, names: &mut IndexSet<Text>, name: &str) -> Result<Own
     Ok(Owner(index))
 }
 
-/// The place of a name, which becomes the last one where it is new. It takes memory only for a name that is new or one of many.
+/// The place of a name, which becomes the last one where it is new. It takes memory only for a name
+/// that is new or one of many.
 #[tactic(auto, using(crate::proofs::KnownNames::known_place, crate::proofs::KnownNames::known_stays))]
 fn index_of(alloc: Global, names: &mut IndexSet<Text>, name: &str) -> Result<usize, AllocError>
     ensures names { OnOk result (names.new.keys ≡ insert_key bytes_eq names.old.keys name.now) }
@@ -75,7 +77,8 @@ fn index_of(alloc: Global, names: &mut IndexSet<Text>, name: &str) -> Result<usi
     Ok(index)
 }
 
-/// The place of a name among a few names, no more than a layout has owners; none where it is not there, or where there are more.
+/// The place of a name among a few names, no more than a layout has owners; none where it is not
+/// there, or where there are more.
 fn known_index(names: &IndexSet<Text>, name: &str) -> Option<usize>
     ensures { IfSome result (λ index. position (bytes_eq name.now) names.now.keys ≡ Some index) }
 {

@@ -7,7 +7,8 @@ use std::alloc::{AllocError, Global};
 
 /// The items of a plan, two words each.
 pub(crate) fn items_from(alloc: Global, words: &[&str]) -> Result<Option<Vec<Item>>, AllocError>
-    ensures { IfOk result (λ items. option_map (λ v. v.items) items ≡ says.items_of (map (λ w. w.now) words.now)) }
+    ensures { IfOk result
+        (λ items. option_map (λ v. v.items) items ≡ says.items_of (map (λ w. w.now) words.now)) }
 {
     let mut items = Vec::new(alloc);
     let mut rest = words;

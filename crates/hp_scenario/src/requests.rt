@@ -32,7 +32,8 @@ pub(crate) struct Said<'a> {
     pub(crate) request: Request<'a>,
 }
 
-/// What a text says, where it is a line. What `words` held before is dropped: its room serves line after line.
+/// What a text says, where it is a line. What `words` held before is dropped: its room serves line
+/// after line.
 #[tactic(auto, unfolding(crate::specs::Lines::line_says))]
 pub(crate) fn line_says<'a>(
     alloc: Global,
@@ -83,7 +84,8 @@ fn words_say<'a>(alloc: Global, words: &[&'a str]) -> Result<Option<Said<'a>>, A
 /// What the words after the processor ask for.
 #[tactic(auto, unfolding(crate::specs::Lines::request_of))]
 fn request_from<'a>(alloc: Global, words: &[&'a str]) -> Result<Option<Request<'a>>, AllocError>
-    ensures { IfOk result (λ request. option_map request_seen request ≡ says.request_of (map (λ w. w.now) words.now)) }
+    ensures { IfOk result
+        (λ request. option_map request_seen request ≡ says.request_of (map (λ w. w.now) words.now)) }
 {
     let Some((verb, args)) = words.split_first() else {
         return Ok(None);

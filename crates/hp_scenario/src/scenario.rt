@@ -88,7 +88,8 @@ fn scenario_with(
     parts: &Parts<'_>,
     calls: &Texts<'_>,
 ) -> Result<Scenario, ScenarioFault>
-    ensures { Gives scenario_seen result (scenario_with (record { parts = parts_seen parts.now; calls = calls.now })) }
+    ensures { Gives scenario_seen result
+        (scenario_with (record { parts = parts_seen parts.now; calls = calls.now })) }
 {
     let layout = layout_from(alloc, parts)?;
     let script = read_lines(alloc, calls)?;

@@ -50,11 +50,11 @@ impl Script {
 }
 
 impl Scenario {
-    /// The lines by processor: one script for each processor of the layout, in order from 0. It takes the scenario, whose lines
-    /// move into the scripts.
+    /// The lines by processor: one script for each processor of the layout, in order from 0. It
+    /// takes the scenario, whose lines move into the scripts.
     ///
-    /// Errors: NotForRun with the first line, counted from 1, that reads a control file or whose processor is not in the layout;
-    /// OutOfMemory, which may come in place of any answer.
+    /// Errors: NotForRun with the first line, counted from 1, that reads a control file or whose
+    /// processor is not in the layout; OutOfMemory, which may come in place of any answer.
     #[tactic(auto, unfolding(crate::specs::Scripts::scripts_of))]
     pub fn scripts(self, alloc: Global) -> Result<Vec<Script>, ScenarioFault>
         ensures scripts { Gives (λ scripts. scripts.items) result (scripts_of (scenario_seen self)) }
@@ -90,7 +90,8 @@ fn dealt(alloc: Global, lines: Vec<Line>, cpus: u32) -> Result<Vec<Script>, Allo
     }
 }
 
-/// The place of the script that all lines belong to; None where they are of several processors, and where there are none.
+/// The place of the script that all lines belong to; None where they are of several processors, and
+/// where there are none.
 fn only_place(lines: &[Line]) -> Option<usize>
     ensures { IfSome result (AreAllOf lines.now) }
 {
@@ -159,7 +160,8 @@ impl Line {
         self.cpu.0 as usize
     }
 
-    /// Whether a worker may run the line: its processor is one of so many, and it does not read a control file.
+    /// Whether a worker may run the line: its processor is one of so many, and it does not read a
+    /// control file.
     fn is_for_run(&self, cpus: u32) -> bool
         ensures { result ≡ is_for_run cpus self.now }
     {

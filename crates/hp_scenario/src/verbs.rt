@@ -223,7 +223,8 @@ fn remove<'a>(args: &[&'a str]) -> Option<Request<'a>>
 
 #[tactic(auto, unfolding(crate::specs::Lines::begin_of))]
 pub(crate) fn begin<'a>(alloc: Global, args: &[&'a str]) -> Result<Option<Request<'a>>, AllocError>
-    ensures { IfOk result (λ request. option_map request_seen request ≡ says.begin_of (map (λ w. w.now) args.now)) }
+    ensures { IfOk result
+        (λ request. option_map request_seen request ≡ says.begin_of (map (λ w. w.now) args.now)) }
 {
     let Some(items) = items_from(alloc, args)? else {
         return Ok(None);
@@ -234,7 +235,8 @@ pub(crate) fn begin<'a>(alloc: Global, args: &[&'a str]) -> Result<Option<Reques
 
 #[tactic(auto, unfolding(crate::specs::Lines::plan_of))]
 pub(crate) fn plan<'a>(alloc: Global, args: &[&'a str]) -> Result<Option<Request<'a>>, AllocError>
-    ensures { IfOk result (λ request. option_map request_seen request ≡ says.plan_of (map (λ w. w.now) args.now)) }
+    ensures { IfOk result
+        (λ request. option_map request_seen request ≡ says.plan_of (map (λ w. w.now) args.now)) }
 {
     let [turns, rest @ ..] = args else {
         return Ok(None);
@@ -251,7 +253,8 @@ pub(crate) fn plan<'a>(alloc: Global, args: &[&'a str]) -> Result<Option<Request
 
 #[tactic(auto, unfolding(crate::specs::Lines::echo_of))]
 pub(crate) fn echo<'a>(alloc: Global, args: &[&'a str]) -> Result<Option<Request<'a>>, AllocError>
-    ensures { IfOk result (λ request. option_map request_seen request ≡ says.echo_of (map (λ w. w.now) args.now)) }
+    ensures { IfOk result
+        (λ request. option_map request_seen request ≡ says.echo_of (map (λ w. w.now) args.now)) }
 {
     let [text, path] = args else {
         return Ok(None);
@@ -269,7 +272,8 @@ pub(crate) fn echo<'a>(alloc: Global, args: &[&'a str]) -> Result<Option<Request
 
 #[tactic(auto, unfolding(crate::specs::Lines::cat_of))]
 pub(crate) fn cat<'a>(alloc: Global, args: &[&'a str]) -> Result<Option<Request<'a>>, AllocError>
-    ensures { IfOk result (λ request. option_map request_seen request ≡ says.cat_of (map (λ w. w.now) args.now)) }
+    ensures { IfOk result
+        (λ request. option_map request_seen request ≡ says.cat_of (map (λ w. w.now) args.now)) }
 {
     let [path] = args else {
         return Ok(None);

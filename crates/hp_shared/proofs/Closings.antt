@@ -9,7 +9,10 @@ use Rattle.hp_shared.specs.Shared.{IsShared, LockedValue, SeatValue}
 use Rattle.hp_shared.proofs.Sealing.{counted_all}
 
 -- the machine that was compared is the shared one
-pub closed : (l : LayoutParts) (v : LockedValue) (shown m : MachineValue) (cpus count : ℕ) (seats : List SeatValue) (volumes : List Volume) → IsShared l v → shown ≡ v.machine → m ≡ v.machine → cpus ≡ l.cpus → IsChecked shown cpus seats volumes count
+pub closed : (l : LayoutParts) (v : LockedValue) (shown m : MachineValue) (cpus count : ℕ)
+    (seats : List SeatValue) (volumes : List Volume)
+    → IsShared l v → shown ≡ v.machine → m ≡ v.machine → cpus ≡ l.cpus
+    → IsChecked shown cpus seats volumes count
     → IsClosed l seats volumes m count
 closed l v shown m cpus count seats volumes kept is own all checked = record {
   shared =
@@ -17,7 +20,9 @@ closed l v shown m cpus count seats volumes kept is own all checked = record {
         layout = kept.layout;
         sealed = kept.sealed;
         history = kept.history;
-        total = here.records ∙ (sym (counted_all volumes m (last_serial m) here.reach refl) ∙ ap (λ (x : MachineValue). last_serial x) own);
+        total =
+            here.records ∙ (sym (counted_all volumes m (last_serial m) here.reach refl)
+            ∙ ap (λ (x : MachineValue). last_serial x) own);
       });
   checked = here;
 }
@@ -28,7 +33,9 @@ closed l v shown m cpus count seats volumes kept is own all checked = record {
         (subst (λ (x : MachineValue). IsChecked x cpus seats volumes count) (is ∙ sym own) checked)
 
 -- and so is the one in which a fault was found
-pub caused : (l : LayoutParts) (v : LockedValue) (shown : MachineValue) (cpus : ℕ) (seats : List SeatValue) (volumes : List Volume) (why : CloseFault) → IsShared l v → shown ≡ v.machine → cpus ≡ l.cpus → HasFault shown cpus seats volumes why
+pub caused : (l : LayoutParts) (v : LockedValue) (shown : MachineValue) (cpus : ℕ) (seats : List SeatValue)
+    (volumes : List Volume) (why : CloseFault)
+    → IsShared l v → shown ≡ v.machine → cpus ≡ l.cpus → HasFault shown cpus seats volumes why
     → HasCause l seats volumes why
 caused l v shown cpus seats volumes why kept is all fault = record {
   seen = v;

@@ -17,31 +17,45 @@ agreed : (receipts done : List Receipt) → Agrees receipts done → (n : ℕ) �
 agreed receipts done agree n d = d.3.0 (agree d.0 d.1 d.2)
 
 -- the same entry at the next place
-agrees_on : (receipts done : List Receipt) (b : Receipt) → Agrees receipts done → slice_get receipts (length done) ≡ Some b → Agrees receipts (done ++ b ∷ [])
+agrees_on : (receipts done : List Receipt) (b : Receipt) → Agrees receipts done
+    → slice_get receipts (length done) ≡ Some b → Agrees receipts (done ++ b ∷ [])
 agrees_on receipts done b agree is at x h =
-    elim (get_push_cases done b x at h) [ inl e ↦ agree at x e | inr e ↦ ap (λ (k : ℕ). slice_get receipts k) e.0 ∙ (is ∙ ap (λ (y : Receipt). Some y) e.1) ]
+    elim (get_push_cases done b x at h) [
+      | inl e ↦ agree at x e
+      | inr e ↦ ap (λ (k : ℕ). slice_get receipts k) e.0 ∙ (is ∙ ap (λ (y : Receipt). Some y) e.1)
+    ]
 
 -- what differed before differs still
-differs_on : (receipts done : List Receipt) (b : Receipt) (n : ℕ) → DiffersBefore receipts done n → DiffersBefore receipts (done ++ b ∷ []) n
-differs_on receipts done b n d = (d.0, d.1, get_left done (b ∷ []) d.0 (slice_get_within done d.0 d.1 d.2) ∙ d.2, d.3)
+differs_on : (receipts done : List Receipt) (b : Receipt) (n : ℕ) → DiffersBefore receipts done n
+    → DiffersBefore receipts (done ++ b ∷ []) n
+differs_on receipts done b n d =
+    (d.0, d.1, get_left done (b ∷ []) d.0 (slice_get_within done d.0 d.1 d.2) ∙ d.2, d.3)
 
 -- and what differs at last differed before, or here
-differs_back : (receipts done : List Receipt) (b : Receipt) (n : ℕ) → DiffersBefore receipts (done ++ b ∷ []) n → DiffersBefore receipts done n ⊎ EntryDiffersAt (slice_get receipts (length done)) b n
+differs_back : (receipts done : List Receipt) (b : Receipt) (n : ℕ)
+    → DiffersBefore receipts (done ++ b ∷ []) n
+    → DiffersBefore receipts done n ⊎ EntryDiffersAt (slice_get receipts (length done)) b n
 differs_back receipts done b n d =
     elim (get_push_cases done b d.1 d.0 d.2) [
       | inl e ↦ inl (d.0, d.1, e, d.3)
       | inr e ↦
-          inr (subst (λ (k : ℕ). EntryDiffersAt (slice_get receipts k) b n) e.0 (subst (λ (x : Receipt). EntryDiffersAt (slice_get receipts d.0) x n) (sym e.1) d.3))
+          inr (subst (λ (k : ℕ). EntryDiffersAt (slice_get receipts k) b n) e.0
+          (subst (λ (x : Receipt). EntryDiffersAt (slice_get receipts d.0) x n) (sym e.1) d.3))
     ]
 
-pub mark_stepped : (receipts done : List Receipt) (b : Receipt) (m : Mark) (here low : Option ℕ) → IsOutcome (slice_get receipts m.next ≡ Some b) (EntryDiffersAt (slice_get receipts m.next) b) here → low ≡ lower m.lowest here → IsMark receipts done m
+pub mark_stepped : (receipts done : List Receipt) (b : Receipt) (m : Mark) (here low : Option ℕ)
+    → IsOutcome (slice_get receipts m.next ≡ Some b) (EntryDiffersAt (slice_get receipts m.next) b) here
+    → low ≡ lower m.lowest here → IsMark receipts done m
     → IsMark receipts (done ++ b ∷ []) (record { next = m.next + 1; lowest = low })
 mark_stepped receipts done b m here low found is mark = record {
   next = omega (arith, mark.next, length-append done (b ∷ []));
   lowest =
       subst (IsOutcome (Agrees receipts (done ++ b ∷ [])) (DiffersBefore receipts (done ++ b ∷ []))) (sym is)
-      (joined (Agrees receipts done) (slice_get receipts (length done) ≡ Some b) (Agrees receipts (done ++ b ∷ [])) (DiffersBefore receipts done) (EntryDiffersAt (slice_get receipts (length done)) b) (DiffersBefore receipts (done ++ b ∷ [])) m.lowest here mark.lowest
-      (subst (λ (k : ℕ). IsOutcome (slice_get receipts k ≡ Some b) (EntryDiffersAt (slice_get receipts k) b) here) mark.next found)
+      (joined (Agrees receipts done) (slice_get receipts (length done) ≡ Some b) (Agrees receipts
+      (done ++ b ∷ [])) (DiffersBefore receipts done) (EntryDiffersAt (slice_get receipts (length done))
+      b) (DiffersBefore receipts (done ++ b ∷ [])) m.lowest here mark.lowest
+      (subst (λ (k : ℕ). IsOutcome (slice_get receipts k ≡ Some b) (EntryDiffersAt (slice_get receipts k) b)
+      here) mark.next found)
       (agreed receipts done)
       (λ same n d. d.0 same)
       (agrees_on receipts done b)
@@ -53,9 +67,11 @@ mark_stepped receipts done b m here low found is mark = record {
 -- ---- the receipts after the records
 
 -- before any of them
-pub ends_before_none : (receipts done : List Receipt) (m : Mark) → IsMark receipts done m → IsEndedBefore receipts done m.next m.lowest
+pub ends_before_none : (receipts done : List Receipt) (m : Mark) → IsMark receipts done m
+    → IsEndedBefore receipts done m.next m.lowest
 ends_before_none receipts done m mark =
-    mapped (Agrees receipts done) (Agrees receipts done × (m.next ≤ length done)) (DiffersBefore receipts done) (λ n. DiffersBefore receipts done n ⊎ StandsAfter receipts done m.next n) m.lowest mark.lowest
+    mapped (Agrees receipts done) (Agrees receipts done × (m.next ≤ length done)) (DiffersBefore receipts
+    done) (λ n. DiffersBefore receipts done n ⊎ StandsAfter receipts done m.next n) m.lowest mark.lowest
     (λ agree. (agree, omega (arith, mark.next)))
     (λ n d. inl d)
     (λ n d. elim d [ inl x ↦ x | inr s ↦ absurd (omega (arith, mark.next, s.2, s.3)) ])
@@ -65,19 +81,25 @@ serial_or None n = n
 serial_or (Some r) n = r.serial
 
 -- after one more
-pub ends_before_next : (receipts done : List Receipt) (end : ℕ) (a : Receipt) (o low : Option ℕ) → length done ≤ end → slice_get receipts end ≡ Some a → low ≡ lower o (Some a.serial) → IsEndedBefore receipts done end o → IsEndedBefore receipts done (end + 1) low
+pub ends_before_next : (receipts done : List Receipt) (end : ℕ) (a : Receipt) (o low : Option ℕ)
+    → length done ≤ end → slice_get receipts end ≡ Some a → low ≡ lower o (Some a.serial)
+    → IsEndedBefore receipts done end o → IsEndedBefore receipts done (end + 1) low
 ends_before_next receipts done end a o low past here is ended =
     subst (IsEndedBefore receipts done (end + 1)) (sym is)
-    (joined (Agrees receipts done × (end ≤ length done)) ⊥ (Agrees receipts done × (end + 1 ≤ length done)) (λ n. DiffersBefore receipts done n ⊎ StandsAfter receipts done end n) (λ n. a.serial ≡ n) (λ n. DiffersBefore receipts done n ⊎ StandsAfter receipts done (end + 1) n) o (Some a.serial) ended
+    (joined (Agrees receipts done × (end ≤ length done)) ⊥ (Agrees receipts done × (end + 1 ≤ length done))
+    (λ n. DiffersBefore receipts done n ⊎ StandsAfter receipts done end n) (λ n. a.serial ≡ n)
+    (λ n. DiffersBefore receipts done n ⊎ StandsAfter receipts done (end + 1) n) o (Some a.serial) ended
     (refl, λ k same. omega (arith, same))
-    (λ good n d. elim d [ inl x ↦ agreed receipts done good.0 n x | inr s ↦ absurd (omega (arith, good.1, s.2, s.3)) ])
+    (λ good n d.
+    elim d [ inl x ↦ agreed receipts done good.0 n x | inr s ↦ absurd (omega (arith, good.1, s.2, s.3)) ])
     (λ none n d. none)
     (λ good none. absurd none)
     (λ n d. elim d [ inl x ↦ inl x | inr s ↦ inr (s.0, s.1, s.2, omega (arith, s.3), s.4, s.5) ])
     (λ n same. inr (end, a, past, omega arith, here, same))
     (λ n d. elim d [ inl x ↦ inl (inl x) | inr s ↦ by_place n s (cases_lt s.0 end) ]))
   where
-    by_place : (n : ℕ) (s : StandsAfter receipts done (end + 1) n) → (s.0 < end) ⊎ (end ≤ s.0) → (DiffersBefore receipts done n ⊎ StandsAfter receipts done end n) ⊎ (a.serial ≡ n)
+    by_place : (n : ℕ) (s : StandsAfter receipts done (end + 1) n) → (s.0 < end) ⊎ (end ≤ s.0)
+        → (DiffersBefore receipts done n ⊎ StandsAfter receipts done end n) ⊎ (a.serial ≡ n)
     by_place n s (inl less) = inl (inr (s.0, s.1, s.2, less, s.4, s.5))
     by_place n s (inr past) =
         let last : s.0 ≡ end = omega (arith, s.3) in
@@ -94,28 +116,49 @@ same_places (x ∷ xs) (y ∷ ys) agree long =
     let rest = same_places xs ys (λ at b. agree (suc at) b) (omega arith) in cc
 
 -- what differs before the end of the receipts is all that differs
-differ_all : (receipts done : List Receipt) (end n : ℕ) → DiffersBefore receipts done n ⊎ StandsAfter receipts done end n → DifferAt receipts done n
+differ_all : (receipts done : List Receipt) (end n : ℕ)
+    → DiffersBefore receipts done n ⊎ StandsAfter receipts done end n → DifferAt receipts done n
 differ_all receipts done end n (inl d) =
-    elim d.3.1 [ inl is ↦ inr (d.0, d.1, d.2, is, d.3.0) | inr own ↦ inl (d.0, own.0, own.1, own.2, λ e. d.3.0 (own.1 ∙ (sym e ∙ d.2))) ]
+    elim d.3.1 [
+      | inl is ↦ inr (d.0, d.1, d.2, is, d.3.0)
+      | inr own ↦ inl (d.0, own.0, own.1, own.2, λ e. d.3.0 (own.1 ∙ (sym e ∙ d.2)))
+    ]
 differ_all receipts done end n (inr s) =
     inl (s.0, s.1, s.4, s.5, λ e. let inside = slice_get_within done s.0 s.1 e in absurd (omega (arith, s.2)))
 
-differ_back : (receipts done : List Receipt) (end n : ℕ) → length receipts ≤ end → DifferAt receipts done n → DiffersBefore receipts done n ⊎ StandsAfter receipts done end n
+differ_back : (receipts done : List Receipt) (end n : ℕ) → length receipts ≤ end → DifferAt receipts done n
+    → DiffersBefore receipts done n ⊎ StandsAfter receipts done end n
 differ_back receipts done end n long (inl own) = by_entry (slice_get done own.0) refl
   where
     past : (k : ℕ) → slice_get done k ≡ None → length done ≤ k
     past k none =
-        elim (cases_lt k (length done)) [ inl less ↦ let found = get_some done k less in let clash : Some found.0 ≡ None = sym found.1 ∙ none in absurd cc | inr far ↦ far ]
+        elim (cases_lt k (length done)) [
+          | inl less ↦ let found = get_some done k less in let clash : Some
+              found.0 ≡ None = sym found.1 ∙ none in absurd cc
+          | inr far ↦ far
+        ]
 
-    by_entry : (o : Option Receipt) → slice_get done own.0 ≡ o → DiffersBefore receipts done n ⊎ StandsAfter receipts done end n
-    by_entry None none = inr (own.0, own.1, past own.0 none, (let inside = slice_get_within receipts own.0 own.1 own.2 in omega arith), own.2, own.3)
-    by_entry (Some b) some = inl (own.0, b, some, ((λ e. own.4 (some ∙ (sym e ∙ own.2))), inr (own.1, own.2, own.3)))
+    by_entry : (o : Option Receipt) → slice_get done own.0 ≡ o
+        → DiffersBefore receipts done n ⊎ StandsAfter receipts done end n
+    by_entry None none =
+        inr (
+          own.0,
+          own.1,
+          past own.0 none,
+          (let inside = slice_get_within receipts own.0 own.1 own.2 in omega arith),
+          own.2,
+          own.3,
+        )
+    by_entry (Some b) some =
+        inl (own.0, b, some, ((λ e. own.4 (some ∙ (sym e ∙ own.2))), inr (own.1, own.2, own.3)))
 differ_back receipts done end n long (inr other) = inl (other.0, other.1, other.2, (other.4, inl other.3))
 
 -- so after the last receipt the search is over
-pub ended : (receipts done : List Receipt) (end : ℕ) (o : Option ℕ) → length receipts ≤ end → IsEndedBefore receipts done end o → IsOutcome (receipts ≡ done) (DifferAt receipts done) o
+pub ended : (receipts done : List Receipt) (end : ℕ) (o : Option ℕ) → length receipts ≤ end
+    → IsEndedBefore receipts done end o → IsOutcome (receipts ≡ done) (DifferAt receipts done) o
 ended receipts done end o long before =
-    mapped (Agrees receipts done × (end ≤ length done)) (receipts ≡ done) (λ n. DiffersBefore receipts done n ⊎ StandsAfter receipts done end n) (DifferAt receipts done) o before
+    mapped (Agrees receipts done × (end ≤ length done)) (receipts ≡ done)
+    (λ n. DiffersBefore receipts done n ⊎ StandsAfter receipts done end n) (DifferAt receipts done) o before
     (λ good. same_places receipts done good.0 (omega (arith, good.1)))
     (differ_all receipts done end)
     (λ n. differ_back receipts done end n long)

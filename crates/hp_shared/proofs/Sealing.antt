@@ -16,70 +16,119 @@ use Rattle.hp_shared.specs.Shared.{SeatValue}
 use Rattle.hp_shared.specs.Volumes.{AreCountedBefore, IsWrongAt, ReachSealed, all_records, sealed_records}
 use Rattle.hp_shared.proofs.Comparisons.{next_taken, same_item, strays_both, take_all}
 
-records_more : (vs : List Volume) (v : Volume) → sealed_records (vs ++ v ∷ []) ≡ sealed_records vs ++ v.records
+records_more : (vs : List Volume) (v : Volume)
+    → sealed_records (vs ++ v ∷ []) ≡ sealed_records vs ++ v.records
 records_more [] v = append-nil v.records
-records_more (u ∷ us) v = ap (λ (rs : List Record). u.records ++ rs) (records_more us v) ∙ sym (append_assoc u.records (sealed_records us) v.records)
+records_more (u ∷ us) v =
+    ap (λ (rs : List Record). u.records ++ rs) (records_more us v)
+    ∙ sym (append_assoc u.records (sealed_records us) v.records)
 
 -- one more volume
-pub records_next : (vs : List Volume) (at : ℕ) (v : Volume) → slice_get vs at ≡ Some v → sealed_records (take (at + 1) vs) ≡ sealed_records (take at vs) ++ v.records
+pub records_next : (vs : List Volume) (at : ℕ) (v : Volume) → slice_get vs at ≡ Some v
+    → sealed_records (take (at + 1) vs) ≡ sealed_records (take at vs) ++ v.records
 records_next vs at v get = ap sealed_records (next_taken vs at v get) ∙ records_more (take at vs) v
 
 -- their number is that of the records in the volumes
 pub length_sealed : (vs : List Volume) → length (sealed_records vs) ≡ records_in vs
 length_sealed [] = refl
 length_sealed (v ∷ vs) =
-    omega (arith, length-append v.records (sealed_records vs), length_sealed vs, sum_by-cons (λ (x : Volume). length x.records) v vs)
+    omega (
+      arith,
+      length-append v.records (sealed_records vs),
+      length_sealed vs,
+      sum_by-cons (λ (x : Volume). length x.records) v vs,
+    )
 
-pub count_next : (vs : List Volume) (at count more : ℕ) (v : Volume) → slice_get vs at ≡ Some v → count ≡ records_in (take at vs) → more ≡ length v.records → count + more ≡ records_in (take (at + 1) vs)
+pub count_next : (vs : List Volume) (at count more : ℕ) (v : Volume) → slice_get vs at ≡ Some v
+    → count ≡ records_in (take at vs) → more ≡ length v.records → count + more ≡ records_in (take (at + 1) vs)
 count_next vs at count more v get is own =
-    omega (arith, is, own, count_more (take at vs) v, ap (λ (us : List Volume). records_in us) (next_taken vs at v get))
+    omega (
+      arith,
+      is,
+      own,
+      count_more (take at vs) v,
+      ap (λ (us : List Volume). records_in us) (next_taken vs at v get),
+    )
 
 -- all records are as many as the last serial
-pub counted_all : (vs : List Volume) (m : MachineValue) (n : ℕ) → ReachSealed vs m.before → n ≡ last_serial m → n ≡ length (all_records vs m)
-counted_all vs m n reach is = omega (arith, is, length-append (sealed_records vs) m.history, length_sealed vs, reach.sealed_all)
+pub counted_all : (vs : List Volume) (m : MachineValue) (n : ℕ) → ReachSealed vs m.before → n ≡ last_serial m
+    → n ≡ length (all_records vs m)
+counted_all vs m n reach is =
+    omega (arith, is, length-append (sealed_records vs) m.history, length_sealed vs, reach.sealed_all)
 
 -- ---- marks
 
 -- room for one more volume's records, its marks, and its records of no seat
-pub room_on : (vs : List Volume) (at limit : ℕ) (v : Volume) (records : List Record) → slice_get vs at ≡ Some v → records ≡ v.records → records_in vs < limit → length (sealed_records (take at vs)) + length records < limit
+pub room_on : (vs : List Volume) (at limit : ℕ) (v : Volume) (records : List Record)
+    → slice_get vs at ≡ Some v → records ≡ v.records → records_in vs < limit
+    → length (sealed_records (take at vs)) + length records < limit
 room_on vs at limit v records get own few =
-    omega (arith, few, length_sealed (take at vs), count_next vs at (records_in (take at vs)) (length v.records) v get refl refl, sum_by-take-le (λ (x : Volume). length x.records) vs (at + 1), ap (λ (rs : List Record). length rs) own)
+    omega (
+      arith,
+      few,
+      length_sealed (take at vs),
+      count_next vs at (records_in (take at vs)) (length v.records) v get refl refl,
+      sum_by-take-le (λ (x : Volume). length x.records) vs (at + 1),
+      ap (λ (rs : List Record). length rs) own,
+    )
 
-records_on : (vs : List Volume) (at : ℕ) (v : Volume) (records : List Record) → slice_get vs at ≡ Some v → records ≡ v.records → sealed_records (take at vs) ++ records ≡ sealed_records (take (at + 1) vs)
-records_on vs at v records get own = ap (λ (rs : List Record). sealed_records (take at vs) ++ rs) own ∙ sym (records_next vs at v get)
+records_on : (vs : List Volume) (at : ℕ) (v : Volume) (records : List Record) → slice_get vs at ≡ Some v
+    → records ≡ v.records → sealed_records (take at vs) ++ records ≡ sealed_records (take (at + 1) vs)
+records_on vs at v records get own =
+    ap (λ (rs : List Record). sealed_records (take at vs) ++ rs) own ∙ sym (records_next vs at v get)
 
-pub marks_on : (vs : List Volume) (at : ℕ) (v : Volume) (records : List Record) (seats : List SeatValue) (marks : List Mark) → slice_get vs at ≡ Some v → records ≡ v.records → AreMarks (sealed_records (take at vs) ++ records) seats marks
+pub marks_on : (vs : List Volume) (at : ℕ) (v : Volume) (records : List Record) (seats : List SeatValue)
+    (marks : List Mark)
+    → slice_get vs at ≡ Some v → records ≡ v.records
+    → AreMarks (sealed_records (take at vs) ++ records) seats marks
     → AreMarks (sealed_records (take (at + 1) vs)) seats marks
-marks_on vs at v records seats marks get own are = subst (λ (rs : List Record). AreMarks rs seats marks) (records_on vs at v records get own) are
+marks_on vs at v records seats marks get own are =
+    subst (λ (rs : List Record). AreMarks rs seats marks) (records_on vs at v records get own) are
 
-pub strays_on : (vs : List Volume) (at : ℕ) (v : Volume) (records : List Record) (seats : List SeatValue) (o q low : Option ℕ) → slice_get vs at ≡ Some v → records ≡ v.records → low ≡ lower o q
-    → IsOutcome (AreSeated (sealed_records (take at vs)) seats) (StraysAt (sealed_records (take at vs)) seats) o → IsOutcome (AreSeated records seats) (StraysAt records seats) q
-    → IsOutcome (AreSeated (sealed_records (take (at + 1) vs)) seats) (StraysAt (sealed_records (take (at + 1) vs)) seats) low
+pub strays_on : (vs : List Volume) (at : ℕ) (v : Volume) (records : List Record) (seats : List SeatValue)
+    (o q low : Option ℕ)
+    → slice_get vs at ≡ Some v → records ≡ v.records → low ≡ lower o q
+    → IsOutcome (AreSeated (sealed_records (take at vs)) seats) (StraysAt (sealed_records (take at vs)) seats)
+    o
+    → IsOutcome (AreSeated records seats) (StraysAt records seats) q
+    → IsOutcome (AreSeated (sealed_records (take (at + 1) vs)) seats)
+    (StraysAt (sealed_records (take (at + 1) vs)) seats) low
 strays_on vs at v records seats o q low get own is before here =
-    subst (λ (rs : List Record). IsOutcome (AreSeated rs seats) (StraysAt rs seats) low) (records_on vs at v records get own)
+    subst (λ (rs : List Record). IsOutcome (AreSeated rs seats) (StraysAt rs seats) low)
+    (records_on vs at v records get own)
     (strays_both (sealed_records (take at vs)) records seats o q low is before here)
 
 -- ---- their counts
 
-pub counted_next : (vs : List Volume) (at : ℕ) (v : Volume) → slice_get vs at ≡ Some v → v.before ≡ records_in (take at vs) → AreCountedBefore vs at → AreCountedBefore vs (at + 1)
+pub counted_next : (vs : List Volume) (at : ℕ) (v : Volume) → slice_get vs at ≡ Some v
+    → v.before ≡ records_in (take at vs) → AreCountedBefore vs at → AreCountedBefore vs (at + 1)
 counted_next vs at v get right counted k u less there = by_place (cases_lt k at)
   where
     by_place : (k < at) ⊎ (at ≤ k) → u.before ≡ records_in (take k vs)
     by_place (inl before) = counted k u before there
     by_place (inr past) =
         let last : k ≡ at = omega (arith, less, past) in
-        let same : v ≡ u = same_item (slice_get vs at) v u get (ap (λ (n : ℕ). slice_get vs n) (sym last) ∙ there) in
+        let same : v ≡ u =
+        same_item (slice_get vs at) v u get (ap (λ (n : ℕ). slice_get vs n) (sym last) ∙ there) in
         ap (λ (x : Volume). x.before) (sym same) ∙ (right ∙ ap (λ (n : ℕ). records_in (take n vs)) (sym last))
 
 -- all of them
-pub reached : (vs : List Volume) (at count sealed : ℕ) → length vs ≤ at → at ≤ length vs → AreCountedBefore vs at → count ≡ records_in (take at vs) → sealed ≡ count → ReachSealed vs sealed
+pub reached : (vs : List Volume) (at count sealed : ℕ) → length vs ≤ at → at ≤ length vs
+    → AreCountedBefore vs at → count ≡ records_in (take at vs) → sealed ≡ count → ReachSealed vs sealed
 reached vs at count sealed past within counted is same = record {
   counted = let all : at ≡ length vs = omega (arith, past, within) in subst (AreCountedBefore vs) all counted;
   sealed_all = sym (same ∙ (is ∙ ap (λ (us : List Volume). records_in us) (take_all at vs past)));
 }
 
-pub missed : (vs : List Volume) (at count sealed len : ℕ) → length vs ≤ at → at ≤ length vs → len ≡ length vs → AreCountedBefore vs at → count ≡ records_in (take at vs) → sealed ≢ count → IsWrongAt vs sealed len
+pub missed : (vs : List Volume) (at count sealed len : ℕ) → length vs ≤ at → at ≤ length vs → len ≡ length vs
+    → AreCountedBefore vs at → count ≡ records_in (take at vs) → sealed ≢ count → IsWrongAt vs sealed len
 missed vs at count sealed len past within whole counted is other = record {
-  counted = let all : at ≡ len = omega (arith, past, within, whole) in subst (AreCountedBefore vs) all counted;
-  wrong = inr (whole, λ same. other (sym same ∙ sym (is ∙ ap (λ (us : List Volume). records_in us) (take_all at vs past))));
+  counted =
+      let all : at ≡ len = omega (arith, past, within, whole) in subst (AreCountedBefore vs) all counted;
+  wrong =
+      inr (
+        whole,
+        λ same.
+            other (sym same ∙ sym (is ∙ ap (λ (us : List Volume). records_in us) (take_all at vs past))),
+      );
 }

@@ -19,7 +19,8 @@ use Rattle.hp_machine.specs.Machine.{IsCalled, IsHistory, MachineValue, is_full,
 use Rattle.hp_shared.specs.Shared.{HasSharedCause, IsFresh, IsLastOf, IsShared, LockedValue}
 
 -- the machine that a call made has a legal history again, and the state of that history
-called_history : (old new : MachineValue) (cpu : ℕ) (event : Event) (r : Receipt) → IsCalled old cpu event r new → IsHistory new
+called_history : (old new : MachineValue) (cpu : ℕ) (event : Event) (r : Receipt)
+    → IsCalled old cpu event r new → IsHistory new
 called_history old new cpu event r called = record {
   legal =
       subst (λ (l : LayoutParts). IsLegal l new.base new.before new.history) (sym called.layout)
@@ -32,12 +33,20 @@ called_history old new cpu event r called = record {
 }
 
 -- its last serial is one higher
-called_serial : (old new : MachineValue) (cpu : ℕ) (event : Event) (r : Receipt) → IsCalled old cpu event r new → last_serial new ≡ last_serial old + 1
+called_serial : (old new : MachineValue) (cpu : ℕ) (event : Event) (r : Receipt)
+    → IsCalled old cpu event r new → last_serial new ≡ last_serial old + 1
 called_serial old new cpu event r called =
-    omega (arith, called.before, ap (λ (h : List Record). length h) called.history, length-append old.history (record_of cpu r ∷ []))
+    omega (
+      arith,
+      called.before,
+      ap (λ (h : List Record). length h) called.history,
+      length-append old.history (record_of cpu r ∷ []),
+    )
 
 -- so it may lie under the lock, with a total that is one higher
-pub turned : (l : LayoutParts) (old new : MachineValue) (was total : ℕ) (cpu : ℕ) (event : Event) (r : Receipt) → IsShared l (record { machine = old; total = was }) → IsCalled old cpu event r new → total ≡ was + 1
+pub turned : (l : LayoutParts) (old new : MachineValue) (was total : ℕ) (cpu : ℕ) (event : Event)
+    (r : Receipt)
+    → IsShared l (record { machine = old; total = was }) → IsCalled old cpu event r new → total ≡ was + 1
     → IsShared l (record { machine = new; total = total })
 turned l old new was total cpu event r shared called more = record {
   layout = called.layout ∙ shared.layout;
@@ -47,19 +56,27 @@ turned l old new was total cpu event r shared called more = record {
 }
 
 -- and where a call that may be answered by a fault is known to have been recorded
-pub turned_ok : (l : LayoutParts) (old new : MachineValue) (was total : ℕ) (cpu : ℕ) (event : Event) (answer : Result Receipt CallFault) → IsShared l (record { machine = old; total = was }) → IfOk answer (λ r. IsCalled old cpu event r new) → is_ok answer ≡ true → total ≡ was + 1
+pub turned_ok : (l : LayoutParts) (old new : MachineValue) (was total : ℕ) (cpu : ℕ) (event : Event)
+    (answer : Result Receipt CallFault)
+    → IsShared l (record { machine = old; total = was }) → IfOk answer (λ r. IsCalled old cpu event r new)
+    → is_ok answer ≡ true → total ≡ was + 1
     → IsShared l (record { machine = new; total = total })
-turned_ok l old new was total cpu event (Ok r) shared called recorded more = turned l old new was total cpu event r shared called more
+turned_ok l old new was total cpu event (Ok r) shared called recorded more =
+    turned l old new was total cpu event r shared called more
 turned_ok l old new was total cpu event (Err fault) shared called recorded more = absurd cc
 
 -- the fault of a full history comes where the machine under the lock has one
-pub fault_caused : (l : LayoutParts) (seen : LockedValue) (answer : Result Receipt CallFault) → IsShared l seen → ((answer ≡ Err HistoryFull) ↔ IsTrue (is_full seen.machine)) → IfErr answer (HasSharedCause l)
+pub fault_caused : (l : LayoutParts) (seen : LockedValue) (answer : Result Receipt CallFault)
+    → IsShared l seen → ((answer ≡ Err HistoryFull) ↔ IsTrue (is_full seen.machine))
+    → IfErr answer (HasSharedCause l)
 fault_caused l seen (Ok r) shared full = tt
 fault_caused l seen (Err HistoryFull) shared full = (seen, shared, full.0 refl)
 fault_caused l seen (Err OutOfMemory) shared full = tt
 
 -- a machine with no records that sealed nothing may lie under the lock
-pub begun : (l : LayoutParts) (m : MachineValue) (total : ℕ) → IsFresh l m → (m.before ≡ 0 → m.base ≡ boot_memory m.layout) → IsHistory m → total ≡ 0 → IsShared l (record { machine = m; total = total })
+pub begun : (l : LayoutParts) (m : MachineValue) (total : ℕ) → IsFresh l m
+    → (m.before ≡ 0 → m.base ≡ boot_memory m.layout) → IsHistory m → total ≡ 0
+    → IsShared l (record { machine = m; total = total })
 begun l m total fresh boots kept none = record {
   layout = fresh.layout;
   sealed = ([], λ at v none. absurd cc, fresh.before, boots fresh.before ∙ ap boot_memory fresh.layout);
@@ -73,11 +90,19 @@ unfolding value_of net_of run
 stands_at_base l base = refl
 
 -- what was sealed may lie under the lock, with the same total
-pub sealed_on : (l : LayoutParts) (old new : MachineValue) (was total : ℕ) → IsShared l (record { machine = old; total = was }) → new ≡ sealed old → total ≡ was → IsShared l (record { machine = new; total = total })
+pub sealed_on : (l : LayoutParts) (old new : MachineValue) (was total : ℕ)
+    → IsShared l (record { machine = old; total = was }) → new ≡ sealed old → total ≡ was
+    → IsShared l (record { machine = new; total = total })
 sealed_on l old new was total shared is same =
     subst (λ (m : MachineValue). IsShared l (record { machine = m; total = total })) (sym is) (record {
       layout = shared.layout;
-      sealed = (volumes ++ volume_of old ∷ [], chain_more l volumes (volume_of old) shared.sealed.1 follows, count, base);
+      sealed = (
+        volumes ++ volume_of old
+            ∷ [],
+        chain_more l volumes (volume_of old) shared.sealed.1 follows,
+        count,
+        base,
+      );
       history = record { legal = λ at r none. absurd cc; state = stands_at_base old.layout old.state };
       total = omega (arith, same, shared.total);
     })
@@ -89,7 +114,8 @@ sealed_on l old new was total shared is same =
     legal =
         subst (λ (s : Memory). IsLegal l s (records_in volumes) old.history) shared.sealed.3
         (subst (λ (n : ℕ). IsLegal l old.base n old.history) shared.sealed.2
-        (subst (λ (parts : LayoutParts). IsLegal parts old.base old.before old.history) shared.layout shared.history.legal))
+        (subst (λ (parts : LayoutParts). IsLegal parts old.base old.before old.history) shared.layout
+        shared.history.legal))
 
     follows : FollowsVolumes l volumes (volume_of old)
     follows = record { count = shared.sealed.2; base = shared.sealed.3; legal = legal }
@@ -101,10 +127,12 @@ sealed_on l old new was total shared is same =
     base =
         shared.history.state
         ∙ (ap (λ (parts : LayoutParts). value_of parts old.base old.history) shared.layout
-        ∙ (ap (λ (s : Memory). value_of l s old.history) shared.sealed.3 ∙ sym (state_more l volumes (volume_of old))))
+        ∙ (ap (λ (s : Memory). value_of l s old.history) shared.sealed.3
+        ∙ sym (state_more l volumes (volume_of old))))
 
 -- and the receipt is that of its last record
-pub called_last : (old new : MachineValue) (cpu : ℕ) (event : Event) (r : Receipt) → IsCalled old cpu event r new → IsLastOf new cpu r
+pub called_last : (old new : MachineValue) (cpu : ℕ) (event : Event) (r : Receipt)
+    → IsCalled old cpu event r new → IsLastOf new cpu r
 called_last old new cpu event r called = record {
   earlier = old.history;
   history = called.history;
@@ -112,7 +140,10 @@ called_last old new cpu event r called = record {
 }
 
 -- the reply of a machine's last record is the one that the definitions give after some earlier records
-pub last_reply : (m : MachineValue) (cpu : ℕ) (r : Receipt) → IsHistory m → IsLastOf m cpu r → (earlier : List Record) × (r.reply ≡ reply_of m.layout m.base m.before earlier cpu r.event)
+pub last_reply : (m : MachineValue) (cpu : ℕ) (r : Receipt) → IsHistory m → IsLastOf m cpu r
+    → (earlier : List Record) × (r.reply ≡ reply_of m.layout m.base m.before earlier cpu r.event)
 last_reply m cpu r kept last =
-    let here : slice_get m.history (length last.earlier) ≡ Some (record_of cpu r) = ap (λ (h : List Record). slice_get h (length last.earlier)) last.history ∙ get_end last.earlier (record_of cpu r) in
+    let here : slice_get m.history (length last.earlier) ≡ Some (record_of cpu r) =
+    ap (λ (h : List Record). slice_get h (length last.earlier)) last.history
+    ∙ get_end last.earlier (record_of cpu r) in
     (take (length last.earlier) m.history, (kept.legal (length last.earlier) (record_of cpu r) here).reply)

@@ -9,30 +9,34 @@ use Rattle.hp_shared.specs.Comparing.{HasEach, IsLowest, IsSettled, MismatchesAt
 use Rattle.hp_shared.specs.Shared.{IsShared, LockedValue, SeatValue}
 use Rattle.hp_shared.specs.Volumes.{IsWrongAt, ReachSealed, all_records}
 
--- there is one seat for each processor, the volumes are all that the machine sealed, and the seats' receipts are exactly all
--- records, which are so many
-pub record IsChecked (m : MachineValue) (cpus : ℕ) (seats : List SeatValue) (volumes : List Volume) (count : ℕ) : Type 0 where
+-- there is one seat for each processor, the volumes are all that the machine sealed, and the seats'
+-- receipts are exactly all records, which are so many
+pub record IsChecked (m : MachineValue) (cpus : ℕ) (seats : List SeatValue) (volumes : List Volume)
+    (count : ℕ) : Type 0 where
   pub each : HasEach cpus seats
   pub reach : ReachSealed volumes m.before
   pub settled : IsSettled (all_records volumes m) seats
   pub records : count ≡ length (all_records volumes m)
 
--- each fault comes only where it has its cause, and none before it has: a WrongVolume names the first volume that does not
--- follow, and a Mismatch the lowest serial at which there is one
+-- each fault comes only where it has its cause, and none before it has: a WrongVolume names the
+-- first volume that does not follow, and a Mismatch the lowest serial at which there is one
 abbrev pub HasFault : MachineValue → (cpus : ℕ) → List SeatValue → List Volume → CloseFault → Type 0
 HasFault m cpus seats volumes SeatMissing = HasEach cpus seats → ⊥
 HasFault m cpus seats volumes (WrongVolume at) = HasEach cpus seats × IsWrongAt volumes m.before at
 HasFault m cpus seats volumes (Mismatch serial) =
-    HasEach cpus seats × ReachSealed volumes m.before × IsLowest (MismatchesAt (all_records volumes m) seats) serial
+    HasEach cpus seats × ReachSealed volumes m.before
+    × IsLowest (MismatchesAt (all_records volumes m) seats) serial
 HasFault m cpus seats volumes OutOfMemory = HasEach cpus seats × ReachSealed volumes m.before
 
 -- the machine is the shared one, and all records, which are so many, are exactly what the seats' receipts say
-pub record IsClosed (l : LayoutParts) (seats : List SeatValue) (volumes : List Volume) (m : MachineValue) (count : ℕ) : Type 0 where
+pub record IsClosed (l : LayoutParts) (seats : List SeatValue) (volumes : List Volume) (m : MachineValue)
+    (count : ℕ) : Type 0 where
   pub shared : IsShared l (record { machine = m; total = count })
   pub checked : IsChecked m l.cpus seats volumes count
 
 -- the fault has its cause in what the lock showed
-pub record HasCause (l : LayoutParts) (seats : List SeatValue) (volumes : List Volume) (why : CloseFault) : Type 0 where
+pub record HasCause (l : LayoutParts) (seats : List SeatValue) (volumes : List Volume)
+    (why : CloseFault) : Type 0 where
   pub seen : LockedValue
   pub shared : IsShared l seen
   pub fault : HasFault seen.machine l.cpus seats volumes why

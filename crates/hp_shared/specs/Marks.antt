@@ -15,11 +15,13 @@ lower (Some m) (Some n) = Some (if nat_le m n then m else n)
 
 -- an entry is not that of a record's receipt, and this is the serial of the one or the other
 abbrev pub EntryDiffersAt : Option Receipt → Receipt → ℕ → Type 0
-EntryDiffersAt entry b serial = (entry ≢ Some b) × ((b.serial ≡ serial) ⊎ ((a : Receipt) × (entry ≡ Some a) × (a.serial ≡ serial)))
+EntryDiffersAt entry b serial =
+    (entry ≢ Some b) × ((b.serial ≡ serial) ⊎ ((a : Receipt) × (entry ≡ Some a) × (a.serial ≡ serial)))
 
 -- at a place of the records' receipts so far the seat's have another entry, or none
 abbrev pub DiffersBefore : List Receipt → List Receipt → ℕ → Type 0
-DiffersBefore receipts done serial = (at : ℕ) × (b : Receipt) × (slice_get done at ≡ Some b) × EntryDiffersAt (slice_get receipts at) b serial
+DiffersBefore receipts done serial =
+    (at : ℕ) × (b : Receipt) × (slice_get done at ≡ Some b) × EntryDiffersAt (slice_get receipts at) b serial
 
 -- the records' receipts so far stand at the same places of the seat's
 abbrev pub Agrees : List Receipt → List Receipt → Type 0
@@ -32,25 +34,31 @@ pub record IsMark (receipts done : List Receipt) (m : Mark) : Type 0 where
 
 -- a receipt of a seat stands after the records' receipts, before a place
 abbrev pub StandsAfter : List Receipt → List Receipt → ℕ → ℕ → Type 0
-StandsAfter receipts done end serial = (at : ℕ) × (a : Receipt) × (length done ≤ at) × (at < end) × (slice_get receipts at ≡ Some a) × (a.serial ≡ serial)
+StandsAfter receipts done end serial =
+    (at : ℕ) × (a : Receipt) × (length done ≤ at) × (at < end) × (slice_get receipts at ≡ Some a)
+    × (a.serial ≡ serial)
 
 -- the outcome with the seat's receipts before a place
 abbrev pub IsEndedBefore : List Receipt → List Receipt → ℕ → Option ℕ → Type 0
 IsEndedBefore receipts done end =
-    IsOutcome (Agrees receipts done × (end ≤ length done)) (λ serial. DiffersBefore receipts done serial ⊎ StandsAfter receipts done end serial)
+    IsOutcome (Agrees receipts done × (end ≤ length done))
+    (λ serial. DiffersBefore receipts done serial ⊎ StandsAfter receipts done end serial)
 
 -- each seat's mark after the records so far
 abbrev pub AreMarks : List Record → List SeatValue → List Mark → Type 0
 AreMarks history seats marks =
-    (place : ℕ) (seat : SeatValue) → slice_get seats place ≡ Some seat → (m : Mark) × (slice_get marks place ≡ Some m) × IsMark seat.receipts (receipts_of seat.cpu history) m
+    (place : ℕ) (seat : SeatValue) → slice_get seats place ≡ Some seat
+    → (m : Mark) × (slice_get marks place ≡ Some m) × IsMark seat.receipts (receipts_of seat.cpu history) m
 
 -- there is room for so many more records: after some that were marked they are fewer than 2^64
 abbrev pub HasRoom : ℕ → List SeatValue → List Mark → Type 0
-HasRoom more seats marks = (history : List Record) × (length history + more < 2 ^ 64) × AreMarks history seats marks
+HasRoom more seats marks =
+    (history : List Record) × (length history + more < 2 ^ 64) × AreMarks history seats marks
 
 -- the records, after any that were marked, are marked
 abbrev pub AreMarkedOn : List Record → List SeatValue → List Mark → List Mark → Type 0
-AreMarkedOn records seats old new = (history : List Record) → AreMarks history seats old → AreMarks (history ++ records) seats new
+AreMarkedOn records seats old new =
+    (history : List Record) → AreMarks history seats old → AreMarks (history ++ records) seats new
 
 -- each record is of some seat
 abbrev pub AreSeated : List Record → List SeatValue → Type 0
@@ -63,14 +71,17 @@ AreStrays records seats = IsOutcome (AreSeated records seats) (StraysAt records 
 -- the seats before a place have exactly their processors' records
 abbrev pub AreSettledBefore : List Record → List SeatValue → ℕ → Type 0
 AreSettledBefore history seats end =
-    (place : ℕ) (seat : SeatValue) → place < end → slice_get seats place ≡ Some seat → seat.receipts ≡ receipts_of seat.cpu history
+    (place : ℕ) (seat : SeatValue) → place < end → slice_get seats place ≡ Some seat
+    → seat.receipts ≡ receipts_of seat.cpu history
 
 -- the receipts of some seat before a place differ at the serial
 abbrev pub SeatDiffersBefore : List Record → List SeatValue → ℕ → ℕ → Type 0
 SeatDiffersBefore history seats end serial =
-    (place : ℕ) × (seat : SeatValue) × (place < end) × (slice_get seats place ≡ Some seat) × DifferAt seat.receipts (receipts_of seat.cpu history) serial
+    (place : ℕ) × (seat : SeatValue) × (place < end) × (slice_get seats place ≡ Some seat)
+    × DifferAt seat.receipts (receipts_of seat.cpu history) serial
 
 -- the outcome with the seats before a place
 abbrev pub IsComparedBefore : List Record → List SeatValue → ℕ → Option ℕ → Type 0
 IsComparedBefore history seats end =
-    IsOutcome (AreSeated history seats × AreSettledBefore history seats end) (λ serial. StraysAt history seats serial ⊎ SeatDiffersBefore history seats end serial)
+    IsOutcome (AreSeated history seats × AreSettledBefore history seats end)
+    (λ serial. StraysAt history seats serial ⊎ SeatDiffersBefore history seats end serial)

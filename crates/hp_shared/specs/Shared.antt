@@ -23,12 +23,16 @@ pub record IsFresh (l : LayoutParts) (m : MachineValue) : Type 0 where
   pub before : m.before ≡ 0
   pub history : m.history ≡ []
 
--- some volumes, each of which follows those before it, lead from the layout's boot to a state, and hold so many records
+-- some volumes, each of which follows those before it, lead from the layout's boot to a state, and
+-- hold so many records
 abbrev pub IsSealedFromBoot : LayoutParts → Memory → ℕ → Type 0
-IsSealedFromBoot l base before = (volumes : List Volume) × IsChain l volumes × (before ≡ records_in volumes) × (base ≡ state_after l volumes)
+IsSealedFromBoot l base before =
+    (volumes : List Volume) × IsChain l volumes × (before ≡ records_in volumes)
+    × (base ≡ state_after l volumes)
 
--- what every lock shows: the layout's machine, whose base and whose count of sealed records came from boot by some volumes, with
--- a legal history and the state that the history leads to; the total is the number of all records
+-- what every lock shows: the layout's machine, whose base and whose count of sealed records came
+-- from boot by some volumes, with a legal history and the state that the history leads to; the
+-- total is the number of all records
 pub record IsShared (l : LayoutParts) (v : LockedValue) : Type 0 where
   pub layout : v.machine.layout ≡ l
   pub sealed : IsSealedFromBoot l v.machine.base v.machine.before
@@ -53,9 +57,10 @@ pub record IsLastOf (m : MachineValue) (cpu : ℕ) (r : Receipt) : Type 0 where
   pub history : m.history ≡ earlier ++ record_of cpu r ∷ []
   pub serial : r.serial ≡ last_serial m
 
--- a processor's turn under the lock was answered so, with so many receipts of its seat now: the receipt is of the event that was
--- asked, and some state of the shared machine has it as its last record, with as many records as the receipt's serial says; these
--- are at least as many as the seat has receipts
+-- a processor's turn under the lock was answered so, with so many receipts of its seat now: the
+-- receipt is of the event that was asked, and some state of the shared machine has it as its last
+-- record, with as many records as the receipt's serial says; these are at least as many as the seat
+-- has receipts
 pub record IsTurn (l : LayoutParts) (cpu : ℕ) (event : Event) (r : Receipt) (receipts : ℕ) : Type 0 where
   pub asked : r.event ≡ event
   pub seen : LockedValue
@@ -64,13 +69,15 @@ pub record IsTurn (l : LayoutParts) (cpu : ℕ) (event : Event) (r : Receipt) (r
   pub within : receipts ≤ r.serial
 
 -- the call of an event by a seat, whose processor is in the layout, was answered so: its receipt is appended
-pub record IsSeated (l : LayoutParts) (old : SeatValue) (event : Event) (r : Receipt) (new : SeatValue) : Type 0 where
+pub record IsSeated (l : LayoutParts) (old : SeatValue) (event : Event) (r : Receipt)
+    (new : SeatValue) : Type 0 where
   pub inside : old.cpu < l.cpus
   pub cpu : new.cpu ≡ old.cpu
   pub receipts : new.receipts ≡ old.receipts ++ r ∷ []
   pub turn : IsTurn l old.cpu event r (length new.receipts)
 
--- a call's fault has its cause: some state of the shared machine has a full history; memory may run out at any time
+-- a call's fault has its cause: some state of the shared machine has a full history; memory may run
+-- out at any time
 abbrev pub HasSharedCause : LayoutParts → CallFault → Type 0
 HasSharedCause l HistoryFull = (seen : LockedValue) × IsShared l seen × (is_full seen.machine ≡ true)
 HasSharedCause l OutOfMemory = ⊤

@@ -28,16 +28,17 @@ pub record ReachSealed (volumes : List Volume) (sealed : ℕ) : Type 0 where
 
 -- the volume at a place does not say how many records there are in the volumes before it
 abbrev pub IsMiscounted : List Volume → ℕ → Type 0
-IsMiscounted volumes at = (v : Volume) × (slice_get volumes at ≡ Some v) × (v.before ≢ records_in (take at volumes))
+IsMiscounted volumes at =
+    (v : Volume) × (slice_get volumes at ≡ Some v) × (v.before ≢ records_in (take at volumes))
 
--- the place is that of the first volume that does not say so; where all do, it is their number, and they do not hold so many
--- records
+-- the place is that of the first volume that does not say so; where all do, it is their number, and
+-- they do not hold so many records
 pub record IsWrongAt (volumes : List Volume) (sealed at : ℕ) : Type 0 where
   pub counted : AreCountedBefore volumes at
   pub wrong : IsMiscounted volumes at ⊎ ((at ≡ length volumes) × (records_in volumes ≢ sealed))
 
--- a volume is what some state of the shared machine held since its last seal; its last serial is at least the number of the
--- seat's receipts
+-- a volume is what some state of the shared machine held since its last seal; its last serial is at
+-- least the number of the seat's receipts
 pub record IsSealOf (l : LayoutParts) (v : Volume) (receipts : ℕ) : Type 0 where
   pub seen : LockedValue
   pub shared : IsShared l seen

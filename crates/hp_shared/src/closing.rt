@@ -17,10 +17,11 @@ use std::alloc::{AllocError, Global};
 pub enum CloseFault {
     /// There is not one seat for each processor.
     SeatMissing,
-    /// The place, from 0, of the first volume whose `before` is not the number of records in the volumes before it; the number of
-    /// volumes where together they do not hold all sealed records.
+    /// The place, from 0, of the first volume whose `before` is not the number of records in the
+    /// volumes before it; the number of volumes where together they do not hold all sealed records.
     WrongVolume { at: u64 },
-    /// The lowest serial at which a seat's receipts and its processor's records differ, or a record is of no seat.
+    /// The lowest serial at which a seat's receipts and its processor's records differ, or a record
+    /// is of no seat.
     Mismatch { serial: Serial },
     /// Out of memory.
     OutOfMemory,
@@ -50,22 +51,25 @@ pub struct CloseRefused<L: Job> {
     pub volumes: Vec<Volume>,
 }
 
-/// Closes a shared machine, where each seat's receipts are exactly its processor's records, in order, and there are no others
-/// (own rule). The records are those of the volumes, which are all that the machine sealed, and then the machine's own. It waits
-/// for nobody: no other thread has a part in it any more. Its time is linear in the records and receipts, its memory one mark for
+/// Closes a shared machine, where each seat's receipts are exactly its processor's records, in
+/// order, and there are no others (own rule). The records are those of the volumes, which are all
+/// that the machine sealed, and then the machine's own. It waits for nobody: no other thread has a
+/// part in it any more. Its time is linear in the records and receipts, its memory one mark for
 /// each seat.
 ///
-/// Errors, in this order: `SeatMissing`, `WrongVolume`, `Mismatch`; `OutOfMemory` may come in place of `Mismatch` or of `Ok`. Each
-/// hands the machine, all seats and all volumes back.
+/// Errors, in this order: `SeatMissing`, `WrongVolume`, `Mismatch`; `OutOfMemory` may come in place
+/// of `Mismatch` or of `Ok`. Each hands the machine, all seats and all volumes back.
 pub fn close<L: Job>(
     alloc: Global,
     shared: Shared<L>,
     seats: Vec<Seat<L>>,
     volumes: Vec<Volume>,
 ) -> Result<Closed, CloseRefused<L>>
-    ensures ok { IfOk result (λ closed. IsClosed L.layout seats.items volumes.items closed.machine closed.records) }
+    ensures ok { IfOk result
+        (λ closed. IsClosed L.layout seats.items volumes.items closed.machine closed.records) }
     ensures volumes { IfOk result (λ closed. closed.volumes.items ≡ volumes.items) }
-    ensures back { IfErr result (λ refused. (refused.seats.items ≡ seats.items) × (refused.volumes.items ≡ volumes.items)) }
+    ensures back { IfErr result
+        (λ refused. (refused.seats.items ≡ seats.items) × (refused.volumes.items ≡ volumes.items)) }
     ensures err { IfErr result (λ refused. HasCause L.layout seats.items volumes.items refused.fault) }
 {
     let cpus = shared.cpus();
@@ -85,7 +89,8 @@ pub fn close<L: Job>(
     }
 }
 
-/// Compares the receipts of all seats with the records of volumes and a machine, and answers how many records there are.
+/// Compares the receipts of all seats with the records of volumes and a machine, and answers how
+/// many records there are.
 fn check<L: Job>(
     alloc: Global,
     machine: &Machine,
@@ -93,7 +98,8 @@ fn check<L: Job>(
     volumes: &Vec<Volume>,
     cpus: u32,
 ) -> Result<u64, CloseFault>
-    ensures ok { IfOk result (λ records. IsChecked machine.now cpus seats.now.items volumes.now.items records) }
+    ensures ok { IfOk result
+        (λ records. IsChecked machine.now cpus seats.now.items volumes.now.items records) }
     ensures err { IfErr result (HasFault machine.now cpus seats.now.items volumes.now.items) }
 {
     if !has_each(seats, cpus) {

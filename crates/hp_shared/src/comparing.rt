@@ -1,4 +1,5 @@
-//! The comparison of all seats' receipts with all records: one pass over the records, and one over the receipts.
+//! The comparison of all seats' receipts with all records: one pass over the records, and one over
+//! the receipts.
 ghost use Rattle.std.specs.Prelude.{ℕ, ◌≡◌, ◌<◌, ◌^◌, ◌∷◌, [], true, false, IfOk, IfSome, IfNone, length, vec_len};
 ghost use Rattle.hp_shared.specs.Marks.{AreMarkedOn, AreMarks, AreStrays, HasRoom};
 ghost use Rattle.hp_shared.specs.Comparing.{HasEach, IsCompared, IsOutcome, IsSeatAt, IsSeatOf, IsTwinless, IsUnseated, StraysHere};
@@ -61,9 +62,10 @@ fn place_of<L: Job>(seats: &Vec<Seat<L>>, cpu: Cpu) -> Option<usize>
     None
 }
 
-/// Compares the receipts of all seats, no two of which are of the same processor, with all records: those of the volumes, which
-/// are all that the machine sealed, and then the machine's own. None where each seat's receipts are its processor's records and
-/// there are no others; else the lowest serial at which they differ. An error is out of memory.
+/// Compares the receipts of all seats, no two of which are of the same processor, with all records:
+/// those of the volumes, which are all that the machine sealed, and then the machine's own. None
+/// where each seat's receipts are its processor's records and there are no others; else the lowest
+/// serial at which they differ. An error is out of memory.
 pub fn compare<L: Job>(
     alloc: Global,
     volumes: &Vec<Volume>,
@@ -139,7 +141,8 @@ fn mark_record<L: Job>(
     requires room { HasRoom 1 seats.now.items marks.old.items }
     ensures marks { AreMarkedOn (latest.now ∷ []) seats.now.items marks.old.items marks.new.items }
     ensures len { vec_len marks.new ≡ vec_len marks.old }
-    ensures stray { IsOutcome (IsSeatOf seats.now.items latest.now.cpu) (StraysHere seats.now.items latest.now) result }
+    ensures stray { IsOutcome (IsSeatOf seats.now.items latest.now.cpu)
+        (StraysHere seats.now.items latest.now) result }
 {
     match place_of(seats, latest.cpu) {
         Some(place) => {

@@ -1,13 +1,15 @@
-//! A machine that several threads share: one lock round it, a seat for each processor, and at the end the comparison of all
-//! receipts with all records.
+//! A machine that several threads share: one lock round it, a seat for each processor, and at the
+//! end the comparison of all receipts with all records.
 //!
-//! The crate owns the lock (`Shared`), what lies under it (`Locked`), the processors' accesses (`Seat`, and `SeatPort` for the
-//! driver of a plan) and the end (`close`). The machine it only calls and reads: a turn under the lock is one `Machine::call`, a
-//! seal one `Machine::seal`. It starts no thread, and waits for the lock alone, which nobody holds between two calls.
+//! The crate owns the lock (`Shared`), what lies under it (`Locked`), the processors' accesses
+//! (`Seat`, and `SeatPort` for the driver of a plan) and the end (`close`). The machine it only
+//! calls and reads: a turn under the lock is one `Machine::call`, a seal one `Machine::seal`. It
+//! starts no thread, and waits for the lock alone, which nobody holds between two calls.
 //!
-//! What ties a seat to the machine is std's ledger: the total under the lock is the number of all records, sealed ones included,
-//! and each seat's share is the number of its receipts. Read `locked` first, then `seat` and `closing`; `volumes`, `marks` and
-//! `comparing` are how `close` compares.
+//! What ties a seat to the machine is std's ledger: the total under the lock is the number of all
+//! records, sealed ones included, and each seat's share is the number of its receipts. Read
+//! `locked` first, then `seat` and `closing`; `volumes`, `marks` and `comparing` are how `close`
+//! compares.
 #![tactic(auto)]
 
 mod closing;

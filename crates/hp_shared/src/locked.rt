@@ -13,7 +13,8 @@ use std::alloc::{AllocError, Global};
 use std::marker::Model;
 use std::sync::ledger::{Book, Share};
 
-/// A machine of the job's layout, and the total of its records, which the ledger of the seats' shares carries (own rule).
+/// A machine of the job's layout, and the total of its records, which the ledger of the seats'
+/// shares carries (own rule).
 #[derive(Drop)]
 pub struct Locked<L: Job> {
     machine: Machine,
@@ -42,10 +43,12 @@ impl<L: Job> Locked<L> {
         Locked { machine, book }
     }
 
-    /// The one step of a seat: a call of the machine (own rule). Where it was recorded, the total and the seat's share each rise by
-    /// one; no share is above the total. It waits for nobody, since whoever calls it holds the lock.
+    /// The one step of a seat: a call of the machine (own rule). Where it was recorded, the total
+    /// and the seat's share each rise by one; no share is above the total. It waits for nobody,
+    /// since whoever calls it holds the lock.
     ///
-    /// Errors are those of `Machine::call`, `HistoryFull` exactly where the history holds its limit; they leave all as it was.
+    /// Errors are those of `Machine::call`, `HistoryFull` exactly where the history holds its
+    /// limit; they leave all as it was.
     pub fn turn(
         &mut self,
         alloc: Global,
@@ -56,8 +59,10 @@ impl<L: Job> Locked<L> {
         requires { 0 < share.old.parts }
         ensures full { (result ≡ Err HistoryFull) ↔ IsTrue (is_full self.old.machine) }
         ensures err { OnErr result ((self.new ≡ self.old) × (share.new.amount ≡ share.old.amount)) }
-        ensures ok { IfOk result (λ receipt. IsCalled self.old.machine cpu event.now receipt self.new.machine) }
-        ensures counted { OnOk result ((self.new.total ≡ self.old.total + 1) × (share.new.amount ≡ share.old.amount + 1)) }
+        ensures ok { IfOk result
+            (λ receipt. IsCalled self.old.machine cpu event.now receipt self.new.machine) }
+        ensures counted { OnOk result
+            ((self.new.total ≡ self.old.total + 1) × (share.new.amount ≡ share.old.amount + 1)) }
         ensures parts { share.new.parts ≡ share.old.parts }
         ensures within { share.new.amount ≤ self.new.total }
         ensures shown { IsShared L.layout self.old }
@@ -71,8 +76,8 @@ impl<L: Job> Locked<L> {
         answer
     }
 
-    /// Hands out the records since the last seal, with the state before them (own rule). It makes no record: total and share stay
-    /// as they were. It waits for nobody.
+    /// Hands out the records since the last seal, with the state before them (own rule). It makes
+    /// no record: total and share stay as they were. It waits for nobody.
     ///
     /// An error is out of memory; then all is as it was.
     pub fn seal(&mut self, alloc: Global, share: &mut Share<L>) -> Result<Volume, AllocError>

@@ -30,7 +30,8 @@ impl Mark {
     /// After one more record of the seat's processor.
     pub fn step(self, receipts: &[Receipt], latest: &Record) -> Mark
         requires { self.next < 2 ^ 64 - 1 }
-        ensures { (done : List Receipt) → IsMark receipts.now done self → IsMark receipts.now (done ++ receipt_of latest.now ∷ []) result }
+        ensures { (done : List Receipt) → IsMark receipts.now done self
+            → IsMark receipts.now (done ++ receipt_of latest.now ∷ []) result }
     {
         let here = difference(receipts, self.next, latest);
         Mark {
@@ -39,9 +40,11 @@ impl Mark {
         }
     }
 
-    /// The lowest serial at which the receipts differ from the records that were compared; those after them do.
+    /// The lowest serial at which the receipts differ from the records that were compared; those
+    /// after them do.
     pub fn finish(self, receipts: &[Receipt]) -> Option<Serial>
-        ensures { (done : List Receipt) → IsMark receipts.now done self → IsOutcome (receipts.now ≡ done) (DifferAt receipts.now done) result }
+        ensures { (done : List Receipt) → IsMark receipts.now done self
+            → IsOutcome (receipts.now ≡ done) (DifferAt receipts.now done) result }
     {
         let mut lowest = self.lowest;
         for place in self.next..receipts.len() {
@@ -66,7 +69,8 @@ pub fn lower(one: Option<Serial>, other: Option<Serial>) -> Option<Serial>
 
 /// The lowest serial at which the receipt at a place differs from a record; none where it is the record's.
 fn difference(receipts: &[Receipt], place: usize, latest: &Record) -> Option<Serial>
-    ensures { IsOutcome (slice_get receipts.now place ≡ Some (receipt_of latest.now)) (EntryDiffersAt (slice_get receipts.now place) (receipt_of latest.now)) result }
+    ensures { IsOutcome (slice_get receipts.now place ≡ Some (receipt_of latest.now))
+        (EntryDiffersAt (slice_get receipts.now place) (receipt_of latest.now)) result }
 {
     if place >= receipts.len() {
         return Some(latest.serial);

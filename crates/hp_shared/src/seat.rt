@@ -12,8 +12,8 @@ use std::marker::Model;
 use std::sync::Wait;
 use std::sync::ledger::Share;
 
-/// The one access of a processor to the shared machine (own rule). It keeps a receipt of each of its calls, and holds a share of
-/// the machine's total: the number of its receipts.
+/// The one access of a processor to the shared machine (own rule). It keeps a receipt of each of
+/// its calls, and holds a share of the machine's total: the number of its receipts.
 #[derive(Drop)]
 pub struct Seat<L: Job> {
     cpu: Cpu,
@@ -29,7 +29,8 @@ impl<L: Job> Model for Seat<L> {
 
     ghost view = { λ s. record { cpu = s.cpu; receipts = s.receipts.items } };
 
-    ghost invariant = { λ s. (s.cpu < L.layout.cpus) × (0 < s.share.parts) × (s.share.amount ≡ length s.receipts.items) };
+    ghost invariant = { λ s.
+        (s.cpu < L.layout.cpus) × (0 < s.share.parts) × (s.share.amount ≡ length s.receipts.items) };
 }
 
 impl<L: Job> Seat<L> {
@@ -46,11 +47,12 @@ impl<L: Job> Seat<L> {
         }
     }
 
-    /// One call of the seat's processor, under one holding of the lock, for which it may wait; its receipt is kept. Room for the
-    /// receipt and the copy of the event are made before the lock is taken.
+    /// One call of the seat's processor, under one holding of the lock, for which it may wait; its
+    /// receipt is kept. Room for the receipt and the copy of the event are made before the lock is
+    /// taken.
     ///
-    /// Errors: `HistoryFull` where the history holds its limit of records, `OutOfMemory` before the lock or under it. Either
-    /// leaves seat and machine as they were.
+    /// Errors: `HistoryFull` where the history holds its limit of records, `OutOfMemory` before the
+    /// lock or under it. Either leaves seat and machine as they were.
     pub fn call(
         &mut self,
         rt: &impl Wait,
@@ -79,8 +81,8 @@ impl<L: Job> Seat<L> {
         answer
     }
 
-    /// Hands out the shared machine's records since its last seal, with the state before them, under one holding of the lock, for
-    /// which it may wait. It makes no record and no receipt.
+    /// Hands out the shared machine's records since its last seal, with the state before them,
+    /// under one holding of the lock, for which it may wait. It makes no record and no receipt.
     ///
     /// An error is out of memory; it leaves the machine as it was.
     pub fn seal(

@@ -9,8 +9,8 @@ use hp_units::{CallFault, Event, Receipt};
 use std::alloc::Global;
 use std::sync::Wait;
 
-/// A seat and the machine that it calls, as a port for the driver of a plan (own rule). It shows the seat's receipts. Each of its
-/// calls takes the lock anew, for which it may wait.
+/// A seat and the machine that it calls, as a port for the driver of a plan (own rule). It shows
+/// the seat's receipts. Each of its calls takes the lock anew, for which it may wait.
 #[derive(Drop)]
 pub struct SeatPort<'a, L: Job, R> {
     /// The leave to wait.
@@ -47,9 +47,11 @@ impl<'a, L: Job, R: Wait> Port for SeatPort<'a, L, R> {
 
     ghost shows = { λ p. port_value L.layout p.seat.now p.fault };
 
-    ghost makes = { λ p gained q. (q.seat.ghost_name ≡ p.seat.ghost_name) × AreTurns L.layout p.seat.now gained q.seat.now };
+    ghost makes = { λ p gained q.
+        (q.seat.ghost_name ≡ p.seat.ghost_name) × AreTurns L.layout p.seat.now gained q.seat.now };
 
-    ghost leaves = { λ p fault q. (q.seat.ghost_name ≡ p.seat.ghost_name) × (q.seat.now ≡ p.seat.now) × HasSharedCause L.layout fault };
+    ghost leaves = { λ p fault q.
+        (q.seat.ghost_name ≡ p.seat.ghost_name) × (q.seat.now ≡ p.seat.now) × HasSharedCause L.layout fault };
 
     fn cpus(&self) -> u32 {
         self.shared.cpus()
@@ -66,5 +68,6 @@ impl<'a, L: Job, R: Wait> Port for SeatPort<'a, L, R> {
 
     ghost nothing = { λ p. (refl, refl) };
 
-    ghost joined = { λ p q r xs ys a b. (b.0 ∙ a.0, turns_joined L.layout xs ys p.seat.now q.seat.now r.seat.now a.1 b.1) };
+    ghost joined = { λ p q r xs ys a b.
+        (b.0 ∙ a.0, turns_joined L.layout xs ys p.seat.now q.seat.now r.seat.now a.1 b.1) };
 }

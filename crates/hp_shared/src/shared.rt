@@ -22,8 +22,8 @@ pub struct Shared<L: Job> {
 }
 
 impl<L: Job> Shared<L> {
-    /// Shares a machine that has no records and sealed nothing, with one seat for each processor, in order. The ledger has one
-    /// part for each. An error is out of memory; then both come back.
+    /// Shares a machine that has no records and sealed nothing, with one seat for each processor,
+    /// in order. The ledger has one part for each. An error is out of memory; then both come back.
     pub fn new(
         alloc: Global,
         blank: Blank,

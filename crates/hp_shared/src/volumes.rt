@@ -4,8 +4,9 @@ ghost use Rattle.hp_shared.specs.Volumes.{IsWrongAt, ReachSealed};
 
 use hp_history::Volume;
 
-/// The place, from 0, of the first volume whose `before` is not the number of records in the volumes before it; the number of
-/// volumes where each is right and together they do not hold `sealed` records. None where they do.
+/// The place, from 0, of the first volume whose `before` is not the number of records in the
+/// volumes before it; the number of volumes where each is right and together they do not hold
+/// `sealed` records. None where they do.
 pub fn wrong_volume(volumes: &Vec<Volume>, sealed: u64) -> Option<u64>
     ensures wrong { IfSome result (λ at. IsWrongAt volumes.now.items sealed at) }
     ensures right { IfNone result (ReachSealed volumes.now.items sealed) }

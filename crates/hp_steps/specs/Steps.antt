@@ -17,7 +17,8 @@ pub record StepsValue : Type 0 where
 
 -- the record of an event's step in a state, under a serial
 abbrev pub record_of_step : LayoutParts → Memory → (serial cpu : ℕ) → Event → Record
-record_of_step l s serial cpu event = record { serial = serial; cpu = cpu; event = event; reply = (step l s serial cpu event).reply }
+record_of_step l s serial cpu event =
+    record { serial = serial; cpu = cpu; event = event; reply = (step l s serial cpu event).reply }
 
 -- there is one record more, and the deltas after the first `mark` lead back
 pub record IsLater (old : StepsValue) (r : Record) (mark : ℕ) (new : StepsValue) : Type 0 where
@@ -29,6 +30,7 @@ pub record IsLater (old : StepsValue) (r : Record) (mark : ℕ) (new : StepsValu
   pub leads : LeadsBack old.layout since new.state old.state
 
 -- an event's step was made: the state and the record are those of the step
-pub record IsStepped (old : StepsValue) (serial cpu : ℕ) (event : Event) (mark : ℕ) (new : StepsValue) : Type 0 where
+pub record IsStepped (old : StepsValue) (serial cpu : ℕ) (event : Event) (mark : ℕ)
+    (new : StepsValue) : Type 0 where
   pub state : new.state ≡ (step old.layout old.state serial cpu event).memory
   pub later : IsLater old (record_of_step old.layout old.state serial cpu event) mark new

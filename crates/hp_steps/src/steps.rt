@@ -35,7 +35,12 @@ impl Model for Steps {
 
     ghost Value = { StepsValue };
 
-    ghost view = { λ s. record { layout = s.memory.layout; state = s.memory.state; deltas = s.tape.deltas; records = s.records.items } };
+    ghost view = { λ s. record {
+      layout = s.memory.layout;
+      state = s.memory.state;
+      deltas = s.tape.deltas;
+      records = s.records.items;
+    } };
 }
 
 impl Steps {
@@ -43,7 +48,12 @@ impl Steps {
     pub fn start(alloc: Global, image: &Image, records: Vec<Record>) -> Result<Steps, AllocError>
         requires limits { IsLayout image.now.layout }
         requires placed { IsWellPlaced image.now.layout image.now.memory }
-        ensures { IfOk result (λ steps. steps ≡ record { layout = image.now.layout; state = image.now.memory; deltas = []; records = records.items }) }
+        ensures { IfOk result (λ steps. steps ≡ record {
+          layout = image.now.layout;
+          state = image.now.memory;
+          deltas = [];
+          records = records.items;
+        }) }
     {
         let memory = Memory::from_image(alloc, image)?;
         let tape = Tape::with_room(alloc, 0)?;
@@ -68,8 +78,9 @@ impl Steps {
         self.records.as_slice()
     }
 
-    /// Makes the step of a processor's event, and records it under a serial. It answers how many deltas there were before: by this
-    /// mark `take_back` comes back. An error is out of memory; then all is as before.
+    /// Makes the step of a processor's event, and records it under a serial. It answers how many
+    /// deltas there were before: by this mark `take_back` comes back. An error is out of memory;
+    /// then all is as before.
     pub fn make(
         &mut self,
         alloc: Global,

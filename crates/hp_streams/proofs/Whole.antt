@@ -5,11 +5,15 @@ use Rattle.std.specs.Io.KnownBytes.{Consumes, IsAtEnd}
 use Rattle.hp_streams.specs.Reading.{ReadsAll, limit}
 
 -- a reader at its end gave all that it had
-pub given : (a b : Option (List ℕ)) (bytes : List ℕ) → Consumes a b bytes → IsAtEnd b → (P : List ℕ → Type 0) → P bytes → IfSome a P
+pub given : (a b : Option (List ℕ)) (bytes : List ℕ) → Consumes a b bytes → IsAtEnd b → (P : List ℕ → Type 0)
+    → P bytes → IfSome a P
 given None b bytes p end P h = tt
 given (Some x) None bytes p end P h = absurd p
-given (Some x) (Some y) bytes p end P h = subst P (sym (p ∙ ap (λ (l : List ℕ). bytes ++ l) end ∙ append-nil bytes)) h
+given (Some x) (Some y) bytes p end P h =
+    subst P (sym (p ∙ ap (λ (l : List ℕ). bytes ++ l) end ∙ append-nil bytes)) h
 
 -- and that was within the limit
-pub all_read : (a b : Option (List ℕ)) (bytes : List ℕ) → Consumes a b bytes → IsAtEnd b → length bytes ≤ limit → ReadsAll a b
-all_read a b bytes p end fits = record { within = given a b bytes p end (λ (i : List ℕ). length i ≤ limit) fits; end = end }
+pub all_read : (a b : Option (List ℕ)) (bytes : List ℕ) → Consumes a b bytes → IsAtEnd b
+    → length bytes ≤ limit → ReadsAll a b
+all_read a b bytes p end fits =
+    record { within = given a b bytes p end (λ (i : List ℕ). length i ≤ limit) fits; end = end }

@@ -37,7 +37,8 @@ pub fn read_all<R: Source>(alloc: Global, reader: &mut R) -> Result<Vec<u8>, Rea
     ensures limit { IfOk result (λ v. length v.items ≤ limit) }
     ensures end { OnOk result (IsAtEnd (R.remaining reader.new)) }
     ensures read { OnOk result (ReadsAll (R.remaining reader.old) (R.remaining reader.new)) }
-    ensures err { IfErr result (IsReadFault (R.remaining reader.old) (R.failures reader.old < R.failures reader.new)) }
+    ensures err { IfErr result
+        (IsReadFault (R.remaining reader.old) (R.failures reader.old < R.failures reader.new)) }
 {
     let mut bytes = Vec::new(alloc);
     let mut buffer = [0u8; 8192];

@@ -45,8 +45,8 @@ pub trait Sink {
         ensures err { OnErr result (failures self.new ≡ failures self.old + 1) };
 }
 
-/// A reader or a writer of the standard library, and how many of its calls failed: any error of it, and a write that takes
-/// none of the bytes.
+/// A reader or a writer of the standard library, and how many of its calls failed: any error of it,
+/// and a write that takes none of the bytes.
 #[derive(Debug, Drop)]
 pub struct Counted<S> {
     inner: S,

@@ -18,23 +18,31 @@ one_more zero mark cells = refl
 one_more (suc n) mark cells = ap (λ (xs : List ℕ). mark ∷ xs) (one_more n mark cells)
 
 -- a run that has begun
-run_covers : (run : Run) (cells : List ℕ) → 0 < run.count → Covers run.at (runs_after run cells) (replicate run.count run.mark ++ cells)
+run_covers : (run : Run) (cells : List ℕ) → 0 < run.count
+    → Covers run.at (runs_after run cells) (replicate run.count run.mark ++ cells)
 run_covers run [] some = (refl, some, take_same run.count run.mark [], drop_same run.count run.mark [])
 run_covers run (mark ∷ cells) some = elim (cases_Bool (mark == run.mark)) [
   | inl same ↦
       let is : mark ≡ run.mark = eqb-true mark run.mark same in
       let text : replicate (run.count + 1) run.mark ++ cells ≡ replicate run.count run.mark ++ mark ∷ cells =
-      ap (λ (n : ℕ). replicate n run.mark ++ cells) (add-one run.count) ∙ sym (one_more run.count run.mark cells)
+      ap (λ (n : ℕ). replicate n run.mark ++ cells) (add-one run.count)
+      ∙ sym (one_more run.count run.mark cells)
       ∙ ap (λ (m : ℕ). replicate run.count run.mark ++ m ∷ cells) (sym is)
       in
-      subst (λ (b : Bool). Covers run.at (cond b (runs_after (longer run) cells) (run ∷ runs_after (new_run (run.at + run.count) mark) cells)) (replicate run.count run.mark ++ mark ∷ cells)) (sym same)
-      (subst (λ (xs : List ℕ). Covers run.at (runs_after (longer run) cells) xs) text (run_covers (longer run) cells (omega arith)))
+      subst (λ (b : Bool). Covers run.at
+      (cond b (runs_after (longer run) cells) (run ∷ runs_after (new_run (run.at + run.count) mark) cells))
+      (replicate run.count run.mark ++ mark ∷ cells)) (sym same)
+      (subst (λ (xs : List ℕ). Covers run.at (runs_after (longer run) cells) xs) text
+      (run_covers (longer run) cells (omega arith)))
   | inr other ↦
-      subst (λ (b : Bool). Covers run.at (cond b (runs_after (longer run) cells) (run ∷ runs_after (new_run (run.at + run.count) mark) cells)) (replicate run.count run.mark ++ mark ∷ cells)) (sym other) (
+      subst (λ (b : Bool). Covers run.at
+      (cond b (runs_after (longer run) cells) (run ∷ runs_after (new_run (run.at + run.count) mark) cells))
+      (replicate run.count run.mark ++ mark ∷ cells)) (sym other) (
         refl,
         some,
         take_same run.count run.mark (mark ∷ cells),
-        subst (λ (xs : List ℕ). Covers (run.at + run.count) (runs_after (new_run (run.at + run.count) mark) cells) xs) (sym (drop_same run.count run.mark (mark ∷ cells)))
+        subst (λ (xs : List ℕ). Covers (run.at + run.count) (runs_after (new_run (run.at + run.count) mark)
+            cells) xs) (sym (drop_same run.count run.mark (mark ∷ cells)))
             (run_covers (new_run (run.at + run.count) mark) cells (omega arith)),
       )
 ]

@@ -3,33 +3,47 @@ use Rattle.std.proofs.Common.{◌≡◌, ℕ, zero, suc, ◌+◌, ◌<◌, List,
 use Rattle.std.proofs.lemmas.List.{flat_map_more, get_or-map, length-map, length-take-le, take_more}
 use Rattle.std.specs.List.{enumerate_from, range_with_len}
 
-enumerate_more : {A : Type 0} (n : ℕ) (xs : List A) (x : A) → enumerate_from n (xs ++ x ∷ []) ≡ enumerate_from n xs ++ (n + length xs, x) ∷ []
+enumerate_more : {A : Type 0} (n : ℕ) (xs : List A) (x : A)
+    → enumerate_from n (xs ++ x ∷ []) ≡ enumerate_from n xs ++ (n + length xs, x) ∷ []
 enumerate_more {A} n [] x =
     let same : n ≡ n + length {A = A} [] = omega arith in
     ap (λ (k : ℕ). (k, x) ∷ []) same
 enumerate_more {A} n (y ∷ ys) x =
     let same : (n + 1) + length ys ≡ n + length (y ∷ ys) = omega arith in
-    ap (λ (rest : List (ℕ × A)). (n, y) ∷ rest) (enumerate_more (n + 1) ys x ∙ ap (λ (k : ℕ). enumerate_from (n + 1) ys ++ (k, x) ∷ []) same)
+    ap (λ (rest : List (ℕ × A)). (n, y) ∷ rest)
+    (enumerate_more (n + 1) ys x ∙ ap (λ (k : ℕ). enumerate_from (n + 1) ys ++ (k, x) ∷ []) same)
 
 -- one more entry
-pub entry_more : {A : Type 0} (f : ℕ × A → List ℕ) (xs : List A) (i : ℕ) (d : A) (old now new : List ℕ) → i < length xs
-    → now ≡ old ++ flat_map f (enumerate_from 0 (take i xs)) → new ≡ now ++ f (i, get_or xs i d) → new ≡ old ++ flat_map f (enumerate_from 0 (take (i + 1) xs))
+pub entry_more : {A : Type 0} (f : ℕ × A → List ℕ) (xs : List A) (i : ℕ) (d : A) (old now new : List ℕ)
+    → i < length xs
+    → now ≡ old ++ flat_map f (enumerate_from 0 (take i xs)) → new ≡ now ++ f (i, get_or xs i d)
+    → new ≡ old ++ flat_map f (enumerate_from 0 (take (i + 1) xs))
 entry_more {A} f xs i d old now new lt before written =
-    let count : 0 + length (take i xs) ≡ i = ap (λ (n : ℕ). 0 + n) (length-take-le i xs (omega (arith, lt))) ∙ omega arith in
-    let entries : enumerate_from 0 (take (i + 1) xs) ≡ enumerate_from 0 (take i xs) ++ (i, get_or xs i d) ∷ [] =
-    ap (λ (ys : List A). enumerate_from 0 ys) (take_more xs i d lt) ∙ enumerate_more 0 (take i xs) (get_or xs i d)
+    let count : 0 + length (take i xs) ≡ i =
+    ap (λ (n : ℕ). 0 + n) (length-take-le i xs (omega (arith, lt))) ∙ omega arith in
+    let entries : enumerate_from 0 (take (i + 1) xs)
+    ≡ enumerate_from 0 (take i xs) ++ (i, get_or xs i d) ∷ [] =
+    ap (λ (ys : List A). enumerate_from 0 ys) (take_more xs i d lt)
+    ∙ enumerate_more 0 (take i xs) (get_or xs i d)
     ∙ ap (λ (k : ℕ). enumerate_from 0 (take i xs) ++ (k, get_or xs i d) ∷ []) count in
-    written ∙ ap (λ (b : List ℕ). b ++ f (i, get_or xs i d)) before ∙ flat_map_more f old (enumerate_from 0 (take i xs)) (i, get_or xs i d)
+    written ∙ ap (λ (b : List ℕ). b ++ f (i, get_or xs i d)) before
+    ∙ flat_map_more f old (enumerate_from 0 (take i xs)) (i, get_or xs i d)
     ∙ ap (λ (ps : List (ℕ × A)). old ++ flat_map f ps) (sym entries)
 
 -- one more text
-pub text_more : (f : ℕ × List ℕ → List ℕ) (texts : List (Bor (List ℕ))) (i : ℕ) (d : Bor (List ℕ)) (old now new : List ℕ) → i < length texts
-    → now ≡ old ++ flat_map f (enumerate_from 0 (take i (map (λ t. t.now) texts))) → new ≡ now ++ f (i, (get_or texts i d).now)
+pub text_more : (f : ℕ × List ℕ → List ℕ) (texts : List (Bor (List ℕ))) (i : ℕ) (d : Bor (List ℕ))
+    (old now new : List ℕ)
+    → i < length texts
+    → now ≡ old ++ flat_map f (enumerate_from 0 (take i (map (λ t. t.now) texts)))
+    → new ≡ now ++ f (i, (get_or texts i d).now)
     → new ≡ old ++ flat_map f (enumerate_from 0 (take (i + 1) (map (λ t. t.now) texts)))
 text_more f texts i d old now new lt before written =
-    let low : i < length (map (λ (t : Bor (List ℕ)). t.now) texts) = omega (arith, lt, length-map texts (λ (t : Bor (List ℕ)). t.now)) in
-    let same : get_or (map (λ (t : Bor (List ℕ)). t.now) texts) i [] ≡ (get_or texts i d).now = get_or-map (λ (t : Bor (List ℕ)). t.now) texts i d [] lt in
-    entry_more f (map (λ (t : Bor (List ℕ)). t.now) texts) i [] old now new low before (written ∙ ap (λ (t : List ℕ). now ++ f (i, t)) (sym same))
+    let low : i < length (map (λ (t : Bor (List ℕ)). t.now) texts) =
+    omega (arith, lt, length-map texts (λ (t : Bor (List ℕ)). t.now)) in
+    let same : get_or (map (λ (t : Bor (List ℕ)). t.now) texts) i [] ≡ (get_or texts i d).now =
+    get_or-map (λ (t : Bor (List ℕ)). t.now) texts i d [] lt in
+    entry_more f (map (λ (t : Bor (List ℕ)). t.now) texts) i [] old now new low before
+    (written ∙ ap (λ (t : List ℕ). now ++ f (i, t)) (sym same))
 
 -- one more number
 range_more : (a n j : ℕ) → a + n ≡ j → range_with_len a (suc n) ≡ range_with_len a n ++ j ∷ []
@@ -41,6 +55,9 @@ range_more a (suc n) j e = ap (λ (xs : List ℕ). a ∷ xs) (range_more (a + 1)
 range_up : (n : ℕ) → range_with_len 0 (n + 1) ≡ range_with_len 0 n ++ n ∷ []
 range_up n = ap (λ (k : ℕ). range_with_len 0 k) (add-one n) ∙ range_more 0 n n (omega arith)
 
-pub number_more : (f : ℕ → List ℕ) (n : ℕ) (old now new : List ℕ) → now ≡ old ++ flat_map f (range_with_len 0 n) → new ≡ now ++ f n → new ≡ old ++ flat_map f (range_with_len 0 (n + 1))
+pub number_more : (f : ℕ → List ℕ) (n : ℕ) (old now new : List ℕ)
+    → now ≡ old ++ flat_map f (range_with_len 0 n) → new ≡ now ++ f n
+    → new ≡ old ++ flat_map f (range_with_len 0 (n + 1))
 number_more f n old now new before written =
-    written ∙ ap (λ (b : List ℕ). b ++ f n) before ∙ flat_map_more f old (range_with_len 0 n) n ∙ ap (λ (ns : List ℕ). old ++ flat_map f ns) (sym (range_up n))
+    written ∙ ap (λ (b : List ℕ). b ++ f n) before ∙ flat_map_more f old (range_with_len 0 n) n
+    ∙ ap (λ (ns : List ℕ). old ++ flat_map f ns) (sym (range_up n))

@@ -33,7 +33,8 @@ escaped_text text = flat_map escaped (chars text)
 -- made narrower, to the width of so many characters
 unfoldable pub narrowed : (is_narrow : Bool) → (room : ℕ) → List ℕ
 narrowed is_narrow room =
-    if is_narrow then codes " textLength='" ++ decimal (6 * room) ++ codes "' lengthAdjust='spacingAndGlyphs'" else []
+    if is_narrow then codes " textLength='" ++ decimal (6 * room)
+    ++ codes "' lengthAdjust='spacingAndGlyphs'" else []
 
 unfoldable pub text_element : (x y : ℕ) → (is_narrow : Bool) → (room : ℕ) → (text : List ℕ) → List ℕ
 text_element x y is_narrow room text =
@@ -51,7 +52,8 @@ inked mark = codes " font-size='8' fill='" ++ ink mark
 
 unfoldable pub letter_element : (x y mark : ℕ) → List ℕ
 letter_element x y mark =
-    if is_lettered mark then codes "<text" ++ position x y ++ inked mark ++ mark ∷ [] ++ codes "</text>" else []
+    if is_lettered mark then codes "<text" ++ position x y ++ inked mark ++ mark ∷ []
+    ++ codes "</text>" else []
 
 -- a rectangle
 unfoldable pub box_element : (x y width height : ℕ) → (fill : List ℕ) → List ℕ

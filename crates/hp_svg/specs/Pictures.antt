@@ -50,8 +50,8 @@ entry_text entry =
     cell_element (legend_left entry.0) (legend_top entry.0) 12 entry.1
     ++ text_element (legend_left entry.0 + 18) (legend_top entry.0 + 10) false 0 (label_of entry.1) ++ newline
 
--- the number of a block, that of its first frame, and a grid over its cells; the legend has so many entries, and
--- the trace so many lines
+-- the number of a block, that of its first frame, and a grid over its cells; the legend has so many
+-- entries, and the trace so many lines
 unfoldable pub block_text : Sheet → (entries lines block : ℕ) → List ℕ
 block_text s entries lines block =
     text_element (cells_at s block) (numbers_at entries) false 0 (codes "block " ++ decimal block)

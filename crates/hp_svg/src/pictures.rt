@@ -12,10 +12,11 @@ use crate::sheets::{
 };
 use std::alloc::{AllocError, Global};
 
-/// The picture of a trace as SVG (own rule): each line of its text is a row, with what was asked and answered
-/// as text, and a rectangle for each run of equal characters in the brackets of a memory block; above the rows
-/// stand a legend of all characters that occur, and the numbers of the blocks and of their first frames. How
-/// wide a block is, and how many there are, is that of the first line. An error is out of memory.
+/// The picture of a trace as SVG (own rule): each line of its text is a row, with what was asked
+/// and answered as text, and a rectangle for each run of equal characters in the brackets of a
+/// memory block; above the rows stand a legend of all characters that occur, and the numbers of the
+/// blocks and of their first frames. How wide a block is, and how many there are, is that of the
+/// first line. An error is out of memory.
 ///
 /// The text is that of a trace in which each row has all memory blocks. A word with brackets elsewhere in a
 /// line is drawn as a block too.

@@ -7,7 +7,8 @@ ghost use Rattle.hp_svg.specs.Runs.{Covers, new_run, runs_of};
 use crate::elements::write_run;
 use std::alloc::AllocError;
 
-/// Cells side by side with the same character: how many stand before them, how many they are, and the character.
+/// Cells side by side with the same character: how many stand before them, how many they are, and
+/// the character.
 #[derive(Clone, Copy)]
 pub(crate) struct Run {
     pub(crate) at: usize,

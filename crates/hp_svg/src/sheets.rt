@@ -4,8 +4,8 @@ ghost use Rattle.hp_svg.specs.Sheets.{bounded, cells_at, cells_width, first_fram
 
 use crate::cuts::{before, cells_of};
 
-/// What the first line of a trace has: how many blocks, and of the first of them how many characters, and how many of these are
-/// frames.
+/// What the first line of a trace has: how many blocks, and of the first of them how many
+/// characters, and how many of these are frames.
 #[derive(Clone, Copy)]
 pub(crate) struct Sheet {
     pub(crate) blocks: usize,

@@ -38,16 +38,20 @@ take_one_from l (frame ∷ frames) = 1
 abbrev pub take_one_bound : LayoutParts → FreeFrames → (cpu : ℕ) → Pool → ℕ
 take_one_bound l fs cpu pool = take_one_from l (cached_list fs cpu pool)
 
--- one frame back: straight to the areas where its pageblock is isolated, else one delta where no spill follows
+-- one frame back: straight to the areas where its pageblock is isolated, else one delta where no
+-- spill follows
 abbrev pub put_one_bound : LayoutParts → FreeFrames → (cpu : ℕ) → Zone → (frame : ℕ) → ℕ
 put_one_bound l fs cpu zone frame =
     let kind = kind_of fs.areas (pageblock_of l frame) in
     if kind.isolated then give_bound l
-    else (if nat_le (length (cached_list fs cpu (pool_of zone kind.mobility)) + 1) l.high then 1 else batch_bound l)
+    else (if nat_le (length (cached_list fs cpu (pool_of zone kind.mobility)) + 1) l.high then 1 else
+    batch_bound l)
 
 -- how many frames are in a processor's lists
 abbrev pub cached_frames : FreeFrames → ℕ → ℕ
-cached_frames fs cpu = length (cached_list fs cpu NuPool) + length (cached_list fs cpu NmPool) + length (cached_list fs cpu MmPool)
+cached_frames fs cpu =
+    length (cached_list fs cpu NuPool) + length (cached_list fs cpu NmPool)
+    + length (cached_list fs cpu MmPool)
 
 -- all that a processor's lists hold goes back to the areas
 abbrev pub drain_bound : LayoutParts → FreeFrames → (cpu : ℕ) → ℕ

@@ -1,4 +1,5 @@
--- What a delta undoes, and the state as the journal sees it: with the words of a page in a buffer of its frame.
+-- What a delta undoes, and the state as the journal sees it: with the words of a page in a buffer
+-- of its frame.
 use Rattle.std.specs.Prelude.{◌≡◌, ◌<◌, ◌≤◌, ℕ, length, IfSome, Bool, true, false, not, ◌&&◌, List, [], ◌∷◌, Option, Some, None, ◌==◌, map, replicate, slice_get, slice_index_or, slice_set, unwrap_or, if◌then◌else◌}
 use Rattle.std.specs.List.{list_all, AllByRecursion}
 use Rattle.std.specs.Option.{option_map, option_map_or, option_and_then}
@@ -42,11 +43,14 @@ buffer_for words = if is_blank words then None else Some words
 abbrev pub page_frames_of : LayoutParts → Pages → PageFrames
 page_frames_of l ps = record {
   table = ps.table;
-  buffers = map (λ frame. option_and_then (λ page. option_and_then buffer_for (words_at ps page.0 page.1)) (page_at ps frame)) (all_frames l);
+  buffers =
+      map (λ frame. option_and_then (λ page. option_and_then buffer_for (words_at ps page.0 page.1))
+      (page_at ps frame)) (all_frames l);
 }
 
 abbrev pub frame_view_of : LayoutParts → Memory → FrameView
-frame_view_of l s = record { free = s.free; pages = page_frames_of l s.pages; kernel = s.kernel; blocks = s.blocks }
+frame_view_of l s =
+    record { free = s.free; pages = page_frames_of l s.pages; kernel = s.kernel; blocks = s.blocks }
 
 -- ---- the opposite of a delta, on each part of the state (own rule)
 
@@ -54,17 +58,22 @@ frame_view_of l s = record { free = s.free; pages = page_frames_of l s.pages; ke
 abbrev pub put_behind : Option ℕ → ℕ → List ℕ → List ℕ
 put_behind None frame frames = frame ∷ frames
 put_behind (Some after) frame [] = []
-put_behind (Some after) frame (first ∷ frames) = if first == after then first ∷ frame ∷ frames else first ∷ put_behind (Some after) frame frames
+put_behind (Some after) frame (first ∷ frames) =
+    if first == after then first ∷ frame ∷ frames else first ∷ put_behind (Some after) frame frames
 
 abbrev pub areas_undo : Delta → FreeAreas → FreeAreas
-areas_undo (Link (Area class order) frame after) a = with_free_list a class order (without frame (free_list a class order))
-areas_undo (Unlink (Area class order) frame after) a = with_free_list a class order (put_behind after frame (free_list a class order))
+areas_undo (Link (Area class order) frame after) a =
+    with_free_list a class order (without frame (free_list a class order))
+areas_undo (Unlink (Area class order) frame after) a =
+    with_free_list a class order (put_behind after frame (free_list a class order))
 areas_undo (KindDelta pageblock was now) a = with_kind a pageblock was
 areas_undo delta a = a
 
 abbrev pub cached_undo : Delta → FreeFrames → FreeFrames
-cached_undo (Link (Cpu cpu pool) frame after) fs = with_cached_list fs cpu pool (without frame (cached_list fs cpu pool))
-cached_undo (Unlink (Cpu cpu pool) frame after) fs = with_cached_list fs cpu pool (put_behind after frame (cached_list fs cpu pool))
+cached_undo (Link (Cpu cpu pool) frame after) fs =
+    with_cached_list fs cpu pool (without frame (cached_list fs cpu pool))
+cached_undo (Unlink (Cpu cpu pool) frame after) fs =
+    with_cached_list fs cpu pool (put_behind after frame (cached_list fs cpu pool))
 cached_undo delta fs = fs
 
 abbrev pub free_undo : Delta → FreeFrames → FreeFrames
@@ -73,7 +82,8 @@ free_undo delta fs = cached_undo delta (record fs { areas = areas_undo delta fs.
 abbrev pub pages_undo : Delta → PageFrames → PageFrames
 pages_undo (MapDelta owner page was now) v = record v { table = with_entry v.table owner page was }
 pages_undo (Swap a b) v = with_buffer (with_buffer v a (buffer_of v b)) b (buffer_of v a)
-pages_undo (WordDelta frame index was now) v = with_buffer v frame (option_map (λ words. slice_set words index was) (buffer_of v frame))
+pages_undo (WordDelta frame index was now) v =
+    with_buffer v frame (option_map (λ words. slice_set words index was) (buffer_of v frame))
 pages_undo (Filled frame index now) v = with_buffer v frame None
 pages_undo (Emptied frame words) v = with_buffer v frame (Some words)
 pages_undo delta v = v
@@ -109,21 +119,26 @@ back deltas v = undo_all undo deltas v
 abbrev pub is_behind : Option ℕ → ℕ → List ℕ → Bool
 is_behind after frame [] = false
 is_behind None frame (first ∷ frames) = first == frame
-is_behind (Some after) frame (first ∷ frames) = if first == after then is_behind None frame frames else is_behind (Some after) frame frames
+is_behind (Some after) frame (first ∷ frames) =
+    if first == after then is_behind None frame frames else is_behind (Some after) frame frames
 
 -- a frame is on none of the lists, and may be put after another on one of them
 abbrev pub may_go_behind : List (List ℕ) → Option ℕ → ℕ → List ℕ → Bool
-may_go_behind lists after frame frames = list_all (λ other. not (is_on frame other)) lists && option_map_or (λ first. is_on first frames) after true
+may_go_behind lists after frame frames =
+    list_all (λ other. not (is_on frame other)) lists
+    && option_map_or (λ first. is_on first frames) after true
 
 abbrev pub FitsAreas : Delta → FreeAreas → Type 0
 FitsAreas (Link (Area class order) frame after) a = is_behind after frame (free_list a class order) ≡ true
-FitsAreas (Unlink (Area class order) frame after) a = may_go_behind a.lists after frame (free_list a class order) ≡ true
+FitsAreas (Unlink (Area class order) frame after) a =
+    may_go_behind a.lists after frame (free_list a class order) ≡ true
 FitsAreas (KindDelta pageblock was now) a = slice_get a.kinds pageblock ≡ Some now
 FitsAreas delta a = Unit {0}
 
 abbrev pub FitsCached : Delta → FreeFrames → Type 0
 FitsCached (Link (Cpu cpu pool) frame after) fs = is_behind after frame (cached_list fs cpu pool) ≡ true
-FitsCached (Unlink (Cpu cpu pool) frame after) fs = may_go_behind fs.cached after frame (cached_list fs cpu pool) ≡ true
+FitsCached (Unlink (Cpu cpu pool) frame after) fs =
+    may_go_behind fs.cached after frame (cached_list fs cpu pool) ≡ true
 FitsCached delta fs = Unit {0}
 
 -- of the free areas and the processors' lists together
@@ -178,7 +193,8 @@ IsDeltaOf l (Link list frame after) = IsListOf l list × IsFrame l frame
 IsDeltaOf l (Unlink list frame after) = IsListOf l list × IsFrame l frame
 IsDeltaOf l (KindDelta pageblock was now) = pageblock < pageblock_count l
 IsDeltaOf l (KernelDelta frame was now) = IsFrame l frame
-IsDeltaOf l (MapDelta owner page was now) = (owner < l.owners) × (page < l.pages) × IfSome was (IsFrame l) × IfSome now (IsFrame l)
+IsDeltaOf l (MapDelta owner page was now) =
+    (owner < l.owners) × (page < l.pages) × IfSome was (IsFrame l) × IfSome now (IsFrame l)
 IsDeltaOf l (Swap a b) = IsFrame l a × IsFrame l b
 IsDeltaOf l (WordDelta frame index was now) = IsFrame l frame × (index < l.words)
 IsDeltaOf l (Filled frame index now) = IsFrame l frame × (index < l.words)

@@ -29,4 +29,5 @@ op_in (Some claim) = claim.op
 
 -- the operation's number stands in two halves
 abbrev pub row_in : State → ZonePart → WishPart → (high low : ℕ) → Row
-row_in state zone wish high low = record { state = state; zone = zone_in zone; claim = claim_in wish (high * 2 ^ 32 + low) }
+row_in state zone wish high low =
+    record { state = state; zone = zone_in zone; claim = claim_in wish (high * 2 ^ 32 + low) }

@@ -15,13 +15,17 @@ pub record TapeValue : Type 0 where
 abbrev pub HasRoom : TapeValue → ℕ → Type 0
 HasRoom tape more = length tape.deltas + more ≤ tape.room
 
--- deltas lead from a layer's later part of the state back to the earlier one, latest first, and each fits when its turn comes
-pub record LeadBack {S : Type 0} (Fit : Delta → S → Type 0) (one : Delta → S → S) (deltas : List Delta) (later earlier : S) : Type 0 where
+-- deltas lead from a layer's later part of the state back to the earlier one, latest first, and
+-- each fits when its turn comes
+pub record LeadBack {S : Type 0} (Fit : Delta → S → Type 0) (one : Delta → S → S) (deltas : List Delta)
+    (later earlier : S) : Type 0 where
   pub fit : AllFit Fit one deltas later
   pub back : undo_all one deltas later ≡ earlier
 
--- a call notes at most so many deltas, of its layer and of the layout, and they lead back from what it leaves to what it found
-pub record Notes {S : Type 0} (Own : Delta → Type 0) (Fit : Delta → S → Type 0) (one : Delta → S → S) (l : LayoutParts) (most : ℕ) (was now : TapeValue) (later earlier : S) : Type 0 where
+-- a call notes at most so many deltas, of its layer and of the layout, and they lead back from what
+-- it leaves to what it found
+pub record Notes {S : Type 0} (Own : Delta → Type 0) (Fit : Delta → S → Type 0) (one : Delta → S → S)
+    (l : LayoutParts) (most : ℕ) (was now : TapeValue) (later earlier : S) : Type 0 where
   pub deltas : List Delta
   pub tape : now ≡ record { room = was.room; deltas = was.deltas ++ deltas }
   pub few : length deltas ≤ most
@@ -40,4 +44,5 @@ abbrev pub NotesPages : LayoutParts → ℕ → (was now : TapeValue) → (later
 NotesPages l most was now later earlier = Notes IsOfPages FitsPages pages_undo l most was now later earlier
 
 abbrev pub NotesBlocks : LayoutParts → ℕ → (was now : TapeValue) → (later earlier : Blocks) → Type 0
-NotesBlocks l most was now later earlier = Notes IsOfBlocks FitsBlocks blocks_undo l most was now later earlier
+NotesBlocks l most was now later earlier =
+    Notes IsOfBlocks FitsBlocks blocks_undo l most was now later earlier

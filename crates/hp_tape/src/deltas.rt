@@ -15,7 +15,8 @@ pub enum ListId {
     Cpu { cpu: Cpu, pool: Pool },
 }
 
-/// One small change of the state, with what its opposite needs (own rule). None holds a list of frames or a state.
+/// One small change of the state, with what its opposite needs (own rule). None holds a list of
+/// frames or a state.
 #[derive(Debug, Drop)]
 pub enum Delta {
     /// A frame was put after another, or at the front.
@@ -61,8 +62,8 @@ pub enum Delta {
         was: u64,
         now: u64,
     },
-    /// A frame without a buffer got one, with the first word of its page that is not 0 in it; words are counted
-    /// from 0.
+    /// A frame without a buffer got one, with the first word of its page that is not 0 in it; words
+    /// are counted from 0.
     Filled {
         frame: Frame,
         index: u32,

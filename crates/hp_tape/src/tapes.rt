@@ -44,7 +44,8 @@ impl Tape {
         Ok(copy)
     }
 
-    /// Makes room for `n` more deltas. The room grows by a factor, so that many small calls copy each delta few times.
+    /// Makes room for `n` more deltas. The room grows by a factor, so that many small calls copy
+    /// each delta few times.
     ///
     /// Fails only where that room was missing, and then the tape is as before.
     pub fn reserve(&mut self, n: usize) -> Result<(), AllocError>
@@ -68,7 +69,8 @@ impl Tape {
 
     /// Takes the latest delta out.
     pub fn latest(&mut self) -> Option<Delta>
-        ensures latest { MatchOption result ((self.old.deltas ≡ []) × (self.new.deltas ≡ [])) (λ delta. self.old.deltas ≡ self.new.deltas ++ delta ∷ []) }
+        ensures latest { MatchOption result ((self.old.deltas ≡ []) × (self.new.deltas ≡ []))
+            (λ delta. self.old.deltas ≡ self.new.deltas ++ delta ∷ []) }
         ensures room { self.new.room ≡ self.old.room }
     {
         self.deltas.pop()

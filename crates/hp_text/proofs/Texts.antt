@@ -8,7 +8,9 @@ unfolding texts_below
 texts_none text old = sym (append-nil old)
 
 -- one more number
-pub texts_more : (text : ℕ → List ℕ) (n : ℕ) (old now new piece : List ℕ) → now ≡ old ++ texts_below text n → new ≡ now ++ piece → piece ≡ text n → new ≡ old ++ texts_below text (n + 1)
+pub texts_more : (text : ℕ → List ℕ) (n : ℕ) (old now new piece : List ℕ) → now ≡ old ++ texts_below text n
+    → new ≡ now ++ piece → piece ≡ text n → new ≡ old ++ texts_below text (n + 1)
 unfolding texts_below
 texts_more text n old now new piece p q r =
-    q ∙ ap (λ (l : List ℕ). now ++ l) r ∙ ap (λ (l : List ℕ). l ++ text n) p ∙ append_assoc old (texts_below text n) (text n) ∙ ap (λ (k : ℕ). old ++ texts_below text k) (sym (add-one n))
+    q ∙ ap (λ (l : List ℕ). now ++ l) r ∙ ap (λ (l : List ℕ). l ++ text n) p ∙ append_assoc old
+    (texts_below text n) (text n) ∙ ap (λ (k : ℕ). old ++ texts_below text k) (sym (add-one n))

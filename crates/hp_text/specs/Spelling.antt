@@ -23,13 +23,15 @@ item_word item = wish_word item.wish ++ number_word item.block
 abbrev pub access_text : (verb : List ℕ) → (names : List (List ℕ)) → (owner page : ℕ) → List ℕ
 access_text verb names owner page = verb ++ codes " " ++ name_of names owner ++ number_word page
 
--- what is asked for; what a control file alone takes is written to it (Linux guide: probe, auto_online_blocks)
+-- what is asked for; what a control file alone takes is written to it (Linux guide: probe,
+-- auto_online_blocks)
 abbrev pub event_text : (names : List (List ℕ)) → Event → List ℕ
 event_text names (KernelAlloc order) = codes "kalloc" ++ number_word order
 event_text names (KernelFree frame) = codes "kfree" ++ number_word frame
 event_text names (Map owner page) = access_text (codes "map") names owner page
 event_text names (Unmap owner page) = access_text (codes "unmap") names owner page
-event_text names (Write owner page index value) = access_text (codes "write") names owner page ++ number_word index ++ number_word value
+event_text names (Write owner page index value) =
+    access_text (codes "write") names owner page ++ number_word index ++ number_word value
 event_text names (Read owner page index) = access_text (codes "read") names owner page ++ number_word index
 event_text names (Drain cpu) = codes "drain" ++ number_word cpu
 event_text names (Online block zone) = codes "online" ++ number_word block ++ codes " " ++ zone_text zone

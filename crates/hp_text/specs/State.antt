@@ -69,7 +69,9 @@ claim_words None = []
 claim_words (Some claim) = codes " op " ++ decimal claim.op
 
 unfoldable pub row_line : ℕ → Row → List ℕ
-row_line block row = codes "block " ++ decimal block ++ codes " " ++ state_words row.state row.zone ++ claim_words row.claim ++ newline
+row_line block row =
+    codes "block " ++ decimal block ++ codes " " ++ state_words row.state row.zone ++ claim_words row.claim
+    ++ newline
 
 -- the line of a memory block that there is
 abbrev pub block_line : ℕ → Option Row → List ℕ
@@ -107,7 +109,8 @@ marked_word m pageblock None = []
 marked_word m pageblock (Some kind) = if has_mark m kind then number_word pageblock else []
 
 unfoldable pub marked_words : Mark → LayoutParts → FreeAreas → List ℕ
-marked_words m l a = texts_below (λ pageblock. marked_word m pageblock (slice_get a.kinds pageblock)) (pageblock_count l)
+marked_words m l a =
+    texts_below (λ pageblock. marked_word m pageblock (slice_get a.kinds pageblock)) (pageblock_count l)
 
 unfoldable pub marked_line : Mark → LayoutParts → FreeAreas → List ℕ
 marked_line m l a = words_line (mark_text m ++ codes ":") (marked_words m l a)
@@ -123,15 +126,19 @@ list_line name frames = numbers_line (list_name_text name ++ codes ":") frames
 
 -- a class's lists by rising order
 unfoldable pub class_lists_text : LayoutParts → FreeAreas → Class → List ℕ
-class_lists_text l a class = texts_below (λ order. list_line (Free class order) (free_list a class order)) (l.order + 1)
+class_lists_text l a class =
+    texts_below (λ order. list_line (Free class order) (free_list a class order)) (l.order + 1)
 
 unfoldable pub free_lists_text : LayoutParts → FreeAreas → List ℕ
-free_lists_text l a = class_lists_text l a Nu ++ class_lists_text l a Nm ++ class_lists_text l a Mm ++ class_lists_text l a IsoN ++ class_lists_text l a IsoM
+free_lists_text l a =
+    class_lists_text l a Nu ++ class_lists_text l a Nm ++ class_lists_text l a Mm ++ class_lists_text l a IsoN
+    ++ class_lists_text l a IsoM
 
 -- a processor's lists
 unfoldable pub processor_lists_text : FreeFrames → ℕ → List ℕ
 processor_lists_text fs cpu =
-    list_line (Cached cpu NuPool) (cached_list fs cpu NuPool) ++ list_line (Cached cpu NmPool) (cached_list fs cpu NmPool) ++ list_line (Cached cpu MmPool) (cached_list fs cpu MmPool)
+    list_line (Cached cpu NuPool) (cached_list fs cpu NuPool) ++ list_line (Cached cpu NmPool)
+    (cached_list fs cpu NmPool) ++ list_line (Cached cpu MmPool) (cached_list fs cpu MmPool)
 
 unfoldable pub processors_lists_text : LayoutParts → FreeFrames → List ℕ
 processors_lists_text l fs = texts_below (processor_lists_text fs) l.cpus
@@ -141,7 +148,8 @@ processors_lists_text l fs = texts_below (processor_lists_text fs) l.cpus
 -- the kernel's block that starts at a frame
 abbrev pub kernel_line : ℕ → Option ℕ → List ℕ
 kernel_line frame None = []
-kernel_line frame (Some order) = codes "kernel " ++ decimal frame ++ codes " order " ++ decimal order ++ newline
+kernel_line frame (Some order) =
+    codes "kernel " ++ decimal frame ++ codes " order " ++ decimal order ++ newline
 
 unfoldable pub kernel_text : LayoutParts → Memory → List ℕ
 kernel_text l s = texts_below (λ frame. kernel_line frame (kernel_order s frame)) (frame_count l)
@@ -153,7 +161,8 @@ name_of names owner = unwrap_or (slice_get names owner) []
 -- a mapped page
 unfoldable pub page_line : (name : List ℕ) (page frame : ℕ) (words : List ℕ) → List ℕ
 page_line name page frame words =
-    codes "page " ++ name ++ codes " " ++ decimal page ++ codes " at " ++ decimal frame ++ codes ":" ++ flat_map number_word words ++ newline
+    codes "page " ++ name ++ codes " " ++ decimal page ++ codes " at " ++ decimal frame ++ codes ":"
+    ++ flat_map number_word words ++ newline
 
 -- the line of a page that is mapped
 abbrev pub page_text : (name : List ℕ) (page : ℕ) → Option ℕ → Option (List ℕ) → List ℕ
@@ -162,7 +171,9 @@ page_text name page (Some frame) words = page_line name page frame (unwrap_or wo
 
 -- an owner's pages
 unfoldable pub owner_text : LayoutParts → List (List ℕ) → Pages → ℕ → List ℕ
-owner_text l names ps owner = texts_below (λ page. page_text (name_of names owner) page (frame_at ps owner page) (words_at ps owner page)) l.pages
+owner_text l names ps owner =
+    texts_below
+    (λ page. page_text (name_of names owner) page (frame_at ps owner page) (words_at ps owner page)) l.pages
 
 unfoldable pub pages_text : LayoutParts → List (List ℕ) → Pages → List ℕ
 pages_text l names ps = texts_below (owner_text l names ps) l.owners
@@ -171,11 +182,15 @@ pages_text l names ps = texts_below (owner_text l names ps) l.owners
 
 -- the blocks and their pageblocks
 unfoldable pub rows_text : LayoutParts → Memory → List ℕ
-rows_text l s = blocks_text l s.blocks ++ auto_line s.blocks.auto ++ marked_line mark.Unmovable l s.free.areas ++ marked_line mark.Isolated l s.free.areas
+rows_text l s =
+    blocks_text l s.blocks ++ auto_line s.blocks.auto ++ marked_line mark.Unmovable l s.free.areas
+    ++ marked_line mark.Isolated l s.free.areas
 
 -- the frames
 unfoldable pub frames_text : LayoutParts → List (List ℕ) → Memory → List ℕ
-frames_text l names s = free_lists_text l s.free.areas ++ processors_lists_text l s.free ++ kernel_text l s ++ pages_text l names s.pages
+frames_text l names s =
+    free_lists_text l s.free.areas ++ processors_lists_text l s.free ++ kernel_text l s
+    ++ pages_text l names s.pages
 
 unfoldable pub state_text : LayoutParts → List (List ℕ) → Memory → List ℕ
 state_text l names s = codes "state" ++ newline ++ rows_text l s ++ frames_text l names s

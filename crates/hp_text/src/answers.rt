@@ -7,7 +7,8 @@ use std::alloc::AllocError;
 
 /// Writes the serial and the reply of a receipt, as `3: frame 0` (own rule).
 pub fn write_receipt(out: &mut String, receipt: &Receipt) -> Result<(), AllocError>
-    ensures { OnOk result (string_bytes out.new ≡ string_bytes out.old ++ reply_line receipt.now.serial receipt.now.reply) }
+    ensures { OnOk result
+        (string_bytes out.new ≡ string_bytes out.old ++ reply_line receipt.now.serial receipt.now.reply) }
 {
     let serial = receipt.serial;
     let reply = receipt.reply;
@@ -22,7 +23,8 @@ pub fn write_reply(out: &mut String, reply: Reply) -> Result<(), AllocError>
     writeln!(out, "{reply}")
 }
 
-/// Writes why an event left no record, with a dash in place of a serial, as `-: fault HistoryFull` (own rule).
+/// Writes why an event left no record, with a dash in place of a serial, as `-: fault HistoryFull`
+/// (own rule).
 pub fn write_unrecorded(out: &mut String, fault: CallFault) -> Result<(), AllocError>
     ensures { OnOk result (string_bytes out.new ≡ string_bytes out.old ++ unrecorded_line fault) }
 {

@@ -1,9 +1,10 @@
-//! Texts: how a call, its answer, a plan and its end, the fault of a control file and a whole state are written. Each function
-//! appends to a `String` exactly the text that specs/ gives for its value, and changes nothing else; its error is out of memory, and
-//! then the text may be there in part.
+//! Texts: how a call, its answer, a plan and its end, the fault of a control file and a whole state
+//! are written. Each function appends to a `String` exactly the text that specs/ gives for its
+//! value, and changes nothing else; its error is out of memory, and then the text may be there in
+//! part.
 //!
-//! The crate knows nothing of streams, scenarios or threads. Each program that prints such values stands on it. Read specs/Answers
-//! first, then specs/State.
+//! The crate knows nothing of streams, scenarios or threads. Each program that prints such values
+//! stands on it. Read specs/Answers first, then specs/State.
 #![tactic(auto)]
 
 mod answers;

@@ -30,7 +30,8 @@ fn write_words(out: &mut String, end: OpEnd) -> Result<(), AllocError>
 
 /// Writes that a plan was cancelled: why, and what the Cancel did.
 fn write_cancelled(out: &mut String, why: Option<Refusal>, restored: bool) -> Result<(), AllocError>
-    ensures { OnOk result (string_bytes out.new ≡ string_bytes out.old ++ codes "cancelled " ++ why_text why ++ codes " " ++ cancel_word restored) }
+    ensures { OnOk result (string_bytes out.new
+        ≡ string_bytes out.old ++ codes "cancelled " ++ why_text why ++ codes " " ++ cancel_word restored) }
 {
     out.push_str("cancelled ")?;
     write_why(out, why)?;
@@ -49,7 +50,8 @@ fn write_why(out: &mut String, why: Option<Refusal>) -> Result<(), AllocError>
 
 /// Writes that an operation was left, and the fault.
 fn write_left(out: &mut String, op: Option<Serial>, fault: CallFault) -> Result<(), AllocError>
-    ensures { OnOk result (string_bytes out.new ≡ string_bytes out.old ++ codes "left " ++ operation_text op ++ codes " " ++ call_fault_text fault) }
+    ensures { OnOk result (string_bytes out.new
+        ≡ string_bytes out.old ++ codes "left " ++ operation_text op ++ codes " " ++ call_fault_text fault) }
 {
     out.push_str("left ")?;
     write_operation(out, op)?;

@@ -8,27 +8,31 @@ use hp_units::{Cpu, Event, Item, Owner, Page, Plan, Text, Wish};
 use indexmap::IndexSet;
 use std::alloc::AllocError;
 
-/// Writes the line of a scenario that makes the call of a processor, as `0 map db 3`, with no newline (own rule). What a control
-/// file alone can ask for is written as an `echo` (Linux guide: probe, auto_online_blocks).
+/// Writes the line of a scenario that makes the call of a processor, as `0 map db 3`, with no
+/// newline (own rule). What a control file alone can ask for is written as an `echo` (Linux guide:
+/// probe, auto_online_blocks).
 pub fn write_call(
     out: &mut String,
     names: &IndexSet<Text>,
     cpu: Cpu,
     event: &Event,
 ) -> Result<(), AllocError>
-    ensures { OnOk result (string_bytes out.new ≡ string_bytes out.old ++ call_text names.now.keys cpu event.now) }
+    ensures { OnOk result
+        (string_bytes out.new ≡ string_bytes out.old ++ call_text names.now.keys cpu event.now) }
 {
     write!(out, "{cpu} ")?;
     write_event(out, names, event)
 }
 
-/// Writes what a line asks for that makes a call with this event, as `map db 3`: the words after its processor (own rule).
+/// Writes what a line asks for that makes a call with this event, as `map db 3`: the words after
+/// its processor (own rule).
 pub fn write_event(
     out: &mut String,
     names: &IndexSet<Text>,
     event: &Event,
 ) -> Result<(), AllocError>
-    ensures { OnOk result (string_bytes out.new ≡ string_bytes out.old ++ event_text names.now.keys event.now) }
+    ensures { OnOk result
+        (string_bytes out.new ≡ string_bytes out.old ++ event_text names.now.keys event.now) }
 {
     match event {
         Event::KernelAlloc { order } => write!(out, "kalloc {order}"),
@@ -70,7 +74,8 @@ fn write_access(
     owner: Owner,
     page: Page,
 ) -> Result<(), AllocError>
-    ensures { OnOk result (string_bytes out.new ≡ string_bytes out.old ++ access_text verb.now names.now.keys owner page) }
+    ensures { OnOk result
+        (string_bytes out.new ≡ string_bytes out.old ++ access_text verb.now names.now.keys owner page) }
 {
     let name = name_of(names, owner);
     write!(out, "{verb} {name} {page}")
@@ -78,14 +83,15 @@ fn write_access(
 
 /// Writes the words of a Begin of a plan.
 fn write_begin(out: &mut String, plan: &Plan) -> Result<(), AllocError>
-    ensures { OnOk result (string_bytes out.new ≡ string_bytes out.old ++ codes "begin" ++ flat_map item_word plan.now) }
+    ensures { OnOk result
+        (string_bytes out.new ≡ string_bytes out.old ++ codes "begin" ++ flat_map item_word plan.now) }
 {
     out.push_str("begin")?;
     write_items(out, plan.as_slice())
 }
 
-/// Writes what a line asks for that has a plan carried out with at most `turns` migrations, as `plan 8 off 2`: the words after its
-/// processor (own rule).
+/// Writes what a line asks for that has a plan carried out with at most `turns` migrations, as
+/// `plan 8 off 2`: the words after its processor (own rule).
 pub fn write_plan(out: &mut String, plan: &Plan, turns: u32) -> Result<(), AllocError>
     ensures { OnOk result (string_bytes out.new ≡ string_bytes out.old ++ plan_text plan.now turns) }
 {

@@ -55,9 +55,9 @@ impl fmt::Display for Mark {
     }
 }
 
-/// Writes a state, each part only where it has something: the memory blocks, what an added block becomes, the unmovable and
-/// the isolated pageblocks, the free lists, the processors' lists, the kernel's blocks and the mapped pages. Owners are
-/// written by their names.
+/// Writes a state, each part only where it has something: the memory blocks, what an added block
+/// becomes, the unmovable and the isolated pageblocks, the free lists, the processors' lists, the
+/// kernel's blocks and the mapped pages. Owners are written by their names.
 #[tactic(auto, unfolding(crate::specs::State::state_text, crate::specs::State::rows_text))]
 pub fn write_state(
     out: &mut String,
@@ -65,7 +65,8 @@ pub fn write_state(
     image: &Image,
     names: &IndexSet<Text>,
 ) -> Result<(), AllocError>
-    ensures { OnOk result (string_bytes out.new ≡ string_bytes out.old ++ state_text image.now.layout names.now.keys image.now.memory) }
+    ensures { OnOk result (string_bytes out.new
+        ≡ string_bytes out.old ++ state_text image.now.layout names.now.keys image.now.memory) }
 {
     out.push_str("state\n")?;
     write_blocks(out, image)?;
@@ -79,7 +80,8 @@ pub fn write_state(
 /// Writes the frames that are free, and those that are in use.
 #[tactic(auto, unfolding(crate::specs::State::frames_text))]
 fn write_frames(out: &mut String, image: &Image, names: &IndexSet<Text>) -> Result<(), AllocError>
-    ensures { OnOk result (string_bytes out.new ≡ string_bytes out.old ++ frames_text image.now.layout names.now.keys image.now.memory) }
+    ensures { OnOk result (string_bytes out.new
+        ≡ string_bytes out.old ++ frames_text image.now.layout names.now.keys image.now.memory) }
 {
     write_free_lists(out, image)?;
     write_processors(out, image)?;
@@ -91,7 +93,8 @@ fn write_frames(out: &mut String, image: &Image, names: &IndexSet<Text>) -> Resu
 /// Writes a line for each memory block.
 #[tactic(auto, unfolding(crate::specs::State::blocks_text))]
 fn write_blocks(out: &mut String, image: &Image) -> Result<(), AllocError>
-    ensures { OnOk result (string_bytes out.new ≡ string_bytes out.old ++ blocks_text image.now.layout image.now.memory.blocks) }
+    ensures { OnOk result (string_bytes out.new
+        ≡ string_bytes out.old ++ blocks_text image.now.layout image.now.memory.blocks) }
 {
     for number in 0..image.layout().blocks() {
         let block = Block(number);
@@ -110,8 +113,8 @@ fn write_block(out: &mut String, block: Block, row: Option<Row>) -> Result<(), A
     Ok(())
 }
 
-/// Writes the line of a memory block: its state, its zone where it is online or going, and the operation that holds it, as
-/// `block 2 going movable op 3` (own rule).
+/// Writes the line of a memory block: its state, its zone where it is online or going, and the
+/// operation that holds it, as `block 2 going movable op 3` (own rule).
 #[tactic(auto, unfolding(crate::specs::State::row_line))]
 pub fn write_row(out: &mut String, block: Block, row: Row) -> Result<(), AllocError>
     ensures { OnOk result (string_bytes out.new ≡ string_bytes out.old ++ row_line block row) }
@@ -174,7 +177,8 @@ fn write_marked(
     image: &Image,
     mark: Mark,
 ) -> Result<(), AllocError>
-    ensures { OnOk result (string_bytes out.new ≡ string_bytes out.old ++ marked_line mark image.now.layout image.now.memory.free.areas) }
+    ensures { OnOk result (string_bytes out.new
+        ≡ string_bytes out.old ++ marked_line mark image.now.layout image.now.memory.free.areas) }
 {
     let mut words = String::new(alloc);
     write_marked_words(&mut words, image, mark)?;
@@ -188,7 +192,8 @@ fn write_marked(
 /// Writes the numbers of the pageblocks that have a mark.
 #[tactic(auto, unfolding(crate::specs::State::marked_words))]
 fn write_marked_words(out: &mut String, image: &Image, mark: Mark) -> Result<(), AllocError>
-    ensures { OnOk result (string_bytes out.new ≡ string_bytes out.old ++ marked_words mark image.now.layout image.now.memory.free.areas) }
+    ensures { OnOk result (string_bytes out.new
+        ≡ string_bytes out.old ++ marked_words mark image.now.layout image.now.memory.free.areas) }
 {
     let layout = image.layout();
     for number in 0..layout.blocks() * layout.pageblocks() {
@@ -228,7 +233,8 @@ fn has_mark(mark: Mark, kind: Kind) -> bool
 /// Writes the free lists, by class and order.
 #[tactic(auto, unfolding(crate::specs::State::free_lists_text))]
 fn write_free_lists(out: &mut String, image: &Image) -> Result<(), AllocError>
-    ensures { OnOk result (string_bytes out.new ≡ string_bytes out.old ++ free_lists_text image.now.layout image.now.memory.free.areas) }
+    ensures { OnOk result (string_bytes out.new
+        ≡ string_bytes out.old ++ free_lists_text image.now.layout image.now.memory.free.areas) }
 {
     write_class(out, image, Class::Nu)?;
     write_class(out, image, Class::Nm)?;
@@ -241,7 +247,8 @@ fn write_free_lists(out: &mut String, image: &Image) -> Result<(), AllocError>
 /// Writes a class's lists by rising order.
 #[tactic(auto, unfolding(crate::specs::State::class_lists_text))]
 fn write_class(out: &mut String, image: &Image, class: Class) -> Result<(), AllocError>
-    ensures { OnOk result (string_bytes out.new ≡ string_bytes out.old ++ class_lists_text image.now.layout image.now.memory.free.areas class) }
+    ensures { OnOk result (string_bytes out.new
+        ≡ string_bytes out.old ++ class_lists_text image.now.layout image.now.memory.free.areas class) }
 {
     for number in 0..image.layout().order() + 1 {
         let order = Order(number);
@@ -253,7 +260,8 @@ fn write_class(out: &mut String, image: &Image, class: Class) -> Result<(), Allo
 /// Writes each processor's lists.
 #[tactic(auto, unfolding(crate::specs::State::processors_lists_text))]
 fn write_processors(out: &mut String, image: &Image) -> Result<(), AllocError>
-    ensures { OnOk result (string_bytes out.new ≡ string_bytes out.old ++ processors_lists_text image.now.layout image.now.memory.free) }
+    ensures { OnOk result (string_bytes out.new
+        ≡ string_bytes out.old ++ processors_lists_text image.now.layout image.now.memory.free) }
 {
     for number in 0..image.layout().cpus() {
         write_processor(out, image, Cpu(number))?;
@@ -264,7 +272,8 @@ fn write_processors(out: &mut String, image: &Image) -> Result<(), AllocError>
 /// Writes a processor's lists.
 #[tactic(auto, unfolding(crate::specs::State::processor_lists_text))]
 fn write_processor(out: &mut String, image: &Image, cpu: Cpu) -> Result<(), AllocError>
-    ensures { OnOk result (string_bytes out.new ≡ string_bytes out.old ++ processor_lists_text image.now.memory.free cpu) }
+    ensures { OnOk result
+        (string_bytes out.new ≡ string_bytes out.old ++ processor_lists_text image.now.memory.free cpu) }
 {
     write_list(
         out,
@@ -311,7 +320,8 @@ fn write_frame_words(out: &mut String, frames: &[Frame]) -> Result<(), AllocErro
 /// Writes a line for each block of the kernel.
 #[tactic(auto, unfolding(crate::specs::State::kernel_text))]
 fn write_kernel_blocks(out: &mut String, image: &Image) -> Result<(), AllocError>
-    ensures { OnOk result (string_bytes out.new ≡ string_bytes out.old ++ kernel_text image.now.layout image.now.memory) }
+    ensures { OnOk result
+        (string_bytes out.new ≡ string_bytes out.old ++ kernel_text image.now.layout image.now.memory) }
 {
     for number in 0..image.layout().frames() {
         let frame = Frame(number);

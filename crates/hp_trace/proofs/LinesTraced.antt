@@ -9,44 +9,74 @@ use Rattle.hp_trace.specs.Traces.{MakesLines, TracesLine, TracesLines, numbered_
 use Rattle.hp_trace.specs.Views.{shows}
 use Rattle.hp_trace.specs.declared.view.View.{View}
 
-made_length : (names : List (List ℕ)) (first : ℕ) (xs : List Line) (m after : MachineValue) (lists : List (List Row)) → MakesLines names first m xs lists after → length lists ≡ length xs
+made_length : (names : List (List ℕ)) (first : ℕ) (xs : List Line) (m after : MachineValue)
+    (lists : List (List Row))
+    → MakesLines names first m xs lists after → length lists ≡ length xs
 made_length names first [] m after lists made = ap (λ (l : List (List Row)). length l) made.1
 made_length names first (x ∷ xs) m after lists made =
     let count : length lists ≡ length (made.1 ∷ made.2) = ap (λ (l : List (List Row)). length l) made.4 in
     let rest : length made.2 ≡ length xs = made_length names (first + 1) xs made.0 after made.2 made.5 in
     omega (arith, count, rest)
 
-made_more : (names : List (List ℕ)) (first last : ℕ) (xs : List Line) (line : Line) (m mid after : MachineValue) (lists : List (List Row)) (rows : List Row) → last ≡ first + length xs
-    → MakesLines names first m xs lists mid → MakesWork mid line.cpu line.work (numbered_text names last line) rows after → MakesLines names first m (xs ++ line ∷ []) (lists ++ rows ∷ []) after
+made_more : (names : List (List ℕ)) (first last : ℕ) (xs : List Line) (line : Line)
+    (m mid after : MachineValue) (lists : List (List Row)) (rows : List Row)
+    → last ≡ first + length xs
+    → MakesLines names first m xs lists mid
+    → MakesWork mid line.cpu line.work (numbered_text names last line) rows after
+    → MakesLines names first m (xs ++ line ∷ []) (lists ++ rows ∷ []) after
 made_more names first last [] line m mid after lists rows at made one =
     let here : last ≡ first = omega (arith, at) in
-    let work = subst (λ (n : ℕ). MakesWork m line.cpu line.work (numbered_text names n line) rows after) here (subst (λ (k : MachineValue). MakesWork k line.cpu line.work (numbered_text names last line) rows after) made.0 one) in
+    let work =
+    subst (λ (n : ℕ). MakesWork m line.cpu line.work (numbered_text names n line) rows after) here (subst
+    (λ (k : MachineValue). MakesWork k line.cpu line.work (numbered_text names last line) rows after)
+    made.0 one) in
     (after, rows, [], work, ap (λ (l : List (List Row)). l ++ rows ∷ []) made.1, (refl, refl))
 made_more names first last (x ∷ xs) line m mid after lists rows at made one =
-    let here : last ≡ (first + 1) + length xs = omega (arith, at) in
-    (made.0, made.1, made.2 ++ rows ∷ [], made.3, ap (λ (l : List (List Row)). l ++ rows ∷ []) made.4, made_more names (first + 1) last xs line made.0 mid after made.2 rows here made.5 one)
+    let here : last ≡ (first + 1) + length xs = omega (arith, at) in (
+      made.0,
+      made.1,
+      made.2 ++ rows ∷ [],
+      made.3,
+      ap (λ (l : List (List Row)). l ++ rows ∷ []) made.4,
+      made_more names (first + 1) last xs line made.0 mid after made.2 rows here made.5 one,
+    )
 
-shown_more : (v : View) (first last : ℕ) (lists : List (List Row)) (rows : List Row) → last ≡ first + length lists → shown_rows v first (lists ++ rows ∷ []) ≡ shown_rows v first lists ++ rows_if (shows v last) rows
+shown_more : (v : View) (first last : ℕ) (lists : List (List Row)) (rows : List Row)
+    → last ≡ first + length lists
+    → shown_rows v first (lists ++ rows ∷ []) ≡ shown_rows v first lists ++ rows_if (shows v last) rows
 shown_more v first last [] rows at =
     let here : first ≡ last = omega (arith, at) in
     append-nil (rows_if (shows v first) rows) ∙ ap (λ (n : ℕ). rows_if (shows v n) rows) here
 shown_more v first last (l ∷ ls) rows at =
     let here : last ≡ (first + 1) + length ls = omega (arith, at) in
     ap (λ (t : List Row). rows_if (shows v first) l ++ t) (shown_more v (first + 1) last ls rows here)
-    ∙ sym (append_assoc (rows_if (shows v first) l) (shown_rows v (first + 1) ls) (rows_if (shows v last) rows))
+    ∙ sym
+    (append_assoc (rows_if (shows v first) l) (shown_rows v (first + 1) ls) (rows_if (shows v last) rows))
 
 -- one more line of a loop over lines
-pub lines_more : (v : View) (names : List (List ℕ)) (xs lines : List Line) (i : ℕ) (line : Line) (m mid after : MachineValue) (old between new : RowsValue) → xs ≡ lines → i < length xs → line ≡ get_or xs i line
-    → TracesLines v names m (take i lines) old between mid → TracesLine v names (i + 1) mid line between new after → TracesLines v names m (take (i + 1) lines) old new after
+pub lines_more : (v : View) (names : List (List ℕ)) (xs lines : List Line) (i : ℕ) (line : Line)
+    (m mid after : MachineValue) (old between new : RowsValue)
+    → xs ≡ lines → i < length xs → line ≡ get_or xs i line
+    → TracesLines v names m (take i lines) old between mid
+    → TracesLine v names (i + 1) mid line between new after
+    → TracesLines v names m (take (i + 1) lines) old new after
 lines_more v names xs lines i line m mid after old between new same lt at traced one =
     let within : i < length lines = subst (λ (l : List Line). i < length l) same lt in
     let is_at : line ≡ get_or lines i line = subst (λ (l : List Line). line ≡ get_or l i line) same at in
     let count : length (take i lines) ≡ i = length-take-le i lines (omega (arith, within)) in
-    let made : length traced.lists ≡ length (take i lines) = made_length names 1 (take i lines) m mid traced.lists traced.made in
-    subst (λ (l : List Line). TracesLines v names m l old new after) (sym (take_more lines i line within ∙ ap (λ (x : Line). take i lines ++ x ∷ []) (sym is_at)))
+    let made : length traced.lists ≡ length (take i lines) =
+    made_length names 1 (take i lines) m mid traced.lists traced.made in
+    subst (λ (l : List Line). TracesLines v names m l old new after)
+    (sym (take_more lines i line within ∙ ap (λ (x : Line). take i lines ++ x ∷ []) (sym is_at)))
     record {
       lists = traced.lists ++ one.rows ∷ [];
-      made = made_more names 1 (i + 1) (take i lines) line m mid after traced.lists one.rows (omega (arith, count)) traced.made one.made;
-      drawn = subst (λ (rows : List Row). AreDrawn rows old new) (sym (shown_more v 1 (i + 1) traced.lists one.rows (omega (arith, count, made))))
-          (drawn_joined (shown_rows v 1 traced.lists) (rows_if (shows v (i + 1)) one.rows) old between new traced.drawn one.drawn);
+      made =
+          made_more names 1 (i + 1) (take i lines) line m mid after traced.lists one.rows
+          (omega (arith, count))
+          traced.made one.made;
+      drawn =
+          subst (λ (rows : List Row). AreDrawn rows old new)
+          (sym (shown_more v 1 (i + 1) traced.lists one.rows (omega (arith, count, made))))
+          (drawn_joined (shown_rows v 1 traced.lists) (rows_if (shows v (i + 1)) one.rows) old between new
+          traced.drawn one.drawn);
     }

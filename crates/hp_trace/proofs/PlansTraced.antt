@@ -1,4 +1,5 @@
--- What calls of a plan's driver made of the machine and of the rows, for whoever drives a port that draws them.
+-- What calls of a plan's driver made of the machine and of the rows, for whoever drives a port that
+-- draws them.
 use Rattle.std.proofs.Common.{◌≡◌, ℕ, Bool, true, false, ◌||◌, not, IsTrue, List, [], ◌∷◌, ◌++◌, Option, Some, None, refl, sym, ap, subst, ◌∙◌, true≢false}
 use Rattle.hp_units.specs.Driver.{IsDriverRun}
 use Rattle.hp_units.specs.declared.plans.Item.{Item}
@@ -22,38 +23,60 @@ pub record Known (S N K : Type 0) : Type 0 where
   pub rows : S → RowsValue
   pub lost : S → Bool
 
-abbrev pub known : {S N K : Type 0} → (S → N) → (S → K) → (S → ℕ) → (S → MachineValue) → (S → RowsValue) → (S → Bool) → Known S N K
+abbrev pub known : {S N K : Type 0} → (S → N) → (S → K) → (S → ℕ) → (S → MachineValue) → (S → RowsValue)
+    → (S → Bool) → Known S N K
 known machine_name rows_name cpu machine rows lost =
-    record { machine_name = machine_name; rows_name = rows_name; cpu = cpu; machine = machine; rows = rows; lost = lost }
+    record {
+      machine_name = machine_name;
+      rows_name = rows_name;
+      cpu = cpu;
+      machine = machine;
+      rows = rows;
+      lost = lost;
+    }
 
 -- calls that gave receipts, and one that left a fault
 abbrev pub Makes : {S N K : Type 0} → Known S N K → S → List Receipt → S → Type 0
 Makes k p gained q =
-    (k.machine_name q ≡ k.machine_name p) × (k.rows_name q ≡ k.rows_name p) × (k.cpu q ≡ k.cpu p) × IsTraced (k.cpu p) (k.rows p) (k.lost p) (k.machine p) gained (k.rows q) (k.lost q) (k.machine q)
+    (k.machine_name q ≡ k.machine_name p) × (k.rows_name q ≡ k.rows_name p) × (k.cpu q ≡ k.cpu p)
+    × IsTraced (k.cpu p) (k.rows p) (k.lost p) (k.machine p) gained (k.rows q) (k.lost q) (k.machine q)
 
 abbrev pub Leaves : {S N K : Type 0} → Known S N K → S → CallFault → S → Type 0
 Leaves k p fault q =
-    (k.machine_name q ≡ k.machine_name p) × (k.rows_name q ≡ k.rows_name p) × (k.machine q ≡ k.machine p) × (k.rows q ≡ k.rows p) × LeavesOff (k.machine p) (k.lost p) fault (k.lost q)
+    (k.machine_name q ≡ k.machine_name p) × (k.rows_name q ≡ k.rows_name p) × (k.machine q ≡ k.machine p)
+    × (k.rows q ≡ k.rows p) × LeavesOff (k.machine p) (k.lost p) fault (k.lost q)
 
 -- all of a run's calls
 abbrev pub AllTraced : {S N K : Type 0} → Known S N K → S → List Receipt → Option CallFault → S → Type 0
 AllTraced k old gained fault new =
     (k.machine_name new ≡ k.machine_name old) × (k.rows_name new ≡ k.rows_name old)
-    × (k.lost new ≡ false → Adds (k.rows old) (k.rows new) (λ rows. MakesSteps (k.cpu old) (k.machine old) gained rows (k.machine new)) × IsStop fault (k.machine new))
+    × (k.lost new ≡ false
+    → Adds (k.rows old) (k.rows new) (λ rows.
+    MakesSteps (k.cpu old) (k.machine old) gained rows (k.machine new)) × IsStop fault (k.machine new))
 
 -- rows of the same calls, with the machine and the rows said otherwise
-pub adds_same : (cpu same : ℕ) (gained : List Receipt) (old start last new : RowsValue) (m first n after : MachineValue) → same ≡ cpu → first ≡ m → after ≡ n → start ≡ old → new ≡ last
-    → Adds start last (λ rows. MakesSteps same first gained rows n) → Adds old new (λ rows. MakesSteps cpu m gained rows after)
-adds_same cpu same gained old start last new m first n after at_cpu at_first at_after at_start at_new a = record {
-  rows = a.rows;
-  drawn = subst (λ (r : RowsValue). AreDrawn a.rows old r) (sym at_new) (subst (λ (r : RowsValue). AreDrawn a.rows r last) at_start a.drawn);
-  is = subst (λ (k : MachineValue). MakesSteps cpu m gained a.rows k) (sym at_after)
-      (subst (λ (k : MachineValue). MakesSteps cpu k gained a.rows n) at_first (subst (λ (c : ℕ). MakesSteps c first gained a.rows n) at_cpu a.is));
-}
+pub adds_same : (cpu same : ℕ) (gained : List Receipt) (old start last new : RowsValue)
+    (m first n after : MachineValue)
+    → same ≡ cpu → first ≡ m → after ≡ n → start ≡ old → new ≡ last
+    → Adds start last (λ rows. MakesSteps same first gained rows n)
+    → Adds old new (λ rows. MakesSteps cpu m gained rows after)
+adds_same cpu same gained old start last new m first n after at_cpu at_first at_after at_start at_new a =
+    record {
+      rows = a.rows;
+      drawn =
+          subst (λ (r : RowsValue). AreDrawn a.rows old r) (sym at_new)
+          (subst (λ (r : RowsValue). AreDrawn a.rows r last) at_start a.drawn);
+      is = subst (λ (k : MachineValue). MakesSteps cpu m gained a.rows k) (sym at_after)
+          (subst (λ (k : MachineValue). MakesSteps cpu k gained a.rows n) at_first
+          (subst (λ (c : ℕ). MakesSteps c first gained a.rows n) at_cpu a.is));
+    }
 
-pub all_traced : {S N K : Type 0} (k : Known S N K) (makes : S → List Receipt → S → Type 0) (leaves : S → CallFault → S → Type 0)
-    → ((p q : S) (gained : List Receipt) → makes p gained q → Makes k p gained q) → ((p q : S) (fault : CallFault) → leaves p fault q → Leaves k p fault q)
-    → (old new : S) (gained : List Receipt) (fault : Option CallFault) → AreMade makes leaves old gained fault new → AllTraced k old gained fault new
+pub all_traced : {S N K : Type 0} (k : Known S N K) (makes : S → List Receipt → S → Type 0)
+    (leaves : S → CallFault → S → Type 0)
+    → ((p q : S) (gained : List Receipt) → makes p gained q → Makes k p gained q)
+    → ((p q : S) (fault : CallFault) → leaves p fault q → Leaves k p fault q)
+    → (old new : S) (gained : List Receipt) (fault : Option CallFault)
+    → AreMade makes leaves old gained fault new → AllTraced k old gained fault new
 all_traced k makes leaves as_made as_left old new gained None made =
     let calls = as_made old new gained made in
     (calls.0, calls.1, λ none. ((calls.3 none).1, tt))
@@ -63,18 +86,25 @@ all_traced k makes leaves as_made as_left old new gained (Some fault) made =
       left.0 ∙ calls.0,
       left.1 ∙ calls.1,
       λ none. (
-        adds_same (k.cpu old) (k.cpu old) gained (k.rows old) (k.rows old) (k.rows made.0) (k.rows new) (k.machine old) (k.machine old) (k.machine made.0) (k.machine new) refl refl left.2 refl left.3 (calls.3 (left.4 none).0).1,
+        adds_same (k.cpu old) (k.cpu old) gained (k.rows old) (k.rows old) (k.rows made.0) (k.rows new)
+            (k.machine old) (k.machine old) (k.machine made.0) (k.machine new) refl refl left.2 refl left.3
+            (calls.3 (left.4 none).0).1,
         subst (IsStop (Some fault)) (sym left.2) (left.4 none).1,
       ),
     )
 
 -- from a port's machine and rows before and after the calls
-pub driven : (m first last after : MachineValue) (cpu caller turns : ℕ) (plan : List Item) (end : OpEnd) (old start rows new : RowsValue) (fault : Option CallFault) (gained : List Receipt)
+pub driven : (m first last after : MachineValue) (cpu caller turns : ℕ) (plan : List Item) (end : OpEnd)
+    (old start rows new : RowsValue) (fault : Option CallFault) (gained : List Receipt)
     → first ≡ m → caller ≡ cpu → start ≡ old → after ≡ last → new ≡ rows
-    → Adds start rows (λ list. MakesSteps caller first gained list last) × IsStop fault last → IsDriverRun first.layout.cpus turns plan gained fault end
+    → Adds start rows (λ list. MakesSteps caller first gained list last) × IsStop fault last
+    → IsDriverRun first.layout.cpus turns plan gained fault end
     → Adds old new (λ list. IsDriven m cpu turns plan end list after)
-driven m first last after cpu caller turns plan end old start rows new fault gained at_first same at_start at_last at_rows traced ran =
-    let a = adds_same cpu caller gained old start rows new m first last after same at_first at_last at_start at_rows traced.0 in
+driven m first last after cpu caller turns plan end old start rows new fault gained at_first same at_start
+    at_last at_rows traced ran =
+    let a =
+    adds_same cpu caller gained old start rows new m first last after same at_first at_last at_start at_rows
+    traced.0 in
     record {
       rows = a.rows;
       drawn = a.drawn;
@@ -83,30 +113,52 @@ driven m first last after cpu caller turns plan end old start rows new fault gai
         fault = fault;
         steps = a.is;
         stop = subst (IsStop fault) (sym at_last) traced.1;
-        run = subst (λ (k : MachineValue). IsDriverRun k.layout.cpus turns plan gained fault end) at_first ran;
+        run =
+            subst (λ (k : MachineValue). IsDriverRun k.layout.cpus turns plan gained fault end) at_first ran;
       };
     }
 
 -- the row of the memory before a plan, the rows of its calls, and its end
-pub plan_added : (m after : MachineValue) (cpu turns : ℕ) (plan copied : List Item) (end : OpEnd) (asked : List ℕ) (old head steps new : RowsValue) → copied ≡ plan
-    → DrawsIf old.is_on m asked [] old head → Adds head steps (λ list. IsDriven m cpu turns copied end list after) → new ≡ said steps (plan_line end)
+pub plan_added : (m after : MachineValue) (cpu turns : ℕ) (plan copied : List Item) (end : OpEnd)
+    (asked : List ℕ) (old head steps new : RowsValue)
+    → copied ≡ plan
+    → DrawsIf old.is_on m asked [] old head
+    → Adds head steps (λ list. IsDriven m cpu turns copied end list after) → new ≡ said steps (plan_line end)
     → Adds old new (λ list. MakesPlan m cpu turns plan asked list after)
 plan_added m after cpu turns plan copied end asked old head steps new same drawn a is = record {
   rows = drawing asked [] m ∷ (a.rows ++ words (plan_line end) ∷ []);
-  drawn = (head, drawn, drawn_joined a.rows (words (plan_line end) ∷ []) head steps new a.drawn (new, is, refl));
-  is = record { steps = a.rows; end = end; driven = subst (λ (p : List Item). IsDriven m cpu turns p end a.rows after) same a.is; is = refl };
+  drawn =
+      (head, drawn, drawn_joined a.rows (words (plan_line end) ∷ []) head steps new a.drawn (new, is, refl));
+  is =
+      record {
+        steps = a.rows;
+        end = end;
+        driven = subst (λ (p : List Item). IsDriven m cpu turns p end a.rows after) same a.is;
+        is = refl;
+      };
 }
 
 -- one call of a plan
-pub step_traced : (cpu : ℕ) (m after : MachineValue) (r : Receipt) (old new : RowsValue) (was is drawn : Bool) → is ≡ (was || not drawn) → AreCalls m cpu (r ∷ []) after
-    → (IsTrue drawn → DrawsIf old.is_on after (step_text r.event) (answer_text r) old new) → IsTraced cpu old was m (r ∷ []) new is after
+pub step_traced : (cpu : ℕ) (m after : MachineValue) (r : Receipt) (old new : RowsValue) (was is drawn : Bool)
+    → is ≡ (was || not drawn) → AreCalls m cpu (r ∷ []) after
+    → (IsTrue drawn → DrawsIf old.is_on after (step_text r.event) (answer_text r) old new)
+    → IsTraced cpu old was m (r ∷ []) new is after
 step_traced cpu m after r old new false is true lost calls row = λ none. (
   refl,
   record {
     rows = drawing (step_text r.event) (answer_text r) after ∷ [];
     drawn = (new, row refl, refl);
-    is = (calls.0, [], calls.1, calls.2, ap (λ (k : MachineValue). drawing (step_text r.event) (answer_text r) k ∷ []) calls.3, (calls.3, refl));
+    is = (
+      calls.0,
+      [],
+      calls.1,
+      calls.2,
+      ap
+          (λ (k : MachineValue). drawing (step_text r.event) (answer_text r) k ∷ []) calls.3,
+      (calls.3, refl),
+    );
   },
 )
-step_traced cpu m after r old new false is false lost calls row = λ none. absurd (true≢false (sym lost ∙ none))
+step_traced cpu m after r old new false is false lost calls row =
+    λ none. absurd (true≢false (sym lost ∙ none))
 step_traced cpu m after r old new true is drawn lost calls row = λ none. absurd (true≢false (sym lost ∙ none))

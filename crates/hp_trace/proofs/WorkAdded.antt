@@ -18,46 +18,62 @@ use Rattle.hp_trace.specs.Rows.{Adds, AreDrawn, DrawsIf, RowsValue, drawing, not
 
 -- ---- an event
 
-pub event_added : (m after : MachineValue) (cpu : ℕ) (event : Event) (r : Receipt) (asked : List ℕ) (old new : RowsValue) → IsCalled m cpu event r after → AreCalls m cpu (r ∷ []) after
-    → DrawsIf old.is_on after asked (answer_text r) old new → Adds old new (λ rows. MakesEvent m cpu event asked rows after)
+pub event_added : (m after : MachineValue) (cpu : ℕ) (event : Event) (r : Receipt) (asked : List ℕ)
+    (old new : RowsValue)
+    → IsCalled m cpu event r after → AreCalls m cpu (r ∷ []) after
+    → DrawsIf old.is_on after asked (answer_text r) old new
+    → Adds old new (λ rows. MakesEvent m cpu event asked rows after)
 event_added m after cpu event r asked old new called calls drawn = record {
   rows = drawing asked (answer_text r) after ∷ [];
   drawn = (new, drawn, refl);
   is = inl (r, calls.1, called, refl);
 }
 
-pub full_added : (m after : MachineValue) (cpu : ℕ) (event : Event) (asked : List ℕ) (old new : RowsValue) → is_full m ≡ true → after ≡ m
-    → AreDrawn (noted after asked (unrecorded_line HistoryFull)) old new → Adds old new (λ rows. MakesEvent m cpu event asked rows after)
+pub full_added : (m after : MachineValue) (cpu : ℕ) (event : Event) (asked : List ℕ) (old new : RowsValue)
+    → is_full m ≡ true → after ≡ m
+    → AreDrawn (noted after asked (unrecorded_line HistoryFull)) old new
+    → Adds old new (λ rows. MakesEvent m cpu event asked rows after)
 full_added m after cpu event asked old new full same drawn = record {
   rows = noted m asked (unrecorded_line HistoryFull);
-  drawn = subst (λ (k : MachineValue). AreDrawn (noted k asked (unrecorded_line HistoryFull)) old new) same drawn;
+  drawn =
+      subst (λ (k : MachineValue). AreDrawn (noted k asked (unrecorded_line HistoryFull)) old new) same drawn;
   is = inr (full, same, refl);
 }
 
 -- ---- a control file
 
-fault_is : {A : Type 0} (fault : ControlFault) (answer : Result A ControlFault) → fault ≢ OutOfMemory → Fails fault answer → answer ≡ Err fault
+fault_is : {A : Type 0} (fault : ControlFault) (answer : Result A ControlFault) → fault ≢ OutOfMemory
+    → Fails fault answer → answer ≡ Err fault
 fault_is NoFile answer other fails = fails
 fault_is ReadOnly answer other fails = fails
 fault_is BadText answer other fails = fails
 fault_is OutOfMemory answer other fails = absurd (other refl)
 fault_is WriteOnly answer other fails = fails
 
-pub untaken_added : (m : MachineValue) (cpu : ℕ) (path word said text : List ℕ) (fault same : ControlFault) (asked : List ℕ) (old new : RowsValue) → said ≡ path → text ≡ word → Fails fault (echo_request said text)
-    → same ≡ fault → fault ≢ OutOfMemory → AreDrawn (noted m asked (write_fault_line same)) old new → Adds old new (λ rows. MakesRequest m cpu (echo_request path word) asked rows m)
+pub untaken_added : (m : MachineValue) (cpu : ℕ) (path word said text : List ℕ) (fault same : ControlFault)
+    (asked : List ℕ) (old new : RowsValue)
+    → said ≡ path → text ≡ word → Fails fault (echo_request said text)
+    → same ≡ fault → fault ≢ OutOfMemory → AreDrawn (noted m asked (write_fault_line same)) old new
+    → Adds old new (λ rows. MakesRequest m cpu (echo_request path word) asked rows m)
 untaken_added m cpu path word said text fault same asked old new at means fails is other drawn =
-    let answer : echo_request path word ≡ Err fault = ap (λ (p : List ℕ). echo_request p word) (sym at) ∙ ap (echo_request said) (sym means) ∙ fault_is fault (echo_request said text) other fails in
+    let answer : echo_request path word ≡ Err fault =
+    ap (λ (p : List ℕ). echo_request p word) (sym at) ∙ ap (echo_request said) (sym means)
+    ∙ fault_is fault (echo_request said text) other fails in
     record {
       rows = noted m asked (write_fault_line same);
       drawn = drawn;
-      is = subst (λ (a : Result Request ControlFault). MakesRequest m cpu a asked (noted m asked (write_fault_line same)) m) (sym answer)
+      is =
+          subst (λ (a : Result Request ControlFault).
+          MakesRequest m cpu a asked (noted m asked (write_fault_line same)) m) (sym answer)
           (refl, ap (λ (f : ControlFault). noted m asked (write_fault_line f)) is);
     }
 
 -- ---- a seal
 
-pub seal_added : (m after : MachineValue) (records shown : List Record) (asked : List ℕ) (old new : RowsValue) → after ≡ sealed m → shown ≡ records → records ≡ m.history
-    → AreDrawn (noted after asked (sealed_line (length shown))) old new → Adds old new (λ rows. MakesSeal m asked rows after)
+pub seal_added : (m after : MachineValue) (records shown : List Record) (asked : List ℕ) (old new : RowsValue)
+    → after ≡ sealed m → shown ≡ records → records ≡ m.history
+    → AreDrawn (noted after asked (sealed_line (length shown))) old new
+    → Adds old new (λ rows. MakesSeal m asked rows after)
 seal_added m after records shown asked old new same at is drawn = record {
   rows = noted after asked (sealed_line (length shown));
   drawn = drawn;

@@ -30,9 +30,11 @@ abbrev pub answer_text : Receipt → List ℕ
 answer_text r = decimal r.serial ++ codes ": " ++ reply_text r.reply
 
 -- an event was called; or the history is full, which is said
-abbrev pub MakesEvent : MachineValue → (cpu : ℕ) → Event → (asked : List ℕ) → (rows : List Row) → (after : MachineValue) → Type 0
+abbrev pub MakesEvent : MachineValue → (cpu : ℕ) → Event → (asked : List ℕ) → (rows : List Row)
+    → (after : MachineValue) → Type 0
 MakesEvent m cpu event asked rows after =
-    ((r : Receipt) × (is_full m ≡ false) × IsCalled m cpu event r after × (rows ≡ drawing asked (answer_text r) after ∷ []))
+    ((r : Receipt) × (is_full m ≡ false) × IsCalled m cpu event r after
+    × (rows ≡ drawing asked (answer_text r) after ∷ []))
     ⊎ ((is_full m ≡ true) × (after ≡ m) × (rows ≡ noted m asked (unrecorded_line HistoryFull)))
 
 -- ---- a plan
@@ -42,10 +44,12 @@ abbrev pub step_text : Event → List ℕ
 step_text event = codes "     " ++ event_text [] event
 
 -- calls of a processor, one after another, gave these receipts
-abbrev pub MakesSteps : (cpu : ℕ) → MachineValue → List Receipt → (rows : List Row) → (after : MachineValue) → Type 0
+abbrev pub MakesSteps : (cpu : ℕ) → MachineValue → List Receipt → (rows : List Row) → (after : MachineValue)
+    → Type 0
 MakesSteps cpu m [] rows after = (after ≡ m) × (rows ≡ [])
 MakesSteps cpu m (r ∷ rs) rows after =
-    (next : MachineValue) × (rest : List Row) × (is_full m ≡ false) × IsCalled m cpu r.event r next × (rows ≡ drawing (step_text r.event) (answer_text r) next ∷ rest) × MakesSteps cpu next rs rest after
+    (next : MachineValue) × (rest : List Row) × (is_full m ≡ false) × IsCalled m cpu r.event r next
+    × (rows ≡ drawing (step_text r.event) (answer_text r) next ∷ rest) × MakesSteps cpu next rs rest after
 
 -- a plan's driver stops early only at a full history
 abbrev pub IsStop : Option CallFault → MachineValue → Type 0
@@ -54,7 +58,8 @@ IsStop (Some HistoryFull) m = is_full m ≡ true
 IsStop (Some OutOfMemory) m = ⊥
 
 -- a run of a plan's driver with this end was carried out
-pub record IsDriven (m : MachineValue) (cpu turns : ℕ) (plan : List Item) (end : OpEnd) (rows : List Row) (after : MachineValue) : Type 0 where
+pub record IsDriven (m : MachineValue) (cpu turns : ℕ) (plan : List Item) (end : OpEnd) (rows : List Row)
+    (after : MachineValue) : Type 0 where
   pub receipts : List Receipt
   pub fault : Option CallFault
   pub steps : MakesSteps cpu m receipts rows after
@@ -62,7 +67,8 @@ pub record IsDriven (m : MachineValue) (cpu turns : ℕ) (plan : List Item) (end
   pub run : IsDriverRun m.layout.cpus turns plan receipts fault end
 
 -- a row of the memory before the plan, the rows of its calls, and its end
-pub record MakesPlan (m : MachineValue) (cpu turns : ℕ) (plan : List Item) (asked : List ℕ) (rows : List Row) (after : MachineValue) : Type 0 where
+pub record MakesPlan (m : MachineValue) (cpu turns : ℕ) (plan : List Item) (asked : List ℕ) (rows : List Row)
+    (after : MachineValue) : Type 0 where
   pub steps : List Row
   pub end : OpEnd
   pub driven : IsDriven m cpu turns plan end steps after
@@ -71,10 +77,13 @@ pub record MakesPlan (m : MachineValue) (cpu turns : ℕ) (plan : List Item) (as
 -- ---- control files
 
 -- what a control file was asked for was done, or why it does not take the word is said
-abbrev pub MakesRequest : MachineValue → (cpu : ℕ) → Result Request ControlFault → (asked : List ℕ) → (rows : List Row) → (after : MachineValue) → Type 0
+abbrev pub MakesRequest : MachineValue → (cpu : ℕ) → Result Request ControlFault → (asked : List ℕ)
+    → (rows : List Row) → (after : MachineValue) → Type 0
 MakesRequest m cpu (Ok (request.Event event)) asked rows after = MakesEvent m cpu event asked rows after
-MakesRequest m cpu (Ok (request.Plan plan)) asked rows after = MakesPlan m cpu control_turns plan asked rows after
-MakesRequest m cpu (Err fault) asked rows after = (after ≡ m) × (rows ≡ noted m asked (write_fault_line fault))
+MakesRequest m cpu (Ok (request.Plan plan)) asked rows after =
+    MakesPlan m cpu control_turns plan asked rows after
+MakesRequest m cpu (Err fault) asked rows after =
+    (after ≡ m) × (rows ≡ noted m asked (write_fault_line fault))
 
 -- a control file's text as it is, or why there is none
 abbrev pub file_rows : MachineValue → Result (List ℕ) ControlFault → (asked : List ℕ) → List Row
@@ -85,13 +94,17 @@ file_rows m (Err fault) asked = noted m asked (read_fault_line fault)
 
 -- the records were handed out, and how many there were is said
 abbrev pub MakesSeal : MachineValue → (asked : List ℕ) → (rows : List Row) → (after : MachineValue) → Type 0
-MakesSeal m asked rows after = (after ≡ sealed m) × (rows ≡ noted after asked (sealed_line (length m.history)))
+MakesSeal m asked rows after =
+    (after ≡ sealed m) × (rows ≡ noted after asked (sealed_line (length m.history)))
 
 -- ---- the work of a line
 
-abbrev pub MakesWork : MachineValue → (cpu : ℕ) → Work → (asked : List ℕ) → (rows : List Row) → (after : MachineValue) → Type 0
+abbrev pub MakesWork : MachineValue → (cpu : ℕ) → Work → (asked : List ℕ) → (rows : List Row)
+    → (after : MachineValue) → Type 0
 MakesWork m cpu (work.Event event) asked rows after = MakesEvent m cpu event asked rows after
 MakesWork m cpu (work.Plan plan turns) asked rows after = MakesPlan m cpu turns plan asked rows after
-MakesWork m cpu (work.Echo path word) asked rows after = MakesRequest m cpu (echo_request path word) asked rows after
-MakesWork m cpu (work.Cat path) asked rows after = (after ≡ m) × (rows ≡ file_rows m (file_text m.layout m.state path) asked)
+MakesWork m cpu (work.Echo path word) asked rows after =
+    MakesRequest m cpu (echo_request path word) asked rows after
+MakesWork m cpu (work.Cat path) asked rows after =
+    (after ≡ m) × (rows ≡ file_rows m (file_text m.layout m.state path) asked)
 MakesWork m cpu work.Seal asked rows after = MakesSeal m asked rows after

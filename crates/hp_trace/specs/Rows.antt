@@ -8,8 +8,8 @@ use Rattle.hp_machine.specs.Machine.{MachineValue}
 use Rattle.hp_map.specs.Pictures.{IsPicture}
 use Rattle.hp_text.specs.State.{newline}
 
--- the text so far, the memory blocks as the last row shows them, whether rows are written, and whether a row has only the memory
--- blocks that changed
+-- the text so far, the memory blocks as the last row shows them, whether rows are written, and
+-- whether a row has only the memory blocks that changed
 pub record RowsValue : Type 0 where
   pub text : List ℕ
   pub shown : List (List ℕ)
@@ -44,11 +44,13 @@ drawn_text is_wide before None = []
 drawn_text is_wide before (Some block) = spaced_text (is_wide && is_same before block) block
 
 abbrev pub block_text : (is_wide : Bool) → (before blocks : List (List ℕ)) → (number : ℕ) → List ℕ
-block_text is_wide before blocks number = drawn_text is_wide (slice_get before number) (slice_get blocks number)
+block_text is_wide before blocks number =
+    drawn_text is_wide (slice_get before number) (slice_get blocks number)
 
 -- all memory blocks by rising number, or those that changed
 abbrev pub blocks_text : (is_wide : Bool) → (before blocks : List (List ℕ)) → List ℕ
-blocks_text is_wide before blocks = flat_map (block_text is_wide before blocks) (range_with_len 0 (length blocks))
+blocks_text is_wide before blocks =
+    flat_map (block_text is_wide before blocks) (range_with_len 0 (length blocks))
 
 -- and a sign where none did
 abbrev pub or_same : List ℕ → List ℕ
@@ -72,7 +74,8 @@ row_text asked answer memory = filled 29 asked ++ codes " " ++ filled 25 answer 
 pub record IsRow (m : MachineValue) (asked answer : List ℕ) (old new : RowsValue) : Type 0 where
   pub blocks : List (List ℕ)
   pub picture : IsPicture m.layout m.state blocks
-  pub is : new ≡ record old { text = old.text ++ row_text asked answer (memory_text old.is_wide old.shown blocks); shown = blocks }
+  pub is : new ≡ record old
+      { text = old.text ++ row_text asked answer (memory_text old.is_wide old.shown blocks); shown = blocks }
 
 -- a row more where rows are written, and else none
 abbrev pub DrawsIf : (is_on : Bool) → MachineValue → (asked answer : List ℕ) → (old new : RowsValue) → Type 0
@@ -105,6 +108,8 @@ pub record Adds (old new : RowsValue) (P : List Row → Type 0) : Type 0 where
   pub is : P rows
 
 -- rows after rows
-pub drawn_joined : (xs ys : List Row) (old mid new : RowsValue) → AreDrawn xs old mid → AreDrawn ys mid new → AreDrawn (xs ++ ys) old new
+pub drawn_joined : (xs ys : List Row) (old mid new : RowsValue) → AreDrawn xs old mid → AreDrawn ys mid new
+    → AreDrawn (xs ++ ys) old new
 drawn_joined [] ys old mid new first second = subst (λ (r : RowsValue). AreDrawn ys r new) first second
-drawn_joined (x ∷ xs) ys old mid new first second = (first.0, first.1, drawn_joined xs ys first.0 mid new first.2 second)
+drawn_joined (x ∷ xs) ys old mid new first second =
+    (first.0, first.1, drawn_joined xs ys first.0 mid new first.2 second)

@@ -12,14 +12,17 @@ use Rattle.hp_trace.specs.declared.view.View.{View}
 
 -- a line's number and the line
 abbrev pub numbered_text : (names : List (List ℕ)) → (number : ℕ) → Line → List ℕ
-numbered_text names number line = styled_decimal (format_spec 32 3 0 4 (2 ^ 64 - 1)) number ++ codes " " ++ line_text names line
+numbered_text names number line =
+    styled_decimal (format_spec 32 3 0 4 (2 ^ 64 - 1)) number ++ codes " " ++ line_text names line
 
 -- the rows that lines make, one list a line; the first line has this number
-abbrev pub MakesLines : (names : List (List ℕ)) → (number : ℕ) → MachineValue → List Line → (lists : List (List Row)) → (after : MachineValue) → Type 0
+abbrev pub MakesLines : (names : List (List ℕ)) → (number : ℕ) → MachineValue → List Line
+    → (lists : List (List Row)) → (after : MachineValue) → Type 0
 MakesLines names number m [] lists after = (after ≡ m) × (lists ≡ [])
 MakesLines names number m (line ∷ lines) lists after =
     (next : MachineValue) × (rows : List Row) × (rest : List (List Row))
-    × MakesWork m line.cpu line.work (numbered_text names number line) rows next × (lists ≡ rows ∷ rest) × MakesLines names (number + 1) next lines rest after
+    × MakesWork m line.cpu line.work (numbered_text names number line) rows next × (lists ≡ rows ∷ rest)
+    × MakesLines names (number + 1) next lines rest after
 
 -- the rows of a line, where it is shown
 abbrev pub rows_if : (is_shown : Bool) → List Row → List Row
@@ -37,13 +40,15 @@ pub record IsStart (v : View) (m : MachineValue) (rows : RowsValue) : Type 0 whe
   pub is : rows ≡ fitted v.width first
 
 -- a line was done, and its rows drawn where it is shown
-pub record TracesLine (v : View) (names : List (List ℕ)) (number : ℕ) (m : MachineValue) (line : Line) (old new : RowsValue) (after : MachineValue) : Type 0 where
+pub record TracesLine (v : View) (names : List (List ℕ)) (number : ℕ) (m : MachineValue) (line : Line)
+    (old new : RowsValue) (after : MachineValue) : Type 0 where
   pub rows : List Row
   pub made : MakesWork m line.cpu line.work (numbered_text names number line) rows after
   pub drawn : AreDrawn (rows_if (shows v number) rows) old new
 
 -- lines were done, and the rows of those that are shown drawn
-pub record TracesLines (v : View) (names : List (List ℕ)) (m : MachineValue) (lines : List Line) (old new : RowsValue) (after : MachineValue) : Type 0 where
+pub record TracesLines (v : View) (names : List (List ℕ)) (m : MachineValue) (lines : List Line)
+    (old new : RowsValue) (after : MachineValue) : Type 0 where
   pub lists : List (List Row)
   pub made : MakesLines names 1 m lines lists after
   pub drawn : AreDrawn (shown_rows v 1 lists) old new

@@ -26,7 +26,8 @@ pub(crate) fn trace_work(
     work: &Work,
     asked: &str,
 ) -> Result<(), AllocError>
-    ensures { OnOk result (Adds rows.old rows.new (λ list. MakesWork machine.old cpu work.now asked.now list machine.new)) }
+    ensures { OnOk result
+        (Adds rows.old rows.new (λ list. MakesWork machine.old cpu work.now asked.now list machine.new)) }
 {
     match work {
         Work::Event(event) => trace_event(rows, alloc, machine, cpu, event, asked),
@@ -46,7 +47,8 @@ fn trace_event(
     event: &Event,
     asked: &str,
 ) -> Result<(), AllocError>
-    ensures { OnOk result (Adds rows.old rows.new (λ list. MakesEvent machine.old cpu event.now asked.now list machine.new)) }
+    ensures { OnOk result
+        (Adds rows.old rows.new (λ list. MakesEvent machine.old cpu event.now asked.now list machine.new)) }
 {
     match machine.call(alloc, cpu, event) {
         Ok(receipt) => draw_receipt(rows, alloc, machine, asked, &receipt),
@@ -62,7 +64,8 @@ fn note_full(
     machine: &Machine,
     asked: &str,
 ) -> Result<(), AllocError>
-    ensures { OnOk result (AreDrawn (noted machine.now asked.now (unrecorded_line CallFault.HistoryFull)) rows.old rows.new) }
+    ensures { OnOk result
+        (AreDrawn (noted machine.now asked.now (unrecorded_line CallFault.HistoryFull)) rows.old rows.new) }
 {
     let mut out = String::new(alloc);
     write_unrecorded(&mut out, CallFault::HistoryFull)?;
@@ -79,7 +82,8 @@ fn trace_echo(
     word: &BoxedText,
     asked: &str,
 ) -> Result<(), AllocError>
-    ensures { OnOk result (Adds rows.old rows.new (λ list. MakesRequest machine.old cpu (echo_request path.now word.now) asked.now list machine.new)) }
+    ensures { OnOk result (Adds rows.old rows.new
+        (λ list. MakesRequest machine.old cpu (echo_request path.now word.now) asked.now list machine.new)) }
 {
     match parse_echo(alloc, path.as_str(), word.as_str()) {
         Ok(request) => trace_request(rows, alloc, machine, cpu, &request, asked),
@@ -96,7 +100,8 @@ fn trace_request(
     request: &Request,
     asked: &str,
 ) -> Result<(), AllocError>
-    ensures { OnOk result (Adds rows.old rows.new (λ list. MakesRequest machine.old cpu (Ok request.now) asked.now list machine.new)) }
+    ensures { OnOk result (Adds rows.old rows.new
+        (λ list. MakesRequest machine.old cpu (Ok request.now) asked.now list machine.new)) }
 {
     match request {
         Request::Event(event) => trace_event(rows, alloc, machine, cpu, event, asked),
@@ -122,7 +127,8 @@ fn note_untaken(
     fault: ControlFault,
     asked: &str,
 ) -> Result<(), AllocError>
-    ensures { OnOk result (AreDrawn (noted machine.now asked.now (write_fault_line fault)) rows.old rows.new) }
+    ensures { OnOk result
+        (AreDrawn (noted machine.now asked.now (write_fault_line fault)) rows.old rows.new) }
 {
     let mut out = String::new(alloc);
     write_echo_fault(&mut out, fault)?;
@@ -137,7 +143,9 @@ fn trace_file(
     path: &Text,
     asked: &str,
 ) -> Result<(), AllocError>
-    ensures { OnOk result (AreDrawn (file_rows machine.now (file_text machine.now.layout machine.now.state path.now) asked.now) rows.old rows.new) }
+    ensures { OnOk result (AreDrawn
+        (file_rows machine.now (file_text machine.now.layout machine.now.state path.now) asked.now) rows.old
+        rows.new) }
 {
     match read_text(alloc, machine, path.as_str()) {
         Ok(text) => rows.note(alloc, machine, asked, text.as_str()),
@@ -167,7 +175,8 @@ fn trace_seal(
     machine: &mut Machine,
     asked: &str,
 ) -> Result<(), AllocError>
-    ensures { OnOk result (Adds rows.old rows.new (λ list. MakesSeal machine.old asked.now list machine.new)) }
+    ensures { OnOk result
+        (Adds rows.old rows.new (λ list. MakesSeal machine.old asked.now list machine.new)) }
 {
     let volume = machine.seal(alloc)?;
     let count = volume.records.as_slice().len() as u64;

@@ -15,9 +15,10 @@ use hp_units::Text;
 use indexmap::IndexSet;
 use std::alloc::{AllocError, Global};
 
-/// The trace of the scenario that the bytes are: a row of the memory at boot, and for each line that is shown its number, the line,
-/// what it answers, and the memory after each of its calls (own rule). A line that makes no record has a row of the memory, and
-/// below it the text that `hotplug serial` writes for it; so has a plan at its begin, and below the rows of its calls its end.
+/// The trace of the scenario that the bytes are: a row of the memory at boot, and for each line
+/// that is shown its number, the line, what it answers, and the memory after each of its calls (own
+/// rule). A line that makes no record has a row of the memory, and below it the text that `hotplug
+/// serial` writes for it; so has a plan at its begin, and below the rows of its calls its end.
 ///
 /// An error is the first fault of the scenario, or out of memory, wherever that was; then there is no text.
 pub fn trace(alloc: Global, input: &[u8], view: View) -> Result<String, ScenarioFault>
@@ -57,7 +58,8 @@ fn trace_lines(
     scenario: &Scenario,
     view: View,
 ) -> Result<(), AllocError>
-    ensures { OnOk result (TracesLines view scenario.now.names.keys machine.old scenario.now.lines rows.old rows.new machine.new) }
+    ensures { OnOk result (TracesLines view scenario.now.names.keys machine.old scenario.now.lines rows.old
+        rows.new machine.new) }
 {
     let lines = scenario.lines.as_slice();
     for (index, line) in lines.iter().enumerate() {
@@ -77,7 +79,8 @@ fn trace_line(
     number: u64,
     line: &Line,
 ) -> Result<(), AllocError>
-    ensures { OnOk result (TracesLine view names.now.keys number machine.old line.now rows.old rows.new machine.new) }
+    ensures { OnOk result
+        (TracesLine view names.now.keys number machine.old line.now rows.old rows.new machine.new) }
 {
     let asked = numbered_text(alloc, names, number, line)?;
     if view.shows(number) {

@@ -13,7 +13,8 @@ use hp_units::{CallFault, Cpu, Event, OpEnd, Plan, Receipt};
 use indexmap::IndexSet;
 use std::alloc::{AllocError, Global};
 
-/// A processor of a machine, and the rows of its calls. It shows the processor's records of the machine as its receipts.
+/// A processor of a machine, and the rows of its calls. It shows the processor's records of the
+/// machine as its receipts.
 #[derive(Drop)]
 struct TracePort<'a> {
     machine: &'a mut Machine,
@@ -53,9 +54,13 @@ impl<'a> Port for TracePort<'a> {
 
     ghost shows = { λ p. port_value p.machine.now p.cpu p.fault };
 
-    ghost makes = { λ p gained q. (q.machine.ghost_name ≡ p.machine.ghost_name) × (q.rows.ghost_name ≡ p.rows.ghost_name) × (q.cpu ≡ p.cpu) × IsTraced p.cpu p.rows.now p.is_lost p.machine.now gained q.rows.now q.is_lost q.machine.now };
+    ghost makes = { λ p gained q. (q.machine.ghost_name ≡ p.machine.ghost_name)
+        × (q.rows.ghost_name ≡ p.rows.ghost_name) × (q.cpu ≡ p.cpu)
+        × IsTraced p.cpu p.rows.now p.is_lost p.machine.now gained q.rows.now q.is_lost q.machine.now };
 
-    ghost leaves = { λ p fault q. (q.machine.ghost_name ≡ p.machine.ghost_name) × (q.rows.ghost_name ≡ p.rows.ghost_name) × (q.machine.now ≡ p.machine.now) × (q.rows.now ≡ p.rows.now) × LeavesOff p.machine.now p.is_lost fault q.is_lost };
+    ghost leaves = { λ p fault q. (q.machine.ghost_name ≡ p.machine.ghost_name)
+        × (q.rows.ghost_name ≡ p.rows.ghost_name) × (q.machine.now ≡ p.machine.now)
+        × (q.rows.now ≡ p.rows.now) × LeavesOff p.machine.now p.is_lost fault q.is_lost };
 
     fn cpus(&self) -> u32 {
         self.machine.layout().cpus()
@@ -79,7 +84,14 @@ impl<'a> Port for TracePort<'a> {
 
     ghost nothing = { λ p. (refl, refl, refl, traced_nothing p.cpu p.rows.now p.is_lost p.machine.now) };
 
-    ghost joined = { λ p q r xs ys a b. (b.0 ∙ a.0, b.1 ∙ a.1, b.2 ∙ a.2, traced_joined p.cpu q.cpu xs ys p.rows.now q.rows.now r.rows.now p.is_lost q.is_lost r.is_lost p.machine.now q.machine.now r.machine.now a.2 a.3 b.3) };
+    ghost joined = { λ p q r xs ys a b. (
+      b.0 ∙ a.0,
+      b.1 ∙ a.1,
+      b.2 ∙ a.2,
+      traced_joined p.cpu q.cpu xs ys
+          p.rows.now q.rows.now r.rows.now p.is_lost q.is_lost r.is_lost p.machine.now q.machine.now
+          r.machine.now a.2 a.3 b.3,
+    ) };
 }
 
 /// Whether a call or a row was out of memory, given whether an earlier one was.
@@ -101,7 +113,9 @@ fn is_memory(fault: CallFault) -> bool
 
 /// Draws the row of a call of a plan, and answers whether there was memory for it.
 fn draw_step(rows: &mut Rows, alloc: Global, machine: &Machine, receipt: &Receipt) -> bool
-    ensures { IsTrue result → DrawsIf rows.old.is_on machine.now (step_text receipt.now.event) (answer_text receipt.now) rows.old rows.new }
+    ensures { IsTrue result
+        → DrawsIf rows.old.is_on machine.now (step_text receipt.now.event) (answer_text receipt.now) rows.old
+        rows.new }
 {
     match step_text(alloc, &receipt.event) {
         Ok(asked) => draw_receipt(rows, alloc, machine, asked.as_str(), receipt).is_ok(),
@@ -109,7 +123,8 @@ fn draw_step(rows: &mut Rows, alloc: Global, machine: &Machine, receipt: &Receip
     }
 }
 
-/// An event of a plan's driver, as a scenario has it, in the place of a line. It accesses no page, so it needs no owner's name.
+/// An event of a plan's driver, as a scenario has it, in the place of a line. It accesses no page,
+/// so it needs no owner's name.
 fn step_text(alloc: Global, event: &Event) -> Result<String, AllocError>
     ensures { IfOk result (λ text. string_bytes text ≡ step_text event.now) }
 {
@@ -118,7 +133,8 @@ fn step_text(alloc: Global, event: &Event) -> Result<String, AllocError>
     Ok(out)
 }
 
-/// Draws the row of a call: what was asked, its serial and its reply, and the memory after it. An error is out of memory.
+/// Draws the row of a call: what was asked, its serial and its reply, and the memory after it. An
+/// error is out of memory.
 pub(crate) fn draw_receipt(
     rows: &mut Rows,
     alloc: Global,
@@ -126,7 +142,8 @@ pub(crate) fn draw_receipt(
     asked: &str,
     receipt: &Receipt,
 ) -> Result<(), AllocError>
-    ensures { OnOk result (DrawsIf rows.old.is_on machine.now asked.now (answer_text receipt.now) rows.old rows.new) }
+    ensures { OnOk result
+        (DrawsIf rows.old.is_on machine.now asked.now (answer_text receipt.now) rows.old rows.new) }
 {
     let answer = answer_text(alloc, receipt)?;
     rows.draw(alloc, machine, asked, answer.as_str())
@@ -143,8 +160,8 @@ fn answer_text(alloc: Global, receipt: &Receipt) -> Result<String, AllocError>
     Ok(out)
 }
 
-/// Runs a plan's driver with at most `turns` migrations, with a row of the memory before it, a row for each of its calls, and
-/// how it ended. An error is out of memory.
+/// Runs a plan's driver with at most `turns` migrations, with a row of the memory before it, a row
+/// for each of its calls, and how it ended. An error is out of memory.
 pub(crate) fn trace_plan(
     rows: &mut Rows,
     alloc: Global,
@@ -154,7 +171,8 @@ pub(crate) fn trace_plan(
     turns: u32,
     asked: &str,
 ) -> Result<(), AllocError>
-    ensures { OnOk result (Adds rows.old rows.new (λ list. MakesPlan machine.old cpu turns plan.now asked.now list machine.new)) }
+    ensures { OnOk result (Adds rows.old rows.new
+        (λ list. MakesPlan machine.old cpu turns plan.now asked.now list machine.new)) }
 {
     rows.draw(alloc, machine, asked, "")?;
     let plan = plan.copy(alloc)?;
@@ -182,7 +200,8 @@ fn drive(
     plan: Plan,
     turns: u32,
 ) -> Result<OpEnd, AllocError>
-    ensures { IfOk result (λ end. Adds rows.old rows.new (λ list. IsDriven machine.old cpu turns plan end list machine.new)) }
+    ensures { IfOk result
+        (λ end. Adds rows.old rows.new (λ list. IsDriven machine.old cpu turns plan end list machine.new)) }
 {
     let mut port = TracePort::new(machine, cpu, rows);
     let end = run_plan(alloc, &mut port, plan, turns);

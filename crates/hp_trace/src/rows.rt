@@ -25,7 +25,8 @@ impl Model for Rows {
 
     ghost Value = { RowsValue };
 
-    ghost view = { λ r. record { text = string_bytes r.text; shown = r.shown.items; is_on = r.is_on; is_wide = r.is_wide } };
+    ghost view = { λ r.
+        record { text = string_bytes r.text; shown = r.shown.items; is_on = r.is_on; is_wide = r.is_wide } };
 }
 
 impl Rows {
@@ -41,7 +42,8 @@ impl Rows {
         }
     }
 
-    /// From now on with only the memory blocks that changed, where the text so far, one row, takes more columns.
+    /// From now on with only the memory blocks that changed, where the text so far, one row, takes
+    /// more columns.
     pub(crate) fn fit(&mut self, width: u64)
         ensures { self.new ≡ fitted width self.old }
     {
@@ -58,7 +60,8 @@ impl Rows {
         self.text.push_str(text)
     }
 
-    /// Writes a row, where rows are on: what was asked, what was answered, and the machine's memory. An error is out of memory.
+    /// Writes a row, where rows are on: what was asked, what was answered, and the machine's
+    /// memory. An error is out of memory.
     pub(crate) fn draw(
         &mut self,
         alloc: Global,
@@ -96,7 +99,8 @@ impl Rows {
         Ok(())
     }
 
-    /// Writes a row without an answer, and below it a text of lines, where rows are on. An error is out of memory.
+    /// Writes a row without an answer, and below it a text of lines, where rows are on. An error is
+    /// out of memory.
     pub(crate) fn note(
         &mut self,
         alloc: Global,
@@ -126,12 +130,14 @@ impl Rows {
 
 /// Writes what was asked, what was answered, and the memory.
 fn write_row(out: &mut String, asked: &str, answer: &str, memory: &str) -> Result<(), AllocError>
-    ensures { OnOk result (string_bytes out.new ≡ string_bytes out.old ++ row_text asked.now answer.now memory.now) }
+    ensures { OnOk result
+        (string_bytes out.new ≡ string_bytes out.old ++ row_text asked.now answer.now memory.now) }
 {
     writeln!(out, "{asked:<29} {answer:<25}{memory}")
 }
 
-/// A memory as a row has it: its memory blocks, or a sign where only those that changed are drawn and none did.
+/// A memory as a row has it: its memory blocks, or a sign where only those that changed are drawn
+/// and none did.
 fn memory_text(
     alloc: Global,
     is_wide: bool,
@@ -155,7 +161,8 @@ fn write_blocks(
     before: &[Text],
     blocks: &[Text],
 ) -> Result<(), AllocError>
-    ensures { OnOk result (string_bytes out.new ≡ string_bytes out.old ++ blocks_text is_wide before.now blocks.now) }
+    ensures { OnOk result
+        (string_bytes out.new ≡ string_bytes out.old ++ blocks_text is_wide before.now blocks.now) }
 {
     for (number, block) in blocks.iter().enumerate() {
         write_spaced(out, is_left_out(is_wide, before, number, block), block)?;

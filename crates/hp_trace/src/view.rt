@@ -11,8 +11,8 @@ pub struct View {
     pub to: u64,
     /// One line of so many is shown, from the first on; each where it is 0 or 1.
     pub every: u64,
-    /// The columns of a row. Where the row of the memory at boot takes more, each later row has only the memory blocks that
-    /// changed since the row above it.
+    /// The columns of a row. Where the row of the memory at boot takes more, each later row has
+    /// only the memory blocks that changed since the row above it.
     pub width: u64,
 }
 

@@ -1,5 +1,6 @@
 mod Limits
 mod Script
 mod Worked
+mod WorkedBlocks
 mod WorkedHistories
 mod WorkedRuns

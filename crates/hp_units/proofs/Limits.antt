@@ -17,11 +17,14 @@ holds : {A : Type 0} (test : Bool) (fault : A) → then_some (not test) fault �
 holds true fault e = refl
 holds false fault e = absurd cc
 
-first : {A : Type 0} (test : Bool) (fault : A) (rest : Option A) → option_or (then_some (not test) fault) rest ≡ None → (test ≡ true) × (rest ≡ None)
-first test fault rest e = let both = neither (then_some (not test) fault) rest e in (holds test fault both.0, both.1)
+first : {A : Type 0} (test : Bool) (fault : A) (rest : Option A)
+    → option_or (then_some (not test) fault) rest ≡ None → (test ≡ true) × (rest ≡ None)
+first test fault rest e =
+    let both = neither (then_some (not test) fault) rest e in (holds test fault both.0, both.1)
 
 within : (low high n : ℕ) → is_within low high n ≡ true → (low ≤ n) × (n ≤ high)
-within low high n e = let both = and_parts (nat_le low n) (nat_le n high) e in (leb-true low n both.0, leb-true n high both.1)
+within low high n e =
+    let both = and_parts (nat_le low n) (nat_le n high) e in (leb-true low n both.0, leb-true n high both.1)
 
 -- one of two tests holds
 one_of : (a b : Bool) → (a || b) ≡ true → (a ≡ true) ⊎ (b ≡ true)
@@ -31,11 +34,53 @@ one_of false b e = inr e
 -- the exponent of a number of pageblocks
 exponent : (n : ℕ) → is_pageblock_count n ≡ true → (k : ℕ) × (k ≤ 6) × (n ≡ 2 ^ k)
 exponent n more =
-    elim (one_of (n == 1) ((n == 2) || ((n == 4) || ((n == 8) || ((n == 16) || ((n == 32) || ((n == 64) || false)))))) more) [ inl is ↦ (0, omega arith, eqb-true n 1 is) | inr more ↦ elim (one_of (n == 2) ((n == 4) || ((n == 8) || ((n == 16) || ((n == 32) || ((n == 64) || false))))) more) [ inl is ↦ (1, omega arith, eqb-true n 2 is) | inr more ↦ elim (one_of (n == 4) ((n == 8) || ((n == 16) || ((n == 32) || ((n == 64) || false)))) more) [ inl is ↦ (2, omega arith, eqb-true n 4 is) | inr more ↦ elim (one_of (n == 8) ((n == 16) || ((n == 32) || ((n == 64) || false))) more) [ inl is ↦ (3, omega arith, eqb-true n 8 is) | inr more ↦ elim (one_of (n == 16) ((n == 32) || ((n == 64) || false)) more) [ inl is ↦ (4, omega arith, eqb-true n 16 is) | inr more ↦ elim (one_of (n == 32) ((n == 64) || false) more) [ inl is ↦ (5, omega arith, eqb-true n 32 is) | inr more ↦ elim (one_of (n == 64) false more) [ inl is ↦ (6, omega arith, eqb-true n 64 is) | inr more ↦ absurd (false≢true more) ] ] ] ] ] ] ]
+    elim (one_of (n == 1)
+    ((n == 2) || ((n == 4) || ((n == 8) || ((n == 16) || ((n == 32) || ((n == 64) || false)))))) more) [
+      | inl
+          is ↦ (
+            0,
+            omega
+                arith,
+            eqb-true n 1 is,
+          )
+      | inr more ↦ elim (one_of (n == 2)
+          ((n == 4) || ((n == 8) || ((n == 16) || ((n == 32) || ((n == 64) || false))))) more) [
+            | inl
+                is ↦ (1, omega arith, eqb-true n 2 is)
+            | inr
+                more ↦ elim (one_of (n == 4) ((n == 8) || ((n == 16) || ((n == 32) || ((n == 64) || false))))
+                more) [
+                  | inl is ↦ (2, omega arith, eqb-true n 4 is)
+                  | inr more ↦
+                      elim (one_of (n == 8) ((n == 16) || ((n == 32) || ((n == 64) || false))) more) [
+                        | inl is ↦ (3, omega arith, eqb-true n 8 is)
+                        | inr more ↦
+                            elim (one_of (n == 16) ((n == 32) || ((n == 64) || false)) more) [
+                              | inl is ↦ (
+                                4,
+                                omega
+                                    arith,
+                                eqb-true n 16 is,
+                              )
+                              | inr more ↦ elim (one_of (n == 32) ((n == 64) || false)
+                                  more) [
+                                    | inl is ↦ (5, omega arith, eqb-true n 32 is)
+                                    | inr
+                                        more ↦ elim (one_of (n == 64) false more) [
+                                          | inl is ↦ (6, omega arith, eqb-true n 64 is)
+                                          | inr more ↦ absurd (false≢true more)
+                                        ]
+                                  ]
+                            ]
+                      ]
+                ]
+          ]
+    ]
 
 pub within_limits : (l : LayoutParts) → layout_fault l ≡ None → IsLayout l
 within_limits l none =
-    let parts = neither (frame_fault l) (option_or (processor_fault l) (option_or (owner_fault l) None)) none in
+    let parts =
+    neither (frame_fault l) (option_or (processor_fault l) (option_or (owner_fault l) None)) none in
     let more = neither (processor_fault l) (option_or (owner_fault l) None) parts.1 in
     let last = neither (owner_fault l) None more.1 in
     let order = first (is_within 0 10 l.order) BadOrder _ parts.0 in

@@ -26,14 +26,22 @@ next_serial before earlier = before + length earlier + 1
 
 -- opens every definition
 unfoldable pub everything : Unit {0}
-unfolding take_block give_block steal_block take_frames take_one put_one drain_lists move_pageblock online_block begin_plan commit_blocks release_blocks refusal_of kernel_takes kernel_gives map_step unmap_step migrate_step step sole_at steps_until count_above net_with net_of run value_of reply_of boot_memory
+unfolding take_block give_block steal_block take_frames take_one put_one drain_lists move_pageblock
+    online_block begin_plan commit_blocks release_blocks refusal_of kernel_takes kernel_gives map_step
+    unmap_step migrate_step step sole_at steps_until count_above net_with net_of run value_of reply_of
+    boot_memory
 everything = tt
 
 -- the history that calls lead to, after the earlier records
 abbrev pub played : LayoutParts → Memory → ℕ → List Record → List (ℕ × Event) → List Record
 played l base before earlier [] = earlier
 played l base before earlier (call ∷ calls) =
-    played l base before (earlier ++ record { serial = next_serial before earlier; cpu = call.0; event = call.1; reply = reply_of l base before earlier call.0 call.1 } ∷ []) calls
+    played l base before (earlier ++ record {
+      serial = next_serial before earlier;
+      cpu = call.0;
+      event = call.1;
+      reply = reply_of l base before earlier call.0 call.1;
+    } ∷ []) calls
 
 abbrev pub replies_of : List Record → List Reply
 replies_of history = map (λ r. r.reply) history
@@ -46,10 +54,14 @@ abbrev pub cached : ℕ → Pool → List ℕ → Memory → Memory
 cached cpu pool frames s = record s { free = with_cached_list s.free cpu pool frames }
 
 abbrev pub unmovable : ℕ → Memory → Memory
-unmovable pageblock s = with_areas s (with_kind s.free.areas pageblock (record (kind_of s.free.areas pageblock) { mobility = Unmovable }))
+unmovable pageblock s =
+    with_areas s
+    (with_kind s.free.areas pageblock (record (kind_of s.free.areas pageblock) { mobility = Unmovable }))
 
 abbrev pub isolated : ℕ → Memory → Memory
-isolated pageblock s = with_areas s (with_kind s.free.areas pageblock (record (kind_of s.free.areas pageblock) { isolated = true }))
+isolated pageblock s =
+    with_areas s
+    (with_kind s.free.areas pageblock (record (kind_of s.free.areas pageblock) { isolated = true }))
 
 abbrev pub kernel : ℕ → ℕ → Memory → Memory
 kernel frame order s = with_kernel_order s frame (Some order)
@@ -71,7 +83,8 @@ abbrev pub online : Zone → Row
 online zone = record { state = OnlineState; zone = Some zone; claim = None }
 
 abbrev pub going : Zone → ℕ → Row
-going zone op = record { state = GoingState; zone = Some zone; claim = Some (record { op = op; wish = OffWish }) }
+going zone op =
+    record { state = GoingState; zone = Some zone; claim = Some (record { op = op; wish = OffWish }) }
 
 abbrev pub absent : Row
 absent = record { state = AbsentState; zone = None; claim = None }
@@ -94,15 +107,23 @@ abbrev pub sealed_replies : LayoutParts → List (ℕ × Event) → List (ℕ ×
 sealed_replies l first calls = replies_of (sealed_history l first calls)
 
 -- a history after a driver's run of a plan, and the receipts of the run: each event is the one that is next
-abbrev pub driven_on : (fuel : ℕ) → LayoutParts → Memory → (cpu turns : ℕ) → List Item → List Record → List Receipt → Option Event → List Record × List Receipt
+abbrev pub driven_on : (fuel : ℕ) → LayoutParts → Memory → (cpu turns : ℕ) → List Item → List Record
+    → List Receipt → Option Event → List Record × List Receipt
 driven_on zero l base cpu turns plan earlier receipts next = (earlier, receipts)
 driven_on (suc fuel) l base cpu turns plan earlier receipts None = (earlier, receipts)
 driven_on (suc fuel) l base cpu turns plan earlier receipts (Some event) =
-    let r : Record = record { serial = next_serial 0 earlier; cpu = cpu; event = event; reply = reply_of l base 0 earlier cpu event } in
+    let r : Record =
+    record {
+      serial = next_serial 0 earlier;
+      cpu = cpu;
+      event = event;
+      reply = reply_of l base 0 earlier cpu event;
+    } in
     let more = receipts ++ receipt_of r ∷ [] in
     driven_on fuel l base cpu turns plan (earlier ++ r ∷ []) more (next_event l.cpus turns plan more)
 
-abbrev pub driven : LayoutParts → Memory → (cpu turns : ℕ) → List Item → List Record → List Record × List Receipt
+abbrev pub driven : LayoutParts → Memory → (cpu turns : ℕ) → List Item → List Record
+    → List Record × List Receipt
 driven l base cpu turns plan earlier = driven_on 50 l base cpu turns plan earlier [] (Some (Begin plan))
 
 -- each frame is in one place

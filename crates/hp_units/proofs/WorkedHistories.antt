@@ -15,35 +15,41 @@ abbrev coming_3 : List Item
 coming_3 = record { block = 3; wish = MovableWish } ∷ []
 
 -- what is read and what is refused inside an operation does not keep its Cancel from restoring
-reads_inside : replies_on small ((0, Map 0 0) ∷ (0, Begin off_2) ∷ (1, Read 0 0 0) ∷ (1, Read 0 7 0) ∷ (0, Cancel 2) ∷ [])
+reads_inside : replies_on small
+    ((0, Map 0 0) ∷ (0, Begin off_2) ∷ (1, Read 0 0 0) ∷ (1, Read 0 7 0) ∷ (0, Cancel 2) ∷ [])
     ≡ (Done ∷ Opened 2 ∷ Word 0 ∷ Refused NotMapped ∷ Restored ∷ [])
 unfolding everything
 reads_inside = refl
 
 -- nor does a step of another that was undone in the meantime
-undone_inside : replies_on small ((0, Map 0 0) ∷ (0, Begin off_2) ∷ (1, Write 0 0 0 7) ∷ (1, UndoAfter 2) ∷ (0, Cancel 2) ∷ [])
+undone_inside : replies_on small
+    ((0, Map 0 0) ∷ (0, Begin off_2) ∷ (1, Write 0 0 0 7) ∷ (1, UndoAfter 2) ∷ (0, Cancel 2) ∷ [])
     ≡ (Done ∷ Opened 2 ∷ Done ∷ Undone 1 ∷ Restored ∷ [])
 unfolding everything
 undone_inside = refl
 
 -- two operations: the inner one restores, and then the outer one
-nested_operations : replies_on small ((0, Begin off_2) ∷ (0, Begin coming_3) ∷ (0, DrainFor 2 0) ∷ (0, Cancel 2) ∷ (0, DrainFor 1 0) ∷ (0, Cancel 1) ∷ [])
+nested_operations : replies_on small ((0, Begin off_2) ∷ (0, Begin coming_3) ∷ (0, DrainFor 2 0)
+    ∷ (0, Cancel 2) ∷ (0, DrainFor 1 0) ∷ (0, Cancel 1) ∷ [])
     ≡ (Opened 1 ∷ Opened 2 ∷ Done ∷ Restored ∷ Done ∷ Restored ∷ [])
 unfolding everything
 nested_operations = refl
 
-nested_value : value_on small ((0, Begin off_2) ∷ (0, Begin coming_3) ∷ (0, DrainFor 2 0) ∷ (0, Cancel 2) ∷ (0, DrainFor 1 0) ∷ (0, Cancel 1) ∷ []) ≡ boot_memory small
+nested_value : value_on small ((0, Begin off_2) ∷ (0, Begin coming_3) ∷ (0, DrainFor 2 0) ∷ (0, Cancel 2)
+    ∷ (0, DrainFor 1 0) ∷ (0, Cancel 1) ∷ []) ≡ boot_memory small
 unfolding everything
 nested_value = refl
 
 -- the outer one first: both are released, and the second Cancel of one finds nothing
-crossed_operations : replies_on small ((0, Begin off_2) ∷ (0, Begin coming_3) ∷ (0, Cancel 1) ∷ (0, Cancel 2) ∷ (0, Cancel 2) ∷ [])
+crossed_operations : replies_on small
+    ((0, Begin off_2) ∷ (0, Begin coming_3) ∷ (0, Cancel 1) ∷ (0, Cancel 2) ∷ (0, Cancel 2) ∷ [])
     ≡ (Opened 1 ∷ Opened 2 ∷ Released ∷ Released ∷ Refused NoOp ∷ [])
 unfolding everything
 crossed_operations = refl
 
 -- a drain of another operation is a step of another
-foreign_drain : replies_on small ((0, Begin coming_3) ∷ (0, Begin off_2) ∷ (0, DrainFor 1 0) ∷ (0, Cancel 2) ∷ [])
+foreign_drain : replies_on small
+    ((0, Begin coming_3) ∷ (0, Begin off_2) ∷ (0, DrainFor 1 0) ∷ (0, Cancel 2) ∷ [])
     ≡ (Opened 1 ∷ Opened 2 ∷ Done ∷ Released ∷ [])
 unfolding everything
 foreign_drain = refl
@@ -54,34 +60,42 @@ undo_stays : replies_on small ((0, KernelAlloc 1) ∷ (0, UndoAfter 0) ∷ (0, U
 unfolding everything
 undo_stays = refl
 
-undo_stays_value : value_on small ((0, KernelAlloc 1) ∷ (0, UndoAfter 0) ∷ (0, UndoAfter 1) ∷ []) ≡ boot_memory small
+undo_stays_value : value_on small ((0, KernelAlloc 1) ∷ (0, UndoAfter 0) ∷ (0, UndoAfter 1) ∷ [])
+    ≡ boot_memory small
 unfolding everything
 undo_stays_value = refl
 
--- a release that is undone leaves the operation live, and an undo counts the steps that are left above its serial
-release_undone : replies_on small ((0, Map 0 0) ∷ (0, Begin off_2) ∷ (1, Write 0 0 1 5) ∷ (0, Cancel 2) ∷ (0, UndoAfter 3) ∷ (0, DrainFor 2 0) ∷ (0, UndoAfter 1) ∷ [])
+-- a release that is undone leaves the operation live, and an undo counts the steps that are left
+-- above its serial
+release_undone : replies_on small ((0, Map 0 0) ∷ (0, Begin off_2) ∷ (1, Write 0 0 1 5) ∷ (0, Cancel 2)
+    ∷ (0, UndoAfter 3) ∷ (0, DrainFor 2 0) ∷ (0, UndoAfter 1) ∷ [])
     ≡ (Done ∷ Opened 2 ∷ Done ∷ Released ∷ Undone 1 ∷ Done ∷ Undone 3 ∷ [])
 unfolding everything
 release_undone = refl
 
-release_undone_value : value_on small ((0, Map 0 0) ∷ (0, Begin off_2) ∷ (1, Write 0 0 1 5) ∷ (0, Cancel 2) ∷ (0, UndoAfter 3) ∷ (0, DrainFor 2 0) ∷ (0, UndoAfter 1) ∷ []) ≡ value_on small ((0, Map 0 0) ∷ [])
+release_undone_value : value_on small ((0, Map 0 0) ∷ (0, Begin off_2) ∷ (1, Write 0 0 1 5) ∷ (0, Cancel 2)
+    ∷ (0, UndoAfter 3) ∷ (0, DrainFor 2 0) ∷ (0, UndoAfter 1) ∷ []) ≡ value_on small ((0, Map 0 0) ∷ [])
 unfolding everything
 release_undone_value = refl
 
 -- the caller's processor comes before all else
-no_processor : replies_on small ((2, UndoAfter 99) ∷ (2, Cancel 1) ∷ (2, Read 0 0 0) ∷ (0, UndoAfter 99) ∷ (0, Cancel 1) ∷ [])
+no_processor : replies_on small
+    ((2, UndoAfter 99) ∷ (2, Cancel 1) ∷ (2, Read 0 0 0) ∷ (0, UndoAfter 99) ∷ (0, Cancel 1) ∷ [])
     ≡ (Refused NoCpu ∷ Refused NoCpu ∷ Refused NoCpu ∷ Refused Gone ∷ Refused NoOp ∷ [])
 unfolding everything
 no_processor = refl
 
 -- texts: words, and after them numbers in decimal
-refusal_is_written : (frame : ℕ) → reply_text (Refused (NotFree frame)) ≡ codes "refused NotFree " ++ decimal frame
+refusal_is_written : (frame : ℕ)
+    → reply_text (Refused (NotFree frame)) ≡ codes "refused NotFree " ++ decimal frame
 refusal_is_written frame = refl
 
-unmovable_is_written : (frame : ℕ) → reply_text (Refused (HoldsUnmovable frame)) ≡ codes "refused Unmovable " ++ decimal frame
+unmovable_is_written : (frame : ℕ)
+    → reply_text (Refused (HoldsUnmovable frame)) ≡ codes "refused Unmovable " ++ decimal frame
 unmovable_is_written frame = refl
 
-move_is_written : (from to : ℕ) → reply_text (Moved from to) ≡ codes "moved " ++ decimal from ++ codes " " ++ decimal to
+move_is_written : (from to : ℕ)
+    → reply_text (Moved from to) ≡ codes "moved " ++ decimal from ++ codes " " ++ decimal to
 move_is_written from to = refl
 
 isolated_is_written : class_text IsoM ≡ codes "IM"

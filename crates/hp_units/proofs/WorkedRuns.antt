@@ -19,7 +19,8 @@ abbrev full : List Record
 full = played small (boot_memory small) 0 [] ((0, KernelAlloc 2) ∷ (0, KernelAlloc 2) ∷ (0, Map 0 0) ∷ [])
 
 -- no frame to move to: cancelled after two turns, which restores
-full_end : end_of (driven small (boot_memory small) 0 2 off_2 full).1 ≡ Some (EndsCancelled (Some NoFrame) true)
+full_end : end_of (driven small (boot_memory small) 0 2 off_2 full).1
+    ≡ Some (EndsCancelled (Some NoFrame) true)
 unfolding everything
 full_end = refl
 
@@ -27,7 +28,8 @@ full_length : length (driven small (boot_memory small) 0 2 off_2 full).0 ≡ 13
 unfolding everything
 full_length = refl
 
-full_value : value_of small (boot_memory small) (driven small (boot_memory small) 0 2 off_2 full).0 ≡ value_of small (boot_memory small) full
+full_value : value_of small (boot_memory small) (driven small (boot_memory small) 0 2 off_2 full).0
+    ≡ value_of small (boot_memory small) full
 unfolding everything
 full_value = refl
 
@@ -66,11 +68,13 @@ booted_is_placed : is_placed small (boot_memory small) ≡ true
 unfolding everything
 booted_is_placed = refl
 
-used_is_placed : is_placed small (value_on small ((0, Map 0 0) ∷ (1, KernelAlloc 0) ∷ (0, KernelAlloc 1) ∷ (0, Begin off_2) ∷ [])) ≡ true
+used_is_placed : is_placed small
+    (value_on small ((0, Map 0 0) ∷ (1, KernelAlloc 0) ∷ (0, KernelAlloc 1) ∷ (0, Begin off_2) ∷ [])) ≡ true
 unfolding everything
 used_is_placed = refl
 
-offline_is_placed : is_placed small (value_on small ((0, Map 0 0) ∷ (0, Begin off_2) ∷ (0, Migrate 2) ∷ (0, DrainFor 2 0) ∷ (0, Commit 2) ∷ [])) ≡ true
+offline_is_placed : is_placed small (value_on small
+    ((0, Map 0 0) ∷ (0, Begin off_2) ∷ (0, Migrate 2) ∷ (0, DrainFor 2 0) ∷ (0, Commit 2) ∷ [])) ≡ true
 unfolding everything
 offline_is_placed = refl
 
@@ -85,7 +89,8 @@ written =
     ∷ record { serial = 6; cpu = 0; event = Unmap 1 3; reply = Done }
     ∷ []
 
-written_contents : contents_of_net small (boot_memory small).pages.contents written ≡ (run small (boot_memory small) written).pages.contents
+written_contents : contents_of_net small (boot_memory small).pages.contents written
+    ≡ (run small (boot_memory small) written).pages.contents
 unfolding everything
 written_contents = refl
 

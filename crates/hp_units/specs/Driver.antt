@@ -1,4 +1,5 @@
--- What one run of a plan's driver is: each event follows from the receipts so far, and the end from all of them.
+-- What one run of a plan's driver is: each event follows from the receipts so far, and the end from
+-- all of them.
 use Rattle.std.specs.Prelude.{◌≡◌, ℕ, ◌+◌, Bool, true, false, List, [], ◌∷◌, ◌++◌, Option, Some, None, nat_lt, count_by, fold, if◌then◌else◌}
 use Rattle.std.specs.List.{last_or}
 use Rattle.std.specs.Option.{option_map_or, option_and_then}
@@ -19,23 +20,26 @@ migrate_or_cancel turns op receipts = if nat_lt (tried receipts) turns then Migr
 
 -- the drain of a round for a processor, or after the last one a turn
 abbrev pub next_drain : (cpus turns : ℕ) (op : Serial) (cpu : Cpu) → List Receipt → Event
-next_drain cpus turns op cpu receipts = if nat_lt cpu cpus then DrainFor op cpu else migrate_or_cancel turns op receipts
+next_drain cpus turns op cpu receipts =
+    if nat_lt cpu cpus then DrainFor op cpu else migrate_or_cancel turns op receipts
 
--- the event after one that was answered, if the run goes on: after Opened, NoFrame and NotFree a round of drains,
--- after a full round and Moved a turn, and after NothingToMove a commit (own rule)
+-- the event after one that was answered, if the run goes on: after Opened, NoFrame and NotFree a
+-- round of drains, after a full round and Moved a turn, and after NothingToMove a commit (own rule)
 abbrev pub next_after : (cpus turns : ℕ) → List Receipt → Event → Reply → Option Event
 next_after cpus turns receipts (Begin plan) (Opened op) = Some (next_drain cpus turns op 0 receipts)
 next_after cpus turns receipts (DrainFor op cpu) Done = Some (next_drain cpus turns op (cpu + 1) receipts)
 next_after cpus turns receipts (Migrate op) (Moved from to) = Some (migrate_or_cancel turns op receipts)
 next_after cpus turns receipts (Migrate op) (Refused NoFrame) = Some (next_drain cpus turns op 0 receipts)
 next_after cpus turns receipts (Migrate op) (Refused NothingToMove) = Some (Commit op)
-next_after cpus turns receipts (Commit op) (Refused (NotFree frame)) = Some (next_drain cpus turns op 0 receipts)
+next_after cpus turns receipts (Commit op) (Refused (NotFree frame)) =
+    Some (next_drain cpus turns op 0 receipts)
 next_after cpus turns receipts event reply = None
 
 -- the event after the receipts so far
 abbrev pub next_event : (cpus turns : ℕ) → List Item → List Receipt → Option Event
 next_event cpus turns plan receipts =
-    option_map_or (λ r. next_after cpus turns receipts r.event r.reply) (last_or None receipts) (Some (Begin plan))
+    option_map_or (λ r. next_after cpus turns receipts r.event r.reply) (last_or None receipts)
+    (Some (Begin plan))
 
 -- the last refusal of a migration or a commit
 abbrev pub cause_after : Option Refusal → Event → Reply → Option Refusal
@@ -73,7 +77,8 @@ AllNext cpus turns plan earlier [] = Unit {0}
 AllNext cpus turns plan earlier (r ∷ rs) =
     (next_event cpus turns plan earlier ≡ Some r.event) × AllNext cpus turns plan (earlier ++ r ∷ []) rs
 
--- the end that receipts and the fault of the last call make: a fault where an event was still to come (own rule)
+-- the end that receipts and the fault of the last call make: a fault where an event was still to
+-- come (own rule)
 abbrev pub Ends : List Receipt → Option Event → Option CallFault → OpEnd → Type 0
 Ends receipts (Some event) (Some fault) end = end ≡ EndsLeft (operation_of receipts) fault
 Ends receipts (Some event) None end = ⊥
@@ -81,6 +86,7 @@ Ends receipts None (Some fault) end = ⊥
 Ends receipts None None end = end_of receipts ≡ Some end
 
 -- the receipts of one run, and its end
-pub record IsDriverRun (cpus turns : ℕ) (plan : List Item) (receipts : List Receipt) (fault : Option CallFault) (end : OpEnd) : Type 0 where
+pub record IsDriverRun (cpus turns : ℕ) (plan : List Item) (receipts : List Receipt)
+    (fault : Option CallFault) (end : OpEnd) : Type 0 where
   pub events : AllNext cpus turns plan [] receipts
   pub ends : Ends receipts (next_event cpus turns plan receipts) fault end

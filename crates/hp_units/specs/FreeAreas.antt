@@ -43,29 +43,38 @@ abbrev pub order_or : List Frame → Order → Option Order → Option Order
 order_or [] order other = other
 order_or (frame ∷ frames) order other = Some order
 
--- the least order from the first on, of so many orders, at which a class has a free block (Knuth, volume 1, section 2.5, reservation)
+-- the least order from the first on, of so many orders, at which a class has a free block (Knuth,
+-- volume 1, section 2.5, reservation)
 abbrev pub least_order : FreeAreas → Class → (first : Order) (count : ℕ) → Option Order
 least_order a class first zero = None
-least_order a class first (suc count) = order_or (free_list a class first) first (least_order a class (suc first) count)
+least_order a class first (suc count) =
+    order_or (free_list a class first) first (least_order a class (suc first) count)
 
--- the greatest of so many orders from the first on at which a class has a free block (Gorman, chapter 6: fallback takes the largest block)
+-- the greatest of so many orders from the first on at which a class has a free block (Gorman,
+-- chapter 6: fallback takes the largest block)
 abbrev pub greatest_order : FreeAreas → Class → (first : Order) (count : ℕ) → Option Order
 greatest_order a class first zero = None
-greatest_order a class first (suc count) = order_or (free_list a class (first + count)) (first + count) (greatest_order a class first count)
+greatest_order a class first (suc count) =
+    order_or (free_list a class (first + count)) (first + count) (greatest_order a class first count)
 
--- the areas with the upper halves that a block leaves when it is split down by so many orders to the last one:
--- one half of each of these orders, at the front of its list (Knuth, volume 1, section 2.5, reservation)
+-- the areas with the upper halves that a block leaves when it is split down by so many orders to
+-- the last one: one half of each of these orders, at the front of its list (Knuth, volume 1,
+-- section 2.5, reservation)
 abbrev pub with_halves : FreeAreas → Class → (frame : Frame) (last : Order) (count : ℕ) → FreeAreas
 with_halves a class frame last zero = a
 with_halves a class frame last (suc count) =
     with_front (with_halves a class frame (suc last) count) class last (frame + 2 ^ last)
 
--- the first of the frames on a class's list of an order leaves, and what is left of its block over the order wanted
--- is put on the lists of a class
+-- the first of the frames on a class's list of an order leaves, and what is left of its block over
+-- the order wanted is put on the lists of a class
 abbrev pub take_first : FreeAreas → (class rest : Class) → (order wanted : Order) → List Frame → Option Taken
 take_first a class rest order wanted [] = None
 take_first a class rest order wanted (frame ∷ frames) =
-    Some (record { areas = with_halves (with_free_list a class order frames) rest frame wanted (order - wanted); frame = frame })
+    Some (record {
+      areas =
+          with_halves (with_free_list a class order frames) rest frame wanted (order - wanted);
+      frame = frame;
+    })
 
 abbrev pub take_front : FreeAreas → (class rest : Class) → (order wanted : Order) → Option Taken
 take_front a class rest order wanted = take_first a class rest order wanted (free_list a class order)
@@ -74,7 +83,8 @@ take_front a class rest order wanted = take_first a class rest order wanted (fre
 -- (Knuth, volume 1, section 2.5, reservation; which end of the list is own)
 unfoldable pub take_block : LayoutParts → FreeAreas → Class → Order → Option Taken
 take_block l a class wanted =
-    option_and_then (λ order. take_front a class class order wanted) (least_order a class wanted (l.order + 1 - wanted))
+    option_and_then (λ order. take_front a class class order wanted)
+    (least_order a class wanted (l.order + 1 - wanted))
 
 -- the order that a free block joins up to, from an order on, looking at so many orders:
 -- the least at which its buddy isn't free, or else the last (Knuth, volume 1, section 2.5, liberation)
@@ -84,14 +94,17 @@ join_order a class frame order (suc count) =
     let joined = join_order a class frame (suc order) count in
     if is_on (buddy (ancestor frame order) order) (free_list a class order) then joined else order
 
--- the areas without the frame's buddies of so many orders, from an order on (Knuth, volume 1, section 2.5, liberation)
+-- the areas without the frame's buddies of so many orders, from an order on (Knuth, volume 1,
+-- section 2.5, liberation)
 abbrev pub without_buddies : FreeAreas → Class → (frame : Frame) (order : Order) (count : ℕ) → FreeAreas
 without_buddies a class frame order zero = a
 without_buddies a class frame order (suc count) =
-    without_free (without_buddies a class frame order count) class (order + count) (buddy (ancestor frame (order + count)) (order + count))
+    without_free (without_buddies a class frame order count) class (order + count)
+    (buddy (ancestor frame (order + count)) (order + count))
 
--- a block comes back: it joins with its buddies as far as they are free in the class that its pageblock shows,
--- and goes to the front of its list (Knuth, volume 1, section 2.5, liberation; that a pageblock isn't crossed is own)
+-- a block comes back: it joins with its buddies as far as they are free in the class that its
+-- pageblock shows, and goes to the front of its list (Knuth, volume 1, section 2.5, liberation;
+-- that a pageblock isn't crossed is own)
 unfoldable pub give_block : LayoutParts → FreeAreas → Zone → (frame : Frame) (order : Order) → FreeAreas
 give_block l a zone frame order =
     let class = class_of l a zone frame in
@@ -106,15 +119,19 @@ other_mobility Movable = Unmovable
 -- what was taken, with the mobility of its pageblock changed
 abbrev pub with_mobility : LayoutParts → Mobility → Taken → Taken
 with_mobility l mobility taken =
-    record taken { areas = with_kind taken.areas (pageblock_of l taken.frame) (record (kind_of taken.areas (pageblock_of l taken.frame)) { mobility = mobility }) }
+    record taken {
+      areas = with_kind taken.areas (pageblock_of l taken.frame)
+          (record (kind_of taken.areas (pageblock_of l taken.frame)) { mobility = mobility });
+    }
 
--- the front block of an order of the other mobility: a whole pageblock takes the mobility wanted, and then its rest does;
--- otherwise the rest stays where it was
+-- the front block of an order of the other mobility: a whole pageblock takes the mobility wanted,
+-- and then its rest does; otherwise the rest stays where it was
 abbrev pub steal_front : LayoutParts → FreeAreas → Mobility → (order wanted : Order) → Option Taken
 steal_front l a mobility order wanted =
     let from = usable_class NormalZone (other_mobility mobility) in
     if order == l.order
-    then option_map (with_mobility l mobility) (take_front a from (usable_class NormalZone mobility) order wanted)
+    then option_map (with_mobility l mobility)
+    (take_front a from (usable_class NormalZone mobility) order wanted)
     else take_front a from from order wanted
 
 -- a block for a mobility of zone Normal, stolen from the other mobility: of the greatest order that has one

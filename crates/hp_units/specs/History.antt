@@ -1,5 +1,6 @@
--- Whole histories: which steps count, the state that they lead to, and which histories there can be.
--- A history is the list of records since a base state, oldest first, and `before` is the number of all earlier records.
+-- Whole histories: which steps count, the state that they lead to, and which histories there can
+-- be. A history is the list of records since a base state, oldest first, and `before` is the number
+-- of all earlier records.
 use Rattle.std.specs.Prelude.{ℕ, ◌≡◌, ◌+◌, Bool, true, false, ◌||◌, if◌then◌else◌, List, [], ◌∷◌, ◌++◌, Option, Some, None, length, take, map, filter, count_by, fold, nat_lt, nat_le, slice_get}
 use Rattle.hp_numbers.specs.Numbers.{Cpu, Serial}
 use Rattle.hp_units.specs.Names.{Event, Read, Cancel, UndoAfter, Reply, Restored, Undone, Refused, NoCpu, Gone, Record}
@@ -57,7 +58,8 @@ abbrev pub cut_or_add : List Record → Record → Option ℕ → List Record
 cut_or_add net r (Some place) = take place net
 cut_or_add net r None = net ++ r ∷ []
 
--- the net after one more record that was not refused, by the effect of its event: a sole Cancel drops its operation's steps
+-- the net after one more record that was not refused, by the effect of its event: a sole Cancel
+-- drops its operation's steps
 abbrev pub net_with_effect : List Record → Record → Effect → List Record
 net_with_effect net r Looks = net
 net_with_effect net r (Undoes serial) = steps_until serial net
@@ -89,13 +91,15 @@ abbrev pub cancel_reply : Reply → Option ℕ → Reply
 cancel_reply reply None = reply
 cancel_reply reply (Some place) = if is_refused reply then reply else Restored
 
--- the reply to an undo of the steps above a serial, when the number of earlier records and the last serial are known
+-- the reply to an undo of the steps above a serial, when the number of earlier records and the last
+-- serial are known
 abbrev pub undo_reply : (before last : Serial) → List Record → Serial → Reply
 undo_reply before last net serial =
     if nat_lt last serial || nat_lt serial before then Refused Gone else Undone (count_above serial net)
 
 -- the reply to an event in a state, by its effect
-abbrev pub effect_reply : LayoutParts → (before last : Serial) → List Record → Memory → (serial : Serial) (cpu : Cpu) → Event → Effect → Reply
+abbrev pub effect_reply : LayoutParts → (before last : Serial) → List Record → Memory
+    → (serial : Serial) (cpu : Cpu) → Event → Effect → Reply
 effect_reply l before last net s serial cpu event Looks = (step l s serial cpu event).reply
 effect_reply l before last net s serial cpu event (Undoes kept) =
     if nat_lt cpu l.cpus then undo_reply before last net kept else Refused NoCpu
@@ -106,10 +110,12 @@ effect_reply l before last net s serial cpu event Acts = (step l s serial cpu ev
 -- the reply that an event must have after the earlier records
 unfoldable pub reply_of : LayoutParts → Memory → (before : Serial) → List Record → (cpu : Cpu) → Event → Reply
 reply_of l base before earlier cpu event =
-    effect_reply l before (before + length earlier) (net_of earlier) (value_of l base earlier) (before + length earlier + 1) cpu event (effect_of event)
+    effect_reply l before (before + length earlier) (net_of earlier) (value_of l base earlier)
+    (before + length earlier + 1) cpu event (effect_of event)
 
 -- a record may stand after the earlier ones
-pub record Follows (l : LayoutParts) (base : Memory) (before : ℕ) (earlier : List Record) (r : Record) : Type 0 where
+pub record Follows (l : LayoutParts) (base : Memory) (before : ℕ) (earlier : List Record)
+    (r : Record) : Type 0 where
   pub serial : r.serial ≡ before + length earlier + 1
   pub reply : r.reply ≡ reply_of l base before earlier r.cpu r.event
 

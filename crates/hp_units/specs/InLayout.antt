@@ -1,5 +1,5 @@
--- The numbers in a state are those of its layout: what each operation needs of the state that it works on. Every well placed
--- state is such a state.
+-- The numbers in a state are those of its layout: what each operation needs of the state that it
+-- works on. Every well placed state is such a state.
 use Rattle.std.specs.Prelude.{◌≡◌, ◌+◌, ◌*◌, ◌^◌, ◌≤◌, true, List, Option, None, length, slice_index_or, IfSome}
 use Rattle.std.specs.List.{AllByRecursion}
 use Rattle.hp_numbers.specs.Numbers.{Frame, Order, Cpu, Owner, Page}
@@ -10,17 +10,20 @@ use Rattle.hp_units.specs.Memory.{FreeAreas, FreeFrames, Pages, Blocks, Memory, 
 use Rattle.hp_units.specs.FreeAreas.{is_on}
 use Rattle.hp_units.specs.Pages.{frame_at, words_at}
 
--- a list for each class and order, a kind for each pageblock, and each free block lies within the frames (own rule)
+-- a list for each class and order, a kind for each pageblock, and each free block lies within the
+-- frames (own rule)
 pub record AreFreeAreasOf (l : LayoutParts) (a : FreeAreas) : Type 0 where
   pub lists : length a.lists ≡ 5 * (l.order + 1)
   pub kinds : length a.kinds ≡ pageblock_count l
-  pub free : (class : Class) (order : Order) (first : Frame) → is_on first (free_list a class order) ≡ true → first + 2 ^ order ≤ frame_count l
+  pub free : (class : Class) (order : Order) (first : Frame) → is_on first (free_list a class order) ≡ true
+      → first + 2 ^ order ≤ frame_count l
 
 -- and three lists of frames for each processor
 pub record AreFreeFramesOf (l : LayoutParts) (fs : FreeFrames) : Type 0 where
   pub areas : AreFreeAreasOf l fs.areas
   pub lists : length fs.cached ≡ 3 * l.cpus
-  pub cached : (cpu : Cpu) (pool : Pool) (frame : Frame) → is_on frame (cached_list fs cpu pool) ≡ true → IsFrame l frame
+  pub cached : (cpu : Cpu) (pool : Pool) (frame : Frame) → is_on frame (cached_list fs cpu pool) ≡ true
+      → IsFrame l frame
 
 -- each owner has the layout's pages, at frames and with as many words as the layout says
 pub record ArePagesOf (l : LayoutParts) (ps : Pages) : Type 0 where
@@ -29,7 +32,8 @@ pub record ArePagesOf (l : LayoutParts) (ps : Pages) : Type 0 where
   pub content_owners : length ps.contents ≡ l.owners
   pub content_pages : AllByRecursion (λ row. length row ≡ l.pages) ps.contents
   pub mapped : (owner : Owner) (page : Page) → IfSome (frame_at ps owner page) (IsFrame l)
-  pub words : (owner : Owner) (page : Page) → IfSome (words_at ps owner page) (λ words. length words ≡ l.words)
+  pub words : (owner : Owner) (page : Page)
+      → IfSome (words_at ps owner page) (λ words. length words ≡ l.words)
 
 -- the kernel's blocks are of orders that there are
 pub record AreKernelBlocksOf (l : LayoutParts) (kernel : List (Option Order)) : Type 0 where

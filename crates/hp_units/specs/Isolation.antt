@@ -7,24 +7,32 @@ use Rattle.hp_units.specs.Arithmetic.{pageblock_size, pageblock_of, pageblocks_o
 use Rattle.hp_units.specs.Memory.{FreeAreas, free_list, with_free_list, kind_of, with_kind, plain_kind, usable_class, isolated_class}
 use Rattle.hp_units.specs.FreeAreas.{is_on, class_of_kind, with_back, without_free}
 
--- the free blocks of one order in a pageblock go, by rising number, to the back of another class's list (own rule)
-abbrev pub move_free : LayoutParts → FreeAreas → (from to : Class) → (pageblock : Pageblock) (order : Order) → FreeAreas
+-- the free blocks of one order in a pageblock go, by rising number, to the back of another class's
+-- list (own rule)
+abbrev pub move_free : LayoutParts → FreeAreas → (from to : Class) → (pageblock : Pageblock) (order : Order)
+    → FreeAreas
 move_free l a from to pageblock order =
     let frames = free_list a from order in
-    let left = with_free_list a from order (filter (λ frame. not (pageblock_of l frame == pageblock)) frames) in
-    with_free_list left to order (free_list left to order ++ filter (λ frame. is_on frame frames) (frames_of_pageblock l pageblock))
+    let left =
+    with_free_list a from order (filter (λ frame. not (pageblock_of l frame == pageblock)) frames) in
+    with_free_list left to order
+    (free_list left to order ++ filter (λ frame. is_on frame frames) (frames_of_pageblock l pageblock))
 
 -- the same at each order below one
-abbrev pub move_free_below : LayoutParts → FreeAreas → (from to : Class) → (pageblock : Pageblock) (order : Order) → FreeAreas
+abbrev pub move_free_below : LayoutParts → FreeAreas → (from to : Class)
+    → (pageblock : Pageblock) (order : Order) → FreeAreas
 move_free_below l a from to pageblock zero = a
-move_free_below l a from to pageblock (suc order) = move_free l (move_free_below l a from to pageblock order) from to pageblock order
+move_free_below l a from to pageblock (suc order) =
+    move_free l (move_free_below l a from to pageblock order) from to pageblock order
 
--- a pageblock becomes isolated, or is so no more, and its free blocks change their class (Linux, memory hotplug: offlining; the order is own)
+-- a pageblock becomes isolated, or is so no more, and its free blocks change their class (Linux,
+-- memory hotplug: offlining; the order is own)
 unfoldable pub move_pageblock : LayoutParts → Zone → Bool → FreeAreas → Pageblock → FreeAreas
 move_pageblock l zone isolated a pageblock =
     let kind = kind_of a pageblock in
     let moved = record kind { isolated = isolated } in
-    with_kind (move_free_below l a (class_of_kind zone kind) (class_of_kind zone moved) pageblock (l.order + 1)) pageblock moved
+    with_kind (move_free_below l a (class_of_kind zone kind) (class_of_kind zone moved) pageblock
+    (l.order + 1)) pageblock moved
 
 -- the same for each pageblock of a memory block, by rising number (own rule)
 abbrev pub move_block : LayoutParts → Zone → Bool → FreeAreas → Block → FreeAreas
@@ -32,15 +40,18 @@ move_block l zone isolated a block = fold (move_pageblock l zone isolated) a (pa
 
 -- a whole pageblock goes to the back of its zone's list (own rule)
 abbrev pub add_pageblock : LayoutParts → Zone → FreeAreas → Pageblock → FreeAreas
-add_pageblock l zone a pageblock = with_back a (usable_class zone Movable) l.order (pageblock * pageblock_size l)
+add_pageblock l zone a pageblock =
+    with_back a (usable_class zone Movable) l.order (pageblock * pageblock_size l)
 
 abbrev pub add_block : LayoutParts → Zone → FreeAreas → Block → FreeAreas
 add_block l zone a block = fold (add_pageblock l zone) a (pageblocks_of l block)
 
--- an isolated pageblock that is one free block leaves the areas (Linux, memory hotplug: offlining removes the free pages from the allocator)
+-- an isolated pageblock that is one free block leaves the areas (Linux, memory hotplug: offlining
+-- removes the free pages from the allocator)
 abbrev pub remove_pageblock : LayoutParts → Zone → FreeAreas → Pageblock → FreeAreas
 remove_pageblock l zone a pageblock =
-    with_kind (without_free a (isolated_class zone) l.order (pageblock * pageblock_size l)) pageblock plain_kind
+    with_kind (without_free a (isolated_class zone) l.order (pageblock * pageblock_size l)) pageblock
+    plain_kind
 
 abbrev pub remove_block : LayoutParts → Zone → FreeAreas → Block → FreeAreas
 remove_block l zone a block = fold (remove_pageblock l zone) a (pageblocks_of l block)

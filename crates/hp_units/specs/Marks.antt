@@ -1,5 +1,5 @@
--- What undo and Cancel have to know of a step: its serial, and whether it begins an operation or is one of its own drains
--- and migrations.
+-- What undo and Cancel have to know of a step: its serial, and whether it begins an operation or is
+-- one of its own drains and migrations.
 use Rattle.std.specs.Prelude.{ℕ, suc, ◌==◌, Bool, true, false, if◌then◌else◌, ◌&&◌, List, [], ◌∷◌, Option, Some, None}
 use Rattle.std.specs.Option.{option_map}
 use Rattle.hp_numbers.specs.Numbers.{Serial}
@@ -36,7 +36,9 @@ abbrev pub holds_only_own_work : Serial → List Tag → Bool
 holds_only_own_work op [] = true
 holds_only_own_work op (t ∷ ts) = is_work_of op t.mark && holds_only_own_work op ts
 
--- the place of the operation's Begin, if after it there is nothing but the operation's own work: the operation is sole (own rule)
+-- the place of the operation's Begin, if after it there is nothing but the operation's own work:
+-- the operation is sole (own rule)
 unfoldable pub sole_at : Serial → List Tag → Option ℕ
 sole_at op [] = None
-sole_at op (t ∷ ts) = if begins op t && holds_only_own_work op ts then Some 0 else option_map suc (sole_at op ts)
+sole_at op (t ∷ ts) =
+    if begins op t && holds_only_own_work op ts then Some 0 else option_map suc (sole_at op ts)

@@ -1,5 +1,6 @@
--- The state of the machine's memory, as plain lists, with the readers and writers of each part. A reader answers nothing,
--- or the state of an offline block, for a number that isn't in the layout, and a writer changes nothing there.
+-- The state of the machine's memory, as plain lists, with the readers and writers of each part. A
+-- reader answers nothing, or the state of an offline block, for a number that isn't in the layout,
+-- and a writer changes nothing there.
 use Rattle.std.specs.Prelude.{ℕ, zero, suc, ◌+◌, ◌*◌, false, List, [], Option, None, slice_index_or, slice_set}
 use Rattle.hp_numbers.specs.Numbers.{Frame, Order, Pageblock, Block, Cpu, Owner, Page}
 use Rattle.hp_units.specs.Names.{Zone, NormalZone, MovableZone, Mobility, Unmovable, Movable, Class, Nu, Nm, Mm, IsoN, IsoM, Pool, NuPool, NmPool, MmPool, OfflineState, Auto, Kind, Row}
@@ -10,7 +11,8 @@ pub record FreeAreas : Type 0 where
   pub lists : List (List Frame)
   pub kinds : List Kind
 
--- the frames that can be handed out: the free areas, and each processor's list for each pool (Gorman, chapter 6: per-cpu lists)
+-- the frames that can be handed out: the free areas, and each processor's list for each pool
+-- (Gorman, chapter 6: per-cpu lists)
 pub record FreeFrames : Type 0 where
   pub areas : FreeAreas
   pub cached : List (List Frame)
@@ -20,7 +22,8 @@ pub record Pages : Type 0 where
   pub table : List (List (Option Frame))
   pub contents : List (List (Option (List ℕ)))
 
--- the row of each memory block, and what a block that is added becomes (Linux, memory hotplug: state, auto_online_blocks)
+-- the row of each memory block, and what a block that is added becomes (Linux, memory hotplug:
+-- state, auto_online_blocks)
 pub record Blocks : Type 0 where
   pub rows : List Row
   pub auto : Auto
@@ -89,7 +92,8 @@ abbrev pub free_list : FreeAreas → Class → Order → List Frame
 free_list a class order = slice_index_or a.lists (5 * order + class_index class) []
 
 abbrev pub with_free_list : FreeAreas → Class → Order → List Frame → FreeAreas
-with_free_list a class order frames = record a { lists = slice_set a.lists (5 * order + class_index class) frames }
+with_free_list a class order frames =
+    record a { lists = slice_set a.lists (5 * order + class_index class) frames }
 
 -- the kind of a pageblock of an offline block (own rule)
 abbrev pub plain_kind : Kind
@@ -107,7 +111,8 @@ abbrev pub cached_list : FreeFrames → Cpu → Pool → List Frame
 cached_list fs cpu pool = slice_index_or fs.cached (3 * cpu + pool_index pool) []
 
 abbrev pub with_cached_list : FreeFrames → Cpu → Pool → List Frame → FreeFrames
-with_cached_list fs cpu pool frames = record fs { cached = slice_set fs.cached (3 * cpu + pool_index pool) frames }
+with_cached_list fs cpu pool frames =
+    record fs { cached = slice_set fs.cached (3 * cpu + pool_index pool) frames }
 
 -- ---- the owners' pages
 
@@ -115,8 +120,10 @@ with_cached_list fs cpu pool frames = record fs { cached = slice_set fs.cached (
 abbrev pub entry_of : {A : Type 0} → List (List (Option A)) → Owner → Page → Option A
 entry_of table owner page = slice_index_or (slice_index_or table owner []) page None
 
-abbrev pub with_entry : {A : Type 0} → List (List (Option A)) → Owner → Page → Option A → List (List (Option A))
-with_entry table owner page entry = slice_set table owner (slice_set (slice_index_or table owner []) page entry)
+abbrev pub with_entry : {A : Type 0} → List (List (Option A)) → Owner → Page → Option A
+    → List (List (Option A))
+with_entry table owner page entry =
+    slice_set table owner (slice_set (slice_index_or table owner []) page entry)
 
 -- ---- the rows
 

@@ -12,8 +12,11 @@ use Rattle.hp_units.specs.Rows.{going_blocks}
 
 -- the lowest mapped frame of an operation's going blocks (own rule)
 abbrev pub migration_source : LayoutParts → Memory → Serial → Option Frame
-migration_source l s op = find (λ frame. is_some (page_at s.pages frame)) (flat_map (frames_of_block l) (going_blocks l s.blocks op))
+migration_source l s op =
+    find (λ frame. is_some (page_at s.pages frame))
+    (flat_map (frames_of_block l) (going_blocks l s.blocks op))
 
 -- the frame that a page moves to, straight from the areas (own rule)
 abbrev pub migration_target : LayoutParts → FreeAreas → Option Taken
-migration_target l a = option_or (take_block l a Mm 0) (option_or (take_block l a Nm 0) (steal_block l a Movable 0))
+migration_target l a =
+    option_or (take_block l a Mm 0) (option_or (take_block l a Nm 0) (steal_block l a Movable 0))

@@ -35,14 +35,15 @@ covers frame order first = nat_le first frame && nat_lt frame (first + 2 ^ order
 abbrev pub covered : (frame : Frame) (order : Order) (first : Frame) → ℕ
 covered frame order first = if covers frame order first then 1 else 0
 
--- how many blocks on a list of an order have the frame, and on the lists of all classes and orders from one on:
--- a list's number is five times its order, and its class
+-- how many blocks on a list of an order have the frame, and on the lists of all classes and orders
+-- from one on: a list's number is five times its order, and its class
 abbrev pub list_places : (frame : Frame) (order : Order) → List Frame → ℕ
 list_places frame order frames = count_by (covers frame order) frames
 
 abbrev pub places_from : (frame : Frame) (number : ℕ) → List (List Frame) → ℕ
 places_from frame number [] = 0
-places_from frame number (frames ∷ lists) = list_places frame (number / 5) frames + places_from frame (number + 1) lists
+places_from frame number (frames ∷ lists) =
+    list_places frame (number / 5) frames + places_from frame (number + 1) lists
 
 abbrev pub free_places : FreeAreas → Frame → ℕ
 free_places a frame = places_from frame 0 a.lists
@@ -55,7 +56,8 @@ mapped_places ps frame = sum_by (λ row. count_by (holds frame) row) ps.table
 
 abbrev pub kernel_places : Memory → Frame → ℕ
 kernel_places s frame =
-    count_by (λ entry. option_map_or (λ order. covers frame order entry.0) entry.1 false) (enumerate_from 0 s.kernel)
+    count_by (λ entry. option_map_or (λ order. covers frame order entry.0) entry.1 false)
+    (enumerate_from 0 s.kernel)
 
 -- a frame of an offline or absent block is in that place
 abbrev pub is_unplugged : Row → Bool
@@ -66,11 +68,13 @@ offline_places l s frame = if is_unplugged (row_of s.blocks (block_of l frame)) 
 
 abbrev pub places_of : LayoutParts → Memory → Frame → ℕ
 places_of l s frame =
-    free_places s.free.areas frame + cached_places s.free frame + mapped_places s.pages frame + kernel_places s frame + offline_places l s frame
+    free_places s.free.areas frame + cached_places s.free frame + mapped_places s.pages frame
+    + kernel_places s frame + offline_places l s frame
 
 -- ---- what a place asks of a frame
 
--- of a pageblock: its block's row and its kind; the class of its free blocks and the pool of its single frames, none without a zone
+-- of a pageblock: its block's row and its kind; the class of its free blocks and the pool of its
+-- single frames, none without a zone
 abbrev pub row_at : LayoutParts → List Row → Pageblock → Row
 row_at l rows pageblock = slice_index_or rows (block_of_pageblock l pageblock) offline_row
 
@@ -78,13 +82,16 @@ abbrev pub kind_at : List Kind → Pageblock → Kind
 kind_at kinds pageblock = slice_index_or kinds pageblock plain_kind
 
 abbrev pub class_at : LayoutParts → List Kind → List Row → Pageblock → Option Class
-class_at l kinds rows pageblock = option_map (λ zone. class_of_kind zone (kind_at kinds pageblock)) (row_at l rows pageblock).zone
+class_at l kinds rows pageblock =
+    option_map (λ zone. class_of_kind zone (kind_at kinds pageblock)) (row_at l rows pageblock).zone
 
 abbrev pub pool_at : LayoutParts → List Kind → List Row → Pageblock → Option Pool
-pool_at l kinds rows pageblock = option_map (λ zone. pool_of zone (kind_at kinds pageblock).mobility) (row_at l rows pageblock).zone
+pool_at l kinds rows pageblock =
+    option_map (λ zone. pool_of zone (kind_at kinds pageblock).mobility) (row_at l rows pageblock).zone
 
 -- a free block of a class and an order
-pub record IsBlockOf (l : LayoutParts) (class_at : Pageblock → Option Class) (class : Class) (order : Order) (first : Frame) : Type 0 where
+pub record IsBlockOf (l : LayoutParts) (class_at : Pageblock → Option Class) (class : Class) (order : Order)
+    (first : Frame) : Type 0 where
   pub aligned : first % 2 ^ order ≡ 0
   pub class_agrees : class_at (pageblock_of l first) ≡ Some class
 
@@ -94,7 +101,8 @@ pub record IsKernelAt (l : LayoutParts) (rows : List Row) (first : Frame) (order
   pub aligned : first % 2 ^ order ≡ 0
   pub normal : (row_at l rows (pageblock_of l first)).zone ≡ Some NormalZone
 
--- what a row may be: going exactly with a claim of wish Off, any other claim on an offline row, a zone unless offline or absent
+-- what a row may be: going exactly with a claim of wish Off, any other claim on an offline row, a
+-- zone unless offline or absent
 abbrev pub wishes_off : Option Claim → Bool
 wishes_off claim = option_map_or (λ c. is_off c.wish) claim false
 
@@ -119,17 +127,22 @@ IsPage l (Some frame) (Some words) = length words ≡ l.words
 -- the parts of a state agree, and each list is as it must be
 pub record IsInOrder (l : LayoutParts) (s : Memory) : Type 0 where
   pub shape : IsShaped l s
-  pub blocks : (class : Class) (order : Order) (first : Frame) → is_on first (free_list s.free.areas class order) ≡ true
+  pub blocks : (class : Class) (order : Order) (first : Frame)
+      → is_on first (free_list s.free.areas class order) ≡ true
       → IsBlockOf l (class_at l s.free.areas.kinds s.blocks.rows) class order first
-  pub joined : (class : Class) (order : Order) (first : Frame) → order < l.order → is_on first (free_list s.free.areas class order) ≡ true
+  pub joined : (class : Class) (order : Order) (first : Frame) → order < l.order
+      → is_on first (free_list s.free.areas class order) ≡ true
       → is_on (buddy first order) (free_list s.free.areas class order) ≡ false
   pub cached : (cpu : Cpu) (pool : Pool) (frame : Frame) → is_on frame (cached_list s.free cpu pool) ≡ true
       → pool_at l s.free.areas.kinds s.blocks.rows (pageblock_of l frame) ≡ Some pool
   pub kernel : (first : Frame) → IfSome (kernel_order s first) (IsKernelAt l s.blocks.rows first)
-  pub mobility : (pageblock : Pageblock) → (kind_at s.free.areas.kinds pageblock).mobility ≡ Unmovable → (row_at l s.blocks.rows pageblock).zone ≡ Some NormalZone
-  pub isolated : (pageblock : Pageblock) → (kind_at s.free.areas.kinds pageblock).isolated ≡ is_going (row_at l s.blocks.rows pageblock)
+  pub mobility : (pageblock : Pageblock) → (kind_at s.free.areas.kinds pageblock).mobility ≡ Unmovable
+      → (row_at l s.blocks.rows pageblock).zone ≡ Some NormalZone
+  pub isolated : (pageblock : Pageblock)
+      → (kind_at s.free.areas.kinds pageblock).isolated ≡ is_going (row_at l s.blocks.rows pageblock)
   pub rows : (block : Block) → IsRow (row_of s.blocks block)
-  pub words : (owner : Owner) (page : Page) → IsPage l (frame_at s.pages owner page) (words_at s.pages owner page)
+  pub words : (owner : Owner) (page : Page)
+      → IsPage l (frame_at s.pages owner page) (words_at s.pages owner page)
 
 -- a well placed state: and each number is in one place, those beyond the layout as if offline (own rule)
 pub record IsWellPlaced (l : LayoutParts) (s : Memory) : Type 0 where

@@ -21,19 +21,25 @@ use Rattle.hp_units.specs.Rows.{going_blocks, is_absent, is_claimed, is_live, is
 
 -- a free block of an order starts at the frame; the frame stands in a free block
 abbrev pub is_free_start : FreeAreas → (order : Order) (frame : Frame) → Bool
-is_free_start a order frame = list_any (λ class. is_on frame (free_list a class order)) (Nu ∷ Nm ∷ Mm ∷ IsoN ∷ IsoM ∷ [])
+is_free_start a order frame =
+    list_any (λ class. is_on frame (free_list a class order)) (Nu ∷ Nm ∷ Mm ∷ IsoN ∷ IsoM ∷ [])
 
 abbrev pub is_in_free_block : LayoutParts → FreeAreas → Frame → Bool
-is_in_free_block l a frame = list_any (λ order. is_free_start a order (ancestor frame order)) (range_with_len 0 (l.order + 1))
+is_in_free_block l a frame =
+    list_any (λ order. is_free_start a order (ancestor frame order)) (range_with_len 0 (l.order + 1))
 
 -- each pageblock of the block is one isolated free block
 abbrev pub is_all_free : LayoutParts → Memory → Block → Bool
 is_all_free l s block =
-    list_all (λ pageblock. is_on (pageblock * pageblock_size l) (free_list s.free.areas (isolated_class (zone_of_block s.blocks block)) l.order)) (pageblocks_of l block)
+    list_all (λ pageblock. is_on (pageblock * pageblock_size l)
+    (free_list s.free.areas (isolated_class (zone_of_block s.blocks block)) l.order)) (pageblocks_of l
+    block)
 
 -- the lowest frame of an operation's going blocks that stands in no free block
 abbrev pub frame_in_use : LayoutParts → Memory → Serial → Option Frame
-frame_in_use l s op = find (λ frame. not (is_in_free_block l s.free.areas frame)) (flat_map (frames_of_block l) (going_blocks l s.blocks op))
+frame_in_use l s op =
+    find (λ frame. not (is_in_free_block l s.free.areas frame))
+    (flat_map (frames_of_block l) (going_blocks l s.blocks op))
 
 -- ---- the refusals of a plan, each of the first item at which it applies
 
@@ -47,7 +53,8 @@ first_repeated before (item ∷ plan) =
 -- the lowest first frame of a kernel's block in a block that is to go
 abbrev pub kernel_frame_in : LayoutParts → Memory → Item → Option Frame
 kernel_frame_in l s item =
-    if is_off item.wish then find (λ frame. is_some (kernel_order s frame)) (frames_of_block l item.block) else None
+    if is_off item.wish then find (λ frame. is_some (kernel_order s frame)) (frames_of_block l item.block)
+    else None
 
 abbrev pub plan_refusals : LayoutParts → Memory → List Item → List (Option Refusal)
 plan_refusals l s plan =
@@ -55,21 +62,27 @@ plan_refusals l s plan =
     ∷ then_some (list_any (λ item. nat_le l.blocks item.block) plan) NoBlock
     ∷ option_map Twice (first_repeated [] plan)
     ∷ option_map (λ item. Busy item.block) (find (λ item. is_claimed (row_of s.blocks item.block)) plan)
-    ∷ option_map (λ item. NotOnline item.block) (find (λ item. is_off item.wish && not (is_online (row_of s.blocks item.block))) plan)
-    ∷ option_map (λ item. NotOffline item.block) (find (λ item. not (is_off item.wish) && not (is_offline (row_of s.blocks item.block))) plan)
+    ∷ option_map (λ item. NotOnline item.block)
+    (find (λ item. is_off item.wish && not (is_online (row_of s.blocks item.block))) plan)
+    ∷ option_map (λ item. NotOffline item.block)
+    (find (λ item. not (is_off item.wish) && not (is_offline (row_of s.blocks item.block))) plan)
     ∷ option_map HoldsUnmovable (first_some (map (kernel_frame_in l s) plan))
     ∷ []
 
 -- ---- the refusals that several events share (own rule)
 
 -- of an owner and a page that there aren't, and then others
-abbrev pub page_refusals : LayoutParts → (owner : Owner) (page : Page) → List (Option Refusal) → List (Option Refusal)
-page_refusals l owner page others = then_some (nat_le l.owners owner) NoOwner ∷ then_some (nat_le l.pages page) NoPage ∷ others
+abbrev pub page_refusals : LayoutParts → (owner : Owner) (page : Page) → List (Option Refusal)
+    → List (Option Refusal)
+page_refusals l owner page others =
+    then_some (nat_le l.owners owner) NoOwner ∷ then_some (nat_le l.pages page) NoPage ∷ others
 
 -- of a word that is to be read or written
-abbrev pub word_refusals : LayoutParts → Memory → (owner : Owner) (page : Page) (index : ℕ) → List (Option Refusal)
+abbrev pub word_refusals : LayoutParts → Memory → (owner : Owner) (page : Page) (index : ℕ)
+    → List (Option Refusal)
 word_refusals l s owner page index =
-    page_refusals l owner page (then_some (nat_le l.words index) NoWord ∷ unless_some (frame_at s.pages owner page) NotMapped ∷ [])
+    page_refusals l owner page
+    (then_some (nat_le l.words index) NoWord ∷ unless_some (frame_at s.pages owner page) NotMapped ∷ [])
 
 -- of a memory block that is to go online or to be removed: it must be offline, and held by no operation
 abbrev pub offline_refusals : LayoutParts → Memory → Block → List (Option Refusal)
@@ -87,7 +100,8 @@ event_refusals l s cpu (KernelFree frame) =
 event_refusals l s cpu (Map owner page) =
     page_refusals l owner page (then_some (is_some (frame_at s.pages owner page)) AlreadyMapped
     ∷ unless_some (page_frame l s.free cpu) NoFrame ∷ [])
-event_refusals l s cpu (Unmap owner page) = page_refusals l owner page (unless_some (frame_at s.pages owner page) NotMapped ∷ [])
+event_refusals l s cpu (Unmap owner page) =
+    page_refusals l owner page (unless_some (frame_at s.pages owner page) NotMapped ∷ [])
 event_refusals l s cpu (Write owner page index value) = word_refusals l s owner page index
 event_refusals l s cpu (Read owner page index) = word_refusals l s owner page index
 event_refusals l s cpu (Drain drained) = then_some (nat_le l.cpus drained) NoCpu ∷ []
@@ -100,15 +114,19 @@ event_refusals l s cpu (Migrate op) =
     ∷ unless_some (migration_target l s.free.areas) NoFrame ∷ []
 event_refusals l s cpu (Commit op) =
     then_some (not (is_live s.blocks op)) NoOp
-    ∷ then_some (not (list_all (is_all_free l s) (going_blocks l s.blocks op))) (NotFree (unwrap_or (frame_in_use l s op) 0)) ∷ []
+    ∷ then_some (not (list_all (is_all_free l s) (going_blocks l s.blocks op)))
+    (NotFree (unwrap_or (frame_in_use l s op) 0)) ∷ []
 event_refusals l s cpu (Cancel op) = then_some (not (is_live s.blocks op)) NoOp ∷ []
 event_refusals l s cpu (UndoAfter serial) = []
 event_refusals l s cpu (Probe address) =
-    then_some (not (address % block_bytes l == 0)) BadAddress ∷ then_some (nat_le l.blocks (address / block_bytes l)) NoBlock
-    ∷ then_some (not (is_absent (row_of s.blocks (address / block_bytes l)))) (NotAbsent (address / block_bytes l)) ∷ []
+    then_some (not (address % block_bytes l == 0)) BadAddress
+    ∷ then_some (nat_le l.blocks (address / block_bytes l)) NoBlock
+    ∷ then_some (not (is_absent (row_of s.blocks (address / block_bytes l))))
+    (NotAbsent (address / block_bytes l)) ∷ []
 event_refusals l s cpu (Remove block) = offline_refusals l s block
 event_refusals l s cpu (SetAuto auto) = []
 
--- the refusal of an event, if there is one: that of the caller's processor, or else the first of the event's own (own rule)
+-- the refusal of an event, if there is one: that of the caller's processor, or else the first of
+-- the event's own (own rule)
 unfoldable pub refusal_of : LayoutParts → Memory → Cpu → Event → Option Refusal
 refusal_of l s cpu event = first_some (then_some (nat_le l.cpus cpu) NoCpu ∷ event_refusals l s cpu event)

@@ -31,39 +31,52 @@ with_pages s pages = record s { pages = pages }
 -- the kernel takes a block (Gorman, chapter 6; own rule)
 unfoldable pub kernel_takes : LayoutParts → Memory → (cpu : Cpu) (order : Order) → Answered
 kernel_takes l s cpu order =
-    option_map_or (λ handed. record { memory = with_kernel_order (with_free s handed.free) handed.frame (Some order); reply = GivesFrame handed.frame })
+    option_map_or (λ handed. record {
+      memory = with_kernel_order (with_free s handed.free) handed.frame
+          (Some order);
+      reply = GivesFrame handed.frame;
+    })
     (kernel_block l s.free cpu order) (done s)
 
--- a block of an order comes back: a single frame by the processor's list, any other straight to the areas (Gorman, chapter 6; own rule)
+-- a block of an order comes back: a single frame by the processor's list, any other straight to the
+-- areas (Gorman, chapter 6; own rule)
 abbrev pub give_back : LayoutParts → Memory → (cpu : Cpu) (frame : Frame) (order : Order) → Memory
 give_back l s cpu frame zero = with_free s (put_one l s.free cpu (zone_of l s frame) frame)
-give_back l s cpu frame (suc below) = with_areas s (give_block l s.free.areas (zone_of l s frame) frame (suc below))
+give_back l s cpu frame (suc below) =
+    with_areas s (give_block l s.free.areas (zone_of l s frame) frame (suc below))
 
 unfoldable pub kernel_gives : LayoutParts → Memory → (cpu : Cpu) (frame : Frame) → Answered
 kernel_gives l s cpu frame =
-    option_map_or (λ order. done (give_back l (with_kernel_order s frame None) cpu frame order)) (kernel_order s frame) (done s)
+    option_map_or (λ order. done (give_back l (with_kernel_order s frame None) cpu frame order))
+    (kernel_order s frame) (done s)
 
 -- a page is mapped, with zeros in it, and unmapped (own rule)
 unfoldable pub map_step : LayoutParts → Memory → (cpu : Cpu) (owner : Owner) (page : Page) → Answered
 map_step l s cpu owner page =
-    option_map_or (λ handed. done (with_pages (with_free s handed.free) (map_page s.pages owner page handed.frame (fresh_words l))))
+    option_map_or (λ handed.
+    done (with_pages (with_free s handed.free) (map_page s.pages owner page handed.frame (fresh_words l))))
     (page_frame l s.free cpu) (done s)
 
 unfoldable pub unmap_step : LayoutParts → Memory → (cpu : Cpu) (owner : Owner) (page : Page) → Answered
 unmap_step l s cpu owner page =
-    option_map_or (λ frame. done (give_back l (with_pages s (unmap_page s.pages owner page)) cpu frame 0)) (frame_at s.pages owner page) (done s)
+    option_map_or (λ frame. done (give_back l (with_pages s (unmap_page s.pages owner page)) cpu frame 0))
+    (frame_at s.pages owner page) (done s)
 
--- the page at the lowest mapped frame of the operation's going blocks moves to a frame straight from the areas, and its
--- old frame goes straight back to them (Linux, memory hotplug: migration; own rule)
+-- the page at the lowest mapped frame of the operation's going blocks moves to a frame straight
+-- from the areas, and its old frame goes straight back to them (Linux, memory hotplug: migration;
+-- own rule)
 unfoldable pub migrate_step : LayoutParts → Memory → Serial → Answered
 migrate_step l s op =
     option_map_or (λ from. option_map_or (λ taken. record {
-      memory = with_areas (with_pages s (move_page s.pages from taken.frame)) (give_block l taken.areas (zone_of l s from) from 0);
+      memory =
+          with_areas (with_pages s (move_page s.pages from taken.frame))
+          (give_block l taken.areas (zone_of l s from) from 0);
       reply = Moved from taken.frame;
     })
     (migration_target l s.free.areas) (done s)) (migration_source l s op) (done s)
 
--- a block that is there becomes online, as the machine is set to do (Linux, memory hotplug: auto_online_blocks)
+-- a block that is there becomes online, as the machine is set to do (Linux, memory hotplug:
+-- auto_online_blocks)
 abbrev pub auto_online : LayoutParts → Auto → Memory → Block → Memory
 auto_online l OfflineAuto s block = s
 auto_online l OnlineAuto s block = online_block l NormalZone s block
@@ -76,8 +89,10 @@ perform l s serial cpu (KernelAlloc order) = kernel_takes l s cpu order
 perform l s serial cpu (KernelFree frame) = kernel_gives l s cpu frame
 perform l s serial cpu (Map owner page) = map_step l s cpu owner page
 perform l s serial cpu (Unmap owner page) = unmap_step l s cpu owner page
-perform l s serial cpu (Write owner page index value) = done (with_pages s (write_word s.pages owner page index value))
-perform l s serial cpu (Read owner page index) = record { memory = s; reply = Word (read_word s.pages owner page index) }
+perform l s serial cpu (Write owner page index value) =
+    done (with_pages s (write_word s.pages owner page index value))
+perform l s serial cpu (Read owner page index) =
+    record { memory = s; reply = Word (read_word s.pages owner page index) }
 perform l s serial cpu (Drain drained) = done (with_free s (drain_lists l s.free drained))
 perform l s serial cpu (Online block zone) = done (online_block l zone s block)
 perform l s serial cpu (Begin plan) = record { memory = begin_plan l s serial plan; reply = Opened serial }
@@ -87,8 +102,10 @@ perform l s serial cpu (Commit op) = done (commit_blocks l s op)
 perform l s serial cpu (Cancel op) = record { memory = release_blocks l s op; reply = Released }
 perform l s serial cpu (UndoAfter after) = done s
 perform l s serial cpu (Probe address) =
-    done (auto_online l s.blocks.auto (with_block_row s (address / block_bytes l) offline_row) (address / block_bytes l))
-perform l s serial cpu (Remove block) = done (with_block_row s block (record offline_row { state = AbsentState }))
+    done (auto_online l s.blocks.auto (with_block_row s (address / block_bytes l) offline_row)
+    (address / block_bytes l))
+perform l s serial cpu (Remove block) =
+    done (with_block_row s block (record offline_row { state = AbsentState }))
 perform l s serial cpu (SetAuto auto) = done (record s { blocks = record s.blocks { auto = auto } })
 
 -- a refusal leaves the state

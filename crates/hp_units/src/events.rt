@@ -6,15 +6,17 @@ use crate::rows::{Auto, Zone};
 use hp_numbers::{Block, Cpu, Frame, Order, Owner, Page, Serial};
 use std::alloc::{AllocError, Global};
 
-/// One event, made by one processor. Its refusals and what it does are those of the definitions in specs/Refusals and specs/Step.
+/// One event, made by one processor. Its refusals and what it does are those of the definitions in
+/// specs/Refusals and specs/Step.
 #[derive(Debug, Drop)]
 pub enum Event {
-    /// The kernel takes a block of 2^order frames: of order 0 from the processor's list, else from the free areas
-    /// (Gorman, chapter 6). Answered with its first frame.
+    /// The kernel takes a block of 2^order frames: of order 0 from the processor's list, else from
+    /// the free areas (Gorman, chapter 6). Answered with its first frame.
     KernelAlloc {
         order: Order,
     },
-    /// The kernel gives back the block that starts at a frame (Gorman, chapter 6; Knuth, volume 1, section 2.5).
+    /// The kernel gives back the block that starts at a frame (Gorman, chapter 6; Knuth, volume 1,
+    /// section 2.5).
     KernelFree {
         frame: Frame,
     },
@@ -50,7 +52,8 @@ pub enum Event {
         block: Block,
         zone: Zone,
     },
-    /// An operation begins: it claims the blocks of its plan and isolates those that are to go offline (Linux guide; own rule).
+    /// An operation begins: it claims the blocks of its plan and isolates those that are to go
+    /// offline (Linux guide; own rule).
     Begin {
         plan: Plan,
     },
@@ -59,7 +62,8 @@ pub enum Event {
         op: Serial,
         cpu: Cpu,
     },
-    /// The page at the lowest mapped frame of an operation's going blocks moves away (Linux guide, Memory Hot(Un)Plug).
+    /// The page at the lowest mapped frame of an operation's going blocks moves away (Linux guide,
+    /// Memory Hot(Un)Plug).
     Migrate {
         op: Serial,
     },
@@ -75,8 +79,8 @@ pub enum Event {
     UndoAfter {
         serial: Serial,
     },
-    /// The absent memory block at a byte address becomes offline, or online where the machine is set so (Linux guide: probe,
-    /// auto_online_blocks).
+    /// The absent memory block at a byte address becomes offline, or online where the machine is
+    /// set so (Linux guide: probe, auto_online_blocks).
     Probe {
         address: u64,
     },

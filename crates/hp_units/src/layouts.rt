@@ -377,7 +377,7 @@ fn owner_fault(parts: &Parts<'_>) -> Option<LayoutFault>
     None
 }
 
-/// The buddy of the block of an order that starts at a frame (Knuth, volume 1, section 2.5). The order is below 32.
+/// The buddy of a block of an order, below 32, that starts at a frame (Knuth, volume 1, section 2.5).
 pub fn buddy(frame: Frame, order: Order) -> Frame
     requires { order < 32 }
     ensures { result ≡ buddy frame order }

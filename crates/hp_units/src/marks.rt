@@ -48,8 +48,8 @@ pub fn mark_of(event: &Event) -> Mark
     }
 }
 
-/// Whether an event that was answered so counts as a step when it is no undo and no restoring Cancel: it was not refused,
-/// and it is no Read.
+/// Whether an event that was answered so counts as a step when it is no undo and no restoring
+/// Cancel: it was not refused, and it is no Read.
 pub fn is_step(event: &Event, reply: &Reply) -> bool
     ensures { result ≡ (not (is_refused reply.now) && not (is_look event.now)) }
 {

@@ -4,7 +4,8 @@ ghost use Rattle.std.specs.Prelude.{◌≡◌, ◌↔◌, IsTrue};
 use crate::events::Event;
 use hp_numbers::{Block, Cpu, Frame, Serial};
 
-/// Why an event was refused. A refusal is recorded and changes no state; it is the first of its event's order that applies.
+/// Why an event was refused. A refusal is recorded and changes no state; it is the first of its
+/// event's order that applies.
 #[derive(Clone, Copy, Debug, PartialEq, Eq, Drop)]
 pub enum Refusal {
     /// The owner is not in the layout.

@@ -27,23 +27,43 @@ use Rattle.hp_workers.specs.Workers.{AreGathered, AreWorkers, IsWorker}
 -- ---- one seal
 
 -- nothing was handed out
-pub sealed_none : (l : LayoutParts) (old new : SeatValue) (before after : List Volume) → new ≡ old → after ≡ before → IsLineRun l old before work.Seal (Faulted OutOfMemory) new after
+pub sealed_none : (l : LayoutParts) (old new : SeatValue) (before after : List Volume) → new ≡ old
+    → after ≡ before → IsLineRun l old before work.Seal (Faulted OutOfMemory) new after
 sealed_none l old new before after same kept =
-    record { gained = []; handed = []; turns = same; line = (refl, refl, refl); caused = tt; kept = kept ∙ sym (append-nil before) }
+    record {
+      gained = [];
+      handed = [];
+      turns = same;
+      line = (refl, refl, refl);
+      caused = tt;
+      kept = kept ∙ sym (append-nil before);
+    }
 
 -- a volume was handed out
-pub sealed_one : (l : LayoutParts) (old new : SeatValue) (before after : List Volume) (v : Volume) (receipts count : ℕ) → new ≡ old → after ≡ before ++ v ∷ [] → IsSealOf l v receipts → count ≡ length v.records → IsLineRun l old before work.Seal (Sealed count) new after
+pub sealed_one : (l : LayoutParts) (old new : SeatValue) (before after : List Volume) (v : Volume)
+    (receipts count : ℕ)
+    → new ≡ old → after ≡ before ++ v ∷ [] → IsSealOf l v receipts → count ≡ length v.records
+    → IsLineRun l old before work.Seal (Sealed count) new after
 sealed_one l old new before after v receipts count same kept seal own = record {
   gained = [];
   handed = v ∷ [];
   turns = same;
-  line = (v, refl, refl, record { seen = seal.seen; shared = seal.shared; is = seal.is; within = omega arith }, own);
+  line = (
+    v,
+    refl,
+    refl,
+    record { seen = seal.seen; shared = seal.shared; is = seal.is; within = omega arith },
+    own,
+  );
   caused = tt;
   kept = kept;
 }
 
 -- a line that seals
-pub line_sealed : (l : LayoutParts) (old new : SeatValue) (before after : List Volume) (asked : Work) (end : LineEnd) → is_seal asked ≡ true → IsLineRun l old before work.Seal end new after → IsLineRun l old before asked end new after
+pub line_sealed : (l : LayoutParts) (old new : SeatValue) (before after : List Volume) (asked : Work)
+    (end : LineEnd)
+    → is_seal asked ≡ true → IsLineRun l old before work.Seal end new after
+    → IsLineRun l old before asked end new after
 line_sealed l old new before after (work.Event event) end is run = absurd cc
 line_sealed l old new before after (work.Plan plan turns) end is run = absurd cc
 line_sealed l old new before after (work.Echo path word) end is run = absurd cc
@@ -52,33 +72,55 @@ line_sealed l old new before after work.Seal end is run = run
 
 -- ---- how many
 
-seal_few : (l : LayoutParts) (asked : Work) (gained : List Receipt) (handed : List Volume) (end : LineEnd) → IsLine l asked gained handed end → length handed ≤ one_if (is_seal asked)
-seal_few l (work.Event event) gained handed end ran = omega (arith, ap (λ (vs : List Volume). length vs) ran.0)
-seal_few l (work.Plan plan turns) gained handed end ran = omega (arith, ap (λ (vs : List Volume). length vs) ran.0)
-seal_few l (work.Echo path word) gained handed end ran = omega (arith, ap (λ (vs : List Volume). length vs) ran.0)
+seal_few : (l : LayoutParts) (asked : Work) (gained : List Receipt) (handed : List Volume) (end : LineEnd)
+    → IsLine l asked gained handed end → length handed ≤ one_if (is_seal asked)
+seal_few l (work.Event event) gained handed end ran =
+    omega (arith, ap (λ (vs : List Volume). length vs) ran.0)
+seal_few l (work.Plan plan turns) gained handed end ran =
+    omega (arith, ap (λ (vs : List Volume). length vs) ran.0)
+seal_few l (work.Echo path word) gained handed end ran =
+    omega (arith, ap (λ (vs : List Volume). length vs) ran.0)
 seal_few l (work.Cat path) gained handed end ran = absurd ran
 seal_few l work.Seal gained handed (Replied reply) ran = absurd ran
-seal_few l work.Seal gained handed (Faulted fault) ran = omega (arith, ap (λ (vs : List Volume). length vs) ran.1)
+seal_few l work.Seal gained handed (Faulted fault) ran =
+    omega (arith, ap (λ (vs : List Volume). length vs) ran.1)
 seal_few l work.Seal gained handed (Planned end) ran = absurd ran
 seal_few l work.Seal gained handed (Untaken fault) ran = absurd ran
-seal_few l work.Seal gained handed (Sealed count) ran = omega (arith, ap (λ (vs : List Volume). length vs) ran.2)
+seal_few l work.Seal gained handed (Sealed count) ran =
+    omega (arith, ap (λ (vs : List Volume). length vs) ran.2)
 
-lines_few : (l : LayoutParts) (lines : List Line) (gained : List Receipt) (handed : List Volume) (ends : List LineEnd) → AreLines l lines gained handed ends → length handed ≤ seals_in lines
+lines_few : (l : LayoutParts) (lines : List Line) (gained : List Receipt) (handed : List Volume)
+    (ends : List LineEnd)
+    → AreLines l lines gained handed ends → length handed ≤ seals_in lines
 lines_few l [] gained handed ends none = omega (arith, ap (λ (vs : List Volume). length vs) none.1)
 lines_few l (line ∷ lines) gained handed ends ran =
-    omega (arith, seal_few l line.work ran.0 ran.1 ran.2 ran.9.0, lines_few l lines ran.3 ran.4 ran.5 ran.9.1, ap (λ (vs : List Volume). length vs) ran.7, length-append ran.1 ran.4, sum_by-cons (λ (x : Line). one_if (is_seal x.work)) line lines)
+    omega (
+      arith,
+      seal_few l line.work ran.0 ran.1 ran.2 ran.9.0,
+      lines_few l lines ran.3 ran.4 ran.5 ran.9.1,
+      ap (λ (vs : List Volume). length vs) ran.7,
+      length-append ran.1 ran.4,
+      sum_by-cons (λ (x : Line). one_if (is_seal x.work)) line lines,
+    )
 
 -- a worker hands out at most one volume for each line that seals
-pub worker_few : (l : LayoutParts) (old : SeatValue) (lines : List Line) (new : SeatValue) (handed : List Volume) (ends : List LineEnd) (fault : Option RunFault) → IsWorker l old lines new handed ends fault → length handed ≤ seals_in lines
+pub worker_few : (l : LayoutParts) (old : SeatValue) (lines : List Line) (new : SeatValue)
+    (handed : List Volume) (ends : List LineEnd) (fault : Option RunFault)
+    → IsWorker l old lines new handed ends fault → length handed ≤ seals_in lines
 worker_few l old lines new handed ends fault worker =
-    omega (arith, lines_few l (take (length ends) lines) worker.worked.gained handed ends worker.worked.ran, sum_by-take-le (λ (x : Line). one_if (is_seal x.work)) lines (length ends))
+    omega (
+      arith,
+      lines_few l (take (length ends) lines) worker.worked.gained handed ends worker.worked.ran,
+      sum_by-take-le (λ (x : Line). one_if (is_seal x.work)) lines (length ends),
+    )
 
 -- ---- what they are
 
 pub none_sealed : (l : LayoutParts) (handed : List Volume) → handed ≡ [] → AreSealed l handed
 none_sealed l handed none = subst (AreSealed l) (sym none) (λ i d lt. absurd (omega (arith, lt)))
 
-line_seals : (l : LayoutParts) (asked : Work) (gained : List Receipt) (handed : List Volume) (end : LineEnd) → IsLine l asked gained handed end → AreSealed l handed
+line_seals : (l : LayoutParts) (asked : Work) (gained : List Receipt) (handed : List Volume) (end : LineEnd)
+    → IsLine l asked gained handed end → AreSealed l handed
 line_seals l (work.Event event) gained handed end ran = none_sealed l handed ran.0
 line_seals l (work.Plan plan turns) gained handed end ran = none_sealed l handed ran.0
 line_seals l (work.Echo path word) gained handed end ran = none_sealed l handed ran.0
@@ -88,58 +130,99 @@ line_seals l work.Seal gained handed (Faulted fault) ran = none_sealed l handed 
 line_seals l work.Seal gained handed (Planned end) ran = absurd ran
 line_seals l work.Seal gained handed (Untaken fault) ran = absurd ran
 line_seals l work.Seal gained handed (Sealed count) ran =
-    subst (AreSealed l) (sym ran.2) (All-cons (λ (v : Volume). IsSealOf l v 0) ran.0 [] ran.3 (none_sealed l [] refl))
+    subst (AreSealed l) (sym ran.2)
+    (All-cons (λ (v : Volume). IsSealOf l v 0) ran.0 [] ran.3 (none_sealed l [] refl))
 
-lines_seal : (l : LayoutParts) (lines : List Line) (gained : List Receipt) (handed : List Volume) (ends : List LineEnd) → AreLines l lines gained handed ends → AreSealed l handed
+lines_seal : (l : LayoutParts) (lines : List Line) (gained : List Receipt) (handed : List Volume)
+    (ends : List LineEnd)
+    → AreLines l lines gained handed ends → AreSealed l handed
 lines_seal l [] gained handed ends none = none_sealed l handed none.1
 lines_seal l (line ∷ lines) gained handed ends ran =
-    subst (AreSealed l) (sym ran.7) (All-append (λ (v : Volume). IsSealOf l v 0) ran.1 ran.4 (line_seals l line.work ran.0 ran.1 ran.2 ran.9.0) (lines_seal l lines ran.3 ran.4 ran.5 ran.9.1))
+    subst (AreSealed l) (sym ran.7) (All-append (λ (v : Volume). IsSealOf l v 0) ran.1 ran.4
+    (line_seals l line.work ran.0 ran.1 ran.2 ran.9.0) (lines_seal l lines ran.3 ran.4 ran.5 ran.9.1))
 
-pub worker_seals : (l : LayoutParts) (old : SeatValue) (lines : List Line) (new : SeatValue) (handed : List Volume) (ends : List LineEnd) (fault : Option RunFault) → IsWorker l old lines new handed ends fault → AreSealed l handed
-worker_seals l old lines new handed ends fault worker = lines_seal l (take (length ends) lines) worker.worked.gained handed ends worker.worked.ran
+pub worker_seals : (l : LayoutParts) (old : SeatValue) (lines : List Line) (new : SeatValue)
+    (handed : List Volume) (ends : List LineEnd) (fault : Option RunFault)
+    → IsWorker l old lines new handed ends fault → AreSealed l handed
+worker_seals l old lines new handed ends fault worker =
+    lines_seal l (take (length ends) lines) worker.worked.gained handed ends worker.worked.ran
 
-pub more_seals : (l : LayoutParts) (volumes earlier handed : List Volume) → volumes ≡ earlier ++ handed → AreSealed l earlier → AreSealed l handed → AreSealed l volumes
-more_seals l volumes earlier handed is before own = subst (AreSealed l) (sym is) (All-append (λ (v : Volume). IsSealOf l v 0) earlier handed before own)
+pub more_seals : (l : LayoutParts) (volumes earlier handed : List Volume) → volumes ≡ earlier ++ handed
+    → AreSealed l earlier → AreSealed l handed → AreSealed l volumes
+more_seals l volumes earlier handed is before own =
+    subst (AreSealed l) (sym is) (All-append (λ (v : Volume). IsSealOf l v 0) earlier handed before own)
 
 -- ---- all of a run
 
-pub gathered : (l : LayoutParts) (olds : List SeatValue) (scripts : List (List Line)) (news : List SeatValue) (handed volumes : List Volume) (lists : List (List LineEnd)) (fault : Option RunFault) → AreWorkers l olds scripts news handed lists fault → IsPermutation handed volumes → AreInOrder volumes → length handed ≤ seals_in_all (take (length olds) scripts) → AreGathered l olds scripts news volumes lists fault
+pub gathered : (l : LayoutParts) (olds : List SeatValue) (scripts : List (List Line)) (news : List SeatValue)
+    (handed volumes : List Volume) (lists : List (List LineEnd)) (fault : Option RunFault)
+    → AreWorkers l olds scripts news handed lists fault → IsPermutation handed volumes → AreInOrder volumes
+    → length handed ≤ seals_in_all (take (length olds) scripts)
+    → AreGathered l olds scripts news volumes lists fault
 gathered l olds scripts news handed volumes lists fault workers same order few = record {
   handed = handed;
   workers = workers;
   same = same;
   order = order;
-  few = omega (arith, few, length_permutation handed volumes same, sum_by-take-le seals_in scripts (length olds));
+  few =
+      omega
+      (arith, few, length_permutation handed volumes same, sum_by-take-le seals_in scripts (length olds));
 }
 
 -- ---- one more
 
 -- one more line, and one more script
-pub seals_more : (lines : List Line) (i : ℕ) (line : Line) (before count next : ℕ) → i < length lines → line ≡ get_or lines i line → count ≡ before + seals_in (take i lines) → next ≡ count + one_if (is_seal line.work) → next ≡ before + seals_in (take (i + 1) lines)
+pub seals_more : (lines : List Line) (i : ℕ) (line : Line) (before count next : ℕ) → i < length lines
+    → line ≡ get_or lines i line → count ≡ before + seals_in (take i lines)
+    → next ≡ count + one_if (is_seal line.work) → next ≡ before + seals_in (take (i + 1) lines)
 seals_more lines i line before count next inside is so_far one =
-    let taken : take (i + 1) lines ≡ take i lines ++ line ∷ [] = take_more lines i line inside ∙ ap (λ (x : Line). take i lines ++ x ∷ []) (sym is) in
-    omega (arith, so_far, one, ap seals_in taken, sum_by-append (λ (x : Line). one_if (is_seal x.work)) (take i lines) (line ∷ []), sum_by-cons (λ (x : Line). one_if (is_seal x.work)) line [])
+    let taken : take (i + 1) lines ≡ take i lines ++ line ∷ [] =
+    take_more lines i line inside ∙ ap (λ (x : Line). take i lines ++ x ∷ []) (sym is) in
+    omega (
+      arith,
+      so_far,
+      one,
+      ap seals_in taken,
+      sum_by-append (λ (x : Line). one_if (is_seal x.work))
+          (take i lines) (line ∷ []),
+      sum_by-cons (λ (x : Line). one_if (is_seal x.work)) line [],
+    )
 
-pub scripts_more : (scripts : List (List Line)) (i : ℕ) (script : List Line) → slice_get scripts i ≡ Some script → seals_in_all (take (i + 1) scripts) ≡ seals_in_all (take i scripts) + seals_in script
+pub scripts_more : (scripts : List (List Line)) (i : ℕ) (script : List Line)
+    → slice_get scripts i ≡ Some script
+    → seals_in_all (take (i + 1) scripts) ≡ seals_in_all (take i scripts) + seals_in script
 scripts_more scripts i script here =
-    let taken : take (i + 1) scripts ≡ take i scripts ++ script ∷ [] = ap (λ (k : ℕ). take k scripts) (add-one i) ∙ take_next scripts i script here in
-    ap seals_in_all taken ∙ omega (arith, sum_by-append seals_in (take i scripts) (script ∷ []), sum_by-cons seals_in script [])
+    let taken : take (i + 1) scripts ≡ take i scripts ++ script ∷ [] =
+    ap (λ (k : ℕ). take k scripts) (add-one i) ∙ take_next scripts i script here in
+    ap seals_in_all taken
+    ∙ omega (arith, sum_by-append seals_in (take i scripts) (script ∷ []), sum_by-cons seals_in script [])
 
 -- fewer scripts seal no more
-pub fewer_seal_less : (scripts : List (List Line)) (i j : ℕ) → i ≤ j → seals_in_all (take i scripts) ≤ seals_in_all (take j scripts)
-fewer_seal_less scripts i j le = omega (arith, sum_by-take-le seals_in (take j scripts) i, ap seals_in_all (take-take i j scripts le))
+pub fewer_seal_less : (scripts : List (List Line)) (i j : ℕ) → i ≤ j
+    → seals_in_all (take i scripts) ≤ seals_in_all (take j scripts)
+fewer_seal_less scripts i j le =
+    omega (arith, sum_by-take-le seals_in (take j scripts) i, ap seals_in_all (take-take i j scripts le))
 
 -- the volumes of one more worker, after those of the others
-pub one_more_few : (l : LayoutParts) (all seats : List SeatValue) (seat : SeatValue) (scripts : List (List Line)) (lines : List Line) (new : SeatValue) (earlier handed : List Volume) (ends : List LineEnd) (fault : Option RunFault)
-    → all ≡ seats ++ seat ∷ [] → slice_get scripts (length seats) ≡ Some lines → IsWorker l seat lines new handed ends fault → length earlier ≤ seals_in_all (take (length seats) scripts) → length earlier + length handed ≤ seals_in_all (take (length all) scripts)
+pub one_more_few : (l : LayoutParts) (all seats : List SeatValue) (seat : SeatValue)
+    (scripts : List (List Line)) (lines : List Line) (new : SeatValue) (earlier handed : List Volume)
+    (ends : List LineEnd) (fault : Option RunFault)
+    → all ≡ seats ++ seat ∷ [] → slice_get scripts (length seats) ≡ Some lines
+    → IsWorker l seat lines new handed ends fault
+    → length earlier ≤ seals_in_all (take (length seats) scripts)
+    → length earlier + length handed ≤ seals_in_all (take (length all) scripts)
 one_more_few l all seats seat scripts lines new earlier handed ends fault all_is here worker few =
-    let one : length all ≡ length seats + 1 = omega (arith, ap (λ (xs : List SeatValue). length xs) all_is, length-append seats (seat ∷ [])) in
-    let total : seals_in_all (take (length all) scripts) ≡ seals_in_all (take (length seats) scripts) + seals_in lines = ap (λ (k : ℕ). seals_in_all (take k scripts)) one ∙ scripts_more scripts (length seats) lines here in
+    let one : length all ≡ length seats + 1 =
+    omega (arith, ap (λ (xs : List SeatValue). length xs) all_is, length-append seats (seat ∷ [])) in
+    let total : seals_in_all (take (length all) scripts)
+    ≡ seals_in_all (take (length seats) scripts) + seals_in lines =
+    ap (λ (k : ℕ). seals_in_all (take k scripts)) one ∙ scripts_more scripts (length seats) lines here in
     omega (arith, few, total, worker_few l seat lines new handed ends fault worker)
 
 -- ---- room
 
 -- a vector with room took the others
-pub appended : {A E : Type 0} (r : Result A E) (new whole old : List Volume) → IsOk r → new ≡ (if is_ok r then whole else old) → new ≡ whole
+pub appended : {A E : Type 0} (r : Result A E) (new whole old : List Volume) → IsOk r
+    → new ≡ (if is_ok r then whole else old) → new ≡ whole
 appended (Ok x) new whole old ok is = is
 appended (Err e) new whole old ok is = absurd cc

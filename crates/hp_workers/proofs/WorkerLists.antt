@@ -18,38 +18,64 @@ use Rattle.hp_workers.proofs.SealRuns.{more_seals, none_sealed, worker_seals}
 use Rattle.hp_workers.specs.Workers.{AreWorkers, HasWorker, IsWorker}
 
 -- the first of faults and of one more
-first_more : (faults : List (Option RunFault)) (fault : Option RunFault) → first_some (faults ++ fault ∷ []) ≡ option_or (first_some faults) fault
+first_more : (faults : List (Option RunFault)) (fault : Option RunFault)
+    → first_some (faults ++ fault ∷ []) ≡ option_or (first_some faults) fault
 first_more [] None = refl
 first_more [] (Some f) = refl
 first_more (None ∷ faults) fault = first_more faults fault
 first_more (Some f ∷ faults) fault = refl
 
 -- one more list at the end
-joined_more : (lists : List (List Volume)) (handed : List Volume) → joined (lists ++ handed ∷ []) ≡ joined lists ++ handed
+joined_more : (lists : List (List Volume)) (handed : List Volume)
+    → joined (lists ++ handed ∷ []) ≡ joined lists ++ handed
 joined_more [] handed = append-nil handed
-joined_more (list ∷ lists) handed = ap (λ (vs : List Volume). list ++ vs) (joined_more lists handed) ∙ sym (append_assoc list (joined lists) handed)
+joined_more (list ∷ lists) handed =
+    ap (λ (vs : List Volume). list ++ vs) (joined_more lists handed)
+    ∙ sym (append_assoc list (joined lists) handed)
 
-pub workers_more : (l : LayoutParts) (all seats : List SeatValue) (seat : SeatValue) (scripts : List (List Line)) (lines : List Line) (done news : List SeatValue) (new : SeatValue) (volumes earlier handed : List Volume) (all_ends ends : List (List LineEnd)) (own : List LineEnd) (was fault now : Option RunFault)
-    → all ≡ seats ++ seat ∷ [] → slice_get scripts (length seats) ≡ Some lines → done ≡ news ++ new ∷ [] → volumes ≡ earlier ++ handed → all_ends ≡ ends ++ own ∷ [] → now ≡ option_or was fault
-    → AreWorkers l seats scripts news earlier ends was → IsWorker l seat lines new handed own fault → AreWorkers l all scripts done volumes all_ends now
-workers_more l all seats seat scripts lines done news new volumes earlier handed all_ends ends own was fault now all_is here done_is volumes_are ends_is now_is before worker =
+pub workers_more : (l : LayoutParts) (all seats : List SeatValue) (seat : SeatValue)
+    (scripts : List (List Line)) (lines : List Line) (done news : List SeatValue) (new : SeatValue)
+    (volumes earlier handed : List Volume) (all_ends ends : List (List LineEnd)) (own : List LineEnd)
+    (was fault now : Option RunFault)
+    → all ≡ seats ++ seat ∷ [] → slice_get scripts (length seats) ≡ Some lines → done ≡ news ++ new ∷ []
+    → volumes ≡ earlier ++ handed → all_ends ≡ ends ++ own ∷ [] → now ≡ option_or was fault
+    → AreWorkers l seats scripts news earlier ends was → IsWorker l seat lines new handed own fault
+    → AreWorkers l all scripts done volumes all_ends now
+workers_more l all seats seat scripts lines done news new volumes earlier handed all_ends ends own was fault
+    now all_is here done_is volumes_are ends_is now_is before worker =
     subst (λ (xs : List SeatValue). AreWorkers l xs scripts done volumes all_ends now) (sym all_is)
-    (subst (λ (xs : List SeatValue). AreWorkers l (seats ++ seat ∷ []) scripts xs volumes all_ends now) (sym done_is)
-    (subst (λ (xs : List (List LineEnd)). AreWorkers l (seats ++ seat ∷ []) scripts (news ++ new ∷ []) volumes xs now) (sym ends_is)
+    (subst (λ (xs : List SeatValue). AreWorkers l (seats ++ seat ∷ []) scripts xs volumes all_ends now)
+    (sym done_is)
+    (subst (λ (xs : List (List LineEnd)).
+    AreWorkers l (seats ++ seat ∷ []) scripts (news ++ new ∷ []) volumes xs now) (sym ends_is)
     (record {
       handed = before.handed ++ handed ∷ [];
       faults = before.faults ++ fault ∷ [];
       seats = omega (arith, before.seats, length-append seats (seat ∷ []), length-append news (new ∷ []));
-      outs = omega (arith, before.outs, length-append seats (seat ∷ []), length-append before.handed (handed ∷ []));
+      outs =
+          omega
+          (arith, before.outs, length-append seats (seat ∷ []), length-append before.handed (handed ∷ []));
       ends = omega (arith, before.ends, length-append seats (seat ∷ []), length-append ends (own ∷ []));
-      causes = omega (arith, before.causes, length-append seats (seat ∷ []), length-append before.faults (fault ∷ []));
-      all = volumes_are ∙ ap (λ (vs : List Volume). vs ++ handed) before.all ∙ sym (joined_more before.handed handed);
-      sealed = more_seals l volumes earlier handed volumes_are before.sealed (worker_seals l seat lines new handed own fault worker);
-      first = now_is ∙ ap (λ (o : Option RunFault). option_or o fault) before.first ∙ sym (first_more before.faults fault);
-      each = λ place s its there script. by_place place s its script (get_push_cases seats seat s place there);
+      causes =
+          omega
+          (arith, before.causes, length-append seats (seat ∷ []), length-append before.faults (fault ∷ []));
+      all =
+          volumes_are ∙ ap (λ (vs : List Volume). vs ++ handed) before.all
+          ∙ sym (joined_more before.handed handed);
+      sealed =
+          more_seals l volumes earlier handed volumes_are before.sealed
+          (worker_seals l seat lines new handed own fault worker);
+      first =
+          now_is ∙ ap (λ (o : Option RunFault). option_or o fault) before.first
+          ∙ sym (first_more before.faults fault);
+      each =
+          λ place s its there script. by_place place s its script (get_push_cases seats seat s place there);
     })))
   where
-    by_place : (place : ℕ) (s : SeatValue) (its : List Line) → slice_get scripts place ≡ Some its → (slice_get seats place ≡ Some s) ⊎ ((place ≡ length seats) × (seat ≡ s)) → HasWorker l s its (news ++ new ∷ []) (before.handed ++ handed ∷ []) (ends ++ own ∷ []) (before.faults ++ fault ∷ []) place
+    by_place : (place : ℕ) (s : SeatValue) (its : List Line) → slice_get scripts place ≡ Some its
+        → (slice_get seats place ≡ Some s) ⊎ ((place ≡ length seats) × (seat ≡ s))
+        → HasWorker l s its (news ++ new ∷ []) (before.handed ++ handed ∷ []) (ends ++ own ∷ [])
+        (before.faults ++ fault ∷ []) place
     by_place place s its script (inl e) =
         let found = before.each place s its e script in
         record {
@@ -57,39 +83,57 @@ workers_more l all seats seat scripts lines done news new volumes earlier handed
           handed = found.handed;
           own = found.own;
           fault = found.fault;
-          seat = get_left news (new ∷ []) place (slice_get_within news place found.new found.seat) ∙ found.seat;
-          out = get_left before.handed (handed ∷ []) place (slice_get_within before.handed place found.handed found.out) ∙ found.out;
+          seat =
+              get_left news (new ∷ []) place (slice_get_within news place found.new found.seat) ∙ found.seat;
+          out =
+              get_left before.handed (handed ∷ []) place
+              (slice_get_within before.handed place found.handed found.out) ∙ found.out;
           end = get_left ends (own ∷ []) place (slice_get_within ends place found.own found.end) ∙ found.end;
-          why = get_left before.faults (fault ∷ []) place (slice_get_within before.faults place found.fault found.why) ∙ found.why;
+          why =
+              get_left before.faults (fault ∷ []) place
+              (slice_get_within before.faults place found.fault found.why) ∙ found.why;
           worker = found.worker;
         }
     by_place place s its script (inr e) =
-        let same : lines ≡ its = same_item (slice_get scripts place) lines its (ap (λ (k : ℕ). slice_get scripts k) e.0 ∙ here) script in
+        let same : lines ≡ its =
+        same_item (slice_get scripts place) lines its (ap (λ (k : ℕ). slice_get scripts k) e.0 ∙ here)
+        script in
         record {
           new = new;
           handed = handed;
           own = own;
           fault = fault;
           seat = ap (λ (k : ℕ). slice_get (news ++ new ∷ []) k) (e.0 ∙ sym before.seats) ∙ get_end news new;
-          out = ap (λ (k : ℕ). slice_get (before.handed ++ handed ∷ []) k) (e.0 ∙ sym before.outs) ∙ get_end before.handed handed;
+          out =
+              ap (λ (k : ℕ). slice_get (before.handed ++ handed ∷ []) k) (e.0 ∙ sym before.outs)
+              ∙ get_end before.handed handed;
           end = ap (λ (k : ℕ). slice_get (ends ++ own ∷ []) k) (e.0 ∙ sym before.ends) ∙ get_end ends own;
-          why = ap (λ (k : ℕ). slice_get (before.faults ++ fault ∷ []) k) (e.0 ∙ sym before.causes) ∙ get_end before.faults fault;
+          why =
+              ap (λ (k : ℕ). slice_get (before.faults ++ fault ∷ []) k) (e.0 ∙ sym before.causes)
+              ∙ get_end before.faults fault;
           worker =
               subst (λ (x : SeatValue). IsWorker l x its new handed own fault) e.1
               (subst (λ (ls : List Line). IsWorker l seat ls new handed own fault) same worker);
         }
 
 -- no worker
-pub workers_none : (l : LayoutParts) (olds : List SeatValue) (scripts : List (List Line)) (news : List SeatValue) (volumes : List Volume) (lists : List (List LineEnd)) (fault : Option RunFault) → olds ≡ [] → news ≡ [] → volumes ≡ [] → lists ≡ [] → fault ≡ None → AreWorkers l olds scripts news volumes lists fault
+pub workers_none : (l : LayoutParts) (olds : List SeatValue) (scripts : List (List Line))
+    (news : List SeatValue) (volumes : List Volume) (lists : List (List LineEnd)) (fault : Option RunFault)
+    → olds ≡ [] → news ≡ [] → volumes ≡ [] → lists ≡ [] → fault ≡ None
+    → AreWorkers l olds scripts news volumes lists fault
 workers_none l olds scripts news volumes lists fault no_olds no_news none no_ends no_fault = record {
   handed = [];
   faults = [];
   seats = ap (λ (xs : List SeatValue). length xs) (no_news ∙ sym no_olds);
   outs = sym (ap (λ (xs : List SeatValue). length xs) no_olds);
-  ends = ap (λ (xs : List (List LineEnd)). length xs) no_ends ∙ sym (ap (λ (xs : List SeatValue). length xs) no_olds);
+  ends =
+      ap (λ (xs : List (List LineEnd)). length xs) no_ends
+      ∙ sym (ap (λ (xs : List SeatValue). length xs) no_olds);
   causes = sym (ap (λ (xs : List SeatValue). length xs) no_olds);
   all = none;
   sealed = none_sealed l volumes none;
   first = no_fault;
-  each = λ place seat lines here script. (let bad : slice_get [] place ≡ Some seat = sym (ap (λ (xs : List SeatValue). slice_get xs place) no_olds) ∙ here in absurd cc);
+  each =
+      λ place seat lines here script. (let bad : slice_get [] place ≡ Some seat =
+      sym (ap (λ (xs : List SeatValue). slice_get xs place) no_olds) ∙ here in absurd cc);
 }

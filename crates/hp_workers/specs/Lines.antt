@@ -29,9 +29,11 @@ use Rattle.hp_workers.specs.declared.lines.LineEnd.TheVariants.{Reply as Replied
 abbrev pub Run : Type 1
 Run = List Receipt → LineEnd → Type 0
 
--- an event was asked for: one receipt of it, whose reply is the end; or none, and the end is the fault of its call
+-- an event was asked for: one receipt of it, whose reply is the end; or none, and the end is the
+-- fault of its call
 abbrev pub IsEventRun : Event → Run
-IsEventRun event gained (Replied reply) = (r : Receipt) × (gained ≡ r ∷ []) × (r.event ≡ event) × (r.reply ≡ reply)
+IsEventRun event gained (Replied reply) =
+    (r : Receipt) × (gained ≡ r ∷ []) × (r.event ≡ event) × (r.reply ≡ reply)
 IsEventRun event gained (Faulted fault) = gained ≡ []
 IsEventRun event gained (Planned end) = ⊥
 IsEventRun event gained (Untaken fault) = ⊥
@@ -41,7 +43,8 @@ IsEventRun event gained (Sealed count) = ⊥
 abbrev pub IsPlanRun : (cpus turns : ℕ) → List Item → Run
 IsPlanRun cpus turns plan gained (Replied reply) = ⊥
 IsPlanRun cpus turns plan gained (Faulted fault) = ⊥
-IsPlanRun cpus turns plan gained (Planned end) = (fault : Option CallFault) × IsDriverRun cpus turns plan gained fault end
+IsPlanRun cpus turns plan gained (Planned end) =
+    (fault : Option CallFault) × IsDriverRun cpus turns plan gained fault end
 IsPlanRun cpus turns plan gained (Untaken fault) = ⊥
 IsPlanRun cpus turns plan gained (Sealed count) = ⊥
 
@@ -57,7 +60,8 @@ IsRequestRun cpus (Err fault) = IsUntaken fault
 
 -- a word was written to a control file; or there was no memory to tell what it asks for
 abbrev pub IsEchoRun : (cpus : ℕ) → (path word : List ℕ) → Run
-IsEchoRun cpus path word gained end = IsRequestRun cpus (echo_request path word) gained end ⊎ IsUntaken OutOfMemory gained end
+IsEchoRun cpus path word gained end =
+    IsRequestRun cpus (echo_request path word) gained end ⊎ IsUntaken OutOfMemory gained end
 
 -- no call is made for a line that reads a control file, or seals
 abbrev pub IsNoRun : Run
@@ -71,13 +75,15 @@ IsWorkRun cpus (work.Echo path word) = IsEchoRun cpus path word
 IsWorkRun cpus (work.Cat path) = IsNoRun
 IsWorkRun cpus work.Seal = IsNoRun
 
--- a seal made no call: it handed out one volume, whose number of records is the end; or none, since it was out of memory
+-- a seal made no call: it handed out one volume, whose number of records is the end; or none, since
+-- it was out of memory
 abbrev pub IsSealRun : LayoutParts → List Receipt → List Volume → LineEnd → Type 0
 IsSealRun l gained handed (Replied reply) = ⊥
 IsSealRun l gained handed (Faulted fault) = (gained ≡ []) × (handed ≡ []) × (fault ≡ call.OutOfMemory)
 IsSealRun l gained handed (Planned end) = ⊥
 IsSealRun l gained handed (Untaken fault) = ⊥
-IsSealRun l gained handed (Sealed count) = (v : Volume) × (gained ≡ []) × (handed ≡ v ∷ []) × IsSealOf l v 0 × (count ≡ length v.records)
+IsSealRun l gained handed (Sealed count) =
+    (v : Volume) × (gained ≡ []) × (handed ≡ v ∷ []) × IsSealOf l v 0 × (count ≡ length v.records)
 
 -- a line was run, which gained these receipts and handed out these volumes
 abbrev pub IsLine : LayoutParts → Work → List Receipt → List Volume → LineEnd → Type 0
@@ -87,7 +93,8 @@ IsLine l (work.Echo path word) gained handed end = (handed ≡ []) × IsEchoRun 
 IsLine l (work.Cat path) gained handed end = ⊥
 IsLine l work.Seal gained handed end = IsSealRun l gained handed end
 
--- the fault of a call that an end names: that of its event's call or of its seal, or of the last call of its plan
+-- the fault of a call that an end names: that of its event's call or of its seal, or of the last
+-- call of its plan
 abbrev pub fault_in : LineEnd → Option CallFault
 fault_in (Faulted fault) = Some fault
 fault_in (Planned (Left op fault)) = Some fault
@@ -97,8 +104,10 @@ fault_in end = None
 abbrev pub IsCaused : LayoutParts → LineEnd → Type 0
 IsCaused l end = IfSome (fault_in end) (HasSharedCause l)
 
--- it was run through a port, of whose calls at most the last left a fault; the end names no full history but that of this call
-pub record IsPortRun {S : Type 0} (shows : S → PortValue) (makes : S → List Receipt → S → Type 0) (leaves : S → CallFault → S → Type 0) (old : S) (Ran : Run) (end : LineEnd) (new : S) : Type 0 where
+-- it was run through a port, of whose calls at most the last left a fault; the end names no full
+-- history but that of this call
+pub record IsPortRun {S : Type 0} (shows : S → PortValue) (makes : S → List Receipt → S → Type 0)
+    (leaves : S → CallFault → S → Type 0) (old : S) (Ran : Run) (end : LineEnd) (new : S) : Type 0 where
   pub gained : List Receipt
   pub fault : Option CallFault
   pub made : AreMade makes leaves old gained fault new
@@ -106,14 +115,17 @@ pub record IsPortRun {S : Type 0} (shows : S → PortValue) (makes : S → List 
   pub full : fault_in end ≡ Some call.HistoryFull → fault ≡ Some call.HistoryFull
 
 -- a line's work was done by calls of a seat, which keeps the receipts that it gained
-pub record IsCallsRun (l : LayoutParts) (old : SeatValue) (asked : Work) (end : LineEnd) (new : SeatValue) : Type 0 where
+pub record IsCallsRun (l : LayoutParts) (old : SeatValue) (asked : Work) (end : LineEnd)
+    (new : SeatValue) : Type 0 where
   pub gained : List Receipt
   pub turns : AreTurns l old gained new
   pub line : IsWorkRun l.cpus asked gained end
   pub caused : IsCaused l end
 
--- a line was run by a seat, which keeps the receipts that it gained; what it handed out stands after the volumes before it
-pub record IsLineRun (l : LayoutParts) (old : SeatValue) (before : List Volume) (asked : Work) (end : LineEnd) (new : SeatValue) (after : List Volume) : Type 0 where
+-- a line was run by a seat, which keeps the receipts that it gained; what it handed out stands
+-- after the volumes before it
+pub record IsLineRun (l : LayoutParts) (old : SeatValue) (before : List Volume) (asked : Work) (end : LineEnd)
+    (new : SeatValue) (after : List Volume) : Type 0 where
   pub gained : List Receipt
   pub handed : List Volume
   pub turns : AreTurns l old gained new
@@ -125,10 +137,14 @@ pub record IsLineRun (l : LayoutParts) (old : SeatValue) (before : List Volume) 
 abbrev pub AreLines : LayoutParts → List Line → List Receipt → List Volume → List LineEnd → Type 0
 AreLines l [] gained handed ends = (gained ≡ []) × (handed ≡ []) × (ends ≡ [])
 AreLines l (line ∷ lines) gained handed ends =
-    (first : List Receipt) × (out : List Volume) × (end : LineEnd) × (later : List Receipt) × (more : List Volume) × (others : List LineEnd) × (gained ≡ first ++ later) × (handed ≡ out ++ more) × (ends ≡ end ∷ others) × (IsLine l line.work first out end × AreLines l lines later more others)
+    (first : List Receipt) × (out : List Volume) × (end : LineEnd) × (later : List Receipt)
+    × (more : List Volume) × (others : List LineEnd) × (gained ≡ first ++ later) × (handed ≡ out ++ more)
+    × (ends ≡ end ∷ others) × (IsLine l line.work first out end × AreLines l lines later more others)
 
--- a seat ran a beginning of the lines, with an end for each, whose fault has its cause, and its seals handed out these volumes
-pub record IsWorked (l : LayoutParts) (old : SeatValue) (lines : List Line) (new : SeatValue) (handed : List Volume) (ends : List LineEnd) : Type 0 where
+-- a seat ran a beginning of the lines, with an end for each, whose fault has its cause, and its
+-- seals handed out these volumes
+pub record IsWorked (l : LayoutParts) (old : SeatValue) (lines : List Line) (new : SeatValue)
+    (handed : List Volume) (ends : List LineEnd) : Type 0 where
   pub gained : List Receipt
   pub turns : AreTurns l old gained new
   pub ran : AreLines l (take (length ends) lines) gained handed ends

@@ -12,14 +12,17 @@ use Rattle.hp_workers.specs.declared.fault.RunFault.TheVariants.{NotStarted, Out
 use Rattle.hp_workers.specs.Lines.{IsWorked}
 use Rattle.hp_workers.specs.Seals.{AreInOrder, AreSealed, joined, seals_in_all}
 
--- how a worker ended: without a fault it ran all its lines; with one it ran none, and NotStarted names its processor
+-- how a worker ended: without a fault it ran all its lines; with one it ran none, and NotStarted
+-- names its processor
 abbrev pub HasEnded : (cpu : ℕ) → List Line → List LineEnd → Option RunFault → Type 0
 HasEnded cpu lines ends None = length ends ≡ length lines
 HasEnded cpu lines ends (Some (NotStarted named)) = (named ≡ cpu) × (ends ≡ [])
 HasEnded cpu lines ends (Some OutOfMemory) = ends ≡ []
 
--- a worker ran a beginning of its lines by a seat, which handed out these volumes: all lines, or with a fault none
-pub record IsWorker (l : LayoutParts) (old : SeatValue) (lines : List Line) (new : SeatValue) (handed : List Volume) (ends : List LineEnd) (fault : Option RunFault) : Type 0 where
+-- a worker ran a beginning of its lines by a seat, which handed out these volumes: all lines, or
+-- with a fault none
+pub record IsWorker (l : LayoutParts) (old : SeatValue) (lines : List Line) (new : SeatValue)
+    (handed : List Volume) (ends : List LineEnd) (fault : Option RunFault) : Type 0 where
   pub worked : IsWorked l old lines new handed ends
   pub ended : HasEnded old.cpu lines ends fault
 
@@ -28,13 +31,16 @@ abbrev pub IsBare : List SeatValue → List Volume → List (List LineEnd) → O
 IsBare news volumes lists fault = (news ≡ []) × (volumes ≡ []) × (lists ≡ []) × (fault ≡ None)
 
 -- a worker of the script at a place
-pub record IsWorkerAt (l : LayoutParts) (old : SeatValue) (scripts : List (List Line)) (place : ℕ) (new : SeatValue) (handed : List Volume) (ends : List LineEnd) (fault : Option RunFault) : Type 0 where
+pub record IsWorkerAt (l : LayoutParts) (old : SeatValue) (scripts : List (List Line)) (place : ℕ)
+    (new : SeatValue) (handed : List Volume) (ends : List LineEnd) (fault : Option RunFault) : Type 0 where
   pub lines : List Line
   pub script : slice_get scripts place ≡ Some lines
   pub worker : IsWorker l old lines new handed ends fault
 
 -- the worker of the seat and the script at a place
-pub record HasWorker (l : LayoutParts) (old : SeatValue) (lines : List Line) (news : List SeatValue) (lists : List (List Volume)) (ends : List (List LineEnd)) (faults : List (Option RunFault)) (place : ℕ) : Type 0 where
+pub record HasWorker (l : LayoutParts) (old : SeatValue) (lines : List Line) (news : List SeatValue)
+    (lists : List (List Volume)) (ends : List (List LineEnd)) (faults : List (Option RunFault))
+    (place : ℕ) : Type 0 where
   pub new : SeatValue
   pub handed : List Volume
   pub own : List LineEnd
@@ -45,9 +51,12 @@ pub record HasWorker (l : LayoutParts) (old : SeatValue) (lines : List Line) (ne
   pub why : slice_get faults place ≡ Some fault
   pub worker : IsWorker l old lines new handed own fault
 
--- all seats are back, each after the lines that its worker ran, and the volumes are those that these handed out, seat by seat;
--- the fault is that of the first worker that has one: without one all lines were run
-pub record AreWorkers (l : LayoutParts) (olds : List SeatValue) (scripts : List (List Line)) (news : List SeatValue) (volumes : List Volume) (lists : List (List LineEnd)) (fault : Option RunFault) : Type 0 where
+-- all seats are back, each after the lines that its worker ran, and the volumes are those that
+-- these handed out, seat by seat; the fault is that of the first worker that has one: without one
+-- all lines were run
+pub record AreWorkers (l : LayoutParts) (olds : List SeatValue) (scripts : List (List Line))
+    (news : List SeatValue) (volumes : List Volume) (lists : List (List LineEnd))
+    (fault : Option RunFault) : Type 0 where
   pub handed : List (List Volume)
   pub faults : List (Option RunFault)
   pub seats : length news ≡ length olds
@@ -57,17 +66,21 @@ pub record AreWorkers (l : LayoutParts) (olds : List SeatValue) (scripts : List 
   pub all : volumes ≡ joined handed
   pub sealed : AreSealed l volumes
   pub first : fault ≡ first_some faults
-  pub each : (place : ℕ) (seat : SeatValue) (lines : List Line) → slice_get olds place ≡ Some seat → slice_get scripts place ≡ Some lines → HasWorker l seat lines news handed lists faults place
+  pub each : (place : ℕ) (seat : SeatValue) (lines : List Line) → slice_get olds place ≡ Some seat
+      → slice_get scripts place ≡ Some lines → HasWorker l seat lines news handed lists faults place
 
 -- the seats as they were, where memory was refused before any thread
-pub record AreUnstarted (olds news : List SeatValue) (volumes : List Volume) (lists : List (List LineEnd)) (fault : Option RunFault) : Type 0 where
+pub record AreUnstarted (olds news : List SeatValue) (volumes : List Volume) (lists : List (List LineEnd))
+    (fault : Option RunFault) : Type 0 where
   pub seats : news ≡ olds
   pub volumes_none : volumes ≡ []
   pub ends : lists ≡ []
   pub fault_is : fault ≡ Some OutOfMemory
 
 -- all after their workers; the volumes are in order, and no more than lines seal
-pub record AreGathered (l : LayoutParts) (olds : List SeatValue) (scripts : List (List Line)) (news : List SeatValue) (volumes : List Volume) (lists : List (List LineEnd)) (fault : Option RunFault) : Type 0 where
+pub record AreGathered (l : LayoutParts) (olds : List SeatValue) (scripts : List (List Line))
+    (news : List SeatValue) (volumes : List Volume) (lists : List (List LineEnd))
+    (fault : Option RunFault) : Type 0 where
   pub handed : List Volume
   pub workers : AreWorkers l olds scripts news handed lists fault
   pub same : IsPermutation handed volumes
@@ -75,5 +88,7 @@ pub record AreGathered (l : LayoutParts) (olds : List SeatValue) (scripts : List
   pub few : length volumes ≤ seals_in_all scripts
 
 -- the end of a run
-abbrev pub IsRunEnd : LayoutParts → List SeatValue → List (List Line) → List SeatValue → List Volume → List (List LineEnd) → Option RunFault → Type 0
-IsRunEnd l olds scripts news volumes lists fault = AreUnstarted olds news volumes lists fault ⊎ AreGathered l olds scripts news volumes lists fault
+abbrev pub IsRunEnd : LayoutParts → List SeatValue → List (List Line) → List SeatValue → List Volume
+    → List (List LineEnd) → Option RunFault → Type 0
+IsRunEnd l olds scripts news volumes lists fault =
+    AreUnstarted olds news volumes lists fault ⊎ AreGathered l olds scripts news volumes lists fault

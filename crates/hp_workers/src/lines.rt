@@ -61,7 +61,8 @@ impl Ends {
     }
 }
 
-/// Runs one line by a seat. `calls` counts the seat's calls and seals; what a seal hands out goes to the end of `volumes`.
+/// Runs one line by a seat. `calls` counts the seat's calls and seals; what a seal hands out goes
+/// to the end of `volumes`.
 pub(crate) fn run_line<'a, L: Job, G: Gate, R: Wait>(
     rt: &'a R,
     alloc: Global,
@@ -151,7 +152,8 @@ fn run_work<P: Port>(alloc: Global, port: &mut P, work: &Work) -> LineEnd
     requires clear { (P.shows port.old).fault ≡ None }
     requires run { is_cat work.now ≡ false }
     requires calls { is_seal work.now ≡ false }
-    ensures { IsPortRun P.shows P.makes P.leaves port.old (IsWorkRun (P.shows port.old).cpus work.now) result port.new }
+    ensures { IsPortRun P.shows P.makes P.leaves port.old (IsWorkRun (P.shows port.old).cpus work.now) result
+        port.new }
 {
     match work {
         Work::Event(event) => ask(alloc, port, event),
@@ -174,7 +176,8 @@ fn ask<P: Port>(alloc: Global, port: &mut P, event: &Event) -> LineEnd
 /// Carries out a plan through a port.
 fn carry_out<P: Port>(alloc: Global, port: &mut P, plan: &Plan, turns: u32) -> LineEnd
     requires { (P.shows port.old).fault ≡ None }
-    ensures { IsPortRun P.shows P.makes P.leaves port.old (IsPlanRun (P.shows port.old).cpus turns plan.now) result port.new }
+    ensures { IsPortRun P.shows P.makes P.leaves port.old (IsPlanRun (P.shows port.old).cpus turns plan.now)
+        result port.new }
 {
     match plan.copy(alloc) {
         Ok(plan) => LineEnd::Plan(run_plan(alloc, port, plan, turns)),
@@ -188,7 +191,8 @@ fn carry_out<P: Port>(alloc: Global, port: &mut P, plan: &Plan, turns: u32) -> L
 /// Does through a port what a word asks for that is written to a control file.
 fn echo<P: Port>(alloc: Global, port: &mut P, path: &BoxedText, word: &BoxedText) -> LineEnd
     requires { (P.shows port.old).fault ≡ None }
-    ensures { IsPortRun P.shows P.makes P.leaves port.old (IsEchoRun (P.shows port.old).cpus path.now word.now) result port.new }
+    ensures { IsPortRun P.shows P.makes P.leaves port.old
+        (IsEchoRun (P.shows port.old).cpus path.now word.now) result port.new }
 {
     match parse_echo(alloc, path.as_str(), word.as_str()) {
         Ok(Request::Event(event)) => ask(alloc, port, &event),

@@ -51,9 +51,11 @@ impl<'a, L: Job, G: Gate, R: Wait> Port for GatedPort<'a, L, G, R> {
 
     ghost shows = { λ p. port_value L.layout p.seat.now p.fault };
 
-    ghost makes = { λ p gained q. (q.seat.ghost_name ≡ p.seat.ghost_name) × AreTurns L.layout p.seat.now gained q.seat.now };
+    ghost makes = { λ p gained q.
+        (q.seat.ghost_name ≡ p.seat.ghost_name) × AreTurns L.layout p.seat.now gained q.seat.now };
 
-    ghost leaves = { λ p fault q. (q.seat.ghost_name ≡ p.seat.ghost_name) × (q.seat.now ≡ p.seat.now) × HasSharedCause L.layout fault };
+    ghost leaves = { λ p fault q.
+        (q.seat.ghost_name ≡ p.seat.ghost_name) × (q.seat.now ≡ p.seat.now) × HasSharedCause L.layout fault };
 
     fn cpus(&self) -> u32 {
         self.shared.cpus()
@@ -74,5 +76,6 @@ impl<'a, L: Job, G: Gate, R: Wait> Port for GatedPort<'a, L, G, R> {
 
     ghost nothing = { λ p. (refl, refl) };
 
-    ghost joined = { λ p q r xs ys a b. (b.0 ∙ a.0, turns_joined L.layout xs ys p.seat.now q.seat.now r.seat.now a.1 b.1) };
+    ghost joined = { λ p q r xs ys a b.
+        (b.0 ∙ a.0, turns_joined L.layout xs ys p.seat.now q.seat.now r.seat.now a.1 b.1) };
 }

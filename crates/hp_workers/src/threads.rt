@@ -56,9 +56,11 @@ impl<L: Job> Task<L> {
 pub struct RunEnd<L: Job> {
     /// All seats, in the order in which they came, each after the lines that it ran.
     pub seats: Vec<Seat<L>>,
-    /// What all seals handed out, ordered by the number of earlier records, and then by the number of their own.
+    /// What all seals handed out, ordered by the number of earlier records, and then by the number
+    /// of their own.
     pub volumes: Vec<Volume>,
-    /// For each seat the ends of the lines that it ran; no item at all where memory was refused before any line.
+    /// For each seat the ends of the lines that it ran; no item at all where memory was refused
+    /// before any line.
     pub ends: Vec<Ends>,
     /// None where all lines were run.
     pub fault: Option<RunFault>,

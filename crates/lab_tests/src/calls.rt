@@ -10,7 +10,9 @@ use std::test::Fail;
 
 /// The lines of the calls below, after one another.
 const LINES: &str =
-    "1 kalloc 2;1 kfree 8;1 map web 3;1 unmap db 3;1 write db 3 1 7;1 read db 3 1;1 drain 0;1 online 3 movable;1 begin off 2 normal 3 movable 4;1 drainfor 5 0;1 migrate 5;1 commit 5;1 cancel 5;1 undo 4;1 echo 0x80 probe;1 remove 3;1 echo online_kernel auto_online_blocks;";
+    "1 kalloc 2;1 kfree 8;1 map web 3;1 unmap db 3;1 write db 3 1 7;1 read db 3 1;1 drain 0;1 \
+     online 3 movable;1 begin off 2 normal 3 movable 4;1 drainfor 5 0;1 migrate 5;1 commit 5;1 \
+     cancel 5;1 undo 4;1 echo 0x80 probe;1 remove 3;1 echo online_kernel auto_online_blocks;";
 
 /// Writes a call of processor 1 and a semicolon.
 fn write_one(out: &mut String, names: &IndexSet<Text>, event: &Event) -> Result<(), AllocError> {

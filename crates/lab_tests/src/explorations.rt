@@ -4,30 +4,51 @@ use hp_lab::explore_text;
 use std::alloc::Global;
 use std::test::Fail;
 
-/// An offline against a map, where each finds one free frame outside the block. What each order of the four calls answers was
-/// taken from another program, written by hand.
+/// An offline against a map, where each finds one free frame outside the block. What each order of
+/// the four calls answers was taken from another program, written by hand.
 const RACE: &str =
-    "{\"layout\":{\"order\":1,\"pageblocks\":1,\"blocks\":2,\"cpus\":2,\"batch\":1,\"high\":1,\"owners\":2,\"pages\":2,\"words\":1,\"history\":40,\"boot\":[\"normal\",\"movable\"]},\"calls\":[\"0 map db 0\",\"0 write db 0 0 7\",\"0 kalloc 0\",\"0 begin off 1\",\"0 migrate 0\",\"0 commit 0\",\"1 map web 0\"]}";
+    "{\"layout\":{\"order\":1,\"pageblocks\":1,\"blocks\":2,\"cpus\":2,\"batch\":1,\"high\":1,\
+     \"owners\":2,\"pages\":2,\"words\":1,\"history\":40,\"boot\":[\"normal\",\"movable\"]},\
+     \"calls\":[\"0 map db 0\",\"0 write db 0 0 7\",\"0 kalloc 0\",\"0 begin off 1\",\
+     \"0 migrate 0\",\"0 commit 0\",\"1 map web 0\"]}";
 
 const RACE_TEXT: &str =
-    "interleavings: 4\nends: 3\n\nend 1\ninterleavings: 2\ncpu 0\nopened 0\nmoved 2 1\ndone\ncpu 1\nrefused NoFrame\nblock 0 online normal\nblock 1 offline\nfirst:\n\"0 begin off 1\",\n\"0 migrate 4\",\n\"0 commit 4\",\n\"1 map web 0\"\n\nend 2\ninterleavings: 1\ncpu 0\nopened 0\nrefused NoFrame\nrefused NotFree 2\ncpu 1\ndone\nblock 0 online normal\nblock 1 going movable\nfirst:\n\"0 begin off 1\",\n\"1 map web 0\",\n\"0 migrate 4\",\n\"0 commit 4\"\n\nend 3\ninterleavings: 1\ncpu 0\nopened 0\nmoved 2 1\nrefused NotFree 3\ncpu 1\ndone\nblock 0 online normal\nblock 1 going movable\nfirst:\n\"1 map web 0\",\n\"0 begin off 1\",\n\"0 migrate 5\",\n\"0 commit 5\"\n";
+    "interleavings: 4\nends: 3\n\nend 1\ninterleavings: 2\ncpu 0\nopened 0\nmoved 2 1\ndone\n\
+     cpu 1\nrefused NoFrame\nblock 0 online normal\nblock 1 offline\nfirst:\n\"0 begin off 1\",\n\
+     \"0 migrate 4\",\n\"0 commit 4\",\n\"1 map web 0\"\n\nend 2\ninterleavings: 1\ncpu 0\n\
+     opened 0\nrefused NoFrame\nrefused NotFree 2\ncpu 1\ndone\nblock 0 online normal\n\
+     block 1 going movable\nfirst:\n\"0 begin off 1\",\n\"1 map web 0\",\n\"0 migrate 4\",\n\
+     \"0 commit 4\"\n\nend 3\ninterleavings: 1\ncpu 0\nopened 0\nmoved 2 1\nrefused NotFree 3\n\
+     cpu 1\ndone\nblock 0 online normal\nblock 1 going movable\nfirst:\n\"1 map web 0\",\n\
+     \"0 begin off 1\",\n\"0 migrate 5\",\n\"0 commit 5\"\n";
 
 /// A setup with a line of each kind, after which one line brings the block online again.
 const SETUP: &str =
-    "{\"layout\":{\"order\":1,\"pageblocks\":1,\"blocks\":2,\"cpus\":2,\"batch\":1,\"high\":1,\"owners\":2,\"pages\":2,\"words\":1,\"history\":40,\"boot\":[\"normal\",\"movable\"]},\"calls\":[\"0 cat buddyinfo\",\"0 map db 0\",\"0 unmap db 0\",\"0 echo offline memory1/state\",\"0 seal\",\"0 echo online_movable memory1/state\",\"1 plan 4 off 1\",\"0 echo x memory1/state\",\"0 echo 1 memory1/online\"]}";
+    "{\"layout\":{\"order\":1,\"pageblocks\":1,\"blocks\":2,\"cpus\":2,\"batch\":1,\"high\":1,\
+     \"owners\":2,\"pages\":2,\"words\":1,\"history\":40,\"boot\":[\"normal\",\"movable\"]},\
+     \"calls\":[\"0 cat buddyinfo\",\"0 map db 0\",\"0 unmap db 0\",\
+     \"0 echo offline memory1/state\",\"0 seal\",\"0 echo online_movable memory1/state\",\
+     \"1 plan 4 off 1\",\"0 echo x memory1/state\",\"0 echo 1 memory1/online\"]}";
 
 const SETUP_TEXT: &str =
-    "interleavings: 1\nends: 1\n\nend 1\ninterleavings: 1\ncpu 0\ndone\ncpu 1\nblock 0 online normal\nblock 1 online normal\nfirst:\n\"0 online 1 normal\"\n";
+    "interleavings: 1\nends: 1\n\nend 1\ninterleavings: 1\ncpu 0\ndone\ncpu 1\n\
+     block 0 online normal\nblock 1 online normal\nfirst:\n\"0 online 1 normal\"\n";
 
 const NO_SCRIPT_TEXT: &str =
-    "interleavings: 1\nends: 1\n\nend 1\ninterleavings: 1\ncpu 0\ncpu 1\nblock 0 online normal\nblock 1 offline\nfirst:\n";
+    "interleavings: 1\nends: 1\n\nend 1\ninterleavings: 1\ncpu 0\ncpu 1\nblock 0 online normal\n\
+     block 1 offline\nfirst:\n";
 
 /// A plan, whose calls are steps of their own.
 const PLAN: &str =
-    "{\"layout\":{\"order\":1,\"pageblocks\":1,\"blocks\":2,\"cpus\":2,\"batch\":1,\"high\":1,\"owners\":2,\"pages\":2,\"words\":1,\"history\":40,\"boot\":[\"normal\",\"movable\"]},\"calls\":[\"1 echo offline memory1/state\"]}";
+    "{\"layout\":{\"order\":1,\"pageblocks\":1,\"blocks\":2,\"cpus\":2,\"batch\":1,\"high\":1,\
+     \"owners\":2,\"pages\":2,\"words\":1,\"history\":40,\"boot\":[\"normal\",\"movable\"]},\
+     \"calls\":[\"1 echo offline memory1/state\"]}";
 
 const PLAN_TEXT: &str =
-    "interleavings: 1\nends: 1\n\nend 1\ninterleavings: 1\ncpu 0\ncpu 1\nopened 0\ndone\ndone\nrefused NothingToMove\ndone\nblock 0 online normal\nblock 1 offline\nfirst:\n\"1 begin off 1\",\n\"1 drainfor 1 0\",\n\"1 drainfor 1 1\",\n\"1 migrate 1\",\n\"1 commit 1\"\n";
+    "interleavings: 1\nends: 1\n\nend 1\ninterleavings: 1\ncpu 0\ncpu 1\nopened 0\ndone\ndone\n\
+     refused NothingToMove\ndone\nblock 0 online normal\nblock 1 offline\nfirst:\n\
+     \"1 begin off 1\",\n\"1 drainfor 1 0\",\n\"1 drainfor 1 1\",\n\"1 migrate 1\",\n\
+     \"1 commit 1\"\n";
 
 /// Whether the exploration of a scenario after so many lines has this text.
 fn explores(alloc: Global, scenario: &str, setup: u64, text: &str) -> bool {

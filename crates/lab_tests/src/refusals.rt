@@ -12,13 +12,17 @@ const REFUSED: &[Refused] = &[
     ("[", 0, 9, LabFault::NotJson),
     ("{}", 0, 9, LabFault::BadShape),
     (
-        "{\"layout\":{\"order\":1,\"pageblocks\":1,\"blocks\":2,\"cpus\":2,\"batch\":1,\"high\":1,\"owners\":2,\"pages\":2,\"words\":1,\"history\":40,\"boot\":[\"normal\",\"movable\"]},\"calls\":[\"0 drain 0\",\"0 walk\"]}",
+        "{\"layout\":{\"order\":1,\"pageblocks\":1,\"blocks\":2,\"cpus\":2,\"batch\":1,\"high\":1,\
+         \"owners\":2,\"pages\":2,\"words\":1,\"history\":40,\"boot\":[\"normal\",\"movable\"]},\
+         \"calls\":[\"0 drain 0\",\"0 walk\"]}",
         0,
         9,
         LabFault::BadLine { line: 2 },
     ),
     (
-        "{\"layout\":{\"order\":1,\"pageblocks\":1,\"blocks\":2,\"cpus\":2,\"batch\":1,\"high\":1,\"owners\":2,\"pages\":2,\"words\":1,\"history\":40,\"boot\":[\"normal\",\"movable\"]},\"calls\":[\"0 cat buddyinfo\",\"0 drain 0\",\"1 cat buddyinfo\",\"0 seal\"]}",
+        "{\"layout\":{\"order\":1,\"pageblocks\":1,\"blocks\":2,\"cpus\":2,\"batch\":1,\"high\":1,\
+         \"owners\":2,\"pages\":2,\"words\":1,\"history\":40,\"boot\":[\"normal\",\"movable\"]},\
+         \"calls\":[\"0 cat buddyinfo\",\"0 drain 0\",\"1 cat buddyinfo\",\"0 seal\"]}",
         1,
         9,
         LabFault::NotForScript {
@@ -27,7 +31,9 @@ const REFUSED: &[Refused] = &[
         },
     ),
     (
-        "{\"layout\":{\"order\":1,\"pageblocks\":1,\"blocks\":2,\"cpus\":2,\"batch\":1,\"high\":1,\"owners\":2,\"pages\":2,\"words\":1,\"history\":40,\"boot\":[\"normal\",\"movable\"]},\"calls\":[\"0 seal\",\"0 seal\"]}",
+        "{\"layout\":{\"order\":1,\"pageblocks\":1,\"blocks\":2,\"cpus\":2,\"batch\":1,\"high\":1,\
+         \"owners\":2,\"pages\":2,\"words\":1,\"history\":40,\"boot\":[\"normal\",\"movable\"]},\
+         \"calls\":[\"0 seal\",\"0 seal\"]}",
         1,
         9,
         LabFault::NotForScript {
@@ -36,7 +42,9 @@ const REFUSED: &[Refused] = &[
         },
     ),
     (
-        "{\"layout\":{\"order\":1,\"pageblocks\":1,\"blocks\":2,\"cpus\":2,\"batch\":1,\"high\":1,\"owners\":2,\"pages\":2,\"words\":1,\"history\":40,\"boot\":[\"normal\",\"movable\"]},\"calls\":[\"2 drain 0\"]}",
+        "{\"layout\":{\"order\":1,\"pageblocks\":1,\"blocks\":2,\"cpus\":2,\"batch\":1,\"high\":1,\
+         \"owners\":2,\"pages\":2,\"words\":1,\"history\":40,\"boot\":[\"normal\",\"movable\"]},\
+         \"calls\":[\"2 drain 0\"]}",
         0,
         9,
         LabFault::NotForScript {
@@ -45,7 +53,9 @@ const REFUSED: &[Refused] = &[
         },
     ),
     (
-        "{\"layout\":{\"order\":1,\"pageblocks\":1,\"blocks\":2,\"cpus\":2,\"batch\":1,\"high\":1,\"owners\":2,\"pages\":2,\"words\":1,\"history\":40,\"boot\":[\"normal\",\"movable\"]},\"calls\":[\"0 echo offline memory/state\"]}",
+        "{\"layout\":{\"order\":1,\"pageblocks\":1,\"blocks\":2,\"cpus\":2,\"batch\":1,\"high\":1,\
+         \"owners\":2,\"pages\":2,\"words\":1,\"history\":40,\"boot\":[\"normal\",\"movable\"]},\
+         \"calls\":[\"0 echo offline memory/state\"]}",
         0,
         9,
         LabFault::NotForScript {
@@ -54,13 +64,17 @@ const REFUSED: &[Refused] = &[
         },
     ),
     (
-        "{\"layout\":{\"order\":1,\"pageblocks\":1,\"blocks\":2,\"cpus\":2,\"batch\":1,\"high\":1,\"owners\":2,\"pages\":2,\"words\":1,\"history\":40,\"boot\":[\"normal\",\"movable\"]},\"calls\":[\"0 drain 0\",\"0 drain 0\",\"1 drain 0\"]}",
+        "{\"layout\":{\"order\":1,\"pageblocks\":1,\"blocks\":2,\"cpus\":2,\"batch\":1,\"high\":1,\
+         \"owners\":2,\"pages\":2,\"words\":1,\"history\":40,\"boot\":[\"normal\",\"movable\"]},\
+         \"calls\":[\"0 drain 0\",\"0 drain 0\",\"1 drain 0\"]}",
         0,
         2,
         LabFault::TooMany,
     ),
     (
-        "{\"layout\":{\"order\":1,\"pageblocks\":1,\"blocks\":2,\"cpus\":2,\"batch\":1,\"high\":1,\"owners\":2,\"pages\":2,\"words\":1,\"history\":1,\"boot\":[\"normal\",\"movable\"]},\"calls\":[\"0 drain 0\",\"1 drain 0\"]}",
+        "{\"layout\":{\"order\":1,\"pageblocks\":1,\"blocks\":2,\"cpus\":2,\"batch\":1,\"high\":1,\
+         \"owners\":2,\"pages\":2,\"words\":1,\"history\":1,\"boot\":[\"normal\",\"movable\"]},\
+         \"calls\":[\"0 drain 0\",\"1 drain 0\"]}",
         0,
         9,
         LabFault::HistoryFull,

@@ -72,7 +72,8 @@ fn take_or_steal(buddy: &mut Buddy, number: u32, order: Order, tape: &mut Tape) 
     ensures apart { AreApart buddy.new.layout buddy.new.areas }
     ensures block { IfSome result (MayBeGiven buddy.new.layout buddy.new.areas order) }
     ensures fewer { (frame : ℕ) → free_places buddy.new.areas frame ≤ free_places buddy.old.areas frame }
-    ensures notes { NotesAreas buddy.old.layout (steal_bound buddy.old.layout) tape.old tape.new buddy.new.areas buddy.old.areas }
+    ensures notes { NotesAreas buddy.old.layout (steal_bound buddy.old.layout) tape.old tape.new
+        buddy.new.areas buddy.old.areas }
 {
     let (mobility, class) = if number % 2 == 0 {
         (Mobility::Unmovable, Class::Nu)
@@ -99,7 +100,8 @@ fn give_or_take(
     ensures layout { buddy.new.layout ≡ buddy.old.layout }
     ensures apart { AreApart buddy.new.layout buddy.new.areas }
     ensures held { IfSome result (λ block. MayBeGiven buddy.new.layout buddy.new.areas block.1 block.0) }
-    ensures notes { NotesAreas buddy.old.layout (steal_bound buddy.old.layout) tape.old tape.new buddy.new.areas buddy.old.areas }
+    ensures notes { NotesAreas buddy.old.layout (steal_bound buddy.old.layout) tape.old tape.new
+        buddy.new.areas buddy.old.areas }
 {
     if let Some((frame, order)) = held {
         buddy.give(Zone::Normal, frame, order, tape);
@@ -112,8 +114,8 @@ fn give_or_take(
     }
 }
 
-/// One turn, as a number says: the pageblock is isolated or released, a frame is taken for good, or a block is taken,
-/// stolen or given.
+/// One turn, as a number says: the pageblock is isolated or released, a frame is taken for good, or
+/// a block is taken, stolen or given.
 fn play_one(
     buddy: &mut Buddy,
     held: Option<(Frame, Order)>,
@@ -128,7 +130,8 @@ fn play_one(
     ensures layout { buddy.new.layout ≡ buddy.old.layout }
     ensures apart { AreApart buddy.new.layout buddy.new.areas }
     ensures held { IfSome result (λ block. MayBeGiven buddy.new.layout buddy.new.areas block.1 block.0) }
-    ensures notes { NotesAreas buddy.old.layout (turn_bound buddy.old.layout) tape.old tape.new buddy.new.areas buddy.old.areas }
+    ensures notes { NotesAreas buddy.old.layout (turn_bound buddy.old.layout) tape.old tape.new
+        buddy.new.areas buddy.old.areas }
 {
     if number % 4 == 0 {
         buddy.move_pageblock(Zone::Normal, Pageblock(0), number / 4 % 4 == 0, tape);
@@ -141,14 +144,16 @@ fn play_one(
     give_or_take(buddy, held, number / 64, tape)
 }
 
-/// So many turns, each by a number that looks random (Knuth, volume 2, section 3.2.1: the linear congruential method).
+/// So many turns, each by a number that looks random (Knuth, volume 2, section 3.2.1: the linear
+/// congruential method).
 fn play(buddy: &mut Buddy, turns: u32, tape: &mut Tape)
     requires orders { 4 ≤ buddy.old.layout.order }
     requires pageblocks { 0 < pageblock_count buddy.old.layout }
     requires apart { AreApart buddy.old.layout buddy.old.areas }
     requires room { HasRoom tape.old (turns * turn_bound buddy.old.layout) }
     ensures layout { buddy.new.layout ≡ buddy.old.layout }
-    ensures notes { NotesAreas buddy.old.layout (turns * turn_bound buddy.old.layout) tape.old tape.new buddy.new.areas buddy.old.areas }
+    ensures notes { NotesAreas buddy.old.layout (turns * turn_bound buddy.old.layout) tape.old tape.new
+        buddy.new.areas buddy.old.areas }
 {
     let mut held: Option<(Frame, Order)> = None;
     let mut number: u32 = 1;
@@ -158,7 +163,8 @@ fn play(buddy: &mut Buddy, turns: u32, tape: &mut Tape)
     }
 }
 
-/// Whatever so many turns did, the opposites of their deltas lead back to exactly what was before. How many deltas there were.
+/// Whatever so many turns did, the opposites of their deltas lead back to exactly what was before.
+/// How many deltas there were.
 fn played_and_back(buddy: &mut Buddy, turns: u32, tape: &mut Tape) -> usize
     requires orders { 4 ≤ buddy.old.layout.order }
     requires pageblocks { 0 < pageblock_count buddy.old.layout }

@@ -123,7 +123,8 @@ fn moved_and_back(pages: &mut Pages, mut tape: Tape) -> bool
     moved & (frame == Frame(3))
 }
 
-/// Maps and writes the page, moves it and back, and takes the rest back: whether all is found as it was each time.
+/// Maps and writes the page, moves it and back, and takes the rest back: whether all is found as it
+/// was each time.
 fn mapped_and_back(pages: &mut Pages, spare: Option<Words>, mut first: Tape, second: Tape) -> bool
     requires layout { pages.old.layout ≡ two_blocks }
     requires pages { pages.old.pages ≡ no_pages }

@@ -23,7 +23,8 @@ struct Small {
     buddy: Buddy,
 }
 
-/// Empty lists of one processor, with batches of so many frames, beside one free pageblock of an order of zone Normal.
+/// Empty lists of one processor, with batches of so many frames, beside one free pageblock of an
+/// order of zone Normal.
 fn small_memory(alloc: Global, order: u64, batch: u64) -> Result<Small, AllocError>
     ensures together { IfOk result (λ m. AreTogether m.cpus m.buddy) }
     ensures order { IfOk result (λ m. m.cpus.layout.order ≡ order) }
@@ -68,7 +69,8 @@ fn unwind(cpus: &mut Cpus, buddy: &mut Buddy, tape: &mut Tape)
     requires same { buddy.old.layout ≡ cpus.old.layout }
     requires fits { AllFit FitsFree free_undo tape.old.deltas (frames_of buddy.old.areas cpus.old) }
     requires numbers { AllByRecursion (IsDeltaOf cpus.old.layout) tape.old.deltas }
-    ensures back { frames_of buddy.new.areas cpus.new ≡ undo_all free_undo tape.old.deltas (frames_of buddy.old.areas cpus.old) }
+    ensures back { frames_of buddy.new.areas cpus.new
+        ≡ undo_all free_undo tape.old.deltas (frames_of buddy.old.areas cpus.old) }
     ensures layout { cpus.new.layout ≡ cpus.old.layout }
     ensures same { buddy.new.layout ≡ buddy.old.layout }
 {
@@ -83,8 +85,10 @@ fn isolate(cpus: &Cpus, isolated: bool, buddy: &mut Buddy, tape: &mut Tape)
     requires together { AreTogether cpus.now buddy.old }
     requires room { HasRoom tape.old (move_bound cpus.now.layout) }
     ensures together { AreTogether cpus.now buddy.new }
-    ensures fewer { (other : ℕ) → places_among buddy.new.areas cpus.now other ≤ places_among buddy.old.areas cpus.now other }
-    ensures notes { NotesFree cpus.now.layout (move_bound cpus.now.layout) tape.old tape.new (frames_of buddy.new.areas cpus.now) (frames_of buddy.old.areas cpus.now) }
+    ensures fewer { (other : ℕ)
+        → places_among buddy.new.areas cpus.now other ≤ places_among buddy.old.areas cpus.now other }
+    ensures notes { NotesFree cpus.now.layout (move_bound cpus.now.layout) tape.old tape.new
+        (frames_of buddy.new.areas cpus.now) (frames_of buddy.old.areas cpus.now) }
 {
     buddy.move_pageblock(Zone::Normal, Pageblock(0), isolated, tape);
 }
@@ -94,8 +98,10 @@ fn steal(cpus: &Cpus, wanted: Mobility, buddy: &mut Buddy, tape: &mut Tape)
     requires together { AreTogether cpus.now buddy.old }
     requires room { HasRoom tape.old (steal_bound cpus.now.layout) }
     ensures together { AreTogether cpus.now buddy.new }
-    ensures fewer { (other : ℕ) → places_among buddy.new.areas cpus.now other ≤ places_among buddy.old.areas cpus.now other }
-    ensures notes { NotesFree cpus.now.layout (steal_bound cpus.now.layout) tape.old tape.new (frames_of buddy.new.areas cpus.now) (frames_of buddy.old.areas cpus.now) }
+    ensures fewer { (other : ℕ)
+        → places_among buddy.new.areas cpus.now other ≤ places_among buddy.old.areas cpus.now other }
+    ensures notes { NotesFree cpus.now.layout (steal_bound cpus.now.layout) tape.old tape.new
+        (frames_of buddy.new.areas cpus.now) (frames_of buddy.old.areas cpus.now) }
 {
     let _ = buddy.steal(wanted, Order(0), tape);
 }
@@ -116,8 +122,10 @@ fn drain_short(cpus: &mut Cpus, buddy: &mut Buddy, tape: &mut Tape)
     requires room { HasRoom tape.old (short_drain_bound cpus.old.layout) }
     ensures layout { cpus.new.layout ≡ cpus.old.layout }
     ensures together { AreTogether cpus.new buddy.new }
-    ensures fewer { (other : ℕ) → places_among buddy.new.areas cpus.new other ≤ places_among buddy.old.areas cpus.old other }
-    ensures notes { NotesFree cpus.old.layout (short_drain_bound cpus.old.layout) tape.old tape.new (frames_of buddy.new.areas cpus.new) (frames_of buddy.old.areas cpus.old) }
+    ensures fewer { (other : ℕ)
+        → places_among buddy.new.areas cpus.new other ≤ places_among buddy.old.areas cpus.old other }
+    ensures notes { NotesFree cpus.old.layout (short_drain_bound cpus.old.layout) tape.old tape.new
+        (frames_of buddy.new.areas cpus.new) (frames_of buddy.old.areas cpus.old) }
 {
     if is_short(cpus) {
         cpus.drain(Cpu(0), buddy, tape);
@@ -139,7 +147,8 @@ fn put_or_take(
     ensures layout { cpus.new.layout ≡ cpus.old.layout }
     ensures together { AreTogether cpus.new buddy.new }
     ensures held { IfSome result (MayBePut cpus.new buddy.new) }
-    ensures notes { NotesFree cpus.old.layout (batch_bound cpus.old.layout + give_bound cpus.old.layout) tape.old tape.new (frames_of buddy.new.areas cpus.new) (frames_of buddy.old.areas cpus.old) }
+    ensures notes { NotesFree cpus.old.layout (batch_bound cpus.old.layout + give_bound cpus.old.layout)
+        tape.old tape.new (frames_of buddy.new.areas cpus.new) (frames_of buddy.old.areas cpus.old) }
 {
     match held {
         Some(frame) => {
@@ -150,8 +159,8 @@ fn put_or_take(
     }
 }
 
-/// One turn, as a number says: the pageblock is isolated or released, the lists are drained, a frame is stolen for good, or
-/// one is taken or put.
+/// One turn, as a number says: the pageblock is isolated or released, the lists are drained, a
+/// frame is stolen for good, or one is taken or put.
 fn play_one(
     cpus: &mut Cpus,
     held: Option<Frame>,
@@ -167,7 +176,8 @@ fn play_one(
     ensures layout { cpus.new.layout ≡ cpus.old.layout }
     ensures together { AreTogether cpus.new buddy.new }
     ensures held { IfSome result (MayBePut cpus.new buddy.new) }
-    ensures notes { NotesFree cpus.old.layout (turn_bound cpus.old.layout) tape.old tape.new (frames_of buddy.new.areas cpus.new) (frames_of buddy.old.areas cpus.old) }
+    ensures notes { NotesFree cpus.old.layout (turn_bound cpus.old.layout) tape.old tape.new
+        (frames_of buddy.new.areas cpus.new) (frames_of buddy.old.areas cpus.old) }
 {
     if number % 8 == 0 {
         isolate(cpus, number / 8 % 4 == 0, buddy, tape);
@@ -189,7 +199,8 @@ fn play_one(
     put_or_take(cpus, held, pool, buddy, tape)
 }
 
-/// So many turns, each by a number that looks random (Knuth, volume 2, section 3.2.1: the linear congruential method).
+/// So many turns, each by a number that looks random (Knuth, volume 2, section 3.2.1: the linear
+/// congruential method).
 fn play(cpus: &mut Cpus, turns: u32, buddy: &mut Buddy, tape: &mut Tape)
     requires cpu { 0 < cpus.old.layout.cpus }
     requires pageblocks { 0 < pageblock_count cpus.old.layout }
@@ -197,7 +208,8 @@ fn play(cpus: &mut Cpus, turns: u32, buddy: &mut Buddy, tape: &mut Tape)
     requires room { HasRoom tape.old (turns * turn_bound cpus.old.layout) }
     ensures layout { cpus.new.layout ≡ cpus.old.layout }
     ensures together { AreTogether cpus.new buddy.new }
-    ensures notes { NotesFree cpus.old.layout (turns * turn_bound cpus.old.layout) tape.old tape.new (frames_of buddy.new.areas cpus.new) (frames_of buddy.old.areas cpus.old) }
+    ensures notes { NotesFree cpus.old.layout (turns * turn_bound cpus.old.layout) tape.old tape.new
+        (frames_of buddy.new.areas cpus.new) (frames_of buddy.old.areas cpus.old) }
 {
     let mut held: Option<Frame> = None;
     let mut number: u32 = 1;
@@ -207,7 +219,8 @@ fn play(cpus: &mut Cpus, turns: u32, buddy: &mut Buddy, tape: &mut Tape)
     }
 }
 
-/// Whatever so many turns did, the opposites of their deltas lead back to exactly what was before. How many deltas there were.
+/// Whatever so many turns did, the opposites of their deltas lead back to exactly what was before.
+/// How many deltas there were.
 fn played_and_back(cpus: &mut Cpus, turns: u32, buddy: &mut Buddy, tape: &mut Tape) -> usize
     requires cpu { 0 < cpus.old.layout.cpus }
     requires pageblocks { 0 < pageblock_count cpus.old.layout }
@@ -239,7 +252,8 @@ fn put(cpus: &mut Cpus, buddy: &mut Buddy, frame: Frame, alloc: Global) -> Resul
     requires small { IsSmall cpus.old buddy.old }
     requires frame { MayBePut cpus.old buddy.old frame }
     ensures small { IsSmall cpus.new buddy.new }
-    ensures others { (other : ℕ) → frame ≢ other → MayBePut cpus.old buddy.old other → MayBePut cpus.new buddy.new other }
+    ensures others { (other : ℕ) → frame ≢ other → MayBePut cpus.old buddy.old other
+        → MayBePut cpus.new buddy.new other }
 {
     let mut tape = Tape::with_room(alloc, 16)?;
     cpus.put_one(Cpu(0), Zone::Normal, frame, buddy, &mut tape);

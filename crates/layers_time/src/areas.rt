@@ -17,7 +17,8 @@ fn take_and_give(buddy: &mut Buddy, tape: &mut Tape)
     requires room { HasRoom tape.old (block_room buddy.old.layout) }
     ensures layout { buddy.new.layout ≡ buddy.old.layout }
     ensures apart { AreApart buddy.new.layout buddy.new.areas }
-    ensures notes { NotesAreas buddy.old.layout (block_room buddy.old.layout) tape.old tape.new buddy.new.areas buddy.old.areas }
+    ensures notes { NotesAreas buddy.old.layout (block_room buddy.old.layout) tape.old tape.new
+        buddy.new.areas buddy.old.areas }
 {
     if let Some(frame) = buddy.take(Class::Nm, Order(0), tape) {
         buddy.give(Zone::Normal, frame, Order(0), tape);

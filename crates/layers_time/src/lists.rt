@@ -19,7 +19,8 @@ fn take_and_put(cpus: &mut Cpus, buddy: &mut Buddy, tape: &mut Tape)
     requires room { HasRoom tape.old (frame_room cpus.old.layout) }
     ensures layout { cpus.new.layout ≡ cpus.old.layout }
     ensures together { AreTogether cpus.new buddy.new }
-    ensures notes { NotesFree cpus.old.layout (frame_room cpus.old.layout) tape.old tape.new (frames_of buddy.new.areas cpus.new) (frames_of buddy.old.areas cpus.old) }
+    ensures notes { NotesFree cpus.old.layout (frame_room cpus.old.layout) tape.old tape.new
+        (frames_of buddy.new.areas cpus.new) (frames_of buddy.old.areas cpus.old) }
 {
     if let Some(frame) = cpus.take_one(Cpu(0), Pool::Nm, buddy, tape) {
         cpus.put_one(Cpu(0), Zone::Normal, frame, buddy, tape);

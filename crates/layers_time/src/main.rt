@@ -1,7 +1,7 @@
 //! How long calls of the layers take as their lists and layouts grow.
 //!
-//! With a word on the command line it prints nanoseconds a call, one line for each size; with none it prints nothing, since no
-//! two runs take the same time.
+//! With a word on the command line it prints nanoseconds a call, one line for each size; with none
+//! it prints nothing, since no two runs take the same time.
 #![tactic(auto)]
 
 ghost use Rattle.std.specs.Prelude.{◌≢◌, ◌≤◌};

@@ -1,4 +1,5 @@
-//! Short scripts on a small machine. The counts were made by hand, or by a script over the program `hotplug serial`.
+//! Short scripts on a small machine. The counts were made by hand, or by a script over the program
+//! `hotplug serial`.
 ghost use Rattle.std.specs.Prelude.{◌≡◌, IfOk, length};
 
 use hp_explore::{
@@ -8,14 +9,14 @@ use hp_explore::{
 };
 use hp_machine::Machine;
 use hp_units::{
-    Block, Boot, Cpu, Event, Frame, Item, Layout, Order, Owner, Page, Parts, Plan, Record, Refusal,
-    Reply, Row, State, Wish,
+    Block, Boot, Cpu, Event, Frame, Item, Layout, Order, Owner, Page, Parts, Plan, Refusal, Reply,
+    State, Wish,
 };
 use std::alloc::{AllocError, Global};
 use std::test::Fail;
 
 /// A machine of three blocks of four frames and two processors; the second and the third block are movable.
-fn booted(alloc: Global) -> Result<Machine, Fail> {
+pub fn booted(alloc: Global) -> Result<Machine, Fail> {
     let parts = Parts {
         order: 2,
         pageblocks: 1,
@@ -35,7 +36,11 @@ fn booted(alloc: Global) -> Result<Machine, Fail> {
 }
 
 /// The scripts of processor 0 and of processor 1.
-fn scripts(first: Vec<Line>, second: Vec<Line>, alloc: Global) -> Result<Vec<Script>, AllocError>
+pub fn scripts(
+    first: Vec<Line>,
+    second: Vec<Line>,
+    alloc: Global,
+) -> Result<Vec<Script>, AllocError>
     ensures { IfOk result (λ scripts. length scripts.items ≡ 2) }
 {
     let mut scripts = Vec::with_capacity(alloc, 2)?;
@@ -105,7 +110,8 @@ fn offline(alloc: Global) -> Result<Plan, AllocError> {
     Ok(Plan::new(items))
 }
 
-/// Block 1 goes offline by hand: it is begun, both processors are drained, a page moves, and the block commits.
+/// Block 1 goes offline by hand: it is begun, both processors are drained, a page moves, and the
+/// block commits.
 fn offline_by_hand(alloc: Global) -> Result<Vec<Line>, AllocError> {
     let plan = offline(alloc)?;
     Ok(vec![in alloc;
@@ -124,7 +130,7 @@ fn offline_by_plan(alloc: Global) -> Result<Vec<Line>, AllocError> {
 }
 
 /// An owner's page 0 is mapped.
-fn map(owner: u32) -> Event {
+pub fn map(owner: u32) -> Event {
     Event::Map {
         owner: Owner(owner),
         page: Page(0),
@@ -132,7 +138,7 @@ fn map(owner: u32) -> Event {
 }
 
 /// Its word is written.
-fn write(owner: u32) -> Event {
+pub fn write(owner: u32) -> Event {
     Event::Write {
         owner: Owner(owner),
         page: Page(0),
@@ -142,7 +148,7 @@ fn write(owner: u32) -> Event {
 }
 
 /// Its word is read.
-fn read(owner: u32) -> Event {
+pub fn read(owner: u32) -> Event {
     Event::Read {
         owner: Owner(owner),
         page: Page(0),
@@ -203,7 +209,8 @@ fn prepares(alloc: Global, machine: &mut Machine) -> bool {
         && machine.seal(alloc).is_ok()
 }
 
-/// Whether an offline has these counts of ends while another owner uses a page: by hand, and by the driver of a plan.
+/// Whether an offline has these counts of ends while another owner uses a page: by hand, and by the
+/// driver of a plan.
 fn counts_of_both(alloc: Global, machine: &Machine) -> Result<bool, AllocError> {
     let by_hand = scripts(offline_by_hand(alloc)?, use_a_page(alloc)?, alloc)?;
     let by_plan = scripts(offline_by_plan(alloc)?, use_a_page(alloc)?, alloc)?;
@@ -277,162 +284,6 @@ fn an_offline_ends_in_several_ways(rt: HostRuntime) -> Result<(), Fail> {
     let explored = explores_an_offline(rt.alloc(), &mut machine);
     drop(machine);
     assert!(rt; explored?);
-    Ok(())
-}
-
-/// Two processors of one owner: each maps, writes, reads and unmaps the same page, but for one that reads in place of writing.
-fn two_users(alloc: Global) -> Result<Vec<Script>, AllocError>
-    ensures { IfOk result (λ scripts. length scripts.items ≡ 2) }
-{
-    scripts(
-        use_and_unmap(alloc, write(0))?,
-        use_and_unmap(alloc, read(0))?,
-        alloc,
-    )
-}
-
-/// Owner 0's page is mapped, used, read and unmapped.
-fn use_and_unmap(alloc: Global, usage: Event) -> Result<Vec<Line>, AllocError> {
-    Ok(vec![in alloc;
-        Line::Ask(map(0)),
-        Line::Ask(usage),
-        Line::Ask(read(0)),
-        Line::Ask(Event::Unmap {
-            owner: Owner(0),
-            page: Page(0),
-        }),
-    ]?)
-}
-
-/// The processors of eight calls, as a number's bits name them from the highest on.
-fn schedule_of(alloc: Global, number: u32) -> Result<Vec<Cpu>, AllocError> {
-    let mut schedule = Vec::with_capacity(alloc, 8)?;
-    for place in 0..8u32 {
-        schedule.push(Cpu((number >> (7 - place)) & 1))?;
-    }
-    Ok(schedule)
-}
-
-/// Whether a processor's replies among records are these.
-fn are_replies(answers: &Answers, cpu: Cpu, records: &[Record]) -> bool {
-    let mut place: usize = 0;
-    for record in records {
-        if record.cpu == cpu {
-            match answers.as_slice().get(place) {
-                Some(reply) => {
-                    if !reply.same(&record.reply) {
-                        return false;
-                    }
-                }
-                None => return false,
-            }
-            place = place.saturating_add(1);
-        }
-    }
-    place == answers.as_slice().len()
-}
-
-/// Whether a row has the state of a machine's block.
-fn is_state(row: &Row, now: Option<Row>) -> bool {
-    match now {
-        Some(now) => now.state == row.state,
-        None => false,
-    }
-}
-
-/// Whether the rows have the states of a machine's blocks.
-fn are_states(rows: &[Row], machine: &Machine) -> bool {
-    for block in 0..machine.layout().blocks() {
-        match rows.get(block as usize) {
-            Some(row) => {
-                if !is_state(row, machine.row(Block(block))) {
-                    return false;
-                }
-            }
-            None => return false,
-        }
-    }
-    true
-}
-
-/// Whether an end is that of a machine after so many records.
-fn is_end_of(end: &Ending, machine: &Machine, before: usize) -> bool {
-    let news = match machine.history().get(before..) {
-        Some(news) => news,
-        None => return false,
-    };
-    let is_answered = match end.outcome.replies() {
-        [zero, one] => are_replies(zero, Cpu(0), news) && are_replies(one, Cpu(1), news),
-        _ => false,
-    };
-    is_answered && are_states(end.outcome.blocks(), machine)
-}
-
-/// Whether a schedule is complete and ends so.
-fn is_played_to(
-    alloc: Global,
-    machine: &Machine,
-    scripts: &[Script],
-    number: u32,
-    end: &Ending,
-) -> Result<bool, AllocError> {
-    let schedule = schedule_of(alloc, number)?;
-    Ok(match play(alloc, machine, scripts, schedule.as_slice()) {
-        Ok(Some(played)) => is_end_of(end, &played, machine.history().len()),
-        _ => false,
-    })
-}
-
-/// How many of all schedules of eight calls end so.
-fn played_count(
-    alloc: Global,
-    machine: &Machine,
-    scripts: &[Script],
-    end: &Ending,
-) -> Result<u64, AllocError> {
-    let mut count: u64 = 0;
-    for number in 0..256u32 {
-        if is_played_to(alloc, machine, scripts, number, end)? {
-            count = count.saturating_add(1);
-        }
-    }
-    Ok(count)
-}
-
-/// Whether there are several ends, each counts as many schedules as are played to it, one by one, and they are 70 together: 8 calls,
-/// 4 of each processor.
-fn agree_with_play(
-    alloc: Global,
-    machine: &Machine,
-    scripts: &[Script],
-    ends: &[Ending],
-) -> Result<bool, AllocError> {
-    let mut all: u64 = 0;
-    for end in ends {
-        let count = played_count(alloc, machine, scripts, end)?;
-        if count != end.count {
-            return Ok(false);
-        }
-        all = all.saturating_add(count);
-    }
-    Ok(all == 70 && ends.len() > 10)
-}
-
-/// Whether the exploration of two users agrees with playing each schedule. Many of its places are alike, and are walked once.
-fn merges_truly(alloc: Global, machine: &Machine) -> Result<bool, AllocError> {
-    let scripts = two_users(alloc)?;
-    match explore(alloc, machine, scripts.as_slice(), 70, &mut Silent) {
-        Ok(ends) => agree_with_play(alloc, machine, scripts.as_slice(), ends.as_slice()),
-        Err(_fault) => Ok(false),
-    }
-}
-
-#[test]
-fn merged_places_count_what_is_played(rt: HostRuntime) -> Result<(), Fail> {
-    let machine = booted(rt.alloc())?;
-    let merged = merges_truly(rt.alloc(), &machine);
-    drop(machine);
-    assert!(rt; merged?);
     Ok(())
 }
 

@@ -111,7 +111,8 @@ fn seals(
     Ok(volume.before == before && volume.records.as_slice().len() == count)
 }
 
-/// Whether, after two records were sealed, they can't be undone, an undo of none counts none, and a block can be taken.
+/// Whether, after two records were sealed, they can't be undone, an undo of none counts none, and a
+/// block can be taken.
 fn goes_on(alloc: Global, machine: &mut Machine) -> bool {
     undoes(alloc, machine, Serial(0), &Reply::Refused(Refusal::Gone))
         && undoes(alloc, machine, Serial(2), &Reply::Undone { count: 0 })

@@ -13,7 +13,8 @@ use hp_units::{
 use std::alloc::{AllocError, Global};
 use std::test::Fail;
 
-/// How a call is answered: it goes well, it is refused, there is nothing to do, its operation is gone, or it leaves a fault.
+/// How a call is answered: it goes well, it is refused, there is nothing to do, its operation is
+/// gone, or it leaves a fault.
 #[derive(Clone, Copy, Debug, PartialEq, Eq)]
 enum Answer {
     Good,
@@ -43,8 +44,10 @@ impl Scripted {
 
     /// Keeps a receipt of an event and its reply, and gives one.
     fn give(&mut self, alloc: Global, event: &Event, reply: Reply) -> Result<Receipt, AllocError>
-        ensures given { IfOk result (λ receipt. receipt ≡ record { serial = 1; event = event.now; reply = reply }) }
-        ensures kept { IfOk result (λ receipt. self.new.receipts.items ≡ self.old.receipts.items ++ receipt ∷ []) }
+        ensures given { IfOk result
+            (λ receipt. receipt ≡ record { serial = 1; event = event.now; reply = reply }) }
+        ensures kept { IfOk result
+            (λ receipt. self.new.receipts.items ≡ self.old.receipts.items ++ receipt ∷ []) }
         ensures none { OnErr result (self.new.receipts.items ≡ self.old.receipts.items) }
     {
         let kept = receipt(event.copy(alloc)?, reply);

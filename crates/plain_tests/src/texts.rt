@@ -16,7 +16,8 @@ use std::alloc::{AllocError, Global};
 use std::test::Fail;
 
 const ANSWERS: &str =
-    "3: frame 8\nrefused Busy 2\n-: fault HistoryFull\nfault OutOfMemory\ncat: fault NoFile\necho: fault BadText\nplan: cancelled NoFrame restored\nplan: left - HistoryFull\nsealed 7\n";
+    "3: frame 8\nrefused Busy 2\n-: fault HistoryFull\nfault OutOfMemory\ncat: fault NoFile\n\
+     echo: fault BadText\nplan: cancelled NoFrame restored\nplan: left - HistoryFull\nsealed 7\n";
 
 /// The text of an answer of each kind.
 fn answers(alloc: Global) -> Result<String, AllocError> {
@@ -58,7 +59,8 @@ fn answers_have_their_texts(rt: HostRuntime) -> Result<(), Fail> {
 }
 
 const MAPPED: &str =
-    "state\nblock 0 online normal\nblock 1 online normal\nblock 2 online movable\nblock 3 offline\nNM 2: 0 4\nMM 1: 10\ncpu 0 MM: 9\npage db 0 at 8: 0 0\n";
+    "state\nblock 0 online normal\nblock 1 online normal\nblock 2 online movable\nblock 3 offline\n\
+     NM 2: 0 4\nMM 1: 10\ncpu 0 MM: 9\npage db 0 at 8: 0 0\n";
 
 /// Whether an event of processor 0 gets this reply.
 fn is_answered(alloc: Global, machine: &mut Machine, event: &Event, reply: &Reply) -> bool {

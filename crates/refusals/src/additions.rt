@@ -1,4 +1,5 @@
-//! Parts that are added to a state. Where one is out of memory, the state has to be as it was, and the part is added again.
+//! Parts that are added to a state. Where one is out of memory, the state has to be as it was, and
+//! the part is added again.
 ghost use Rattle.std.specs.Prelude.{◌≡◌};
 ghost use Rattle.hp_units.specs.Arithmetic.{frame_count};
 
@@ -46,7 +47,8 @@ fn add(case: &mut Case, image: &mut Image, added: Added) -> Result<bool, Trouble
     is_added(case, &before, image, added)
 }
 
-/// Whether a part is there after it was added. Out of memory, the state has to be as before, and the part is added again.
+/// Whether a part is there after it was added. Out of memory, the state has to be as before, and
+/// the part is added again.
 fn is_added(
     case: &mut Case,
     before: &Image,

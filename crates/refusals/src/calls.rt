@@ -1,5 +1,6 @@
-//! Calls of a machine. Where one is out of memory, the machine has to be as its copy, which has not made the call yet, and the call
-//! is made again. Its answer, and the machine after it, have to be those of the copy that makes the same call.
+//! Calls of a machine. Where one is out of memory, the machine has to be as its copy, which has not
+//! made the call yet, and the call is made again. Its answer, and the machine after it, have to be
+//! those of the copy that makes the same call.
 use crate::same::{same_ends, same_machines, same_receipts, same_records, same_states};
 use crate::trouble::{Case, Trouble, holds};
 use hp_history::Volume;

@@ -1,5 +1,5 @@
-//! Calls that take no memory. All that they need is made before; then a line is written, after which every request for memory
-//! may be refused.
+//! Calls that take no memory. All that they need is made before; then a line is written, after
+//! which every request for memory may be refused.
 ghost use Rattle.std.specs.Prelude.{◌<◌, length};
 
 use crate::calls::{is_full, make_call};

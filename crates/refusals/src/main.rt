@@ -1,9 +1,10 @@
 //! Calls that may be out of memory, each in a situation in which it has another answer.
 //!
-//! `refusals CASE` runs a case, `refusals names` prints the names of all, and `refusals` runs them in turn. Where a call is out of
-//! memory the case compares what was before with what is after, makes the call again, and wants the answer of ample memory. So the
-//! one line on standard output, and the status 0, are the same whichever request for memory is refused. Standard error has how many
-//! calls were out of memory.
+//! `refusals CASE` runs a case, `refusals names` prints the names of all, and `refusals` runs them
+//! in turn. Where a call is out of memory the case compares what was before with what is after,
+//! makes the call again, and wants the answer of ample memory. So the one line on standard output,
+//! and the status 0, are the same whichever request for memory is refused. Standard error has how
+//! many calls were out of memory.
 #![tactic(auto)]
 
 mod additions;

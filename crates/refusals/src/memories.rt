@@ -1,4 +1,5 @@
-//! Steps of a memory. Where one is out of memory, the memory and its tape have to be as they were, and the step is made again.
+//! Steps of a memory. Where one is out of memory, the memory and its tape have to be as they were,
+//! and the step is made again.
 use crate::trouble::{Case, Trouble, holds};
 use hp_memory::{ImageStep, Memory, step_of_image};
 use hp_plain::Image;

@@ -1,6 +1,7 @@
-//! Steps and an undo that take no memory, since there is room for all that they note and record; and calls that go back on a
-//! machine whose tables are full, which ask for memory once, for their record. What they need is made before; then a line is
-//! written, after which requests for memory may be refused.
+//! Steps and an undo that take no memory, since there is room for all that they note and record;
+//! and calls that go back on a machine whose tables are full, which ask for memory once, for their
+//! record. What they need is made before; then a line is written, after which requests for memory
+//! may be refused.
 use crate::calls::make_call;
 use crate::trouble::Trouble;
 use hp_machine::Machine;
@@ -10,8 +11,9 @@ use hp_tape::Tape;
 use hp_units::{Class, Cpu, Event, Frame, Layout, Order, Reply, Serial};
 use std::alloc::Global;
 
-/// Lines of three steps, which may take memory, since the words of pages are made in them; and of steps that take none. A commit
-/// and a cancel are not among these: they make a list of their blocks.
+/// Lines of three steps, which may take memory, since the words of pages are made in them; and of
+/// steps that take none. A commit and a cancel are not among these: they make a list of their
+/// blocks.
 pub const STEPS: &str =
     r#""0 map db 0","0 write db 0 1 7","0 map web 0","0 kalloc 0","0 kalloc 1","0 kfree 2","0 read db 0 1","0 write db 0 0 9","0 online 3 normal","0 begin off 2","0 drainfor 10 0","0 migrate 10","0 migrate 10","0 unmap db 0","0 drain 0","0 kalloc 3""#;
 

@@ -1,4 +1,5 @@
-//! A machine that its processors share, and its close. Where a call is out of memory all comes back, and it is made again.
+//! A machine that its processors share, and its close. Where a call is out of memory all comes
+//! back, and it is made again.
 ghost use Rattle.std.specs.Prelude.{◌≡◌};
 ghost use Rattle.hp_shared.specs.Shared.{IsFresh};
 

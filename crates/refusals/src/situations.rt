@@ -1,4 +1,5 @@
-//! The cases by name, and the scenarios that they run. In a situation of a call the last of the lines is the one that counts.
+//! The cases by name, and the scenarios that they run. In a situation of a call the last of the
+//! lines is the one that counts.
 use crate::trouble::Trouble;
 use crate::{audits, memories, rooms, seats};
 use hp_scenario::Scenario;

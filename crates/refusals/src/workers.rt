@@ -1,4 +1,5 @@
-//! Workers in threads. Where one is out of memory all seats come back, and the machine closes with as many records as receipts.
+//! Workers in threads. Where one is out of memory all seats come back, and the machine closes with
+//! as many records as receipts.
 ghost use Rattle.std.specs.Prelude.{◌≡◌};
 ghost use Rattle.hp_scenario.specs.Scripts.{AreForRun};
 ghost use Rattle.hp_shared.specs.Shared.{IsFresh};

@@ -273,7 +273,8 @@ fn moved_by_one<L: Job, R: Wait>(
     Some((seats, end))
 }
 
-/// A seat maps a page and takes its block offline. The plan's end, and how many records a close finds, with the seats in another order.
+/// A seat maps a page and takes its block offline. The plan's end, and how many records a close
+/// finds, with the seats in another order.
 fn page_moved<L: Job, R: Wait>(
     rt: &R,
     alloc: Global,

@@ -20,7 +20,8 @@ impl Buddy {
         Class::of_kind(zone, self.kind(pageblock_of(&self.layout, frame)))
     }
 
-    /// Takes the buddies of a block, which are free at each order from the first one and below the last one, off their lists.
+    /// Takes the buddies of a block, which are free at each order from the first one and below the
+    /// last one, off their lists.
     pub(super) fn unlink_buddies(
         &mut self,
         class: Class,
@@ -33,11 +34,13 @@ impl Buddy {
         requires first { first ≤ last }
         requires last { last ≤ self.old.layout.order }
         requires frame { frame < frame_count self.old.layout }
-        requires free { (order : ℕ) → first ≤ order → order < last → is_on (buddy (ancestor frame order) order) (free_list self.old.areas class order) ≡ true }
+        requires free { (order : ℕ) → first ≤ order → order < last
+            → is_on (buddy (ancestor frame order) order) (free_list self.old.areas class order) ≡ true }
         requires room { HasRoom tape.old (last - first) }
         ensures areas { self.new.areas ≡ without_buddies self.old.areas class frame first (last - first) }
         ensures layout { self.new.layout ≡ self.old.layout }
-        ensures notes { NotesAreas self.old.layout (last - first) tape.old tape.new self.new.areas self.old.areas }
+        ensures notes { NotesAreas self.old.layout (last - first) tape.old tape.new self.new.areas
+            self.old.areas }
     {
         for order in first.0..last.0 {
             let half = frame.ancestor(Order(order));

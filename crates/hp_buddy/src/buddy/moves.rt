@@ -18,9 +18,11 @@ impl Buddy {
         requires pageblock { pageblock < pageblock_count self.old.layout }
         requires apart { AreApart self.old.layout self.old.areas }
         requires room { HasRoom tape.old (2 * pageblock_size self.old.layout) }
-        ensures areas { self.new.areas ≡ move_free_below self.old.layout self.old.areas from to pageblock (self.old.layout.order + 1) }
+        ensures areas { self.new.areas
+            ≡ move_free_below self.old.layout self.old.areas from to pageblock (self.old.layout.order + 1) }
         ensures layout { self.new.layout ≡ self.old.layout }
-        ensures notes { NotesAreas self.old.layout (2 * pageblock_size self.old.layout) tape.old tape.new self.new.areas self.old.areas }
+        ensures notes { NotesAreas self.old.layout (2 * pageblock_size self.old.layout) tape.old tape.new
+            self.new.areas self.old.areas }
     {
         for order in 0..self.layout.order() + 1 {
             self.move_order(from, to, pageblock, Order(order), tape);
@@ -36,7 +38,8 @@ impl Buddy {
         1 << (self.layout.order() - order.0)
     }
 
-    /// Moves the free blocks of one order of a pageblock, by rising number: each starts at a multiple of its size.
+    /// Moves the free blocks of one order of a pageblock, by rising number: each starts at a
+    /// multiple of its size.
     fn move_order(
         &mut self,
         from: Class,
@@ -48,10 +51,13 @@ impl Buddy {
         requires pageblock { pageblock < pageblock_count self.old.layout }
         requires order { order ≤ self.old.layout.order }
         requires apart { AreApart self.old.layout self.old.areas }
-        requires room { HasRoom tape.old (2 * free_count self.old.areas from order (pageblock * pageblock_size self.old.layout) (pageblock_size self.old.layout)) }
+        requires room { HasRoom tape.old (2 * free_count self.old.areas from order
+            (pageblock * pageblock_size self.old.layout) (pageblock_size self.old.layout)) }
         ensures areas { self.new.areas ≡ move_free self.old.layout self.old.areas from to pageblock order }
         ensures layout { self.new.layout ≡ self.old.layout }
-        ensures notes { NotesAreas self.old.layout (2 * free_count self.old.areas from order (pageblock * pageblock_size self.old.layout) (pageblock_size self.old.layout)) tape.old tape.new self.new.areas self.old.areas }
+        ensures notes { NotesAreas self.old.layout (2 * free_count self.old.areas from order
+            (pageblock * pageblock_size self.old.layout)
+            (pageblock_size self.old.layout)) tape.old tape.new self.new.areas self.old.areas }
     {
         let first = self.first_frame(pageblock);
         let count = self.blocks_of_order(order);
@@ -69,7 +75,8 @@ impl Buddy {
         requires room { HasRoom tape.old (2 * free_one self.old.areas from order frame) }
         ensures areas { self.new.areas ≡ move_one self.old.areas from to order frame }
         ensures layout { self.new.layout ≡ self.old.layout }
-        ensures notes { NotesAreas self.old.layout (2 * free_one self.old.areas from order frame) tape.old tape.new self.new.areas self.old.areas }
+        ensures notes { NotesAreas self.old.layout (2 * free_one self.old.areas from order frame) tape.old
+            tape.new self.new.areas self.old.areas }
     {
         if self.is_free(from, order, frame) {
             self.unlink_free(from, order, frame, tape);

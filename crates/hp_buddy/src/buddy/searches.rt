@@ -50,7 +50,8 @@ impl Buddy {
     pub(super) fn join_order(&self, class: Class, frame: Frame, first: Order) -> Order
         requires first { first ≤ self.now.layout.order }
         requires frame { frame < frame_count self.now.layout }
-        ensures joined { result ≡ join_order self.now.areas class frame first (self.now.layout.order - first) }
+        ensures joined { result
+            ≡ join_order self.now.areas class frame first (self.now.layout.order - first) }
         ensures layout { IsLayout self.now.layout }
     {
         let last = self.layout.order();

@@ -13,7 +13,8 @@ use hp_tape::Tape;
 use hp_units::{Class, Frame, Kind, Mobility, Order, Zone, pageblock_of};
 
 impl Buddy {
-    /// Takes the front block of an order and puts what is left of it over the order wanted on the lists of a class.
+    /// Takes the front block of an order and puts what is left of it over the order wanted on the
+    /// lists of a class.
     pub(super) fn take_front(
         &mut self,
         class: Class,
@@ -26,10 +27,13 @@ impl Buddy {
         requires wanted { wanted ≤ order }
         requires apart { AreApart self.old.layout self.old.areas }
         requires room { HasRoom tape.old (order - wanted + 1) }
-        ensures taken { MatchOption result (take_front self.old.areas class rest order wanted ≡ None) (λ frame. take_front self.old.areas class rest order wanted ≡ Some (record { areas = self.new.areas; frame = frame })) }
+        ensures taken { MatchOption result (take_front self.old.areas class rest order wanted
+            ≡ None) (λ frame. take_front self.old.areas class rest order wanted
+            ≡ Some (record { areas = self.new.areas; frame = frame })) }
         ensures none { MatchOption result ((self.new ≡ self.old) × (tape.new ≡ tape.old)) (λ _. Unit {0}) }
         ensures layout { self.new.layout ≡ self.old.layout }
-        ensures notes { NotesAreas self.old.layout (order - wanted + 1) tape.old tape.new self.new.areas self.old.areas }
+        ensures notes { NotesAreas self.old.layout (order - wanted + 1) tape.old tape.new self.new.areas
+            self.old.areas }
     {
         match self.links.front(list_number(class, order)) {
             Some(frame) => {
@@ -41,7 +45,8 @@ impl Buddy {
         }
     }
 
-    /// Puts the upper halves of a block that is split down from an order to the last one on the lists of a class.
+    /// Puts the upper halves of a block that is split down from an order to the last one on the
+    /// lists of a class.
     fn put_halves(&mut self, class: Class, frame: Frame, last: Order, order: Order, tape: &mut Tape)
         requires last { last ≤ order }
         requires layout { IsLayout self.old.layout }
@@ -50,7 +55,8 @@ impl Buddy {
         requires room { HasRoom tape.old (order - last) }
         ensures areas { self.new.areas ≡ with_halves self.old.areas class frame last (order - last) }
         ensures layout { self.new.layout ≡ self.old.layout }
-        ensures notes { NotesAreas self.old.layout (order - last) tape.old tape.new self.new.areas self.old.areas }
+        ensures notes { NotesAreas self.old.layout (order - last) tape.old tape.new self.new.areas
+            self.old.areas }
     {
         for half in (last.0..order.0).rev() {
             let upper = upper_half(frame, Order(half));
@@ -70,10 +76,13 @@ impl Buddy {
         requires wanted { wanted ≤ order }
         requires apart { AreApart self.old.layout self.old.areas }
         requires room { HasRoom tape.old (order - wanted + 2) }
-        ensures taken { MatchOption result (steal_front self.old.layout self.old.areas mobility order wanted ≡ None) (λ frame. steal_front self.old.layout self.old.areas mobility order wanted ≡ Some (record { areas = self.new.areas; frame = frame })) }
+        ensures taken { MatchOption result (steal_front self.old.layout self.old.areas mobility order wanted
+            ≡ None) (λ frame. steal_front self.old.layout self.old.areas mobility order wanted
+            ≡ Some (record { areas = self.new.areas; frame = frame })) }
         ensures none { MatchOption result ((self.new ≡ self.old) × (tape.new ≡ tape.old)) (λ _. Unit {0}) }
         ensures layout { self.new.layout ≡ self.old.layout }
-        ensures notes { NotesAreas self.old.layout (order - wanted + 2) tape.old tape.new self.new.areas self.old.areas }
+        ensures notes { NotesAreas self.old.layout (order - wanted + 2) tape.old tape.new self.new.areas
+            self.old.areas }
     {
         let from = Class::usable(Zone::Normal, mobility.other());
         if order.0 != self.layout.order() {
@@ -93,7 +102,8 @@ impl Buddy {
     fn set_mobility(&mut self, frame: Frame, mobility: Mobility, tape: &mut Tape)
         requires frame { frame < frame_count self.old.layout }
         requires room { HasRoom tape.old 1 }
-        ensures areas { self.new.areas ≡ with_kind self.old.areas (pageblock_of self.old.layout frame) (record (kind_of self.old.areas (pageblock_of self.old.layout frame)) { mobility = mobility }) }
+        ensures areas { self.new.areas ≡ with_kind self.old.areas (pageblock_of self.old.layout frame)
+            (record (kind_of self.old.areas (pageblock_of self.old.layout frame)) { mobility = mobility }) }
         ensures layout { self.new.layout ≡ self.old.layout }
         ensures notes { NotesAreas self.old.layout 1 tape.old tape.new self.new.areas self.old.areas }
     {

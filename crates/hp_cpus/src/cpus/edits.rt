@@ -20,8 +20,11 @@ impl Cpus {
         requires frame { frame < frame_count self.old.layout }
         requires on { is_on frame (list_of self.old cpu pool) ≡ true }
         requires room { HasRoom tape.old 1 }
-        ensures cached { self.new ≡ with_list_of self.old cpu pool (without frame (list_of self.old cpu pool)) }
-        ensures notes { (areas : FreeAreas) → NotesFree self.old.layout 1 tape.old tape.new (frames_of areas self.new) (frames_of areas self.old) }
+        ensures cached { self.new
+            ≡ with_list_of self.old cpu pool (without frame (list_of self.old cpu pool)) }
+        ensures notes { (areas : FreeAreas)
+            → NotesFree self.old.layout 1 tape.old tape.new (frames_of areas self.new)
+            (frames_of areas self.old) }
     {
         let after = self.links.unlink(frame);
         tape.note(unlink_delta(cpu, pool, frame, after));
@@ -34,7 +37,9 @@ impl Cpus {
         requires nowhere { places_in self.old frame ≡ 0 }
         requires room { HasRoom tape.old 1 }
         ensures cached { self.new ≡ with_list_of self.old cpu pool (frame ∷ list_of self.old cpu pool) }
-        ensures notes { (areas : FreeAreas) → NotesFree self.old.layout 1 tape.old tape.new (frames_of areas self.new) (frames_of areas self.old) }
+        ensures notes { (areas : FreeAreas)
+            → NotesFree self.old.layout 1 tape.old tape.new (frames_of areas self.new)
+            (frames_of areas self.old) }
     {
         self.links.push_front(list_number(cpu, pool), frame);
         tape.note(link_delta(cpu, pool, frame, None));
@@ -48,7 +53,9 @@ impl Cpus {
         requires nowhere { places_in self.old frame ≡ 0 }
         requires room { HasRoom tape.old 1 }
         ensures cached { self.new ≡ with_list_of self.old cpu pool (list_of self.old cpu pool ++ frame ∷ []) }
-        ensures notes { (areas : FreeAreas) → NotesFree self.old.layout 1 tape.old tape.new (frames_of areas self.new) (frames_of areas self.old) }
+        ensures notes { (areas : FreeAreas)
+            → NotesFree self.old.layout 1 tape.old tape.new (frames_of areas self.new)
+            (frames_of areas self.old) }
     {
         let after = self.links.last(list_number(cpu, pool));
         self.links.push_back(list_number(cpu, pool), frame);
@@ -61,10 +68,13 @@ impl Cpus {
         requires within { (frame : ℕ) → frame_count self.old.layout ≤ frame → places_in self.old frame ≡ 0 }
         requires once { (frame : ℕ) → places_in self.old frame ≤ 1 }
         requires room { HasRoom tape.old 1 }
-        ensures popped { MatchOption result (list_of self.old cpu pool ≡ []) (λ frame. list_of self.old cpu pool ≡ frame ∷ list_of self.new cpu pool) }
+        ensures popped { MatchOption result (list_of self.old cpu pool ≡ [])
+            (λ frame. list_of self.old cpu pool ≡ frame ∷ list_of self.new cpu pool) }
         ensures none { MatchOption result ((self.new ≡ self.old) × (tape.new ≡ tape.old)) (λ _. Unit {0}) }
         ensures cached { self.new ≡ with_list_of self.old cpu pool (list_of self.new cpu pool) }
-        ensures notes { (areas : FreeAreas) → NotesFree self.old.layout 1 tape.old tape.new (frames_of areas self.new) (frames_of areas self.old) }
+        ensures notes { (areas : FreeAreas)
+            → NotesFree self.old.layout 1 tape.old tape.new (frames_of areas self.new)
+            (frames_of areas self.old) }
     {
         match self.links.front(list_number(cpu, pool)) {
             Some(frame) => {
@@ -81,10 +91,13 @@ impl Cpus {
         requires within { (frame : ℕ) → frame_count self.old.layout ≤ frame → places_in self.old frame ≡ 0 }
         requires once { (frame : ℕ) → places_in self.old frame ≤ 1 }
         requires room { HasRoom tape.old 1 }
-        ensures popped { MatchOption result (list_of self.old cpu pool ≡ []) (λ frame. list_of self.old cpu pool ≡ list_of self.new cpu pool ++ frame ∷ []) }
+        ensures popped { MatchOption result (list_of self.old cpu pool ≡ [])
+            (λ frame. list_of self.old cpu pool ≡ list_of self.new cpu pool ++ frame ∷ []) }
         ensures none { MatchOption result ((self.new ≡ self.old) × (tape.new ≡ tape.old)) (λ _. Unit {0}) }
         ensures cached { self.new ≡ with_list_of self.old cpu pool (list_of self.new cpu pool) }
-        ensures notes { (areas : FreeAreas) → NotesFree self.old.layout 1 tape.old tape.new (frames_of areas self.new) (frames_of areas self.old) }
+        ensures notes { (areas : FreeAreas)
+            → NotesFree self.old.layout 1 tape.old tape.new (frames_of areas self.new)
+            (frames_of areas self.old) }
     {
         match self.links.last(list_number(cpu, pool)) {
             Some(frame) => {

@@ -16,7 +16,8 @@ use std::alloc::{AllocError, Global};
 pub fn buddy_of(alloc: Global, image: &Image) -> Result<Buddy, AllocError>
     requires limits { IsLayout image.now.layout }
     requires placed { IsWellPlaced image.now.layout image.now.memory }
-    ensures { IfOk result (λ buddy. buddy ≡ record { layout = image.now.layout; areas = image.now.memory.free.areas }) }
+    ensures { IfOk result
+        (λ buddy. buddy ≡ record { layout = image.now.layout; areas = image.now.memory.free.areas }) }
 {
     let mut buddy = Buddy::new(alloc, image.layout())?;
     load_lists(&mut buddy, image);
@@ -46,7 +47,8 @@ fn load_list(buddy: &mut Buddy, image: &Image, class: Class, order: Order)
     requires order { order ≤ image.now.layout.order }
     requires partly { ArePartly image.now.memory.free.areas.lists buddy.old.areas.lists }
     requires none { free_list buddy.old.areas class order ≡ [] }
-    ensures list { buddy.new.areas ≡ with_free_list buddy.old.areas class order (free_list image.now.memory.free.areas class order) }
+    ensures list { buddy.new.areas
+        ≡ with_free_list buddy.old.areas class order (free_list image.now.memory.free.areas class order) }
     ensures layout { buddy.new.layout ≡ buddy.old.layout }
 {
     let frames = image.list(class, order);
@@ -65,7 +67,8 @@ fn load_kinds(buddy: &mut Buddy, image: &Image)
     requires limits { IsLayout image.now.layout }
     requires placed { IsWellPlaced image.now.layout image.now.memory }
     requires layout { buddy.old.layout ≡ image.now.layout }
-    requires none { AreCopied plain_kind plain_kind 0 image.now.memory.free.areas.kinds buddy.old.areas.kinds }
+    requires none { AreCopied plain_kind plain_kind 0 image.now.memory.free.areas.kinds
+        buddy.old.areas.kinds }
     ensures kinds { buddy.new.areas ≡ record buddy.old.areas { kinds = image.now.memory.free.areas.kinds } }
     ensures layout { buddy.new.layout ≡ buddy.old.layout }
 {
@@ -78,7 +81,8 @@ fn load_kinds(buddy: &mut Buddy, image: &Image)
 fn load_kind(buddy: &mut Buddy, image: &Image, pageblock: Pageblock)
     requires pageblock { pageblock < pageblock_count buddy.old.layout }
     requires size { pageblock < length buddy.old.areas.kinds }
-    ensures kind { buddy.new.areas ≡ with_kind buddy.old.areas pageblock (kind_of image.now.memory.free.areas pageblock) }
+    ensures kind { buddy.new.areas
+        ≡ with_kind buddy.old.areas pageblock (kind_of image.now.memory.free.areas pageblock) }
     ensures layout { buddy.new.layout ≡ buddy.old.layout }
 {
     let was = image.kind(pageblock).unwrap_or(Kind::plain());

@@ -17,7 +17,10 @@ use std::alloc::{AllocError, Global};
 pub fn pages_of(alloc: Global, image: &Image) -> Result<Pages, AllocError>
     requires limits { IsLayout image.now.layout }
     requires placed { IsWellPlaced image.now.layout image.now.memory }
-    ensures { IfOk result (λ pages. pages ≡ record { layout = image.now.layout; pages = page_frames_of image.now.layout image.now.memory.pages }) }
+    ensures { IfOk result (λ pages. pages ≡ record {
+      layout = image.now.layout;
+      pages = page_frames_of image.now.layout image.now.memory.pages;
+    }) }
 {
     let mut pages = Pages::new(alloc, image.layout())?;
     load_table(&mut pages, image);
@@ -30,7 +33,8 @@ fn load_table(pages: &mut Pages, image: &Image)
     requires limits { IsLayout image.now.layout }
     requires placed { IsWellPlaced image.now.layout image.now.memory }
     requires layout { pages.old.layout ≡ image.now.layout }
-    requires none { AreCopied [] (replicate image.now.layout.pages None) 0 image.now.memory.pages.table pages.old.pages.table }
+    requires none { AreCopied [] (replicate image.now.layout.pages None) 0 image.now.memory.pages.table
+        pages.old.pages.table }
     ensures table { pages.new.pages ≡ record pages.old.pages { table = image.now.memory.pages.table } }
     ensures layout { pages.new.layout ≡ pages.old.layout }
 {
@@ -47,7 +51,10 @@ fn load_row(pages: &mut Pages, image: &Image, owner: Owner)
     requires owner { owner < image.now.layout.owners }
     requires size { owner < length pages.old.pages.table }
     requires none { slice_index_or pages.old.pages.table owner [] ≡ replicate image.now.layout.pages None }
-    ensures row { pages.new.pages ≡ record pages.old.pages { table = slice_set pages.old.pages.table owner (slice_index_or image.now.memory.pages.table owner []) } }
+    ensures row { pages.new.pages ≡ record pages.old.pages {
+      table =
+          slice_set pages.old.pages.table owner (slice_index_or image.now.memory.pages.table owner []);
+    } }
     ensures layout { pages.new.layout ≡ pages.old.layout }
 {
     for number in 0..image.layout().pages() {
@@ -63,7 +70,10 @@ fn load_entry(pages: &mut Pages, image: &Image, owner: Owner, page: Page)
     requires owner { owner < image.now.layout.owners }
     requires page { page < image.now.layout.pages }
     requires none { entry_of pages.old.pages.table owner page ≡ None }
-    ensures entry { pages.new.pages ≡ record pages.old.pages { table = with_entry pages.old.pages.table owner page (entry_of image.now.memory.pages.table owner page) } }
+    ensures entry { pages.new.pages ≡ record pages.old.pages {
+      table =
+          with_entry pages.old.pages.table owner page (entry_of image.now.memory.pages.table owner page);
+    } }
     ensures layout { pages.new.layout ≡ pages.old.layout }
 {
     if let Some(frame) = image.frame_at(owner, page) {
@@ -82,8 +92,12 @@ fn load_buffers(alloc: Global, pages: &mut Pages, image: &Image) -> Result<(), A
     requires placed { IsWellPlaced image.now.layout image.now.memory }
     requires layout { pages.old.layout ≡ image.now.layout }
     requires table { pages.old.pages.table ≡ image.now.memory.pages.table }
-    requires none { AreCopied None None 0 (page_frames_of image.now.layout image.now.memory.pages).buffers pages.old.pages.buffers }
-    ensures { OnOk result (pages.new ≡ record { layout = image.now.layout; pages = page_frames_of image.now.layout image.now.memory.pages }) }
+    requires none { AreCopied None None 0 (page_frames_of image.now.layout image.now.memory.pages).buffers
+        pages.old.pages.buffers }
+    ensures { OnOk result (pages.new ≡ record {
+      layout = image.now.layout;
+      pages = page_frames_of image.now.layout image.now.memory.pages;
+    }) }
 {
     for number in 0..image.layout().frames() {
         load_buffer(alloc, pages, image, Frame(number))?;
@@ -104,7 +118,10 @@ fn load_buffer(
     requires table { pages.old.pages.table ≡ image.now.memory.pages.table }
     requires frame { IsFrame image.now.layout frame }
     requires none { buffer_of pages.old.pages frame ≡ None }
-    ensures { OnOk result (pages.new ≡ record pages.old { pages = with_buffer pages.old.pages frame (buffer_of (page_frames_of image.now.layout image.now.memory.pages) frame) }) }
+    ensures { OnOk result (pages.new ≡ record pages.old {
+      pages = with_buffer pages.old.pages frame
+          (buffer_of (page_frames_of image.now.layout image.now.memory.pages) frame);
+    }) }
 {
     let Some(place) = pages.page_at(frame) else {
         return Ok(());

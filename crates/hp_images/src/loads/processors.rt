@@ -17,7 +17,8 @@ use std::alloc::{AllocError, Global};
 pub fn cpus_of(alloc: Global, image: &Image) -> Result<Cpus, AllocError>
     requires limits { IsLayout image.now.layout }
     requires placed { IsWellPlaced image.now.layout image.now.memory }
-    ensures { IfOk result (λ cpus. cpus ≡ record { layout = image.now.layout; cached = image.now.memory.free.cached }) }
+    ensures { IfOk result
+        (λ cpus. cpus ≡ record { layout = image.now.layout; cached = image.now.memory.free.cached }) }
 {
     let mut cpus = Cpus::new(alloc, image.layout())?;
     load_lists(&mut cpus, image);

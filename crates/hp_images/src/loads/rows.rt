@@ -14,7 +14,8 @@ use std::alloc::{AllocError, Global};
 /// of memory.
 pub fn blocks_of(alloc: Global, image: &Image) -> Result<Blocks, AllocError>
     requires rows { AreBlocksOf image.now.layout image.now.memory.blocks }
-    ensures { IfOk result (λ blocks. blocks ≡ record { layout = image.now.layout; blocks = image.now.memory.blocks }) }
+    ensures { IfOk result
+        (λ blocks. blocks ≡ record { layout = image.now.layout; blocks = image.now.memory.blocks }) }
 {
     let mut blocks = Blocks::new(alloc, image.layout())?;
     load_rows(&mut blocks, image);
@@ -39,7 +40,8 @@ fn load_rows(blocks: &mut Blocks, image: &Image)
 /// The row of one memory block comes in.
 fn load_row(blocks: &mut Blocks, image: &Image, block: Block)
     requires block { block < blocks.old.layout.blocks }
-    ensures row { blocks.new.blocks ≡ with_row blocks.old.blocks block (row_of image.now.memory.blocks block) }
+    ensures row { blocks.new.blocks
+        ≡ with_row blocks.old.blocks block (row_of image.now.memory.blocks block) }
     ensures layout { blocks.new.layout ≡ blocks.old.layout }
 {
     let none: Option<Claim> = None;

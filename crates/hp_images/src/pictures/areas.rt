@@ -18,8 +18,10 @@ pub fn put_areas(alloc: Global, image: &mut Image, buddy: &Buddy) -> Result<(), 
     requires layout { image.old.layout ≡ buddy.now.layout }
     requires within { AreFreeAreasOf buddy.now.layout buddy.now.areas }
     requires lists { AreCopied [] [] 0 buddy.now.areas.lists image.old.memory.free.areas.lists }
-    requires kinds { AreCopied plain_kind plain_kind 0 buddy.now.areas.kinds image.old.memory.free.areas.kinds }
-    ensures { OnOk result (image.new ≡ record image.old { memory = with_areas image.old.memory buddy.now.areas }) }
+    requires kinds { AreCopied plain_kind plain_kind 0 buddy.now.areas.kinds
+        image.old.memory.free.areas.kinds }
+    ensures { OnOk result
+        (image.new ≡ record image.old { memory = with_areas image.old.memory buddy.now.areas }) }
 {
     put_lists(alloc, image, buddy)?;
     put_kinds(image, buddy)
@@ -31,7 +33,10 @@ fn put_lists(alloc: Global, image: &mut Image, buddy: &Buddy) -> Result<(), Allo
     requires layout { image.old.layout ≡ buddy.now.layout }
     requires within { AreFreeAreasOf buddy.now.layout buddy.now.areas }
     requires lists { AreCopied [] [] 0 buddy.now.areas.lists image.old.memory.free.areas.lists }
-    ensures { OnOk result (image.new ≡ record image.old { memory = with_areas image.old.memory (record image.old.memory.free.areas { lists = buddy.now.areas.lists }) }) }
+    ensures { OnOk result (image.new ≡ record image.old {
+      memory = with_areas image.old.memory
+          (record image.old.memory.free.areas { lists = buddy.now.areas.lists });
+    }) }
 {
     for number in 0..5 * (image.layout().order() + 1) {
         put_list(
@@ -58,7 +63,10 @@ fn put_list(
     requires within { AreFreeAreasOf buddy.now.layout buddy.now.areas }
     requires size { 5 * order + 5 ≤ length image.old.memory.free.areas.lists }
     requires none { free_list image.old.memory.free.areas class order ≡ [] }
-    ensures { OnOk result (image.new ≡ record image.old { memory = with_areas image.old.memory (with_free_list image.old.memory.free.areas class order (free_list buddy.now.areas class order)) }) }
+    ensures { OnOk result (image.new ≡ record image.old {
+      memory = with_areas image.old.memory
+          (with_free_list image.old.memory.free.areas class order (free_list buddy.now.areas class order));
+    }) }
 {
     let list = buddy.list(alloc, class, order)?;
     let frames = list.as_slice();
@@ -78,8 +86,12 @@ fn put_kinds(image: &mut Image, buddy: &Buddy) -> Result<(), AllocError>
     requires limits { IsLayout buddy.now.layout }
     requires layout { image.old.layout ≡ buddy.now.layout }
     requires within { AreFreeAreasOf buddy.now.layout buddy.now.areas }
-    requires kinds { AreCopied plain_kind plain_kind 0 buddy.now.areas.kinds image.old.memory.free.areas.kinds }
-    ensures { OnOk result (image.new ≡ record image.old { memory = with_areas image.old.memory (record image.old.memory.free.areas { kinds = buddy.now.areas.kinds }) }) }
+    requires kinds { AreCopied plain_kind plain_kind 0 buddy.now.areas.kinds
+        image.old.memory.free.areas.kinds }
+    ensures { OnOk result (image.new ≡ record image.old {
+      memory = with_areas image.old.memory
+          (record image.old.memory.free.areas { kinds = buddy.now.areas.kinds });
+    }) }
 {
     for number in 0..image.layout().blocks() * image.layout().pageblocks() {
         put_kind(image, buddy, Pageblock(number))?;
@@ -91,7 +103,10 @@ fn put_kinds(image: &mut Image, buddy: &Buddy) -> Result<(), AllocError>
 fn put_kind(image: &mut Image, buddy: &Buddy, pageblock: Pageblock) -> Result<(), AllocError>
     requires layout { image.old.layout ≡ buddy.now.layout }
     requires pageblock { pageblock < pageblock_count buddy.now.layout }
-    ensures { OnOk result (image.new ≡ record image.old { memory = with_areas image.old.memory (with_kind image.old.memory.free.areas pageblock (kind_of buddy.now.areas pageblock)) }) }
+    ensures { OnOk result (image.new ≡ record image.old {
+      memory = with_areas image.old.memory
+          (with_kind image.old.memory.free.areas pageblock (kind_of buddy.now.areas pageblock));
+    }) }
 {
     let kind = buddy.kind(pageblock);
     image.add(Part::Kind { pageblock, kind })

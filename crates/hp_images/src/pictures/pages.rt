@@ -17,9 +17,12 @@ pub fn put_pages(alloc: Global, image: &mut Image, pages: &Pages) -> Result<(), 
     requires layout { image.old.layout ≡ pages.now.layout }
     requires pages { ArePageFramesOf pages.now.layout pages.now.pages }
     requires settled { AreSettled pages.now.pages }
-    requires table { AreCopied [] (replicate pages.now.layout.pages None) 0 pages.now.pages.table image.old.memory.pages.table }
-    requires contents { AreCopied [] (replicate pages.now.layout.pages None) 0 (pages_of pages.now.layout pages.now.pages).contents image.old.memory.pages.contents }
-    ensures { OnOk result (image.new ≡ record image.old { memory = record image.old.memory { pages = pages_of pages.now.layout pages.now.pages } }) }
+    requires table { AreCopied [] (replicate pages.now.layout.pages None) 0 pages.now.pages.table
+        image.old.memory.pages.table }
+    requires contents { AreCopied [] (replicate pages.now.layout.pages None) 0
+        (pages_of pages.now.layout pages.now.pages).contents image.old.memory.pages.contents }
+    ensures { OnOk result (image.new ≡ record image.old
+        { memory = record image.old.memory { pages = pages_of pages.now.layout pages.now.pages } }) }
 {
     for number in 0..image.layout().owners() {
         put_row(alloc, image, pages, Owner(number))?;
@@ -36,13 +39,17 @@ fn put_row(alloc: Global, image: &mut Image, pages: &Pages, owner: Owner) -> Res
     requires owner { owner < pages.now.layout.owners }
     requires table_size { owner < length image.old.memory.pages.table }
     requires contents_size { owner < length image.old.memory.pages.contents }
-    requires table { slice_index_or image.old.memory.pages.table owner [] ≡ replicate pages.now.layout.pages None }
-    requires contents { slice_index_or image.old.memory.pages.contents owner [] ≡ replicate pages.now.layout.pages None }
+    requires table { slice_index_or image.old.memory.pages.table owner []
+        ≡ replicate pages.now.layout.pages None }
+    requires contents { slice_index_or image.old.memory.pages.contents owner []
+        ≡ replicate pages.now.layout.pages None }
     ensures { OnOk result (image.new ≡ record image.old {
       memory = record image.old.memory {
         pages = record {
-          table = slice_set image.old.memory.pages.table owner (slice_index_or pages.now.pages.table owner []);
-          contents = slice_set image.old.memory.pages.contents owner (words_row pages.now.layout pages.now.pages owner);
+          table = slice_set image.old.memory.pages.table owner
+              (slice_index_or pages.now.pages.table owner []);
+          contents = slice_set image.old.memory.pages.contents owner
+              (words_row pages.now.layout pages.now.pages owner);
         };
       };
     }) }
@@ -70,8 +77,10 @@ fn put_page(
     ensures { OnOk result (image.new ≡ record image.old {
       memory = record image.old.memory {
         pages = record {
-          table = with_entry image.old.memory.pages.table owner page (entry_of pages.now.pages.table owner page);
-          contents = with_entry image.old.memory.pages.contents owner page (words_of pages.now.layout pages.now.pages owner page);
+          table = with_entry image.old.memory.pages.table owner page
+              (entry_of pages.now.pages.table owner page);
+          contents = with_entry image.old.memory.pages.contents owner page
+              (words_of pages.now.layout pages.now.pages owner page);
         };
       };
     }) }

@@ -18,10 +18,14 @@ use std::alloc::{AllocError, Global};
 pub fn put_cpus(alloc: Global, image: &mut Image, cpus: &Cpus) -> Result<(), AllocError>
     requires limits { IsLayout cpus.now.layout }
     requires layout { image.old.layout ≡ cpus.now.layout }
-    requires within { (cpu : ℕ) (pool : Pool) (frame : ℕ) → is_on frame (list_of cpus.now cpu pool) ≡ true → IsFrame cpus.now.layout frame }
+    requires within { (cpu : ℕ) (pool : Pool) (frame : ℕ) → is_on frame (list_of cpus.now cpu pool) ≡ true
+        → IsFrame cpus.now.layout frame }
     requires size { length cpus.now.cached ≡ 3 * cpus.now.layout.cpus }
     requires lists { AreCopied [] [] 0 cpus.now.cached image.old.memory.free.cached }
-    ensures { OnOk result (image.new ≡ record image.old { memory = record image.old.memory { free = record image.old.memory.free { cached = cpus.now.cached } } }) }
+    ensures { OnOk result (image.new ≡ record image.old {
+      memory =
+          record image.old.memory { free = record image.old.memory.free { cached = cpus.now.cached } };
+    }) }
 {
     for number in 0..3 * image.layout().cpus() {
         put_list(
@@ -45,10 +49,14 @@ fn put_list(
 ) -> Result<(), AllocError>
     requires layout { image.old.layout ≡ cpus.now.layout }
     requires cpu { cpu < cpus.now.layout.cpus }
-    requires within { (other : ℕ) (among : Pool) (frame : ℕ) → is_on frame (list_of cpus.now other among) ≡ true → IsFrame cpus.now.layout frame }
+    requires within { (other : ℕ) (among : Pool) (frame : ℕ)
+        → is_on frame (list_of cpus.now other among) ≡ true → IsFrame cpus.now.layout frame }
     requires size { 3 * cpu + 3 ≤ length image.old.memory.free.cached }
     requires none { cached_list image.old.memory.free cpu pool ≡ [] }
-    ensures { OnOk result (image.new ≡ record image.old { memory = record image.old.memory { free = with_cached_list image.old.memory.free cpu pool (list_of cpus.now cpu pool) } }) }
+    ensures { OnOk result (image.new ≡ record image.old {
+      memory = record image.old.memory
+          { free = with_cached_list image.old.memory.free cpu pool (list_of cpus.now cpu pool) };
+    }) }
 {
     let list = cpus.list(alloc, cpu, pool)?;
     let frames = list.as_slice();

@@ -16,7 +16,8 @@ pub fn put_blocks(image: &mut Image, blocks: &Blocks) -> Result<(), AllocError>
     requires layout { image.old.layout ≡ blocks.now.layout }
     requires rows { AreBlocksOf blocks.now.layout blocks.now.blocks }
     requires none { AreCopied offline_row offline_row 0 blocks.now.blocks.rows image.old.memory.blocks.rows }
-    ensures { OnOk result (image.new ≡ record image.old { memory = record image.old.memory { blocks = blocks.now.blocks } }) }
+    ensures { OnOk result
+        (image.new ≡ record image.old { memory = record image.old.memory { blocks = blocks.now.blocks } }) }
 {
     put_rows(image, blocks)?;
     let auto = blocks.auto();
@@ -28,7 +29,10 @@ fn put_rows(image: &mut Image, blocks: &Blocks) -> Result<(), AllocError>
     requires layout { image.old.layout ≡ blocks.now.layout }
     requires rows { AreBlocksOf blocks.now.layout blocks.now.blocks }
     requires none { AreCopied offline_row offline_row 0 blocks.now.blocks.rows image.old.memory.blocks.rows }
-    ensures { OnOk result (image.new ≡ record image.old { memory = record image.old.memory { blocks = record image.old.memory.blocks { rows = blocks.now.blocks.rows } } }) }
+    ensures { OnOk result (image.new ≡ record image.old {
+      memory = record image.old.memory
+          { blocks = record image.old.memory.blocks { rows = blocks.now.blocks.rows } };
+    }) }
 {
     for number in 0..image.layout().blocks() {
         put_row(image, blocks, Block(number))?;
@@ -40,7 +44,8 @@ fn put_rows(image: &mut Image, blocks: &Blocks) -> Result<(), AllocError>
 fn put_row(image: &mut Image, blocks: &Blocks, block: Block) -> Result<(), AllocError>
     requires layout { image.old.layout ≡ blocks.now.layout }
     requires block { block < blocks.now.layout.blocks }
-    ensures { OnOk result (image.new ≡ record image.old { memory = with_block_row image.old.memory block (row_of blocks.now.blocks block) }) }
+    ensures { OnOk result (image.new ≡ record image.old
+        { memory = with_block_row image.old.memory block (row_of blocks.now.blocks block) }) }
 {
     let row = blocks.row(block);
     image.add(Part::Row { block, row })

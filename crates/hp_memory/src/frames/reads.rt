@@ -13,11 +13,14 @@ use super::Frames;
 use hp_units::{Block, Class, Frame, Layout, Order, Pageblock, Zone};
 
 impl Frames {
-    /// Whether each pageblock of a memory block is one isolated free block of the zone (Linux, memory hotplug: offlining).
+    /// Whether each pageblock of a memory block is one isolated free block of the zone (Linux,
+    /// memory hotplug: offlining).
     pub(crate) fn is_all_free(&self, layout: &Layout, zone: Zone, block: Block) -> bool
         requires same { self.now.buddy.layout ≡ layout.now }
         requires block { block < layout.now.blocks }
-        ensures { result ≡ list_all (λ pageblock. is_on (pageblock * pageblock_size layout.now) (free_list self.now.buddy.areas (isolated_class zone) layout.now.order)) (pageblocks_of layout.now block) }
+        ensures { result ≡ list_all (λ pageblock. is_on (pageblock * pageblock_size layout.now)
+            (free_list self.now.buddy.areas (isolated_class zone) layout.now.order)) (pageblocks_of layout.now
+            block) }
     {
         let count = layout.pageblocks();
         let first = block.0 * count;
@@ -33,7 +36,8 @@ impl Frames {
     fn is_isolated_block(&self, layout: &Layout, zone: Zone, pageblock: Pageblock) -> bool
         requires same { self.now.buddy.layout ≡ layout.now }
         requires pageblock { pageblock < pageblock_count layout.now }
-        ensures { result ≡ is_on (pageblock * pageblock_size layout.now) (free_list self.now.buddy.areas (isolated_class zone) layout.now.order) }
+        ensures { result ≡ is_on (pageblock * pageblock_size layout.now)
+            (free_list self.now.buddy.areas (isolated_class zone) layout.now.order) }
     {
         let order = Order(layout.order());
         self.is_free(Class::isolated(zone), order, Frame(pageblock.0 << order.0))
@@ -50,12 +54,14 @@ impl Frames {
         }
     }
 
-    /// How many frames, from a frame to the end of the free block that it stands in; 0 where it stands in none.
+    /// How many frames, from a frame to the end of the free block that it stands in; 0 where it
+    /// stands in none.
     pub(crate) fn free_from(&self, layout: &Layout, frame: Frame) -> u32
         requires same { self.now.buddy.layout ≡ layout.now }
         requires frame { frame < frame_count layout.now }
         ensures used { result ≡ 0 → is_in_free_block layout.now self.now.buddy.areas frame ≡ false }
-        ensures free { (k : ℕ) → k < result → is_in_free_block layout.now self.now.buddy.areas (frame + k) ≡ true }
+        ensures free { (k : ℕ) → k < result
+            → is_in_free_block layout.now self.now.buddy.areas (frame + k) ≡ true }
         ensures most { result ≤ pageblock_size layout.now }
     {
         match self.free_order(layout, frame) {
@@ -71,7 +77,8 @@ impl Frames {
     fn free_order(&self, layout: &Layout, frame: Frame) -> Option<Order>
         requires same { self.now.buddy.layout ≡ layout.now }
         requires frame { frame < frame_count layout.now }
-        ensures is { MatchOption result (is_in_free_block layout.now self.now.buddy.areas frame ≡ false) (IsCovered layout.now self.now.buddy.areas frame) }
+        ensures is { MatchOption result (is_in_free_block layout.now self.now.buddy.areas frame ≡ false)
+            (IsCovered layout.now self.now.buddy.areas frame) }
         ensures layout { IsLayout layout.now }
     {
         for number in 0..layout.order() + 1 {

@@ -5,7 +5,7 @@ ghost use Rattle.hp_units.specs.FreeAreas.{is_on};
 ghost use Rattle.hp_units.specs.Isolation.{remove_block, remove_pageblock};
 ghost use Rattle.hp_units.specs.Memory.{free_list, isolated_class};
 ghost use Rattle.hp_tape.specs.Tapes.{HasRoom};
-ghost use Rattle.hp_laws.proofs.Commits.{IsAllFree};
+ghost use Rattle.hp_laws.proofs.Offlined.{IsAllFree};
 ghost use Rattle.hp_memory.specs.Frames.{IsGiven, IsTidy, free_of};
 
 use super::Frames;
@@ -13,7 +13,8 @@ use hp_tape::Tape;
 use hp_units::{Block, Layout, Pageblock, Zone};
 
 impl Frames {
-    /// The pageblocks of a memory block of the layout, each one isolated free block, leave the areas by rising number.
+    /// The pageblocks of a memory block of the layout, each one isolated free block, leave the
+    /// areas by rising number.
     pub(crate) fn remove_block(
         &mut self,
         layout: &Layout,
@@ -26,7 +27,9 @@ impl Frames {
         requires tidy { IsTidy self.old }
         requires free { IsAllFree layout.now self.old.buddy.areas zone block }
         requires room { HasRoom tape.old (layout.now.pageblocks * 2) }
-        ensures { IsGiven (record (free_of self.old) { areas = remove_block layout.now zone self.old.buddy.areas block }) (layout.now.pageblocks * 2) self.old self.new tape.old tape.new }
+        ensures { IsGiven
+            (record (free_of self.old) { areas = remove_block layout.now zone self.old.buddy.areas block })
+            (layout.now.pageblocks * 2) self.old self.new tape.old tape.new }
     {
         let count = layout.pageblocks();
         let first = block.0 * count;
@@ -46,11 +49,18 @@ impl Frames {
         requires same { self.old.cpus.layout ≡ layout.now }
         requires pageblock { pageblock < pageblock_count layout.now }
         requires tidy { IsTidy self.old }
-        requires free { is_on (pageblock * pageblock_size layout.now) (free_list self.old.buddy.areas (isolated_class zone) layout.now.order) ≡ true }
+        requires free { is_on (pageblock * pageblock_size layout.now)
+            (free_list self.old.buddy.areas (isolated_class zone) layout.now.order) ≡ true }
         requires room { HasRoom tape.old 2 }
-        ensures given { IsGiven (record (free_of self.old) { areas = remove_pageblock self.old.cpus.layout zone self.old.buddy.areas pageblock }) 2 self.old self.new tape.old tape.new }
-        ensures stays { (other : ℕ) → other ≢ pageblock → is_on (other * pageblock_size layout.now) (free_list self.old.buddy.areas (isolated_class zone) layout.now.order) ≡ true
-            → is_on (other * pageblock_size layout.now) (free_list self.new.buddy.areas (isolated_class zone) layout.now.order) ≡ true }
+        ensures given { IsGiven (record (free_of self.old) {
+          areas = remove_pageblock self.old.cpus.layout
+              zone self.old.buddy.areas pageblock;
+        }) 2 self.old self.new tape.old tape.new }
+        ensures stays { (other : ℕ) → other ≢ pageblock
+            → is_on (other * pageblock_size layout.now)
+            (free_list self.old.buddy.areas (isolated_class zone) layout.now.order) ≡ true
+            → is_on (other * pageblock_size layout.now)
+            (free_list self.new.buddy.areas (isolated_class zone) layout.now.order) ≡ true }
     {
         self.buddy.remove_pageblock(zone, pageblock, tape);
     }

@@ -21,7 +21,9 @@ impl Layers {
         tape: &mut Tape,
     ) -> Result<Reply, AllocError>
         requires placed { ArePlaced self.old }
-        ensures ok { IfOk result (IsAnswered self.old (Begin plan.now) (opened self.old.layout (state_of self.old) op plan.now) self.new tape.old.deltas tape.new.deltas) }
+        ensures ok { IfOk result (IsAnswered self.old (Begin plan.now)
+            (opened self.old.layout (state_of self.old) op plan.now) self.new tape.old.deltas
+            tape.new.deltas) }
         ensures err { OnErr result (self.new ≡ self.old) }
         ensures kept { OnErr result (tape.new ≡ tape.old) }
     {

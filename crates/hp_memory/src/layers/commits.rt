@@ -11,7 +11,8 @@ ghost use Rattle.hp_units.specs.Placement.{is_unplugged};
 ghost use Rattle.hp_units.specs.Rows.{commit_block, grant, offline_block, zone_of_block};
 ghost use Rattle.hp_tape.specs.Bounds.{committed_block_bound};
 ghost use Rattle.hp_tape.specs.Tapes.{HasRoom};
-ghost use Rattle.hp_laws.proofs.Commits.{IsAllFree, IsGrantable};
+ghost use Rattle.hp_laws.proofs.Commits.{IsGrantable};
+ghost use Rattle.hp_laws.proofs.Offlined.{IsAllFree};
 ghost use Rattle.hp_plain.specs.Asked.{asked};
 ghost use Rattle.hp_memory.specs.Commits.{IsHeldBy, is_in_use, is_ready, leaving_frames};
 ghost use Rattle.hp_memory.specs.Frames.{IsTidy};
@@ -24,8 +25,9 @@ use hp_units::{Block, Frame, Refusal, Reply, Row, Serial, State, Wish, Zone};
 use std::alloc::{AllocError, Global};
 
 impl Layers {
-    /// An operation ends as it wished: its going blocks leave the free areas and are offline, and the others go online. It is
-    /// refused while a frame of a going block is in use (Linux, memory hotplug: offlining; that it is all or nothing is an own rule).
+    /// An operation ends as it wished: its going blocks leave the free areas and are offline, and
+    /// the others go online. It is refused while a frame of a going block is in use (Linux, memory
+    /// hotplug: offlining; that it is all or nothing is an own rule).
     #[tactic(auto, using(crate::proofs::Answers::refused))]
     pub(crate) fn commit(
         &mut self,
@@ -34,7 +36,9 @@ impl Layers {
         tape: &mut Tape,
     ) -> Result<Reply, AllocError>
         requires placed { ArePlaced self.old }
-        ensures ok { IfOk result (IsAnswered self.old (Commit op) (asked self.old.layout (state_of self.old) 0 (Commit op)) self.new tape.old.deltas tape.new.deltas) }
+        ensures ok { IfOk result (IsAnswered self.old (Commit op)
+            (asked self.old.layout (state_of self.old) 0 (Commit op)) self.new tape.old.deltas
+            tape.new.deltas) }
         ensures err { OnErr result (self.new ≡ self.old) }
         ensures kept { OnErr result (tape.new ≡ tape.old) }
     {
@@ -51,11 +55,14 @@ impl Layers {
         Ok(Reply::Done)
     }
 
-    /// The frame that keeps the blocks from getting their wishes: where some going one isn't all free, the lowest frame in use.
+    /// The frame that keeps the blocks from getting their wishes: where some going one isn't all
+    /// free, the lowest frame in use.
     fn frame_not_free(&self, blocks: &[Block]) -> Option<Frame>
         requires one { AreOfOneLayout self.now }
-        requires within { (k : ℕ) → k < length blocks.now → slice_index blocks.now k < self.now.layout.blocks }
-        ensures { MatchOption result (list_all (is_ready self.now.layout (state_of self.now)) blocks.now ≡ true) (IsHeldBy self.now.layout (state_of self.now) blocks.now) }
+        requires within { (k : ℕ) → k < length blocks.now
+            → slice_index blocks.now k < self.now.layout.blocks }
+        ensures { MatchOption result (list_all (is_ready self.now.layout (state_of self.now)) blocks.now
+            ≡ true) (IsHeldBy self.now.layout (state_of self.now) blocks.now) }
     {
         if self.are_ready(blocks) {
             return None;
@@ -66,7 +73,8 @@ impl Layers {
     /// Whether each going one of the blocks is all free.
     fn are_ready(&self, blocks: &[Block]) -> bool
         requires one { AreOfOneLayout self.now }
-        requires within { (k : ℕ) → k < length blocks.now → slice_index blocks.now k < self.now.layout.blocks }
+        requires within { (k : ℕ) → k < length blocks.now
+            → slice_index blocks.now k < self.now.layout.blocks }
         ensures { result ≡ list_all (is_ready self.now.layout (state_of self.now)) blocks.now }
     {
         for block in blocks {
@@ -93,8 +101,10 @@ impl Layers {
     /// The lowest frame of the going ones of the blocks that stands in no free block.
     fn frame_in_use(&self, blocks: &[Block]) -> Option<Frame>
         requires one { AreOfOneLayout self.now }
-        requires within { (k : ℕ) → k < length blocks.now → slice_index blocks.now k < self.now.layout.blocks }
-        ensures { result ≡ find (is_in_use self.now.layout (state_of self.now)) (flat_map (leaving_frames self.now.layout (state_of self.now)) blocks.now) }
+        requires within { (k : ℕ) → k < length blocks.now
+            → slice_index blocks.now k < self.now.layout.blocks }
+        ensures { result ≡ find (is_in_use self.now.layout (state_of self.now))
+            (flat_map (leaving_frames self.now.layout (state_of self.now)) blocks.now) }
     {
         for block in blocks {
             if let Some(frame) = self.frame_in_use_of(*block) {
@@ -108,7 +118,8 @@ impl Layers {
     fn frame_in_use_of(&self, block: Block) -> Option<Frame>
         requires one { AreOfOneLayout self.now }
         requires block { block < self.now.layout.blocks }
-        ensures { result ≡ find (is_in_use self.now.layout (state_of self.now)) (leaving_frames self.now.layout (state_of self.now) block) }
+        ensures { result ≡ find (is_in_use self.now.layout (state_of self.now))
+            (leaving_frames self.now.layout (state_of self.now) block) }
     {
         if !self.blocks.row(block).is_going() {
             return None;
@@ -120,7 +131,8 @@ impl Layers {
     fn lowest_in_use(&self, block: Block) -> Option<Frame>
         requires one { AreOfOneLayout self.now }
         requires block { block < self.now.layout.blocks }
-        ensures { result ≡ find (is_in_use self.now.layout (state_of self.now)) (frames_of_block self.now.layout block) }
+        ensures { result
+            ≡ find (is_in_use self.now.layout (state_of self.now)) (frames_of_block self.now.layout block) }
     {
         let size = self.layout.block_size();
         let first = block.0 * size;
@@ -147,11 +159,15 @@ impl Layers {
     /// Blocks of an operation get their wishes, in their order, which is by rising number (own rule).
     fn commit_blocks(&mut self, blocks: &[Block], tape: &mut Tape)
         requires placed { ArePlaced self.old }
-        requires within { (k : ℕ) → k < length blocks.now → slice_index blocks.now k < self.old.layout.blocks }
-        requires rise { (k j : ℕ) → k < j → j < length blocks.now → slice_index blocks.now k < slice_index blocks.now j }
-        requires ready { (k : ℕ) → k < length blocks.now → IsGrantable self.old.layout (state_of self.old) (slice_index blocks.now k) }
+        requires within { (k : ℕ) → k < length blocks.now
+            → slice_index blocks.now k < self.old.layout.blocks }
+        requires rise { (k j : ℕ) → k < j → j < length blocks.now
+            → slice_index blocks.now k < slice_index blocks.now j }
+        requires ready { (k : ℕ) → k < length blocks.now
+            → IsGrantable self.old.layout (state_of self.old) (slice_index blocks.now k) }
         requires room { HasRoom tape.old (length blocks.now * committed_block_bound self.old.layout) }
-        ensures { IsReworked self.old (fold (commit_block self.old.layout) (state_of self.old) blocks.now) (length blocks.now * committed_block_bound self.old.layout) self.new tape.old tape.new }
+        ensures { IsReworked self.old (fold (commit_block self.old.layout) (state_of self.old) blocks.now)
+            (length blocks.now * committed_block_bound self.old.layout) self.new tape.old tape.new }
     {
         for block in blocks {
             self.commit_block(*block, tape);
@@ -164,7 +180,8 @@ impl Layers {
         requires block { block < self.old.layout.blocks }
         requires ready { IsGrantable self.old.layout (state_of self.old) block }
         requires room { HasRoom tape.old (committed_block_bound self.old.layout) }
-        ensures { IsReworked self.old (commit_block self.old.layout (state_of self.old) block) (committed_block_bound self.old.layout) self.new tape.old tape.new }
+        ensures { IsReworked self.old (commit_block self.old.layout (state_of self.old) block)
+            (committed_block_bound self.old.layout) self.new tape.old tape.new }
     {
         if let Some(wish) = self.wish_of(block) {
             self.grant(block, wish, tape);
@@ -188,10 +205,13 @@ impl Layers {
     fn grant(&mut self, block: Block, wish: Wish, tape: &mut Tape)
         requires placed { ArePlaced self.old }
         requires block { block < self.old.layout.blocks }
-        requires off { wish ≡ OffWish → IsAllFree self.old.layout self.old.frames.buddy.areas (zone_of_block self.old.blocks.blocks block) block }
+        requires off { wish ≡ OffWish
+            → IsAllFree self.old.layout self.old.frames.buddy.areas
+            (zone_of_block self.old.blocks.blocks block) block }
         requires on { (wish ≡ OffWish → ⊥) → is_unplugged (row_of self.old.blocks.blocks block) ≡ true }
         requires room { HasRoom tape.old (committed_block_bound self.old.layout) }
-        ensures { IsReworked self.old (grant self.old.layout (state_of self.old) block wish) (committed_block_bound self.old.layout) self.new tape.old tape.new }
+        ensures { IsReworked self.old (grant self.old.layout (state_of self.old) block wish)
+            (committed_block_bound self.old.layout) self.new tape.old tape.new }
     {
         match wish {
             Wish::Off => self.offline_block(block, tape),
@@ -200,14 +220,17 @@ impl Layers {
         }
     }
 
-    /// A block whose pageblocks are isolated free blocks leaves the free areas, and is offline (Linux, memory hotplug: offlining).
+    /// A block whose pageblocks are isolated free blocks leaves the free areas, and is offline
+    /// (Linux, memory hotplug: offlining).
     fn offline_block(&mut self, block: Block, tape: &mut Tape)
         requires one { AreOfOneLayout self.old }
         requires tidy { IsTidy self.old.frames }
         requires block { block < self.old.layout.blocks }
-        requires free { IsAllFree self.old.layout self.old.frames.buddy.areas (zone_of_block self.old.blocks.blocks block) block }
+        requires free { IsAllFree self.old.layout self.old.frames.buddy.areas
+            (zone_of_block self.old.blocks.blocks block) block }
         requires room { HasRoom tape.old (committed_block_bound self.old.layout) }
-        ensures { IsReworked self.old (offline_block self.old.layout (state_of self.old) block) (committed_block_bound self.old.layout) self.new tape.old tape.new }
+        ensures { IsReworked self.old (offline_block self.old.layout (state_of self.old) block)
+            (committed_block_bound self.old.layout) self.new tape.old tape.new }
     {
         let zone = self.zone_of_block(block);
         self.frames.remove_block(&self.layout, zone, block, tape);

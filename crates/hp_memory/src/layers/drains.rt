@@ -14,7 +14,9 @@ impl Layers {
     #[tactic(auto, using(crate::proofs::Answers::refused))]
     pub(crate) fn drain(&mut self, drained: Cpu, tape: &mut Tape) -> Result<Reply, AllocError>
         requires placed { ArePlaced self.old }
-        ensures ok { IfOk result (IsAnswered self.old (Drain drained) (asked self.old.layout (state_of self.old) 0 (Drain drained)) self.new tape.old.deltas tape.new.deltas) }
+        ensures ok { IfOk result (IsAnswered self.old (Drain drained)
+            (asked self.old.layout (state_of self.old) 0 (Drain drained)) self.new tape.old.deltas
+            tape.new.deltas) }
         ensures err { OnErr result (self.new ≡ self.old) }
         ensures kept { OnErr result (tape.new ≡ tape.old) }
     {
@@ -36,7 +38,9 @@ impl Layers {
         tape: &mut Tape,
     ) -> Result<Reply, AllocError>
         requires placed { ArePlaced self.old }
-        ensures ok { IfOk result (IsAnswered self.old (DrainFor op drained) (asked self.old.layout (state_of self.old) 0 (DrainFor op drained)) self.new tape.old.deltas tape.new.deltas) }
+        ensures ok { IfOk result (IsAnswered self.old (DrainFor op drained)
+            (asked self.old.layout (state_of self.old) 0 (DrainFor op drained)) self.new tape.old.deltas
+            tape.new.deltas) }
         ensures err { OnErr result (self.new ≡ self.old) }
         ensures kept { OnErr result (tape.new ≡ tape.old) }
     {

@@ -39,7 +39,8 @@ impl Layers {
     /// An Image of the state.
     pub(crate) fn image(&self, alloc: Global) -> Result<Image, AllocError>
         requires placed { ArePlaced self.now }
-        ensures { IfOk result (λ image. image ≡ record { layout = self.now.layout; memory = state_of self.now }) }
+        ensures { IfOk result
+            (λ image. image ≡ record { layout = self.now.layout; memory = state_of self.now }) }
     {
         let mut image = Image::empty(alloc, &self.layout)?;
         put_areas(alloc, &mut image, &self.frames.buddy)?;

@@ -20,7 +20,9 @@ impl Layers {
     ) -> Result<Reply, AllocError>
         requires cpu { cpu < self.old.layout.cpus }
         requires placed { ArePlaced self.old }
-        ensures ok { IfOk result (IsAnswered self.old (KernelAlloc order) (asked self.old.layout (state_of self.old) cpu (KernelAlloc order)) self.new tape.old.deltas tape.new.deltas) }
+        ensures ok { IfOk result (IsAnswered self.old (KernelAlloc order)
+            (asked self.old.layout (state_of self.old) cpu (KernelAlloc order)) self.new tape.old.deltas
+            tape.new.deltas) }
         ensures err { OnErr result (self.new ≡ self.old) }
         ensures kept { OnErr result (tape.new ≡ tape.old) }
     {
@@ -48,7 +50,9 @@ impl Layers {
     ) -> Result<Reply, AllocError>
         requires cpu { cpu < self.old.layout.cpus }
         requires placed { ArePlaced self.old }
-        ensures ok { IfOk result (IsAnswered self.old (KernelFree frame) (asked self.old.layout (state_of self.old) cpu (KernelFree frame)) self.new tape.old.deltas tape.new.deltas) }
+        ensures ok { IfOk result (IsAnswered self.old (KernelFree frame)
+            (asked self.old.layout (state_of self.old) cpu (KernelFree frame)) self.new tape.old.deltas
+            tape.new.deltas) }
         ensures err { OnErr result (self.new ≡ self.old) }
         ensures kept { OnErr result (tape.new ≡ tape.old) }
     {

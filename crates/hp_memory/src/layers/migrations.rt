@@ -12,12 +12,15 @@ use hp_units::{Block, Frame, Order, Refusal, Reply, Serial};
 use std::alloc::AllocError;
 
 impl Layers {
-    /// The page at the lowest mapped frame of an operation's going blocks moves to a frame straight from the areas, and its old
-    /// frame goes straight back to them (Linux, memory hotplug: migration; own rule).
+    /// The page at the lowest mapped frame of an operation's going blocks moves to a frame straight
+    /// from the areas, and its old frame goes straight back to them (Linux, memory hotplug:
+    /// migration; own rule).
     #[tactic(auto, using(crate::proofs::Answers::refused, crate::proofs::Answers::refused_none))]
     pub(crate) fn migrate(&mut self, op: Serial, tape: &mut Tape) -> Result<Reply, AllocError>
         requires placed { ArePlaced self.old }
-        ensures ok { IfOk result (IsAnswered self.old (Migrate op) (asked self.old.layout (state_of self.old) 0 (Migrate op)) self.new tape.old.deltas tape.new.deltas) }
+        ensures ok { IfOk result (IsAnswered self.old (Migrate op)
+            (asked self.old.layout (state_of self.old) 0 (Migrate op)) self.new tape.old.deltas
+            tape.new.deltas) }
         ensures err { OnErr result (self.new ≡ self.old) }
         ensures kept { OnErr result (tape.new ≡ tape.old) }
     {

@@ -42,14 +42,16 @@ impl Layers {
         })
     }
 
-    /// A block of the layout that is offline or absent goes online in a zone (Linux, memory hotplug: onlining).
+    /// A block of the layout that is offline or absent goes online in a zone (Linux, memory
+    /// hotplug: onlining).
     #[tactic(auto, unfolding(hp_units::specs::Rows::online_block))]
     pub(crate) fn online_block(&mut self, zone: Zone, block: Block, tape: &mut Tape)
         requires placed { ArePlaced self.old }
         requires block { block < self.old.layout.blocks }
         requires unplugged { is_unplugged (row_of self.old.blocks.blocks block) ≡ true }
         requires room { HasRoom tape.old (online_bound self.old.layout) }
-        ensures { IsReworked self.old (online_block self.old.layout zone (state_of self.old) block) (online_bound self.old.layout) self.new tape.old tape.new }
+        ensures { IsReworked self.old (online_block self.old.layout zone (state_of self.old) block)
+            (online_bound self.old.layout) self.new tape.old tape.new }
     {
         let online = Row {
             state: State::Online,
@@ -60,7 +62,8 @@ impl Layers {
         self.frames.add_block(&self.layout, zone, block, tape);
     }
 
-    /// The state at boot: all blocks as the layout says, by rising number, and nothing in use (Linux, memory hotplug: boot memory; own rule).
+    /// The state at boot: all blocks as the layout says, by rising number, and nothing in use
+    /// (Linux, memory hotplug: boot memory; own rule).
     #[tactic(auto, unfolding(hp_units::specs::Boot::boot_memory))]
     pub(crate) fn boot(alloc: Global, layout: &Layout) -> Result<Layers, AllocError>
         ensures placed { IfOk result ArePlaced }
@@ -81,7 +84,8 @@ impl Layers {
         requires offline { row_of self.old.blocks.blocks block ≡ offline_row }
         ensures placed { OnOk result (ArePlaced self.new) }
         ensures layout { OnOk result (self.new.layout ≡ self.old.layout) }
-        ensures state { OnOk result (state_of self.new ≡ boot_block self.old.layout (state_of self.old) block boot) }
+        ensures state { OnOk result
+            (state_of self.new ≡ boot_block self.old.layout (state_of self.old) block boot) }
     {
         match boot {
             Boot::Offline => Ok(()),
@@ -98,7 +102,8 @@ impl Layers {
         requires offline { row_of self.old.blocks.blocks block ≡ offline_row }
         ensures placed { OnOk result (ArePlaced self.new) }
         ensures layout { OnOk result (self.new.layout ≡ self.old.layout) }
-        ensures state { OnOk result (state_of self.new ≡ online_block self.old.layout zone (state_of self.old) block) }
+        ensures state { OnOk result
+            (state_of self.new ≡ online_block self.old.layout zone (state_of self.old) block) }
     {
         let mut tape = Tape::with_room(alloc, self.online_room())?;
         self.online_block(zone, block, &mut tape);
@@ -112,7 +117,8 @@ impl Layers {
         requires offline { row_of self.old.blocks.blocks block ≡ offline_row }
         ensures placed { OnOk result (ArePlaced self.new) }
         ensures layout { OnOk result (self.new.layout ≡ self.old.layout) }
-        ensures state { OnOk result (state_of self.new ≡ boot_block self.old.layout (state_of self.old) block AbsentBoot) }
+        ensures state { OnOk result
+            (state_of self.new ≡ boot_block self.old.layout (state_of self.old) block AbsentBoot) }
     {
         let mut tape = Tape::with_room(alloc, 1)?;
         self.set_bare(State::Absent, block, &mut tape);

@@ -22,7 +22,9 @@ impl Layers {
     ) -> Result<Reply, AllocError>
         requires cpu { cpu < self.old.layout.cpus }
         requires placed { ArePlaced self.old }
-        ensures ok { IfOk result (IsAnswered self.old (Map owner page) (asked self.old.layout (state_of self.old) cpu (Map owner page)) self.new tape.old.deltas tape.new.deltas) }
+        ensures ok { IfOk result (IsAnswered self.old (Map owner page)
+            (asked self.old.layout (state_of self.old) cpu (Map owner page)) self.new tape.old.deltas
+            tape.new.deltas) }
         ensures err { OnErr result (self.new ≡ self.old) }
         ensures kept { OnErr result (tape.new ≡ tape.old) }
     {
@@ -57,7 +59,9 @@ impl Layers {
     ) -> Result<Reply, AllocError>
         requires cpu { cpu < self.old.layout.cpus }
         requires placed { ArePlaced self.old }
-        ensures ok { IfOk result (IsAnswered self.old (Unmap owner page) (asked self.old.layout (state_of self.old) cpu (Unmap owner page)) self.new tape.old.deltas tape.new.deltas) }
+        ensures ok { IfOk result (IsAnswered self.old (Unmap owner page)
+            (asked self.old.layout (state_of self.old) cpu (Unmap owner page)) self.new tape.old.deltas
+            tape.new.deltas) }
         ensures err { OnErr result (self.new ≡ self.old) }
         ensures kept { OnErr result (tape.new ≡ tape.old) }
     {
@@ -93,7 +97,9 @@ impl Layers {
         tape: &mut Tape,
     ) -> Result<Reply, AllocError>
         requires placed { ArePlaced self.old }
-        ensures ok { IfOk result (IsAnswered self.old (Write owner page index value) (asked self.old.layout (state_of self.old) 0 (Write owner page index value)) self.new tape.old.deltas tape.new.deltas) }
+        ensures ok { IfOk result (IsAnswered self.old (Write owner page index value)
+            (asked self.old.layout (state_of self.old) 0 (Write owner page index value)) self.new
+            tape.old.deltas tape.new.deltas) }
         ensures err { OnErr result (self.new ≡ self.old) }
         ensures kept { OnErr result (tape.new ≡ tape.old) }
     {
@@ -119,7 +125,10 @@ impl Layers {
     #[tactic(auto, using(crate::proofs::Answers::unchanged))]
     pub(crate) fn read(&self, owner: Owner, page: Page, index: u32) -> Reply
         requires placed { ArePlaced self.now }
-        ensures { (deltas : List Delta) → IsAnswered self.now (Read owner page index) (asked self.now.layout (state_of self.now) 0 (Read owner page index)) self.now deltas deltas result }
+        ensures { (deltas : List Delta)
+            → IsAnswered self.now (Read owner page index)
+            (asked self.now.layout (state_of self.now) 0 (Read owner page index)) self.now deltas deltas
+            result }
     {
         if owner.0 >= self.layout.owners() {
             return Reply::Refused(Refusal::NoOwner);

@@ -14,7 +14,8 @@ use super::Layers;
 use hp_units::{Block, Frame, Item, Layout, Refusal};
 
 impl Layers {
-    /// Why a plan is refused, if it is: the first reason in its order, each looked for in the whole plan (own rule).
+    /// Why a plan is refused, if it is: the first reason in its order, each looked for in the whole
+    /// plan (own rule).
     pub(crate) fn plan_refusal(&self, plan: &[Item]) -> Option<Refusal>
         requires one { AreOfOneLayout self.now }
         ensures { result ≡ first_some (plan_refusals self.now.layout (state_of self.now) plan.now) }
@@ -75,7 +76,8 @@ impl Layers {
     fn first_claimed(&self, plan: &[Item]) -> Option<Block>
         requires one { AreOfOneLayout self.now }
         requires within { names_no_block self.now.layout plan.now ≡ false }
-        ensures { result ≡ option_map (λ item. item.block) (find (λ item. is_claimed (row_of self.now.blocks.blocks item.block)) plan.now) }
+        ensures { result ≡ option_map (λ item. item.block)
+            (find (λ item. is_claimed (row_of self.now.blocks.blocks item.block)) plan.now) }
     {
         for item in plan {
             if self.is_claimed(*item) {
@@ -94,11 +96,13 @@ impl Layers {
         self.blocks.row(item.block).is_claimed()
     }
 
-    /// The first memory block of a plan that is to go offline and isn't online (Linux, memory hotplug: offlining; own rule).
+    /// The first memory block of a plan that is to go offline and isn't online (Linux, memory
+    /// hotplug: offlining; own rule).
     fn first_not_online(&self, plan: &[Item]) -> Option<Block>
         requires one { AreOfOneLayout self.now }
         requires within { names_no_block self.now.layout plan.now ≡ false }
-        ensures { result ≡ option_map (λ item. item.block) (find (λ item. is_off item.wish && not (is_online (row_of self.now.blocks.blocks item.block))) plan.now) }
+        ensures { result ≡ option_map (λ item. item.block) (find (λ item.
+            is_off item.wish && not (is_online (row_of self.now.blocks.blocks item.block))) plan.now) }
     {
         for item in plan {
             if self.cannot_go(*item) {
@@ -117,11 +121,13 @@ impl Layers {
         item.wish.is_off() && !self.blocks.row(item.block).is_online()
     }
 
-    /// The first memory block of a plan that is to go online and isn't offline (Linux, memory hotplug: onlining; own rule).
+    /// The first memory block of a plan that is to go online and isn't offline (Linux, memory
+    /// hotplug: onlining; own rule).
     fn first_not_offline(&self, plan: &[Item]) -> Option<Block>
         requires one { AreOfOneLayout self.now }
         requires within { names_no_block self.now.layout plan.now ≡ false }
-        ensures { result ≡ option_map (λ item. item.block) (find (λ item. not (is_off item.wish) && not (is_offline (row_of self.now.blocks.blocks item.block))) plan.now) }
+        ensures { result ≡ option_map (λ item. item.block) (find (λ item.
+            not (is_off item.wish) && not (is_offline (row_of self.now.blocks.blocks item.block))) plan.now) }
     {
         for item in plan {
             if self.cannot_come(*item) {
@@ -135,7 +141,8 @@ impl Layers {
     fn cannot_come(&self, item: Item) -> bool
         requires one { AreOfOneLayout self.now }
         requires block { item.block < self.now.layout.blocks }
-        ensures { result ≡ (not (is_off item.wish) && not (is_offline (row_of self.now.blocks.blocks item.block))) }
+        ensures { result
+            ≡ (not (is_off item.wish) && not (is_offline (row_of self.now.blocks.blocks item.block))) }
     {
         !item.wish.is_off() && !self.blocks.row(item.block).is_offline()
     }
@@ -171,7 +178,8 @@ impl Layers {
     fn lowest_kernel_frame(&self, block: Block) -> Option<Frame>
         requires one { AreOfOneLayout self.now }
         requires block { block < self.now.layout.blocks }
-        ensures { result ≡ find (λ frame. is_some (kernel_order (state_of self.now) frame)) (frames_of_block self.now.layout block) }
+        ensures { result ≡ find (λ frame. is_some (kernel_order (state_of self.now) frame))
+            (frames_of_block self.now.layout block) }
     {
         let size = self.layout.block_size();
         let first = block.0 * size;

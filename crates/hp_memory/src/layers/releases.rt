@@ -26,7 +26,9 @@ impl Layers {
         tape: &mut Tape,
     ) -> Result<Reply, AllocError>
         requires placed { ArePlaced self.old }
-        ensures ok { IfOk result (IsAnswered self.old (Cancel op) (asked self.old.layout (state_of self.old) 0 (Cancel op)) self.new tape.old.deltas tape.new.deltas) }
+        ensures ok { IfOk result (IsAnswered self.old (Cancel op)
+            (asked self.old.layout (state_of self.old) 0 (Cancel op)) self.new tape.old.deltas
+            tape.new.deltas) }
         ensures err { OnErr result (self.new ≡ self.old) }
         ensures kept { OnErr result (tape.new ≡ tape.old) }
     {
@@ -43,8 +45,10 @@ impl Layers {
     /// The blocks that an operation holds, by rising number.
     pub(super) fn blocks_of(&self, alloc: Global, op: Serial) -> Result<Vec<Block>, AllocError>
         requires one { AreOfOneLayout self.now }
-        ensures blocks { IfOk result (λ blocks. blocks.items ≡ blocks_of self.now.layout self.now.blocks.blocks op) }
-        ensures within { IfOk result (λ blocks. (k : ℕ) → k < length blocks.items → slice_index blocks.items k < self.now.layout.blocks) }
+        ensures blocks { IfOk result
+            (λ blocks. blocks.items ≡ blocks_of self.now.layout self.now.blocks.blocks op) }
+        ensures within { IfOk result (λ blocks. (k : ℕ) → k < length blocks.items
+            → slice_index blocks.items k < self.now.layout.blocks) }
         ensures few { IfOk result (λ blocks. length blocks.items ≤ 256) }
     {
         let mut blocks = Vec::new(alloc);
@@ -63,7 +67,8 @@ impl Layers {
     ) -> Result<(), AllocError>
         requires one { AreOfOneLayout self.now }
         requires block { block < self.now.layout.blocks }
-        ensures { OnOk result (blocks.new.items ≡ blocks.old.items ++ (if is_claimed_by op (row_of self.now.blocks.blocks block) then block ∷ [] else [])) }
+        ensures { OnOk result (blocks.new.items ≡ blocks.old.items
+            ++ (if is_claimed_by op (row_of self.now.blocks.blocks block) then block ∷ [] else [])) }
     {
         if self.blocks.row(block).is_claimed_by(op) {
             blocks.push(block)?;
@@ -84,9 +89,11 @@ impl Layers {
     fn release_blocks(&mut self, blocks: &[Block], tape: &mut Tape)
         requires one { AreOfOneLayout self.old }
         requires tidy { IsTidy self.old.frames }
-        requires within { (k : ℕ) → k < length blocks.now → slice_index blocks.now k < self.old.layout.blocks }
+        requires within { (k : ℕ) → k < length blocks.now
+            → slice_index blocks.now k < self.old.layout.blocks }
         requires room { HasRoom tape.old (length blocks.now * moved_block_bound self.old.layout) }
-        ensures { IsReworked self.old (fold (release_block self.old.layout) (state_of self.old) blocks.now) (length blocks.now * moved_block_bound self.old.layout) self.new tape.old tape.new }
+        ensures { IsReworked self.old (fold (release_block self.old.layout) (state_of self.old) blocks.now)
+            (length blocks.now * moved_block_bound self.old.layout) self.new tape.old tape.new }
     {
         for block in blocks {
             self.release_block(*block, tape);
@@ -99,7 +106,8 @@ impl Layers {
         requires tidy { IsTidy self.old.frames }
         requires block { block < self.old.layout.blocks }
         requires room { HasRoom tape.old (moved_block_bound self.old.layout) }
-        ensures { IsReworked self.old (release_block self.old.layout (state_of self.old) block) (moved_block_bound self.old.layout) self.new tape.old tape.new }
+        ensures { IsReworked self.old (release_block self.old.layout (state_of self.old) block)
+            (moved_block_bound self.old.layout) self.new tape.old tape.new }
     {
         if self.blocks.row(block).is_going() {
             self.online_again(block, tape);
@@ -114,7 +122,8 @@ impl Layers {
         requires tidy { IsTidy self.old.frames }
         requires block { block < self.old.layout.blocks }
         requires room { HasRoom tape.old (moved_block_bound self.old.layout) }
-        ensures { IsReworked self.old (online_again self.old.layout (state_of self.old) block) (moved_block_bound self.old.layout) self.new tape.old tape.new }
+        ensures { IsReworked self.old (online_again self.old.layout (state_of self.old) block)
+            (moved_block_bound self.old.layout) self.new tape.old tape.new }
     {
         let zone = self.zone_of_block(block);
         self.frames
@@ -133,7 +142,9 @@ impl Layers {
         requires tidy { IsTidy self.old.frames }
         requires block { block < self.old.layout.blocks }
         requires room { HasRoom tape.old (moved_block_bound self.old.layout) }
-        ensures { IsReworked self.old (with_block_row (state_of self.old) block (record (row_of self.old.blocks.blocks block) { claim = None })) (moved_block_bound self.old.layout) self.new tape.old tape.new }
+        ensures { IsReworked self.old (with_block_row (state_of self.old) block
+            (record (row_of self.old.blocks.blocks block) { claim = None })) (moved_block_bound
+            self.old.layout) self.new tape.old tape.new }
     {
         let row = self.blocks.row(block);
         let free = Row {

@@ -31,7 +31,9 @@ impl Layers {
         tape: &mut Tape,
     ) -> Result<Reply, AllocError>
         requires placed { ArePlaced self.old }
-        ensures ok { IfOk result (IsAnswered self.old (Online block zone) (asked self.old.layout (state_of self.old) 0 (Online block zone)) self.new tape.old.deltas tape.new.deltas) }
+        ensures ok { IfOk result (IsAnswered self.old (Online block zone)
+            (asked self.old.layout (state_of self.old) 0 (Online block zone)) self.new tape.old.deltas
+            tape.new.deltas) }
         ensures err { OnErr result (self.new ≡ self.old) }
         ensures kept { OnErr result (tape.new ≡ tape.old) }
     {
@@ -47,7 +49,9 @@ impl Layers {
     /// (Linux, memory hotplug: probe, auto_online_blocks).
     pub(crate) fn probe(&mut self, address: u64, tape: &mut Tape) -> Result<Reply, AllocError>
         requires placed { ArePlaced self.old }
-        ensures ok { IfOk result (IsAnswered self.old (Probe address) (asked self.old.layout (state_of self.old) 0 (Probe address)) self.new tape.old.deltas tape.new.deltas) }
+        ensures ok { IfOk result (IsAnswered self.old (Probe address)
+            (asked self.old.layout (state_of self.old) 0 (Probe address)) self.new tape.old.deltas
+            tape.new.deltas) }
         ensures err { OnErr result (self.new ≡ self.old) }
         ensures kept { OnErr result (tape.new ≡ tape.old) }
     {
@@ -63,7 +67,9 @@ impl Layers {
     /// An offline block is there no more (Linux, memory hotplug: removing).
     pub(crate) fn remove(&mut self, block: Block, tape: &mut Tape) -> Result<Reply, AllocError>
         requires placed { ArePlaced self.old }
-        ensures ok { IfOk result (IsAnswered self.old (Remove block) (asked self.old.layout (state_of self.old) 0 (Remove block)) self.new tape.old.deltas tape.new.deltas) }
+        ensures ok { IfOk result (IsAnswered self.old (Remove block)
+            (asked self.old.layout (state_of self.old) 0 (Remove block)) self.new tape.old.deltas
+            tape.new.deltas) }
         ensures err { OnErr result (self.new ≡ self.old) }
         ensures kept { OnErr result (tape.new ≡ tape.old) }
     {
@@ -78,7 +84,9 @@ impl Layers {
     /// What a block that is added becomes is set (Linux, memory hotplug: auto_online_blocks).
     pub(crate) fn set_auto(&mut self, auto: Auto, tape: &mut Tape) -> Result<Reply, AllocError>
         requires placed { ArePlaced self.old }
-        ensures ok { IfOk result (IsAnswered self.old (SetAuto auto) (asked self.old.layout (state_of self.old) 0 (SetAuto auto)) self.new tape.old.deltas tape.new.deltas) }
+        ensures ok { IfOk result (IsAnswered self.old (SetAuto auto)
+            (asked self.old.layout (state_of self.old) 0 (SetAuto auto)) self.new tape.old.deltas
+            tape.new.deltas) }
         ensures err { OnErr result (self.new ≡ self.old) }
         ensures kept { OnErr result (tape.new ≡ tape.old) }
     {
@@ -93,7 +101,9 @@ impl Layers {
         requires tidy { IsTidy self.old.frames }
         requires block { block < self.old.layout.blocks }
         requires room { HasRoom tape.old 1 }
-        ensures { IsReworked self.old (with_block_row (state_of self.old) block (record offline_row { state = state })) 1 self.new tape.old tape.new }
+        ensures { IsReworked self.old
+            (with_block_row (state_of self.old) block (record offline_row { state = state })) 1 self.new
+            tape.old tape.new }
     {
         let bare = Row {
             state,
@@ -118,7 +128,9 @@ impl Layers {
         requires block { block < self.old.layout.blocks }
         requires unplugged { is_unplugged (row_of self.old.blocks.blocks block) ≡ true }
         requires room { HasRoom tape.old (online_bound self.old.layout) }
-        ensures { IsReworked self.old (auto_online self.old.layout self.old.blocks.blocks.auto (with_block_row (state_of self.old) block offline_row) block) (online_bound self.old.layout) self.new tape.old tape.new }
+        ensures { IsReworked self.old (auto_online self.old.layout self.old.blocks.blocks.auto
+            (with_block_row (state_of self.old) block offline_row) block) (online_bound
+            self.old.layout) self.new tape.old tape.new }
     {
         let added = zone_of_added(self.blocks.auto());
         match added {
@@ -165,7 +177,8 @@ impl Layers {
     }
 }
 
-/// The zone that a block which is added goes online in at once; none where it stays offline (Linux, memory hotplug: auto_online_blocks).
+/// The zone that a block which is added goes online in at once; none where it stays offline (Linux,
+/// memory hotplug: auto_online_blocks).
 fn zone_of_added(auto: Auto) -> Option<Zone>
     ensures { result ≡ added_zone auto }
 {

@@ -13,8 +13,8 @@ use hp_pages::Pages;
 use hp_units::{Auto, Block, Class, Frame, Kind, Order, Owner, Page, Pageblock, Row};
 
 impl Memory {
-    /// The front block of the free list of a class and an order (Gorman, chapter 6: free_area). None where the list is empty
-    /// and past the greatest order.
+    /// The front block of the free list of a class and an order (Gorman, chapter 6: free_area).
+    /// None where the list is empty and past the greatest order.
     pub fn front(&self, class: Class, order: Order) -> Option<Frame>
         ensures { result ≡ slice_get (free_list self.now.state.free.areas class order) 0 }
     {
@@ -24,7 +24,8 @@ impl Memory {
         self.layers.frames.buddy.front(class, order)
     }
 
-    /// How many free blocks of 2^order frames a class has; 0 past the greatest order (Gorman, chapter 6: nr_free).
+    /// How many free blocks of 2^order frames a class has; 0 past the greatest order (Gorman,
+    /// chapter 6: nr_free).
     pub fn list_len(&self, class: Class, order: Order) -> u32
         ensures { result ≡ length (free_list self.now.state.free.areas class order) }
     {
@@ -34,7 +35,8 @@ impl Memory {
         self.layers.frames.buddy.len(class, order)
     }
 
-    /// The kind of a pageblock (Linux, memory hotplug: isolated pageblocks; Gorman, chapter 6). None past the last pageblock.
+    /// The kind of a pageblock (Linux, memory hotplug: isolated pageblocks; Gorman, chapter 6).
+    /// None past the last pageblock.
     pub fn kind(&self, pageblock: Pageblock) -> Option<Kind>
         ensures { result ≡ slice_get self.now.state.free.areas.kinds pageblock }
     {
@@ -45,7 +47,8 @@ impl Memory {
         Some(self.layers.frames.buddy.kind(pageblock))
     }
 
-    /// The order of the kernel's block that starts at a frame. None where no such block does, and past the last frame.
+    /// The order of the kernel's block that starts at a frame. None where no such block does, and
+    /// past the last frame.
     pub fn kernel_at(&self, frame: Frame) -> Option<Order>
         ensures { result ≡ kernel_order self.now.state frame }
     {
@@ -65,7 +68,8 @@ impl Memory {
         Some(self.layers.blocks.row(block))
     }
 
-    /// The frame that holds an owner's page. None where the page is not mapped, and past the last owner or page.
+    /// The frame that holds an owner's page. None where the page is not mapped, and past the last
+    /// owner or page.
     pub fn frame_at(&self, owner: Owner, page: Page) -> Option<Frame>
         ensures { result ≡ frame_at self.now.state.pages owner page }
     {
@@ -100,7 +104,10 @@ impl Memory {
     /// The owners' pages by their frames: a mapped frame has its page's words in a buffer where one of them
     /// is not 0, and no other frame has one.
     pub fn pages(&self) -> &Pages
-        ensures value { result.now ≡ record { layout = self.now.layout; pages = page_frames_of self.now.layout self.now.state.pages } }
+        ensures value { result.now ≡ record {
+          layout = self.now.layout;
+          pages = page_frames_of self.now.layout self.now.state.pages;
+        } }
         ensures settled { AreSettled result.now.pages }
     {
         &self.layers.pages

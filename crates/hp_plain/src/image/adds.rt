@@ -18,7 +18,8 @@ impl Image {
         frame: Frame,
     ) -> Result<(), AllocError>
         requires { IsPartOf self.old.layout (Free class order frame) }
-        ensures ok { OnOk result (self.new ≡ record self.old { memory = with_part self.old.memory (Free class order frame) }) }
+        ensures ok { OnOk result
+            (self.new ≡ record self.old { memory = with_part self.old.memory (Free class order frame) }) }
         ensures err { OnErr result (self.new ≡ self.old) }
     {
         self.free.add_free(&self.layout, class, order, frame)
@@ -32,7 +33,8 @@ impl Image {
         frame: Frame,
     ) -> Result<(), AllocError>
         requires { IsPartOf self.old.layout (Cached cpu pool frame) }
-        ensures ok { OnOk result (self.new ≡ record self.old { memory = with_part self.old.memory (Cached cpu pool frame) }) }
+        ensures ok { OnOk result
+            (self.new ≡ record self.old { memory = with_part self.old.memory (Cached cpu pool frame) }) }
         ensures err { OnErr result (self.new ≡ self.old) }
     {
         self.free.add_cached(&self.layout, cpu, pool, frame)
@@ -47,7 +49,8 @@ impl Image {
         words: Words,
     ) -> Result<(), AllocError>
         requires { IsPartOf self.old.layout (Mapped owner page frame words) }
-        ensures ok { OnOk result (self.new ≡ record self.old { memory = with_part self.old.memory (Mapped owner page frame words) }) }
+        ensures ok { OnOk result (self.new
+            ≡ record self.old { memory = with_part self.old.memory (Mapped owner page frame words) }) }
         ensures err { OnErr result (self.new ≡ self.old) }
     {
         self.pages.map(owner, page, frame, words);
@@ -57,7 +60,8 @@ impl Image {
     /// A block of the kernel.
     pub(super) fn add_kernel(&mut self, frame: Frame, order: Order) -> Result<(), AllocError>
         requires { IsPartOf self.old.layout (Kernel frame order) }
-        ensures ok { OnOk result (self.new ≡ record self.old { memory = with_part self.old.memory (Kernel frame order) }) }
+        ensures ok { OnOk result
+            (self.new ≡ record self.old { memory = with_part self.old.memory (Kernel frame order) }) }
         ensures err { OnErr result (self.new ≡ self.old) }
     {
         self.kernel[frame.0 as usize] = Some(order);
@@ -67,7 +71,8 @@ impl Image {
     /// The kind of a pageblock.
     pub(super) fn add_kind(&mut self, pageblock: Pageblock, kind: Kind) -> Result<(), AllocError>
         requires { IsPartOf self.old.layout (KindOf pageblock kind) }
-        ensures ok { OnOk result (self.new ≡ record self.old { memory = with_part self.old.memory (KindOf pageblock kind) }) }
+        ensures ok { OnOk result
+            (self.new ≡ record self.old { memory = with_part self.old.memory (KindOf pageblock kind) }) }
         ensures err { OnErr result (self.new ≡ self.old) }
     {
         self.free.set_kind(pageblock, kind);
@@ -77,7 +82,8 @@ impl Image {
     /// The row of a memory block.
     pub(super) fn add_row(&mut self, block: Block, row: Row) -> Result<(), AllocError>
         requires { IsPartOf self.old.layout (RowOf block row) }
-        ensures ok { OnOk result (self.new ≡ record self.old { memory = with_part self.old.memory (RowOf block row) }) }
+        ensures ok { OnOk result
+            (self.new ≡ record self.old { memory = with_part self.old.memory (RowOf block row) }) }
         ensures err { OnErr result (self.new ≡ self.old) }
     {
         self.blocks.set_row(block, row);
@@ -86,7 +92,8 @@ impl Image {
 
     /// What a block that is added becomes.
     pub(super) fn add_auto(&mut self, auto: Auto) -> Result<(), AllocError>
-        ensures ok { OnOk result (self.new ≡ record self.old { memory = with_part self.old.memory (AutoOf auto) }) }
+        ensures ok { OnOk result
+            (self.new ≡ record self.old { memory = with_part self.old.memory (AutoOf auto) }) }
         ensures err { OnErr result (self.new ≡ self.old) }
     {
         self.blocks.set_auto(auto);

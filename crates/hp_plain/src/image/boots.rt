@@ -12,7 +12,8 @@ impl Image {
     /// A block becomes what the layout says of it.
     pub(super) fn boot_block(&mut self, block: Block, boot: Boot) -> Result<(), AllocError>
         requires { block < self.old.layout.blocks }
-        ensures memory { OnOk result (self.new.memory ≡ boot_block self.old.layout self.old.memory block boot) }
+        ensures memory { OnOk result
+            (self.new.memory ≡ boot_block self.old.layout self.old.memory block boot) }
         ensures layout { self.new.layout ≡ self.old.layout }
     {
         match boot {
@@ -30,7 +31,8 @@ impl Image {
     #[tactic(auto, unfolding(hp_units::specs::Rows::online_block))]
     pub(super) fn online_block(&mut self, zone: Zone, block: Block) -> Result<(), AllocError>
         requires { block < self.old.layout.blocks }
-        ensures memory { OnOk result (self.new.memory ≡ online_block self.old.layout zone self.old.memory block) }
+        ensures memory { OnOk result
+            (self.new.memory ≡ online_block self.old.layout zone self.old.memory block) }
         ensures layout { self.new.layout ≡ self.old.layout }
     {
         self.free.add_block(&self.layout, zone, block)?;
@@ -41,7 +43,8 @@ impl Image {
     /// A block that isn't there.
     fn absent_block(&mut self, block: Block)
         requires { block < self.old.layout.blocks }
-        ensures { self.new ≡ record self.old { memory = boot_block self.old.layout self.old.memory block AbsentBoot } }
+        ensures { self.new
+            ≡ record self.old { memory = boot_block self.old.layout self.old.memory block AbsentBoot } }
     {
         self.blocks.set_row(block, Row::bare(State::Absent));
     }

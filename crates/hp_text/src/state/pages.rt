@@ -15,7 +15,8 @@ pub(super) fn write_pages(
     image: &Image,
     names: &IndexSet<Text>,
 ) -> Result<(), AllocError>
-    ensures { OnOk result (string_bytes out.new ≡ string_bytes out.old ++ pages_text image.now.layout names.now.keys image.now.memory.pages) }
+    ensures { OnOk result (string_bytes out.new
+        ≡ string_bytes out.old ++ pages_text image.now.layout names.now.keys image.now.memory.pages) }
 {
     for number in 0..image.layout().owners() {
         write_owner(out, image, names, Owner(number))?;
@@ -31,7 +32,8 @@ fn write_owner(
     names: &IndexSet<Text>,
     owner: Owner,
 ) -> Result<(), AllocError>
-    ensures { OnOk result (string_bytes out.new ≡ string_bytes out.old ++ owner_text image.now.layout names.now.keys image.now.memory.pages owner) }
+    ensures { OnOk result (string_bytes out.new
+        ≡ string_bytes out.old ++ owner_text image.now.layout names.now.keys image.now.memory.pages owner) }
 {
     let name = name_of(names, owner);
     for number in 0..image.layout().pages() {
@@ -65,7 +67,8 @@ fn write_page(
     frame: Option<Frame>,
     words: Option<&[u64]>,
 ) -> Result<(), AllocError>
-    ensures { OnOk result (string_bytes out.new ≡ string_bytes out.old ++ page_text name.now page frame (option_map (λ w. w.now) words.entry)) }
+    ensures { OnOk result (string_bytes out.new
+        ≡ string_bytes out.old ++ page_text name.now page frame (option_map (λ w. w.now) words.entry)) }
 {
     if let Some(frame) = frame {
         write_page_line(out, name, page, frame, words.unwrap_or(&[]))?;
@@ -82,7 +85,8 @@ fn write_page_line(
     frame: Frame,
     words: &[u64],
 ) -> Result<(), AllocError>
-    ensures { OnOk result (string_bytes out.new ≡ string_bytes out.old ++ page_line name.now page frame words.now) }
+    ensures { OnOk result
+        (string_bytes out.new ≡ string_bytes out.old ++ page_line name.now page frame words.now) }
 {
     write!(out, "page {name} {page} at {frame}:")?;
     write_words(out, words)?;

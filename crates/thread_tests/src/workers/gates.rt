@@ -1,4 +1,5 @@
-//! Gates that hold workers until others have come as far. A gate waits for a limit of turns at most, and then notes that it did.
+//! Gates that hold workers until others have come as far. A gate waits for a limit of turns at
+//! most, and then notes that it did.
 use hp_units::Cpu;
 use hp_workers::Gate;
 use std::sync::atomic::{AtomicBool, AtomicU64, Ordering};
@@ -75,8 +76,9 @@ impl Gate for Meeting {
     }
 }
 
-/// Lets worker 1 map a page first, then holds worker 0 after its fourth call, the first migration of its plan, until worker 1's
-/// second call was answered, and holds worker 1 before that call until worker 0 stands there.
+/// Lets worker 1 map a page first, then holds worker 0 after its fourth call, the first migration
+/// of its plan, until worker 1's second call was answered, and holds worker 1 before that call
+/// until worker 0 stands there.
 #[derive(Drop)]
 pub struct Between {
     done: Progress,

@@ -5,4 +5,6 @@ use Rattle.hp_check.specs.Shape.{missing_fault}
 use Rattle.hp_check.proofs.shape.push_missing.Given as goal
 
 abbrev pub invariant-loop-key : goal.invariant-loop-key
-invariant-loop-key l = l.found.items ≡ l.fn.found.items ++ flat_map (missing_fault l.place (view l.value)) (take l.key-index l.keys)
+invariant-loop-key l =
+    l.found.items
+    ≡ l.fn.found.items ++ flat_map (missing_fault l.place (view l.value)) (take l.key-index l.keys)

@@ -8,6 +8,8 @@ use Rattle.hp_check.proofs.shape.push_unknown.Goals as goal
 pub returns : goal.returns
 returns c =
     sym (append-nil c.loop-name.found.items)
-    ∙ ap (λ (ks : List (String Global)). c.loop-name.found.items ++ flat_map (unknown_fault c.args.place) (map string_bytes ks)) (sym c.in-None.ensures.steps.0)
+    ∙ ap (λ (ks : List (String Global)). c.loop-name.found.items
+    ++ flat_map (unknown_fault c.args.place) (map string_bytes ks)) (sym c.in-None.ensures.steps.0)
     ∙ c.loop-name.invariant
-    ∙ ap (λ (ns : List (List ℕ)). c.args.found.now.items ++ flat_map (unknown_fault c.args.place) ns) (sym (names_seen c.args.members.now.entries))
+    ∙ ap (λ (ns : List (List ℕ)). c.args.found.now.items ++ flat_map (unknown_fault c.args.place) ns)
+    (sym (names_seen c.args.members.now.entries))

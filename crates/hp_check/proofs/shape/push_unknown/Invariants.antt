@@ -5,4 +5,6 @@ use Rattle.std.specs.BTreeMap.{keys}
 use Rattle.hp_check.proofs.shape.push_unknown.Given as goal
 
 abbrev pub invariant-loop-name : goal.invariant-loop-name
-invariant-loop-name l = l.found.items ++ flat_map (unknown_fault l.place) (map string_bytes l.name-iterator) ≡ l.fn.found.items ++ flat_map (unknown_fault l.place) (map string_bytes (keys l.members))
+invariant-loop-name l =
+    l.found.items ++ flat_map (unknown_fault l.place) (map string_bytes l.name-iterator)
+    ≡ l.fn.found.items ++ flat_map (unknown_fault l.place) (map string_bytes (keys l.members))

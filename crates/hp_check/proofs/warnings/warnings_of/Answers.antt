@@ -7,15 +7,21 @@ use Rattle.hp_check.proofs.warnings.warnings_of.Goals as goal
 
 pub loop-index-init : goal.loop-index-init
 loop-index-init c =
-    let used = ap (λ (t : TallyValue). t.used) c.new-tally.ensures in
-    (none_warned c.args.layout.now c.args.lines.now c.new-found.result.items c.new-found.ensures.items, c.new-tally.ensures, omega (arith, used))
+    let used = ap (λ (t : TallyValue). t.used) c.new-tally.ensures in (
+      none_warned c.args.layout.now c.args.lines.now c.new-found.result.items c.new-found.ensures.items,
+      c.new-tally.ensures,
+      omega (arith, used),
+    )
 
 pub loop-index-preserved : goal.loop-index-preserved
 loop-index-preserved c =
     let i = c.loop-index.invariant in
     let line = c.index-lines-index.result in (
-      one_warned c.args.layout.now c.args.lines.now c.loop-index.index line c.loop-index.tally c.loop-index.found.items _ c.loop-index-test.true c.index-lines-index.is i.1 i.0
-          (c.in_ok-push_warning.ensures ∙ ap (λ (w : Option Warning). c.loop-index.found.items ++ warned (c.loop-index.index + 1) w) c.in_ok-warning.ensures),
-      one_tallied c.args.lines.now c.loop-index.index line c.loop-index.tally _ c.loop-index-test.true c.index-lines-index.is i.1 c.in_ok-add.ensures,
+      one_warned c.args.layout.now c.args.lines.now c.loop-index.index line c.loop-index.tally
+          c.loop-index.found.items _ c.loop-index-test.true c.index-lines-index.is i.1 i.0
+          (c.in_ok-push_warning.ensures ∙ ap (λ (w : Option Warning).
+          c.loop-index.found.items ++ warned (c.loop-index.index + 1) w) c.in_ok-warning.ensures),
+      one_tallied c.args.lines.now c.loop-index.index line c.loop-index.tally _ c.loop-index-test.true
+          c.index-lines-index.is i.1 c.in_ok-add.ensures,
       used_more c.loop-index.tally _ line.work c.loop-index.index i.2 c.in_ok-add.ensures,
     )

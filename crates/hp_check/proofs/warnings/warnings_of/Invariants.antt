@@ -5,4 +5,6 @@ use Rattle.hp_check.proofs.Warned.{warning_at}
 use Rattle.hp_check.proofs.warnings.warnings_of.Given as goal
 
 abbrev pub invariant-loop-index : goal.invariant-loop-index
-invariant-loop-index l = (l.found.items ≡ each_below (warning_at l.layout l.lines) l.index) × (l.tally ≡ tally_of (take l.index l.lines)) × (l.tally.used ≤ l.index)
+invariant-loop-index l =
+    (l.found.items ≡ each_below (warning_at l.layout l.lines) l.index)
+    × (l.tally ≡ tally_of (take l.index l.lines)) × (l.tally.used ≤ l.index)

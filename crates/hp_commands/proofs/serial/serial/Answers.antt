@@ -10,7 +10,9 @@ returns-in_err-scenario-clause-err c =
 
 pub returns-clause-ok : goal.returns-clause-ok
 returns-clause-ok c =
-    ran_text c.args.input.items (scenario_seen c.in_ok-scenario.scenario) _ _ _ _ _ _ _ c.in_ok-scenario.ensures c.in_ok-machine.ensures c.as_slice-lines.ensures c.in_ok-out.ensures c.in_ok-write_lines.ensures c.in_ok-image.ensures c.in_ok-write_state.ensures
+    ran_text c.args.input.items (scenario_seen c.in_ok-scenario.scenario) _ _ _ _ _ _ _
+    c.in_ok-scenario.ensures c.in_ok-machine.ensures c.as_slice-lines.ensures c.in_ok-out.ensures
+    c.in_ok-write_lines.ensures c.in_ok-image.ensures c.in_ok-write_state.ensures
 
 pub returns-in_err-out-clause-err : goal.returns-in_err-out-clause-err
 returns-in_err-out-clause-err c =
@@ -19,7 +21,9 @@ returns-in_err-out-clause-err c =
 
 pub returns-in_err-write_lines-clause-err : goal.returns-in_err-write_lines-clause-err
 returns-in_err-write_lines-clause-err c =
-    let p = err_from_is_err_and c.from_residual-in_err-write_lines.result c.from_residual-in_err-write_lines.ensures.1 in
+    let p =
+    err_from_is_err_and c.from_residual-in_err-write_lines.result
+    c.from_residual-in_err-write_lines.ensures.1 in
     rw (p.1, p.2) tt
 
 pub returns-in_err-image-clause-err : goal.returns-in_err-image-clause-err
@@ -29,5 +33,7 @@ returns-in_err-image-clause-err c =
 
 pub returns-in_err-write_state-clause-err : goal.returns-in_err-write_state-clause-err
 returns-in_err-write_state-clause-err c =
-    let p = err_from_is_err_and c.from_residual-in_err-write_state.result c.from_residual-in_err-write_state.ensures.1 in
+    let p =
+    err_from_is_err_and c.from_residual-in_err-write_state.result
+    c.from_residual-in_err-write_state.ensures.1 in
     rw (p.1, p.2) tt

@@ -6,4 +6,6 @@ pub loop-line-init : goal.loop-line-init
 loop-line-init c = lines_none c.args.machine.now c.args.lines.now (string_bytes c.args.out.now)
 
 pub loop-line-preserved : goal.loop-line-preserved
-loop-line-preserved c = lines_more c.args.lines.now c.loop-line.line-index _ _ _ _ _ _ _ c.loop-line-test.true c.loop-line.invariant c.line-item.is c.in_ok-write_line.ensures
+loop-line-preserved c =
+    lines_more c.args.lines.now c.loop-line.line-index _ _ _ _ _ _ _ c.loop-line-test.true
+    c.loop-line.invariant c.line-item.is c.in_ok-write_line.ensures

@@ -11,4 +11,5 @@ returns-in_err-input-clause-err g c =
 pub returns-in_err-text-clause-err : goal.returns-in_err-text-clause-err
 returns-in_err-text-clause-err g c =
     let p = err_from_is_err_and c.from_residual-in_err-text.result c.from_residual-in_err-text.ensures.1 in
-    rw (p.1, p.2) (scenario_fault _ _ _ _ _ c.in_err-text.field-0.0 c.in_ok-input.ensures.bytes c.in_ok-input.ensures.end c.in_err-text.ensures.err)
+    rw (p.1, p.2) (scenario_fault _ _ _ _ _ c.in_err-text.field-0.0 c.in_ok-input.ensures.bytes
+    c.in_ok-input.ensures.end c.in_err-text.ensures.err)

@@ -4,4 +4,6 @@ use Rattle.hp_control.specs.Zones as means
 use Rattle.hp_control.proofs.zones.write_counts.Given as goal
 
 abbrev pub invariant-loop-order : goal.invariant-loop-order
-invariant-loop-order l = string_bytes l.text ≡ string_bytes l.fn.text ++ means.counts_below l.machine.state.free.areas l.zone l.order
+invariant-loop-order l =
+    string_bytes l.text
+    ≡ string_bytes l.fn.text ++ means.counts_below l.machine.state.free.areas l.zone l.order

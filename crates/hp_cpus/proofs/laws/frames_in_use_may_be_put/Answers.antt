@@ -7,4 +7,5 @@ pub returns-clause-kernel : goal.returns-clause-kernel
 returns-clause-kernel c l s frame layout p is = in_use-put l s frame (kernel-in_use l s frame 0 layout p is)
 
 pub returns-clause-page : goal.returns-clause-page
-returns-clause-page c l s owner page frame layout p is = in_use-put l s frame (page-in_use l s owner page frame layout p is)
+returns-clause-page c l s owner page frame layout p is =
+    in_use-put l s frame (page-in_use l s owner page frame layout p is)

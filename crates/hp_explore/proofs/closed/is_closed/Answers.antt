@@ -8,4 +8,5 @@ use Rattle.hp_explore.proofs.closed.is_closed.Goals as goal
 pub returns : goal.returns
 returns c =
     c.stays_closed-2.ensures
-    ∙ (ap (λ (was : Bool). fold closed_after was c.args.news.now) c.stays_closed.ensures ∙ sym (fold-append closed_after true c.args.history.now c.args.news.now))
+    ∙ (ap (λ (was : Bool). fold closed_after was c.args.news.now) c.stays_closed.ensures
+    ∙ sym (fold-append closed_after true c.args.history.now c.args.news.now))

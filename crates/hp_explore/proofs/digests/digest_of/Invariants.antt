@@ -6,4 +6,6 @@ use Rattle.hp_explore.specs.Outcomes.{replies_below}
 use Rattle.hp_explore.proofs.digests.digest_of.Given as goal
 
 abbrev pub invariant-loop-row : goal.invariant-loop-row
-invariant-loop-row l = l.digest ≡ fold mixed_row (replies_digest (replies_below l.processors l.records)) (take l.row-index l.blocks)
+invariant-loop-row l =
+    l.digest
+    ≡ fold mixed_row (replies_digest (replies_below l.processors l.records)) (take l.row-index l.blocks)

@@ -6,4 +6,5 @@ pub returns-clause-closed : goal.returns-clause-closed
 returns-clause-closed c = λ h told. closed_told h told
 
 pub returns-clause-merged : goal.returns-clause-merged
-returns-clause-merged c = λ g q k seen old new all second alike is ok adds. merged g q k seen old new all second alike is ok adds
+returns-clause-merged c =
+    λ g q k seen old new all second alike is ok adds. merged g q k seen old new all second alike is ok adds

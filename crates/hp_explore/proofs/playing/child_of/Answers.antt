@@ -7,4 +7,6 @@ use Rattle.hp_explore.proofs.playing.child_of.Goals as goal
 
 pub returns-else-cpu-scripts-clause-ok : goal.returns-else-cpu-scripts-clause-ok
 returns-else-cpu-scripts-clause-ok c =
-    none_past (setting c.args.start.now c.args.scripts.now) (news_in (setting c.args.start.now c.args.scripts.now) c.args.machine) c.args.cpu (omega (arith, c.if-cpu-scripts.false, c.cpu.view_is))
+    none_past (setting c.args.start.now c.args.scripts.now)
+    (news_in (setting c.args.start.now c.args.scripts.now) c.args.machine) c.args.cpu
+    (omega (arith, c.if-cpu-scripts.false, c.cpu.view_is))

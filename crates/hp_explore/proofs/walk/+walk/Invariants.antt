@@ -1,5 +1,5 @@
--- The schedules up to the processors so far are counted, and the walk stands where it stood; the room that is left in the history
--- becomes less.
+-- The schedules up to the processors so far are counted, and the walk stands where it stood; the
+-- room that is left in the history becomes less.
 use Rattle.std.proofs.Common.{◌≡◌, ◌+◌, ◌*◌, ◌-◌, length}
 use Rattle.hp_explore.specs.Schedules.{setting}
 use Rattle.hp_explore.specs.Seen.{Grow, IsMemo}
@@ -7,13 +7,16 @@ use Rattle.hp_explore.proofs.Walking.{IsWalked}
 use Rattle.hp_explore.proofs.walk.+walk.Given as goal
 
 abbrev pub decreases-visit : goal.decreases-visit
-decreases-visit o l = 3 * (l.start.now.layout.history - (length l.start.now.history + length l.here.now.records)) + 2
+decreases-visit o l =
+    3 * (l.start.now.layout.history - (length l.start.now.history + length l.here.now.records)) + 2
 
 abbrev pub decreases-walk_on : goal.decreases-walk_on
-decreases-walk_on o l = 3 * (l.start.now.layout.history - (length l.start.now.history + length l.here.now.records)) + 1
+decreases-walk_on o l =
+    3 * (l.start.now.layout.history - (length l.start.now.history + length l.here.now.records)) + 1
 
 abbrev pub decreases-visit_next : goal.decreases-visit_next
-decreases-visit_next o l = 3 * (l.start.now.layout.history - (length l.start.now.history + length l.here.now.records))
+decreases-visit_next o l =
+    3 * (l.start.now.layout.history - (length l.start.now.history + length l.here.now.records))
 
 abbrev pub invariant-walk_on-loop-cpu : goal.invariant-walk_on-loop-cpu
 invariant-walk_on-loop-cpu o l = record {

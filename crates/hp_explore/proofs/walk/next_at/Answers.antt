@@ -13,8 +13,12 @@ use Rattle.hp_explore.proofs.walk.next_at.Goals as goal
 pub returns : goal.returns
 returns c =
     IfOk-weaker c.next_event.result _ _
-    (λ next is g scripts layout. subst (λ (h : List Record). next_call g c.args.cpu h ≡ next) c.records.ensures
+    (λ next is g scripts layout.
+    subst (λ (h : List Record). next_call g c.args.cpu h ≡ next) c.records.ensures
     (asked_is g c.records.result.now c.cpus.result c.args.cpu c.index-scripts-cpu.result next
-    (c.cpus.ensures.is ∙ (ap (λ (l : LayoutParts). l.cpus) (c.layout.ensures ∙ ap (λ (m : MemoryValue). m.layout) c.memory.ensures) ∙ ap (λ (l : LayoutParts). l.cpus) (sym layout)))
-    (subst (λ (xs : List (List Line)). slice_get xs c.args.cpu ≡ Some c.index-scripts-cpu.result) (sym scripts) (slice_get_read c.args.scripts.now (length c.args.scripts.now) c.args.cpu c.index-scripts-cpu.result refl c.requires c.index-scripts-cpu.is)) is))
+    (c.cpus.ensures.is ∙ (ap (λ (l : LayoutParts). l.cpus) (c.layout.ensures
+    ∙ ap (λ (m : MemoryValue). m.layout) c.memory.ensures) ∙ ap (λ (l : LayoutParts). l.cpus) (sym layout)))
+    (subst (λ (xs : List (List Line)). slice_get xs c.args.cpu ≡ Some c.index-scripts-cpu.result) (sym
+    scripts) (slice_get_read c.args.scripts.now (length c.args.scripts.now) c.args.cpu
+    c.index-scripts-cpu.result refl c.requires c.index-scripts-cpu.is)) is))
     c.next_event.ensures

@@ -5,4 +5,5 @@ pub back-requires-clause-leads : goal.back-requires-clause-leads
 back-requires-clause-leads c = (c.args.memory.now.state, c.requires.same c.if-is_step.false)
 
 pub returns-else-is_step-clause-state : goal.returns-else-is_step-clause-state
-returns-else-is_step-clause-state c = c.back.ensures.state c.args.memory.now.state (c.requires.same c.if-is_step.false)
+returns-else-is_step-clause-state c =
+    c.back.ensures.state c.args.memory.now.state (c.requires.same c.if-is_step.false)

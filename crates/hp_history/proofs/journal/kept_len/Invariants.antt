@@ -7,7 +7,8 @@ use Rattle.hp_history.proofs.journal.kept_len.Given as goal
 abbrev pub invariant-loop-keep : goal.invariant-loop-keep
 invariant-loop-keep l = record {
   within : l.keep ≤ length l.entries;
-  above : (i : ℕ) (t : Tag) → l.keep ≤ i → slice_get (tags_of l.history l.entries) i ≡ Some t → l.serial < t.serial;
+  above : (i : ℕ) (t : Tag) → l.keep ≤ i → slice_get (tags_of l.history l.entries) i ≡ Some t
+      → l.serial < t.serial;
 }
 
 abbrev pub decreases-loop-keep : goal.decreases-loop-keep

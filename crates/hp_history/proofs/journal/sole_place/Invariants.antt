@@ -8,7 +8,8 @@ use Rattle.hp_history.proofs.journal.sole_place.Given as goal
 abbrev pub invariant-loop-place : goal.invariant-loop-place
 invariant-loop-place l = record {
   within : l.place ≤ length l.entries;
-  works : (i : ℕ) (t : Tag) → l.place ≤ i → slice_get (tags_of l.history l.entries) i ≡ Some t → is_work_of l.op t.mark ≡ true;
+  works : (i : ℕ) (t : Tag) → l.place ≤ i → slice_get (tags_of l.history l.entries) i ≡ Some t
+      → is_work_of l.op t.mark ≡ true;
 }
 
 abbrev pub decreases-loop-place : goal.decreases-loop-place

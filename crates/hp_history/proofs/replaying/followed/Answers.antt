@@ -10,26 +10,38 @@ loop-place-init c = record { course = starts c.args.course.now c.args.records.no
 
 pub loop-place-preserved : goal.loop-place-preserved
 loop-place-preserved c = record {
-  course = follow_one c.args.course.now.layout c.args.course.now.base c.args.course.now.before c.args.records.now c.loop-place.place c.index-records-place.result c.loop-place.course c.follow.new.course
-      (slice_get_read c.args.records.now (length c.args.records.now) c.loop-place.place c.index-records-place.result refl c.loop-place-test.true c.index-records-place.is) c.loop-place.invariant.course c.in_ok-follow.ensures.ok;
+  course =
+      follow_one c.args.course.now.layout c.args.course.now.base c.args.course.now.before c.args.records.now
+      c.loop-place.place c.index-records-place.result c.loop-place.course c.follow.new.course
+      (slice_get_read c.args.records.now (length c.args.records.now) c.loop-place.place
+      c.index-records-place.result refl c.loop-place-test.true
+      c.index-records-place.is) c.loop-place.invariant.course c.in_ok-follow.ensures.ok;
 }
 
 pub returns-clause-course : goal.returns-clause-course
 returns-clause-course c =
-    whole c.args.course.now.layout c.args.course.now.base c.args.course.now.before c.args.records.now c.loop-place.place c.loop-place.course c.loop-place-test.false c.loop-place.invariant.course
+    whole c.args.course.now.layout c.args.course.now.base c.args.course.now.before c.args.records.now
+    c.loop-place.place c.loop-place.course c.loop-place-test.false c.loop-place.invariant.course
 
 pub returns-in_err-follow-clause-fault : goal.returns-in_err-follow-clause-fault
 returns-in_err-follow-clause-fault c =
     let p = err_from_is_err_and c.from_residual.result c.from_residual.ensures.1 in
-    rw (p.1, p.2) (fault_at c.args.course.now.layout c.args.course.now.base c.args.course.now.before c.args.records.now c.loop-place.place c.index-records-place.result c.loop-place.course _
-    (slice_get_read c.args.records.now (length c.args.records.now) c.loop-place.place c.index-records-place.result refl c.loop-place-test.true c.index-records-place.is) c.loop-place.invariant.course c.in_err-follow.ensures.err)
+    rw (p.1, p.2) (fault_at c.args.course.now.layout c.args.course.now.base c.args.course.now.before
+    c.args.records.now c.loop-place.place c.index-records-place.result c.loop-place.course _
+    (slice_get_read c.args.records.now (length c.args.records.now) c.loop-place.place
+    c.index-records-place.result refl c.loop-place-test.true
+    c.index-records-place.is) c.loop-place.invariant.course c.in_err-follow.ensures.err)
 
 pub returns-in_err-follow-clause-only : goal.returns-in_err-follow-clause-only
 returns-in_err-follow-clause-only c =
     let p = err_from_is_err_and c.from_residual.result c.from_residual.ensures.1 in
-    rw (p.1, p.2) (refutes c.args.course.now.layout c.args.course.now.base c.args.course.now.before c.args.records.now _
-    (fault_at c.args.course.now.layout c.args.course.now.base c.args.course.now.before c.args.records.now c.loop-place.place c.index-records-place.result c.loop-place.course _
-    (slice_get_read c.args.records.now (length c.args.records.now) c.loop-place.place c.index-records-place.result refl c.loop-place-test.true c.index-records-place.is) c.loop-place.invariant.course c.in_err-follow.ensures.err))
+    rw (p.1, p.2)
+    (refutes c.args.course.now.layout c.args.course.now.base c.args.course.now.before c.args.records.now _
+    (fault_at c.args.course.now.layout c.args.course.now.base c.args.course.now.before c.args.records.now
+    c.loop-place.place c.index-records-place.result c.loop-place.course _
+    (slice_get_read c.args.records.now (length c.args.records.now) c.loop-place.place
+    c.index-records-place.result refl c.loop-place-test.true
+    c.index-records-place.is) c.loop-place.invariant.course c.in_err-follow.ensures.err))
 
 pub returns-in_err-follow-clause-course : goal.returns-in_err-follow-clause-course
 returns-in_err-follow-clause-course c = search rules

@@ -5,5 +5,6 @@ use Rattle.hp_history.proofs.replaying.followed.Given as goal
 
 abbrev pub invariant-loop-place : goal.invariant-loop-place
 invariant-loop-place l = record {
-  course : IsCourseOf l.initial.course.layout l.initial.course.base l.initial.course.before (take l.place l.records) l.course;
+  course : IsCourseOf l.initial.course.layout l.initial.course.base l.initial.course.before
+      (take l.place l.records) l.course;
 }

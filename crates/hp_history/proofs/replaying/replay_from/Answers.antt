@@ -7,30 +7,44 @@ use Rattle.hp_history.proofs.replaying.replay_from.Goals as goal
 use Rattle.hp_history.proofs.replaying.replay_from.Goals.{After-image}
 
 pub followed-requires : goal.followed-requires
-followed-requires c = started_again c.args.base.now.layout c.args.base.now.memory c.args.before c.in_ok-course.course c.in_ok-course.ensures
+followed-requires c =
+    started_again c.args.base.now.layout c.args.base.now.memory c.args.before c.in_ok-course.course
+    c.in_ok-course.ensures
 
 -- what was found of the records, by the base itself
-followed_so : (c : After-image) → IsCourseOf c.args.base.now.layout c.args.base.now.memory c.args.before c.args.records.now c.followed.new.course
-followed_so c = course_again c.args.base.now.layout c.args.base.now.memory c.args.before c.args.records.now c.in_ok-course.course c.followed.new.course c.in_ok-course.ensures c.in_ok-followed.ensures.course
+followed_so : (c : After-image)
+    → IsCourseOf c.args.base.now.layout c.args.base.now.memory c.args.before c.args.records.now
+    c.followed.new.course
+followed_so c =
+    course_again c.args.base.now.layout c.args.base.now.memory c.args.before c.args.records.now
+    c.in_ok-course.course c.followed.new.course c.in_ok-course.ensures c.in_ok-followed.ensures.course
 
 pub returns-clause-legal : goal.returns-clause-legal
 returns-clause-legal c = (followed_so (goal.at.returns-clause-legal c).After-image).legal
 
 pub returns-clause-value : goal.returns-clause-value
-returns-clause-value c = c.in_ok-image.ensures ∙ shown c.args.base.now.layout c.args.base.now.memory c.args.before c.args.records.now c.followed.new.course (followed_so (goal.at.returns-clause-value c).After-image)
+returns-clause-value c =
+    c.in_ok-image.ensures ∙ shown c.args.base.now.layout c.args.base.now.memory c.args.before
+    c.args.records.now c.followed.new.course (followed_so (goal.at.returns-clause-value c).After-image)
 
 pub returns-clause-placed : goal.returns-clause-placed
-returns-clause-placed c = placed c.args.base.now.layout c.args.base.now.memory c.args.before c.args.records.now c.in_ok-image.image (returns-clause-value c) c.requires.limits c.requires.placed
+returns-clause-placed c =
+    placed c.args.base.now.layout c.args.base.now.memory c.args.before c.args.records.now c.in_ok-image.image
+    (returns-clause-value c) c.requires.limits c.requires.placed
 
 pub returns-in_err-followed-clause-fault : goal.returns-in_err-followed-clause-fault
 returns-in_err-followed-clause-fault c =
-    let p = err_from_is_err_and c.from_residual-in_err-followed.result c.from_residual-in_err-followed.ensures.1 in
-    rw (p.1, p.2) (fault_again c.args.base.now.layout c.args.base.now.memory c.args.before c.args.records.now c.in_ok-course.course _ c.in_ok-course.ensures c.in_err-followed.ensures.fault)
+    let p =
+    err_from_is_err_and c.from_residual-in_err-followed.result c.from_residual-in_err-followed.ensures.1 in
+    rw (p.1, p.2) (fault_again c.args.base.now.layout c.args.base.now.memory c.args.before c.args.records.now
+    c.in_ok-course.course _ c.in_ok-course.ensures c.in_err-followed.ensures.fault)
 
 pub returns-in_err-followed-clause-only : goal.returns-in_err-followed-clause-only
 returns-in_err-followed-clause-only c =
-    let p = err_from_is_err_and c.from_residual-in_err-followed.result c.from_residual-in_err-followed.ensures.1 in
-    rw (p.1, p.2) (refutes_again c.args.base.now.layout c.args.base.now.memory c.args.before c.args.records.now c.in_ok-course.course _ c.in_ok-course.ensures c.in_err-followed.ensures.only)
+    let p =
+    err_from_is_err_and c.from_residual-in_err-followed.result c.from_residual-in_err-followed.ensures.1 in
+    rw (p.1, p.2) (refutes_again c.args.base.now.layout c.args.base.now.memory c.args.before
+    c.args.records.now c.in_ok-course.course _ c.in_ok-course.ensures c.in_err-followed.ensures.only)
 
 pub returns-in_err-course-clause-legal : goal.returns-in_err-course-clause-legal
 returns-in_err-course-clause-legal c = search rules

@@ -11,17 +11,23 @@ use Rattle.hp_history.proofs.volumes.replayed.Goals as goal
 pub returns-in-Ok-clause-legal : goal.returns-in-Ok-clause-legal
 returns-in-Ok-clause-legal c =
     on_ok_weaker c.seal_off.result
-    (λ next. subst (λ (g : List Record). IsLegal c.args.end.now.layout c.args.end.now.base c.args.end.now.before g) c.as_slice-records.ensures c.in-Ok.ensures.course.legal) c.seal_off.ensures.next
+    (λ next. subst
+    (λ (g : List Record). IsLegal c.args.end.now.layout c.args.end.now.base c.args.end.now.before g)
+    c.as_slice-records.ensures c.in-Ok.ensures.course.legal) c.seal_off.ensures.next
 
 pub returns-in-Ok-clause-next : goal.returns-in-Ok-clause-next
 returns-in-Ok-clause-next c =
     subst (λ (d : CourseValue). OnOk c.seal_off.result (c.seal_off.new.end ≡ d))
-    (sealed_so c.args.end.now c.followed.new.course c.args.volume.now c.as_slice-records.result.now c.as_slice-records.ensures c.in-Ok.ensures.course) c.seal_off.ensures.next
+    (sealed_so c.args.end.now c.followed.new.course c.args.volume.now c.as_slice-records.result.now
+    c.as_slice-records.ensures c.in-Ok.ensures.course) c.seal_off.ensures.next
 
 pub returns-in-Ok-clause-err : goal.returns-in-Ok-clause-err
-returns-in-Ok-clause-err c = IfErr-weaker c.seal_off.result _ _ (λ fault is. memory_fault c.args.end.now c.args.at c.args.volume.now fault is) c.seal_off.ensures.err
+returns-in-Ok-clause-err c =
+    IfErr-weaker c.seal_off.result _ _
+    (λ fault is. memory_fault c.args.end.now c.args.at c.args.volume.now fault is) c.seal_off.ensures.err
 
 pub returns-in-Err-clause-err : goal.returns-in-Err-clause-err
 returns-in-Err-clause-err c =
     subst (IsFaultAfter c.args.end.now c.args.at c.args.volume.now) (sym c.chain_fault.ensures)
-    (records_fault c.args.end.now c.args.at c.args.volume.now c.as_slice-records.result.now c.in-Err.fault c.requires.follows c.as_slice-records.ensures c.in-Err.ensures.fault)
+    (records_fault c.args.end.now c.args.at c.args.volume.now c.as_slice-records.result.now c.in-Err.fault
+    c.requires.follows c.as_slice-records.ensures c.in-Err.ensures.fault)

@@ -10,5 +10,8 @@ loop-number-init c = texts_none (λ block. block_line block (slice_get c.args.ro
 
 pub loop-number-preserved : goal.loop-number-preserved
 loop-number-preserved c =
-    let here = c.copied.ensures ∙ item_read (λ (x : Bor Row). x.now) c.args.rows.now c.loop-number.number c.get.result c.get.ensures.lookup.0 c.get.ensures.lookup.1 in
-    texts_more (λ block. block_line block (slice_get c.args.rows.now block)) c.loop-number.number _ _ _ _ c.loop-number.invariant c.in_ok-write_block.ensures (ap (block_line c.loop-number.number) here)
+    let here =
+    c.copied.ensures ∙ item_read (λ (x : Bor Row). x.now) c.args.rows.now c.loop-number.number c.get.result
+    c.get.ensures.lookup.0 c.get.ensures.lookup.1 in
+    texts_more (λ block. block_line block (slice_get c.args.rows.now block)) c.loop-number.number _ _ _ _
+    c.loop-number.invariant c.in_ok-write_block.ensures (ap (block_line c.loop-number.number) here)

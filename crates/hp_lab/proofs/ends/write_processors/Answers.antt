@@ -10,5 +10,8 @@ loop-number-init c = texts_none (λ cpu. answers_text cpu (slice_get c.args.repl
 
 pub loop-number-preserved : goal.loop-number-preserved
 loop-number-preserved c =
-    let here = item_read (λ (x : Bor Answers). x.now) c.args.replies.now c.loop-number.number c.get.result c.get.ensures.lookup.0 c.get.ensures.lookup.1 in
-    texts_more (λ cpu. answers_text cpu (slice_get c.args.replies.now cpu)) c.loop-number.number _ _ _ _ c.loop-number.invariant c.in_ok-write_answers.ensures (ap (answers_text c.loop-number.number) here)
+    let here =
+    item_read (λ (x : Bor Answers). x.now) c.args.replies.now c.loop-number.number c.get.result
+    c.get.ensures.lookup.0 c.get.ensures.lookup.1 in
+    texts_more (λ cpu. answers_text cpu (slice_get c.args.replies.now cpu)) c.loop-number.number _ _ _ _
+    c.loop-number.invariant c.in_ok-write_answers.ensures (ap (answers_text c.loop-number.number) here)

@@ -6,23 +6,45 @@ use Rattle.hp_lab.proofs.exploring.explore_text.Goals as goal
 
 pub returns-in_err-check_lines-clause-err : goal.returns-in_err-check_lines-clause-err
 returns-in_err-check_lines-clause-err o c =
-    let p = err_from_is_err_and c.from_residual-in_err-check_lines.result c.from_residual-in_err-check_lines.ensures.1 in
+    let p =
+    err_from_is_err_and c.from_residual-in_err-check_lines.result
+    c.from_residual-in_err-check_lines.ensures.1 in
     let s = scenario_seen c.in_ok-scenario.scenario in
-    let parts = parted s c.args.setup c.cpus-cpus.result c.as_slice-lines.result.now c.front_of-before.result.now c.rest_of-after.result.now c.cpus-cpus.ensures.is c.as_slice-lines.ensures c.front_of-before.ensures c.rest_of-after.ensures in
-    rw (p.1, p.2) (unfit_known c.args.input.now s c.args.setup c.args.limit c.cpus-cpus.result c.front_of-before.result.now c.rest_of-after.result.now _ c.in_ok-scenario.ensures parts c.in_err-check_lines.ensures.err)
+    let parts =
+    parted s c.args.setup c.cpus-cpus.result c.as_slice-lines.result.now c.front_of-before.result.now
+    c.rest_of-after.result.now c.cpus-cpus.ensures.is c.as_slice-lines.ensures c.front_of-before.ensures
+    c.rest_of-after.ensures in
+    rw (p.1, p.2) (unfit_known c.args.input.now s c.args.setup c.args.limit c.cpus-cpus.result
+    c.front_of-before.result.now c.rest_of-after.result.now _ c.in_ok-scenario.ensures parts
+    c.in_err-check_lines.ensures.err)
 
 pub explored_after-requires : goal.explored_after-requires
-explored_after-requires o c = scripts_fit c.cpus-cpus.result c.rest_of-after.result.now c.deref.result.now (omega (arith, c.cpus-cpus.ensures.is, c.cpus-cpus.ensures.layout.cpus)) (c.deref.ensures.value ∙ c.in_ok-scripts.ensures)
+explored_after-requires o c =
+    scripts_fit c.cpus-cpus.result c.rest_of-after.result.now c.deref.result.now
+    (omega (arith, c.cpus-cpus.ensures.is, c.cpus-cpus.ensures.layout.cpus))
+    (c.deref.ensures.value ∙ c.in_ok-scripts.ensures)
 
 pub returns-in_err-text-clause-err : goal.returns-in_err-text-clause-err
 returns-in_err-text-clause-err o c =
     let p = err_from_is_err_and c.from_residual-in_err-text.result c.from_residual-in_err-text.ensures.1 in
     let s = scenario_seen c.in_ok-scenario.scenario in
-    let parts = parted s c.args.setup c.cpus-cpus.result c.as_slice-lines.result.now c.front_of-before.result.now c.rest_of-after.result.now c.cpus-cpus.ensures.is c.as_slice-lines.ensures c.front_of-before.ensures c.rest_of-after.ensures in
-    rw (p.1, p.2) (stopped_known c.args.input.now s c.args.setup c.args.limit c.cpus-cpus.result c.front_of-before.result.now c.rest_of-after.result.now c.deref.result.now _ c.in_ok-scenario.ensures parts c.in_ok-check_lines.ensures.ok (c.deref.ensures.value ∙ c.in_ok-scripts.ensures) c.in_err-text.ensures.err)
+    let parts =
+    parted s c.args.setup c.cpus-cpus.result c.as_slice-lines.result.now c.front_of-before.result.now
+    c.rest_of-after.result.now c.cpus-cpus.ensures.is c.as_slice-lines.ensures c.front_of-before.ensures
+    c.rest_of-after.ensures in
+    rw (p.1, p.2) (stopped_known c.args.input.now s c.args.setup c.args.limit c.cpus-cpus.result
+    c.front_of-before.result.now c.rest_of-after.result.now c.deref.result.now _ c.in_ok-scenario.ensures
+    parts c.in_ok-check_lines.ensures.ok (c.deref.ensures.value ∙ c.in_ok-scripts.ensures)
+    c.in_err-text.ensures.err)
 
 pub returns-clause-ok : goal.returns-clause-ok
 returns-clause-ok o c =
     let s = scenario_seen c.in_ok-scenario.scenario in
-    let parts = parted s c.args.setup c.cpus-cpus.result c.as_slice-lines.result.now c.front_of-before.result.now c.rest_of-after.result.now c.cpus-cpus.ensures.is c.as_slice-lines.ensures c.front_of-before.ensures c.rest_of-after.ensures in
-    explored_known c.args.input.now s c.args.setup c.args.limit c.cpus-cpus.result c.front_of-before.result.now c.rest_of-after.result.now c.deref.result.now _ c.in_ok-scenario.ensures parts c.in_ok-check_lines.ensures.ok (c.deref.ensures.value ∙ c.in_ok-scripts.ensures) c.in_ok-text.ensures.ok
+    let parts =
+    parted s c.args.setup c.cpus-cpus.result c.as_slice-lines.result.now c.front_of-before.result.now
+    c.rest_of-after.result.now c.cpus-cpus.ensures.is c.as_slice-lines.ensures c.front_of-before.ensures
+    c.rest_of-after.ensures in
+    explored_known c.args.input.now s c.args.setup c.args.limit c.cpus-cpus.result
+    c.front_of-before.result.now c.rest_of-after.result.now c.deref.result.now _ c.in_ok-scenario.ensures
+    parts c.in_ok-check_lines.ensures.ok (c.deref.ensures.value ∙ c.in_ok-scripts.ensures)
+    c.in_ok-text.ensures.ok

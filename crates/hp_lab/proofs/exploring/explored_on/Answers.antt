@@ -6,9 +6,12 @@ use Rattle.hp_lab.proofs.exploring.explored_on.Goals as goal
 
 pub returns-in_err-write_ends-clause-err : goal.returns-in_err-write_ends-clause-err
 returns-in_err-write_ends-clause-err o c =
-    let p = err_from_is_err_and c.from_residual-in_err-write_ends.result c.from_residual-in_err-write_ends.ensures.1 in
+    let p =
+    err_from_is_err_and c.from_residual-in_err-write_ends.result
+    c.from_residual-in_err-write_ends.ensures.1 in
     let ends = c.in_ok-ends.ends.items in
-    rw (p.1, p.2) (written_cause (setting c.args.machine.now c.args.scripts.now) ends c.args.limit _ c.in_ok-ends.ensures.ok c.in_ok-ends.ensures.within c.in_err-write_ends.ensures.err)
+    rw (p.1, p.2) (written_cause (setting c.args.machine.now c.args.scripts.now) ends c.args.limit _
+    c.in_ok-ends.ensures.ok c.in_ok-ends.ensures.within c.in_err-write_ends.ensures.err)
 
 pub returns-in_err-ends-clause-err : goal.returns-in_err-ends-clause-err
 returns-in_err-ends-clause-err g c = search rules

@@ -8,4 +8,5 @@ pub returns-clause-state : goal.returns-clause-state
 returns-clause-state c l s cpu pool frame p on = cached_zone l s cpu pool frame p on
 
 pub returns-clause-history : goal.returns-clause-history
-returns-clause-history c l base h cpu pool frame layout p on = cached_zone l (value_of l base h) cpu pool frame (value-placed l base h layout p) on
+returns-clause-history c l base h cpu pool frame layout p on =
+    cached_zone l (value_of l base h) cpu pool frame (value-placed l base h layout p) on

@@ -10,7 +10,8 @@ use Rattle.hp_laws.proofs.OfflineCommit.{commit_step}
 use Rattle.hp_laws.proofs.consequences.commits_need_free_frames.Goals as goal
 
 pub returns-clause-lowest : goal.returns-clause-lowest
-returns-clause-lowest c l s serial cpu op frame layout p low = commit_refused l s serial cpu op frame layout p low
+returns-clause-lowest c l s serial cpu op frame layout p low =
+    commit_refused l s serial cpu op frame layout p low
 
 pub returns-clause-some : goal.returns-clause-some
 returns-clause-some c l s serial cpu op layout p low = commit_some l s serial cpu op layout p low
@@ -23,5 +24,7 @@ returns-clause-tests c l s op layout p = all_free-none l s op layout p
 
 pub returns-clause-history : goal.returns-clause-history
 returns-clause-history c l base before op frame h r layout p legal event low =
-    subst (λ (reply : Reply). (reply ≡ Refused (NotFree frame)) ↔ IsLowestInUse l (value_of l base h) op frame) (sym (commit_step l base before op h r legal event))
-    (commit_refused l (value_of l base h) (before + length h + 1) r.cpu op frame layout (value-placed l base h layout p) low)
+    subst (λ (reply : Reply). (reply ≡ Refused (NotFree frame))
+    ↔ IsLowestInUse l (value_of l base h) op frame) (sym (commit_step l base before op h r legal event))
+    (commit_refused l (value_of l base h) (before + length h + 1) r.cpu op frame layout
+    (value-placed l base h layout p) low)

@@ -11,10 +11,12 @@ pub returns-clause-cached : goal.returns-clause-cached
 returns-clause-cached c l s cpu pool layout p = cached_length l s cpu pool layout p
 
 pub returns-clause-free_history : goal.returns-clause-free_history
-returns-clause-free_history c l base h class order layout p = free_length l (value_of l base h) class order layout (value-placed l base h layout p)
+returns-clause-free_history c l base h class order layout p =
+    free_length l (value_of l base h) class order layout (value-placed l base h layout p)
 
 pub returns-clause-cached_history : goal.returns-clause-cached_history
-returns-clause-cached_history c l base h cpu pool layout p = cached_length l (value_of l base h) cpu pool layout (value-placed l base h layout p)
+returns-clause-cached_history c l base h cpu pool layout p =
+    cached_length l (value_of l base h) cpu pool layout (value-placed l base h layout p)
 
 pub returns-clause-frames : goal.returns-clause-frames
 returns-clause-frames c l layout = layout.frames

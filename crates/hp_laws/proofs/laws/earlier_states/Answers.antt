@@ -10,4 +10,5 @@ returns-clause-prefix c l base before k h legal le =
 
 pub returns-clause-state : goal.returns-clause-state
 unfolding value_of
-returns-clause-state c l base before k h r legal at = ap (run l base) ((rooted_net l base before h legal).comes k r at)
+returns-clause-state c l base before k h r legal at =
+    ap (run l base) ((rooted_net l base before h legal).comes k r at)

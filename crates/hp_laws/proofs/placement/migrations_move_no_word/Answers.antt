@@ -6,4 +6,5 @@ pub returns-clause-words : goal.returns-clause-words
 returns-clause-words c l s serial cpu op = migrate-words l s serial cpu op
 
 pub returns-clause-frames : goal.returns-clause-frames
-returns-clause-frames c l s serial cpu op from to owner page placed replied = migrate-frames l s serial cpu op from to owner page placed replied
+returns-clause-frames c l s serial cpu op from to owner page placed replied =
+    migrate-frames l s serial cpu op from to owner page placed replied

@@ -5,5 +5,7 @@ use Rattle.hp_map.proofs.marks.mark_block.Goals as goal
 
 pub returns-in-Some : goal.returns-in-Some
 returns-in-Some c =
-    subst (λ (o : Option ℕ). AreMarked (on_block c.args.first o) c.args.places.now.items c.mark_frames.new.places.items) (sym c.in-Some.is)
-    (subst (λ (n : ℕ). AreMarked (marks_below (λ offset. at_frame (c.args.first + offset) Kernel) n) c.args.places.now.items c.mark_frames.new.places.items) c.size_of.ensures c.mark_frames.ensures)
+    subst (λ (o : Option ℕ). AreMarked (on_block c.args.first o) c.args.places.now.items
+    c.mark_frames.new.places.items) (sym c.in-Some.is)
+    (subst (λ (n : ℕ). AreMarked (marks_below (λ offset. at_frame (c.args.first + offset) Kernel) n)
+    c.args.places.now.items c.mark_frames.new.places.items) c.size_of.ensures c.mark_frames.ensures)

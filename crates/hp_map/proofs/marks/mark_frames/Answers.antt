@@ -7,9 +7,12 @@ pub loop-offset-init : goal.loop-offset-init
 loop-offset-init c = marks_none (λ offset. at_frame (c.args.first + offset) c.args.place.now) _
 
 pub loop-offset-preserved : goal.loop-offset-preserved
-loop-offset-preserved c = marks_more (λ offset. at_frame (c.args.first + offset) c.args.place.now) c.loop-offset.offset _ _ _ c.loop-offset.invariant c.set_place.ensures
+loop-offset-preserved c =
+    marks_more (λ offset. at_frame (c.args.first + offset) c.args.place.now) c.loop-offset.offset _ _ _
+    c.loop-offset.invariant c.set_place.ensures
 
 pub returns : goal.returns
 returns c =
     let all : c.loop-offset.offset ≡ c.args.count = omega arith in
-    subst (λ (n : ℕ). AreMarked (marks_below (λ offset. at_frame (c.args.first + offset) c.args.place.now) n) c.args.places.now.items c.loop-offset.places.items) all c.loop-offset.invariant
+    subst (λ (n : ℕ). AreMarked (marks_below (λ offset. at_frame (c.args.first + offset) c.args.place.now) n)
+    c.args.places.now.items c.loop-offset.places.items) all c.loop-offset.invariant

@@ -9,4 +9,5 @@ loop-number-init c = marks_none (on_page c.args.machine.now.state.pages c.args.o
 pub loop-number-preserved : goal.loop-number-preserved
 loop-number-preserved c =
     let is = ap (on_entry c.args.owner) c.frame_at.ensures in
-    marks_more_as (on_page c.args.machine.now.state.pages c.args.owner) c.loop-number.number (on_entry c.args.owner c.frame_at.result) _ _ _ is c.loop-number.invariant c.mark_page.ensures
+    marks_more_as (on_page c.args.machine.now.state.pages c.args.owner) c.loop-number.number
+    (on_entry c.args.owner c.frame_at.result) _ _ _ is c.loop-number.invariant c.mark_page.ensures

@@ -6,4 +6,6 @@ pub loop-number-init : goal.loop-number-init
 loop-number-init c = marks_none (on_owner c.args.machine.now.layout c.args.machine.now.state.pages) _
 
 pub loop-number-preserved : goal.loop-number-preserved
-loop-number-preserved c = marks_more (on_owner c.args.machine.now.layout c.args.machine.now.state.pages) c.loop-number.number _ _ _ c.loop-number.invariant c.mark_owner.ensures
+loop-number-preserved c =
+    marks_more (on_owner c.args.machine.now.layout c.args.machine.now.state.pages) c.loop-number.number _ _ _
+    c.loop-number.invariant c.mark_owner.ensures

@@ -20,21 +20,37 @@ pub returns-in-Ok-clause-live : goal.returns-in-Ok-clause-live
 returns-in-Ok-clause-live g c =
     IfOk-weaker c.unless_gone.result _ _ (λ same known. elim (c.in-Ok.ensures.ok.known c.requires.opened) [
       | inl none ↦ absurd (known.1 none)
-      | inr live ↦ subst (λ (r : Reply). IsLiveReply (g.P.Port.shows c.args.port.now).cpus c.args.event.now r) (sym known.0) live
+      | inr live ↦
+          subst (λ (r : Reply). IsLiveReply (g.P.Port.shows c.args.port.now).cpus c.args.event.now r)
+          (sym known.0) live
     ]) c.unless_gone.ensures.ok
 
 pub returns-in-Ok-clause-err : goal.returns-in-Ok-clause-err
 returns-in-Ok-clause-err g c =
     IfErr-weaker c.unless_gone.result _ _ (λ end known.
-    let ends = no_longer_live (g.P.Port.shows c.args.port.now).cpus c.args.op c.args.event.now (c.in-Ok.receipt ∷ []) c.requires.work (answer_is c.in-Ok.receipt c.args.event.now (Refused NoOp) c.in-Ok.ensures.ok.asked known.1) in
-    subst (λ (e : OpEnd). Gains g.P.Port.shows g.P.Port.makes g.P.Port.leaves c.args.port.now (g.P.Port.shows c.call.new.self).fault c.call.new.self (EndsRun (g.P.Port.shows c.args.port.now).cpus c.args.op (λ d. c.args.event.now) (g.P.Port.shows c.call.new.self).fault e)) (sym known.0)
-    (at_fault _ _ _ _ _ None (λ (f : Option CallFault). EndsRun (g.P.Port.shows c.args.port.now).cpus c.args.op (λ d. c.args.event.now) f EndsUndone) (record { gained = c.in-Ok.receipt ∷ []; value = c.in-Ok.ensures.ok.value; made = c.in-Ok.ensures.makes; is = ends })))
+    let ends =
+    no_longer_live (g.P.Port.shows c.args.port.now).cpus c.args.op c.args.event.now (c.in-Ok.receipt ∷ [])
+    c.requires.work
+    (answer_is c.in-Ok.receipt c.args.event.now (Refused NoOp) c.in-Ok.ensures.ok.asked known.1) in
+    subst (λ (e : OpEnd). Gains g.P.Port.shows g.P.Port.makes g.P.Port.leaves c.args.port.now (g.P.Port.shows
+    c.call.new.self).fault c.call.new.self (EndsRun (g.P.Port.shows c.args.port.now).cpus c.args.op
+    (λ d. c.args.event.now) (g.P.Port.shows c.call.new.self).fault e)) (sym known.0)
+    (at_fault _ _ _ _ _ None (λ (f : Option CallFault). EndsRun (g.P.Port.shows c.args.port.now).cpus
+    c.args.op (λ d. c.args.event.now) f EndsUndone) (record {
+      gained = c.in-Ok.receipt ∷ [];
+      value = c.in-Ok.ensures.ok.value;
+      made = c.in-Ok.ensures.makes;
+      is = ends;
+    })))
     c.unless_gone.ensures.err
 
 pub returns-in-Err-clause-err : goal.returns-in-Err-clause-err
 returns-in-Err-clause-err g c =
-    at_fault _ _ _ _ _ (Some c.in-Err.fault) (λ (f : Option CallFault). EndsRun (g.P.Port.shows c.args.port.now).cpus c.args.op (λ d. c.args.event.now) f (EndsLeft (Some c.args.op) c.in-Err.fault))
-    (gains_fault _ _ _ _ _ c.in-Err.fault _ (g.met.P.Port.nothing c.args.port.now) c.in-Err.ensures.err c.in-Err.ensures.leaves (left_with (g.P.Port.shows c.args.port.now).cpus c.args.op c.args.event.now c.in-Err.fault))
+    at_fault _ _ _ _ _ (Some c.in-Err.fault) (λ (f : Option CallFault). EndsRun (g.P.Port.shows
+    c.args.port.now).cpus c.args.op (λ d. c.args.event.now) f (EndsLeft (Some c.args.op) c.in-Err.fault))
+    (gains_fault _ _ _ _ _ c.in-Err.fault _ (g.met.P.Port.nothing c.args.port.now) c.in-Err.ensures.err
+    c.in-Err.ensures.leaves
+    (left_with (g.P.Port.shows c.args.port.now).cpus c.args.op c.args.event.now c.in-Err.fault))
 
 pub returns-in-Err-clause-ok : goal.returns-in-Err-clause-ok
 returns-in-Err-clause-ok g c = search rules

@@ -13,11 +13,13 @@ returns-then-is_blank c =
     c.is_blank-then-is_blank.ensures
     ∙ (ap is_blank (take_rest words (index + 1))
     ∙ (ap (λ (n : ℕ). is_blank (drop n words)) (add-one index)
-    ∙ sym (blank-beside words index c.requires ∙ ap (λ (b : Bool). b && is_blank (drop (suc index) words)) (sym c.is_blank.ensures ∙ c.if-is_blank.true))))
+    ∙ sym (blank-beside words index c.requires ∙ ap (λ (b : Bool). b && is_blank (drop (suc index) words))
+    (sym c.is_blank.ensures ∙ c.if-is_blank.true))))
 
 pub returns-else-is_blank : goal.returns-else-is_blank
 returns-else-is_blank c =
     let words = c.args.words.now in
     let index = c.args.index in
     c.if-is_blank.false
-    ∙ sym (blank-beside words index c.requires ∙ ap (λ (b : Bool). b && is_blank (drop (suc index) words)) (sym c.is_blank.ensures ∙ c.if-is_blank.false))
+    ∙ sym (blank-beside words index c.requires ∙ ap (λ (b : Bool). b && is_blank (drop (suc index) words))
+    (sym c.is_blank.ensures ∙ c.if-is_blank.false))

@@ -5,4 +5,5 @@ pub returns-then-is_in : goal.returns-then-is_in
 returns-then-is_in c = λ i within. set_bit c.args.word c.args.at i c.args.is_in c.requires c.if-is_in.true
 
 pub returns-else-is_in : goal.returns-else-is_in
-returns-else-is_in c = λ i within. clear_bit c.args.word c.args.at i c.args.is_in c.requires within c.if-is_in.false
+returns-else-is_in c =
+    λ i within. clear_bit c.args.word c.args.at i c.args.is_in c.requires within c.if-is_in.false

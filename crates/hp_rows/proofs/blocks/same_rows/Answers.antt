@@ -5,4 +5,6 @@ use Rattle.hp_units.specs.Memory.{offline_row}
 use Rattle.hp_rows.proofs.blocks.same_rows.Goals as goal
 
 pub returns : goal.returns
-returns c = ext_get_or offline_row c.args.rows.now c.args.others.now (omega arith) (λ k h. c.loop-number.invariant k (omega arith))
+returns c =
+    ext_get_or offline_row c.args.rows.now c.args.others.now (omega arith)
+    (λ k h. c.loop-number.invariant k (omega arith))

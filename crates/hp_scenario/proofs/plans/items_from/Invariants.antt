@@ -4,7 +4,9 @@ use Rattle.hp_scenario.proofs.Each.{after_front}
 use Rattle.hp_scenario.proofs.plans.items_from.Given as goal
 
 abbrev pub invariant-loop-rest : goal.invariant-loop-rest
-invariant-loop-rest l = after_front l.items.items (says.items_of (map (λ w. w.now) l.rest)) ≡ says.items_of (map (λ w. w.now) l.words)
+invariant-loop-rest l =
+    after_front l.items.items (says.items_of (map (λ w. w.now) l.rest))
+    ≡ says.items_of (map (λ w. w.now) l.words)
 
 abbrev pub decreases-loop-rest : goal.decreases-loop-rest
 decreases-loop-rest l = length l.rest

@@ -6,4 +6,6 @@ pub returns-in-Ok : goal.returns-in-Ok
 returns-in-Ok c = json_read _ _ c.in-Ok.ensures.ok.0 c.in-Ok.ensures.ok.1
 
 pub returns-else-is_memory : goal.returns-else-is_memory
-returns-else-is_memory c = json_refused _ (c.in-Err.ensures.err (λ e. let h : false ≡ true = c.if-is_memory.ensures.1 e in absurd cc))
+returns-else-is_memory c =
+    json_refused _
+    (c.in-Err.ensures.err (λ e. let h : false ≡ true = c.if-is_memory.ensures.1 e in absurd cc))

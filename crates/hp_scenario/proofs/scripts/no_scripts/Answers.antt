@@ -10,7 +10,8 @@ loop-cpu-preserved c =
     let i = c.loop-cpu.invariant in (
       c.push_reserved.ensures.items
           ∙ (ap (λ (scripts : List (List Line)). scripts ++ c.new-in-loop-cpu.result ∷ []) i.0
-          ∙ (ap (λ (script : List Line). map (script_of []) (range_with_len 0 c.loop-cpu._cpu) ++ script ∷ []) (c.new-in-loop-cpu.ensures ∙ c.new.ensures.items)
+          ∙ (ap (λ (script : List Line). map (script_of []) (range_with_len 0 c.loop-cpu._cpu) ++ script ∷ [])
+          (c.new-in-loop-cpu.ensures ∙ c.new.ensures.items)
           ∙ sym (map-range_with_len_more (script_of []) 0 c.loop-cpu._cpu c.loop-cpu._cpu (omega arith)))),
       omega (arith, i.1, c.push_reserved.ensures.len),
       omega (arith, i.2, c.push_reserved.ensures.capacity),

@@ -5,4 +5,5 @@ use Rattle.hp_shared.proofs.comparing.has_each.Given as goal
 
 abbrev pub invariant-loop-place : goal.invariant-loop-place
 invariant-loop-place g l =
-    (k : ℕ) (seat : SeatValue) → k < l.place → slice_get l.seats.items k ≡ Some seat → (seat.cpu < l.cpus) × IsTwinless l.seats.items k
+    (k : ℕ) (seat : SeatValue) → k < l.place → slice_get l.seats.items k ≡ Some seat
+    → (seat.cpu < l.cpus) × IsTwinless l.seats.items k

@@ -8,15 +8,29 @@ use Rattle.hp_shared.proofs.Comparisons.{marks_next, marks_none, short_take, str
 use Rattle.hp_shared.proofs.comparing.mark_records.Goals as goal
 
 pub loop-at-init : goal.loop-at-init
-loop-at-init g c = (refl, λ history are. marks_none history c.args.seats.now.items c.args.marks.now.items are, λ at r none. absurd cc)
+loop-at-init g c = (
+  refl,
+  λ history are.
+      marks_none history c.args.seats.now.items c.args.marks.now.items are,
+  λ at r none. absurd cc,
+)
 
 pub mark_record-requires-clause-room : goal.mark_record-requires-clause-room
 mark_record-requires-clause-room g c =
     let room = c.requires.room in
     let at = c.loop-at.at in
     let records = c.args.records.now in
-    let inside : at < length records = omega (arith, c.loop-at-test.true, c.loop-at.auto) in
-    (room.0 ++ take at records, omega (arith, length-append room.0 (take at records), short_take at records, inside, room.1), c.loop-at.invariant.1 room.0 room.2)
+    let inside : at < length records = omega (arith, c.loop-at-test.true, c.loop-at.auto) in (
+      room.0 ++ take at records,
+      omega (
+        arith,
+        length-append room.0 (take at records),
+        short_take at records,
+        inside,
+        room.1,
+      ),
+      c.loop-at.invariant.1 room.0 room.2,
+    )
 
 pub loop-at-preserved : goal.loop-at-preserved
 loop-at-preserved g c =
@@ -25,18 +39,25 @@ loop-at-preserved g c =
     let at = c.loop-at.at in
     let i = c.loop-at.invariant in
     let r = c.index-records-at.result in
-    let get = slice_get_read records (length records) at r refl (omega (arith, c.loop-at-test.true, c.loop-at.auto)) c.index-records-at.is in (
+    let get =
+    slice_get_read records (length records) at r refl (omega (arith, c.loop-at-test.true, c.loop-at.auto))
+    c.index-records-at.is in (
       c.mark_record.ensures.len ∙ i.0,
-      λ history are. marks_next history records seats c.mark_record.new.marks.items at r get (c.mark_record.ensures.marks (history ++ take at records) (i.1 history are)),
-      strays_next records seats at r c.loop-at.lowest c.mark_record.result c.lower-lowest.result get c.lower-lowest.ensures c.mark_record.ensures.stray i.2,
+      λ history are. marks_next history records seats c.mark_record.new.marks.items at r get
+          (c.mark_record.ensures.marks (history ++ take at records) (i.1 history are)),
+      strays_next records seats at r c.loop-at.lowest c.mark_record.result c.lower-lowest.result get
+          c.lower-lowest.ensures c.mark_record.ensures.stray i.2,
     )
 
 pub returns-clause-marks : goal.returns-clause-marks
 returns-clause-marks g c history are =
     subst (λ (rs : List Record). AreMarks (history ++ rs) c.args.seats.now.items c.loop-at.marks.items)
-    (take_all c.loop-at.at c.args.records.now (omega (arith, c.loop-at-test.false, c.loop-at.auto))) (c.loop-at.invariant.1 history are)
+    (take_all c.loop-at.at c.args.records.now (omega (arith, c.loop-at-test.false, c.loop-at.auto)))
+    (c.loop-at.invariant.1 history are)
 
 pub returns-clause-strays : goal.returns-clause-strays
 returns-clause-strays g c =
-    subst (λ (rs : List Record). IsOutcome (AreSeated rs c.args.seats.now.items) (StraysAt rs c.args.seats.now.items) c.loop-at.lowest)
-    (take_all c.loop-at.at c.args.records.now (omega (arith, c.loop-at-test.false, c.loop-at.auto))) c.loop-at.invariant.2
+    subst (λ (rs : List Record).
+    IsOutcome (AreSeated rs c.args.seats.now.items) (StraysAt rs c.args.seats.now.items) c.loop-at.lowest)
+    (take_all c.loop-at.at c.args.records.now (omega (arith, c.loop-at-test.false, c.loop-at.auto)))
+    c.loop-at.invariant.2

@@ -16,9 +16,14 @@ pub mark_records-requires-clause-room : goal.mark_records-requires-clause-room
 mark_records-requires-clause-room g c =
     let vs = c.args.volumes.now.items in
     let at = c.loop-at.at in
-    let inside : at < length vs = omega (arith, c.loop-at-test.true, c.loop-at.auto, c.len-at-end.ensures, c.args.volumes.now.ok.0) in
-    let get = slice_get_read vs (length vs) at c.index.result.now refl inside c.index.ensures in
-    (sealed_records (take at vs), room_on vs at 18446744073709551616 c.index.result.now c.as_slice.result.now get c.as_slice.ensures c.requires.few, c.loop-at.invariant.1)
+    let inside : at < length vs =
+    omega (arith, c.loop-at-test.true, c.loop-at.auto, c.len-at-end.ensures, c.args.volumes.now.ok.0) in
+    let get = slice_get_read vs (length vs) at c.index.result.now refl inside c.index.ensures in (
+      sealed_records (take at vs),
+      room_on vs at 18446744073709551616 c.index.result.now c.as_slice.result.now
+          get c.as_slice.ensures c.requires.few,
+      c.loop-at.invariant.1,
+    )
 
 pub loop-at-preserved : goal.loop-at-preserved
 loop-at-preserved g c =
@@ -26,19 +31,28 @@ loop-at-preserved g c =
     let seats = c.args.seats.now.items in
     let at = c.loop-at.at in
     let i = c.loop-at.invariant in
-    let inside : at < length vs = omega (arith, c.loop-at-test.true, c.loop-at.auto, c.len-at-end.ensures, c.args.volumes.now.ok.0) in
+    let inside : at < length vs =
+    omega (arith, c.loop-at-test.true, c.loop-at.auto, c.len-at-end.ensures, c.args.volumes.now.ok.0) in
     let get = slice_get_read vs (length vs) at c.index.result.now refl inside c.index.ensures in (
       c.mark_records.ensures.len ∙ i.0,
-      marks_on vs at c.index.result.now c.as_slice.result.now seats c.mark_records.new.marks.items get c.as_slice.ensures (c.mark_records.ensures.marks (sealed_records (take at vs)) i.1),
-      strays_on vs at c.index.result.now c.as_slice.result.now seats c.loop-at.lowest c.mark_records.result c.lower-lowest.result get c.as_slice.ensures c.lower-lowest.ensures i.2 c.mark_records.ensures.strays,
+      marks_on vs at c.index.result.now c.as_slice.result.now seats c.mark_records.new.marks.items get
+          c.as_slice.ensures (c.mark_records.ensures.marks (sealed_records (take at vs)) i.1),
+      strays_on vs at c.index.result.now c.as_slice.result.now seats c.loop-at.lowest c.mark_records.result
+          c.lower-lowest.result get c.as_slice.ensures c.lower-lowest.ensures i.2
+          c.mark_records.ensures.strays,
     )
 
 pub returns-clause-marks : goal.returns-clause-marks
 returns-clause-marks g c =
     subst (λ (vs : List Volume). AreMarks (sealed_records vs) c.args.seats.now.items c.loop-at.marks.items)
-    (take_all c.loop-at.at c.args.volumes.now.items (omega (arith, c.loop-at-test.false, c.loop-at.auto, c.len-at-end.ensures, c.args.volumes.now.ok.0))) c.loop-at.invariant.1
+    (take_all c.loop-at.at c.args.volumes.now.items
+    (omega (arith, c.loop-at-test.false, c.loop-at.auto, c.len-at-end.ensures, c.args.volumes.now.ok.0)))
+    c.loop-at.invariant.1
 
 pub returns-clause-strays : goal.returns-clause-strays
 returns-clause-strays g c =
-    subst (λ (vs : List Volume). IsOutcome (AreSeated (sealed_records vs) c.args.seats.now.items) (StraysAt (sealed_records vs) c.args.seats.now.items) c.loop-at.lowest)
-    (take_all c.loop-at.at c.args.volumes.now.items (omega (arith, c.loop-at-test.false, c.loop-at.auto, c.len-at-end.ensures, c.args.volumes.now.ok.0))) c.loop-at.invariant.2
+    subst (λ (vs : List Volume). IsOutcome (AreSeated (sealed_records vs) c.args.seats.now.items)
+    (StraysAt (sealed_records vs) c.args.seats.now.items) c.loop-at.lowest)
+    (take_all c.loop-at.at c.args.volumes.now.items
+    (omega (arith, c.loop-at-test.false, c.loop-at.auto, c.len-at-end.ensures, c.args.volumes.now.ok.0)))
+    c.loop-at.invariant.2

@@ -7,5 +7,8 @@ use Rattle.hp_svg.proofs.elements.write_escaped_text.Goals as goal
 pub returns : goal.returns
 unfolding escaped_text
 returns c =
-    let end = YieldsList-end (YieldsList-from_chars c.args.text.now c.utf8.text cc) c.loop-c.yielded _ c.loop-c.yielded_by _ _ c.in-None.is c.next.ensures.steps in
-    c.loop-c.invariant ∙ ap (λ cs. string_bytes c.args.out.now ++ flat_map escaped cs) (sym (map-id c.loop-c.yielded) ∙ end.0)
+    let end =
+    YieldsList-end (YieldsList-from_chars c.args.text.now c.utf8.text cc) c.loop-c.yielded _
+    c.loop-c.yielded_by _ _ c.in-None.is c.next.ensures.steps in
+    c.loop-c.invariant
+    ∙ ap (λ cs. string_bytes c.args.out.now ++ flat_map escaped cs) (sym (map-id c.loop-c.yielded) ∙ end.0)

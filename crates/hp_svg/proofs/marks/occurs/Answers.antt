@@ -7,5 +7,6 @@ use Rattle.hp_svg.proofs.marks.occurs.Goals as goal
 
 pub returns : goal.returns
 returns c =
-    any_from_yields_List (λ (piece : Bor (List ℕ)). has_mark c.args.mark piece.now) _ _ _ c.any.ensures.ran (YieldsList-from_slice c.args.pieces.now cc) (λ x b q k. search (rules, tests))
+    any_from_yields_List (λ (piece : Bor (List ℕ)). has_mark c.args.mark piece.now) _ _ _ c.any.ensures.ran
+    (YieldsList-from_slice c.args.pieces.now cc) (λ x b q k. search (rules, tests))
     ∙ sym (any_mapped (has_mark c.args.mark) c.args.pieces.now)

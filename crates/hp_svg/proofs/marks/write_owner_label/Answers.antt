@@ -6,4 +6,6 @@ use Rattle.hp_svg.proofs.marks.write_owner_label.Goals as goal
 
 pub returns : goal.returns
 unfolding owner_label
-returns c = on_ok_weaker c.write_mark.result (λ written. joined (codes "page of owner ") (c.args.mark ∷ []) _ _ _ c.in_ok-push_str.ensures.bytes written) c.write_mark.ensures
+returns c =
+    on_ok_weaker c.write_mark.result (λ written. joined (codes "page of owner ") (c.args.mark ∷ []) _ _ _
+    c.in_ok-push_str.ensures.bytes written) c.write_mark.ensures

@@ -4,4 +4,6 @@ use Rattle.hp_svg.specs.Pictures.{entry_text}
 use Rattle.hp_svg.proofs.pictures.write_legend.Given as goal
 
 abbrev pub invariant-loop-place : goal.invariant-loop-place
-invariant-loop-place l = string_bytes l.out ≡ string_bytes l.initial.out ++ flat_map entry_text (enumerate_from 0 (take l.place l.marks))
+invariant-loop-place l =
+    string_bytes l.out
+    ≡ string_bytes l.initial.out ++ flat_map entry_text (enumerate_from 0 (take l.place l.marks))

@@ -5,4 +5,5 @@ use Rattle.hp_svg.proofs.pictures.write_lines.Given as goal
 
 abbrev pub invariant-loop-number : goal.invariant-loop-number
 invariant-loop-number l =
-    string_bytes l.out ≡ string_bytes l.initial.out ++ flat_map (row_text l.sheet) (enumerate_from 0 (take l.number (map (λ line. line.now) l.lines)))
+    string_bytes l.out ≡ string_bytes l.initial.out
+    ++ flat_map (row_text l.sheet) (enumerate_from 0 (take l.number (map (λ line. line.now) l.lines)))

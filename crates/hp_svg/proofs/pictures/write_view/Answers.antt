@@ -7,4 +7,5 @@ use Rattle.hp_svg.proofs.pictures.write_view.Goals as goal
 pub returns : goal.returns
 unfolding view
 returns c =
-    on_ok_weaker c.write_corner.result (λ written. joined (codes " viewBox='0 0 ") (corner c.args.width c.args.height) _ _ _ c.in_ok-push_str.ensures.bytes written) c.write_corner.ensures
+    on_ok_weaker c.write_corner.result (λ written. joined (codes " viewBox='0 0 ")
+    (corner c.args.width c.args.height) _ _ _ c.in_ok-push_str.ensures.bytes written) c.write_corner.ensures

@@ -4,4 +4,5 @@ use Rattle.hp_text.specs.Spelling.{item_word}
 use Rattle.hp_text.proofs.spelling.write_items.Given as goal
 
 abbrev pub invariant-loop-item : goal.invariant-loop-item
-invariant-loop-item l = string_bytes l.out ≡ string_bytes l.fn.out ++ flat_map item_word (take l.item-index l.items)
+invariant-loop-item l =
+    string_bytes l.out ≡ string_bytes l.fn.out ++ flat_map item_word (take l.item-index l.items)

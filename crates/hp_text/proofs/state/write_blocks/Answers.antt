@@ -4,7 +4,11 @@ use Rattle.hp_text.proofs.Texts.{texts_none, texts_more}
 use Rattle.hp_text.proofs.state.write_blocks.Goals as goal
 
 pub loop-number-init : goal.loop-number-init
-loop-number-init c = texts_none (λ block. block_line block (slice_get c.args.image.now.memory.blocks.rows block)) _
+loop-number-init c =
+    texts_none (λ block. block_line block (slice_get c.args.image.now.memory.blocks.rows block)) _
 
 pub loop-number-preserved : goal.loop-number-preserved
-loop-number-preserved c = texts_more (λ block. block_line block (slice_get c.args.image.now.memory.blocks.rows block)) c.loop-number.number _ _ _ _ c.loop-number.invariant c.in_ok-write_block.ensures (ap (block_line c.loop-number.number) c.row.ensures)
+loop-number-preserved c =
+    texts_more (λ block. block_line block (slice_get c.args.image.now.memory.blocks.rows block))
+    c.loop-number.number _ _ _ _ c.loop-number.invariant c.in_ok-write_block.ensures
+    (ap (block_line c.loop-number.number) c.row.ensures)

@@ -7,10 +7,16 @@ use Rattle.hp_text.proofs.Texts.{texts_none, texts_more}
 use Rattle.hp_text.proofs.state.write_class.Goals as goal
 
 pub loop-number-init : goal.loop-number-init
-loop-number-init c = texts_none (λ order. list_line (Free c.args.class order) (free_list c.args.image.now.memory.free.areas c.args.class order)) _
+loop-number-init c =
+    texts_none (λ order.
+    list_line (Free c.args.class order) (free_list c.args.image.now.memory.free.areas c.args.class order)) _
 
 pub loop-number-preserved : goal.loop-number-preserved
-loop-number-preserved c = texts_more (λ order. list_line (Free c.args.class order) (free_list c.args.image.now.memory.free.areas c.args.class order)) c.loop-number.number _ _ _ _ c.loop-number.invariant c.in_ok-write_list.ensures (ap (list_line (Free c.args.class c.loop-number.number)) c.list.ensures)
+loop-number-preserved c =
+    texts_more (λ order. list_line (Free c.args.class order) (free_list c.args.image.now.memory.free.areas
+    c.args.class
+    order)) c.loop-number.number _ _ _ _ c.loop-number.invariant c.in_ok-write_list.ensures (ap (list_line
+    (Free c.args.class c.loop-number.number)) c.list.ensures)
 
 pub returns : goal.returns
 unfolding class_lists_text

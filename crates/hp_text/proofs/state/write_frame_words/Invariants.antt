@@ -4,4 +4,5 @@ use Rattle.hp_text.specs.State.{number_word}
 use Rattle.hp_text.proofs.state.write_frame_words.Given as goal
 
 abbrev pub invariant-loop-frame : goal.invariant-loop-frame
-invariant-loop-frame l = string_bytes l.out ≡ string_bytes l.fn.out ++ flat_map number_word (take l.frame-index l.frames)
+invariant-loop-frame l =
+    string_bytes l.out ≡ string_bytes l.fn.out ++ flat_map number_word (take l.frame-index l.frames)

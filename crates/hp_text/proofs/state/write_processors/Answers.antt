@@ -7,4 +7,6 @@ pub loop-number-init : goal.loop-number-init
 loop-number-init c = texts_none (processor_lists_text c.args.image.now.memory.free) _
 
 pub loop-number-preserved : goal.loop-number-preserved
-loop-number-preserved c = texts_more (processor_lists_text c.args.image.now.memory.free) c.loop-number.number _ _ _ _ c.loop-number.invariant c.in_ok-write_processor.ensures (refl)
+loop-number-preserved c =
+    texts_more (processor_lists_text c.args.image.now.memory.free) c.loop-number.number _ _ _ _
+    c.loop-number.invariant c.in_ok-write_processor.ensures (refl)

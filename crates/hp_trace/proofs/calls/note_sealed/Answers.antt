@@ -5,5 +5,8 @@ use Rattle.hp_trace.proofs.calls.note_sealed.Goals as goal
 
 pub returns : goal.returns
 returns c =
-    let text : c.as_str.result.now ≡ sealed_line c.args.count = c.as_str.ensures.value ∙ c.in_ok-write_sealed.ensures ∙ ap (λ (t : List ℕ). t ++ sealed_line c.args.count) c.new-out.ensures.bytes in
-    subst (λ (t : List ℕ). OnOk c.note.result (AreDrawn (noted c.args.machine.now c.args.asked.now t) c.args.rows.now c.note.new.self)) text c.note.ensures
+    let text : c.as_str.result.now ≡ sealed_line c.args.count =
+    c.as_str.ensures.value ∙ c.in_ok-write_sealed.ensures
+    ∙ ap (λ (t : List ℕ). t ++ sealed_line c.args.count) c.new-out.ensures.bytes in
+    subst (λ (t : List ℕ). OnOk c.note.result (AreDrawn (noted c.args.machine.now c.args.asked.now t)
+    c.args.rows.now c.note.new.self)) text c.note.ensures

@@ -7,10 +7,17 @@ use Rattle.hp_trace.proofs.calls.trace_event.Goals as goal
 
 pub returns-in-Ok : goal.returns-in-Ok
 returns-in-Ok c =
-    let calls = called_once c.args.machine.now c.call.new.self c.args.cpu c.args.event.now c.in-Ok.receipt c.in-Ok.ensures.full c.in-Ok.ensures.ok in
-    on_ok_weaker c.draw_receipt.result (λ drawn. event_added c.args.machine.now c.call.new.self c.args.cpu c.args.event.now c.in-Ok.receipt c.args.asked.now c.args.rows.now c.draw_receipt.new.rows c.in-Ok.ensures.ok calls drawn) c.draw_receipt.ensures
+    let calls =
+    called_once c.args.machine.now c.call.new.self c.args.cpu c.args.event.now c.in-Ok.receipt
+    c.in-Ok.ensures.full c.in-Ok.ensures.ok in
+    on_ok_weaker c.draw_receipt.result (λ drawn. event_added c.args.machine.now c.call.new.self c.args.cpu
+    c.args.event.now c.in-Ok.receipt c.args.asked.now c.args.rows.now c.draw_receipt.new.rows
+    c.in-Ok.ensures.ok calls drawn) c.draw_receipt.ensures
 
 pub returns-in-Err-HistoryFull : goal.returns-in-Err-HistoryFull
 returns-in-Err-HistoryFull c =
     on_ok_weaker c.note_full.result
-    (λ drawn. full_added c.args.machine.now c.call.new.self c.args.cpu c.args.event.now c.args.asked.now c.args.rows.now c.note_full.new.rows (c.in-Err-HistoryFull.ensures.full.0 (ap (λ (f : CallFault). Err f) c.in-Err-HistoryFull.field-0-is)) c.in-Err-HistoryFull.ensures.err drawn) c.note_full.ensures
+    (λ drawn. full_added c.args.machine.now c.call.new.self c.args.cpu c.args.event.now c.args.asked.now
+    c.args.rows.now c.note_full.new.rows
+    (c.in-Err-HistoryFull.ensures.full.0 (ap (λ (f : CallFault). Err f) c.in-Err-HistoryFull.field-0-is))
+    c.in-Err-HistoryFull.ensures.err drawn) c.note_full.ensures

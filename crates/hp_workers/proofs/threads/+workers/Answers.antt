@@ -12,26 +12,46 @@ run_beside-returns-clause-worker g t c =
     let scripts = c.args.scripts.now.items in
     let others = c.args.others.items in
     let place : c.len.result ≡ length others = omega (arith, c.len.ensures, c.args.others.ok.0) in
-    let inside : length others < length scripts = omega (arith, c.requires.scripts, c.args.others.ok.0, c.args.scripts.now.ok.0) in
+    let inside : length others < length scripts =
+    omega (arith, c.requires.scripts, c.args.others.ok.0, c.args.scripts.now.ok.0) in
     record {
       lines = c.index-script.result.now;
-      script = slice_get_read scripts (length scripts) (length others) c.index-script.result.now refl inside (c.index-script.ensures ∙ ap (λ k. get_or scripts k c.index-script.result.now) place);
+      script =
+          slice_get_read scripts (length scripts) (length others) c.index-script.result.now refl inside
+          (c.index-script.ensures ∙ ap (λ k. get_or scripts k c.index-script.result.now) place);
       worker = c.scoped.ensures.1.0;
     }
 
-pub run_rest-run_beside-worked-requires-clause-volumes : goal.run_rest-run_beside-worked-requires-clause-volumes
+pub run_rest-run_beside-worked-requires-clause-volumes :
+    goal.run_rest-run_beside-worked-requires-clause-volumes
 run_rest-run_beside-worked-requires-clause-volumes g t c κs within =
     let others = c.pop.new.self.items in
-    let less : length others ≤ length c.args.seats.items = omega (arith, ap (λ xs. length xs) c.in-Some.ensures.items, length-append others (c.in-Some.seat ∷ [])) in
-    omega (arith, fewer_seal_less c.args.scripts.now.items (length others) (length c.args.seats.items) less, c.requires.volumes)
+    let less : length others ≤ length c.args.seats.items =
+    omega
+    (arith, ap (λ xs. length xs) c.in-Some.ensures.items, length-append others (c.in-Some.seat ∷ [])) in
+    omega (
+      arith,
+      fewer_seal_less c.args.scripts.now.items (length others) (length c.args.seats.items) less,
+      c.requires.volumes,
+    )
 
 pub run_rest-gather-requires-clause-volumes : goal.run_rest-gather-requires-clause-volumes
 run_rest-gather-requires-clause-volumes g t c =
     let at = c.run_beside-worked.ensures.worker in
     let worked = c.run_beside-worked.result.0 in
     let done = c.run_beside-worked.result.1 in
-    let few = one_more_few g.L.Job.layout c.args.seats.items c.pop.new.self.items c.in-Some.seat c.args.scripts.now.items at.lines worked.seat done.volumes.items worked.volumes.items worked.ends worked.fault c.in-Some.ensures.items at.script at.worker c.run_beside-worked.ensures.few in
-    omega (arith, few, done.volumes.ok.0, worked.volumes.ok.0, c.requires.volumes, c.run_beside-worked.ensures.room)
+    let few =
+    one_more_few g.L.Job.layout c.args.seats.items c.pop.new.self.items c.in-Some.seat
+    c.args.scripts.now.items at.lines worked.seat done.volumes.items worked.volumes.items worked.ends
+    worked.fault c.in-Some.ensures.items at.script at.worker c.run_beside-worked.ensures.few in
+    omega (
+      arith,
+      few,
+      done.volumes.ok.0,
+      worked.volumes.ok.0,
+      c.requires.volumes,
+      c.run_beside-worked.ensures.room,
+    )
 
 pub run_rest-returns-clause-workers : goal.run_rest-returns-clause-workers
 run_rest-returns-clause-workers g t c =
@@ -39,25 +59,41 @@ run_rest-returns-clause-workers g t c =
     let worked = c.run_beside-worked.result.0 in
     let done = c.run_beside-worked.result.1 in
     let end = c.gather.result in
-    workers_more g.L.Job.layout c.args.seats.items c.pop.new.self.items c.in-Some.seat c.args.scripts.now.items at.lines end.seats.items done.seats.items worked.seat
-    end.volumes.items done.volumes.items worked.volumes.items end.ends.items done.ends.items worked.ends done.fault worked.fault end.fault
-    c.in-Some.ensures.items at.script c.gather.ensures.seats c.gather.ensures.volumes c.gather.ensures.ends c.gather.ensures.fault c.run_beside-worked.ensures.workers at.worker
+    workers_more g.L.Job.layout c.args.seats.items c.pop.new.self.items c.in-Some.seat
+    c.args.scripts.now.items at.lines end.seats.items done.seats.items worked.seat
+    end.volumes.items done.volumes.items worked.volumes.items end.ends.items done.ends.items worked.ends
+    done.fault worked.fault end.fault
+    c.in-Some.ensures.items at.script c.gather.ensures.seats c.gather.ensures.volumes c.gather.ensures.ends
+    c.gather.ensures.fault c.run_beside-worked.ensures.workers at.worker
 
 pub run_rest-returns-clause-few : goal.run_rest-returns-clause-few
 run_rest-returns-clause-few g t c =
     let at = c.run_beside-worked.ensures.worker in
     let worked = c.run_beside-worked.result.0 in
     let done = c.run_beside-worked.result.1 in
-    let few = one_more_few g.L.Job.layout c.args.seats.items c.pop.new.self.items c.in-Some.seat c.args.scripts.now.items at.lines worked.seat done.volumes.items worked.volumes.items worked.ends worked.fault c.in-Some.ensures.items at.script at.worker c.run_beside-worked.ensures.few in
-    omega (arith, few, ap (λ vs. length vs) c.gather.ensures.volumes, length-append done.volumes.items worked.volumes.items)
+    let few =
+    one_more_few g.L.Job.layout c.args.seats.items c.pop.new.self.items c.in-Some.seat
+    c.args.scripts.now.items at.lines worked.seat done.volumes.items worked.volumes.items worked.ends
+    worked.fault c.in-Some.ensures.items at.script at.worker c.run_beside-worked.ensures.few in
+    omega (
+      arith,
+      few,
+      ap (λ vs. length vs) c.gather.ensures.volumes,
+      length-append done.volumes.items worked.volumes.items,
+    )
 
 pub run_rest-returns-in_default-clause-workers : goal.run_rest-returns-in_default-clause-workers
 run_rest-returns-in_default-clause-workers g t c =
-    workers_none g.L.Job.layout c.args.seats.items c.args.scripts.now.items c.args.room.seats.items c.args.room.volumes.items c.args.room.ends.items c.args.room.fault
-    (nil_from_length c.args.seats.items (omega (arith, c.in_default.ensures.cases.0, c.args.seats.ok.0))) c.requires.bare.0 c.requires.bare.1 c.requires.bare.2 c.requires.bare.3
+    workers_none g.L.Job.layout c.args.seats.items c.args.scripts.now.items c.args.room.seats.items
+    c.args.room.volumes.items c.args.room.ends.items c.args.room.fault
+    (nil_from_length c.args.seats.items (omega (arith, c.in_default.ensures.cases.0, c.args.seats.ok.0)))
+    c.requires.bare.0 c.requires.bare.1 c.requires.bare.2 c.requires.bare.3
 
 pub run_beside-returns-then-is_empty-clause-workers : goal.run_beside-returns-then-is_empty-clause-workers
 run_beside-returns-then-is_empty-clause-workers g t c =
-    let none : vec_len c.args.others ≡ 0 = eqb-true (vec_len c.args.others) 0 (sym c.is_empty.ensures ∙ c.if-is_empty.true) in
-    workers_none g.L.Job.layout c.args.others.items c.args.scripts.now.items c.args.room.seats.items c.args.room.volumes.items c.args.room.ends.items c.args.room.fault
-    (nil_from_length c.args.others.items (omega (arith, none, c.args.others.ok.0))) c.requires.bare.0 c.requires.bare.1 c.requires.bare.2 c.requires.bare.3
+    let none : vec_len c.args.others ≡ 0 =
+    eqb-true (vec_len c.args.others) 0 (sym c.is_empty.ensures ∙ c.if-is_empty.true) in
+    workers_none g.L.Job.layout c.args.others.items c.args.scripts.now.items c.args.room.seats.items
+    c.args.room.volumes.items c.args.room.ends.items c.args.room.fault
+    (nil_from_length c.args.others.items (omega (arith, none, c.args.others.ok.0))) c.requires.bare.0
+    c.requires.bare.1 c.requires.bare.2 c.requires.bare.3

@@ -6,4 +6,5 @@ pub returns-clause-volumes : goal.returns-clause-volumes
 returns-clause-volumes g c =
     let done = c.args.done.volumes.items in
     let handed = c.args.worked.volumes.items in
-    appended c.append.result c.append.new.self.items (done ++ handed) done (c.append.ensures.succeeds c.requires.volumes) c.append.ensures.items
+    appended c.append.result c.append.new.self.items (done ++ handed) done
+    (c.append.ensures.succeeds c.requires.volumes) c.append.ensures.items

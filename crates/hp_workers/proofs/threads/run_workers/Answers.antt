@@ -6,4 +6,6 @@ pub returns : goal.returns
 returns g c =
     let done = c.run_rest.result in
     rw (c.in_order.ensures.seats, c.in_order.ensures.ends, c.in_order.ensures.fault)
-    (inr (gathered g.L.Job.layout c.args.seats.items c.args.scripts.items done.seats.items done.volumes.items c.in_order.result.volumes.items done.ends.items done.fault c.run_rest.ensures.workers c.in_order.ensures.same c.in_order.ensures.order c.run_rest.ensures.few))
+    (inr (gathered g.L.Job.layout c.args.seats.items c.args.scripts.items done.seats.items done.volumes.items
+    c.in_order.result.volumes.items done.ends.items done.fault c.run_rest.ensures.workers
+    c.in_order.ensures.same c.in_order.ensures.order c.run_rest.ensures.few))

@@ -10,10 +10,17 @@ loop-at-preserved g c =
     let lines = c.as_slice-lines.result.now in
     let at = c.loop-at.at in
     let count : at ≡ length c.loop-at.ends.items = omega (arith, i.0, c.loop-at.ends.ok.0) in
-    let read = slice_get_read lines (length lines) at c.index-lines-at.result refl (omega (arith, c.loop-at-test.true, c.loop-at.auto)) c.index-lines-at.is in
+    let read =
+    slice_get_read lines (length lines) at c.index-lines-at.result refl
+    (omega (arith, c.loop-at-test.true, c.loop-at.auto)) c.index-lines-at.is in
     let here : slice_get c.args.script.now (length c.loop-at.ends.items) ≡ Some c.index-lines-at.result =
-    ap (λ (ws : List Line). slice_get ws (length c.loop-at.ends.items)) (sym c.as_slice-lines.ensures) ∙ (ap (λ k. slice_get lines k) (sym count) ∙ read) in (
+    ap (λ (ws : List Line). slice_get ws (length c.loop-at.ends.items)) (sym c.as_slice-lines.ensures)
+    ∙ (ap (λ k. slice_get lines k) (sym count) ∙ read) in (
       omega (arith, i.0, c.push_reserved.ensures.len),
       omega (arith, i.1, c.push_reserved.ensures.capacity),
-      worked_next g.L.Job.layout c.args.seat c.loop-at.seat c.run_line-end.new.seat c.args.script.now c.index-lines-at.result c.loop-at.volumes.items c.run_line-end.new.volumes.items c.loop-at.ends.items c.push_reserved.new.self.items c.run_line-end.result here c.push_reserved.ensures.items i.2 c.run_line-end.ensures,
+      worked_next g.L.Job.layout c.args.seat c.loop-at.seat c.run_line-end.new.seat c.args.script.now
+          c.index-lines-at.result c.loop-at.volumes.items c.run_line-end.new.volumes.items
+          c.loop-at.ends.items
+          c.push_reserved.new.self.items c.run_line-end.result here c.push_reserved.ensures.items i.2
+          c.run_line-end.ensures,
     )

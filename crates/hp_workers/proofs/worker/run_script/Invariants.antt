@@ -4,4 +4,5 @@ use Rattle.hp_workers.proofs.worker.run_script.Given as goal
 
 abbrev pub invariant-loop-at : goal.invariant-loop-at
 invariant-loop-at g l =
-    (vec_len l.ends ≡ l.at) × (length l.fn.script ≤ vec_capacity l.ends) × IsWorked g.L.Job.layout l.fn.seat l.fn.script l.seat l.volumes.items l.ends.items
+    (vec_len l.ends ≡ l.at) × (length l.fn.script ≤ vec_capacity l.ends)
+    × IsWorked g.L.Job.layout l.fn.seat l.fn.script l.seat l.volumes.items l.ends.items

@@ -7,5 +7,6 @@ use Rattle.layer_tests.proofs.areas.one_free_pageblock.Goals as goal
 
 pub add_pageblock-requires-clause-block : goal.add_pageblock-requires-clause-block
 add_pageblock-requires-clause-block c =
-    subst (λ (b : BuddyValue). MayBeGiven b.layout b.areas b.layout.order (0 * pageblock_size b.layout)) (sym c.in_ok-buddy.ensures.value)
+    subst (λ (b : BuddyValue). MayBeGiven b.layout b.areas b.layout.order (0 * pageblock_size b.layout))
+    (sym c.in_ok-buddy.ensures.value)
     (first_block c.args.layout.now (omega (arith, c.requires.blocks)) (omega (arith, c.requires.pageblocks)))

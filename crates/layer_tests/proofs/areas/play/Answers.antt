@@ -9,17 +9,21 @@ use Rattle.hp_buddy.proofs.Scripts.{room_for_one, one_done}
 use Rattle.layer_tests.proofs.areas.play.Goals as goal
 
 pub play_one-held-requires-clause-orders : goal.play_one-held-requires-clause-orders
-play_one-held-requires-clause-orders c = subst (λ (l : LayoutParts). 4 ≤ l.order) (sym c.loop-turn.invariant.layout) c.requires.orders
+play_one-held-requires-clause-orders c =
+    subst (λ (l : LayoutParts). 4 ≤ l.order) (sym c.loop-turn.invariant.layout) c.requires.orders
 
 pub play_one-held-requires-clause-pageblocks : goal.play_one-held-requires-clause-pageblocks
-play_one-held-requires-clause-pageblocks c = subst (λ (l : LayoutParts). 0 < pageblock_count l) (sym c.loop-turn.invariant.layout) c.requires.pageblocks
+play_one-held-requires-clause-pageblocks c =
+    subst (λ (l : LayoutParts). 0 < pageblock_count l) (sym c.loop-turn.invariant.layout)
+    c.requires.pageblocks
 
 pub play_one-held-requires-clause-room : goal.play_one-held-requires-clause-room
 play_one-held-requires-clause-room c =
     let l = c.args.buddy.now.layout in
     let k = c.loop-turn in
     subst (λ (m : LayoutParts). HasRoom k.tape (turn_bound m)) (sym k.invariant.layout)
-    (room_left l (k._turn * turn_bound l) (turn_bound l) c.args.tape.now k.tape c.args.buddy.now.areas k.buddy.areas k.invariant.notes
+    (room_left l (k._turn * turn_bound l) (turn_bound l) c.args.tape.now k.tape c.args.buddy.now.areas
+    k.buddy.areas k.invariant.notes
     (omega (arith, c.requires.room, room_for_one k._turn c.args.turns (turn_bound l) (omega arith))))
 
 pub loop-turn-preserved : goal.loop-turn-preserved
@@ -32,8 +36,10 @@ loop-turn-preserved c =
       apart = c.play_one-held.ensures.apart;
       held = c.play_one-held.ensures.held;
       notes =
-          notes-then l k.buddy.layout (k._turn * turn_bound l) (turn_bound k.buddy.layout) ((k._turn + 1) * turn_bound l) c.args.tape.now k.tape e.tape c.args.buddy.now.areas k.buddy.areas e.buddy.areas
+          notes-then l k.buddy.layout (k._turn * turn_bound l) (turn_bound k.buddy.layout) ((k._turn + 1)
+          * turn_bound l) c.args.tape.now k.tape e.tape c.args.buddy.now.areas k.buddy.areas e.buddy.areas
           k.invariant.layout
-          (subst (λ (m : LayoutParts). k._turn * turn_bound l + turn_bound m ≤ (k._turn + 1) * turn_bound l) (sym k.invariant.layout) (omega (arith, one_done k._turn (turn_bound l))))
+          (subst (λ (m : LayoutParts). k._turn * turn_bound l + turn_bound m ≤ (k._turn + 1) * turn_bound l)
+          (sym k.invariant.layout) (omega (arith, one_done k._turn (turn_bound l))))
           k.invariant.notes c.play_one-held.ensures.notes;
     }

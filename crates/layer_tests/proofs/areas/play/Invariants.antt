@@ -9,5 +9,6 @@ invariant-loop-turn l = record {
   layout : l.buddy.layout ≡ l.fn.buddy.layout;
   apart : AreApart l.buddy.layout l.buddy.areas;
   held : IfSome l.held (λ block. MayBeGiven l.buddy.layout l.buddy.areas block.1 block.0);
-  notes : NotesAreas l.fn.buddy.layout (l._turn * turn_bound l.fn.buddy.layout) l.fn.tape l.tape l.buddy.areas l.fn.buddy.areas;
+  notes : NotesAreas l.fn.buddy.layout (l._turn * turn_bound l.fn.buddy.layout) l.fn.tape l.tape l.buddy.areas
+      l.fn.buddy.areas;
 }

@@ -10,4 +10,5 @@ pub give-requires-clause-room : goal.give-requires-clause-room
 give-requires-clause-room c =
     let v = c.args.buddy.now in
     subst (λ (l : LayoutParts). HasRoom c.take.new.tape (give_bound l)) (sym c.in-Some.ensures.layout)
-    (room_left v.layout (take_bound v.layout) (give_bound v.layout) c.args.tape.now c.take.new.tape v.areas c.take.new.self.areas c.in-Some.ensures.notes c.requires.room)
+    (room_left v.layout (take_bound v.layout) (give_bound v.layout) c.args.tape.now c.take.new.tape v.areas
+    c.take.new.self.areas c.in-Some.ensures.notes c.requires.room)

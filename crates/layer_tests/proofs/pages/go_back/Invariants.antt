@@ -8,7 +8,8 @@ invariant-loop-delta l = record {
   layout : l.pages.layout ≡ l.fn.pages.layout;
   numbers : AllByRecursion (IsDeltaOf l.pages.layout) l.tape.deltas;
   fit : AllFit FitsPages pages_undo l.tape.deltas l.pages.pages;
-  back : undo_all pages_undo l.tape.deltas l.pages.pages ≡ undo_all pages_undo l.fn.tape.deltas l.fn.pages.pages;
+  back : undo_all pages_undo l.tape.deltas l.pages.pages
+      ≡ undo_all pages_undo l.fn.tape.deltas l.fn.pages.pages;
 }
 
 abbrev pub decreases-loop-delta : goal.decreases-loop-delta

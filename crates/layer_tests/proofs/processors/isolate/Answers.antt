@@ -9,7 +9,8 @@ use Rattle.layer_tests.proofs.processors.isolate.Goals as goal
 
 pub returns-clause-together : goal.returns-clause-together
 returns-clause-together c =
-    fewer-together c.args.cpus.now c.args.buddy.now c.move_pageblock.new.self c.requires.together c.move_pageblock.ensures.layout c.move_pageblock.ensures.apart
+    fewer-together c.args.cpus.now c.args.buddy.now c.move_pageblock.new.self c.requires.together
+    c.move_pageblock.ensures.layout c.move_pageblock.ensures.apart
     (λ f. omega (arith, c.move_pageblock.ensures.places f))
 
 pub returns-clause-notes : goal.returns-clause-notes
@@ -18,4 +19,5 @@ returns-clause-notes c =
     let b = c.args.buddy.now in
     let e = c.move_pageblock.new in
     notes-beside v.layout (move_bound v.layout) c.args.tape.now e.tape v.cached e.self.areas b.areas
-    (subst (λ (l : LayoutParts). NotesAreas l (move_bound l) c.args.tape.now e.tape e.self.areas b.areas) c.requires.together.layout c.move_pageblock.ensures.notes)
+    (subst (λ (l : LayoutParts). NotesAreas l (move_bound l) c.args.tape.now e.tape e.self.areas b.areas)
+    c.requires.together.layout c.move_pageblock.ensures.notes)

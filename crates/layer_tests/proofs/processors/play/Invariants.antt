@@ -9,5 +9,6 @@ invariant-loop-turn l = record {
   layout : l.cpus.layout ≡ l.fn.cpus.layout;
   together : AreTogether l.cpus l.buddy;
   held : IfSome l.held (MayBePut l.cpus l.buddy);
-  notes : NotesFree l.fn.cpus.layout (l._turn * turn_bound l.fn.cpus.layout) l.fn.tape l.tape (frames_of l.buddy.areas l.cpus) (frames_of l.fn.buddy.areas l.fn.cpus);
+  notes : NotesFree l.fn.cpus.layout (l._turn * turn_bound l.fn.cpus.layout) l.fn.tape l.tape
+      (frames_of l.buddy.areas l.cpus) (frames_of l.fn.buddy.areas l.fn.cpus);
 }

@@ -12,4 +12,5 @@ returns-clause-notes c =
     let b = c.args.buddy.now in
     let e = c.steal.new in
     notes-beside v.layout (steal_bound v.layout) c.args.tape.now e.tape v.cached e.self.areas b.areas
-    (subst (λ (l : LayoutParts). NotesAreas l (steal_bound l) c.args.tape.now e.tape e.self.areas b.areas) c.requires.together.layout c.steal.ensures.notes)
+    (subst (λ (l : LayoutParts). NotesAreas l (steal_bound l) c.args.tape.now e.tape e.self.areas b.areas)
+    c.requires.together.layout c.steal.ensures.notes)

@@ -11,5 +11,12 @@ pub take_one-requires-clause-room : goal.take_one-requires-clause-room
 take_one-requires-clause-room c =
     let v = c.args.cpus.now in
     let b = c.args.buddy.now in
-    let none : length c.in_ok-tape.tape.deltas ≡ 0 = ap (λ (ds : List Delta). length ds) c.in_ok-tape.ensures.none in
-    omega (arith, take-few v.layout (frames_of b.areas v) 0 Nm, small_bound v b c.requires.small, c.in_ok-tape.ensures.room, none)
+    let none : length c.in_ok-tape.tape.deltas ≡ 0 =
+    ap (λ (ds : List Delta). length ds) c.in_ok-tape.ensures.none in
+    omega (
+      arith,
+      take-few v.layout (frames_of b.areas v) 0 Nm,
+      small_bound v b c.requires.small,
+      c.in_ok-tape.ensures.room,
+      none,
+    )

@@ -12,7 +12,8 @@ take_and_give-requires-clause-room c =
     let l = c.args.buddy.now.layout in
     let k = c.loop-turn in
     subst (λ (m : LayoutParts). HasRoom k.tape (block_room m)) (sym k.invariant.layout)
-    (room_left l (k._turn * block_room l) (block_room l) c.args.tape.now k.tape c.args.buddy.now.areas k.buddy.areas k.invariant.notes
+    (room_left l (k._turn * block_room l) (block_room l) c.args.tape.now k.tape c.args.buddy.now.areas
+    k.buddy.areas k.invariant.notes
     (omega (arith, c.requires.room, room_for_one k._turn c.args.turns (block_room l) (omega arith))))
 
 pub loop-turn-preserved : goal.loop-turn-preserved
@@ -24,8 +25,10 @@ loop-turn-preserved c =
       layout = c.take_and_give.ensures.layout ∙ k.invariant.layout;
       apart = c.take_and_give.ensures.apart;
       notes =
-          notes-then l k.buddy.layout (k._turn * block_room l) (block_room k.buddy.layout) ((k._turn + 1) * block_room l) c.args.tape.now k.tape e.tape c.args.buddy.now.areas k.buddy.areas e.buddy.areas
+          notes-then l k.buddy.layout (k._turn * block_room l) (block_room k.buddy.layout) ((k._turn + 1)
+          * block_room l) c.args.tape.now k.tape e.tape c.args.buddy.now.areas k.buddy.areas e.buddy.areas
           k.invariant.layout
-          (subst (λ (m : LayoutParts). k._turn * block_room l + block_room m ≤ (k._turn + 1) * block_room l) (sym k.invariant.layout) (omega (arith, one_done k._turn (block_room l))))
+          (subst (λ (m : LayoutParts). k._turn * block_room l + block_room m ≤ (k._turn + 1) * block_room l)
+          (sym k.invariant.layout) (omega (arith, one_done k._turn (block_room l))))
           k.invariant.notes c.take_and_give.ensures.notes;
     }

@@ -8,5 +8,6 @@ abbrev pub invariant-loop-turn : goal.invariant-loop-turn
 invariant-loop-turn l = record {
   layout : l.buddy.layout ≡ l.fn.buddy.layout;
   apart : AreApart l.buddy.layout l.buddy.areas;
-  notes : NotesAreas l.fn.buddy.layout (l._turn * block_room l.fn.buddy.layout) l.fn.tape l.tape l.buddy.areas l.fn.buddy.areas;
+  notes : NotesAreas l.fn.buddy.layout (l._turn * block_room l.fn.buddy.layout) l.fn.tape l.tape l.buddy.areas
+      l.fn.buddy.areas;
 }

@@ -9,5 +9,7 @@ use Rattle.layers_time.proofs.areas.time_rounds.Goals as goal
 pub take_and_give_all-requires-clause-room : goal.take_and_give_all-requires-clause-room
 take_and_give_all-requires-clause-room c =
     let tape = c.in_ok-tape.tape in
-    let none : length c.in_ok-tape.tape.deltas ≡ 0 = ap (λ (ds : List Delta). length ds) c.in_ok-tape.ensures.none in
-    subst (λ (m : LayoutParts). HasRoom tape (1000 * block_room m)) (sym c.loop-round.invariant.layout) (omega (arith, c.requires.room, c.in_ok-tape.ensures.room, none))
+    let none : length c.in_ok-tape.tape.deltas ≡ 0 =
+    ap (λ (ds : List Delta). length ds) c.in_ok-tape.ensures.none in
+    subst (λ (m : LayoutParts). HasRoom tape (1000 * block_room m)) (sym c.loop-round.invariant.layout)
+    (omega (arith, c.requires.room, c.in_ok-tape.ensures.room, none))

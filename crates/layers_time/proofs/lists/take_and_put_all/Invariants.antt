@@ -8,5 +8,6 @@ abbrev pub invariant-loop-turn : goal.invariant-loop-turn
 invariant-loop-turn l = record {
   layout : l.cpus.layout ≡ l.fn.cpus.layout;
   together : AreTogether l.cpus l.buddy;
-  notes : NotesFree l.fn.cpus.layout (l._turn * frame_room l.fn.cpus.layout) l.fn.tape l.tape (frames_of l.buddy.areas l.cpus) (frames_of l.fn.buddy.areas l.fn.cpus);
+  notes : NotesFree l.fn.cpus.layout (l._turn * frame_room l.fn.cpus.layout) l.fn.tape l.tape
+      (frames_of l.buddy.areas l.cpus) (frames_of l.fn.buddy.areas l.fn.cpus);
 }

@@ -9,5 +9,6 @@ pub add_pageblock-requires-clause-block : goal.add_pageblock-requires-clause-blo
 add_pageblock-requires-clause-block c =
     let l = c.in_ok-layout.layout in
     let is = c.frames-frames.ensures.layout in
-    subst (λ (b : BuddyValue). MayBeGiven b.layout b.areas b.layout.order (0 * pageblock_size b.layout)) (sym c.in_ok-buddy.ensures.value)
+    subst (λ (b : BuddyValue). MayBeGiven b.layout b.areas b.layout.order (0 * pageblock_size b.layout))
+    (sym c.in_ok-buddy.ensures.value)
     (first_block l is.some_blocks (some-pageblocks l is))

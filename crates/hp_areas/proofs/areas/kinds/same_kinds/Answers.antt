@@ -5,4 +5,6 @@ use Rattle.hp_units.specs.Memory.{plain_kind}
 use Rattle.hp_areas.proofs.areas.kinds.same_kinds.Goals as goal
 
 pub returns : goal.returns
-returns c = ext_get_or plain_kind c.args.kinds.now c.args.others.now (omega arith) (λ k h. c.loop-number.invariant k (omega arith))
+returns c =
+    ext_get_or plain_kind c.args.kinds.now c.args.others.now (omega arith)
+    (λ k h. c.loop-number.invariant k (omega arith))

@@ -12,9 +12,12 @@ returns-clause-layout c =
     let old = subst (AreFreeFramesOf l) (sym c.self.view_is) c.requires.layout in
     let mid = c.self.inside.areas in
     let new = c.add_back.new.self in
-    let added = λ (e : new ≡ with_back mid c.args.class c.args.order c.args.frame). subst (AreFreeAreasOf l) (sym e) (of_back l mid c.args.class c.args.order c.args.frame old.areas c.requires.frame) in
+    let added =
+    λ (e : new ≡ with_back mid c.args.class c.args.order c.args.frame). subst (AreFreeAreasOf l) (sym e)
+    (of_back l mid c.args.class c.args.order c.args.frame old.areas c.requires.frame) in
     let kept = λ (e : new ≡ mid). subst (AreFreeAreasOf l) (sym e) old.areas in
-    of_areas l _ new old (either_way c.add_back.result (AreFreeAreasOf l new) (on_ok_weaker c.add_back.result added c.add_back.ensures.value) (on_err_weaker c.add_back.result kept c.add_back.ensures.err))
+    of_areas l _ new old (either_way c.add_back.result (AreFreeAreasOf l new) (on_ok_weaker c.add_back.result
+    added c.add_back.ensures.value) (on_err_weaker c.add_back.result kept c.add_back.ensures.err))
 
 pub returns-clause-value : goal.returns-clause-value
 returns-clause-value c = search rules

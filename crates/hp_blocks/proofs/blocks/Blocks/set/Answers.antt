@@ -8,11 +8,19 @@ use Rattle.hp_blocks.proofs.blocks.Blocks.set.Goals as goal
 
 pub returns-clause-notes : goal.returns-clause-notes
 returns-clause-notes c =
-    let packed = ap (λ (was : Row). c.args.tape.now.deltas ++ RowDelta c.args.block was c.new-now.result ∷ []) (c.new-was.ensures ∙ c.row.ensures.row) in
-    let noted = c.note.ensures.noted ∙ (packed ∙ ap (λ (now : Row). c.args.tape.now.deltas ++ RowDelta c.args.block (row_of c.args.self.now.blocks c.args.block) now ∷ []) c.new-now.ensures) in
-    let lt = subst (λ (v : BlocksValue). c.args.block < v.layout.blocks) (sym c.self.view_is) c.requires.block in
-    let told = subst (λ (v : BlocksValue). c.note.new.self.deltas ≡ c.args.tape.now.deltas ++ RowDelta c.args.block (row_of v.blocks c.args.block) c.args.row ∷ []) (sym c.self.view_is) noted in
-    rw (c.block.view_is, ← c.self.view_is) (notes-row c.self.inside.layout (record { rows = c.self.inside.rows.items; auto = c.self.inside.auto })
+    let packed =
+    ap (λ (was : Row). c.args.tape.now.deltas ++ RowDelta c.args.block was c.new-now.result ∷ [])
+    (c.new-was.ensures ∙ c.row.ensures.row) in
+    let noted =
+    c.note.ensures.noted ∙ (packed ∙ ap (λ (now : Row). c.args.tape.now.deltas
+    ++ RowDelta c.args.block (row_of c.args.self.now.blocks c.args.block) now ∷ []) c.new-now.ensures) in
+    let lt =
+    subst (λ (v : BlocksValue). c.args.block < v.layout.blocks) (sym c.self.view_is) c.requires.block in
+    let told =
+    subst (λ (v : BlocksValue). c.note.new.self.deltas ≡ c.args.tape.now.deltas
+    ++ RowDelta c.args.block (row_of v.blocks c.args.block) c.args.row ∷ []) (sym c.self.view_is) noted in
+    rw (c.block.view_is, ← c.self.view_is)
+    (notes-row c.self.inside.layout (record { rows = c.self.inside.rows.items; auto = c.self.inside.auto })
     c.args.block c.args.row _ _ c.self.invariant lt c.note.ensures.room told)
 
 pub returns-clause-set : goal.returns-clause-set

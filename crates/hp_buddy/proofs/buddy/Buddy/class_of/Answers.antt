@@ -6,5 +6,7 @@ use Rattle.hp_buddy.proofs.buddy.Buddy.class_of.Goals as goal
 
 pub kind-requires : goal.kind-requires
 kind-requires c =
-    let same : pageblock_of c.self.inside.layout c.args.frame ≡ pageblock_of c.args.self.now.layout c.args.frame = ap (λ (v : BuddyValue). pageblock_of v.layout c.args.frame) c.self.view_is in
+    let same : pageblock_of c.self.inside.layout c.args.frame
+    ≡ pageblock_of c.args.self.now.layout c.args.frame =
+    ap (λ (v : BuddyValue). pageblock_of v.layout c.args.frame) c.self.view_is in
     omega (arith, c.pageblock_of.ensures, same, pageblock_in c.args.self.now.layout c.args.frame c.requires)

@@ -14,4 +14,5 @@ loop-order-preserved c =
     let low : first ≤ order = omega (arith, c.first.view_is) in
     c.loop-order.invariant ∙ ap (λ (n : ℕ). greatest_order a c.args.class first (n - first)) here
     ∙ greatest_order-more a c.args.class first order low
-    ∙ order_or-empty (free_list a c.args.class order) order c.len.result (greatest_order a c.args.class first (order - first)) c.len.ensures c.if-len-gt0.false
+    ∙ order_or-empty (free_list a c.args.class order) order c.len.result
+    (greatest_order a c.args.class first (order - first)) c.len.ensures c.if-len-gt0.false

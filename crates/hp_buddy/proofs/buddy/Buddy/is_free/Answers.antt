@@ -6,10 +6,13 @@ pub returns-in-Some : goal.returns-in-Some
 returns-in-Some c =
     let b = c.self.inside in
     c.eq.ensures
-    ∙ seen-is_free c.args.self.now b.layout b.links b.kinds.items c.args.class c.args.order c.args.frame c.in-Some.list c.list_number.result
-    (record { is = c.self.view_is; kept = c.self.invariant }) c.in-Some.ensures.listed c.in-Some.ensures.apart c.list_number.ensures
+    ∙ seen-is_free c.args.self.now b.layout b.links b.kinds.items c.args.class c.args.order c.args.frame
+    c.in-Some.list c.list_number.result
+    (record { is = c.self.view_is; kept = c.self.invariant }) c.in-Some.ensures.listed c.in-Some.ensures.apart
+    c.list_number.ensures
 
 pub returns-in-None : goal.returns-in-None
 returns-in-None c =
     let b = c.self.inside in
-    seen-not_free c.args.self.now b.layout b.links b.kinds.items c.args.class c.args.order c.args.frame (record { is = c.self.view_is; kept = c.self.invariant }) c.in-None.ensures.free
+    seen-not_free c.args.self.now b.layout b.links b.kinds.items c.args.class c.args.order c.args.frame
+    (record { is = c.self.view_is; kept = c.self.invariant }) c.in-None.ensures.free

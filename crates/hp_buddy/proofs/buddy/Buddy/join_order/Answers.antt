@@ -8,8 +8,10 @@ use Rattle.hp_buddy.proofs.buddy.Buddy.join_order.Goals as goal
 
 pub is_free-requires-clause-frame : goal.is_free-requires-clause-frame
 is_free-requires-clause-frame c =
-    let same : c.self.inside.layout.order ≡ c.args.self.now.layout.order = ap (λ (v : BuddyValue). v.layout.order) c.self.view_is in
-    frame_is_buddy c.args.self.now.layout c.args.frame c.loop-order.order c.ancestor-half.result c.buddy.result c.requires.frame (omega (arith, c.order-last.ensures.is))
+    let same : c.self.inside.layout.order ≡ c.args.self.now.layout.order =
+    ap (λ (v : BuddyValue). v.layout.order) c.self.view_is in
+    frame_is_buddy c.args.self.now.layout c.args.frame c.loop-order.order c.ancestor-half.result
+    c.buddy.result c.requires.frame (omega (arith, c.order-last.ensures.is))
     c.ancestor-half.ensures c.buddy.ensures
 
 pub returns-then-not-is_free-clause-joined : goal.returns-then-not-is_free-clause-joined
@@ -19,9 +21,11 @@ returns-then-not-is_free-clause-joined c =
     let order = c.loop-order.order in
     let same : c.self.inside.layout.order ≡ last = ap (λ (v : BuddyValue). v.layout.order) c.self.view_is in
     sym (c.loop-order.invariant
-    ∙ join_order-on a c.args.class c.args.frame order last c.ancestor-half.result c.buddy.result c.is_free.result (omega (arith, c.order-last.ensures.is))
+    ∙ join_order-on a c.args.class c.args.frame order last c.ancestor-half.result c.buddy.result
+    c.is_free.result (omega (arith, c.order-last.ensures.is))
     c.ancestor-half.ensures c.buddy.ensures c.is_free.ensures
-    ∙ ap (λ (b : Bool). cond b (join_order a c.args.class c.args.frame (order + 1) (last - (order + 1))) order) c.if-not-is_free.true)
+    ∙ ap (λ (b : Bool). cond b (join_order a c.args.class c.args.frame (order + 1) (last - (order + 1)))
+    order) c.if-not-is_free.true)
 
 pub loop-order-preserved : goal.loop-order-preserved
 loop-order-preserved c =
@@ -30,6 +34,8 @@ loop-order-preserved c =
     let order = c.loop-order.order in
     let same : c.self.inside.layout.order ≡ last = ap (λ (v : BuddyValue). v.layout.order) c.self.view_is in
     c.loop-order.invariant
-    ∙ join_order-on a c.args.class c.args.frame order last c.ancestor-half.result c.buddy.result c.is_free.result (omega (arith, c.order-last.ensures.is))
+    ∙ join_order-on a c.args.class c.args.frame order last c.ancestor-half.result c.buddy.result
+    c.is_free.result (omega (arith, c.order-last.ensures.is))
     c.ancestor-half.ensures c.buddy.ensures c.is_free.ensures
-    ∙ ap (λ (b : Bool). cond b (join_order a c.args.class c.args.frame (order + 1) (last - (order + 1))) order) c.if-not-is_free.false
+    ∙ ap (λ (b : Bool). cond b (join_order a c.args.class c.args.frame (order + 1) (last - (order + 1)))
+    order) c.if-not-is_free.false

@@ -19,17 +19,26 @@ use Rattle.hp_buddy.proofs.buddy.Buddy.move_order.Goals.{After-blocks_of_order-c
 abbrev first : After-nth_block-frame → ℕ
 first c = c.args.pageblock * pageblock_size c.args.self.now.layout
 
-ends : (c : After-nth_block-frame) → c.loop-at.at * 2 ^ c.args.order + 2 ^ c.args.order ≤ pageblock_size c.args.self.now.layout
-ends c = ends-within c.args.self.now.layout c.args.order c.loop-at.at c.requires.order (omega (arith, c.blocks_of_order-count.ensures.is))
+ends : (c : After-nth_block-frame)
+    → c.loop-at.at * 2 ^ c.args.order + 2 ^ c.args.order ≤ pageblock_size c.args.self.now.layout
+ends c =
+    ends-within c.args.self.now.layout c.args.order c.loop-at.at c.requires.order
+    (omega (arith, c.blocks_of_order-count.ensures.is))
 
 place : (c : After-nth_block-frame) → c.nth_block-frame.result ≡ first c + c.loop-at.at * 2 ^ c.args.order
-place c = c.nth_block-frame.ensures ∙ ap (λ (n : ℕ). n + c.loop-at.at * 2 ^ c.args.order) c.first_frame-first.ensures
+place c =
+    c.nth_block-frame.ensures
+    ∙ ap (λ (n : ℕ). n + c.loop-at.at * 2 ^ c.args.order) c.first_frame-first.ensures
 
 pub nth_block-frame-requires-clause-frame : goal.nth_block-frame-requires-clause-frame
 nth_block-frame-requires-clause-frame c =
     let l = c.args.self.now.layout in
-    let end = ends-within l c.args.order c.loop-at.at c.requires.order (omega (arith, c.blocks_of_order-count.ensures.is)) in
-    let inside = frame_in l c.args.pageblock (c.loop-at.at * 2 ^ c.args.order) c.requires.pageblock (omega (arith, end, pow_pos c.args.order)) in
+    let end =
+    ends-within l c.args.order c.loop-at.at c.requires.order
+    (omega (arith, c.blocks_of_order-count.ensures.is)) in
+    let inside =
+    frame_in l c.args.pageblock (c.loop-at.at * 2 ^ c.args.order) c.requires.pageblock
+    (omega (arith, end, pow_pos c.args.order)) in
     let few : frame_count l ≤ 2 ^ 20 = c.blocks_of_order-count.ensures.layout.frames in
     omega (arith, inside, c.first_frame-first.ensures)
 
@@ -37,15 +46,19 @@ pub move_block-requires-clause-frame : goal.move_block-requires-clause-frame
 move_block-requires-clause-frame c =
     let here = (goal.at.move_block-requires-clause-frame c).After-nth_block-frame in
     let l = c.args.self.now.layout in
-    let inside = frame_in l c.args.pageblock (c.loop-at.at * 2 ^ c.args.order) c.requires.pageblock (omega (arith, ends here, pow_pos c.args.order)) in
-    subst (λ (k : LayoutParts). c.nth_block-frame.result < frame_count k) (sym c.loop-at.invariant.layout) (omega (arith, inside, place here))
+    let inside =
+    frame_in l c.args.pageblock (c.loop-at.at * 2 ^ c.args.order) c.requires.pageblock
+    (omega (arith, ends here, pow_pos c.args.order)) in
+    subst (λ (k : LayoutParts). c.nth_block-frame.result < frame_count k) (sym c.loop-at.invariant.layout)
+    (omega (arith, inside, place here))
 
 pub move_block-requires-clause-apart : goal.move_block-requires-clause-apart
 move_block-requires-clause-apart c =
     let l = c.args.self.now.layout in
     subst (λ (k : LayoutParts). AreApart k c.loop-at.self.areas) (sym c.loop-at.invariant.layout)
     (subst (λ (a : FreeAreas). AreApart l a) (sym c.loop-at.invariant.areas)
-    (move_first-moves l c.args.self.now.areas c.args.from c.args.to c.args.order (c.args.pageblock * pageblock_size l) (c.loop-at.at * 2 ^ c.args.order) c.requires.order c.requires.apart).apart)
+    (move_first-moves l c.args.self.now.areas c.args.from c.args.to c.args.order (c.args.pageblock
+    * pageblock_size l) (c.loop-at.at * 2 ^ c.args.order) c.requires.order c.requires.apart).apart)
 
 pub move_block-requires-clause-room : goal.move_block-requires-clause-room
 move_block-requires-clause-room c =
@@ -53,9 +66,15 @@ move_block-requires-clause-room c =
     let l = c.args.self.now.layout in
     let a = c.args.self.now.areas in
     let at = c.loop-at.at * 2 ^ c.args.order in
-    let same = one-same a c.loop-at.self.areas c.args.from c.args.to c.args.order (first here) at c.nth_block-frame.result (has_order l a c.args.order c.requires.apart c.requires.order) c.loop-at.invariant.areas (place here) in
-    let within = count-within a c.args.from c.args.order (first here) at (pageblock_size l) (omega (arith, ends here, pow_pos c.args.order)) in
-    room_left l (2 * free_count a c.args.from c.args.order (first here) at) (2 * free_one c.loop-at.self.areas c.args.from c.args.order c.nth_block-frame.result) c.args.tape.now c.loop-at.tape
+    let same =
+    one-same a c.loop-at.self.areas c.args.from c.args.to c.args.order (first here) at
+    c.nth_block-frame.result (has_order l a c.args.order c.requires.apart c.requires.order)
+    c.loop-at.invariant.areas (place here) in
+    let within =
+    count-within a c.args.from c.args.order (first here) at (pageblock_size l)
+    (omega (arith, ends here, pow_pos c.args.order)) in
+    room_left l (2 * free_count a c.args.from c.args.order (first here) at) (2 * free_one c.loop-at.self.areas
+    c.args.from c.args.order c.nth_block-frame.result) c.args.tape.now c.loop-at.tape
     a c.loop-at.self.areas c.loop-at.invariant.notes (omega (arith, same, within, c.requires.room))
 
 pub loop-at-preserved : goal.loop-at-preserved
@@ -66,24 +85,37 @@ loop-at-preserved c =
     let at = c.loop-at.at * 2 ^ c.args.order in
     let past = (c.loop-at.at + 1) * 2 ^ c.args.order in
     let next : past ≡ at + 2 ^ c.args.order = grind arith in
-    let same = one-same a c.loop-at.self.areas c.args.from c.args.to c.args.order (first here) at c.nth_block-frame.result (has_order l a c.args.order c.requires.apart c.requires.order) c.loop-at.invariant.areas (place here) in
-    let within = count-within a c.args.from c.args.order (first here) at past (omega (arith, next, pow_pos c.args.order)) in
+    let same =
+    one-same a c.loop-at.self.areas c.args.from c.args.to c.args.order (first here) at
+    c.nth_block-frame.result (has_order l a c.args.order c.requires.apart c.requires.order)
+    c.loop-at.invariant.areas (place here) in
+    let within =
+    count-within a c.args.from c.args.order (first here) at past
+    (omega (arith, next, pow_pos c.args.order)) in
     record {
       areas =
-          c.move_block.ensures.areas ∙ ap (λ (n : ℕ). move_one c.loop-at.self.areas c.args.from c.args.to c.args.order n) (place here)
-          ∙ ap (λ (b : FreeAreas). move_one b c.args.from c.args.to c.args.order (first here + at)) c.loop-at.invariant.areas
-          ∙ sym (stride l a c.args.from c.args.to c.args.pageblock c.args.order c.loop-at.at c.requires.order c.requires.apart);
+          c.move_block.ensures.areas
+          ∙ ap (λ (n : ℕ). move_one c.loop-at.self.areas c.args.from c.args.to c.args.order n) (place here)
+          ∙ ap (λ (b : FreeAreas). move_one b c.args.from c.args.to c.args.order (first here + at))
+          c.loop-at.invariant.areas
+          ∙ sym (stride l a c.args.from c.args.to c.args.pageblock c.args.order c.loop-at.at c.requires.order
+          c.requires.apart);
       layout = c.move_block.ensures.layout ∙ c.loop-at.invariant.layout;
       notes =
-          notes-then l c.loop-at.self.layout (2 * free_count a c.args.from c.args.order (first here) at) (2 * free_one c.loop-at.self.areas c.args.from c.args.order c.nth_block-frame.result)
-          (2 * free_count a c.args.from c.args.order (first here) past) c.args.tape.now c.loop-at.tape c.move_block.new.tape a c.loop-at.self.areas c.move_block.new.self.areas c.loop-at.invariant.layout
+          notes-then l c.loop-at.self.layout (2 * free_count a c.args.from c.args.order (first here) at)
+          (2 * free_one c.loop-at.self.areas c.args.from c.args.order c.nth_block-frame.result)
+          (2 * free_count a c.args.from c.args.order (first here) past) c.args.tape.now c.loop-at.tape
+          c.move_block.new.tape a c.loop-at.self.areas c.move_block.new.self.areas
+          c.loop-at.invariant.layout
           (omega (arith, same, within)) c.loop-at.invariant.notes c.move_block.ensures.notes;
     }
 
 -- all of them
-last : (c : After-blocks_of_order-count) (at : ℕ) → at ≡ c.blocks_of_order-count.result → at * 2 ^ c.args.order ≡ pageblock_size c.args.self.now.layout
+last : (c : After-blocks_of_order-count) (at : ℕ) → at ≡ c.blocks_of_order-count.result
+    → at * 2 ^ c.args.order ≡ pageblock_size c.args.self.now.layout
 last c at is =
-    ap (λ (n : ℕ). n * 2 ^ c.args.order) (is ∙ c.blocks_of_order-count.ensures.is) ∙ whole c.args.order c.args.self.now.layout.order c.requires.order
+    ap (λ (n : ℕ). n * 2 ^ c.args.order) (is ∙ c.blocks_of_order-count.ensures.is)
+    ∙ whole c.args.order c.args.self.now.layout.order c.requires.order
 
 pub returns-clause-areas : goal.returns-clause-areas
 returns-clause-areas c =
@@ -91,13 +123,16 @@ returns-clause-areas c =
     let l = c.args.self.now.layout in
     let a = c.args.self.now.areas in
     c.loop-at.invariant.areas
-    ∙ ap (λ (n : ℕ). move_first a c.args.from c.args.to c.args.order (c.args.pageblock * pageblock_size l) n) (last here c.loop-at.at (omega arith))
-    ∙ move_free-first l a c.args.from c.args.to c.args.pageblock c.args.order (has_order l a c.args.order c.requires.apart c.requires.order)
+    ∙ ap (λ (n : ℕ). move_first a c.args.from c.args.to c.args.order (c.args.pageblock * pageblock_size l) n)
+    (last here c.loop-at.at (omega arith))
+    ∙ move_free-first l a c.args.from c.args.to c.args.pageblock c.args.order
+    (has_order l a c.args.order c.requires.apart c.requires.order)
 
 pub returns-clause-notes : goal.returns-clause-notes
 returns-clause-notes c =
     let here = (goal.at.returns-clause-notes c).After-blocks_of_order-count in
     let l = c.args.self.now.layout in
     let a = c.args.self.now.areas in
-    subst (λ (n : ℕ). NotesAreas l (2 * free_count a c.args.from c.args.order (c.args.pageblock * pageblock_size l) n) c.args.tape.now c.loop-at.tape c.loop-at.self.areas a)
+    subst (λ (n : ℕ). NotesAreas l (2 * free_count a c.args.from c.args.order
+    (c.args.pageblock * pageblock_size l) n) c.args.tape.now c.loop-at.tape c.loop-at.self.areas a)
     (last here c.loop-at.at (omega arith)) c.loop-at.invariant.notes

@@ -6,7 +6,8 @@ use Rattle.hp_buddy.proofs.buddy.Buddy.new.Goals as goal
 pub returns-clause-apart : goal.returns-clause-apart
 returns-clause-apart c =
     empty-apart c.in_ok-layout.layout c.in_ok-links.links.lists c.in_ok-kinds.kinds.items
-    (ap (λ (k : LinkedLists). k.lists) c.in_ok-links.ensures ∙ ap (λ (n : ℕ). replicate (5 * (n + 1)) []) c.order.ensures.is)
+    (ap (λ (k : LinkedLists). k.lists) c.in_ok-links.ensures
+    ∙ ap (λ (n : ℕ). replicate (5 * (n + 1)) []) c.order.ensures.is)
     (search rules)
 
 pub returns-in_err-layout-clause-value : goal.returns-in_err-layout-clause-value

@@ -6,10 +6,24 @@ use Rattle.hp_buddy.proofs.buddy.Buddy.set_mobility.Goals as goal
 
 pub kind-isolated-requires : goal.kind-isolated-requires
 kind-isolated-requires c =
-    let same : pageblock_of c.self.inside.layout c.args.frame ≡ pageblock_of c.args.self.now.layout c.args.frame = ap (λ (v : BuddyValue). pageblock_of v.layout c.args.frame) c.self.view_is in
-    omega (arith, c.pageblock_of-pageblock.ensures, same, pageblock_in c.args.self.now.layout c.args.frame c.requires.frame)
+    let same : pageblock_of c.self.inside.layout c.args.frame
+    ≡ pageblock_of c.args.self.now.layout c.args.frame =
+    ap (λ (v : BuddyValue). pageblock_of v.layout c.args.frame) c.self.view_is in
+    omega (
+      arith,
+      c.pageblock_of-pageblock.ensures,
+      same,
+      pageblock_in c.args.self.now.layout c.args.frame c.requires.frame,
+    )
 
 pub set_kind-requires-clause-pageblock : goal.set_kind-requires-clause-pageblock
 set_kind-requires-clause-pageblock c =
-    let same : pageblock_of c.self.inside.layout c.args.frame ≡ pageblock_of c.args.self.now.layout c.args.frame = ap (λ (v : BuddyValue). pageblock_of v.layout c.args.frame) c.self.view_is in
-    omega (arith, c.pageblock_of-pageblock.ensures, same, pageblock_in c.args.self.now.layout c.args.frame c.requires.frame)
+    let same : pageblock_of c.self.inside.layout c.args.frame
+    ≡ pageblock_of c.args.self.now.layout c.args.frame =
+    ap (λ (v : BuddyValue). pageblock_of v.layout c.args.frame) c.self.view_is in
+    omega (
+      arith,
+      c.pageblock_of-pageblock.ensures,
+      same,
+      pageblock_in c.args.self.now.layout c.args.frame c.requires.frame,
+    )

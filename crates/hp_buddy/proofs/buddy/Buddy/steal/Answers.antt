@@ -10,8 +10,11 @@ use Rattle.hp_buddy.proofs.Calls.{IsOutcome, outcome, as_taken, found_greatest, 
 use Rattle.hp_buddy.proofs.buddy.Buddy.steal.Goals as goal
 use Rattle.hp_buddy.proofs.buddy.Buddy.steal.Goals.{In-Some, After-steal_front}
 
-among : (c : In-Some) → IsOrderAmong c.args.order (c.args.self.now.layout.order + 1 - c.args.order) c.in-Some.found
-among c = found_greatest c.args.self.now.areas c.usable-from.result c.args.order (c.args.self.now.layout.order + 1 - c.args.order) c.in-Some.found c.in-Some.ensures
+among : (c : In-Some)
+    → IsOrderAmong c.args.order (c.args.self.now.layout.order + 1 - c.args.order) c.in-Some.found
+among c =
+    found_greatest c.args.self.now.areas c.usable-from.result c.args.order
+    (c.args.self.now.layout.order + 1 - c.args.order) c.in-Some.found c.in-Some.ensures
 
 pub steal_front-requires-clause-order : goal.steal_front-requires-clause-order
 steal_front-requires-clause-order c =
@@ -29,18 +32,26 @@ steal_front-requires-clause-room c =
 pub returns-in-Some-clause-stolen : goal.returns-in-Some-clause-stolen
 returns-in-Some-clause-stolen c =
     let from = c.usable-from.ensures ∙ ap (λ (m : Mobility). usable_class NormalZone m) c.other.ensures in
-    as_taken c.steal_front.result c.steal_front.new.self.areas (steal_block c.args.self.now.layout c.args.self.now.areas c.args.wanted c.args.order)
+    as_taken c.steal_front.result c.steal_front.new.self.areas
+    (steal_block c.args.self.now.layout c.args.self.now.areas c.args.wanted c.args.order)
     (steal_front c.args.self.now.layout c.args.self.now.areas c.args.wanted c.in-Some.found c.args.order)
-    (steal_block-found c.args.self.now.layout c.args.self.now.areas c.args.wanted c.usable-from.result c.args.order c.in-Some.found from c.in-Some.ensures) c.steal_front.ensures.taken
+    (steal_block-found c.args.self.now.layout c.args.self.now.areas c.args.wanted c.usable-from.result
+    c.args.order c.in-Some.found from c.in-Some.ensures) c.steal_front.ensures.taken
 
-is_outcome : (c : After-steal_front) → IsOutcome c.args.self.now c.steal_front.new.self c.args.order c.steal_front.result
+is_outcome : (c : After-steal_front)
+    → IsOutcome c.args.self.now c.steal_front.new.self c.args.order c.steal_front.result
 is_outcome c =
     let from = c.usable-from.ensures ∙ ap (λ (m : Mobility). usable_class NormalZone m) c.other.ensures in
-    outcome c.args.self.now c.steal_front.new.self c.args.order (steal_block c.args.self.now.layout c.args.self.now.areas c.args.wanted c.args.order) c.steal_front.result c.args.tape.now c.steal_front.new.tape
-    c.requires.apart c.steal_front.ensures.layout (steal_block-takes c.args.self.now.layout c.args.self.now.areas c.args.wanted c.args.order c.requires.apart)
-    (as_taken c.steal_front.result c.steal_front.new.self.areas (steal_block c.args.self.now.layout c.args.self.now.areas c.args.wanted c.args.order)
+    outcome c.args.self.now c.steal_front.new.self c.args.order
+    (steal_block c.args.self.now.layout c.args.self.now.areas c.args.wanted c.args.order)
+    c.steal_front.result c.args.tape.now c.steal_front.new.tape
+    c.requires.apart c.steal_front.ensures.layout (steal_block-takes c.args.self.now.layout
+    c.args.self.now.areas c.args.wanted c.args.order c.requires.apart)
+    (as_taken c.steal_front.result c.steal_front.new.self.areas
+    (steal_block c.args.self.now.layout c.args.self.now.areas c.args.wanted c.args.order)
     (steal_front c.args.self.now.layout c.args.self.now.areas c.args.wanted c.in-Some.found c.args.order)
-    (steal_block-found c.args.self.now.layout c.args.self.now.areas c.args.wanted c.usable-from.result c.args.order c.in-Some.found from c.in-Some.ensures) c.steal_front.ensures.taken)
+    (steal_block-found c.args.self.now.layout c.args.self.now.areas c.args.wanted c.usable-from.result
+    c.args.order c.in-Some.found from c.in-Some.ensures) c.steal_front.ensures.taken)
     c.steal_front.ensures.none
 
 pub returns-in-Some-clause-apart : goal.returns-in-Some-clause-apart
@@ -50,12 +61,14 @@ pub returns-in-Some-clause-block : goal.returns-in-Some-clause-block
 returns-in-Some-clause-block c = (is_outcome (goal.at.returns-in-Some-clause-block c).After-steal_front).block
 
 pub returns-in-Some-clause-places : goal.returns-in-Some-clause-places
-returns-in-Some-clause-places c = (is_outcome (goal.at.returns-in-Some-clause-places c).After-steal_front).places
+returns-in-Some-clause-places c =
+    (is_outcome (goal.at.returns-in-Some-clause-places c).After-steal_front).places
 
 pub returns-in-None-clause-stolen : goal.returns-in-None-clause-stolen
 returns-in-None-clause-stolen c =
     let from = c.usable-from.ensures ∙ ap (λ (m : Mobility). usable_class NormalZone m) c.other.ensures in
-    steal_block-none c.args.self.now.layout c.args.self.now.areas c.args.wanted c.usable-from.result c.args.order from c.in-None.ensures
+    steal_block-none c.args.self.now.layout c.args.self.now.areas c.args.wanted c.usable-from.result
+    c.args.order from c.in-None.ensures
 
 pub returns-in-Some-clause-none : goal.returns-in-Some-clause-none
 returns-in-Some-clause-none c = search rules

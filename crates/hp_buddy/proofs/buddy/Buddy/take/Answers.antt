@@ -7,8 +7,11 @@ use Rattle.hp_buddy.proofs.Calls.{IsOutcome, outcome, as_taken, found_least, tak
 use Rattle.hp_buddy.proofs.buddy.Buddy.take.Goals as goal
 use Rattle.hp_buddy.proofs.buddy.Buddy.take.Goals.{In-Some, After-take_front}
 
-among : (c : In-Some) → IsOrderAmong c.args.order (c.args.self.now.layout.order + 1 - c.args.order) c.in-Some.found
-among c = found_least c.args.self.now.areas c.args.class c.args.order (c.args.self.now.layout.order + 1 - c.args.order) c.in-Some.found c.in-Some.ensures
+among : (c : In-Some)
+    → IsOrderAmong c.args.order (c.args.self.now.layout.order + 1 - c.args.order) c.in-Some.found
+among c =
+    found_least c.args.self.now.areas c.args.class c.args.order
+    (c.args.self.now.layout.order + 1 - c.args.order) c.in-Some.found c.in-Some.ensures
 
 pub take_front-requires-clause-order : goal.take_front-requires-clause-order
 take_front-requires-clause-order c =
@@ -25,17 +28,25 @@ take_front-requires-clause-room c =
 
 pub returns-in-Some-clause-taken : goal.returns-in-Some-clause-taken
 returns-in-Some-clause-taken c =
-    as_taken c.take_front.result c.take_front.new.self.areas (take_block c.args.self.now.layout c.args.self.now.areas c.args.class c.args.order)
+    as_taken c.take_front.result c.take_front.new.self.areas
+    (take_block c.args.self.now.layout c.args.self.now.areas c.args.class c.args.order)
     (take_front c.args.self.now.areas c.args.class c.args.class c.in-Some.found c.args.order)
-    (take_block-found c.args.self.now.layout c.args.self.now.areas c.args.class c.args.order c.in-Some.found c.in-Some.ensures) c.take_front.ensures.taken
+    (take_block-found c.args.self.now.layout c.args.self.now.areas c.args.class c.args.order c.in-Some.found
+    c.in-Some.ensures) c.take_front.ensures.taken
 
-is_outcome : (c : After-take_front) → IsOutcome c.args.self.now c.take_front.new.self c.args.order c.take_front.result
+is_outcome : (c : After-take_front)
+    → IsOutcome c.args.self.now c.take_front.new.self c.args.order c.take_front.result
 is_outcome c =
-    outcome c.args.self.now c.take_front.new.self c.args.order (take_block c.args.self.now.layout c.args.self.now.areas c.args.class c.args.order) c.take_front.result c.args.tape.now c.take_front.new.tape
-    c.requires.apart c.take_front.ensures.layout (take_block-takes c.args.self.now.layout c.args.self.now.areas c.args.class c.args.order c.requires.apart)
-    (as_taken c.take_front.result c.take_front.new.self.areas (take_block c.args.self.now.layout c.args.self.now.areas c.args.class c.args.order)
+    outcome c.args.self.now c.take_front.new.self c.args.order
+    (take_block c.args.self.now.layout c.args.self.now.areas c.args.class c.args.order) c.take_front.result
+    c.args.tape.now c.take_front.new.tape
+    c.requires.apart c.take_front.ensures.layout (take_block-takes c.args.self.now.layout
+    c.args.self.now.areas c.args.class c.args.order c.requires.apart)
+    (as_taken c.take_front.result c.take_front.new.self.areas
+    (take_block c.args.self.now.layout c.args.self.now.areas c.args.class c.args.order)
     (take_front c.args.self.now.areas c.args.class c.args.class c.in-Some.found c.args.order)
-    (take_block-found c.args.self.now.layout c.args.self.now.areas c.args.class c.args.order c.in-Some.found c.in-Some.ensures) c.take_front.ensures.taken)
+    (take_block-found c.args.self.now.layout c.args.self.now.areas c.args.class c.args.order c.in-Some.found
+    c.in-Some.ensures) c.take_front.ensures.taken)
     c.take_front.ensures.none
 
 pub returns-in-Some-clause-apart : goal.returns-in-Some-clause-apart
@@ -45,10 +56,12 @@ pub returns-in-Some-clause-block : goal.returns-in-Some-clause-block
 returns-in-Some-clause-block c = (is_outcome (goal.at.returns-in-Some-clause-block c).After-take_front).block
 
 pub returns-in-Some-clause-places : goal.returns-in-Some-clause-places
-returns-in-Some-clause-places c = (is_outcome (goal.at.returns-in-Some-clause-places c).After-take_front).places
+returns-in-Some-clause-places c =
+    (is_outcome (goal.at.returns-in-Some-clause-places c).After-take_front).places
 
 pub returns-in-None-clause-taken : goal.returns-in-None-clause-taken
-returns-in-None-clause-taken c = take_block-none c.args.self.now.layout c.args.self.now.areas c.args.class c.args.order c.in-None.ensures
+returns-in-None-clause-taken c =
+    take_block-none c.args.self.now.layout c.args.self.now.areas c.args.class c.args.order c.in-None.ensures
 
 pub returns-in-Some-clause-none : goal.returns-in-Some-clause-none
 returns-in-Some-clause-none c = search rules

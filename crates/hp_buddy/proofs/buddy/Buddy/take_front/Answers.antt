@@ -11,33 +11,46 @@ use Rattle.hp_buddy.proofs.buddy.Buddy.take_front.Goals.{In-Some, After-unlink_f
 is_front : (c : In-Some) → IsFront c.in-Some.frame (free_list c.args.self.now.areas c.args.class c.args.order)
 is_front c =
     let b = c.self.inside in
-    seen-front_is c.args.self.now b.layout b.links b.kinds.items c.args.class c.args.order c.list_number.result c.in-Some.frame (record { is = c.self.view_is; kept = c.self.invariant })
+    seen-front_is c.args.self.now b.layout b.links b.kinds.items c.args.class c.args.order
+    c.list_number.result c.in-Some.frame (record { is = c.self.view_is; kept = c.self.invariant })
     c.list_number.ensures c.in-Some.ensures
 
 pub unlink_free-requires-clause-frame : goal.unlink_free-requires-clause-frame
 unlink_free-requires-clause-frame c =
-    front_frame c.args.self.now.layout c.args.self.now.areas c.args.class c.args.order c.in-Some.frame c.requires.apart (is_front (goal.at.unlink_free-requires-clause-frame c).In-Some)
+    front_frame c.args.self.now.layout c.args.self.now.areas c.args.class c.args.order c.in-Some.frame
+    c.requires.apart (is_front (goal.at.unlink_free-requires-clause-frame c).In-Some)
 
-is_left : (c : After-unlink_free) → IsFront c.in-Some.frame (free_list c.args.self.now.areas c.args.class c.args.order) → IsLeft c.args.self.now.layout c.unlink_free.new.self.areas c.args.order c.in-Some.frame
+is_left : (c : After-unlink_free)
+    → IsFront c.in-Some.frame (free_list c.args.self.now.areas c.args.class c.args.order)
+    → IsLeft c.args.self.now.layout c.unlink_free.new.self.areas c.args.order c.in-Some.frame
 is_left c front =
-    front_free c.args.self.now.layout c.args.self.now.areas c.unlink_free.new.self.areas c.args.class c.args.order c.in-Some.frame c.requires.apart c.requires.order
+    front_free c.args.self.now.layout c.args.self.now.areas c.unlink_free.new.self.areas c.args.class
+    c.args.order c.in-Some.frame c.requires.apart c.requires.order
     front c.unlink_free.ensures.areas
 
 pub put_halves-requires-clause-apart : goal.put_halves-requires-clause-apart
 put_halves-requires-clause-apart c =
-    subst (λ (l : LayoutParts). AreApart l c.unlink_free.new.self.areas) (sym c.unlink_free.ensures.layout) (is_left (goal.at.put_halves-requires-clause-apart c).After-unlink_free (is_front (goal.at.put_halves-requires-clause-apart c).In-Some)).apart
+    subst (λ (l : LayoutParts). AreApart l c.unlink_free.new.self.areas) (sym
+    c.unlink_free.ensures.layout) (is_left (goal.at.put_halves-requires-clause-apart c).After-unlink_free
+    (is_front (goal.at.put_halves-requires-clause-apart c).In-Some)).apart
 
 pub put_halves-requires-clause-block : goal.put_halves-requires-clause-block
 put_halves-requires-clause-block c =
-    subst (λ (l : LayoutParts). MayBeGiven l c.unlink_free.new.self.areas c.args.order c.in-Some.frame) (sym c.unlink_free.ensures.layout)
-    (is_left (goal.at.put_halves-requires-clause-block c).After-unlink_free (is_front (goal.at.put_halves-requires-clause-block c).In-Some)).rest
+    subst (λ (l : LayoutParts). MayBeGiven l c.unlink_free.new.self.areas c.args.order c.in-Some.frame)
+    (sym c.unlink_free.ensures.layout)
+    (is_left (goal.at.put_halves-requires-clause-block c).After-unlink_free
+    (is_front (goal.at.put_halves-requires-clause-block c).In-Some)).rest
 
 pub returns-in-Some-clause-taken : goal.returns-in-Some-clause-taken
 returns-in-Some-clause-taken c =
-    front_taken c.args.self.now.layout c.args.self.now.areas c.unlink_free.new.self.areas c.put_halves.new.self.areas c.args.class c.args.rest c.args.order c.args.wanted c.in-Some.frame
-    c.requires.apart c.requires.order (is_front (goal.at.returns-in-Some-clause-taken c).In-Some) c.unlink_free.ensures.areas c.put_halves.ensures.areas
+    front_taken c.args.self.now.layout c.args.self.now.areas c.unlink_free.new.self.areas
+    c.put_halves.new.self.areas c.args.class c.args.rest c.args.order c.args.wanted c.in-Some.frame
+    c.requires.apart c.requires.order (is_front (goal.at.returns-in-Some-clause-taken c).In-Some)
+    c.unlink_free.ensures.areas c.put_halves.ensures.areas
 
 pub returns-in-Some-clause-notes : goal.returns-in-Some-clause-notes
 returns-in-Some-clause-notes c =
-    notes-then c.args.self.now.layout c.unlink_free.new.self.layout 1 (c.args.order - c.args.wanted) (c.args.order - c.args.wanted + 1) c.args.tape.now c.unlink_free.new.tape c.put_halves.new.tape
-    c.args.self.now.areas c.unlink_free.new.self.areas c.put_halves.new.self.areas c.unlink_free.ensures.layout (omega arith) c.unlink_free.ensures.notes c.put_halves.ensures.notes
+    notes-then c.args.self.now.layout c.unlink_free.new.self.layout 1 (c.args.order - c.args.wanted)
+    (c.args.order - c.args.wanted + 1) c.args.tape.now c.unlink_free.new.tape c.put_halves.new.tape
+    c.args.self.now.areas c.unlink_free.new.self.areas c.put_halves.new.self.areas
+    c.unlink_free.ensures.layout (omega arith) c.unlink_free.ensures.notes c.put_halves.ensures.notes

@@ -4,20 +4,27 @@ use Rattle.hp_buddy.proofs.buddy.Buddy.unlink_free.Goals as goal
 pub unlink-after-requires : goal.unlink-after-requires
 unlink-after-requires c =
     let b = c.self.inside in
-    seen-listed c.args.self.now b.layout b.links b.kinds.items c.args.class c.args.order c.args.frame (record { is = c.self.view_is; kept = c.self.invariant }) c.requires.free
+    seen-listed c.args.self.now b.layout b.links b.kinds.items c.args.class c.args.order c.args.frame
+    (record { is = c.self.view_is; kept = c.self.invariant }) c.requires.free
 
 pub returns-clause-areas : goal.returns-clause-areas
 returns-clause-areas c =
     let b = c.self.inside in
     let u = c.unlink-after.ensures in
-    (seen-unlink c.args.self.now b.layout b.links c.unlink-after.new.self b.kinds.items c.args.class c.args.order c.args.frame c.unlink-after.result c.args.tape.now c.note.new.self c.unlink_delta.result
-    (record { is = c.self.view_is; kept = c.self.invariant }) c.requires.order c.requires.frame c.requires.free
-    (record { free = u.free; one_list = u.one_list; before_on = u.before_on; undone = u.undone }) c.note.ensures.room c.note.ensures.noted c.unlink_delta.ensures).areas
+    (seen-unlink c.args.self.now b.layout b.links c.unlink-after.new.self b.kinds.items c.args.class
+    c.args.order c.args.frame c.unlink-after.result c.args.tape.now c.note.new.self c.unlink_delta.result
+    (record { is = c.self.view_is; kept = c.self.invariant }) c.requires.order c.requires.frame
+    c.requires.free
+    (record { free = u.free; one_list = u.one_list; before_on = u.before_on; undone = u.undone })
+    c.note.ensures.room c.note.ensures.noted c.unlink_delta.ensures).areas
 
 pub returns-clause-notes : goal.returns-clause-notes
 returns-clause-notes c =
     let b = c.self.inside in
     let u = c.unlink-after.ensures in
-    (seen-unlink c.args.self.now b.layout b.links c.unlink-after.new.self b.kinds.items c.args.class c.args.order c.args.frame c.unlink-after.result c.args.tape.now c.note.new.self c.unlink_delta.result
-    (record { is = c.self.view_is; kept = c.self.invariant }) c.requires.order c.requires.frame c.requires.free
-    (record { free = u.free; one_list = u.one_list; before_on = u.before_on; undone = u.undone }) c.note.ensures.room c.note.ensures.noted c.unlink_delta.ensures).notes
+    (seen-unlink c.args.self.now b.layout b.links c.unlink-after.new.self b.kinds.items c.args.class
+    c.args.order c.args.frame c.unlink-after.result c.args.tape.now c.note.new.self c.unlink_delta.result
+    (record { is = c.self.view_is; kept = c.self.invariant }) c.requires.order c.requires.frame
+    c.requires.free
+    (record { free = u.free; one_list = u.one_list; before_on = u.before_on; undone = u.undone })
+    c.note.ensures.room c.note.ensures.noted c.unlink_delta.ensures).notes

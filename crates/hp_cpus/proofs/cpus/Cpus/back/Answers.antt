@@ -7,28 +7,36 @@ use Rattle.hp_cpus.proofs.cpus.Cpus.back.Goals as goal
 pub unlink-requires : goal.unlink-requires
 unlink-requires c =
     let b = c.self.inside in
-    seen-listed c.args.self.now b.layout b.links c.in-Cpu.cpu c.in-Cpu.pool c.in-Link.frame (record { is = c.self.view_is; kept = c.self.invariant })
-    (linked-on c.args.self.now c.requires.fits.0 c.args.delta c.in-Link.list c.in-Cpu.cpu c.in-Cpu.pool c.in-Link.frame c.in-Link.after c.in-Link.is c.in-Cpu.is c.requires.fits.1)
+    seen-listed c.args.self.now b.layout b.links c.in-Cpu.cpu c.in-Cpu.pool c.in-Link.frame
+    (record { is = c.self.view_is; kept = c.self.invariant })
+    (linked-on c.args.self.now c.requires.fits.0 c.args.delta c.in-Link.list c.in-Cpu.cpu c.in-Cpu.pool
+    c.in-Link.frame c.in-Link.after c.in-Link.is c.in-Cpu.is c.requires.fits.1)
 
 pub returns-in-Cpu-clause-back : goal.returns-in-Cpu-clause-back
 returns-in-Cpu-clause-back c =
     let b = c.self.inside in
     let u = c.unlink.ensures in
-    link-undone c.args.self.now b.layout b.links c.unlink.new.self c.args.delta c.in-Link.list c.in-Cpu.cpu c.in-Cpu.pool c.in-Link.frame c.in-Link.after c.unlink.result c.requires.fits.0
-    (record { is = c.self.view_is; kept = c.self.invariant }) c.in-Link.is c.in-Cpu.is c.requires.fits.1 c.requires.numbers
+    link-undone c.args.self.now b.layout b.links c.unlink.new.self c.args.delta c.in-Link.list c.in-Cpu.cpu
+    c.in-Cpu.pool c.in-Link.frame c.in-Link.after c.unlink.result c.requires.fits.0
+    (record { is = c.self.view_is; kept = c.self.invariant }) c.in-Link.is c.in-Cpu.is c.requires.fits.1
+    c.requires.numbers
     (record { free = u.free; one_list = u.one_list; before_on = u.before_on; undone = u.undone })
 
 pub relink_after-requires-clause-after_on : goal.relink_after-requires-clause-after_on
 relink_after-requires-clause-after_on c =
     let b = c.self.inside in
-    unlinked-after c.args.self.now b.layout b.links c.args.delta c.in-Unlink.list c.in-Cpu-list.cpu c.in-Cpu-list.pool c.in-Unlink.frame c.list_number.result c.in-Unlink.after c.requires.fits.0
-    (record { is = c.self.view_is; kept = c.self.invariant }) c.in-Unlink.is c.in-Cpu-list.is c.requires.fits.1 c.list_number.ensures
+    unlinked-after c.args.self.now b.layout b.links c.args.delta c.in-Unlink.list c.in-Cpu-list.cpu
+    c.in-Cpu-list.pool c.in-Unlink.frame c.list_number.result c.in-Unlink.after c.requires.fits.0
+    (record { is = c.self.view_is; kept = c.self.invariant }) c.in-Unlink.is c.in-Cpu-list.is
+    c.requires.fits.1 c.list_number.ensures
 
 pub returns-in-Cpu-list-clause-back : goal.returns-in-Cpu-list-clause-back
 returns-in-Cpu-list-clause-back c =
     let b = c.self.inside in
-    unlink-undone c.args.self.now b.layout b.links c.relink_after.new.self c.args.delta c.in-Unlink.list c.in-Cpu-list.cpu c.in-Cpu-list.pool c.in-Unlink.frame c.list_number.result c.in-Unlink.after
-    (record { is = c.self.view_is; kept = c.self.invariant }) c.in-Unlink.is c.in-Cpu-list.is c.list_number.ensures c.relink_after.ensures
+    unlink-undone c.args.self.now b.layout b.links c.relink_after.new.self c.args.delta c.in-Unlink.list
+    c.in-Cpu-list.cpu c.in-Cpu-list.pool c.in-Unlink.frame c.list_number.result c.in-Unlink.after
+    (record { is = c.self.view_is; kept = c.self.invariant }) c.in-Unlink.is c.in-Cpu-list.is
+    c.list_number.ensures c.relink_after.ensures
 
 pub returns-in-Cpu-clause-layout : goal.returns-in-Cpu-clause-layout
 returns-in-Cpu-clause-layout c = search rules

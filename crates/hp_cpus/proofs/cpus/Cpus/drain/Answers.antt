@@ -13,8 +13,11 @@ returns-clause-drained c =
     let d = c.drain_pool.new in
     let e = c.drain_pool-2.new in
     let f = c.drain_pool-3.new in
-    drained c.args.self.now.layout d.self.layout e.self.layout (frames_of c.args.buddy.now.areas c.args.self.now) (frames_of d.buddy.areas d.self) (frames_of e.buddy.areas e.self) (frames_of f.buddy.areas f.self) c.args.cpu
-    c.drain_pool.ensures.layout (c.drain_pool-2.ensures.layout ∙ c.drain_pool.ensures.layout) c.drain_pool.ensures.drained c.drain_pool-2.ensures.drained c.drain_pool-3.ensures.drained
+    drained c.args.self.now.layout d.self.layout e.self.layout
+    (frames_of c.args.buddy.now.areas c.args.self.now) (frames_of d.buddy.areas d.self)
+    (frames_of e.buddy.areas e.self) (frames_of f.buddy.areas f.self) c.args.cpu
+    c.drain_pool.ensures.layout (c.drain_pool-2.ensures.layout ∙ c.drain_pool.ensures.layout)
+    c.drain_pool.ensures.drained c.drain_pool-2.ensures.drained c.drain_pool-3.ensures.drained
 
 pub returns-clause-notes : goal.returns-clause-notes
 returns-clause-notes c =
@@ -36,17 +39,26 @@ returns-clause-notes c =
     let mm : ℕ = length (list_of v cpu Mm) * each in
     let same_nm : length (list_of d.self cpu Nm) * (d.self.layout.order + 2) ≡ nm =
     ap (λ (m : LayoutParts). length (list_of d.self cpu Nm) * (m.order + 2)) after_d
-    ∙ ap (λ (xs : List ℕ). length xs * each) (other_list l before one cpu Nu Nm c.drain_pool.ensures.drained (λ same. omega arith)) in
+    ∙ ap (λ (xs : List ℕ). length xs * each)
+    (other_list l before one cpu Nu Nm c.drain_pool.ensures.drained (λ same. omega arith)) in
     let same_mm : length (list_of e.self cpu Mm) * (e.self.layout.order + 2) ≡ mm =
     ap (λ (m : LayoutParts). length (list_of e.self cpu Mm) * (m.order + 2)) after_e
     ∙ ap (λ (xs : List ℕ). length xs * each)
-    (other_list d.self.layout one two cpu Nm Mm c.drain_pool-2.ensures.drained (λ same. omega arith) ∙ other_list l before one cpu Nu Mm c.drain_pool.ensures.drained (λ same. omega arith)) in
+    (other_list d.self.layout one two cpu Nm Mm c.drain_pool-2.ensures.drained (λ same. omega arith)
+    ∙ other_list l before one cpu Nu Mm c.drain_pool.ensures.drained (λ same. omega arith)) in
     let two_notes : NotesFree l (nu + nm) c.args.tape.now e.tape two before =
-    notes-then l d.self.layout nu (length (list_of d.self cpu Nm) * (d.self.layout.order + 2)) (nu + nm) c.args.tape.now d.tape e.tape before one two after_d (omega (arith, same_nm)) c.drain_pool.ensures.notes
+    notes-then l d.self.layout nu (length (list_of d.self cpu Nm) * (d.self.layout.order + 2)) (nu + nm)
+    c.args.tape.now d.tape e.tape before one two after_d (omega (arith, same_nm)) c.drain_pool.ensures.notes
     c.drain_pool-2.ensures.notes in
     notes-then l e.self.layout (nu + nm) (length (list_of e.self cpu Mm) * (e.self.layout.order + 2))
-    ((length (list_of v cpu Nu) + length (list_of v cpu Nm) + length (list_of v cpu Mm)) * each) c.args.tape.now e.tape f.tape before two three after_e
-    (omega (arith, same_mm, three_lists (length (list_of v cpu Nu)) (length (list_of v cpu Nm)) (length (list_of v cpu Mm)) each)) two_notes c.drain_pool-3.ensures.notes
+    ((length (list_of v cpu Nu) + length (list_of v cpu Nm) + length (list_of v cpu Mm)) * each)
+    c.args.tape.now e.tape f.tape before two three after_e
+    (omega (
+      arith,
+      same_mm,
+      three_lists (length (list_of v cpu Nu)) (length (list_of v cpu Nm))
+          (length (list_of v cpu Mm)) each,
+    )) two_notes c.drain_pool-3.ensures.notes
 
 pub returns-clause-layout : goal.returns-clause-layout
 returns-clause-layout c = search rules

@@ -13,7 +13,8 @@ use Rattle.hp_cpus.proofs.cpus.Cpus.drain_pool.Goals as goal
 use Rattle.hp_cpus.proofs.cpus.Cpus.drain_pool.Goals.{In-Some, In-None, After-give}
 
 pub pop-requires-clause-cpu : goal.pop-requires-clause-cpu
-pop-requires-clause-cpu c = subst (λ (l : LayoutParts). c.args.cpu < l.cpus) (sym c.loop-given.invariant.layout) c.requires.cpu
+pop-requires-clause-cpu c =
+    subst (λ (l : LayoutParts). c.args.cpu < l.cpus) (sym c.loop-given.invariant.layout) c.requires.cpu
 
 pub pop-requires-clause-within : goal.pop-requires-clause-within
 pop-requires-clause-within c = c.loop-given.invariant.together.within
@@ -27,15 +28,20 @@ pop-requires-clause-room c =
     let k = c.loop-given in
     let all : ℕ = length (list_of c.args.self.now c.args.cpu c.args.pool) in
     let room : HasRoom k.tape (l.order + 2) =
-    turn_room l k._given all c.args.tape.now k.tape c.args.self.now k.self c.args.buddy.now.areas k.buddy.areas (omega (arith, c.len-given-end.ensures)) c.requires.room k.invariant.notes in
+    turn_room l k._given all c.args.tape.now k.tape c.args.self.now k.self c.args.buddy.now.areas
+    k.buddy.areas (omega (arith, c.len-given-end.ensures)) c.requires.room k.invariant.notes in
     omega (arith, room)
 
-out : (c : In-Some) → IsOut c.loop-given.self c.pop.new.self c.loop-given.buddy c.loop-given.buddy c.in-Some.frame
+out : (c : In-Some)
+    → IsOut c.loop-given.self c.pop.new.self c.loop-given.buddy c.loop-given.buddy c.in-Some.frame
 out c =
     let k = c.loop-given in
-    list-out k.self c.pop.new.self k.buddy c.args.cpu c.args.pool c.in-Some.frame (list_of c.pop.new.self c.args.cpu c.args.pool) k.invariant.together
-    (subst (λ (l : LayoutParts). c.args.cpu < l.cpus) (sym k.invariant.layout) c.requires.cpu) c.in-Some.ensures.cached
-    (front-times (list_of k.self c.args.cpu c.args.pool) (list_of c.pop.new.self c.args.cpu c.args.pool) c.in-Some.frame c.in-Some.ensures.popped)
+    list-out k.self c.pop.new.self k.buddy c.args.cpu c.args.pool c.in-Some.frame
+    (list_of c.pop.new.self c.args.cpu c.args.pool) k.invariant.together
+    (subst (λ (l : LayoutParts). c.args.cpu < l.cpus) (sym k.invariant.layout) c.requires.cpu)
+    c.in-Some.ensures.cached
+    (front-times (list_of k.self c.args.cpu c.args.pool) (list_of c.pop.new.self c.args.cpu c.args.pool)
+    c.in-Some.frame c.in-Some.ensures.popped)
 
 pub give-requires-clause-together : goal.give-requires-clause-together
 give-requires-clause-together c = (out (goal.at.give-requires-clause-together c).In-Some).together
@@ -48,18 +54,25 @@ give-requires-clause-room c =
     let l = c.args.self.now.layout in
     let k = c.loop-given in
     let all : ℕ = length (list_of c.args.self.now c.args.cpu c.args.pool) in
-    let kept : c.pop.new.self.layout ≡ k.self.layout = ap (λ (v : CpusValue). v.layout) c.in-Some.ensures.cached in
+    let kept : c.pop.new.self.layout ≡ k.self.layout =
+    ap (λ (v : CpusValue). v.layout) c.in-Some.ensures.cached in
     let room : HasRoom k.tape (l.order + 2) =
-    turn_room l k._given all c.args.tape.now k.tape c.args.self.now k.self c.args.buddy.now.areas k.buddy.areas (omega (arith, c.len-given-end.ensures)) c.requires.room k.invariant.notes in
+    turn_room l k._given all c.args.tape.now k.tape c.args.self.now k.self c.args.buddy.now.areas
+    k.buddy.areas (omega (arith, c.len-given-end.ensures)) c.requires.room k.invariant.notes in
     subst (λ (m : LayoutParts). HasRoom c.pop.new.tape (give_bound m)) (sym (kept ∙ k.invariant.layout))
-    (room_left k.self.layout 1 (give_bound l) k.tape c.pop.new.tape (frames_of k.buddy.areas k.self) (frames_of k.buddy.areas c.pop.new.self) (c.in-Some.ensures.notes k.buddy.areas) (omega (arith, room)))
+    (room_left k.self.layout 1 (give_bound l) k.tape c.pop.new.tape (frames_of k.buddy.areas k.self)
+    (frames_of k.buddy.areas c.pop.new.self) (c.in-Some.ensures.notes k.buddy.areas) (omega (arith, room)))
 
-turn : (c : After-give) → IsOut c.loop-given.self c.pop.new.self c.loop-given.buddy c.loop-given.buddy c.in-Some.frame
-    → IsTurn c.args.self.now.layout c.loop-given.self c.pop.new.self c.loop-given.buddy c.give.new.buddy c.loop-given.tape c.give.new.tape
+turn : (c : After-give)
+    → IsOut c.loop-given.self c.pop.new.self c.loop-given.buddy c.loop-given.buddy c.in-Some.frame
+    → IsTurn c.args.self.now.layout c.loop-given.self c.pop.new.self c.loop-given.buddy c.give.new.buddy
+    c.loop-given.tape c.give.new.tape
 turn c o =
     let k = c.loop-given in
-    given-turn c.args.self.now.layout k.self c.pop.new.self k.buddy c.give.new.buddy c.in-Some.frame k.tape c.pop.new.tape c.give.new.tape k.invariant.layout
-    (ap (λ (v : CpusValue). v.layout) c.in-Some.ensures.cached) o c.give.ensures.together c.give.ensures.places (c.in-Some.ensures.notes k.buddy.areas) c.give.ensures.notes
+    given-turn c.args.self.now.layout k.self c.pop.new.self k.buddy c.give.new.buddy c.in-Some.frame k.tape
+    c.pop.new.tape c.give.new.tape k.invariant.layout
+    (ap (λ (v : CpusValue). v.layout) c.in-Some.ensures.cached) o c.give.ensures.together
+    c.give.ensures.places (c.in-Some.ensures.notes k.buddy.areas) c.give.ensures.notes
 
 pub loop-given-preserved : goal.loop-given-preserved
 loop-given-preserved c =
@@ -67,16 +80,23 @@ loop-given-preserved c =
     let k = c.loop-given in
     let d = c.pop.new.self in
     let t = turn (goal.at.loop-given-preserved c).After-give (out (goal.at.loop-given-preserved c).In-Some) in
-    let size : length (list_of k.self c.args.cpu c.args.pool) ≡ length (c.in-Some.frame ∷ list_of d c.args.cpu c.args.pool) = ap length c.in-Some.ensures.popped in
+    let size : length (list_of k.self c.args.cpu c.args.pool)
+    ≡ length (c.in-Some.frame ∷ list_of d c.args.cpu c.args.pool) =
+    ap length c.in-Some.ensures.popped in
     record {
       drained =
-          sym (drain_pool-more l (frames_of k.buddy.areas k.self) (frames_of c.give.new.buddy.areas d) c.args.cpu c.args.pool c.in-Some.frame k.self.layout.cpus (list_of d c.args.cpu c.args.pool)
-          (subst (λ (m : LayoutParts). c.args.cpu < m.cpus) (sym k.invariant.layout) c.requires.cpu) k.invariant.together.lists c.in-Some.ensures.popped
-          (given_is l k.self d k.buddy c.give.new.buddy c.args.cpu c.args.pool c.zone.result c.in-Some.frame t.layout c.zone.ensures c.in-Some.ensures.cached c.give.ensures.given)) ∙ k.invariant.drained;
+          sym (drain_pool-more l (frames_of k.buddy.areas k.self) (frames_of c.give.new.buddy.areas d)
+          c.args.cpu c.args.pool c.in-Some.frame k.self.layout.cpus (list_of d c.args.cpu c.args.pool)
+          (subst (λ (m : LayoutParts). c.args.cpu < m.cpus) (sym k.invariant.layout) c.requires.cpu)
+          k.invariant.together.lists c.in-Some.ensures.popped
+          (given_is l k.self d k.buddy c.give.new.buddy c.args.cpu c.args.pool c.zone.result c.in-Some.frame
+          t.layout c.zone.ensures c.in-Some.ensures.cached c.give.ensures.given)) ∙ k.invariant.drained;
       left = omega (arith, size, k.invariant.left);
       layout = t.layout;
       together = t.together;
-      notes = notes-turn l k._given c.args.tape.now k.tape c.give.new.tape c.args.self.now k.self d c.args.buddy.now.areas k.buddy.areas c.give.new.buddy.areas k.invariant.notes t.notes;
+      notes =
+          notes-turn l k._given c.args.tape.now k.tape c.give.new.tape c.args.self.now k.self d
+          c.args.buddy.now.areas k.buddy.areas c.give.new.buddy.areas k.invariant.notes t.notes;
       places = λ o. omega (arith, t.places o, k.invariant.places o);
     }
 
@@ -103,5 +123,7 @@ pub returns-clause-drained : goal.returns-clause-drained
 returns-clause-drained c =
     let l = c.args.self.now.layout in
     let k = c.loop-given in
-    let none : length (list_of k.self c.args.cpu c.args.pool) ≡ 0 = omega (arith, c.len-given-end.ensures, k.invariant.left) in
-    sym (drain_pool-none l (frames_of k.buddy.areas k.self) c.args.cpu c.args.pool (nil_from_length (list_of k.self c.args.cpu c.args.pool) none)) ∙ k.invariant.drained
+    let none : length (list_of k.self c.args.cpu c.args.pool) ≡ 0 =
+    omega (arith, c.len-given-end.ensures, k.invariant.left) in
+    sym (drain_pool-none l (frames_of k.buddy.areas k.self) c.args.cpu c.args.pool
+    (nil_from_length (list_of k.self c.args.cpu c.args.pool) none)) ∙ k.invariant.drained

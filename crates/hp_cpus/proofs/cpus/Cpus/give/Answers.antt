@@ -7,5 +7,7 @@ use Rattle.hp_cpus.proofs.cpus.Cpus.give.Goals as goal
 
 pub returns-clause-notes : goal.returns-clause-notes
 returns-clause-notes c =
-    notes-beside c.args.self.now.layout (give_bound c.args.self.now.layout) c.args.tape.now c.give.new.tape c.args.self.now.cached c.give.new.self.areas c.args.buddy.now.areas
-    (subst (λ (l : LayoutParts). NotesAreas l (give_bound l) c.args.tape.now c.give.new.tape c.give.new.self.areas c.args.buddy.now.areas) c.requires.together.layout c.give.ensures.notes)
+    notes-beside c.args.self.now.layout (give_bound c.args.self.now.layout) c.args.tape.now c.give.new.tape
+    c.args.self.now.cached c.give.new.self.areas c.args.buddy.now.areas
+    (subst (λ (l : LayoutParts). NotesAreas l (give_bound l) c.args.tape.now c.give.new.tape
+    c.give.new.self.areas c.args.buddy.now.areas) c.requires.together.layout c.give.ensures.notes)

@@ -6,7 +6,8 @@ use Rattle.hp_cpus.proofs.cpus.Cpus.new.Goals as goal
 pub returns-clause-together : goal.returns-clause-together
 returns-clause-together c =
     empty-together c.in_ok-layout.layout c.in_ok-links.links.lists
-    (ap (λ (k : LinkedLists). k.lists) c.in_ok-links.ensures ∙ ap (λ (n : ℕ). replicate (3 * n) []) c.cpus.ensures.is)
+    (ap (λ (k : LinkedLists). k.lists) c.in_ok-links.ensures
+    ∙ ap (λ (n : ℕ). replicate (3 * n) []) c.cpus.ensures.is)
 
 pub returns-in_err-layout-clause-value : goal.returns-in_err-layout-clause-value
 returns-in_err-layout-clause-value c = search rules

@@ -8,15 +8,19 @@ use Rattle.hp_cpus.proofs.cpus.Cpus.pop_last.Goals.{In-Some}
 end : (c : In-Some) → IsLast c.in-Some.frame (list_of c.args.self.now c.args.cpu c.args.pool)
 end c =
     let b = c.self.inside in
-    seen-last c.args.self.now b.layout b.links c.args.cpu c.args.pool c.list_number.result c.in-Some.frame (record { is = c.self.view_is; kept = c.self.invariant }) c.list_number.ensures c.in-Some.ensures
+    seen-last c.args.self.now b.layout b.links c.args.cpu c.args.pool c.list_number.result c.in-Some.frame
+    (record { is = c.self.view_is; kept = c.self.invariant }) c.list_number.ensures c.in-Some.ensures
 
 lists : (c : In-Some) → HasLists c.args.self.now
-lists c = seen-lists c.args.self.now c.self.inside.layout c.self.inside.links (record { is = c.self.view_is; kept = c.self.invariant })
+lists c =
+    seen-lists c.args.self.now c.self.inside.layout c.self.inside.links
+    (record { is = c.self.view_is; kept = c.self.invariant })
 
 pub unlink-requires-clause-frame : goal.unlink-requires-clause-frame
 unlink-requires-clause-frame c =
     let at = (goal.at.unlink-requires-clause-frame c).In-Some in
-    frame_of_list c.args.self.now c.args.cpu c.args.pool c.in-Some.frame (lists at) c.requires.cpu c.requires.within (end at).on
+    frame_of_list c.args.self.now c.args.cpu c.args.pool c.in-Some.frame (lists at) c.requires.cpu
+    c.requires.within (end at).on
 
 pub unlink-requires-clause-on : goal.unlink-requires-clause-on
 unlink-requires-clause-on c = (end (goal.at.unlink-requires-clause-on c).In-Some).on
@@ -24,9 +28,11 @@ unlink-requires-clause-on c = (end (goal.at.unlink-requires-clause-on c).In-Some
 pub returns-in-Some-clause-popped : goal.returns-in-Some-clause-popped
 returns-in-Some-clause-popped c =
     let at = (goal.at.returns-in-Some-clause-popped c).In-Some in
-    last-left c.args.self.now c.unlink.new.self c.args.cpu c.args.pool c.in-Some.frame (lists at) c.requires.cpu c.requires.once (end at) c.unlink.ensures.cached
+    last-left c.args.self.now c.unlink.new.self c.args.cpu c.args.pool c.in-Some.frame (lists at)
+    c.requires.cpu c.requires.once (end at) c.unlink.ensures.cached
 
 pub returns-in-None-clause-popped : goal.returns-in-None-clause-popped
 returns-in-None-clause-popped c =
     let b = c.self.inside in
-    seen-no_last c.args.self.now b.layout b.links c.args.cpu c.args.pool c.list_number.result (record { is = c.self.view_is; kept = c.self.invariant }) c.list_number.ensures c.in-None.ensures
+    seen-no_last c.args.self.now b.layout b.links c.args.cpu c.args.pool c.list_number.result
+    (record { is = c.self.view_is; kept = c.self.invariant }) c.list_number.ensures c.in-None.ensures

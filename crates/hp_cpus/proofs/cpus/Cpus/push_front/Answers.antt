@@ -8,6 +8,9 @@ returns-clause-notes c =
     let b = c.self.inside in
     let v = c.args.self.now in
     let seen : Seen v b.layout b.links = record { is = c.self.view_is; kept = c.self.invariant } in
-    (seen-front v b.layout b.links c.push_front.new.self c.args.cpu c.args.pool c.args.frame c.list_number.result c.args.tape.now c.note.new.self c.link_delta.result seen
-    c.requires.cpu c.requires.frame (off_list_of v c.args.cpu c.args.pool c.args.frame (seen-lists v b.layout b.links seen) c.requires.cpu c.requires.nowhere)
-    c.list_number.ensures c.push_front.ensures c.note.ensures.room c.note.ensures.noted c.link_delta.ensures).notes
+    (seen-front v b.layout b.links c.push_front.new.self c.args.cpu c.args.pool c.args.frame
+    c.list_number.result c.args.tape.now c.note.new.self c.link_delta.result seen
+    c.requires.cpu c.requires.frame (off_list_of v c.args.cpu c.args.pool c.args.frame
+    (seen-lists v b.layout b.links seen) c.requires.cpu c.requires.nowhere)
+    c.list_number.ensures c.push_front.ensures c.note.ensures.room c.note.ensures.noted
+    c.link_delta.ensures).notes

@@ -18,7 +18,8 @@ some c = omega (arith, c.len.ensures, c.if-len-gt0.true)
 
 first : (c : After-pop) → IsPopped c.args.self.now c.pop.new.self c.args.buddy.now c.pop.result
 first c =
-    popped c.args.self.now c.pop.new.self c.args.buddy.now c.args.cpu c.args.pool c.pop.result (c.pop.new.tape ≡ c.args.tape.now) c.requires.together c.requires.cpu c.pop.ensures.popped c.pop.ensures.none
+    popped c.args.self.now c.pop.new.self c.args.buddy.now c.args.cpu c.args.pool c.pop.result (c.pop.new.tape
+    ≡ c.args.tape.now) c.requires.together c.requires.cpu c.pop.ensures.popped c.pop.ensures.none
     c.pop.ensures.cached
 
 pub returns-then-len-gt0-clause-taken : goal.returns-then-len-gt0-clause-taken
@@ -26,19 +27,24 @@ returns-then-len-gt0-clause-taken c =
     let v = c.args.self.now in
     let l = v.layout in
     let areas = c.args.buddy.now.areas in
-    taken_one l (frames_of areas v) (frames_of areas v) (frames_of areas c.pop.new.self) c.args.cpu c.args.pool c.pop.result (list_of c.pop.new.self c.args.cpu c.args.pool)
-    (refilled-some l (frames_of areas v) c.args.cpu c.args.pool (some (goal.at.returns-then-len-gt0-clause-taken c).Then-len-gt0)) c.pop.ensures.popped
+    taken_one l (frames_of areas v) (frames_of areas v) (frames_of areas c.pop.new.self) c.args.cpu
+    c.args.pool c.pop.result (list_of c.pop.new.self c.args.cpu c.args.pool)
+    (refilled-some l (frames_of areas v) c.args.cpu c.args.pool
+    (some (goal.at.returns-then-len-gt0-clause-taken c).Then-len-gt0)) c.pop.ensures.popped
     (ap (λ (w : CpusValue). frames_of areas w) c.pop.ensures.cached)
 
 pub returns-then-len-gt0-clause-notes : goal.returns-then-len-gt0-clause-notes
 returns-then-len-gt0-clause-notes c =
     let v = c.args.self.now in
     let areas = c.args.buddy.now.areas in
-    subst (λ (n : ℕ). NotesFree v.layout n c.args.tape.now c.pop.new.tape (frames_of areas c.pop.new.self) (frames_of areas v))
-    (sym (bound-some v.layout (list_of v c.args.cpu c.args.pool) (some (goal.at.returns-then-len-gt0-clause-notes c).Then-len-gt0))) (c.pop.ensures.notes areas)
+    subst (λ (n : ℕ). NotesFree v.layout n c.args.tape.now c.pop.new.tape (frames_of areas c.pop.new.self)
+    (frames_of areas v))
+    (sym (bound-some v.layout (list_of v c.args.cpu c.args.pool)
+    (some (goal.at.returns-then-len-gt0-clause-notes c).Then-len-gt0))) (c.pop.ensures.notes areas)
 
 pub returns-then-len-gt0-clause-together : goal.returns-then-len-gt0-clause-together
-returns-then-len-gt0-clause-together c = (first (goal.at.returns-then-len-gt0-clause-together c).After-pop).together
+returns-then-len-gt0-clause-together c =
+    (first (goal.at.returns-then-len-gt0-clause-together c).After-pop).together
 
 pub returns-then-len-gt0-clause-frame : goal.returns-then-len-gt0-clause-frame
 returns-then-len-gt0-clause-frame c = (first (goal.at.returns-then-len-gt0-clause-frame c).After-pop).frame
@@ -53,8 +59,10 @@ none c = omega (arith, c.len.ensures, c.if-len-gt0.false)
 
 second : (c : After-pop-2) → IsPopped c.refill.new.self c.pop-2.new.self c.refill.new.buddy c.pop-2.result
 second c =
-    popped c.refill.new.self c.pop-2.new.self c.refill.new.buddy c.args.cpu c.args.pool c.pop-2.result (c.pop-2.new.tape ≡ c.refill.new.tape) c.refill.ensures.together
-    (subst (λ (m : LayoutParts). c.args.cpu < m.cpus) (sym c.refill.ensures.layout) c.requires.cpu) c.pop-2.ensures.popped c.pop-2.ensures.none c.pop-2.ensures.cached
+    popped c.refill.new.self c.pop-2.new.self c.refill.new.buddy c.args.cpu c.args.pool c.pop-2.result
+    (c.pop-2.new.tape ≡ c.refill.new.tape) c.refill.ensures.together
+    (subst (λ (m : LayoutParts). c.args.cpu < m.cpus) (sym c.refill.ensures.layout) c.requires.cpu)
+    c.pop-2.ensures.popped c.pop-2.ensures.none c.pop-2.ensures.cached
 
 pub returns-clause-taken : goal.returns-clause-taken
 returns-clause-taken c =
@@ -62,9 +70,13 @@ returns-clause-taken c =
     let l = v.layout in
     let fs = frames_of c.args.buddy.now.areas v in
     let areas = c.refill.new.buddy.areas in
-    let empty = nil_from_length (list_of v c.args.cpu c.args.pool) (none (goal.at.returns-clause-taken c).After-refill) in
-    taken_one l fs (frames_of areas c.refill.new.self) (frames_of areas c.pop-2.new.self) c.args.cpu c.args.pool c.pop-2.result (list_of c.pop-2.new.self c.args.cpu c.args.pool)
-    (c.refill.ensures.filled ∙ refilled-empty l fs c.args.cpu c.args.pool empty) c.pop-2.ensures.popped (ap (λ (w : CpusValue). frames_of areas w) c.pop-2.ensures.cached)
+    let empty =
+    nil_from_length (list_of v c.args.cpu c.args.pool)
+    (none (goal.at.returns-clause-taken c).After-refill) in
+    taken_one l fs (frames_of areas c.refill.new.self) (frames_of areas c.pop-2.new.self) c.args.cpu
+    c.args.pool c.pop-2.result (list_of c.pop-2.new.self c.args.cpu c.args.pool)
+    (c.refill.ensures.filled ∙ refilled-empty l fs c.args.cpu c.args.pool empty) c.pop-2.ensures.popped
+    (ap (λ (w : CpusValue). frames_of areas w) c.pop-2.ensures.cached)
 
 pub returns-clause-notes : goal.returns-clause-notes
 returns-clause-notes c =
@@ -73,8 +85,11 @@ returns-clause-notes c =
     let areas = c.refill.new.buddy.areas in
     let before = frames_of c.args.buddy.now.areas v in
     let after = frames_of areas c.pop-2.new.self in
-    subst (λ (n : ℕ). NotesFree l n c.args.tape.now c.pop-2.new.tape after before) (sym (bound-none l (list_of v c.args.cpu c.args.pool) (none (goal.at.returns-clause-notes c).After-refill)))
-    (notes-then l c.refill.new.self.layout (l.batch * (l.order + 2)) 1 (batch_bound l) c.args.tape.now c.refill.new.tape c.pop-2.new.tape before (frames_of areas c.refill.new.self) after c.refill.ensures.layout
+    subst (λ (n : ℕ). NotesFree l n c.args.tape.now c.pop-2.new.tape after before) (sym
+    (bound-none l (list_of v c.args.cpu c.args.pool) (none (goal.at.returns-clause-notes c).After-refill)))
+    (notes-then l c.refill.new.self.layout (l.batch * (l.order + 2)) 1 (batch_bound l) c.args.tape.now
+    c.refill.new.tape c.pop-2.new.tape before (frames_of areas c.refill.new.self) after
+    c.refill.ensures.layout
     (omega arith) c.refill.ensures.notes (c.pop-2.ensures.notes areas))
 
 pub returns-clause-together : goal.returns-clause-together
@@ -85,7 +100,8 @@ returns-clause-frame c = (second (goal.at.returns-clause-frame c).After-pop-2).f
 
 pub returns-clause-places : goal.returns-clause-places
 returns-clause-places c =
-    same_places c.pop-2.result (places_among c.refill.new.buddy.areas c.refill.new.self) (places_among c.args.buddy.now.areas c.args.self.now) (places_among c.refill.new.buddy.areas c.pop-2.new.self)
+    same_places c.pop-2.result (places_among c.refill.new.buddy.areas c.refill.new.self) (places_among
+    c.args.buddy.now.areas c.args.self.now) (places_among c.refill.new.buddy.areas c.pop-2.new.self)
     c.refill.ensures.places (second (goal.at.returns-clause-places c).After-pop-2).places
 
 pub returns-then-len-gt0-clause-none : goal.returns-then-len-gt0-clause-none

@@ -11,7 +11,8 @@ returns-then-branch c =
     let lookup = c.in-Some-get.ensures.lookup in (
       place,
       seen,
-      subst (λ (all : List SeenValue). slice_get all place ≡ Some seen) (c.deref.ensures.value ∙ ap (λ (m : MemoValue). m.seen) c.self.view_is)
+      subst (λ (all : List SeenValue). slice_get all place ≡ Some seen)
+          (c.deref.ensures.value ∙ ap (λ (m : MemoValue). m.seen) c.self.view_is)
           (slice_get_read c.deref.result.now (length c.deref.result.now) place seen refl lookup.3.0 lookup.1),
       c.in_ok-is_like.ensures c.if-branch.true,
       c.as_slice.ensures.value ∙ ap (λ (s : SeenValue). s.counts) c.seen.view_is,

@@ -12,20 +12,31 @@ use Rattle.hp_explore.proofs.tally.Tally.add_at.Goals as goal
 pub invariant_of-self : goal.invariant_of-self
 invariant_of-self c =
     let shown = ap (λ (t : TallyValue). t.ends) c.self.view_is in
-    let within : c.args.place < length c.self.inside.ends.items = subst (λ (xs : List Ending). c.args.place < length xs) (sym shown) c.requires in
+    let within : c.args.place < length c.self.inside.ends.items =
+    subst (λ (xs : List Ending). c.args.place < length xs) (sym shown) c.requires in
     let e = c.index_mut-end.result.now in
     let more : Ending = record { outcome = e.outcome; count = e.count + c.args.count; first = e.first } in
-    let here = slice_get_read c.self.inside.ends.items (length c.self.inside.ends.items) c.args.place e refl within c.index_mut-end.ensures.value in
+    let here =
+    slice_get_read c.self.inside.ends.items (length c.self.inside.ends.items) c.args.place e refl within
+    c.index_mut-end.ensures.value in
     let was = ap (λ (f : Ending). f.count) c.index_mut-end.ensures.value in (
-      omega (arith, sum_by-set (λ (f : Ending). f.count) c.self.inside.ends.items c.args.place more e within, was, c.self.invariant.0),
+      omega (
+        arith,
+        sum_by-set (λ (f : Ending). f.count) c.self.inside.ends.items c.args.place more e within,
+        was,
+        c.self.invariant.0,
+      ),
       omega (arith, c.self.invariant.1, c.if-count-self.false),
-      known_set c.self.inside.ends.items c.args.place e more c.self.inside.latest here refl c.self.invariant.2,
+      known_set c.self.inside.ends.items c.args.place e more c.self.inside.latest here refl
+          c.self.invariant.2,
     )
 
 pub returns-clause-ok : goal.returns-clause-ok
 returns-clause-ok c =
     let shown = ap (λ (t : TallyValue). t.ends) c.self.view_is in
-    let within : c.args.place < length c.self.inside.ends.items = subst (λ (xs : List Ending). c.args.place < length xs) (sym shown) c.requires in
+    let within : c.args.place < length c.self.inside.ends.items =
+    subst (λ (xs : List Ending). c.args.place < length xs) (sym shown) c.requires in
     let e = c.index_mut-end.result.now in
-    subst (λ (old : List Ending). AddsAt old c.args.place c.args.count (set c.self.inside.ends.items c.args.place (record { outcome = e.outcome; count = e.count + c.args.count; first = e.first }))) shown
+    subst (λ (old : List Ending). AddsAt old c.args.place c.args.count (set c.self.inside.ends.items
+    c.args.place (record { outcome = e.outcome; count = e.count + c.args.count; first = e.first }))) shown
     (put_at c.self.inside.ends.items c.args.place c.args.count e within c.index_mut-end.ensures.value)

@@ -6,5 +6,6 @@ use Rattle.hp_explore.proofs.tally.Tally.since.Given as goal
 abbrev pub invariant-loop-place : goal.invariant-loop-place
 invariant-loop-place l = record {
   as_many : length l.counts.items ≡ l.place;
-  each : (k : ℕ) (e : Ending) → k < l.place → slice_get l.self.ends k ≡ Some e → get_or l.earlier k 0 + get_or l.counts.items k 0 ≡ e.count;
+  each : (k : ℕ) (e : Ending) → k < l.place → slice_get l.self.ends k ≡ Some e
+      → get_or l.earlier k 0 + get_or l.counts.items k 0 ≡ e.count;
 }

@@ -15,31 +15,41 @@ use Rattle.hp_history.proofs.course.Course.cancel_cut.Goals.{After-sole_place}
 
 pub sole_place-requires : goal.sole_place-requires
 sole_place-requires c =
-    subst (λ (h : List Record). AreWithin (length h) c.as_slice-entries.result.now) (sym c.as_slice-history.ensures.value)
-    (subst (λ (es : List Entry). AreWithin (length c.self.inside.history.items) es) (sym c.as_slice-entries.ensures.value) c.self.invariant.0.journal.within)
+    subst (λ (h : List Record). AreWithin (length h) c.as_slice-entries.result.now)
+    (sym c.as_slice-history.ensures.value)
+    (subst (λ (es : List Entry). AreWithin (length c.self.inside.history.items) es)
+    (sym c.as_slice-entries.ensures.value) c.self.invariant.0.journal.within)
 
 -- the place by the net of the history
-place : (c : After-sole_place) → c.sole_place.result ≡ sole_at c.args.op (map tag_of (net_of c.self.inside.history.items))
+place : (c : After-sole_place)
+    → c.sole_place.result ≡ sole_at c.args.op (map tag_of (net_of c.self.inside.history.items))
 place c =
     c.sole_place.ensures
-    ∙ (ap (λ (es : List Entry). sole_at c.args.op (tags_of c.as_slice-history.result.now es)) c.as_slice-entries.ensures.value
-    ∙ (ap (λ (h : List Record). sole_at c.args.op (tags_of h c.self.inside.entries.items)) c.as_slice-history.ensures.value
+    ∙ (ap (λ (es : List Entry). sole_at c.args.op (tags_of c.as_slice-history.result.now es))
+    c.as_slice-entries.ensures.value
+    ∙ (ap (λ (h : List Record). sole_at c.args.op (tags_of h c.self.inside.entries.items))
+    c.as_slice-history.ensures.value
     ∙ ap (λ (ts : List Tag). sole_at c.args.op ts) c.self.invariant.0.journal.tagged))
 
 pub returns-then-may_cancel-clause-back : goal.returns-then-may_cancel-clause-back
 returns-then-may_cancel-clause-back c =
     let here = (goal.at.returns-then-may_cancel-clause-back c).After-sole_place in
-    rw (← c.self.view_is) (cancel_sole (seen c.self.inside) c.args.cpu c.args.op c.sole_place.result c.self.invariant.0.history
-    (subst (λ (m : CourseValue). may_cancel m.layout m.state c.args.cpu c.args.op ≡ true) (sym c.self.view_is) (sym c.may_cancel.ensures ∙ c.if-may_cancel.true)) (place here))
+    rw (← c.self.view_is)
+    (cancel_sole (seen c.self.inside) c.args.cpu c.args.op c.sole_place.result c.self.invariant.0.history
+    (subst (λ (m : CourseValue). may_cancel m.layout m.state c.args.cpu c.args.op ≡ true) (sym c.self.view_is)
+    (sym c.may_cancel.ensures ∙ c.if-may_cancel.true)) (place here))
 
 pub returns-then-may_cancel-clause-step : goal.returns-then-may_cancel-clause-step
 returns-then-may_cancel-clause-step c =
     let here = (goal.at.returns-then-may_cancel-clause-step c).After-sole_place in
-    rw (← c.self.view_is) (cancel_other (seen c.self.inside) c.args.cpu c.args.op c.sole_place.result (place here))
+    rw (← c.self.view_is)
+    (cancel_other (seen c.self.inside) c.args.cpu c.args.op c.sole_place.result (place here))
 
 pub returns-else-may_cancel-clause-step : goal.returns-else-may_cancel-clause-step
 returns-else-may_cancel-clause-step c =
-    rw (← c.self.view_is) (cancel_refused (seen c.self.inside) c.args.cpu c.args.op c.self.invariant.0.history (subst (λ (m : CourseValue). may_cancel m.layout m.state c.args.cpu c.args.op ≡ false) (sym c.self.view_is) (sym c.may_cancel.ensures ∙ c.if-may_cancel.false)))
+    rw (← c.self.view_is) (cancel_refused (seen c.self.inside) c.args.cpu c.args.op c.self.invariant.0.history
+    (subst (λ (m : CourseValue). may_cancel m.layout m.state c.args.cpu c.args.op ≡ false)
+    (sym c.self.view_is) (sym c.may_cancel.ensures ∙ c.if-may_cancel.false)))
 
 pub returns-else-may_cancel-clause-back : goal.returns-else-may_cancel-clause-back
 returns-else-may_cancel-clause-back c = search rules

@@ -8,8 +8,12 @@ use Rattle.hp_history.proofs.course.Course.seal.Goals as goal
 pub invariant_of-self : goal.invariant_of-self
 invariant_of-self c =
     let base = c.replace-base.ensures.after ∙ c.in_ok-now.ensures in (
-      sealed_course (seen c.self.inside) c.self.inside.entries.items c.self.inside.deltas.deltas c.replace-base.new.dest c.last_serial-last.result c.replace-history.new.dest.items c.new-2.result.items c.in_ok-deltas.deltas.deltas
-          c.self.invariant.0 base (rw (← c.self.view_is) at c.last_serial-last.ensures) (rw c.replace-history.ensures.after c.new.ensures.items) c.new-2.ensures.items c.in_ok-deltas.ensures.none,
+      sealed_course (seen c.self.inside) c.self.inside.entries.items c.self.inside.deltas.deltas
+          c.replace-base.new.dest c.last_serial-last.result c.replace-history.new.dest.items
+          c.new-2.result.items c.in_ok-deltas.deltas.deltas
+          c.self.invariant.0 base (rw (← c.self.view_is) at c.last_serial-last.ensures)
+          (rw c.replace-history.ensures.after c.new.ensures.items) c.new-2.ensures.items
+          c.in_ok-deltas.ensures.none,
       ap (λ (i : Pictured). i.layout) base,
     )
 

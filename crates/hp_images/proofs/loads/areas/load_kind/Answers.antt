@@ -10,4 +10,5 @@ returns-clause-kind c =
     c.back.ensures.back
     ∙ ap (λ (k : Kind). with_kind c.args.buddy.now.areas c.args.pageblock k)
     (c.unwrap_or-was.ensures
-    ∙ (ap (λ (k : Kind). unwrap_or c.kind.result k) c.plain.ensures ∙ (ap (λ o. unwrap_or o plain_kind) c.kind.ensures ∙ unwrap_or-slice_get kinds c.args.pageblock plain_kind)))
+    ∙ (ap (λ (k : Kind). unwrap_or c.kind.result k) c.plain.ensures ∙ (ap (λ o. unwrap_or o plain_kind)
+    c.kind.ensures ∙ unwrap_or-slice_get kinds c.args.pageblock plain_kind)))

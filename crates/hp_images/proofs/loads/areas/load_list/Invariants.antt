@@ -4,6 +4,7 @@ use Rattle.hp_images.proofs.loads.areas.load_list.Given as goal
 
 abbrev pub invariant-loop-number : goal.invariant-loop-number
 invariant-loop-number l = record {
-  areas : l.buddy.areas ≡ with_free_list l.initial.buddy.areas l.class l.order (drop (length l.frames - l.number) l.frames);
+  areas : l.buddy.areas
+      ≡ with_free_list l.initial.buddy.areas l.class l.order (drop (length l.frames - l.number) l.frames);
   layout : l.buddy.layout ≡ l.initial.buddy.layout;
 }

@@ -3,7 +3,7 @@ use Rattle.std.proofs.lemmas.List.FromFn.{length-map-range_with_len}
 use Rattle.hp_units.specs.Arithmetic.{frame_count}
 use Rattle.hp_units.specs.Boot.{empty_pages}
 use Rattle.hp_tape.specs.Deltas.{page_frames_of}
-use Rattle.hp_pages.proofs.Views.{buffer_by}
+use Rattle.hp_pages.proofs.FrameViews.{buffer_by}
 use Rattle.hp_images.proofs.Pages.{no-buffers}
 use Rattle.hp_images.proofs.loads.pages.pages_of.Goals as goal
 
@@ -11,6 +11,8 @@ pub load_buffers-requires-clause-none : goal.load_buffers-requires-clause-none
 load_buffers-requires-clause-none c =
     let l = c.args.image.now.layout in
     let ps = c.args.image.now.memory.pages in
-    no-buffers l (page_frames_of l ps).buffers c.load_table.new.pages.pages (length-map-range_with_len (buffer_by ps) 0 (frame_count l))
+    no-buffers l (page_frames_of l ps).buffers c.load_table.new.pages.pages
+    (length-map-range_with_len (buffer_by ps) 0 (frame_count l))
     (ap (λ v. v.buffers) c.load_table.ensures.table
-    ∙ (ap (λ p. p.pages.buffers) c.in_ok-pages.ensures.empty ∙ ap (λ k. (page_frames_of k (empty_pages k)).buffers) c.layout.ensures))
+    ∙ (ap (λ p. p.pages.buffers) c.in_ok-pages.ensures.empty
+    ∙ ap (λ k. (page_frames_of k (empty_pages k)).buffers) c.layout.ensures))

@@ -5,6 +5,15 @@ use Rattle.hp_images.proofs.loads.processors.load_lists.Goals as goal
 
 pub returns : goal.returns
 returns c =
-    same_lists c.loop-number.cpus (record { layout = c.args.cpus.now.layout; cached = c.args.image.now.memory.free.cached }) c.loop-number.invariant.layout
+    same_lists c.loop-number.cpus (record {
+      layout = c.args.cpus.now.layout;
+      cached = c.args.image.now.memory.free.cached;
+    }) c.loop-number.invariant.layout
     (copied-all [] [] c.loop-number.number c.args.image.now.memory.free.cached c.loop-number.cpus.cached
-    (omega (arith, c.loop-number-test.false, c.cpus-number-end.ensures.is, ap (λ l. l.cpus) c.layout.ensures, c.requires.placed.in_order.shape.cached)) c.loop-number.invariant.lists)
+    (omega (
+      arith,
+      c.loop-number-test.false,
+      c.cpus-number-end.ensures.is,
+      ap (λ l. l.cpus) c.layout.ensures,
+      c.requires.placed.in_order.shape.cached,
+    )) c.loop-number.invariant.lists)

@@ -9,4 +9,5 @@ returns-clause-row c =
     c.back.ensures.back
     ∙ ap (λ (r : Row). with_row c.args.blocks.now.blocks c.args.block r)
     (c.new-was.ensures
-    ∙ (c.unwrap_or-row.ensures ∙ (ap (λ o. unwrap_or o offline_row) c.row.ensures ∙ unwrap_or-slice_get c.args.image.now.memory.blocks.rows c.args.block offline_row)))
+    ∙ (c.unwrap_or-row.ensures ∙ (ap (λ o. unwrap_or o offline_row) c.row.ensures
+    ∙ unwrap_or-slice_get c.args.image.now.memory.blocks.rows c.args.block offline_row)))

@@ -5,7 +5,15 @@ use Rattle.hp_images.proofs.loads.rows.load_rows.Goals as goal
 
 pub returns-clause-rows : goal.returns-clause-rows
 returns-clause-rows c =
-    same_blocks c.loop-number.blocks.blocks (record c.args.blocks.now.blocks { rows = c.args.image.now.memory.blocks.rows })
-    (copied-all offline_row offline_row c.loop-number.number c.args.image.now.memory.blocks.rows c.loop-number.blocks.blocks.rows
-    (omega (arith, c.loop-number-test.false, c.blocks-number-end.ensures.is, ap (λ l. l.blocks) c.layout.ensures, c.requires.rows.rows)) c.loop-number.invariant.rows)
+    same_blocks c.loop-number.blocks.blocks
+    (record c.args.blocks.now.blocks { rows = c.args.image.now.memory.blocks.rows })
+    (copied-all offline_row offline_row c.loop-number.number c.args.image.now.memory.blocks.rows
+    c.loop-number.blocks.blocks.rows
+    (omega (
+      arith,
+      c.loop-number-test.false,
+      c.blocks-number-end.ensures.is,
+      ap (λ l. l.blocks) c.layout.ensures,
+      c.requires.rows.rows,
+    )) c.loop-number.invariant.rows)
     c.loop-number.invariant.auto

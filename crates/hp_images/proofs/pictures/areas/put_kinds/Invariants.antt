@@ -7,5 +7,8 @@ use Rattle.hp_images.proofs.pictures.areas.put_kinds.Given as goal
 abbrev pub invariant-loop-number : goal.invariant-loop-number
 invariant-loop-number l = record {
   kinds : AreCopied plain_kind plain_kind l.number l.buddy.areas.kinds l.image.memory.free.areas.kinds;
-  same : l.image ≡ record l.initial.image { memory = with_areas l.initial.image.memory (record l.initial.image.memory.free.areas { kinds = l.image.memory.free.areas.kinds }) };
+  same : l.image ≡ record l.initial.image {
+    memory = with_areas l.initial.image.memory
+        (record l.initial.image.memory.free.areas { kinds = l.image.memory.free.areas.kinds });
+  };
 }

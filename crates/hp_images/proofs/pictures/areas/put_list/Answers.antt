@@ -4,11 +4,17 @@ use Rattle.hp_images.proofs.pictures.areas.put_list.Goals as goal
 
 pub add-requires : goal.add-requires
 add-requires c =
-    free-part c.args.buddy.now.layout c.loop-number.image.layout c.args.buddy.now.areas c.args.class c.args.order c.loop-number.number c.index-frames-number.result c.as_slice-frames.result.now
-    c.requires.within (ap (λ i. i.layout) c.loop-number.invariant.same ∙ c.requires.layout) c.requires.order (c.as_slice-frames.ensures.value ∙ c.in_ok-list.ensures) (omega (arith, c.loop-number-test.true)) c.index-frames-number.is
+    free-part c.args.buddy.now.layout c.loop-number.image.layout c.args.buddy.now.areas c.args.class
+    c.args.order c.loop-number.number c.index-frames-number.result c.as_slice-frames.result.now
+    c.requires.within (ap (λ i. i.layout) c.loop-number.invariant.same ∙ c.requires.layout) c.requires.order
+    (c.as_slice-frames.ensures.value ∙ c.in_ok-list.ensures) (omega (arith, c.loop-number-test.true))
+    c.index-frames-number.is
 
 pub loop-number-preserved : goal.loop-number-preserved
 loop-number-preserved c = record {
-  same = free-added c.args.image.now c.loop-number.image c.add.new.self c.args.class c.args.order c.loop-number.number c.index-frames-number.result c.as_slice-frames.result.now
-      c.requires.size (omega (arith, c.loop-number-test.true)) c.index-frames-number.is c.loop-number.invariant.same c.in_ok-add.ensures.ok;
+  same =
+      free-added c.args.image.now c.loop-number.image c.add.new.self c.args.class c.args.order
+      c.loop-number.number c.index-frames-number.result c.as_slice-frames.result.now
+      c.requires.size (omega (arith, c.loop-number-test.true)) c.index-frames-number.is
+      c.loop-number.invariant.same c.in_ok-add.ensures.ok;
 }

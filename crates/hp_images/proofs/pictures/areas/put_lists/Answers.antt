@@ -7,5 +7,13 @@ pub returns : goal.returns
 returns c =
     c.loop-number.invariant.same
     ∙ ap (with_lists c.args.image.now)
-    (copied-all [] [] c.loop-number.number c.args.buddy.now.areas.lists c.loop-number.image.memory.free.areas.lists
-    (omega (arith, c.loop-number-test.false, c.order.ensures.is, ap (λ l. l.order) (c.layout.ensures ∙ c.requires.layout), c.requires.within.lists)) c.loop-number.invariant.lists)
+    (copied-all [] [] c.loop-number.number c.args.buddy.now.areas.lists
+    c.loop-number.image.memory.free.areas.lists
+    (omega (
+      arith,
+      c.loop-number-test.false,
+      c.order.ensures.is,
+      ap (λ l. l.order)
+          (c.layout.ensures ∙ c.requires.layout),
+      c.requires.within.lists,
+    )) c.loop-number.invariant.lists)

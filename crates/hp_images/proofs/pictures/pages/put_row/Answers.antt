@@ -9,8 +9,12 @@ loop-number-init c =
     let l = c.args.pages.now.layout in
     let v = c.args.pages.now.pages in
     let i = c.args.image.now.memory.pages in
-    let row = row-none i.table c.args.owner l.pages (get_or v.table c.args.owner []) c.requires.table (row-of l v c.args.owner c.requires.pages c.requires.owner) in
-    let words = row-none i.contents c.args.owner l.pages (words_row l v c.args.owner) c.requires.contents (row-words l v c.args.owner c.requires.pages c.requires.owner) in
+    let row =
+    row-none i.table c.args.owner l.pages (get_or v.table c.args.owner []) c.requires.table
+    (row-of l v c.args.owner c.requires.pages c.requires.owner) in
+    let words =
+    row-none i.contents c.args.owner l.pages (words_row l v c.args.owner) c.requires.contents
+    (row-words l v c.args.owner c.requires.pages c.requires.owner) in
     record { row = row.row; words = words.row; table = row.table; contents = words.table; same = refl }
 
 pub loop-number-preserved : goal.loop-number-preserved
@@ -23,19 +27,28 @@ loop-number-preserved c =
     let row_size = row-of l v c.args.owner c.requires.pages c.requires.owner in
     let words_size = row-words l v c.args.owner c.requires.pages c.requires.owner in
     let end = ap (λ k. k.pages) (c.layout.ensures ∙ c.requires.layout) in
-    let row = entry-more i.table now.table new.table c.args.owner c.loop-number.number (get_or v.table c.args.owner []) c.requires.table_size
-    (omega (arith, c.loop-number-test.true, c.pages-number-end.ensures.is, end, row_size)) (record { row = c.loop-number.invariant.row; table = c.loop-number.invariant.table })
+    let row =
+    entry-more i.table now.table new.table c.args.owner c.loop-number.number
+    (get_or v.table c.args.owner []) c.requires.table_size
+    (omega (arith, c.loop-number-test.true, c.pages-number-end.ensures.is, end, row_size))
+    (record { row = c.loop-number.invariant.row; table = c.loop-number.invariant.table })
     (ap (λ p. p.memory.pages.table) c.in_ok-put_page.ensures) in
-    let words = entry-more i.contents now.contents new.contents c.args.owner c.loop-number.number (words_row l v c.args.owner) c.requires.contents_size
-    (omega (arith, c.loop-number-test.true, c.pages-number-end.ensures.is, end, words_size)) (record { row = c.loop-number.invariant.words; table = c.loop-number.invariant.contents })
-    (words-entry l v now.contents new.contents c.args.owner c.loop-number.number (omega (arith, c.loop-number-test.true, c.pages-number-end.ensures.is, end, row_size))
+    let words =
+    entry-more i.contents now.contents new.contents c.args.owner c.loop-number.number
+    (words_row l v c.args.owner) c.requires.contents_size
+    (omega (arith, c.loop-number-test.true, c.pages-number-end.ensures.is, end, words_size))
+    (record { row = c.loop-number.invariant.words; table = c.loop-number.invariant.contents })
+    (words-entry l v now.contents new.contents c.args.owner c.loop-number.number
+    (omega (arith, c.loop-number-test.true, c.pages-number-end.ensures.is, end, row_size))
     (ap (λ p. p.memory.pages.contents) c.in_ok-put_page.ensures)) in
     record {
       row = row.row;
       words = words.row;
       table = row.table;
       contents = words.table;
-      same = pages-kept c.args.image.now c.loop-number.image c.put_page.new.image _ c.loop-number.invariant.same c.in_ok-put_page.ensures;
+      same =
+          pages-kept c.args.image.now c.loop-number.image c.put_page.new.image _ c.loop-number.invariant.same
+          c.in_ok-put_page.ensures;
     }
 
 pub returns : goal.returns
@@ -50,7 +63,9 @@ returns c =
     c.loop-number.invariant.same
     ∙ ap (with_pages c.args.image.now)
     (same_tables now _
-    (row-all i.table now.table c.args.owner c.loop-number.number (get_or v.table c.args.owner []) (omega (arith, c.loop-number-test.false, c.pages-number-end.ensures.is, end, row_size))
+    (row-all i.table now.table c.args.owner c.loop-number.number (get_or v.table c.args.owner [])
+    (omega (arith, c.loop-number-test.false, c.pages-number-end.ensures.is, end, row_size))
     (record { row = c.loop-number.invariant.row; table = c.loop-number.invariant.table }))
-    (row-all i.contents now.contents c.args.owner c.loop-number.number (words_row l v c.args.owner) (omega (arith, c.loop-number-test.false, c.pages-number-end.ensures.is, end, words_size))
+    (row-all i.contents now.contents c.args.owner c.loop-number.number (words_row l v c.args.owner)
+    (omega (arith, c.loop-number-test.false, c.pages-number-end.ensures.is, end, words_size))
     (record { row = c.loop-number.invariant.words; table = c.loop-number.invariant.contents })))

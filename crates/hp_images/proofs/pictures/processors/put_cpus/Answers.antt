@@ -8,7 +8,14 @@ returns c =
     c.loop-number.invariant.same
     ∙ ap (with_cached c.args.image.now)
     (copied-all [] [] c.loop-number.number c.args.cpus.now.cached c.loop-number.image.memory.free.cached
-    (omega (arith, c.loop-number-test.false, c.cpus-number-end.ensures.is, ap (λ l. l.cpus) (c.layout.ensures ∙ c.requires.layout), c.requires.size)) c.loop-number.invariant.lists)
+    (omega (
+      arith,
+      c.loop-number-test.false,
+      c.cpus-number-end.ensures.is,
+      ap (λ l. l.cpus)
+          (c.layout.ensures ∙ c.requires.layout),
+      c.requires.size,
+    )) c.loop-number.invariant.lists)
 
 pub returns-in_err-put_list : goal.returns-in_err-put_list
 returns-in_err-put_list c = search rules

@@ -4,5 +4,8 @@ use Rattle.hp_images.proofs.pictures.processors.put_list.Given as goal
 
 abbrev pub invariant-loop-number : goal.invariant-loop-number
 invariant-loop-number l = record {
-  same : l.image ≡ record l.initial.image { memory = record l.initial.image.memory { free = with_cached_list l.initial.image.memory.free l.cpu l.pool (take l.number l.frames) } };
+  same : l.image ≡ record l.initial.image {
+    memory = record l.initial.image.memory
+        { free = with_cached_list l.initial.image.memory.free l.cpu l.pool (take l.number l.frames) };
+  };
 }

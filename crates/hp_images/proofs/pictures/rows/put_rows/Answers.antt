@@ -8,5 +8,13 @@ pub returns : goal.returns
 returns c =
     c.loop-number.invariant.same
     ∙ ap (with_rows c.args.image.now)
-    (copied-all offline_row offline_row c.loop-number.number c.args.blocks.now.blocks.rows c.loop-number.image.memory.blocks.rows
-    (omega (arith, c.loop-number-test.false, c.blocks-number-end.ensures.is, ap (λ l. l.blocks) (c.layout.ensures ∙ c.requires.layout), c.requires.rows.rows)) c.loop-number.invariant.rows)
+    (copied-all offline_row offline_row c.loop-number.number c.args.blocks.now.blocks.rows
+    c.loop-number.image.memory.blocks.rows
+    (omega (
+      arith,
+      c.loop-number-test.false,
+      c.blocks-number-end.ensures.is,
+      ap (λ l. l.blocks)
+          (c.layout.ensures ∙ c.requires.layout),
+      c.requires.rows.rows,
+    )) c.loop-number.invariant.rows)

@@ -6,5 +6,8 @@ use Rattle.hp_images.proofs.pictures.rows.put_rows.Given as goal
 abbrev pub invariant-loop-number : goal.invariant-loop-number
 invariant-loop-number l = record {
   rows : AreCopied offline_row offline_row l.number l.blocks.blocks.rows l.image.memory.blocks.rows;
-  same : l.image ≡ record l.initial.image { memory = record l.initial.image.memory { blocks = record l.initial.image.memory.blocks { rows = l.image.memory.blocks.rows } } };
+  same : l.image ≡ record l.initial.image {
+    memory = record l.initial.image.memory
+        { blocks = record l.initial.image.memory.blocks { rows = l.image.memory.blocks.rows } };
+  };
 }

@@ -8,33 +8,51 @@ use Rattle.hp_links.proofs.Walks.{walked-all, walked-fewer, walked-more, walked-
 use Rattle.hp_links.proofs.links.Links.list.Goals as goal
 
 pub loop-ahead-init : goal.loop-ahead-init
-loop-ahead-init c = walked-none (list_at c.args.self.now c.args.list) c.in_ok-frames.frames.items c.front-ahead.result c.in_ok-frames.ensures.items c.front-ahead.ensures
+loop-ahead-init c =
+    walked-none (list_at c.args.self.now c.args.list) c.in_ok-frames.frames.items c.front-ahead.result
+    c.in_ok-frames.ensures.items c.front-ahead.ensures
 
 pub next-ahead-requires : goal.next-ahead-requires
 next-ahead-requires c =
     let r = c.self.inside.rings in
-    let s : Seen c.args.self.now r.frames (table r.nodes.items) r.lens.items = record { is = c.self.view_is; kept = c.self.invariant } in
+    let s : Seen c.args.self.now r.frames (table r.nodes.items) r.lens.items =
+    record { is = c.self.view_is; kept = c.self.invariant } in
     let xs = list_at c.args.self.now c.args.list in
     subst (λ (n : ℕ). c.in-Some.frame < n) (frames_are s)
-    (frame_in s c.args.list c.in-Some.frame (walked-on xs c.loop-ahead.frames.items c.in-Some.frame c.loop-ahead.ahead c.in-Some.is c.loop-ahead.invariant))
+    (frame_in s c.args.list c.in-Some.frame (walked-on xs c.loop-ahead.frames.items c.in-Some.frame
+    c.loop-ahead.ahead c.in-Some.is c.loop-ahead.invariant))
 
 pub loop-ahead-preserved : goal.loop-ahead-preserved
 loop-ahead-preserved c =
     let r = c.self.inside.rings in
-    let s : Seen c.args.self.now r.frames (table r.nodes.items) r.lens.items = record { is = c.self.view_is; kept = c.self.invariant } in
+    let s : Seen c.args.self.now r.frames (table r.nodes.items) r.lens.items =
+    record { is = c.self.view_is; kept = c.self.invariant } in
     let xs = list_at c.args.self.now c.args.list in
-    let on : Member c.in-Some.frame xs = walked-on xs c.loop-ahead.frames.items c.in-Some.frame c.loop-ahead.ahead c.in-Some.is c.loop-ahead.invariant in
-    walked-more xs c.loop-ahead.frames.items c.push.new.self.items c.in-Some.frame c.loop-ahead.ahead c.next-ahead.result ((linked s).distinct c.args.list) c.in-Some.is c.loop-ahead.invariant
-    c.in_ok-push.ensures.items (c.next-ahead.ensures.on c.args.list (Contains-from_Member c.in-Some.frame xs on))
+    let on : Member c.in-Some.frame xs =
+    walked-on xs c.loop-ahead.frames.items c.in-Some.frame c.loop-ahead.ahead c.in-Some.is
+    c.loop-ahead.invariant in
+    walked-more xs c.loop-ahead.frames.items c.push.new.self.items c.in-Some.frame c.loop-ahead.ahead
+    c.next-ahead.result ((linked s).distinct c.args.list) c.in-Some.is c.loop-ahead.invariant
+    c.in_ok-push.ensures.items
+    (c.next-ahead.ensures.on c.args.list (Contains-from_Member c.in-Some.frame xs on))
 
 pub loop-ahead-smaller : goal.loop-ahead-smaller
 loop-ahead-smaller c =
     let xs = list_at c.args.self.now c.args.list in
-    let fewer : length c.loop-ahead.frames.items < length xs = walked-fewer xs c.loop-ahead.frames.items c.in-Some.frame c.loop-ahead.ahead c.in-Some.is c.loop-ahead.invariant in
-    omega (arith, fewer, ap length c.in_ok-push.ensures.items, length-append c.loop-ahead.frames.items (c.in-Some.frame ∷ []))
+    let fewer : length c.loop-ahead.frames.items < length xs =
+    walked-fewer xs c.loop-ahead.frames.items c.in-Some.frame c.loop-ahead.ahead c.in-Some.is
+    c.loop-ahead.invariant in
+    omega (
+      arith,
+      fewer,
+      ap length c.in_ok-push.ensures.items,
+      length-append c.loop-ahead.frames.items (c.in-Some.frame ∷ []),
+    )
 
 pub returns : goal.returns
-returns c = walked-all (list_at c.args.self.now c.args.list) c.loop-ahead.frames.items c.loop-ahead.ahead c.in_default.is c.loop-ahead.invariant
+returns c =
+    walked-all (list_at c.args.self.now c.args.list) c.loop-ahead.frames.items c.loop-ahead.ahead
+    c.in_default.is c.loop-ahead.invariant
 
 pub returns-in_err-frames : goal.returns-in_err-frames
 returns-in_err-frames c = search rules

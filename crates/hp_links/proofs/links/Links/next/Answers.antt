@@ -9,21 +9,29 @@ use Rattle.hp_links.proofs.links.Links.next.Goals as goal
 pub returns-then-is_none-clause-on : goal.returns-then-is_none-clause-on
 returns-then-is_none-clause-on c =
     let r = c.self.inside.rings in
-    let s : Seen c.args.self.now r.frames (table r.nodes.items) r.lens.items = record { is = c.self.view_is; kept = c.self.invariant } in
+    let s : Seen c.args.self.now r.frames (table r.nodes.items) r.lens.items =
+    record { is = c.self.view_is; kept = c.self.invariant } in
     λ l on.
-    let found = found_some s c.list.result l c.args.frame (rw c.place_of-place.ensures at c.list.ensures) (Member-from_Contains c.args.frame (list_at c.args.self.now l) on) in
+    let found =
+    found_some s c.list.result l c.args.frame (rw c.place_of-place.ensures at c.list.ensures)
+    (Member-from_Contains c.args.frame (list_at c.args.self.now l) on) in
     absurd (false≢true (sym c.if-is_none.ensures ∙ ap (λ (o : Option ℕ). is_some o) found))
 
 pub returns-clause-on : goal.returns-clause-on
 returns-clause-on c =
     let r = c.self.inside.rings in
-    let s : Seen c.args.self.now r.frames (table r.nodes.items) r.lens.items = record { is = c.self.view_is; kept = c.self.invariant } in
-    λ l on. c.frame_at.ensures ∙ ap (frame_at r.frames) (rw c.place_of-place.ensures at c.next.ensures) ∙ behind_is s l c.args.frame (Member-from_Contains c.args.frame (list_at c.args.self.now l) on)
+    let s : Seen c.args.self.now r.frames (table r.nodes.items) r.lens.items =
+    record { is = c.self.view_is; kept = c.self.invariant } in
+    λ l on. c.frame_at.ensures ∙ ap (frame_at r.frames) (rw c.place_of-place.ensures at c.next.ensures)
+    ∙ behind_is s l c.args.frame (Member-from_Contains c.args.frame (list_at c.args.self.now l) on)
 
 pub returns-clause-free : goal.returns-clause-free
 returns-clause-free c =
     let r = c.self.inside.rings in
-    let s : Seen c.args.self.now r.frames (table r.nodes.items) r.lens.items = record { is = c.self.view_is; kept = c.self.invariant } in
+    let s : Seen c.args.self.now r.frames (table r.nodes.items) r.lens.items =
+    record { is = c.self.view_is; kept = c.self.invariant } in
     λ free.
-    let on = found_listed s c.list.result c.args.frame c.requires (rw c.place_of-place.ensures at c.list.ensures) c.if-is_none.ensures in
+    let on =
+    found_listed s c.list.result c.args.frame c.requires (rw c.place_of-place.ensures at c.list.ensures)
+    c.if-is_none.ensures in
     absurd (free on.0 on.1)

@@ -6,36 +6,50 @@ use Rattle.hp_links.proofs.links.Links.push_front.Goals as goal
 pub insert-requires-clause-after_in : goal.insert-requires-clause-after_in
 insert-requires-clause-after_in c =
     let r = c.self.inside.rings in
-    let s : Seen c.args.self.now r.frames (table r.nodes.items) r.lens.items = record { is = c.self.view_is; kept = c.self.invariant } in
-    omega (arith, next_in s c.args.list c.head-head.result c.requires.list_in (inl c.head-head.ensures), c.next-after.ensures)
+    let s : Seen c.args.self.now r.frames (table r.nodes.items) r.lens.items =
+    record { is = c.self.view_is; kept = c.self.invariant } in
+    omega (
+      arith,
+      next_in s c.args.list c.head-head.result c.requires.list_in (inl c.head-head.ensures),
+      c.next-after.ensures,
+    )
 
 pub insert-requires-clause-not_after : goal.insert-requires-clause-not_after
 insert-requires-clause-not_after c =
     let r = c.self.inside.rings in
-    let s : Seen c.args.self.now r.frames (table r.nodes.items) r.lens.items = record { is = c.self.view_is; kept = c.self.invariant } in
-    λ e. next_not_free s c.args.list c.head-head.result c.args.frame c.requires.list_in c.requires.frame_in c.requires.free (inl c.head-head.ensures)
+    let s : Seen c.args.self.now r.frames (table r.nodes.items) r.lens.items =
+    record { is = c.self.view_is; kept = c.self.invariant } in
+    λ e. next_not_free s c.args.list c.head-head.result c.args.frame c.requires.list_in c.requires.frame_in
+    c.requires.free (inl c.head-head.ensures)
     (sym c.next-after.ensures ∙ e ∙ c.place_of.ensures)
 
 pub insert-requires-clause-room : goal.insert-requires-clause-room
 insert-requires-clause-room c =
     let r = c.self.inside.rings in
-    let s : Seen c.args.self.now r.frames (table r.nodes.items) r.lens.items = record { is = c.self.view_is; kept = c.self.invariant } in
+    let s : Seen c.args.self.now r.frames (table r.nodes.items) r.lens.items =
+    record { is = c.self.view_is; kept = c.self.invariant } in
     room s c.args.list c.args.frame c.requires.list_in c.requires.frame_in c.requires.free
 
 pub invariant_of-self : goal.invariant_of-self
 invariant_of-self c =
     let r = c.self.inside.rings in
-    let s : Seen c.args.self.now r.frames (table r.nodes.items) r.lens.items = record { is = c.self.view_is; kept = c.self.invariant } in
+    let s : Seen c.args.self.now r.frames (table r.nodes.items) r.lens.items =
+    record { is = c.self.view_is; kept = c.self.invariant } in
     let n = c.insert.new.self in
-    (pushed_front s c.args.list c.args.frame c.head-head.result c.next-after.result n.frames (table n.nodes.items) n.lens.items
-    c.requires.list_in c.requires.frame_in c.requires.free c.head-head.ensures c.next-after.ensures c.insert.ensures.frames c.insert.ensures.lens
+    (pushed_front s c.args.list c.args.frame c.head-head.result c.next-after.result n.frames
+    (table n.nodes.items) n.lens.items
+    c.requires.list_in c.requires.frame_in c.requires.free c.head-head.ensures c.next-after.ensures
+    c.insert.ensures.frames c.insert.ensures.lens
     (rw c.place_of.ensures at c.insert.ensures.links)).kept
 
 pub returns : goal.returns
 returns c =
     let r = c.self.inside.rings in
-    let s : Seen c.args.self.now r.frames (table r.nodes.items) r.lens.items = record { is = c.self.view_is; kept = c.self.invariant } in
+    let s : Seen c.args.self.now r.frames (table r.nodes.items) r.lens.items =
+    record { is = c.self.view_is; kept = c.self.invariant } in
     let n = c.insert.new.self in
-    (pushed_front s c.args.list c.args.frame c.head-head.result c.next-after.result n.frames (table n.nodes.items) n.lens.items
-    c.requires.list_in c.requires.frame_in c.requires.free c.head-head.ensures c.next-after.ensures c.insert.ensures.frames c.insert.ensures.lens
+    (pushed_front s c.args.list c.args.frame c.head-head.result c.next-after.result n.frames
+    (table n.nodes.items) n.lens.items
+    c.requires.list_in c.requires.frame_in c.requires.free c.head-head.ensures c.next-after.ensures
+    c.insert.ensures.frames c.insert.ensures.lens
     (rw c.place_of.ensures at c.insert.ensures.links)).is

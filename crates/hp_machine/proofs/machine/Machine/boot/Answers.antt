@@ -4,7 +4,9 @@ use Rattle.hp_machine.proofs.Machines.{booted_machine}
 use Rattle.hp_machine.proofs.machine.Machine.boot.Goals as goal
 
 pub invariant_of-result : goal.invariant_of-result
-invariant_of-result c = booted_machine c.args.layout.now c.in_ok-course.course c.in_ok-course.ensures.start c.in_ok-course.ensures.limits
+invariant_of-result c =
+    booted_machine c.args.layout.now c.in_ok-course.course c.in_ok-course.ensures.start
+    c.in_ok-course.ensures.limits
 
 pub returns-in_err-course : goal.returns-in_err-course
 returns-in_err-course c = search rules

@@ -6,8 +6,11 @@ use Rattle.hp_machine.proofs.machine.Machine.call.Goals as goal
 
 pub invariant_of-self : goal.invariant_of-self
 invariant_of-self c =
-    let free : is_full c.self.inside.course ≡ false = subst (λ (m : MachineValue). is_full m ≡ false) (sym c.self.view_is) (sym c.is_full.ensures ∙ c.if-is_full.false) in
-    call_kept c.self.inside.course c.answer.new.self c.args.cpu c.args.event.now c.answer.result c.self.invariant free c.answer.ensures.err c.answer.ensures.ok
+    let free : is_full c.self.inside.course ≡ false =
+    subst (λ (m : MachineValue). is_full m ≡ false) (sym c.self.view_is)
+    (sym c.is_full.ensures ∙ c.if-is_full.false) in
+    call_kept c.self.inside.course c.answer.new.self c.args.cpu c.args.event.now c.answer.result
+    c.self.invariant free c.answer.ensures.err c.answer.ensures.ok
 
 pub returns-then-is_full-clause-full : goal.returns-then-is_full-clause-full
 returns-then-is_full-clause-full c = search rules

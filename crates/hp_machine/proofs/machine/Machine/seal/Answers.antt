@@ -4,7 +4,9 @@ use Rattle.hp_machine.proofs.Machines.{seal_kept}
 use Rattle.hp_machine.proofs.machine.Machine.seal.Goals as goal
 
 pub invariant_of-self : goal.invariant_of-self
-invariant_of-self c = seal_kept c.self.inside.course c.seal.new.self c.seal.result c.self.invariant c.seal.ensures.err c.seal.ensures.goes_on
+invariant_of-self c =
+    seal_kept c.self.inside.course c.seal.new.self c.seal.result c.self.invariant c.seal.ensures.err
+    c.seal.ensures.goes_on
 
 pub returns-clause-err : goal.returns-clause-err
 returns-clause-err c = search rules

@@ -4,15 +4,24 @@ use Rattle.hp_machine.proofs.machine_port.MachinePortPort.call.Goals as goal
 
 pub returns-in-Ok-clause-ok : goal.returns-in-Ok-clause-ok
 returns-in-Ok-clause-ok c =
-    called_is_given c.args.self.now.machine.now c.call.new.self c.args.self.now.cpu c.args.event.now c.in-Ok.receipt c.args.self.now.fault c.in-Ok.ensures.ok
+    called_is_given c.args.self.now.machine.now c.call.new.self c.args.self.now.cpu c.args.event.now
+    c.in-Ok.receipt c.args.self.now.fault c.in-Ok.ensures.ok
 
 pub returns-in-Ok-clause-makes : goal.returns-in-Ok-clause-makes
-returns-in-Ok-clause-makes c =
-    (search rules, search rules, called_once c.args.self.now.machine.now c.call.new.self c.args.self.now.cpu c.args.event.now c.in-Ok.receipt c.in-Ok.ensures.full c.in-Ok.ensures.ok)
+returns-in-Ok-clause-makes c = (
+  search rules,
+  search rules,
+  called_once c.args.self.now.machine.now c.call.new.self c.args.self.now.cpu
+      c.args.event.now c.in-Ok.receipt c.in-Ok.ensures.full c.in-Ok.ensures.ok,
+)
 
 pub returns-in-Err-clause-leaves : goal.returns-in-Err-clause-leaves
-returns-in-Err-clause-leaves c =
-    (search rules, search rules, c.in-Err.ensures.err, cause_of c.args.self.now.machine.now c.in-Err.fault c.in-Err.ensures.full)
+returns-in-Err-clause-leaves c = (
+  search rules,
+  search rules,
+  c.in-Err.ensures.err,
+  cause_of c.args.self.now.machine.now c.in-Err.fault c.in-Err.ensures.full,
+)
 
 pub returns-in-Ok-clause-err : goal.returns-in-Ok-clause-err
 returns-in-Ok-clause-err c = search rules

@@ -7,4 +7,5 @@ use Rattle.hp_memory.proofs.frames.Frames.free_order.Given as goal
 abbrev pub invariant-loop-number : goal.invariant-loop-number
 invariant-loop-number l =
     is_in_free_block l.layout l.self.buddy.areas l.frame
-    ≡ list_any (λ order. is_free_start l.self.buddy.areas order (ancestor l.frame order)) (range_with_len l.number (l.layout.order + 1 - l.number))
+    ≡ list_any (λ order. is_free_start l.self.buddy.areas order (ancestor l.frame order))
+    (range_with_len l.number (l.layout.order + 1 - l.number))

@@ -11,6 +11,9 @@ loop-number-preserved c =
     let l = c.args.layout.now in
     let first : ℕ = c.block.inside.0 * c.pageblocks-count.result in
     let n : ℕ = c.loop-number.number in
-    let p : ℕ → Bool = λ (pageblock : ℕ). is_on (pageblock * pageblock_size l) (free_list c.args.self.now.buddy.areas (isolated_class c.args.zone) l.order) in
+    let p : ℕ → Bool =
+    λ (pageblock : ℕ). is_on (pageblock * pageblock_size l)
+    (free_list c.args.self.now.buddy.areas (isolated_class c.args.zone) l.order) in
     let below : n < l.pageblocks = omega (arith, c.pageblocks-count.ensures.is) in
-    c.loop-number.invariant ∙ all-range_step p first n l.pageblocks true below (sym c.is_isolated_block.ensures ∙ c.if-not-is_isolated_block.false)
+    c.loop-number.invariant ∙ all-range_step p first n l.pageblocks true below
+    (sym c.is_isolated_block.ensures ∙ c.if-not-is_isolated_block.false)

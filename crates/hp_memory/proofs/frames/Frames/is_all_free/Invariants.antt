@@ -7,5 +7,8 @@ use Rattle.hp_memory.proofs.frames.Frames.is_all_free.Given as goal
 
 abbrev pub invariant-loop-number : goal.invariant-loop-number
 invariant-loop-number l =
-    list_all (λ pageblock. is_on (pageblock * pageblock_size l.layout) (free_list l.self.buddy.areas (isolated_class l.zone) l.layout.order)) (pageblocks_of l.layout l.fn.block)
-    ≡ list_all (λ pageblock. is_on (pageblock * pageblock_size l.layout) (free_list l.self.buddy.areas (isolated_class l.zone) l.layout.order)) (range_with_len (l.first + l.number) (l.layout.pageblocks - l.number))
+    list_all (λ pageblock. is_on (pageblock * pageblock_size l.layout) (free_list l.self.buddy.areas
+    (isolated_class l.zone) l.layout.order)) (pageblocks_of l.layout l.fn.block)
+    ≡ list_all (λ pageblock. is_on (pageblock * pageblock_size l.layout)
+    (free_list l.self.buddy.areas (isolated_class l.zone) l.layout.order)) (range_with_len
+    (l.first + l.number) (l.layout.pageblocks - l.number))

@@ -7,7 +7,8 @@ use Rattle.hp_memory.proofs.frames.Frames.move_pageblock.Goals as goal
 pub returns : goal.returns
 returns c =
     let f = c.args.self.now in
-    area-moved (λ l. move_pageblock l c.args.zone c.args.isolated f.buddy.areas c.args.pageblock) move_bound f c.move_pageblock.new.self c.args.tape.now c.move_pageblock.new.tape c.requires.tidy
+    area-moved (λ l. move_pageblock l c.args.zone c.args.isolated f.buddy.areas c.args.pageblock) move_bound f
+    c.move_pageblock.new.self c.args.tape.now c.move_pageblock.new.tape c.requires.tidy
     (record {
       moved_is = c.move_pageblock.ensures.moved;
       layout = c.move_pageblock.ensures.layout;

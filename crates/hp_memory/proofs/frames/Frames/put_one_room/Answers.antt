@@ -8,4 +8,5 @@ pub kind-kind-requires : goal.kind-kind-requires
 kind-kind-requires c =
     let l = c.args.layout.now in
     subst (λ (k : LayoutParts). c.pageblock_of.result < pageblock_count k) (sym c.requires.same)
-    (subst (λ (n : ℕ). n < pageblock_count l) (sym c.pageblock_of.ensures) (pageblock_in l c.args.frame c.requires.frame))
+    (subst (λ (n : ℕ). n < pageblock_count l) (sym c.pageblock_of.ensures)
+    (pageblock_in l c.args.frame c.requires.frame))

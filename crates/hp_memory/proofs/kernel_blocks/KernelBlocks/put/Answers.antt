@@ -9,4 +9,10 @@ returns c =
     c.loop-number.invariant.same
     ∙ ap (with_kernel c.args.image.now)
     (copied-all None None c.loop-number.number c.args.self.now c.loop-number.image.memory.kernel
-    (omega (arith, c.loop-number-test.false, c.frames-number-end.ensures.is, ap (λ l. frame_count l) c.layout.ensures, c.requires.size)) c.loop-number.invariant.blocks)
+    (omega (
+      arith,
+      c.loop-number-test.false,
+      c.frames-number-end.ensures.is,
+      ap (λ l. frame_count l) c.layout.ensures,
+      c.requires.size,
+    )) c.loop-number.invariant.blocks)

@@ -5,5 +5,6 @@ use Rattle.hp_memory.proofs.kernel_blocks.KernelBlocks.put.Given as goal
 abbrev pub invariant-loop-number : goal.invariant-loop-number
 invariant-loop-number l = record {
   blocks : AreCopied None None l.number l.self l.image.memory.kernel;
-  same : l.image ≡ record l.initial.image { memory = record l.initial.image.memory { kernel = l.image.memory.kernel } };
+  same : l.image
+      ≡ record l.initial.image { memory = record l.initial.image.memory { kernel = l.image.memory.kernel } };
 }

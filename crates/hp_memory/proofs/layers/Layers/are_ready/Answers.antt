@@ -12,4 +12,5 @@ loop-block-preserved c =
     let i : ℕ = c.loop-block.block-index in
     let block : ℕ = c.block-item.result in
     let below : i < length blocks = omega arith in
-    c.loop-block.invariant ∙ all-step p blocks i block true below (ap p (sym c.block-item.is) ∙ sym c.is_ready.ensures ∙ c.if-not-is_ready.false)
+    c.loop-block.invariant ∙ all-step p blocks i block true below
+    (ap p (sym c.block-item.is) ∙ sym c.is_ready.ensures ∙ c.if-not-is_ready.false)

@@ -6,4 +6,5 @@ use Rattle.hp_memory.proofs.layers.Layers.are_ready.Given as goal
 
 abbrev pub invariant-loop-block : goal.invariant-loop-block
 invariant-loop-block l =
-    list_all (is_ready l.fn.self.layout (state_of l.fn.self)) l.blocks ≡ list_all (is_ready l.fn.self.layout (state_of l.fn.self)) (drop l.block-index l.blocks)
+    list_all (is_ready l.fn.self.layout (state_of l.fn.self)) l.blocks
+    ≡ list_all (is_ready l.fn.self.layout (state_of l.fn.self)) (drop l.block-index l.blocks)

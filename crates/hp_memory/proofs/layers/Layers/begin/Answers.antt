@@ -12,5 +12,7 @@ begin_plan-requires-clause-tidy c = tidy-placed c.args.self.now c.requires.place
 pub returns-clause-ok : goal.returns-clause-ok
 returns-clause-ok c =
     let m = c.args.self.now in
-    let none : first_some (plan_refusals m.layout (state_of m) c.args.plan.now) ≡ None = cc c.in_default.ensures in
-    begin-done m c.begin_plan.new.self c.args.op c.args.plan.now c.reserve.new.self c.begin_plan.new.tape c.requires.placed c.reserve.ensures.deltas none c.begin_plan.ensures
+    let none : first_some (plan_refusals m.layout (state_of m) c.args.plan.now) ≡ None =
+    cc c.in_default.ensures in
+    begin-done m c.begin_plan.new.self c.args.op c.args.plan.now c.reserve.new.self c.begin_plan.new.tape
+    c.requires.placed c.reserve.ensures.deltas none c.begin_plan.ensures

@@ -11,5 +11,6 @@ set_bare-requires-clause-tidy c = tidy-placed c.args.self.now c.requires.placed
 
 pub returns-clause-placed : goal.returns-clause-placed
 returns-clause-placed c =
-    bare-placed c.args.self.now c.set_bare.new.self c.args.block (record offline_row { state = Absent }) 1 c.in_ok-tape.tape c.set_bare.new.tape c.requires.placed c.requires.block
+    bare-placed c.args.self.now c.set_bare.new.self c.args.block (record offline_row { state = Absent }) 1
+    c.in_ok-tape.tape c.set_bare.new.tape c.requires.placed c.requires.block
     (ap is_unplugged c.requires.offline) (refl, refl) refl refl c.set_bare.ensures

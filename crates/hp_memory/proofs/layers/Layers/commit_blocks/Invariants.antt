@@ -10,7 +10,8 @@ use Rattle.hp_memory.proofs.layers.Layers.commit_blocks.Given as goal
 abbrev pub invariant-loop-block : goal.invariant-loop-block
 invariant-loop-block l = record {
   done :
-      IsReworked l.initial.self (fold (commit_block l.initial.self.layout) (state_of l.initial.self) (take l.block-index l.fn.blocks))
+      IsReworked l.initial.self
+      (fold (commit_block l.initial.self.layout) (state_of l.initial.self) (take l.block-index l.fn.blocks))
       (l.block-index * committed_block_bound l.initial.self.layout) l.self l.initial.tape l.tape;
   middle :
       IsCommitting l.initial.self.layout (state_of l.initial.self) l.fn.blocks l.block-index

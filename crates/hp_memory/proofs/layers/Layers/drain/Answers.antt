@@ -8,5 +8,6 @@ drain-requires-clause-tidy c = tidy-placed c.args.self.now c.requires.placed
 
 pub returns-clause-ok : goal.returns-clause-ok
 returns-clause-ok c =
-    drain-done c.args.self.now c.drain.new.self c.args.drained c.reserve.new.self c.drain.new.tape c.requires.placed c.reserve.ensures.deltas
+    drain-done c.args.self.now c.drain.new.self c.args.drained c.reserve.new.self c.drain.new.tape
+    c.requires.placed c.reserve.ensures.deltas
     (omega (arith, c.if-drained-cpus.false, c.cpus.ensures.is, c.drained.view_is)) c.drain.ensures

@@ -7,5 +7,7 @@ use Rattle.hp_memory.proofs.layers.Layers.first_claimed.Given as goal
 
 abbrev pub invariant-loop-item : goal.invariant-loop-item
 invariant-loop-item l =
-    option_map (λ item. item.block) (find (λ item. is_claimed (row_of l.fn.self.blocks.blocks item.block)) l.plan)
-    ≡ option_map (λ item. item.block) (find (λ item. is_claimed (row_of l.fn.self.blocks.blocks item.block)) (drop l.item-index l.plan))
+    option_map (λ item. item.block)
+    (find (λ item. is_claimed (row_of l.fn.self.blocks.blocks item.block)) l.plan)
+    ≡ option_map (λ item. item.block)
+    (find (λ item. is_claimed (row_of l.fn.self.blocks.blocks item.block)) (drop l.item-index l.plan))

@@ -13,7 +13,8 @@ returns-in-Some c =
     let blocks = c.args.blocks.now in
     let i : ℕ = c.loop-block.block-index in
     let below : i < length blocks = omega arith in
-    sym (c.loop-block.invariant ∙ find-flat_item p f blocks i c.block-item.result (Some c.in-Some.frame) below c.block-item.is c.in-Some.ensures)
+    sym (c.loop-block.invariant ∙ find-flat_item p f blocks i c.block-item.result (Some c.in-Some.frame) below
+    c.block-item.is c.in-Some.ensures)
 
 pub loop-block-preserved : goal.loop-block-preserved
 loop-block-preserved c =

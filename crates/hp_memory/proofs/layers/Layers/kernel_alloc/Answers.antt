@@ -8,5 +8,7 @@ kernel_block-requires-clause-tidy c = tidy-placed c.args.self.now c.requires.pla
 
 pub returns-in-Some-clause-ok : goal.returns-in-Some-clause-ok
 returns-in-Some-clause-ok c =
-    kernel-taken c.args.self.now c.kernel_block.new.self c.set.new.self c.args.cpu c.args.order c.in-Some.frame c.reserve.new.self c.kernel_block.new.tape c.set.new.tape c.requires.placed
-    (omega (arith, c.if-order.false, c.order.ensures.is, c.order-2.view_is)) c.reserve.ensures.deltas c.in-Some.ensures c.set.ensures.set c.set.ensures.notes
+    kernel-taken c.args.self.now c.kernel_block.new.self c.set.new.self c.args.cpu c.args.order
+    c.in-Some.frame c.reserve.new.self c.kernel_block.new.tape c.set.new.tape c.requires.placed
+    (omega (arith, c.if-order.false, c.order.ensures.is, c.order-2.view_is)) c.reserve.ensures.deltas
+    c.in-Some.ensures c.set.ensures.set c.set.ensures.notes

@@ -27,5 +27,7 @@ give_back-requires-clause-block c =
 pub returns-clause-ok : goal.returns-clause-ok
 returns-clause-ok c =
     let here = (goal.at.returns-clause-ok c).In-Some in
-    kernel-given c.args.self.now c.give_back.new.self c.set.new.self c.args.cpu c.args.frame c.in-Some.order c.zone_of-zone.result c.reserve.new.self c.set.new.tape c.give_back.new.tape
-    c.requires.placed (within here) c.reserve.ensures.deltas (order_is here) c.set.ensures.set c.set.ensures.notes c.zone_of-zone.ensures c.give_back.ensures
+    kernel-given c.args.self.now c.give_back.new.self c.set.new.self c.args.cpu c.args.frame c.in-Some.order
+    c.zone_of-zone.result c.reserve.new.self c.set.new.tape c.give_back.new.tape
+    c.requires.placed (within here) c.reserve.ensures.deltas (order_is here) c.set.ensures.set
+    c.set.ensures.notes c.zone_of-zone.ensures c.give_back.ensures

@@ -17,12 +17,15 @@ loop-number-preserved c =
     let p : ℕ → Bool = is_in_use c.args.self.now.layout (state_of c.args.self.now) in
     let at : first + number + free ≡ first + (number + free) = omega arith in
     let left : size - number - free ≡ size - (number + free) = omega arith in
-    c.loop-number.invariant ∙ find-range_past p (first + number) free (size - number) (λ (j : ℕ) below. ap not (c.free_from-free.ensures.free j below))
-    ∙ ap (λ (n : ℕ). find p (range_with_len n (size - number - free))) at ∙ ap (λ (n : ℕ). find p (range_with_len (first + (number + free)) n)) left
+    c.loop-number.invariant ∙ find-range_past p (first + number) free (size - number)
+    (λ (j : ℕ) below. ap not (c.free_from-free.ensures.free j below))
+    ∙ ap (λ (n : ℕ). find p (range_with_len n (size - number - free))) at
+    ∙ ap (λ (n : ℕ). find p (range_with_len (first + (number + free)) n)) left
 
 pub free_from-free-requires-clause-frame : goal.free_from-free-requires-clause-frame
 free_from-free-requires-clause-frame c =
     let size : ℕ = c.block_size-size.result in
     let all : c.block.inside.0 * size + size ≤ frame_count c.args.self.now.layout =
-    block-last c.args.self.now.layout c.args.block c.block.inside.0 c.block_size-size.result c.requires.block c.block.view_is c.block_size-size.ensures.is in
+    block-last c.args.self.now.layout c.args.block c.block.inside.0 c.block_size-size.result c.requires.block
+    c.block.view_is c.block_size-size.ensures.is in
     omega (arith, all, c.loop-number-test.true)

@@ -8,5 +8,7 @@ use Rattle.hp_memory.proofs.layers.Layers.lowest_kernel_frame.Given as goal
 
 abbrev pub invariant-loop-number : goal.invariant-loop-number
 invariant-loop-number l =
-    find (λ frame. is_some (kernel_order (state_of l.fn.self) frame)) (frames_of_block l.fn.self.layout l.fn.block)
-    ≡ find (λ frame. is_some (kernel_order (state_of l.fn.self) frame)) (range_with_len (l.first + l.number) (l.size - l.number))
+    find (λ frame. is_some (kernel_order (state_of l.fn.self) frame))
+    (frames_of_block l.fn.self.layout l.fn.block)
+    ≡ find (λ frame. is_some (kernel_order (state_of l.fn.self) frame))
+    (range_with_len (l.first + l.number) (l.size - l.number))

@@ -7,7 +7,8 @@ use Rattle.hp_memory.proofs.layers.Layers.unwind.Given as goal
 abbrev pub invariant-loop-tape : goal.invariant-loop-tape
 invariant-loop-tape l = record {
   unwound :
-      IsUnwound l.initial.self.layout (drop l.mark l.tape.deltas) (view_of l.self) (undo_all undo (drop l.mark l.initial.tape.deltas) (view_of l.initial.self));
+      IsUnwound l.initial.self.layout (drop l.mark l.tape.deltas) (view_of l.self)
+      (undo_all undo (drop l.mark l.initial.tape.deltas) (view_of l.initial.self));
   kept : take l.mark l.tape.deltas ≡ take l.mark l.initial.tape.deltas;
   mark : l.mark ≤ length l.tape.deltas;
   room : l.tape.room ≡ l.initial.tape.room;

@@ -7,8 +7,13 @@ write-requires-clause-settled c = settled c.args.self.now c.requires.placed
 
 pub returns-clause-ok : goal.returns-clause-ok
 returns-clause-ok c =
-    write-done c.args.self.now c.write.new.self c.args.owner c.args.page c.args.index c.args.value c.in-Some._frame c.reserve.new.self c.write.new.tape c.requires.placed (omega (arith, c.if-owner-owners.false, c.owners.ensures.is, c.owner.view_is)) (omega (arith, c.if-page-pages.false, c.pages.ensures.is, c.page.view_is)) (omega (arith, c.if-index-words.false, c.words.ensures.is))
-    (sym c.frame_at.ensures.frame ∙ c.in-Some.is) c.reserve.ensures.deltas c.write.ensures.layout c.write.ensures.written c.write.ensures.notes
+    write-done c.args.self.now c.write.new.self c.args.owner c.args.page c.args.index c.args.value
+    c.in-Some._frame c.reserve.new.self c.write.new.tape c.requires.placed
+    (omega (arith, c.if-owner-owners.false, c.owners.ensures.is, c.owner.view_is))
+    (omega (arith, c.if-page-pages.false, c.pages.ensures.is, c.page.view_is))
+    (omega (arith, c.if-index-words.false, c.words.ensures.is))
+    (sym c.frame_at.ensures.frame ∙ c.in-Some.is) c.reserve.ensures.deltas c.write.ensures.layout
+    c.write.ensures.written c.write.ensures.notes
 
 pub returns-in_err-spare-clause-kept : goal.returns-in_err-spare-clause-kept
 returns-in_err-spare-clause-kept c = search rules

@@ -9,7 +9,8 @@ returns-then-stands_in c =
     let n = c.loop-number.number in
     let d = c.index-plan-number.result in
     let below : n < length plan = omega arith in
-    sym (c.loop-number.invariant ∙ repeated-step plan n d true below (sym c.if-stands_in.true ∙ c.stands_in.ensures))
+    sym (c.loop-number.invariant
+    ∙ repeated-step plan n d true below (sym c.if-stands_in.true ∙ c.stands_in.ensures))
 
 pub loop-number-preserved : goal.loop-number-preserved
 loop-number-preserved c =
@@ -17,4 +18,5 @@ loop-number-preserved c =
     let n = c.loop-number.number in
     let d = c.index-plan-number.result in
     let below : n < length plan = omega arith in
-    c.loop-number.invariant ∙ repeated-step plan n d false below (sym c.if-stands_in.false ∙ c.stands_in.ensures)
+    c.loop-number.invariant
+    ∙ repeated-step plan n d false below (sym c.if-stands_in.false ∙ c.stands_in.ensures)

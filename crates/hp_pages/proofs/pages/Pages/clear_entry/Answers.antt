@@ -12,8 +12,12 @@ returns-clause-notes c =
     let l = c.args.self.now.layout in
     let v = c.args.self.now.pages in
     let are = subst (λ (p : PagesValue). ArePageFramesOf p.layout p.pages) c.self.view_is
-    (are_of c.self.inside.layout c.self.inside.table c.self.inside.buffers c.self.inside.zeros c.self.invariant c.set.ensures.was_table) in
+    (are_of c.self.inside.layout c.self.inside.table c.self.inside.buffers c.self.inside.zeros
+    c.self.invariant c.set.ensures.was_table) in
     let rows = ap (λ (t : TableValue). t.rows) c.set.ensures.set in
-    rw rows (subst (λ (p : PagesValue). NotesPages l 1 c.args.tape.now c.note.new.self (record p.pages { table = with_entry p.pages.table c.args.owner c.args.page None }) v) (sym c.self.view_is)
-    (notes-clear l v c.args.owner c.args.page c.args.frame c.args.tape.now c.note.new.self are c.requires.owner c.requires.page c.requires.frame c.requires.mapped
+    rw rows (subst (λ (p : PagesValue). NotesPages l 1 c.args.tape.now c.note.new.self
+    (record p.pages { table = with_entry p.pages.table c.args.owner c.args.page None }) v) (sym
+    c.self.view_is)
+    (notes-clear l v c.args.owner c.args.page c.args.frame c.args.tape.now c.note.new.self are
+    c.requires.owner c.requires.page c.requires.frame c.requires.mapped
     c.note.ensures.room c.note.ensures.noted))

@@ -9,21 +9,27 @@ use Rattle.hp_pages.proofs.pages.Pages.map.Goals as goal
 pub returns-clause-settled : goal.returns-clause-settled
 returns-clause-settled c =
     let are = subst (λ (v : PagesValue). ArePageFramesOf v.layout v.pages) c.self.view_is
-    (are_of c.self.inside.layout c.self.inside.table c.self.inside.buffers c.self.inside.zeros c.self.invariant c.set.ensures.was_table) in
+    (are_of c.self.inside.layout c.self.inside.table c.self.inside.buffers c.self.inside.zeros
+    c.self.invariant c.set.ensures.was_table) in
     let rows = ap (λ (t : TableValue). t.rows) c.set.ensures.set in
-    rw rows (subst (λ (v : PagesValue). AreSettled (map_frame v.pages c.args.owner c.args.page c.args.frame)) (sym c.self.view_is)
-    (settled-map c.args.self.now.layout c.args.self.now.pages c.args.owner c.args.page c.args.frame are c.requires.settled
+    rw rows (subst (λ (v : PagesValue). AreSettled (map_frame v.pages c.args.owner c.args.page c.args.frame))
+    (sym c.self.view_is)
+    (settled-map c.args.self.now.layout c.args.self.now.pages c.args.owner c.args.page c.args.frame are
+    c.requires.settled
     c.requires.owner c.requires.page c.requires.unmapped c.requires.free))
 
 pub returns-clause-notes : goal.returns-clause-notes
 returns-clause-notes c =
     let are = subst (λ (v : PagesValue). ArePageFramesOf v.layout v.pages) c.self.view_is
-    (are_of c.self.inside.layout c.self.inside.table c.self.inside.buffers c.self.inside.zeros c.self.invariant c.set.ensures.was_table) in
+    (are_of c.self.inside.layout c.self.inside.table c.self.inside.buffers c.self.inside.zeros
+    c.self.invariant c.set.ensures.was_table) in
     let rows = ap (λ (t : TableValue). t.rows) c.set.ensures.set in
     rw rows (subst (λ (v : PagesValue). NotesPages c.args.self.now.layout 1 c.args.tape.now c.note.new.self
     (map_frame v.pages c.args.owner c.args.page c.args.frame) c.args.self.now.pages) (sym c.self.view_is)
-    (notes-map c.args.self.now.layout c.args.self.now.pages c.args.owner c.args.page c.args.frame _ _ are c.requires.settled
-    c.requires.owner c.requires.page c.requires.frame c.requires.unmapped c.requires.free c.note.ensures.room c.note.ensures.noted))
+    (notes-map c.args.self.now.layout c.args.self.now.pages c.args.owner c.args.page c.args.frame _ _ are
+    c.requires.settled
+    c.requires.owner c.requires.page c.requires.frame c.requires.unmapped c.requires.free c.note.ensures.room
+    c.note.ensures.noted))
 
 pub returns-clause-mapped : goal.returns-clause-mapped
 returns-clause-mapped c = search rules

@@ -10,36 +10,53 @@ use Rattle.hp_pages.proofs.pages.Pages.move_page.Goals as goal
 pub set-requires-clause-owner : goal.set-requires-clause-owner
 set-requires-clause-owner c =
     let page = c.unwrap-owner.result in
-    let first : page_from 0 c.args.self.now.pages.table c.args.from ≡ Some page = sym c.page_at.ensures.page ∙ c.unwrap-owner.ensures in
-    let is = first_page c.args.self.now.layout c.args.self.now.pages c.args.from page c.page_at.ensures.pages first in
+    let first : page_from 0 c.args.self.now.pages.table c.args.from ≡ Some page =
+    sym c.page_at.ensures.page ∙ c.unwrap-owner.ensures in
+    let is =
+    first_page c.args.self.now.layout c.args.self.now.pages c.args.from page c.page_at.ensures.pages
+    first in
     let in_owners = subst (λ (v : PagesValue). page.0 < v.layout.owners) (sym c.self.view_is) is.in_owners in
     omega (arith, in_owners, c.self.invariant.owners)
 
 pub set-requires-clause-page : goal.set-requires-clause-page
 set-requires-clause-page c =
     let page = c.unwrap-owner.result in
-    let first : page_from 0 c.args.self.now.pages.table c.args.from ≡ Some page = sym c.page_at.ensures.page ∙ c.unwrap-owner.ensures in
-    let is = first_page c.args.self.now.layout c.args.self.now.pages c.args.from page c.page_at.ensures.pages first in
+    let first : page_from 0 c.args.self.now.pages.table c.args.from ≡ Some page =
+    sym c.page_at.ensures.page ∙ c.unwrap-owner.ensures in
+    let is =
+    first_page c.args.self.now.layout c.args.self.now.pages c.args.from page c.page_at.ensures.pages
+    first in
     let in_pages = subst (λ (v : PagesValue). page.1 < v.layout.pages) (sym c.self.view_is) is.in_pages in
     omega (arith, in_pages, c.self.invariant.pages)
 
 pub returns-clause-settled : goal.returns-clause-settled
 returns-clause-settled c =
     let page = c.unwrap-owner.result in
-    let first : page_from 0 c.args.self.now.pages.table c.args.from ≡ Some page = sym c.page_at.ensures.page ∙ c.unwrap-owner.ensures in
-    let is = first_page c.args.self.now.layout c.args.self.now.pages c.args.from page c.page_at.ensures.pages first in
+    let first : page_from 0 c.args.self.now.pages.table c.args.from ≡ Some page =
+    sym c.page_at.ensures.page ∙ c.unwrap-owner.ensures in
+    let is =
+    first_page c.args.self.now.layout c.args.self.now.pages c.args.from page c.page_at.ensures.pages
+    first in
     let rows = ap (λ (t : TableValue). t.rows) c.set.ensures.set in
-    rw (rows, c.swap.ensures) (subst (λ (v : PagesValue). AreSettled (move_entry v.pages page.0 page.1 c.args.from c.args.to)) (sym c.self.view_is)
-    (settled-move c.args.self.now.layout c.args.self.now.pages page.0 page.1 c.args.from c.args.to c.page_at.ensures.pages c.requires.settled
+    rw (rows, c.swap.ensures) (subst (λ (v : PagesValue).
+    AreSettled (move_entry v.pages page.0 page.1 c.args.from c.args.to)) (sym c.self.view_is)
+    (settled-move c.args.self.now.layout c.args.self.now.pages page.0 page.1 c.args.from c.args.to
+    c.page_at.ensures.pages c.requires.settled
     c.requires.from c.requires.to is.entry c.requires.free is.in_owners is.in_pages))
 
 pub returns-clause-notes : goal.returns-clause-notes
 returns-clause-notes c =
     let page = c.unwrap-owner.result in
-    let first : page_from 0 c.args.self.now.pages.table c.args.from ≡ Some page = sym c.page_at.ensures.page ∙ c.unwrap-owner.ensures in
-    let is = first_page c.args.self.now.layout c.args.self.now.pages c.args.from page c.page_at.ensures.pages first in
+    let first : page_from 0 c.args.self.now.pages.table c.args.from ≡ Some page =
+    sym c.page_at.ensures.page ∙ c.unwrap-owner.ensures in
+    let is =
+    first_page c.args.self.now.layout c.args.self.now.pages c.args.from page c.page_at.ensures.pages
+    first in
     let rows = ap (λ (t : TableValue). t.rows) c.set.ensures.set in
-    rw (rows, c.swap.ensures) (subst (λ (v : PagesValue). NotesPages c.args.self.now.layout 2 c.args.tape.now c.note-2.new.self
+    rw (rows, c.swap.ensures)
+    (subst (λ (v : PagesValue). NotesPages c.args.self.now.layout 2 c.args.tape.now c.note-2.new.self
     (move_entry v.pages page.0 page.1 c.args.from c.args.to) c.args.self.now.pages) (sym c.self.view_is)
-    (notes-move c.args.self.now.layout c.args.self.now.pages page.0 page.1 c.args.from c.args.to _ c.note.new.self _ c.page_at.ensures.pages c.requires.settled
-    c.requires.from c.requires.to is.entry c.requires.free is.in_owners is.in_pages c.note.ensures.room c.note.ensures.noted c.note-2.ensures.room c.note-2.ensures.noted))
+    (notes-move c.args.self.now.layout c.args.self.now.pages page.0 page.1 c.args.from c.args.to _
+    c.note.new.self _ c.page_at.ensures.pages c.requires.settled
+    c.requires.from c.requires.to is.entry c.requires.free is.in_owners is.in_pages c.note.ensures.room
+    c.note.ensures.noted c.note-2.ensures.room c.note-2.ensures.noted))

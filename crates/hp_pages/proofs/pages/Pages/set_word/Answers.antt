@@ -3,7 +3,7 @@ use Rattle.std.specs.Prelude.{option_map}
 use Rattle.hp_tape.specs.Deltas.{buffer_of, with_buffer}
 use Rattle.hp_tape.specs.Tapes.{NotesPages}
 use Rattle.hp_pages.specs.Pages.{PagesValue}
-use Rattle.hp_pages.proofs.PageCalls.{notes-changed}
+use Rattle.hp_pages.proofs.WordCalls.{notes-changed}
 use Rattle.hp_pages.proofs.PageParts.{AreSized, sized_of}
 use Rattle.hp_pages.proofs.pages.Pages.set_word.Goals as goal
 
@@ -11,11 +11,16 @@ pub returns-clause-notes : goal.returns-clause-notes
 returns-clause-notes c =
     let l = c.args.self.now.layout in
     let v = c.args.self.now.pages in
-    let sized = subst (λ (p : PagesValue). AreSized p.layout p.pages) c.self.view_is (sized_of c.self.inside.layout c.self.inside.table c.self.inside.buffers c.self.inside.zeros c.self.invariant) in
+    let sized =
+    subst (λ (p : PagesValue). AreSized p.layout p.pages) c.self.view_is (sized_of c.self.inside.layout
+    c.self.inside.table c.self.inside.buffers c.self.inside.zeros c.self.invariant) in
     rw c.set_word.ensures
-    (subst (λ (p : PagesValue). NotesPages l 1 c.args.tape.now c.note.new.self (with_buffer p.pages c.args.frame (option_map (λ (ws : List ℕ). set ws c.args.index c.args.now) (buffer_of p.pages c.args.frame))) v)
+    (subst (λ (p : PagesValue). NotesPages l 1 c.args.tape.now c.note.new.self (with_buffer p.pages
+    c.args.frame
+    (option_map (λ (ws : List ℕ). set ws c.args.index c.args.now) (buffer_of p.pages c.args.frame))) v)
     (sym c.self.view_is)
-    (notes-changed l v c.args.frame c.args.index c.args.was c.args.now (buffer_of v c.args.frame) c.args.tape.now c.note.new.self sized c.requires.frame c.requires.index refl c.requires.was
+    (notes-changed l v c.args.frame c.args.index c.args.was c.args.now (buffer_of v c.args.frame)
+    c.args.tape.now c.note.new.self sized c.requires.frame c.requires.index refl c.requires.was
     c.note.ensures.room c.note.ensures.noted))
 
 pub returns-clause-set : goal.returns-clause-set

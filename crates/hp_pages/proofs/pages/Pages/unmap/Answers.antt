@@ -11,13 +11,19 @@ use Rattle.hp_pages.proofs.pages.Pages.unmap.Goals as goal
 pub returns-clause-settled : goal.returns-clause-settled
 returns-clause-settled c =
     let frame = c.unwrap-frame.result in
-    let mapped : entry_of c.args.self.now.pages.table c.args.owner c.args.page ≡ Some frame = sym c.frame_at.ensures.frame ∙ c.unwrap-frame.ensures in
-    let is = c.clear_entry.ensures.cleared ∙ ap (λ (w : PageFrames). record w { table = with_entry w.table c.args.owner c.args.page None }) c.empty.ensures.emptied in
+    let mapped : entry_of c.args.self.now.pages.table c.args.owner c.args.page ≡ Some frame =
+    sym c.frame_at.ensures.frame ∙ c.unwrap-frame.ensures in
+    let is =
+    c.clear_entry.ensures.cleared ∙ ap (λ (w : PageFrames).
+    record w { table = with_entry w.table c.args.owner c.args.page None }) c.empty.ensures.emptied in
     subst AreSettled (sym is)
-    (settled-unmap c.args.self.now.layout c.args.self.now.pages c.args.owner c.args.page frame c.frame_at.ensures.pages c.requires.settled c.requires.owner c.requires.page mapped)
+    (settled-unmap c.args.self.now.layout c.args.self.now.pages c.args.owner c.args.page frame
+    c.frame_at.ensures.pages c.requires.settled c.requires.owner c.requires.page mapped)
 
 pub returns-clause-notes : goal.returns-clause-notes
 returns-clause-notes c =
-    notes-append IsOfPages FitsPages pages_undo c.args.self.now.layout 1 1 c.args.tape.now c.empty.new.tape c.clear_entry.new.tape
+    notes-append IsOfPages FitsPages pages_undo c.args.self.now.layout 1 1 c.args.tape.now c.empty.new.tape
+    c.clear_entry.new.tape
     c.clear_entry.new.self.pages c.empty.new.self.pages c.args.self.now.pages c.empty.ensures.notes
-    (subst (λ (k : LayoutParts). NotesPages k 1 c.empty.new.tape c.clear_entry.new.tape c.clear_entry.new.self.pages c.empty.new.self.pages) c.empty.ensures.layout c.clear_entry.ensures.notes)
+    (subst (λ (k : LayoutParts). NotesPages k 1 c.empty.new.tape c.clear_entry.new.tape
+    c.clear_entry.new.self.pages c.empty.new.self.pages) c.empty.ensures.layout c.clear_entry.ensures.notes)

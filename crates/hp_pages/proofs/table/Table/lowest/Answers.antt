@@ -5,6 +5,13 @@ use Rattle.hp_pages.proofs.table.Table.lowest.Goals as goal
 
 pub returns : goal.returns
 returns c =
-    let t : TableValue = record { frames = length c.self.inside.sums; pages = c.self.inside.pages; rows = c.self.inside.rows.items } in
-    let within = subst (λ (v : TableValue). c.args.first + c.args.count ≤ v.frames) (sym c.self.view_is) c.requires in
-    rw (← c.self.view_is) (lowest_of t c.self.inside.sums c.args.first c.args.count c.lowest.result c.self.invariant within c.lowest.ensures)
+    let t : TableValue =
+    record {
+      frames = length c.self.inside.sums;
+      pages = c.self.inside.pages;
+      rows = c.self.inside.rows.items;
+    } in
+    let within =
+    subst (λ (v : TableValue). c.args.first + c.args.count ≤ v.frames) (sym c.self.view_is) c.requires in
+    rw (← c.self.view_is) (lowest_of t c.self.inside.sums c.args.first c.args.count c.lowest.result
+    c.self.invariant within c.lowest.ensures)

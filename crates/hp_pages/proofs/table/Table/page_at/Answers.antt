@@ -5,24 +5,49 @@ use Rattle.hp_pages.proofs.table.Table.page_at.Goals as goal
 
 pub returns-then-sum-eq0-clause-page : goal.returns-then-sum-eq0-clause-page
 returns-then-sum-eq0-clause-page c =
-    let t : TableValue = record { frames = length c.self.inside.sums; pages = c.self.inside.pages; rows = c.self.inside.rows.items } in
-    let in_frames = subst (λ (v : TableValue). c.args.frame < v.frames) (sym c.self.view_is) c.requires.frame in
-    rw (← c.self.view_is) (page_none t c.self.inside.sums c.args.frame c.self.invariant in_frames (sym c.at-sum.ensures ∙ c.if-sum-eq0.true))
+    let t : TableValue =
+    record {
+      frames = length c.self.inside.sums;
+      pages = c.self.inside.pages;
+      rows = c.self.inside.rows.items;
+    } in
+    let in_frames =
+    subst (λ (v : TableValue). c.args.frame < v.frames) (sym c.self.view_is) c.requires.frame in
+    rw (← c.self.view_is) (page_none t c.self.inside.sums c.args.frame c.self.invariant in_frames
+    (sym c.at-sum.ensures ∙ c.if-sum-eq0.true))
 
 pub overflow_cast-result : goal.overflow_cast-result
 overflow_cast-result c =
-    let t : TableValue = record { frames = length c.self.inside.sums; pages = c.self.inside.pages; rows = c.self.inside.rows.items } in
-    let in_frames = subst (λ (v : TableValue). c.args.frame < v.frames) (sym c.self.view_is) c.requires.frame in
-    let once = subst (λ (v : TableValue). holders v.rows c.args.frame ≤ 1) (sym c.self.view_is) c.requires.once in
-    let told = page_told t c.self.inside.sums c.args.frame c.at-sum.result c.self.invariant in_frames once c.at-sum.ensures c.if-sum-eq0.false in
+    let t : TableValue =
+    record {
+      frames = length c.self.inside.sums;
+      pages = c.self.inside.pages;
+      rows = c.self.inside.rows.items;
+    } in
+    let in_frames =
+    subst (λ (v : TableValue). c.args.frame < v.frames) (sym c.self.view_is) c.requires.frame in
+    let once =
+    subst (λ (v : TableValue). holders v.rows c.args.frame ≤ 1) (sym c.self.view_is) c.requires.once in
+    let told =
+    page_told t c.self.inside.sums c.args.frame c.at-sum.result c.self.invariant in_frames once
+    c.at-sum.ensures c.if-sum-eq0.false in
     omega (arith, told.1)
 
 pub returns-clause-page : goal.returns-clause-page
 returns-clause-page c =
-    let t : TableValue = record { frames = length c.self.inside.sums; pages = c.self.inside.pages; rows = c.self.inside.rows.items } in
-    let in_frames = subst (λ (v : TableValue). c.args.frame < v.frames) (sym c.self.view_is) c.requires.frame in
-    let once = subst (λ (v : TableValue). holders v.rows c.args.frame ≤ 1) (sym c.self.view_is) c.requires.once in
-    let told = page_told t c.self.inside.sums c.args.frame c.at-sum.result c.self.invariant in_frames once c.at-sum.ensures c.if-sum-eq0.false in
+    let t : TableValue =
+    record {
+      frames = length c.self.inside.sums;
+      pages = c.self.inside.pages;
+      rows = c.self.inside.rows.items;
+    } in
+    let in_frames =
+    subst (λ (v : TableValue). c.args.frame < v.frames) (sym c.self.view_is) c.requires.frame in
+    let once =
+    subst (λ (v : TableValue). holders v.rows c.args.frame ≤ 1) (sym c.self.view_is) c.requires.once in
+    let told =
+    page_told t c.self.inside.sums c.args.frame c.at-sum.result c.self.invariant in_frames once
+    c.at-sum.ensures c.if-sum-eq0.false in
     rw (← c.self.view_is) told.0
 
 pub returns-then-sum-eq0-clause-table : goal.returns-then-sum-eq0-clause-table

@@ -7,27 +7,58 @@ use Rattle.hp_pages.proofs.table.Table.set.Goals as goal
 
 pub leave-requires : goal.leave-requires
 leave-requires c =
-    let t : TableValue = record { frames = length c.self.inside.sums; pages = c.self.inside.pages; rows = c.self.inside.rows.items } in
-    rw (c.frame_at-was.ensures.frame, c.place-place.ensures, ← c.self.view_is) (can_leave t c.self.inside.sums c.args.owner c.args.page c.self.invariant refl)
+    let t : TableValue =
+    record {
+      frames = length c.self.inside.sums;
+      pages = c.self.inside.pages;
+      rows = c.self.inside.rows.items;
+    } in
+    rw (c.frame_at-was.ensures.frame, c.place-place.ensures, ← c.self.view_is)
+    (can_leave t c.self.inside.sums c.args.owner c.args.page c.self.invariant refl)
 
 pub join-requires : goal.join-requires
 join-requires c =
-    let t : TableValue = record { frames = length c.self.inside.sums; pages = c.self.inside.pages; rows = c.self.inside.rows.items } in
-    let in_owners = subst (λ (v : TableValue). c.args.owner < length v.rows) (sym c.self.view_is) c.requires.owner in
+    let t : TableValue =
+    record {
+      frames = length c.self.inside.sums;
+      pages = c.self.inside.pages;
+      rows = c.self.inside.rows.items;
+    } in
+    let in_owners =
+    subst (λ (v : TableValue). c.args.owner < length v.rows) (sym c.self.view_is) c.requires.owner in
     let in_pages = subst (λ (v : TableValue). c.args.page < v.pages) (sym c.self.view_is) c.requires.page in
-    let in_frames = subst (λ (v : TableValue). IfSome c.args.now (λ frame. frame < v.frames)) (sym c.self.view_is) c.requires.frame in
+    let in_frames =
+    subst (λ (v : TableValue). IfSome c.args.now (λ frame. frame < v.frames)) (sym c.self.view_is)
+    c.requires.frame in
     rw (c.leave.ensures, c.frame_at-was.ensures.frame, c.place-place.ensures, ← c.self.view_is)
-    (can_join t c.self.inside.sums c.args.owner c.args.page c.args.now c.self.invariant refl in_owners in_pages in_frames)
+    (can_join t c.self.inside.sums c.args.owner c.args.page c.args.now c.self.invariant refl in_owners
+    in_pages in_frames)
 
 pub invariant_of-self : goal.invariant_of-self
 invariant_of-self c =
-    let in_owners = subst (λ (v : TableValue). c.args.owner < length v.rows) (sym c.self.view_is) c.requires.owner in
+    let in_owners =
+    subst (λ (v : TableValue). c.args.owner < length v.rows) (sym c.self.view_is) c.requires.owner in
     let in_pages = subst (λ (v : TableValue). c.args.page < v.pages) (sym c.self.view_is) c.requires.page in
-    let in_frames = subst (λ (v : TableValue). IfSome c.args.now (λ frame. frame < v.frames)) (sym c.self.view_is) c.requires.frame in
-    let was : c.index_mut-row.result.now ≡ get_or c.self.inside.rows.items c.args.owner c.index_mut-row.result.now = rw (← c.owner.view_is) c.index_mut-row.ensures.value in
-    let read = get_or_read c.self.inside.rows.items c.args.owner c.index_mut-row.result.now in_owners was [] in
-    rw (c.join.ensures, c.leave.ensures, c.set.ensures, read, c.owner.view_is, c.frame_at-was.ensures.frame, c.place-place.ensures, ← c.self.view_is)
-    (are_sums-set c.self.inside.sums c.self.inside.pages c.self.inside.rows.items c.args.owner c.args.page c.args.now c.self.invariant in_owners in_pages in_frames)
+    let in_frames =
+    subst (λ (v : TableValue). IfSome c.args.now (λ frame. frame < v.frames)) (sym c.self.view_is)
+    c.requires.frame in
+    let was : c.index_mut-row.result.now
+    ≡ get_or c.self.inside.rows.items c.args.owner c.index_mut-row.result.now =
+    rw (← c.owner.view_is) c.index_mut-row.ensures.value in
+    let read =
+    get_or_read c.self.inside.rows.items c.args.owner c.index_mut-row.result.now in_owners was [] in
+    rw (
+      c.join.ensures,
+      c.leave.ensures,
+      c.set.ensures,
+      read,
+      c.owner.view_is,
+      c.frame_at-was.ensures.frame,
+      c.place-place.ensures,
+      ← c.self.view_is,
+    )
+    (are_sums-set c.self.inside.sums c.self.inside.pages c.self.inside.rows.items c.args.owner c.args.page
+    c.args.now c.self.invariant in_owners in_pages in_frames)
 
 pub returns-clause-was_table : goal.returns-clause-was_table
 returns-clause-was_table c = search rules

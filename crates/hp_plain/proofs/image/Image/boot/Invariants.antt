@@ -6,5 +6,6 @@ use Rattle.hp_plain.proofs.image.Image.boot.Given as goal
 abbrev pub invariant-loop-number : goal.invariant-loop-number
 invariant-loop-number l = record {
   layout : l.image.layout ≡ l.layout;
-  memory : l.image.memory ≡ fold (λ s entry. boot_block l.layout s entry.0 entry.1) (empty_memory l.layout) (enumerate_from 0 (take l.number l.layout.boot));
+  memory : l.image.memory ≡ fold (λ s entry. boot_block l.layout s entry.0 entry.1) (empty_memory l.layout)
+      (enumerate_from 0 (take l.number l.layout.boot));
 }

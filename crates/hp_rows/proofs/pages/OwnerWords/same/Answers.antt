@@ -5,5 +5,7 @@ use Rattle.hp_rows.proofs.pages.OwnerWords.same.Goals as goal
 
 pub returns : goal.returns
 returns c =
-    let long : length c.args.self.now ≡ length c.args.other.now = omega (arith, ap length c.self.view_is, ap length c.other.view_is) in
-    ext_get_or None c.args.self.now c.args.other.now long (λ k h. c.loop-page.invariant k (omega (arith, ap length c.self.view_is)))
+    let long : length c.args.self.now ≡ length c.args.other.now =
+    omega (arith, ap length c.self.view_is, ap length c.other.view_is) in
+    ext_get_or None c.args.self.now c.args.other.now long
+    (λ k h. c.loop-page.invariant k (omega (arith, ap length c.self.view_is)))

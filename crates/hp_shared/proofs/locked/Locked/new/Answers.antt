@@ -3,4 +3,5 @@ use Rattle.hp_shared.proofs.locked.Locked.new.Goals as goal
 
 pub invariant_of-result : goal.invariant_of-result
 invariant_of-result g c =
-    begun g.L.Job.layout c.args.machine c.args.book.total c.requires.machine c.begins_at_boot.ensures c.history.ensures.kept c.requires.book
+    begun g.L.Job.layout c.args.machine c.args.book.total c.requires.machine c.begins_at_boot.ensures
+    c.history.ensures.kept c.requires.book

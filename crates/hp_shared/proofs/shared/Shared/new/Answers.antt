@@ -19,8 +19,11 @@ loop-cpu-preserved g c =
 
 pub returns-clause-seats : goal.returns-clause-seats
 returns-clause-seats g c =
-    let cpus : c.cpus-cpus.result ≡ g.L.Job.layout.cpus = c.cpus-cpus.ensures.is ∙ (ap (λ (l : LayoutParts). l.cpus) c.layout.ensures ∙ ap (λ (l : LayoutParts). l.cpus) c.requires.machine.layout) in
-    c.loop-cpu.invariant.2 ∙ ap first_seats (omega (arith, cpus, c.loop-cpu.auto.cpu-end, c.loop-cpu-test.false))
+    let cpus : c.cpus-cpus.result ≡ g.L.Job.layout.cpus =
+    c.cpus-cpus.ensures.is ∙ (ap (λ (l : LayoutParts). l.cpus) c.layout.ensures
+    ∙ ap (λ (l : LayoutParts). l.cpus) c.requires.machine.layout) in
+    c.loop-cpu.invariant.2
+    ∙ ap first_seats (omega (arith, cpus, c.loop-cpu.auto.cpu-end, c.loop-cpu-test.false))
 
 pub returns-in_default-clause-seats : goal.returns-in_default-clause-seats
 returns-in_default-clause-seats g c = search rules

@@ -8,7 +8,8 @@ use Rattle.hp_shared.proofs.shared.Shared.seal.Goals as goal
 pub returns-clause-ok : goal.returns-clause-ok
 returns-clause-ok g c =
     let old = c.deref_mut.result.now in
-    IfOk-weaker c.seal.result (λ (v : Volume). v ≡ volume_of old.machine) (λ (v : Volume). IsSealOf g.L.Job.layout v c.seal.new.share.amount) (λ v same. record {
+    IfOk-weaker c.seal.result (λ (v : Volume). v ≡ volume_of old.machine)
+    (λ (v : Volume). IsSealOf g.L.Job.layout v c.seal.new.share.amount) (λ v same. record {
       seen = old;
       shared = c.seal.ensures.shown;
       is = same;

@@ -4,4 +4,5 @@ use Rattle.hp_text.specs.State.{number_word}
 use Rattle.hp_text.proofs.state.pages.write_words.Given as goal
 
 abbrev pub invariant-loop-word : goal.invariant-loop-word
-invariant-loop-word l = string_bytes l.out ≡ string_bytes l.fn.out ++ flat_map number_word (take l.word-index l.words)
+invariant-loop-word l =
+    string_bytes l.out ≡ string_bytes l.fn.out ++ flat_map number_word (take l.word-index l.words)

@@ -8,8 +8,10 @@ use Rattle.hp_units.proofs.layouts.Layout.new.Goals as goal
 
 pub invariant_of-result : goal.invariant_of-result
 invariant_of-result c =
-    let none : layout_fault (parts_seen c.args.parts.now) ≡ None = sym c.first_fault.ensures ∙ c.in_default.is in
-    subst (λ (boot : List Boot). IsLayout (record (parts_seen c.args.parts.now) { boot = boot })) (sym c.in-Ok.ensures.items)
+    let none : layout_fault (parts_seen c.args.parts.now) ≡ None =
+    sym c.first_fault.ensures ∙ c.in_default.is in
+    subst (λ (boot : List Boot). IsLayout (record (parts_seen c.args.parts.now) { boot = boot }))
+    (sym c.in-Ok.ensures.items)
     (within_limits (parts_seen c.args.parts.now) none)
 
 pub returns-in-Some-clause-ok : goal.returns-in-Some-clause-ok

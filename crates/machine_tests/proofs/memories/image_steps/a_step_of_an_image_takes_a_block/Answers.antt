@@ -13,4 +13,5 @@ at_boot l k m limits layout memory = rw (layout, memory) (boot-placed l limits)
 pub step_of_image-requires-clause-placed : goal.step_of_image-requires-clause-placed
 step_of_image-requires-clause-placed g c =
     let before = c.in_ok-before in
-    at_boot c.in_ok-layout.layout before.before.layout before.before.memory before.ensures.limits before.ensures.layout before.ensures.memory
+    at_boot c.in_ok-layout.layout before.before.layout before.before.memory before.ensures.limits
+    before.ensures.layout before.ensures.memory

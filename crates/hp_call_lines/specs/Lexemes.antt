@@ -2,10 +2,10 @@
 use Rattle.std.specs.Prelude.{ℕ, ◌==◌, ◌||◌, Bool, false, not, List, codes, Option, if◌then◌else◌}
 use Rattle.std.specs.Bool.{then_some}
 use Rattle.std.specs.List.{starts_with}
-use Rattle.hp_check.specs.declared.lexemes.Lexeme.{Lexeme}
-use Rattle.hp_check.specs.declared.lexemes.Lexeme.TheVariants as lexeme
-use Rattle.hp_check.specs.declared.lexemes.Mode.{Mode}
-use Rattle.hp_check.specs.declared.lexemes.Mode.TheVariants.{Between, Word, Text, Escape}
+use Rattle.hp_call_lines.specs.declared.lexemes.Lexeme.{Lexeme}
+use Rattle.hp_call_lines.specs.declared.lexemes.Lexeme.TheVariants as lexeme
+use Rattle.hp_call_lines.specs.declared.lexemes.Mode.{Mode}
+use Rattle.hp_call_lines.specs.declared.lexemes.Mode.TheVariants.{Between, Word, Text, Escape}
 
 -- white space of JSON, and its signs: brackets, comma, colon (RFC 8259, section 2)
 abbrev pub is_space : ℕ → Bool
@@ -14,8 +14,8 @@ is_space b = b == 32 || (b == 9 || (b == 10 || b == 13))
 abbrev pub is_sign : ℕ → Bool
 is_sign b = b == 123 || (b == 125 || (b == 91 || (b == 93 || (b == 44 || b == 58))))
 
--- how the byte after a byte is read: a text ends at a quotation mark that no backslash stands before, and a word at white space or a
--- sign
+-- how the byte after a byte is read: a text ends at a quotation mark that no backslash stands
+-- before, and a word at white space or a sign
 abbrev pub mode_outside : ℕ → Mode
 mode_outside b = if is_space b || is_sign b then Between else Word
 

@@ -1,11 +1,11 @@
 -- In which lines of a scenario's text the entries of `calls` begin (own rule).
 use Rattle.std.specs.Prelude.{◌≡◌, ℕ, ◌+◌, ◌-◌, ◌==◌, ◌||◌, ◌&&◌, Bool, true, false, not, List, [], ◌∷◌, ◌++◌, count_by, nat_lt, slice_get, take, Option, Some, None, if◌then◌else◌}
 use Rattle.std.specs.List.{All}
-use Rattle.hp_check.specs.Lexemes.{is_space, lexeme_at, mode_after}
-use Rattle.hp_check.specs.declared.lexemes.Lexeme.{Lexeme}
-use Rattle.hp_check.specs.declared.lexemes.Lexeme.TheVariants as lexeme
-use Rattle.hp_check.specs.declared.lexemes.Mode.{Mode}
-use Rattle.hp_check.specs.declared.lexemes.Mode.TheVariants.{Between}
+use Rattle.hp_call_lines.specs.Lexemes.{is_space, lexeme_at, mode_after}
+use Rattle.hp_call_lines.specs.declared.lexemes.Lexeme.{Lexeme}
+use Rattle.hp_call_lines.specs.declared.lexemes.Lexeme.TheVariants as lexeme
+use Rattle.hp_call_lines.specs.declared.lexemes.Mode.{Mode}
+use Rattle.hp_call_lines.specs.declared.lexemes.Mode.TheVariants.{Between}
 
 -- ---- lines
 
@@ -23,12 +23,13 @@ with_line line (Some l) = (line, l) ∷ []
 
 unfoldable pub lexemes : (line : ℕ) → Mode → List ℕ → List (ℕ × Lexeme)
 lexemes line mode [] = []
-lexemes line mode (b ∷ bs) = with_line line (lexeme_at mode b (b ∷ bs)) ++ lexemes (line_after line b) (mode_after mode b) bs
+lexemes line mode (b ∷ bs) =
+    with_line line (lexeme_at mode b (b ∷ bs)) ++ lexemes (line_after line b) (mode_after mode b) bs
 
 -- ---- what the lexemes say of `calls`
 
--- how many brackets are open; whether the last key of the whole is `calls`; whether the list at that key is open, and an entry of it
--- is next; and in which lines its entries so far begin
+-- how many brackets are open; whether the last key of the whole is `calls`; whether the list at
+-- that key is open, and an entry of it is next; and in which lines its entries so far begin
 pub record WalkValue : Type 0 where
   pub depth : ℕ
   pub is_key_calls : Bool
@@ -60,7 +61,14 @@ past_text w is_calls = record {
 }
 
 abbrev pub in_object : WalkValue → WalkValue
-in_object w = record { depth = w.depth + 1; is_key_calls = w.is_key_calls; is_in_calls = w.is_in_calls; is_entry_next = w.is_entry_next; lines = w.lines }
+in_object w =
+    record {
+      depth = w.depth + 1;
+      is_key_calls = w.is_key_calls;
+      is_in_calls = w.is_in_calls;
+      is_entry_next = w.is_entry_next;
+      lines = w.lines;
+    }
 
 -- a list: that at the key `calls` is begun anew
 abbrev pub in_list_of : WalkValue → (is_calls : Bool) → WalkValue
@@ -75,7 +83,8 @@ in_list_of w is_calls = record {
 abbrev pub in_list : WalkValue → WalkValue
 in_list w = in_list_of w (w.depth == 1 && w.is_key_calls)
 
--- the end of a list or an object, which is that of the list at `calls` where no more than the whole is open after it
+-- the end of a list or an object, which is that of the list at `calls` where no more than the whole
+-- is open after it
 abbrev pub closed : WalkValue → WalkValue
 closed w = record {
   depth = w.depth - 1;
@@ -87,7 +96,14 @@ closed w = record {
 
 -- a comma: one of the list at `calls` stands before an entry
 abbrev pub past_comma : WalkValue → WalkValue
-past_comma w = record { depth = w.depth; is_key_calls = w.is_key_calls; is_in_calls = w.is_in_calls; is_entry_next = w.is_in_calls && (w.depth == 2); lines = w.lines }
+past_comma w =
+    record {
+      depth = w.depth;
+      is_key_calls = w.is_key_calls;
+      is_in_calls = w.is_in_calls;
+      is_entry_next = w.is_in_calls && (w.depth == 2);
+      lines = w.lines;
+    }
 
 abbrev pub past_lexeme : WalkValue → (line : ℕ) → Lexeme → WalkValue
 past_lexeme w line lexeme.Calls = past_text (noted w line) true

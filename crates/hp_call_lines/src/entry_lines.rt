@@ -1,12 +1,13 @@
 //! In which lines of a scenario's text the entries of `calls` begin.
 ghost use Rattle.std.specs.Prelude.{◌≡◌, ◌+◌, ◌^◌, ◌<◌, IfOk, OnOk};
-ghost use Rattle.hp_check.specs.Places as means;
+ghost use Rattle.hp_call_lines.specs.EntryLines as means;
 
 use crate::lexemes::{Lexeme, Mode, lexeme_at, mode_after};
 use std::alloc::{AllocError, Global};
 use std::marker::Model;
 
-/// Where a JSON text is, after some of its lexemes: how many brackets are open, and what these lexemes say of `calls`.
+/// Where a JSON text is, after some of its lexemes: how many brackets are open, and what these
+/// lexemes say of `calls`.
 #[derive(Debug, Drop)]
 struct Walk {
     depth: u64,
@@ -17,11 +18,17 @@ struct Walk {
 }
 
 impl Model for Walk {
-    ghost use Rattle.hp_check.specs.Places.{WalkValue};
+    ghost use Rattle.hp_call_lines.specs.EntryLines.{WalkValue};
 
     ghost Value = { WalkValue };
 
-    ghost view = { λ w. record { depth = w.depth; is_key_calls = w.is_key_calls; is_in_calls = w.is_in_calls; is_entry_next = w.is_entry_next; lines = w.lines.items } };
+    ghost view = { λ w. record {
+      depth = w.depth;
+      is_key_calls = w.is_key_calls;
+      is_in_calls = w.is_in_calls;
+      is_entry_next = w.is_entry_next;
+      lines = w.lines.items;
+    } };
 }
 
 impl Walk {
@@ -91,7 +98,8 @@ impl Walk {
         Ok(())
     }
 
-    /// Goes past a text. At depth 1 it is a key, or the value of one that is not `calls`. An error is out of memory.
+    /// Goes past a text. At depth 1 it is a key, or the value of one that is not `calls`. An error
+    /// is out of memory.
     fn pass_text(&mut self, line: u64, is_calls: bool) -> Result<(), AllocError>
         ensures { OnOk result (self.new ≡ means.past_text (means.noted self.old line) is_calls) }
     {
@@ -127,9 +135,9 @@ impl Walk {
     }
 }
 
-/// The line of the text in which each entry of `calls` begins, counted from 1. Where the key comes twice, those of the last list. An
-/// error is out of memory.
-pub(crate) fn call_lines(alloc: Global, input: &[u8]) -> Result<Vec<u64>, AllocError>
+/// The line of the text in which each entry of `calls` begins, counted from 1. Where the key comes
+/// twice, those of the last list. An error is out of memory.
+pub fn call_lines(alloc: Global, input: &[u8]) -> Result<Vec<u64>, AllocError>
     ensures exact { IfOk result (λ lines. lines.items ≡ means.call_lines input.now) }
     ensures signs { IfOk result (λ lines. means.AreSignLines input.now lines.items) }
 {

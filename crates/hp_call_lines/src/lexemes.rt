@@ -1,6 +1,6 @@
 //! The signs, words and texts that a JSON text is made of.
 ghost use Rattle.std.specs.Prelude.{◌≡◌};
-ghost use Rattle.hp_check.specs.Lexemes as means;
+ghost use Rattle.hp_call_lines.specs.Lexemes as means;
 
 /// How a byte of a JSON text is read.
 #[derive(Clone, Copy, Debug, PartialEq, Eq, Drop)]

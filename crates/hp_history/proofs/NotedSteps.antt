@@ -1,0 +1,200 @@
+-- What a step notes, and the copies of its event in the record and in the receipt.
+use Rattle.std.proofs.Common.{◌≡◌, ℕ, ◌≤◌, ◌+◌, Bool, true, false, List, [], ◌∷◌, ◌++◌, drop, length, take, refl, ap, sym, subst, ◌∙◌, arith}
+use Rattle.std.specs.Prelude.{if◌then◌else◌}
+use Rattle.std.proofs.lemmas.List.{drop_at, length-append, length_push, take_at}
+use Rattle.hp_units.specs.Memory.{Memory}
+use Rattle.hp_units.specs.LayoutParts.{LayoutParts}
+use Rattle.hp_units.specs.History.{net_of, run, value_of}
+use Rattle.hp_units.specs.declared.replies.Receipt.{Receipt}
+use Rattle.hp_tape.specs.Bounds.{delta_bound}
+use Rattle.hp_tape.specs.declared.deltas.Delta.{Delta}
+use Rattle.hp_tape.specs.Deltas.{FrameView, frame_view_of}
+use Rattle.hp_memory.specs.Layers.{AreNoted}
+use Rattle.hp_memory.specs.Memory.{LeadsBack, MemoryValue}
+use Rattle.hp_laws.proofs.EventSteps.{run-placed}
+use Rattle.hp_laws.proofs.Steps.{steps}
+use Rattle.hp_history.specs.declared.journal.Entry.{Entry}
+use Rattle.hp_history.specs.Course.{CourseValue, IsAnswered, record_of}
+use Rattle.hp_history.specs.Kept.{IsCourse, IsJournal}
+use Rattle.hp_history.proofs.Names.{Event, Reply, Record}
+use Rattle.hp_history.proofs.Journals.{IsNext, journal_grown, journal_push}
+use Rattle.hp_history.proofs.Starts.{tag-last}
+use Rattle.hp_history.proofs.Courses.{room, follows, answered_value, value_with, memory_is, state_placed, answered, IsMade, is_kept, made_reply, made_net, made_same, made_next, made_shown}
+
+-- ---- what the step noted
+
+-- it stands on the tape after what was there
+noted_past : (l : LayoutParts) (most : ℕ) (was now : List Delta) (later earlier : FrameView) (mark : ℕ)
+    (noted : AreNoted l most was now later earlier)
+    → mark ≡ length was → drop mark now ≡ noted.deltas
+noted_past l most was now later earlier mark noted is =
+    ap (λ (xs : List Delta). drop mark xs) noted.after ∙ drop_at was noted.deltas mark (sym is)
+
+noted_before : (l : LayoutParts) (most : ℕ) (was now : List Delta) (later earlier : FrameView) (mark : ℕ)
+    (noted : AreNoted l most was now later earlier)
+    → mark ≡ length was → take mark now ≡ was
+noted_before l most was now later earlier mark noted is =
+    ap (λ (xs : List Delta). take mark xs) noted.after ∙ take_at was noted.deltas mark (sym is)
+
+-- it leads back to the state before
+made_leads : (m : CourseValue) (es : List Entry) (ds : List Delta) (cpu : ℕ) (r : Receipt) (e : Entry)
+    (v : MemoryValue) (now : List Delta) (made : IsMade m es ds cpu r e v now)
+    → LeadsBack m.layout made.noted.deltas v.state m.state
+made_leads m es ds cpu r e v now made =
+    record { placed = state_placed m es ds made.course; numbers = made.noted.numbers; lead = made.noted.lead }
+
+-- so what is no step can be taken off the tape
+pub made_off : (m : CourseValue) (es : List Entry) (ds : List Delta) (cpu : ℕ) (r : Receipt) (e : Entry)
+    (v : MemoryValue) (now : List Delta)
+    → IsMade m es ds cpu r e v now → is_kept r ≡ false
+    → LeadsBack v.layout (drop e.start now) v.state v.state
+made_off m es ds cpu r e v now made none =
+    let past =
+    noted_past m.layout (delta_bound m.layout m.state r.event) ds now (frame_view_of m.layout v.state)
+    (frame_view_of m.layout m.state) e.start made.noted made.start in
+    subst (λ (l : LayoutParts). LeadsBack l (drop e.start now) v.state v.state) (sym made.layout)
+    (subst (λ (xs : List Delta). LeadsBack m.layout xs v.state v.state) (sym past)
+    (subst (λ (s : Memory). LeadsBack m.layout made.noted.deltas v.state s)
+    (sym (made_same m es ds cpu r e v now made none)) (made_leads m es ds cpu r e v now made)))
+
+-- the tape is long enough
+pub made_start : (m : CourseValue) (es : List Entry) (ds : List Delta) (cpu : ℕ) (r : Receipt) (e : Entry)
+    (v : MemoryValue) (now : List Delta)
+    → IsMade m es ds cpu r e v now → e.start ≤ length now
+made_start m es ds cpu r e v now made =
+    omega (
+      arith,
+      made.start,
+      ap (λ (xs : List Delta). length xs) made.noted.after,
+      length-append ds made.noted.deltas,
+    )
+
+-- the step as the next one of the journal
+made_entry : (m : CourseValue) (es : List Entry) (ds : List Delta) (cpu : ℕ) (r : Receipt) (e : Entry)
+    (v : MemoryValue) (now : List Delta) (made : IsMade m es ds cpu r e v now)
+    → IsNext m.layout m.base (m.history ++ record_of cpu r ∷ []) (net_of m.history) ds (record_of cpu r) e
+    made.noted.deltas
+unfolding value_of
+made_entry m es ds cpu r e v now made =
+    let l = m.layout in
+    let net = net_of m.history in
+    let longer = net ++ record_of cpu r ∷ [] in
+    let was : m.state ≡ run l m.base net = made.course.history.state in
+    record {
+      place = omega (arith, made.place, length_push m.history (record_of cpu r));
+      tag = tag-last m.history (record_of cpu r) e.place made.place;
+      start = made.start;
+      few = subst (λ (s : Memory). length made.noted.deltas ≤ delta_bound l s r.event) was made.noted.few;
+      leads =
+          subst (λ (s : Memory). LeadsBack l made.noted.deltas s (run l m.base net))
+          (made_next m es ds cpu r e v now made)
+          (subst (λ (s : Memory). LeadsBack l made.noted.deltas v.state s) was
+          (made_leads m es ds cpu r e v now made));
+      placed = run-placed l m.base longer made.course.limits made.course.placed;
+    }
+
+-- the journal after the step, by whether it counts
+made_journal : (m : CourseValue) (es : List Entry) (ds : List Delta) (cpu : ℕ) (r : Receipt) (e : Entry)
+    (v : MemoryValue) (now : List Delta)
+    → IsMade m es ds cpu r e v now → (b : Bool)
+    → IsJournal m.layout m.base (m.history ++ record_of cpu r ∷ []) (if b then net_of m.history ++ record_of
+    cpu r ∷ [] else net_of m.history) (if b then es ++ e ∷ [] else es) (if b then now else take e.start now)
+made_journal m es ds cpu r e v now made true =
+    let longer = m.history ++ record_of cpu r ∷ [] in
+    let net = net_of m.history in
+    let grown = journal_grown m.layout m.base m.history net es ds (record_of cpu r) made.course.journal in
+    subst (λ (xs : List Delta).
+    IsJournal m.layout m.base longer (net ++ record_of cpu r ∷ []) (es ++ e ∷ []) xs) (sym made.noted.after)
+    (journal_push m.layout m.base longer net es ds (record_of cpu r) e made.noted.deltas grown
+    (made_entry m es ds cpu r e v now made))
+made_journal m es ds cpu r e v now made false =
+    let longer = m.history ++ record_of cpu r ∷ [] in
+    let before =
+    noted_before m.layout (delta_bound m.layout m.state r.event) ds now (frame_view_of m.layout v.state)
+    (frame_view_of m.layout m.state) e.start made.noted made.start in
+    subst (λ (xs : List Delta). IsJournal m.layout m.base longer (net_of m.history) es xs) (sym before)
+    (journal_grown m.layout m.base m.history (net_of m.history) es ds (record_of cpu r) made.course.journal)
+
+-- what the course keeps after the step
+made_course : (m : CourseValue) (es : List Entry) (ds : List Delta) (cpu : ℕ) (r : Receipt) (e : Entry)
+    (v : MemoryValue) (now : List Delta)
+    → IsMade m es ds cpu r e v now
+    → IsCourse (answered_value m cpu r (value_of m.layout m.base (m.history ++ record_of cpu r ∷ [])))
+    (if is_kept r then es ++ e ∷ [] else es) (if is_kept r then now else take e.start now)
+made_course m es ds cpu r e v now made =
+    let space = room m made.free in
+    record {
+      limits = made.course.limits;
+      placed = made.course.placed;
+      history =
+          record {
+            legal =
+                follows m cpu r made.serial (made_reply m es ds cpu r e v now made) made.course.history.legal;
+            state = refl;
+          };
+      journal =
+          rw (made_net m es ds cpu r e v now made) (made_journal m es ds cpu r e v now made (is_kept r));
+      fits = omega (arith, space, length_push m.history (record_of cpu r));
+    }
+
+-- what the fields are once the entry is kept
+pub record IsLeft (m : CourseValue) (es : List Entry) (cpu : ℕ) (r : Receipt) (e : Entry) (v : MemoryValue)
+    (now : List Delta) (b : Bool) (last : MemoryValue) (h : List Record) (left : List Entry)
+    (kept : List Delta) : Type 0 where
+  pub steps : b ≡ is_kept r
+  pub state : last.state ≡ v.state
+  pub layout : last.layout ≡ v.layout
+  pub history : h ≡ m.history ++ record_of cpu r ∷ []
+  pub entries : left ≡ (if b then es ++ e ∷ [] else es)
+  pub deltas : kept ≡ (if b then now else take e.start now)
+
+-- the fields as the step leaves them
+pub made_fields : (m : CourseValue) (es : List Entry) (ds : List Delta) (cpu : ℕ) (r : Receipt) (e : Entry)
+    (v : MemoryValue) (now : List Delta) (b : Bool) (last : MemoryValue) (h : List Record) (left : List Entry)
+    (kept : List Delta)
+    → IsMade m es ds cpu r e v now → IsLeft m es cpu r e v now b last h left kept
+    → IsCourse (value_with m.before m.base h last) left kept
+made_fields m es ds cpu r e v now b last h left kept made fields =
+    let entries : left ≡ (if is_kept r then es ++ e ∷ [] else es) =
+    fields.entries ∙ ap (λ (k : Bool). if k then es ++ e ∷ [] else es) fields.steps in
+    let deltas : kept ≡ (if is_kept r then now else take e.start now) =
+    fields.deltas ∙ ap (λ (k : Bool). if k then now else take e.start now) fields.steps in
+    let shown =
+    memory_is last m.layout (value_of m.layout m.base (m.history ++ record_of cpu r ∷ []))
+    (fields.layout ∙ made.layout) (fields.state ∙ made_shown m es ds cpu r e v now made) in
+    rw (fields.history, entries, deltas, shown) (made_course m es ds cpu r e v now made)
+
+-- the step is the answer
+pub made_answered : (m : CourseValue) (es : List Entry) (ds : List Delta) (cpu : ℕ) (r : Receipt) (e : Entry)
+    (v : MemoryValue) (now : List Delta) (b : Bool) (last : MemoryValue) (h : List Record) (left : List Entry)
+    (kept : List Delta)
+    → IsMade m es ds cpu r e v now → IsLeft m es cpu r e v now b last h left kept
+    → IsAnswered m cpu r.event r (value_with m.before m.base h last)
+made_answered m es ds cpu r e v now b last h left kept made fields =
+    let shown =
+    memory_is last m.layout (value_of m.layout m.base (m.history ++ record_of cpu r ∷ []))
+    (fields.layout ∙ made.layout) (fields.state ∙ made_shown m es ds cpu r e v now made) in
+    rw (fields.history, shown)
+    (answered m cpu r made.course.history made.serial (made_reply m es ds cpu r e v now made))
+
+-- ---- the copies of the event in the record and in the receipt
+
+-- the record with a copy of the event is the receipt's
+pub pushed : (old reserved new : List Record) (cpu : ℕ) (r : Receipt) (event : Event) → reserved ≡ old
+    → new ≡ reserved ++ record { serial = r.serial; cpu = cpu; event = event; reply = r.reply } ∷ []
+    → event ≡ r.event
+    → new ≡ old ++ record_of cpu r ∷ []
+pushed old reserved new cpu r event same is copied =
+    is
+    ∙ (ap (λ (h : List Record).
+    h ++ record { serial = r.serial; cpu = cpu; event = event; reply = r.reply } ∷ []) same
+    ∙ ap (λ (e : Event). old ++ record { serial = r.serial; cpu = cpu; event = e; reply = r.reply } ∷ [])
+    copied)
+
+-- and so is the receipt with a copy of it
+pub with_copy : (old new : CourseValue) (cpu serial : ℕ) (event copy : Event) (reply : Reply) → copy ≡ event
+    → IsAnswered old cpu event (record { serial = serial; event = event; reply = reply }) new
+    → IsAnswered old cpu event (record { serial = serial; event = copy; reply = reply }) new
+with_copy old new cpu serial event copy reply copied answered_so =
+    subst (λ (e : Event). IsAnswered old cpu event (record { serial = serial; event = e; reply = reply }) new)
+    (sym copied) answered_so

@@ -1,0 +1,159 @@
+-- The lists of the free areas and of the processors, as they are filled from an Image.
+use Rattle.std.proofs.Common.{ℕ, zero, suc, ◌≡◌, ◌+◌, ◌-◌, ◌*◌, ◌/◌, ◌%◌, ◌<◌, ◌≤◌, List, [], ◌∷◌, true, length, get_or, set, take, ◌++◌, ◌^◌, refl, sym, ◌∙◌, ap, subst, arith, inl, inr}
+use Rattle.std.proofs.lemmas.Bool.{cases_lt}
+use Rattle.std.proofs.lemmas.List.{get_or_past, get_or_read, take_more, get_or-set_same, set-set}
+use Rattle.std.proofs.lemmas.List.Sums.{get_or-le-sum_by}
+use Rattle.std.specs.Prelude.{sum_by}
+use Rattle.hp_units.specs.declared.rows.Class.{Class}
+use Rattle.hp_units.specs.declared.rows.Kind.{Kind}
+use Rattle.hp_units.specs.Arithmetic.{IsFrame, frame_count}
+use Rattle.std.proofs.lemmas.Nat.{pow_pos}
+use Rattle.hp_lemmas.proofs.Placed.{free-within, past-offline}
+use Rattle.hp_units.specs.declared.rows.Pool.{Pool}
+use Rattle.hp_units.specs.LayoutParts.{LayoutParts, IsLayout}
+use Rattle.hp_units.specs.Memory.{FreeAreas, Memory, cached_list, class_numbered, free_list, pool_index, with_free_list}
+use Rattle.hp_units.specs.FreeAreas.{is_on}
+use Rattle.hp_units.specs.Placement.{IsWellPlaced}
+use Rattle.hp_lemmas.proofs.Pools.{pool_index-lt}
+use Rattle.hp_buddy.proofs.Standing.{number_back}
+use Rattle.hp_cpus.proofs.Counts.{times, times-on}
+use Rattle.hp_images.specs.Pools.{pool_numbered}
+use Rattle.hp_images.specs.Tables.{AreCopied, ArePartly}
+use Rattle.hp_images.proofs.Tables.{copied-next}
+use Rattle.hp_images.proofs.Lists.{on-at, IsNext, next-on}
+
+-- ---- a list of many
+
+-- lists that are copied up to one are partly there
+pub copied-partly : (number : ℕ) (wanted now : List (List ℕ)) → AreCopied [] [] number wanted now
+    → ArePartly wanted now
+copied-partly number wanted now c = record {
+  size = c.size;
+  each = λ at. elim (cases_lt at number) [
+    | inl done ↦ inl (c.done at done)
+    | inr rest ↦ elim (cases_lt at (length wanted)) [
+      | inl inside ↦ inr (c.later at (omega arith) inside)
+      | inr past ↦ inr (get_or_past now at [] (omega (arith, past, c.size)))
+    ]
+  ];
+}
+
+-- the list of a number, by its class and its order
+pub areas-at : (a : FreeAreas) (n : ℕ) → free_list a (class_numbered (n % 5)) (n / 5) ≡ get_or a.lists n []
+areas-at a n = ap (λ (k : ℕ). get_or a.lists k []) (number_back n)
+
+-- one list of the free areas more
+pub areas-more : (number : ℕ) (wanted a new : FreeAreas) → number < length wanted.lists
+    → AreCopied [] [] number wanted.lists a.lists
+    → new ≡ with_free_list a (class_numbered (number % 5)) (number / 5)
+    (free_list wanted (class_numbered (number % 5)) (number / 5))
+    → AreCopied [] [] (number + 1) wanted.lists new.lists
+areas-more number wanted a new low c e =
+    copied-next [] [] number wanted.lists a.lists new.lists low c
+    (ap (λ (v : FreeAreas). v.lists) e
+    ∙ (ap (λ (k : ℕ). set a.lists k (free_list wanted (class_numbered (number % 5)) (number / 5)))
+    (number_back number) ∙ ap (λ (xs : List ℕ). set a.lists number xs) (areas-at wanted number)))
+
+-- pools by their numbers
+pool-numbered : (n : ℕ) → n < 3 → pool_index (pool_numbered n) ≡ n
+pool-numbered zero low = refl
+pool-numbered (suc zero) low = refl
+pool-numbered (suc (suc zero)) low = refl
+pool-numbered (suc (suc (suc n))) low = absurd (omega arith)
+
+pub pool_back : (n : ℕ) → 3 * (n / 3) + pool_index (pool_numbered (n % 3)) ≡ n
+pool_back n = let rest : n % 3 < 3 = omega arith in rw (pool-numbered (n % 3) rest) (omega arith)
+
+-- the list of a number, by its processor and its pool
+pub cached-at : (lists : List (List ℕ)) (n : ℕ)
+    → get_or lists (3 * (n / 3) + pool_index (pool_numbered (n % 3))) [] ≡ get_or lists n []
+cached-at lists n = ap (λ (k : ℕ). get_or lists k []) (pool_back n)
+
+pub cached-more : (number : ℕ) (wanted lists new : List (List ℕ)) → number < length wanted
+    → AreCopied [] [] number wanted lists
+    → new ≡ set lists (3 * (number / 3) + pool_index (pool_numbered (number % 3)))
+    (get_or wanted (3 * (number / 3) + pool_index (pool_numbered (number % 3))) [])
+    → AreCopied [] [] (number + 1) wanted new
+cached-more number wanted lists new low c e =
+    copied-next [] [] number wanted lists new low c
+    (e ∙ ap (λ (k : ℕ). set lists k (get_or wanted k [])) (pool_back number))
+
+-- ---- the numbers of what comes onto a list
+
+-- the next entry from the back
+pub next-of : (xs : List ℕ) (number frame : ℕ) → number < length xs
+    → frame ≡ get_or xs (length xs - 1 - number) frame → IsNext xs number (length xs - 1 - number) frame
+next-of xs number frame low is =
+    record {
+      low = low;
+      at_is = refl;
+      frame_is = get_or_read xs (length xs - 1 - number) frame (omega (arith, low)) is 0;
+    }
+
+pub area-numbers : (l k : LayoutParts) (s : Memory) (class : Class) (order number at frame : ℕ) (xs : List ℕ)
+    → IsLayout l → IsWellPlaced l s → k ≡ l → order ≤ l.order → xs ≡ free_list s.free.areas class order
+    → IsNext xs number at frame → (order ≤ k.order) × IsFrame k frame
+area-numbers l k s class order number at frame xs limits p same in_order is n =
+    let within =
+    free-within l s class order frame limits p
+    (next-on xs (free_list s.free.areas class order) number at frame is n) in
+    let some : 0 < 2 ^ order = pow_pos order in
+    let inside : frame < frame_count l = omega (arith, within, some) in
+    subst (λ (m : LayoutParts). (order ≤ m.order) × IsFrame m frame) (sym same) (in_order, inside)
+
+cached-within : (l : LayoutParts) (s : Memory) (cpu : ℕ) (pool : Pool) (frame : ℕ) → IsLayout l
+    → IsWellPlaced l s → cpu < l.cpus → is_on frame (cached_list s.free cpu pool) ≡ true
+    → frame < frame_count l
+cached-within l s cpu pool frame limits p in_cpus on = elim (cases_lt frame (frame_count l)) [
+  | inl inside ↦ inside
+  | inr past ↦
+      let place : 3 * cpu + pool_index pool < length s.free.cached =
+      omega (arith, p.in_order.shape.cached, in_cpus, pool_index-lt pool) in
+      let among =
+      get_or-le-sum_by (λ (ys : List ℕ). times frame ys) s.free.cached (3 * cpu + pool_index pool) []
+      place in
+      absurd (omega (
+        arith,
+        p.once frame,
+        past-offline l s frame limits p.in_order.shape.rows past,
+        times-on frame (cached_list s.free cpu pool) on,
+        among,
+      ))
+]
+
+pub cached-numbers : (l k : LayoutParts) (s : Memory) (cpu : ℕ) (pool : Pool) (number at frame : ℕ)
+    (xs : List ℕ)
+    → IsLayout l → IsWellPlaced l s → k ≡ l → cpu < l.cpus → xs ≡ cached_list s.free cpu pool
+    → IsNext xs number at frame → (cpu < k.cpus) × IsFrame k frame
+cached-numbers l k s cpu pool number at frame xs limits p same in_cpus is n =
+    subst (λ (m : LayoutParts). (cpu < m.cpus) × IsFrame m frame) (sym same) (
+      in_cpus,
+      cached-within l s cpu pool frame limits p in_cpus
+          (next-on xs (cached_list s.free cpu pool) number at frame is n),
+    )
+
+-- areas of the same lists and kinds
+pub same_areas : (v w : FreeAreas) → v.lists ≡ w.lists → v.kinds ≡ w.kinds → v ≡ w
+same_areas v w lists kinds =
+    ap (λ (ls : List (List ℕ)). record { lists = ls; kinds = v.kinds }) lists
+    ∙ ap (λ (ks : List Kind). record { lists = w.lists; kinds = ks }) kinds
+
+-- ---- a list that is filled from its front
+
+pub appended-more : (lists : List (List ℕ)) (n : ℕ) (xs : List ℕ) (number frame : ℕ) → n < length lists
+    → number < length xs → frame ≡ get_or xs number frame
+    → set (set lists n (take number xs)) n (get_or (set lists n (take number xs)) n [] ++ frame ∷ [])
+    ≡ set lists n (take (number + 1) xs)
+appended-more lists n xs number frame inside low is =
+    let ys = take number xs in
+    set-set lists n ys (get_or (set lists n ys) n [] ++ frame ∷ [])
+    ∙ ap (λ (zs : List ℕ). set lists n zs)
+    (ap (λ (zs : List ℕ). zs ++ frame ∷ []) (get_or-set_same lists n ys [] inside)
+    ∙ (ap (λ (f : ℕ). ys ++ f ∷ []) (get_or_read xs number frame low is 0) ∙ sym (take_more xs number 0 low)))
+
+-- an entry of a list is on it
+pub item-on : (xs ys : List ℕ) (number frame : ℕ) → xs ≡ ys → number < length xs
+    → frame ≡ get_or xs number frame → is_on frame ys ≡ true
+item-on xs ys number frame same low is =
+    subst (λ (f : ℕ). is_on f ys ≡ true) (sym (get_or_read xs number frame low is 0))
+    (subst (λ (zs : List ℕ). is_on (get_or xs number 0) zs ≡ true) same (on-at xs number low))

@@ -1,0 +1,40 @@
+-- What a table that keeps lists shows, and a new table, which keeps empty ones.
+use Rattle.std.proofs.Common.{ℕ, zero, suc, ◌≡◌, ◌<◌, ◌+◌, ◌-◌, inl, inr, List, [], ◌∷◌, length, get_or, replicate, sym, ◌∙◌, ap, subst, arith}
+use Rattle.std.proofs.lemmas.List.{get_or-replicate, get_or_past, length-replicate}
+use Rattle.std.proofs.lemmas.Bool.{cases_lt}
+use Rattle.hp_links.specs.Rings.{Table, IsAlone, Member, Linked, Keeps, shown}
+use Rattle.hp_links.proofs.Linking.{lists_are, Linked-empty}
+
+-- a table that keeps these lists shows them
+pub keeps : (frames : ℕ) (t : Table) (lens : List ℕ) (lists : List (List ℕ)) → Linked frames t lens lists
+    → Keeps frames t lens
+keeps frames t lens lists k =
+    subst (λ (ls : List (List ℕ)). Linked frames t lens ls) (sym (lists_are frames t lens lists k)) k
+
+pub shows : (frames : ℕ) (t : Table) (lens : List ℕ) (lists : List (List ℕ)) → Linked frames t lens lists
+    → shown frames t lens ≡ record { frame_count = frames; lists = lists }
+shows frames t lens lists k =
+    ap (λ (ls : List (List ℕ)). record { frame_count = frames; lists = ls }) (lists_are frames t lens lists k)
+
+-- a frame is on a list only where there is such a list
+pub listed_in : (ls : List (List ℕ)) (l x : ℕ) → Member x (get_or ls l []) → l < length ls
+listed_in [] l x m = absurd m
+listed_in (xs ∷ ls) zero x m = omega arith
+listed_in (xs ∷ ls) (suc l) x m = let lt = listed_in ls l x m in omega (arith, lt)
+
+get_or-replicate_same : {X : Type 0} (n i : ℕ) (d : X) → get_or (replicate n d) i d ≡ d
+get_or-replicate_same n i d =
+    elim (cases_lt i n) [
+      | inl lt ↦ get_or-replicate n i d d lt
+      | inr le ↦ get_or_past (replicate n d) i d (omega (arith, length-replicate n d, le))
+    ]
+
+-- a new table keeps empty lists
+pub Linked-new : (frames lists : ℕ) (t : Table) (lens : List ℕ) → IsAlone t (frames + lists)
+    → lens ≡ replicate lists 0 → Linked frames t lens (replicate lists [])
+Linked-new frames lists t lens alone e =
+    let n : length lens ≡ lists = ap length e ∙ length-replicate lists 0 in
+    Linked-empty frames t lens (replicate lists []) (length-replicate lists [] ∙ sym n)
+    (λ l. get_or-replicate_same lists l [])
+    (λ l. ap (λ (ns : List ℕ). get_or ns l 0) e ∙ get_or-replicate_same lists l 0)
+    (subst (λ (m : ℕ). IsAlone t (frames + m)) (sym n) alone)

@@ -1,0 +1,198 @@
+-- A write of a word: what the call changes and notes is what the rule says.
+use Rattle.std.proofs.Common.{◌≡◌, ℕ, ◌<◌, ◌+◌, Bool, true, false, List, [], ◌∷◌, ◌++◌, length, get_or, set, replicate, Option, Some, None, refl, sym, ap, ◌∙◌, subst, inl, inr, arith}
+use Rattle.std.specs.Prelude.{IfSome, option_map, slice_get, slice_index, unwrap_or}
+use Rattle.std.proofs.lemmas.Bool.{cases_Bool, cases_eq}
+use Rattle.std.proofs.lemmas.List.{get_or-set_same, get_or-set_other, length-replicate, length-set, set-set, set-get_or}
+use Rattle.std.proofs.lemmas.Option.{same_Some, slice_get-get_or}
+use Rattle.hp_units.specs.LayoutParts.{LayoutParts}
+use Rattle.hp_units.specs.Arithmetic.{IsFrame}
+use Rattle.hp_units.specs.Memory.{entry_of}
+use Rattle.hp_units.specs.Pages.{fresh_words}
+use Rattle.hp_tape.specs.declared.deltas.Delta.TheVariants.{Word as WordDelta, Filled}
+use Rattle.hp_tape.specs.Deltas.{HasOneWord, PageFrames, buffer_for, buffer_of, is_blank, with_buffer}
+use Rattle.hp_tape.specs.Tapes.{TapeValue, NotesPages}
+use Rattle.hp_pages.specs.Pages.{ArePageFramesOf, AreSettled, IsNeeded, words_in, write_at}
+use Rattle.hp_pages.specs.Places.{held, holders}
+use Rattle.hp_pages.proofs.Blanks.{none-needed, some-needed, set-some, set-zero, zeros-blank}
+use Rattle.hp_pages.proofs.Places.{holds_some}
+use Rattle.hp_lemmas.proofs.Tables.{get_set}
+use Rattle.hp_pages.proofs.PageParts.{AreSized, noted_one, same_frames}
+use Rattle.hp_pages.proofs.PageCalls.{needed_at, kept-none}
+
+-- ---- write
+
+-- what the first word that is not 0 does, and notes
+pub written-fill : (l : LayoutParts) (v : PageFrames) (frame index value : ℕ) → index < l.words
+    → buffer_of v frame ≡ None → (value ≡ 0 → ⊥)
+    → with_buffer v frame (Some (set (fresh_words l) index value)) ≡ write_at l v frame index value
+written-fill l v frame index value in_words none some =
+    let fresh = replicate l.words 0 in
+    sym (ap (λ (b : Option (List ℕ)). with_buffer v frame (buffer_for (set (unwrap_or b fresh) index value)))
+    none
+    ∙ ap (λ (b : Option (List ℕ)). with_buffer v frame b)
+    (some-needed (set fresh index value) (set-some fresh index value
+    (let size = length-replicate {A = ℕ} l.words 0 in omega (arith, size, in_words)) some)))
+
+pub notes-fill : (l : LayoutParts) (v : PageFrames) (frame index value : ℕ) (was now : TapeValue)
+    → AreSized l v
+    → IsFrame l frame → index < l.words → buffer_of v frame ≡ None
+    → now.room ≡ was.room → now.deltas ≡ was.deltas ++ Filled frame index value ∷ []
+    → NotesPages l 1 was now (with_buffer v frame (Some (set (fresh_words l) index value))) v
+notes-fill l v frame index value was now are in_frames in_words none room noted =
+    let within : frame < length v.buffers = omega (arith, are.frames, in_frames) in
+    let words = set (fresh_words l) index value in
+    let size : length words ≡ l.words =
+    length-set (fresh_words l) index value ∙ length-replicate {A = ℕ} l.words 0 in
+    record {
+      deltas = Filled frame index value ∷ [];
+      tape = noted_one was now _ room noted;
+      few = omega arith;
+      own = (tt, tt);
+      numbers = ((in_frames, in_words), tt);
+      lead = record {
+        fit = (
+          tt,
+          subst (HasOneWord index value) (sym (get_or-set_same v.buffers frame (Some words) None within))
+              (ap (λ (n : ℕ). set (replicate n 0) index value) (sym size)),
+        );
+        back = same_frames _ _ _ _ refl
+            (set-set v.buffers frame (Some words) None ∙ (ap (λ (b : Option (List ℕ)). set v.buffers frame b)
+            (sym none) ∙ set-get_or v.buffers frame None));
+      };
+    }
+
+-- a word that stays 0 in a frame without a buffer
+pub written-none : (l : LayoutParts) (v : PageFrames) (frame index value : ℕ) → buffer_of v frame ≡ None
+    → value ≡ 0 → v ≡ write_at l v frame index value
+written-none l v frame index value none zero =
+    let fresh = replicate l.words 0 in
+    sym (ap (λ (b : Option (List ℕ)). with_buffer v frame (buffer_for (set (unwrap_or b fresh) index value)))
+    none
+    ∙ (ap (λ (n : ℕ). with_buffer v frame (buffer_for (set fresh index n))) zero
+    ∙ (ap (λ (b : Option (List ℕ)). with_buffer v frame b)
+    (ap (λ (ws : List ℕ). buffer_for ws) (set-zero l.words index) ∙ none-needed fresh (zeros-blank l.words))
+    ∙ kept-none v frame none)))
+
+-- the last word that is not 0 becomes 0
+pub written-blank : (l : LayoutParts) (v : PageFrames) (frame index value : ℕ) (words : List ℕ)
+    → buffer_of v frame ≡ Some words → value ≡ 0
+    → is_blank (set words index 0) ≡ true → with_buffer v frame None ≡ write_at l v frame index value
+written-blank l v frame index value words there zero blank =
+    sym (ap (λ (b : Option (List ℕ)).
+    with_buffer v frame (buffer_for (set (unwrap_or b (fresh_words l)) index value))) there
+    ∙ (ap (λ (n : ℕ). with_buffer v frame (buffer_for (set words index n))) zero
+    ∙ ap (λ (b : Option (List ℕ)). with_buffer v frame b) (none-needed (set words index 0) blank)))
+
+-- any other word changes in its buffer
+pub written-word : (l : LayoutParts) (v : PageFrames) (frame index value : ℕ) (words : List ℕ)
+    → buffer_of v frame ≡ Some words
+    → is_blank (set words index value) ≡ false
+    → with_buffer v frame (option_map (λ ws. set ws index value) (buffer_of v frame))
+    ≡ write_at l v frame index value
+written-word l v frame index value words there some =
+    ap (λ (b : Option (List ℕ)). with_buffer v frame (option_map (λ ws. set ws index value) b)) there
+    ∙ sym (ap (λ (b : Option (List ℕ)).
+    with_buffer v frame (buffer_for (set (unwrap_or b (fresh_words l)) index value))) there
+    ∙ ap (λ (b : Option (List ℕ)). with_buffer v frame b) (some-needed (set words index value) some))
+
+-- some word is not 0 then
+pub left-some : (words : List ℕ) (index value : ℕ) (beside : Bool) → index < length words
+    → beside ≡ is_blank (set words index 0) → (value ≡ 0 → beside ≡ false)
+    → is_blank (set words index value) ≡ false
+left-some words index value beside within is other = elim (cases_eq value 0) [
+  | inl zero ↦ ap (λ (n : ℕ). is_blank (set words index n)) zero ∙ (sym is ∙ other zero)
+  | inr some ↦ set-some words index value within some
+]
+
+-- what changing a word in a buffer notes
+pub notes-word : (l : LayoutParts) (v : PageFrames) (frame index before value : ℕ) (words : List ℕ)
+    (was now : TapeValue)
+    → AreSized l v
+    → IsFrame l frame → index < l.words → buffer_of v frame ≡ Some words → before ≡ slice_index words index
+    → now.room ≡ was.room → now.deltas ≡ was.deltas ++ WordDelta frame index before value ∷ []
+    → NotesPages l 1 was now (with_buffer v frame (option_map (λ ws. set ws index value) (buffer_of v frame)))
+    v
+notes-word l v frame index before value words was now are in_frames in_words there read room noted =
+    let len : length words ≡ l.words =
+    subst (λ (b : Option (List ℕ)). IfSome b (λ ws. length ws ≡ l.words)) there (are.words frame) in
+    let within : frame < length v.buffers = omega (arith, are.frames, in_frames) in
+    let index_in : index < length words = omega (arith, len, in_words) in
+    let new : get_or (set v.buffers frame (option_map (λ ws. set ws index value) (buffer_of v frame))) frame
+    None ≡ Some (set words index value) =
+    get_or-set_same v.buffers frame (option_map (λ ws. set ws index value) (buffer_of v frame)) None within
+    ∙ ap (option_map (λ ws. set ws index value)) there in
+    record {
+      deltas = WordDelta frame index before value ∷ [];
+      tape = noted_one was now _ room noted;
+      few = omega arith;
+      own = (tt, tt);
+      numbers = ((in_frames, in_words), tt);
+      lead = record {
+        fit = (
+          tt,
+          ap (λ (b : Option (List ℕ)). slice_get (unwrap_or b []) index) new
+              ∙ get_set words index value index_in,
+        );
+        back = same_frames _ _ _ _ refl
+            (ap (λ (b : Option (List ℕ)). set
+            (set v.buffers frame (option_map (λ ws. set ws index value) (buffer_of v frame))) frame
+            (option_map (λ ws. set ws index before) b)) new
+            ∙ (set-set v.buffers frame _ _
+            ∙ (ap (λ (ws : List ℕ). set v.buffers frame (Some ws)) (set-set words index value before
+            ∙ (ap (λ (n : ℕ). set words index n) read ∙ set-get_or words index 0))
+            ∙ (ap (λ (b : Option (List ℕ)). set v.buffers frame b) (sym there)
+            ∙ set-get_or v.buffers frame None))));
+      };
+    }
+
+-- by what is read
+pub notes-changed : (l : LayoutParts) (v : PageFrames) (frame index before value : ℕ) (b : Option (List ℕ))
+    (was now : TapeValue)
+    → AreSized l v
+    → IsFrame l frame → index < l.words → buffer_of v frame ≡ b
+    → slice_get (unwrap_or b []) index ≡ Some before
+    → now.room ≡ was.room → now.deltas ≡ was.deltas ++ WordDelta frame index before value ∷ []
+    → NotesPages l 1 was now (with_buffer v frame (option_map (λ ws. set ws index value) (buffer_of v frame)))
+    v
+notes-changed l v frame index before value None was now are in_frames in_words there read room noted =
+    absurd cc
+notes-changed l v frame index before value (Some words) was now are in_frames in_words there read room noted =
+    let len : length words ≡ l.words =
+    subst (λ (b : Option (List ℕ)). IfSome b (λ ws. length ws ≡ l.words)) there (are.words frame) in
+    notes-word l v frame index before value words was now are in_frames in_words there
+    (same_Some before (slice_index words index)
+    (sym read ∙ slice_get-get_or words index 0 (omega (arith, len, in_words)))) room noted
+
+-- a view stays settled when a word of a page is written
+needed_for : (v : PageFrames) (frame : ℕ) (words : List ℕ) → holders v.table frame ≡ 1
+    → IfSome (buffer_for words) (IsNeeded v frame)
+needed_for v frame words one = elim (cases_Bool (is_blank words)) [
+  | inl blank ↦
+      subst (λ (b : Option (List ℕ)). IfSome b (IsNeeded v frame)) (sym (none-needed words blank)) tt
+  | inr some ↦
+      subst (λ (b : Option (List ℕ)). IfSome b (IsNeeded v frame)) (sym (some-needed words some))
+      (record { held = one; some = some })
+]
+
+pub settled-write : (l : LayoutParts) (v : PageFrames) (owner page frame index value : ℕ)
+    → ArePageFramesOf l v → AreSettled v → IsFrame l frame
+    → entry_of v.table owner page ≡ Some frame → AreSettled (write_at l v frame index value)
+settled-write l v owner page frame index value are settled in_frames mapped =
+    let within : frame < length v.buffers = omega (arith, are.frames, in_frames) in
+    let words = set (words_in l v frame) index value in
+    let new = write_at l v frame index value in
+    let one : holders v.table frame ≡ 1 =
+    omega (arith, settled.once frame, holds_some v.table owner page frame mapped) in
+    record {
+      once = settled.once;
+      buffers = λ f. elim (cases_eq frame f) [
+        | inl same ↦ subst (λ (n : ℕ). IfSome (buffer_of new n) (IsNeeded new n)) same
+            (subst (λ (b : Option (List ℕ)). IfSome b (IsNeeded new frame))
+            (sym (get_or-set_same v.buffers frame (buffer_for words) None within))
+            (needed_for new frame words one))
+        | inr other ↦
+            subst (λ (b : Option (List ℕ)). IfSome b (IsNeeded new f))
+            (sym (get_or-set_other v.buffers frame f (buffer_for words) None (λ e. other (sym e))))
+            (needed_at v new f f (buffer_of v f) (λ one. one) (settled.buffers f))
+      ];
+    }

@@ -1,0 +1,49 @@
+//! The way back: the opposites of deltas.
+ghost use Rattle.std.specs.Prelude.{◌≡◌};
+ghost use Rattle.hp_tape.specs.Deltas.{FitsPages, IsDeltaOf, pages_undo};
+ghost use Rattle.hp_pages.specs.Pages.{IsInPlace};
+
+use crate::pages::Pages;
+use hp_tape::Delta;
+
+impl Pages {
+    /// Does the opposite of a delta of the layout that fits; one of another layer changes nothing.
+    pub fn back(&mut self, delta: Delta)
+        requires fits { FitsPages delta self.old.pages }
+        requires numbers { IsDeltaOf self.old.layout delta }
+        ensures back { self.new.pages ≡ pages_undo delta self.old.pages }
+        ensures layout { self.new.layout ≡ self.old.layout }
+    {
+        match delta {
+            Delta::Emptied { frame, words } => self.buffers.put(frame, words),
+            other => self.back_in_place(&other),
+        }
+    }
+
+    /// The same, of a delta that has no buffer.
+    fn back_in_place(&mut self, delta: &Delta)
+        requires fits { FitsPages delta.now self.old.pages }
+        requires numbers { IsDeltaOf self.old.layout delta.now }
+        requires other { IsInPlace delta.now }
+        ensures back { self.new.pages ≡ pages_undo delta.now self.old.pages }
+        ensures layout { self.new.layout ≡ self.old.layout }
+    {
+        match delta {
+            Delta::Map {
+                owner,
+                page,
+                was,
+                ..
+            } => self.table.set(*owner, *page, *was),
+            Delta::Swap { a, b } => self.buffers.swap(*a, *b),
+            Delta::Word {
+                frame,
+                index,
+                was,
+                ..
+            } => self.buffers.set_word(*frame, *index, *was),
+            Delta::Filled { frame, .. } => self.buffers.clear(*frame),
+            _ => {}
+        }
+    }
+}

@@ -1,0 +1,65 @@
+//! What bytes that are written to a control file ask for, and how a fault is named.
+use hp_control::{ControlFault, Request, parse_write};
+use hp_units::{Auto, Block, Event, Item, Plan, Wish, Zone};
+use std::alloc::Global;
+use std::test::Fail;
+
+/// Whether bytes for a path ask for an event.
+fn asks(alloc: Global, path: &str, bytes: &[u8], event: &Event) -> bool {
+    match parse_write(alloc, path, bytes) {
+        Ok(Request::Event(asked)) => asked.same(event),
+        Ok(Request::Plan(_plan)) => false,
+        Err(_fault) => false,
+    }
+}
+
+/// Whether words ask for block 3 to go online, for a probe, and for what added blocks become.
+fn words_ask(alloc: Global, online: &Event, probe: &Event, auto: &Event) -> bool {
+    asks(alloc, "memory3/state", b"online\n", online)
+        && asks(alloc, "memory3/online", b"1", online)
+        && asks(alloc, "probe", b"0xffffFFFFffffFFc0\n", probe)
+        && asks(alloc, "auto_online_blocks", b"online_movable", auto)
+}
+
+#[test]
+fn words_become_events(rt: HostRuntime) {
+    let online = Event::Online {
+        block: Block(3),
+        zone: Zone::Normal,
+    };
+    let probe = Event::Probe {
+        address: 0xffff_ffff_ffff_ffc0,
+    };
+    let auto = Event::SetAuto {
+        auto: Auto::OnlineMovable,
+    };
+    assert!(rt; words_ask(rt.alloc(), &online, &probe, &auto));
+}
+
+/// Whether bytes for a path ask for a plan.
+fn asks_for_plan(alloc: Global, path: &str, bytes: &[u8], plan: &Plan) -> bool {
+    match parse_write(alloc, path, bytes) {
+        Ok(Request::Plan(asked)) => asked.same(plan),
+        Ok(Request::Event(_event)) => false,
+        Err(_fault) => false,
+    }
+}
+
+#[test]
+fn offline_becomes_a_plan(rt: HostRuntime) -> Result<(), Fail> {
+    let item = Item {
+        block: Block(4294967295),
+        wish: Wish::Off,
+    };
+    let plan = Plan::new(vec![in rt.alloc(); item]?);
+    assert!(rt; asks_for_plan(rt.alloc(), "memory4294967295/state", b"offline", &plan));
+    Ok(())
+}
+
+#[test]
+fn faults_have_names(rt: HostRuntime) -> Result<(), Fail> {
+    let fault = ControlFault::WriteOnly;
+    let text = format!(in rt.alloc(); "echo: fault {fault}")?;
+    assert_eq!(rt; text.as_str(), "echo: fault WriteOnly");
+    Ok(())
+}
