@@ -183,13 +183,13 @@ fn first_calls(alloc: Global, generator: &Generator, count: usize) -> Result<(Ve
 }
 
 /// Makes calls on a machine, and answers the checksum of their replies, after one of earlier
-/// replies. Each reply is read where the call left it, as in the peer: a receipt that is handed on
+/// replies. Each reply is read where the call left it, as in the peer: an answer that is handed on
 /// as a `Result` of anyhow's is copied with room for an error.
 fn make_calls(alloc: Global, machine: &mut Machine, calls: &[Call], sum: u64) -> Result<u64> {
     let mut sum = sum;
     for call in calls {
-        match machine.call(alloc, call.cpu, &call.event) {
-            Ok(receipt) => sum = mix(sum, &receipt.reply),
+        match machine.answer(alloc, call.cpu, &call.event) {
+            Ok((_, reply)) => sum = mix(sum, &reply),
             Err(_fault) => return Err(no_record()),
         }
     }

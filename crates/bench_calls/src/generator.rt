@@ -8,8 +8,8 @@ use crate::random::{Random, count_of};
 use anyhow::{Error, Result, anyhow};
 use hp_machine::Machine;
 use hp_units::{
-    Block, Boot, Class, Cpu, Event, Frame, Layout, Order, Owner, Page, Plan, Receipt, Record,
-    Reply, Serial, State, Wish, Zone,
+    Block, Boot, Class, Cpu, Event, Frame, Layout, Order, Owner, Page, Plan, Record, Reply, Serial,
+    State, Wish, Zone,
 };
 use std::alloc::{AllocError, Global};
 
@@ -94,7 +94,9 @@ impl Generator {
                 page,
                 index: 0,
             };
-            let _refused = called(alloc, &mut self.machine, Cpu(0), &event)?;
+            if self.machine.answer(alloc, Cpu(0), &event).is_err() {
+                return Err(no_record());
+            }
         }
         Ok(())
     }
@@ -106,9 +108,10 @@ impl Generator {
 
     /// Makes one call, and learns from its reply.
     fn make(&mut self, alloc: Global, cpu: Cpu, event: &Event) -> Result<()> {
-        let receipt = called(alloc, &mut self.machine, cpu, event)?;
-        self.learn(alloc, event, receipt.serial, &receipt.reply)?;
-        Ok(())
+        match self.machine.answer(alloc, cpu, event) {
+            Ok((serial, reply)) => Ok(self.learn(alloc, event, serial, &reply)?),
+            Err(_fault) => Err(no_record()),
+        }
     }
 
     /// What was done to blocks and pages is known from now on.
@@ -344,14 +347,6 @@ impl Generator {
             Some(row) => row.state == State::Offline,
             None => false,
         }
-    }
-}
-
-/// The receipt of a call; a call that leaves no record is an error.
-fn called(alloc: Global, machine: &mut Machine, cpu: Cpu, event: &Event) -> Result<Receipt> {
-    match machine.call(alloc, cpu, event) {
-        Ok(receipt) => Ok(receipt),
-        Err(_fault) => Err(no_record()),
     }
 }
 

@@ -49,5 +49,5 @@ pub fn wish_of(zone: Zone) -> Wish {
 /// The plan of one item.
 pub fn plan_of(alloc: Global, block: Block, wish: Wish) -> Result<Plan, AllocError> {
     let items = vec![in alloc; Item { block, wish }]?;
-    Ok(Plan::new(items))
+    Plan::new(alloc, items)
 }

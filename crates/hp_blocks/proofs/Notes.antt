@@ -9,6 +9,7 @@ use Rattle.hp_units.specs.declared.rows.Row.{Row}
 use Rattle.hp_units.specs.declared.rows.Auto.{Auto}
 use Rattle.hp_tape.specs.declared.deltas.Delta.{Delta}
 use Rattle.hp_tape.specs.declared.deltas.Delta.TheVariants.{Row as RowDelta, Auto as AutoDelta}
+use Rattle.hp_tape.specs.RowChanges.{RowChangeValue}
 use Rattle.hp_tape.specs.Tapes.{TapeValue, NotesBlocks}
 use Rattle.hp_lemmas.proofs.Tables.{get_set}
 
@@ -20,13 +21,17 @@ seen_as was now deltas room noted =
     ap (λ (r : ℕ). record now { room = r }) room
     ∙ ap (λ (ds : List Delta). record { room = was.room; deltas = ds }) noted
 
+-- a row before it is set, and after
+abbrev pub change_of : (block : ℕ) → (before after : Row) → RowChangeValue
+change_of block before after = record { block = block; before = before; after = after }
+
 -- a row was set
 pub notes-row : (l : LayoutParts) (bs : Blocks) (block : ℕ) (row : Row) (was now : TapeValue)
     → AreBlocksOf l bs → block < l.blocks
-    → now.room ≡ was.room → now.deltas ≡ was.deltas ++ RowDelta block (row_of bs block) row ∷ []
+    → now.room ≡ was.room → now.deltas ≡ was.deltas ++ RowDelta (change_of block (row_of bs block) row) ∷ []
     → NotesBlocks l 1 was now (with_row bs block row) bs
 notes-row l bs block row was now are lt room noted = record {
-  deltas = RowDelta block (row_of bs block) row ∷ [];
+  deltas = RowDelta (change_of block (row_of bs block) row) ∷ [];
   tape = seen_as was now _ room noted;
   few = omega arith;
   own = (tt, tt);

@@ -7,7 +7,7 @@ ghost use Rattle.hp_units.specs.Rows.{claimed_row, is_live};
 ghost use Rattle.hp_tape.specs.Deltas.{FitsBlocks, IsDeltaOf, blocks_undo};
 ghost use Rattle.hp_tape.specs.Tapes.{HasRoom, NotesBlocks};
 
-use hp_tape::{Delta, PackedRow, Tape};
+use hp_tape::{Delta, RowChange, Tape};
 use hp_units::{Auto, Block, Layout, Row, Serial, State, Wish};
 use std::alloc::{AllocError, Global};
 use std::marker::Model;
@@ -34,15 +34,14 @@ impl Drop for Blocks {
 }
 
 impl Model for Blocks {
-    ghost use Rattle.hp_units.specs.InLayout.{AreBlocksOf};
-    ghost use Rattle.hp_blocks.specs.Blocks.{BlocksValue};
+    ghost use Rattle.hp_blocks.specs.Blocks.{AreLayerOf, BlocksValue};
 
     ghost Value = { BlocksValue };
 
     ghost view = { λ b.
         record { layout = b.layout; blocks = record { rows = b.rows.items; auto = b.auto } } };
 
-    ghost invariant = { λ b. AreBlocksOf b.layout (record { rows = b.rows.items; auto = b.auto }) };
+    ghost invariant = { λ b. AreLayerOf b.layout (record { rows = b.rows.items; auto = b.auto }) };
 }
 
 impl Blocks {
@@ -95,10 +94,9 @@ impl Blocks {
         ensures layout { self.new.layout ≡ self.old.layout }
         ensures notes { NotesBlocks self.old.layout 1 tape.old tape.new self.new.blocks self.old.blocks }
     {
-        let was = PackedRow::new(self.row(block));
         let stored = row; // a copy, since the row is packed too
-        let now = PackedRow::new(row);
-        tape.note(Delta::Row { block, was, now });
+        let change = RowChange::new(block, self.row(block), row);
+        tape.note(Delta::Row(change));
         self.rows[block.0 as usize] = stored;
     }
 
@@ -136,7 +134,7 @@ impl Blocks {
         ensures layout { self.new.layout ≡ self.old.layout }
     {
         match &delta {
-            Delta::Row { block, was, .. } => self.rows[block.0 as usize] = was.row(),
+            Delta::Row(change) => self.rows[change.block().0 as usize] = change.before(),
             Delta::Auto { was, .. } => self.auto = *was,
             _ => {}
         }

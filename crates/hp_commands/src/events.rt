@@ -4,11 +4,11 @@ ghost use Rattle.hp_commands.specs.Events.{WritesEvent};
 ghost use Rattle.hp_commands.specs.Serial.{GrowsBy};
 
 use hp_machine::Machine;
-use hp_text::{write_receipt, write_unrecorded};
+use hp_text::{write_answer, write_unrecorded};
 use hp_units::{CallFault, Cpu, Event};
 use std::alloc::{AllocError, Global};
 
-/// Calls the machine with an event, and writes the receipt or why there is none.
+/// Calls the machine with an event, and writes the answer or why there is none.
 #[tactic(auto, unfolding(crate::specs::Events::event_text, crate::specs::Events::machine_after_event))]
 pub fn write_event(
     out: &mut String,
@@ -20,8 +20,8 @@ pub fn write_event(
     ensures { OnOk result (GrowsBy (string_bytes out.old) (string_bytes out.new)
         (λ text. WritesEvent machine.old cpu event.now text machine.new)) }
 {
-    match machine.call(alloc, cpu, event) {
-        Ok(receipt) => write_receipt(out, &receipt),
+    match machine.answer(alloc, cpu, event) {
+        Ok((serial, reply)) => write_answer(out, serial, reply),
         Err(CallFault::HistoryFull) => write_unrecorded(out, CallFault::HistoryFull),
         Err(CallFault::OutOfMemory) => write_unrecorded(out, CallFault::OutOfMemory),
     }

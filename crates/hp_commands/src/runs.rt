@@ -8,6 +8,7 @@ ghost use Rattle.hp_commands.specs.Runs.{IsRunOf, IsRunTextOf, IsWorkedOff, line
 ghost use Rattle.hp_commands.specs.declared.commands.Command.TheVariants.{Run};
 
 use crate::fault::ProgramFault;
+use crate::serial::boot;
 use hp_machine::Machine;
 use hp_scenario::{Scenario, Script};
 use hp_shared::{Closed, Job, Shared, close};
@@ -56,7 +57,7 @@ pub fn work_off<R: Threads + Wait + Sync>(
     ensures err { IfErr result (IsFaultOf Run (Some input.now) ⊥ ⊥) }
 {
     let scenario = Scenario::read(alloc, input)?;
-    let machine = Machine::boot(alloc, &scenario.layout)?;
+    let machine = boot(alloc, &scenario.layout, scenario.lines.as_slice().len())?;
     let blank = Blank::new(scenario.layout.cpus() as u64);
     let scripts = scenario.scripts(alloc)?;
     run_scripts::<Brand, R>(rt, alloc, blank, machine, scripts)

@@ -1,5 +1,6 @@
 //! The text of a scenario.
 ghost use Rattle.std.specs.Prelude.{◌≡◌, [], OnOk, IfOk, IfErr, string_bytes};
+ghost use Rattle.hp_machine.specs.Machine.{booted};
 ghost use Rattle.hp_scenario.specs.Gives.{Fails, Gives};
 ghost use Rattle.hp_scenario.specs.Scenario.{scenario_in};
 ghost use Rattle.hp_scenario.specs.Seen.{scenario_seen};
@@ -13,6 +14,7 @@ use crate::seals::write_seal;
 use hp_machine::Machine;
 use hp_scenario::{Line, Scenario, ScenarioFault, Work};
 use hp_text::write_state;
+use hp_units::Layout;
 use std::alloc::{AllocError, Global};
 
 /// The text of a scenario: what each line writes, and then the state. It takes the input, which is
@@ -22,13 +24,23 @@ pub fn serial(alloc: Global, input: Vec<u8>) -> Result<String, ScenarioFault>
     ensures err { IfErr result (λ fault. Fails fault (serial_text input.items)) }
 {
     let scenario = read_scenario(alloc, input)?;
-    let mut machine = Machine::boot(alloc, &scenario.layout)?;
     let lines = scenario.lines.as_slice();
+    let mut machine = boot(alloc, &scenario.layout, lines.len())?;
     let mut out = room_for(alloc, lines.len())?;
     write_lines(&mut out, alloc, &mut machine, lines)?;
     let image = machine.image(alloc)?;
     write_state(&mut out, alloc, &image, &scenario.names)?;
     Ok(out)
+}
+
+/// The machine of a layout at its start, with room for so many records where it can be had: without it they
+/// find theirs as they come. An error is out of memory.
+pub(crate) fn boot(alloc: Global, layout: &Layout, records: usize) -> Result<Machine, AllocError>
+    ensures { IfOk result (λ machine. machine ≡ booted layout.now) }
+{
+    let mut machine = Machine::boot(alloc, layout)?;
+    let _ = machine.reserve(records);
+    Ok(machine)
 }
 
 /// The scenario that the input is, which is dropped.

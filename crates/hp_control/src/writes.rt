@@ -149,7 +149,8 @@ fn offline(alloc: Global, block: Block) -> Result<Request, AllocError>
         wish: Wish::Off,
     };
     let items = vec![in alloc; item]?;
-    Ok(Request::Plan(Plan::new(items)))
+    let plan = Plan::new(alloc, items)?;
+    Ok(Request::Plan(plan))
 }
 
 /// What a block that is added becomes, by the word for it.

@@ -24,7 +24,7 @@ use Rattle.hp_cpus.proofs.Edits.{Seen, cpus_of, number, unlink-cached}
 -- a delta that fits says that its frame is on its list
 pub linked-on : (v : CpusValue) (areas : FreeAreas) (delta : Delta) (list : ListId) (cpu : ℕ) (pool : Pool)
     (f : ℕ) (after : Option ℕ)
-    → delta ≡ Link list f after → list ≡ CpuList cpu pool
+    → delta ≡ Link list f after → list ≡ CpuList pool cpu
     → FitsCached delta (frames_of areas v) → is_on f (list_of v cpu pool) ≡ true
 linked-on v areas delta list cpu pool f after is list_is fits =
     behind-on after f (list_of v cpu pool) (subst (λ (d : Delta). FitsCached d (frames_of areas v))
@@ -33,7 +33,7 @@ linked-on v areas delta list cpu pool f after is list_is fits =
 -- and its number is in the layout
 linked-in : (l : LayoutParts) (delta : Delta) (list : ListId) (cpu : ℕ) (pool : Pool) (f : ℕ)
     (after : Option ℕ)
-    → delta ≡ Link list f after → list ≡ CpuList cpu pool
+    → delta ≡ Link list f after → list ≡ CpuList pool cpu
     → IsDeltaOf l delta → cpu < l.cpus
 linked-in l delta list cpu pool f after is list_is numbers =
     (subst (λ (d : Delta). IsDeltaOf l d) (is ∙ ap (λ (k : ListId). Link k f after) list_is) numbers).0
@@ -41,7 +41,7 @@ linked-in l delta list cpu pool f after is list_is numbers =
 -- it leaves the list
 pub link-undone : (v : CpusValue) (l : LayoutParts) (links new : LinkedLists) (delta : Delta) (list : ListId)
     (cpu : ℕ) (pool : Pool) (f : ℕ) (after before : Option ℕ) (given : FreeAreas)
-    → Seen v l links → delta ≡ Link list f after → list ≡ CpuList cpu pool
+    → Seen v l links → delta ≡ Link list f after → list ≡ CpuList pool cpu
     → FitsCached delta (frames_of given v) → IsDeltaOf v.layout delta → IsUnlinked links new f before
     → (areas : FreeAreas) → frames_of areas (cpus_of l new) ≡ cached_undo delta (frames_of areas v)
 link-undone v l links new delta list cpu pool f after before given s is list_is fits numbers u areas =
@@ -60,12 +60,12 @@ link-undone v l links new delta list cpu pool f after before given s is list_is 
 -- what it is put after is on the list
 pub unlinked-after : (v : CpusValue) (l : LayoutParts) (links : LinkedLists) (delta : Delta) (list : ListId)
     (cpu : ℕ) (pool : Pool) (f n : ℕ) (after : Option ℕ) (given : FreeAreas)
-    → Seen v l links → delta ≡ Unlink list f after → list ≡ CpuList cpu pool
+    → Seen v l links → delta ≡ Unlink list f after → list ≡ CpuList pool cpu
     → FitsCached delta (frames_of given v) → n ≡ 3 * cpu + pool_index pool
     → ForSome after (λ a. IsOn links n a)
 unlinked-after v l links delta list cpu pool f n after given s is list_is fits place a e =
     let xs : List ℕ = get_or links.lists (number cpu pool) [] in
-    let fit : FitsCached (Unlink (CpuList cpu pool) f after) (frames_of given (cpus_of l links)) =
+    let fit : FitsCached (Unlink (CpuList pool cpu) f after) (frames_of given (cpus_of l links)) =
     subst (λ (d : Delta). FitsCached d (frames_of given (cpus_of l links)))
     (is ∙ ap (λ (k : ListId). Unlink k f after) list_is)
     (subst (λ (w : CpusValue). FitsCached delta (frames_of given w)) (sym s.is) fits) in
@@ -77,7 +77,7 @@ unlinked-after v l links delta list cpu pool f n after given s is list_is fits p
 -- it comes back
 pub unlink-undone : (v : CpusValue) (l : LayoutParts) (links new : LinkedLists) (delta : Delta)
     (list : ListId) (cpu : ℕ) (pool : Pool) (f n : ℕ) (after : Option ℕ)
-    → Seen v l links → delta ≡ Unlink list f after → list ≡ CpuList cpu pool → n ≡ 3 * cpu + pool_index pool
+    → Seen v l links → delta ≡ Unlink list f after → list ≡ CpuList pool cpu → n ≡ 3 * cpu + pool_index pool
     → new ≡ with_list links n (with_behind after f (list_at links n)) → (areas : FreeAreas)
     → frames_of areas (cpus_of l new) ≡ cached_undo delta (frames_of areas v)
 unlink-undone v l links new delta list cpu pool f n after s is list_is place relinked areas =

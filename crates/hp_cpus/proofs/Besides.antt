@@ -20,33 +20,33 @@ beside cached a = record { areas = a; cached = cached }
 undo-beside : (d : Delta) (cached : List (List ℕ)) (a : FreeAreas) → IsOfAreas d
     → free_undo d (beside cached a) ≡ beside cached (areas_undo d a)
 undo-beside (Link (Area class order) frame after) cached a own = refl
-undo-beside (Link (Cpu cpu pool) frame after) cached a own = absurd own
+undo-beside (Link (Cpu pool cpu) frame after) cached a own = absurd own
 undo-beside (Unlink (Area class order) frame after) cached a own = refl
-undo-beside (Unlink (Cpu cpu pool) frame after) cached a own = absurd own
+undo-beside (Unlink (Cpu pool cpu) frame after) cached a own = absurd own
 undo-beside (KindDelta pageblock was now) cached a own = refl
 undo-beside (KernelDelta frame was now) cached a own = absurd own
-undo-beside (MapDelta owner page was now) cached a own = absurd own
+undo-beside (MapDelta owner page change) cached a own = absurd own
 undo-beside (Swap one other) cached a own = absurd own
-undo-beside (WordDelta frame index was now) cached a own = absurd own
+undo-beside (WordDelta index frame was now) cached a own = absurd own
 undo-beside (Filled frame index now) cached a own = absurd own
 undo-beside (Emptied frame words) cached a own = absurd own
-undo-beside (RowDelta block was now) cached a own = absurd own
+undo-beside (RowDelta change) cached a own = absurd own
 undo-beside (AutoDelta was now) cached a own = absurd own
 
 fits-beside : (d : Delta) (cached : List (List ℕ)) (a : FreeAreas) → IsOfAreas d → FitsAreas d a
     → FitsFree d (beside cached a)
 fits-beside (Link (Area class order) frame after) cached a own h = (h, tt)
-fits-beside (Link (Cpu cpu pool) frame after) cached a own h = absurd own
+fits-beside (Link (Cpu pool cpu) frame after) cached a own h = absurd own
 fits-beside (Unlink (Area class order) frame after) cached a own h = (h, tt)
-fits-beside (Unlink (Cpu cpu pool) frame after) cached a own h = absurd own
+fits-beside (Unlink (Cpu pool cpu) frame after) cached a own h = absurd own
 fits-beside (KindDelta pageblock was now) cached a own h = (h, tt)
 fits-beside (KernelDelta frame was now) cached a own h = absurd own
-fits-beside (MapDelta owner page was now) cached a own h = absurd own
+fits-beside (MapDelta owner page change) cached a own h = absurd own
 fits-beside (Swap one other) cached a own h = absurd own
-fits-beside (WordDelta frame index was now) cached a own h = absurd own
+fits-beside (WordDelta index frame was now) cached a own h = absurd own
 fits-beside (Filled frame index now) cached a own h = absurd own
 fits-beside (Emptied frame words) cached a own h = absurd own
-fits-beside (RowDelta block was now) cached a own h = absurd own
+fits-beside (RowDelta change) cached a own h = absurd own
 fits-beside (AutoDelta was now) cached a own h = absurd own
 
 own-beside : (d : Delta) → IsOfAreas d → IsOfFree d
@@ -54,12 +54,12 @@ own-beside (Link list frame after) own = tt
 own-beside (Unlink list frame after) own = tt
 own-beside (KindDelta pageblock was now) own = tt
 own-beside (KernelDelta frame was now) own = own
-own-beside (MapDelta owner page was now) own = own
+own-beside (MapDelta owner page change) own = own
 own-beside (Swap one other) own = own
-own-beside (WordDelta frame index was now) own = own
+own-beside (WordDelta index frame was now) own = own
 own-beside (Filled frame index now) own = own
 own-beside (Emptied frame words) own = own
-own-beside (RowDelta block was now) own = own
+own-beside (RowDelta change) own = own
 own-beside (AutoDelta was now) own = own
 
 -- ---- all of them

@@ -88,7 +88,7 @@ pub unlink-notes : (l : LayoutParts) (links new : LinkedLists) (cpu : ℕ) (pool
     (after : Option ℕ) (was now : TapeValue) (delta : Delta)
     → cpu < l.cpus → f < frame_count l
     → is_on f (list_of (cpus_of l links) cpu pool) ≡ true → IsUnlinked links new f after
-    → now.room ≡ was.room → now.deltas ≡ was.deltas ++ delta ∷ [] → delta ≡ Unlink (CpuList cpu pool) f after
+    → now.room ≡ was.room → now.deltas ≡ was.deltas ++ delta ∷ [] → delta ≡ Unlink (CpuList pool cpu) f after
     → (areas : FreeAreas)
     → NotesFree l 1 was now (frames_of areas (cpus_of l new)) (frames_of areas (cpus_of l links))
 unlink-notes l links new cpu pool f after was now delta low frame on u room noted is areas =
@@ -99,7 +99,7 @@ unlink-notes l links new cpu pool f after was now delta low frame on u room note
     off_all f new.lists (λ k. off_list new f k u.free) in
     let behind : option_map_or (λ first. is_on first xs) after true ≡ true =
     after-on after xs (λ b e. contains_on b xs (u.before_on n there b e)) in
-    notes-one l (Unlink (CpuList cpu pool) f after) was now (frames_of areas (cpus_of l new))
+    notes-one l (Unlink (CpuList pool cpu) f after) was now (frames_of areas (cpus_of l new))
     (frames_of areas (cpus_of l links)) room (noted ∙ ap (λ (d : Delta). was.deltas ++ d ∷ []) is)
     tt (low, frame) (
       tt,
@@ -119,7 +119,7 @@ pub seen-unlink : (v : CpusValue) (l : LayoutParts) (links new : LinkedLists) (c
     → Seen v l links
     → cpu < v.layout.cpus → f < frame_count v.layout → is_on f (list_of v cpu pool) ≡ true
     → IsUnlinked links new f after
-    → now.room ≡ was.room → now.deltas ≡ was.deltas ++ delta ∷ [] → delta ≡ Unlink (CpuList cpu pool) f after
+    → now.room ≡ was.room → now.deltas ≡ was.deltas ++ delta ∷ [] → delta ≡ Unlink (CpuList pool cpu) f after
     → UnlinkSeen v (cpus_of l new) cpu pool f was now
 seen-unlink v l links new cpu pool f after was now delta s low frame on u room noted is =
     subst (λ (w : CpusValue). cpu < w.layout.cpus → f < frame_count w.layout
@@ -136,7 +136,7 @@ link-notes : (l : LayoutParts) (links : LinkedLists) (cpu : ℕ) (pool : Pool) (
     (after : Option ℕ) (was now : TapeValue) (delta : Delta)
     → IsCpusOf l links → cpu < l.cpus → f < frame_count l → is_behind after f frames ≡ true
     → without f frames ≡ list_of (cpus_of l links) cpu pool
-    → now.room ≡ was.room → now.deltas ≡ was.deltas ++ delta ∷ [] → delta ≡ Link (CpuList cpu pool) f after
+    → now.room ≡ was.room → now.deltas ≡ was.deltas ++ delta ∷ [] → delta ≡ Link (CpuList pool cpu) f after
     → (areas : FreeAreas)
     → NotesFree l 1 was now (frames_of areas (with_list_of (cpus_of l links) cpu pool frames))
     (frames_of areas (cpus_of l links))
@@ -145,7 +145,7 @@ link-notes l links cpu pool f frames after was now delta kept low frame behind l
     let xs : List ℕ = get_or links.lists n [] in
     let here : get_or (set links.lists n frames) n [] ≡ frames =
     get_or-set_same links.lists n frames [] (number_in l links cpu pool kept low) in
-    notes-one l (Link (CpuList cpu pool) f after) was now (frames_of areas
+    notes-one l (Link (CpuList pool cpu) f after) was now (frames_of areas
     (with_list_of (cpus_of l links) cpu pool frames)) (frames_of areas (cpus_of l links)) room
     (noted ∙ ap (λ (d : Delta). was.deltas ++ d ∷ []) is)
     tt (low, frame)
@@ -180,7 +180,7 @@ pub seen-front : (v : CpusValue) (l : LayoutParts) (links new : LinkedLists) (cp
     → Seen v l links
     → cpu < v.layout.cpus → f < frame_count v.layout → is_on f (list_of v cpu pool) ≡ false
     → n ≡ 3 * cpu + pool_index pool → new ≡ with_list links n (f ∷ list_at links n)
-    → now.room ≡ was.room → now.deltas ≡ was.deltas ++ delta ∷ [] → delta ≡ Link (CpuList cpu pool) f None
+    → now.room ≡ was.room → now.deltas ≡ was.deltas ++ delta ∷ [] → delta ≡ Link (CpuList pool cpu) f None
     → LinkSeen v (cpus_of l new) cpu pool (f ∷ list_of v cpu pool) was now
 seen-front v l links new cpu pool f n was now delta s low frame off place pushed room noted is =
     subst (λ (w : CpusValue). cpu < w.layout.cpus → f < frame_count w.layout → is_on f (list_of w cpu pool)
@@ -201,7 +201,7 @@ pub seen-back : (v : CpusValue) (l : LayoutParts) (links new : LinkedLists) (cpu
     → AreDistinct (list_of v cpu pool)
     → m ≡ 3 * cpu + pool_index pool → after ≡ last (list_at links m)
     → n ≡ 3 * cpu + pool_index pool → new ≡ with_list links n (list_at links n ++ f ∷ [])
-    → now.room ≡ was.room → now.deltas ≡ was.deltas ++ delta ∷ [] → delta ≡ Link (CpuList cpu pool) f after
+    → now.room ≡ was.room → now.deltas ≡ was.deltas ++ delta ∷ [] → delta ≡ Link (CpuList pool cpu) f after
     → LinkSeen v (cpus_of l new) cpu pool (list_of v cpu pool ++ f ∷ []) was now
 seen-back v l links new cpu pool f n m after was now delta s low frame off apart found after_is place pushed
     room noted is =

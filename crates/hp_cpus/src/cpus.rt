@@ -210,7 +210,7 @@ impl Cpus {
                 }
             }
             Delta::Unlink { list, frame, after } => {
-                if let ListId::Cpu { cpu, pool } = list {
+                if let ListId::Cpu { pool, cpu } = list {
                     self.links
                         .relink_after(list_number(*cpu, *pool), *frame, *after);
                 }

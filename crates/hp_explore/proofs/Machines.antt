@@ -85,7 +85,7 @@ further g m n cpu event a here asked free call = record {
     place = ap schedule_of news ∙ map-append (λ (r : Record). r.cpu) (news_in g m) (record_of cpu a ∷ [])
 
 -- a call that was answered found room
-pub had_room : {E : Type 0} (m : MachineValue) (result : Result Receipt E) (fault : E) (a : Receipt)
+pub had_room : {A E : Type 0} (m : MachineValue) (result : Result A E) (fault : E) (a : A)
     → result ≡ Ok a → (IsTrue (is_full m) → result ≡ Err fault) → is_full m ≡ false
 had_room m result fault a ok full = by_test (is_full m) refl
   where

@@ -83,7 +83,7 @@ fn child(
     match scripts[cpu as usize].next_event(alloc, machine.layout().cpus(), Cpu(cpu), news)? {
         Some(event) => {
             let mut next = machine;
-            next.call(alloc, Cpu(cpu), &event)?;
+            next.answer(alloc, Cpu(cpu), &event)?;
             Ok(Some(next))
         }
         None => Ok(None),

@@ -1,5 +1,5 @@
--- What a step notes, and the copies of its event in the record and in the receipt.
-use Rattle.std.proofs.Common.{◌≡◌, ℕ, ◌≤◌, ◌+◌, Bool, true, false, List, [], ◌∷◌, ◌++◌, drop, length, take, refl, ap, sym, subst, ◌∙◌, arith}
+-- What a step notes, and the copy of its event in the record.
+use Rattle.std.proofs.Common.{◌≡◌, ℕ, ◌≤◌, Bool, true, false, List, [], ◌∷◌, ◌++◌, drop, length, take, refl, ap, sym, subst, ◌∙◌, arith}
 use Rattle.std.specs.Prelude.{if◌then◌else◌}
 use Rattle.std.proofs.lemmas.List.{drop_at, length-append, length_push, take_at}
 use Rattle.hp_units.specs.Memory.{Memory}
@@ -12,11 +12,10 @@ use Rattle.hp_tape.specs.Deltas.{FrameView, frame_view_of}
 use Rattle.hp_memory.specs.Layers.{AreNoted}
 use Rattle.hp_memory.specs.Memory.{LeadsBack, MemoryValue}
 use Rattle.hp_laws.proofs.EventSteps.{run-placed}
-use Rattle.hp_laws.proofs.Steps.{steps}
 use Rattle.hp_history.specs.declared.journal.Entry.{Entry}
 use Rattle.hp_history.specs.Course.{CourseValue, IsAnswered, record_of}
 use Rattle.hp_history.specs.Kept.{IsCourse, IsJournal}
-use Rattle.hp_history.proofs.Names.{Event, Reply, Record}
+use Rattle.hp_history.proofs.Names.{Event, Record}
 use Rattle.hp_history.proofs.Journals.{IsNext, journal_grown, journal_push}
 use Rattle.hp_history.proofs.Starts.{tag-last}
 use Rattle.hp_history.proofs.Courses.{room, follows, answered_value, value_with, memory_is, state_placed, answered, IsMade, is_kept, made_reply, made_net, made_same, made_next, made_shown}
@@ -177,9 +176,9 @@ made_answered m es ds cpu r e v now b last h left kept made fields =
     rw (fields.history, shown)
     (answered m cpu r made.course.history made.serial (made_reply m es ds cpu r e v now made))
 
--- ---- the copies of the event in the record and in the receipt
+-- ---- the copy of the event in the record
 
--- the record with a copy of the event is the receipt's
+-- the record with it is the receipt's
 pub pushed : (old reserved new : List Record) (cpu : ℕ) (r : Receipt) (event : Event) → reserved ≡ old
     → new ≡ reserved ++ record { serial = r.serial; cpu = cpu; event = event; reply = r.reply } ∷ []
     → event ≡ r.event
@@ -190,11 +189,3 @@ pushed old reserved new cpu r event same is copied =
     h ++ record { serial = r.serial; cpu = cpu; event = event; reply = r.reply } ∷ []) same
     ∙ ap (λ (e : Event). old ++ record { serial = r.serial; cpu = cpu; event = e; reply = r.reply } ∷ [])
     copied)
-
--- and so is the receipt with a copy of it
-pub with_copy : (old new : CourseValue) (cpu serial : ℕ) (event copy : Event) (reply : Reply) → copy ≡ event
-    → IsAnswered old cpu event (record { serial = serial; event = event; reply = reply }) new
-    → IsAnswered old cpu event (record { serial = serial; event = copy; reply = reply }) new
-with_copy old new cpu serial event copy reply copied answered_so =
-    subst (λ (e : Event). IsAnswered old cpu event (record { serial = serial; event = e; reply = reply }) new)
-    (sym copied) answered_so

@@ -6,6 +6,7 @@ use Rattle.hp_units.specs.History.{IsLegal, reply_of, value_of}
 use Rattle.hp_units.specs.declared.events.Event.{Event}
 use Rattle.hp_units.specs.declared.replies.Record.{Record}
 use Rattle.hp_units.specs.declared.replies.Receipt.{Receipt}
+use Rattle.hp_units.specs.declared.replies.Reply.{Reply}
 
 -- `before` is the number of all earlier records, and `base` the state that the history began with
 pub record CourseValue : Type 0 where
@@ -36,6 +37,10 @@ is_spent c = nat_le 18446744073709551615 (c.before + length c.history)
 -- the record of a receipt
 abbrev pub record_of : ℕ → Receipt → Record
 record_of cpu r = record { serial = r.serial; cpu = cpu; event = r.event; reply = r.reply }
+
+-- the receipt of an event and its answer, which is the serial of its record and the reply
+abbrev pub receipt_for : Event → ℕ × Reply → Receipt
+receipt_for event answer = record { serial = answer.0; event = event; reply = answer.1 }
 
 -- the event of a processor was answered so, and made the new course of the old: one record is
 -- appended, with the next serial and the reply that the definitions give, and the state is that of

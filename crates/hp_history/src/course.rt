@@ -6,7 +6,7 @@ ghost use Rattle.hp_units.specs.LayoutParts.{IsLayout};
 ghost use Rattle.hp_units.specs.Placement.{IsWellPlaced};
 ghost use Rattle.hp_units.specs.declared.events.Event.TheVariants.{Cancel, UndoAfter};
 ghost use Rattle.hp_units.specs.declared.replies.Reply.TheVariants.{Restored};
-ghost use Rattle.hp_history.specs.Course.{IsAnswered, IsHistory, is_spent, last_serial, started};
+ghost use Rattle.hp_history.specs.Course.{IsAnswered, IsHistory, is_spent, last_serial, receipt_for, started};
 ghost use Rattle.hp_history.specs.Kept.{IsCut, IsStep, is_gone, may_cancel};
 ghost use Rattle.hp_history.specs.Volumes.{volume_of};
 
@@ -16,7 +16,7 @@ use crate::volumes::Volume;
 use hp_memory::Memory;
 use hp_plain::Image;
 use hp_tape::Tape;
-use hp_units::{Cpu, Event, Layout, Receipt, Record, Refusal, Reply, Serial, is_step};
+use hp_units::{Cpu, Event, Layout, Record, Refusal, Reply, Serial, is_step};
 use std::alloc::{AllocError, Global};
 use std::marker::Model;
 use std::mem::replace;
@@ -103,14 +103,21 @@ impl Course {
         })
     }
 
-    /// Answers and records an event of a processor, where there is a further serial. An undo goes
-    /// back, and so does a Cancel where nothing but its operation's own work stands after its
-    /// Begin; any other event makes a step. An error is out of memory; then all is as before.
+    /// Answers and records an event of a processor, where there is a further serial: the answer is
+    /// the record's serial and the reply. An undo goes back, and so does a Cancel where nothing but
+    /// its operation's own work stands after its Begin; any other event makes a step. An error is
+    /// out of memory; then all is as before.
     #[inline(always)]
-    pub fn answer(&mut self, alloc: Global, cpu: Cpu, event: &Event) -> Result<Receipt, AllocError>
+    pub fn answer(
+        &mut self,
+        alloc: Global,
+        cpu: Cpu,
+        event: &Event,
+    ) -> Result<(Serial, Reply), AllocError>
         requires free { is_spent self.old ≡ false }
         ensures err { OnErr result (self.new ≡ self.old) }
-        ensures ok { IfOk result (λ receipt. IsAnswered self.old cpu event.now receipt self.new) }
+        ensures ok { IfOk result
+            (λ answer. IsAnswered self.old cpu event.now (receipt_for event.now answer) self.new) }
     {
         match event {
             Event::UndoAfter { serial } => {
@@ -317,14 +324,14 @@ impl Course {
         event: &Event,
         keep: usize,
         reply: &Reply,
-    ) -> Result<Receipt, AllocError>
+    ) -> Result<(Serial, Reply), AllocError>
         requires free { is_spent self.old ≡ false }
         requires cut { IsCut self.old cpu event.now keep reply.now }
         ensures err { OnErr result (self.new ≡ self.old) }
-        ensures ok { IfOk result (λ receipt. IsAnswered self.old cpu event.now receipt self.new) }
+        ensures ok { IfOk result
+            (λ answer. IsAnswered self.old cpu event.now (receipt_for event.now answer) self.new) }
     {
         let recorded = event.copy(alloc)?;
-        let answered = event.copy(alloc)?;
         let serial = self.next_serial();
         self.history.reserve(1)?;
         let count = self.deltas.len();
@@ -337,23 +344,19 @@ impl Course {
             event: recorded,
             reply: *reply,
         });
-        Ok(Receipt {
-            serial,
-            event: answered,
-            reply: *reply,
-        })
+        Ok((serial, *reply))
     }
 
     /// Makes a step of the event, and records the answer. It takes its memory before it changes anything.
     #[inline(always)]
-    fn act(&mut self, alloc: Global, cpu: Cpu, event: &Event) -> Result<Receipt, AllocError>
+    fn act(&mut self, alloc: Global, cpu: Cpu, event: &Event) -> Result<(Serial, Reply), AllocError>
         requires free { is_spent self.old ≡ false }
         requires step { IsStep self.old cpu event.now }
         ensures err { OnErr result (self.new ≡ self.old) }
-        ensures ok { IfOk result (λ receipt. IsAnswered self.old cpu event.now receipt self.new) }
+        ensures ok { IfOk result
+            (λ answer. IsAnswered self.old cpu event.now (receipt_for event.now answer) self.new) }
     {
         let recorded = event.copy(alloc)?;
-        let answered = event.copy(alloc)?;
         let serial = self.next_serial();
         let entry = Entry {
             place: self.history.len(),
@@ -377,10 +380,6 @@ impl Course {
             event: recorded,
             reply,
         });
-        Ok(Receipt {
-            serial,
-            event: answered,
-            reply,
-        })
+        Ok((serial, reply))
     }
 }

@@ -4,6 +4,10 @@ ghost use Rattle.std.specs.Prelude.{◌≡◌, IfOk};
 use hp_units::Record;
 use std::alloc::{AllocError, Global};
 use std::marker::Model;
+use std::mem::size_of;
+
+/// Bytes of a record decide what a history costs (own rule).
+const _: () = prove!(size_of::<Record>() <= 56);
 
 /// Records of a history, oldest first.
 #[derive(Debug, Drop)]

@@ -102,12 +102,16 @@ fn follow(alloc: Global, course: &mut Course, at: u64, next: &Record) -> Result<
     if !course.expects(next.serial) {
         return Err(ReplayFault::WrongSerial { at });
     }
-    let receipt = course.answer(alloc, next.cpu, &next.event)?;
-    if receipt.reply.same(&next.reply) {
-        Ok(())
-    } else {
-        Err(ReplayFault::WrongReply {
-            serial: next.serial,
-        })
+    match course.answer(alloc, next.cpu, &next.event) {
+        Ok((_, reply)) => {
+            if reply.same(&next.reply) {
+                Ok(())
+            } else {
+                Err(ReplayFault::WrongReply {
+                    serial: next.serial,
+                })
+            }
+        }
+        Err(AllocError) => Err(ReplayFault::OutOfMemory),
     }
 }

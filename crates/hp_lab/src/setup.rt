@@ -62,8 +62,8 @@ fn run_event(
 ) -> Result<(), AllocError>
     ensures { OnOk result (RunsEvent machine.old cpu event.now machine.new) }
 {
-    match machine.call(alloc, cpu, event) {
-        Ok(_receipt) => Ok(()),
+    match machine.answer(alloc, cpu, event) {
+        Ok(_) => Ok(()),
         Err(CallFault::HistoryFull) => Ok(()),
         Err(CallFault::OutOfMemory) => Err(AllocError),
     }

@@ -44,31 +44,31 @@ called_is_given old new cpu event r fault called =
 -- ---- what it makes of the machine
 
 -- what a call gave is the fault of a full history just where the history was full
-abbrev pub TellsFull : Result Receipt CallFault → Bool → Type 0
+abbrev pub TellsFull : {A : Type 0} → Result A CallFault → Bool → Type 0
 TellsFull given full = (given ≡ Err HistoryFull) ↔ IsTrue full
 
--- with a receipt, and with out of memory, there was room
-room_of : (full : Bool) (r : Receipt) → TellsFull (Ok r) full → full ≡ false
-room_of true r tells = let e = tells.1 refl in absurd cc
-room_of false r tells = refl
+-- with an answer, and with out of memory, there was room
+room_of : {A : Type 0} (full : Bool) (a : A) → TellsFull {A = A} (Ok a) full → full ≡ false
+room_of true a tells = let e = tells.1 refl in absurd cc
+room_of false a tells = refl
 
-room_wanted : (full : Bool) → TellsFull (Err OutOfMemory) full → full ≡ false
+room_wanted : {A : Type 0} (full : Bool) → TellsFull {A = A} (Err OutOfMemory) full → full ≡ false
 room_wanted true tells = let e = tells.1 refl in absurd cc
 room_wanted false tells = refl
 
 -- one receipt
-pub called_once : (old new : MachineValue) (cpu : ℕ) (event : Event) (r : Receipt)
-    → TellsFull (Ok r) (is_full old) → IsCalled old cpu event r new → AreCalls old cpu (r ∷ []) new
-called_once old new cpu event r tells called = (
+pub called_once : {A : Type 0} (old new : MachineValue) (cpu : ℕ) (event : Event) (r : Receipt) (a : A)
+    → TellsFull {A = A} (Ok a) (is_full old) → IsCalled old cpu event r new → AreCalls old cpu (r ∷ []) new
+called_once old new cpu event r a tells called = (
   new,
-  room_of (is_full old) r tells,
+  room_of (is_full old) a tells,
   subst (λ (e : Event). IsCalled old cpu e r new) (sym called.asked) called,
   refl,
 )
 
 -- a fault's cause
-pub cause_of : (old : MachineValue) (fault : CallFault) → TellsFull (Err fault) (is_full old)
-    → HasCause (Some fault) old
+pub cause_of : {A : Type 0} (old : MachineValue) (fault : CallFault)
+    → TellsFull {A = A} (Err fault) (is_full old) → HasCause (Some fault) old
 cause_of old HistoryFull tells = tells.0 refl
 cause_of old OutOfMemory tells = room_wanted (is_full old) tells
 

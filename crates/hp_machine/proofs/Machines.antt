@@ -12,12 +12,14 @@ use Rattle.hp_units.specs.declared.events.Event.{Event}
 use Rattle.hp_units.specs.declared.plans.Item.{Item}
 use Rattle.hp_units.specs.declared.replies.Record.{Record}
 use Rattle.hp_units.specs.declared.replies.Receipt.{Receipt}
+use Rattle.hp_units.specs.declared.replies.Reply.{Reply}
 use Rattle.hp_laws.specs.Operations.{BeginsAt, IsOpenBehind, RowsAre, state_behind}
 use Rattle.hp_laws.proofs.Boots.{boot-placed}
 use Rattle.hp_laws.proofs.EventSteps.{value-placed}
 use Rattle.hp_laws.proofs.Net.{legal_take}
 use Rattle.hp_laws.proofs.NetContents.{value-contents}
 use Rattle.hp_laws.proofs.OperationLaws.{claimed, commit_granted, commit_held, given_back, held}
+use Rattle.hp_history.specs.Course.{receipt_for}
 use Rattle.hp_machine.specs.Kept.{IsMachine}
 use Rattle.hp_machine.specs.Machine.{IsCalled, IsSound, MachineValue, booted, is_full, last_serial, record_of, sealed}
 use Rattle.hp_machine.specs.Operations.{KeepsOperations}
@@ -76,11 +78,21 @@ called_machine old new cpu event r ok free call = record {
         ∙ ap (λ (s : Memory). value_of old.layout s new.history) call.base
 
 -- so does one that left no record
-pub call_kept : {E : Type 0} (old new : MachineValue) (cpu : ℕ) (event : Event) (result : Result Receipt E)
+pub call_kept : {E : Type 0} (old new : MachineValue) (cpu : ℕ) (event : Event)
+    (result : Result (ℕ × Reply) E)
     → IsMachine old → is_full old ≡ false → OnErr result (new ≡ old)
-    → IfOk result (λ r. IsCalled old cpu event r new) → IsMachine new
-call_kept old new cpu event (Ok r) ok free same call = called_machine old new cpu event r ok free call
+    → IfOk result (λ answer. IsCalled old cpu event (receipt_for event answer) new) → IsMachine new
+call_kept old new cpu event (Ok answer) ok free same call =
+    called_machine old new cpu event (receipt_for event answer) ok free call
 call_kept old new cpu event (Err e) ok free same call = subst IsMachine (sym same) ok
+
+-- a receipt that has a copy of the event
+pub called_copy : (old new : MachineValue) (cpu serial : ℕ) (event copy : Event) (reply : Reply)
+    → copy ≡ event
+    → IsCalled old cpu event (receipt_for event (serial, reply)) new
+    → IsCalled old cpu event (receipt_for copy (serial, reply)) new
+called_copy old new cpu serial event copy reply copied call =
+    subst (λ (e : Event). IsCalled old cpu event (receipt_for e (serial, reply)) new) (sym copied) call
 
 -- what a user relies on follows from what a machine keeps
 pub sound : (m : MachineValue) → IsMachine m → IsSound m

@@ -6,6 +6,7 @@ ghost use Rattle.hp_units.specs.Memory.{free_list, kernel_order};
 ghost use Rattle.hp_units.specs.Pages.{frame_at};
 ghost use Rattle.hp_tape.specs.Deltas.{page_frames_of};
 ghost use Rattle.hp_pages.specs.Pages.{AreSettled};
+ghost use Rattle.hp_history.specs.Course.{receipt_for};
 ghost use Rattle.hp_history.specs.Entries.{IsEntry};
 ghost use Rattle.hp_history.specs.Volumes.{volume_of};
 ghost use Rattle.hp_machine.specs.Machine.{IsCalled, IsHistory, IsSound, booted, is_full, last_serial, sealed};
@@ -20,7 +21,7 @@ use hp_plain::Image;
 use hp_tape::Delta;
 use hp_units::{
     Auto, Block, CallFault, Class, Cpu, Event, Frame, Kind, Layout, Order, Owner, Page, Pageblock,
-    Receipt, Record, Row,
+    Receipt, Record, Reply, Row, Serial,
 };
 use std::alloc::{AllocError, Global};
 use std::marker::Model;
@@ -71,10 +72,48 @@ impl Machine {
         if self.is_full() {
             return Err(CallFault::HistoryFull);
         }
+        let Ok(asked) = event.copy(alloc) else {
+            return Err(CallFault::OutOfMemory);
+        };
+        match self.answer(alloc, cpu, event) {
+            Ok((serial, reply)) => Ok(Receipt {
+                serial,
+                event: asked,
+                reply,
+            }),
+            Err(fault) => Err(fault),
+        }
+    }
+
+    /// One call, of which the caller makes the receipt where it needs one: it answers the serial of
+    /// the record and the reply, and copies the event for the record alone (own rule). Its errors
+    /// are those of `call`, and leave all as before.
+    pub fn answer(
+        &mut self,
+        alloc: Global,
+        cpu: Cpu,
+        event: &Event,
+    ) -> Result<(Serial, Reply), CallFault>
+        ensures full { (result ≡ Err CallFault.HistoryFull) ↔ IsTrue (is_full self.old) }
+        ensures err { OnErr result (self.new ≡ self.old) }
+        ensures ok { IfOk result
+            (λ answer. IsCalled self.old cpu event.now (receipt_for event.now answer) self.new) }
+    {
+        if self.is_full() {
+            return Err(CallFault::HistoryFull);
+        }
         match self.course.answer(alloc, cpu, event) {
-            Ok(receipt) => Ok(receipt),
+            Ok(answer) => Ok(answer),
             Err(AllocError) => Err(CallFault::OutOfMemory),
         }
+    }
+
+    /// Makes room for so many further records, so that they need not be moved as more come. An
+    /// error is out of memory; the machine is as before, with or without it.
+    pub fn reserve(&mut self, records: usize) -> Result<(), AllocError>
+        ensures { self.new ≡ self.old }
+    {
+        self.course.reserve(records)
     }
 
     /// Hands out the records with the state that they began with, and goes on without them: the

@@ -4,7 +4,7 @@ ghost use Rattle.hp_machine.specs.MachinePorts.{IsPlanRun};
 
 use crate::machine::Machine;
 use hp_ops::{Port, run_plan};
-use hp_units::{CallFault, Cpu, Event, OpEnd, Plan, Receipt};
+use hp_units::{CallFault, Cpu, Event, OpEnd, Plan, Reply};
 use std::alloc::Global;
 
 /// A processor of a machine. It shows the processor's records of the machine as its receipts.
@@ -51,11 +51,11 @@ impl<'a> Port for MachinePort<'a> {
         self.machine.layout().cpus()
     }
 
-    fn call(&mut self, alloc: Global, event: &Event) -> Result<Receipt, CallFault> {
-        match self.machine.call(alloc, self.cpu, event) {
-            Ok(receipt) => {
+    fn call(&mut self, alloc: Global, event: &Event) -> Result<Reply, CallFault> {
+        match self.machine.answer(alloc, self.cpu, event) {
+            Ok((_, reply)) => {
                 self.fault = None;
-                Ok(receipt)
+                Ok(reply)
             }
             Err(fault) => {
                 self.fault = Some(fault);

@@ -13,17 +13,17 @@ use Rattle.hp_memory.specs.Parts.{part_of, undo_part}
 -- the opposite of a delta is that on its layer
 pub undo-part : (d : Delta) (v : FrameView) → undo d v ≡ undo_part (part_of d) d v
 undo-part (Link (Area class order) frame after) v = refl
-undo-part (Link (Cpu cpu pool) frame after) v = refl
+undo-part (Link (Cpu pool cpu) frame after) v = refl
 undo-part (Unlink (Area class order) frame after) v = refl
-undo-part (Unlink (Cpu cpu pool) frame after) v = refl
+undo-part (Unlink (Cpu pool cpu) frame after) v = refl
 undo-part (KindDelta pageblock was now) v = refl
 undo-part (KernelDelta frame was now) v = refl
-undo-part (MapDelta owner page was now) v = refl
+undo-part (MapDelta owner page change) v = refl
 undo-part (Swap a b) v = refl
-undo-part (WordDelta frame index was now) v = refl
+undo-part (WordDelta index frame was now) v = refl
 undo-part (Filled frame index now) v = refl
 undo-part (Emptied frame words) v = refl
-undo-part (RowDelta block was now) v = refl
+undo-part (RowDelta change) v = refl
 undo-part (AutoDelta was now) v = refl
 
 -- what a step of undoing keeps

@@ -60,6 +60,14 @@ pub record IsGiven (old : PortValue) (event : Event) (r : Receipt) (new : PortVa
   pub begun : (plan : List Item) → event ≡ Begin plan → IsBeginReply r.reply
   pub known : has_opened old.receipts ≡ true → IsDriverReply old.cpus event r.reply
 
+-- a call was answered by a reply: it gave one receipt, which has the reply, and made the new port of the old
+pub record IsReplied {S : Type 0} (shows : S → PortValue) (makes : S → List Receipt → S → Type 0) (old : S)
+    (event : Event) (reply : Reply) (new : S) : Type 0 where
+  pub receipt : Receipt
+  pub replied : receipt.reply ≡ reply
+  pub given : IsGiven (shows old) event receipt (shows new)
+  pub made : makes old (receipt ∷ []) new
+
 -- calls that gave these receipts, and after them, where there is a fault, one more call, which left it
 abbrev pub AreMade : {S : Type 0} → (makes : S → List Receipt → S → Type 0)
     → (leaves : S → CallFault → S → Type 0) → S → List Receipt → Option CallFault → S → Type 0

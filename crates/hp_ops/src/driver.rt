@@ -41,14 +41,11 @@ fn begin<P: Port>(alloc: Global, port: &mut P, plan: Plan) -> Result<Serial, OpE
 {
     let event = Event::Begin { plan };
     match port.call(alloc, &event) {
-        Ok(receipt) => {
-            let reply = receipt.reply;
-            match reply {
-                Reply::Opened { op } => Ok(op),
-                Reply::Refused(refusal) => Err(OpEnd::Refused(refusal)),
-                _ => unreachable!(),
-            }
-        }
+        Ok(reply) => match reply {
+            Reply::Opened { op } => Ok(op),
+            Reply::Refused(refusal) => Err(OpEnd::Refused(refusal)),
+            _ => unreachable!(),
+        },
         Err(fault) => Err(OpEnd::Left { op: None, fault }),
     }
 }
@@ -174,7 +171,7 @@ fn ask<P: Port>(alloc: Global, port: &mut P, op: Serial, event: &Event) -> Resul
         port.new (EndsRun (P.shows port.old).cpus op (λ c. event.now) (P.shows port.new).fault end)) }
 {
     match port.call(alloc, event) {
-        Ok(receipt) => unless_gone(receipt.reply),
+        Ok(reply) => unless_gone(reply),
         Err(fault) => Err(OpEnd::Left {
             op: Some(op),
             fault,

@@ -1,10 +1,10 @@
 //! What a driver calls.
-ghost use Rattle.std.specs.Prelude.{◌≡◌, ◌++◌, ◌∷◌, [], List, Some, IfErr, IfOk};
+ghost use Rattle.std.specs.Prelude.{◌≡◌, ◌++◌, [], List, Some, IfErr, IfOk};
 ghost use Rattle.hp_units.specs.declared.replies.CallFault.{CallFault};
 ghost use Rattle.hp_units.specs.declared.replies.Receipt.{Receipt};
-ghost use Rattle.hp_ops.specs.Ports.{IsGiven, PortValue, with_receipts};
+ghost use Rattle.hp_ops.specs.Ports.{IsReplied, PortValue, with_receipts};
 
-use hp_units::{CallFault, Event, Receipt};
+use hp_units::{CallFault, Event, Reply};
 use std::alloc::Global;
 
 /// Calls of one processor on a machine, wherever the machine is (own rule).
@@ -22,13 +22,12 @@ pub trait Port {
     fn cpus(&self) -> u32
         ensures { result ≡ (shows self.now).cpus };
 
-    /// One call. It gives one receipt, of this event; or else a fault, which the port then shows,
-    /// and no receipt.
-    fn call(&mut self, alloc: Global, event: &Event) -> Result<Receipt, CallFault>
-        ensures ok { IfOk result (λ receipt. IsGiven (shows self.old) event.now receipt (shows self.new)) }
+    /// One call. It gives one receipt, of this event, and answers that receipt's reply; or else a
+    /// fault, which the port then shows, and no receipt.
+    fn call(&mut self, alloc: Global, event: &Event) -> Result<Reply, CallFault>
+        ensures ok { IfOk result (λ reply. IsReplied shows makes self.old event.now reply self.new) }
         ensures err { IfErr result
             (λ fault. shows self.new ≡ with_receipts (shows self.old) [] (Some fault)) }
-        ensures makes { IfOk result (λ receipt. makes self.old (receipt ∷ []) self.new) }
         ensures leaves { IfErr result (λ fault. leaves self.old fault self.new) };
 
     /// No call makes nothing.

@@ -7,6 +7,7 @@ use Rattle.hp_units.specs.LayoutParts.{LayoutParts}
 use Rattle.hp_units.specs.Arithmetic.{IsFrame}
 use Rattle.hp_units.specs.Memory.{entry_of, with_entry}
 use Rattle.hp_tape.specs.declared.deltas.Delta.TheVariants.{Map as MapDelta, Swap, Emptied}
+use Rattle.hp_tape.specs.declared.frame_changes.FrameChange.TheVariants.{Mapped, Unmapped, Moved}
 use Rattle.hp_tape.specs.Deltas.{FitsPages, IsOfPages, PageFrames, buffer_of, pages_undo, with_buffer}
 use Rattle.hp_tape.specs.Tapes.{TapeValue, NotesPages}
 use Rattle.hp_tape.proofs.Leads.{notes-none}
@@ -29,12 +30,12 @@ pub notes-map : (l : LayoutParts) (v : PageFrames) (owner page frame : ℕ) (was
     → ArePageFramesOf l v → AreSettled v
     → owner < l.owners → page < l.pages → IsFrame l frame → entry_of v.table owner page ≡ None
     → holders v.table frame ≡ 0
-    → now.room ≡ was.room → now.deltas ≡ was.deltas ++ MapDelta owner page None (Some frame) ∷ []
+    → now.room ≡ was.room → now.deltas ≡ was.deltas ++ MapDelta owner page (Mapped frame) ∷ []
     → NotesPages l 1 was now (map_frame v owner page frame) v
 notes-map l v owner page frame was now are settled in_owners in_pages in_frames unmapped free room noted =
     let is_in = page_of l v owner page are in_owners in_pages in
     record {
-      deltas = MapDelta owner page None (Some frame) ∷ [];
+      deltas = MapDelta owner page (Mapped frame) ∷ [];
       tape = noted_one was now _ room noted;
       few = omega arith;
       own = (tt, tt);
@@ -119,12 +120,12 @@ notes-empty l v frame words was now are in_frames there room noted =
 pub notes-clear : (l : LayoutParts) (v : PageFrames) (owner page frame : ℕ) (was now : TapeValue)
     → ArePageFramesOf l v
     → owner < l.owners → page < l.pages → IsFrame l frame → entry_of v.table owner page ≡ Some frame
-    → now.room ≡ was.room → now.deltas ≡ was.deltas ++ MapDelta owner page (Some frame) None ∷ []
+    → now.room ≡ was.room → now.deltas ≡ was.deltas ++ MapDelta owner page (Unmapped frame) ∷ []
     → NotesPages l 1 was now (record v { table = with_entry v.table owner page None }) v
 notes-clear l v owner page frame was now are in_owners in_pages in_frames mapped room noted =
     let is_in = page_of l v owner page are in_owners in_pages in
     record {
-      deltas = MapDelta owner page (Some frame) None ∷ [];
+      deltas = MapDelta owner page (Unmapped frame) ∷ [];
       tape = noted_one was now _ room noted;
       few = omega arith;
       own = (tt, tt);
@@ -187,7 +188,7 @@ pub notes-move : (l : LayoutParts) (v : PageFrames) (owner page from to : ℕ) (
     → IsFrame l from → IsFrame l to → entry_of v.table owner page ≡ Some from → holders v.table to ≡ 0
     → owner < l.owners → page < l.pages
     → mid.room ≡ was.room → mid.deltas ≡ was.deltas ++ Swap from to ∷ []
-    → now.room ≡ mid.room → now.deltas ≡ mid.deltas ++ MapDelta owner page (Some from) (Some to) ∷ []
+    → now.room ≡ mid.room → now.deltas ≡ mid.deltas ++ MapDelta owner page (Moved from to) ∷ []
     → NotesPages l 2 was now (move_entry v owner page from to) v
 notes-move l v owner page from to was mid now are settled from_in to_in mapped free in_owners in_pages
     mid_room mid_noted room noted =
@@ -195,7 +196,7 @@ notes-move l v owner page from to was mid now are settled from_in to_in mapped f
     let from_within : from < length v.buffers = omega (arith, are.frames, from_in) in
     let to_within : to < length v.buffers = omega (arith, are.frames, to_in) in
     record {
-      deltas = Swap from to ∷ MapDelta owner page (Some from) (Some to) ∷ [];
+      deltas = Swap from to ∷ MapDelta owner page (Moved from to) ∷ [];
       tape = noted_two was mid now _ _ mid_room mid_noted room noted;
       few = omega arith;
       own = (tt, (tt, tt));

@@ -109,7 +109,7 @@ pub notes-word : (l : LayoutParts) (v : PageFrames) (frame index before value : 
     (was now : TapeValue)
     → AreSized l v
     → IsFrame l frame → index < l.words → buffer_of v frame ≡ Some words → before ≡ slice_index words index
-    → now.room ≡ was.room → now.deltas ≡ was.deltas ++ WordDelta frame index before value ∷ []
+    → now.room ≡ was.room → now.deltas ≡ was.deltas ++ WordDelta index frame before value ∷ []
     → NotesPages l 1 was now (with_buffer v frame (option_map (λ ws. set ws index value) (buffer_of v frame)))
     v
 notes-word l v frame index before value words was now are in_frames in_words there read room noted =
@@ -122,7 +122,7 @@ notes-word l v frame index before value words was now are in_frames in_words the
     get_or-set_same v.buffers frame (option_map (λ ws. set ws index value) (buffer_of v frame)) None within
     ∙ ap (option_map (λ ws. set ws index value)) there in
     record {
-      deltas = WordDelta frame index before value ∷ [];
+      deltas = WordDelta index frame before value ∷ [];
       tape = noted_one was now _ room noted;
       few = omega arith;
       own = (tt, tt);
@@ -151,7 +151,7 @@ pub notes-changed : (l : LayoutParts) (v : PageFrames) (frame index before value
     → AreSized l v
     → IsFrame l frame → index < l.words → buffer_of v frame ≡ b
     → slice_get (unwrap_or b []) index ≡ Some before
-    → now.room ≡ was.room → now.deltas ≡ was.deltas ++ WordDelta frame index before value ∷ []
+    → now.room ≡ was.room → now.deltas ≡ was.deltas ++ WordDelta index frame before value ∷ []
     → NotesPages l 1 was now (with_buffer v frame (option_map (λ ws. set ws index value) (buffer_of v frame)))
     v
 notes-changed l v frame index before value None was now are in_frames in_words there read room noted =

@@ -44,6 +44,7 @@ pub record AreLayerOf (l : LayoutParts) (t : TableValue) (buffers : List (Option
   pub buffers_of : length buffers ≡ frame_count l
   pub words : (frame : ℕ) → IfSome (slice_index_or buffers frame None) (λ words. length words ≡ l.words)
   pub zeros : words_of_none ≡ fresh_words l
+  pub few_words : l.words ≤ 512
 
 -- ---- what the calls answer and do (own rule)
 

@@ -114,5 +114,5 @@ pub(crate) fn zeros(alloc: Global, layout: &Layout) -> Result<Words, AllocError>
     ensures { IfOk result (λ words. words ≡ fresh_words layout.now) }
 {
     let words = vec![in alloc; 0; layout.words() as usize]?;
-    Ok(Words::new(words))
+    Words::new(alloc, words)
 }

@@ -12,7 +12,7 @@ ghost use Rattle.hp_pages.specs.Places.{holders};
 
 use crate::buffers::{Buffers, is_blank_beside, zeros};
 use crate::table::Table;
-use hp_tape::{Delta, Tape};
+use hp_tape::{Delta, FrameChange, Tape};
 use hp_units::{Frame, Layout, Owner, Page, Words};
 use std::alloc::{AllocError, Global};
 use std::marker::Model;
@@ -152,11 +152,11 @@ impl Pages {
         ensures notes { NotesPages self.old.layout 1 tape.old tape.new self.new.pages self.old.pages }
     {
         self.table.set(owner, page, Some(frame));
+        let change = FrameChange::Mapped(frame);
         tape.note(Delta::Map {
             owner,
             page,
-            was: None,
-            now: Some(frame),
+            change,
         });
     }
 
@@ -206,11 +206,11 @@ impl Pages {
         ensures notes { NotesPages self.old.layout 1 tape.old tape.new self.new.pages self.old.pages }
     {
         self.table.set(owner, page, None);
+        let change = FrameChange::Unmapped(frame);
         tape.note(Delta::Map {
             owner,
             page,
-            was: Some(frame),
-            now: None,
+            change,
         });
     }
 
@@ -334,8 +334,8 @@ impl Pages {
     {
         self.buffers.set_word(frame, index, now);
         tape.note(Delta::Word {
+            index: index as u16,
             frame,
-            index,
             was,
             now,
         });
@@ -359,11 +359,11 @@ impl Pages {
         self.buffers.swap(from, to);
         tape.note(Delta::Swap { a: from, b: to });
         self.table.set(owner, page, Some(to));
+        let change = FrameChange::Moved { was: from, now: to };
         tape.note(Delta::Map {
             owner,
             page,
-            was: Some(from),
-            now: Some(to),
+            change,
         });
     }
 }

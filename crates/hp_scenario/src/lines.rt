@@ -41,7 +41,7 @@ pub struct Line {
 }
 
 /// Bytes of a line decide what a long scenario takes (own rule).
-const _: () = prove!(size_of::<Line>() <= 48);
+const _: () = prove!(size_of::<Line>() <= 40);
 
 /// Lines in order, seen as a list.
 #[derive(Debug, Drop)]

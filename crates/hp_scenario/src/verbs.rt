@@ -229,7 +229,7 @@ pub(crate) fn begin<'a>(alloc: Global, args: &[&'a str]) -> Result<Option<Reques
     let Some(items) = items_from(alloc, args)? else {
         return Ok(None);
     };
-    let plan = Plan::new(items);
+    let plan = Plan::new(alloc, items)?;
     Ok(Some(event(Event::Begin { plan })))
 }
 
@@ -247,7 +247,7 @@ pub(crate) fn plan<'a>(alloc: Global, args: &[&'a str]) -> Result<Option<Request
     let Some(items) = items_from(alloc, rest)? else {
         return Ok(None);
     };
-    let plan = Plan::new(items);
+    let plan = Plan::new(alloc, items)?;
     Ok(Some(Request::Plain(Work::Plan { plan, turns })))
 }
 

@@ -1,15 +1,17 @@
 -- A seat's call is a port's.
-use Rattle.std.specs.Prelude.{IfOk}
-use Rattle.std.proofs.Common.{◌≡◌, ℕ, ◌<◌, List, Option, None, Result, Ok, Err, ap, sym, subst, ◌∙◌}
+use Rattle.std.proofs.Common.{◌≡◌, ℕ, ◌+◌, ◌<◌, List, [], ◌∷◌, ◌++◌, length, Option, None, refl, ap, sym, subst, ◌∙◌, arith}
+use Rattle.std.proofs.lemmas.List.{length-append}
 use Rattle.hp_units.specs.LayoutParts.{LayoutParts}
 use Rattle.hp_units.specs.History.{reply_of}
 use Rattle.hp_units.specs.declared.events.Event.{Event}
 use Rattle.hp_units.specs.declared.replies.CallFault.{CallFault}
 use Rattle.hp_units.specs.declared.replies.Receipt.{Receipt}
+use Rattle.hp_units.specs.declared.replies.Reply.{Reply}
+use Rattle.hp_history.specs.Course.{receipt_for}
 use Rattle.hp_ops.specs.Ports.{IsBeginReply, IsDriverReply, IsGiven}
 use Rattle.hp_machine.proofs.Replies.{begin_known, driver_known}
-use Rattle.hp_shared.specs.Shared.{IsSeated, SeatValue}
-use Rattle.hp_shared.specs.SeatPorts.{port_value}
+use Rattle.hp_shared.specs.Shared.{IsSeatCall, IsSeated, IsTurn, SeatValue}
+use Rattle.hp_shared.specs.SeatPorts.{AreTurns, port_value}
 use Rattle.hp_shared.proofs.Turns.{last_reply}
 
 -- what a call gives to the seat's port
@@ -37,10 +39,39 @@ seated_is_given l old new event r fault seated =
           found.0 old.cpu event (subst (λ (n : ℕ). old.cpu < n) (sym cpus) seated.inside)));
     }
 
--- and where it may have been answered by a fault
-pub answered_is_given : (l : LayoutParts) (old new : SeatValue) (event : Event)
-    (answer : Result Receipt CallFault) (fault : Option CallFault)
-    → IfOk answer (λ r. IsSeated l old event r new)
-    → IfOk answer (λ r. IsGiven (port_value l old fault) event r (port_value l new None))
-answered_is_given l old new event (Ok r) fault seated = seated_is_given l old new event r fault seated
-answered_is_given l old new event (Err why) fault none = none
+-- one turn, of which the port shows the receipt
+pub turned_once : (l : LayoutParts) (old new : SeatValue) (event : Event) (r : Receipt)
+    → IsSeated l old event r new → AreTurns l old (r ∷ []) new
+turned_once l old new event r seated =
+    (new, subst (λ (e : Event). IsSeated l old e r new) (sym seated.turn.asked) seated, refl)
+
+-- a turn's receipt, which has a copy of the event, is appended
+pub seat_called : (l : LayoutParts) (cpu : ℕ) (was held now : List Receipt) (event copy : Event)
+    (answer : ℕ × Reply) (share more : ℕ)
+    → copy ≡ event → cpu < l.cpus → held ≡ was → now ≡ held ++ receipt_for copy answer ∷ []
+    → share ≡ length was → more ≡ share + 1 → IsTurn l cpu event (receipt_for event answer) more
+    → IsSeatCall l (record { cpu = cpu; receipts = was }) event answer.1
+    (record { cpu = cpu; receipts = now })
+seat_called l cpu was held now event copy answer share more copied inside same pushed counted risen turn =
+    let receipts : now ≡ was ++ receipt_for copy answer ∷ [] =
+    pushed ∙ ap (λ (rs : List Receipt). rs ++ receipt_for copy answer ∷ []) same in
+    let amount : more ≡ length now =
+    omega (
+      arith,
+      counted,
+      risen,
+      ap (λ (rs : List Receipt). length rs) receipts,
+      length-append was (receipt_for copy answer ∷ []),
+    ) in
+    record {
+      receipt = receipt_for copy answer;
+      replied = refl;
+      seated = record {
+        inside = inside;
+        cpu = refl;
+        receipts = receipts;
+        turn =
+            subst (λ (e : Event). IsTurn l cpu event (receipt_for e answer) (length now)) (sym copied)
+            (subst (IsTurn l cpu event (receipt_for event answer)) amount turn);
+      };
+    }

@@ -11,7 +11,9 @@ use Rattle.hp_units.specs.declared.replies.CallFault.{CallFault}
 use Rattle.hp_units.specs.declared.replies.CallFault.TheVariants.{HistoryFull, OutOfMemory}
 use Rattle.hp_units.specs.declared.replies.Receipt.{Receipt}
 use Rattle.hp_units.specs.declared.replies.Record.{Record}
+use Rattle.hp_units.specs.declared.replies.Reply.{Reply}
 use Rattle.hp_laws.proofs.Lists.{get_end}
+use Rattle.hp_history.specs.Course.{receipt_for}
 use Rattle.hp_history.specs.Volumes.{FollowsVolumes, records_in, state_after, volume_of}
 use Rattle.hp_history.proofs.Chains.{chain_more, count_more, state_more}
 use Rattle.hp_history.specs.declared.volumes.Volume.{Volume}
@@ -57,16 +59,17 @@ turned l old new was total cpu event r shared called more = record {
 
 -- and where a call that may be answered by a fault is known to have been recorded
 pub turned_ok : (l : LayoutParts) (old new : MachineValue) (was total : ℕ) (cpu : ℕ) (event : Event)
-    (answer : Result Receipt CallFault)
-    → IsShared l (record { machine = old; total = was }) → IfOk answer (λ r. IsCalled old cpu event r new)
-    → is_ok answer ≡ true → total ≡ was + 1
+    (result : Result (ℕ × Reply) CallFault)
+    → IsShared l (record { machine = old; total = was })
+    → IfOk result (λ answer. IsCalled old cpu event (receipt_for event answer) new)
+    → is_ok result ≡ true → total ≡ was + 1
     → IsShared l (record { machine = new; total = total })
-turned_ok l old new was total cpu event (Ok r) shared called recorded more =
-    turned l old new was total cpu event r shared called more
+turned_ok l old new was total cpu event (Ok answer) shared called recorded more =
+    turned l old new was total cpu event (receipt_for event answer) shared called more
 turned_ok l old new was total cpu event (Err fault) shared called recorded more = absurd cc
 
 -- the fault of a full history comes where the machine under the lock has one
-pub fault_caused : (l : LayoutParts) (seen : LockedValue) (answer : Result Receipt CallFault)
+pub fault_caused : {A : Type 0} (l : LayoutParts) (seen : LockedValue) (answer : Result A CallFault)
     → IsShared l seen → ((answer ≡ Err HistoryFull) ↔ IsTrue (is_full seen.machine))
     → IfErr answer (HasSharedCause l)
 fault_caused l seen (Ok r) shared full = tt

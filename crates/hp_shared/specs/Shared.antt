@@ -8,6 +8,7 @@ use Rattle.hp_units.specs.declared.replies.CallFault.{CallFault}
 use Rattle.hp_units.specs.declared.replies.CallFault.TheVariants.{HistoryFull, OutOfMemory}
 use Rattle.hp_units.specs.declared.replies.Receipt.{Receipt}
 use Rattle.hp_units.specs.declared.replies.Record.{Record}
+use Rattle.hp_units.specs.declared.replies.Reply.{Reply}
 use Rattle.hp_history.specs.Volumes.{IsChain, records_in, state_after}
 use Rattle.hp_history.specs.declared.volumes.Volume.{Volume}
 use Rattle.hp_machine.specs.Machine.{IsHistory, MachineValue, is_full, last_serial, record_of}
@@ -75,6 +76,13 @@ pub record IsSeated (l : LayoutParts) (old : SeatValue) (event : Event) (r : Rec
   pub cpu : new.cpu ≡ old.cpu
   pub receipts : new.receipts ≡ old.receipts ++ r ∷ []
   pub turn : IsTurn l old.cpu event r (length new.receipts)
+
+-- the call of an event by a seat was answered by a reply: a receipt that has it is appended
+pub record IsSeatCall (l : LayoutParts) (old : SeatValue) (event : Event) (reply : Reply)
+    (new : SeatValue) : Type 0 where
+  pub receipt : Receipt
+  pub replied : receipt.reply ≡ reply
+  pub seated : IsSeated l old event receipt new
 
 -- a call's fault has its cause: some state of the shared machine has a full history; memory may run
 -- out at any time

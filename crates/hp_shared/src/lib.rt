@@ -3,7 +3,7 @@
 //!
 //! The crate owns the lock (`Shared`), what lies under it (`Locked`), the processors' accesses
 //! (`Seat`, and `SeatPort` for the driver of a plan) and the end (`close`). The machine it only
-//! calls and reads: a turn under the lock is one `Machine::call`, a seal one `Machine::seal`. It
+//! calls and reads: a turn under the lock is one `Machine::answer`, a seal one `Machine::seal`. It
 //! starts no thread, and waits for the lock alone, which nobody holds between two calls.
 //!
 //! What ties a seat to the machine is std's ledger: the total under the lock is the number of all

@@ -2,13 +2,14 @@
 ghost use Rattle.std.specs.Prelude.{◌≡◌, ◌↔◌, ◌+◌, ◌≤◌, ◌<◌, Err, IfOk, OnErr, OnOk, IsTrue};
 ghost use Rattle.hp_units.specs.declared.replies.CallFault.TheVariants.{HistoryFull};
 ghost use Rattle.hp_machine.specs.Machine.{IsCalled, is_full, sealed};
+ghost use Rattle.hp_history.specs.Course.{receipt_for};
 ghost use Rattle.hp_history.specs.Volumes.{volume_of};
 ghost use Rattle.hp_shared.specs.Shared.{IsFresh, IsShared};
 
 use crate::job::Job;
 use hp_history::Volume;
 use hp_machine::Machine;
-use hp_units::{CallFault, Cpu, Event, Receipt};
+use hp_units::{CallFault, Cpu, Event, Reply, Serial};
 use std::alloc::{AllocError, Global};
 use std::marker::Model;
 use std::sync::ledger::{Book, Share};
@@ -43,11 +44,11 @@ impl<L: Job> Locked<L> {
         Locked { machine, book }
     }
 
-    /// The one step of a seat: a call of the machine (own rule). Where it was recorded, the total
-    /// and the seat's share each rise by one; no share is above the total. It waits for nobody,
-    /// since whoever calls it holds the lock.
+    /// The one step of a seat: a call of the machine, answered by the serial of its record and the
+    /// reply (own rule). Where it was recorded, the total and the seat's share each rise by one; no
+    /// share is above the total. It waits for nobody, since whoever calls it holds the lock.
     ///
-    /// Errors are those of `Machine::call`, `HistoryFull` exactly where the history holds its
+    /// Errors are those of `Machine::answer`, `HistoryFull` exactly where the history holds its
     /// limit; they leave all as it was.
     pub fn turn(
         &mut self,
@@ -55,12 +56,13 @@ impl<L: Job> Locked<L> {
         share: &mut Share<L>,
         cpu: Cpu,
         event: &Event,
-    ) -> Result<Receipt, CallFault>
+    ) -> Result<(Serial, Reply), CallFault>
         requires { 0 < share.old.parts }
         ensures full { (result ≡ Err HistoryFull) ↔ IsTrue (is_full self.old.machine) }
         ensures err { OnErr result ((self.new ≡ self.old) × (share.new.amount ≡ share.old.amount)) }
         ensures ok { IfOk result
-            (λ receipt. IsCalled self.old.machine cpu event.now receipt self.new.machine) }
+            (λ answer. IsCalled self.old.machine cpu event.now (receipt_for event.now answer)
+            self.new.machine) }
         ensures counted { OnOk result
             ((self.new.total ≡ self.old.total + 1) × (share.new.amount ≡ share.old.amount + 1)) }
         ensures parts { share.new.parts ≡ share.old.parts }
@@ -69,7 +71,7 @@ impl<L: Job> Locked<L> {
         ensures kept { IsShared L.layout self.new }
     {
         self.book.audit(share);
-        let answer = self.machine.call(alloc, cpu, event);
+        let answer = self.machine.answer(alloc, cpu, event);
         if answer.is_ok() {
             self.book.add(share, 1);
         }

@@ -1,12 +1,12 @@
 //! A processor's access to the shared machine.
 ghost use Rattle.std.specs.Prelude.{◌≡◌, ◌<◌, [], IfErr, IfOk, OnErr, length};
-ghost use Rattle.hp_shared.specs.Shared.{HasSharedCause, IsSeated, first_seat};
+ghost use Rattle.hp_shared.specs.Shared.{HasSharedCause, IsSeatCall, first_seat};
 ghost use Rattle.hp_shared.specs.Volumes.{IsSealOf};
 
 use crate::job::Job;
 use crate::shared::Shared;
 use hp_history::Volume;
-use hp_units::{CallFault, Cpu, Event, Receipt};
+use hp_units::{CallFault, Cpu, Event, Receipt, Reply};
 use std::alloc::{AllocError, Global};
 use std::marker::Model;
 use std::sync::Wait;
@@ -47,9 +47,9 @@ impl<L: Job> Seat<L> {
         }
     }
 
-    /// One call of the seat's processor, under one holding of the lock, for which it may wait; its
-    /// receipt is kept. Room for the receipt and the copy of the event are made before the lock is
-    /// taken.
+    /// One call of the seat's processor, under one holding of the lock, for which it may wait: it
+    /// answers the reply, and keeps the receipt. Room for the receipt and its copy of the event are
+    /// made before the lock is taken.
     ///
     /// Errors: `HistoryFull` where the history holds its limit of records, `OutOfMemory` before the
     /// lock or under it. Either leaves seat and machine as they were.
@@ -59,8 +59,8 @@ impl<L: Job> Seat<L> {
         alloc: Global,
         shared: &Shared<L>,
         event: &Event,
-    ) -> Result<Receipt, CallFault>
-        ensures ok { IfOk result (λ receipt. IsSeated L.layout self.old event.now receipt self.new) }
+    ) -> Result<Reply, CallFault>
+        ensures ok { IfOk result (λ reply. IsSeatCall L.layout self.old event.now reply self.new) }
         ensures err { OnErr result (self.new ≡ self.old) }
         ensures cause { IfErr result (HasSharedCause L.layout) }
     {
@@ -70,15 +70,25 @@ impl<L: Job> Seat<L> {
         let Ok(asked) = event.copy(alloc) else {
             return Err(CallFault::OutOfMemory);
         };
-        let answer = shared.turn(rt, alloc, &mut self.share, self.cpu, event);
-        if let Ok(receipt) = &answer {
-            self.receipts.push_reserved(Receipt {
-                serial: receipt.serial,
-                event: asked,
-                reply: receipt.reply,
-            });
+        match shared.turn(rt, alloc, &mut self.share, self.cpu, event) {
+            Ok(answer) => {
+                self.receipts.push_reserved(Receipt {
+                    serial: answer.0,
+                    event: asked,
+                    reply: answer.1,
+                });
+                Ok(answer.1)
+            }
+            Err(fault) => Err(fault),
         }
-        answer
+    }
+
+    /// Makes room for so many further receipts, so that they need not be moved as more come. An
+    /// error is out of memory; the seat is as before, with or without it.
+    pub fn reserve(&mut self, receipts: usize) -> Result<(), AllocError>
+        ensures { self.new ≡ self.old }
+    {
+        self.receipts.reserve(receipts)
     }
 
     /// Hands out the shared machine's records since its last seal, with the state before them,

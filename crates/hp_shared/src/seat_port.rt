@@ -5,7 +5,7 @@ use crate::job::Job;
 use crate::seat::Seat;
 use crate::shared::Shared;
 use hp_ops::Port;
-use hp_units::{CallFault, Event, Receipt};
+use hp_units::{CallFault, Event, Reply};
 use std::alloc::Global;
 use std::sync::Wait;
 
@@ -57,13 +57,17 @@ impl<'a, L: Job, R: Wait> Port for SeatPort<'a, L, R> {
         self.shared.cpus()
     }
 
-    fn call(&mut self, alloc: Global, event: &Event) -> Result<Receipt, CallFault> {
-        let answer = self.seat.call(self.rt, alloc, self.shared, event);
-        match &answer {
-            Ok(_) => self.fault = None,
-            Err(fault) => self.fault = Some(*fault),
+    fn call(&mut self, alloc: Global, event: &Event) -> Result<Reply, CallFault> {
+        match self.seat.call(self.rt, alloc, self.shared, event) {
+            Ok(reply) => {
+                self.fault = None;
+                Ok(reply)
+            }
+            Err(fault) => {
+                self.fault = Some(fault);
+                Err(fault)
+            }
         }
-        answer
     }
 
     ghost nothing = { λ p. (refl, refl) };

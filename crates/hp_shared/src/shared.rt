@@ -1,5 +1,6 @@
 //! The lock round the machine.
 ghost use Rattle.std.specs.Prelude.{◌≡◌, ◌+◌, ◌<◌, IfErr, IfOk, OnErr, OnOk};
+ghost use Rattle.hp_history.specs.Course.{receipt_for};
 ghost use Rattle.hp_shared.specs.Shared.{HasSharedCause, IsFresh, IsTurn, first_seats};
 ghost use Rattle.hp_shared.specs.Volumes.{IsSealOf};
 
@@ -8,7 +9,7 @@ use crate::locked::Locked;
 use crate::seat::Seat;
 use hp_history::Volume;
 use hp_machine::Machine;
-use hp_units::{CallFault, Cpu, Event, Receipt};
+use hp_units::{CallFault, Cpu, Event, Reply, Serial};
 use std::alloc::{AllocError, Global};
 use std::sync::ledger::{Blank, Share};
 use std::sync::{Mutex, Wait};
@@ -59,7 +60,7 @@ impl<L: Job> Shared<L> {
         self.cpus
     }
 
-    /// One turn of a seat under the lock, for which it may wait.
+    /// One turn of a seat under the lock, for which it may wait: the serial and the reply.
     pub(crate) fn turn(
         &self,
         rt: &impl Wait,
@@ -67,9 +68,10 @@ impl<L: Job> Shared<L> {
         share: &mut Share<L>,
         cpu: Cpu,
         event: &Event,
-    ) -> Result<Receipt, CallFault>
+    ) -> Result<(Serial, Reply), CallFault>
         requires { 0 < share.old.parts }
-        ensures ok { IfOk result (λ receipt. IsTurn L.layout cpu event.now receipt share.new.amount) }
+        ensures ok { IfOk result
+            (λ answer. IsTurn L.layout cpu event.now (receipt_for event.now answer) share.new.amount) }
         ensures counted { OnOk result (share.new.amount ≡ share.old.amount + 1) }
         ensures err { OnErr result (share.new.amount ≡ share.old.amount) }
         ensures cause { IfErr result (HasSharedCause L.layout) }

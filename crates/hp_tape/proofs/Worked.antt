@@ -4,6 +4,7 @@ use Rattle.std.proofs.Common.{◌≡◌, List, [], ◌∷◌, Some, None, false,
 use Rattle.hp_tape.specs.declared.deltas.Delta.{Delta}
 use Rattle.hp_tape.specs.declared.deltas.Delta.TheVariants.{Link, Unlink, Kind as KindDelta, Kernel as KernelDelta, Map as MapDelta}
 use Rattle.hp_tape.specs.declared.deltas.ListId.TheVariants.{Area, Cpu}
+use Rattle.hp_tape.specs.declared.frame_changes.FrameChange.TheVariants.{Mapped}
 use Rattle.hp_units.specs.declared.rows.Class.TheVariants.{Nu, Nm, Mm}
 use Rattle.hp_units.specs.declared.rows.Pool.TheVariants.{Mm as MmPool}
 use Rattle.hp_units.specs.declared.rows.Mobility.TheVariants.{Unmovable, Movable}
@@ -44,9 +45,9 @@ view_after event = frame_view_of small (step small (boot_memory small) 1 0 event
 abbrev map_deltas : List Delta
 map_deltas =
     Unlink (Area Mm 2) 8 None ∷ Link (Area Mm 1) 10 None ∷ Link (Area Mm 0) 9 None
-    ∷ Link (Cpu 0 MmPool) 8 None
-    ∷ Unlink (Area Mm 0) 9 None ∷ Link (Cpu 0 MmPool) 9 (Some 8) ∷ Unlink (Cpu 0 MmPool) 8 None
-    ∷ MapDelta 0 0 None (Some 8) ∷ []
+    ∷ Link (Cpu MmPool 0) 8 None
+    ∷ Unlink (Area Mm 0) 9 None ∷ Link (Cpu MmPool 0) 9 (Some 8) ∷ Unlink (Cpu MmPool 0) 8 None
+    ∷ MapDelta 0 0 (Mapped 8) ∷ []
 
 map_back : back map_deltas (view_after (Map 0 0)) ≡ view_before
 unfolding take_block steal_block take_frames take_one online_block refusal_of map_step step boot_memory

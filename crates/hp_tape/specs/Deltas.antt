@@ -7,6 +7,9 @@ use Rattle.hp_tape.specs.declared.deltas.Delta.{Delta}
 use Rattle.hp_tape.specs.declared.deltas.Delta.TheVariants.{Link, Unlink, Kind as KindDelta, Kernel as KernelDelta, Map as MapDelta, Swap, Word as WordDelta, Filled, Emptied, Row as RowDelta, Auto as AutoDelta}
 use Rattle.hp_tape.specs.declared.deltas.ListId.{ListId}
 use Rattle.hp_tape.specs.declared.deltas.ListId.TheVariants.{Area, Cpu}
+use Rattle.hp_tape.specs.declared.frame_changes.FrameChange.{FrameChange}
+use Rattle.hp_tape.specs.declared.frame_changes.FrameChange.TheVariants.{Mapped}
+use Rattle.hp_tape.specs.FrameChanges.{frame_before, frame_after}
 use Rattle.hp_units.specs.LayoutParts.{LayoutParts}
 use Rattle.hp_units.specs.Arithmetic.{IsFrame, all_frames, pageblock_count}
 use Rattle.hp_units.specs.Memory.{FreeAreas, FreeFrames, Pages, Blocks, Memory, free_list, with_free_list, cached_list, with_cached_list, with_kind, with_row, entry_of, with_entry}
@@ -70,9 +73,9 @@ areas_undo (KindDelta pageblock was now) a = with_kind a pageblock was
 areas_undo delta a = a
 
 abbrev pub cached_undo : Delta → FreeFrames → FreeFrames
-cached_undo (Link (Cpu cpu pool) frame after) fs =
+cached_undo (Link (Cpu pool cpu) frame after) fs =
     with_cached_list fs cpu pool (without frame (cached_list fs cpu pool))
-cached_undo (Unlink (Cpu cpu pool) frame after) fs =
+cached_undo (Unlink (Cpu pool cpu) frame after) fs =
     with_cached_list fs cpu pool (put_behind after frame (cached_list fs cpu pool))
 cached_undo delta fs = fs
 
@@ -80,9 +83,10 @@ abbrev pub free_undo : Delta → FreeFrames → FreeFrames
 free_undo delta fs = cached_undo delta (record fs { areas = areas_undo delta fs.areas })
 
 abbrev pub pages_undo : Delta → PageFrames → PageFrames
-pages_undo (MapDelta owner page was now) v = record v { table = with_entry v.table owner page was }
+pages_undo (MapDelta owner page change) v =
+    record v { table = with_entry v.table owner page (frame_before change) }
 pages_undo (Swap a b) v = with_buffer (with_buffer v a (buffer_of v b)) b (buffer_of v a)
-pages_undo (WordDelta frame index was now) v =
+pages_undo (WordDelta index frame was now) v =
     with_buffer v frame (option_map (λ words. slice_set words index was) (buffer_of v frame))
 pages_undo (Filled frame index now) v = with_buffer v frame None
 pages_undo (Emptied frame words) v = with_buffer v frame (Some words)
@@ -93,7 +97,7 @@ kernel_undo (KernelDelta frame was now) kernel = slice_set kernel frame was
 kernel_undo delta kernel = kernel
 
 abbrev pub blocks_undo : Delta → Blocks → Blocks
-blocks_undo (RowDelta block was now) bs = with_row bs block was
+blocks_undo (RowDelta change) bs = with_row bs change.block change.before
 blocks_undo (AutoDelta was now) bs = record bs { auto = was }
 blocks_undo delta bs = bs
 
@@ -136,8 +140,8 @@ FitsAreas (KindDelta pageblock was now) a = slice_get a.kinds pageblock ≡ Some
 FitsAreas delta a = Unit {0}
 
 abbrev pub FitsCached : Delta → FreeFrames → Type 0
-FitsCached (Link (Cpu cpu pool) frame after) fs = is_behind after frame (cached_list fs cpu pool) ≡ true
-FitsCached (Unlink (Cpu cpu pool) frame after) fs =
+FitsCached (Link (Cpu pool cpu) frame after) fs = is_behind after frame (cached_list fs cpu pool) ≡ true
+FitsCached (Unlink (Cpu pool cpu) frame after) fs =
     may_go_behind fs.cached after frame (cached_list fs cpu pool) ≡ true
 FitsCached delta fs = Unit {0}
 
@@ -146,9 +150,9 @@ abbrev pub FitsFree : Delta → FreeFrames → Type 0
 FitsFree delta fs = FitsAreas delta fs.areas × FitsCached delta fs
 
 -- the frame of a new page has no buffer
-abbrev pub IsFresh : (was now : Option ℕ) → PageFrames → Type 0
-IsFresh None (Some frame) v = buffer_of v frame ≡ None
-IsFresh was now v = Unit {0}
+abbrev pub IsFresh : FrameChange → PageFrames → Type 0
+IsFresh (Mapped frame) v = buffer_of v frame ≡ None
+IsFresh change v = Unit {0}
 
 -- a buffer's words are 0 but for one
 abbrev pub HasOneWord : (index value : ℕ) → Option (List ℕ) → Type 0
@@ -156,8 +160,9 @@ HasOneWord index value None = ⊥
 HasOneWord index value (Some words) = words ≡ slice_set (replicate (length words) 0) index value
 
 abbrev pub FitsPages : Delta → PageFrames → Type 0
-FitsPages (MapDelta owner page was now) v = (entry_of v.table owner page ≡ now) × IsFresh was now v
-FitsPages (WordDelta frame index was now) v = slice_get (unwrap_or (buffer_of v frame) []) index ≡ Some now
+FitsPages (MapDelta owner page change) v =
+    (entry_of v.table owner page ≡ frame_after change) × IsFresh change v
+FitsPages (WordDelta index frame was now) v = slice_get (unwrap_or (buffer_of v frame) []) index ≡ Some now
 FitsPages (Filled frame index now) v = HasOneWord index now (buffer_of v frame)
 FitsPages (Emptied frame words) v = buffer_of v frame ≡ None
 FitsPages delta v = Unit {0}
@@ -167,7 +172,7 @@ FitsKernel (KernelDelta frame was now) kernel = slice_get kernel frame ≡ Some 
 FitsKernel delta kernel = Unit {0}
 
 abbrev pub FitsBlocks : Delta → Blocks → Type 0
-FitsBlocks (RowDelta block was now) bs = slice_get bs.rows block ≡ Some now
+FitsBlocks (RowDelta change) bs = slice_get bs.rows change.block ≡ Some change.after
 FitsBlocks (AutoDelta was now) bs = bs.auto ≡ now
 FitsBlocks delta bs = Unit {0}
 
@@ -186,20 +191,21 @@ AllFit Fit one (delta ∷ deltas) v = AllFit Fit one deltas v × Fit delta (undo
 -- the numbers of a list, and of a delta, are in the layout (own rule)
 abbrev pub IsListOf : LayoutParts → ListId → Type 0
 IsListOf l (Area class order) = order ≤ l.order
-IsListOf l (Cpu cpu pool) = cpu < l.cpus
+IsListOf l (Cpu pool cpu) = cpu < l.cpus
 
 abbrev pub IsDeltaOf : LayoutParts → Delta → Type 0
 IsDeltaOf l (Link list frame after) = IsListOf l list × IsFrame l frame
 IsDeltaOf l (Unlink list frame after) = IsListOf l list × IsFrame l frame
 IsDeltaOf l (KindDelta pageblock was now) = pageblock < pageblock_count l
 IsDeltaOf l (KernelDelta frame was now) = IsFrame l frame
-IsDeltaOf l (MapDelta owner page was now) =
-    (owner < l.owners) × (page < l.pages) × IfSome was (IsFrame l) × IfSome now (IsFrame l)
+IsDeltaOf l (MapDelta owner page change) =
+    (owner < l.owners) × (page < l.pages) × IfSome (frame_before change) (IsFrame l)
+    × IfSome (frame_after change) (IsFrame l)
 IsDeltaOf l (Swap a b) = IsFrame l a × IsFrame l b
-IsDeltaOf l (WordDelta frame index was now) = IsFrame l frame × (index < l.words)
+IsDeltaOf l (WordDelta index frame was now) = IsFrame l frame × (index < l.words)
 IsDeltaOf l (Filled frame index now) = IsFrame l frame × (index < l.words)
 IsDeltaOf l (Emptied frame words) = IsFrame l frame × (length words ≡ l.words)
-IsDeltaOf l (RowDelta block was now) = block < l.blocks
+IsDeltaOf l (RowDelta change) = change.block < l.blocks
 IsDeltaOf l (AutoDelta was now) = Unit {0}
 
 -- ---- whose delta it is (own rule)
@@ -220,16 +226,16 @@ IsOfFree delta = ⊥
 
 -- of the owners' pages
 abbrev pub IsOfPages : Delta → Type 0
-IsOfPages (MapDelta owner page was now) = Unit {0}
+IsOfPages (MapDelta owner page change) = Unit {0}
 IsOfPages (Swap a b) = Unit {0}
-IsOfPages (WordDelta frame index was now) = Unit {0}
+IsOfPages (WordDelta index frame was now) = Unit {0}
 IsOfPages (Filled frame index now) = Unit {0}
 IsOfPages (Emptied frame words) = Unit {0}
 IsOfPages delta = ⊥
 
 -- of the rows of the memory blocks
 abbrev pub IsOfBlocks : Delta → Type 0
-IsOfBlocks (RowDelta block was now) = Unit {0}
+IsOfBlocks (RowDelta change) = Unit {0}
 IsOfBlocks (AutoDelta was now) = Unit {0}
 IsOfBlocks delta = ⊥
 

@@ -1,4 +1,5 @@
 pub mod Bounds
 pub mod Deltas
-pub mod PackedRows
+pub mod FrameChanges
+pub mod RowChanges
 pub mod Tapes

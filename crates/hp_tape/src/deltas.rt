@@ -1,8 +1,9 @@
 //! What was done to the state, so that it can be undone.
 ghost use Rattle.std.specs.Prelude.{◌≡◌, IfOk};
 
-use crate::packed_rows::PackedRow;
-use hp_units::{Auto, Block, Class, Cpu, Frame, Kind, Order, Owner, Page, Pageblock, Pool, Words};
+use crate::frame_changes::FrameChange;
+use crate::row_changes::RowChange;
+use hp_units::{Auto, Class, Cpu, Frame, Kind, Order, Owner, Page, Pageblock, Pool, Words};
 use std::alloc::{AllocError, Global};
 use std::mem::size_of;
 
@@ -12,7 +13,7 @@ pub enum ListId {
     /// The free blocks of a class and an order.
     Area { class: Class, order: Order },
     /// The single frames of a pool in a processor's list.
-    Cpu { cpu: Cpu, pool: Pool },
+    Cpu { pool: Pool, cpu: Cpu },
 }
 
 /// One small change of the state, with what its opposite needs (own rule). None holds a list of
@@ -47,18 +48,17 @@ pub enum Delta {
     Map {
         owner: Owner,
         page: Page,
-        was: Option<Frame>,
-        now: Option<Frame>,
+        change: FrameChange,
     },
     /// The buffers of two frames changed places.
     Swap {
         a: Frame,
         b: Frame,
     },
-    /// One word in the buffer of a frame changed; words are counted from 0.
+    /// One word in the buffer of a frame changed; words are counted from 0, and a frame has at most 512.
     Word {
+        index: u16,
         frame: Frame,
-        index: u32,
         was: u64,
         now: u64,
     },
@@ -76,11 +76,7 @@ pub enum Delta {
         words: Words,
     },
     /// The row of a memory block changed.
-    Row {
-        block: Block,
-        was: PackedRow,
-        now: PackedRow,
-    },
+    Row(RowChange),
     /// What an added memory block becomes changed.
     Auto {
         was: Auto,
@@ -89,7 +85,7 @@ pub enum Delta {
 }
 
 /// Bytes of a delta decide what a journal costs (own rule).
-const _: () = prove!(size_of::<Delta>() <= 32);
+const _: () = prove!(size_of::<Delta>() <= 24);
 
 impl Delta {
     /// An equal delta. Takes memory for the words that it holds, if it holds any; an error is out of memory.
@@ -124,23 +120,21 @@ impl Delta {
             Delta::Map {
                 owner,
                 page,
-                was,
-                now,
+                change,
             } => Delta::Map {
                 owner: *owner,
                 page: *page,
-                was: *was,
-                now: *now,
+                change: *change,
             },
             Delta::Swap { a, b } => Delta::Swap { a: *a, b: *b },
             Delta::Word {
-                frame,
                 index,
+                frame,
                 was,
                 now,
             } => Delta::Word {
-                frame: *frame,
                 index: *index,
+                frame: *frame,
                 was: *was,
                 now: *now,
             },
@@ -153,11 +147,7 @@ impl Delta {
                 frame: *frame,
                 words: words.copy(alloc)?,
             },
-            Delta::Row { block, was, now } => Delta::Row {
-                block: *block,
-                was: PackedRow::new(was.row()),
-                now: PackedRow::new(now.row()),
-            },
+            Delta::Row(change) => Delta::Row(change.copy()),
             Delta::Auto { was, now } => Delta::Auto {
                 was: *was,
                 now: *now,

@@ -2,9 +2,11 @@
 #![tactic(auto)]
 
 mod deltas;
-mod packed_rows;
+mod frame_changes;
+mod row_changes;
 mod tapes;
 
 pub use deltas::{Delta, ListId};
-pub use packed_rows::PackedRow;
+pub use frame_changes::FrameChange;
+pub use row_changes::RowChange;
 pub use tapes::Tape;

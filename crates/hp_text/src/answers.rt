@@ -2,16 +2,13 @@
 ghost use Rattle.std.specs.Prelude.{◌≡◌, ◌++◌, OnOk, string_bytes};
 ghost use Rattle.hp_text.specs.Answers.{bare_reply_line, fault_line, reply_line, sealed_line, unrecorded_line};
 
-use hp_units::{CallFault, Receipt, Reply};
+use hp_units::{CallFault, Reply, Serial};
 use std::alloc::AllocError;
 
-/// Writes the serial and the reply of a receipt, as `3: frame 0` (own rule).
-pub fn write_receipt(out: &mut String, receipt: &Receipt) -> Result<(), AllocError>
-    ensures { OnOk result
-        (string_bytes out.new ≡ string_bytes out.old ++ reply_line receipt.now.serial receipt.now.reply) }
+/// Writes the serial of a record and its reply, as `3: frame 0` (own rule).
+pub fn write_answer(out: &mut String, serial: Serial, reply: Reply) -> Result<(), AllocError>
+    ensures { OnOk result (string_bytes out.new ≡ string_bytes out.old ++ reply_line serial reply) }
 {
-    let serial = receipt.serial;
-    let reply = receipt.reply;
     writeln!(out, "{serial}: {reply}")?;
     Ok(())
 }

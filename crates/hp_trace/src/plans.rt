@@ -9,7 +9,7 @@ use crate::rows::Rows;
 use hp_machine::Machine;
 use hp_ops::{Port, run_plan};
 use hp_text::{write_event, write_plan_end};
-use hp_units::{CallFault, Cpu, Event, OpEnd, Plan, Receipt};
+use hp_units::{CallFault, Cpu, Event, OpEnd, Plan, Receipt, Reply};
 use indexmap::IndexSet;
 use std::alloc::{AllocError, Global};
 
@@ -66,13 +66,13 @@ impl<'a> Port for TracePort<'a> {
         self.machine.layout().cpus()
     }
 
-    fn call(&mut self, alloc: Global, event: &Event) -> Result<Receipt, CallFault> {
+    fn call(&mut self, alloc: Global, event: &Event) -> Result<Reply, CallFault> {
         match self.machine.call(alloc, self.cpu, event) {
             Ok(receipt) => {
                 let is_drawn = draw_step(self.rows, alloc, self.machine, &receipt);
                 self.is_lost = is_lost(self.is_lost, is_drawn);
                 self.fault = None;
-                Ok(receipt)
+                Ok(receipt.reply)
             }
             Err(fault) => {
                 self.is_lost = self.is_lost || is_memory(fault);

@@ -15,10 +15,11 @@ pub struct Item {
     pub wish: Wish,
 }
 
-/// What an operation makes of memory blocks, in the order in which it is checked.
+/// What an operation makes of memory blocks, in the order in which it is checked. The items are in a
+/// place of their own, so that events stay small.
 #[derive(Debug, Drop)]
 pub struct Plan {
-    items: Vec<Item>,
+    items: Box<Vec<Item>>,
 }
 
 impl Model for Plan {
@@ -27,15 +28,16 @@ impl Model for Plan {
 
     ghost Value = { List Item };
 
-    ghost view = { λ p. p.items.items };
+    ghost view = { λ p. p.items.value.items };
 }
 
 impl Plan {
-    /// The plan of these items, with no memory taken.
-    pub fn new(items: Vec<Item>) -> Self
-        ensures { result ≡ items.items }
+    /// The plan of these items. An error is out of memory.
+    pub fn new(alloc: Global, items: Vec<Item>) -> Result<Plan, AllocError>
+        ensures { IfOk result (λ plan. plan ≡ items.items) }
     {
-        Plan { items }
+        let items = Box::new(alloc, items)?;
+        Ok(Plan { items })
     }
 
     /// The items in order.
@@ -51,7 +53,7 @@ impl Plan {
         ensures { IfOk result (λ plan. plan ≡ self.now) }
     {
         let items = Vec::from_slice(alloc, self.items.as_slice())?;
-        Ok(Plan { items })
+        Plan::new(alloc, items)
     }
 
     /// Whether the plans have the same items in the same order.
@@ -82,10 +84,10 @@ fn is_same(item: &Item, other: &Item) -> bool
     item.block == other.block && item.wish == other.wish
 }
 
-/// The 8-byte words of a page.
+/// The 8-byte words of a page, in a place of their own, so that tables of words stay small.
 #[derive(Debug, Drop)]
 pub struct Words {
-    words: Vec<u64>,
+    words: Box<Vec<u64>>,
 }
 
 impl Model for Words {
@@ -93,15 +95,16 @@ impl Model for Words {
 
     ghost Value = { List ℕ };
 
-    ghost view = { λ p. p.words.items };
+    ghost view = { λ p. p.words.value.items };
 }
 
 impl Words {
-    /// The words of a vector, with no memory taken.
-    pub fn new(words: Vec<u64>) -> Self
-        ensures { result ≡ words.items }
+    /// The words of a vector. An error is out of memory.
+    pub fn new(alloc: Global, words: Vec<u64>) -> Result<Words, AllocError>
+        ensures { IfOk result (λ page. page ≡ words.items) }
     {
-        Words { words }
+        let words = Box::new(alloc, words)?;
+        Ok(Words { words })
     }
 
     /// The words in order.
@@ -124,7 +127,7 @@ impl Words {
         ensures { IfOk result (λ words. words ≡ self.now) }
     {
         let words = Vec::from_slice(alloc, self.words.as_slice())?;
-        Ok(Words { words })
+        Words::new(alloc, words)
     }
 
     /// Whether the words are the same.

@@ -168,7 +168,7 @@ fn ask<P: Port>(alloc: Global, port: &mut P, event: &Event) -> LineEnd
     ensures { IsPortRun P.shows P.makes P.leaves port.old (IsEventRun event.now) result port.new }
 {
     match port.call(alloc, event) {
-        Ok(receipt) => LineEnd::Reply(receipt.reply),
+        Ok(reply) => LineEnd::Reply(reply),
         Err(fault) => LineEnd::Fault(fault),
     }
 }

@@ -4,7 +4,7 @@ ghost use Rattle.std.specs.Prelude.{◌≡◌, None};
 use crate::gate::Gate;
 use hp_ops::Port;
 use hp_shared::{Job, Seat, Shared};
-use hp_units::{CallFault, Event, Receipt};
+use hp_units::{CallFault, Event, Reply};
 use std::alloc::Global;
 use std::sync::Wait;
 
@@ -61,17 +61,22 @@ impl<'a, L: Job, G: Gate, R: Wait> Port for GatedPort<'a, L, G, R> {
         self.shared.cpus()
     }
 
-    fn call(&mut self, alloc: Global, event: &Event) -> Result<Receipt, CallFault> {
+    fn call(&mut self, alloc: Global, event: &Event) -> Result<Reply, CallFault> {
         let cpu = self.seat.cpu();
         *self.calls = self.calls.saturating_add(1);
         self.gate.before(cpu, *self.calls);
         let answer = self.seat.call(self.rt, alloc, self.shared, event);
         self.gate.after(cpu, *self.calls);
-        match &answer {
-            Ok(_) => self.fault = None,
-            Err(fault) => self.fault = Some(*fault),
+        match answer {
+            Ok(reply) => {
+                self.fault = None;
+                Ok(reply)
+            }
+            Err(fault) => {
+                self.fault = Some(fault);
+                Err(fault)
+            }
         }
-        answer
     }
 
     ghost nothing = { λ p. (refl, refl) };

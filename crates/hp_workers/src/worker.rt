@@ -49,6 +49,8 @@ pub(crate) fn run_script<L: Job, G: Gate, R: Wait>(
         return stopped(alloc, seat, RunFault::OutOfMemory);
     };
     let mut seat = seat;
+    // Without this room the receipts find theirs as they come.
+    let _ = seat.reserve(lines.len());
     let mut ends = ends;
     let mut volumes = Vec::new(alloc);
     let mut calls = 0;

@@ -58,7 +58,7 @@ fn begin(alloc: Global) -> Result<Event, AllocError> {
         })?;
     }
     Ok(Event::Begin {
-        plan: Plan::new(items),
+        plan: Plan::new(alloc, items)?,
     })
 }
 

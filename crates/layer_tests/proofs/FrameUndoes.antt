@@ -18,33 +18,33 @@ use Rattle.layer_tests.specs.FrameScripts.{is_of_cpus}
 -- one of a processor's list leaves the areas
 pub areas-kept : (d : Delta) (a : FreeAreas) → is_of_cpus d ≡ true → areas_undo d a ≡ a
 areas-kept (Link (Area class order) frame after) a is = cc
-areas-kept (Link (CpuList cpu pool) frame after) a is = refl
+areas-kept (Link (CpuList pool cpu) frame after) a is = refl
 areas-kept (Unlink (Area class order) frame after) a is = cc
-areas-kept (Unlink (CpuList cpu pool) frame after) a is = refl
+areas-kept (Unlink (CpuList pool cpu) frame after) a is = refl
 areas-kept (KindDelta pageblock was now) a is = cc
 areas-kept (KernelDelta frame was now) a is = refl
-areas-kept (MapDelta owner page was now) a is = refl
+areas-kept (MapDelta owner page change) a is = refl
 areas-kept (Swap one other) a is = refl
-areas-kept (WordDelta frame index was now) a is = refl
+areas-kept (WordDelta index frame was now) a is = refl
 areas-kept (Filled frame index now) a is = refl
 areas-kept (Emptied frame words) a is = refl
-areas-kept (RowDelta block was now) a is = refl
+areas-kept (RowDelta change) a is = refl
 areas-kept (AutoDelta was now) a is = refl
 
 -- and another one the processors' lists
 pub cached-kept : (d : Delta) (fs : FreeFrames) → is_of_cpus d ≡ false → cached_undo d fs ≡ fs
 cached-kept (Link (Area class order) frame after) fs is = refl
-cached-kept (Link (CpuList cpu pool) frame after) fs is = cc
+cached-kept (Link (CpuList pool cpu) frame after) fs is = cc
 cached-kept (Unlink (Area class order) frame after) fs is = refl
-cached-kept (Unlink (CpuList cpu pool) frame after) fs is = cc
+cached-kept (Unlink (CpuList pool cpu) frame after) fs is = cc
 cached-kept (KindDelta pageblock was now) fs is = refl
 cached-kept (KernelDelta frame was now) fs is = refl
-cached-kept (MapDelta owner page was now) fs is = refl
+cached-kept (MapDelta owner page change) fs is = refl
 cached-kept (Swap one other) fs is = refl
-cached-kept (WordDelta frame index was now) fs is = refl
+cached-kept (WordDelta index frame was now) fs is = refl
 cached-kept (Filled frame index now) fs is = refl
 cached-kept (Emptied frame words) fs is = refl
-cached-kept (RowDelta block was now) fs is = refl
+cached-kept (RowDelta change) fs is = refl
 cached-kept (AutoDelta was now) fs is = refl
 
 -- ---- the latest, and the others then

@@ -10,8 +10,8 @@ use Rattle.hp_cpus.specs.Cpus.{CpusValue, AreTogether}
 
 -- whether a delta is of a processor's list
 abbrev pub is_of_cpus : Delta → Bool
-is_of_cpus (Link (CpuList cpu pool) frame after) = true
-is_of_cpus (Unlink (CpuList cpu pool) frame after) = true
+is_of_cpus (Link (CpuList pool cpu) frame after) = true
+is_of_cpus (Unlink (CpuList pool cpu) frame after) = true
 is_of_cpus delta = false
 
 -- lists of at most twelve frames that are drained

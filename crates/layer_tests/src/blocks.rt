@@ -4,7 +4,7 @@ ghost use Rattle.layer_tests.specs.SmallLayouts.{two_blocks};
 
 use crate::layouts::two_blocks;
 use hp_blocks::Blocks;
-use hp_tape::{Delta, PackedRow, Tape};
+use hp_tape::{Delta, RowChange, Tape};
 use hp_units::{Auto, Block, Row, Serial, State, Wish, Zone};
 use std::alloc::{AllocError, Global};
 use std::test::Fail;
@@ -49,11 +49,8 @@ fn is_claimed_and_back(blocks: &mut Blocks, tape: &mut Tape) -> bool
     blocks.claim(Block(1), Serial(5), Wish::Off, tape);
     let claimed = blocks.row(Block(1));
     let is_live = blocks.is_live(Serial(5));
-    blocks.back(Delta::Row {
-        block: Block(1),
-        was: PackedRow::new(ONLINE),
-        now: PackedRow::new(claimed),
-    });
+    let change = RowChange::new(Block(1), ONLINE, claimed);
+    blocks.back(Delta::Row(change));
     claimed.state == State::Going && is_live && blocks.row(Block(1)) == ONLINE
 }
 

@@ -1,4 +1,4 @@
-use hp_tape::{Delta, PackedRow, Tape};
+use hp_tape::{Delta, FrameChange, RowChange, Tape};
 use hp_units::{Auto, Block, Claim, Frame, Row, Serial, State, Wish, Zone};
 use std::test::Fail;
 
@@ -32,8 +32,20 @@ const HELD: Row = Row {
 };
 
 #[test]
-fn packs_a_row(rt: HostRuntime) {
-    assert_eq!(rt; PackedRow::new(HELD).row(), HELD);
+fn packs_two_rows(rt: HostRuntime) {
+    let change = RowChange::new(Block(255), Row::bare(State::Absent), HELD);
+    assert_eq!(rt; change.block(), Block(255));
+    assert_eq!(rt; change.before(), Row::bare(State::Absent));
+    assert_eq!(rt; change.after(), HELD);
+}
+
+#[test]
+fn knows_the_frame_before(rt: HostRuntime) {
+    let moved = FrameChange::Moved {
+        was: Frame(1),
+        now: Frame(2),
+    };
+    assert_eq!(rt; moved.before(), Some(Frame(1)));
 }
 
 #[test]

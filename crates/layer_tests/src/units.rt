@@ -199,18 +199,19 @@ fn plans_are_copied(alloc: Global) -> Result<bool, AllocError> {
         block: Block(2),
         wish: Wish::Off,
     };
-    let plan = Plan::new(vec![in alloc; item]?);
+    let plan = Plan::new(alloc, vec![in alloc; item]?)?;
     let event = Event::Begin {
         plan: plan.copy(alloc)?,
     };
     let same = event.same(&event.copy(alloc)?);
-    let other = plan.same(&Plan::new(Vec::new(alloc)));
+    let none = Plan::new(alloc, Vec::new(alloc))?;
+    let other = plan.same(&none);
     Ok(plan.as_slice().len() == 1 && same && !other)
 }
 
 /// Whether words that were changed and their copy are the same.
 fn words_are_copied(alloc: Global) -> Result<bool, AllocError> {
-    let mut words = Words::new(vec![in alloc; 7, 9]?);
+    let mut words = Words::new(alloc, vec![in alloc; 7, 9]?)?;
     words.set(1, 8);
     let same = words.same(&words.copy(alloc)?);
     Ok(same && matches!(words.as_slice(), [7, 8]))

@@ -107,7 +107,7 @@ fn offline(alloc: Global) -> Result<Plan, AllocError> {
             wish: Wish::Off
         },
     ]?;
-    Ok(Plan::new(items))
+    Plan::new(alloc, items)
 }
 
 /// Block 1 goes offline by hand: it is begun, both processors are drained, a page moves, and the
@@ -204,8 +204,8 @@ fn faults(
 
 /// Whether a page of owner 0 is mapped and written, and both steps are sealed.
 fn prepares(alloc: Global, machine: &mut Machine) -> bool {
-    machine.call(alloc, Cpu(0), &map(0)).is_ok()
-        && machine.call(alloc, Cpu(0), &write(0)).is_ok()
+    machine.answer(alloc, Cpu(0), &map(0)).is_ok()
+        && machine.answer(alloc, Cpu(0), &write(0)).is_ok()
         && machine.seal(alloc).is_ok()
 }
 

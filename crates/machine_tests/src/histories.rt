@@ -46,7 +46,7 @@ fn cancelled(alloc: Global) -> Result<Vec<Record>, AllocError> {
         block: Block(0),
         wish: Wish::Off,
     };
-    let plan = Plan::new(vec![in alloc; item]?);
+    let plan = Plan::new(alloc, vec![in alloc; item]?)?;
     let drain = Event::DrainFor { op, cpu: Cpu(0) };
     let mut records = Vec::new(alloc);
     records.push(record_of(1, Event::Begin { plan }, Reply::Opened { op }))?;
@@ -207,10 +207,13 @@ fn a_course_shows_what_it_keeps(rt: HostRuntime) -> Result<(), Fail> {
 
 /// Answers an event of processor 0, where there is a further serial.
 fn act(alloc: Global, course: &mut Course, event: &Event) -> Result<(), AllocError> {
-    if !course.is_spent() {
-        let _receipt = course.answer(alloc, Cpu(0), event)?;
+    if course.is_spent() {
+        return Ok(());
     }
-    Ok(())
+    match course.answer(alloc, Cpu(0), event) {
+        Ok(_) => Ok(()),
+        Err(AllocError) => Err(AllocError),
+    }
 }
 
 /// Takes a block, is refused another, and gives the first back: two steps.

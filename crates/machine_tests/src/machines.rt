@@ -19,8 +19,8 @@ fn booted(alloc: Global, history: u64) -> Result<Machine, Fail> {
 
 /// Whether an event of processor 0 gets this reply.
 fn is_answered(alloc: Global, machine: &mut Machine, event: &Event, reply: &Reply) -> bool {
-    match machine.call(alloc, Cpu(0), event) {
-        Ok(receipt) => receipt.reply.same(reply),
+    match machine.answer(alloc, Cpu(0), event) {
+        Ok((_, answered)) => answered.same(reply),
         Err(_fault) => false,
     }
 }
@@ -80,15 +80,29 @@ fn undo_returns_a_stolen_pageblock(rt: HostRuntime) -> Result<(), Fail> {
     Ok(())
 }
 
+/// Whether a call's receipt has its serial, its event and its reply.
+fn gives_a_receipt(alloc: Global, machine: &mut Machine) -> bool {
+    let take = Event::KernelAlloc { order: Order(1) };
+    match machine.call(alloc, Cpu(0), &take) {
+        Ok(receipt) => {
+            receipt.serial == Serial(1)
+                && receipt.event.same(&take)
+                && receipt.reply.same(&Reply::Frame(Frame(0)))
+        }
+        Err(_fault) => false,
+    }
+}
+
 /// Whether a machine with a limit of one record takes one call and no more.
 fn takes_one_call(alloc: Global, machine: &mut Machine) -> bool {
-    let first = takes(alloc, machine);
+    let first = gives_a_receipt(alloc, machine);
     let give = Event::KernelFree { frame: Frame(0) };
     let full = match machine.call(alloc, Cpu(0), &give) {
         Ok(_receipt) => false,
         Err(fault) => fault == CallFault::HistoryFull,
     };
-    first && full && machine.history().len() == 1
+    let reserved = machine.reserve(8).is_ok();
+    first && full && reserved && machine.history().len() == 1
 }
 
 #[test]
@@ -206,7 +220,7 @@ fn offline(alloc: Global) -> Result<Plan, AllocError> {
             wish: Wish::Off
         },
     ]?;
-    Ok(Plan::new(items))
+    Plan::new(alloc, items)
 }
 
 /// Whether a page is mapped, and then its block goes offline by the driver of a plan.

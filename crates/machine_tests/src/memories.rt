@@ -48,7 +48,7 @@ fn goes_offline(alloc: Global, memory: &mut Memory) -> Result<bool, AllocError> 
         block: Block(2),
         wish: Wish::Off,
     };
-    let plan = Plan::new(vec![in alloc; leave]?);
+    let plan = Plan::new(alloc, vec![in alloc; leave]?)?;
     let (from, to, cpu) = (Frame(8), Frame(0), Cpu(0));
     let held = Refusal::NotFree { frame: from };
     let calls = [

@@ -51,7 +51,7 @@ fn offline_becomes_a_plan(rt: HostRuntime) -> Result<(), Fail> {
         block: Block(4294967295),
         wish: Wish::Off,
     };
-    let plan = Plan::new(vec![in rt.alloc(); item]?);
+    let plan = Plan::new(rt.alloc(), vec![in rt.alloc(); item]?)?;
     assert!(rt; asks_for_plan(rt.alloc(), "memory4294967295/state", b"offline", &plan));
     Ok(())
 }

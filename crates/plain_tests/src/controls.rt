@@ -104,7 +104,7 @@ const GOING: &[(&str, &str)] = &[
 
 /// Whether an event of processor 0 is recorded.
 fn is_called(alloc: Global, machine: &mut Machine, event: &Event) -> bool {
-    machine.call(alloc, Cpu(0), event).is_ok()
+    machine.answer(alloc, Cpu(0), event).is_ok()
 }
 
 /// The event that begins to take block 2 offline.
@@ -113,7 +113,7 @@ fn begin(alloc: Global) -> Result<Event, AllocError> {
         block: Block(2),
         wish: Wish::Off,
     };
-    let plan = Plan::new(vec![in alloc; item]?);
+    let plan = Plan::new(alloc, vec![in alloc; item]?)?;
     Ok(Event::Begin { plan })
 }
 

@@ -63,7 +63,7 @@ fn adds_a_page(alloc: Global, image: &mut Image) -> Result<bool, AllocError>
     requires words { image.old.layout.words ≡ 2 }
     requires frames { frame_count image.old.layout ≡ 16 }
 {
-    let words = Words::new(vec![in alloc; 7, 9]?);
+    let words = Words::new(alloc, vec![in alloc; 7, 9]?)?;
     image.add(Part::Mapped {
         owner: Owner(1),
         page: Page(3),

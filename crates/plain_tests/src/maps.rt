@@ -67,7 +67,7 @@ fn draws(alloc: Global, machine: &Machine, texts: &[&str]) -> bool {
 
 /// Whether an event of processor 1 is recorded.
 fn is_called(alloc: Global, machine: &mut Machine, event: &Event) -> bool {
-    machine.call(alloc, Cpu(1), event).is_ok()
+    machine.answer(alloc, Cpu(1), event).is_ok()
 }
 
 /// Whether a page of owner 1 and a block of the kernel are drawn.
@@ -115,7 +115,7 @@ fn begin(alloc: Global) -> Result<Event, AllocError> {
     };
     let items = vec![in alloc; off, normal]?;
     Ok(Event::Begin {
-        plan: Plan::new(items),
+        plan: Plan::new(alloc, items)?,
     })
 }
 

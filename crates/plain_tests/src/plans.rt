@@ -1,5 +1,5 @@
 //! Each end of a driver's run, through a port that answers as a test says.
-ghost use Rattle.std.specs.Prelude.{◌≡◌, ◌⊎◌, ◌++◌, ◌∷◌, [], ℕ, List, IfOk, OnErr};
+ghost use Rattle.std.specs.Prelude.{◌≡◌, ◌⊎◌, ◌++◌, ◌∷◌, [], ℕ, List, OnErr, OnOk};
 ghost use Rattle.hp_units.specs.declared.events.Event.TheVariants.{Begin};
 ghost use Rattle.hp_units.specs.declared.plans.Item.{Item};
 ghost use Rattle.hp_units.specs.declared.replies.Refusal.TheVariants.{NoOp};
@@ -42,19 +42,16 @@ impl Scripted {
         }
     }
 
-    /// Keeps a receipt of an event and its reply, and gives one.
-    fn give(&mut self, alloc: Global, event: &Event, reply: Reply) -> Result<Receipt, AllocError>
-        ensures given { IfOk result
-            (λ receipt. receipt ≡ record { serial = 1; event = event.now; reply = reply }) }
-        ensures kept { IfOk result
-            (λ receipt. self.new.receipts.items ≡ self.old.receipts.items ++ receipt ∷ []) }
+    /// Keeps a receipt of an event and its reply.
+    fn keep(&mut self, alloc: Global, event: &Event, reply: Reply) -> Result<(), AllocError>
+        ensures kept { OnOk result (self.new.receipts.items ≡ self.old.receipts.items
+            ++ record { serial = 1; event = event.now; reply = reply } ∷ []) }
         ensures none { OnErr result (self.new.receipts.items ≡ self.old.receipts.items) }
     {
         let kept = receipt(event.copy(alloc)?, reply);
-        let given = receipt(event.copy(alloc)?, reply);
         self.receipts.reserve(1)?;
         self.receipts.push_reserved(kept);
-        Ok(given)
+        Ok(())
     }
 }
 
@@ -83,17 +80,18 @@ impl Port for Scripted {
         2
     }
 
-    fn call(&mut self, alloc: Global, event: &Event) -> Result<Receipt, CallFault> {
+    fn call(&mut self, alloc: Global, event: &Event) -> Result<Reply, CallFault> {
         let answer = self.answer();
         self.next = self.next.saturating_add(1);
         if answer == Answer::Full {
             self.fault = Some(CallFault::HistoryFull);
             return Err(CallFault::HistoryFull);
         }
-        match self.give(alloc, event, reply_to(event, answer)) {
-            Ok(receipt) => {
+        let reply = reply_to(event, answer);
+        match self.keep(alloc, event, reply) {
+            Ok(()) => {
                 self.fault = None;
-                Ok(receipt)
+                Ok(reply)
             }
             Err(AllocError) => {
                 self.fault = Some(CallFault::OutOfMemory);
@@ -187,7 +185,7 @@ fn offline(alloc: Global) -> Result<Plan, Fail> {
             wish: Wish::Off
         },
     ]?;
-    Ok(Plan::new(items))
+    Ok(Plan::new(alloc, items)?)
 }
 
 /// Whether a plan with so many turns ends so, through a port with these answers, after so many receipts.

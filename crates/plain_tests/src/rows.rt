@@ -64,5 +64,5 @@ fn item(block: u32, wish: Wish) -> Item {
 
 /// One word.
 fn one_word(alloc: Global) -> Result<Words, AllocError> {
-    Ok(Words::new(Vec::from_slice(alloc, ONE_WORD)?))
+    Words::new(alloc, Vec::from_slice(alloc, ONE_WORD)?)
 }

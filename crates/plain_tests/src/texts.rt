@@ -5,11 +5,11 @@ use hp_control::ControlFault;
 use hp_machine::Machine;
 use hp_plain::Image;
 use hp_text::{
-    write_call_fault, write_echo_fault, write_plan_end, write_read_fault, write_receipt,
+    write_answer, write_call_fault, write_echo_fault, write_plan_end, write_read_fault,
     write_reply, write_sealed, write_state, write_unrecorded,
 };
 use hp_units::{
-    Block, CallFault, Cpu, Event, Frame, OpEnd, Owner, Page, Receipt, Refusal, Reply, Serial, Text,
+    Block, CallFault, Cpu, Event, Frame, OpEnd, Owner, Page, Refusal, Reply, Serial, Text,
 };
 use indexmap::IndexSet;
 use std::alloc::{AllocError, Global};
@@ -22,12 +22,7 @@ const ANSWERS: &str =
 /// The text of an answer of each kind.
 fn answers(alloc: Global) -> Result<String, AllocError> {
     let mut out = String::new(alloc);
-    let receipt = Receipt {
-        serial: Serial(3),
-        event: Event::Drain { cpu: Cpu(0) },
-        reply: Reply::Frame(Frame(8)),
-    };
-    write_receipt(&mut out, &receipt)?;
+    write_answer(&mut out, Serial(3), Reply::Frame(Frame(8)))?;
     write_reply(&mut out, Reply::Refused(Refusal::Busy { block: Block(2) }))?;
     write_unrecorded(&mut out, CallFault::HistoryFull)?;
     write_call_fault(&mut out, CallFault::OutOfMemory)?;
@@ -64,8 +59,8 @@ const MAPPED: &str =
 
 /// Whether an event of processor 0 gets this reply.
 fn is_answered(alloc: Global, machine: &mut Machine, event: &Event, reply: &Reply) -> bool {
-    match machine.call(alloc, Cpu(0), event) {
-        Ok(receipt) => receipt.reply.same(reply),
+    match machine.answer(alloc, Cpu(0), event) {
+        Ok((_, answered)) => answered.same(reply),
         Err(_fault) => false,
     }
 }

@@ -14,15 +14,17 @@ fn stays(case: &mut Case, before: &Machine, machine: &Machine) -> Result<(), Tro
     holds(same_machines(case.alloc, before, machine)?)
 }
 
-/// Makes a call whose receipt nobody wants.
+/// Makes a call whose answer nobody wants.
 pub fn make_call(
     alloc: Global,
     machine: &mut Machine,
     cpu: Cpu,
     event: &Event,
 ) -> Result<(), Trouble> {
-    let _receipt = machine.call(alloc, cpu, event)?;
-    Ok(())
+    match machine.answer(alloc, cpu, event) {
+        Ok(_) => Ok(()),
+        Err(fault) => Err(Trouble::from(fault)),
+    }
 }
 
 /// Makes a call, and wants what a copy of the machine makes of it.
@@ -160,8 +162,10 @@ fn restore(case: &mut Case, machine: &mut Machine, cpu: Cpu, op: Serial) -> Resu
 
 /// Wants the state from before an operation of the cancel of it.
 fn restores(alloc: Global, machine: &mut Machine, cpu: Cpu, cancel: &Event) -> Result<(), Trouble> {
-    let receipt = machine.call(alloc, cpu, cancel)?;
-    holds(matches!(receipt.reply, Reply::Restored))
+    match machine.answer(alloc, cpu, cancel) {
+        Ok((_, reply)) => holds(matches!(reply, Reply::Restored)),
+        Err(fault) => Err(Trouble::from(fault)),
+    }
 }
 
 /// Whether a plan that is not left out of memory has this end.
@@ -237,8 +241,8 @@ fn is_sealed(before: &Machine, volume: &Volume, machine: &Machine) -> bool {
 /// Whether a call answers that the history is full, and changes nothing.
 pub fn is_full(machine: &mut Machine, alloc: Global, cpu: Cpu, event: &Event) -> bool {
     let count = machine.history().len();
-    match machine.call(alloc, cpu, event) {
-        Ok(_receipt) => false,
+    match machine.answer(alloc, cpu, event) {
+        Ok(_) => false,
         Err(fault) => {
             matches!(fault, CallFault::HistoryFull) && machine.history().len() == count
         }

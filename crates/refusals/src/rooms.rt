@@ -137,7 +137,7 @@ fn is_undone(
 /// Whether an undo of all records is made, which takes no memory.
 fn undoes_all(alloc: Global, machine: &mut Machine) -> bool {
     let all = Event::UndoAfter { serial: Serial(0) };
-    machine.call(alloc, Cpu(0), &all).is_ok()
+    machine.answer(alloc, Cpu(0), &all).is_ok()
 }
 
 /// Whether a machine has no step that may be undone, and the free lists of boot.
@@ -185,9 +185,13 @@ fn goes_back(alloc: Global, machine: &mut Machine, line: &Line) -> Result<bool, 
     let Work::Event(event) = &line.work else {
         return Err(Trouble::Wrong);
     };
-    let receipt = machine.call(alloc, line.cpu, event)?;
-    let went_back = matches!(receipt.reply, Reply::Undone { .. } | Reply::Restored);
-    Ok(went_back && machine.journal_len() == LEFT)
+    match machine.answer(alloc, line.cpu, event) {
+        Ok((_, reply)) => {
+            let went_back = matches!(reply, Reply::Undone { .. } | Reply::Restored);
+            Ok(went_back && machine.journal_len() == LEFT)
+        }
+        Err(fault) => Err(Trouble::from(fault)),
+    }
 }
 
 /// Makes the call of each line.

@@ -4,13 +4,13 @@ ghost use Rattle.std.specs.Prelude.{◌≡◌};
 ghost use Rattle.hp_shared.specs.Shared.{IsFresh};
 
 use crate::calls::is_answered;
-use crate::same::{same_machines, same_receipts, same_volumes};
+use crate::same::{same_machines, same_volumes};
 use crate::trouble::{Case, Trouble, holds};
 use hp_history::Volume;
 use hp_machine::Machine;
 use hp_scenario::{Line, Scenario, Work};
 use hp_shared::{CloseFault, CloseRefused, Closed, Job, Seat, Shared, close};
-use hp_units::{Event, Receipt};
+use hp_units::{Event, Reply};
 use std::alloc::{AllocError, Global};
 use std::marker::Brand;
 use std::sync::Wait;
@@ -146,37 +146,36 @@ fn run_call<L: Job, R: Wait>(
     event: &Event,
 ) -> Result<(), Trouble> {
     let count = seat.receipts().len();
-    let receipt = kept_call(rt, case, shared, seat, event)?;
-    is_receipt(case.alloc, seat, count, twin, event, &receipt)
+    let reply = kept_call(rt, case, shared, seat, event)?;
+    keeps_receipt(case.alloc, seat, count, twin, event, &reply)
 }
 
-/// Wants this receipt of the other machine, and the seat to keep it.
-fn is_receipt<L: Job>(
+/// Wants a seat to keep a receipt with this reply, and the other machine to give the same one.
+fn keeps_receipt<L: Job>(
     alloc: Global,
     seat: &Seat<L>,
     count: usize,
     twin: &mut Machine,
     event: &Event,
-    receipt: &Receipt,
+    reply: &Reply,
 ) -> Result<(), Trouble> {
-    let is_kept = match seat.receipts().get(count) {
-        Some(kept) => same_receipts(kept, receipt),
-        None => false,
+    let Some(kept) = seat.receipts().get(count) else {
+        return Err(Trouble::Wrong);
     };
-    holds(is_kept && is_answered(alloc, twin, seat.cpu(), event, receipt)?)
+    holds(kept.reply.same(reply) && is_answered(alloc, twin, seat.cpu(), event, kept)?)
 }
 
-/// The receipt of a call of a seat; out of memory, the seat keeps none.
+/// The reply to a call of a seat, which keeps no receipt where it is out of memory.
 fn kept_call<L: Job, R: Wait>(
     rt: &R,
     case: &mut Case,
     shared: &Shared<L>,
     seat: &mut Seat<L>,
     event: &Event,
-) -> Result<Receipt, Trouble> {
+) -> Result<Reply, Trouble> {
     let count = seat.receipts().len();
     match seat.call(rt, case.alloc, shared, event) {
-        Ok(receipt) => Ok(receipt),
+        Ok(reply) => Ok(reply),
         Err(_fault) => {
             case.note();
             holds(seat.receipts().len() == count)?;

@@ -57,7 +57,7 @@ pub fn offline(alloc: Global) -> Result<Plan, Trouble> {
         block: Block(2),
         wish: Wish::Off,
     };
-    Ok(Plan::new(vec![in alloc; item]?))
+    Ok(Plan::new(alloc, vec![in alloc; item]?)?)
 }
 
 /// Copies of what a call can hold.
@@ -104,7 +104,7 @@ fn is_same_event(alloc: Global, event: &Event) -> Result<bool, Trouble> {
 pub fn two_words(alloc: Global) -> Result<Words, AllocError>
     ensures { IfOk result (λ words. length words ≡ 2) }
 {
-    Ok(Words::new(vec![in alloc; 7, 9]?))
+    Words::new(alloc, vec![in alloc; 7, 9]?)
 }
 
 /// Whether a copy of a page's words has them.

@@ -40,6 +40,7 @@ fn map<L: Job, R: Wait>(rt: &R, alloc: Global, shared: &Shared<L>, seat: &mut Se
         owner: Owner(owner),
         page: Page(0),
     };
+    let _ = seat.reserve(1);
     let _ = seat.call(rt, alloc, shared, &event);
 }
 
@@ -239,7 +240,7 @@ fn offline(alloc: Global) -> Result<Plan, AllocError> {
         block: Block(2),
         wish: Wish::Off,
     };
-    Ok(Plan::new(vec![in alloc; item]?))
+    Plan::new(alloc, vec![in alloc; item]?)
 }
 
 /// A seat that mapped a page and then carried a plan out, and the plan's end.

@@ -111,10 +111,10 @@ impl Cpus {
 
 /// The delta of a frame that was put after another one on a processor's list.
 fn link_delta(cpu: Cpu, pool: Pool, frame: Frame, after: Option<Frame>) -> Delta
-    ensures { result ≡ Link (CpuList cpu pool) frame after }
+    ensures { result ≡ Link (CpuList pool cpu) frame after }
 {
     Delta::Link {
-        list: ListId::Cpu { cpu, pool },
+        list: ListId::Cpu { pool, cpu },
         frame,
         after,
     }
@@ -122,10 +122,10 @@ fn link_delta(cpu: Cpu, pool: Pool, frame: Frame, after: Option<Frame>) -> Delta
 
 /// The delta of a frame that left its place after another one on a processor's list.
 fn unlink_delta(cpu: Cpu, pool: Pool, frame: Frame, after: Option<Frame>) -> Delta
-    ensures { result ≡ Unlink (CpuList cpu pool) frame after }
+    ensures { result ≡ Unlink (CpuList pool cpu) frame after }
 {
     Delta::Unlink {
-        list: ListId::Cpu { cpu, pool },
+        list: ListId::Cpu { pool, cpu },
         frame,
         after,
     }

@@ -6,8 +6,18 @@ ghost use Rattle.hp_history.specs.Entries.{IsEntry, IsWayBack};
 use crate::course::Course;
 use crate::journal::{between, start_of};
 use hp_tape::Delta;
+use std::alloc::AllocError;
 
 impl Course {
+    /// Makes room for so many further records and steps, so that they need not be moved as more
+    /// come. An error is out of memory; the course is as before, with or without it.
+    pub fn reserve(&mut self, records: usize) -> Result<(), AllocError>
+        ensures { self.new ≡ self.old }
+    {
+        self.history.reserve(records)?;
+        self.entries.reserve(records)
+    }
+
     /// The number of steps that are not undone (own rule).
     pub fn journal_len(&self) -> u64
         ensures { result ≡ length (net_of self.now.history) }

@@ -9,7 +9,7 @@ ghost use Rattle.hp_images.specs.Tables.{AreCopied};
 
 use hp_pages::{Pages, is_blank};
 use hp_plain::Image;
-use hp_tape::Delta;
+use hp_tape::{Delta, FrameChange};
 use hp_units::{Frame, Owner, Page, Words};
 use std::alloc::{AllocError, Global};
 
@@ -77,11 +77,11 @@ fn load_entry(pages: &mut Pages, image: &Image, owner: Owner, page: Page)
     ensures layout { pages.new.layout ≡ pages.old.layout }
 {
     if let Some(frame) = image.frame_at(owner, page) {
+        let change = FrameChange::Unmapped(frame);
         pages.back(Delta::Map {
             owner,
             page,
-            was: Some(frame),
-            now: None,
+            change,
         });
     }
 }
@@ -132,7 +132,7 @@ fn load_buffer(
     if is_blank(slice) {
         return Ok(());
     }
-    let words = Words::new(Vec::from_slice(alloc, slice)?);
+    let words = Words::new(alloc, Vec::from_slice(alloc, slice)?)?;
     pages.back(Delta::Emptied { frame, words });
     Ok(())
 }

@@ -6,7 +6,7 @@ ghost use Rattle.hp_images.specs.Tables.{AreCopied};
 
 use hp_blocks::Blocks;
 use hp_plain::Image;
-use hp_tape::{Delta, PackedRow};
+use hp_tape::{Delta, RowChange};
 use hp_units::{Block, Claim, Row, State};
 use std::alloc::{AllocError, Global};
 
@@ -40,6 +40,7 @@ fn load_rows(blocks: &mut Blocks, image: &Image)
 /// The row of one memory block comes in.
 fn load_row(blocks: &mut Blocks, image: &Image, block: Block)
     requires block { block < blocks.old.layout.blocks }
+    requires few { block < 256 }
     ensures row { blocks.new.blocks
         ≡ with_row blocks.old.blocks block (row_of image.now.memory.blocks block) }
     ensures layout { blocks.new.layout ≡ blocks.old.layout }
@@ -51,6 +52,6 @@ fn load_row(blocks: &mut Blocks, image: &Image, block: Block)
         claim: none,
     };
     let row = image.row(block).unwrap_or(offline);
-    let (was, now) = (PackedRow::new(row), PackedRow::new(blocks.row(block)));
-    blocks.back(Delta::Row { block, was, now });
+    let change = RowChange::new(block, row, blocks.row(block));
+    blocks.back(Delta::Row(change));
 }

@@ -89,7 +89,7 @@ fn put_page(
         return Ok(());
     };
     if let Some(slice) = pages.words(owner, page) {
-        let words = Words::new(Vec::from_slice(alloc, slice)?);
+        let words = Words::new(alloc, Vec::from_slice(alloc, slice)?)?;
         return image.add(Part::Mapped {
             owner,
             page,

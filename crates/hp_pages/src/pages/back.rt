@@ -32,16 +32,15 @@ impl Pages {
             Delta::Map {
                 owner,
                 page,
-                was,
-                ..
-            } => self.table.set(*owner, *page, *was),
+                change,
+            } => self.table.set(*owner, *page, change.before()),
             Delta::Swap { a, b } => self.buffers.swap(*a, *b),
             Delta::Word {
-                frame,
                 index,
+                frame,
                 was,
                 ..
-            } => self.buffers.set_word(*frame, *index, *was),
+            } => self.buffers.set_word(*frame, u32::from(*index), *was),
             Delta::Filled { frame, .. } => self.buffers.clear(*frame),
             _ => {}
         }

@@ -68,7 +68,7 @@ fn removal(alloc: Global) -> Result<Vec<(Event, Reply)>, AllocError> {
         block: Block(2),
         wish: Wish::Off,
     };
-    let plan = Plan::new(vec![in alloc; item]?);
+    let plan = Plan::new(alloc, vec![in alloc; item]?)?;
     let calls = vec![in alloc;
         (Event::Begin { plan }, Reply::Opened { op }),
         (Event::DrainFor { op, cpu: Cpu(0) }, Reply::Done),
@@ -150,7 +150,7 @@ fn is_back(
 ) -> Result<bool, AllocError> {
     let serial = Serial(after as u64);
     let undo = Event::UndoAfter { serial };
-    if machine.call(alloc, Cpu(0), &undo).is_err() {
+    if machine.answer(alloc, Cpu(0), &undo).is_err() {
         return Ok(false);
     }
     is_in_state(alloc, machine, states, after)

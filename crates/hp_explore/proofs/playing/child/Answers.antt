@@ -8,8 +8,8 @@ use Rattle.hp_explore.specs.Schedules.{next_call, setting}
 use Rattle.hp_explore.proofs.Machines.{asked_is, further, had_room, news_shown}
 use Rattle.hp_explore.proofs.playing.child.Goals as goal
 
-pub returns-in_ok-call-in-Some-clause-ok : goal.returns-in_ok-call-in-Some-clause-ok
-returns-in_ok-call-in-Some-clause-ok c =
+pub returns-in_ok-answer-in-Some-clause-ok : goal.returns-in_ok-answer-in-Some-clause-ok
+returns-in_ok-answer-in-Some-clause-ok c =
     let same : c.cpus.result ≡ c.args.start.now.layout.cpus =
     c.cpus.ensures.is ∙ ap (λ (l : LayoutParts). l.cpus) (c.layout.ensures ∙ c.requires.reached.layout) in
     let news =
@@ -21,13 +21,13 @@ returns-in_ok-call-in-Some-clause-ok c =
     (slice_get_read c.args.scripts.now (length c.args.scripts.now) c.args.cpu c.index-scripts-cpu.result refl
     c.requires.within c.index-scripts-cpu.is) (sym c.in-Some.is ∙ c.in_ok-event.ensures) in
     let free =
-    had_room c.args.machine c.call.result HistoryFull c.in_ok-call-in-Some.field-0 c.in_ok-call-in-Some.was
-    c.call.ensures.full.1 in
-    further (setting c.args.start.now c.args.scripts.now) c.args.machine c.call.new.self c.args.cpu
-    c.in-Some.event c.in_ok-call-in-Some.field-0 c.requires.reached
+    had_room c.args.machine c.answer.result HistoryFull c.in_ok-answer-in-Some.field-0
+    c.in_ok-answer-in-Some.was c.answer.ensures.full.1 in
+    further (setting c.args.start.now c.args.scripts.now) c.args.machine c.answer.new.self c.args.cpu
+    c.in-Some.event _ c.requires.reached
     (subst (λ (h : List Record).
     next_call (setting c.args.start.now c.args.scripts.now) c.args.cpu h ≡ Some c.in-Some.event) news asked)
-    free c.in_ok-call-in-Some.ensures.ok
+    free c.in_ok-answer-in-Some.ensures.ok
 
 pub returns-in-None-clause-ok : goal.returns-in-None-clause-ok
 returns-in-None-clause-ok c =

@@ -6,14 +6,14 @@ use Rattle.hp_history.proofs.replaying.follow.Goals as goal
 
 pub returns-then-same-clause-ok : goal.returns-then-same-clause-ok
 returns-then-same-clause-ok c =
-    followed c.args.course.now c.answer.new.self c.args.next.now c.in_ok-receipt.receipt
-    (c.expects.ensures.next.0 c.if-not-expects.false) c.in_ok-receipt.ensures.ok
+    followed c.args.course.now c.answer.new.self c.args.next.now _
+    (c.expects.ensures.next.0 c.if-not-expects.false) c.in-Ok.ensures.ok
     (c.same.ensures.0 c.if-same.true)
 
-pub returns-clause-err : goal.returns-clause-err
-returns-clause-err c =
-    another_reply c.args.course.now c.answer.new.self c.args.next.now c.in_ok-receipt.receipt c.args.at
-    (c.expects.ensures.next.0 c.if-not-expects.false) c.in_ok-receipt.ensures.ok
+pub returns-else-same-clause-err : goal.returns-else-same-clause-err
+returns-else-same-clause-err c =
+    another_reply c.args.course.now c.answer.new.self c.args.next.now _ c.args.at
+    (c.expects.ensures.next.0 c.if-not-expects.false) c.in-Ok.ensures.ok
     (iff_false c.same.ensures c.if-same.false)
 
 pub returns-then-not-expects-clause-ok : goal.returns-then-not-expects-clause-ok
@@ -22,14 +22,14 @@ returns-then-not-expects-clause-ok c = search rules
 pub returns-then-not-expects-clause-err : goal.returns-then-not-expects-clause-err
 returns-then-not-expects-clause-err c = search rules
 
-pub returns-in_err-receipt-clause-ok : goal.returns-in_err-receipt-clause-ok
-returns-in_err-receipt-clause-ok c = search rules
-
-pub returns-in_err-receipt-clause-err : goal.returns-in_err-receipt-clause-err
-returns-in_err-receipt-clause-err c = search rules
-
 pub returns-then-same-clause-err : goal.returns-then-same-clause-err
 returns-then-same-clause-err c = search rules
 
-pub returns-clause-ok : goal.returns-clause-ok
-returns-clause-ok c = search rules
+pub returns-else-same-clause-ok : goal.returns-else-same-clause-ok
+returns-else-same-clause-ok c = search rules
+
+pub returns-in-Err-clause-ok : goal.returns-in-Err-clause-ok
+returns-in-Err-clause-ok c = search rules
+
+pub returns-in-Err-clause-err : goal.returns-in-Err-clause-err
+returns-in-Err-clause-err c = search rules

@@ -1,4 +1,4 @@
-use Rattle.std.proofs.Common.{[], ◌∷◌, Option, Some, None, sym, subst, inl, inr, rules}
+use Rattle.std.proofs.Common.{[], ◌∷◌, Option, Some, None, sym, subst, ◌∙◌, inl, inr, rules}
 use Rattle.std.proofs.lemmas.Result.{IfErr-weaker, IfOk-weaker}
 use Rattle.hp_ops.proofs.Gained.{at_fault, gains_fault}
 use Rattle.hp_ops.proofs.Runs.{answer_is, left_with, no_longer_live}
@@ -9,37 +9,40 @@ use Rattle.hp_ops.proofs.driver.ask.Goals as goal
 
 pub returns-in-Ok-clause-ok : goal.returns-in-Ok-clause-ok
 returns-in-Ok-clause-ok g c =
+    let made = c.in-Ok.ensures.ok in
     IfOk-weaker c.unless_gone.result _ _ (λ same known. record {
-      gained = c.in-Ok.receipt ∷ [];
-      value = c.in-Ok.ensures.ok.value;
-      made = c.in-Ok.ensures.makes;
-      is = answer_is c.in-Ok.receipt c.args.event.now same c.in-Ok.ensures.ok.asked (sym known.0);
+      gained = made.receipt ∷ [];
+      value = made.given.value;
+      made = made.made;
+      is = answer_is made.receipt c.args.event.now same made.given.asked (made.replied ∙ sym known.0);
     }) c.unless_gone.ensures.ok
 
 pub returns-in-Ok-clause-live : goal.returns-in-Ok-clause-live
 returns-in-Ok-clause-live g c =
-    IfOk-weaker c.unless_gone.result _ _ (λ same known. elim (c.in-Ok.ensures.ok.known c.requires.opened) [
-      | inl none ↦ absurd (known.1 none)
+    let made = c.in-Ok.ensures.ok in
+    IfOk-weaker c.unless_gone.result _ _ (λ same known. elim (made.given.known c.requires.opened) [
+      | inl none ↦ absurd (known.1 (sym made.replied ∙ none))
       | inr live ↦
           subst (λ (r : Reply). IsLiveReply (g.P.Port.shows c.args.port.now).cpus c.args.event.now r)
-          (sym known.0) live
+          (made.replied ∙ sym known.0) live
     ]) c.unless_gone.ensures.ok
 
 pub returns-in-Ok-clause-err : goal.returns-in-Ok-clause-err
 returns-in-Ok-clause-err g c =
+    let made = c.in-Ok.ensures.ok in
     IfErr-weaker c.unless_gone.result _ _ (λ end known.
     let ends =
-    no_longer_live (g.P.Port.shows c.args.port.now).cpus c.args.op c.args.event.now (c.in-Ok.receipt ∷ [])
+    no_longer_live (g.P.Port.shows c.args.port.now).cpus c.args.op c.args.event.now (made.receipt ∷ [])
     c.requires.work
-    (answer_is c.in-Ok.receipt c.args.event.now (Refused NoOp) c.in-Ok.ensures.ok.asked known.1) in
+    (answer_is made.receipt c.args.event.now (Refused NoOp) made.given.asked (made.replied ∙ known.1)) in
     subst (λ (e : OpEnd). Gains g.P.Port.shows g.P.Port.makes g.P.Port.leaves c.args.port.now (g.P.Port.shows
     c.call.new.self).fault c.call.new.self (EndsRun (g.P.Port.shows c.args.port.now).cpus c.args.op
     (λ d. c.args.event.now) (g.P.Port.shows c.call.new.self).fault e)) (sym known.0)
     (at_fault _ _ _ _ _ None (λ (f : Option CallFault). EndsRun (g.P.Port.shows c.args.port.now).cpus
     c.args.op (λ d. c.args.event.now) f EndsUndone) (record {
-      gained = c.in-Ok.receipt ∷ [];
-      value = c.in-Ok.ensures.ok.value;
-      made = c.in-Ok.ensures.makes;
+      gained = made.receipt ∷ [];
+      value = made.given.value;
+      made = made.made;
       is = ends;
     })))
     c.unless_gone.ensures.err

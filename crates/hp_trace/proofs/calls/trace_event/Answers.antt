@@ -9,7 +9,7 @@ pub returns-in-Ok : goal.returns-in-Ok
 returns-in-Ok c =
     let calls =
     called_once c.args.machine.now c.call.new.self c.args.cpu c.args.event.now c.in-Ok.receipt
-    c.in-Ok.ensures.full c.in-Ok.ensures.ok in
+    c.in-Ok.receipt c.in-Ok.ensures.full c.in-Ok.ensures.ok in
     on_ok_weaker c.draw_receipt.result (λ drawn. event_added c.args.machine.now c.call.new.self c.args.cpu
     c.args.event.now c.in-Ok.receipt c.args.asked.now c.args.rows.now c.draw_receipt.new.rows
     c.in-Ok.ensures.ok calls drawn) c.draw_receipt.ensures

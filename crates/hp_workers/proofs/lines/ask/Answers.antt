@@ -2,13 +2,15 @@ use Rattle.std.proofs.Common.{[], ◌∷◌, None, Some, refl}
 use Rattle.hp_workers.proofs.lines.ask.Goals as goal
 
 pub returns-in-Ok : goal.returns-in-Ok
-returns-in-Ok g c = record {
-  gained = c.in-Ok.receipt ∷ [];
-  fault = None;
-  made = c.in-Ok.ensures.makes;
-  ran = (c.in-Ok.receipt, refl, c.in-Ok.ensures.ok.asked, refl);
-  full = λ none. absurd cc;
-}
+returns-in-Ok g c =
+    let called = c.in-Ok.ensures.ok in
+    record {
+      gained = called.receipt ∷ [];
+      fault = None;
+      made = called.made;
+      ran = (called.receipt, refl, called.given.asked, called.replied);
+      full = λ none. absurd cc;
+    }
 
 pub returns-in-Err : goal.returns-in-Err
 returns-in-Err g c = record {

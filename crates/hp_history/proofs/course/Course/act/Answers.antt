@@ -4,7 +4,7 @@ use Rattle.hp_units.specs.declared.replies.Receipt.{Receipt}
 use Rattle.hp_history.specs.declared.journal.Entry.{Entry}
 use Rattle.hp_history.specs.Seen.{seen}
 use Rattle.hp_history.proofs.Courses.{IsMade}
-use Rattle.hp_history.proofs.NotedSteps.{IsLeft, made_answered, made_fields, made_off, made_start, pushed, with_copy}
+use Rattle.hp_history.proofs.NotedSteps.{IsLeft, made_answered, made_fields, made_off, made_start, pushed}
 use Rattle.hp_history.proofs.course.Course.act.Goals as goal
 use Rattle.hp_history.proofs.course.Course.act.Goals.{After-is_step, After-push_reserved}
 
@@ -88,25 +88,18 @@ pub returns-clause-ok : goal.returns-clause-ok
 returns-clause-ok c =
     let here = (goal.at.returns-clause-ok c).After-push_reserved in
     let step = (goal.at.returns-clause-ok c).After-is_step in
-    rw (← c.self.view_is) (with_copy (seen c.self.inside) _ c.args.cpu c.next_serial-serial.result
-    c.args.event.now c.in_ok-answered.answered c.in_ok-reply.reply c.in_ok-answered.ensures
+    rw (← c.self.view_is)
     (made_answered (seen c.self.inside) c.self.inside.entries.items c.self.inside.deltas.deltas c.args.cpu
     (receipt step) (entry step) c.step.new.self c.step.new.tape.deltas c.is_step.result
     c.keep_step.new.memory
     c.push_reserved.new.self.items c.keep_step.new.entries.items c.keep_step.new.deltas.deltas (made step)
-    (left here)))
+    (left here))
 
 pub returns-in_err-recorded-clause-err : goal.returns-in_err-recorded-clause-err
 returns-in_err-recorded-clause-err c = search rules
 
 pub returns-in_err-recorded-clause-ok : goal.returns-in_err-recorded-clause-ok
 returns-in_err-recorded-clause-ok c = search rules
-
-pub returns-in_err-answered-clause-err : goal.returns-in_err-answered-clause-err
-returns-in_err-answered-clause-err c = search rules
-
-pub returns-in_err-answered-clause-ok : goal.returns-in_err-answered-clause-ok
-returns-in_err-answered-clause-ok c = search rules
 
 pub returns-in_err-reserve-clause-err : goal.returns-in_err-reserve-clause-err
 returns-in_err-reserve-clause-err c = search rules

@@ -9,7 +9,7 @@ use Rattle.hp_history.specs.Kept.{IsCut}
 use Rattle.hp_history.specs.Seen.{seen}
 use Rattle.hp_history.proofs.Journals.{start_within, way_back}
 use Rattle.hp_history.proofs.Courses.{IsBack, cut_answered, cut_fields}
-use Rattle.hp_history.proofs.NotedSteps.{pushed, with_copy}
+use Rattle.hp_history.proofs.NotedSteps.{pushed}
 use Rattle.hp_history.proofs.course.Course.go_back.Goals as goal
 use Rattle.hp_history.proofs.course.Course.go_back.Goals.{After-push_reserved, After-start_of-start}
 
@@ -102,24 +102,17 @@ pub returns-clause-ok : goal.returns-clause-ok
 returns-clause-ok c =
     let here = (goal.at.returns-clause-ok c).After-start_of-start in
     let end = (goal.at.returns-clause-ok c).After-push_reserved in
-    rw (← c.self.view_is) (with_copy (seen c.self.inside) _ c.args.cpu c.next_serial-serial.result
-    c.args.event.now c.in_ok-answered.answered c.args.reply.now c.in_ok-answered.ensures
+    rw (← c.self.view_is)
     (cut_answered (seen c.self.inside) c.self.inside.entries.items c.self.inside.deltas.deltas c.args.cpu
     c.args.keep (receipt end) c.back.new.self c.push_reserved.new.self.items c.truncate.new.self.items
     c.back.new.tape.deltas
-    (back end (start here) (cut here) (leads here))))
+    (back end (start here) (cut here) (leads here)))
 
 pub returns-in_err-recorded-clause-err : goal.returns-in_err-recorded-clause-err
 returns-in_err-recorded-clause-err c = search rules
 
 pub returns-in_err-recorded-clause-ok : goal.returns-in_err-recorded-clause-ok
 returns-in_err-recorded-clause-ok c = search rules
-
-pub returns-in_err-answered-clause-err : goal.returns-in_err-answered-clause-err
-returns-in_err-answered-clause-err c = search rules
-
-pub returns-in_err-answered-clause-ok : goal.returns-in_err-answered-clause-ok
-returns-in_err-answered-clause-ok c = search rules
 
 pub returns-in_err-reserve-clause-err : goal.returns-in_err-reserve-clause-err
 returns-in_err-reserve-clause-err c = search rules

@@ -44,7 +44,7 @@ returns c =
     ∙ some-needed c.in-Some-words.slice.now (sym c.is_blank.ensures ∙ c.if-is_blank.false))
     c.back.ensures.layout
     (c.back.ensures.back ∙ ap (λ (words : List ℕ). with_buffer c.args.pages.now.pages c.args.frame
-    (Some words)) (c.new-words.ensures ∙ c.in_ok-from_slice.ensures.items))
+    (Some words)) (c.in_ok-words.ensures ∙ c.in_ok-from_slice.ensures.items))
 
 pub returns-in_err-from_slice : goal.returns-in_err-from_slice
 returns-in_err-from_slice c = search rules

@@ -1,16 +1,12 @@
--- A call keeps what every machine keeps, whether it was answered or not.
-use Rattle.std.proofs.Common.{◌≡◌, false, sym, subst, ◌∙◌, rules}
-use Rattle.hp_machine.specs.Machine.{MachineValue, is_full}
-use Rattle.hp_machine.proofs.Machines.{call_kept}
+-- A call is an answer, with a copy of the event in its receipt.
+use Rattle.std.proofs.Common.{rules}
+use Rattle.hp_machine.proofs.Machines.{called_copy}
 use Rattle.hp_machine.proofs.machine.Machine.call.Goals as goal
 
-pub invariant_of-self : goal.invariant_of-self
-invariant_of-self c =
-    let free : is_full c.self.inside.course ≡ false =
-    subst (λ (m : MachineValue). is_full m ≡ false) (sym c.self.view_is)
-    (sym c.is_full.ensures ∙ c.if-is_full.false) in
-    call_kept c.self.inside.course c.answer.new.self c.args.cpu c.args.event.now c.answer.result
-    c.self.invariant free c.answer.ensures.err c.answer.ensures.ok
+pub returns-in-Ok-answer-clause-ok : goal.returns-in-Ok-answer-clause-ok
+returns-in-Ok-answer-clause-ok c =
+    called_copy c.args.self.now c.answer.new.self c.args.cpu _ c.args.event.now c.in-Ok.asked _
+    c.in-Ok.ensures c.in-Ok-answer.ensures.ok
 
 pub returns-then-is_full-clause-full : goal.returns-then-is_full-clause-full
 returns-then-is_full-clause-full c = search rules
@@ -21,11 +17,26 @@ returns-then-is_full-clause-err c = search rules
 pub returns-then-is_full-clause-ok : goal.returns-then-is_full-clause-ok
 returns-then-is_full-clause-ok c = search rules
 
-pub returns-clause-full : goal.returns-clause-full
-returns-clause-full c = search rules
+pub returns-in_default-clause-full : goal.returns-in_default-clause-full
+returns-in_default-clause-full c = search rules
 
-pub returns-clause-err : goal.returns-clause-err
-returns-clause-err c = search rules
+pub returns-in_default-clause-err : goal.returns-in_default-clause-err
+returns-in_default-clause-err c = search rules
 
-pub returns-clause-ok : goal.returns-clause-ok
-returns-clause-ok c = search rules
+pub returns-in_default-clause-ok : goal.returns-in_default-clause-ok
+returns-in_default-clause-ok c = search rules
+
+pub returns-in-Ok-answer-clause-full : goal.returns-in-Ok-answer-clause-full
+returns-in-Ok-answer-clause-full c = search rules
+
+pub returns-in-Ok-answer-clause-err : goal.returns-in-Ok-answer-clause-err
+returns-in-Ok-answer-clause-err c = search rules
+
+pub returns-in-Err-clause-full : goal.returns-in-Err-clause-full
+returns-in-Err-clause-full c = search rules
+
+pub returns-in-Err-clause-err : goal.returns-in-Err-clause-err
+returns-in-Err-clause-err c = search rules
+
+pub returns-in-Err-clause-ok : goal.returns-in-Err-clause-ok
+returns-in-Err-clause-ok c = search rules

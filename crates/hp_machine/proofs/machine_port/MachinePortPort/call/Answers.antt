@@ -1,19 +1,26 @@
-use Rattle.std.proofs.Common.{rules}
+use Rattle.std.proofs.Common.{ℕ, refl, rules}
+use Rattle.hp_history.specs.Course.{receipt_for}
+use Rattle.hp_machine.specs.Names.{Reply}
 use Rattle.hp_machine.proofs.MachineCalls.{called_is_given, called_once, cause_of}
 use Rattle.hp_machine.proofs.machine_port.MachinePortPort.call.Goals as goal
 
 pub returns-in-Ok-clause-ok : goal.returns-in-Ok-clause-ok
 returns-in-Ok-clause-ok c =
-    called_is_given c.args.self.now.machine.now c.call.new.self c.args.self.now.cpu c.args.event.now
-    c.in-Ok.receipt c.args.self.now.fault c.in-Ok.ensures.ok
-
-pub returns-in-Ok-clause-makes : goal.returns-in-Ok-clause-makes
-returns-in-Ok-clause-makes c = (
-  search rules,
-  search rules,
-  called_once c.args.self.now.machine.now c.call.new.self c.args.self.now.cpu
-      c.args.event.now c.in-Ok.receipt c.in-Ok.ensures.full c.in-Ok.ensures.ok,
-)
+    let answer : ℕ × Reply = (c.in-Ok.field-0-0, c.in-Ok.reply) in
+    record {
+      receipt = receipt_for c.args.event.now answer;
+      replied = refl;
+      given =
+          called_is_given c.args.self.now.machine.now c.answer.new.self c.args.self.now.cpu c.args.event.now
+          (receipt_for c.args.event.now answer) c.args.self.now.fault c.in-Ok.ensures.ok;
+      made = (
+        search rules,
+        search rules,
+        called_once c.args.self.now.machine.now c.answer.new.self c.args.self.now.cpu
+            c.args.event.now (receipt_for c.args.event.now answer) answer c.in-Ok.ensures.full
+            c.in-Ok.ensures.ok,
+      );
+    }
 
 pub returns-in-Err-clause-leaves : goal.returns-in-Err-clause-leaves
 returns-in-Err-clause-leaves c = (
@@ -34,6 +41,3 @@ returns-in-Err-clause-ok c = search rules
 
 pub returns-in-Err-clause-err : goal.returns-in-Err-clause-err
 returns-in-Err-clause-err c = search rules
-
-pub returns-in-Err-clause-makes : goal.returns-in-Err-clause-makes
-returns-in-Err-clause-makes c = search rules

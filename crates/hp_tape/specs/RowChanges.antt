@@ -1,0 +1,44 @@
+-- The rows that a packed change of a row stands for (own rule).
+use Rattle.std.specs.Prelude.{ℕ, Option, None, Some}
+use Rattle.std.specs.Int.{w64, from_le_bytes}
+use Rattle.hp_units.specs.declared.rows.Row.{Row}
+use Rattle.hp_units.specs.declared.rows.Claim.{Claim}
+use Rattle.hp_units.specs.declared.rows.Wish.TheVariants.{Off, Normal, Movable}
+use Rattle.hp_units.specs.declared.rows.Zone.{Zone}
+use Rattle.hp_units.specs.declared.rows.Zone.TheVariants.{Normal as NormalZone, Movable as MovableZone}
+use Rattle.hp_tape.specs.declared.row_changes.PackedRow.{PackedRow}
+use Rattle.hp_tape.specs.declared.row_changes.ZonePart.{ZonePart}
+use Rattle.hp_tape.specs.declared.row_changes.ZonePart.TheVariants.{None as NoZone, Normal as NormalPart, Movable as MovablePart}
+use Rattle.hp_tape.specs.declared.row_changes.WishPart.{WishPart}
+use Rattle.hp_tape.specs.declared.row_changes.WishPart.TheVariants.{None as NoWish, Off as OffPart, Normal as NormalWish, Movable as MovableWish}
+
+-- a memory block's row before a change and after it
+pub record RowChangeValue : Type 0 where
+  pub block : ℕ
+  pub before : Row
+  pub after : Row
+
+abbrev pub zone_in : ZonePart → Option Zone
+zone_in NoZone = None
+zone_in NormalPart = Some NormalZone
+zone_in MovablePart = Some MovableZone
+
+abbrev pub claim_in : WishPart → (op : ℕ) → Option Claim
+claim_in NoWish op = None
+claim_in OffPart op = Some (record { op = op; wish = Off })
+claim_in NormalWish op = Some (record { op = op; wish = Normal })
+claim_in MovableWish op = Some (record { op = op; wish = Movable })
+
+-- the operation of a claim, and 0 where there is none
+abbrev pub op_in : Option Claim → ℕ
+op_in None = 0
+op_in (Some claim) = claim.op
+
+-- the operation's number stands as bytes, lowest first
+abbrev pub row_in : PackedRow → Row
+row_in packed =
+    record {
+      state = packed.state;
+      zone = zone_in packed.zone;
+      claim = claim_in packed.wish (from_le_bytes w64 packed.op);
+    }
