@@ -88,7 +88,8 @@ impl Port for Scripted {
             return Err(CallFault::HistoryFull);
         }
         let reply = reply_to(event, answer);
-        match self.keep(alloc, event, reply) {
+        let kept = reply;
+        match self.keep(alloc, event, kept) {
             Ok(()) => {
                 self.fault = None;
                 Ok(reply)
