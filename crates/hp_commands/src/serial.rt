@@ -23,23 +23,28 @@ pub fn serial(alloc: Global, input: Vec<u8>) -> Result<String, ScenarioFault>
     ensures ok { IfOk result (λ out. IsTextOf input.items (string_bytes out)) }
     ensures err { IfErr result (λ fault. Fails fault (serial_text input.items)) }
 {
-    let scenario = read_scenario(alloc, input)?;
-    let lines = scenario.lines.as_slice();
-    let mut machine = boot(alloc, &scenario.layout, lines.len())?;
-    let mut out = room_for(alloc, lines.len())?;
-    write_lines(&mut out, alloc, &mut machine, lines)?;
+    let Scenario {
+        layout,
+        names,
+        lines,
+    } = read_scenario(alloc, input)?;
+    let count = lines.as_slice().len();
+    let mut machine = boot(alloc, &layout, count)?;
+    let mut out = room_for(alloc, count)?;
+    write_lines(&mut out, alloc, &mut machine, lines.as_slice())?;
+    drop(lines);
     let image = machine.image(alloc)?;
-    write_state(&mut out, alloc, &image, &scenario.names)?;
+    write_state(&mut out, alloc, &image, &names)?;
     Ok(out)
 }
 
-/// The machine of a layout at its start, with room for so many records where it can be had: without it they
-/// find theirs as they come. An error is out of memory.
-pub(crate) fn boot(alloc: Global, layout: &Layout, records: usize) -> Result<Machine, AllocError>
+/// The machine of a layout at its start, with room for two records for each of so many lines, of which a plan
+/// makes several, where it can be had: without it they find theirs as they come. An error is out of memory.
+pub(crate) fn boot(alloc: Global, layout: &Layout, lines: usize) -> Result<Machine, AllocError>
     ensures { IfOk result (λ machine. machine ≡ booted layout.now) }
 {
     let mut machine = Machine::boot(alloc, layout)?;
-    let _ = machine.reserve(records);
+    let _ = machine.reserve(lines.saturating_mul(2));
     Ok(machine)
 }
 
@@ -50,11 +55,11 @@ fn read_scenario(alloc: Global, input: Vec<u8>) -> Result<Scenario, ScenarioFaul
     Scenario::read(alloc, &input)
 }
 
-/// An empty text with room for the answers of so many lines, most of which have no more than 16 bytes.
+/// An empty text with room for the answers of so many lines, most of which have no more than 24 bytes.
 fn room_for(alloc: Global, lines: usize) -> Result<String, AllocError>
     ensures { IfOk result (λ out. string_bytes out ≡ []) }
 {
-    String::with_capacity(alloc, lines.saturating_mul(16))
+    String::with_capacity(alloc, lines.saturating_mul(24))
 }
 
 /// Runs lines one after another, and writes what each answers.

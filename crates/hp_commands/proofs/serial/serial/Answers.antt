@@ -3,15 +3,15 @@ use Rattle.hp_scenario.specs.Seen.{scenario_seen}
 use Rattle.hp_commands.proofs.Served.{serial_fails, ran_text}
 use Rattle.hp_commands.proofs.serial.serial.Goals as goal
 
-pub returns-in_err-scenario-clause-err : goal.returns-in_err-scenario-clause-err
-returns-in_err-scenario-clause-err c =
+pub returns-in_err-layout-clause-err : goal.returns-in_err-layout-clause-err
+returns-in_err-layout-clause-err c =
     let p = err_from_is_err_and c.from_residual.result c.from_residual.ensures.1 in
-    rw (p.1, p.2) (serial_fails _ _ c.in_err-scenario.ensures)
+    rw (p.1, p.2) (serial_fails _ _ c.in_err-layout.ensures)
 
 pub returns-clause-ok : goal.returns-clause-ok
 returns-clause-ok c =
-    ran_text c.args.input.items (scenario_seen c.in_ok-scenario.scenario) _ _ _ _ _ _ _
-    c.in_ok-scenario.ensures c.in_ok-machine.ensures c.as_slice-lines.ensures c.in_ok-out.ensures
+    ran_text c.args.input.items (scenario_seen c.in_ok-layout.field-0) _ _ _ _ _ _ _
+    c.in_ok-layout.ensures c.in_ok-machine.ensures c.as_slice.ensures c.in_ok-out.ensures
     c.in_ok-write_lines.ensures c.in_ok-image.ensures c.in_ok-write_state.ensures
 
 pub returns-in_err-out-clause-err : goal.returns-in_err-out-clause-err
