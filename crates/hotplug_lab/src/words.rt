@@ -12,14 +12,14 @@ const WIDTH: u64 = 200;
 
 /// What is asked of an exploration: how many lines are run first, and the most interleavings that
 /// are counted.
-#[derive(Clone, Copy, Debug, PartialEq, Eq)]
+#[derive(Clone, Copy, PartialEq, Eq)]
 pub struct Exploration {
     pub setup: u64,
     pub limit: u64,
 }
 
 /// What is to be made of a scenario.
-#[derive(Clone, Copy, Debug, PartialEq, Eq)]
+#[derive(Clone, Copy, PartialEq, Eq)]
 pub enum Word {
     /// What is wrong with it and where.
     Check,

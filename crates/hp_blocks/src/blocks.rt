@@ -15,7 +15,6 @@ use std::mem::replace;
 
 /// The rows of the memory blocks of a layout, and what a block that is added becomes. No call but
 /// `new` takes memory.
-#[derive(Debug)]
 pub struct Blocks {
     layout: Layout,
     rows: Vec<Row>,

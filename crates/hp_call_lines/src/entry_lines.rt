@@ -8,7 +8,7 @@ use std::marker::Model;
 
 /// Where a JSON text is, after some of its lexemes: how many brackets are open, and what these
 /// lexemes say of `calls`.
-#[derive(Debug, Drop)]
+#[derive(Drop)]
 struct Walk {
     depth: u64,
     is_key_calls: bool,

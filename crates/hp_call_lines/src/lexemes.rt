@@ -3,7 +3,7 @@ ghost use Rattle.std.specs.Prelude.{◌≡◌};
 ghost use Rattle.hp_call_lines.specs.Lexemes as means;
 
 /// How a byte of a JSON text is read.
-#[derive(Clone, Copy, Debug, PartialEq, Eq, Drop)]
+#[derive(Clone, Copy, PartialEq, Eq, Drop)]
 pub(crate) enum Mode {
     /// Between signs, words and texts.
     Between,
@@ -16,7 +16,7 @@ pub(crate) enum Mode {
 }
 
 /// What begins at a byte of a JSON text.
-#[derive(Clone, Copy, Debug, PartialEq, Eq, Drop)]
+#[derive(Clone, Copy, PartialEq, Eq, Drop)]
 pub(crate) enum Lexeme {
     /// The text `calls`, written without escapes.
     Calls,

@@ -6,7 +6,7 @@ use hp_control::ControlFault;
 use hp_units::{Serial, Text};
 
 /// One thing that is wrong with a scenario, or that is likely to be. Texts of `calls` are counted from 1.
-#[derive(Debug, Drop)]
+#[derive(Drop)]
 pub enum Finding {
     /// The text is no JSON; the place is the reader's, counted from 1.
     NotJson { line: u64, column: u64 },
@@ -30,7 +30,7 @@ impl Finding {
 }
 
 /// An object of a scenario.
-#[derive(Clone, Copy, Debug, PartialEq, Eq, Drop)]
+#[derive(Clone, Copy, PartialEq, Eq, Drop)]
 pub enum Place {
     /// The whole.
     Whole,
@@ -39,7 +39,7 @@ pub enum Place {
 }
 
 /// A key that a scenario has.
-#[derive(Clone, Copy, Debug, PartialEq, Eq, Drop)]
+#[derive(Clone, Copy, PartialEq, Eq, Drop)]
 pub enum Key {
     /// `layout`: the machine that the calls run on.
     Layout,
@@ -93,7 +93,7 @@ impl Key {
 }
 
 /// A key, or the kind of a value, that is not a scenario's.
-#[derive(Debug, Drop)]
+#[derive(Drop)]
 pub enum Shape {
     /// No object.
     NotObject(Place),
@@ -114,7 +114,7 @@ pub enum Shape {
 }
 
 /// A part of a layout that is out of its range, with its value.
-#[derive(Clone, Copy, Debug, PartialEq, Eq, Drop)]
+#[derive(Clone, Copy, PartialEq, Eq, Drop)]
 pub enum OutOfRange {
     /// The order, above 10.
     Order(u64),
@@ -143,7 +143,7 @@ pub enum OutOfRange {
 }
 
 /// What a layout has a number of.
-#[derive(Clone, Copy, Debug, PartialEq, Eq, Drop)]
+#[derive(Clone, Copy, PartialEq, Eq, Drop)]
 pub enum What {
     /// Processors.
     Processor,
@@ -162,7 +162,7 @@ pub enum What {
 }
 
 /// Why a line hardly does what is wanted.
-#[derive(Clone, Copy, Debug, PartialEq, Eq, Drop)]
+#[derive(Clone, Copy, PartialEq, Eq, Drop)]
 pub enum Warning {
     /// A number past the layout, which has so many, counted from 0: the call is refused.
     Past { what: What, number: u64, count: u64 },

@@ -1,7 +1,7 @@
 //! What the program can be asked to do.
 
 /// What the program is to do.
-#[derive(Clone, Copy, Debug, PartialEq, Eq)]
+#[derive(Clone, Copy, PartialEq, Eq)]
 pub enum Command {
     /// Runs the lines of a scenario in order on one machine, and writes its state.
     Serial,

@@ -6,7 +6,7 @@ use crate::fault::ProgramFault;
 use std::fmt;
 
 /// How a call of the program ended.
-#[derive(Clone, Copy, Debug, PartialEq, Eq)]
+#[derive(Clone, Copy, PartialEq, Eq)]
 pub enum Outcome {
     /// All is written.
     Done,

@@ -6,7 +6,7 @@ use crate::words::block_named;
 use hp_units::Block;
 
 /// A file of a memory block (Linux guide, Memory Hot(Un)Plug).
-#[derive(Clone, Copy, Debug, PartialEq, Eq, Drop)]
+#[derive(Clone, Copy, PartialEq, Eq, Drop)]
 pub(crate) enum BlockFile {
     /// `state`
     State,
@@ -19,7 +19,7 @@ pub(crate) enum BlockFile {
 }
 
 /// A control file (Linux guide, Memory Hot(Un)Plug; `buddyinfo` stands in another directory there).
-#[derive(Clone, Copy, Debug, PartialEq, Eq, Drop)]
+#[derive(Clone, Copy, PartialEq, Eq, Drop)]
 pub(crate) enum File {
     /// `block_size_bytes`
     BlockSizeBytes,

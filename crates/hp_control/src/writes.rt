@@ -13,7 +13,7 @@ use std::alloc::{AllocError, Global};
 pub const CONTROL_TURNS: u32 = 1024;
 
 /// What a written text asks for.
-#[derive(Debug, Drop)]
+#[derive(Drop)]
 pub enum Request {
     /// One event.
     Event(Event),

@@ -8,7 +8,7 @@ use std::alloc::{AllocError, Global};
 use std::marker::Model;
 
 /// The replies that a processor had, in its own order. A contract sees them as a list.
-#[derive(Debug, Drop)]
+#[derive(Drop)]
 pub struct Answers {
     replies: Vec<Reply>,
 }
@@ -23,7 +23,7 @@ impl Model for Answers {
 }
 
 /// How a schedule ends: what each processor was answered, and what became of the memory blocks.
-#[derive(Debug, Drop)]
+#[derive(Drop)]
 pub struct Outcome {
     replies: Vec<Answers>,
     blocks: Vec<Row>,

@@ -13,7 +13,7 @@ use std::alloc::{AllocError, Global};
 use std::marker::Model;
 
 /// What is asked of the operation that the processor itself began last.
-#[derive(Clone, Copy, Debug, PartialEq, Eq, Drop)]
+#[derive(Clone, Copy, PartialEq, Eq, Drop)]
 pub enum Work {
     /// Drains a processor's lists.
     DrainFor { cpu: Cpu },
@@ -26,7 +26,7 @@ pub enum Work {
 }
 
 /// One line of a script.
-#[derive(Debug, Drop)]
+#[derive(Drop)]
 pub enum Line {
     /// The processor asks for an event.
     Ask(Event),
@@ -38,7 +38,7 @@ pub enum Line {
 }
 
 /// What a processor asks for, in this order. A contract sees it as the list of its lines.
-#[derive(Debug, Drop)]
+#[derive(Drop)]
 pub struct Script {
     lines: Vec<Line>,
 }

@@ -17,7 +17,7 @@ use std::alloc::{AllocError, Global};
 use std::marker::Model;
 
 /// An end, and the schedules that lead to it.
-#[derive(Debug, Drop)]
+#[derive(Drop)]
 pub struct Ending {
     /// How they end.
     pub outcome: Outcome,

@@ -7,7 +7,7 @@ pub trait Watch {
 }
 
 /// A watch that tells nobody.
-#[derive(Clone, Copy, Debug, PartialEq, Eq, Drop)]
+#[derive(Clone, Copy, PartialEq, Eq, Drop)]
 pub struct Silent;
 
 impl Watch for Silent {

@@ -13,7 +13,7 @@ use std::mem::size_of;
 
 /// A step that is not undone: its record's place in the history, counted from 0, and how many
 /// deltas stand on the tape before its own. Its deltas end where those of the next step begin.
-#[derive(Clone, Copy, Debug, PartialEq, Eq, Drop)]
+#[derive(Clone, Copy, PartialEq, Eq, Drop)]
 pub(crate) struct Entry {
     pub(crate) place: usize,
     pub(crate) start: usize,

@@ -10,7 +10,7 @@ use std::mem::size_of;
 const _: () = prove!(size_of::<Record>() <= 56);
 
 /// Records of a history, oldest first.
-#[derive(Debug, Drop)]
+#[derive(Drop)]
 pub struct Records {
     records: Vec<Record>,
 }

@@ -2,7 +2,7 @@
 use std::marker::Model;
 
 /// A list of a table, by its number from 0.
-#[derive(Clone, Copy, Debug, PartialEq, Eq)]
+#[derive(Clone, Copy, PartialEq, Eq)]
 pub struct ListNumber(pub u32);
 
 impl Model for ListNumber {

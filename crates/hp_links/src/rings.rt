@@ -15,7 +15,7 @@ pub fn place_of(frame: Frame) -> u32
 
 /// A place in the table: a frame's, or a head's. One on no list, and the head of an empty list, is
 /// its own neighbour.
-#[derive(Clone, Copy, Debug)]
+#[derive(Clone, Copy)]
 pub struct Node {
     pub next: u32,
     pub prev: u32,

@@ -6,7 +6,7 @@ use hp_units::{Cpu, Owner};
 use std::fmt;
 
 /// Where a frame is: in exactly one of these places.
-#[derive(Clone, Copy, Debug, PartialEq, Eq)]
+#[derive(Clone, Copy, PartialEq, Eq)]
 pub enum Place {
     /// In a memory block that is not there.
     Absent,

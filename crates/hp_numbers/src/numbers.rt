@@ -5,7 +5,7 @@ ghost use Rattle.hp_numbers.specs.Numbers.{ancestor};
 use std::marker::Model;
 
 /// A page frame, counted from 0, at most 2^20 of them (Gorman, chapter 2).
-#[derive(Clone, Copy, Debug, PartialEq, Eq, PartialOrd, Ord, Hash)]
+#[derive(Clone, Copy, PartialEq, Eq)]
 pub struct Frame(pub u32);
 
 impl Model for Frame {
@@ -29,7 +29,7 @@ impl Frame {
 }
 
 /// The order of a block of 2^order frames, 0 to 10 in a layout (Knuth, volume 1, section 2.5).
-#[derive(Clone, Copy, Debug, PartialEq, Eq, PartialOrd, Ord, Hash)]
+#[derive(Clone, Copy, PartialEq, Eq)]
 pub struct Order(pub u32);
 
 impl Model for Order {
@@ -41,7 +41,7 @@ impl Model for Order {
 }
 
 /// A pageblock, counted from 0: one block of the greatest order (own rule).
-#[derive(Clone, Copy, Debug, PartialEq, Eq, PartialOrd, Ord, Hash)]
+#[derive(Clone, Copy, PartialEq, Eq)]
 pub struct Pageblock(pub u32);
 
 impl Model for Pageblock {
@@ -53,7 +53,7 @@ impl Model for Pageblock {
 }
 
 /// A memory block, counted from 0: the unit that goes online and offline (Linux guide, Memory Hot(Un)Plug).
-#[derive(Clone, Copy, Debug, PartialEq, Eq, PartialOrd, Ord, Hash)]
+#[derive(Clone, Copy, PartialEq, Eq)]
 pub struct Block(pub u32);
 
 impl Model for Block {
@@ -65,7 +65,7 @@ impl Model for Block {
 }
 
 /// A processor, counted from 0.
-#[derive(Clone, Copy, Debug, PartialEq, Eq, PartialOrd, Ord, Hash)]
+#[derive(Clone, Copy, Debug, PartialEq, Eq)]
 pub struct Cpu(pub u32);
 
 impl Model for Cpu {
@@ -77,7 +77,7 @@ impl Model for Cpu {
 }
 
 /// An owner of pages, counted from 0.
-#[derive(Clone, Copy, Debug, PartialEq, Eq, PartialOrd, Ord, Hash)]
+#[derive(Clone, Copy, PartialEq, Eq)]
 pub struct Owner(pub u32);
 
 impl Model for Owner {
@@ -89,7 +89,7 @@ impl Model for Owner {
 }
 
 /// A page of an owner, counted from 0.
-#[derive(Clone, Copy, Debug, PartialEq, Eq, PartialOrd, Ord, Hash)]
+#[derive(Clone, Copy, PartialEq, Eq)]
 pub struct Page(pub u32);
 
 impl Model for Page {
@@ -102,7 +102,7 @@ impl Model for Page {
 
 /// The serial of a record, counted from 1 and never used again. An operation is named by the serial
 /// of its Begin (own rule).
-#[derive(Clone, Copy, Debug, PartialEq, Eq, PartialOrd, Ord, Hash)]
+#[derive(Clone, Copy, Debug, PartialEq, Eq, PartialOrd)]
 pub struct Serial(pub u64);
 
 impl Model for Serial {

@@ -6,7 +6,7 @@ use std::hash::{Hash, Hasher};
 use std::marker::Model;
 
 /// A text, equal and hashed by its bytes.
-#[derive(Debug, Drop)]
+#[derive(Drop)]
 pub struct Text {
     text: String,
 }

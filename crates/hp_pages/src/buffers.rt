@@ -9,7 +9,7 @@ use std::marker::Model;
 use std::mem::replace;
 
 /// For each frame its buffer of words, if it has one.
-#[derive(Debug, Drop)]
+#[derive(Drop)]
 pub(crate) struct Buffers {
     frames: Vec<Option<Words>>,
 }

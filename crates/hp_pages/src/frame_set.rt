@@ -8,7 +8,7 @@ use std::alloc::{AllocError, Global};
 use std::marker::Model;
 
 /// A set of frames: 64 frames a word, the lowest bit first.
-#[derive(Debug, Drop)]
+#[derive(Drop)]
 pub(crate) struct FrameSet {
     words: Vec<u64>,
 }

@@ -22,7 +22,6 @@ mod back;
 /// The owners' pages of a layout: the frame of each page, and the words of each mapped frame. A
 /// page whose words are all 0 has no buffer: one page of zeros serves all of them. No call but
 /// `new` and `spare_for` takes memory.
-#[derive(Debug)]
 pub struct Pages {
     layout: Layout,
     table: Table,

@@ -11,7 +11,7 @@ use std::marker::Model;
 /// For each frame the sum of the places, counted from 1, of the pages that it holds: 0 where it
 /// holds none, and the place of its page where it holds one. A sum, since the opposite of a delta
 /// may leave a frame to two pages for a while, and then to either.
-#[derive(Debug, Drop)]
+#[derive(Drop)]
 pub(crate) struct PlaceSums {
     sums: Vec<u64>,
     mapped: FrameSet,

@@ -11,7 +11,7 @@ use std::alloc::{AllocError, Global};
 use std::marker::Model;
 
 /// The frames of one owner's pages.
-#[derive(Debug, Drop)]
+#[derive(Drop)]
 struct PageRow {
     frames: Vec<Option<Frame>>,
 }
@@ -51,7 +51,7 @@ impl PageRow {
 }
 
 /// Which frame holds each page, and which page each frame holds.
-#[derive(Debug, Drop)]
+#[derive(Drop)]
 pub(crate) struct Table {
     pages: u32,
     rows: Vec<PageRow>,

@@ -4,7 +4,7 @@ use hp_units::{
 };
 
 /// One entry of a state, to be set in an `Image`.
-#[derive(Debug, Drop)]
+#[derive(Drop)]
 pub enum Part {
     /// A free block of 2^order frames, at the back of its class's list.
     Free {

@@ -6,7 +6,7 @@ use std::alloc::{AllocError, Global};
 use std::marker::Model;
 
 /// A text in a place of its own, so that lines without one stay small. A contract sees its bytes.
-#[derive(Debug, Drop)]
+#[derive(Drop)]
 pub struct BoxedText {
     text: Box<Text>,
 }

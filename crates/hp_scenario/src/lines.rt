@@ -8,7 +8,7 @@ use std::marker::Model;
 use std::mem::size_of;
 
 /// What a line asks for.
-#[derive(Debug, Drop)]
+#[derive(Drop)]
 pub enum Work {
     /// One event of the machine.
     Event(Event),
@@ -32,7 +32,7 @@ impl Work {
 }
 
 /// One line: a processor and what it asks for.
-#[derive(Debug, Drop)]
+#[derive(Drop)]
 pub struct Line {
     /// The caller's processor.
     pub cpu: Cpu,
@@ -44,7 +44,7 @@ pub struct Line {
 const _: () = prove!(size_of::<Line>() <= 40);
 
 /// Lines in order, seen as a list.
-#[derive(Debug, Drop)]
+#[derive(Drop)]
 pub struct Lines {
     lines: Vec<Line>,
 }

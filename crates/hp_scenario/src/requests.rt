@@ -10,7 +10,7 @@ use hp_units::{Cpu, Event, Page, number32};
 use std::alloc::{AllocError, Global};
 
 /// An access to a page of an owner, who is named beside it.
-#[derive(Clone, Copy, Debug)]
+#[derive(Clone, Copy)]
 pub(crate) enum Access {
     Map { page: Page },
     Unmap { page: Page },
@@ -19,14 +19,14 @@ pub(crate) enum Access {
 }
 
 /// What a line asks for: work that names no owner, or an access to a page of a named one.
-#[derive(Debug, Drop)]
+#[derive(Drop)]
 pub(crate) enum Request<'a> {
     Plain(Work),
     Named { name: &'a str, access: Access },
 }
 
 /// A processor, and what it asks for.
-#[derive(Debug, Drop)]
+#[derive(Drop)]
 pub(crate) struct Said<'a> {
     pub(crate) cpu: Cpu,
     pub(crate) request: Request<'a>,

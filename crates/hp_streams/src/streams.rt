@@ -47,7 +47,7 @@ pub trait Sink {
 
 /// A reader or a writer of the standard library, and how many of its calls failed: any error of it,
 /// and a write that takes none of the bytes.
-#[derive(Debug, Drop)]
+#[derive(Drop)]
 pub struct Counted<S> {
     inner: S,
     failures: u64,

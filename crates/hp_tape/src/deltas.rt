@@ -8,7 +8,7 @@ use std::alloc::{AllocError, Global};
 use std::mem::size_of;
 
 /// A list of frames.
-#[derive(Clone, Copy, Debug, PartialEq, Eq, Drop)]
+#[derive(Clone, Copy, PartialEq, Eq, Drop)]
 pub enum ListId {
     /// The free blocks of a class and an order.
     Area { class: Class, order: Order },
@@ -18,7 +18,7 @@ pub enum ListId {
 
 /// One small change of the state, with what its opposite needs (own rule). None holds a list of
 /// frames or a state.
-#[derive(Debug, Drop)]
+#[derive(Drop)]
 pub enum Delta {
     /// A frame was put after another, or at the front.
     Link {

@@ -5,7 +5,7 @@ ghost use Rattle.hp_tape.specs.FrameChanges.{frame_before};
 use hp_units::Frame;
 
 /// What became of an owner's page (own rule).
-#[derive(Clone, Copy, Debug, PartialEq, Eq, Drop)]
+#[derive(Clone, Copy, PartialEq, Eq, Drop)]
 pub enum FrameChange {
     /// It got a frame.
     Mapped(Frame),

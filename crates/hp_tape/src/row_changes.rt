@@ -7,7 +7,7 @@ use std::marker::Model;
 
 /// A memory block's row before a change and after it, in 23 bytes in place of 68 (own rule). A
 /// contract sees the rows themselves.
-#[derive(Debug, Drop)]
+#[derive(Drop)]
 pub struct RowChange {
     block: u8,
     before: PackedRow,
@@ -70,7 +70,7 @@ impl RowChange {
 
 /// A memory block's row in 11 bytes, with the operation's number as bytes, lowest first, so that it
 /// may lie anywhere.
-#[derive(Clone, Copy, Debug, Drop)]
+#[derive(Clone, Copy, Drop)]
 struct PackedRow {
     state: State,
     zone: ZonePart,
@@ -103,7 +103,7 @@ impl PackedRow {
 }
 
 /// The zone of a row, or none, in one byte.
-#[derive(Clone, Copy, Debug, Drop)]
+#[derive(Clone, Copy, Drop)]
 enum ZonePart {
     None,
     Normal,
@@ -133,7 +133,7 @@ impl ZonePart {
 }
 
 /// The wish of a row's claim, or none, in one byte.
-#[derive(Clone, Copy, Debug, Drop)]
+#[derive(Clone, Copy, Drop)]
 enum WishPart {
     None,
     Off,

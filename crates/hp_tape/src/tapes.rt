@@ -7,7 +7,7 @@ use std::alloc::{AllocError, Global};
 use std::marker::Model;
 
 /// The deltas of a step, oldest first, and room for more: noting takes no memory.
-#[derive(Debug, Drop)]
+#[derive(Drop)]
 pub struct Tape {
     deltas: Vec<Delta>,
 }

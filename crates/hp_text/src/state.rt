@@ -16,7 +16,7 @@ use std::alloc::{AllocError, Global};
 use std::fmt;
 
 /// A list of free frames: of a class and an order, or of a processor for a pool.
-#[derive(Clone, Copy, Debug, PartialEq, Eq)]
+#[derive(Clone, Copy, PartialEq, Eq)]
 enum ListName {
     Free(Class, Order),
     Cached(Cpu, Pool),
@@ -36,7 +36,7 @@ impl fmt::Display for ListName {
 }
 
 /// What a pageblock can be marked by.
-#[derive(Clone, Copy, Debug, PartialEq, Eq)]
+#[derive(Clone, Copy, PartialEq, Eq)]
 enum Mark {
     Unmovable,
     Isolated,

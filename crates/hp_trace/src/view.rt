@@ -3,7 +3,7 @@ ghost use Rattle.std.specs.Prelude.{◌≡◌};
 ghost use Rattle.hp_trace.specs.Views.{shows};
 
 /// Which lines are shown, counted from 1, and how wide a row may be.
-#[derive(Clone, Copy, Debug, PartialEq, Eq)]
+#[derive(Clone, Copy, PartialEq, Eq)]
 pub struct View {
     /// The first line that is shown.
     pub from: u64,

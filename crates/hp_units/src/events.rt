@@ -8,7 +8,7 @@ use std::alloc::{AllocError, Global};
 
 /// One event, made by one processor. Its refusals and what it does are those of the definitions in
 /// specs/Refusals and specs/Step.
-#[derive(Debug, Drop)]
+#[derive(Drop)]
 pub enum Event {
     /// The kernel takes a block of 2^order frames: of order 0 from the processor's list, else from
     /// the free areas (Gorman, chapter 6). Answered with its first frame.

@@ -10,7 +10,7 @@ use std::alloc::{AllocError, Global};
 use std::marker::Model;
 
 /// The parts that a layout is asked for.
-#[derive(Clone, Copy, Debug, Drop)]
+#[derive(Clone, Copy, Drop)]
 pub struct Parts<'a> {
     /// The greatest order, 0 to 10.
     pub order: u64,
@@ -66,7 +66,7 @@ pub enum LayoutFault {
 }
 
 /// A layout that is within the limits.
-#[derive(Debug, Drop)]
+#[derive(Drop)]
 pub struct Layout {
     order: u32,
     pageblocks: u32,

@@ -8,7 +8,7 @@ use crate::replies::Reply;
 use hp_numbers::Serial;
 
 /// How a step counts for the operation that it may belong to (own rule).
-#[derive(Clone, Copy, Debug, PartialEq, Eq, Drop)]
+#[derive(Clone, Copy, PartialEq, Eq, Drop)]
 pub enum Mark {
     /// A Begin: the step's serial is the operation's number.
     Opens,
@@ -28,7 +28,7 @@ impl Mark {
 }
 
 /// A step's serial and mark.
-#[derive(Clone, Copy, Debug, PartialEq, Eq, Drop)]
+#[derive(Clone, Copy, PartialEq, Eq, Drop)]
 pub struct Tag {
     /// The serial of the step's record.
     pub serial: Serial,

@@ -7,7 +7,7 @@ use std::alloc::{AllocError, Global};
 use std::marker::Model;
 
 /// What a plan makes of one memory block.
-#[derive(Clone, Copy, Debug, PartialEq, Eq, Drop)]
+#[derive(Clone, Copy, PartialEq, Eq, Drop)]
 pub struct Item {
     /// The memory block.
     pub block: Block,
@@ -17,7 +17,7 @@ pub struct Item {
 
 /// What an operation makes of memory blocks, in the order in which it is checked. The items are in a
 /// place of their own, so that events stay small.
-#[derive(Debug, Drop)]
+#[derive(Drop)]
 pub struct Plan {
     items: Box<Vec<Item>>,
 }
@@ -85,7 +85,7 @@ fn is_same(item: &Item, other: &Item) -> bool
 }
 
 /// The 8-byte words of a page, in a place of their own, so that tables of words stay small.
-#[derive(Debug, Drop)]
+#[derive(Drop)]
 pub struct Words {
     words: Box<Vec<u64>>,
 }

@@ -6,7 +6,7 @@ use hp_numbers::{Block, Cpu, Frame, Serial};
 
 /// Why an event was refused. A refusal is recorded and changes no state; it is the first of its
 /// event's order that applies.
-#[derive(Clone, Copy, Debug, PartialEq, Eq, Drop)]
+#[derive(Clone, Copy, PartialEq, Eq, Drop)]
 pub enum Refusal {
     /// The owner is not in the layout.
     NoOwner,
@@ -57,7 +57,7 @@ pub enum Refusal {
 }
 
 /// The answer to an event.
-#[derive(Clone, Copy, Debug, PartialEq, Eq, Drop)]
+#[derive(Clone, Copy, PartialEq, Eq, Drop)]
 pub enum Reply {
     /// The event was done.
     Done,
@@ -115,7 +115,7 @@ impl Reply {
 }
 
 /// One entry of the history.
-#[derive(Debug, Drop)]
+#[derive(Drop)]
 pub struct Record {
     /// Its number.
     pub serial: Serial,
@@ -128,7 +128,7 @@ pub struct Record {
 }
 
 /// What a caller keeps of its call.
-#[derive(Debug, Drop)]
+#[derive(Drop)]
 pub struct Receipt {
     /// The record's number.
     pub serial: Serial,
@@ -139,7 +139,7 @@ pub struct Receipt {
 }
 
 /// Why a call left no record: it changed nothing.
-#[derive(Clone, Copy, Debug, PartialEq, Eq, Drop)]
+#[derive(Clone, Copy, PartialEq, Eq, Drop)]
 pub enum CallFault {
     /// The history holds its limit of records.
     HistoryFull,
@@ -148,7 +148,7 @@ pub enum CallFault {
 }
 
 /// How an operation's driver ended.
-#[derive(Clone, Copy, Debug, PartialEq, Eq, Drop)]
+#[derive(Clone, Copy, PartialEq, Eq, Drop)]
 pub enum OpEnd {
     /// The plan was committed.
     Done,

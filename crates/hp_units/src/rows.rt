@@ -8,7 +8,7 @@ ghost use Rattle.hp_units.specs.declared.rows.State.TheVariants.{Online as Onlin
 use hp_numbers::Serial;
 
 /// The zone of an online memory block (Linux guide, Memory Hot(Un)Plug; Gorman, chapter 2).
-#[derive(Clone, Copy, Debug, PartialEq, Eq, Drop)]
+#[derive(Clone, Copy, PartialEq, Eq, Drop)]
 pub enum Zone {
     /// For the kernel and for owners' pages.
     Normal,
@@ -17,7 +17,7 @@ pub enum Zone {
 }
 
 /// What a pageblock is used for.
-#[derive(Clone, Copy, Debug, PartialEq, Eq, Drop)]
+#[derive(Clone, Copy, PartialEq, Eq, Drop)]
 pub enum Mobility {
     /// For the kernel's blocks.
     Unmovable,
@@ -39,7 +39,7 @@ impl Mobility {
 }
 
 /// A pageblock's mobility, and whether nothing is taken from it.
-#[derive(Clone, Copy, Debug, PartialEq, Eq, Drop)]
+#[derive(Clone, Copy, PartialEq, Eq, Drop)]
 pub struct Kind {
     /// What it is used for; it changes only while the whole pageblock is one free block (own rule).
     pub mobility: Mobility,
@@ -60,7 +60,7 @@ impl Kind {
 }
 
 /// The class of a free block: zone Normal by mobility, zone Movable, and the isolated blocks of each zone.
-#[derive(Clone, Copy, Debug, PartialEq, Eq, Drop)]
+#[derive(Clone, Copy, PartialEq, Eq, Drop)]
 pub enum Class {
     /// Zone Normal, mobility Unmovable.
     Nu,
@@ -136,7 +136,7 @@ impl Class {
 }
 
 /// The classes that processors keep lists of single frames of (Gorman, chapter 6).
-#[derive(Clone, Copy, Debug, PartialEq, Eq, Drop)]
+#[derive(Clone, Copy, PartialEq, Eq, Drop)]
 pub enum Pool {
     /// Zone Normal, mobility Unmovable.
     Nu,
@@ -193,7 +193,7 @@ impl Pool {
 }
 
 /// The state of a memory block (Linux guide, Memory Hot(Un)Plug).
-#[derive(Clone, Copy, Debug, PartialEq, Eq, Drop)]
+#[derive(Clone, Copy, PartialEq, Eq, Drop)]
 pub enum State {
     /// There, and not in use.
     Offline,
@@ -206,7 +206,7 @@ pub enum State {
 }
 
 /// What an operation makes of a memory block.
-#[derive(Clone, Copy, Debug, PartialEq, Eq, Drop)]
+#[derive(Clone, Copy, PartialEq, Eq, Drop)]
 pub enum Wish {
     /// It goes offline.
     Off,
@@ -226,7 +226,7 @@ impl Wish {
 }
 
 /// The operation that holds a memory block.
-#[derive(Clone, Copy, Debug, PartialEq, Eq, Drop)]
+#[derive(Clone, Copy, PartialEq, Eq, Drop)]
 pub struct Claim {
     /// The operation's number.
     pub op: Serial,
@@ -235,7 +235,7 @@ pub struct Claim {
 }
 
 /// A memory block's row: a zone where it is online or going, and a claim where an operation holds it.
-#[derive(Clone, Copy, Debug, PartialEq, Eq, Drop)]
+#[derive(Clone, Copy, PartialEq, Eq, Drop)]
 pub struct Row {
     /// Whether the block is in use.
     pub state: State,
@@ -342,7 +342,7 @@ impl Row {
 }
 
 /// What a memory block is at boot.
-#[derive(Clone, Copy, Debug, PartialEq, Eq, Drop)]
+#[derive(Clone, Copy, PartialEq, Eq, Drop)]
 pub enum Boot {
     /// Offline.
     Offline,
@@ -355,7 +355,7 @@ pub enum Boot {
 }
 
 /// What a memory block that is added becomes at once (Linux guide: auto_online_blocks).
-#[derive(Clone, Copy, Debug, PartialEq, Eq, Drop)]
+#[derive(Clone, Copy, PartialEq, Eq, Drop)]
 pub enum Auto {
     /// Offline.
     Offline,

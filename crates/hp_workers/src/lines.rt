@@ -16,7 +16,7 @@ use std::marker::Model;
 use std::sync::Wait;
 
 /// What became of a line (own rule).
-#[derive(Clone, Copy, Debug, PartialEq, Eq, Drop)]
+#[derive(Clone, Copy, PartialEq, Eq, Drop)]
 pub enum LineEnd {
     /// The reply to its event.
     Reply(Reply),
@@ -31,7 +31,7 @@ pub enum LineEnd {
 }
 
 /// What became of lines, in order.
-#[derive(Debug, Drop)]
+#[derive(Drop)]
 pub struct Ends {
     ends: Vec<LineEnd>,
 }
