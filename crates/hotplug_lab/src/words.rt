@@ -32,7 +32,7 @@ pub enum Word {
 }
 
 /// What the program is asked for, and the file that is named.
-#[derive(Clone, Copy, Debug)]
+#[derive(Clone, Copy)]
 pub struct Request<'a> {
     pub word: Word,
     pub file: Option<&'a str>,
