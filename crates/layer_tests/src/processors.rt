@@ -365,8 +365,8 @@ fn takes_the_first(rt: HostRuntime) -> Result<(), Fail> {
         mut buddy,
     } = small_memory(rt.alloc(), 2, 1)?;
     if let Some(frame) = take(&mut cpus, &mut buddy, rt.alloc())? {
-        assert_eq!(rt; frame, Frame(0));
-        assert_eq!(rt; cpus.next(frame), None);
+        assert!(rt; frame == Frame(0));
+        assert!(rt; cpus.next(frame) == None);
     }
     Ok(())
 }

@@ -73,23 +73,14 @@ fn numbers_of_frames(rt: HostRuntime) -> Result<(), Fail> {
 #[test]
 fn classes_and_pools_by_zone(rt: HostRuntime) -> Result<(), Fail> {
     let pool = Pool::of_mobility(Zone::Movable, Mobility::Movable);
-    assert_eq!(rt;
-        pool.class(),
-        Class::usable(pool.zone(), Mobility::Unmovable.other())
-    );
+    assert!(rt; pool.class() == Class::usable(pool.zone(), Mobility::Unmovable.other()));
     assert_eq!(rt; pool.index(), 2);
     let isolated = Kind {
         isolated: true,
         ..Kind::plain()
     };
-    assert_eq!(rt;
-        Class::of_kind(Zone::Movable, isolated),
-        Class::isolated(Zone::Movable)
-    );
-    assert_eq!(rt;
-        Class::numbered(Class::isolated(Zone::Movable).index()),
-        Class::IsoM
-    );
+    assert!(rt; Class::of_kind(Zone::Movable, isolated) == Class::isolated(Zone::Movable));
+    assert!(rt; Class::numbered(Class::isolated(Zone::Movable).index()) == Class::IsoM);
     Ok(())
 }
 

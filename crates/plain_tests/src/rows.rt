@@ -19,7 +19,7 @@ fn a_row_is_set(rt: HostRuntime) -> Result<(), Fail> {
     let layout = two_blocks(rt.alloc())?;
     let mut blocks = Blocks::empty(rt.alloc(), &layout)?;
     blocks.set_row(Block(1), ONLINE);
-    assert_eq!(rt; blocks.row(Block(1)), Some(ONLINE));
+    assert!(rt; blocks.row(Block(1)) == Some(ONLINE));
     Ok(())
 }
 
@@ -30,7 +30,7 @@ fn what_added_blocks_become_is_set(rt: HostRuntime) -> Result<(), Fail> {
     let before = blocks.copy(rt.alloc())?;
     assert!(rt; blocks.same(&before));
     blocks.set_auto(Auto::Online);
-    assert_eq!(rt; blocks.auto(), Auto::Online);
+    assert!(rt; blocks.auto() == Auto::Online);
     assert!(rt; !blocks.same(&before));
     Ok(())
 }
@@ -38,7 +38,7 @@ fn what_added_blocks_become_is_set(rt: HostRuntime) -> Result<(), Fail> {
 #[test]
 fn a_plan_wishes(rt: HostRuntime) -> Result<(), Fail> {
     let plan = [item(0, Wish::Off), item(1, Wish::Normal)];
-    assert_eq!(rt; wish_of(&plan, Block(1)), Some(Wish::Normal));
+    assert!(rt; wish_of(&plan, Block(1)) == Some(Wish::Normal));
     Ok(())
 }
 
@@ -48,7 +48,7 @@ fn a_page_is_mapped(rt: HostRuntime) -> Result<(), Fail> {
     let mut pages = Pages::empty(rt.alloc(), &layout)?;
     let before = pages.copy(rt.alloc())?;
     pages.map(Owner(0), Page(1), Frame(3), one_word(rt.alloc())?);
-    assert_eq!(rt; pages.frame_at(Owner(0), Page(1)), Some(Frame(3)));
+    assert!(rt; pages.frame_at(Owner(0), Page(1)) == Some(Frame(3)));
     assert_eq!(rt; pages.words_at(Owner(0), Page(1)), Some([7].as_slice()));
     assert!(rt; !pages.same(&before));
     Ok(())
