@@ -4,7 +4,7 @@ use Rattle.std.proofs.lemmas.Bool.{cases_lt}
 use Rattle.std.proofs.Math.Nat.{mul-le-mul_right, mul-mod_left, mul_assoc, suc-mul}
 use Rattle.hp_units.specs.Arithmetic.{frame_count, pageblock_count}
 use Rattle.std.specs.List.{fold, range_with_len}
-use Rattle.hp_areas.proofs.Ranges.{fold-range_more}
+use Rattle.hp_plain.proofs.Ranges.{fold-range_more}
 use Rattle.hp_units.specs.LayoutParts.{LayoutParts}
 use Rattle.hp_units.specs.Memory.{FreeAreas, FreeFrames}
 use Rattle.hp_units.specs.Placement.{free_places, covered}

@@ -1,5 +1,12 @@
 pub mod Begins
+pub mod Claims
 pub mod Commits
+pub mod EmptyFrames
 pub mod EmptyState
+pub mod EqualLists
+pub mod Filters
+pub mod FramesInLayout
+pub mod ListWalks
+pub mod Ranges
 pub mod Scans
 pub mod Walks

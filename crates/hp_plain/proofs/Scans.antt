@@ -9,7 +9,7 @@ use Rattle.hp_units.specs.declared.plans.Item.{Item}
 use Rattle.hp_units.specs.FreeAreas.{is_on}
 use Rattle.hp_units.specs.Refusals.{first_repeated}
 use Rattle.hp_plain.specs.Plans.{blocks_in}
-use Rattle.hp_areas.proofs.Ranges.{range_step, fold-range_more}
+use Rattle.hp_plain.proofs.Ranges.{range_step, fold-range_more}
 
 -- ---- numbers from one on
 

@@ -1,3 +1,7 @@
--- The variants of the boot states under names of their own, passed on from one place. Declares nothing.
+-- The variants of the rows' enums under names of their own, passed on from one place. Declares nothing.
 pub use Rattle.hp_units.specs.declared.rows.Boot.TheVariants.{Offline as OfflineBoot, Absent as AbsentBoot}
 pub use Rattle.hp_units.specs.declared.rows.Boot.{Boot}
+pub use Rattle.hp_units.specs.declared.rows.Class.{Class}
+pub use Rattle.hp_units.specs.declared.rows.Class.TheVariants.{IsoM, IsoN, Mm, Nm, Nu}
+pub use Rattle.hp_units.specs.declared.rows.Mobility.TheVariants.{Movable}
+pub use Rattle.hp_units.specs.declared.rows.Zone.{Zone}

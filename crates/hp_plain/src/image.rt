@@ -11,9 +11,10 @@ mod boots;
 mod orders;
 
 use self::orders::same_orders;
+use crate::blocks::Blocks;
+use crate::frames::FreeFrames;
+use crate::pages::Pages;
 use crate::parts::Part;
-use hp_areas::FreeFrames;
-use hp_rows::{Blocks, Pages};
 use hp_units::{
     Auto, Block, Class, Cpu, Frame, Kind, Layout, Order, Owner, Page, Pageblock, Pool, Row,
 };

@@ -1,9 +1,19 @@
 //! A whole state as a value: an `Image` of plain lists, copied, compared, read, and made by setting
 //! one part after another.
+//!
+//! `frames` owns the free areas and the processors' lists, with `areas` and `lists` below it, `blocks`
+//! the rows of memory blocks, `pages` the owners' pages and their words, and `image` puts them and the
+//! kernel's blocks together. Nothing here is a step of a machine. Read `image` first.
 #![tactic(auto)]
 
+mod areas;
+mod blocks;
+mod frames;
 mod image;
+mod lists;
+mod pages;
 mod parts;
 
+pub use blocks::plans::wish_of;
 pub use image::Image;
 pub use parts::Part;

@@ -3,10 +3,10 @@ ghost use Rattle.std.specs.Prelude.{◌≡◌};
 ghost use Rattle.hp_units.specs.Arithmetic.{frame_count, pageblock_count};
 
 use crate::layouts::{LAST_OFFLINE, four_blocks};
-use hp_plain::{Image, Part};
+use hp_plain::{Image, Part, wish_of};
 use hp_units::{
-    Auto, Block, Class, Cpu, Frame, Kind, Mobility, Order, Owner, Page, Pageblock, Pool, Row,
-    State, Words,
+    Auto, Block, Class, Cpu, Frame, Item, Kind, Mobility, Order, Owner, Page, Pageblock, Pool, Row,
+    State, Wish, Words,
 };
 use std::alloc::{AllocError, Global};
 use std::test::Fail;
@@ -141,4 +141,19 @@ fn kinds_and_rows_are_added(rt: HostRuntime) -> Result<(), Fail> {
     let mut image = Image::empty(rt.alloc(), &layout)?;
     assert!(rt; adds_a_kind_and_a_row(&mut image)?);
     Ok(())
+}
+
+#[test]
+fn a_plan_wishes(rt: HostRuntime) -> Result<(), Fail> {
+    let plan = [item(0, Wish::Off), item(1, Wish::Normal)];
+    assert!(rt; wish_of(&plan, Block(1)) == Some(Wish::Normal));
+    Ok(())
+}
+
+/// A block of a plan.
+fn item(block: u32, wish: Wish) -> Item {
+    Item {
+        block: Block(block),
+        wish,
+    }
 }

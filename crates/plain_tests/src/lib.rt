@@ -1,13 +1,10 @@
-//! Worked examples of the crates that stand beside a machine: of a state as a value (`areas`, `rows`,
-//! `images`), of a plan's driver (`plans`), and of what is read and written (`controls`,
+//! Worked examples of the crates that stand beside a machine: of a state as a value (`images`), of a plan's driver (`plans`), and of what is read and written (`controls`,
 //! `control_writes`, `scenarios`, `texts`, `maps`, `traces`). What several of them work on stands
 //! in `layouts` and `machines`.
 //!
 //! `rt test` in this folder runs them.
 #![tactic(auto)]
 
-#[cfg(test)]
-mod areas;
 #[cfg(test)]
 mod control_writes;
 #[cfg(test)]
@@ -22,8 +19,6 @@ mod machines;
 mod maps;
 #[cfg(test)]
 mod plans;
-#[cfg(test)]
-mod rows;
 #[cfg(test)]
 mod scenarios;
 #[cfg(test)]

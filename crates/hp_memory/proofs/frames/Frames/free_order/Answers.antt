@@ -2,7 +2,7 @@
 use Rattle.std.proofs.Common.{◌≡◌, ◌+◌, ◌^◌, ◌<◌, ℕ, Bool, false, sym, ◌∙◌, ap, subst, arith}
 use Rattle.hp_numbers.specs.Numbers.{ancestor}
 use Rattle.hp_units.specs.Refusals.{is_free_start}
-use Rattle.hp_areas.proofs.Ranges.{any-below_step}
+use Rattle.hp_plain.proofs.Ranges.{any-below_step}
 use Rattle.hp_units.specs.Arithmetic.{frame_count}
 use Rattle.hp_units.specs.LayoutParts.{LayoutParts}
 use Rattle.std.proofs.Math.Nat.{div-mul-le_self}

@@ -3,7 +3,7 @@ use Rattle.std.proofs.Common.{◌*◌, ◌<◌, ℕ, Bool, true, sym, ◌∙◌,
 use Rattle.hp_units.specs.Arithmetic.{pageblock_size}
 use Rattle.hp_units.specs.FreeAreas.{is_on}
 use Rattle.hp_units.specs.Memory.{free_list, isolated_class}
-use Rattle.hp_areas.proofs.Ranges.{all-range_step}
+use Rattle.hp_plain.proofs.Ranges.{all-range_step}
 use Rattle.hp_memory.proofs.frames.Frames.is_all_free.Goals as goal
 
 pub loop-number-preserved : goal.loop-number-preserved

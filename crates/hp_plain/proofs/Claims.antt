@@ -1,0 +1,42 @@
+-- The blocks that an operation holds are blocks of the layout.
+use Rattle.std.proofs.Common.{◌≡◌, ℕ, zero, suc, ◌+◌, ◌<◌, ◌==◌, List, [], ◌∷◌, ◌++◌, length, get_or, Bool, true, cond, refl, ◌∙◌, ap, subst, arith, inl, inr, filter, eq-eqb, zero-add}
+use Rattle.std.specs.List.{range_with_len}
+use Rattle.std.proofs.lemmas.List.Folds.{list_any_at}
+use Rattle.std.proofs.lemmas.Bool.{false≢true}
+use Rattle.hp_units.specs.LayoutParts.{LayoutParts}
+use Rattle.hp_units.specs.Arithmetic.{all_blocks}
+use Rattle.hp_units.specs.Memory.{Blocks, row_of}
+use Rattle.hp_units.specs.FreeAreas.{is_on}
+use Rattle.hp_units.specs.Rows.{blocks_of, is_claimed_by}
+use Rattle.hp_plain.proofs.Filters.{on_cases, on-filter, filter-range_more}
+
+-- a number on a list of numbers from one on is below their end
+range-below : (a n b : ℕ) → is_on b (range_with_len a n) ≡ true → b < a + n
+range-below a zero b e = absurd (false≢true e)
+range-below a (suc n) b e = elim (on_cases b a (range_with_len (a + 1) n) e) [
+  | inl same ↦ omega arith
+  | inr rest ↦ let h : b < a + 1 + n = range-below (a + 1) n b rest in omega arith
+]
+
+-- an element of a list is on it
+at-on : (xs : List ℕ) (k : ℕ) → k < length xs → is_on (get_or xs k 0) xs ≡ true
+at-on xs k below =
+    list_any_at (λ other. other == get_or xs k 0) xs k 0 below (eq-eqb (get_or xs k 0) (get_or xs k 0) refl)
+
+-- the blocks that an operation holds are of the layout
+pub blocks_of-below : (l : LayoutParts) (bs : Blocks) (op : ℕ) (blocks : List ℕ) → blocks ≡ blocks_of l bs op
+    → (k : ℕ) → k < length blocks → get_or blocks k 0 < l.blocks
+blocks_of-below l bs op blocks e k below =
+    let p : ℕ → Bool = λ (block : ℕ). is_claimed_by op (row_of bs block) in
+    let on : is_on (get_or blocks k 0) (blocks_of l bs op) ≡ true =
+    subst (λ (xs : List ℕ). is_on (get_or blocks k 0) xs ≡ true) e (at-on blocks k below) in
+    let h : get_or blocks k 0 < 0 + l.blocks =
+    range-below 0 l.blocks (get_or blocks k 0) (on-filter p (get_or blocks k 0) (all_blocks l) on) in
+    omega arith
+
+-- a filter of the numbers below one, one number further
+pub filter-below_more : (p : ℕ → Bool) (n : ℕ) (keep : Bool) → p n ≡ keep
+    → filter p (range_with_len 0 (n + 1)) ≡ filter p (range_with_len 0 n) ++ cond keep (n ∷ []) []
+filter-below_more p n keep e =
+    filter-range_more p 0 n keep (ap p (zero-add n) ∙ e)
+    ∙ ap (λ (k : ℕ). filter p (range_with_len 0 n) ++ cond keep (k ∷ []) []) (zero-add n)

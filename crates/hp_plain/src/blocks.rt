@@ -1,0 +1,137 @@
+//! The row of each memory block, and what a block that is added becomes.
+ghost use Rattle.std.specs.Prelude.{◌≡◌, ◌≢◌, MatchBool, ◌<◌, IfOk, length, slice_get};
+ghost use Rattle.hp_units.specs.Boot.{empty_blocks};
+ghost use Rattle.hp_units.specs.Memory.{with_row};
+
+pub(crate) mod plans;
+
+use hp_units::{Auto, Block, Claim, Layout, Row, State, Zone};
+use std::alloc::{AllocError, Global};
+use std::marker::Model;
+
+/// The rows of all memory blocks, by rising number.
+#[derive(Drop)]
+pub(crate) struct Blocks {
+    rows: Vec<Row>,
+    auto: Auto,
+}
+
+impl Model for Blocks {
+    ghost use Rattle.hp_units.specs.Memory.{Blocks};
+
+    ghost Value = { Blocks };
+
+    ghost view = { λ b. record { rows = b.rows.items; auto = b.auto } };
+}
+
+impl Blocks {
+    /// All blocks of the layout offline, unclaimed, and an added block to stay offline (own rule).
+    /// An error is out of memory.
+    pub(crate) fn empty(alloc: Global, layout: &Layout) -> Result<Blocks, AllocError>
+        ensures { IfOk result (λ blocks. blocks ≡ empty_blocks layout.now) }
+    {
+        let offline = Row {
+            state: State::Offline,
+            zone: None,
+            claim: None,
+        };
+        let rows = vec![in alloc; offline; layout.blocks() as usize]?;
+        Ok(Blocks {
+            rows,
+            auto: Auto::Offline,
+        })
+    }
+
+    /// Equal rows. An error is out of memory.
+    pub(crate) fn copy(&self, alloc: Global) -> Result<Blocks, AllocError>
+        ensures { IfOk result (λ blocks. blocks ≡ self.now) }
+    {
+        let rows = Vec::from_slice(alloc, self.rows.as_slice())?;
+        Ok(Blocks {
+            rows,
+            auto: self.auto,
+        })
+    }
+
+    /// Whether other rows are the same, and what a block that is added becomes.
+    pub(crate) fn same(&self, other: &Blocks) -> bool
+        ensures { MatchBool result (self.now ≡ other.now) (self.now ≢ other.now) }
+    {
+        same_rows(&self.rows, &other.rows) && self.auto == other.auto
+    }
+
+    /// The row of a memory block; none for a block past the last one.
+    pub(crate) fn row(&self, block: Block) -> Option<Row>
+        ensures { result ≡ slice_get self.now.rows block }
+    {
+        self.rows.get(block.0 as usize).copied()
+    }
+
+    /// Sets the row of a memory block, whose number is below the count of rows (own rule).
+    pub(crate) fn set_row(&mut self, block: Block, row: Row)
+        requires { block < length self.old.rows }
+        ensures { self.new ≡ with_row self.old block row }
+    {
+        self.rows[block.0 as usize] = row;
+    }
+
+    /// What a memory block that is added becomes (Linux, memory hotplug: auto_online_blocks).
+    pub(crate) fn auto(&self) -> Auto
+        ensures { result ≡ self.now.auto }
+    {
+        self.auto
+    }
+
+    /// Sets what a memory block that is added becomes (Linux, memory hotplug: auto_online_blocks).
+    pub(crate) fn set_auto(&mut self, auto: Auto)
+        ensures { self.new ≡ record self.old { auto = auto } }
+    {
+        self.auto = auto;
+    }
+}
+
+/// Whether the rows are the same.
+fn same_rows(rows: &[Row], others: &[Row]) -> bool
+    ensures { MatchBool result (rows.now ≡ others.now) (rows.now ≢ others.now) }
+{
+    if rows.len() != others.len() {
+        return false;
+    }
+    for number in 0..rows.len() {
+        if !same_row(rows[number], others[number]) {
+            return false;
+        }
+    }
+    true
+}
+
+/// Whether two rows are the same.
+fn same_row(row: Row, other: Row) -> bool
+    ensures { MatchBool result (row ≡ other) (row ≢ other) }
+{
+    row.state == other.state
+        && same_zone(row.zone, other.zone)
+        && same_claim(row.claim, other.claim)
+}
+
+/// Whether two zones are the same.
+fn same_zone(zone: Option<Zone>, other: Option<Zone>) -> bool
+    ensures { MatchBool result (zone ≡ other) (zone ≢ other) }
+{
+    match (zone, other) {
+        (Some(zone), Some(other)) => zone == other,
+        (None, None) => true,
+        _ => false,
+    }
+}
+
+/// Whether two claims are the same.
+fn same_claim(claim: Option<Claim>, other: Option<Claim>) -> bool
+    ensures { MatchBool result (claim ≡ other) (claim ≢ other) }
+{
+    match (claim, other) {
+        (Some(claim), Some(other)) => claim.op == other.op && claim.wish == other.wish,
+        (None, None) => true,
+        _ => false,
+    }
+}

@@ -1,9 +1,0 @@
--- Lists that are as long and the same at each number are the same.
-use Rattle.std.proofs.Common.{[], arith}
-use Rattle.std.proofs.lemmas.List.{ext_get_or}
-use Rattle.hp_rows.proofs.pages.same_contents.Goals as goal
-
-pub returns : goal.returns
-returns c =
-    ext_get_or [] c.args.contents.now c.args.others.now (omega arith)
-    (λ k h. c.loop-owner.invariant k (omega arith))
