@@ -16,7 +16,7 @@ What is checked, in each *.md file at the top, in docs/ and in examples/:
 - no other kind of block stands there but `text` (a picture) and `sh` (commands to type);
 - no line has more than 100 columns, and each link has its target;
 - in docs/PROVED.md, each `function` (`clause`, ..) below a crate's heading is in its source, and
-  each crate of crates.txt has a heading;
+  each library with public functions has a heading;
 - each path `crates/..`, `docs/..` or `examples/..` in a code span is there, but for what is built;
   and below a line "In `crates/NAME`" each path `src/..`, `specs/..` or `proofs/..`, each name and
   each `NAME.edit` in that crate.
@@ -259,16 +259,23 @@ def functions_of(crate):
 
 
 def check_item(checks, where, item, crate):
-    """The functions that an item of PROVED.md names, and the clauses after them in parentheses."""
+    """The functions that an item of PROVED.md names before its colon, and the clauses of each in parentheses after it."""
     known = functions_of(crate)
-    named = re.match(r"- ((?:`[\w:]+`(?:, )?)+)(?::| \()", item)
-    for function in re.findall(r"`([\w:]+)`", named[1]) if named else []:
-        checks.holds(where, function.split("::")[-1] in known, f"{crate} has no {function}")
-    for names, clauses in re.findall(r"((?:`[\w:]+`(?:, )?)+) \(((?:`\w+`(?:, )?)+)\)", item):
-        for function in re.findall(r"`([\w:]+)`", names):
+    heads = [it.partition(": ")[0] for it in re.split(r"(?<=[.;]) (?=`)", item[2:])]
+    for head in heads:
+        for function, clauses in re.findall(r"`([\w:]+)`(?: \(((?:`\w+`(?:, )?)+)\))?", head):
+            function = function.split("::")[-1]
+            checks.holds(where, function in known, f"{crate} has no {function}")
             for clause in re.findall(r"`(\w+)`", clauses):
-                has = clause in known.get(function.split("::")[-1], ())
+                has = clause in known.get(function, ())
                 checks.holds(where, has, f"{function} of {crate} has no clause {clause}")
+
+
+def has_contracts(crate):
+    """Whether a crate is a library of which others call functions, and so none of tests or of lemmas alone."""
+    src = ROOT / "crates" / crate / "src"
+    is_library = (src / "lib.rt").exists() and not crate.endswith("_tests")
+    return is_library and any(re.search(r"(?m)^\s*pub fn ", it.read_text()) for it in src.rglob("*.rt"))
 
 
 def check_proved(checks):
@@ -284,7 +291,7 @@ def check_proved(checks):
         elif crate:
             check_item(checks, f"docs/PROVED.md: {part[:40]} ..", " ".join(part.split()), crate)
     for name in re.findall(r"(?m)^(\w+)", (ROOT / "crates.txt").read_text()):
-        checks.holds("docs/PROVED.md", name in headed, f"no heading of crate {name}")
+        checks.holds("docs/PROVED.md", name in headed or not has_contracts(name), f"no heading of crate {name}")
 
 
 def check_all(checks, program):
