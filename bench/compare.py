@@ -9,7 +9,8 @@ crates/hotplug (--ours takes the crates of another folder). Ours and the peer ru
 times each, and every answer is compared. Of each the least time counts, and the peak memory of that
 run.
 
-- calls: the calls of each mix on each layout (--layouts, else small and medium), history kept.
+- calls: the calls of each mix on each layout (--layouts, else small and medium), history kept; plans
+  as the single events that they make.
 - sealed: the mixes that undo nothing, sealed after every 100,000 calls, without the seals' time;
   the peer keeps no records.
 - serial: `hotplug serial` on scenarios of 16 MiB of each mix, on the medium layout.
@@ -93,15 +94,16 @@ def checksum(run):
     return text.split("replies " if "replies " in text else "checksum ")[1][:16]
 
 
-def calls(choice, layouts, count, part=None):
-    """The mixes' calls, without any text."""
+def calls(choice, folder, layouts, count, part=None):
+    """The mixes' calls, without any text: ours reads them from a scenario that the peer's generator writes."""
     for layout in layouts:
         heading(f"calls on the layout {layout}, {count} of each mix" + (f", sealed every {part}" if part else ""))
         for mix in ["kernel", "pages"] if part else MIXES:
-            words = [mix, layout, count, SEED]
+            events = generated(folder, mix, layout, count, "--events")
+            made = len(json.loads(events.read_bytes())["calls"])
             ours, peer = in_turn(
-                choice.runs, [choice.ours / "bench_calls/out/bench_calls", *words, 3, *([part] if part else [])],
-                [PEER / "bench_calls", *words, "--reps", 3, *(["--no-history"] if part else [])])
+                choice.runs, [choice.ours / "bench_calls/out/bench_calls", 3, *([part] if part else [])],
+                [PEER / "bench_calls", mix, layout, made, SEED, "--reps", 3, *(["--no-history"] if part else [])], events)
             if {checksum(run) for run in ours} != {checksum(run) for run in peer}:
                 sys.exit(f"{mix}: the replies differ")
             ours, peer = least(ours, nanoseconds), least(peer, nanoseconds)
@@ -119,11 +121,11 @@ def serial(choice, name, scenario):
     return ours.wall, peer.wall
 
 
-def generated(folder, mix, layout, lines):
+def generated(folder, mix, layout, lines, *words):
     """A scenario of so many lines, and of at most 16 MiB."""
-    path = Path(folder) / f"{mix}-{layout}-{lines}.json"
+    path = Path(folder) / f"{mix}-{layout}-{lines}{''.join(words)}.json"
     with open(path, "wb") as out:
-        subprocess.run([PEER / "gen_big", mix, layout, str(lines), SEED], stdout=out, check=True)
+        subprocess.run([PEER / "gen_big", mix, layout, str(lines), SEED, *words], stdout=out, check=True)
     return path
 
 
@@ -179,9 +181,9 @@ def main():
     layouts = choice.layouts.split(",")
     with tempfile.TemporaryDirectory() as folder:
         if "calls" in parts:
-            calls(choice, layouts, choice.calls)
+            calls(choice, folder, layouts, choice.calls)
         if "sealed" in parts:
-            calls(choice, layouts, choice.calls, 100_000)
+            calls(choice, folder, layouts, choice.calls, 100_000)
         if "serial" in parts:
             heading("serial of 16 MiB on the layout medium")
             for mix in MIXES:

@@ -1,10 +1,10 @@
 //! Calls that are made again and timed.
 use crate::checksum::mix;
-use crate::generator::{Generator, no_record};
-use crate::mixes::Mix;
-use anyhow::Result;
+use anyhow::{Result, anyhow};
+use hp_control::{Request, parse_echo};
 use hp_history::Volume;
 use hp_machine::Machine;
+use hp_scenario::{Line, Lines, Work};
 use hp_units::{Cpu, Event, Layout};
 use std::alloc::{AllocError, Global};
 use std::time::{Duration, Instant};
@@ -14,16 +14,6 @@ use std::time::{Duration, Instant};
 pub struct Call {
     cpu: Cpu,
     event: Event,
-}
-
-/// Calls, the checksum of their replies, and the generator that made them. It lives on while the
-/// calls are timed, as in the peer: once memory of its size was given back, the C library copies
-/// growing tables in place of moving their pages.
-#[derive(Drop)]
-pub struct Calls {
-    pub calls: Vec<Call>,
-    pub sum: u64,
-    pub generator: Generator,
 }
 
 /// What a run of calls gave: how many were made, the checksum of the replies, and the time that the
@@ -134,52 +124,33 @@ fn time_on(
     Ok(figures)
 }
 
-/// The first calls of a mix, so many, and the checksum of their replies.
-pub fn choose_calls(
-    alloc: Global,
-    layout: &Layout,
-    mix: Mix,
-    count: usize,
-    seed: u64,
-) -> Result<Calls> {
-    let mut generator = Generator::new(alloc, layout, mix, seed)?;
-    let (calls, sum) = chosen_calls(alloc, &mut generator, count)?;
-    Ok(Calls {
-        calls,
-        sum,
-        generator,
-    })
+/// The calls of lines, each of which asks for one event.
+pub fn calls_of(alloc: Global, lines: Lines) -> Result<Vec<Call>> {
+    let lines = lines.into_vec();
+    let mut calls = Vec::with_capacity(alloc, lines.len())?;
+    for line in lines {
+        calls.push(call_of(alloc, line)?)?;
+    }
+    Ok(calls)
 }
 
-/// The first calls of a generator, so many, and the checksum of their replies.
-fn chosen_calls(
-    alloc: Global,
-    generator: &mut Generator,
-    count: usize,
-) -> Result<(Vec<Call>, u64)> {
-    generator.read_each(alloc)?;
-    for _step in 0..count {
-        if generator.records().len() >= count {
-            break;
-        }
-        generator.step(alloc)?;
-    }
-    first_calls(alloc, generator, count)
+/// The call of a line that asks for one event.
+fn call_of(alloc: Global, line: Line) -> Result<Call> {
+    let Line { cpu, work } = line;
+    let event = event_of(alloc, work)?;
+    Ok(Call { cpu, event })
 }
 
-/// The first calls that a generator made.
-fn first_calls(alloc: Global, generator: &Generator, count: usize) -> Result<(Vec<Call>, u64)> {
-    let mut sum = 0;
-    let mut calls = Vec::with_capacity(alloc, count)?;
-    for record in generator.records().iter().take(count) {
-        let event = record.event.copy(alloc)?;
-        calls.push(Call {
-            cpu: record.cpu,
-            event,
-        })?;
-        sum = mix(sum, &record.reply);
+/// The one event that a line asks for, maybe by a control file.
+fn event_of(alloc: Global, work: Work) -> Result<Event> {
+    match work {
+        Work::Event(event) => Ok(event),
+        Work::Echo { path, text } => match parse_echo(alloc, path.as_str(), text.as_str()) {
+            Ok(Request::Event(event)) => Ok(event),
+            _ => Err(anyhow!("an echo asks for no event")),
+        },
+        _ => Err(anyhow!("a line asks for no event")),
     }
-    Ok((calls, sum))
 }
 
 /// Makes calls on a machine, and answers the checksum of their replies, after one of earlier
@@ -190,7 +161,7 @@ fn make_calls(alloc: Global, machine: &mut Machine, calls: &[Call], sum: u64) ->
     for call in calls {
         match machine.answer(alloc, call.cpu, &call.event) {
             Ok((_, reply)) => sum = mix(sum, &reply),
-            Err(_fault) => return Err(no_record()),
+            Err(_fault) => return Err(anyhow!("a call left no record")),
         }
     }
     Ok(sum)
