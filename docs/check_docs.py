@@ -4,7 +4,7 @@ prints, byte by byte. `check` at the top runs it after the gate; alone it takes 
 
     python3 docs/check_docs.py [PROGRAM]        without PROGRAM: crates/hotplug/out/hotplug
 
-What is checked, in each *.md file at the top, in docs/ and in examples/:
+What is checked, in each *.md file at the top, in docs/, examples/ and bench/:
 - what `hotplug serial` prints for examples/NAME.json is examples/NAME.out, and examples/README.md
   names it;
 - a code block marked `console`: each line `$ COMMAND` is run by bash at the top, with `hotplug` and
@@ -299,7 +299,7 @@ def check_all(checks, program):
         checks.holds("documents", False, f"no program at {program}: README.md says how to build it")
         return
     check_examples(checks, program)
-    for folder in (ROOT, ROOT / "docs", ROOT / "examples"):
+    for folder in (ROOT, ROOT / "docs", ROOT / "examples", ROOT / "bench"):
         for document in sorted(folder.glob("*.md")):
             check_document(checks, document, program)
     check_proved(checks)
