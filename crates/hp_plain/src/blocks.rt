@@ -5,7 +5,7 @@ ghost use Rattle.hp_units.specs.Memory.{with_row};
 
 pub(crate) mod plans;
 
-use hp_units::{Auto, Block, Claim, Layout, Row, State, Zone};
+use hp_units::{Auto, Block, Layout, Row, State};
 use std::alloc::{AllocError, Global};
 use std::marker::Model;
 
@@ -109,29 +109,5 @@ fn same_rows(rows: &[Row], others: &[Row]) -> bool
 fn same_row(row: Row, other: Row) -> bool
     ensures { MatchBool result (row ≡ other) (row ≢ other) }
 {
-    row.state == other.state
-        && same_zone(row.zone, other.zone)
-        && same_claim(row.claim, other.claim)
-}
-
-/// Whether two zones are the same.
-fn same_zone(zone: Option<Zone>, other: Option<Zone>) -> bool
-    ensures { MatchBool result (zone ≡ other) (zone ≢ other) }
-{
-    match (zone, other) {
-        (Some(zone), Some(other)) => zone == other,
-        (None, None) => true,
-        _ => false,
-    }
-}
-
-/// Whether two claims are the same.
-fn same_claim(claim: Option<Claim>, other: Option<Claim>) -> bool
-    ensures { MatchBool result (claim ≡ other) (claim ≢ other) }
-{
-    match (claim, other) {
-        (Some(claim), Some(other)) => claim.op == other.op && claim.wish == other.wish,
-        (None, None) => true,
-        _ => false,
-    }
+    row == other
 }

@@ -46,7 +46,7 @@ impl OwnerFrames {
             return false;
         }
         for page in 0..self.pages.len() {
-            if !same_frame(self.pages[page], other.pages[page]) {
+            if self.pages[page] != other.pages[page] {
                 return false;
             }
         }
@@ -137,17 +137,6 @@ impl OwnerWords {
         ensures { self.new ≡ slice_set self.old page (Some words) }
     {
         self.pages[page.0 as usize] = Some(words);
-    }
-}
-
-/// Whether two entries are the same.
-fn same_frame(frame: Option<Frame>, other: Option<Frame>) -> bool
-    ensures { MatchBool result (frame ≡ other) (frame ≢ other) }
-{
-    match (frame, other) {
-        (Some(frame), Some(other)) => frame == other,
-        (None, None) => true,
-        _ => false,
     }
 }
 

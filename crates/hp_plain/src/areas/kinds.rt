@@ -11,16 +11,9 @@ pub(super) fn same_kinds(kinds: &[Kind], others: &[Kind]) -> bool
         return false;
     }
     for number in 0..kinds.len() {
-        if !same_kind(kinds[number], others[number]) {
+        if kinds[number] != others[number] {
             return false;
         }
     }
     true
-}
-
-/// Whether two kinds are the same.
-fn same_kind(kind: Kind, other: Kind) -> bool
-    ensures { MatchBool result (kind ≡ other) (kind ≢ other) }
-{
-    kind.mobility == other.mobility && kind.isolated == other.isolated
 }
