@@ -1,40 +1,37 @@
 -- Where a line is over, and what lines ask for then.
-use Rattle.std.proofs.Common.{◌≡◌, ℕ, zero, suc, ◌+◌, ◌-◌, ◌<◌, ◌≤◌, Bool, true, false, not, List, [], ◌∷◌, ◌++◌, length, get_or, take, drop, Option, Some, None, slice_get, add-one, refl, ap, sym, ◌∙◌, arith}
-use Rattle.std.specs.List.{last_or}
+use Rattle.std.proofs.Common.{◌≡◌, ℕ, zero, suc, ◌+◌, ◌-◌, ◌<◌, ◌≤◌, Bool, true, false, not, List, [], ◌∷◌, ◌++◌, length, get_or, take, drop, Option, Some, None, slice_get, add-one, refl, ap, subst, sym, ◌∙◌, arith}
 use Rattle.std.specs.Option.{is_some, option_map_or}
 use Rattle.std.proofs.lemmas.List.{take_all, length-drop}
+use Rattle.std.proofs.lemmas.Option.{slice_get_read}
 use Rattle.std.proofs.Math.ListN.{drop_of_length-le}
-use Rattle.hp_units.specs.Driver.{next_after, next_event}
+use Rattle.hp_units.specs.Driver.{next_event}
 use Rattle.hp_units.specs.declared.events.Event.{Event}
-use Rattle.hp_units.specs.declared.events.Event.TheVariants.{Begin}
 use Rattle.hp_units.specs.declared.plans.Item.{Item}
 use Rattle.hp_units.specs.declared.replies.Receipt.{Receipt}
+use Rattle.hp_ops.specs.declared.stages.Driver.{Driver}
+use Rattle.hp_ops.specs.Stages.{IsAfter, MovesOn, event_in}
 use Rattle.hp_laws.proofs.Lists.{get_some}
 use Rattle.hp_laws.proofs.Replays.{take_one}
 use Rattle.hp_explore.specs.declared.scripts.Line.{Line}
 use Rattle.hp_explore.specs.Scripts.{after_line, line_next, next_in}
 
--- ---- the last receipt
+-- ---- a driver's run
 
-last_is : (o : Option Receipt) (rs : List Receipt) (r : Receipt) → 1 ≤ length rs
-    → r ≡ get_or rs (length rs - 1) r → last_or o rs ≡ Some r
-last_is o [] r some is = absurd (omega arith)
-last_is o (x ∷ []) r some is = ap Some (sym is)
-last_is o (x ∷ y ∷ rs) r some is = last_is (Some x) (y ∷ rs) r (omega arith) (is ∙ step)
-  where
-    less : length (x ∷ y ∷ rs) - 1 ≡ suc (length (y ∷ rs) - 1)
-    less = omega arith
+-- the driver after one receipt more
+pub run_more : (cpus turns : ℕ) (rs : List Receipt) (at : ℕ) (r : Receipt) (old new : Driver)
+    → at < length rs → r ≡ get_or rs at r → MovesOn old r.event r.reply new
+    → IsAfter cpus turns (take at rs) old → IsAfter cpus turns (take (at + 1) rs) new
+run_more cpus turns rs at r old new within is moves so_far =
+    subst (λ (xs : List Receipt). IsAfter cpus turns xs new)
+    (sym (take_one rs at r (slice_get_read rs (length rs) at r refl within is)))
+    (moves cpus turns (take at rs) r refl refl so_far)
 
-    step : get_or (x ∷ y ∷ rs) (length (x ∷ y ∷ rs) - 1) r ≡ get_or (y ∷ rs) (length (y ∷ rs) - 1) r
-    step = ap (λ (k : ℕ). get_or (x ∷ y ∷ rs) k r) less
-
--- a driver's next event follows from the last receipt
-pub run_on : (cpus turns : ℕ) (plan : List Item) (rs : List Receipt) (r : Receipt) (next : Option Event)
-    → 1 ≤ length rs → r ≡ get_or rs (length rs - 1) r → next ≡ next_after cpus turns rs r.event r.reply
-    → next ≡ next_event cpus turns plan rs
-run_on cpus turns plan rs r next some is here =
-    here ∙ sym (ap (λ (o : Option Receipt). option_map_or (λ q. next_after cpus turns rs q.event q.reply) o
-    (Some (Begin plan))) (last_is None rs r some is))
+-- and after all
+pub run_all : (cpus turns : ℕ) (plan : List Item) (rs : List Receipt) (at : ℕ) (d : Driver)
+    → length rs ≤ at → IsAfter cpus turns (take at rs) d
+    → event_in plan d.stage ≡ next_event cpus turns plan rs
+run_all cpus turns plan rs at d le after =
+    after.next plan ∙ ap (next_event cpus turns plan) (take_all at rs le)
 
 -- ---- where a line is over
 

@@ -16,7 +16,6 @@ mod memo;
 mod multinomials;
 mod outcomes;
 mod playing;
-mod runs;
 mod scripts;
 mod tally;
 mod walk;

@@ -1,13 +1,14 @@
 //! Scripts: what each processor asks for, one line after another.
 ghost use Rattle.std.specs.Prelude.{◌≡◌, ◌≤◌, [], IfOk, IfSome, length, true};
 ghost use Rattle.std.specs.List.{list_all};
+ghost use Rattle.hp_units.specs.Driver.{next_event};
 ghost use Rattle.hp_units.specs.History.{effect_of};
 ghost use Rattle.hp_units.specs.Receipts.{receipts_of};
 ghost use Rattle.hp_explore.specs.Alike.{leaves_lines, leaves_script, leaves_steps};
 ghost use Rattle.hp_explore.specs.Interleavings.{holds_no_plan, is_one_call};
 ghost use Rattle.hp_explore.specs.Scripts.{after_line, line_next, next_in, next_of, once, own_operation, rest_at, work_of};
 
-use crate::runs::next_of_run;
+use hp_ops::Driver;
 use hp_units::{Cpu, Event, Plan, Receipt, Record, Serial, mark_of};
 use std::alloc::{AllocError, Global};
 use std::marker::Model;
@@ -300,4 +301,21 @@ fn next_once(
         [] => Ok(Some(event.copy(alloc)?)),
         _ => Ok(None),
     }
+}
+
+/// The next event of a driver's run after its receipts. An error is out of memory.
+fn next_of_run(
+    alloc: Global,
+    cpus: u32,
+    turns: u32,
+    plan: &Plan,
+    receipts: &[Receipt],
+) -> Result<Option<Event>, AllocError>
+    ensures { IfOk result (λ next. next ≡ next_event cpus turns plan.now receipts.now) }
+{
+    let mut driver = Driver::new(cpus, turns);
+    for receipt in receipts {
+        driver.answer(&receipt.event, &receipt.reply);
+    }
+    driver.next(alloc, plan)
 }

@@ -1,14 +1,17 @@
 -- Steps of a driver's run, and its ends.
-use Rattle.std.proofs.Common.{◌≡◌, ℕ, ◌+◌, ◌<◌, Bool, true, false, cond, if◌then◌else◌, List, [], ◌∷◌, ◌++◌, Option, Some, None, refl, ap, sym, subst, ◌∙◌, append_assoc, append-nil, arith, inl, inr}
+use Rattle.std.proofs.Common.{◌⊎◌, one-mul, ◌≡◌, ℕ, ◌+◌, ◌*◌, ◌-◌, ◌<◌, ◌≤◌, Bool, true, false, cond, if◌then◌else◌, List, [], ◌∷◌, ◌++◌, Option, Some, None, refl, ap, sym, subst, ◌∙◌, append_assoc, append-nil, arith, inl, inr}
 use Rattle.std.specs.Prelude.{nat_lt}
 use Rattle.std.specs.List.{last_or}
 use Rattle.std.specs.Option.{option_map_or, option_and_then}
-use Rattle.std.proofs.lemmas.Bool.{lt-ltb, le-ltb}
+use Rattle.std.proofs.lemmas.Bool.{lt-ltb, le-ltb, ltb-true, ltb-false}
+use Rattle.std.proofs.Math.Nat.{add-mul}
+use Rattle.std.specs.Prelude.{◌||◌}
 use Rattle.std.proofs.lemmas.List.Sums.{fold-append, sum_by-append, sum_by-cons}
-use Rattle.hp_units.specs.Driver.{AllNext, Ends, IsDriverRun, cause_after, cause_of, end_after, end_of, is_migrate, next_after, next_event, next_drain, operation_of, tried}
-use Rattle.hp_ops.specs.Names.{Item, Event, Begin, DrainFor, Migrate, Commit, Cancel, Reply, Done, Moved, Opened, Restored, Released, Refused, Refusal, NoFrame, NoOp, NothingToMove, NotFree, Receipt, OpEnd, EndsDone, EndsCancelled, EndsUndone, EndsLeft, CallFault}
-use Rattle.hp_ops.specs.Ports.{IsCommitReply}
-use Rattle.hp_ops.specs.Courses.{Course, StandsAt, IsAnswer, LeadsOn, EndsRun, EndsAtCancel, EndsFreshRun, SpendsTurns, TakesTurn, TurnsTaken, drain_of, fresh, is_work, refused_by, spent, taken, tried_more, turn_of}
+use Rattle.hp_units.specs.Driver.{AllNext, Ends, IsDriverRun, cause_after, cause_of, end_after, end_of, is_migrate, next_after, next_event, next_drain, migrate_or_cancel, opened_by, operation_of, tried}
+use Rattle.hp_ops.specs.Names.{Item, Event, Begin, DrainFor, Migrate, Commit, Cancel, Reply, Done, Moved, Opened, Refused, Refusal, NoFrame, NoOp, NothingToMove, NotFree, Receipt, OpEnd, EndsDone, EndsRefused, EndsCancelled, EndsUndone, Driver, Stage, Begins, DrainsFor, Migrates, Commits, Cancels, Ended}
+use Rattle.hp_ops.specs.Ports.{IsBeginReply, IsDriverReply, IsGiven, IsLiveReply, PortValue, has_opened, is_opened, with_receipts}
+use Rattle.hp_ops.specs.Stages.{EndsAs, Follows, IsAfter, MovesOn, end_in, event_in, work_in}
+use Rattle.hp_ops.specs.Courses.{IsUnderWay, calls_left, calls_to_turn, operation_in}
 
 -- ---- one receipt more
 
@@ -51,11 +54,6 @@ count_push rs r =
       sum_by-cons (λ (x : Receipt). cond (is_migrate x.event) 1 0) r [],
     )
 
-operation_push : (rs : List Receipt) (r : Receipt) (op : ℕ) → operation_of rs ≡ Some op
-    → operation_of (rs ++ r ∷ []) ≡ Some op
-operation_push [] r op h = absurd cc
-operation_push (x ∷ rs) r op h = h
-
 -- the end after one receipt more
 end_push : (rs : List Receipt) (r : Receipt)
     → end_of (rs ++ r ∷ []) ≡ end_after (cause_after (cause_of rs) r.event r.reply) r.event r.reply
@@ -64,328 +62,406 @@ end_push rs r =
     (last_push None rs r)
     ∙ ap (λ (w : Option Refusal). end_after w r.event r.reply) (cause_push rs r)
 
--- ---- a run goes on, or ends
+-- ---- the driver's value moves on
 
--- the receipt of an event
-abbrev answer_of : (serial : ℕ) → Event → Reply → Receipt
-answer_of serial event reply = record { serial = serial; event = event; reply = reply }
+-- whether a migration is left
+pub left_is : (n turns left : ℕ) → left ≡ turns - n → (b : Bool) → nat_lt n turns ≡ b → b ≡ nat_lt 0 left
+left_is n turns left is true h =
+    let below : n < turns = ltb-true n turns h in
+    sym (lt-ltb 0 left (omega (arith, below, is)))
+left_is n turns left is false h =
+    let above : turns ≤ n = ltb-false n turns h in
+    sym (le-ltb 0 left (omega (arith, above, is)))
 
--- a run goes on after an answer
-goes_on : (cpus op : ℕ) (c : Course) (tries : ℕ) (why : Option Refusal) (from to : Event) (reply : Reply)
-    (serial : ℕ) (earlier : List Receipt)
-    → StandsAt cpus op c from earlier
-    → c.tries + cond (is_migrate from) 1 0 ≡ tries → cause_after c.why from reply ≡ why
-    → ((rs : List Receipt) → tried rs ≡ tries → next_after cpus c.turns rs from reply ≡ Some to)
-    → StandsAt cpus op (record { plan = c.plan; turns = c.turns; tries = tries; why = why }) to
-    (earlier ++ answer_of serial from reply ∷ [])
-goes_on cpus op c tries why from to reply serial earlier at more cause next =
-    let counted : tried (earlier ++ answer_of serial from reply ∷ []) ≡ tries =
-    count_push earlier (answer_of serial from reply)
-    ∙ (ap (λ n. n + cond (is_migrate from) 1 0) at.count ∙ more) in
+-- one receipt more
+pub moved_on : (old new : Driver) (event : Event) (reply : Reply) → new.cpus ≡ old.cpus
+    → new.left ≡ old.left - cond (is_migrate event) 1 0 → new.why ≡ cause_after old.why event reply
+    → Follows new.cpus new.left event reply new.stage → EndsAs new.why event reply new.stage
+    → MovesOn old event reply new
+moved_on old new event reply same fewer why follows ends cpus turns earlier r asked replied at =
+    let rs = earlier ++ r ∷ [] in
+    let left : new.left ≡ turns - tried rs =
+    omega (
+      arith,
+      fewer,
+      at.left,
+      count_push earlier r,
+      ap {B = ℕ} (λ (e : Event). cond (is_migrate e) 1 0) asked,
+    ) in
+    let cause : new.why ≡ cause_of rs =
+    why ∙ (ap (λ (w : Option Refusal). cause_after w event reply) at.why
+    ∙ sym (cause_push earlier r ∙ (ap (λ (e : Event). cause_after (cause_of earlier) e r.reply) asked
+    ∙ ap (λ (y : Reply). cause_after (cause_of earlier) event y) replied))) in
     record {
-      events = all_push cpus c.turns c.plan [] earlier (answer_of serial from reply) at.events at.next_is;
-      next_is =
-          next_push cpus c.turns c.plan earlier (answer_of serial from reply)
-          ∙ next (earlier ++ answer_of serial from reply ∷ []) counted;
-      cause =
-          cause_push earlier (answer_of serial from reply)
-          ∙ (ap (λ w. cause_after w from reply) at.cause ∙ cause);
-      count = counted;
-      operation = operation_push earlier (answer_of serial from reply) op at.operation;
+      processors = same ∙ at.processors;
+      left = left;
+      why = cause;
+      next =
+          λ plan. follows turns plan rs (left_is (tried rs) turns new.left left _ refl)
+          ∙ (ap (λ (n : ℕ). next_after n turns rs event reply) (same ∙ at.processors)
+          ∙ sym (next_push cpus turns plan earlier r
+          ∙ (ap (λ (e : Event). next_after cpus turns rs e r.reply) asked
+          ∙ ap (λ (y : Reply). next_after cpus turns rs event y) replied)));
+      end =
+          ends
+          ∙ sym (end_push earlier r ∙ (ap (λ (w : Option Refusal). end_after w r.event r.reply)
+          (sym (cause_push earlier r) ∙ sym cause)
+          ∙ (ap (λ (e : Event). end_after new.why e r.reply) asked
+          ∙ ap (λ (y : Reply). end_after new.why event y) replied)));
     }
 
--- a run ends with an answer
-ends_with : (cpus op : ℕ) (c : Course) (from : Event) (reply : Reply) (serial : ℕ) (earlier : List Receipt)
-    (end : OpEnd)
-    → StandsAt cpus op c from earlier
-    → ((rs : List Receipt) → next_after cpus c.turns rs from reply ≡ None)
-    → end_after (cause_after c.why from reply) from reply ≡ Some end
-    → IsDriverRun cpus c.turns c.plan (earlier ++ answer_of serial from reply ∷ []) None end
-ends_with cpus op c from reply serial earlier end at last is =
-    let rs = earlier ++ answer_of serial from reply ∷ [] in
-    let none : next_event cpus c.turns c.plan rs ≡ None =
-    next_push cpus c.turns c.plan earlier (answer_of serial from reply) ∙ last rs in
-    let ended : end_of rs ≡ Some end =
-    end_push earlier (answer_of serial from reply)
-    ∙ (ap (λ w. end_after (cause_after w from reply) from reply) at.cause ∙ is) in
+-- ---- what the next event is
+
+-- a drain is of a processor that there is, a migration is left, and no run begins twice
+abbrev IsSound : (cpus turns : ℕ) → List Receipt → Event → Type 0
+IsSound cpus turns rs (DrainFor op cpu) = cpu < cpus
+IsSound cpus turns rs (Migrate op) = tried rs < turns
+IsSound cpus turns rs (Commit op) = Unit {0}
+IsSound cpus turns rs (Cancel op) = Unit {0}
+IsSound cpus turns rs event = ⊥
+
+-- the operation after an answer
+abbrev operation_after : Event → Reply → Option ℕ
+operation_after (Begin plan) reply = opened_by reply
+operation_after event reply = operation_in event
+
+-- the event that is next after an answer
+record IsNext (cpus turns : ℕ) (rs : List Receipt) (event : Event) (reply : Reply) (next : Event) : Type 0 where
+  sound : IsSound cpus turns rs next
+  operation : operation_after event reply ≡ operation_in next
+  fewer : calls_to_turn cpus next < calls_to_turn cpus event + cond (is_migrate event) (cpus + 3) 0
+
+-- in a round, and after it
+record IsInRound (cpus turns : ℕ) (rs : List Receipt) (op cpu : ℕ) (next : Event) : Type 0 where
+  sound : IsSound cpus turns rs next
+  operation : operation_in next ≡ Some op
+  within : calls_to_turn cpus next < (cpus + 1 - cpu) + 2
+
+round_if : (cpus turns : ℕ) (rs : List Receipt) (op cpu : ℕ) (b d : Bool) → nat_lt cpu cpus ≡ b
+    → nat_lt (tried rs) turns ≡ d
+    → IsInRound cpus turns rs op cpu (if b then DrainFor op cpu else (if d then Migrate op else Cancel op))
+round_if cpus turns rs op cpu true d h k =
+    let below : cpu < cpus = ltb-true cpu cpus h in
+    record { sound = below; operation = refl; within = omega (arith, below) }
+round_if cpus turns rs op cpu false true h k =
+    record { sound = ltb-true (tried rs) turns k; operation = refl; within = omega arith }
+round_if cpus turns rs op cpu false false h k =
+    record { sound = tt; operation = refl; within = omega arith }
+
+in_round : (cpus turns : ℕ) (rs : List Receipt) (op cpu : ℕ) (next : Event)
+    → Some (next_drain cpus turns op cpu rs) ≡ Some next → IsInRound cpus turns rs op cpu next
+in_round cpus turns rs op cpu next is =
+    let same : next_drain cpus turns op cpu rs ≡ next = cc in
+    subst (IsInRound cpus turns rs op cpu) same (round_if cpus turns rs op cpu _ _ refl refl)
+
+-- a turn is a round with no processor left
+in_turn : (cpus turns : ℕ) (rs : List Receipt) (op : ℕ) (next : Event)
+    → Some (migrate_or_cancel turns op rs) ≡ Some next → IsInRound cpus turns rs op cpus next
+in_turn cpus turns rs op next is =
+    let same : migrate_or_cancel turns op rs ≡ next = cc in
+    subst (IsInRound cpus turns rs op cpus) same (round_if cpus turns rs op cpus false _
+    (le-ltb cpus cpus (omega arith)) refl)
+
+is_next : (cpus turns : ℕ) (rs : List Receipt) (event : Event) (reply : Reply) (next : Event)
+    → next_after cpus turns rs event reply ≡ Some next → IsNext cpus turns rs event reply next
+is_next cpus turns rs (Begin plan) (Opened op) next is =
+    let r = in_round cpus turns rs op 0 next is in
+    record { sound = r.sound; operation = sym r.operation; fewer = omega (arith, r.within) }
+is_next cpus turns rs (DrainFor op cpu) Done next is =
+    let r = in_round cpus turns rs op (cpu + 1) next is in
+    record { sound = r.sound; operation = sym r.operation; fewer = omega (arith, r.within) }
+is_next cpus turns rs (Migrate op) (Moved from to) next is =
+    let r = in_turn cpus turns rs op next is in
+    record { sound = r.sound; operation = sym r.operation; fewer = omega (arith, r.within) }
+is_next cpus turns rs (Migrate op) (Refused NoFrame) next is =
+    let r = in_round cpus turns rs op 0 next is in
+    record { sound = r.sound; operation = sym r.operation; fewer = omega (arith, r.within) }
+is_next cpus turns rs (Migrate op) (Refused NothingToMove) next is =
+    let same : Commit op ≡ next = cc in
+    subst (IsNext cpus turns rs (Migrate op) (Refused NothingToMove)) same
+    (record { sound = tt; operation = refl; fewer = omega arith })
+is_next cpus turns rs (Commit op) (Refused (NotFree frame)) next is =
+    let r = in_round cpus turns rs op 0 next is in
+    record { sound = r.sound; operation = sym r.operation; fewer = omega (arith, r.within) }
+is_next cpus turns rs event reply next is = absurd cc
+
+-- ---- after the receipts so far
+
+last_some : (x : Receipt) (xs : List Receipt) → (r : Receipt) × (last_or (Some x) xs ≡ Some r)
+last_some x [] = (x, refl)
+last_some x (y ∷ ys) = last_some y ys
+
+-- the next event is the Begin, where there are none
+abbrev IsBegun : (cpus turns : ℕ) → List Item → List Receipt → Event → Type 0
+IsBegun cpus turns plan rs event = ((rs ≡ []) × (event ≡ Begin plan)) ⊎ IsSound cpus turns rs event
+
+sound_at : (cpus turns : ℕ) (plan : List Item) (rs : List Receipt) (event : Event)
+    → next_event cpus turns plan rs ≡ Some event → IsBegun cpus turns plan rs event
+sound_at cpus turns plan [] event is = inl (refl, cc)
+sound_at cpus turns plan (x ∷ xs) event is =
+    let l = last_some x xs in
+    let here : next_after cpus turns (x ∷ xs) l.0.event l.0.reply ≡ Some event =
+    sym (ap (λ (o : Option Receipt).
+    option_map_or (λ r. next_after cpus turns (x ∷ xs) r.event r.reply) o (Some (Begin plan))) l.1) ∙ is in
+    inr (is_next cpus turns (x ∷ xs) l.0.event l.0.reply event here).sound
+
+-- the operation stays once it is opened
+operation_same : (cpus turns : ℕ) (rs : List Receipt) (event : Event) (reply : Reply)
+    → IsSound cpus turns rs event → operation_after event reply ≡ operation_in event
+operation_same cpus turns rs (DrainFor op cpu) reply sound = refl
+operation_same cpus turns rs (Migrate op) reply sound = refl
+operation_same cpus turns rs (Commit op) reply sound = refl
+operation_same cpus turns rs (Cancel op) reply sound = refl
+operation_same cpus turns rs event reply sound = absurd sound
+
+operation_on : (cpus turns : ℕ) (plan : List Item) (rs : List Receipt) (r : Receipt)
+    → next_event cpus turns plan rs ≡ Some r.event → operation_of rs ≡ operation_in r.event
+    → operation_of (rs ++ r ∷ []) ≡ operation_after r.event r.reply
+operation_on cpus turns plan [] r is same =
+    let begins : Begin plan ≡ r.event = cc in
+    ap (λ (e : Event). operation_after e r.reply) begins
+operation_on cpus turns plan (x ∷ xs) r is same =
+    elim (sound_at cpus turns plan (x ∷ xs) r.event is) [
+      | inl none ↦ absurd (let no : x ∷ xs ≡ [] = none.0 in cc)
+      | inr sound ↦ same ∙ sym (operation_same cpus turns (x ∷ xs) r.event r.reply sound)
+    ]
+
+-- the event of a stage
+event_work : (plan : List Item) (stage : Stage) (event : Event) → work_in stage ≡ Some event
+    → event_in plan stage ≡ Some event
+event_work plan Begins event is = absurd cc
+event_work plan (DrainsFor op cpu) event is = is
+event_work plan (Migrates op) event is = is
+event_work plan (Commits op) event is = is
+event_work plan (Cancels op) event is = is
+event_work plan (Ended end) event is = is
+
+no_work : (cpus turns : ℕ) (plan : List Item) (rs : List Receipt) (r : Receipt) (stage : Stage)
+    → work_in stage ≡ None → event_in plan stage ≡ next_event cpus turns plan (rs ++ r ∷ [])
+    → next_event cpus turns plan (rs ++ r ∷ []) ≡ None
+no_work cpus turns plan rs r Begins none is =
+    elim (sound_at cpus turns plan (rs ++ r ∷ []) (Begin plan) (sym is)) [
+      | inl empty ↦ absurd (not_empty rs r empty.0)
+      | inr sound ↦ absurd sound
+    ]
+  where
+    not_empty : (xs : List Receipt) (x : Receipt) → xs ++ x ∷ [] ≡ [] → ⊥
+    not_empty [] x h = cc
+    not_empty (y ∷ ys) x h = cc
+no_work cpus turns plan rs r (DrainsFor op cpu) none is = absurd cc
+no_work cpus turns plan rs r (Migrates op) none is = absurd cc
+no_work cpus turns plan rs r (Commits op) none is = absurd cc
+no_work cpus turns plan rs r (Cancels op) none is = absurd cc
+no_work cpus turns plan rs r (Ended end) none is = sym is
+
+pub goes_on : (cpus turns : ℕ) (plan : List Item) (d new : Driver) (event next : Event) (reply : Reply)
+    (rs : List Receipt) (r : Receipt)
+    → IsUnderWay cpus turns plan d event rs → r.event ≡ event → r.reply ≡ reply → MovesOn d event reply new
+    → work_in new.stage ≡ Some next → IsUnderWay cpus turns plan new next (rs ++ r ∷ [])
+goes_on cpus turns plan d new event next reply rs r at asked replied moves works =
+    let after : IsAfter cpus turns (rs ++ r ∷ []) new = moves cpus turns rs r asked replied at.after in
+    let is : next_event cpus turns plan (rs ++ r ∷ []) ≡ Some next =
+    sym (after.next plan) ∙ event_work plan new.stage next works in
+    let here : next_event cpus turns plan rs ≡ Some r.event = at.next_is ∙ ap Some (sym asked) in
     record {
-      events = all_push cpus c.turns c.plan [] earlier (answer_of serial from reply) at.events at.next_is;
-      ends = subst (λ (o : Option Event). Ends rs o None end) (sym none) ended;
+      events = all_push cpus turns plan [] rs r at.events here;
+      after = after;
+      next_is = is;
+      operation =
+          operation_on cpus turns plan rs r here (at.operation ∙ ap operation_in (sym asked))
+          ∙ (is_next cpus turns (rs ++ r ∷ []) r.event r.reply next
+          (sym (next_push cpus turns plan rs r) ∙ is)).operation;
     }
 
--- ---- the answers, one by one
+-- ---- fewer calls are left
 
--- a drain leads to the next processor's
-pub drained : (cpus op cpu : ℕ) (gained : List Receipt) → cpu < cpus → IsAnswer (DrainFor op cpu) Done gained
-    → LeadsOn cpus op (drain_of cpus op cpu) (λ c. c) (drain_of cpus op (cpu + 1)) gained
-drained cpus op cpu gained inside a c earlier at =
-    let here : StandsAt cpus op c (DrainFor op cpu) earlier =
-    subst (λ (e : Event). StandsAt cpus op c e earlier)
-    (ap (λ (b : Bool). if b then DrainFor op cpu else turn_of op c) (lt-ltb cpu cpus inside)) at in
-    subst (λ (xs : List Receipt). StandsAt cpus op c (drain_of cpus op (cpu + 1) c) (earlier ++ xs)) (sym a.1)
-    (goes_on cpus op c c.tries c.why (DrainFor op cpu) (drain_of cpus op (cpu + 1) c) Done a.0 earlier here
-    (omega arith) refl
-    (λ rs counted. ap (λ (n : ℕ). Some (if nat_lt (cpu + 1) cpus then DrainFor op (cpu + 1) else
-    (if nat_lt n c.turns then Migrate op else Cancel op))) counted))
+less : (b : Bool) (old new k x y : ℕ) → old ≡ new + cond b 1 0 → y < x + cond b k 0
+    → new * k + y < old * k + x
+less true old new k x y is h =
+    let more : old * k ≡ new * k + k =
+    ap (λ (n : ℕ). n * k) is ∙ (add-mul new 1 k ∙ ap (λ (n : ℕ). new * k + n) (one-mul k)) in
+    omega (arith, more, h)
+less false old new k x y is h =
+    let same : old ≡ new = omega (arith, is) in
+    let both : old * k ≡ new * k = ap (λ (n : ℕ). n * k) same in
+    omega (arith, both, h)
 
--- a page moved: after it comes a turn
-pub moved : (cpus op from to : ℕ) (gained : List Receipt) → IsAnswer (Migrate op) (Moved from to) gained
-    → LeadsOn cpus op (λ c. Migrate op) tried_more (turn_of op) gained
-moved cpus op from to gained a c earlier at =
-    subst (λ (xs : List Receipt). StandsAt cpus op (tried_more c) (turn_of op (tried_more c)) (earlier ++ xs))
-    (sym a.1)
-    (goes_on cpus op c (c.tries + 1) c.why (Migrate op) (turn_of op (tried_more c)) (Moved from to) a.0
-    earlier at refl refl
-    (λ rs counted. ap (λ (n : ℕ). Some (if nat_lt n c.turns then Migrate op else Cancel op)) counted))
+tries : (b : Bool) (turns n m left fewer : ℕ) → left ≡ turns - n → fewer ≡ turns - m → m ≡ n + cond b 1 0
+    → (b ≡ true → n < turns) → left ≡ fewer + cond b 1 0
+tries true turns n m left fewer h k more below =
+    let under : n < turns = below refl in
+    omega (arith, h, k, more, under)
+tries false turns n m left fewer h k more below = omega (arith, h, k, more)
 
--- a round after a number of migrations
-round : (cpus op turns tries : ℕ) (rs : List Receipt) → tried rs ≡ tries
-    → Some (next_drain cpus turns op 0 rs)
-    ≡ Some (if nat_lt 0 cpus then DrainFor op 0 else (if nat_lt tries turns then Migrate op else Cancel op))
-round cpus op turns tries rs counted =
-    ap (λ (n : ℕ). Some
-    (if nat_lt 0 cpus then DrainFor op 0 else (if nat_lt n turns then Migrate op else Cancel op))) counted
+migrates_sound : (cpus turns : ℕ) (rs : List Receipt) (event : Event) → IsSound cpus turns rs event
+    → is_migrate event ≡ true → tried rs < turns
+migrates_sound cpus turns rs (Migrate op) sound is = sound
+migrates_sound cpus turns rs event sound is = absurd cc
 
--- no frame could be had: after it comes a round
-pub no_frame : (cpus op : ℕ) (gained : List Receipt) → IsAnswer (Migrate op) (Refused NoFrame) gained
-    → LeadsOn cpus op (λ c. Migrate op) (λ c. refused_by NoFrame (tried_more c)) (drain_of cpus op 0) gained
-no_frame cpus op gained a c earlier at =
-    let d = refused_by NoFrame (tried_more c) in
-    subst (λ (xs : List Receipt). StandsAt cpus op d (drain_of cpus op 0 d) (earlier ++ xs)) (sym a.1)
-    (goes_on cpus op c (c.tries + 1) (Some NoFrame) (Migrate op) (drain_of cpus op 0 d) (Refused NoFrame) a.0
-    earlier at refl refl (λ rs counted. round cpus op c.turns (c.tries + 1) rs counted))
+migrates : (cpus turns : ℕ) (plan : List Item) (rs : List Receipt) (event : Event)
+    → IsBegun cpus turns plan rs event → is_migrate event ≡ true → tried rs < turns
+migrates cpus turns plan rs event (inl begun) is =
+    absurd (let no : false ≡ true = sym (ap is_migrate begun.1) ∙ is in cc)
+migrates cpus turns plan rs event (inr sound) is = migrates_sound cpus turns rs event sound is
 
--- no page was left: after it comes the commit
-pub nothing_left : (cpus op : ℕ) (gained : List Receipt)
-    → IsAnswer (Migrate op) (Refused NothingToMove) gained
-    → LeadsOn cpus op (λ c. Migrate op) (λ c. refused_by NothingToMove (tried_more c)) (λ c. Commit op) gained
-nothing_left cpus op gained a c earlier at =
-    subst (λ (xs : List Receipt).
-    StandsAt cpus op (refused_by NothingToMove (tried_more c)) (Commit op) (earlier ++ xs)) (sym a.1)
-    (goes_on cpus op c (c.tries + 1) (Some NothingToMove) (Migrate op) (Commit op) (Refused NothingToMove) a.0
-    earlier at refl refl (λ rs counted. refl))
+pub fewer_left : (cpus turns : ℕ) (plan : List Item) (d new : Driver) (event next : Event) (reply : Reply)
+    (rs : List Receipt) (r : Receipt)
+    → IsUnderWay cpus turns plan d event rs → r.event ≡ event → r.reply ≡ reply → MovesOn d event reply new
+    → work_in new.stage ≡ Some next → calls_left new next < calls_left d event
+fewer_left cpus turns plan d new event next reply rs r at asked replied moves works =
+    let on = goes_on cpus turns plan d new event next reply rs r at asked replied moves works in
+    let here : next_after cpus turns (rs ++ r ∷ []) event r.reply ≡ Some next =
+    sym (ap (λ (e : Event). next_after cpus turns (rs ++ r ∷ []) e r.reply) asked)
+    ∙ (sym (next_push cpus turns plan rs r) ∙ on.next_is) in
+    let step = is_next cpus turns (rs ++ r ∷ []) event r.reply next here in
+    let left : d.left ≡ new.left + cond (is_migrate event) 1 0 =
+    tries (is_migrate event) turns (tried rs) (tried (rs ++ r ∷ [])) d.left new.left at.after.left
+    on.after.left (count_push rs r ∙ ap (λ (e : Event). tried rs + cond (is_migrate e) 1 0) asked)
+    (migrates cpus turns plan rs event (sound_at cpus turns plan rs event at.next_is)) in
+    let all : new.left * (cpus + 3) + calls_to_turn cpus next
+    < d.left * (cpus + 3) + calls_to_turn cpus event =
+    less (is_migrate event) d.left new.left (cpus + 3) (calls_to_turn cpus event) (calls_to_turn cpus next)
+    left step.fewer in
+    subst (λ (n : ℕ). new.left * (n + 3) + calls_to_turn n next < calls_left d event)
+    (sym on.after.processors)
+    (subst (λ (n : ℕ). new.left * (cpus + 3) + calls_to_turn cpus next
+    < d.left * (n + 3) + calls_to_turn n event) (sym at.after.processors) all)
 
--- a frame was in use: after it comes a round
-pub not_free : (cpus op frame : ℕ) (gained : List Receipt)
-    → IsAnswer (Commit op) (Refused (NotFree frame)) gained
-    → LeadsOn cpus op (λ c. Commit op) (refused_by (NotFree frame)) (drain_of cpus op 0) gained
-not_free cpus op frame gained a c earlier at =
-    let d = refused_by (NotFree frame) c in
-    subst (λ (xs : List Receipt). StandsAt cpus op d (drain_of cpus op 0 d) (earlier ++ xs)) (sym a.1)
-    (goes_on cpus op c c.tries (Some (NotFree frame)) (Commit op) (drain_of cpus op 0 d)
-    (Refused (NotFree frame)) a.0 earlier at (omega arith) refl
-    (λ rs counted. round cpus op c.turns c.tries rs counted))
+-- ---- the end
 
--- the commit was done
-pub committed : (cpus op : ℕ) (gained : List Receipt) → IsAnswer (Commit op) Done gained
-    → EndsRun cpus op (λ c. Commit op) None EndsDone gained
-committed cpus op gained a c earlier at =
-    subst (λ (xs : List Receipt). IsDriverRun cpus c.turns c.plan (earlier ++ xs) None EndsDone) (sym a.1)
-    (ends_with cpus op c (Commit op) Done a.0 earlier EndsDone at (λ rs. refl) refl)
+-- the replies that the next event can have
+abbrev IsKnown : (cpus : ℕ) → List Item → Event → Reply → Type 0
+IsKnown cpus plan event reply =
+    (event ≡ Begin plan → IsBeginReply reply)
+    × ((op : ℕ) → operation_in event ≡ Some op → IsDriverReply cpus event reply)
 
--- the operation was cancelled
-pub restored : (cpus op : ℕ) (why : Option Refusal) (gained : List Receipt)
-    → IsAnswer (Cancel op) Restored gained → EndsAtCancel cpus op why None (EndsCancelled why true) gained
-restored cpus op why gained a c earlier same at =
-    subst (λ (xs : List Receipt).
-    IsDriverRun cpus c.turns c.plan (earlier ++ xs) None (EndsCancelled why true)) (sym a.1)
-    (ends_with cpus op c (Cancel op) Restored a.0 earlier (EndsCancelled why true) at (λ rs. refl)
-    (ap (λ (w : Option Refusal). Some (EndsCancelled w true)) same))
+opened_is : (reply : Reply) (op : ℕ) → opened_by reply ≡ Some op → is_opened reply ≡ true
+opened_is (Opened op) same is = refl
+opened_is reply same is = absurd cc
 
-pub released : (cpus op : ℕ) (why : Option Refusal) (gained : List Receipt)
-    → IsAnswer (Cancel op) Released gained → EndsAtCancel cpus op why None (EndsCancelled why false) gained
-released cpus op why gained a c earlier same at =
-    subst (λ (xs : List Receipt).
-    IsDriverRun cpus c.turns c.plan (earlier ++ xs) None (EndsCancelled why false)) (sym a.1)
-    (ends_with cpus op c (Cancel op) Released a.0 earlier (EndsCancelled why false) at (λ rs. refl)
-    (ap (λ (w : Option Refusal). Some (EndsCancelled w false)) same))
+opened_first : (rs : List Receipt) (op : ℕ) → operation_of rs ≡ Some op → has_opened rs ≡ true
+opened_first [] op is = absurd cc
+opened_first (x ∷ xs) op is = ap (λ (b : Bool). b || has_opened xs) (opened_is x.reply op is)
 
--- the operation is no longer live
-no_op_last : (cpus turns : ℕ) (event : Event) (rs : List Receipt) → is_work event ≡ true
-    → next_after cpus turns rs event (Refused NoOp) ≡ None
-no_op_last cpus turns (DrainFor op cpu) rs work = refl
-no_op_last cpus turns (Migrate op) rs work = refl
-no_op_last cpus turns (Commit op) rs work = refl
-no_op_last cpus turns (Cancel op) rs work = refl
-no_op_last cpus turns event rs work = absurd cc
+opened_later : (xs ys : List Receipt) → has_opened ys ≡ true → has_opened (xs ++ ys) ≡ true
+opened_later [] ys is = is
+opened_later (x ∷ xs) ys is = or_true (is_opened x.reply) (has_opened (xs ++ ys)) (opened_later xs ys is)
+  where
+    or_true : (a b : Bool) → b ≡ true → (a || b) ≡ true
+    or_true true b h = refl
+    or_true false b h = h
 
-no_op_end : (why : Option Refusal) (event : Event) → is_work event ≡ true
-    → end_after why event (Refused NoOp) ≡ Some EndsUndone
-no_op_end why (DrainFor op cpu) work = refl
-no_op_end why (Migrate op) work = refl
-no_op_end why (Commit op) work = refl
-no_op_end why (Cancel op) work = refl
-no_op_end why event work = absurd cc
-
-pub no_longer_live : (cpus op : ℕ) (event : Event) (gained : List Receipt) → is_work event ≡ true
-    → IsAnswer event (Refused NoOp) gained → EndsRun cpus op (λ c. event) None EndsUndone gained
-no_longer_live cpus op event gained work a c earlier at =
-    subst (λ (xs : List Receipt). IsDriverRun cpus c.turns c.plan (earlier ++ xs) None EndsUndone) (sym a.1)
-    (ends_with cpus op c event (Refused NoOp) a.0 earlier EndsUndone at (λ rs.
-    no_op_last cpus c.turns event rs work) (no_op_end (cause_after c.why event (Refused NoOp)) event work))
-
--- a call left a fault
-pub left_with : (cpus op : ℕ) (event : Event) (fault : CallFault)
-    → EndsRun cpus op (λ c. event) (Some fault) (EndsLeft (Some op) fault) []
-left_with cpus op event fault c earlier at =
-    subst (λ (xs : List Receipt). IsDriverRun cpus c.turns c.plan xs (Some fault) (EndsLeft (Some op) fault))
-    (sym (append-nil earlier)) (record {
-      events = at.events;
-      ends =
-          subst (λ (o : Option Event). Ends earlier o (Some fault) (EndsLeft (Some op) fault))
-          (sym at.next_is)
-          (ap (λ (o : Option ℕ). EndsLeft o fault) (sym at.operation));
-    })
-
-pub left_at_once : (cpus turns : ℕ) (plan : List Item) (fault : CallFault)
-    → IsDriverRun cpus turns plan [] (Some fault) (EndsLeft None fault)
-left_at_once cpus turns plan fault = record { events = tt; ends = refl }
-
--- the operation is open
-opened : (cpus op turns serial : ℕ) (plan : List Item)
-    → StandsAt cpus op (fresh plan turns) (drain_of cpus op 0 (fresh plan turns))
-    (answer_of serial (Begin plan) (Opened op) ∷ [])
-opened cpus op turns serial plan =
-    record { events = (refl, tt); next_is = refl; cause = refl; count = refl; operation = refl }
-
--- ---- stretches of a run
-
--- one stretch after another
-pub leads_joined : (cpus op : ℕ) (from mid to : Course → Event) (f g : Course → Course) (xs ys : List Receipt)
-    → LeadsOn cpus op from f mid xs → LeadsOn cpus op mid g to ys
-    → LeadsOn cpus op from (λ c. g (f c)) to (xs ++ ys)
-leads_joined cpus op from mid to f g xs ys first second c earlier at =
-    subst (λ (rs : List Receipt). StandsAt cpus op (g (f c)) (to (g (f c))) rs) (append_assoc earlier xs ys)
-    (second (f c) (earlier ++ xs) (first c earlier at))
-
--- and one that ends the run
-pub leads_to_end : (cpus op : ℕ) (from mid : Course → Event) (f : Course → Course) (fault : Option CallFault)
-    (end : OpEnd) (xs ys : List Receipt)
-    → ((c : Course) → (f c).plan ≡ c.plan) → ((c : Course) → (f c).turns ≡ c.turns)
-    → LeadsOn cpus op from f mid xs → EndsRun cpus op mid fault end ys
-    → EndsRun cpus op from fault end (xs ++ ys)
-leads_to_end cpus op from mid f fault end xs ys plan turns first second c earlier at =
-    let ended : IsDriverRun cpus (f c).turns (f c).plan ((earlier ++ xs) ++ ys) fault end =
-    second (f c) (earlier ++ xs) (first c earlier at) in
-    let same : IsDriverRun cpus c.turns (f c).plan ((earlier ++ xs) ++ ys) fault end =
-    subst (λ (n : ℕ). IsDriverRun cpus n (f c).plan ((earlier ++ xs) ++ ys) fault end) (turns c) ended in
-    let whole : IsDriverRun cpus c.turns c.plan ((earlier ++ xs) ++ ys) fault end =
-    subst (λ (p : List Item). IsDriverRun cpus c.turns p ((earlier ++ xs) ++ ys) fault end) (plan c) same in
-    subst (λ (rs : List Receipt). IsDriverRun cpus c.turns c.plan rs fault end) (append_assoc earlier xs ys)
-    whole
-
--- ---- in the driver's functions
-
--- an answer with a reply that is known
-pub answered : (event : Event) (reply same : Reply) (gained : List Receipt) → reply ≡ same
-    → IsAnswer event reply gained → IsAnswer event same gained
-answered event reply same gained is a = subst (λ (r : Reply). IsAnswer event r gained) is a
-
--- the answer that a receipt is
-pub answer_is : (r : Receipt) (event : Event) (reply : Reply) → r.event ≡ event → r.reply ≡ reply
-    → IsAnswer event reply (r ∷ [])
-answer_is r event reply asked replied = (
-  r.serial,
-  ap (λ (e : Event). answer_of r.serial e r.reply ∷ []) asked
-      ∙ ap (λ (y : Reply). answer_of r.serial event y ∷ []) replied,
+pub known_by : (old here after : PortValue) (turns : ℕ) (plan : List Item) (d : Driver) (event : Event)
+    (rs : List Receipt) (r : Receipt)
+    → here ≡ with_receipts old rs None → IsUnderWay old.cpus turns plan d event rs
+    → IsGiven here event r after → IsKnown old.cpus plan event r.reply
+known_by old here after turns plan d event rs r value at given = (
+  given.begun plan,
+  λ op is. subst (λ (n : ℕ). IsDriverReply n event r.reply) (ap (λ (v : PortValue). v.cpus) value)
+      (given.known (ap (λ (v : PortValue). has_opened v.receipts) value
+      ∙ opened_later old.receipts rs (opened_first rs op (at.operation ∙ is)))),
 )
 
--- a commit that was refused found a frame in use
-pub still_in_use : (cpus op : ℕ) (reply : Reply) (refusal : Refusal) (gained : List Receipt)
-    → reply ≡ Refused refusal → IsCommitReply reply → IsAnswer (Commit op) reply gained
-    → LeadsOn cpus op (λ c. Commit op) (refused_by refusal) (drain_of cpus op 0) gained
-still_in_use cpus op reply refusal gained is (inl done) a = absurd cc
-still_in_use cpus op reply refusal gained is (inr found) a =
-    let same : NotFree found.0 ≡ refusal = cc in
-    subst (λ (r : Refusal). LeadsOn cpus op (λ c. Commit op) (refused_by r) (drain_of cpus op 0)
-    gained) same (not_free cpus op found.0 gained
-    (answered (Commit op) reply (Refused (NotFree found.0)) gained found.1 a))
+-- an answer after which something is next ends nothing
+not_last : (cpus turns : ℕ) (rs : List Receipt) (event : Event) (reply same : Reply) (next : Event)
+    → reply ≡ same → next_after cpus turns rs event same ≡ Some next
+    → next_after cpus turns rs event reply ≡ None → ⊥
+not_last cpus turns rs event reply same next is goes none =
+    let no : Some next ≡ None = sym goes ∙ (sym (ap (next_after cpus turns rs event) is) ∙ none) in cc
 
--- a run that ends at a processor's drain ends within the round
-pub ends_in_round : (cpus op cpu : ℕ) (fault : Option CallFault) (end : OpEnd) (ys : List Receipt)
-    → cpu < cpus → EndsRun cpus op (λ c. DrainFor op cpu) fault end ys
-    → EndsRun cpus op (drain_of cpus op cpu) fault end ys
-ends_in_round cpus op cpu fault end ys inside ends c earlier at =
-    ends c earlier (subst (λ (e : Event). StandsAt cpus op c e earlier)
-    (ap (λ (b : Bool). if b then DrainFor op cpu else turn_of op c) (lt-ltb cpu cpus inside)) at)
+-- an answer after which nothing is next makes an end
+abbrev HasEnd : Option Refusal → Event → Reply → Type 0
+HasEnd why event reply = (end : OpEnd) × (end_after why event reply ≡ Some end)
 
--- a turn is left
-turn_left : (cpus op turns n : ℕ) (plan : List Item) (why : Option Refusal) (rs : List Receipt) → n < turns
-    → StandsAt cpus op (taken plan turns n why) (turn_of op (taken plan turns n why)) rs
-    → StandsAt cpus op (taken plan turns n why) (Migrate op) rs
-turn_left cpus op turns n plan why rs left at =
-    subst (λ (e : Event). StandsAt cpus op (taken plan turns n why) e rs)
-    (ap (λ (b : Bool). if b then Migrate op else Cancel op) (lt-ltb n turns left)) at
+begin_ends : (cpus turns : ℕ) (rs : List Receipt) (plan : List Item) (why : Option Refusal) (reply : Reply)
+    → IsBeginReply reply → next_after cpus turns rs (Begin plan) reply ≡ None
+    → HasEnd why (Begin plan) reply
+begin_ends cpus turns rs plan why reply (inl open_) none =
+    absurd (not_last cpus turns rs (Begin plan) reply (Opened open_.0) _ open_.1 refl none)
+begin_ends cpus turns rs plan why reply (inr refused) none =
+    (EndsRefused refused.0, ap (end_after why (Begin plan)) refused.1)
 
--- a turn that ends the run
-pub turn_to_end : (cpus op turns n : ℕ) (why : Option Refusal) (fault : Option CallFault) (end : OpEnd)
-    (xs ys : List Receipt)
-    → n < turns → TurnsTaken cpus op turns n why xs → EndsRun cpus op (λ c. Migrate op) fault end ys
-    → EndsFreshRun cpus op turns fault end (xs ++ ys)
-turn_to_end cpus op turns n why fault end xs ys left so_far ends plan earlier at =
-    subst (λ (rs : List Receipt). IsDriverRun cpus turns plan rs fault end) (append_assoc earlier xs ys)
-    (ends (taken plan turns n why) (earlier ++ xs)
-    (turn_left cpus op turns n plan why (earlier ++ xs) left (so_far plan earlier at)))
+undone : (why : Option Refusal) (event : Event) (cpus turns : ℕ) (rs : List Receipt)
+    → IsSound cpus turns rs event → end_after why event (Refused NoOp) ≡ Some EndsUndone
+undone why (DrainFor op cpu) cpus turns rs sound = refl
+undone why (Migrate op) cpus turns rs sound = refl
+undone why (Commit op) cpus turns rs sound = refl
+undone why (Cancel op) cpus turns rs sound = refl
+undone why event cpus turns rs sound = absurd sound
 
--- one turn more
-pub turn_more : (cpus op turns n : ℕ) (why after : Option Refusal) (f : Course → Course)
-    (xs ys : List Receipt)
-    → n < turns → ((plan : List Item) → f (taken plan turns n why) ≡ taken plan turns (n + 1) after)
-    → TurnsTaken cpus op turns n why xs → LeadsOn cpus op (λ c. Migrate op) f (turn_of op) ys
-    → TurnsTaken cpus op turns (n + 1) after (xs ++ ys)
-turn_more cpus op turns n why after f xs ys left same so_far leads plan earlier at =
-    let d = taken plan turns (n + 1) after in
-    let on : StandsAt cpus op (f (taken plan turns n why)) (turn_of op (f (taken plan turns n why)))
-    ((earlier ++ xs) ++ ys) =
-    leads (taken plan turns n why) (earlier ++ xs)
-    (turn_left cpus op turns n plan why (earlier ++ xs) left (so_far plan earlier at)) in
-    let there : StandsAt cpus op d (turn_of op d) ((earlier ++ xs) ++ ys) =
-    subst (λ (e : Course). StandsAt cpus op e (turn_of op e) ((earlier ++ xs) ++ ys)) (same plan) on in
-    subst (λ (rs : List Receipt). StandsAt cpus op d (turn_of op d) rs) (append_assoc earlier xs ys) there
+live_ends : (cpus turns : ℕ) (earlier rs : List Receipt) (why : Option Refusal) (event : Event)
+    (reply : Reply) → IsSound cpus turns earlier event → IsLiveReply cpus event reply
+    → next_after cpus turns rs event reply ≡ None → HasEnd why event reply
+live_ends cpus turns earlier rs why (DrainFor op cpu) reply sound live none =
+    absurd (not_last cpus turns rs (DrainFor op cpu) reply Done _ (live sound) refl none)
+live_ends cpus turns earlier rs why (Migrate op) reply sound (inl moved) none =
+    absurd (not_last cpus turns rs (Migrate op) reply (Moved moved.0 moved.1) _ moved.2 refl none)
+live_ends cpus turns earlier rs why (Migrate op) reply sound (inr (inl full)) none =
+    absurd (not_last cpus turns rs (Migrate op) reply (Refused NoFrame) _ full refl none)
+live_ends cpus turns earlier rs why (Migrate op) reply sound (inr (inr empty)) none =
+    absurd (not_last cpus turns rs (Migrate op) reply (Refused NothingToMove) _ empty refl none)
+live_ends cpus turns earlier rs why (Commit op) reply sound (inl done) none =
+    (EndsDone, ap (end_after why (Commit op)) done)
+live_ends cpus turns earlier rs why (Commit op) reply sound (inr found) none =
+    absurd (not_last cpus turns rs (Commit op) reply (Refused (NotFree found.0)) _ found.1 refl none)
+live_ends cpus turns earlier rs why (Cancel op) reply sound (inl restored) none =
+    (EndsCancelled why true, ap (end_after why (Cancel op)) restored)
+live_ends cpus turns earlier rs why (Cancel op) reply sound (inr released) none =
+    (EndsCancelled why false, ap (end_after why (Cancel op)) released)
+live_ends cpus turns earlier rs why event reply sound live none = absurd sound
 
--- no turn is left
-pub turns_spent : (cpus op turns n : ℕ) (why : Option Refusal) (xs : List Receipt) → n ≡ turns
-    → TurnsTaken cpus op turns n why xs → SpendsTurns cpus op turns why xs
-turns_spent cpus op turns n why xs all so_far plan earlier at =
-    let whole : StandsAt cpus op (taken plan turns turns why) (turn_of op (taken plan turns turns why))
-    (earlier ++ xs) =
-    subst (λ (k : ℕ). StandsAt cpus op (taken plan turns k why) (turn_of op (taken plan turns k why))
-    (earlier ++ xs)) all (so_far plan earlier at) in
-    subst (λ (e : Event). StandsAt cpus op (taken plan turns turns why) e (earlier ++ xs))
-    (ap (λ (b : Bool). if b then Migrate op else Cancel op) (le-ltb turns turns (omega arith))) whole
+sound_operation : (cpus turns : ℕ) (rs : List Receipt) (event : Event) → IsSound cpus turns rs event
+    → (op : ℕ) × (operation_in event ≡ Some op)
+sound_operation cpus turns rs (DrainFor op cpu) sound = (op, refl)
+sound_operation cpus turns rs (Migrate op) sound = (op, refl)
+sound_operation cpus turns rs (Commit op) sound = (op, refl)
+sound_operation cpus turns rs (Cancel op) sound = (op, refl)
+sound_operation cpus turns rs event sound = absurd sound
 
--- all turns, and then the Cancel
-pub spent_to_end : (cpus op turns : ℕ) (why : Option Refusal) (fault : Option CallFault) (end : OpEnd)
-    (xs ys : List Receipt)
-    → SpendsTurns cpus op turns why xs → EndsAtCancel cpus op why fault end ys
-    → EndsFreshRun cpus op turns fault end (xs ++ ys)
-spent_to_end cpus op turns why fault end xs ys spends ends plan earlier at =
-    subst (λ (rs : List Receipt). IsDriverRun cpus turns plan rs fault end) (append_assoc earlier xs ys)
-    (ends (spent plan turns why) (earlier ++ xs) refl (spends plan earlier at))
+has_end : (cpus turns : ℕ) (plan : List Item) (earlier rs : List Receipt) (why : Option Refusal)
+    (event : Event) (reply : Reply) → IsBegun cpus turns plan earlier event → IsKnown cpus plan event reply
+    → next_after cpus turns rs event reply ≡ None → HasEnd why event reply
+has_end cpus turns plan earlier rs why event reply (inl begun) known none =
+    let same : next_after cpus turns rs (Begin plan) reply ≡ None =
+    sym (ap (λ (e : Event). next_after cpus turns rs e reply) begun.1) ∙ none in
+    let end = begin_ends cpus turns rs plan why reply (known.0 begun.1) same in
+    (end.0, ap (λ (e : Event). end_after why e reply) begun.1 ∙ end.1)
+has_end cpus turns plan earlier rs why event reply (inr sound) known none =
+    let op = sound_operation cpus turns earlier event sound in
+    elim (known.1 op.0 op.1) [
+      | inl gone ↦ (EndsUndone, ap (end_after why event) gone ∙ undone why event cpus turns earlier sound)
+      | inr live ↦ live_ends cpus turns earlier rs why event reply sound live none
+    ]
 
--- a turn that was refused, and a round that ends the run
-pub stuck_to_end : (cpus op : ℕ) (why : Option Refusal) (refusal : Refusal) (fault : Option CallFault)
-    (end : OpEnd) (xs ys : List Receipt)
-    → why ≡ Some refusal → TakesTurn cpus op why xs → EndsRun cpus op (drain_of cpus op 0) fault end ys
-    → EndsRun cpus op (λ c. Migrate op) fault end (xs ++ ys)
-stuck_to_end cpus op why refusal fault end xs ys is turn ends =
-    leads_to_end cpus op (λ c. Migrate op) (drain_of cpus op 0) (λ c. refused_by refusal (tried_more c)) fault
-    end xs ys (λ c. refl) (λ c. refl) (subst (λ (o : Option Refusal). TakesTurn cpus op o xs) is turn) ends
+pub ends : (cpus turns : ℕ) (plan : List Item) (d new : Driver) (event : Event) (reply : Reply)
+    (rs : List Receipt) (r : Receipt)
+    → IsUnderWay cpus turns plan d event rs → r.event ≡ event → r.reply ≡ reply → MovesOn d event reply new
+    → IsKnown cpus plan event r.reply → work_in new.stage ≡ None
+    → (end : OpEnd) × (end_in new.stage ≡ Some end)
+ends cpus turns plan d new event reply rs r at asked replied moves known none =
+    let after : IsAfter cpus turns (rs ++ r ∷ []) new = moves cpus turns rs r asked replied at.after in
+    let last = no_work cpus turns plan rs r new.stage none (after.next plan) in
+    let here : next_after cpus turns (rs ++ r ∷ []) event r.reply ≡ None =
+    sym (ap (λ (e : Event). next_after cpus turns (rs ++ r ∷ []) e r.reply) asked)
+    ∙ (sym (next_push cpus turns plan rs r) ∙ last) in
+    let made =
+    has_end cpus turns plan rs (rs ++ r ∷ []) (cause_after (cause_of rs) r.event r.reply) event r.reply
+    (sound_at cpus turns plan rs event at.next_is) known here in (
+      made.0,
+      after.end ∙ (end_push rs r ∙ (ap (λ (e : Event).
+          end_after (cause_after (cause_of rs) r.event r.reply) e r.reply) asked ∙ made.1)),
+    )
 
--- and a whole round
-pub stuck_on : (cpus op : ℕ) (why : Option Refusal) (refusal : Refusal) (xs ys : List Receipt)
-    → why ≡ Some refusal → TakesTurn cpus op why xs
-    → LeadsOn cpus op (drain_of cpus op 0) (λ c. c) (turn_of op) ys
-    → LeadsOn cpus op (λ c. Migrate op) (λ c. refused_by refusal (tried_more c)) (turn_of op) (xs ++ ys)
-stuck_on cpus op why refusal xs ys is turn leads =
-    leads_joined cpus op (λ c. Migrate op) (drain_of cpus op 0) (turn_of op) (λ c. refused_by refusal
-    (tried_more c)) (λ c. c) xs ys (subst (λ (o : Option Refusal). TakesTurn cpus op o xs) is turn) leads
-
--- a Begin, and the operation that it opened
-pub begun_to_end : (cpus op turns : ℕ) (plan : List Item) (fault : Option CallFault) (end : OpEnd)
-    (xs ys : List Receipt)
-    → IsAnswer (Begin plan) (Opened op) xs → EndsFreshRun cpus op turns fault end ys
-    → IsDriverRun cpus turns plan (xs ++ ys) fault end
-begun_to_end cpus op turns plan fault end xs ys a ends =
-    subst (λ (rs : List Receipt). IsDriverRun cpus turns plan (rs ++ ys) fault end) (sym a.1)
-    (ends plan (answer_of a.0 (Begin plan) (Opened op) ∷ []) (opened cpus op turns a.0 plan))
+pub over : (cpus turns : ℕ) (plan : List Item) (d new : Driver) (event : Event) (reply : Reply) (end : OpEnd)
+    (rs : List Receipt) (r : Receipt)
+    → IsUnderWay cpus turns plan d event rs → r.event ≡ event → r.reply ≡ reply → MovesOn d event reply new
+    → work_in new.stage ≡ None → end_in new.stage ≡ Some end
+    → IsDriverRun cpus turns plan (rs ++ r ∷ []) None end
+over cpus turns plan d new event reply end rs r at asked replied moves none is =
+    let after : IsAfter cpus turns (rs ++ r ∷ []) new = moves cpus turns rs r asked replied at.after in
+    let last = no_work cpus turns plan rs r new.stage none (after.next plan) in
+    record {
+      events = all_push cpus turns plan [] rs r at.events (at.next_is ∙ ap Some (sym asked));
+      ends =
+          subst (λ (o : Option Event). Ends (rs ++ r ∷ []) o None end) (sym last) (sym after.end ∙ is);
+    }

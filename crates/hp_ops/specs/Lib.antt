@@ -1,3 +1,4 @@
 pub mod Courses
 pub mod Names
 pub mod Ports
+pub mod Stages

@@ -5,6 +5,8 @@
 
 mod driver;
 mod port;
+mod stages;
 
 pub use driver::run_plan;
 pub use port::Port;
+pub use stages::Driver;

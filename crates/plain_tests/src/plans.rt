@@ -6,7 +6,7 @@ ghost use Rattle.hp_units.specs.declared.replies.Refusal.TheVariants.{NoOp};
 ghost use Rattle.hp_units.specs.declared.replies.Reply.TheVariants.{Done, Refused};
 ghost use Rattle.hp_ops.specs.Ports.{IsBeginReply, IsCancelReply, IsCommitReply, IsDriverReply, IsMigrateReply};
 
-use hp_ops::{Port, run_plan};
+use hp_ops::{Driver, Port, run_plan};
 use hp_units::{
     Block, CallFault, Event, Frame, Item, OpEnd, Plan, Receipt, Refusal, Reply, Serial, Wish,
 };
@@ -286,5 +286,21 @@ fn a_fault_leaves_the_operation(rt: HostRuntime) -> Result<(), Fail> {
     let later = OpEnd::Left { op, fault };
     let answers = [Answer::Good, Answer::Good, Answer::Full];
     assert!(rt; ends_as(rt.alloc(), &answers, 9, later, 2)?);
+    Ok(())
+}
+
+/// Whether a driver whose operation is open asks for a drain.
+fn drains_once_it_has_begun(alloc: Global) -> Result<bool, Fail> {
+    let plan = offline(alloc)?;
+    let mut driver = Driver::new(2, 9);
+    if let Some(begin) = driver.next(alloc, &plan)? {
+        driver.answer(&begin, &Reply::Opened { op: Serial(1) });
+    }
+    Ok(matches!(driver.next(alloc, &plan)?, Some(Event::DrainFor { .. })))
+}
+
+#[test]
+fn a_round_of_drains_follows_the_begin(rt: HostRuntime) -> Result<(), Fail> {
+    assert!(rt; drains_once_it_has_begun(rt.alloc())?);
     Ok(())
 }

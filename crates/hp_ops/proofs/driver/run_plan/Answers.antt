@@ -1,17 +1,62 @@
-use Rattle.std.proofs.Common.{ℕ, subst}
-use Rattle.hp_ops.specs.Courses.{EndsFreshRun}
-use Rattle.hp_ops.proofs.Gained.{cpus_stay, gains_as, gains_joined}
-use Rattle.hp_ops.proofs.Runs.{begun_to_end}
+use Rattle.std.proofs.Common.{[], ◌∷◌, ◌++◌, List, Option, None, sym, ◌∙◌}
+use Rattle.hp_units.specs.Driver.{IsDriverRun}
+use Rattle.hp_ops.specs.Names.{CallFault, Receipt}
+use Rattle.hp_ops.proofs.Gained.{at_fault, shown_joined}
+use Rattle.hp_ops.proofs.Runs.{ends, fewer_left, goes_on, known_by, over}
 use Rattle.hp_ops.proofs.driver.run_plan.Goals as goal
 
-pub returns-in-Ok : goal.returns-in-Ok
-returns-in-Ok g c =
-    let same = cpus_stay _ _ _ _ _ _ _ c.in-Ok.ensures.ok in
-    gains_joined _ _ _ _ _ _ _ _ _ _ g.met.P.Port.joined c.in-Ok.ensures.ok c.operate.ensures
-    (λ xs ys a second.
-    begun_to_end (g.P.Port.shows c.args.port.now).cpus c.in-Ok.op c.args.turns c.args.plan _ _ xs ys a
-    (subst (λ (m : ℕ). EndsFreshRun m c.in-Ok.op c.args.turns (g.P.Port.shows c.operate.new.port).fault
-    c.operate.result ys) same second))
+pub loop-reply-smaller : goal.loop-reply-smaller
+loop-reply-smaller g c =
+    let made = c.in-Ok.ensures.ok in
+    let so_far = c.loop-reply.invariant in
+    fewer_left (g.P.Port.shows c.args.port.now).cpus c.args.turns c.args.plan c.loop-reply.driver
+    c.answer.new.self c.loop-reply.event c.in-Some.next c.in-Ok.reply so_far.gained made.receipt so_far.is
+    made.given.asked made.replied c.answer.ensures (sym c.work.ensures ∙ c.in-Some.is)
 
-pub returns-in-Err : goal.returns-in-Err
-returns-in-Err g c = gains_as _ _ _ _ _ _ _ _ c.in-Err.ensures.err (λ xs ends. ends c.args.turns)
+pub loop-reply-preserved : goal.loop-reply-preserved
+loop-reply-preserved g c =
+    let made = c.in-Ok.ensures.ok in
+    let so_far = c.loop-reply.invariant in
+    record {
+      gained = so_far.gained ++ made.receipt ∷ [];
+      value =
+          shown_joined (g.P.Port.shows c.args.port.now) (g.P.Port.shows c.loop-reply.port)
+          (g.P.Port.shows c.call.new.self) so_far.gained (made.receipt ∷ []) None None so_far.value
+          made.given.value;
+      made = g.met.P.Port.joined _ _ _ so_far.gained (made.receipt ∷ []) so_far.made made.made;
+      is =
+          goes_on (g.P.Port.shows c.args.port.now).cpus c.args.turns c.args.plan c.loop-reply.driver
+          c.answer.new.self c.loop-reply.event c.in-Some.next c.in-Ok.reply so_far.gained made.receipt
+          so_far.is made.given.asked made.replied c.answer.ensures (sym c.work.ensures ∙ c.in-Some.is);
+    }
+
+pub end-requires : goal.end-requires
+end-requires g c =
+    let made = c.in-Ok.ensures.ok in
+    let so_far = c.loop-reply.invariant in
+    ends (g.P.Port.shows c.args.port.now).cpus c.args.turns c.args.plan c.loop-reply.driver
+    c.answer.new.self c.loop-reply.event c.in-Ok.reply so_far.gained made.receipt so_far.is made.given.asked
+    made.replied c.answer.ensures
+    (known_by (g.P.Port.shows c.args.port.now) (g.P.Port.shows c.loop-reply.port)
+    (g.P.Port.shows c.call.new.self) c.args.turns c.args.plan c.loop-reply.driver c.loop-reply.event
+    so_far.gained made.receipt so_far.value so_far.is made.given)
+    (sym c.work.ensures ∙ c.in-None.is)
+
+pub returns-in-None : goal.returns-in-None
+returns-in-None g c =
+    let made = c.in-Ok.ensures.ok in
+    let so_far = c.loop-reply.invariant in
+    at_fault _ _ _ _ _ None (λ (f : Option CallFault) (gained : List Receipt). IsDriverRun
+    (g.P.Port.shows c.args.port.now).cpus c.args.turns c.args.plan gained f c.end.result) (record {
+      gained = so_far.gained ++ made.receipt ∷ [];
+      value =
+          shown_joined (g.P.Port.shows c.args.port.now) (g.P.Port.shows c.loop-reply.port)
+          (g.P.Port.shows c.call.new.self) so_far.gained (made.receipt ∷ []) None None so_far.value
+          made.given.value;
+      made = g.met.P.Port.joined _ _ _ so_far.gained (made.receipt ∷ []) so_far.made made.made;
+      is =
+          over (g.P.Port.shows c.args.port.now).cpus c.args.turns c.args.plan c.loop-reply.driver
+          c.answer.new.self c.loop-reply.event c.in-Ok.reply c.end.result so_far.gained made.receipt
+          so_far.is made.given.asked made.replied c.answer.ensures (sym c.work.ensures ∙ c.in-None.is)
+          c.end.ensures;
+    })

@@ -1,0 +1,64 @@
+-- How far the driver of a plan is after receipts.
+use Rattle.std.specs.Prelude.{◌≡◌, ℕ, ◌-◌, List, [], ◌∷◌, ◌++◌, Option, Some, None, nat_lt}
+use Rattle.hp_units.specs.Driver.{cause_of, end_after, end_of, next_after, next_drain, next_event, tried}
+use Rattle.hp_ops.specs.Names.{Item, Event, Begin, DrainFor, Migrate, Commit, Cancel, Reply, Refused, Refusal, NoOp, Receipt, OpEnd, EndsUndone, Driver, Stage, Begins, DrainsFor, Migrates, Commits, Cancels, Ended}
+
+-- the event of a stage, where it is work on an operation
+abbrev pub work_in : Stage → Option Event
+work_in (DrainsFor op cpu) = Some (DrainFor op cpu)
+work_in (Migrates op) = Some (Migrate op)
+work_in (Commits op) = Some (Commit op)
+work_in (Cancels op) = Some (Cancel op)
+work_in stage = None
+
+-- the event of a stage
+abbrev pub event_in : List Item → Stage → Option Event
+event_in plan Begins = Some (Begin plan)
+event_in plan stage = work_in stage
+
+-- the end of a run
+abbrev pub end_in : Stage → Option OpEnd
+end_in (Ended end) = end
+end_in stage = None
+
+-- a driver's run on so many processors, with at most so many migrations, after its receipts,
+-- whatever the plan is
+pub record IsAfter (cpus turns : ℕ) (receipts : List Receipt) (d : Driver) : Type 0 where
+  pub processors : d.cpus ≡ cpus
+  pub left : d.left ≡ turns - tried receipts
+  pub why : d.why ≡ cause_of receipts
+  pub next : (plan : List Item) → event_in plan d.stage ≡ next_event cpus turns plan receipts
+  pub end : end_in d.stage ≡ end_of receipts
+
+-- where a driver is after receipts, it comes to after one receipt more, of this event and reply
+abbrev pub MovesOn : Driver → Event → Reply → Driver → Type 0
+MovesOn old event reply new =
+    (cpus turns : ℕ) (earlier : List Receipt) (r : Receipt) → r.event ≡ event → r.reply ≡ reply
+    → IsAfter cpus turns earlier old → IsAfter cpus turns (earlier ++ r ∷ []) new
+
+-- ---- after any receipts that leave so many migrations
+
+-- the receipts leave so many
+abbrev pub Leaves : (turns left : ℕ) → List Receipt → Type 0
+Leaves turns left receipts = nat_lt (tried receipts) turns ≡ nat_lt 0 left
+
+-- the stage follows an answer
+abbrev pub Follows : (cpus left : ℕ) → Event → Reply → Stage → Type 0
+Follows cpus left event reply stage =
+    (turns : ℕ) (plan : List Item) (receipts : List Receipt) → Leaves turns left receipts
+    → event_in plan stage ≡ next_after cpus turns receipts event reply
+
+-- it has the end that an answer makes
+abbrev pub EndsAs : Option Refusal → Event → Reply → Stage → Type 0
+EndsAs why event reply stage = end_in stage ≡ end_after why event reply
+
+-- it is the drain of a round for a processor, or after the last one a turn
+abbrev pub IsRound : (cpus left op cpu : ℕ) → Stage → Type 0
+IsRound cpus left op cpu stage =
+    (turns : ℕ) (plan : List Item) (receipts : List Receipt) → Leaves turns left receipts
+    → event_in plan stage ≡ Some (next_drain cpus turns op cpu receipts)
+
+-- a reply says that the operation is no longer live
+abbrev pub undone_by : Reply → Option OpEnd
+undone_by (Refused NoOp) = Some EndsUndone
+undone_by reply = None

@@ -1,0 +1,247 @@
+//! How far the driver of a plan is: what it asks for next, or how its run ended.
+ghost use Rattle.std.specs.Prelude.{◌≡◌, ◌-◌, ◌≤◌, ℕ, [], IfOk, List, None, Some, cond};
+ghost use Rattle.hp_units.specs.Driver.{cause_after, is_migrate};
+ghost use Rattle.hp_ops.specs.Names.{Begin, Cancel, Commit, DrainFor, Item, Migrate};
+ghost use Rattle.hp_ops.specs.Stages.{EndsAs, Follows, IsAfter, IsRound, MovesOn, end_in, event_in, undone_by, work_in};
+
+use hp_units::{Cpu, Event, OpEnd, Plan, Refusal, Reply, Serial};
+use std::alloc::{AllocError, Global};
+
+/// What a driver does next.
+#[derive(Clone, Copy, Drop)]
+pub(crate) enum Stage {
+    /// It begins the operation of its plan.
+    Begin,
+    /// It drains the lists of a processor.
+    DrainFor { op: Serial, cpu: Cpu },
+    /// It moves a page.
+    Migrate { op: Serial },
+    /// It commits.
+    Commit { op: Serial },
+    /// It cancels.
+    Cancel { op: Serial },
+    /// It asks for nothing more: the run has ended so, or, after a reply that no machine gives, with
+    /// no end.
+    Ended(Option<OpEnd>),
+}
+
+/// The driver of a plan under way: a few words, whatever the number of calls. It does not keep the
+/// plan, which it needs for the Begin alone.
+#[derive(Clone, Copy, Drop)]
+pub struct Driver {
+    /// The number of processors.
+    cpus: u32,
+    /// How many migrations may still be tried.
+    left: u32,
+    /// The last refusal of a migration or a commit.
+    why: Option<Refusal>,
+    /// What comes next.
+    stage: Stage,
+}
+
+impl Driver {
+    /// A driver before its first call, for so many processors, with at most `turns` migrations.
+    pub fn new(cpus: u32, turns: u32) -> Self
+        ensures { IsAfter cpus turns [] result }
+    {
+        Driver {
+            cpus,
+            left: turns,
+            why: None,
+            stage: Stage::Begin,
+        }
+    }
+
+    /// The event to ask for next, or `None` where the run is over (Linux, memory hotplug:
+    /// offlining; own rule). An error is out of memory: a Begin has a copy of the plan.
+    pub fn next(&self, alloc: Global, plan: &Plan) -> Result<Option<Event>, AllocError>
+        ensures { IfOk result (λ next. next ≡ event_in plan.now self.now.stage) }
+    {
+        match self.stage {
+            Stage::Begin => Ok(Some(Event::Begin {
+                plan: plan.copy(alloc)?,
+            })),
+            _ => Ok(self.work()),
+        }
+    }
+
+    /// Goes on by the reply to an event.
+    pub fn answer(&mut self, event: &Event, reply: &Reply)
+        ensures { MovesOn self.old event.now reply.now self.new }
+    {
+        self.left = left_after(self.left, event);
+        self.why = why_after(self.why, event, reply);
+        self.stage = self.stage_after(event, reply);
+    }
+
+    /// The event to ask for next, if it is work on the operation.
+    pub(crate) fn work(&self) -> Option<Event>
+        ensures { result ≡ work_in self.now.stage }
+    {
+        match self.stage {
+            Stage::DrainFor { op, cpu } => Some(Event::DrainFor { op, cpu }),
+            Stage::Migrate { op } => Some(Event::Migrate { op }),
+            Stage::Commit { op } => Some(Event::Commit { op }),
+            Stage::Cancel { op } => Some(Event::Cancel { op }),
+            _ => None,
+        }
+    }
+
+    /// How the run ended.
+    pub(crate) fn end(&self) -> OpEnd
+        requires { (end : OpEnd) × (end_in self.now.stage ≡ Some end) }
+        ensures { end_in self.now.stage ≡ Some result }
+    {
+        match self.stage {
+            Stage::Ended(Some(end)) => end,
+            _ => unreachable!(),
+        }
+    }
+
+    /// What comes after an answer.
+    fn stage_after(&self, event: &Event, reply: &Reply) -> Stage
+        ensures next { Follows self.now.cpus self.now.left event.now reply.now result }
+        ensures end { EndsAs self.now.why event.now reply.now result }
+    {
+        match event {
+            Event::Begin { .. } => self.after_begin(reply),
+            Event::DrainFor { op, cpu } => self.after_drain(*op, *cpu, reply),
+            Event::Migrate { op } => self.after_migrate(*op, reply),
+            Event::Commit { op } => self.after_commit(*op, reply),
+            Event::Cancel { .. } => self.after_cancel(reply),
+            _ => Stage::Ended(unless_live(reply)),
+        }
+    }
+
+    /// What comes after a Begin: where it opened an operation, a round of drains.
+    fn after_begin(&self, reply: &Reply) -> Stage
+        ensures next { (plan : List Item) → Follows self.now.cpus self.now.left (Begin plan) reply.now result }
+        ensures end { (plan : List Item) → EndsAs self.now.why (Begin plan) reply.now result }
+    {
+        match reply {
+            Reply::Opened { op } => self.round(*op, 0),
+            Reply::Refused(refusal) => Stage::Ended(Some(OpEnd::Refused(*refusal))),
+            _ => Stage::Ended(None),
+        }
+    }
+
+    /// What comes after a drain that was done: the next processor's, or after the last one a turn.
+    fn after_drain(&self, op: Serial, cpu: Cpu, reply: &Reply) -> Stage
+        ensures next { Follows self.now.cpus self.now.left (DrainFor op cpu) reply.now result }
+        ensures end { EndsAs self.now.why (DrainFor op cpu) reply.now result }
+    {
+        match reply {
+            Reply::Done if cpu.0 < self.cpus => self.round(op, cpu.0 + 1),
+            Reply::Done => self.turn(op),
+            _ => Stage::Ended(unless_live(reply)),
+        }
+    }
+
+    /// What comes after a migration: a turn where a page moved, a round of drains where no frame can
+    /// be had, and the commit where no page is left.
+    fn after_migrate(&self, op: Serial, reply: &Reply) -> Stage
+        ensures next { Follows self.now.cpus self.now.left (Migrate op) reply.now result }
+        ensures end { EndsAs self.now.why (Migrate op) reply.now result }
+    {
+        match reply {
+            Reply::Moved { .. } => self.turn(op),
+            Reply::Refused(refusal) => match refusal {
+                Refusal::NoFrame => self.round(op, 0),
+                Refusal::NothingToMove => Stage::Commit { op },
+                _ => Stage::Ended(unless_live(reply)),
+            },
+            _ => Stage::Ended(None),
+        }
+    }
+
+    /// What comes after a commit: a round of drains where a frame is in use.
+    fn after_commit(&self, op: Serial, reply: &Reply) -> Stage
+        ensures next { Follows self.now.cpus self.now.left (Commit op) reply.now result }
+        ensures end { EndsAs self.now.why (Commit op) reply.now result }
+    {
+        match reply {
+            Reply::Done => Stage::Ended(Some(OpEnd::Done)),
+            Reply::Refused(refusal) => match refusal {
+                Refusal::NotFree { .. } => self.round(op, 0),
+                _ => Stage::Ended(unless_live(reply)),
+            },
+            _ => Stage::Ended(None),
+        }
+    }
+
+    /// What comes after a cancel: the end.
+    fn after_cancel(&self, reply: &Reply) -> Stage
+        ensures next { (op : ℕ) → Follows self.now.cpus self.now.left (Cancel op) reply.now result }
+        ensures end { (op : ℕ) → EndsAs self.now.why (Cancel op) reply.now result }
+    {
+        let why = self.why;
+        match reply {
+            Reply::Restored => Stage::Ended(Some(OpEnd::Cancelled {
+                why,
+                restored: true,
+            })),
+            Reply::Released => Stage::Ended(Some(OpEnd::Cancelled {
+                why,
+                restored: false,
+            })),
+            _ => Stage::Ended(unless_live(reply)),
+        }
+    }
+
+    /// The drain of a round for a processor, or after the last one a turn.
+    fn round(&self, op: Serial, cpu: u32) -> Stage
+        ensures next { IsRound self.now.cpus self.now.left op cpu result }
+        ensures end { end_in result ≡ None }
+    {
+        if cpu < self.cpus {
+            Stage::DrainFor { op, cpu: Cpu(cpu) }
+        } else {
+            self.turn(op)
+        }
+    }
+
+    /// A migration, or a cancel where no more may be tried.
+    fn turn(&self, op: Serial) -> Stage
+        ensures next { (cpus cpu : ℕ) → cpus ≤ cpu → IsRound cpus self.now.left op cpu result }
+        ensures end { end_in result ≡ None }
+    {
+        if 0 < self.left {
+            Stage::Migrate { op }
+        } else {
+            Stage::Cancel { op }
+        }
+    }
+}
+
+/// How many migrations may be tried after an event, where it was so many before.
+fn left_after(left: u32, event: &Event) -> u32
+    ensures { result ≡ left - cond (is_migrate event.now) 1 0 }
+{
+    match event {
+        Event::Migrate { .. } => left.saturating_sub(1),
+        _ => left,
+    }
+}
+
+/// The last refusal of a migration or a commit after an answer, where `why` was it before.
+fn why_after(why: Option<Refusal>, event: &Event, reply: &Reply) -> Option<Refusal>
+    ensures { result ≡ cause_after why event.now reply.now }
+{
+    match event {
+        Event::Migrate { .. } | Event::Commit { .. } => match reply {
+            Reply::Refused(refusal) => Some(*refusal),
+            _ => why,
+        },
+        _ => why,
+    }
+}
+
+/// The end where a reply says that the operation is no longer live.
+fn unless_live(reply: &Reply) -> Option<OpEnd>
+    ensures { result ≡ undone_by reply.now }
+{
+    match reply {
+        Reply::Refused(Refusal::NoOp) => Some(OpEnd::Undone),
+        _ => None,
+    }
+}
