@@ -13,5 +13,5 @@ mod rows;
 mod spelling;
 mod view;
 
-pub use lines::trace;
+pub use lines::{trace, trace_rows};
 pub use view::View;
