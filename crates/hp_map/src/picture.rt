@@ -1,4 +1,4 @@
-//! A memory drawn as text, block by block.
+//! A memory drawn block by block.
 ghost use Rattle.std.specs.Prelude.{◌≡◌, ◌+◌, ◌*◌, ◌^◌, ◌<◌, ◌≤◌, ◌++◌, IfOk, OnOk, map, string_bytes};
 ghost use Rattle.std.specs.List.{range_with_len};
 ghost use Rattle.hp_units.specs.Arithmetic.{block_size};

@@ -86,15 +86,17 @@ abbrev pub label_text : (asked answer : List ℕ) → List ℕ
 label_text asked answer = filled 29 asked ++ codes " " ++ filled 25 answer
 
 -- and the memory
-abbrev pub row_text : (asked answer memory : List ℕ) → List ℕ
-row_text asked answer memory = filled 29 asked ++ codes " " ++ filled 25 answer ++ memory ++ newline
+abbrev pub row_text : (label memory : List ℕ) → List ℕ
+row_text label memory = label ++ memory ++ newline
 
 -- a row more in the text, with a picture of the machine's memory
 pub record IsRow (m : MachineValue) (asked answer : List ℕ) (old new : RowsValue) : Type 0 where
   pub blocks : List BlockPicture
   pub picture : IsPicture m.layout m.state blocks
-  pub is : new ≡ record old
-      { text = old.text ++ row_text asked answer (memory_text old.is_wide old.shown blocks); shown = blocks }
+  pub is : new ≡ record old {
+    text = old.text ++ row_text (label_text asked answer) (memory_text old.is_wide old.shown blocks);
+    shown = blocks;
+  }
 
 -- a row more that is kept, with all memory blocks
 pub record IsKept (m : MachineValue) (asked answer : List ℕ) (old new : RowsValue) : Type 0 where

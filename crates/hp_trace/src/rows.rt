@@ -116,7 +116,8 @@ impl Rows {
             self.shown.as_slice(),
             blocks.as_slice(),
         )?;
-        write_row(&mut self.text, asked, answer, memory.as_str())?;
+        let label = label_text(alloc, asked, answer)?;
+        write_row(&mut self.text, label.as_str(), memory.as_str())?;
         self.shown = blocks;
         Ok(())
     }
@@ -206,12 +207,11 @@ fn label_text(alloc: Global, asked: &str, answer: &str) -> Result<Text, AllocErr
     Ok(Text::new(label))
 }
 
-/// Writes what was asked, what was answered, and the memory.
-fn write_row(out: &mut String, asked: &str, answer: &str, memory: &str) -> Result<(), AllocError>
-    ensures { OnOk result
-        (string_bytes out.new ≡ string_bytes out.old ++ row_text asked.now answer.now memory.now) }
+/// Writes what was asked and answered, and the memory.
+fn write_row(out: &mut String, label: &str, memory: &str) -> Result<(), AllocError>
+    ensures { OnOk result (string_bytes out.new ≡ string_bytes out.old ++ row_text label.now memory.now) }
 {
-    writeln!(out, "{asked:<29} {answer:<25}{memory}")
+    writeln!(out, "{label}{memory}")
 }
 
 /// A memory as a row has it: its memory blocks, or a sign where only those that changed are drawn
