@@ -1,5 +1,5 @@
 -- What a word writes of the bytes of a scenario, the exit status, and when each fault comes.
-use Rattle.std.specs.Prelude.{◌≡◌, ◌⊎◌, ℕ, ◌-◌, ◌<◌, ◌^◌, ◌==◌, List, [], length, Option, IfSome, count_by, if◌then◌else◌}
+use Rattle.std.specs.Prelude.{◌≡◌, ◌⊎◌, ℕ, ◌<◌, ◌==◌, List, [], length, Option, IfSome, count_by, if◌then◌else◌}
 use Rattle.std.specs.Io.KnownBytes.{Appends}
 use Rattle.hp_check.specs.Checking.{AreFindings}
 use Rattle.hp_check.specs.Findings.{is_fault}
@@ -12,8 +12,9 @@ use Rattle.hp_scenario.specs.Gives.{Fails}
 use Rattle.hp_scenario.specs.Scenario.{scenario_in}
 use Rattle.hp_scenario.specs.declared.fault.ScenarioFault.{ScenarioFault}
 use Rattle.hp_streams.specs.Reading.{limit}
+use Rattle.hp_pictures.specs.Rows.{RowValue}
 use Rattle.hp_svg.specs.Pictures.{picture_of}
-use Rattle.hp_trace.specs.Traces.{IsTraceOf}
+use Rattle.hp_trace.specs.Traces.{AreRowsOf, IsTraceOf}
 use Rattle.hp_trace.specs.declared.view.View.{View}
 use Rattle.hotplug_lab.specs.declared.fault.ProgramFault.{ProgramFault}
 use Rattle.hotplug_lab.specs.declared.fault.ProgramFault.TheVariants.{Lab, NotOpened, ReadFailed, Scenario, TooLong, WriteFailed}
@@ -27,11 +28,11 @@ pub record IsCheckOf (input text : List ℕ) (status : ℕ) : Type 0 where
   pub report : IsReport input found [] text
   pub judged : status ≡ (if count_by is_fault found == 0 then 0 else 1)
 
--- the picture of a trace with all memory blocks in each row
+-- the picture of a trace's rows
 pub record IsPictureOf (view : View) (input text : List ℕ) : Type 0 where
-  pub trace : List ℕ
-  pub traced : IsTraceOf (record view { width = 2 ^ 64 - 1 }) input trace
-  pub drawn : text ≡ picture_of trace
+  pub rows : List RowValue
+  pub traced : AreRowsOf view input rows
+  pub drawn : text ≡ picture_of rows
 
 abbrev pub IsAnswerOf : Word → (input text : List ℕ) → (status : ℕ) → Type 0
 IsAnswerOf Check input text status = IsCheckOf input text status

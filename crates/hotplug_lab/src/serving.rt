@@ -13,7 +13,7 @@ use hp_explore::Watch;
 use hp_lab::explore_text;
 use hp_streams::{Failed, Sink, Source, read_all, write_all};
 use hp_svg::picture_of;
-use hp_trace::{View, trace};
+use hp_trace::{View, trace, trace_rows};
 use std::alloc::Global;
 
 /// What a word writes, and the exit status.
@@ -119,15 +119,11 @@ fn checked(alloc: Global, input: &[u8]) -> Result<Answer, ProgramFault>
     Ok(Answer { text, status })
 }
 
-/// The trace of the scenario that the bytes are, with all memory blocks in each row, as a picture.
+/// The rows of the scenario that the bytes are, with all memory blocks in each, as a picture.
 fn picture_text(alloc: Global, input: &[u8], view: View) -> Result<String, ProgramFault>
     ensures ok { IfOk result (λ text. IsPictureOf view input.now (string_bytes text)) }
     ensures err { IfErr result (IsUnanswered (Picture view) input.now) }
 {
-    let whole = View {
-        width: u64::MAX,
-        ..view
-    };
-    let text = trace(alloc, input, whole)?;
-    Ok(picture_of(alloc, text.as_str())?)
+    let rows = trace_rows(alloc, input, view)?;
+    Ok(picture_of(alloc, &rows)?)
 }

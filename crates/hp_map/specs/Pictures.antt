@@ -1,4 +1,4 @@
--- A memory drawn as text (own rule).
+-- A memory drawn block by block (own rule).
 use Rattle.std.specs.Prelude.{ℕ, ◌≡◌, ◌+◌, ◌*◌, ◌%◌, ◌==◌, ◌&&◌, nat_lt, Bool, List, [], ◌++◌, codes, map, Option, Some, None, slice_get, if◌then◌else◌}
 use Rattle.std.specs.Fmt.{decimal}
 use Rattle.std.specs.List.{flat_map, range_with_len}
@@ -10,6 +10,7 @@ use Rattle.hp_units.specs.declared.rows.Zone.TheVariants.{Normal, Movable}
 use Rattle.hp_units.specs.Arithmetic.{block_size, pageblock_size}
 use Rattle.hp_units.specs.LayoutParts.{LayoutParts}
 use Rattle.hp_units.specs.Memory.{Memory}
+use Rattle.hp_pictures.specs.declared.block_picture.BlockPicture.{BlockPicture}
 use Rattle.hp_map.specs.Names.{Row, State, AbsentState, OfflineState, OnlineState, GoingState}
 use Rattle.hp_map.specs.Places.{ArePlacesOf, place_text}
 use Rattle.hp_map.specs.declared.places.Place.{Place}
@@ -70,13 +71,16 @@ frames_text l places block = flat_map (frame_text l places block) (range_with_le
 
 -- ---- the whole
 
-abbrev pub block_text : LayoutParts → List Row → List Place → (block : ℕ) → List ℕ
-block_text l rows places block =
-    decimal block ++ codes ":" ++ row_text (slice_get rows block) ++ codes "[" ++ frames_text l places block
-    ++ codes "]"
+-- what stands before the cells of a block with this row
+abbrev pub head_text : Option Row → (block : ℕ) → List ℕ
+head_text row block = decimal block ++ codes ":" ++ row_text row
 
--- a text for each memory block by rising number, with each frame as it is placed
-pub record IsPicture (l : LayoutParts) (s : Memory) (blocks : List (List ℕ)) : Type 0 where
+abbrev pub block_picture : LayoutParts → List Row → List Place → (block : ℕ) → BlockPicture
+block_picture l rows places block =
+    record { head = head_text (slice_get rows block) block; cells = frames_text l places block }
+
+-- a picture of each memory block by rising number, with each frame as it is placed
+pub record IsPicture (l : LayoutParts) (s : Memory) (blocks : List BlockPicture) : Type 0 where
   pub places : List Place
   pub placed : ArePlacesOf l s places
-  pub drawn : blocks ≡ map (block_text l s.blocks.rows places) (range_with_len 0 l.blocks)
+  pub drawn : blocks ≡ map (block_picture l s.blocks.rows places) (range_with_len 0 l.blocks)

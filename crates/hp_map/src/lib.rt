@@ -1,4 +1,4 @@
-//! A map of a memory: in which place each frame is, and a picture of it as text.
+//! A map of a memory: in which place each frame is, and a picture of each memory block.
 //!
 //! The crate owns places and pictures. It reads a machine and changes nothing; it knows nothing of
 //! scenarios, streams or command lines. Read specs/Places first: what it means that a frame is in a

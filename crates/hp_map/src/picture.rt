@@ -1,19 +1,20 @@
-//! A memory drawn as text, block by block.
+//! A memory drawn block by block.
 ghost use Rattle.std.specs.Prelude.{◌≡◌, ◌+◌, ◌*◌, ◌^◌, ◌<◌, ◌≤◌, ◌++◌, IfOk, OnOk, map, string_bytes};
 ghost use Rattle.std.specs.List.{range_with_len};
 ghost use Rattle.hp_units.specs.Arithmetic.{block_size};
-ghost use Rattle.hp_map.specs.Pictures.{IsPicture, block_text, cell_text, claim_text, frames_text, place_at, row_text, starts_later, state_text, zone_letter};
+ghost use Rattle.hp_map.specs.Pictures.{IsPicture, block_picture, cell_text, claim_text, frames_text, head_text, place_at, row_text, starts_later, state_text, zone_letter};
 
 use crate::map::places_of;
 use crate::places::Place;
 use hp_machine::Machine;
+use hp_pictures::BlockPicture;
 use hp_units::{Block, Claim, Layout, Row, State, Text, Wish, Zone};
 use std::alloc::{AllocError, Global};
 
 /// What is drawn of each memory block of a machine, by rising number: as `2:M>off[a1|::]`, its
-/// number, its zone or its state, what an operation that holds it wishes, and the place of each of
-/// its frames, by pageblock (own rule). An error is out of memory.
-pub fn picture_of(alloc: Global, machine: &Machine) -> Result<Vec<Text>, AllocError>
+/// number, its zone or its state, what an operation that holds it wishes, and in its cells the place
+/// of each of its frames, by pageblock (own rule). An error is out of memory.
+pub fn picture_of(alloc: Global, machine: &Machine) -> Result<Vec<BlockPicture>, AllocError>
     ensures { IfOk result (λ blocks. IsPicture machine.now.layout machine.now.state blocks.items) }
 {
     let places = places_of(alloc, machine)?;
@@ -25,15 +26,15 @@ fn draw_blocks(
     alloc: Global,
     machine: &Machine,
     places: &Vec<Place>,
-) -> Result<Vec<Text>, AllocError>
+) -> Result<Vec<BlockPicture>, AllocError>
     ensures { IfOk result (λ blocks. blocks.items ≡ map
-        (block_text machine.now.layout machine.now.state.blocks.rows places.now.items)
+        (block_picture machine.now.layout machine.now.state.blocks.rows places.now.items)
         (range_with_len 0 machine.now.layout.blocks)) }
 {
     let mut blocks = Vec::new(alloc);
     for number in 0..machine.layout().blocks() {
-        let text = draw_block(alloc, machine, places, Block(number))?;
-        blocks.push(text)?;
+        let block = draw_block(alloc, machine, places, Block(number))?;
+        blocks.push(block)?;
     }
     Ok(blocks)
 }
@@ -44,17 +45,38 @@ fn draw_block(
     machine: &Machine,
     places: &Vec<Place>,
     block: Block,
-) -> Result<Text, AllocError>
+) -> Result<BlockPicture, AllocError>
     requires { block < machine.now.layout.blocks }
-    ensures { IfOk result
-        (λ text. text ≡ block_text machine.now.layout machine.now.state.blocks.rows places.now.items block) }
+    ensures { IfOk result (λ picture. picture
+        ≡ block_picture machine.now.layout machine.now.state.blocks.rows places.now.items block) }
+{
+    let head = draw_head(alloc, machine.row(block), block)?;
+    let cells = draw_frames(alloc, machine.layout(), places, block)?;
+    Ok(BlockPicture { head, cells })
+}
+
+/// What stands before the cells of a memory block with this row.
+fn draw_head(alloc: Global, row: Option<Row>, block: Block) -> Result<Text, AllocError>
+    ensures { IfOk result (λ text. text ≡ head_text row block) }
 {
     let mut out = String::new(alloc);
     write!(&mut out, "{block}:")?;
-    write_row(&mut out, machine.row(block))?;
-    out.push_str("[")?;
-    write_frames(&mut out, machine.layout(), places, block)?;
-    out.push_str("]")?;
+    write_row(&mut out, row)?;
+    Ok(Text::new(out))
+}
+
+/// The cells of a memory block of the layout.
+fn draw_frames(
+    alloc: Global,
+    layout: &Layout,
+    places: &Vec<Place>,
+    block: Block,
+) -> Result<Text, AllocError>
+    requires { block < layout.now.blocks }
+    ensures { IfOk result (λ text. text ≡ frames_text layout.now places.now.items block) }
+{
+    let mut out = String::new(alloc);
+    write_frames(&mut out, layout, places, block)?;
     Ok(Text::new(out))
 }
 

@@ -1,6 +1,6 @@
 -- Texts of entries with their places, one more after another.
-use Rattle.std.proofs.Common.{◌≡◌, ℕ, zero, suc, ◌+◌, ◌<◌, List, [], ◌∷◌, ◌++◌, Bor, flat_map, get_or, length, map, take, sym, ap, ◌∙◌, add-one, arith}
-use Rattle.std.proofs.lemmas.List.{flat_map_more, get_or-map, length-map, length-take-le, take_more}
+use Rattle.std.proofs.Common.{◌≡◌, ℕ, zero, suc, ◌+◌, ◌<◌, List, [], ◌∷◌, ◌++◌, flat_map, get_or, length, take, sym, ap, ◌∙◌, add-one, arith}
+use Rattle.std.proofs.lemmas.List.{flat_map_more, length-take-le, take_more}
 use Rattle.std.specs.List.{enumerate_from, range_with_len}
 
 enumerate_more : {A : Type 0} (n : ℕ) (xs : List A) (x : A)
@@ -30,20 +30,13 @@ entry_more {A} f xs i d old now new lt before written =
     ∙ flat_map_more f old (enumerate_from 0 (take i xs)) (i, get_or xs i d)
     ∙ ap (λ (ps : List (ℕ × A)). old ++ flat_map f ps) (sym entries)
 
--- one more text
-pub text_more : (f : ℕ × List ℕ → List ℕ) (texts : List (Bor (List ℕ))) (i : ℕ) (d : Bor (List ℕ))
-    (old now new : List ℕ)
-    → i < length texts
-    → now ≡ old ++ flat_map f (enumerate_from 0 (take i (map (λ t. t.now) texts)))
-    → new ≡ now ++ f (i, (get_or texts i d).now)
-    → new ≡ old ++ flat_map f (enumerate_from 0 (take (i + 1) (map (λ t. t.now) texts)))
-text_more f texts i d old now new lt before written =
-    let low : i < length (map (λ (t : Bor (List ℕ)). t.now) texts) =
-    omega (arith, lt, length-map texts (λ (t : Bor (List ℕ)). t.now)) in
-    let same : get_or (map (λ (t : Bor (List ℕ)). t.now) texts) i [] ≡ (get_or texts i d).now =
-    get_or-map (λ (t : Bor (List ℕ)). t.now) texts i d [] lt in
-    entry_more f (map (λ (t : Bor (List ℕ)). t.now) texts) i [] old now new low before
-    (written ∙ ap (λ (t : List ℕ). now ++ f (i, t)) (sym same))
+-- one more item, which is the one at its place
+pub item_more : {A : Type 0} (f : ℕ × A → List ℕ) (xs : List A) (i : ℕ) (x : A) (old now new : List ℕ)
+    → i < length xs → x ≡ get_or xs i x
+    → now ≡ old ++ flat_map f (enumerate_from 0 (take i xs)) → new ≡ now ++ f (i, x)
+    → new ≡ old ++ flat_map f (enumerate_from 0 (take (i + 1) xs))
+item_more {A} f xs i x old now new lt at before written =
+    entry_more f xs i x old now new lt before (written ∙ ap (λ (y : A). now ++ f (i, y)) at)
 
 -- one more number
 range_more : (a n j : ℕ) → a + n ≡ j → range_with_len a (suc n) ≡ range_with_len a n ++ j ∷ []

@@ -1,4 +1,3 @@
 mod Covering
 mod Entries
 mod Joined
-mod Pieces

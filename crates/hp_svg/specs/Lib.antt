@@ -1,4 +1,3 @@
-pub mod Cuts
 pub mod Elements
 pub mod Marks
 pub mod Pictures

@@ -4,7 +4,8 @@
 use Rattle.std.specs.Prelude.{ℕ, ◌-◌, ◌==◌, ◌&&◌, ◌||◌, nat_le, not, Bool, true, List, [], ◌∷◌, ◌++◌, codes, filter, slice_index_or, if◌then◌else◌}
 use Rattle.std.specs.List.{list_any}
 use Rattle.std.specs.Str.{bytes_eq}
-use Rattle.hp_svg.specs.Cuts.{cells_of}
+use Rattle.hp_pictures.specs.Rows.{RowValue}
+use Rattle.hp_pictures.specs.declared.block_picture.BlockPicture.{BlockPicture}
 
 abbrev pub is_between : (first last mark : ℕ) → Bool
 is_between first last mark = nat_le first mark && nat_le mark last
@@ -105,16 +106,19 @@ label_of mark =
 abbrev pub known_marks : List ℕ
 known_marks = codes ".:- K0123456789abcdefghijklmnopqrstuvwxyz"
 
--- whether a character is one of the cells of a piece, or of one of these
-abbrev pub has_mark : (mark : ℕ) → (piece : List ℕ) → Bool
-has_mark mark piece = list_any (λ byte. byte == mark) (cells_of piece)
+-- whether a character is one of the cells of a block, of a row, or of one of these rows
+abbrev pub has_mark : (mark : ℕ) → BlockPicture → Bool
+has_mark mark block = list_any (λ byte. byte == mark) block.cells
 
-abbrev pub occurs : (pieces : List (List ℕ)) → (mark : ℕ) → Bool
-occurs pieces mark = list_any (has_mark mark) pieces
+abbrev pub row_has_mark : (mark : ℕ) → RowValue → Bool
+row_has_mark mark row = list_any (has_mark mark) row.blocks
+
+abbrev pub occurs : (rows : List RowValue) → (mark : ℕ) → Bool
+occurs rows mark = list_any (row_has_mark mark) rows
 
 -- those that occur
-unfoldable pub marks_in : (pieces : List (List ℕ)) → List ℕ
-marks_in pieces = filter (occurs pieces) known_marks
+unfoldable pub marks_in : (rows : List RowValue) → List ℕ
+marks_in rows = filter (occurs rows) known_marks
 
 -- ---- colours that differ
 

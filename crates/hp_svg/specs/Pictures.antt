@@ -1,8 +1,9 @@
--- A trace as one picture (own rule): SVG, with time downwards and frames across.
-use Rattle.std.specs.Prelude.{ℕ, ◌+◌, ◌&&◌, nat_lt, Bool, false, List, [], ◌∷◌, ◌++◌, codes, length}
+-- Rows as one picture (own rule): SVG, with time downwards and frames across.
+use Rattle.std.specs.Prelude.{ℕ, ◌+◌, ◌==◌, ◌&&◌, nat_lt, Bool, false, List, [], ◌∷◌, ◌++◌, codes, length, if◌then◌else◌}
 use Rattle.std.specs.Fmt.{decimal}
 use Rattle.std.specs.List.{enumerate_from, flat_map, range_with_len}
-use Rattle.hp_svg.specs.Cuts.{cells_of, head_of, lines_of, pieces_of}
+use Rattle.hp_pictures.specs.Rows.{RowValue}
+use Rattle.hp_pictures.specs.declared.block_picture.BlockPicture.{BlockPicture}
 use Rattle.hp_svg.specs.Elements.{cell_element, extent, grid_element, run_text, text_element}
 use Rattle.hp_svg.specs.Marks.{label_of, marks_in}
 use Rattle.hp_svg.specs.Runs.{runs_of}
@@ -14,33 +15,44 @@ newline = 10 ∷ []
 
 -- ---- the rows
 
--- a head is made narrower where it has no room before its cells
-abbrev pub is_narrow : (block : ℕ) → (head cells : List ℕ) → Bool
-is_narrow block head cells = nat_lt 0 (length cells) && nat_lt (room_at block) (length head)
+-- a text is made narrower where it has no room before its cells
+abbrev pub is_narrow : (block : ℕ) → (text cells : List ℕ) → Bool
+is_narrow block text cells = nat_lt 0 (length cells) && nat_lt (room_at block) (length text)
 
 -- the text before a block's cells, where there is one
-unfoldable pub head_text : Sheet → (top block : ℕ) → (head cells : List ℕ) → List ℕ
+unfoldable pub head_text : Sheet → (top block : ℕ) → (text cells : List ℕ) → List ℕ
 head_text s top block [] cells = []
 head_text s top block (c ∷ cs) cells =
     text_element (text_at s block) (top + 10) (is_narrow block (c ∷ cs) cells) (room_at block) (c ∷ cs)
 
--- the head of a block, and its cells
-unfoldable pub piece_text : Sheet → (top : ℕ) → (piece : ℕ × List ℕ) → List ℕ
-piece_text s top piece =
-    head_text s top piece.0 (head_of piece.1) (cells_of piece.1)
-    ++ flat_map (run_text (cells_at s piece.0) top) (runs_of (cells_of piece.1))
+-- a row's text stands before the head of its first block
+unfoldable pub headed : (block : ℕ) → (label head : List ℕ) → List ℕ
+headed block label head = (if block == 0 then label else []) ++ codes " " ++ head
 
--- a line by its number: its blocks side by side
-unfoldable pub row_text : Sheet → (line : ℕ × List ℕ) → List ℕ
-row_text s line = flat_map (piece_text s (row_top line.0)) (enumerate_from 0 (pieces_of line.1)) ++ newline
+-- a block by its place in a row with this text: its head, and its cells
+unfoldable pub cells_text : Sheet → (top : ℕ) → (label : List ℕ) → (block : ℕ × BlockPicture) → List ℕ
+cells_text s top label block =
+    head_text s top block.0 (headed block.0 label block.1.head) block.1.cells
+    ++ flat_map (run_text (cells_at s block.0) top) (runs_of block.1.cells)
 
--- all rows, one under another from some place on
+-- the text of a row without blocks
+unfoldable pub words_text : Sheet → (top : ℕ) → (label : List ℕ) → List BlockPicture → List ℕ
+words_text s top label [] = head_text s top 0 label []
+words_text s top label (block ∷ blocks) = []
+
+-- a row by its number: its text, and its blocks side by side
+unfoldable pub row_text : Sheet → (row : ℕ × RowValue) → List ℕ
+row_text s row =
+    words_text s (row_top row.0) row.1.label row.1.blocks
+    ++ flat_map (cells_text s (row_top row.0) row.1.label) (enumerate_from 0 row.1.blocks) ++ newline
+
+-- all rows, one under another from some place on, and a line without one
 unfoldable pub rows_opening : (top : ℕ) → List ℕ
 rows_opening top = codes "<g transform='translate(0 " ++ decimal top ++ codes ")'>"
 
-unfoldable pub rows_text : Sheet → (top : ℕ) → (lines : List (List ℕ)) → List ℕ
-rows_text s top lines =
-    rows_opening top ++ flat_map (row_text s) (enumerate_from 0 lines) ++ codes "</g>" ++ newline
+unfoldable pub rows_text : Sheet → (top : ℕ) → (rows : List RowValue) → List ℕ
+rows_text s top rows =
+    rows_opening top ++ flat_map (row_text s) (enumerate_from 0 rows) ++ newline ++ codes "</g>" ++ newline
 
 -- ---- above and over the rows
 
@@ -51,7 +63,7 @@ entry_text entry =
     ++ text_element (legend_left entry.0 + 18) (legend_top entry.0 + 10) false 0 (label_of entry.1) ++ newline
 
 -- the number of a block, that of its first frame, and a grid over its cells; the legend has so many
--- entries, and the trace so many lines
+-- entries, and this many rows have room below one another
 unfoldable pub block_text : Sheet → (entries lines block : ℕ) → List ℕ
 block_text s entries lines block =
     text_element (cells_at s block) (numbers_at entries) false 0 (codes "block " ++ decimal block)
@@ -97,14 +109,15 @@ ground = codes "<rect width='100%' height='100%' fill='#ffffff'/>"
 unfoldable pub style : List ℕ
 style = title ++ hatching ++ grid ++ ground ++ newline
 
-unfoldable pub picture_with : Sheet → (marks : List ℕ) → (lines : List (List ℕ)) → List ℕ
-picture_with s marks lines =
-    opening (width_of s) (height_of (length marks) (length lines)) ++ style
+-- below the rows there is room for one more
+unfoldable pub picture_with : Sheet → (marks : List ℕ) → (rows : List RowValue) → List ℕ
+picture_with s marks rows =
+    opening (width_of s) (height_of (length marks) (length rows + 1)) ++ style
     ++ flat_map entry_text (enumerate_from 0 marks)
-    ++ rows_text s (rows_at (length marks)) lines
-    ++ flat_map (block_text s (length marks) (length lines)) (range_with_len 0 s.blocks)
+    ++ rows_text s (rows_at (length marks)) rows
+    ++ flat_map (block_text s (length marks) (length rows + 1)) (range_with_len 0 s.blocks)
     ++ codes "</svg>" ++ newline
 
--- the picture of a trace
-abbrev pub picture_of : (text : List ℕ) → List ℕ
-picture_of text = picture_with (sheet_of text) (marks_in (pieces_of text)) (lines_of text)
+-- the picture of rows
+abbrev pub picture_of : (rows : List RowValue) → List ℕ
+picture_of rows = picture_with (sheet_of rows) (marks_in rows) rows

@@ -1,20 +1,29 @@
 -- Where things stand in a picture (own rule). Lengths are in pixels.
-use Rattle.std.specs.Prelude.{ℕ, ◌+◌, ◌-◌, ◌*◌, ◌/◌, ◌%◌, ◌^◌, ◌==◌, not, List, count_by, length, max, min, if◌then◌else◌}
-use Rattle.std.specs.List.{before_first}
-use Rattle.hp_svg.specs.Cuts.{cells_of}
+use Rattle.std.specs.Prelude.{ℕ, ◌+◌, ◌-◌, ◌*◌, ◌/◌, ◌%◌, ◌^◌, ◌==◌, not, List, [], ◌∷◌, count_by, length, max, min, if◌then◌else◌}
+use Rattle.hp_pictures.specs.Rows.{RowValue}
+use Rattle.hp_pictures.specs.declared.block_picture.BlockPicture.{BlockPicture}
 use Rattle.hp_svg.specs.declared.sheets.Sheet.{Sheet}
 
 -- a count of at most 32 bits
 abbrev pub bounded : ℕ → ℕ
 bounded count = min count (2 ^ 32 - 1)
 
--- what the first line has: how many blocks, and of the first of them how many characters, and how many of
--- these are frames
-unfoldable pub sheet_of : (text : List ℕ) → Sheet
-sheet_of text =
-    let cells = cells_of (before_first (λ byte. byte == 93) text) in
+-- the blocks of the first row, and the cells of the first of these
+abbrev pub first_blocks : List RowValue → List BlockPicture
+first_blocks [] = []
+first_blocks (row ∷ rows) = row.blocks
+
+abbrev pub first_cells : List BlockPicture → List ℕ
+first_cells [] = []
+first_cells (block ∷ blocks) = block.cells
+
+-- how many blocks the first row has, and of the first of them how many characters, and how many of these
+-- are frames
+unfoldable pub sheet_of : (rows : List RowValue) → Sheet
+sheet_of rows =
+    let cells = first_cells (first_blocks rows) in
     record {
-      blocks = count_by (λ byte. byte == 93) (before_first (λ byte. byte == 10) text);
+      blocks = length (first_blocks rows);
       cells = bounded (length cells);
       frames = bounded (count_by (λ byte. not (byte == 124)) cells);
     }
@@ -66,5 +75,5 @@ rows_at entries = numbers_at entries + 18
 abbrev pub row_top : (number : ℕ) → ℕ
 row_top number = 14 * number
 
-abbrev pub height_of : (entries lines : ℕ) → ℕ
-height_of entries lines = rows_at entries + row_top lines
+abbrev pub height_of : (entries rows : ℕ) → ℕ
+height_of entries rows = rows_at entries + row_top rows

@@ -1,12 +1,10 @@
-//! A trace as one picture: time downwards, the frames of a memory across, a colour for each character.
+//! Rows as one picture: time downwards, the frames of a memory across, a colour for each character.
 //!
-//! The crate owns the picture: how a trace's text is cut into rows and cells, where each cell
-//! stands, its colour, the legend. It knows nothing of machines or scenarios, only that a word such
-//! as `2:M>off[a1|::]` is a memory block. Read specs/Pictures first, then specs/Runs and
+//! The crate owns the picture: where each text and each cell of a row stands, its colour, the
+//! legend. It knows nothing of machines or scenarios. Read specs/Pictures first, then specs/Runs and
 //! specs/Marks.
 #![tactic(auto)]
 
-mod cuts;
 mod elements;
 mod marks;
 mod pictures;

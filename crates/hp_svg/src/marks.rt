@@ -1,8 +1,8 @@
 //! The characters of cells: their colours, and what they mean.
 ghost use Rattle.std.specs.Prelude.{◌≡◌, ◌<◌, ◌≤◌, [], ◌∷◌, ◌++◌, IfOk, IsTrue, OnOk, map, string_bytes};
-ghost use Rattle.hp_svg.specs.Marks.{all_differ, bright_fill, fill_of, has_mark, ink_of, is_lettered, known_marks, label_of, list_fill, list_label, marks_in, muted_fill, occurs, okabe_fill, owner_label, plain_fill, plain_label};
+ghost use Rattle.hp_svg.specs.Marks.{all_differ, bright_fill, fill_of, has_mark, ink_of, is_lettered, known_marks, label_of, list_fill, list_label, marks_in, muted_fill, occurs, okabe_fill, owner_label, plain_fill, plain_label, row_has_mark};
 
-use crate::cuts::cells_of;
+use hp_pictures::{BlockPicture, RowPicture};
 use std::alloc::{AllocError, Global};
 
 /// All characters that have a meaning, in the order of the legend.
@@ -179,30 +179,37 @@ fn plain_label(mark: u8) -> &'static str
     }
 }
 
-/// Whether a character is one of the cells of a piece.
-fn has_mark(mark: u8, piece: &str) -> bool
-    ensures { result ≡ has_mark mark piece.now }
+/// Whether a character is one of the cells of a block.
+fn has_mark(mark: u8, block: &BlockPicture) -> bool
+    ensures { result ≡ has_mark mark block.now }
 {
-    cells_of(piece).as_bytes().contains(&mark)
+    block.cells.as_str().as_bytes().contains(&mark)
 }
 
-/// Whether a character is one of the cells of these pieces.
-fn occurs(pieces: &[&str], mark: u8) -> bool
-    ensures { result ≡ occurs (map (λ piece. piece.now) pieces.now) mark }
+/// Whether a character is one of the cells of a row.
+fn row_has_mark(mark: u8, row: &RowPicture) -> bool
+    ensures { result ≡ row_has_mark mark row.now }
 {
-    pieces.iter().any(|piece| has_mark(mark, piece))
+    row.blocks().iter().any(|block| has_mark(mark, block))
 }
 
-/// The characters that are cells of these pieces, in the order of the legend.
+/// Whether a character is one of the cells of these rows.
+fn occurs(rows: &[RowPicture], mark: u8) -> bool
+    ensures { result ≡ occurs rows.now mark }
+{
+    rows.iter().any(|row| row_has_mark(mark, row))
+}
+
+/// The characters that are cells of these rows, in the order of the legend.
 #[tactic(auto, unfolding(crate::specs::Marks::marks_in))]
-pub(crate) fn marks_in(alloc: Global, pieces: &[&str]) -> Result<Vec<u8>, AllocError>
-    ensures { IfOk result (λ marks. marks.items ≡ marks_in (map (λ piece. piece.now) pieces.now)) }
+pub(crate) fn marks_in(alloc: Global, rows: &[RowPicture]) -> Result<Vec<u8>, AllocError>
+    ensures { IfOk result (λ marks. marks.items ≡ marks_in rows.now) }
 {
     KNOWN
         .as_bytes()
         .iter()
         .copied()
-        .filter(|mark| occurs(pieces, *mark))
+        .filter(|mark| occurs(rows, *mark))
         .collect(alloc)
 }
 

@@ -1,52 +1,49 @@
-//! A trace as one picture.
-ghost use Rattle.std.specs.Prelude.{◌≡◌, ◌++◌, ◌<◌, ◌^◌, ◌&&◌, IfOk, OnOk, map, string_bytes};
+//! Rows as one picture.
+ghost use Rattle.std.specs.Prelude.{◌≡◌, ◌++◌, ◌<◌, ◌^◌, ◌&&◌, IfOk, OnOk, string_bytes};
 ghost use Rattle.std.specs.List.{enumerate_from, flat_map, range_with_len};
-ghost use Rattle.hp_svg.specs.Pictures.{block_text, corner, entry_text, font, head_text, grid, ground, hatching, is_narrow, namespace, opening, picture_of, picture_with, piece_text, row_text, rows_opening, rows_text, style, title, view};
+ghost use Rattle.hp_svg.specs.Pictures.{block_text, cells_text, corner, entry_text, font, grid, ground, hatching, head_text, headed, is_narrow, namespace, opening, picture_of, picture_with, row_text, rows_opening, rows_text, style, title, view, words_text};
 
-use crate::cuts::{cells_of, head_of, parts_of};
 use crate::elements::{write_cell, write_extent, write_grid, write_text};
 use crate::marks::{marks_in, write_label};
 use crate::runs::write_cells;
 use crate::sheets::{
     Sheet, height_of, legend_left, legend_top, numbers_at, room_at, row_top, rows_at,
 };
+use hp_pictures::{BlockPicture, RowPicture};
 use std::alloc::{AllocError, Global};
 
-/// The picture of a trace as SVG (own rule): each line of its text is a row, with what was asked
-/// and answered as text, and a rectangle for each run of equal characters in the brackets of a
-/// memory block; above the rows stand a legend of all characters that occur, and the numbers of the
-/// blocks and of their first frames. How wide a block is, and how many there are, is that of the
-/// first line. An error is out of memory.
+/// The picture of rows as SVG (own rule): one row under another, with its text and the heads of its
+/// memory blocks as text, and a rectangle for each run of equal characters of a block's cells; above
+/// the rows stand a legend of all characters that occur, and the numbers of the blocks and of their
+/// first frames. How wide a block is, and how many there are, is that of the first row. An error is
+/// out of memory.
 ///
-/// The text is that of a trace in which each row has all memory blocks. A word with brackets elsewhere in a
-/// line is drawn as a block too.
-pub fn picture_of(alloc: Global, trace: &str) -> Result<String, AllocError>
-    ensures { IfOk result (λ picture. string_bytes picture ≡ picture_of trace.now) }
+/// Each row has all memory blocks, or none where it is a line of text alone.
+pub fn picture_of(alloc: Global, rows: &[RowPicture]) -> Result<String, AllocError>
+    ensures { IfOk result (λ picture. string_bytes picture ≡ picture_of rows.now) }
 {
-    let pieces = parts_of(alloc, trace, ']')?;
-    let marks = marks_in(alloc, pieces.as_slice())?;
-    let lines = parts_of(alloc, trace, '\n')?;
-    picture_with(alloc, Sheet::of(trace), marks.as_slice(), lines.as_slice())
+    let marks = marks_in(alloc, rows)?;
+    picture_with(alloc, Sheet::of(rows), marks.as_slice(), rows)
 }
 
-/// The picture of lines, with these characters in the legend.
+/// The picture of rows, with these characters in the legend.
 #[tactic(auto, unfolding(crate::specs::Pictures::picture_with))]
 fn picture_with(
     alloc: Global,
     sheet: Sheet,
     marks: &[u8],
-    lines: &[&str],
+    rows: &[RowPicture],
 ) -> Result<String, AllocError>
-    ensures { IfOk result (λ picture. string_bytes picture
-        ≡ picture_with sheet marks.now (map (λ line. line.now) lines.now)) }
+    ensures { IfOk result (λ picture. string_bytes picture ≡ picture_with sheet marks.now rows.now) }
 {
     let entries = marks.len();
+    let room = rows.len() + 1;
     let mut out = String::new(alloc);
-    write_opening(&mut out, sheet.width(), height_of(entries, lines.len()))?;
+    write_opening(&mut out, sheet.width(), height_of(entries, room))?;
     write_style(&mut out)?;
     write_legend(&mut out, alloc, marks)?;
-    write_rows(&mut out, alloc, sheet, rows_at(entries), lines)?;
-    write_blocks(&mut out, alloc, sheet, entries, lines.len())?;
+    write_all_rows(&mut out, alloc, sheet, rows_at(entries), rows)?;
+    write_blocks(&mut out, alloc, sheet, entries, room)?;
     out.push_str("</svg>\n")?;
     Ok(out)
 }
@@ -174,13 +171,13 @@ fn write_blocks(
     alloc: Global,
     sheet: Sheet,
     entries: usize,
-    lines: usize,
+    rows: usize,
 ) -> Result<(), AllocError>
     ensures { OnOk result (string_bytes out.new ≡ string_bytes out.old
-        ++ flat_map (block_text sheet entries lines) (range_with_len 0 sheet.blocks)) }
+        ++ flat_map (block_text sheet entries rows) (range_with_len 0 sheet.blocks)) }
 {
     for block in 0..sheet.blocks {
-        write_block(out, alloc, sheet, entries, lines, block)?;
+        write_block(out, alloc, sheet, entries, rows, block)?;
     }
     Ok(())
 }
@@ -192,11 +189,11 @@ fn write_block(
     alloc: Global,
     sheet: Sheet,
     entries: usize,
-    lines: usize,
+    rows: usize,
     block: usize,
 ) -> Result<(), AllocError>
     ensures { OnOk result (string_bytes out.new ≡ string_bytes out.old
-        ++ block_text sheet entries lines block) }
+        ++ block_text sheet entries rows block) }
 {
     let left = sheet.cells_at(block);
     let top = numbers_at(entries);
@@ -210,7 +207,7 @@ fn write_block(
         left,
         rows_at(entries),
         sheet.cells_width(),
-        row_top(lines),
+        row_top(rows),
     )?;
     out.push_str("\n")
 }
@@ -223,88 +220,126 @@ fn write_rows_opening(out: &mut String, top: u128) -> Result<(), AllocError>
     write!(out, "<g transform='translate(0 {top})'>")
 }
 
-/// Writes the rows of lines, one under another from some place on.
+/// Writes rows, one under another from some place on.
 #[tactic(auto, unfolding(crate::specs::Pictures::rows_text))]
-fn write_rows(
+fn write_all_rows(
     out: &mut String,
     alloc: Global,
     sheet: Sheet,
     top: u128,
-    lines: &[&str],
+    rows: &[RowPicture],
 ) -> Result<(), AllocError>
-    ensures { OnOk result (string_bytes out.new ≡ string_bytes out.old
-        ++ rows_text sheet top (map (λ line. line.now) lines.now)) }
+    ensures { OnOk result (string_bytes out.new ≡ string_bytes out.old ++ rows_text sheet top rows.now) }
 {
     write_rows_opening(out, top)?;
-    write_lines(out, alloc, sheet, lines)?;
-    out.push_str("</g>\n")
+    write_rows(out, alloc, sheet, rows)?;
+    out.push_str("\n</g>\n")
 }
 
-/// Writes a row for each line.
-fn write_lines(
+/// Writes rows.
+fn write_rows(
     out: &mut String,
     alloc: Global,
     sheet: Sheet,
-    lines: &[&str],
+    rows: &[RowPicture],
 ) -> Result<(), AllocError>
     ensures { OnOk result (string_bytes out.new ≡ string_bytes out.old
-        ++ flat_map (row_text sheet) (enumerate_from 0 (map (λ line. line.now) lines.now))) }
+        ++ flat_map (row_text sheet) (enumerate_from 0 rows.now)) }
 {
-    for (number, line) in lines.iter().enumerate() {
-        write_row(out, alloc, sheet, number, line)?;
+    for (number, row) in rows.iter().enumerate() {
+        write_row(out, alloc, sheet, number, row)?;
     }
     Ok(())
 }
 
-/// Writes the row of a line.
+/// Writes a row.
 #[tactic(auto, unfolding(crate::specs::Pictures::row_text))]
 fn write_row(
     out: &mut String,
     alloc: Global,
     sheet: Sheet,
     number: usize,
-    line: &str,
+    row: &RowPicture,
 ) -> Result<(), AllocError>
-    ensures { OnOk result (string_bytes out.new ≡ string_bytes out.old ++ row_text sheet (number, line.now)) }
+    ensures { OnOk result (string_bytes out.new ≡ string_bytes out.old ++ row_text sheet (number, row.now)) }
 {
-    let pieces = parts_of(alloc, line, ']')?;
-    write_pieces(out, sheet, row_top(number), pieces.as_slice())?;
+    let top = row_top(number);
+    write_words(out, sheet, top, row.label(), row.blocks())?;
+    write_row_blocks(out, alloc, sheet, top, row.label(), row.blocks())?;
     out.push_str("\n")
 }
 
-/// Writes the pieces of a line.
-fn write_pieces(
+/// Writes the text of a row without blocks.
+#[tactic(auto, unfolding(crate::specs::Pictures::words_text))]
+fn write_words(
     out: &mut String,
     sheet: Sheet,
     top: u128,
-    pieces: &[&str],
+    label: &str,
+    blocks: &[BlockPicture],
 ) -> Result<(), AllocError>
     requires { top < 2 ^ 101 }
     ensures { OnOk result (string_bytes out.new ≡ string_bytes out.old
-        ++ flat_map (piece_text sheet top) (enumerate_from 0 (map (λ piece. piece.now) pieces.now))) }
+        ++ words_text sheet top label.now blocks.now) }
 {
-    for (block, piece) in pieces.iter().enumerate() {
-        write_piece(out, sheet, top, block, piece)?;
+    match blocks {
+        [] => write_head(out, sheet, top, 0, label, ""),
+        [..] => Ok(()),
+    }
+}
+
+/// Writes the blocks of a row with this text.
+fn write_row_blocks(
+    out: &mut String,
+    alloc: Global,
+    sheet: Sheet,
+    top: u128,
+    label: &str,
+    blocks: &[BlockPicture],
+) -> Result<(), AllocError>
+    requires { top < 2 ^ 101 }
+    ensures { OnOk result (string_bytes out.new ≡ string_bytes out.old
+        ++ flat_map (cells_text sheet top label.now) (enumerate_from 0 blocks.now)) }
+{
+    for (number, block) in blocks.iter().enumerate() {
+        write_cells_of(out, alloc, sheet, top, label, number, block)?;
     }
     Ok(())
 }
 
-/// Writes the head of a block, and its cells.
-#[tactic(auto, unfolding(crate::specs::Pictures::piece_text))]
-fn write_piece(
+/// Writes the head of a block in a row with this text, and its cells.
+#[tactic(auto, unfolding(crate::specs::Pictures::cells_text))]
+fn write_cells_of(
     out: &mut String,
+    alloc: Global,
     sheet: Sheet,
     top: u128,
-    block: usize,
-    piece: &str,
+    label: &str,
+    number: usize,
+    block: &BlockPicture,
 ) -> Result<(), AllocError>
     requires { top < 2 ^ 101 }
     ensures { OnOk result (string_bytes out.new ≡ string_bytes out.old
-        ++ piece_text sheet top (block, piece.now)) }
+        ++ cells_text sheet top label.now (number, block.now)) }
 {
-    let cells = cells_of(piece);
-    write_head(out, sheet, top, block, head_of(piece), cells)?;
-    write_cells(out, sheet.cells_at(block), top, cells.as_bytes())
+    let head = headed(alloc, number, label, block.head.as_str())?;
+    let cells = block.cells.as_str();
+    write_head(out, sheet, top, number, head.as_str(), cells)?;
+    write_cells(out, sheet.cells_at(number), top, cells.as_bytes())
+}
+
+/// The head of a block, after the text of its row where the block is the first.
+#[tactic(auto, unfolding(crate::specs::Pictures::headed))]
+fn headed(alloc: Global, block: usize, label: &str, head: &str) -> Result<String, AllocError>
+    ensures { IfOk result (λ text. string_bytes text ≡ headed block label.now head.now) }
+{
+    let mut out = String::new(alloc);
+    if block == 0 {
+        out.push_str(label)?;
+    }
+    out.push_str(" ")?;
+    out.push_str(head)?;
+    Ok(out)
 }
 
 /// Writes the text before a block's cells, where there is one.
@@ -314,17 +349,17 @@ fn write_head(
     sheet: Sheet,
     top: u128,
     block: usize,
-    head: &str,
+    text: &str,
     cells: &str,
 ) -> Result<(), AllocError>
     requires { top < 2 ^ 101 }
     ensures { OnOk result (string_bytes out.new ≡ string_bytes out.old
-        ++ head_text sheet top block head.now cells.now) }
+        ++ head_text sheet top block text.now cells.now) }
 {
-    if head.is_empty() {
+    if text.is_empty() {
         return Ok(());
     }
     let room = room_at(block);
-    let is_narrow = !cells.is_empty() && head.len() > room as usize;
-    write_text(out, sheet.text_at(block), top + 10, is_narrow, room, head)
+    let is_narrow = !cells.is_empty() && text.len() > room as usize;
+    write_text(out, sheet.text_at(block), top + 10, is_narrow, room, text)
 }

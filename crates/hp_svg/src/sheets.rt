@@ -1,11 +1,11 @@
 //! Where things stand in a picture. Lengths are in pixels.
 ghost use Rattle.std.specs.Prelude.{◌≡◌, ◌+◌, ◌*◌, ◌<◌, ◌^◌, ◌==◌, count_by, not};
-ghost use Rattle.hp_svg.specs.Sheets.{bounded, cells_at, cells_width, first_frame, head_at, height_of, legend_left, legend_top, numbers_at, room_at, row_top, rows_at, sheet_of, text_at, width_of};
+ghost use Rattle.hp_svg.specs.Sheets.{bounded, cells_at, cells_width, first_blocks, first_cells, first_frame, head_at, height_of, legend_left, legend_top, numbers_at, room_at, row_top, rows_at, sheet_of, text_at, width_of};
 
-use crate::cuts::{before, cells_of};
+use hp_pictures::{BlockPicture, RowPicture};
 
-/// What the first line of a trace has: how many blocks, and of the first of them how many
-/// characters, and how many of these are frames.
+/// What the first row has: how many blocks, and of the first of them how many characters, and how
+/// many of these are frames.
 #[derive(Clone, Copy)]
 pub(crate) struct Sheet {
     pub(crate) blocks: usize,
@@ -20,14 +20,24 @@ fn bounded(count: usize) -> u32
     count.min(u32::MAX as usize) as u32
 }
 
-/// How often a byte stands in a text.
-fn count_of(text: &str, sought: u8) -> usize
-    ensures { result ≡ count_by (λ byte. byte == sought) text.now }
+/// The blocks of the first row.
+fn first_blocks(rows: &[RowPicture]) -> &[BlockPicture]
+    ensures { result.now ≡ first_blocks rows.now }
 {
-    text.as_bytes()
-        .iter()
-        .filter(|byte| **byte == sought)
-        .count()
+    match rows {
+        [row, ..] => row.blocks(),
+        [] => &[],
+    }
+}
+
+/// The cells of the first block.
+fn first_cells(blocks: &[BlockPicture]) -> &str
+    ensures { result.now ≡ first_cells blocks.now }
+{
+    match blocks {
+        [block, ..] => block.cells.as_str(),
+        [] => "",
+    }
 }
 
 /// How many of a block's characters are frames.
@@ -42,14 +52,15 @@ fn frames_of(cells: &str) -> usize
 }
 
 impl Sheet {
-    /// What the first line of a text has.
+    /// What the first row has.
     #[tactic(auto, unfolding(crate::specs::Sheets::sheet_of))]
-    pub(crate) fn of(text: &str) -> Sheet
-        ensures { result ≡ sheet_of text.now }
+    pub(crate) fn of(rows: &[RowPicture]) -> Sheet
+        ensures { result ≡ sheet_of rows.now }
     {
-        let cells = cells_of(before(text, ']'));
+        let blocks = first_blocks(rows);
+        let cells = first_cells(blocks);
         Sheet {
-            blocks: count_of(before(text, '\n'), b']'),
+            blocks: blocks.len(),
             cells: bounded(cells.len()),
             frames: bounded(frames_of(cells)),
         }
@@ -155,9 +166,9 @@ pub(crate) fn row_top(number: usize) -> u128
     14 * number as u128
 }
 
-/// The height of a picture with so many entries in its legend, and so many lines.
-pub(crate) fn height_of(entries: usize, lines: usize) -> u128
-    ensures { result ≡ height_of entries lines }
+/// The height of a picture with so many entries in its legend, and room for so many rows.
+pub(crate) fn height_of(entries: usize, rows: usize) -> u128
+    ensures { result ≡ height_of entries rows }
 {
-    rows_at(entries) + row_top(lines)
+    rows_at(entries) + row_top(rows)
 }

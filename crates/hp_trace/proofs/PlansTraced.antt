@@ -122,7 +122,7 @@ driven m first last after cpu caller turns plan end old start rows new fault gai
 pub plan_added : (m after : MachineValue) (cpu turns : ℕ) (plan copied : List Item) (end : OpEnd)
     (asked : List ℕ) (old head steps new : RowsValue)
     → copied ≡ plan
-    → DrawsIf old.is_on m asked [] old head
+    → DrawsIf old.form m asked [] old head
     → Adds head steps (λ list. IsDriven m cpu turns copied end list after) → new ≡ said steps (plan_line end)
     → Adds old new (λ list. MakesPlan m cpu turns plan asked list after)
 plan_added m after cpu turns plan copied end asked old head steps new same drawn a is = record {
@@ -141,7 +141,7 @@ plan_added m after cpu turns plan copied end asked old head steps new same drawn
 -- one call of a plan
 pub step_traced : (cpu : ℕ) (m after : MachineValue) (r : Receipt) (old new : RowsValue) (was is drawn : Bool)
     → is ≡ (was || not drawn) → AreCalls m cpu (r ∷ []) after
-    → (IsTrue drawn → DrawsIf old.is_on after (step_text r.event) (answer_text r) old new)
+    → (IsTrue drawn → DrawsIf old.form after (step_text r.event) (answer_text r) old new)
     → IsTraced cpu old was m (r ∷ []) new is after
 step_traced cpu m after r old new false is true lost calls row = λ none. (
   refl,

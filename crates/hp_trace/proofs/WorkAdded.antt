@@ -21,7 +21,7 @@ use Rattle.hp_trace.specs.Rows.{Adds, AreDrawn, DrawsIf, RowsValue, drawing, not
 pub event_added : (m after : MachineValue) (cpu : ℕ) (event : Event) (r : Receipt) (asked : List ℕ)
     (old new : RowsValue)
     → IsCalled m cpu event r after → AreCalls m cpu (r ∷ []) after
-    → DrawsIf old.is_on after asked (answer_text r) old new
+    → DrawsIf old.form after asked (answer_text r) old new
     → Adds old new (λ rows. MakesEvent m cpu event asked rows after)
 event_added m after cpu event r asked old new called calls drawn = record {
   rows = drawing asked (answer_text r) after ∷ [];

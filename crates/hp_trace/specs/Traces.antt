@@ -1,13 +1,16 @@
 -- A scenario traced (own rule).
-use Rattle.std.specs.Prelude.{ℕ, ◌≡◌, ◌+◌, ◌-◌, ◌^◌, Bool, true, List, [], ◌∷◌, ◌++◌, codes, Ok, if◌then◌else◌}
+use Rattle.std.specs.Prelude.{ℕ, ◌≡◌, ◌+◌, ◌-◌, ◌^◌, Bool, List, [], ◌∷◌, ◌++◌, codes, Ok, if◌then◌else◌}
 use Rattle.std.specs.Fmt.{format_spec, styled_decimal}
 use Rattle.hp_machine.specs.Machine.{MachineValue, booted}
 use Rattle.hp_scenario.specs.Scenario.{ScenarioValue, scenario_in}
 use Rattle.hp_scenario.specs.declared.lines.Line.{Line}
+use Rattle.hp_pictures.specs.Rows.{RowValue}
 use Rattle.hp_trace.specs.Calls.{MakesWork}
-use Rattle.hp_trace.specs.Rows.{AreDrawn, IsRow, Row, RowsValue, fitted, no_rows}
+use Rattle.hp_trace.specs.Rows.{AreDrawn, DrawsIf, Row, RowsValue, fitted, no_rows}
 use Rattle.hp_trace.specs.Spelling.{line_text}
 use Rattle.hp_trace.specs.Views.{shows}
+use Rattle.hp_trace.specs.declared.rows.Form.{Form}
+use Rattle.hp_trace.specs.declared.rows.Form.TheVariants.{Kept, Written}
 use Rattle.hp_trace.specs.declared.view.View.{View}
 
 -- a line's number and the line
@@ -33,10 +36,11 @@ abbrev pub shown_rows : View → (number : ℕ) → (lists : List (List Row)) �
 shown_rows v number [] = []
 shown_rows v number (rows ∷ rest) = rows_if (shows v number) rows ++ shown_rows v (number + 1) rest
 
--- the row of the memory at boot, which decides whether later rows have only the memory blocks that changed
-pub record IsStart (v : View) (m : MachineValue) (rows : RowsValue) : Type 0 where
+-- the row of the memory at boot; as text it decides whether later rows have only the memory blocks that
+-- changed
+pub record IsStart (form : Form) (v : View) (m : MachineValue) (rows : RowsValue) : Type 0 where
   pub first : RowsValue
-  pub drawn : IsRow m (codes "   0 boot") [] (no_rows true) first
+  pub drawn : DrawsIf form m (codes "   0 boot") [] (no_rows form) first
   pub is : rows ≡ fitted v.width first
 
 -- a line was done, and its rows drawn where it is shown
@@ -53,17 +57,27 @@ pub record TracesLines (v : View) (names : List (List ℕ)) (m : MachineValue) (
   pub made : MakesLines names 1 m lines lists after
   pub drawn : AreDrawn (shown_rows v 1 lists) old new
 
--- the memory at boot, and below it the lines
-pub record IsScenarioTrace (v : View) (s : ScenarioValue) (text : List ℕ) : Type 0 where
+-- the memory at boot, and below it the lines, in a form
+pub record IsScenarioTraced (form : Form) (v : View) (s : ScenarioValue) (rows : RowsValue) : Type 0 where
   pub start : RowsValue
-  pub begun : IsStart v (booted s.layout) start
-  pub rows : RowsValue
+  pub begun : IsStart form v (booted s.layout) start
   pub machine : MachineValue
   pub traced : TracesLines v s.names (booted s.layout) s.lines start rows machine
-  pub written : text ≡ rows.text
+
+-- the rows of the scenario that the bytes are, in a form
+pub record IsTraced (form : Form) (v : View) (input : List ℕ) (rows : RowsValue) : Type 0 where
+  pub scenario : ScenarioValue
+  pub read : scenario_in input ≡ Ok scenario
+  pub traced : IsScenarioTraced form v scenario rows
 
 -- the trace of the scenario that the bytes are
 pub record IsTraceOf (v : View) (input text : List ℕ) : Type 0 where
-  pub scenario : ScenarioValue
-  pub read : scenario_in input ≡ Ok scenario
-  pub traced : IsScenarioTrace v scenario text
+  pub rows : RowsValue
+  pub traced : IsTraced Written v input rows
+  pub written : text ≡ rows.text
+
+-- its rows as values
+pub record AreRowsOf (v : View) (input : List ℕ) (list : List RowValue) : Type 0 where
+  pub rows : RowsValue
+  pub traced : IsTraced Kept v input rows
+  pub kept : list ≡ rows.kept

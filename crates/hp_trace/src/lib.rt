@@ -1,8 +1,8 @@
 //! Scenarios traced: what each line answers, and a picture of the memory after each call.
 //!
 //! The crate owns the rows of a trace, which of them are shown, and the port that draws one for
-//! each call of a plan. It runs a scenario's lines on a machine as `hotplug serial` does, but gives
-//! no text at all once it is out of memory. It knows nothing of streams or command lines. Read
+//! each call of a plan. It gives them as text, or as values to draw. It runs a scenario's lines on a
+//! machine as `hotplug serial` does, but gives nothing at all once it is out of memory. It knows nothing of streams or command lines. Read
 //! specs/Traces first, then specs/Calls and specs/Rows.
 #![tactic(auto)]
 
@@ -13,5 +13,5 @@ mod rows;
 mod spelling;
 mod view;
 
-pub use lines::trace;
+pub use lines::{trace, trace_rows};
 pub use view::View;

@@ -3,13 +3,15 @@ ghost use Rattle.std.specs.Prelude.{◌≡◌, IfErr, IfOk, OnOk, string_bytes};
 ghost use Rattle.hp_scenario.specs.Gives.{Fails};
 ghost use Rattle.hp_scenario.specs.Scenario.{scenario_in};
 ghost use Rattle.hp_scenario.specs.Seen.{scenario_seen};
-ghost use Rattle.hp_trace.specs.Traces.{IsScenarioTrace, IsStart, IsTraceOf, TracesLine, TracesLines, numbered_text};
+ghost use Rattle.hp_trace.specs.declared.rows.Form.TheVariants.{Kept, Written};
+ghost use Rattle.hp_trace.specs.Traces.{AreRowsOf, IsScenarioTraced, IsStart, IsTraceOf, IsTraced, TracesLine, TracesLines, numbered_text};
 
 use crate::calls::trace_work;
-use crate::rows::Rows;
+use crate::rows::{Form, Rows};
 use crate::spelling::write_line;
 use crate::view::View;
 use hp_machine::Machine;
+use hp_pictures::RowPicture;
 use hp_scenario::{Line, Scenario, ScenarioFault};
 use hp_units::Text;
 use indexmap::IndexSet;
@@ -25,26 +27,52 @@ pub fn trace(alloc: Global, input: &[u8], view: View) -> Result<String, Scenario
     ensures ok { IfOk result (λ text. IsTraceOf view input.now (string_bytes text)) }
     ensures err { IfErr result (λ fault. Fails fault (scenario_in input.now)) }
 {
-    let scenario = Scenario::read(alloc, input)?;
-    let text = trace_scenario(alloc, &scenario, view)?;
-    Ok(text)
-}
-
-/// The trace of a scenario. An error is out of memory.
-fn trace_scenario(alloc: Global, scenario: &Scenario, view: View) -> Result<String, AllocError>
-    ensures { IfOk result (λ text. IsScenarioTrace view (scenario_seen scenario.now) (string_bytes text)) }
-{
-    let mut machine = Machine::boot(alloc, &scenario.layout)?;
-    let mut rows = start(alloc, &machine, view)?;
-    trace_lines(&mut rows, alloc, &mut machine, scenario, view)?;
+    let rows = rows_of(alloc, input, view, Form::Written)?;
     Ok(rows.into_text())
 }
 
-/// The row of the memory at boot.
-fn start(alloc: Global, machine: &Machine, view: View) -> Result<Rows, AllocError>
-    ensures { IfOk result (IsStart view machine.now) }
+/// The rows of that trace as values, each with all memory blocks, whatever the width of the view. A
+/// text below a row is a row for each of its lines, without memory blocks.
+///
+/// An error is the first fault of the scenario, or out of memory, wherever that was.
+pub fn trace_rows(alloc: Global, input: &[u8], view: View) -> Result<Vec<RowPicture>, ScenarioFault>
+    ensures ok { IfOk result (λ rows. AreRowsOf view input.now rows.items) }
+    ensures err { IfErr result (λ fault. Fails fault (scenario_in input.now)) }
 {
-    let mut rows = Rows::new(alloc, true);
+    let rows = rows_of(alloc, input, view, Form::Kept)?;
+    Ok(rows.into_kept())
+}
+
+/// The rows of the scenario that the bytes are, in a form.
+fn rows_of(alloc: Global, input: &[u8], view: View, form: Form) -> Result<Rows, ScenarioFault>
+    ensures ok { IfOk result (λ rows. IsTraced form view input.now rows) }
+    ensures err { IfErr result (λ fault. Fails fault (scenario_in input.now)) }
+{
+    let scenario = Scenario::read(alloc, input)?;
+    let rows = trace_scenario(alloc, &scenario, view, form)?;
+    Ok(rows)
+}
+
+/// The rows of a scenario, in a form. An error is out of memory.
+fn trace_scenario(
+    alloc: Global,
+    scenario: &Scenario,
+    view: View,
+    form: Form,
+) -> Result<Rows, AllocError>
+    ensures { IfOk result (λ rows. IsScenarioTraced form view (scenario_seen scenario.now) rows) }
+{
+    let mut machine = Machine::boot(alloc, &scenario.layout)?;
+    let mut rows = start(alloc, &machine, view, form)?;
+    trace_lines(&mut rows, alloc, &mut machine, scenario, view)?;
+    Ok(rows)
+}
+
+/// The row of the memory at boot, in a form.
+fn start(alloc: Global, machine: &Machine, view: View, form: Form) -> Result<Rows, AllocError>
+    ensures { IfOk result (IsStart form view machine.now) }
+{
+    let mut rows = Rows::new(alloc, form);
     rows.draw(alloc, machine, "   0 boot", "")?;
     rows.fit(view.width);
     Ok(rows)
@@ -86,7 +114,7 @@ fn trace_line(
     if view.shows(number) {
         trace_work(rows, alloc, machine, line.cpu, &line.work, asked.as_str())
     } else {
-        let mut unseen = Rows::new(alloc, false);
+        let mut unseen = Rows::new(alloc, Form::Unseen);
         trace_work(
             &mut unseen,
             alloc,

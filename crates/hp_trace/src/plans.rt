@@ -114,7 +114,7 @@ fn is_memory(fault: CallFault) -> bool
 /// Draws the row of a call of a plan, and answers whether there was memory for it.
 fn draw_step(rows: &mut Rows, alloc: Global, machine: &Machine, receipt: &Receipt) -> bool
     ensures { IsTrue result
-        → DrawsIf rows.old.is_on machine.now (step_text receipt.now.event) (answer_text receipt.now) rows.old
+        → DrawsIf rows.old.form machine.now (step_text receipt.now.event) (answer_text receipt.now) rows.old
         rows.new }
 {
     match step_text(alloc, &receipt.event) {
@@ -143,7 +143,7 @@ pub(crate) fn draw_receipt(
     receipt: &Receipt,
 ) -> Result<(), AllocError>
     ensures { OnOk result
-        (DrawsIf rows.old.is_on machine.now asked.now (answer_text receipt.now) rows.old rows.new) }
+        (DrawsIf rows.old.form machine.now asked.now (answer_text receipt.now) rows.old rows.new) }
 {
     let answer = answer_text(alloc, receipt)?;
     rows.draw(alloc, machine, asked, answer.as_str())
@@ -188,7 +188,7 @@ fn say_end(rows: &mut Rows, alloc: Global, end: OpEnd) -> Result<(), AllocError>
 {
     let mut out = String::new(alloc);
     write_plan_end(&mut out, end)?;
-    rows.say(out.as_str())
+    rows.say(alloc, out.as_str())
 }
 
 /// Runs a plan's driver, with a row for each of its calls. An error is out of memory.

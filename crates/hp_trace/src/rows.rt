@@ -1,22 +1,36 @@
 //! The rows of a trace.
-ghost use Rattle.std.specs.Prelude.{◌≡◌, ◌++◌, ◌&&◌, IfOk, OnOk, slice_get, string_bytes};
-ghost use Rattle.hp_trace.specs.Rows.{AreDrawn, DrawsIf, IsRow, blocks_text, fitted, is_same, memory_text, no_rows, noted, row_text, said, spaced_text};
+ghost use Rattle.std.specs.Prelude.{◌≡◌, [], ◌++◌, ◌&&◌, IfOk, OnOk, slice_get, string_bytes};
+ghost use Rattle.std.specs.Str.Lines.{lines};
+ghost use Rattle.hp_trace.specs.Rows.{AreDrawn, DrawsIf, IsKept, IsRow, blocks_text, fitted, is_drawn_same, label_text, line_rows, memory_text, no_rows, noted, row_text, said, spaced_text};
+ghost use Rattle.hp_pictures.specs.Rows.{row_with};
 
 use hp_machine::Machine;
 use hp_map::picture_of;
+use hp_pictures::{BlockPicture, RowPicture};
 use hp_units::Text;
 use std::alloc::{AllocError, Global};
 use std::marker::Model;
 
-/// The text of the rows so far, and the memory blocks as the last row shows them.
+/// What becomes of the rows of a line.
+#[derive(Clone, Copy, Debug, PartialEq, Eq)]
+pub(crate) enum Form {
+    /// Nothing.
+    Unseen,
+    /// Text.
+    Written,
+    /// Values, each with all memory blocks.
+    Kept,
+}
+
+/// The rows so far, in one form: as text, with the memory blocks as the last row shows them; or as values.
 #[derive(Drop)]
 pub(crate) struct Rows {
+    form: Form,
     text: String,
-    shown: Vec<Text>,
-    /// Whether rows are written.
-    is_on: bool,
+    shown: Vec<BlockPicture>,
     /// Whether a row has only the memory blocks that changed.
     is_wide: bool,
+    kept: Vec<RowPicture>,
 }
 
 impl Model for Rows {
@@ -25,20 +39,26 @@ impl Model for Rows {
 
     ghost Value = { RowsValue };
 
-    ghost view = { λ r.
-        record { text = string_bytes r.text; shown = r.shown.items; is_on = r.is_on; is_wide = r.is_wide } };
+    ghost view = { λ r. record {
+      form = r.form;
+      text = string_bytes r.text;
+      shown = r.shown.items;
+      is_wide = r.is_wide;
+      kept = r.kept.items;
+    } };
 }
 
 impl Rows {
-    /// No rows yet; and none for ever, where they are off.
-    pub(crate) fn new(alloc: Global, is_on: bool) -> Rows
-        ensures { result ≡ no_rows is_on }
+    /// No rows yet.
+    pub(crate) fn new(alloc: Global, form: Form) -> Rows
+        ensures { result ≡ no_rows form }
     {
         Rows {
+            form,
             text: String::new(alloc),
             shown: Vec::new(alloc),
-            is_on,
             is_wide: false,
+            kept: Vec::new(alloc),
         }
     }
 
@@ -50,18 +70,19 @@ impl Rows {
         self.is_wide = self.text.len().saturating_sub(1) as u64 > width;
     }
 
-    /// Writes a text of lines, where rows are on. An error is out of memory.
-    pub(crate) fn say(&mut self, text: &str) -> Result<(), AllocError>
+    /// Adds a text of lines. An error is out of memory.
+    pub(crate) fn say(&mut self, alloc: Global, text: &str) -> Result<(), AllocError>
         ensures { OnOk result (self.new ≡ said self.old text.now) }
     {
-        if !self.is_on {
-            return Ok(());
+        match self.form {
+            Form::Unseen => Ok(()),
+            Form::Written => self.text.push_str(text),
+            Form::Kept => keep_lines(&mut self.kept, alloc, text),
         }
-        self.text.push_str(text)
     }
 
-    /// Writes a row, where rows are on: what was asked, what was answered, and the machine's
-    /// memory. An error is out of memory.
+    /// Adds a row: what was asked, what was answered, and the machine's memory. An error is out of
+    /// memory.
     pub(crate) fn draw(
         &mut self,
         alloc: Global,
@@ -69,12 +90,13 @@ impl Rows {
         asked: &str,
         answer: &str,
     ) -> Result<(), AllocError>
-        ensures { OnOk result (DrawsIf self.old.is_on machine.now asked.now answer.now self.old self.new) }
+        ensures { OnOk result (DrawsIf self.old.form machine.now asked.now answer.now self.old self.new) }
     {
-        if !self.is_on {
-            return Ok(());
+        match self.form {
+            Form::Unseen => Ok(()),
+            Form::Written => self.draw_row(alloc, machine, asked, answer),
+            Form::Kept => self.keep_row(alloc, machine, asked, answer),
         }
-        self.draw_row(alloc, machine, asked, answer)
     }
 
     /// Writes a row.
@@ -94,13 +116,29 @@ impl Rows {
             self.shown.as_slice(),
             blocks.as_slice(),
         )?;
-        write_row(&mut self.text, asked, answer, memory.as_str())?;
+        let label = label_text(alloc, asked, answer)?;
+        write_row(&mut self.text, label.as_str(), memory.as_str())?;
         self.shown = blocks;
         Ok(())
     }
 
-    /// Writes a row without an answer, and below it a text of lines, where rows are on. An error is
-    /// out of memory.
+    /// Keeps a row.
+    fn keep_row(
+        &mut self,
+        alloc: Global,
+        machine: &Machine,
+        asked: &str,
+        answer: &str,
+    ) -> Result<(), AllocError>
+        ensures { OnOk result (IsKept machine.now asked.now answer.now self.old self.new) }
+    {
+        let blocks = picture_of(alloc, machine)?;
+        let label = label_text(alloc, asked, answer)?;
+        self.kept.push(RowPicture::new(label, blocks))?;
+        Ok(())
+    }
+
+    /// Adds a row without an answer, and below it a text of lines. An error is out of memory.
     pub(crate) fn note(
         &mut self,
         alloc: Global,
@@ -111,7 +149,7 @@ impl Rows {
         ensures { OnOk result (AreDrawn (noted machine.now asked.now text.now) self.old self.new) }
     {
         self.draw(alloc, machine, asked, "")?;
-        self.say(text)
+        self.say(alloc, text)
     }
 
     /// The text of the rows.
@@ -119,21 +157,61 @@ impl Rows {
         ensures { string_bytes result ≡ self.text }
     {
         let Rows {
+            form: _,
             text: all,
             shown: _,
-            is_on: _,
             is_wide: _,
+            kept: _,
+        } = self;
+        all
+    }
+
+    /// The rows as values.
+    pub(crate) fn into_kept(self) -> Vec<RowPicture>
+        ensures { result.items ≡ self.kept }
+    {
+        let Rows {
+            form: _,
+            text: _,
+            shown: _,
+            is_wide: _,
+            kept: all,
         } = self;
         all
     }
 }
 
-/// Writes what was asked, what was answered, and the memory.
-fn write_row(out: &mut String, asked: &str, answer: &str, memory: &str) -> Result<(), AllocError>
-    ensures { OnOk result
-        (string_bytes out.new ≡ string_bytes out.old ++ row_text asked.now answer.now memory.now) }
+/// Keeps each line of a text as a row without memory blocks.
+fn keep_lines(kept: &mut Vec<RowPicture>, alloc: Global, text: &str) -> Result<(), AllocError>
+    ensures { OnOk result (kept.new.items ≡ kept.old.items ++ line_rows (lines text.now)) }
 {
-    writeln!(out, "{asked:<29} {answer:<25}{memory}")
+    for line in text.lines() {
+        kept.push(line_row(alloc, line)?)?;
+    }
+    Ok(())
+}
+
+/// A line as a row without memory blocks.
+fn line_row(alloc: Global, line: &str) -> Result<RowPicture, AllocError>
+    ensures { IfOk result (λ row. row ≡ row_with line.now []) }
+{
+    let label = String::from_str(alloc, line)?;
+    Ok(RowPicture::new(Text::new(label), Vec::new(alloc)))
+}
+
+/// What was asked and what was answered, in their columns.
+fn label_text(alloc: Global, asked: &str, answer: &str) -> Result<Text, AllocError>
+    ensures { IfOk result (λ text. text ≡ label_text asked.now answer.now) }
+{
+    let label = format!(in alloc; "{asked:<29} {answer:<25}")?;
+    Ok(Text::new(label))
+}
+
+/// Writes what was asked and answered, and the memory.
+fn write_row(out: &mut String, label: &str, memory: &str) -> Result<(), AllocError>
+    ensures { OnOk result (string_bytes out.new ≡ string_bytes out.old ++ row_text label.now memory.now) }
+{
+    writeln!(out, "{label}{memory}")
 }
 
 /// A memory as a row has it: its memory blocks, or a sign where only those that changed are drawn
@@ -141,8 +219,8 @@ fn write_row(out: &mut String, asked: &str, answer: &str, memory: &str) -> Resul
 fn memory_text(
     alloc: Global,
     is_wide: bool,
-    before: &[Text],
-    blocks: &[Text],
+    before: &[BlockPicture],
+    blocks: &[BlockPicture],
 ) -> Result<String, AllocError>
     ensures { IfOk result (λ text. string_bytes text ≡ memory_text is_wide before.now blocks.now) }
 {
@@ -158,8 +236,8 @@ fn memory_text(
 fn write_blocks(
     out: &mut String,
     is_wide: bool,
-    before: &[Text],
-    blocks: &[Text],
+    before: &[BlockPicture],
+    blocks: &[BlockPicture],
 ) -> Result<(), AllocError>
     ensures { OnOk result
         (string_bytes out.new ≡ string_bytes out.old ++ blocks_text is_wide before.now blocks.now) }
@@ -171,29 +249,29 @@ fn write_blocks(
 }
 
 /// Whether a memory block is left out: where only those that changed are drawn, and it is the same.
-fn is_left_out(is_wide: bool, before: &[Text], number: usize, block: &Text) -> bool
-    ensures { result ≡ (is_wide && is_same (slice_get before.now number) block.now) }
+fn is_left_out(is_wide: bool, before: &[BlockPicture], number: usize, block: &BlockPicture) -> bool
+    ensures { result ≡ (is_wide && is_drawn_same (slice_get before.now number) block.now) }
 {
-    is_wide && is_same(before, number, block)
+    is_wide && is_drawn_same(before, number, block)
 }
 
 /// Whether a memory block is drawn as it was.
-fn is_same(before: &[Text], number: usize, block: &Text) -> bool
-    ensures { result ≡ is_same (slice_get before.now number) block.now }
+fn is_drawn_same(before: &[BlockPicture], number: usize, block: &BlockPicture) -> bool
+    ensures { result ≡ is_drawn_same (slice_get before.now number) block.now }
 {
     match before.get(number) {
-        Some(before) => before.as_str() == block.as_str(),
+        Some(before) => before.is_same(block),
         None => false,
     }
 }
 
 /// Writes a memory block after a space, unless it is left out.
-fn write_spaced(out: &mut String, is_left_out: bool, block: &Text) -> Result<(), AllocError>
+fn write_spaced(out: &mut String, is_left_out: bool, block: &BlockPicture) -> Result<(), AllocError>
     ensures { OnOk result (string_bytes out.new ≡ string_bytes out.old ++ spaced_text is_left_out block.now) }
 {
     if is_left_out {
         return Ok(());
     }
     out.push_str(" ")?;
-    out.push_str(block.as_str())
+    block.write(out)
 }

@@ -1,13 +1,19 @@
-//! Traces drawn as pictures.
+//! Rows drawn as a picture.
+use hp_pictures::{BlockPicture, RowPicture};
 use hp_svg::picture_of;
-use std::alloc::Global;
+use hp_trace::{View, trace_rows};
+use hp_units::Text;
+use std::alloc::{AllocError, Global};
 use std::test::Fail;
 
-/// A row with each kind of cell, and a line of characters that XML spells otherwise, or has not.
-const TRACE: &str =
-    "   0 boot                                               0:N[a.|KK] 1:M>off[:0|- ]\n<&>\"\t\n";
+/// The text of the memory at boot.
+const BOOT: &str = "   0 boot                                              ";
 
-/// Its picture, which another program wrote, by hand, from the rules of LAB.md.
+/// A text of characters that XML spells otherwise, or has not.
+const WORDS: &str = "<&>\"\t";
+
+/// A row with each kind of cell and one of words, as a picture, which another program wrote, by hand,
+/// from the rules of LAB.md.
 const PICTURE: &str =
     "<svg xmlns='http://www.w3.org/2000/svg' width='820' height='120' viewBox='0 0 820 120' \
      font-family='monospace' font-size='10' xml:space='preserve'><title>Trace of a \
@@ -40,16 +46,85 @@ const PICTURE: &str =
      height='42' fill='url(#grid)'/>\n<text x='472' y='60'>block 1</text><text x='472' \
      y='72'>frame 4</text><rect x='472' y='78' width='40' height='42' fill='url(#grid)'/>\n</svg>\n";
 
-/// Whether the picture of a trace is this one.
-fn is_drawn(alloc: Global, trace: &str, picture: &str) -> bool {
-    match picture_of(alloc, trace) {
-        Ok(drawn) => drawn.as_str() == picture,
-        Err(_error) => false,
+/// A text.
+fn text(alloc: Global, from: &str) -> Result<Text, AllocError> {
+    Ok(Text::new(String::from_str(alloc, from)?))
+}
+
+/// A memory block.
+fn block(alloc: Global, head: &str, cells: &str) -> Result<BlockPicture, AllocError> {
+    Ok(BlockPicture {
+        head: text(alloc, head)?,
+        cells: text(alloc, cells)?,
+    })
+}
+
+/// Memory blocks with each kind of cell.
+fn blocks(alloc: Global) -> Result<Vec<BlockPicture>, AllocError> {
+    let first = block(alloc, "0:N", "a.|KK")?;
+    let second = block(alloc, "1:M>off", ":0|- ")?;
+    Ok(vec![in alloc; first, second]?)
+}
+
+/// A row with each kind of cell, and one of words.
+fn rows(alloc: Global) -> Result<Vec<RowPicture>, AllocError> {
+    let boot = RowPicture::new(text(alloc, BOOT)?, blocks(alloc)?);
+    let words = RowPicture::new(text(alloc, WORDS)?, Vec::new(alloc));
+    Ok(vec![in alloc; boot, words]?)
+}
+
+/// The picture of those rows.
+fn picture(alloc: Global) -> Result<String, AllocError> {
+    let rows = rows(alloc)?;
+    picture_of(alloc, &rows)
+}
+
+/// Whether the picture of those rows is this one.
+fn is_drawn(alloc: Global) -> bool {
+    match picture(alloc) {
+        Ok(drawn) => drawn.as_str() == PICTURE,
+        Err(AllocError) => false,
     }
 }
 
 #[test]
-fn a_trace_is_drawn(rt: HostRuntime) -> Result<(), Fail> {
-    assert!(rt; is_drawn(rt.alloc(), TRACE, PICTURE));
+fn rows_are_drawn(rt: HostRuntime) -> Result<(), Fail> {
+    assert!(rt; is_drawn(rt.alloc()));
+    Ok(())
+}
+
+/// A word that a control file does not take.
+const PLAIN: &[u8] =
+    br#"{"layout":{"order":2,"pageblocks":1,"blocks":3,"cpus":1,"batch":2,"high":2,"owners":1,"pages":4,"words":1,"history":9,"boot":["normal","movable","offline"]},"calls":["0 echo word memory1/state"]}"#;
+
+/// Another, which looks like a memory block, and like the end of one with a space.
+const BRACKETS: &[u8] =
+    br#"{"layout":{"order":2,"pageblocks":1,"blocks":3,"cpus":1,"batch":2,"high":2,"owners":1,"pages":4,"words":1,"history":9,"boot":["normal","movable","offline"]},"calls":["0 echo 0:N[....]][\t1:M[aa] memory1/state"]}"#;
+
+/// All lines, in rows that may take any width.
+const ALL: View = View {
+    from: 1,
+    to: u64::MAX,
+    every: 1,
+    width: u64::MAX,
+};
+
+/// The picture of a scenario.
+fn scenario_picture(alloc: Global, scenario: &[u8]) -> Option<String> {
+    let rows = trace_rows(alloc, scenario, ALL).ok()?;
+    picture_of(alloc, &rows).ok()
+}
+
+/// How many rectangles a picture has.
+fn boxes(alloc: Global, scenario: &[u8]) -> Option<usize> {
+    let picture = scenario_picture(alloc, scenario)?;
+    Some(picture.as_str().matches("<rect").count())
+}
+
+#[test]
+fn brackets_are_no_cells(rt: HostRuntime) -> Result<(), Fail> {
+    let plain = boxes(rt.alloc(), PLAIN);
+    assert!(rt; plain.is_some());
+    assert!(rt; boxes(rt.alloc(), BRACKETS) == plain);
     Ok(())
 }

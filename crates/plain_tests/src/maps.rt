@@ -2,8 +2,9 @@
 use crate::machines::{Look, finds_at_boot};
 use hp_machine::Machine;
 use hp_map::{Place, picture_of, places_of};
+use hp_pictures::BlockPicture;
 use hp_units::{
-    Block, Boot, Cpu, Event, Item, Layout, LayoutFault, Order, Owner, Page, Parts, Plan, Text, Wish,
+    Block, Boot, Cpu, Event, Item, Layout, LayoutFault, Order, Owner, Page, Parts, Plan, Wish,
 };
 use std::alloc::{AllocError, Global};
 
@@ -44,13 +45,13 @@ fn four_pairs(alloc: Global) -> Result<Layout, LayoutFault> {
     Layout::new(alloc, &parts)
 }
 
-/// Whether memory blocks are drawn as these texts, one after another.
-fn are_drawn(blocks: &[Text], texts: &[&str]) -> bool {
-    if blocks.len() != texts.len() {
+/// Whether memory blocks are drawn with these heads and cells, one after another.
+fn are_drawn(blocks: &[BlockPicture], wanted: &[(&str, &str)]) -> bool {
+    if blocks.len() != wanted.len() {
         return false;
     }
-    for (block, text) in blocks.iter().zip(texts) {
-        if block.as_str() != *text {
+    for (block, other) in blocks.iter().zip(wanted) {
+        if block.head.as_str() != other.0 || block.cells.as_str() != other.1 {
             return false;
         }
     }
@@ -58,9 +59,9 @@ fn are_drawn(blocks: &[Text], texts: &[&str]) -> bool {
 }
 
 /// Whether a machine's memory is drawn so.
-fn draws(alloc: Global, machine: &Machine, texts: &[&str]) -> bool {
+fn draws(alloc: Global, machine: &Machine, wanted: &[(&str, &str)]) -> bool {
     match picture_of(alloc, machine) {
-        Ok(blocks) => are_drawn(&blocks, texts),
+        Ok(blocks) => are_drawn(&blocks, wanted),
         Err(AllocError) => false,
     }
 }
@@ -80,10 +81,10 @@ fn draws_use(alloc: Global, machine: &mut Machine) -> bool {
             alloc,
             machine,
             &[
-                "0:N[KK|..]",
-                "1:M[b1|..]",
-                "2:off[--|--]",
-                "3:absent[  |  ]",
+                ("0:N", "KK|.."),
+                ("1:M", "b1|.."),
+                ("2:off", "--|--"),
+                ("3:absent", "  |  "),
             ],
         )
 }
@@ -95,10 +96,10 @@ fn draws_operation(alloc: Global, machine: &mut Machine, begin: &Event) -> bool 
             alloc,
             machine,
             &[
-                "0:N[KK|..]",
-                "1:M>off[b1|::]",
-                "2:off>N[--|--]",
-                "3:absent[  |  ]",
+                ("0:N", "KK|.."),
+                ("1:M>off", "b1|::"),
+                ("2:off>N", "--|--"),
+                ("3:absent", "  |  "),
             ],
         )
 }

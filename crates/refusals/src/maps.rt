@@ -3,11 +3,17 @@ use crate::trouble::Trouble;
 use crate::values::layout_of;
 use hp_machine::Machine;
 use hp_map::{Place, picture_of, places_of};
-use hp_units::{Layout, Text};
+use hp_pictures::BlockPicture;
+use hp_units::Layout;
 use std::alloc::Global;
 
-/// The memory blocks at boot.
-const DRAWN: &[&str] = &["0:N[....]", "1:N[....]", "2:M[....]", "3:off[----]"];
+/// The heads and the cells of the memory blocks at boot.
+const DRAWN: &[(&str, &str)] = &[
+    ("0:N", "...."),
+    ("1:N", "...."),
+    ("2:M", "...."),
+    ("3:off", "----"),
+];
 
 /// Looks for the places of all frames at boot, and for their picture.
 pub fn run(alloc: Global) -> Result<bool, Trouble> {
@@ -49,17 +55,17 @@ fn count_of(places: &[Place], wanted: Place) -> u32 {
 
 /// Whether the memory blocks are drawn as at boot.
 fn is_drawn(alloc: Global, machine: &Machine) -> Result<bool, Trouble> {
-    let texts = picture_of(alloc, machine)?;
-    Ok(are_same(&texts, DRAWN))
+    let blocks = picture_of(alloc, machine)?;
+    Ok(are_same(&blocks, DRAWN))
 }
 
-/// Whether texts are these, in this order.
-fn are_same(texts: &[Text], wanted: &[&str]) -> bool {
-    if texts.len() != wanted.len() {
+/// Whether memory blocks are drawn with these heads and cells, in this order.
+fn are_same(blocks: &[BlockPicture], wanted: &[(&str, &str)]) -> bool {
+    if blocks.len() != wanted.len() {
         return false;
     }
-    for (text, other) in texts.iter().zip(wanted) {
-        if text.as_str() != *other {
+    for (block, other) in blocks.iter().zip(wanted) {
+        if block.head.as_str() != other.0 || block.cells.as_str() != other.1 {
             return false;
         }
     }
