@@ -17,7 +17,8 @@ What is checked, in each *.md file at the top, in docs/, examples/ and bench/:
 - no line has more than 100 columns, and each link has its target;
 - in docs/PROVED.md, each `function` (`clause`, ..) below a crate's heading is in its source, and
   each library with public functions has a heading;
-- each path `crates/..`, `docs/..` or `examples/..` in a code span is there, but for what is built;
+- each path `crates/..`, `docs/..`, `examples/..`, `bench/..` or `tools/..` in a code span is there,
+  but for what is built;
   and below a line "In `crates/NAME`" each path `src/..`, `specs/..` or `proofs/..`, each name and
   each `NAME.edit` in that crate.
 The last line is 'documents: N passed, M failed'; the exit status is 0 where nothing failed, else 1.
@@ -181,7 +182,7 @@ def check_words(checks, where, document, line, crate):
     for target in re.findall(r"\]\(([^)\s]+)\)", line):
         if "://" not in target:
             check_link(checks, where, document, target)
-    for path in re.findall(r"`((?:crates|docs|examples)/[\w./-]+)`", line):
+    for path in re.findall(r"`((?:crates|docs|examples|bench|tools)/[\w./-]+)`", line):
         checks.holds(where, (ROOT / path).exists() or "/out/" in path, f"no {path}")
     if crate:
         check_crate_words(checks, where, line, ROOT / crate)
@@ -189,10 +190,10 @@ def check_words(checks, where, document, line, crate):
 
 @functools.cache
 def words_of(crate):
-    """The words of a crate's sources, and the names of its must-fail edits."""
+    """The words of a crate's sources, and the names of its wrong bodies."""
     files = [file for part in ("src", "specs", "proofs") for file in (crate / part).rglob("*.*t")]
     words = {word for file in files for word in re.findall(r"[\w-]+", file.read_text())}
-    return words | {edit.name for edit in (crate / "must-fail").glob("*.edit")}
+    return words | {edit.name for folder in ("wrong", "must-fail") for edit in (crate / folder).glob("*.edit")}
 
 
 def check_crate_words(checks, where, line, crate):
@@ -206,7 +207,7 @@ def check_crate_words(checks, where, line, crate):
 
 def crate_of(line, crate):
     """The crate that a line's paths are of, after that of the line before it."""
-    begins = re.match(r"In `(crates/\w+)`", line)
+    begins = re.match(r"In `((?:crates|bench)/\w+)`", line)
     if begins:
         return begins[1]
     return None if line.startswith("#") else crate
