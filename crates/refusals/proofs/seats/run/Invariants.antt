@@ -1,4 +1,4 @@
-use Rattle.refusals.proofs.seats.run_beside.Given as goal
+use Rattle.refusals.proofs.seats.run.Given as goal
 
 -- the machine's own layout, and the ledger that was just made
 abbrev pub ghosts-share-L-Job : goal.ghosts-share-L-Job

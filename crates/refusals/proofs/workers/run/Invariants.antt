@@ -1,4 +1,4 @@
-use Rattle.refusals.proofs.workers.run_scenario.Given as goal
+use Rattle.refusals.proofs.workers.run.Given as goal
 
 -- the machine's own layout, and the ledger that was just made
 abbrev pub ghosts-run_scripts-L-Job : goal.ghosts-run_scripts-L-Job
