@@ -9,7 +9,7 @@ use hp_scenario::{Line, Scenario, Work};
 use hp_units::{Cpu, Event, Serial};
 use std::alloc::Global;
 
-/// Runs the lines of a scenario on a machine, and undoes all of them that are not sealed, which
+/// Runs the lines of a scenario on a machine, and undoes all of them since the last seal, which
 /// leads to the base.
 pub fn run(case: &mut Case<'_>, scenario: &Scenario) -> Outcome {
     let mut machine = Machine::boot(case.alloc, &scenario.layout)?;
@@ -18,18 +18,11 @@ pub fn run(case: &mut Case<'_>, scenario: &Scenario) -> Outcome {
             return Ok(false);
         }
     }
-    Ok(undo_all(case, &mut machine)? && is_at_base(case.alloc, &machine)?)
-}
-
-/// Undoes all steps since the last seal.
-fn undo_all(case: &mut Case<'_>, machine: &mut Machine) -> Outcome {
     let serial = Serial(machine.sealed());
-    call(case, machine, Cpu(0), &Event::UndoAfter { serial })
-}
-
-/// Whether a machine has the state that it began with, or was last sealed with.
-fn is_at_base(alloc: Global, machine: &Machine) -> Outcome {
-    let image = machine.image(alloc)?;
+    if !call(case, &mut machine, Cpu(0), &Event::UndoAfter { serial })? {
+        return Ok(false);
+    }
+    let image = machine.image(case.alloc)?;
     Ok(image.same(machine.base()))
 }
 

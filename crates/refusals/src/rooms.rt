@@ -59,26 +59,19 @@ fn noted_of(alloc: Global, layout: &Layout, lines: &[Line]) -> Outcome<usize> {
     noted.step_all(alloc, 0, lines)
 }
 
-/// Makes the calls of lines, and wants the state at boot after an undo of all their records, where
-/// the history has room for one more.
+/// Makes the calls of lines, and undoes all their records, where the history has room for one more:
+/// then no step may be undone, and the free lists are those of boot.
 pub fn undo(case: &Case<'_>, scenario: &Scenario) -> Outcome {
     let mut machine = Machine::boot(case.alloc, &scenario.layout)?;
     call_all(case.alloc, &mut machine, scenario.lines.as_slice())?;
     case.say_set_up();
-    Ok(undoes_all(case.alloc, &mut machine) && is_as_at_boot(&machine))
-}
-
-/// Whether an undo of all records is made, which takes no memory.
-fn undoes_all(alloc: Global, machine: &mut Machine) -> bool {
     let all = Event::UndoAfter { serial: Serial(0) };
-    machine.answer(alloc, Cpu(0), &all).is_ok()
-}
-
-/// Whether a machine has no step that may be undone, and the free lists of boot.
-fn is_as_at_boot(machine: &Machine) -> bool {
-    machine.journal_len() == 0
-        && machine.front(Class::Nm, Order(2)) == Some(Frame(0))
-        && machine.front(Class::Mm, Order(2)) == Some(Frame(8))
+    Ok(
+        machine.answer(case.alloc, Cpu(0), &all).is_ok()
+            && machine.journal_len() == 0
+            && machine.front(Class::Nm, Order(2)) == Some(Frame(0))
+            && machine.front(Class::Mm, Order(2)) == Some(Frame(8)),
+    )
 }
 
 /// Makes the calls of a scenario, the last of which goes back, on a copy of the machine: there is
