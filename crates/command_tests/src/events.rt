@@ -21,7 +21,7 @@ const EVENTS: &[(&str, &str, &str)] = &[
         "1: frame 0\n2: done\n3: undone 2\nstate\n{blocks}NM 2: 0 4\nMM 2: 8\n",
     ),
     (
-        "an undo puts a freed block back behind another",
+        "an undo puts a freed block back after another",
         "0 kalloc 1;0 kalloc 1;0 kalloc 1;0 kalloc 1;0 kfree 0;0 kfree 4;0 kfree 2;0 undo 6",
         "1: frame 0\n2: frame 2\n3: frame 4\n4: frame 6\n5: done\n6: done\n7: done\n8: undone 1\n\
          state\n{blocks}unmovable: 0 1\nNU 1: 4 0\nMM 2: 8\nkernel 2 order 1\nkernel 6 order 1\n",
@@ -59,7 +59,7 @@ const EVENTS: &[(&str, &str, &str)] = &[
          block 3 offline\nNM 0: 1\nNM 1: 2\nNM 2: 4\npage db 0 at 0: 0 0\n",
     ),
     (
-        "a cancel behind its own work alone restores",
+        "a cancel after its own work alone restores",
         "0 map db 0;0 begin off 2;0 commit 2;0 migrate 2;0 commit 2;0 drainfor 2 0;0 drainfor 2 1;\
          0 cancel 2",
         "1: done\n2: opened 2\n3: refused NotFree 8\n4: moved 8 0\n5: refused NotFree 9\n6: done\n\
@@ -67,7 +67,7 @@ const EVENTS: &[(&str, &str, &str)] = &[
          page db 0 at 8: 0 0\n",
     ),
     (
-        "a cancel behind another's write releases",
+        "a cancel after another's write releases",
         "0 map db 0;0 begin off 2;0 commit 2;0 migrate 2;0 commit 2;0 drainfor 2 0;0 drainfor 2 1;\
          1 write db 0 1 5;0 cancel 2",
         "1: done\n2: opened 2\n3: refused NotFree 8\n4: moved 8 0\n5: refused NotFree 9\n6: done\n\
@@ -157,7 +157,7 @@ const EVENTS: &[(&str, &str, &str)] = &[
          MM 2: 8 12\n",
     ),
     (
-        "a cancel behind another's map releases",
+        "a cancel after another's map releases",
         "0 begin movable 3;0 migrate 1;1 map db 0;0 cancel 1",
         "1: opened 1\n2: refused NothingToMove\n3: done\n4: released\nstate\n{blocks}NM 2: 0 4\n\
          MM 1: 10\ncpu 1 MM: 9\npage db 0 at 8: 0 0\n",
