@@ -1,7 +1,7 @@
 //! Scenarios that are not explored, and why.
-use hp_control::ControlFault;
 use hp_explore::Silent;
 use hp_lab::{LabFault, Unfit, explore_text};
+use hp_requests::ControlFault;
 use std::alloc::Global;
 use std::test::Fail;
 
