@@ -10,7 +10,7 @@ use Rattle.hp_text.specs.Spelling.{event_text, plan_text}
 abbrev pub work_text : (names : List (List ℕ)) → Work → List ℕ
 work_text names (work.Event event) = event_text names event
 work_text names (work.Plan items turns) = plan_text items turns
-work_text names (work.Echo path text) = codes "echo " ++ text ++ codes " " ++ path
+work_text names (work.Echo echo) = codes "echo " ++ echo.word ++ codes " " ++ echo.path
 work_text names (work.Cat path) = codes "cat " ++ path
 work_text names work.Seal = codes "seal"
 

@@ -28,10 +28,10 @@ fn write_work(out: &mut String, names: &IndexSet<Text>, work: &Work) -> Result<(
     match work {
         Work::Event(event) => write_event(out, names, event),
         Work::Plan { plan, turns } => write_plan(out, plan, *turns),
-        Work::Echo { path, text } => {
-            let path = path.as_str();
-            let text = text.as_str();
-            write!(out, "echo {text} {path}")
+        Work::Echo(echo) => {
+            let word = echo.word();
+            let path = echo.path();
+            write!(out, "echo {word} {path}")
         }
         Work::Cat { path } => {
             let path = path.as_str();

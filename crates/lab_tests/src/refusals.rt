@@ -1,8 +1,8 @@
 //! Scenarios that are not explored, and why.
 use super::explorations::scenario;
-use hp_control::ControlFault;
 use hp_explore::Silent;
 use hp_lab::{LabFault, Unfit, explore_text};
+use hp_requests::ControlFault;
 use std::alloc::{AllocError, Global};
 use std::test::Fail;
 

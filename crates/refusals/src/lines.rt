@@ -1,11 +1,10 @@
 //! The lines of a situation, each of them a call that may be out of memory.
 use crate::calls::{call, plan, seal};
 use crate::trouble::{Case, Outcome};
-use hp_control::{
-    CONTROL_TURNS, Request, buddyinfo, parse_echo, parse_write, read_file, read_text,
-};
+use hp_control::{buddyinfo, read_file, read_text};
 use hp_machine::Machine;
-use hp_scenario::{Line, Scenario, Work};
+use hp_requests::{CONTROL_TURNS, Request, echo_answer, parse_write};
+use hp_scenario::{Echo, Line, Scenario, Work};
 use hp_units::{Cpu, Event, Serial};
 use std::alloc::Global;
 
@@ -31,17 +30,47 @@ fn run_line(case: &mut Case<'_>, machine: &mut Machine, line: &Line) -> Outcome 
     match &line.work {
         Work::Event(event) => call(case, machine, line.cpu, event),
         Work::Plan { plan: asked, turns } => plan(case, machine, line.cpu, asked, *turns),
-        Work::Echo { path, text } => echo(case, machine, line.cpu, path.as_str(), text.as_str()),
+        Work::Echo(asked) => echo(case, machine, line.cpu, asked),
         Work::Cat { path } => cat(case.alloc, machine, path.as_str()),
         Work::Seal => seal(case, machine),
     }
 }
 
-/// Writes to a control file: what is asked for is read of a text and of its bytes, and done.
-fn echo(case: &mut Case<'_>, machine: &mut Machine, cpu: Cpu, path: &str, text: &str) -> Outcome {
-    let request = parse_echo(case.alloc, path, text)?;
-    let other = parse_write(case.alloc, path, text.as_bytes())?;
-    Ok(same_requests(&request, &other) && ask(case, machine, cpu, &request)?)
+/// Writes to a control file.
+fn echo(case: &mut Case<'_>, machine: &mut Machine, cpu: Cpu, asked: &Echo) -> Outcome {
+    match asked.request() {
+        Ok(request) => write_request(case, machine, cpu, asked, request),
+        Err(fault) => Err(Trouble::from(*fault)),
+    }
+}
+
+/// Asks for what was read from a word that is written to a control file.
+fn write_request(
+    case: &mut Case<'_>,
+    machine: &mut Machine,
+    cpu: Cpu,
+    asked: &Echo,
+    request: &Request,
+) -> Outcome {
+    Ok(
+        is_written(case.alloc, asked, request)?
+            && is_echoed(case.alloc, asked, request)?
+            && ask(case, machine, cpu, request)?,
+    )
+}
+
+/// Whether a write of a word's bytes is read as this request.
+fn is_written(alloc: Global, asked: &Echo, request: &Request) -> Outcome {
+    let other = parse_write(alloc, asked.path(), asked.word().as_bytes())?;
+    Ok(same_requests(request, &other))
+}
+
+/// Whether an echo of a word is read as this request.
+fn is_echoed(alloc: Global, asked: &Echo, request: &Request) -> Outcome {
+    match echo_answer(alloc, asked.path(), asked.word())? {
+        Ok(other) => Ok(same_requests(request, &other)),
+        Err(fault) => Err(Trouble::from(fault)),
+    }
 }
 
 /// Makes the call, or carries out the plan, that a request asks for.

@@ -1,6 +1,6 @@
 //! Why a case did not end, and how a call is tried that may be out of memory.
-use hp_control::ControlFault;
 use hp_history::{ChainFault, ReplayFault};
+use hp_requests::ControlFault;
 use hp_scenario::ScenarioFault;
 use hp_units::{CallFault, LayoutFault, Serial};
 use std::alloc::{AllocError, AllocFailed, Global};

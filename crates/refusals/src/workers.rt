@@ -6,9 +6,9 @@ ghost use Rattle.hp_shared.specs.Shared.{IsFresh};
 
 use crate::situations::scenario_of;
 use crate::trouble::{Outcome, Trouble, holds};
-use hp_control::ControlFault;
 use hp_history::Volume;
 use hp_machine::Machine;
+use hp_requests::ControlFault;
 use hp_scenario::Script;
 use hp_shared::{CloseFault, Job, Seat, Shared, close};
 use hp_units::{CallFault, OpEnd, Reply};
