@@ -6,6 +6,6 @@ returns-in-Err g c = record {
   gained = [];
   fault = None;
   made = g.met.P.Port.nothing c.args.port.now;
-  ran = (refl, refl);
+  ran = rw c.in-Err.is (refl, refl);
   full = λ none. absurd cc;
 }
