@@ -1,3 +1,4 @@
+pub mod Calls
 pub mod Form
 pub mod Gives
 pub mod Lines
@@ -6,4 +7,5 @@ pub mod Scenario
 pub mod Scripts
 pub mod Seen
 pub mod Spelling
+pub mod Usual
 pub mod Words

@@ -2,20 +2,24 @@
 #![tactic(auto)]
 
 mod boxed_text;
+mod calls;
 mod fault;
 mod form;
 mod laws;
 mod lines;
 mod names;
+mod numbers;
 mod plans;
 mod requests;
 mod scenario;
 mod scripts;
 mod texts;
+mod usual;
 mod verbs;
 mod words;
 
 pub use boxed_text::BoxedText;
+pub use calls::{Calls, Next};
 pub use fault::ScenarioFault;
 pub use form::{boot_at, boots_at, parts_with};
 pub use laws::lines_are_spelled;
