@@ -1,3 +1,4 @@
+pub mod CallsPassed
 pub mod Each
 pub mod Json
 pub mod KnownNames
@@ -5,8 +6,13 @@ pub mod LineLaw
 pub mod LineLoop
 pub mod LinesRead
 pub mod LinesSpelled
+mod PlainNumbers
 pub mod PlanItems
 pub mod ScriptLists
 mod SpelledParts
 pub mod TextLists
+pub mod TokensRead
+pub mod UsualForm
+pub mod WholeNumber
+mod WordsCut
 pub mod WordsSpelled

@@ -1,3 +1,4 @@
+pub mod Calls
 pub mod Echoes
 pub mod Form
 pub mod Gives
@@ -7,4 +8,5 @@ pub mod Scenario
 pub mod Scripts
 pub mod Seen
 pub mod Spelling
+pub mod Usual
 pub mod Words

@@ -1,11 +1,22 @@
 -- The words of a line, and its names (own rule).
-use Rattle.std.specs.Prelude.{ℕ, ◌&&◌, ◌||◌, ◌==◌, List, [], ◌∷◌, length, Bool, false, Option, Some, None, nat_lt, if◌then◌else◌}
+use Rattle.std.specs.Prelude.{◌≡◌, ℕ, ◌&&◌, ◌||◌, ◌==◌, List, [], ◌∷◌, length, Bool, true, false, Option, Some, None, nat_lt, if◌then◌else◌}
 use Rattle.std.specs.List.{list_all, slice_split}
 use Rattle.std.specs.Int.{is_in_range}
+use Rattle.std.specs.Str.Parse.{digits_value}
+use Rattle.hp_numbers.specs.NumberWords.{is_bare, is_digits}
 
 -- the words between single spaces
 abbrev pub words_of : List ℕ → List (List ℕ)
 words_of text = slice_split (λ b. b == 32) text
+
+-- the words of what is left, where something is
+abbrev pub words_left : Option (List ℕ) → List (List ℕ)
+words_left None = []
+words_left (Some text) = words_of text
+
+-- digits with no leading zero, and the number that they are
+abbrev pub IsPlainNumber : List ℕ → ℕ → Type 0
+IsPlainNumber word n = (is_bare word ≡ true) × (is_digits word ≡ true) × (digits_value 10 word ≡ n)
 
 -- a letter from `a` to `z`, a digit or `_`
 abbrev pub is_name_byte : ℕ → Bool

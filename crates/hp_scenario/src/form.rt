@@ -30,7 +30,7 @@ fn number_at(value: &Value, key: &str) -> Option<u64>
 }
 
 #[tactic(auto, unfolding(crate::specs::Form::boot_of))]
-fn boot_from(word: &str) -> Option<Boot>
+pub(crate) fn boot_from(word: &str) -> Option<Boot>
     ensures { result ≡ boot_of word.now }
 {
     match word {

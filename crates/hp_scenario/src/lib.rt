@@ -1,20 +1,24 @@
 //! Scenarios: a layout and the lines that run on it, read from JSON.
 #![tactic(auto)]
 
+mod calls;
 mod echo;
 mod fault;
 mod form;
 mod laws;
 mod lines;
 mod names;
+mod numbers;
 mod plans;
 mod requests;
 mod scenario;
 mod scripts;
 mod texts;
+mod usual;
 mod verbs;
 mod words;
 
+pub use calls::{Calls, Next};
 pub use echo::Echo;
 pub use fault::ScenarioFault;
 pub use form::{boot_at, boots_at, parts_with};

@@ -2,7 +2,8 @@
 ghost use Rattle.std.specs.Prelude.{◌≡◌, map, IfOk, option_map};
 ghost use Rattle.hp_scenario.specs.Lines as says;
 
-use hp_units::{Block, Item, Wish, number32};
+use crate::numbers::number32;
+use hp_units::{Block, Item, Wish};
 use std::alloc::{AllocError, Global};
 
 /// The items of a plan, two words each.

@@ -1,12 +1,13 @@
 //! What a line says, with a name as it is written.
-ghost use Rattle.std.specs.Prelude.{◌≡◌, map, IfOk, OnOk, is_some, option_map};
+ghost use Rattle.std.specs.Prelude.{◌≡◌, map, IfOk, is_some, option_map};
 ghost use Rattle.hp_scenario.specs.Lines as says;
 ghost use Rattle.hp_scenario.specs.Seen.{request_seen, said_seen};
-ghost use Rattle.hp_scenario.specs.Words.{words_of};
 
 use crate::lines::Work;
+use crate::numbers::number32;
 use crate::verbs::{begin, cat, echo, event_from, plan, seal};
-use hp_units::{Cpu, Event, Page, number32};
+use crate::words::split_words;
+use hp_units::{Cpu, Event, Page};
 use std::alloc::{AllocError, Global};
 
 /// An access to a page of an owner, who is named beside it.
@@ -53,14 +54,6 @@ pub fn is_line(alloc: Global, text: &str) -> Result<bool, AllocError>
     let mut words = Vec::new(alloc);
     let said = line_says(alloc, &mut words, text)?;
     Ok(said.is_some())
-}
-
-/// Makes `words` the words between single spaces.
-fn split_words<'a>(words: &mut Vec<&'a str>, text: &'a str) -> Result<(), AllocError>
-    ensures { OnOk result (map (λ w. w.now) words.new.items ≡ words_of text.now) }
-{
-    words.clear();
-    words.extend(text.split(' '))
 }
 
 /// What the words of a line say.

@@ -7,6 +7,7 @@ ghost use Rattle.hp_scenario.specs.Gives.{Gives, or_fault};
 ghost use Rattle.hp_scenario.specs.Scenario.{nothing, lines_from, layout_or, json_of, scenario_in, scenario_of, scenario_with};
 ghost use Rattle.hp_scenario.specs.Seen.{script_seen, scenario_seen};
 
+use crate::calls::read_usual;
 use crate::fault::ScenarioFault;
 use crate::form::{boots_at, has_keys, parts_with, texts_at};
 use crate::lines::{Line, Lines};
@@ -37,8 +38,18 @@ pub(crate) struct Script {
 
 impl Scenario {
     /// Reads a scenario from its bytes.
-    #[tactic(auto, unfolding(crate::specs::Scenario::scenario_in))]
     pub fn read(alloc: Global, bytes: &[u8]) -> Result<Scenario, ScenarioFault>
+        ensures { Gives scenario_seen result (scenario_in bytes.now) }
+    {
+        if let Some(scenario) = read_usual(alloc, bytes)? {
+            return Ok(scenario);
+        }
+        Scenario::read_any(alloc, bytes)
+    }
+
+    /// The same, by way of the JSON value that the bytes are: for a text that `Calls` left unsure.
+    #[tactic(auto, unfolding(crate::specs::Scenario::scenario_in))]
+    pub fn read_any(alloc: Global, bytes: &[u8]) -> Result<Scenario, ScenarioFault>
         ensures { Gives scenario_seen result (scenario_in bytes.now) }
     {
         let value = json_from(alloc, bytes)?;

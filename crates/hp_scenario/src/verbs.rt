@@ -5,12 +5,11 @@ ghost use Rattle.hp_scenario.specs.Seen.{request_seen};
 
 use crate::echo::Echo;
 use crate::lines::Work;
+use crate::numbers::{number32, number64};
 use crate::plans::items_from;
 use crate::requests::{Access, Request};
 use crate::words::is_name;
-use hp_units::{
-    Block, Cpu, Event, Frame, Order, Page, Plan, Serial, Text, Zone, number32, number64,
-};
+use hp_units::{Block, Cpu, Event, Frame, Order, Page, Plan, Serial, Text, Zone};
 use std::alloc::{AllocError, Global};
 
 /// The event that a verb and the words after it ask for, where it has no list.

@@ -1,8 +1,53 @@
-//! The names in a line.
+//! The words of a line, and the names among them.
+ghost use Rattle.std.specs.Prelude.{◌≡◌, ◌==◌, ◌∷◌, OnOk, map, option_map};
+ghost use Rattle.std.specs.List.{list_all, position, position_or_len};
+ghost use Rattle.hp_scenario.specs.Words.{is_name_byte as name_byte, is_name as names, words_left, words_of};
 
-ghost use Rattle.std.specs.Prelude.{◌≡◌};
-ghost use Rattle.std.specs.List.{list_all};
-ghost use Rattle.hp_scenario.specs.Words.{is_name_byte as name_byte, is_name as names};
+use std::alloc::AllocError;
+
+/// Makes `words` the words between single spaces.
+pub(crate) fn split_words<'a>(words: &mut Vec<&'a str>, text: &'a str) -> Result<(), AllocError>
+    ensures { OnOk result (map (λ w. w.now) words.new.items ≡ words_of text.now) }
+{
+    words.clear();
+    let mut left = Some(text);
+    'cut: while let Some(rest) = left {
+        let (word, more) = cut_word(rest);
+        words.push(word)?;
+        left = more;
+    }
+    Ok(())
+}
+
+/// The first word, and what comes after the space that ends it.
+#[tactic(auto, using(crate::proofs::WordsCut::before_space, crate::proofs::WordsCut::after_space, crate::proofs::WordsCut::first_word, crate::proofs::WordsCut::only_word))]
+fn cut_word<'a>(text: &'a str) -> (&'a str, Option<&'a str>)
+    ensures { words_of text.now ≡ result.0.now ∷ words_left (option_map (λ w. w.now) result.1) }
+{
+    let end = word_end(text.as_bytes());
+    if end < text.len() {
+        (&text[..end], Some(&text[end + 1..]))
+    } else {
+        (text, None)
+    }
+}
+
+/// Where the first space stands, or the end.
+fn word_end(text: &[u8]) -> usize
+    ensures { result ≡ position_or_len (λ b. b == 32) text.now }
+{
+    match space_in(text) {
+        Some(end) => end,
+        None => text.len(),
+    }
+}
+
+/// Where the first space stands.
+fn space_in(text: &[u8]) -> Option<usize>
+    ensures { result ≡ position (λ b. b == 32) text.now }
+{
+    text.iter().position(|byte| *byte == b' ')
+}
 
 fn is_name_byte(byte: u8) -> bool
     ensures { result ≡ name_byte byte }

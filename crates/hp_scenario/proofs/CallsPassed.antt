@@ -1,0 +1,64 @@
+-- Lines that were taken one after another are those of the scenario.
+use Rattle.std.proofs.Common.{◌≡◌, ℕ, ◌<◌, List, [], ◌∷◌, ◌++◌, length, codes, Ok, Some, refl, sym, ap, subst, ◌∙◌, arith}
+use Rattle.json.specs.Token.{Token}
+use Rattle.json.specs.Lex.{tokens}
+use Rattle.hp_scenario.specs.Calls.{AreAll, Ends, HasPassed, IsFront, IsOpened, Passes}
+use Rattle.hp_scenario.specs.Scenario.{ScenarioValue, Script, lines_from, scenario_in}
+use Rattle.hp_scenario.specs.Usual.{AreScenario, AreTexts, IsLayoutAt, strings_then}
+use Rattle.hp_scenario.specs.declared.calls.Calls.{Calls}
+use Rattle.hp_scenario.specs.declared.lines.Line.{Line}
+use Rattle.hp_scenario.proofs.LineLoop.{with_names}
+use Rattle.hp_scenario.proofs.UsualForm.{one_more_line, one_more_string, scenario_is, scenario_read}
+
+-- no line yet
+pub none_passed : (calls : Calls) → HasPassed calls [] calls
+unfolding lines_from
+none_passed calls = ([], refl, refl, refl)
+
+-- one more line
+pub one_passed : (start now next : Calls) (lines : List Line) (line : Line) → HasPassed start lines now
+    → Passes now line next → HasPassed start (lines ++ line ∷ []) next
+one_passed start now next lines line h one =
+    let script : Script = record { names = now.names.keys; lines = lines } in (
+      h.0 ++ one.0 ∷ [],
+      h.1 ∙ ap (strings_then h.0) one.1 ∙ one_more_string h.0 one.0 next.reader,
+      one_more_line 1 (record { names = start.names.keys; lines = [] }) script h.0 one.0
+          (with_names next.names.keys line) h.2 one.2,
+      one.3 ∙ h.3,
+    )
+
+-- a line takes a token
+pub passes_shorter : (now next : Calls) (line : Line) → Passes now line next
+    → length next.reader < length now.reader
+passes_shorter now next line one = omega (arith, ap (λ (ts : List Token). length ts) one.1)
+
+-- all lines are those of the scenario
+pub all_read : (bytes : List ℕ) (start new : Calls) (lines : List Line) → IsOpened bytes start
+    → AreAll start lines new
+    → scenario_in bytes ≡ Ok (record { layout = new.layout; names = new.names.keys; lines = lines })
+all_read bytes start new lines opened all =
+    let last = all.0 in
+    let passed : HasPassed start lines last = all.1 in
+    let over : Ends last new = all.2 in
+    let b = opened.1.0 in
+    let f = start.reader in
+    let script : Script = record { names = new.names.keys; lines = lines } in
+    let layout_is : new.layout ≡ start.layout = over.2 ∙ passed.3 in
+    let texts : AreTexts passed.0 f (Token.end_object ∷ []) = passed.1 ∙ ap (strings_then passed.0) over.0 in
+    let read : lines_from 1 (record { names = start.names.keys; lines = [] }) passed.0 ≡ Ok script =
+    passed.2 ∙ ap (λ (ns : List (List ℕ)). Ok (record { names = ns; lines = lines })) (sym over.1) in
+    let from_none =
+    subst (λ (ns : List (List ℕ)). lines_from 1 (record { names = ns; lines = [] }) passed.0 ≡ Ok script)
+    opened.2 read in
+    let whole =
+    scenario_read start.layout script (tokens bytes) (Token.key (codes "layout") ∷ b) b
+    (Token.key (codes "calls") ∷ Token.begin_array ∷ f) f (Token.end_object ∷ []) opened.1.1 refl opened.1.2 refl
+    (passed.0, texts, from_none) refl in
+    scenario_is bytes bytes (record { layout = new.layout; names = new.names.keys; lines = lines }) opened.0 refl
+    (rw layout_is whole)
+
+-- and so is what is made of them
+pub all_seen : (bytes : List ℕ) (start new : Calls) (lines : List Line) (made : ScenarioValue)
+    → IsOpened bytes start → AreAll start lines new
+    → made ≡ record { layout = new.layout; names = new.names.keys; lines = lines } → scenario_in bytes ≡ Ok made
+all_seen bytes start new lines made opened all is = all_read bytes start new lines opened all ∙ ap Ok (sym is)

@@ -1,0 +1,248 @@
+-- The usual form of a scenario, and what it means.
+use Rattle.std.proofs.Common.{◌≡◌, ℕ, ◌+◌, List, [], ◌∷◌, ◌++◌, codes, Option, Some, None, Result, Ok, Err, option_map, option_and_then, refl, sym, ap, subst, ◌∙◌, arith}
+use Rattle.json.specs.Token.{Token}
+use Rattle.json.specs.Lex.{tokens}
+use Rattle.json.proofs.Grammar.{closed_array}
+use Rattle.json.specs.Json.{after_end_array}
+use Rattle.serde_json.specs.Data.{Data, array, object, no_members, put}
+use Rattle.serde_json.specs.Find.{as_str}
+use Rattle.std.specs.Str.{IsUtf8}
+use Rattle.hp_units.specs.LayoutParts.{LayoutParts, layout_fault}
+use Rattle.hp_units.specs.declared.rows.Boot.{Boot}
+use Rattle.hp_scenario.specs.declared.fault.ScenarioFault.{ScenarioFault}
+use Rattle.hp_scenario.specs.declared.fault.ScenarioFault.TheVariants.{BadLine}
+use Rattle.hp_scenario.specs.declared.usual.Numbers.{Numbers}
+use Rattle.hp_scenario.specs.Form.{Form, boot_of, boot_at, each_in, texts_at, boots_at, number_at, has_keys, parts_with, parts_of, form_of}
+use Rattle.hp_scenario.specs.Gives.{◌>>=◌, or_fault}
+use Rattle.hp_scenario.specs.Names.{Numbered, line_in}
+use Rattle.hp_scenario.specs.Scenario.{ScenarioValue, Script, with_line, nothing, lines_from, scenario_with, scenario_of, scenario_in}
+use Rattle.hp_scenario.specs.Usual.{Reads, strings_then, AreTexts, texts_data, AreRows, put_rows, rows_of, parts_from, EndsWithBoots, IsLayoutAt, AreLines, AreScenario}
+use Rattle.hp_scenario.specs.declared.lines.Line.{Line}
+use Rattle.std.specs.Prelude.{IfOk, IfSome}
+use Rattle.std.specs.declared.alloc.AllocError.{AllocError}
+use Rattle.hp_scenario.specs.Seen.{scenario_seen}
+use Rattle.hp_scenario.specs.declared.scenario.Scenario.{Scenario}
+use Rattle.hp_scenario.proofs.Json.{json_read}
+use Rattle.hp_scenario.proofs.LineLoop.{with_names}
+use Rattle.hp_scenario.proofs.TokensRead.{Adds, adds_none, adds_one, adds_rows, reads_all, reads_object, reads_texts}
+
+-- ---- one text more
+
+pub one_more_string : (texts : List (List ℕ)) (text : List ℕ) (rest : List Token)
+    → strings_then texts (Token.string text ∷ rest) ≡ strings_then (texts ++ text ∷ []) rest
+one_more_string [] text rest = refl
+one_more_string (t ∷ texts) text rest = ap (λ (ts : List Token). Token.string t ∷ ts) (one_more_string texts text rest)
+
+-- ---- blocks at boot
+
+boot_then : (o : Option Boot) (rest more : Option (List Boot)) (bs : List Boot) (b : Boot)
+    → option_and_then (λ x. option_and_then (λ xs. Some (x ∷ xs)) rest) o ≡ Some bs
+    → ((ys : List Boot) → rest ≡ Some ys → more ≡ Some (ys ++ b ∷ []))
+    → option_and_then (λ x. option_and_then (λ xs. Some (x ∷ xs)) more) o ≡ Some (bs ++ b ∷ [])
+boot_then None rest more bs b e h = absurd (cc)
+boot_then (Some x) None more bs b e h = absurd (cc)
+boot_then (Some x) (Some ys) more bs b e h =
+    let same : x ∷ ys ≡ bs = cc in
+    rw (h ys refl) (ap (λ (zs : List Boot). Some (zs ++ b ∷ [])) same)
+
+pub one_more_boot : (words : List (List ℕ)) (word : List ℕ) (bs : List Boot) (b : Boot)
+    → each_in boot_at (texts_data words) ≡ Some bs → boot_of word ≡ Some b
+    → each_in boot_at (texts_data (words ++ word ∷ [])) ≡ Some (bs ++ b ∷ [])
+unfolding each_in
+one_more_boot [] word bs b e h =
+    let none : [] ≡ bs = cc in
+    rw h (ap (λ (zs : List Boot). Some (zs ++ b ∷ [])) none)
+one_more_boot (w ∷ words) word bs b e h =
+    boot_then (boot_of w) (each_in boot_at (texts_data words)) (each_in boot_at (texts_data (words ++ word ∷ [])))
+    bs b e (λ ys rest. one_more_boot words word ys b rest h)
+
+-- ---- lines
+
+line_then : (at : ℕ) (o : Option Numbered) (f g : Numbered → Result Script ScenarioFault) (now last : Script)
+    → (or_fault (BadLine at) o >>= f) ≡ Ok now → ((m : Numbered) → f m ≡ Ok now → g m ≡ Ok last)
+    → (or_fault (BadLine at) o >>= g) ≡ Ok last
+line_then at None f g now last e h = absurd (cc)
+line_then at (Some m) f g now last e h = h m e
+
+pub one_more_line : (at : ℕ) (script now : Script) (texts : List (List ℕ)) (text : List ℕ) (n : Numbered)
+    → lines_from at script texts ≡ Ok now → line_in now.names text ≡ Some n
+    → lines_from at script (texts ++ text ∷ []) ≡ Ok (with_line now n)
+unfolding lines_from
+one_more_line at script now [] text n e h =
+    let same : script ≡ now = cc in
+    ap (λ (s : Script). or_fault (BadLine at) (line_in s.names text) >>= λ m. Ok (with_line s m)) same
+    ∙ rw h refl
+one_more_line at script now (t ∷ texts) text n e h =
+    line_then at (line_in script.names t) (λ m. lines_from (at + 1) (with_line script m) texts)
+    (λ m. lines_from (at + 1) (with_line script m) (texts ++ text ∷ [])) now (with_line now n) e
+    (λ m rest. one_more_line (at + 1) (with_line script m) now texts text n rest h)
+
+-- ---- the form
+
+pub each_text : (texts : List (List ℕ)) → each_in as_str (texts_data texts) ≡ Some texts
+unfolding each_in
+each_text [] = refl
+each_text (text ∷ texts) = rw (each_text texts) refl
+
+-- the members of a scenario
+pub form_read : (layout : Data) (texts : List (List ℕ)) (parts : LayoutParts) → parts_of layout ≡ Some parts
+    → form_of (object (put (codes "calls") (array (texts_data texts)) (put (codes "layout") layout no_members)))
+    ≡ Some (record { parts = parts; calls = texts })
+unfolding form_of has_keys texts_at
+form_read layout texts parts e = rw (e, each_text texts) refl
+
+-- the members of a layout
+pub parts_read : (n : Numbers) (words : List (List ℕ)) (boot : List Boot)
+    → each_in boot_at (texts_data words) ≡ Some boot
+    → parts_of (object (put (codes "boot") (array (texts_data words)) (put_rows (rows_of n) no_members)))
+    ≡ Some (parts_from n boot)
+unfolding parts_of has_keys boots_at parts_with number_at
+parts_read n words boot e = rw e refl
+
+-- a layout's tokens
+pub layout_read : (n : Numbers) (boot : List Boot) (old start mid new : List Token)
+    → old ≡ Token.begin_object ∷ start → AreRows (rows_of n) start mid → EndsWithBoots boot mid new
+    → layout_fault (parts_from n boot) ≡ None → IsLayoutAt (parts_from n boot) old new
+layout_read n boot old start mid new opened rows ends sound =
+    let m = ends.0 in
+    let words = ends.2.0 in
+    let list = array (texts_data words) in
+    let one : Reads 125 list (Token.begin_array ∷ m) (Token.end_object ∷ new) =
+    reads_texts 125 words m (Token.end_object ∷ new) (omega arith) ends.2.1 in
+    let last : Adds 125 (λ ms. put (codes "boot") list ms) (Token.key (codes "boot") ∷ Token.begin_array ∷ m) new =
+    adds_one 125 (codes "boot") list (λ ms. ms) (Token.begin_array ∷ m) (Token.end_object ∷ new) new one
+    (adds_none 125 new) in
+    let rest : Adds 125 (λ ms. put (codes "boot") list ms) mid new =
+    subst (λ (ts : List Token). Adds 125 (λ ms. put (codes "boot") list ms) ts new) (sym ends.1) last in
+    let all = adds_rows 125 (rows_of n) (λ ms. put (codes "boot") list ms) start mid new rows rest in
+    let d = object (put (codes "boot") list (put_rows (rows_of n) no_members)) in
+    let whole : Reads 126 d (Token.begin_object ∷ start) new =
+    reads_object 126 (λ ms. put (codes "boot") list (put_rows (rows_of n) ms)) start new (omega arith) all in
+    (d, subst (λ (ts : List Token). Reads 126 d ts new) (sym opened) whole, parts_read n words boot ends.2.2, sound)
+
+-- a scenario's value
+of_form : (d : Data) (form : Form) (script : Script) → form_of d ≡ Some form → layout_fault form.parts ≡ None
+    → lines_from 1 nothing form.calls ≡ Ok script
+    → scenario_of d ≡ Ok (record { layout = form.parts; names = script.names; lines = script.lines })
+unfolding scenario_of scenario_with
+of_form d form script is sound lines = rw (is, sound, lines) refl
+
+-- a scenario's tokens
+pub scenario_read : (layout : LayoutParts) (script : Script) (old a b e f g : List Token)
+    → old ≡ Token.begin_object ∷ a → a ≡ Token.key (codes "layout") ∷ b → IsLayoutAt layout b e
+    → e ≡ Token.key (codes "calls") ∷ Token.begin_array ∷ f → AreLines script f g → g ≡ Token.end_object ∷ []
+    → AreScenario (record { layout = layout; names = script.names; lines = script.lines }) old
+scenario_read layout script old a b e f g opened named placed listed lines over =
+    let dl = placed.0 in
+    let texts = lines.0 in
+    let dc = array (texts_data texts) in
+    let are : AreTexts texts f (Token.end_object ∷ []) =
+    subst (λ (ts : List Token). AreTexts texts f ts) over lines.1 in
+    let calls : Reads 126 dc (Token.begin_array ∷ f) (Token.end_object ∷ []) =
+    reads_texts 126 texts f (Token.end_object ∷ []) (omega arith) are in
+    let last : Adds 126 (λ ms. put (codes "calls") dc ms) (Token.key (codes "calls") ∷ Token.begin_array ∷ f) [] =
+    adds_one 126 (codes "calls") dc (λ ms. ms) (Token.begin_array ∷ f) (Token.end_object ∷ []) [] calls
+    (adds_none 126 []) in
+    let rest : Adds 126 (λ ms. put (codes "calls") dc ms) e [] =
+    subst (λ (ts : List Token). Adds 126 (λ ms. put (codes "calls") dc ms) ts []) (sym listed) last in
+    let both : Adds 126 (λ ms. put (codes "calls") dc (put (codes "layout") dl ms)) (Token.key (codes "layout") ∷ b) [] =
+    adds_one 126 (codes "layout") dl (λ ms. put (codes "calls") dc ms) b e [] placed.1 rest in
+    let d = object (put (codes "calls") dc (put (codes "layout") dl no_members)) in
+    let whole : Reads 127 d (Token.begin_object ∷ Token.key (codes "layout") ∷ b) [] =
+    reads_object 127 (λ ms. put (codes "calls") dc (put (codes "layout") dl ms)) (Token.key (codes "layout") ∷ b) []
+    (omega arith) both in
+    let same : Token.begin_object ∷ Token.key (codes "layout") ∷ b ≡ old =
+    ap (λ (ts : List Token). Token.begin_object ∷ ts) (sym named) ∙ sym opened in (
+      d,
+      subst (λ (ts : List Token). Reads 127 d ts []) same whole,
+      of_form d (record { parts = layout; calls = texts }) script (form_read dl texts layout placed.2) placed.3 lines.2,
+    )
+
+-- the bytes of a scenario
+pub scenario_is : (bytes text : List ℕ) (s : ScenarioValue) → IsUtf8 bytes → text ≡ bytes
+    → AreScenario s (tokens text) → scenario_in bytes ≡ Ok s
+unfolding scenario_in
+scenario_is bytes text s utf same h =
+    let d = h.0 in
+    let there : Reads 127 d (tokens bytes) [] =
+    subst (λ (t : List ℕ). Reads 127 d (tokens t) []) same h.1 in
+    ap (λ r. r >>= scenario_of) (json_read bytes d utf (reads_all bytes d there)) ∙ h.2
+
+-- ---- turns of the loops
+
+-- one more text was taken
+pub string_passed : (start now taken new : List Token) (texts : List (List ℕ)) (text : List ℕ)
+    → start ≡ strings_then texts now → taken ≡ now → taken ≡ Token.string text ∷ new
+    → start ≡ strings_then (texts ++ text ∷ []) new
+string_passed start now taken new texts text so_far same first =
+    so_far ∙ ap (strings_then texts) (sym same ∙ first) ∙ one_more_string texts text new
+
+-- the array ended
+pub texts_end : (start now new : List Token) (texts : List (List ℕ)) → start ≡ strings_then texts now
+    → after_end_array now ≡ Some new → AreTexts texts start new
+texts_end start now new texts so_far ended = so_far ∙ ap (strings_then texts) (closed_array now new ended)
+
+pub no_boots : (bs : List Boot) → bs ≡ [] → each_in boot_at (texts_data []) ≡ Some bs
+unfolding each_in
+no_boots bs e = ap Some (sym e)
+
+pub boots_grow : (words : List (List ℕ)) (word : List ℕ) (bs now : List Boot) (b : Boot)
+    → each_in boot_at (texts_data words) ≡ Some bs → Some b ≡ boot_of word → now ≡ bs ++ b ∷ []
+    → each_in boot_at (texts_data (words ++ word ∷ [])) ≡ Some now
+boots_grow words word bs now b so_far is grown = one_more_boot words word bs b so_far (sym is) ∙ ap Some (sym grown)
+
+pub no_lines : (names : List (List ℕ)) (lines : List Line) → names ≡ [] → lines ≡ []
+    → lines_from 1 nothing [] ≡ Ok (record { names = names; lines = lines })
+unfolding lines_from
+no_lines names lines e h = rw (e, h) refl
+
+pub lines_grow : (texts : List (List ℕ)) (text : List ℕ) (script : Script) (o : Option Line) (line : Line)
+    (names : List (List ℕ)) (lines : List Line)
+    → lines_from 1 nothing texts ≡ Ok script → option_map (with_names names) o ≡ line_in script.names text
+    → o ≡ Some line → lines ≡ script.lines ++ line ∷ []
+    → lines_from 1 nothing (texts ++ text ∷ []) ≡ Ok (record { names = names; lines = lines })
+lines_grow texts text script o line names lines so_far says some grown =
+    let is : line_in script.names text ≡ Some (with_names names line) =
+    sym says ∙ ap (option_map (with_names names)) some in
+    one_more_line 1 nothing script texts text (with_names names line) so_far is
+    ∙ ap (λ (ls : List Line). Ok (record { names = names; lines = ls })) (sym grown)
+
+-- ---- what is found
+
+pub there : {A : Type 0} (o : Option A) (a : A) (P : A → Type 0) → o ≡ Some a → IfSome o P → P a
+there o a P e h = subst (λ o. IfSome o P) e h
+
+-- a layout that is found is read from the tokens
+pub layout_found : (r : Result (Option LayoutParts) AllocError) (n : Numbers) (boot blocks : List Boot)
+    (old start mid new : List Token)
+    → old ≡ Token.begin_object ∷ start → AreRows (rows_of n) start mid → EndsWithBoots blocks mid new
+    → boot ≡ blocks
+    → IfOk r (λ o. IfSome o (λ l. (l ≡ parts_from n boot) × (layout_fault l ≡ None)))
+    → IfOk r (λ o. IfSome o (λ l. IsLayoutAt l old new))
+layout_found (Err e) n boot blocks old start mid new opened rows ends same h = h
+layout_found (Ok None) n boot blocks old start mid new opened rows ends same h = h
+layout_found (Ok (Some l)) n boot blocks old start mid new opened rows ends same h =
+    let is : l ≡ parts_from n blocks = h.0 ∙ ap (parts_from n) same in
+    let sound : layout_fault (parts_from n blocks) ≡ None =
+    subst (λ (p : LayoutParts). layout_fault p ≡ None) is h.1 in
+    subst (λ (p : LayoutParts). IsLayoutAt p old new) (sym is)
+    (layout_read n blocks old start mid new opened rows ends sound)
+
+-- its lines go into a scenario
+pub scenario_made : (layout : LayoutParts) (script : Script) (lines : List Line) (old a b e f g : List Token)
+    → lines ≡ script.lines
+    → old ≡ Token.begin_object ∷ a → a ≡ Token.key (codes "layout") ∷ b → IsLayoutAt layout b e
+    → e ≡ Token.key (codes "calls") ∷ Token.begin_array ∷ f → AreLines script f g → g ≡ Token.end_object ∷ []
+    → AreScenario (record { layout = layout; names = script.names; lines = lines }) old
+scenario_made layout script lines old a b e f g same opened named placed listed are over =
+    subst
+    (λ (ls : List Line). AreScenario (record { layout = layout; names = script.names; lines = ls }) old)
+    (sym same) (scenario_read layout script old a b e f g opened named placed listed are over)
+
+-- a scenario that is found in a text is that of the bytes
+pub scenario_found : (r : Result (Option Scenario) AllocError) (bytes text : List ℕ) → IsUtf8 bytes → text ≡ bytes
+    → IfOk r (λ o. IfSome o (λ s. AreScenario (scenario_seen s) (tokens text)))
+    → IfOk r (λ o. IfSome o (λ s. scenario_in bytes ≡ Ok (scenario_seen s)))
+scenario_found (Err e) bytes text utf same h = h
+scenario_found (Ok None) bytes text utf same h = h
+scenario_found (Ok (Some s)) bytes text utf same h = scenario_is bytes text (scenario_seen s) utf same h

@@ -1,0 +1,74 @@
+-- Words that are cut off a text one by one.
+use Rattle.std.proofs.Common.{◌≡◌, ℕ, ◌+◌, ◌<◌, ◌≤◌, Bool, true, false, cond, not, eqb, ltb, Some, None, List, [], ◌∷◌, ◌++◌, length, get_or, take, drop, map, Bor, Option, option_map, refl, sym, ap, ◌∙◌, arith, append_assoc}
+use Rattle.std.specs.List.{position, position_or_len}
+use Rattle.std.specs.Str.{IsCharBoundary, IsUtf8}
+use Rattle.std.proofs.lemmas.Bool.{eqb-true, ltb-false}
+use Rattle.std.proofs.lemmas.List.{map-append}
+use Rattle.std.proofs.lemmas.List.Quantifiers.{position-Some}
+use Rattle.std.proofs.lemmas.List.Sums.{fails_before_first, passes_at_first, position_or_len_is, prefix_len-le-length}
+use Rattle.std.proofs.lemmas.Str.{IsCharBoundary-after_ascii, IsCharBoundary-before_ascii}
+use Rattle.std.proofs.lemmas.List.Splits.{slice_split_first, slice_split_none}
+use Rattle.hp_scenario.specs.Words.{words_left, words_of}
+use Rattle.hp_scenario.proofs.WordsSpelled.{is_space}
+
+-- ---- where a word ends
+
+pub space_place : (text : List ℕ) (end : ℕ) → position is_space text ≡ Some end
+    → end ≡ position_or_len is_space text
+space_place text end h =
+    let p = position-Some is_space text end 0 h in
+    sym (position_or_len_is is_space text end 0 (omega (arith, p.0)) p.2 (λ lt. p.1))
+
+not_found : (b : Bool) (k : ℕ) → cond b (Some k) None ≡ None → b ≡ false
+not_found true k e = absurd cc
+not_found false k e = refl
+
+pub no_space : (text : List ℕ) → position is_space text ≡ None → length text ≡ position_or_len is_space text
+no_space text h =
+    let place = position_or_len is_space text in
+    let past = ltb-false place (length text) (not_found (ltb place (length text)) place h) in
+    let within : place ≤ length text = prefix_len-le-length (λ x. not (is_space x)) text in
+    omega (arith, past, within)
+
+space_there : (text : List ℕ) (end : ℕ) → end ≡ position_or_len is_space text → end < length text
+    → get_or text end 0 ≡ 32
+space_there text end is lt =
+    eqb-true _ _ (rw is (passes_at_first is_space text 0 (rw (sym is) lt)))
+
+pub before_space : (text : List ℕ) (end : ℕ) → end ≡ position_or_len is_space text → end < length text
+    → IsCharBoundary text end
+before_space text end is lt =
+    IsCharBoundary-before_ascii text end lt (omega (arith, space_there text end is lt))
+
+pub after_space : (text : List ℕ) (end : ℕ) → end ≡ position_or_len is_space text → end < length text
+    → IsUtf8 text → IsCharBoundary text (end + 1)
+after_space text end is lt utf8 =
+    IsCharBoundary-after_ascii text end utf8 lt (omega (arith, space_there text end is lt))
+
+pub first_word : (text : List ℕ) (end : ℕ) → end ≡ position_or_len is_space text → end < length text
+    → words_of text ≡ take end text ∷ words_of (drop (end + 1) text)
+first_word text end is lt = rw is (slice_split_first is_space text 0 (rw (sym is) lt))
+
+pub only_word : (text : List ℕ) (end : ℕ) → end ≡ position_or_len is_space text → length text ≤ end
+    → words_of text ≡ text ∷ []
+only_word text end is over =
+    slice_split_none is_space text (λ k e m. fails_before_first is_space text k e (omega (arith, is)))
+
+-- ---- word by word
+
+abbrev bytes_of : List (Bor (List ℕ)) → List (List ℕ)
+bytes_of words = map (λ w. w.now) words
+
+abbrev pub left_of : Option (Bor (List ℕ)) → List (List ℕ)
+left_of left = words_left (option_map (λ w. w.now) left)
+
+-- one word more
+pub one_more_word : (before after : List (Bor (List ℕ))) (word : Bor (List ℕ))
+    (left rest total : List (List ℕ))
+    → after ≡ before ++ word ∷ [] → left ≡ word.now ∷ rest → bytes_of before ++ left ≡ total
+    → bytes_of after ++ rest ≡ total
+one_more_word before after word left rest total grown first so_far =
+    ap (λ (ws : List (Bor (List ℕ))). bytes_of ws ++ rest) grown
+    ∙ ap (λ (ws : List (List ℕ)). ws ++ rest) (map-append (λ (w : Bor (List ℕ)). w.now) before (word ∷ []))
+    ∙ append_assoc (bytes_of before) (word.now ∷ []) rest
+    ∙ ap (λ (ws : List (List ℕ)). bytes_of before ++ ws) (sym first) ∙ so_far

@@ -1,0 +1,168 @@
+//! Scenarios in their usual form, read token by token: `layout` with its numbers in their usual
+//! order and then `boot`, and then `calls`. No tree is made, and no memory is kept for the lines that
+//! were taken.
+ghost use Rattle.std.specs.Prelude.{◌≡◌, ◌∷◌, [], IfOk, IfSome, IsTrue, Ok};
+ghost use Rattle.hp_scenario.specs.Seen.{scenario_seen};
+ghost use Rattle.hp_scenario.specs.Scenario.{scenario_in};
+ghost use Rattle.hp_scenario.specs.Calls.{AreAll, Goes, IsFront, IsOpened};
+
+use crate::lines::{Line, Lines};
+use crate::names::line_from;
+use crate::scenario::Scenario;
+use crate::usual::{is_over, layout_after, takes_array, takes_key, takes_object};
+use hp_units::{Layout, Text};
+use indexmap::IndexSet;
+use json::{Reader, Scratch, Token};
+use std::alloc::{AllocError, Global};
+
+/// The layout of a scenario, the owners' names so far, and the lines that are still to come.
+#[derive(Drop)]
+pub struct Calls<'a> {
+    layout: Layout,
+    names: IndexSet<Text>,
+    words: Vec<&'a str>,
+    reader: Reader<'a>,
+}
+
+/// What comes next.
+#[derive(Drop)]
+pub enum Next {
+    /// A line.
+    Another(Line),
+    /// Nothing: the scenario is whole, and has no fault.
+    End,
+    /// Something else. It may have a fault, or another form: it is to be read anew, by
+    /// `Scenario::read`.
+    Unsure,
+}
+
+/// The scenario that the bytes are, where they have its usual form and no fault. None says nothing:
+/// the bytes may still be a scenario.
+pub(crate) fn read_usual(alloc: Global, bytes: &[u8]) -> Result<Option<Scenario>, AllocError>
+    ensures { IfOk result (λ s. IfSome s (λ s. scenario_in bytes.now ≡ Ok (scenario_seen s))) }
+{
+    let mut scratch = Scratch::new(alloc);
+    read_with(alloc, bytes, &mut scratch)
+}
+
+/// The same with room for the reader.
+fn read_with(
+    alloc: Global,
+    bytes: &[u8],
+    scratch: &mut Scratch,
+) -> Result<Option<Scenario>, AllocError>
+    ensures { IfOk result (λ s. IfSome s (λ s. scenario_in bytes.now ≡ Ok (scenario_seen s))) }
+{
+    let Some(mut calls) = Calls::open(alloc, bytes, scratch)? else {
+        return Ok(None);
+    };
+    let mut lines = Vec::new(alloc);
+    if !take_all(alloc, &mut calls, &mut lines)? {
+        return Ok(None);
+    }
+    Ok(Some(calls.with_lines(lines)))
+}
+
+/// The layout that comes next in a scenario, up to the first of its lines.
+fn front_after(alloc: Global, reader: &mut Reader<'_>) -> Result<Option<Layout>, AllocError>
+    ensures { IfOk result (λ l. IfSome l (λ l. IsFront l reader.old reader.new)) }
+{
+    if !takes_object(reader) || !takes_key(reader, "layout") {
+        return Ok(None);
+    }
+    let Some(layout) = layout_after(alloc, reader)? else {
+        return Ok(None);
+    };
+    if !takes_array(reader, "calls") {
+        return Ok(None);
+    }
+    Ok(Some(layout))
+}
+
+impl<'a> Calls<'a> {
+    /// Reads a scenario up to its first line. None says nothing: it may still be one.
+    pub fn open(
+        alloc: Global,
+        bytes: &'a [u8],
+        scratch: &'a mut Scratch,
+    ) -> Result<Option<Calls<'a>>, AllocError>
+        ensures { IfOk result (λ c. IfSome c (λ c. IsOpened bytes.now c)) }
+    {
+        let Ok(text) = simdutf8::basic::from_utf8(bytes) else {
+            return Ok(None);
+        };
+        let mut reader = Reader::new(text, scratch)?;
+        let Some(layout) = front_after(alloc, &mut reader)? else {
+            return Ok(None);
+        };
+        Ok(Some(Calls {
+            layout,
+            names: IndexSet::new(alloc),
+            words: Vec::new(alloc),
+            reader,
+        }))
+    }
+
+    /// The layout.
+    pub fn layout(&self) -> &Layout
+        ensures { result.now ≡ self.now.layout }
+    {
+        &self.layout
+    }
+
+    /// The owners' names so far.
+    pub fn names(&self) -> &IndexSet<Text>
+        ensures { result.now ≡ self.now.names }
+    {
+        &self.names
+    }
+
+    /// The scenario of these lines, all that were taken.
+    fn with_lines(self, lines: Vec<Line>) -> Scenario
+        ensures { scenario_seen result
+            ≡ record { layout = self.entry.layout; names = self.entry.names.keys; lines = lines.items } }
+    {
+        Scenario {
+            layout: self.layout,
+            names: self.names,
+            lines: Lines::new(lines),
+        }
+    }
+
+    /// What comes next. After an error, after the end and once it is unsure, nothing is said of
+    /// what it would be.
+    pub fn next(&mut self, alloc: Global) -> Result<Next, AllocError>
+        ensures { IfOk result (λ next. Goes self.old next self.new) }
+    {
+        match self.reader.next() {
+            Some(Token::String(text)) => {
+                match line_from(alloc, &mut self.names, &mut self.words, text)? {
+                    Some(line) => Ok(Next::Another(line)),
+                    None => Ok(Next::Unsure),
+                }
+            }
+            Some(Token::EndArray) => {
+                if is_over(&mut self.reader) {
+                    Ok(Next::End)
+                } else {
+                    Ok(Next::Unsure)
+                }
+            }
+            _ => Ok(Next::Unsure),
+        }
+    }
+}
+
+/// Takes all lines; whether these were all, and there is no fault.
+fn take_all(alloc: Global, calls: &mut Calls<'_>, lines: &mut Vec<Line>) -> Result<bool, AllocError>
+    requires { lines.old.items ≡ [] }
+    ensures { IfOk result (λ sure. IsTrue sure → AreAll calls.old lines.new.items calls.new) }
+{
+    loop {
+        match calls.next(alloc)? {
+            Next::Another(line) => lines.push(line)?,
+            Next::End => return Ok(true),
+            Next::Unsure => return Ok(false),
+        }
+    }
+}

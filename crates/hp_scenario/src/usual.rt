@@ -1,0 +1,203 @@
+//! The layout of a scenario in its usual form, read token by token: its numbers in their usual order,
+//! and then `boot`.
+ghost use Rattle.std.specs.Prelude.{◌≡◌, ◌∷◌, [], IfOk, IfSome, IsTrue, None, Some};
+ghost use Rattle.json.specs.Token.{key as key_token, begin_object, begin_array, end_object};
+ghost use Rattle.serde_json.specs.Data.{unsigned};
+ghost use Rattle.serde_json.specs.Read.{number_of};
+ghost use Rattle.hp_units.specs.LayoutParts.{layout_fault};
+ghost use Rattle.hp_scenario.specs.Usual.{AreBoots, AreRows, EndsWithBoots, IsLayoutAt, IsRow, parts_from, rows_of};
+
+use crate::form::boot_from;
+use fast_float::Numeral;
+use hp_units::{Boot, Layout, LayoutFault, Parts};
+use json::{Reader, Token};
+use std::alloc::{AllocError, Global};
+
+/// The numbers of a layout.
+#[derive(Clone, Copy, Drop)]
+pub(crate) struct Numbers {
+    order: u64,
+    pageblocks: u64,
+    blocks: u64,
+    cpus: u64,
+    batch: u64,
+    high: u64,
+    owners: u64,
+    pages: u64,
+    words: u64,
+    history: u64,
+}
+
+/// The layout that comes next, where it has no fault.
+pub(crate) fn layout_after(
+    alloc: Global,
+    reader: &mut Reader<'_>,
+) -> Result<Option<Layout>, AllocError>
+    ensures { IfOk result (λ l. IfSome l (λ l. IsLayoutAt l reader.old reader.new)) }
+{
+    if !takes_object(reader) {
+        return Ok(None);
+    }
+    let Some(numbers) = numbers_after(reader) else {
+        return Ok(None);
+    };
+    let Some(boot) = boot_after(alloc, reader)? else {
+        return Ok(None);
+    };
+    layout_of(alloc, &numbers, &boot)
+}
+
+/// The layout of numbers and blocks at boot, where it has no fault.
+fn layout_of(alloc: Global, numbers: &Numbers, boot: &[Boot]) -> Result<Option<Layout>, AllocError>
+    ensures { IfOk result (λ l. IfSome l (λ l.
+        (l ≡ parts_from numbers.now boot.now) × (layout_fault l ≡ None))) }
+{
+    let parts = Parts {
+        order: numbers.order,
+        pageblocks: numbers.pageblocks,
+        blocks: numbers.blocks,
+        cpus: numbers.cpus,
+        batch: numbers.batch,
+        high: numbers.high,
+        owners: numbers.owners,
+        pages: numbers.pages,
+        words: numbers.words,
+        history: numbers.history,
+        boot,
+    };
+    match Layout::new(alloc, &parts) {
+        Ok(layout) => Ok(Some(layout)),
+        Err(LayoutFault::OutOfMemory) => Err(AllocError),
+        Err(_) => Ok(None),
+    }
+}
+
+/// The numbers of a layout that come next, in their usual order.
+fn numbers_after(reader: &mut Reader<'_>) -> Option<Numbers>
+    ensures { IfSome result (λ n. AreRows (rows_of n) reader.old reader.new) }
+{
+    let order = number_after(reader, "order")?;
+    let pageblocks = number_after(reader, "pageblocks")?;
+    let blocks = number_after(reader, "blocks")?;
+    let cpus = number_after(reader, "cpus")?;
+    let batch = number_after(reader, "batch")?;
+    let high = number_after(reader, "high")?;
+    let owners = number_after(reader, "owners")?;
+    let pages = number_after(reader, "pages")?;
+    let words = number_after(reader, "words")?;
+    let history = number_after(reader, "history")?;
+    Some(Numbers {
+        order,
+        pageblocks,
+        blocks,
+        cpus,
+        batch,
+        high,
+        owners,
+        pages,
+        words,
+        history,
+    })
+}
+
+/// The number at a key that comes next.
+fn number_after(reader: &mut Reader<'_>, key: &str) -> Option<u64>
+    ensures { IfSome result (λ n. IsRow key.now n reader.old reader.new) }
+{
+    if !takes_key(reader, key) {
+        return None;
+    }
+    match reader.next() {
+        Some(Token::Number(text)) => whole_number(text),
+        _ => None,
+    }
+}
+
+/// The whole number that a number's text is; none also where it is below 0 or does not fit.
+#[tactic(auto, using(crate::proofs::WholeNumber::is_unsigned))]
+fn whole_number(text: &str) -> Option<u64>
+    ensures { IfSome result (λ n. number_of text.now ≡ Some (unsigned n)) }
+{
+    let bytes = text.as_bytes();
+    if bytes.is_empty() || bytes[0] == b'-' {
+        return None;
+    }
+    Numeral::scan(bytes).to_u64()
+}
+
+/// What the blocks are at boot, where this comes next and then the layout's end.
+fn boot_after(alloc: Global, reader: &mut Reader<'_>) -> Result<Option<Vec<Boot>>, AllocError>
+    ensures { IfOk result (λ b. IfSome b (λ b. EndsWithBoots b.items reader.old reader.new)) }
+{
+    if !takes_array(reader, "boot") {
+        return Ok(None);
+    }
+    let Some(boot) = boots_after(alloc, reader)? else {
+        return Ok(None);
+    };
+    if !takes_end(reader) {
+        return Ok(None);
+    }
+    Ok(Some(boot))
+}
+
+/// What the blocks are at boot by the words up to the end of an array.
+fn boots_after(alloc: Global, reader: &mut Reader<'_>) -> Result<Option<Vec<Boot>>, AllocError>
+    ensures { IfOk result (λ b. IfSome b (λ b. AreBoots b.items reader.old reader.new)) }
+{
+    let mut boots = Vec::new(alloc);
+    'words: while !reader.take_end_array() {
+        let Some(Token::String(word)) = reader.next() else {
+            return Ok(None);
+        };
+        let Some(boot) = boot_from(word) else {
+            return Ok(None);
+        };
+        boots.push(boot)?;
+    }
+    Ok(Some(boots))
+}
+
+/// Whether this key comes next.
+pub(crate) fn takes_key(reader: &mut Reader<'_>, key: &str) -> bool
+    ensures { IsTrue result → reader.old ≡ key_token key.now ∷ reader.new }
+{
+    match reader.next() {
+        Some(Token::Key(found)) => found == key,
+        _ => false,
+    }
+}
+
+/// Whether this key comes next, and then an array.
+pub(crate) fn takes_array(reader: &mut Reader<'_>, key: &str) -> bool
+    ensures { IsTrue result → reader.old ≡ key_token key.now ∷ begin_array ∷ reader.new }
+{
+    if !takes_key(reader, key) {
+        return false;
+    }
+    matches!(reader.next(), Some(Token::BeginArray))
+}
+
+/// Whether an object begins next.
+pub(crate) fn takes_object(reader: &mut Reader<'_>) -> bool
+    ensures { IsTrue result → reader.old ≡ begin_object ∷ reader.new }
+{
+    matches!(reader.next(), Some(Token::BeginObject))
+}
+
+/// Whether an object ends next.
+fn takes_end(reader: &mut Reader<'_>) -> bool
+    ensures { IsTrue result → reader.old ≡ end_object ∷ reader.new }
+{
+    matches!(reader.next(), Some(Token::EndObject))
+}
+
+/// Whether an object ends next, and with it the text.
+pub(crate) fn is_over(reader: &mut Reader<'_>) -> bool
+    ensures { IsTrue result → reader.old ≡ end_object ∷ [] }
+{
+    if !takes_end(reader) {
+        return false;
+    }
+    reader.next().is_none()
+}
