@@ -1,7 +1,10 @@
 //! The answer to an event.
 ghost use Rattle.std.specs.Prelude.{◌≡◌, ◌++◌, OnOk, string_bytes};
+ghost use Rattle.std.specs.Fmt.{decimal};
+ghost use Rattle.hp_units.specs.Texts.{reply_text};
 ghost use Rattle.hp_text.specs.Answers.{bare_reply_line, fault_line, reply_line, sealed_line, unrecorded_line};
 
+use crate::numbers::write_number;
 use hp_units::{CallFault, Reply, Serial};
 use std::alloc::AllocError;
 
@@ -9,15 +12,45 @@ use std::alloc::AllocError;
 pub fn write_answer(out: &mut String, serial: Serial, reply: Reply) -> Result<(), AllocError>
     ensures { OnOk result (string_bytes out.new ≡ string_bytes out.old ++ reply_line serial reply) }
 {
-    writeln!(out, "{serial}: {reply}")?;
-    Ok(())
+    write_number(out, serial.0)?;
+    out.push_str(": ")?;
+    write_reply(out, reply)
 }
 
 /// Writes a reply without its serial, as `frame 0` (own rule).
 pub fn write_reply(out: &mut String, reply: Reply) -> Result<(), AllocError>
     ensures { OnOk result (string_bytes out.new ≡ string_bytes out.old ++ bare_reply_line reply) }
 {
-    writeln!(out, "{reply}")
+    write_words(out, reply)?;
+    out.push_str("\n")
+}
+
+/// Writes the words of a reply.
+fn write_words(out: &mut String, reply: Reply) -> Result<(), AllocError>
+    ensures { OnOk result (string_bytes out.new ≡ string_bytes out.old ++ reply_text reply) }
+{
+    match reply {
+        Reply::Frame(frame) => write_numbered(out, "frame ", u64::from(frame.0)),
+        Reply::Word(value) => write_numbered(out, "word ", value),
+        Reply::Moved { from, to } => {
+            write_numbered(out, "moved ", u64::from(from.0))?;
+            write_numbered(out, " ", u64::from(to.0))
+        }
+        Reply::Opened { op } => write_numbered(out, "opened ", op.0),
+        Reply::Undone { count } => write_numbered(out, "undone ", count),
+        Reply::Refused(refusal) => write!(out, "refused {refusal}"),
+        Reply::Done => out.push_str("done"),
+        Reply::Restored => out.push_str("restored"),
+        Reply::Released => out.push_str("released"),
+    }
+}
+
+/// Writes words and a number after them.
+fn write_numbered(out: &mut String, words: &str, number: u64) -> Result<(), AllocError>
+    ensures { OnOk result (string_bytes out.new ≡ string_bytes out.old ++ words.now ++ decimal number) }
+{
+    out.push_str(words)?;
+    write_number(out, number)
 }
 
 /// Writes why an event left no record, with a dash in place of a serial, as `-: fault HistoryFull`
@@ -39,5 +72,6 @@ pub fn write_call_fault(out: &mut String, fault: CallFault) -> Result<(), AllocE
 pub fn write_sealed(out: &mut String, count: u64) -> Result<(), AllocError>
     ensures { OnOk result (string_bytes out.new ≡ string_bytes out.old ++ sealed_line count) }
 {
-    writeln!(out, "sealed {count}")
+    write_numbered(out, "sealed ", count)?;
+    out.push_str("\n")
 }

@@ -9,6 +9,7 @@
 
 mod answers;
 mod files;
+mod numbers;
 mod plans;
 mod spelling;
 mod state;

@@ -7,6 +7,7 @@ mod pages;
 
 pub(crate) use self::pages::name_of;
 use self::pages::write_pages;
+use crate::numbers::write_word;
 use hp_plain::Image;
 use hp_units::{
     Auto, Block, Class, Cpu, Frame, Kind, Mobility, Order, Pageblock, Pool, Row, State, Text, Zone,
@@ -312,7 +313,7 @@ fn write_frame_words(out: &mut String, frames: &[Frame]) -> Result<(), AllocErro
     ensures { OnOk result (string_bytes out.new ≡ string_bytes out.old ++ flat_map number_word frames.now) }
 {
     for frame in frames {
-        write!(out, " {frame}")?;
+        write_word(out, u64::from(frame.0))?;
     }
     Ok(())
 }

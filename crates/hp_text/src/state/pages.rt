@@ -3,6 +3,7 @@ ghost use Rattle.std.specs.Prelude.{◌≡◌, ◌++◌, OnOk, option_map, strin
 ghost use Rattle.std.specs.List.{flat_map};
 ghost use Rattle.hp_text.specs.State.{name_of, number_word, owner_text, page_line, page_text, pages_text};
 
+use crate::numbers::write_word;
 use hp_plain::Image;
 use hp_units::{Frame, Owner, Page, Text};
 use indexmap::IndexSet;
@@ -99,7 +100,7 @@ fn write_words(out: &mut String, words: &[u64]) -> Result<(), AllocError>
     ensures { OnOk result (string_bytes out.new ≡ string_bytes out.old ++ flat_map number_word words.now) }
 {
     for word in words {
-        write!(out, " {word}")?;
+        write_word(out, *word)?;
     }
     Ok(())
 }
