@@ -9,9 +9,9 @@ use std::alloc::Global;
 
 /// The heads and the cells of the memory blocks at boot.
 const DRAWN: &[(&str, &str)] = &[
-    ("0:N", "...."),
-    ("1:N", "...."),
-    ("2:M", "...."),
+    ("0:N", "(2.)"),
+    ("1:N", "(2.)"),
+    ("2:M", "(2.)"),
     ("3:off", "----"),
 ];
 
@@ -55,7 +55,7 @@ fn count_of(places: &[Place], wanted: Place) -> u32 {
 
 /// Whether the memory blocks are drawn as at boot.
 fn is_drawn(alloc: Global, machine: &Machine) -> Result<bool, Trouble> {
-    let blocks = picture_of(alloc, machine)?;
+    let blocks = picture_of(alloc, machine, true)?;
     Ok(are_same(&blocks, DRAWN))
 }
 
@@ -65,7 +65,7 @@ fn are_same(blocks: &[BlockPicture], wanted: &[(&str, &str)]) -> bool {
         return false;
     }
     for (block, other) in blocks.iter().zip(wanted) {
-        if block.head.as_str() != other.0 || block.cells.as_str() != other.1 {
+        if block.head() != other.0 || block.ordered() != other.1 {
             return false;
         }
     }
