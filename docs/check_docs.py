@@ -13,6 +13,8 @@ What is checked, in each *.md file at the top, in docs/, examples/ and bench/:
   scenario FILE; a further line of an answer begins with spaces;
 - a code block marked `json FILE` is that file, and one marked `state FILE` the state it prints;
 - a table after `<!-- answers: FILE -->`: its first two columns are FILE's lines and their answers;
+  after `<!-- answers: FILE FIRST LAST FOLDER -->` they are some of FILE's lines, and the third is
+  what a real Linux answered the same step, by one of FOLDER's transcripts;
 - no other kind of block stands there but `text` (a picture) and `sh` (commands to type);
 - no line has more than 100 columns, and each link has its target;
 - in docs/PROVED.md, each `function` (`clause`, ..) below a crate's heading is in its source, and
@@ -153,14 +155,40 @@ def check_block(checks, where, kind, body, program):
         checks.holds(where, kind in (["sh"], ["text"]), f"a block of no known kind: {kind}")
 
 
-def check_table(checks, where, rows, file, program):
+def check_table(checks, where, rows, file, program, first=1, last=None):
+    """A table's first two columns against some lines of a scenario, the first line being 1."""
     scenario = json.loads((ROOT / file).read_text())
     shown = [tuple(re.findall(r"`([^`]*)`", row)[:2]) for row in rows[2:]]
     printed = list(zip(scenario["calls"], answers(program, scenario["layout"], scenario["calls"])))
+    printed = printed[first - 1:last]
     for wanted, got in zip(shown, printed):
         checks.same(where, wanted, got)
     checks.holds(where, len(shown) == len(printed),
                  f"has {len(shown)} rows, and {file} {len(printed)} lines")
+
+
+def step_on_linux(call, answer):
+    """The pattern of a transcript's line that shows this answer to the same step."""
+    verb, *words = call.split()[1:]
+    path = re.sub(r"memory\d+/", r"(memory\\d+/)?", words[-1]) if words else ""
+    answer = re.escape(answer)
+    if verb == "echo":
+        return rf"echo '?{re.escape(words[0])}'? > {path}: {answer}"
+    if verb == "cat":
+        file = path.rpartition(")?")[2]
+        return rf"memory32: (.* )?{file}={answer}( \w+=.*)?|cat: can't open .*: {answer}|auto: {answer}"
+    return rf".*\b{answer}"
+
+
+def check_linux(checks, where, rows, folder):
+    """A table's third column against the transcripts of a folder."""
+    seen = [line.strip() for file in (ROOT / folder).glob("*.txt") for line in file.read_text().split("\n")]
+    for row in rows[2:]:
+        call, _, *answer = re.findall(r"`([^`]*)`", row)
+        if answer:
+            pattern = re.compile(step_on_linux(call, answer[0]))
+            checks.holds(where, any(pattern.fullmatch(line) for line in seen),
+                         f"no transcript in {folder} answers {call} with {answer[0]}")
 
 
 # Lines
@@ -233,9 +261,13 @@ def check_document(checks, document, program):
             check_block(checks, where, line[3:].split(), lines[at + 1:end], program)
             at = end
         else:
-            marked = re.fullmatch(r"<!-- answers: (\S+) -->", line)
+            marked = re.fullmatch(r"<!-- answers: (\S+)(?: (\d+) (\d+) (\S+))? -->", line)
             if marked:
-                check_table(checks, where, rows_from(lines, at + 1), marked[1], program)
+                file, first, last, folder = marked.groups()
+                rows = rows_from(lines, at + 1)
+                check_table(checks, where, rows, file, program, int(first or 1), last and int(last))
+                if folder:
+                    check_linux(checks, where, rows, folder)
             crate = crate_of(line, crate)
             check_words(checks, where, document, line, crate)
         at += 1

@@ -1,9 +1,9 @@
 //! Calls that are made again and timed.
 use crate::checksum::mix;
 use anyhow::{Result, anyhow};
-use hp_control::{Request, parse_echo};
 use hp_history::Volume;
 use hp_machine::Machine;
+use hp_requests::Request;
 use hp_scenario::{Line, Lines, Work};
 use hp_units::{Cpu, Event, Layout};
 use std::alloc::{AllocError, Global};
@@ -145,8 +145,8 @@ fn call_of(alloc: Global, line: Line) -> Result<Call> {
 fn event_of(alloc: Global, work: Work) -> Result<Event> {
     match work {
         Work::Event(event) => Ok(event),
-        Work::Echo { path, text } => match parse_echo(alloc, path.as_str(), text.as_str()) {
-            Ok(Request::Event(event)) => Ok(event),
+        Work::Echo(echo) => match echo.request() {
+            Ok(Request::Event(event)) => Ok(event.copy(alloc)?),
             _ => Err(anyhow!("an echo asks for no event")),
         },
         _ => Err(anyhow!("a line asks for no event")),

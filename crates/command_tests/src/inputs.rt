@@ -1,5 +1,5 @@
 //! Inputs that are refused.
-use super::streams::{LAYOUT, scenario, served};
+use super::streams::{BOOT, LAYOUT, scenario, served};
 use hp_commands::ProgramFault;
 use hp_streams::LIMIT;
 use hp_units::LayoutFault;
@@ -8,33 +8,29 @@ use std::test::Fail;
 
 #[test]
 fn layouts_out_of_their_limits_are_named(rt: HostRuntime) -> Result<(), Fail> {
-    for (layout, fault) in [
+    for (numbers, boot, fault) in [
         (
-            "\"order\":11,\"pageblocks\":1,\"blocks\":4,\"cpus\":2,\"batch\":2,\"high\":2,\
-             \"owners\":2,\"pages\":8,\"words\":2,\"history\":1000,\"boot\":[\"normal\",\"normal\",\
-             \"movable\",\"offline\"]",
+            [11, 1, 4, 2, 2, 2, 2, 8, 2, 1000],
+            BOOT,
             LayoutFault::BadOrder,
         ),
         (
-            "\"order\":10,\"pageblocks\":64,\"blocks\":256,\"cpus\":2,\"batch\":2,\"high\":2,\
-             \"owners\":2,\"pages\":8,\"words\":2,\"history\":1000,\"boot\":[\"normal\",\"normal\",\
-             \"movable\",\"offline\"]",
+            [10, 64, 256, 2, 2, 2, 2, 8, 2, 1000],
+            BOOT,
             LayoutFault::TooManyFrames,
         ),
         (
-            "\"order\":2,\"pageblocks\":1,\"blocks\":4,\"cpus\":2,\"batch\":2,\"high\":1,\
-             \"owners\":2,\"pages\":8,\"words\":2,\"history\":1000,\"boot\":[\"normal\",\"normal\",\
-             \"movable\",\"offline\"]",
+            [2, 1, 4, 2, 2, 1, 2, 8, 2, 1000],
+            BOOT,
             LayoutFault::BadMarks,
         ),
         (
-            "\"order\":2,\"pageblocks\":1,\"blocks\":4,\"cpus\":2,\"batch\":2,\"high\":2,\
-             \"owners\":2,\"pages\":8,\"words\":2,\"history\":1000,\"boot\":[\"normal\",\"normal\",\
-             \"movable\"]",
+            [2, 1, 4, 2, 2, 2, 2, 8, 2, 1000],
+            "normal normal movable",
             LayoutFault::BadBoot,
         ),
     ] {
-        let input = scenario(rt.alloc(), layout, "")?;
+        let input = scenario(rt.alloc(), &(numbers, boot), "")?;
         let (result, bytes) = served(rt.alloc(), input.as_bytes());
         assert!(rt; result == Err(ProgramFault::Layout(fault)), "{fault}");
         assert!(rt; bytes.is_empty(), "{fault}");
@@ -44,11 +40,7 @@ fn layouts_out_of_their_limits_are_named(rt: HostRuntime) -> Result<(), Fail> {
 
 #[test]
 fn cut_texts_are_no_json(rt: HostRuntime) -> Result<(), Fail> {
-    let input = scenario(
-        rt.alloc(),
-        LAYOUT,
-        "\"0 kalloc 1\",\"0 kfree 0\",\"0 undo 0\"",
-    )?;
+    let input = scenario(rt.alloc(), &LAYOUT, "0 kalloc 1;0 kfree 0;0 undo 0")?;
     for length in 0..input.len() {
         let (result, bytes) = served(rt.alloc(), &input.as_bytes()[..length]);
         assert!(rt; result == Err(ProgramFault::NotJson), "{length}");
@@ -72,7 +64,7 @@ fn other_shapes_and_lines_are_refused(rt: HostRuntime) -> Result<(), Fail> {
         assert!(rt; result == Err(fault), "{input}");
         assert!(rt; bytes.is_empty(), "{input}");
     }
-    let input = scenario(rt.alloc(), LAYOUT, "\"0 kalloc 1\",\"0 kalloc\"")?;
+    let input = scenario(rt.alloc(), &LAYOUT, "0 kalloc 1;0 kalloc")?;
     let (result, _) = served(rt.alloc(), input.as_bytes());
     assert!(rt; result == Err(ProgramFault::BadLine { line: 2 }));
     Ok(())

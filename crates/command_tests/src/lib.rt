@@ -10,18 +10,12 @@ mod ends;
 #[cfg(test)]
 mod events;
 #[cfg(test)]
-mod inputs;
+mod files;
 #[cfg(test)]
-mod layouts;
+mod inputs;
 #[cfg(test)]
 mod pieces;
 #[cfg(test)]
-mod plans_and_files;
-#[cfg(test)]
 mod runs;
-#[cfg(test)]
-mod scenarios;
-#[cfg(test)]
-mod seals;
 #[cfg(test)]
 mod streams;

@@ -11,11 +11,7 @@ const UNDONE: &str =
 
 #[test]
 fn pieces_are_joined(rt: HostRuntime) -> Result<(), Fail> {
-    let input = scenario(
-        rt.alloc(),
-        LAYOUT,
-        "\"0 kalloc 1\",\"0 kfree 0\",\"0 undo 0\"",
-    )?;
+    let input = scenario(rt.alloc(), &LAYOUT, "0 kalloc 1;0 kfree 0;0 undo 0")?;
     for (read, written) in [(1, 4096), (5, 30), (4096, 1)] {
         let mut reader = Scripted::new(input.as_bytes(), read, 0);
         let mut writer = Collected::new(rt.alloc(), written, 0);
@@ -49,7 +45,7 @@ fn readers_and_writers_are_streams(rt: HostRuntime) -> Result<(), Fail> {
 
 #[test]
 fn failed_reads_write_nothing(rt: HostRuntime) -> Result<(), Fail> {
-    let input = scenario(rt.alloc(), LAYOUT, "\"0 kalloc 1\"")?;
+    let input = scenario(rt.alloc(), &LAYOUT, "0 kalloc 1")?;
     for fails_at in [1, 2, 3] {
         let mut reader = Scripted::new(input.as_bytes(), 100, fails_at);
         let mut writer = Collected::new(rt.alloc(), 4096, 0);
@@ -62,7 +58,7 @@ fn failed_reads_write_nothing(rt: HostRuntime) -> Result<(), Fail> {
 
 #[test]
 fn failed_writes_are_named(rt: HostRuntime) -> Result<(), Fail> {
-    let input = scenario(rt.alloc(), LAYOUT, "\"0 kalloc 1\"")?;
+    let input = scenario(rt.alloc(), &LAYOUT, "0 kalloc 1")?;
     for fails_at in [1, 2, 3] {
         let mut reader = Scripted::new(input.as_bytes(), 4096, 0);
         let mut writer = Collected::new(rt.alloc(), 30, fails_at);

@@ -1,5 +1,5 @@
 //! Runs by workers in threads, and their audits.
-use super::streams::{Collected, LAYOUT, Scripted, scenario};
+use super::streams::{BOOT, Collected, LAYOUT, Scripted, scenario};
 use hp_commands::{Command, ProgramFault, serve};
 use std::alloc::Global;
 use std::sync::Wait;
@@ -21,29 +21,27 @@ fn served<R: Threads + Wait + Sync>(
 
 /// Each processor writes and reads a page of its own.
 const TWO_OWNERS: &str =
-    "\"0 map db 0\",\"0 write db 0 0 7\",\"0 read db 0 0\",\"0 write db 0 1 8\",\"0 read db 0 1\",\
-     \"0 unmap db 0\",\"0 map db 0\",\"0 read db 0 0\",\"0 write db 0 0 9\",\"0 read db 0 0\",\
-     \"1 map web 0\",\"1 write web 0 0 7\",\"1 read web 0 0\",\"1 write web 0 1 8\",\
-     \"1 read web 0 1\",\"1 unmap web 0\",\"1 map web 0\",\"1 read web 0 0\",\"1 write web 0 0 9\",\
-     \"1 read web 0 0\"";
+    "0 map db 0;0 write db 0 0 7;0 read db 0 0;0 write db 0 1 8;0 read db 0 1;0 unmap db 0;\
+     0 map db 0;0 read db 0 0;0 write db 0 0 9;0 read db 0 0;1 map web 0;1 write web 0 0 7;\
+     1 read web 0 0;1 write web 0 1 8;1 read web 0 1;1 unmap web 0;1 map web 0;1 read web 0 0;\
+     1 write web 0 0 9;1 read web 0 0";
 
 /// A page is mapped, and its memory block goes offline.
-const OFFLINE: &str = "\"0 map db 0\",\"0 plan 4 off 2\"";
+const OFFLINE: &str = "0 map db 0;0 plan 4 off 2";
 
 /// The lines of `TWO_OWNERS`, and a seal by one processor while the other works.
 const SEALED: &str =
-    "\"0 map db 0\",\"0 write db 0 0 7\",\"0 read db 0 0\",\"0 write db 0 1 8\",\"0 read db 0 1\",\
-     \"0 seal\",\"0 unmap db 0\",\"0 map db 0\",\"0 read db 0 0\",\"0 write db 0 0 9\",\
-     \"0 read db 0 0\",\"1 map web 0\",\"1 write web 0 0 7\",\"1 read web 0 0\",\
-     \"1 write web 0 1 8\",\"1 read web 0 1\",\"1 unmap web 0\",\"1 map web 0\",\"1 read web 0 0\",\
-     \"1 write web 0 0 9\",\"1 read web 0 0\"";
+    "0 map db 0;0 write db 0 0 7;0 read db 0 0;0 write db 0 1 8;0 read db 0 1;0 seal;0 unmap db 0;\
+     0 map db 0;0 read db 0 0;0 write db 0 0 9;0 read db 0 0;1 map web 0;1 write web 0 0 7;\
+     1 read web 0 0;1 write web 0 1 8;1 read web 0 1;1 unmap web 0;1 map web 0;1 read web 0 0;\
+     1 write web 0 0 9;1 read web 0 0";
 
 /// What a run shows, its command, its calls, and its text.
 const RUNS: &[(&str, Command, &str, &str)] = &[
     (
         "serial starts no worker",
         Command::Serial,
-        "\"0 kalloc 1\"",
+        "0 kalloc 1",
         "1: frame 0\nstate\nblock 0 online normal\nblock 1 online normal\nblock 2 online movable\n\
          block 3 offline\nunmovable: 0\nNU 1: 2\nNM 2: 4\nMM 2: 8\nkernel 0 order 1\n",
     ),
@@ -63,7 +61,7 @@ const RUNS: &[(&str, Command, &str, &str)] = &[
     (
         "a refusal and a fault of a control file are lines of their own",
         Command::Run,
-        "\"1 kalloc 3\",\"1 echo online memory3/state\",\"1 echo onlin memory3/state\"",
+        "1 kalloc 3;1 echo online memory3/state;1 echo onlin memory3/state",
         "cpu 0\ncpu 1\nrefused BadOrder\ndone\necho: fault BadText\n2 records\n",
     ),
     (
@@ -75,7 +73,7 @@ const RUNS: &[(&str, Command, &str, &str)] = &[
     (
         "a worker's seals are lines of their own, and all records are counted",
         Command::Run,
-        "\"0 kalloc 1\",\"0 seal\",\"0 kfree 0\",\"0 kalloc 3\",\"0 seal\",\"0 seal\",\"0 undo 1\"",
+        "0 kalloc 1;0 seal;0 kfree 0;0 kalloc 3;0 seal;0 seal;0 undo 1",
         "cpu 0\nframe 0\nsealed 1\ndone\nrefused BadOrder\nsealed 2\nsealed 0\nrefused Gone\n\
          cpu 1\n4 records\n",
     ),
@@ -88,8 +86,8 @@ const RUNS: &[(&str, Command, &str, &str)] = &[
     (
         "volumes of two workers are replayed as one chain",
         Command::Audit,
-        "\"0 map db 0\",\"0 seal\",\"0 write db 0 0 7\",\"0 seal\",\"0 read db 0 0\",\"1 seal\",\
-         \"1 map web 0\",\"1 seal\",\"1 seal\",\"1 write web 0 0 7\"",
+        "0 map db 0;0 seal;0 write db 0 0 7;0 seal;0 read db 0 0;1 seal;1 map web 0;1 seal;1 seal;\
+         1 write web 0 0 7",
         "5 records\naudit ok\n",
     ),
     (
@@ -107,7 +105,7 @@ const RUNS: &[(&str, Command, &str, &str)] = &[
     (
         "a history with an undo is replayed",
         Command::Audit,
-        "\"0 kalloc 1\",\"0 kfree 0\",\"0 undo 0\"",
+        "0 kalloc 1;0 kfree 0;0 undo 0",
         "3 records\naudit ok\n",
     ),
     (
@@ -126,7 +124,7 @@ fn writes<R: Threads + Wait + Sync>(
     calls: &str,
     text: &str,
 ) -> Result<bool, Fail> {
-    let input = scenario(alloc, LAYOUT, calls)?;
+    let input = scenario(alloc, &LAYOUT, calls)?;
     let (result, bytes) = served(rt, command, alloc, input.as_bytes());
     Ok(result == Ok(()) && bytes.as_slice() == text.as_bytes())
 }
@@ -145,29 +143,29 @@ fn lines_that_no_worker_may_run_are_named(rt: HostRuntime) -> Result<(), Fail> {
         (
             "a control file is not read by run",
             Command::Run,
-            "\"0 cat buddyinfo\"",
+            "0 cat buddyinfo",
             1,
         ),
         (
             "a processor is not in the layout",
             Command::Run,
-            "\"2 drain 0\"",
+            "2 drain 0",
             1,
         ),
         (
             "the first such line is named",
             Command::Run,
-            "\"0 map db 0\",\"2 drain 0\",\"0 cat buddyinfo\"",
+            "0 map db 0;2 drain 0;0 cat buddyinfo",
             2,
         ),
         (
             "a control file is not read by audit",
             Command::Audit,
-            "\"0 cat buddyinfo\"",
+            "0 cat buddyinfo",
             1,
         ),
     ] {
-        let input = scenario(rt.alloc(), LAYOUT, calls)?;
+        let input = scenario(rt.alloc(), &LAYOUT, calls)?;
         let (result, bytes) = served(&rt, command, rt.alloc(), input.as_bytes());
         assert!(rt; result == Err(ProgramFault::NotForRun { line }), "{name}");
         assert!(rt; bytes.is_empty(), "{name}");
@@ -185,11 +183,8 @@ const FULL_FOR_1: &str =
 
 #[test]
 fn one_worker_finds_the_history_full(rt: HostRuntime) -> Result<(), Fail> {
-    let layout =
-        "\"order\":2,\"pageblocks\":1,\"blocks\":4,\"cpus\":2,\"batch\":2,\"high\":2,\"owners\":2,\
-         \"pages\":8,\"words\":2,\"history\":19,\"boot\":[\"normal\",\"normal\",\"movable\",\
-         \"offline\"]";
-    let input = scenario(rt.alloc(), layout, TWO_OWNERS)?;
+    let layout = ([2, 1, 4, 2, 2, 2, 2, 8, 2, 19], BOOT);
+    let input = scenario(rt.alloc(), &layout, TWO_OWNERS)?;
     let (result, bytes) = served(&rt, Command::Run, rt.alloc(), input.as_bytes());
     assert!(rt; result == Ok(()));
     assert!(rt;
@@ -200,7 +195,7 @@ fn one_worker_finds_the_history_full(rt: HostRuntime) -> Result<(), Fail> {
 
 #[test]
 fn failed_streams_of_a_run_are_named(rt: HostRuntime) -> Result<(), Fail> {
-    let input = scenario(rt.alloc(), LAYOUT, OFFLINE)?;
+    let input = scenario(rt.alloc(), &LAYOUT, OFFLINE)?;
     let mut reader = Scripted::new(input.as_bytes(), 100, 2);
     let mut writer = Collected::new(rt.alloc(), 4096, 0);
     let result = serve(&rt, Command::Audit, rt.alloc(), &mut reader, &mut writer);

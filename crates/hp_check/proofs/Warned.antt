@@ -4,10 +4,10 @@ use Rattle.std.proofs.lemmas.List.{take_more}
 use Rattle.std.proofs.lemmas.List.Sums.{fold_push}
 use Rattle.std.proofs.lemmas.Option.{slice_get_read}
 use Rattle.hp_units.specs.LayoutParts.{LayoutParts}
-use Rattle.hp_control.specs.declared.fault.ControlFault.{ControlFault}
-use Rattle.hp_control.specs.declared.writes.Request.{Request}
-use Rattle.hp_control.specs.declared.writes.Request.TheVariants as request
-use Rattle.hp_control.specs.Writes.{echo_request}
+use Rattle.hp_requests.specs.declared.fault.ControlFault.{ControlFault}
+use Rattle.hp_requests.specs.declared.writes.Request.{Request}
+use Rattle.hp_requests.specs.declared.writes.Request.TheVariants as request
+use Rattle.hp_requests.specs.Writes.{echo_request}
 use Rattle.hp_scenario.specs.declared.lines.Line.{Line}
 use Rattle.hp_scenario.specs.declared.lines.Work.{Work}
 use Rattle.hp_scenario.specs.declared.lines.Work.TheVariants as work
@@ -54,7 +54,7 @@ request_used t (Err fault) = omega arith
 pub work_used : (t : TallyValue) (w : Work) → (after_work t w).used ≤ t.used + 1
 work_used t (work.Event e) = omega arith
 work_used t (work.Plan plan turns) = omega arith
-work_used t (work.Echo path word) = request_used t (echo_request path word)
+work_used t (work.Echo echo) = request_used t (echo_request echo.path echo.word)
 work_used t (work.Cat path) = omega arith
 work_used t work.Seal = omega arith
 

@@ -1,10 +1,10 @@
 -- What the lines before a line make of the serials and of the history (own rule).
 use Rattle.std.specs.Prelude.{ℕ, ◌+◌, ◌-◌, ◌==◌, Bool, true, false, List, [], ◌∷◌, ◌++◌, fold, Option, Some, None, Result, Ok, Err, slice_get, if◌then◌else◌}
 use Rattle.hp_units.specs.Marks.{is_opening, mark_of}
-use Rattle.hp_control.specs.declared.fault.ControlFault.{ControlFault}
-use Rattle.hp_control.specs.declared.writes.Request.{Request}
-use Rattle.hp_control.specs.declared.writes.Request.TheVariants as request
-use Rattle.hp_control.specs.Writes.{echo_request}
+use Rattle.hp_requests.specs.declared.fault.ControlFault.{ControlFault}
+use Rattle.hp_requests.specs.declared.writes.Request.{Request}
+use Rattle.hp_requests.specs.declared.writes.Request.TheVariants as request
+use Rattle.hp_requests.specs.Writes.{echo_request}
 use Rattle.hp_scenario.specs.declared.lines.Line.{Line}
 use Rattle.hp_scenario.specs.declared.lines.Work.{Work}
 use Rattle.hp_scenario.specs.declared.lines.Work.TheVariants as work
@@ -46,7 +46,7 @@ after_request t (Err fault) = t
 abbrev pub after_work : TallyValue → Work → TallyValue
 after_work t (work.Event e) = after_record t (is_opening (mark_of e))
 after_work t (work.Plan plan turns) = after_plan t
-after_work t (work.Echo path word) = after_request t (echo_request path word)
+after_work t (work.Echo echo) = after_request t (echo_request echo.path echo.word)
 after_work t (work.Cat path) = t
 after_work t work.Seal = after_seal t
 

@@ -2,7 +2,7 @@
 use Rattle.std.specs.Prelude.{ℕ, ◌-◌, ◌==◌, ◌&&◌, Bool, not, List, [], ◌∷◌, ◌++◌, codes, count_by, length, nat_le, Option, Some, None, slice_get, if◌then◌else◌}
 use Rattle.std.specs.Fmt.{decimal}
 use Rattle.std.specs.List.{flat_map, list_all}
-use Rattle.hp_control.specs.FaultName.{fault_name}
+use Rattle.hp_requests.specs.FaultName.{fault_name}
 use Rattle.hp_check.specs.Expected.{expected}
 use Rattle.hp_check.specs.Findings.{is_fault, key_name, keys_of}
 use Rattle.hp_check.specs.declared.finding.Finding.{Finding}

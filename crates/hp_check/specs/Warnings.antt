@@ -1,5 +1,5 @@
 -- When a line hardly does what is wanted (own rule): the first that applies.
-use Rattle.std.specs.Prelude.{ℕ, ◌+◌, ◌==◌, Bool, true, false, not, List, [], ◌∷◌, length, find, take, Option, Some, None, Result, Ok, Err, nat_lt, nat_le, slice_get}
+use Rattle.std.specs.Prelude.{ℕ, ◌+◌, ◌==◌, Bool, not, List, [], ◌∷◌, length, find, take, Option, Some, None, Result, Ok, Err, nat_lt, nat_le, slice_get, is_some}
 use Rattle.std.specs.Bool.{then_some}
 use Rattle.std.specs.Option.{option_map, option_or}
 use Rattle.hp_units.specs.Arithmetic.{frame_count}
@@ -7,11 +7,11 @@ use Rattle.hp_units.specs.LayoutParts.{LayoutParts}
 use Rattle.hp_units.specs.declared.events.Event.{Event}
 use Rattle.hp_units.specs.declared.events.Event.TheVariants as event
 use Rattle.hp_units.specs.declared.plans.Item.{Item}
-use Rattle.hp_control.specs.declared.fault.ControlFault.{ControlFault}
-use Rattle.hp_control.specs.declared.fault.ControlFault.TheVariants as control
-use Rattle.hp_control.specs.declared.writes.Request.{Request}
-use Rattle.hp_control.specs.declared.writes.Request.TheVariants as request
-use Rattle.hp_control.specs.Writes.{echo_request, request_of}
+use Rattle.hp_requests.specs.declared.fault.ControlFault.{ControlFault}
+use Rattle.hp_requests.specs.declared.writes.Request.{Request}
+use Rattle.hp_requests.specs.declared.writes.Request.TheVariants as request
+use Rattle.hp_requests.specs.Files.{file_at}
+use Rattle.hp_requests.specs.Writes.{echo_request}
 use Rattle.hp_scenario.specs.declared.lines.Line.{Line}
 use Rattle.hp_scenario.specs.declared.lines.Work.{Work}
 use Rattle.hp_scenario.specs.declared.lines.Work.TheVariants as work
@@ -94,10 +94,9 @@ request_warning l t cpu (Ok (request.Event e)) = call_warning l t cpu e
 request_warning l t cpu (Ok (request.Plan plan)) = carried_warning l t cpu plan
 request_warning l t cpu (Err fault) = Some (Echo fault)
 
--- writing to the path would find no file
-abbrev pub is_no_file : Result Request ControlFault → Bool
-is_no_file (Err control.NoFile) = true
-is_no_file answer = false
+-- there is no control file at a path that is read
+abbrev pub cat_warning : (path : List ℕ) → Option Warning
+cat_warning path = then_some (not (is_some (file_at path))) NoFile
 
 -- ---- lines
 
@@ -105,8 +104,8 @@ abbrev pub work_warning : LayoutParts → TallyValue → (cpu : ℕ) → Work �
 work_warning l t cpu (work.Event e) = call_warning l t cpu e
 work_warning l t cpu (work.Plan plan turns) =
     option_or (carried_warning l t cpu plan) (too_many_turns l turns)
-work_warning l t cpu (work.Echo path word) = request_warning l t cpu (echo_request path word)
-work_warning l t cpu (work.Cat path) = then_some (is_no_file (request_of path [])) NoFile
+work_warning l t cpu (work.Echo echo) = request_warning l t cpu (echo_request echo.path echo.word)
+work_warning l t cpu (work.Cat path) = cat_warning path
 work_warning l t cpu work.Seal = None
 
 -- the warning of a line, after what the lines before it make

@@ -2,7 +2,7 @@
 ghost use Rattle.std.specs.Prelude.{◌≡◌};
 ghost use Rattle.hp_check.specs.Findings.{is_fault, key_name};
 
-use hp_control::ControlFault;
+use hp_requests::ControlFault;
 use hp_units::{Serial, Text};
 
 /// One thing that is wrong with a scenario, or that is likely to be. Texts of `calls` are counted from 1.

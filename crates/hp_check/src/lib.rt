@@ -15,7 +15,6 @@ mod finding;
 mod laws;
 mod ranges;
 mod report;
-mod requests;
 mod shape;
 mod tally;
 mod texts;

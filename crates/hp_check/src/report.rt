@@ -9,7 +9,7 @@ use crate::expected::expected;
 use crate::finding::{Finding, Key, OutOfRange, Place, Shape, Warning, What};
 use crate::shape::keys_of;
 use hp_call_lines::call_lines;
-use hp_control::ControlFault;
+use hp_requests::ControlFault;
 use std::alloc::{AllocError, Global};
 
 /// Writes findings on a scenario, one a line, and how many faults and warnings there are (own

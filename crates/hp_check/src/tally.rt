@@ -1,8 +1,8 @@
 //! What the lines before a line make of the serials and of the history.
-ghost use Rattle.std.specs.Prelude.{◌≡◌, ◌+◌, ◌^◌, ◌<◌, Ok, OnOk, slice_get};
+ghost use Rattle.std.specs.Prelude.{◌≡◌, ◌+◌, ◌^◌, ◌<◌, OnOk, slice_get};
 ghost use Rattle.hp_check.specs.Tally as means;
 
-use hp_control::{Request, echo_answer};
+use hp_requests::{ControlFault, Request};
 use hp_scenario::Work;
 use hp_units::{Serial, mark_of};
 use std::alloc::{AllocError, Global};
@@ -37,7 +37,7 @@ impl Tally {
     }
 
     /// Adds a line. An error is out of memory.
-    pub(crate) fn add(&mut self, alloc: Global, work: &Work) -> Result<(), AllocError>
+    pub(crate) fn add(&mut self, work: &Work) -> Result<(), AllocError>
         requires { self.old.used + 1 < 2 ^ 64 }
         ensures { OnOk result (self.new ≡ means.after_work self.old work.now) }
     {
@@ -47,10 +47,7 @@ impl Tally {
                 self.add_plan();
                 Ok(())
             }
-            Work::Echo { path, text } => match echo_answer(alloc, path.as_str(), text.as_str())? {
-                Ok(request) => self.add_request(&request),
-                Err(_fault) => Ok(()),
-            },
+            Work::Echo(echo) => self.add_request(echo.request()),
             Work::Cat { path: _ } => Ok(()),
             Work::Seal => {
                 self.used = 0;
@@ -59,17 +56,18 @@ impl Tally {
         }
     }
 
-    /// Adds what a control file was asked for. An error is out of memory.
-    fn add_request(&mut self, request: &Request) -> Result<(), AllocError>
+    /// Adds what a control file was asked for, if it takes the word. An error is out of memory.
+    fn add_request(&mut self, request: &Result<Request, ControlFault>) -> Result<(), AllocError>
         requires { self.old.used + 1 < 2 ^ 64 }
-        ensures { OnOk result (self.new ≡ means.after_request self.old (Ok request.now)) }
+        ensures { OnOk result (self.new ≡ means.after_request self.old request.now) }
     {
         match request {
-            Request::Event(event) => self.add_record(mark_of(event).is_opening()),
-            Request::Plan(_plan) => {
+            Ok(Request::Event(event)) => self.add_record(mark_of(event).is_opening()),
+            Ok(Request::Plan(_plan)) => {
                 self.add_plan();
                 Ok(())
             }
+            Err(_fault) => Ok(()),
         }
     }
 

@@ -1,13 +1,10 @@
 //! Lines that hardly do what is wanted.
-ghost use Rattle.std.specs.Prelude.{◌≡◌, ◌++◌, [], Ok, OnOk, IfOk};
-ghost use Rattle.std.specs.Bool.{then_some};
-ghost use Rattle.hp_control.specs.Writes.{request_of};
+ghost use Rattle.std.specs.Prelude.{◌≡◌, ◌++◌, OnOk, IfOk};
 ghost use Rattle.hp_check.specs.Warnings as means;
 
 use crate::finding::{Finding, Warning, What};
-use crate::requests::is_no_file;
 use crate::tally::Tally;
-use hp_control::{Request, echo_answer};
+use hp_requests::{ControlFault, Request, file_at};
 use hp_scenario::{Line, Work};
 use hp_units::{Block, Cpu, Event, Layout, Owner, Page, Plan, Serial};
 use std::alloc::{AllocError, Global};
@@ -25,9 +22,9 @@ pub(crate) fn warnings_of(
     let mut tally = Tally::new(alloc);
     for index in 0..lines.len() {
         let line = &lines[index];
-        let warning = work_warning(alloc, layout, &tally, line.cpu, &line.work)?;
+        let warning = work_warning(layout, &tally, line.cpu, &line.work);
         push_warning(&mut found, index as u64 + 1, warning)?;
-        tally.add(alloc, &line.work)?;
+        tally.add(&line.work)?;
     }
     Ok(found)
 }
@@ -46,49 +43,44 @@ fn push_warning(
     Ok(())
 }
 
-/// The warning of what a line asks for, if there is one. An error is out of memory.
-fn work_warning(
-    alloc: Global,
+/// The warning of what a line asks for, if there is one.
+fn work_warning(layout: &Layout, tally: &Tally, cpu: Cpu, work: &Work) -> Option<Warning>
+    ensures { result ≡ means.work_warning layout.now tally.now cpu work.now }
+{
+    match work {
+        Work::Event(event) => call_warning(layout, tally, cpu, event),
+        Work::Plan { plan, turns } => {
+            carried_warning(layout, tally, cpu, plan).or(too_many_turns(layout, *turns))
+        }
+        Work::Echo(echo) => request_warning(layout, tally, cpu, echo.request()),
+        Work::Cat { path } => cat_warning(path.as_str()),
+        Work::Seal => None,
+    }
+}
+
+/// The warning of what a control file was asked for, if there is one.
+fn request_warning(
     layout: &Layout,
     tally: &Tally,
     cpu: Cpu,
-    work: &Work,
-) -> Result<Option<Warning>, AllocError>
-    ensures { IfOk result (λ warning. warning ≡ means.work_warning layout.now tally.now cpu work.now) }
-{
-    match work {
-        Work::Event(event) => Ok(call_warning(layout, tally, cpu, event)),
-        Work::Plan { plan, turns } => Ok(carried_warning(layout, tally, cpu, plan).or(
-            too_many_turns(layout, *turns),
-        )),
-        Work::Echo { path, text } => match echo_answer(alloc, path.as_str(), text.as_str())? {
-            Ok(request) => Ok(request_warning(layout, tally, cpu, &request)),
-            Err(fault) => Ok(Some(Warning::Echo(fault))),
-        },
-        Work::Cat { path } => cat_warning(alloc, path.as_str()),
-        Work::Seal => Ok(None),
-    }
-}
-
-/// The warning of what a control file is asked for, if there is one.
-fn request_warning(layout: &Layout, tally: &Tally, cpu: Cpu, request: &Request) -> Option<Warning>
-    ensures { result ≡ means.request_warning layout.now tally.now cpu (Ok request.now) }
+    request: &Result<Request, ControlFault>,
+) -> Option<Warning>
+    ensures { result ≡ means.request_warning layout.now tally.now cpu request.now }
 {
     match request {
-        Request::Event(event) => call_warning(layout, tally, cpu, event),
-        Request::Plan(plan) => carried_warning(layout, tally, cpu, plan),
+        Ok(Request::Event(event)) => call_warning(layout, tally, cpu, event),
+        Ok(Request::Plan(plan)) => carried_warning(layout, tally, cpu, plan),
+        Err(fault) => Some(Warning::Echo(*fault)),
     }
 }
 
-/// The warning of a path that is read, if there is one. An error is out of memory.
-fn cat_warning(alloc: Global, path: &str) -> Result<Option<Warning>, AllocError>
-    ensures { IfOk result
-        (λ warning. warning ≡ then_some (means.is_no_file (request_of path.now [])) Warning.NoFile) }
+/// The warning of a path that is read, if there is one.
+fn cat_warning(path: &str) -> Option<Warning>
+    ensures { result ≡ means.cat_warning path.now }
 {
-    if is_no_file(alloc, path)? {
-        Ok(Some(Warning::NoFile))
-    } else {
-        Ok(None)
+    match file_at(path) {
+        Some(_file) => None,
+        None => Some(Warning::NoFile),
     }
 }
 

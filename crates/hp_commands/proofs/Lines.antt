@@ -4,12 +4,13 @@ use Rattle.std.proofs.lemmas.List.{take_more}
 use Rattle.hp_units.specs.LayoutParts.{LayoutParts}
 use Rattle.hp_units.specs.History.{value_of, net_of, run}
 use Rattle.hp_machine.specs.Machine.{MachineValue, booted}
+use Rattle.hp_requests.specs.Writes.{echo_request}
 use Rattle.hp_scenario.specs.declared.lines.Line.{Line}
 use Rattle.hp_scenario.specs.declared.lines.Work.{Work}
 use Rattle.hp_scenario.specs.declared.lines.Work.TheVariants as work
 use Rattle.hp_commands.specs.Serial.{GrowsBy, IsWhole, WritesLine, WritesLines, WritesWork, lines_text, line_text, machine_after, machine_after_lines, machine_after_work, work_text}
 use Rattle.hp_commands.proofs.EventsDue.{IsUpToDate, event_due, event_is}
-use Rattle.hp_commands.proofs.FilesDue.{cat_due, echo_due, echo_is}
+use Rattle.hp_commands.proofs.FilesDue.{cat_due, request_due, request_is}
 use Rattle.hp_commands.proofs.PlansDue.{plan_due, plan_is}
 use Rattle.hp_commands.proofs.SealsDue.{seal_due, seal_is}
 use Rattle.hp_commands.proofs.Whole.{whole_back}
@@ -69,7 +70,8 @@ work_is : (m : MachineValue) (cpu : ℕ) (w : Work) (text : List ℕ) (new : Mac
     → WritesWork m cpu w text new → IsUpToDate new
 work_is m cpu (work.Event event) text new h ran = event_is m cpu event text new h ran
 work_is m cpu (work.Plan plan turns) text new h ran = plan_is m cpu turns plan text new h ran
-work_is m cpu (work.Echo path word) text new h ran = echo_is m cpu path word text new h ran
+work_is m cpu (work.Echo echo) text new h ran =
+    request_is m cpu (echo_request echo.path echo.word) text new h ran
 work_is m cpu (work.Cat path) text new h ran = subst IsUpToDate (sym ran.1) h
 work_is m cpu work.Seal text new h ran = seal_is m text new h ran
 
@@ -109,8 +111,8 @@ work_due : (m : MachineValue) (cpu : ℕ) (w : Work) (text : List ℕ) (new : Ma
 work_due m cpu (work.Event event) text new rest ran whole = event_due m cpu event text new rest ran whole
 work_due m cpu (work.Plan plan turns) text new rest ran whole =
     plan_due m cpu turns plan text new rest ran whole
-work_due m cpu (work.Echo path word) text new rest ran whole =
-    echo_due m cpu path word text new rest ran whole
+work_due m cpu (work.Echo echo) text new rest ran whole =
+    request_due m cpu (echo_request echo.path echo.word) text new rest ran whole
 work_due m cpu (work.Cat path) text new rest ran whole = (cat_due m path text rest ran.0 whole, ran.1)
 work_due m cpu work.Seal text new rest ran whole = seal_due m text new rest ran whole
 

@@ -1,17 +1,15 @@
 -- What the functions that write a line did, said as their contracts say it.
-use Rattle.std.proofs.Common.{◌≡◌, ℕ, List, ◌++◌, Result, Ok, refl, sym, ap, subst, ◌∙◌, inl, inr}
+use Rattle.std.proofs.Common.{◌≡◌, ℕ, List, ◌++◌, Ok, refl, sym, ap, subst, ◌∙◌, inl, inr}
 use Rattle.hp_units.specs.declared.plans.Item.{Item}
 use Rattle.hp_units.specs.declared.replies.OpEnd.{OpEnd}
 use Rattle.hp_machine.specs.Machine.{MachineValue}
 use Rattle.hp_machine.specs.MachinePorts.{IsPlanRun}
-use Rattle.hp_control.specs.declared.fault.ControlFault.{ControlFault}
-use Rattle.hp_control.specs.declared.fault.ControlFault.TheVariants.{NoFile, ReadOnly, BadText, OutOfMemory, WriteOnly}
-use Rattle.hp_control.specs.declared.writes.Request.{Request}
-use Rattle.hp_control.specs.Gives.{Fails}
+use Rattle.hp_requests.specs.declared.fault.ControlFault.{ControlFault}
+use Rattle.hp_requests.specs.declared.fault.ControlFault.TheVariants.{NoFile, ReadOnly, BadText, OutOfMemory, WriteOnly}
+use Rattle.hp_requests.specs.Gives.{Fails}
 use Rattle.hp_control.specs.Reads.{file_text}
-use Rattle.hp_control.specs.Writes.{echo_request}
-use Rattle.hp_commands.specs.Files.{WritesEcho, WritesFile, WritesRequest, read_answer}
-use Rattle.hp_text.specs.Files.{read_fault_line, write_fault_line}
+use Rattle.hp_commands.specs.Files.{WritesFile, read_answer}
+use Rattle.hp_text.specs.Files.{read_fault_line}
 use Rattle.hp_text.specs.Plans.{plan_line}
 use Rattle.hp_commands.specs.Plans.{WritesPlan}
 use Rattle.hp_commands.specs.Serial.{GrowsBy}
@@ -63,45 +61,4 @@ file_fault_written m path asked fault old out same refused grown = record {
   is =
       read_refused m path fault
       (subst (λ (p : List ℕ). Fails fault (file_text m.layout m.state p)) same refused);
-}
-
--- ---- a text written
-
-pub echo_written : (m new : MachineValue) (cpu : ℕ) (path word asked said : List ℕ) (request : Request)
-    (old out : List ℕ)
-    → asked ≡ path → said ≡ word → echo_request asked said ≡ Ok request
-    → GrowsBy old out (λ (text : List ℕ). WritesRequest m cpu (Ok request) text new)
-    → GrowsBy old out (λ (text : List ℕ). WritesEcho m cpu path word text new)
-echo_written m new cpu path word asked said request old out at same means g =
-    let is : echo_request path word ≡ Ok request =
-    ap (λ (p : List ℕ). echo_request p word) (sym at) ∙ ap (echo_request asked) (sym same) ∙ means in
-    grows_as old out _ _ g (λ (text : List ℕ) w.
-    inl (subst (λ (a : Result Request ControlFault). WritesRequest m cpu a text new) (sym is) w))
-
-write_refused : (m : MachineValue) (cpu : ℕ) (path word : List ℕ) (fault : ControlFault)
-    → Fails fault (echo_request path word) → WritesEcho m cpu path word (write_fault_line fault) m
-write_refused m cpu path word NoFile h =
-    inl (subst (λ (a : Result Request ControlFault). WritesRequest m cpu a (write_fault_line NoFile) m)
-    (sym h) (refl, refl))
-write_refused m cpu path word ReadOnly h =
-    inl (subst (λ (a : Result Request ControlFault). WritesRequest m cpu a (write_fault_line ReadOnly) m)
-    (sym h) (refl, refl))
-write_refused m cpu path word BadText h =
-    inl (subst (λ (a : Result Request ControlFault). WritesRequest m cpu a (write_fault_line BadText) m)
-    (sym h) (refl, refl))
-write_refused m cpu path word OutOfMemory h = inr (refl, refl)
-write_refused m cpu path word WriteOnly h =
-    inl (subst (λ (a : Result Request ControlFault). WritesRequest m cpu a (write_fault_line WriteOnly) m)
-    (sym h) (refl, refl))
-
-pub echo_fault_written : (m : MachineValue) (cpu : ℕ) (path word asked said : List ℕ) (fault : ControlFault)
-    (old out : List ℕ)
-    → asked ≡ path → said ≡ word → Fails fault (echo_request asked said) → out ≡ old ++ write_fault_line fault
-    → GrowsBy old out (λ (text : List ℕ). WritesEcho m cpu path word text m)
-echo_fault_written m cpu path word asked said fault old out at same refused grown = record {
-  text = write_fault_line fault;
-  grown = grown;
-  is =
-      write_refused m cpu path word fault (subst (λ (p : List ℕ). Fails fault (echo_request p word)) at
-      (subst (λ (s : List ℕ). Fails fault (echo_request asked s)) same refused));
 }

@@ -1,12 +1,12 @@
 -- What lines on control files write, and what they make of the machine.
 use Rattle.std.specs.Prelude.{◌≡◌, ◌⊎◌, ℕ, List, Result, Ok, Err}
 use Rattle.hp_machine.specs.Machine.{MachineValue}
-use Rattle.hp_control.specs.declared.fault.ControlFault.{ControlFault}
-use Rattle.hp_control.specs.declared.fault.ControlFault.TheVariants.{OutOfMemory}
-use Rattle.hp_control.specs.declared.writes.Request.{Request}
-use Rattle.hp_control.specs.declared.writes.Request.TheVariants as request
+use Rattle.hp_requests.specs.declared.fault.ControlFault.{ControlFault}
+use Rattle.hp_requests.specs.declared.fault.ControlFault.TheVariants.{OutOfMemory}
+use Rattle.hp_requests.specs.declared.writes.Request.{Request}
+use Rattle.hp_requests.specs.declared.writes.Request.TheVariants as request
 use Rattle.hp_control.specs.Reads.{file_text}
-use Rattle.hp_control.specs.Writes.{control_turns, echo_request}
+use Rattle.hp_requests.specs.Writes.{control_turns}
 use Rattle.hp_commands.specs.Events.{WritesEvent, event_text, machine_after_event}
 use Rattle.hp_commands.specs.Plans.{WritesPlan, plan_run, plan_text}
 use Rattle.hp_text.specs.Files.{read_fault_line, write_fault_line}
@@ -44,10 +44,3 @@ abbrev pub WritesRequest : MachineValue → (cpu : ℕ) → Result Request Contr
 WritesRequest m cpu (Ok (request.Event event)) text new = WritesEvent m cpu event text new
 WritesRequest m cpu (Ok (request.Plan plan)) text new = WritesPlan m cpu control_turns plan text new
 WritesRequest m cpu (Err fault) text new = (text ≡ write_fault_line fault) × (new ≡ m)
-
--- a word was written to a file; or it was out of memory before it knew what that asks for, which is said
--- in place of the text
-abbrev pub WritesEcho : MachineValue → (cpu : ℕ) → (path word text : List ℕ) → (new : MachineValue) → Type 0
-WritesEcho m cpu path word text new =
-    WritesRequest m cpu (echo_request path word) text new
-    ⊎ ((text ≡ write_fault_line OutOfMemory) × (new ≡ m))

@@ -2,7 +2,7 @@
 use Rattle.std.specs.Prelude.{◌≡◌, ℕ, List, [], ◌∷◌, ◌++◌, codes, Result, Ok}
 use Rattle.hp_units.specs.History.{value_of}
 use Rattle.hp_machine.specs.Machine.{MachineValue, booted, sealed}
-use Rattle.hp_control.specs.Writes.{echo_request}
+use Rattle.hp_requests.specs.Writes.{echo_request}
 use Rattle.hp_scenario.specs.declared.fault.ScenarioFault.{ScenarioFault}
 use Rattle.hp_scenario.specs.declared.lines.Line.{Line}
 use Rattle.hp_scenario.specs.declared.lines.Work.{Work}
@@ -10,7 +10,7 @@ use Rattle.hp_scenario.specs.declared.lines.Work.TheVariants as work
 use Rattle.hp_scenario.specs.Gives.{◌>>=◌}
 use Rattle.hp_scenario.specs.Scenario.{ScenarioValue, scenario_in}
 use Rattle.hp_commands.specs.Events.{WritesEvent, event_text, machine_after_event}
-use Rattle.hp_commands.specs.Files.{WritesEcho, WritesFile, cat_text, machine_after_request, request_text}
+use Rattle.hp_commands.specs.Files.{WritesFile, WritesRequest, cat_text, machine_after_request, request_text}
 use Rattle.hp_commands.specs.Plans.{WritesPlan, plan_run, plan_text}
 use Rattle.hp_commands.specs.Seals.{WritesSeal, seal_text}
 use Rattle.hp_text.specs.State.{state_text}
@@ -21,14 +21,14 @@ use Rattle.hp_text.specs.State.{state_text}
 abbrev pub work_text : MachineValue → (cpu : ℕ) → Work → List ℕ
 work_text m cpu (work.Event event) = event_text m cpu event
 work_text m cpu (work.Plan plan turns) = plan_text m cpu turns plan
-work_text m cpu (work.Echo path word) = request_text m cpu (echo_request path word)
+work_text m cpu (work.Echo echo) = request_text m cpu (echo_request echo.path echo.word)
 work_text m cpu (work.Cat path) = cat_text m path
 work_text m cpu work.Seal = seal_text m
 
 abbrev pub machine_after_work : MachineValue → (cpu : ℕ) → Work → MachineValue
 machine_after_work m cpu (work.Event event) = machine_after_event m cpu event
 machine_after_work m cpu (work.Plan plan turns) = (plan_run m cpu turns plan).machine
-machine_after_work m cpu (work.Echo path word) = machine_after_request m cpu (echo_request path word)
+machine_after_work m cpu (work.Echo echo) = machine_after_request m cpu (echo_request echo.path echo.word)
 machine_after_work m cpu (work.Cat path) = m
 machine_after_work m cpu work.Seal = sealed m
 
@@ -72,7 +72,7 @@ IsWhole text = (front rest : List ℕ) → text ≡ front ++ (codes "OutOfMemory
 abbrev pub WritesWork : MachineValue → (cpu : ℕ) → Work → (text : List ℕ) → (new : MachineValue) → Type 0
 WritesWork m cpu (work.Event event) text new = WritesEvent m cpu event text new
 WritesWork m cpu (work.Plan plan turns) text new = WritesPlan m cpu turns plan text new
-WritesWork m cpu (work.Echo path word) text new = WritesEcho m cpu path word text new
+WritesWork m cpu (work.Echo echo) text new = WritesRequest m cpu (echo_request echo.path echo.word) text new
 WritesWork m cpu (work.Cat path) text new = WritesFile m path text × (new ≡ m)
 WritesWork m cpu work.Seal text new = WritesSeal m text new
 

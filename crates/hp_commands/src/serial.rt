@@ -8,7 +8,7 @@ ghost use Rattle.hp_commands.specs.Serial.{GrowsBy, WritesLine, WritesLines, ser
 ghost use Rattle.hp_commands.specs.Served.{IsTextOf};
 
 use crate::events::write_event;
-use crate::files::{write_echo, write_file};
+use crate::files::{write_file, write_request};
 use crate::plans::write_plan;
 use crate::seals::write_seal;
 use hp_machine::Machine;
@@ -91,7 +91,7 @@ fn write_line(
     match &line.work {
         Work::Event(event) => write_event(out, alloc, machine, line.cpu, event),
         Work::Plan { plan, turns } => write_plan(out, alloc, machine, line.cpu, plan, *turns),
-        Work::Echo { path, text } => write_echo(out, alloc, machine, line.cpu, path, text),
+        Work::Echo(echo) => write_request(out, alloc, machine, line.cpu, echo.request()),
         Work::Cat { path } => write_file(out, alloc, machine, path),
         Work::Seal => write_seal(out, alloc, machine),
     }

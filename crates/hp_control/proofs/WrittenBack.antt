@@ -4,11 +4,11 @@ use Rattle.hp_units.specs.LayoutParts.{LayoutParts}
 use Rattle.hp_units.specs.Memory.{Memory}
 use Rattle.hp_units.specs.Texts.{auto_text}
 use Rattle.hp_units.specs.declared.events.Event.TheVariants.{SetAuto}
-use Rattle.hp_control.specs.Files.{file_at}
+use Rattle.hp_requests.specs.Files.{file_at}
 use Rattle.hp_control.specs.Names.{Auto, OfflineAuto, OnlineAuto, KernelAuto, MovableAuto, ControlFault}
 use Rattle.hp_control.specs.Reads.{file_text, line, text_of}
-use Rattle.hp_control.specs.Writes.{auto_of, request_of, request_to}
-use Rattle.hp_control.specs.declared.writes.Request.TheVariants.{Event}
+use Rattle.hp_requests.specs.Writes.{auto_of, request_of, request_to}
+use Rattle.hp_requests.specs.declared.writes.Request.TheVariants.{Event}
 
 -- each of the four words with its newline
 word_back : (auto : Auto)

@@ -1,40 +1,11 @@
--- Laws of paths and texts, in plain terms.
-use Rattle.std.specs.Prelude.{◌≡◌, ℕ, ◌^◌, ◌<◌, ◌≤◌, List, ◌++◌, codes, length, Some, Ok, ◌↔◌}
-use Rattle.std.specs.Fmt.{decimal}
-use Rattle.std.specs.Str.Parse.{IsNumeral, digits_value}
+-- A law of what is read and written, in plain terms.
+use Rattle.std.specs.Prelude.{◌≡◌, ℕ, List, codes, Ok}
 use Rattle.hp_units.specs.LayoutParts.{LayoutParts}
 use Rattle.hp_units.specs.Memory.{Memory}
 use Rattle.hp_units.specs.declared.events.Event.TheVariants.{SetAuto}
-use Rattle.hp_control.specs.Files.{file_at}
-use Rattle.hp_control.specs.Names.{OfBlock, BlockFile, StateFile, OnlineFile, ZonesFile, RemovableFile}
 use Rattle.hp_control.specs.Reads.{file_text}
-use Rattle.hp_control.specs.Words.{address_of}
-use Rattle.hp_control.specs.Writes.{request_of}
-use Rattle.hp_control.specs.declared.writes.Request.TheVariants.{Event}
-
--- the name of a file of a memory block (Linux guide, Memory Hot(Un)Plug)
-abbrev pub file_name : BlockFile → List ℕ
-file_name StateFile = codes "state"
-file_name OnlineFile = codes "online"
-file_name ZonesFile = codes "valid_zones"
-file_name RemovableFile = codes "removable"
-
--- the path of a file of a memory block (Linux guide: memoryXXX)
-abbrev pub block_path : ℕ → BlockFile → List ℕ
-block_path block file = (codes "memory" ++ decimal block) ++ (codes "/" ++ file_name file)
-
--- a path stands for a file of a memory block just where it is spelled so
-abbrev pub BlockPathsAreSpelled : Type 0
-BlockPathsAreSpelled =
-    (path : List ℕ) (block : ℕ) (file : BlockFile)
-    → (file_at path ≡ Some (OfBlock block file)) ↔ ((path ≡ block_path block file) × (block < 2 ^ 32))
-
--- a text is an address just where it is `0x` and 1 to 16 hexadecimal digits, of the number that they write
-abbrev pub AddressesAreSpelled : Type 0
-AddressesAreSpelled =
-    (text : List ℕ) (address : ℕ)
-    → (address_of text ≡ Some address) ↔ ((digits : List ℕ) × (text ≡ codes "0x" ++ digits)
-    × IsNumeral 16 digits × (length digits ≤ 16) × (digits_value 16 digits ≡ address))
+use Rattle.hp_requests.specs.Writes.{request_of}
+use Rattle.hp_requests.specs.declared.writes.Request.TheVariants.{Event}
 
 -- what `auto_online_blocks` shows, written back, asks for what it is
 abbrev pub AutoIsWrittenBack : Type 0

@@ -1,9 +1,4 @@
-pub mod FaultName
-pub mod Files
-pub mod Gives
 pub mod Laws
 pub mod Names
 pub mod Reads
-pub mod Words
-pub mod Writes
 pub mod Zones

@@ -6,13 +6,12 @@ pub use Rattle.hp_units.specs.declared.rows.Class.{Class}
 pub use Rattle.hp_units.specs.declared.rows.Class.TheVariants.{Nu, Nm, Mm, IsoN, IsoM}
 pub use Rattle.hp_units.specs.declared.rows.State.{State}
 pub use Rattle.hp_units.specs.declared.rows.State.TheVariants.{Offline as OfflineState, Online as OnlineState, Going as GoingState, Absent as AbsentState}
-pub use Rattle.hp_units.specs.declared.rows.Wish.TheVariants.{Off as OffWish}
 pub use Rattle.hp_units.specs.declared.rows.Auto.{Auto}
 pub use Rattle.hp_units.specs.declared.rows.Auto.TheVariants.{Offline as OfflineAuto, Online as OnlineAuto, OnlineKernel as KernelAuto, OnlineMovable as MovableAuto}
 pub use Rattle.hp_units.specs.declared.rows.Row.{Row}
-pub use Rattle.hp_control.specs.declared.files.File.{File}
-pub use Rattle.hp_control.specs.declared.files.File.TheVariants.{BlockSizeBytes, Buddyinfo, Probe, AutoOnlineBlocks, OfBlock}
-pub use Rattle.hp_control.specs.declared.files.BlockFile.{BlockFile}
-pub use Rattle.hp_control.specs.declared.files.BlockFile.TheVariants.{State as StateFile, Online as OnlineFile, ValidZones as ZonesFile, Removable as RemovableFile}
-pub use Rattle.hp_control.specs.declared.fault.ControlFault.{ControlFault}
-pub use Rattle.hp_control.specs.declared.fault.ControlFault.TheVariants.{NoFile, ReadOnly, BadText, OutOfMemory, WriteOnly}
+pub use Rattle.hp_requests.specs.declared.files.File.{File}
+pub use Rattle.hp_requests.specs.declared.files.File.TheVariants.{BlockSizeBytes, Buddyinfo, Probe, AutoOnlineBlocks, OfBlock}
+pub use Rattle.hp_requests.specs.declared.files.BlockFile.{BlockFile}
+pub use Rattle.hp_requests.specs.declared.files.BlockFile.TheVariants.{State as StateFile, Online as OnlineFile, ValidZones as ZonesFile, Removable as RemovableFile}
+pub use Rattle.hp_requests.specs.declared.fault.ControlFault.{ControlFault}
+pub use Rattle.hp_requests.specs.declared.fault.ControlFault.TheVariants.{NoFile, ReadOnly, BadText, OutOfMemory, WriteOnly}

@@ -7,8 +7,8 @@ use Rattle.hp_units.specs.Arithmetic.{block_bytes}
 use Rattle.hp_units.specs.LayoutParts.{LayoutParts}
 use Rattle.hp_units.specs.Memory.{Memory}
 use Rattle.hp_units.specs.Texts.{auto_text}
-use Rattle.hp_control.specs.Files.{file_at}
-use Rattle.hp_control.specs.Gives.{or_fault, ◌>>=◌}
+use Rattle.hp_requests.specs.Files.{file_at}
+use Rattle.hp_requests.specs.Gives.{or_fault, ◌>>=◌}
 use Rattle.hp_control.specs.Zones.{buddyinfo_text, zone_name}
 use Rattle.hp_control.specs.Names.{Zone, State, OfflineState, OnlineState, GoingState, AbsentState, Row, ControlFault, NoFile, WriteOnly, File, BlockSizeBytes, Buddyinfo, Probe, AutoOnlineBlocks, OfBlock, BlockFile, StateFile, OnlineFile, ZonesFile, RemovableFile}
 

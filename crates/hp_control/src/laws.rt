@@ -1,17 +1,5 @@
-//! Laws of paths and texts, in plain terms.
-ghost use Rattle.hp_control.specs.Laws.{AddressesAreSpelled, AutoIsWrittenBack, BlockPathsAreSpelled};
-
-/// A path stands for a file of memory block N just where it is `memoryN/`, N in decimal and below
-/// 2^32, and the file's name.
-pub fn block_paths_are_spelled()
-    ensures { BlockPathsAreSpelled }
-{}
-
-/// A text is an address just where it is `0x` and 1 to 16 hexadecimal digits of either case, of the
-/// number that they write.
-pub fn addresses_are_spelled()
-    ensures { AddressesAreSpelled }
-{}
+//! A law of what is read and written, in plain terms.
+ghost use Rattle.hp_control.specs.Laws.{AutoIsWrittenBack};
 
 /// What `auto_online_blocks` shows, written back, asks for what it is.
 pub fn auto_is_written_back()

@@ -1,15 +1,14 @@
 //! What reading a control file gives.
 ghost use Rattle.std.specs.Prelude.{◌≡◌, IfOk, false, option_map, string_bytes};
-ghost use Rattle.hp_control.specs.Gives.{Gives, or_fault};
+ghost use Rattle.hp_requests.specs.Gives.{Gives, or_fault};
 ghost use Rattle.hp_control.specs.Reads as means;
 ghost use Rattle.hp_units.specs.Arithmetic.{block_bytes};
 ghost use Rattle.hp_units.specs.Texts.{auto_text};
 ghost use Rattle.std.specs.Fmt.{digits};
 
-use crate::fault::ControlFault;
-use crate::files::{BlockFile, File, file_at};
 use crate::zones::zones_text;
 use hp_machine::Machine;
+use hp_requests::{BlockFile, ControlFault, File, file_at};
 use hp_units::{Block, Layout, Row, State, Zone};
 use std::alloc::{AllocError, Global};
 

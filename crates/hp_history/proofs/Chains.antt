@@ -1,7 +1,8 @@
 -- How an audit goes on by the next volume of a list, and where it finds one at fault.
-use Rattle.std.proofs.Common.{◌≡◌, ℕ, ◌+◌, ◌≤◌, ◌<◌, List, [], ◌∷◌, ◌++◌, length, take, Some, slice_get, refl, ap, sym, subst, ◌∙◌, arith, inl, inr}
+use Rattle.std.proofs.Common.{◌≡◌, ℕ, suc, ◌+◌, ◌≤◌, ◌<◌, List, [], ◌∷◌, ◌++◌, length, take, Some, slice_get, refl, ap, sym, subst, ◌∙◌, arith, inl, inr}
 use Rattle.std.specs.Prelude.{fold}
 use Rattle.std.proofs.lemmas.List.{take-append-le, take_all}
+use Rattle.std.proofs.lemmas.List.Folds.{fold-map}
 use Rattle.std.proofs.lemmas.List.Sums.{fold-append, sum_by-append, sum_by-cons}
 use Rattle.std.proofs.lemmas.Option.{slice_get_within}
 use Rattle.hp_units.specs.Boot.{boot_memory}
@@ -9,15 +10,17 @@ use Rattle.hp_units.specs.Memory.{Memory}
 use Rattle.hp_units.specs.LayoutParts.{IsLayout, LayoutParts}
 use Rattle.hp_units.specs.Placement.{IsWellPlaced}
 use Rattle.hp_units.specs.History.{IsLegal, value_of}
+use Rattle.hp_laws.specs.Seals.{AreLegal, value_of_all}
 use Rattle.hp_laws.proofs.Boots.{boot-placed}
 use Rattle.hp_laws.proofs.EventSteps.{value-placed}
 use Rattle.hp_laws.proofs.Lists.{get_push_cases}
 use Rattle.hp_laws.proofs.Replays.{take_one}
+use Rattle.hp_laws.proofs.SealedNets.{count_of_all}
 use Rattle.hp_plain.specs.Image.{Pictured}
 use Rattle.hp_history.specs.Course.{CourseValue, last_serial, started}
 use Rattle.hp_history.specs.Kept.{pictured}
 use Rattle.hp_history.specs.Replay.{IsCourseOf, IsFault, Refutes}
-use Rattle.hp_history.specs.Volumes.{EndsVolumes, FollowsEnd, FollowsVolumes, IsChain, IsChainFault, IsFaultAfter, RefutesChain, chain_fault, records_in, sealed_after, state_after}
+use Rattle.hp_history.specs.Volumes.{EndsVolumes, FollowsEnd, FollowsVolumes, IsChain, IsChainFault, IsFaultAfter, RefutesChain, chain_fault, histories_of, records_in, sealed_after, state_after}
 use Rattle.hp_history.specs.declared.replaying.ReplayFault.{ReplayFault}
 use Rattle.hp_history.specs.declared.replaying.ReplayFault.TheVariants.{WrongReply, WrongSerial, OutOfMemory as ReplayOutOfMemory}
 use Rattle.hp_history.specs.declared.volumes.ChainFault.{ChainFault}
@@ -56,6 +59,46 @@ chain_more l volumes v chain next at x e =
           subst (λ (g : List Volume). FollowsVolumes l g x) (sym whole)
           (subst (λ (y : Volume). FollowsVolumes l volumes y) last.1 next))
     ]
+
+-- ---- the histories of volumes
+
+-- volumes of which each stands over the state that those before it lead to
+histories_from : (l : LayoutParts) (s : Memory) (before : ℕ) (volumes : List Volume)
+    → ((at : ℕ) (v : Volume) → slice_get volumes at ≡ Some v
+    → IsLegal l (fold (λ t x. value_of l t x.records) s (take at volumes))
+    (before + records_in (take at volumes)) v.records)
+    → AreLegal l s before (histories_of volumes)
+histories_from l s before [] each = tt
+histories_from l s before (v ∷ volumes) each =
+    let none : before + records_in [] ≡ before = omega arith in (
+      subst (λ (n : ℕ). IsLegal l s n v.records) none (each 0 v refl),
+      histories_from l (value_of l s v.records) (before + length v.records) volumes
+          (λ at x e. let sum : before + records_in (v ∷ take at volumes)
+          ≡ (before + length v.records) + records_in (take at volumes) =
+          omega (arith, sum_by-cons (λ (y : Volume). length y.records) v (take at volumes)) in
+          subst (λ (n : ℕ). IsLegal l (fold (λ t y. value_of l t y.records) (value_of l s v.records)
+          (take at volumes)) n x.records) sum (each (suc at) x e)),
+    )
+
+-- those of a chain are legal one after another
+pub chain_legal : (l : LayoutParts) (volumes : List Volume) → IsChain l volumes
+    → AreLegal l (boot_memory l) 0 (histories_of volumes)
+chain_legal l volumes chain =
+    histories_from l (boot_memory l) 0 volumes (λ at v e. let none : records_in (take at volumes)
+    ≡ 0 + records_in (take at volumes) = omega arith in
+    subst (λ (n : ℕ). IsLegal l (state_after l (take at volumes)) n v.records) none (chain at v e).legal)
+
+-- they lead to the same state, and have as many records
+pub histories_value : (l : LayoutParts) (volumes : List Volume)
+    → value_of_all l (boot_memory l) (histories_of volumes) ≡ state_after l volumes
+histories_value l volumes =
+    fold-map (λ (s : Memory) (h : List Record). value_of l s h) (λ (v : Volume). v.records) (boot_memory l)
+    volumes
+
+pub histories_count : (volumes : List Volume) → count_of_all (histories_of volumes) ≡ records_in volumes
+histories_count [] = refl
+histories_count (v ∷ volumes) =
+    omega (arith, histories_count volumes, sum_by-cons (λ (x : Volume). length x.records) v volumes)
 
 -- ---- a list of volumes
 

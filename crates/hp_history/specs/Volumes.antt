@@ -1,9 +1,10 @@
 -- Volumes of sealed records, and which volume of a list is the first that does not follow those before it.
-use Rattle.std.specs.Prelude.{ℕ, ◌≡◌, ◌≢◌, ◌+◌, List, Some, fold, length, slice_get, sum_by, take}
+use Rattle.std.specs.Prelude.{ℕ, ◌≡◌, ◌≢◌, ◌+◌, List, Some, fold, length, map, slice_get, sum_by, take}
 use Rattle.hp_units.specs.Boot.{boot_memory}
 use Rattle.hp_units.specs.LayoutParts.{LayoutParts}
 use Rattle.hp_units.specs.Memory.{Memory}
 use Rattle.hp_units.specs.History.{IsLegal, value_of}
+use Rattle.hp_units.specs.declared.replies.Record.{Record}
 use Rattle.hp_history.specs.Course.{CourseValue, started}
 use Rattle.hp_history.specs.Kept.{pictured}
 use Rattle.hp_history.specs.Replay.{IsFault}
@@ -35,6 +36,10 @@ pub record FollowsVolumes (l : LayoutParts) (earlier : List Volume) (v : Volume)
 abbrev pub IsChain : LayoutParts → List Volume → Type 0
 IsChain l volumes =
     (at : ℕ) (v : Volume) → slice_get volumes at ≡ Some v → FollowsVolumes l (take at volumes) v
+
+-- the records of each volume
+abbrev pub histories_of : List Volume → List (List Record)
+histories_of volumes = map (λ v. v.records) volumes
 
 -- ---- faults
 

@@ -55,7 +55,7 @@ unfit_known input s setup limit cpus before after (NotForScript place why) read 
     (s, read, unfit_at s setup cpus before after place why parts h)
 unfit_known input s setup limit cpus before after TooMany read parts h = absurd h
 unfit_known input s setup limit cpus before after HistoryFull read parts h = absurd h
-unfit_known input s setup limit cpus before after OutOfMemory read parts h = tt
+unfit_known input s setup limit cpus before after OutOfMemory read parts h = absurd h
 
 -- ---- the search
 

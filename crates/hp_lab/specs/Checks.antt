@@ -1,13 +1,13 @@
 -- Which lines cannot stand in a script (own rule).
 use Rattle.std.specs.Prelude.{◌≡◌, ℕ, ◌+◌, ◌<◌, nat_lt, if◌then◌else◌, List, Option, Some, None, Result, Ok, Err, slice_get}
-use Rattle.hp_control.specs.declared.fault.ControlFault.{ControlFault}
-use Rattle.hp_control.specs.declared.writes.Request.{Request}
-use Rattle.hp_control.specs.Writes.{echo_request}
+use Rattle.hp_requests.specs.declared.fault.ControlFault.{ControlFault}
+use Rattle.hp_requests.specs.declared.writes.Request.{Request}
+use Rattle.hp_requests.specs.Writes.{echo_request}
 use Rattle.hp_scenario.specs.declared.lines.Line.{Line}
 use Rattle.hp_scenario.specs.declared.lines.Work.{Work}
 use Rattle.hp_scenario.specs.declared.lines.Work.TheVariants as work
 use Rattle.hp_lab.specs.declared.fault.LabFault.{LabFault}
-use Rattle.hp_lab.specs.declared.fault.LabFault.TheVariants.{NotForScript, OutOfMemory}
+use Rattle.hp_lab.specs.declared.fault.LabFault.TheVariants.{NotForScript}
 use Rattle.hp_lab.specs.declared.fault.Unfit.{Unfit}
 use Rattle.hp_lab.specs.declared.fault.Unfit.TheVariants.{Processor, Cat, Seal, Echo}
 
@@ -20,7 +20,7 @@ untaken (Err fault) = Some (Echo fault)
 abbrev pub unfit_work : Work → Option Unfit
 unfit_work (work.Event event) = None
 unfit_work (work.Plan plan turns) = None
-unfit_work (work.Echo path word) = untaken (echo_request path word)
+unfit_work (work.Echo echo) = untaken (echo_request echo.path echo.word)
 unfit_work (work.Cat path) = Some Cat
 unfit_work work.Seal = Some Seal
 
@@ -36,7 +36,6 @@ AreFit cpus lines below =
 -- a line that is counted so cannot stand in a script, and the fault says why
 abbrev pub IsLineFault : (cpus place : ℕ) → Line → LabFault → Type 0
 IsLineFault cpus place line (NotForScript at why) = (at ≡ place) × (unfit cpus line ≡ Some why)
-IsLineFault cpus place line OutOfMemory = Unit {0}
 IsLineFault cpus place line fault = ⊥
 
 -- the first of the lines that cannot, with so many lines before them; lines are counted from 1
@@ -50,5 +49,4 @@ pub record IsFirstUnfit (cpus before : ℕ) (lines : List Line) (place : ℕ) (w
 
 abbrev pub IsUnfit : (cpus before : ℕ) → List Line → LabFault → Type 0
 IsUnfit cpus before lines (NotForScript place why) = IsFirstUnfit cpus before lines place why
-IsUnfit cpus before lines OutOfMemory = Unit {0}
 IsUnfit cpus before lines fault = ⊥

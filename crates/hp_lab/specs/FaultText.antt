@@ -2,7 +2,7 @@
 use Rattle.std.specs.Prelude.{ℕ, List, ◌++◌, codes}
 use Rattle.std.specs.Fmt.{decimal}
 use Rattle.hp_units.specs.Texts.{layout_fault_text}
-use Rattle.hp_control.specs.FaultName.{fault_name}
+use Rattle.hp_requests.specs.FaultName.{fault_name}
 use Rattle.hp_lab.specs.declared.fault.LabFault.{LabFault}
 use Rattle.hp_lab.specs.declared.fault.LabFault.TheVariants.{NotJson, BadShape, Layout, BadLine, NotForScript, TooMany, HistoryFull, OutOfMemory}
 use Rattle.hp_lab.specs.declared.fault.Unfit.{Unfit}

@@ -4,10 +4,10 @@ use Rattle.std.specs.List.{flat_map, range_with_len}
 use Rattle.std.specs.Option.{option_map_or}
 use Rattle.hp_units.specs.declared.events.Event.{Event}
 use Rattle.hp_units.specs.declared.events.Event.TheVariants as event
-use Rattle.hp_control.specs.declared.fault.ControlFault.{ControlFault}
-use Rattle.hp_control.specs.declared.writes.Request.{Request}
-use Rattle.hp_control.specs.declared.writes.Request.TheVariants as request
-use Rattle.hp_control.specs.Writes.{control_turns, echo_request}
+use Rattle.hp_requests.specs.declared.fault.ControlFault.{ControlFault}
+use Rattle.hp_requests.specs.declared.writes.Request.{Request}
+use Rattle.hp_requests.specs.declared.writes.Request.TheVariants as request
+use Rattle.hp_requests.specs.Writes.{control_turns, echo_request}
 use Rattle.hp_explore.specs.declared.scripts.Line as step
 use Rattle.hp_explore.specs.declared.scripts.Line.TheVariants.{Ask, Own, Carry}
 use Rattle.hp_explore.specs.declared.scripts.Work as own
@@ -44,7 +44,7 @@ answered (Err fault) = None
 abbrev pub explored : Work → Option step.Line
 explored (work.Event e) = Some (asked e)
 explored (work.Plan plan turns) = Some (Carry plan turns)
-explored (work.Echo path word) = answered (echo_request path word)
+explored (work.Echo echo) = answered (echo_request echo.path echo.word)
 explored (work.Cat path) = None
 explored work.Seal = None
 

@@ -9,10 +9,10 @@ use Rattle.hp_units.specs.declared.replies.OpEnd.TheVariants.{Left}
 use Rattle.hp_units.specs.declared.replies.Receipt.{Receipt}
 use Rattle.hp_machine.specs.Machine.{IsCalled, MachineValue, is_full, sealed}
 use Rattle.hp_machine.specs.MachinePorts.{IsPlanRun}
-use Rattle.hp_control.specs.declared.fault.ControlFault.{ControlFault}
-use Rattle.hp_control.specs.declared.writes.Request.{Request}
-use Rattle.hp_control.specs.declared.writes.Request.TheVariants as request
-use Rattle.hp_control.specs.Writes.{control_turns, echo_request}
+use Rattle.hp_requests.specs.declared.fault.ControlFault.{ControlFault}
+use Rattle.hp_requests.specs.declared.writes.Request.{Request}
+use Rattle.hp_requests.specs.declared.writes.Request.TheVariants as request
+use Rattle.hp_requests.specs.Writes.{control_turns, echo_request}
 use Rattle.hp_scenario.specs.declared.lines.Line.{Line}
 use Rattle.hp_scenario.specs.declared.lines.Work.{Work}
 use Rattle.hp_scenario.specs.declared.lines.Work.TheVariants as work
@@ -51,7 +51,7 @@ RunsSeal m new = new ≡ sealed m
 abbrev pub RunsWork : MachineValue → (cpu : ℕ) → Work → (new : MachineValue) → Type 0
 RunsWork m cpu (work.Event event) new = RunsEvent m cpu event new
 RunsWork m cpu (work.Plan plan turns) new = RunsPlan m cpu turns plan new
-RunsWork m cpu (work.Echo path word) new = RunsRequest m cpu (echo_request path word) new
+RunsWork m cpu (work.Echo echo) new = RunsRequest m cpu (echo_request echo.path echo.word) new
 RunsWork m cpu (work.Cat path) new = new ≡ m
 RunsWork m cpu work.Seal new = RunsSeal m new
 

@@ -43,7 +43,7 @@ pub fn explore_text<W: Watch>(
     let lines = scenario.lines.as_slice();
     let before = front_of(lines, setup);
     let after = rest_of(lines, setup);
-    check_lines(alloc, cpus, before.len() as u64, after)?;
+    check_lines(cpus, before.len() as u64, after)?;
     let scripts = scripts_of(alloc, cpus, after)?;
     let text = explored_after(
         alloc,

@@ -2,8 +2,8 @@
 ghost use Rattle.std.specs.Prelude.{◌≡◌, Some};
 ghost use Rattle.hp_lab.specs.declared.fault.LabFault.TheVariants.{OutOfMemory};
 
-use hp_control::ControlFault;
 use hp_explore::ExploreFault;
+use hp_requests::ControlFault;
 use hp_scenario::ScenarioFault;
 use hp_units::LayoutFault;
 use std::alloc::AllocError;

@@ -1,9 +1,9 @@
 //! The lines after the setup, as a script for each processor.
 ghost use Rattle.std.specs.Prelude.{◌≡◌, ◌++◌, IfOk, OnOk};
-ghost use Rattle.hp_lab.specs.Scripts.{asked, explored, line_for, own_if_last, own_work, requested, script_of, scripts_of};
+ghost use Rattle.hp_lab.specs.Scripts.{answered, asked, explored, line_for, own_if_last, own_work, requested, script_of, scripts_of};
 
-use hp_control::{CONTROL_TURNS, Request, echo_answer};
 use hp_explore::{Line as Step, Script, Work as OwnWork};
+use hp_requests::{CONTROL_TURNS, ControlFault, Request};
 use hp_scenario::{Line, Work};
 use hp_units::{Cpu, Event, Plan, Serial};
 use std::alloc::{AllocError, Global};
@@ -57,12 +57,22 @@ fn explored(alloc: Global, work: &Work) -> Result<Option<Step>, AllocError>
     match work {
         Work::Event(event) => Ok(Some(asked(alloc, event)?)),
         Work::Plan { plan, turns } => Ok(Some(carried(alloc, plan, *turns)?)),
-        Work::Echo { path, text } => match echo_answer(alloc, path.as_str(), text.as_str())? {
-            Ok(request) => Ok(Some(requested(alloc, &request)?)),
-            Err(_fault) => Ok(None),
-        },
+        Work::Echo(echo) => answered(alloc, echo.request()),
         Work::Cat { path: _ } => Ok(None),
         Work::Seal => Ok(None),
+    }
+}
+
+/// What a control file was asked for as a step, if the file takes it. An error is out of memory.
+fn answered(
+    alloc: Global,
+    request: &Result<Request, ControlFault>,
+) -> Result<Option<Step>, AllocError>
+    ensures { IfOk result (λ step. step ≡ answered request.now) }
+{
+    match request {
+        Ok(request) => Ok(Some(requested(alloc, request)?)),
+        Err(_fault) => Ok(None),
     }
 }
 

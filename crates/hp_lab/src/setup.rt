@@ -1,9 +1,9 @@
 //! The setup: lines that are run in order on one machine, as `hotplug serial` runs them.
-ghost use Rattle.std.specs.Prelude.{◌≡◌, OnOk, Ok};
+ghost use Rattle.std.specs.Prelude.{◌≡◌, OnOk};
 ghost use Rattle.hp_lab.specs.Setup.{RunsEvent, RunsLines, RunsPlan, RunsRequest, RunsSeal, RunsWork, is_out_of_memory};
 
-use hp_control::{CONTROL_TURNS, Request, echo_answer};
 use hp_machine::Machine;
+use hp_requests::{CONTROL_TURNS, ControlFault, Request};
 use hp_scenario::{Line, Work};
 use hp_units::{CallFault, Cpu, Event, OpEnd, Plan};
 use std::alloc::{AllocError, Global};
@@ -29,27 +29,25 @@ fn run_work(alloc: Global, machine: &mut Machine, cpu: Cpu, work: &Work) -> Resu
     match work {
         Work::Event(event) => run_event(alloc, machine, cpu, event),
         Work::Plan { plan, turns } => carry_out(alloc, machine, cpu, plan, *turns),
-        Work::Echo { path, text } => match echo_answer(alloc, path.as_str(), text.as_str())? {
-            Ok(request) => run_request(alloc, machine, cpu, &request),
-            Err(_fault) => Ok(()),
-        },
+        Work::Echo(echo) => run_request(alloc, machine, cpu, echo.request()),
         Work::Cat { path: _ } => Ok(()),
         Work::Seal => seal(alloc, machine),
     }
 }
 
-/// Does what a control file asks for.
+/// Does what a control file was asked for; a text that it does not take does nothing.
 fn run_request(
     alloc: Global,
     machine: &mut Machine,
     cpu: Cpu,
-    request: &Request,
+    request: &Result<Request, ControlFault>,
 ) -> Result<(), AllocError>
-    ensures { OnOk result (RunsRequest machine.old cpu (Ok request.now) machine.new) }
+    ensures { OnOk result (RunsRequest machine.old cpu request.now machine.new) }
 {
     match request {
-        Request::Event(event) => run_event(alloc, machine, cpu, event),
-        Request::Plan(plan) => carry_out(alloc, machine, cpu, plan, CONTROL_TURNS),
+        Ok(Request::Event(event)) => run_event(alloc, machine, cpu, event),
+        Ok(Request::Plan(plan)) => carry_out(alloc, machine, cpu, plan, CONTROL_TURNS),
+        Err(_fault) => Ok(()),
     }
 }
 

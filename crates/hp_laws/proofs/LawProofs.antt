@@ -100,6 +100,32 @@ restored_place l base before op h r legal event restored = by_place (sole_at op 
         ∙ ap goes_back (rw at at answers)))
     by_place (Some k) at = (k, at)
 
+-- a Cancel that restores cuts the net at its operation's Begin
+pub record IsCutAt (l : LayoutParts) (base : Memory) (op : ℕ) (h : List Record) (r : Record) : Type 0 where
+  pub place : ℕ
+  pub begin : Record
+  pub here : slice_get (net_of h) place ≡ Some begin
+  pub serial : begin.serial ≡ op
+  pub opens : is_opening (mark_of begin.event) ≡ true
+  pub value : value_of l base (h ++ r ∷ []) ≡ run l base (take place (net_of h))
+
+pub restored_cut : (l : LayoutParts) (base : Memory) (before op : ℕ) (h : List Record) (r : Record)
+    → IsLegal l base before (h ++ r ∷ []) → r.event ≡ Cancel op → r.reply ≡ Restored → IsCutAt l base op h r
+unfolding value_of
+restored_cut l base before op h r legal event is =
+    let place = restored_place l base before op h r legal event is in
+    let sole = sole_record op (net_of h) place.0 (sole_sound op (map tag_of (net_of h)) place.0 place.1) in
+    record {
+      place = place.0;
+      begin = sole.0;
+      here = sole.1;
+      serial = sole.2;
+      opens = sole.3;
+      value =
+          ap (run l base) (net-push h r ∙ net_restored op place.0 (net_of h) r event (ap is_refused is)
+          place.1);
+    }
+
 -- the state after a Cancel that restores
 pub restored : (l : LayoutParts) (base : Memory) (before op : ℕ) (h : List Record) (r : Record)
     → IsLegal l base before (h ++ r ∷ []) → r.event ≡ Cancel op → r.reply ≡ Restored
@@ -107,17 +133,16 @@ pub restored : (l : LayoutParts) (base : Memory) (before op : ℕ) (h : List Rec
     × (b.event ≡ Begin plan) × (value_of l base (h ++ r ∷ []) ≡ value_of l base (take (op - before - 1) h))
 unfolding value_of
 restored l base before op h r legal event is =
-    let place = restored_place l base before op h r legal event is in
-    let sole = sole_record op (net_of h) place.0 (sole_sound op (map tag_of (net_of h)) place.0 place.1) in
+    let cut : IsCutAt l base op h r = restored_cut l base before op h r legal event is in
     let roots = rooted_net l base before h (front_legal l base before h r legal) in
-    let cut : net_of (h ++ r ∷ []) ≡ take place.0 (net_of h) =
-    net-push h r ∙ net_restored op place.0 (net_of h) r event (ap is_refused is) place.1 in
-    let opens = opening_is_begin sole.0.event sole.3 in
-    let serial : sole.0.serial - before - 1 ≡ op - before - 1 = ap (λ (x : ℕ). x - before - 1) sole.2 in (
-      sole.0,
+    let opens = opening_is_begin cut.begin.event cut.opens in
+    let serial : cut.begin.serial - before - 1 ≡ op - before - 1 = ap (λ (x : ℕ). x - before - 1) cut.serial
+    in (
+      cut.begin,
       opens.0,
-      rw (← serial) (roots.stands place.0 sole.0 sole.1),
-      sole.2,
+      rw (← serial) (roots.stands cut.place cut.begin cut.here),
+      cut.serial,
       opens.1,
-      ap (run l base) (cut ∙ (roots.comes place.0 sole.0 sole.1 ∙ ap (λ (m : ℕ). net_of (take m h)) serial)),
+      cut.value ∙ ap (run l base)
+          (roots.comes cut.place cut.begin cut.here ∙ ap (λ (m : ℕ). net_of (take m h)) serial),
     )

@@ -35,6 +35,7 @@ pub mod Offlined
 pub mod Onlines
 mod OperationEvents
 pub mod OperationLaws
+pub mod OperationNets
 pub mod OperationPhases
 pub mod OperationRows
 pub mod OperationSteps
@@ -47,6 +48,8 @@ pub mod Puts
 pub mod Records
 pub mod Replays
 pub mod Rows
+pub mod SealedLaws
+pub mod SealedNets
 pub mod Sizes
 pub mod States
 pub mod Steals

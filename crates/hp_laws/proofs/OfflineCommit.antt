@@ -279,6 +279,17 @@ earlier_other before last earlier work begin h i r e =
     (get_middle earlier work begin) in
     λ same. absurd (omega arith)
 
+-- an operation that begins in a history has a number above those of all earlier records
+pub undisturbed_new : (l : LayoutParts) (base : Memory) (before op : ℕ) (h : List Record) (s : Memory)
+    → IsLegal l base before h → IsUndisturbed l s op (net_of h) → before < op
+undisturbed_new l base before op h s legal u =
+    let opens = and_parts (is_opening (mark_of u.begin.event)) (u.begin.serial == op) u.opens in
+    let numbered =
+    subst (λ (n : List Record). Numbered before (before + length h) n) u.steps
+    (numbered_net l base before h legal) in
+    subst (λ (n : ℕ). before < n) (eqb-true u.begin.serial op opens.1)
+    (numbered.over (length u.earlier) u.begin (get_middle u.earlier u.work u.begin))
+
 -- the state that an undisturbed operation leads to
 undisturbed_ready : (l : LayoutParts) (base : Memory) (before op : ℕ) (h : List Record) → IsLayout l
     → IsWellPlaced l base → AreHeldBy (λ n. n ≢ op) base.blocks → IsLegal l base before h

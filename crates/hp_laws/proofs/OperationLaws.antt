@@ -1,7 +1,6 @@
 -- The laws of operations, over whole histories.
-use Rattle.std.proofs.Common.{◌≡◌, ◌≢◌, ℕ, suc, ◌+◌, ◌-◌, ◌<◌, List, [], ◌∷◌, ◌++◌, length, drop, take, map, Bool, true, false, cond, Option, Some, None, slice_get, refl, ap, sym, subst, ◌∙◌, arith, inl, inr}
+use Rattle.std.proofs.Common.{◌≡◌, ℕ, suc, ◌+◌, ◌-◌, ◌<◌, List, [], ◌∷◌, ◌++◌, length, take, map, Bool, true, false, cond, Option, Some, None, slice_get, refl, ap, sym, subst, ◌∙◌, arith, ◌⊎◌, inl, inr}
 use Rattle.std.proofs.lemmas.Bool.{both_ways}
-use Rattle.std.proofs.lemmas.List.{take-append-drop}
 use Rattle.hp_units.specs.declared.plans.Item.{Item}
 use Rattle.hp_units.specs.LayoutParts.{LayoutParts, IsLayout}
 use Rattle.hp_units.specs.Memory.{Memory, row_of}
@@ -13,42 +12,37 @@ use Rattle.hp_units.specs.Placement.{IsWellPlaced}
 use Rattle.hp_laws.specs.Operations.{BeginsAt, IsOpenBehind, RowsAre, state_before, state_behind, wished_row}
 use Rattle.hp_laws.proofs.Names.{Record, Event, Reply, Begin, Commit, Cancel, Restored}
 use Rattle.hp_laws.proofs.Lists.{take_next}
-use Rattle.hp_laws.proofs.Net.{Numbered, net-push, run-append, run-push}
+use Rattle.hp_laws.proofs.Net.{net-push}
 use Rattle.hp_laws.proofs.Earlier.{Rooted, numbered_net, rooted_net}
 use Rattle.hp_laws.proofs.LawProofs.{front_legal, last_follows, restored}
 use Rattle.hp_laws.proofs.Steps.{steps}
-use Rattle.hp_laws.proofs.EventSteps.{run-placed, value-placed}
+use Rattle.hp_laws.proofs.EventSteps.{value-placed}
 use Rattle.hp_laws.proofs.Records.{IsStep, net_good, record_cases, reply_at, with_good}
-use Rattle.hp_laws.proofs.OperationPhases.{AreBegun, IsEndOf, HoldsOrIsOver, IsBeginOf, IsBegun, begin-good, cancel-gives_back, cancel-good, commit-good, commit-grants, each_both, each_from, each_map, live_holds, plan-begun, run-held, run-phase}
+use Rattle.hp_laws.proofs.OperationPhases.{AreBegun, IsEndOf, HoldsOrIsOver, IsBeginOf, IsBegun, cancel-gives_back, cancel-good, commit-good, commit-grants, each_both, each_map, live_holds}
+use Rattle.hp_laws.proofs.OperationNets.{begin_in, begun_in, held_in, phase_in}
 
 -- ---- the states around a Begin of the net
 
 -- the state just before the Begin at a place, and the one just after it
-abbrev old_at : LayoutParts → Memory → List Record → ℕ → Memory
+abbrev pub old_at : LayoutParts → Memory → List Record → ℕ → Memory
 old_at l base h place = run l base (take place (net_of h))
 
-abbrev new_at : LayoutParts → Memory → List Record → ℕ → Memory
+abbrev pub new_at : LayoutParts → Memory → List Record → ℕ → Memory
 new_at l base h place = run l base (take (suc place) (net_of h))
 
 -- what is known of a Begin in the net
-record IsBegin (l : LayoutParts) (base : Memory) (before : ℕ) (h : List Record) (place : ℕ) (b : Record)
+pub record IsBegin (l : LayoutParts) (base : Memory) (before : ℕ) (h : List Record) (place : ℕ) (b : Record)
     (plan : List Item) : Type 0 where
-  opens : IsBeginOf l (old_at l base h place) (new_at l base h place) b.serial plan
-  was : state_before l base before h b ≡ old_at l base h place
-  is : state_behind l base before h b ≡ new_at l base h place
+  pub opens : IsBeginOf l (old_at l base h place) (new_at l base h place) b.serial plan
+  pub was : state_before l base before h b ≡ old_at l base h place
+  pub is : state_behind l base before h b ≡ new_at l base h place
 
 begin_opens : (l : LayoutParts) (base : Memory) (before : ℕ) (h : List Record) (place : ℕ) (b : Record)
     (plan : List Item)
     → IsLegal l base before h → BeginsAt (net_of h) place b plan
     → IsBeginOf l (old_at l base h place) (new_at l base h place) b.serial plan
 begin_opens l base before h place b plan legal at =
-    subst (λ (t : Memory). IsBeginOf l (old_at l base h place) t b.serial plan)
-    (sym (ap (λ (e : Event). (step l (old_at l base h place) b.serial b.cpu e).memory) at.opens)
-    ∙ sym (run-push l base (take place (net_of h)) b)
-    ∙ ap (run l base) (sym (take_next (net_of h) place b at.here)))
-    (begin-good l (old_at l base h place) b.serial b.cpu plan
-    (ap (λ (e : Event). is_refused (step l (old_at l base h place) b.serial b.cpu e).reply) (sym at.opens)
-    ∙ net_good l base before h legal place b at.here))
+    begin_in l base (net_of h) place b plan (net_good l base before h legal) at
 
 -- the Begin's own reply isn't a refusal
 begin_reply : (l : LayoutParts) (base : Memory) (before : ℕ) (g : List Record) (b : Record) (plan : List Item)
@@ -62,7 +56,7 @@ begin_reply l base before g b plan follows opens good =
     (value_of l base g) b.serial b.cpu b.event) acts in
     with_good (net_of g) b (ap is_refused same ∙ good) ∙ ap (net_with_effect (net_of g) b) acts
 
-is_begin : (l : LayoutParts) (base : Memory) (before : ℕ) (h : List Record) (place : ℕ) (b : Record)
+pub is_begin : (l : LayoutParts) (base : Memory) (before : ℕ) (h : List Record) (place : ℕ) (b : Record)
     (plan : List Item)
     → IsLegal l base before h → BeginsAt (net_of h) place b plan
     → IsBegin l base before h place b plan
@@ -88,24 +82,13 @@ is_begin l base before h place b plan legal at =
           ∙ ap (λ (n : List Record). n ++ b ∷ []) (sym comes) ∙ sym (take_next (net_of h) place b at.here));
     }
 
--- the state after all steps, from the one after the Begin
-rest_of : (l : LayoutParts) (base : Memory) (h : List Record) (place : ℕ)
-    → value_of l base h ≡ run l (new_at l base h place) (drop (suc place) (net_of h))
-unfolding value_of
-rest_of l base h place =
-    ap (run l base) (sym (take-append-drop (suc place) (net_of h)))
-    ∙ run-append l base (take (suc place) (net_of h)) (drop (suc place) (net_of h))
-
+-- it claimed the blocks of its plan
 new_begun : (l : LayoutParts) (base : Memory) (before : ℕ) (h : List Record) (place : ℕ) (b : Record)
     (plan : List Item)
     → IsLayout l → IsWellPlaced l base → IsLegal l base before h → BeginsAt (net_of h) place b plan
     → AreBegun b.serial (old_at l base h place) (new_at l base h place) plan
 new_begun l base before h place b plan layout p legal at =
-    let opens : IsBeginOf l (old_at l base h place) (new_at l base h place) b.serial plan =
-    begin_opens l base before h place b plan legal at in
-    subst (λ (t : Memory). AreBegun b.serial (old_at l base h place) t plan) (sym opens.memory)
-    (plan-begun l (old_at l base h place) b.serial plan (run-placed l base (take place (net_of h)) layout p)
-    opens.fine)
+    begun_in l base (net_of h) place b plan layout p (net_good l base before h legal) at
 
 -- ---- the laws
 
@@ -145,40 +128,26 @@ pub held : (l : LayoutParts) (base : Memory) (before : ℕ) (h : List Record) (p
     → IsLayout l → IsWellPlaced l base → IsLegal l base before h → BeginsAt (net_of h) place b plan
     → IsOpenBehind b.serial place (net_of h)
     → RowsAre (value_of l base h) plan (λ item. row_of (state_behind l base before h b).blocks item.block)
+unfolding value_of
 held l base before h place b plan layout p legal at stays =
     as_left l base before h place b plan (value_of l base h) layout p legal at
-    (subst (λ (s : Memory). AreBegun b.serial (old_at l base h place) s plan) (sym (rest_of l base h place))
-    (run-held l (new_at l base h place) b.serial (old_at l base h place) plan (drop (suc place) (net_of h))
-    layout (run-placed l base (take (suc place) (net_of h)) layout p) stays
-    (new_begun l base before h place b plan layout p legal at)))
+    (held_in l base (net_of h) place b plan layout p (net_good l base before h legal) at stays)
 
 -- the operation holds its rows or is over, after all steps
 phase : (l : LayoutParts) (base : Memory) (before : ℕ) (h : List Record) (place : ℕ) (b : Record)
     (plan : List Item)
     → IsLayout l → IsWellPlaced l base → IsLegal l base before h → BeginsAt (net_of h) place b plan
     → HoldsOrIsOver b.serial (old_at l base h place) (value_of l base h) plan
+unfolding value_of
 phase l base before h place b plan layout p legal at =
-    let numbered : Numbered before (before + length h) (net_of h) = numbered_net l base before h legal in
-    subst (λ (s : Memory). HoldsOrIsOver b.serial (old_at l base h place) s plan)
-    (sym (rest_of l base h place))
-    (run-phase l (new_at l base h place) b.serial (old_at l base h place) plan (drop (suc place) (net_of h))
-    layout (run-placed l base (take (suc place) (net_of h)) layout p)
-    (each_from (λ (r : Record). r.serial ≢ b.serial) (net_of h) (suc place)
-    (λ j r le e. λ same. absurd (omega (arith, same, numbered.rising place j b r (omega arith) at.here e))))
-    (inl (new_begun l base before h place b plan layout p legal at)))
+    phase_in l base before (before + length h) (net_of h) place b plan layout p
+    (numbered_net l base before h legal) (net_good l base before h legal) at
 
--- a Commit that isn't refused is a step, of an operation that holds its rows
-record IsCommit (l : LayoutParts) (base : Memory) (h : List Record) (r : Record) (op : ℕ) (old : Memory)
-    (plan : List Item) : Type 0 where
-  memory : value_of l base (h ++ r ∷ []) ≡ commit_blocks l (value_of l base h) op
-  begun : AreBegun op old (value_of l base h) plan
-
-is_commit : (l : LayoutParts) (base : Memory) (before : ℕ) (h : List Record) (r : Record) (place : ℕ)
-    (b : Record) (plan : List Item)
-    → IsLayout l → IsWellPlaced l base → IsLegal l base before (h ++ r ∷ [])
-    → BeginsAt (net_of h) place b plan → r.event ≡ Commit b.serial → is_refused r.reply ≡ false
-    → IsCommit l base h r b.serial (old_at l base h place) plan
-is_commit l base before h r place b plan layout p legal at is good =
+-- a Commit that isn't refused is a step, of an operation that is live
+pub commit_ends : (l : LayoutParts) (base : Memory) (before : ℕ) (h : List Record) (r : Record) (op : ℕ)
+    → IsLegal l base before (h ++ r ∷ []) → r.event ≡ Commit op → is_refused r.reply ≡ false
+    → IsEndOf (value_of l base h) (value_of l base (h ++ r ∷ [])) (commit_blocks l (value_of l base h) op) op
+commit_ends l base before h r op legal is good =
     let follows : Follows l base before h r = last_follows l base before h r legal in
     let acts : effect_of r.event ≡ Acts = ap effect_of is in
     let same : r.reply ≡ (step l (value_of l base h) r.serial r.cpu r.event).reply =
@@ -190,19 +159,28 @@ is_commit l base before h r place b plan layout p legal at is good =
           (ap goes_back same ∙ (steps l (value_of l base h) r.serial r.cpu r.event).onward) back)
       | inr stepped ↦ (
           let closes : IsEndOf (value_of l base h) (step l (value_of l base h) r.serial r.cpu
-          (Commit b.serial)).memory (commit_blocks l (value_of l base h) b.serial) b.serial =
-          commit-good l (value_of l base h) r.serial r.cpu b.serial (ap
+          (Commit op)).memory (commit_blocks l (value_of l base h) op) op =
+          commit-good l (value_of l base h) r.serial r.cpu op (ap
           (λ (e : Event). is_refused (step l (value_of l base h) r.serial r.cpu e).reply) (sym is) ∙ ap
           is_refused (sym same) ∙ good) in
           record {
             memory =
                 stepped.memory ∙ ap (λ (e : Event). (step l (value_of l base h) r.serial r.cpu e).memory) is
                 ∙ closes.memory;
-            begun =
-                live_holds b.serial (old_at l base h place) (value_of l base h) plan closes.live
-                (phase l base before h place b plan layout p (front_legal l base before h r legal) at);
+            live = closes.live;
           })
     ]
+
+-- so it holds its rows
+commit_begun : (l : LayoutParts) (base : Memory) (before : ℕ) (h : List Record) (r : Record) (place : ℕ)
+    (b : Record) (plan : List Item)
+    → IsLayout l → IsWellPlaced l base → IsLegal l base before (h ++ r ∷ [])
+    → BeginsAt (net_of h) place b plan → r.event ≡ Commit b.serial → is_refused r.reply ≡ false
+    → AreBegun b.serial (old_at l base h place) (value_of l base h) plan
+commit_begun l base before h r place b plan layout p legal at is good =
+    live_holds b.serial (old_at l base h place) (value_of l base h) plan
+    (commit_ends l base before h r b.serial legal is good).live
+    (phase l base before h place b plan layout p (front_legal l base before h r legal) at)
 
 pub commit_held : (l : LayoutParts) (base : Memory) (before : ℕ) (h : List Record) (r : Record) (place : ℕ)
     (b : Record) (plan : List Item)
@@ -211,7 +189,7 @@ pub commit_held : (l : LayoutParts) (base : Memory) (before : ℕ) (h : List Rec
     → RowsAre (value_of l base h) plan (λ item. row_of (state_behind l base before h b).blocks item.block)
 commit_held l base before h r place b plan layout p legal at is good =
     as_left l base before h place b plan (value_of l base h) layout p (front_legal l base before h r legal) at
-    (is_commit l base before h r place b plan layout p legal at is good).begun
+    (commit_begun l base before h r place b plan layout p legal at is good)
 
 pub commit_granted : (l : LayoutParts) (base : Memory) (before : ℕ) (h : List Record) (r : Record) (place : ℕ)
     (b : Record) (plan : List Item)
@@ -219,11 +197,11 @@ pub commit_granted : (l : LayoutParts) (base : Memory) (before : ℕ) (h : List 
     → BeginsAt (net_of h) place b plan → r.event ≡ Commit b.serial → is_refused r.reply ≡ false
     → RowsAre (value_of l base (h ++ r ∷ [])) plan (λ item. wished_row item.wish)
 commit_granted l base before h r place b plan layout p legal at is good =
-    let commit : IsCommit l base h r b.serial (old_at l base h place) plan =
-    is_commit l base before h r place b plan layout p legal at is good in
-    subst (λ (t : Memory). RowsAre t plan (λ item. wished_row item.wish)) (sym commit.memory)
+    subst (λ (t : Memory). RowsAre t plan (λ item. wished_row item.wish))
+    (sym (commit_ends l base before h r b.serial legal is good).memory)
     (commit-grants l (value_of l base h) b.serial (old_at l base h place) plan
-    (value-placed l base h layout p) commit.begun)
+    (value-placed l base h layout p)
+    (commit_begun l base before h r place b plan layout p legal at is good))
 
 -- a Cancel that goes back was answered Restored
 back_restored : (reply answer : Reply) (o : Option ℕ) → reply ≡ cancel_reply answer o
@@ -236,6 +214,48 @@ back_restored reply answer (Some place) e good onward back = by_refusal (is_refu
     by_refusal true bad f = absurd (both_ways (is_refused reply) good (ap is_refused f ∙ bad))
     by_refusal false bad f = f
 
+-- a Cancel that isn't refused restores, or is a step of an operation that is live
+pub cancel_ends : (l : LayoutParts) (base : Memory) (before : ℕ) (h : List Record) (r : Record) (op : ℕ)
+    → IsLegal l base before (h ++ r ∷ []) → r.event ≡ Cancel op → is_refused r.reply ≡ false
+    → (r.reply ≡ Restored)
+    ⊎ IsEndOf (value_of l base h) (value_of l base (h ++ r ∷ [])) (release_blocks l (value_of l base h) op) op
+cancel_ends l base before h r op legal is good =
+    elim (record_cases l base before h r follows good) [
+      | inl back ↦
+          inl (back_restored r.reply (step l (value_of l base h) r.serial r.cpu r.event).reply
+          (sole_at op (map tag_of (net_of h))) answers good
+          (steps l (value_of l base h) r.serial r.cpu r.event).onward back)
+      | inr stepped ↦ inr (by_release stepped)
+    ]
+  where
+    follows : Follows l base before h r
+    follows = last_follows l base before h r legal
+
+    answers : r.reply ≡ cancel_reply (step l (value_of l base h) r.serial r.cpu r.event).reply
+        (sole_at op (map tag_of (net_of h)))
+    answers =
+        reply_at l base before h r follows ∙ ap (λ (e : Event). effect_reply l before (before + length h)
+        (net_of h) (value_of l base h) r.serial r.cpu r.event (effect_of e)) is
+
+    by_release : IsStep l base h r
+        → IsEndOf (value_of l base h) (value_of l base (h ++ r ∷ []))
+        (release_blocks l (value_of l base h) op) op
+    by_release stepped =
+        let s : Memory = value_of l base h in
+        let closes : IsEndOf s (step l s r.serial r.cpu (Cancel op)).memory (release_blocks l s op) op =
+        cancel-good l s r.serial r.cpu op (ap (λ (e : Event). is_refused (step l s r.serial r.cpu e).reply)
+        (sym is) ∙ ap is_refused (sym stepped.reply) ∙ good) in
+        record {
+          memory =
+              stepped.memory ∙ ap (λ (e : Event). (step l s r.serial r.cpu e).memory) is ∙ closes.memory;
+          live = closes.live;
+        }
+
+-- rows are what they are
+pub each_same : (s : Memory) (items : List Item) → RowsAre s items (λ item. row_of s.blocks item.block)
+each_same s [] = tt
+each_same s (item ∷ items) = (refl, each_same s items)
+
 pub given_back : (l : LayoutParts) (base : Memory) (before : ℕ) (h : List Record) (r : Record) (place : ℕ)
     (b : Record) (plan : List Item)
     → IsLayout l → IsWellPlaced l base → IsLegal l base before (h ++ r ∷ [])
@@ -243,50 +263,28 @@ pub given_back : (l : LayoutParts) (base : Memory) (before : ℕ) (h : List Reco
     → RowsAre (value_of l base (h ++ r ∷ [])) plan
     (λ item. row_of (state_before l base before h b).blocks item.block)
 given_back l base before h r place b plan layout p legal at is good =
-    elim (record_cases l base before h r follows good)
-    [ inl back ↦ by_restore back | inr stepped ↦ by_release stepped ]
+    elim (cancel_ends l base before h r b.serial legal is good)
+    [ inl back ↦ by_restore back | inr ends ↦ by_release ends ]
   where
-    follows : Follows l base before h r
-    follows = last_follows l base before h r legal
-
-    answers : r.reply ≡ cancel_reply (step l (value_of l base h) r.serial r.cpu r.event).reply
-        (sole_at b.serial (map tag_of (net_of h)))
-    answers =
-        reply_at l base before h r follows ∙ ap (λ (e : Event). effect_reply l before (before + length h)
-        (net_of h) (value_of l base h) r.serial r.cpu r.event (effect_of e)) is
-
-    each_same : (s : Memory) (items : List Item) → RowsAre s items (λ item. row_of s.blocks item.block)
-    each_same s [] = tt
-    each_same s (item ∷ items) = (refl, each_same s items)
-
-    by_restore : goes_back r.reply ≡ true
+    by_restore : r.reply ≡ Restored
         → RowsAre (value_of l base (h ++ r ∷ [])) plan
         (λ item. row_of (state_before l base before h b).blocks item.block)
     by_restore back =
-        let is_restored : r.reply ≡ Restored =
-        back_restored r.reply (step l (value_of l base h) r.serial r.cpu r.event).reply
-        (sole_at b.serial (map tag_of (net_of h))) answers good
-        (steps l (value_of l base h) r.serial r.cpu r.event).onward back in
-        let whole = restored l base before b.serial h r legal is is_restored in
+        let whole = restored l base before b.serial h r legal is back in
         subst (λ (s : Memory). RowsAre s plan (λ item. row_of (state_before l base before h b).blocks
         item.block)) (sym whole.5) (each_same (state_before l base before h b) plan)
 
-    by_release : IsStep l base h r
+    by_release : IsEndOf (value_of l base h) (value_of l base (h ++ r ∷ []))
+        (release_blocks l (value_of l base h) b.serial) b.serial
         → RowsAre (value_of l base (h ++ r ∷ [])) plan
         (λ item. row_of (state_before l base before h b).blocks item.block)
-    by_release stepped =
+    by_release ends =
         let s : Memory = value_of l base h in
-        let closes : IsEndOf s (step l s r.serial r.cpu (Cancel b.serial)).memory
-        (release_blocks l s b.serial) b.serial =
-        cancel-good l s r.serial r.cpu b.serial (ap (λ (e : Event). is_refused
-        (step l s r.serial r.cpu e).reply) (sym is) ∙ ap is_refused (sym stepped.reply) ∙ good) in
         let front : IsLegal l base before h = front_legal l base before h r legal in
-        let ends_in : value_of l base (h ++ r ∷ []) ≡ release_blocks l s b.serial =
-        stepped.memory ∙ ap (λ (e : Event). (step l s r.serial r.cpu e).memory) is ∙ closes.memory in
         subst (λ (t : Memory).
-        RowsAre t plan (λ item. row_of (state_before l base before h b).blocks item.block)) (sym ends_in)
+        RowsAre t plan (λ item. row_of (state_before l base before h b).blocks item.block)) (sym ends.memory)
         (subst (λ (o : Memory). RowsAre (release_blocks l s b.serial) plan
         (λ item. row_of o.blocks item.block)) (sym (is_begin l base before h place b plan front at).was)
         (cancel-gives_back l s b.serial (old_at l base h place) plan (value-placed l base h layout p)
-        (live_holds b.serial (old_at l base h place) s plan closes.live
+        (live_holds b.serial (old_at l base h place) s plan ends.live
         (phase l base before h place b plan layout p front at))))

@@ -1,3 +1,4 @@
 pub mod Operations
 pub mod Consequences
 pub mod Offline
+pub mod Seals

@@ -1,7 +1,7 @@
 //! Laws of the definitions, over all histories: what an undo and a restoring Cancel leave, how each
 //! earlier state is reached, that each frame stays in one place and what follows from it, what the
-//! pages hold, which frames are handed out, how operations go, and that an offline which nothing
-//! disturbs commits.
+//! pages hold, which frames are handed out, how operations go, across seals too, and that an offline
+//! which nothing disturbs commits.
 #![tactic(auto)]
 
 mod consequences;
@@ -10,6 +10,7 @@ mod laws;
 mod offline;
 mod operations;
 mod placement;
+mod seals;
 
 pub use consequences::{
     cached_frames_lie_in_zone, commits_need_free_frames, frames_in_use_have_zone, lists_are_short,
@@ -21,4 +22,7 @@ pub use operations::{cancels_give_rows_back, commits_grant_wishes, operations_ho
 pub use placement::{
     boot_is_well_placed, contents_follow_net, free_frames_are_not_in_use, histories_keep_placement,
     migrations_move_no_word, steps_keep_placement, well_placed_states_fit_their_layout,
+};
+pub use seals::{
+    cancels_give_back_across_seals, commits_grant_across_seals, operations_hold_across_seals,
 };

@@ -14,15 +14,21 @@ ghost use Rattle.hp_laws.specs.Offline.{AreClaimedUpTo, IsUndisturbed};
 
 /// A Commit by a processor of the layout is done where the steps from its operation's Begin on are
 /// the operation's own drains and migrations, each processor was drained among them, and no frame
-/// of the blocks that it takes offline holds a page: after the state at the start, and after any
-/// base state in which the operation's number is not in use (Linux, memory hotplug: offlining; own
-/// rule).
+/// of the blocks that it takes offline holds a page: after the state at the start, after any base
+/// state in which the operation's number is not in use, and so after any in which the operations
+/// that hold blocks have numbers up to that of the last record before it (Linux, memory hotplug:
+/// offlining; own rule).
 pub fn undisturbed_offline_commits()
     ensures boot { (l : LayoutParts) (op : ℕ) (h : List Record) (r : Record) → IsLayout l
         → IsLegal l (boot_memory l) 0 (h ++ r ∷ []) → r.event ≡ Commit op → r.cpu < l.cpus
         → IsUndisturbed l (value_of l (boot_memory l) h) op (net_of h) → r.reply ≡ Done }
     ensures base { (l : LayoutParts) (base : Memory) (before op : ℕ) (h : List Record) (r : Record)
         → IsLayout l → IsWellPlaced l base → is_live base.blocks op ≡ false
+        → IsLegal l base before (h ++ r ∷ [])
+        → r.event ≡ Commit op → r.cpu < l.cpus → IsUndisturbed l (value_of l base h) op (net_of h)
+        → r.reply ≡ Done }
+    ensures numbered { (l : LayoutParts) (base : Memory) (before op : ℕ) (h : List Record) (r : Record)
+        → IsLayout l → IsWellPlaced l base → AreClaimedUpTo before base.blocks
         → IsLegal l base before (h ++ r ∷ [])
         → r.event ≡ Commit op → r.cpu < l.cpus → IsUndisturbed l (value_of l base h) op (net_of h)
         → r.reply ≡ Done }

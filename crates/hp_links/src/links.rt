@@ -35,6 +35,14 @@ impl Links {
         Ok(Links { rings })
     }
 
+    /// Equal lists, by two allocations. An error is out of memory.
+    pub fn copy(&self, alloc: Global) -> Result<Links, AllocError>
+        ensures { IfOk result (λ links. links ≡ self.now) }
+    {
+        let rings = self.rings.copy(alloc)?;
+        Ok(Links { rings })
+    }
+
     /// The first frame of a list.
     pub fn front(&self, list: ListNumber) -> Option<Frame>
         requires { list < length self.now.lists }

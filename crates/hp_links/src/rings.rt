@@ -85,6 +85,21 @@ impl Rings {
         })
     }
 
+    /// An equal table.
+    pub fn copy(&self, alloc: Global) -> Result<Self, AllocError>
+        ensures frames { IfOk result (λ rings. rings.frames ≡ self.now.frames) }
+        ensures nodes { IfOk result (λ rings. rings.nodes.items ≡ self.now.nodes.items) }
+        ensures lens { IfOk result (λ rings. rings.lens.items ≡ self.now.lens.items) }
+    {
+        let nodes = Vec::from_slice(alloc, self.nodes.as_slice())?;
+        let lens = Vec::from_slice(alloc, self.lens.as_slice())?;
+        Ok(Rings {
+            frames: self.frames,
+            nodes,
+            lens,
+        })
+    }
+
     pub fn head(&self, list: ListNumber) -> u32
         requires { list < vec_len self.now.lens }
         ensures { result ≡ self.now.frames + list }

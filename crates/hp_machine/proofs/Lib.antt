@@ -2,3 +2,4 @@ pub mod MachineCalls
 pub mod Machines
 mod PlanRuns
 pub mod Replies
+pub mod Volumes

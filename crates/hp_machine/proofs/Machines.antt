@@ -1,7 +1,7 @@
 -- What every machine keeps, and what follows from it.
-use Rattle.std.proofs.Common.{◌≡◌, ℕ, ◌<◌, ◌≤◌, ◌+◌, false, List, [], ◌∷◌, ◌++◌, length, take, refl, ap, sym, subst, ◌∙◌, arith}
+use Rattle.std.proofs.Common.{◌≡◌, ℕ, ◌<◌, ◌≤◌, ◌+◌, false, List, [], ◌∷◌, ◌++◌, length, refl, ap, sym, subst, ◌∙◌, arith}
 use Rattle.std.specs.Prelude.{nat_le, Result, Ok, Err, IfOk, OnErr, OnOk}
-use Rattle.std.proofs.lemmas.List.{length_push, take-append-le, take_all, append_assoc}
+use Rattle.std.proofs.lemmas.List.{length_push}
 use Rattle.std.proofs.lemmas.Bool.{or_parts, leb-false}
 use Rattle.hp_units.specs.Memory.{Memory, row_of}
 use Rattle.hp_units.specs.Boot.{boot_memory}
@@ -13,11 +13,13 @@ use Rattle.hp_units.specs.declared.plans.Item.{Item}
 use Rattle.hp_units.specs.declared.replies.Record.{Record}
 use Rattle.hp_units.specs.declared.replies.Receipt.{Receipt}
 use Rattle.hp_units.specs.declared.replies.Reply.{Reply}
+use Rattle.hp_laws.specs.Offline.{AreClaimedUpTo}
 use Rattle.hp_laws.specs.Operations.{BeginsAt, IsOpenBehind, RowsAre, state_behind}
 use Rattle.hp_laws.proofs.Boots.{boot-placed}
 use Rattle.hp_laws.proofs.EventSteps.{value-placed}
-use Rattle.hp_laws.proofs.Net.{legal_take}
 use Rattle.hp_laws.proofs.NetContents.{value-contents}
+use Rattle.hp_laws.proofs.OfflineClaims.{boot-claims, value-claims}
+use Rattle.hp_laws.proofs.SealedNets.{legal_up_to}
 use Rattle.hp_laws.proofs.OperationLaws.{claimed, commit_granted, commit_held, given_back, held}
 use Rattle.hp_history.specs.Course.{receipt_for}
 use Rattle.hp_machine.specs.Kept.{IsMachine}
@@ -31,6 +33,7 @@ booted_machine l m is limits =
     rw is (record {
       limits = limits;
       placed = boot-placed l limits;
+      numbered = boot-claims l (λ op. op ≤ 0);
       history = record { legal = λ n r e. absurd cc; state = refl };
       few = omega arith;
       boots = λ none. refl;
@@ -59,6 +62,9 @@ called_machine old new cpu event r ok free call = record {
   placed =
       subst (λ (l : LayoutParts). IsWellPlaced l new.base) (sym call.layout)
       (subst (λ (s : Memory). IsWellPlaced old.layout s) (sym call.base) ok.placed);
+  numbered =
+      subst (λ (n : ℕ). AreClaimedUpTo n new.base.blocks) (sym call.before)
+      (subst (λ (s : Memory). AreClaimedUpTo old.before s.blocks) (sym call.base) ok.numbered);
   history = record { legal = legal; state = call.state ∙ sym value };
   few =
       subst (λ (l : LayoutParts). length new.history ≤ l.history) (sym call.layout) (few_called old.history
@@ -101,6 +107,8 @@ sound m ok = record {
   placed =
       subst (λ (s : Memory). IsWellPlaced m.layout s) (sym ok.history.state)
       (value-placed m.layout m.base m.history ok.limits ok.placed);
+  base_placed = ok.placed;
+  base_numbered = ok.numbered;
   contents =
       ap (λ (s : Memory). s.pages.contents) ok.history.state
       ∙ value-contents m.layout m.base m.before m.history ok.history.legal;
@@ -124,6 +132,9 @@ sealed_machine m new ok is =
     rw is (record {
       limits = ok.limits;
       placed = (sound m ok).placed;
+      numbered =
+          subst (λ (s : Memory). AreClaimedUpTo (last_serial m) s.blocks) (sym ok.history.state)
+          (value-claims m.layout m.base m.before m.history ok.history.legal ok.numbered);
       history = record { legal = λ n r e. absurd cc; state = refl };
       few = omega arith;
       boots = at_boot m ok;
@@ -139,14 +150,8 @@ seal_kept m new (Err e) ok same goes_on = subst IsMachine (sym same) ok
 up_to : (m : MachineValue) (h rest : List Record) (r : Record) → IsMachine m → m.history ≡ h ++ r ∷ rest
     → IsLegal m.layout m.base m.before (h ++ r ∷ [])
 up_to m h rest r ok is =
-    subst (λ (g : List Record). IsLegal m.layout m.base m.before g) first
-    (legal_take m.layout m.base m.before m.history (length (h ++ r ∷ [])) ok.history.legal)
-  where
-    first : take (length (h ++ r ∷ [])) m.history ≡ h ++ r ∷ []
-    first =
-        ap (take (length (h ++ r ∷ []))) (is ∙ sym (append_assoc h (r ∷ []) rest))
-        ∙ (take-append-le (length (h ++ r ∷ [])) (h ++ r ∷ []) rest (omega arith)
-        ∙ take_all (length (h ++ r ∷ [])) (h ++ r ∷ []) (omega arith))
+    legal_up_to m.layout m.base m.before h rest r
+    (subst (λ (g : List Record). IsLegal m.layout m.base m.before g) is ok.history.legal)
 
 -- and so do the laws of operations
 pub operations : (m : MachineValue) → IsMachine m → KeepsOperations m

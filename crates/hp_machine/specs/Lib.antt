@@ -3,3 +3,4 @@ pub mod Machine
 pub mod MachinePorts
 pub mod Names
 pub mod Operations
+pub mod Volumes

@@ -7,6 +7,7 @@ use Rattle.hp_units.specs.History.{net_of}
 use Rattle.hp_units.specs.Placement.{IsWellPlaced}
 use Rattle.hp_units.specs.declared.events.Event.{Event}
 use Rattle.hp_units.specs.declared.replies.Receipt.{Receipt}
+use Rattle.hp_laws.specs.Offline.{AreClaimedUpTo}
 use Rattle.hp_history.specs.Course.{CourseValue, IsAnswered, IsHistory as IsCourseHistory, is_spent, started}
 pub use Rattle.hp_history.specs.Course.{last_serial, record_of}
 
@@ -26,10 +27,14 @@ IsHistory = IsCourseHistory
 
 -- what a user relies on in every machine: its layout is within the limits, each frame is in exactly
 -- one place, and its pages hold what Map, Unmap and Write of the steps that are not undone make of
--- the base's pages
+-- the base's pages. In its base, too, each frame is in exactly one place, and the operations that
+-- hold blocks there have numbers up to that of the last record that was sealed: so the laws of
+-- histories hold of its own, and it can be replayed
 pub record IsSound (m : MachineValue) : Type 0 where
   pub limits : IsLayout m.layout
   pub placed : IsWellPlaced m.layout m.state
+  pub base_placed : IsWellPlaced m.layout m.base
+  pub base_numbered : AreClaimedUpTo m.before m.base.blocks
   pub contents : m.state.pages.contents ≡ contents_of_net m.layout m.base.pages.contents (net_of m.history)
 
 -- the history holds its limit, or there is no further serial

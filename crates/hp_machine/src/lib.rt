@@ -5,6 +5,8 @@
 
 mod machine;
 mod machine_port;
+mod seals;
 
 pub use machine::Machine;
 pub use machine_port::MachinePort;
+pub use seals::machines_go_on_from_their_volumes;

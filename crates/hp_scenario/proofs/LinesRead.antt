@@ -73,7 +73,8 @@ read_request (plain (work.Event (Probe address))) fits = absurd fits
 read_request (plain (work.Event (Remove block))) fits = rw (read32 block fits) refl
 read_request (plain (work.Event (SetAuto auto))) fits = absurd fits
 read_request (plain (work.Plan items turns)) fits = rw (read32 turns fits.0, read_items items fits.1) refl
-read_request (plain (work.Echo path text)) fits = rw (read_text text fits.0, read_text path fits.1) refl
+read_request (plain (work.Echo echo)) fits =
+    rw (read_text echo.word fits.0, read_text echo.path fits.1) refl
 read_request (plain (work.Cat path)) fits = rw (read_text path fits) refl
 read_request (plain work.Seal) fits = refl
 read_request (named name (access.Map page)) fits = rw (read_name name fits.0, read32 page fits.1) refl
@@ -129,7 +130,7 @@ spaceless_request (plain (work.Event (Remove block))) fits = (refl, (small block
 spaceless_request (plain (work.Event (SetAuto auto))) fits = absurd fits
 spaceless_request (plain (work.Plan items turns)) fits =
     (refl, (small turns fits.0, spaceless_items items fits.1))
-spaceless_request (plain (work.Echo path text)) fits = (refl, (fits.0.0, (fits.1.0, tt)))
+spaceless_request (plain (work.Echo echo)) fits = (refl, (fits.0.0, (fits.1.0, tt)))
 spaceless_request (plain (work.Cat path)) fits = (refl, (fits.0, tt))
 spaceless_request (plain work.Seal) fits = (refl, tt)
 spaceless_request (named name (access.Map page)) fits =

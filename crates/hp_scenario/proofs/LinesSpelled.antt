@@ -294,7 +294,7 @@ echo_spelled (text ∷ path ∷ []) r h e =
     let p = went_on _ (text_of path) r t.2 in
     let text_at = text_is text t.0 h.0 t.1 in
     let path_at = text_is path p.0 h.1.0 p.1 in
-    along _ (plain (work.Echo p.0 t.0)) r p.2
+    along _ (plain (work.Echo (record { path = p.0; word = t.0 }))) r p.2
     (same2 (codes "echo") _ _ _ _ text_at.0 path_at.0, (text_at.1, path_at.1))
 echo_spelled (text ∷ path ∷ next ∷ rest) r h e = absurd cc
 

@@ -1,3 +1,4 @@
+pub mod Echoes
 pub mod Form
 pub mod Gives
 pub mod Lines

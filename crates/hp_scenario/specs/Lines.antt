@@ -153,10 +153,10 @@ plan_of (turns ∷ rest) = do
   Some (plain (work.Plan items n))
 
 unfoldable pub echo_of : List (List ℕ) → Option Request
-echo_of (text ∷ path ∷ []) = do
-  t ← text_of text
+echo_of (word ∷ path ∷ []) = do
+  w ← text_of word
   p ← text_of path
-  Some (plain (work.Echo p t))
+  Some (plain (work.Echo (record { path = p; word = w })))
 echo_of _ = None
 
 unfoldable pub cat_of : List (List ℕ) → Option Request

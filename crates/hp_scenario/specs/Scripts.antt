@@ -12,7 +12,7 @@ use Rattle.hp_scenario.specs.declared.lines.Work.TheVariants as work
 abbrev pub is_cat : Work → Bool
 is_cat (work.Event event) = false
 is_cat (work.Plan plan turns) = false
-is_cat (work.Echo path text) = false
+is_cat (work.Echo echo) = false
 is_cat (work.Cat path) = true
 is_cat work.Seal = false
 
@@ -20,7 +20,7 @@ is_cat work.Seal = false
 abbrev pub is_seal : Work → Bool
 is_seal (work.Event event) = false
 is_seal (work.Plan plan turns) = false
-is_seal (work.Echo path text) = false
+is_seal (work.Echo echo) = false
 is_seal (work.Cat path) = false
 is_seal work.Seal = true
 

@@ -56,7 +56,7 @@ access_words name (access.Read page index) = codes "read" ∷ name ∷ decimal p
 abbrev pub work_words : Work → List (List ℕ)
 work_words (work.Event event) = event_words event
 work_words (work.Plan items turns) = codes "plan" ∷ decimal turns ∷ item_words items
-work_words (work.Echo path text) = codes "echo" ∷ text ∷ path ∷ []
+work_words (work.Echo echo) = codes "echo" ∷ echo.word ∷ echo.path ∷ []
 work_words (work.Cat path) = codes "cat" ∷ path ∷ []
 work_words work.Seal = codes "seal" ∷ []
 
@@ -103,7 +103,7 @@ FitsAccess (access.Read page index) = (page < 2 ^ 32) × (index < 2 ^ 32)
 abbrev pub FitsWork : Work → Type 0
 FitsWork (work.Event event) = FitsEvent event
 FitsWork (work.Plan items turns) = (turns < 2 ^ 32) × FitItems items
-FitsWork (work.Echo path text) = IsText text × IsText path
+FitsWork (work.Echo echo) = IsText echo.word × IsText echo.path
 FitsWork (work.Cat path) = IsText path
 FitsWork work.Seal = Unit {0}
 

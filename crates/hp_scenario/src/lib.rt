@@ -1,7 +1,7 @@
 //! Scenarios: a layout and the lines that run on it, read from JSON.
 #![tactic(auto)]
 
-mod boxed_text;
+mod echo;
 mod fault;
 mod form;
 mod laws;
@@ -15,7 +15,7 @@ mod texts;
 mod verbs;
 mod words;
 
-pub use boxed_text::BoxedText;
+pub use echo::Echo;
 pub use fault::ScenarioFault;
 pub use form::{boot_at, boots_at, parts_with};
 pub use laws::lines_are_spelled;

@@ -2,7 +2,7 @@
 ghost use Rattle.std.specs.Prelude.{◌≡◌};
 ghost use Rattle.hp_scenario.specs.Scripts.{is_seal};
 
-use crate::boxed_text::BoxedText;
+use crate::echo::Echo;
 use hp_units::{Cpu, Event, Plan, Text};
 use std::marker::Model;
 use std::mem::size_of;
@@ -14,8 +14,8 @@ pub enum Work {
     Event(Event),
     /// A plan's driver, with the most migrations that it may make.
     Plan { plan: Plan, turns: u32 },
-    /// A text written to a control file.
-    Echo { path: BoxedText, text: BoxedText },
+    /// A word written to a control file.
+    Echo(Echo),
     /// A control file read.
     Cat { path: Text },
     /// The records since the last seal handed out.

@@ -3,7 +3,7 @@ ghost use Rattle.std.specs.Prelude.{◌≡◌, map, IfOk, option_map};
 ghost use Rattle.hp_scenario.specs.Lines as says;
 ghost use Rattle.hp_scenario.specs.Seen.{request_seen};
 
-use crate::boxed_text::BoxedText;
+use crate::echo::Echo;
 use crate::lines::Work;
 use crate::plans::items_from;
 use crate::requests::{Access, Request};
@@ -256,18 +256,17 @@ pub(crate) fn echo<'a>(alloc: Global, args: &[&'a str]) -> Result<Option<Request
     ensures { IfOk result
         (λ request. option_map request_seen request ≡ says.echo_of (map (λ w. w.now) args.now)) }
 {
-    let [text, path] = args else {
+    let [word, path] = args else {
         return Ok(None);
     };
-    let Some(text) = text_from(alloc, text)? else {
+    let Some(word) = text_from(alloc, word)? else {
         return Ok(None);
     };
     let Some(path) = text_from(alloc, path)? else {
         return Ok(None);
     };
-    let path = BoxedText::new(alloc, path)?;
-    let text = BoxedText::new(alloc, text)?;
-    Ok(Some(Request::Plain(Work::Echo { path, text })))
+    let echo = Echo::new(alloc, path, word)?;
+    Ok(Some(Request::Plain(Work::Echo(echo))))
 }
 
 #[tactic(auto, unfolding(crate::specs::Lines::cat_of))]

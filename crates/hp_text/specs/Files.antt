@@ -1,7 +1,7 @@
 -- How the fault of a control file is written.
 use Rattle.std.specs.Prelude.{ℕ, List, ◌++◌, codes}
-use Rattle.hp_control.specs.declared.fault.ControlFault.{ControlFault}
-use Rattle.hp_control.specs.FaultName.{fault_name}
+use Rattle.hp_requests.specs.declared.fault.ControlFault.{ControlFault}
+use Rattle.hp_requests.specs.FaultName.{fault_name}
 use Rattle.hp_text.specs.State.{newline}
 
 -- why a file was not read

@@ -2,7 +2,7 @@
 ghost use Rattle.std.specs.Prelude.{◌≡◌, ◌++◌, OnOk, string_bytes};
 ghost use Rattle.hp_text.specs.Files.{read_fault_line, write_fault_line};
 
-use hp_control::ControlFault;
+use hp_requests::ControlFault;
 use std::alloc::AllocError;
 
 /// Writes why a file was not read, as `cat: fault NoFile` (own rule).

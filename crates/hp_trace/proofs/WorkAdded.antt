@@ -1,14 +1,10 @@
 -- Rows that were drawn are those that a line's work makes.
-use Rattle.std.proofs.Common.{◌≡◌, ◌≢◌, ℕ, true, List, [], ◌∷◌, length, Result, Err, inl, inr, refl, sym, ap, subst, ◌∙◌}
+use Rattle.std.proofs.Common.{◌≡◌, ℕ, true, List, [], ◌∷◌, length, Err, inl, inr, refl, ap, subst, ◌∙◌}
 use Rattle.hp_units.specs.declared.events.Event.{Event}
 use Rattle.hp_units.specs.declared.replies.CallFault.TheVariants.{HistoryFull}
 use Rattle.hp_units.specs.declared.replies.Receipt.{Receipt}
 use Rattle.hp_units.specs.declared.replies.Record.{Record}
-use Rattle.hp_control.specs.declared.fault.ControlFault.{ControlFault}
-use Rattle.hp_control.specs.declared.fault.ControlFault.TheVariants.{NoFile, ReadOnly, BadText, OutOfMemory, WriteOnly}
-use Rattle.hp_control.specs.declared.writes.Request.{Request}
-use Rattle.hp_control.specs.Gives.{Fails}
-use Rattle.hp_control.specs.Writes.{echo_request}
+use Rattle.hp_requests.specs.declared.fault.ControlFault.{ControlFault}
 use Rattle.hp_machine.specs.Machine.{IsCalled, MachineValue, is_full, sealed}
 use Rattle.hp_machine.specs.MachinePorts.{AreCalls}
 use Rattle.hp_text.specs.Answers.{sealed_line, unrecorded_line}
@@ -42,31 +38,11 @@ full_added m after cpu event asked old new full same drawn = record {
 
 -- ---- a control file
 
-fault_is : {A : Type 0} (fault : ControlFault) (answer : Result A ControlFault) → fault ≢ OutOfMemory
-    → Fails fault answer → answer ≡ Err fault
-fault_is NoFile answer other fails = fails
-fault_is ReadOnly answer other fails = fails
-fault_is BadText answer other fails = fails
-fault_is OutOfMemory answer other fails = absurd (other refl)
-fault_is WriteOnly answer other fails = fails
-
-pub untaken_added : (m : MachineValue) (cpu : ℕ) (path word said text : List ℕ) (fault same : ControlFault)
-    (asked : List ℕ) (old new : RowsValue)
-    → said ≡ path → text ≡ word → Fails fault (echo_request said text)
-    → same ≡ fault → fault ≢ OutOfMemory → AreDrawn (noted m asked (write_fault_line same)) old new
-    → Adds old new (λ rows. MakesRequest m cpu (echo_request path word) asked rows m)
-untaken_added m cpu path word said text fault same asked old new at means fails is other drawn =
-    let answer : echo_request path word ≡ Err fault =
-    ap (λ (p : List ℕ). echo_request p word) (sym at) ∙ ap (echo_request said) (sym means)
-    ∙ fault_is fault (echo_request said text) other fails in
-    record {
-      rows = noted m asked (write_fault_line same);
-      drawn = drawn;
-      is =
-          subst (λ (a : Result Request ControlFault).
-          MakesRequest m cpu a asked (noted m asked (write_fault_line same)) m) (sym answer)
-          (refl, ap (λ (f : ControlFault). noted m asked (write_fault_line f)) is);
-    }
+pub untaken_added : (m : MachineValue) (cpu : ℕ) (fault : ControlFault) (asked : List ℕ) (old new : RowsValue)
+    → AreDrawn (noted m asked (write_fault_line fault)) old new
+    → Adds old new (λ rows. MakesRequest m cpu (Err fault) asked rows m)
+untaken_added m cpu fault asked old new drawn =
+    record { rows = noted m asked (write_fault_line fault); drawn = drawn; is = (refl, refl) }
 
 -- ---- a seal
 

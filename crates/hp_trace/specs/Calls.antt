@@ -9,11 +9,11 @@ use Rattle.hp_units.specs.declared.replies.CallFault.{CallFault}
 use Rattle.hp_units.specs.declared.replies.CallFault.TheVariants.{HistoryFull, OutOfMemory}
 use Rattle.hp_units.specs.declared.replies.OpEnd.{OpEnd}
 use Rattle.hp_units.specs.declared.replies.Receipt.{Receipt}
-use Rattle.hp_control.specs.declared.fault.ControlFault.{ControlFault}
-use Rattle.hp_control.specs.declared.writes.Request.{Request}
-use Rattle.hp_control.specs.declared.writes.Request.TheVariants as request
+use Rattle.hp_requests.specs.declared.fault.ControlFault.{ControlFault}
+use Rattle.hp_requests.specs.declared.writes.Request.{Request}
+use Rattle.hp_requests.specs.declared.writes.Request.TheVariants as request
 use Rattle.hp_control.specs.Reads.{file_text}
-use Rattle.hp_control.specs.Writes.{control_turns, echo_request}
+use Rattle.hp_requests.specs.Writes.{control_turns, echo_request}
 use Rattle.hp_machine.specs.Machine.{MachineValue, IsCalled, is_full, sealed}
 use Rattle.hp_scenario.specs.declared.lines.Work.{Work}
 use Rattle.hp_scenario.specs.declared.lines.Work.TheVariants as work
@@ -103,8 +103,8 @@ abbrev pub MakesWork : MachineValue → (cpu : ℕ) → Work → (asked : List �
     → (after : MachineValue) → Type 0
 MakesWork m cpu (work.Event event) asked rows after = MakesEvent m cpu event asked rows after
 MakesWork m cpu (work.Plan plan turns) asked rows after = MakesPlan m cpu turns plan asked rows after
-MakesWork m cpu (work.Echo path word) asked rows after =
-    MakesRequest m cpu (echo_request path word) asked rows after
+MakesWork m cpu (work.Echo echo) asked rows after =
+    MakesRequest m cpu (echo_request echo.path echo.word) asked rows after
 MakesWork m cpu (work.Cat path) asked rows after =
     (after ≡ m) × (rows ≡ file_rows m (file_text m.layout m.state path) asked)
 MakesWork m cpu work.Seal asked rows after = MakesSeal m asked rows after

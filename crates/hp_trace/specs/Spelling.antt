@@ -16,7 +16,7 @@ shown_text text = escaped_text Escaped text
 abbrev pub work_text : (names : List (List ℕ)) → Work → List ℕ
 work_text names (work.Event event) = event_text names event
 work_text names (work.Plan items turns) = plan_text items turns
-work_text names (work.Echo path text) = codes "echo " ++ shown_text text ++ codes " " ++ shown_text path
+work_text names (work.Echo echo) = codes "echo " ++ shown_text echo.word ++ codes " " ++ shown_text echo.path
 work_text names (work.Cat path) = codes "cat " ++ shown_text path
 work_text names work.Seal = codes "seal"
 

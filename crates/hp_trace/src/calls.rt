@@ -1,18 +1,18 @@
 //! What a line asks for, done and drawn.
-ghost use Rattle.std.specs.Prelude.{◌≡◌, ◌≢◌, IfOk, OnOk, Ok};
-ghost use Rattle.hp_control.specs.declared.fault.ControlFault.TheVariants.{OutOfMemory};
+ghost use Rattle.std.specs.Prelude.{◌≡◌, ◌≢◌, IfOk, OnOk};
+ghost use Rattle.hp_requests.specs.declared.fault.ControlFault.TheVariants.{OutOfMemory};
 ghost use Rattle.hp_text.specs.Answers.{sealed_line, unrecorded_line};
 ghost use Rattle.hp_text.specs.Files.{read_fault_line, write_fault_line};
 ghost use Rattle.hp_control.specs.Reads.{file_text};
-ghost use Rattle.hp_control.specs.Writes.{echo_request};
 ghost use Rattle.hp_trace.specs.Calls.{MakesEvent, MakesRequest, MakesSeal, MakesWork, file_rows};
 ghost use Rattle.hp_trace.specs.Rows.{Adds, AreDrawn, noted};
 
 use crate::plans::{draw_receipt, trace_plan};
 use crate::rows::Rows;
-use hp_control::{CONTROL_TURNS, ControlFault, Request, parse_echo, read_text};
+use hp_control::read_text;
 use hp_machine::Machine;
-use hp_scenario::{BoxedText, Work};
+use hp_requests::{CONTROL_TURNS, ControlFault, Request};
+use hp_scenario::Work;
 use hp_text::{write_echo_fault, write_read_fault, write_sealed, write_unrecorded};
 use hp_units::{CallFault, Cpu, Event, Text};
 use std::alloc::{AllocError, Global};
@@ -32,7 +32,7 @@ pub(crate) fn trace_work(
     match work {
         Work::Event(event) => trace_event(rows, alloc, machine, cpu, event, asked),
         Work::Plan { plan, turns } => trace_plan(rows, alloc, machine, cpu, plan, *turns, asked),
-        Work::Echo { path, text } => trace_echo(rows, alloc, machine, cpu, path, text, asked),
+        Work::Echo(echo) => trace_request(rows, alloc, machine, cpu, echo.request(), asked),
         Work::Cat { path } => trace_file(rows, alloc, machine, path, asked),
         Work::Seal => trace_seal(rows, alloc, machine, asked),
     }
@@ -72,50 +72,30 @@ fn note_full(
     rows.note(alloc, machine, asked, out.as_str())
 }
 
-/// Writes a word to a control file, and does what that asks for.
-fn trace_echo(
-    rows: &mut Rows,
-    alloc: Global,
-    machine: &mut Machine,
-    cpu: Cpu,
-    path: &BoxedText,
-    word: &BoxedText,
-    asked: &str,
-) -> Result<(), AllocError>
-    ensures { OnOk result (Adds rows.old rows.new
-        (λ list. MakesRequest machine.old cpu (echo_request path.now word.now) asked.now list machine.new)) }
-{
-    match parse_echo(alloc, path.as_str(), word.as_str()) {
-        Ok(request) => trace_request(rows, alloc, machine, cpu, &request, asked),
-        Err(fault) => note_untaken(rows, alloc, machine, unless_memory(fault)?, asked),
-    }
-}
-
-/// Does what a control file asks for.
+/// Does what a control file was asked for, or notes why it does not take the word.
 fn trace_request(
     rows: &mut Rows,
     alloc: Global,
     machine: &mut Machine,
     cpu: Cpu,
-    request: &Request,
+    request: &Result<Request, ControlFault>,
     asked: &str,
 ) -> Result<(), AllocError>
     ensures { OnOk result (Adds rows.old rows.new
-        (λ list. MakesRequest machine.old cpu (Ok request.now) asked.now list machine.new)) }
+        (λ list. MakesRequest machine.old cpu request.now asked.now list machine.new)) }
 {
     match request {
-        Request::Event(event) => trace_event(rows, alloc, machine, cpu, event, asked),
-        Request::Plan(plan) => trace_plan(rows, alloc, machine, cpu, plan, CONTROL_TURNS, asked),
-    }
-}
-
-/// The fault of a control file, unless it is out of memory.
-fn unless_memory(fault: ControlFault) -> Result<ControlFault, AllocError>
-    ensures { IfOk result (λ same. (same ≡ fault) × (fault ≢ OutOfMemory)) }
-{
-    match fault {
-        ControlFault::OutOfMemory => Err(AllocError),
-        _ => Ok(fault),
+        Ok(Request::Event(event)) => trace_event(rows, alloc, machine, cpu, event, asked),
+        Ok(Request::Plan(plan)) => trace_plan(
+            rows,
+            alloc,
+            machine,
+            cpu,
+            plan,
+            CONTROL_TURNS,
+            asked,
+        ),
+        Err(fault) => note_untaken(rows, alloc, machine, *fault, asked),
     }
 }
 
@@ -150,6 +130,16 @@ fn trace_file(
     match read_text(alloc, machine, path.as_str()) {
         Ok(text) => rows.note(alloc, machine, asked, text.as_str()),
         Err(fault) => note_unread(rows, alloc, machine, unless_memory(fault)?, asked),
+    }
+}
+
+/// The fault of a control file, unless it is out of memory.
+fn unless_memory(fault: ControlFault) -> Result<ControlFault, AllocError>
+    ensures { IfOk result (λ same. (same ≡ fault) × (fault ≢ OutOfMemory)) }
+{
+    match fault {
+        ControlFault::OutOfMemory => Err(AllocError),
+        _ => Ok(fault),
     }
 }
 

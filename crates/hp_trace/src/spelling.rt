@@ -30,11 +30,11 @@ fn write_work(out: &mut String, names: &IndexSet<Text>, work: &Work) -> Result<(
     match work {
         Work::Event(event) => write_event(out, names, event),
         Work::Plan { plan, turns } => write_plan(out, plan, *turns),
-        Work::Echo { path, text } => {
+        Work::Echo(echo) => {
             out.push_str("echo ")?;
-            write_escaped(out, text.as_str(), Brackets::Escaped)?;
+            write_escaped(out, echo.word(), Brackets::Escaped)?;
             out.push_str(" ")?;
-            write_escaped(out, path.as_str(), Brackets::Escaped)
+            write_escaped(out, echo.path(), Brackets::Escaped)
         }
         Work::Cat { path } => {
             out.push_str("cat ")?;

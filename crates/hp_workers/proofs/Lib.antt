@@ -1,4 +1,3 @@
-pub mod Echoes
 pub mod LineRuns
 pub mod SealRuns
 pub mod WorkerLists

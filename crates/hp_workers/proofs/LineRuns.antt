@@ -65,7 +65,7 @@ by_calls : (l : LayoutParts) (asked : Work) (gained : List Receipt) (end : LineE
     → IsWorkRun l.cpus asked gained end → IsLine l asked gained [] end
 by_calls l (work.Event event) gained end ran = (refl, ran)
 by_calls l (work.Plan plan turns) gained end ran = (refl, ran)
-by_calls l (work.Echo path word) gained end ran = (refl, ran)
+by_calls l (work.Echo echo) gained end ran = (refl, ran)
 by_calls l (work.Cat path) gained end ran = absurd ran
 by_calls l work.Seal gained end ran = absurd ran
 

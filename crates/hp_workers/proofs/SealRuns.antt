@@ -66,7 +66,7 @@ pub line_sealed : (l : LayoutParts) (old new : SeatValue) (before after : List V
     → IsLineRun l old before asked end new after
 line_sealed l old new before after (work.Event event) end is run = absurd cc
 line_sealed l old new before after (work.Plan plan turns) end is run = absurd cc
-line_sealed l old new before after (work.Echo path word) end is run = absurd cc
+line_sealed l old new before after (work.Echo echo) end is run = absurd cc
 line_sealed l old new before after (work.Cat path) end is run = absurd cc
 line_sealed l old new before after work.Seal end is run = run
 
@@ -78,7 +78,7 @@ seal_few l (work.Event event) gained handed end ran =
     omega (arith, ap (λ (vs : List Volume). length vs) ran.0)
 seal_few l (work.Plan plan turns) gained handed end ran =
     omega (arith, ap (λ (vs : List Volume). length vs) ran.0)
-seal_few l (work.Echo path word) gained handed end ran =
+seal_few l (work.Echo echo) gained handed end ran =
     omega (arith, ap (λ (vs : List Volume). length vs) ran.0)
 seal_few l (work.Cat path) gained handed end ran = absurd ran
 seal_few l work.Seal gained handed (Replied reply) ran = absurd ran
@@ -123,7 +123,7 @@ line_seals : (l : LayoutParts) (asked : Work) (gained : List Receipt) (handed : 
     → IsLine l asked gained handed end → AreSealed l handed
 line_seals l (work.Event event) gained handed end ran = none_sealed l handed ran.0
 line_seals l (work.Plan plan turns) gained handed end ran = none_sealed l handed ran.0
-line_seals l (work.Echo path word) gained handed end ran = none_sealed l handed ran.0
+line_seals l (work.Echo echo) gained handed end ran = none_sealed l handed ran.0
 line_seals l (work.Cat path) gained handed end ran = absurd ran
 line_seals l work.Seal gained handed (Replied reply) ran = absurd ran
 line_seals l work.Seal gained handed (Faulted fault) ran = none_sealed l handed ran.1

@@ -1,5 +1,5 @@
 -- What running lines makes of a seat, and how the lines end (own rule).
-use Rattle.std.specs.Prelude.{◌≡◌, ◌⊎◌, ℕ, ◌≤◌, List, [], ◌∷◌, ◌++◌, Option, Some, None, IfSome, Result, Ok, Err, length, take}
+use Rattle.std.specs.Prelude.{◌≡◌, ℕ, ◌≤◌, List, [], ◌∷◌, ◌++◌, Option, Some, None, IfSome, Result, Ok, Err, length, take}
 use Rattle.std.specs.List.{All}
 use Rattle.hp_units.specs.Driver.{IsDriverRun}
 use Rattle.hp_units.specs.LayoutParts.{LayoutParts}
@@ -11,11 +11,10 @@ use Rattle.hp_units.specs.declared.replies.OpEnd.TheVariants.{Left}
 use Rattle.hp_units.specs.declared.replies.Receipt.{Receipt}
 use Rattle.hp_ops.specs.Ports.{AreMade, PortValue}
 use Rattle.hp_history.specs.declared.volumes.Volume.{Volume}
-use Rattle.hp_control.specs.Writes.{control_turns, echo_request}
-use Rattle.hp_control.specs.declared.fault.ControlFault.{ControlFault}
-use Rattle.hp_control.specs.declared.fault.ControlFault.TheVariants.{OutOfMemory}
-use Rattle.hp_control.specs.declared.writes.Request.{Request}
-use Rattle.hp_control.specs.declared.writes.Request.TheVariants as request
+use Rattle.hp_requests.specs.Writes.{control_turns, echo_request}
+use Rattle.hp_requests.specs.declared.fault.ControlFault.{ControlFault}
+use Rattle.hp_requests.specs.declared.writes.Request.{Request}
+use Rattle.hp_requests.specs.declared.writes.Request.TheVariants as request
 use Rattle.hp_scenario.specs.declared.lines.Line.{Line}
 use Rattle.hp_scenario.specs.declared.lines.Work.{Work}
 use Rattle.hp_scenario.specs.declared.lines.Work.TheVariants as work
@@ -58,11 +57,6 @@ IsRequestRun cpus (Ok (request.Event event)) = IsEventRun event
 IsRequestRun cpus (Ok (request.Plan plan)) = IsPlanRun cpus control_turns plan
 IsRequestRun cpus (Err fault) = IsUntaken fault
 
--- a word was written to a control file; or there was no memory to tell what it asks for
-abbrev pub IsEchoRun : (cpus : ℕ) → (path word : List ℕ) → Run
-IsEchoRun cpus path word gained end =
-    IsRequestRun cpus (echo_request path word) gained end ⊎ IsUntaken OutOfMemory gained end
-
 -- no call is made for a line that reads a control file, or seals
 abbrev pub IsNoRun : Run
 IsNoRun gained end = ⊥
@@ -71,7 +65,7 @@ IsNoRun gained end = ⊥
 abbrev pub IsWorkRun : (cpus : ℕ) → Work → Run
 IsWorkRun cpus (work.Event event) = IsEventRun event
 IsWorkRun cpus (work.Plan plan turns) = IsPlanRun cpus turns plan
-IsWorkRun cpus (work.Echo path word) = IsEchoRun cpus path word
+IsWorkRun cpus (work.Echo echo) = IsRequestRun cpus (echo_request echo.path echo.word)
 IsWorkRun cpus (work.Cat path) = IsNoRun
 IsWorkRun cpus work.Seal = IsNoRun
 
@@ -89,7 +83,8 @@ IsSealRun l gained handed (Sealed count) =
 abbrev pub IsLine : LayoutParts → Work → List Receipt → List Volume → LineEnd → Type 0
 IsLine l (work.Event event) gained handed end = (handed ≡ []) × IsEventRun event gained end
 IsLine l (work.Plan plan turns) gained handed end = (handed ≡ []) × IsPlanRun l.cpus turns plan gained end
-IsLine l (work.Echo path word) gained handed end = (handed ≡ []) × IsEchoRun l.cpus path word gained end
+IsLine l (work.Echo echo) gained handed end =
+    (handed ≡ []) × IsRequestRun l.cpus (echo_request echo.path echo.word) gained end
 IsLine l (work.Cat path) gained handed end = ⊥
 IsLine l work.Seal gained handed end = IsSealRun l gained handed end
 

@@ -4,7 +4,7 @@
 //! workers' threads are started and joined (`threads`), and the gate that stands round each call
 //! (`gate`, `port`). It calls the machine through seats alone, so it never holds the lock itself:
 //! each call takes the lock and lets it go, those of a plan too. It prints nothing and parses
-//! nothing but what an echo writes, and that outside the lock.
+//! nothing.
 //!
 //! Read `threads` first: `run_workers` is what the crate is for.
 #![tactic(auto)]

@@ -1,14 +1,14 @@
 //! One line of a worker, and what became of it.
 ghost use Rattle.std.specs.Prelude.{◌≡◌, false, None};
 ghost use Rattle.hp_scenario.specs.Scripts.{IsForRun, is_cat, is_seal};
-ghost use Rattle.hp_workers.specs.Lines.{IsCallsRun, IsEchoRun, IsEventRun, IsLineRun, IsPlanRun, IsPortRun, IsWorkRun};
+ghost use Rattle.hp_workers.specs.Lines.{IsCallsRun, IsEventRun, IsLineRun, IsPlanRun, IsPortRun, IsRequestRun, IsWorkRun};
 
 use crate::gate::Gate;
 use crate::port::GatedPort;
-use hp_control::{CONTROL_TURNS, ControlFault, Request, parse_echo};
 use hp_history::Volume;
 use hp_ops::{Port, run_plan};
-use hp_scenario::{BoxedText, Line, Work};
+use hp_requests::{CONTROL_TURNS, ControlFault, Request};
+use hp_scenario::{Line, Work};
 use hp_shared::{Job, Seat, Shared};
 use hp_units::{CallFault, Event, OpEnd, Plan, Reply};
 use std::alloc::{AllocError, Global};
@@ -24,7 +24,7 @@ pub enum LineEnd {
     Fault(CallFault),
     /// The end of its plan's operation.
     Plan(OpEnd),
-    /// Why a control file did not take its text; or out of memory before the file was asked.
+    /// Why a control file did not take its word.
     Control(ControlFault),
     /// How many records its seal handed out.
     Sealed(u64),
@@ -158,7 +158,7 @@ fn run_work<P: Port>(alloc: Global, port: &mut P, work: &Work) -> LineEnd
     match work {
         Work::Event(event) => ask(alloc, port, event),
         Work::Plan { plan, turns } => carry_out(alloc, port, plan, *turns),
-        Work::Echo { path, text } => echo(alloc, port, path, text),
+        Work::Echo(echo) => write(alloc, port, echo.request()),
         Work::Cat { path: _ } | Work::Seal => unreachable!(),
     }
 }
@@ -188,15 +188,15 @@ fn carry_out<P: Port>(alloc: Global, port: &mut P, plan: &Plan, turns: u32) -> L
     }
 }
 
-/// Does through a port what a word asks for that is written to a control file.
-fn echo<P: Port>(alloc: Global, port: &mut P, path: &BoxedText, word: &BoxedText) -> LineEnd
+/// Does through a port what a control file was asked for.
+fn write<P: Port>(alloc: Global, port: &mut P, request: &Result<Request, ControlFault>) -> LineEnd
     requires { (P.shows port.old).fault ≡ None }
     ensures { IsPortRun P.shows P.makes P.leaves port.old
-        (IsEchoRun (P.shows port.old).cpus path.now word.now) result port.new }
+        (IsRequestRun (P.shows port.old).cpus request.now) result port.new }
 {
-    match parse_echo(alloc, path.as_str(), word.as_str()) {
-        Ok(Request::Event(event)) => ask(alloc, port, &event),
-        Ok(Request::Plan(plan)) => carry_out(alloc, port, &plan, CONTROL_TURNS),
-        Err(fault) => LineEnd::Control(fault),
+    match request {
+        Ok(Request::Event(event)) => ask(alloc, port, event),
+        Ok(Request::Plan(plan)) => carry_out(alloc, port, plan, CONTROL_TURNS),
+        Err(fault) => LineEnd::Control(*fault),
     }
 }

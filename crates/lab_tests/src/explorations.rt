@@ -1,16 +1,13 @@
 //! Explorations and their text.
 use hp_explore::Silent;
 use hp_lab::explore_text;
-use std::alloc::Global;
+use std::alloc::{AllocError, Global};
 use std::test::Fail;
 
 /// An offline against a map, where each finds one free frame outside the block. What each order of
 /// the four calls answers was taken from another program, written by hand.
 const RACE: &str =
-    "{\"layout\":{\"order\":1,\"pageblocks\":1,\"blocks\":2,\"cpus\":2,\"batch\":1,\"high\":1,\
-     \"owners\":2,\"pages\":2,\"words\":1,\"history\":40,\"boot\":[\"normal\",\"movable\"]},\
-     \"calls\":[\"0 map db 0\",\"0 write db 0 0 7\",\"0 kalloc 0\",\"0 begin off 1\",\
-     \"0 migrate 0\",\"0 commit 0\",\"1 map web 0\"]}";
+    "0 map db 0;0 write db 0 0 7;0 kalloc 0;0 begin off 1;0 migrate 0;0 commit 0;1 map web 0";
 
 const RACE_TEXT: &str =
     "interleavings: 4\nends: 3\n\nend 1\ninterleavings: 2\ncpu 0\nopened 0\nmoved 2 1\ndone\n\
@@ -23,12 +20,9 @@ const RACE_TEXT: &str =
      \"0 begin off 1\",\n\"0 migrate 5\",\n\"0 commit 5\"\n";
 
 /// A setup with a line of each kind, after which one line brings the block online again.
-const SETUP: &str =
-    "{\"layout\":{\"order\":1,\"pageblocks\":1,\"blocks\":2,\"cpus\":2,\"batch\":1,\"high\":1,\
-     \"owners\":2,\"pages\":2,\"words\":1,\"history\":40,\"boot\":[\"normal\",\"movable\"]},\
-     \"calls\":[\"0 cat buddyinfo\",\"0 map db 0\",\"0 unmap db 0\",\
-     \"0 echo offline memory1/state\",\"0 seal\",\"0 echo online_movable memory1/state\",\
-     \"1 plan 4 off 1\",\"0 echo x memory1/state\",\"0 echo 1 memory1/online\"]}";
+const SETUP: &str = "0 cat buddyinfo;0 map db 0;0 unmap db 0;0 echo offline memory1/state;0 seal;\
+     0 echo online_movable memory1/state;1 plan 4 off 1;0 echo x memory1/state;\
+     0 echo 1 memory1/online";
 
 const SETUP_TEXT: &str =
     "interleavings: 1\nends: 1\n\nend 1\ninterleavings: 1\ncpu 0\ndone\ncpu 1\n\
@@ -39,10 +33,7 @@ const NO_SCRIPT_TEXT: &str =
      block 1 offline\nfirst:\n";
 
 /// A plan, whose calls are steps of their own.
-const PLAN: &str =
-    "{\"layout\":{\"order\":1,\"pageblocks\":1,\"blocks\":2,\"cpus\":2,\"batch\":1,\"high\":1,\
-     \"owners\":2,\"pages\":2,\"words\":1,\"history\":40,\"boot\":[\"normal\",\"movable\"]},\
-     \"calls\":[\"1 echo offline memory1/state\"]}";
+const PLAN: &str = "1 echo offline memory1/state";
 
 const PLAN_TEXT: &str =
     "interleavings: 1\nends: 1\n\nend 1\ninterleavings: 1\ncpu 0\ncpu 1\nopened 0\ndone\ndone\n\
@@ -50,34 +41,38 @@ const PLAN_TEXT: &str =
      \"1 begin off 1\",\n\"1 drainfor 1 0\",\n\"1 drainfor 1 1\",\n\"1 migrate 1\",\n\
      \"1 commit 1\"\n";
 
+/// The lines of a scenario, how many of them are run first, and the text of its exploration.
+const EXPLORED: &[(&str, u64, &str)] = &[
+    (RACE, 3, RACE_TEXT),
+    (SETUP, 8, SETUP_TEXT),
+    (PLAN, 3, NO_SCRIPT_TEXT),
+    (PLAN, 0, PLAN_TEXT),
+];
+
+/// The scenario of these lines, on a layout of two memory blocks of one pageblock of two frames,
+/// with room for so many records.
+pub fn scenario(alloc: Global, history: u64, lines: &str) -> Result<String, AllocError> {
+    let calls = lines.replace(alloc, ";", "\",\"")?;
+    format!(in alloc;
+        "{{\"layout\":{{\"order\":1,\"pageblocks\":1,\"blocks\":2,\"cpus\":2,\"batch\":1,\"high\":1,\
+         \"owners\":2,\"pages\":2,\"words\":1,\"history\":{history},\
+         \"boot\":[\"normal\",\"movable\"]}},\"calls\":[\"{calls}\"]}}"
+    )
+}
+
 /// Whether the exploration of a scenario after so many lines has this text.
-fn explores(alloc: Global, scenario: &str, setup: u64, text: &str) -> bool {
+fn explores(alloc: Global, lines: &str, setup: u64, text: &str) -> Result<bool, AllocError> {
+    let scenario = scenario(alloc, 40, lines)?;
     match explore_text(alloc, scenario.as_bytes(), setup, 100, &mut Silent) {
-        Ok(out) => out.as_str() == text,
-        Err(_fault) => false,
+        Ok(out) => Ok(out.as_str() == text),
+        Err(_fault) => Ok(false),
     }
 }
 
 #[test]
-fn ends_are_told_apart(rt: HostRuntime) -> Result<(), Fail> {
-    assert!(rt; explores(rt.alloc(), RACE, 3, RACE_TEXT));
-    Ok(())
-}
-
-#[test]
-fn a_setup_is_run_first(rt: HostRuntime) -> Result<(), Fail> {
-    assert!(rt; explores(rt.alloc(), SETUP, 8, SETUP_TEXT));
-    Ok(())
-}
-
-#[test]
-fn no_line_is_left_for_a_script(rt: HostRuntime) -> Result<(), Fail> {
-    assert!(rt; explores(rt.alloc(), PLAN, 3, NO_SCRIPT_TEXT));
-    Ok(())
-}
-
-#[test]
-fn a_plan_is_called_step_by_step(rt: HostRuntime) -> Result<(), Fail> {
-    assert!(rt; explores(rt.alloc(), PLAN, 0, PLAN_TEXT));
+fn explorations_have_their_text(rt: HostRuntime) -> Result<(), Fail> {
+    for (lines, setup, text) in EXPLORED {
+        assert!(rt; explores(rt.alloc(), lines, *setup, text)?, "{lines}");
+    }
     Ok(())
 }

@@ -1,28 +1,18 @@
 //! Scenarios that are not explored, and why.
-use hp_control::ControlFault;
+use super::explorations::scenario;
 use hp_explore::Silent;
 use hp_lab::{LabFault, Unfit, explore_text};
-use std::alloc::Global;
+use hp_requests::ControlFault;
+use std::alloc::{AllocError, Global};
 use std::test::Fail;
 
-/// A scenario, how many lines are run first, the limit, and the fault.
+/// The lines of a scenario, how many of them are run first, the limit, and the fault.
 type Refused = (&'static str, u64, u64, LabFault);
 
 const REFUSED: &[Refused] = &[
-    ("[", 0, 9, LabFault::NotJson),
-    ("{}", 0, 9, LabFault::BadShape),
+    ("0 drain 0;0 walk", 0, 9, LabFault::BadLine { line: 2 }),
     (
-        "{\"layout\":{\"order\":1,\"pageblocks\":1,\"blocks\":2,\"cpus\":2,\"batch\":1,\"high\":1,\
-         \"owners\":2,\"pages\":2,\"words\":1,\"history\":40,\"boot\":[\"normal\",\"movable\"]},\
-         \"calls\":[\"0 drain 0\",\"0 walk\"]}",
-        0,
-        9,
-        LabFault::BadLine { line: 2 },
-    ),
-    (
-        "{\"layout\":{\"order\":1,\"pageblocks\":1,\"blocks\":2,\"cpus\":2,\"batch\":1,\"high\":1,\
-         \"owners\":2,\"pages\":2,\"words\":1,\"history\":40,\"boot\":[\"normal\",\"movable\"]},\
-         \"calls\":[\"0 cat buddyinfo\",\"0 drain 0\",\"1 cat buddyinfo\",\"0 seal\"]}",
+        "0 cat buddyinfo;0 drain 0;1 cat buddyinfo;0 seal",
         1,
         9,
         LabFault::NotForScript {
@@ -31,9 +21,7 @@ const REFUSED: &[Refused] = &[
         },
     ),
     (
-        "{\"layout\":{\"order\":1,\"pageblocks\":1,\"blocks\":2,\"cpus\":2,\"batch\":1,\"high\":1,\
-         \"owners\":2,\"pages\":2,\"words\":1,\"history\":40,\"boot\":[\"normal\",\"movable\"]},\
-         \"calls\":[\"0 seal\",\"0 seal\"]}",
+        "0 seal;0 seal",
         1,
         9,
         LabFault::NotForScript {
@@ -42,9 +30,7 @@ const REFUSED: &[Refused] = &[
         },
     ),
     (
-        "{\"layout\":{\"order\":1,\"pageblocks\":1,\"blocks\":2,\"cpus\":2,\"batch\":1,\"high\":1,\
-         \"owners\":2,\"pages\":2,\"words\":1,\"history\":40,\"boot\":[\"normal\",\"movable\"]},\
-         \"calls\":[\"2 drain 0\"]}",
+        "2 drain 0",
         0,
         9,
         LabFault::NotForScript {
@@ -53,9 +39,7 @@ const REFUSED: &[Refused] = &[
         },
     ),
     (
-        "{\"layout\":{\"order\":1,\"pageblocks\":1,\"blocks\":2,\"cpus\":2,\"batch\":1,\"high\":1,\
-         \"owners\":2,\"pages\":2,\"words\":1,\"history\":40,\"boot\":[\"normal\",\"movable\"]},\
-         \"calls\":[\"0 echo offline memory/state\"]}",
+        "0 echo offline memory/state",
         0,
         9,
         LabFault::NotForScript {
@@ -63,41 +47,34 @@ const REFUSED: &[Refused] = &[
             why: Unfit::Echo(ControlFault::NoFile),
         },
     ),
-    (
-        "{\"layout\":{\"order\":1,\"pageblocks\":1,\"blocks\":2,\"cpus\":2,\"batch\":1,\"high\":1,\
-         \"owners\":2,\"pages\":2,\"words\":1,\"history\":40,\"boot\":[\"normal\",\"movable\"]},\
-         \"calls\":[\"0 drain 0\",\"0 drain 0\",\"1 drain 0\"]}",
-        0,
-        2,
-        LabFault::TooMany,
-    ),
-    (
-        "{\"layout\":{\"order\":1,\"pageblocks\":1,\"blocks\":2,\"cpus\":2,\"batch\":1,\"high\":1,\
-         \"owners\":2,\"pages\":2,\"words\":1,\"history\":1,\"boot\":[\"normal\",\"movable\"]},\
-         \"calls\":[\"0 drain 0\",\"1 drain 0\"]}",
-        0,
-        9,
-        LabFault::HistoryFull,
-    ),
+    ("0 drain 0;0 drain 0;1 drain 0", 0, 2, LabFault::TooMany),
 ];
 
-/// The place of the first scenario that has another fault, or is explored.
-fn first_other(alloc: Global, rows: &[Refused]) -> Option<usize> {
-    for (place, (scenario, setup, limit, fault)) in rows.iter().enumerate() {
-        match explore_text(alloc, scenario.as_bytes(), *setup, *limit, &mut Silent) {
-            Ok(_text) => return Some(place),
-            Err(found) => {
-                if found != *fault {
-                    return Some(place);
-                }
-            }
+/// Whether a scenario is not explored, for this fault.
+fn is_refused(alloc: Global, scenario: &str, setup: u64, limit: u64, fault: LabFault) -> bool {
+    match explore_text(alloc, scenario.as_bytes(), setup, limit, &mut Silent) {
+        Ok(_text) => false,
+        Err(found) => found == fault,
+    }
+}
+
+/// The place of the first row whose scenario has another fault, or is explored.
+fn first_other(alloc: Global, rows: &[Refused]) -> Result<Option<usize>, AllocError> {
+    for (place, (lines, setup, limit, fault)) in rows.iter().enumerate() {
+        let text = scenario(alloc, 40, lines)?;
+        if !is_refused(alloc, text.as_str(), *setup, *limit, *fault) {
+            return Ok(Some(place));
         }
     }
-    None
+    Ok(None)
 }
 
 #[test]
 fn each_fault_has_its_cause(rt: HostRuntime) -> Result<(), Fail> {
-    assert!(rt; first_other(rt.alloc(), REFUSED).is_none());
+    assert!(rt; first_other(rt.alloc(), REFUSED)?.is_none());
+    assert!(rt; is_refused(rt.alloc(), "[", 0, 9, LabFault::NotJson));
+    assert!(rt; is_refused(rt.alloc(), "{}", 0, 9, LabFault::BadShape));
+    let text = scenario(rt.alloc(), 1, "0 drain 0;1 drain 0")?;
+    assert!(rt; is_refused(rt.alloc(), text.as_str(), 0, 9, LabFault::HistoryFull));
     Ok(())
 }

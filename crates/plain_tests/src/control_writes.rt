@@ -1,8 +1,19 @@
 //! What bytes that are written to a control file ask for, and how a fault is named.
-use hp_control::{ControlFault, Request, parse_write};
+use hp_requests::{BlockFile, ControlFault, File, Request, file_at, parse_write};
 use hp_units::{Auto, Block, Event, Item, Plan, Wish, Zone};
 use std::alloc::Global;
 use std::test::Fail;
+
+/// Whether a path is that of a block's file `online`.
+fn is_online_of(path: &str, block: Block) -> bool {
+    matches!(file_at(path), Some(File::OfBlock { block: of, file: BlockFile::Online }) if of == block)
+}
+
+#[test]
+fn paths_are_files(rt: HostRuntime) {
+    assert!(rt; is_online_of("memory3/online", Block(3)));
+    assert!(rt; !is_online_of("memory03/online", Block(3)));
+}
 
 /// Whether bytes for a path ask for an event.
 fn asks(alloc: Global, path: &str, bytes: &[u8], event: &Event) -> bool {

@@ -1,8 +1,9 @@
 //! What each control file shows, and which paths and bytes are refused.
 use crate::layouts::{LAST_ABSENT, LAST_OFFLINE};
 use crate::machines::{Look, finds_in_four_blocks};
-use hp_control::{ControlFault, buddyinfo, parse_write, read_file, read_text};
+use hp_control::{buddyinfo, read_file, read_text};
 use hp_machine::Machine;
+use hp_requests::{ControlFault, parse_write};
 use hp_units::{Block, Cpu, Event, Item, Owner, Page, Plan, Wish};
 use std::alloc::{AllocError, Global};
 

@@ -1,9 +1,9 @@
 //! Each writer once, and a state with a page.
 use crate::layouts::LAST_OFFLINE;
 use crate::machines::{Look, finds_in_four_blocks};
-use hp_control::ControlFault;
 use hp_machine::Machine;
 use hp_plain::Image;
+use hp_requests::ControlFault;
 use hp_text::{
     write_answer, write_call_fault, write_echo_fault, write_plan_end, write_read_fault,
     write_reply, write_sealed, write_state, write_unrecorded,

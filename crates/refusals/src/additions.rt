@@ -3,79 +3,37 @@
 ghost use Rattle.std.specs.Prelude.{◌≡◌};
 ghost use Rattle.hp_units.specs.Arithmetic.{frame_count};
 
-use crate::trouble::{Case, Trouble, holds};
+use crate::trouble::{Case, Outcome, answer_of};
 use crate::values::{layout_of, two_words};
 use hp_plain::{Image, Part};
 use hp_units::{Class, Cpu, Frame, Order, Owner, Page, Pool};
 use std::alloc::{AllocError, Global};
 
-/// What is added.
-#[derive(Clone, Copy, Drop)]
-enum Added {
-    /// A free block.
-    Free,
-    /// A frame of a processor's list.
-    Cached,
-    /// A page.
-    Page,
-}
-
 /// Adds a free block, a frame of a processor's list and a page to a state that has none.
-pub fn run(case: &mut Case) -> Result<bool, Trouble> {
-    let mut image = empty(case.alloc)?;
-    add_all(case, &mut image)
-}
-
-/// A state that has no parts.
-fn empty(alloc: Global) -> Result<Image, Trouble> {
-    let layout = layout_of(alloc, 10)?;
-    Ok(Image::empty(alloc, &layout)?)
-}
-
-/// Adds one part after another.
-fn add_all(case: &mut Case, image: &mut Image) -> Result<bool, Trouble> {
+pub fn run(case: &mut Case<'_>) -> Outcome {
+    let layout = layout_of(case.alloc, 10)?;
+    let mut image = Image::empty(case.alloc, &layout)?;
     Ok(
-        add(case, image, Added::Free)?
-            && add(case, image, Added::Cached)?
-            && add(case, image, Added::Page)?,
+        add(case, &mut image, is_free_put)?
+            && add(case, &mut image, is_cached_put)?
+            && add(case, &mut image, is_page_put)?,
     )
 }
 
-/// Adds a part.
-fn add(case: &mut Case, image: &mut Image, added: Added) -> Result<bool, Trouble> {
-    let before = image.copy(case.alloc)?;
-    is_added(case, &before, image, added)
-}
-
-/// Whether a part is there after it was added. Out of memory, the state has to be as before, and
-/// the part is added again.
-fn is_added(
-    case: &mut Case,
-    before: &Image,
+/// Whether a part is there after it was added.
+fn add<P: Fn(Global, &mut Image) -> Outcome>(
+    case: &mut Case<'_>,
     image: &mut Image,
-    added: Added,
-) -> Result<bool, Trouble> {
-    match is_put(case.alloc, image, added) {
-        Ok(is_there) => Ok(is_there),
-        Err(AllocError) => {
-            case.note();
-            holds(image.same(before))?;
-            Ok(is_put(case.alloc, image, added)?)
-        }
-    }
-}
-
-/// Whether a part is there after it was put there.
-fn is_put(alloc: Global, image: &mut Image, added: Added) -> Result<bool, AllocError> {
-    match added {
-        Added::Free => is_free_put(image),
-        Added::Cached => is_cached_put(image),
-        Added::Page => is_page_put(alloc, image),
-    }
+    put: P,
+) -> Outcome
+    requires { P.IsAlwaysCallable put }
+{
+    let before = image.copy(case.alloc)?;
+    answer_of(case, image, put, |_, image, _| Ok(image.same(&before)))
 }
 
 /// Whether a free block is there after it was put there.
-fn is_free_put(image: &mut Image) -> Result<bool, AllocError> {
+fn is_free_put(_alloc: Global, image: &mut Image) -> Outcome {
     if image.layout().order() != 2 || image.layout().frames() != 16 {
         return Ok(false);
     }
@@ -88,7 +46,7 @@ fn is_free_put(image: &mut Image) -> Result<bool, AllocError> {
 }
 
 /// Whether a frame of a processor's list is there after it was put there.
-fn is_cached_put(image: &mut Image) -> Result<bool, AllocError> {
+fn is_cached_put(_alloc: Global, image: &mut Image) -> Outcome {
     if image.layout().cpus() != 2 || image.layout().frames() != 16 {
         return Ok(false);
     }
@@ -101,7 +59,7 @@ fn is_cached_put(image: &mut Image) -> Result<bool, AllocError> {
 }
 
 /// Whether a page is there after it was put there.
-fn is_page_put(alloc: Global, image: &mut Image) -> Result<bool, AllocError> {
+fn is_page_put(alloc: Global, image: &mut Image) -> Outcome {
     let layout = image.layout();
     if layout.owners() != 2 || layout.pages() != 8 || layout.words() != 2 || layout.frames() != 16 {
         return Ok(false);

@@ -3,8 +3,8 @@
 ghost use Rattle.std.specs.Prelude.{◌<◌, length};
 
 use crate::calls::{is_full, make_call};
-use crate::trouble::Trouble;
-use crate::values::{begin, layout_of, two_words};
+use crate::trouble::{Case, Outcome};
+use crate::values::{begin, layout_of, note, two_words};
 use hp_machine::{Machine, MachinePort};
 use hp_ops::Port;
 use hp_plain::Image;
@@ -15,27 +15,17 @@ use hp_units::{
 };
 use std::alloc::Global;
 
-/// Makes what the calls need, says so, and makes the calls.
-pub fn run(rt: &HostRuntime, alloc: Global) -> Result<bool, Trouble> {
-    let layout = layout_of(alloc, 2)?;
-    with_machine(rt, alloc, &layout)
-}
-
-/// Makes a machine, and goes on with it.
-fn with_machine(rt: &HostRuntime, alloc: Global, layout: &Layout) -> Result<bool, Trouble> {
-    let mut machine = Machine::boot(alloc, layout)?;
-    with_pages(rt, alloc, &mut machine)
-}
-
-/// Has two owners map a page, after which the history is full, and goes on.
-fn with_pages(rt: &HostRuntime, alloc: Global, machine: &mut Machine) -> Result<bool, Trouble> {
-    map_page(alloc, machine, Cpu(0), Owner(0))?;
-    map_page(alloc, machine, Cpu(1), Owner(1))?;
-    with_image(rt, alloc, machine)
+/// Makes a machine that two owners have a page of, after which its history is full, and goes on.
+pub fn run(case: &Case<'_>) -> Outcome {
+    let layout = layout_of(case.alloc, 2)?;
+    let mut machine = Machine::boot(case.alloc, &layout)?;
+    map_page(case.alloc, &mut machine, Cpu(0), Owner(0))?;
+    map_page(case.alloc, &mut machine, Cpu(1), Owner(1))?;
+    with_state(case, &mut machine)
 }
 
 /// Maps the first page of an owner.
-fn map_page(alloc: Global, machine: &mut Machine, cpu: Cpu, owner: Owner) -> Result<(), Trouble> {
+fn map_page(alloc: Global, machine: &mut Machine, cpu: Cpu, owner: Owner) -> Outcome<()> {
     let event = Event::Map {
         owner,
         page: Page(0),
@@ -43,57 +33,27 @@ fn map_page(alloc: Global, machine: &mut Machine, cpu: Cpu, owner: Owner) -> Res
     make_call(alloc, machine, cpu, &event)
 }
 
-/// Makes the machine's state, and goes on with both.
-fn with_image(rt: &HostRuntime, alloc: Global, machine: &mut Machine) -> Result<bool, Trouble> {
-    let image = machine.image(alloc)?;
-    with_tape(rt, alloc, machine, &image)
+/// Makes the machine's state and a tape that has room for a delta, and goes on.
+fn with_state(case: &Case<'_>, machine: &mut Machine) -> Outcome {
+    let image = machine.image(case.alloc)?;
+    let mut tape = Tape::with_room(case.alloc, 1)?;
+    with_event(case, machine, &image, &mut tape)
 }
 
-/// Makes a tape that has room for a delta, and goes on.
-fn with_tape(
-    rt: &HostRuntime,
-    alloc: Global,
-    machine: &mut Machine,
-    image: &Image,
-) -> Result<bool, Trouble> {
-    let mut tape = Tape::with_room(alloc, 1)?;
-    with_event(rt, alloc, machine, image, &mut tape)
-}
-
-/// Makes an event that holds a plan, and goes on.
-fn with_event(
-    rt: &HostRuntime,
-    alloc: Global,
-    machine: &mut Machine,
-    image: &Image,
-    tape: &mut Tape,
-) -> Result<bool, Trouble>
+/// Makes an event that holds a plan, and words, says so, and makes the calls.
+fn with_event(case: &Case<'_>, machine: &mut Machine, image: &Image, tape: &mut Tape) -> Outcome
     requires { length tape.old.deltas < tape.old.room }
 {
-    let event = begin(alloc)?;
-    with_words(rt, alloc, machine, image, tape, &event)
-}
-
-/// Makes words, which are the last of what the calls need, says so, and makes the calls.
-fn with_words(
-    rt: &HostRuntime,
-    alloc: Global,
-    machine: &mut Machine,
-    image: &Image,
-    tape: &mut Tape,
-    event: &Event,
-) -> Result<bool, Trouble>
-    requires { length tape.old.deltas < tape.old.room }
-{
-    let words = two_words(alloc)?;
-    let _said = eprintln!(rt; "set up");
+    let event = begin(case.alloc)?;
+    let words = two_words(case.alloc)?;
+    case.say_set_up();
     Ok(
         is_counted(machine.layout())
             && is_read(machine)
             && is_image(image)
             && is_noted(tape)
-            && is_listed(event, &words)
-            && is_refused(alloc, machine),
+            && is_listed(&event, &words)
+            && is_refused(case.alloc, machine),
     )
 }
 
@@ -140,10 +100,7 @@ fn is_image(image: &Image) -> bool {
 fn is_noted(tape: &mut Tape) -> bool
     requires { length tape.old.deltas < tape.old.room }
 {
-    tape.note(Delta::Auto {
-        was: Auto::Offline,
-        now: Auto::Online,
-    });
+    note(tape);
     tape.as_slice().len() == 1
         && tape.len() == 1
         && matches!(tape.latest(), Some(Delta::Auto { .. }))
@@ -155,17 +112,12 @@ fn is_listed(event: &Event, words: &Words) -> bool {
     event.same(event) && words.same(words) && words.as_slice() == [7, 9].as_slice()
 }
 
-/// A call where the history is full.
+/// A call where the history is full, by the machine and by a port.
 fn is_refused(alloc: Global, machine: &mut Machine) -> bool {
     let undo = Event::UndoAfter { serial: Serial(0) };
-    is_refused_call(alloc, machine, &undo)
-}
-
-/// A call where the history is full, by the machine and by a port.
-fn is_refused_call(alloc: Global, machine: &mut Machine, event: &Event) -> bool {
-    if !is_full(machine, alloc, Cpu(0), event) {
+    if !is_full(machine, alloc, Cpu(0), &undo) {
         return false;
     }
     let mut port = MachinePort::new(machine, Cpu(0));
-    port.cpus() == 2 && port.call(alloc, event).is_err() && port.fault.is_some()
+    port.cpus() == 2 && port.call(alloc, &undo).is_err() && port.fault.is_some()
 }

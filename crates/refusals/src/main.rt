@@ -22,25 +22,18 @@ mod trouble;
 mod values;
 mod workers;
 
-use hp_scenario::Scenario;
 use situations::{calls_of, cases, scenario_of};
-use std::alloc::Global;
 use std::env;
 use std::process::ExitCode;
 use std::sync::Wait;
 use std::thread::Threads;
-use trouble::{Case, Trouble};
+use trouble::{Case, Outcome, Trouble};
 
 /// How often a case is run again that was out of memory.
 const TURNS: u32 = 5;
 
 /// Runs a case.
-fn run_case<R: Threads + Wait + Sync>(
-    rt: &R,
-    host: &HostRuntime,
-    case: &mut Case,
-    name: &str,
-) -> Result<bool, Trouble> {
+fn run_case<R: Threads + Wait + Sync>(rt: &R, case: &mut Case<'_>, name: &str) -> Outcome {
     match name {
         "layouts" => values::layouts(case.alloc),
         "copies" => values::copies(case.alloc),
@@ -50,52 +43,32 @@ fn run_case<R: Threads + Wait + Sync>(
         "additions" => additions::run(case),
         "maps" => maps::run(case.alloc),
         "workers" => workers::run(rt, case.alloc),
-        "fixed" => fixed::run(host, case.alloc),
-        _ => run_situation(rt, host, case, name),
+        "fixed" => fixed::run(case),
+        _ => run_situation(rt, case, name),
     }
 }
 
 /// Runs a situation.
-fn run_situation<R: Threads + Wait + Sync>(
-    rt: &R,
-    host: &HostRuntime,
-    case: &mut Case,
-    name: &str,
-) -> Result<bool, Trouble> {
+fn run_situation<R: Threads + Wait + Sync>(rt: &R, case: &mut Case<'_>, name: &str) -> Outcome {
     let Some(calls) = calls_of(name) else {
         return Ok(false);
     };
     let scenario = scenario_of(case.alloc, calls)?;
-    run_scenario(rt, host, case, name, &scenario)
-}
-
-/// Runs the scenario of a situation.
-fn run_scenario<R: Threads + Wait + Sync>(
-    rt: &R,
-    host: &HostRuntime,
-    case: &mut Case,
-    name: &str,
-    scenario: &Scenario,
-) -> Result<bool, Trouble> {
     match name {
-        "memories" => memories::run(case, scenario),
-        "audits" => audits::run(case, scenario),
-        "seats" => seats::run(rt, case, scenario),
-        "steps-in-room" => rooms::steps(host, case.alloc, scenario),
-        "undo-in-room" => rooms::undo(host, case.alloc, scenario),
-        "undo-after-map" | "cancel-after-map" => rooms::go_back(host, case.alloc, scenario),
-        _ => lines::run(case, scenario),
+        "memories" => memories::run(case, &scenario),
+        "audits" => audits::run(case, &scenario),
+        "seats" => seats::run(rt, case, &scenario),
+        "steps-in-room" => rooms::steps(case, &scenario),
+        "undo-in-room" => rooms::undo(case, &scenario),
+        "undo-after-map" | "cancel-after-map" => rooms::go_back(case, &scenario),
+        _ => lines::run(case, &scenario),
     }
 }
 
 /// Runs all cases.
-fn run_each<R: Threads + Wait + Sync>(
-    rt: &R,
-    host: &HostRuntime,
-    case: &mut Case,
-) -> Result<bool, Trouble> {
+fn run_each<R: Threads + Wait + Sync>(rt: &R, case: &mut Case<'_>) -> Outcome {
     for (name, _calls) in cases() {
-        if !run_case(rt, host, case, *name)? {
+        if !run_case(rt, case, *name)? {
             return Ok(false);
         }
     }
@@ -103,62 +76,40 @@ fn run_each<R: Threads + Wait + Sync>(
 }
 
 /// Prints the names of all cases.
-fn print_names(rt: &HostRuntime) -> Result<bool, Trouble> {
+fn print_names(rt: &HostRuntime) -> Outcome {
     for (name, _calls) in cases() {
         let _said = println!(rt; "{name}");
     }
     Ok(true)
 }
 
-/// The words after the program's name, and before them that name.
-fn words_of(rt: &HostRuntime, alloc: Global) -> Result<Vec<String>, Trouble> {
-    let Ok(words) = env::args(rt) else {
+/// Does what the words ask for, the first of which is the program's name.
+fn run<R: Threads + Wait + Sync>(rt: &R, host: &HostRuntime, case: &mut Case<'_>) -> Outcome {
+    let Ok(words) = env::args(host) else {
         return Err(Trouble::OutOfMemory);
     };
-    Ok(words.collect(alloc)?)
-}
-
-/// Does what the word after the program's name asks for.
-fn run<R: Threads + Wait + Sync>(
-    rt: &R,
-    host: &HostRuntime,
-    case: &mut Case,
-) -> Result<bool, Trouble> {
-    let words = words_of(host, case.alloc)?;
-    run_words(rt, host, case, &words)
-}
-
-/// Does what the second word asks for.
-fn run_words<R: Threads + Wait + Sync>(
-    rt: &R,
-    host: &HostRuntime,
-    case: &mut Case,
-    words: &[String],
-) -> Result<bool, Trouble> {
-    match words {
+    let words: Vec<String> = words.collect(case.alloc)?;
+    match words.as_slice() {
         [_, word] if word.as_str() == "names" => print_names(host),
-        [_, word] => run_case(rt, host, case, word.as_str()),
-        _ => run_each(rt, host, case),
+        [_, word] => run_case(rt, case, word.as_str()),
+        _ => run_each(rt, case),
     }
 }
 
 /// Runs again what was out of memory.
-fn run_again<R: Threads + Wait + Sync>(
-    rt: &R,
-    host: &HostRuntime,
-    case: &mut Case,
-) -> Result<bool, Trouble> {
+fn run_again<R: Threads + Wait + Sync>(rt: &R, host: &HostRuntime, case: &mut Case<'_>) -> Outcome {
     for _turn in 0..TURNS {
         match run(rt, host, case) {
-            Err(Trouble::OutOfMemory) => case.note(),
-            ending => return ending,
+            Ok(is_right) => return Ok(is_right),
+            Err(Trouble::Wrong) => return Err(Trouble::Wrong),
+            Err(_) => case.note(),
         }
     }
     Err(Trouble::OutOfMemory)
 }
 
 fn main(rt: HostRuntime) -> ExitCode {
-    let mut case = Case::new(rt.alloc());
+    let mut case = Case::new(&rt);
     let ending = run_again(&rt, &rt, &mut case);
     let _said = eprintln!(rt; "{}", case.refusals);
     if matches!(ending, Ok(true)) {

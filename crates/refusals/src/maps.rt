@@ -1,10 +1,8 @@
 //! The places of a machine's frames, and their picture.
-use crate::trouble::Trouble;
+use crate::trouble::Outcome;
 use crate::values::layout_of;
 use hp_machine::Machine;
 use hp_map::{Place, picture_of, places_of};
-use hp_pictures::BlockPicture;
-use hp_units::Layout;
 use std::alloc::Global;
 
 /// The heads and the cells of the memory blocks at boot.
@@ -16,24 +14,14 @@ const DRAWN: &[(&str, &str)] = &[
 ];
 
 /// Looks for the places of all frames at boot, and for their picture.
-pub fn run(alloc: Global) -> Result<bool, Trouble> {
+pub fn run(alloc: Global) -> Outcome {
     let layout = layout_of(alloc, 10)?;
-    run_on(alloc, &layout)
-}
-
-/// Does that for a layout.
-fn run_on(alloc: Global, layout: &Layout) -> Result<bool, Trouble> {
-    let machine = Machine::boot(alloc, layout)?;
-    is_mapped(alloc, &machine)
-}
-
-/// Whether a machine has the places and the picture of boot.
-fn is_mapped(alloc: Global, machine: &Machine) -> Result<bool, Trouble> {
-    Ok(are_placed(alloc, machine)? && is_drawn(alloc, machine)?)
+    let machine = Machine::boot(alloc, &layout)?;
+    Ok(are_placed(alloc, &machine)? && is_drawn(alloc, &machine)?)
 }
 
 /// Whether twelve frames are free, and four offline.
-fn are_placed(alloc: Global, machine: &Machine) -> Result<bool, Trouble> {
+fn are_placed(alloc: Global, machine: &Machine) -> Outcome {
     let places = places_of(alloc, machine)?;
     Ok(
         places.len() == 16
@@ -54,20 +42,15 @@ fn count_of(places: &[Place], wanted: Place) -> u32 {
 }
 
 /// Whether the memory blocks are drawn as at boot.
-fn is_drawn(alloc: Global, machine: &Machine) -> Result<bool, Trouble> {
+fn is_drawn(alloc: Global, machine: &Machine) -> Outcome {
     let blocks = picture_of(alloc, machine, true)?;
-    Ok(are_same(&blocks, DRAWN))
-}
-
-/// Whether memory blocks are drawn with these heads and cells, in this order.
-fn are_same(blocks: &[BlockPicture], wanted: &[(&str, &str)]) -> bool {
-    if blocks.len() != wanted.len() {
-        return false;
+    if blocks.len() != DRAWN.len() {
+        return Ok(false);
     }
-    for (block, other) in blocks.iter().zip(wanted) {
-        if block.head() != other.0 || block.ordered() != other.1 {
-            return false;
+    for (block, wanted) in blocks.iter().zip(DRAWN) {
+        if block.head() != wanted.0 || block.ordered() != wanted.1 {
+            return Ok(false);
         }
     }
-    true
+    Ok(true)
 }

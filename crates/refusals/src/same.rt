@@ -1,15 +1,14 @@
-//! Whether two machines, records or answers are the same.
-use crate::trouble::Trouble;
+//! Whether two machines, records or volumes are the same.
+use crate::trouble::Outcome;
 use hp_history::Volume;
 use hp_machine::Machine;
-use hp_units::{OpEnd, Receipt, Record, Refusal};
+use hp_units::{Receipt, Record};
 use std::alloc::Global;
 
 /// Whether two machines have the same state, base, records and number of steps that may be undone.
-pub fn same_machines(alloc: Global, one: &Machine, other: &Machine) -> Result<bool, Trouble> {
-    let states = same_states(alloc, one, other)?;
+pub fn same_machines(alloc: Global, one: &Machine, other: &Machine) -> Outcome {
     Ok(
-        states
+        same_states(alloc, one, other)?
             && one.base().same(other.base())
             && one.sealed() == other.sealed()
             && one.journal_len() == other.journal_len()
@@ -18,7 +17,7 @@ pub fn same_machines(alloc: Global, one: &Machine, other: &Machine) -> Result<bo
 }
 
 /// Whether two machines have the same state.
-pub fn same_states(alloc: Global, one: &Machine, other: &Machine) -> Result<bool, Trouble> {
+pub fn same_states(alloc: Global, one: &Machine, other: &Machine) -> Outcome {
     let left = one.image(alloc)?;
     let right = other.image(alloc)?;
     Ok(left.same(&right))
@@ -55,35 +54,4 @@ pub fn same_volumes(one: &Volume, other: &Volume) -> bool {
     one.before == other.before
         && one.base.same(&other.base)
         && same_records(one.records.as_slice(), other.records.as_slice())
-}
-
-/// Whether two plans ended in the same way.
-pub fn same_ends(one: OpEnd, other: OpEnd) -> bool {
-    match one {
-        OpEnd::Done => matches!(other, OpEnd::Done),
-        OpEnd::Undone => matches!(other, OpEnd::Undone),
-        OpEnd::Left { .. } => false,
-        OpEnd::Refused(refusal) => match other {
-            OpEnd::Refused(wanted) => refusal.same(wanted),
-            _ => false,
-        },
-        OpEnd::Cancelled { why, restored } => match other {
-            OpEnd::Cancelled {
-                why: wanted,
-                restored: back,
-            } => restored == back && same_causes(why, wanted),
-            _ => false,
-        },
-    }
-}
-
-/// Whether two causes are the same.
-fn same_causes(one: Option<Refusal>, other: Option<Refusal>) -> bool {
-    match one {
-        Some(refusal) => match other {
-            Some(wanted) => refusal.same(wanted),
-            None => false,
-        },
-        None => other.is_none(),
-    }
 }

@@ -1,6 +1,6 @@
 //! The cases by name, and the scenarios that they run. In a situation of a call the last of the
 //! lines is the one that counts.
-use crate::trouble::Trouble;
+use crate::trouble::Outcome;
 use crate::{audits, memories, rooms, seats};
 use hp_scenario::Scenario;
 use std::alloc::Global;
@@ -113,7 +113,7 @@ pub fn calls_of(name: &str) -> Option<&'static str> {
 }
 
 /// The scenario of these lines.
-pub fn scenario_of(alloc: Global, calls: &str) -> Result<Scenario, Trouble> {
+pub fn scenario_of(alloc: Global, calls: &str) -> Outcome<Scenario> {
     let text = format!(in alloc; "{{\"layout\":{LAYOUT},\"calls\":[{calls}]}}")?;
     Ok(Scenario::read(alloc, text.as_bytes())?)
 }

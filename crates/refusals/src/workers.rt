@@ -5,11 +5,11 @@ ghost use Rattle.hp_scenario.specs.Scripts.{AreForRun};
 ghost use Rattle.hp_shared.specs.Shared.{IsFresh};
 
 use crate::situations::scenario_of;
-use crate::trouble::{Trouble, holds};
-use hp_control::ControlFault;
+use crate::trouble::{Outcome, Trouble, holds};
 use hp_history::Volume;
 use hp_machine::Machine;
-use hp_scenario::{Scenario, Script};
+use hp_requests::ControlFault;
+use hp_scenario::Script;
 use hp_shared::{CloseFault, Job, Seat, Shared, close};
 use hp_units::{CallFault, OpEnd, Reply};
 use hp_workers::{Ends, LineEnd, OpenGate, RunEnd, run_workers};
@@ -23,18 +23,12 @@ use std::thread::Threads;
 const CALLS: &str =
     r#""0 map db 0","0 write db 0 1 7","0 plan 8 off 2","0 read db 0 1","0 seal","1 echo online memory3/state","1 map web 0","1 write web 0 0 5","1 read web 0 0""#;
 
-/// Has workers run the lines, and closes.
-pub fn run<R: Threads + Wait + Sync>(rt: &R, alloc: Global) -> Result<bool, Trouble> {
-    let scenario = scenario_of(alloc, CALLS)?;
-    run_scenario(rt, alloc, scenario)
-}
+/// The end of a line that was done.
+const DONE: LineEnd = LineEnd::Reply(Reply::Done);
 
-/// Makes a machine for a scenario, and has workers run it.
-fn run_scenario<R: Threads + Wait + Sync>(
-    rt: &R,
-    alloc: Global,
-    scenario: Scenario,
-) -> Result<bool, Trouble> {
+/// Makes a machine, and has workers run the lines.
+pub fn run<R: Threads + Wait + Sync>(rt: &R, alloc: Global) -> Outcome {
+    let scenario = scenario_of(alloc, CALLS)?;
     let machine = Machine::boot(alloc, &scenario.layout)?;
     let blank = Blank::new(scenario.layout.cpus() as u64);
     let scripts = scenario.scripts(alloc)?;
@@ -48,7 +42,7 @@ fn run_scripts<L: Job + Send + Sync, R: Threads + Wait + Sync>(
     blank: Blank,
     machine: Machine,
     scripts: Vec<Script>,
-) -> Result<bool, Trouble>
+) -> Outcome
     requires machine { IsFresh L.layout machine }
     requires name { blank.name ≡ L.name }
     requires parts { blank.parts ≡ L.parts }
@@ -61,14 +55,15 @@ fn run_scripts<L: Job + Send + Sync, R: Threads + Wait + Sync>(
     }
 }
 
-/// Has workers run a script for each seat, and closes.
+/// Has workers run a script for each seat, and closes: with as many records as receipts, whether a
+/// line was out of memory or not.
 fn run_seats<L: Job + Send + Sync, R: Threads + Wait + Sync>(
     rt: &R,
     alloc: Global,
     shared: Shared<L>,
     seats: Vec<Seat<L>>,
     scripts: Vec<Script>,
-) -> Result<bool, Trouble>
+) -> Outcome
     requires run { AreForRun scripts.items }
 {
     if seats.len() != scripts.len() {
@@ -85,17 +80,6 @@ fn run_seats<L: Job + Send + Sync, R: Threads + Wait + Sync>(
     let is_short = fault.is_some() || is_any_refused(&ends);
     let is_right = are_right(&ends);
     let records = close_all(alloc, shared, seats, volumes);
-    ended(records, receipts, is_whole, is_short, is_right)
-}
-
-/// How a run ended: with as many records as receipts, and with a line out of memory or not.
-fn ended(
-    records: Result<u64, Trouble>,
-    receipts: u64,
-    is_whole: bool,
-    is_short: bool,
-    is_right: bool,
-) -> Result<bool, Trouble> {
     holds(records? == receipts && is_whole)?;
     if is_short {
         return Err(Trouble::OutOfMemory);
@@ -118,7 +102,7 @@ fn close_all<L: Job>(
     shared: Shared<L>,
     seats: Vec<Seat<L>>,
     volumes: Vec<Volume>,
-) -> Result<u64, Trouble> {
+) -> Outcome<u64> {
     match close(alloc, shared, seats, volumes) {
         Ok(closed) => Ok(closed.records),
         Err(refused) => {
@@ -152,47 +136,13 @@ fn is_refused(end: LineEnd) -> bool {
 
 /// Whether the lines ended as they do with ample memory.
 fn are_right(lists: &Vec<Ends>) -> bool {
-    match lists.as_slice() {
-        [first, second] => is_first(first.as_slice()) && is_second(second.as_slice()),
-        _ => false,
-    }
-}
-
-/// Whether the lines of processor 0 ended so.
-fn is_first(ends: &[LineEnd]) -> bool {
-    match ends {
-        [
-            map,
-            write,
-            LineEnd::Plan(OpEnd::Done),
-            read,
-            LineEnd::Sealed(_),
-        ] => {
-            is_reply(*map, Reply::Done)
-                && is_reply(*write, Reply::Done)
-                && is_reply(*read, Reply::Word(7))
-        }
-        _ => false,
-    }
-}
-
-/// Whether the lines of processor 1 ended so.
-fn is_second(ends: &[LineEnd]) -> bool {
-    match ends {
-        [online, map, write, read] => {
-            is_reply(*online, Reply::Done)
-                && is_reply(*map, Reply::Done)
-                && is_reply(*write, Reply::Done)
-                && is_reply(*read, Reply::Word(5))
-        }
-        _ => false,
-    }
-}
-
-/// Whether a line got this reply.
-fn is_reply(end: LineEnd, wanted: Reply) -> bool {
-    match end {
-        LineEnd::Reply(reply) => reply.same(&wanted),
-        _ => false,
-    }
+    let [first, second] = lists.as_slice() else {
+        return false;
+    };
+    let [front @ .., LineEnd::Sealed(_)] = first.as_slice() else {
+        return false;
+    };
+    let planned = LineEnd::Plan(OpEnd::Done);
+    front == [DONE, DONE, planned, LineEnd::Reply(Reply::Word(7))].as_slice()
+        && second.as_slice() == [DONE, DONE, DONE, LineEnd::Reply(Reply::Word(5))].as_slice()
 }

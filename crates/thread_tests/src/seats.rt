@@ -134,29 +134,11 @@ fn closed_with_seat<L: Job>(
 fn two_maps<L: Job + Send + Sync, R: Threads + Wait + Sync>(
     rt: &R,
     alloc: Global,
-    blank: Blank,
-    machine: Machine,
-) -> Option<((usize, usize), (CloseFault, u64))>
-    requires machine { IsFresh L.layout machine }
-    requires name { blank.name ≡ L.name }
-    requires parts { blank.parts ≡ L.parts }
-    requires one_each { blank.parts ≡ L.layout.cpus }
-{
-    let Ok((shared, seats)) = Shared::<L>::new(alloc, blank, machine) else {
-        return None;
-    };
+    shared: Shared<L>,
+    seats: Vec<Seat<L>>,
+) -> Option<((usize, usize), (CloseFault, u64))> {
     let (seats, second, receipts) = mapped_by_two(rt, alloc, &shared, seats)?;
     Some((receipts, closed_with_seat(alloc, shared, seats, second)?))
-}
-
-#[test]
-fn two_threads_map_a_page_each(rt: HostRuntime) -> Result<(), Fail> {
-    let layout = layout(rt.alloc())?;
-    let machine = Machine::boot(rt.alloc(), &layout)?;
-    let blank = Blank::new(layout.cpus() as u64);
-    let ends = two_maps::<Brand, _>(&rt, rt.alloc(), blank, machine);
-    assert!(rt; matches!(ends, Some(((1, 1), (CloseFault::SeatMissing, 2)))));
-    Ok(())
 }
 
 /// A seat maps a page and seals.
@@ -209,29 +191,11 @@ fn closed_with_volume<L: Job>(
 fn one_sealed<L: Job, R: Wait>(
     rt: &R,
     alloc: Global,
-    blank: Blank,
-    machine: Machine,
-) -> Option<(CloseFault, u64)>
-    requires machine { IsFresh L.layout machine }
-    requires name { blank.name ≡ L.name }
-    requires parts { blank.parts ≡ L.parts }
-    requires one_each { blank.parts ≡ L.layout.cpus }
-{
-    let Ok((shared, mut seats)) = Shared::<L>::new(alloc, blank, machine) else {
-        return None;
-    };
+    shared: Shared<L>,
+    mut seats: Vec<Seat<L>>,
+) -> Option<(CloseFault, u64)> {
     let volume = sealed_between(rt, alloc, &shared, &mut seats)?;
     closed_with_volume(alloc, shared, seats, volume)
-}
-
-#[test]
-fn sealed_records_come_first(rt: HostRuntime) -> Result<(), Fail> {
-    let layout = layout(rt.alloc())?;
-    let machine = Machine::boot(rt.alloc(), &layout)?;
-    let blank = Blank::new(layout.cpus() as u64);
-    let ends = one_sealed::<Brand, _>(&rt, rt.alloc(), blank, machine);
-    assert!(rt; matches!(ends, Some((CloseFault::WrongVolume { at: 0 }, 2))));
-    Ok(())
 }
 
 /// A plan that takes the third memory block offline.
@@ -243,35 +207,17 @@ fn offline(alloc: Global) -> Result<Plan, AllocError> {
     Plan::new(alloc, vec![in alloc; item]?)
 }
 
-/// A seat that mapped a page and then carried a plan out, and the plan's end.
+/// The end of a plan that a seat carries out after it mapped a page.
 fn planned<L: Job, R: Wait>(
     rt: &R,
     alloc: Global,
     shared: &Shared<L>,
-    seat: Seat<L>,
+    seat: &mut Seat<L>,
     plan: Plan,
-) -> (Seat<L>, OpEnd) {
-    let mut seat = mapped(rt, alloc, shared, seat, 0);
-    let mut port = SeatPort::new(rt, &mut seat, shared);
-    let end = run_plan(alloc, &mut port, plan, 1024);
-    (seat, end)
-}
-
-/// A seat maps a page and takes its block offline: the seats in another order, and the plan's end.
-fn moved_by_one<L: Job, R: Wait>(
-    rt: &R,
-    alloc: Global,
-    shared: &Shared<L>,
-    seats: Vec<Seat<L>>,
-    plan: Plan,
-) -> Option<(Vec<Seat<L>>, OpEnd)> {
-    let mut seats = seats;
-    let second = seats.pop()?;
-    let first = seats.pop()?;
-    let (first, end) = planned(rt, alloc, shared, first, plan);
-    seats.push(second).ok()?;
-    seats.push(first).ok()?;
-    Some((seats, end))
+) -> OpEnd {
+    map(rt, alloc, shared, seat, 0);
+    let mut port = SeatPort::new(rt, seat, shared);
+    run_plan(alloc, &mut port, plan, 1024)
 }
 
 /// A seat maps a page and takes its block offline. The plan's end, and how many records a close
@@ -279,30 +225,75 @@ fn moved_by_one<L: Job, R: Wait>(
 fn page_moved<L: Job, R: Wait>(
     rt: &R,
     alloc: Global,
+    shared: Shared<L>,
+    mut seats: Vec<Seat<L>>,
+) -> Option<(OpEnd, u64)> {
+    let plan = offline(alloc).ok()?;
+    let end = planned(rt, alloc, &shared, seats.get_mut(0)?, plan);
+    seats.reverse();
+    let closed = close(alloc, shared, seats, Vec::new(alloc)).ok()?;
+    Some((end, closed.records))
+}
+
+/// What the seats of a machine do.
+#[derive(Clone, Copy, Drop)]
+enum Scene {
+    TwoMaps,
+    OneSealed,
+    PageMoved,
+}
+
+/// Whether a scene ends as it should on a machine.
+fn plays_on<L: Job + Send + Sync, R: Threads + Wait + Sync>(
+    rt: &R,
+    alloc: Global,
     blank: Blank,
     machine: Machine,
-    plan: Plan,
-) -> Option<(OpEnd, u64)>
+    scene: Scene,
+) -> bool
     requires machine { IsFresh L.layout machine }
     requires name { blank.name ≡ L.name }
     requires parts { blank.parts ≡ L.parts }
     requires one_each { blank.parts ≡ L.layout.cpus }
 {
     let Ok((shared, seats)) = Shared::<L>::new(alloc, blank, machine) else {
-        return None;
+        return false;
     };
-    let (seats, end) = moved_by_one(rt, alloc, &shared, seats, plan)?;
-    let closed = close(alloc, shared, seats, Vec::new(alloc)).ok()?;
-    Some((end, closed.records))
+    match scene {
+        Scene::TwoMaps => matches!(
+            two_maps(rt, alloc, shared, seats),
+            Some(((1, 1), (CloseFault::SeatMissing, 2)))
+        ),
+        Scene::OneSealed => matches!(
+            one_sealed(rt, alloc, shared, seats),
+            Some((CloseFault::WrongVolume { at: 0 }, 2))
+        ),
+        Scene::PageMoved => matches!(page_moved(rt, alloc, shared, seats), Some((OpEnd::Done, 7))),
+    }
+}
+
+/// Whether a scene ends as it should on a machine at its start.
+fn plays<R: Threads + Wait + Sync>(rt: &R, alloc: Global, scene: Scene) -> Result<bool, Fail> {
+    let layout = layout(alloc)?;
+    let machine = Machine::boot(alloc, &layout)?;
+    let blank = Blank::new(layout.cpus() as u64);
+    Ok(plays_on::<Brand, _>(rt, alloc, blank, machine, scene))
+}
+
+#[test]
+fn two_threads_map_a_page_each(rt: HostRuntime) -> Result<(), Fail> {
+    assert!(rt; plays(&rt, rt.alloc(), Scene::TwoMaps)?);
+    Ok(())
+}
+
+#[test]
+fn sealed_records_come_first(rt: HostRuntime) -> Result<(), Fail> {
+    assert!(rt; plays(&rt, rt.alloc(), Scene::OneSealed)?);
+    Ok(())
 }
 
 #[test]
 fn a_mapped_block_goes_offline(rt: HostRuntime) -> Result<(), Fail> {
-    let plan = offline(rt.alloc())?;
-    let layout = layout(rt.alloc())?;
-    let machine = Machine::boot(rt.alloc(), &layout)?;
-    let blank = Blank::new(layout.cpus() as u64);
-    let ends = page_moved::<Brand, _>(&rt, rt.alloc(), blank, machine, plan);
-    assert!(rt; matches!(ends, Some((OpEnd::Done, 7))));
+    assert!(rt; plays(&rt, rt.alloc(), Scene::PageMoved)?);
     Ok(())
 }

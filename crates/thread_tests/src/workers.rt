@@ -6,8 +6,8 @@ ghost use Rattle.hp_shared.specs.Shared.{IsFresh};
 mod gates;
 
 use gates::{Between, Meeting};
-use hp_control::ControlFault;
 use hp_machine::Machine;
+use hp_requests::ControlFault;
 use hp_scenario::{Scenario, Script};
 use hp_shared::{Closed, Job, Shared, close};
 use hp_units::{Frame, OpEnd, Owner, Page, Reply};

@@ -32,8 +32,8 @@ fn reads_a_scenario(rt: HostRuntime) -> Result<(), Fail> {
 /// Whether lines are a plan of two blocks and an echo, both as a text says.
 fn are_plan_and_echo(plan: &Line, echo: &Line) -> bool {
     let is_plan = matches!(&plan.work, Work::Plan { plan, turns: 5 } if plan.as_slice().len() == 2);
-    let is_echo = matches!(&echo.work, Work::Echo { path, text }
-        if path.as_str() == "memory2/state" && text.as_str() == "offline");
+    let is_echo = matches!(&echo.work, Work::Echo(echo)
+        if echo.path() == "memory2/state" && echo.word() == "offline" && echo.request().is_ok());
     is_plan && echo.cpu == Cpu(1) && is_echo
 }
 

@@ -20,7 +20,7 @@ loop-index-preserved c =
       one_warned c.args.layout.now c.args.lines.now c.loop-index.index line c.loop-index.tally
           c.loop-index.found.items _ c.loop-index-test.true c.index-lines-index.is i.1 i.0
           (c.in_ok-push_warning.ensures ∙ ap (λ (w : Option Warning).
-          c.loop-index.found.items ++ warned (c.loop-index.index + 1) w) c.in_ok-warning.ensures),
+          c.loop-index.found.items ++ warned (c.loop-index.index + 1) w) c.work_warning-warning.ensures),
       one_tallied c.args.lines.now c.loop-index.index line c.loop-index.tally _ c.loop-index-test.true
           c.index-lines-index.is i.1 c.in_ok-add.ensures,
       used_more c.loop-index.tally _ line.work c.loop-index.index i.2 c.in_ok-add.ensures,

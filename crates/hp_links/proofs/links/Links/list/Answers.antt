@@ -1,4 +1,4 @@
-use Rattle.std.proofs.Common.{◌<◌, ℕ, [], ◌∷◌, length, ap, subst, arith, rules}
+use Rattle.std.proofs.Common.{◌<◌, ℕ, [], ◌∷◌, length, ap, subst, arith}
 use Rattle.std.proofs.lemmas.List.{length-append}
 use Rattle.hp_links.specs.LinkedLists.{list_at}
 use Rattle.hp_links.specs.Rings.{Member, table}
@@ -53,9 +53,3 @@ pub returns : goal.returns
 returns c =
     walked-all (list_at c.args.self.now c.args.list) c.loop-ahead.frames.items c.loop-ahead.ahead
     c.in_default.is c.loop-ahead.invariant
-
-pub returns-in_err-frames : goal.returns-in_err-frames
-returns-in_err-frames c = search rules
-
-pub returns-in_err-push : goal.returns-in_err-push
-returns-in_err-push c = search rules

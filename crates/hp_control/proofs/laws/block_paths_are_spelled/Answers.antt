@@ -1,5 +1,0 @@
-use Rattle.hp_control.proofs.PathSpelled.{paths_law}
-use Rattle.hp_control.proofs.laws.block_paths_are_spelled.Goals as goal
-
-pub returns : goal.returns
-returns c = paths_law

@@ -1,0 +1,222 @@
+-- The laws of operations over histories that follow one another.
+use Rattle.std.proofs.Common.{◌≡◌, ℕ, suc, ◌+◌, ◌<◌, List, [], ◌∷◌, ◌++◌, length, take, true, false, Some, slice_get, ap, sym, subst, ◌∙◌, arith, inl, inr}
+use Rattle.std.proofs.lemmas.Bool.{cases_lt}
+use Rattle.hp_units.specs.LayoutParts.{LayoutParts, IsLayout}
+use Rattle.hp_units.specs.Memory.{Memory, row_of}
+use Rattle.hp_units.specs.Rows.{claimed_row, commit_blocks, is_live, release_blocks}
+use Rattle.hp_units.specs.History.{is_refused, net_of, run, value_of}
+use Rattle.hp_units.specs.Placement.{IsWellPlaced}
+use Rattle.hp_laws.specs.Operations.{BeginsAt, IsOpenBehind, RowsAre, wished_row}
+use Rattle.hp_laws.specs.Seals.{AreLegal, net_of_all, state_just_after, state_just_before, value_of_all}
+use Rattle.hp_laws.proofs.Names.{Record, Item, Commit, Cancel, Restored}
+use Rattle.hp_laws.proofs.Net.{Numbered}
+use Rattle.hp_laws.proofs.EventSteps.{value-placed}
+use Rattle.hp_laws.proofs.LawProofs.{IsCutAt, restored_cut}
+use Rattle.hp_laws.proofs.OperationLaws.{cancel_ends, commit_ends, each_same}
+use Rattle.hp_laws.proofs.OperationNets.{begun_in, held_in, new_in, old_in, phase_in}
+use Rattle.hp_laws.proofs.OperationPhases.{AreBegun, HoldsOrIsOver, IsBegun, IsEndOf, cancel-gives_back, commit-grants, each_both, each_map, live_holds}
+use Rattle.hp_laws.proofs.SealedNets.{IsLast, begin_of_all, count_of_all, front_of_all, get_right, last_legal, net-last, others_legal, placed_of_all, run_past, steps_of_all, value-last}
+
+-- the states around the step at a place of all steps
+abbrev old_of : LayoutParts → Memory → List (List Record) → ℕ → Memory
+old_of l base hs place = old_in l base (net_of_all hs) place
+
+abbrev new_of : LayoutParts → Memory → List (List Record) → ℕ → Memory
+new_of l base hs place = new_in l base (net_of_all hs) place
+
+-- a Begin claimed the blocks of its plan
+new_begun : (l : LayoutParts) (base : Memory) (before : ℕ) (hs : List (List Record)) (place : ℕ) (b : Record)
+    (plan : List Item)
+    → IsLayout l → IsWellPlaced l base → AreLegal l base before hs → BeginsAt (net_of_all hs) place b plan
+    → AreBegun b.serial (old_of l base hs place) (new_of l base hs place) plan
+new_begun l base before hs place b plan layout p legal at =
+    begun_in l base (net_of_all hs) place b plan layout p (steps_of_all l base before hs legal).good at
+
+pub claimed_in_all : (l : LayoutParts) (base : Memory) (before : ℕ) (hs : List (List Record)) (place : ℕ)
+    (b : Record) (plan : List Item)
+    → IsLayout l → IsWellPlaced l base → AreLegal l base before hs → BeginsAt (net_of_all hs) place b plan
+    → RowsAre (state_just_after l base before hs b) plan (λ item. claimed_row
+    (row_of (state_just_before l base before hs b).blocks item.block) b.serial item.wish)
+claimed_in_all l base before hs place b plan layout p legal at =
+    let begin = begin_of_all l base before hs place b plan legal at in
+    subst (λ (t : Memory). RowsAre t plan (λ item. claimed_row
+    (row_of (state_just_before l base before hs b).blocks item.block) b.serial item.wish)) (sym begin.is)
+    (subst (λ (s : Memory). RowsAre (new_of l base hs place) plan
+    (λ item. claimed_row (row_of s.blocks item.block) b.serial item.wish)) (sym begin.was)
+    (each_map (IsBegun b.serial (old_of l base hs place) (new_of l base hs place)) (λ item. row_of
+    (new_of l base hs place).blocks item.block ≡ claimed_row
+    (row_of (old_of l base hs place).blocks item.block) b.serial item.wish)
+    (λ item is. is.held) plan (new_begun l base before hs place b plan layout p legal at)))
+
+-- rows that are held now are those that the Begin left
+as_left : (l : LayoutParts) (base : Memory) (before : ℕ) (hs : List (List Record)) (place : ℕ) (b : Record)
+    (plan : List Item) (s : Memory)
+    → IsLayout l → IsWellPlaced l base → AreLegal l base before hs → BeginsAt (net_of_all hs) place b plan
+    → AreBegun b.serial (old_of l base hs place) s plan
+    → RowsAre s plan (λ item. row_of (state_just_after l base before hs b).blocks item.block)
+as_left l base before hs place b plan s layout p legal at begun =
+    subst (λ (t : Memory). RowsAre s plan (λ item. row_of t.blocks item.block))
+    (sym (begin_of_all l base before hs place b plan legal at).is)
+    (each_both (IsBegun b.serial (old_of l base hs place) s)
+    (IsBegun b.serial (old_of l base hs place) (new_of l base hs place))
+    (λ item. row_of s.blocks item.block ≡ row_of (new_of l base hs place).blocks item.block)
+    (λ item now left. now.held ∙ sym left.held) plan begun
+    (new_begun l base before hs place b plan layout p legal at))
+
+pub held_in_all : (l : LayoutParts) (base : Memory) (before : ℕ) (hs : List (List Record)) (place : ℕ)
+    (b : Record) (plan : List Item)
+    → IsLayout l → IsWellPlaced l base → AreLegal l base before hs → BeginsAt (net_of_all hs) place b plan
+    → IsOpenBehind b.serial place (net_of_all hs)
+    → RowsAre (value_of_all l base hs) plan
+    (λ item. row_of (state_just_after l base before hs b).blocks item.block)
+held_in_all l base before hs place b plan layout p legal at stays =
+    let steps = steps_of_all l base before hs legal in
+    as_left l base before hs place b plan (value_of_all l base hs) layout p legal at
+    (subst (λ (s : Memory). AreBegun b.serial (old_of l base hs place) s plan) (sym steps.value)
+    (held_in l base (net_of_all hs) place b plan layout p steps.good at stays))
+
+-- ---- the end of an operation, in the last of them
+
+-- where the operation is live it holds its rows
+live_begun : (l : LayoutParts) (base : Memory) (before : ℕ) (hs : List (List Record)) (h : List Record)
+    (place : ℕ) (b : Record) (plan : List Item)
+    → IsLayout l → IsWellPlaced l base → AreLegal l base before (hs ++ h ∷ [])
+    → BeginsAt (net_of_all (hs ++ h ∷ [])) place b plan
+    → is_live (value_of l (value_of_all l base hs) h).blocks b.serial ≡ true
+    → AreBegun b.serial (old_of l base (hs ++ h ∷ []) place) (value_of l (value_of_all l base hs) h) plan
+live_begun l base before hs h place b plan layout p legal at live =
+    let all : List (List Record) = hs ++ h ∷ [] in
+    let steps = steps_of_all l base before all legal in
+    live_holds b.serial (old_of l base all place) (value_of l (value_of_all l base hs) h) plan live
+    (subst (λ (s : Memory). HoldsOrIsOver b.serial (old_of l base all place) s plan)
+    (sym steps.value ∙ value-last l base hs h)
+    (phase_in l base before (before + count_of_all all) (net_of_all all) place b plan layout p steps.numbered
+    steps.good at))
+
+-- a Commit
+record IsCommitOfAll (l : LayoutParts) (base : Memory) (hs : List (List Record)) (h : List Record)
+    (r : Record) (op : ℕ) (old : Memory) (plan : List Item) : Type 0 where
+  ends : IsEndOf (value_of l (value_of_all l base hs) h) (value_of l (value_of_all l base hs) (h ++ r ∷ []))
+      (commit_blocks l (value_of l (value_of_all l base hs) h) op) op
+  begun : AreBegun op old (value_of l (value_of_all l base hs) h) plan
+
+is_commit : (l : LayoutParts) (base : Memory) (before : ℕ) (hs : List (List Record)) (h : List Record)
+    (r : Record) (place : ℕ) (b : Record) (plan : List Item)
+    → IsLayout l → IsWellPlaced l base → AreLegal l base before (hs ++ (h ++ r ∷ []) ∷ [])
+    → BeginsAt (net_of_all (hs ++ h ∷ [])) place b plan → r.event ≡ Commit b.serial
+    → is_refused r.reply ≡ false
+    → IsCommitOfAll l base hs h r b.serial (old_of l base (hs ++ h ∷ []) place) plan
+is_commit l base before hs h r place b plan layout p legal at is good =
+    let last : IsLast l base before hs (h ++ r ∷ []) = last_legal l base before hs (h ++ r ∷ []) legal in
+    let ends = commit_ends l (value_of_all l base hs) last.earlier h r b.serial last.legal is good in
+    record {
+      ends = ends;
+      begun =
+          live_begun l base before hs h place b plan layout p (front_of_all l base before hs h r legal) at
+          ends.live;
+    }
+
+pub commit_held_in_all : (l : LayoutParts) (base : Memory) (before : ℕ) (hs : List (List Record))
+    (h : List Record) (r : Record) (place : ℕ) (b : Record) (plan : List Item)
+    → IsLayout l → IsWellPlaced l base → AreLegal l base before (hs ++ (h ++ r ∷ []) ∷ [])
+    → BeginsAt (net_of_all (hs ++ h ∷ [])) place b plan → r.event ≡ Commit b.serial
+    → is_refused r.reply ≡ false
+    → RowsAre (value_of_all l base (hs ++ h ∷ [])) plan
+    (λ item. row_of (state_just_after l base before (hs ++ h ∷ []) b).blocks item.block)
+commit_held_in_all l base before hs h r place b plan layout p legal at is good =
+    subst (λ (s : Memory). RowsAre s plan
+    (λ item. row_of (state_just_after l base before (hs ++ h ∷ []) b).blocks item.block))
+    (sym (value-last l base hs h))
+    (as_left l base before (hs ++ h ∷ []) place b plan (value_of l (value_of_all l base hs) h) layout p
+    (front_of_all l base before hs h r legal) at
+    (is_commit l base before hs h r place b plan layout p legal at is good).begun)
+
+pub commit_granted_in_all : (l : LayoutParts) (base : Memory) (before : ℕ) (hs : List (List Record))
+    (h : List Record) (r : Record) (place : ℕ) (b : Record) (plan : List Item)
+    → IsLayout l → IsWellPlaced l base → AreLegal l base before (hs ++ (h ++ r ∷ []) ∷ [])
+    → BeginsAt (net_of_all (hs ++ h ∷ [])) place b plan → r.event ≡ Commit b.serial
+    → is_refused r.reply ≡ false
+    → RowsAre (value_of_all l base (hs ++ (h ++ r ∷ []) ∷ [])) plan (λ item. wished_row item.wish)
+commit_granted_in_all l base before hs h r place b plan layout p legal at is good =
+    let s : Memory = value_of_all l base hs in
+    let commit = is_commit l base before hs h r place b plan layout p legal at is good in
+    subst (λ (t : Memory). RowsAre t plan (λ item. wished_row item.wish))
+    (sym (value-last l base hs (h ++ r ∷ []) ∙ commit.ends.memory))
+    (commit-grants l (value_of l s h) b.serial (old_of l base (hs ++ h ∷ []) place) plan
+    (value-placed l s h layout (placed_of_all l base hs layout p)) commit.begun)
+
+-- steps with one serial stand at one place
+one_place : (before last : ℕ) (n : List Record) (i j : ℕ) (q r : Record) → Numbered before last n
+    → slice_get n i ≡ Some q → slice_get n j ≡ Some r → q.serial ≡ r.serial → i ≡ j
+one_place before last n i j q r ok e f same = elim (cases_lt i j) [
+  | inl less ↦ absurd (omega (arith, same, ok.rising i j q r less e f))
+  | inr ge ↦ elim (cases_lt j i) [
+    | inl more ↦ absurd (omega (arith, same, ok.rising j i r q more f e))
+    | inr le ↦ omega (arith, ge, le)
+  ]
+]
+
+-- a Cancel that restores leads back to the state before the Begin
+cut_of_all : (l : LayoutParts) (base : Memory) (before : ℕ) (hs : List (List Record)) (h : List Record)
+    (r : Record) (place : ℕ) (b : Record) (plan : List Item)
+    → AreLegal l base before (hs ++ h ∷ []) → BeginsAt (net_of_all (hs ++ h ∷ [])) place b plan
+    → IsCutAt l (value_of_all l base hs) b.serial h r
+    → value_of l (value_of_all l base hs) (h ++ r ∷ []) ≡ old_of l base (hs ++ h ∷ []) place
+cut_of_all l base before hs h r place b plan legal at cut =
+    let all : List (List Record) = hs ++ h ∷ [] in
+    let first : List Record = net_of_all hs in
+    let there : slice_get (net_of_all all) (length first + cut.place) ≡ Some cut.begin =
+    ap (λ (n : List Record). slice_get n (length first + cut.place)) (net-last hs h)
+    ∙ get_right first (net_of h) cut.place ∙ cut.here in
+    let same : place ≡ length first + cut.place =
+    one_place before (before + count_of_all all) (net_of_all all) place (length first + cut.place) b cut.begin
+    (steps_of_all l base before all legal).numbered at.here there (sym cut.serial) in
+    cut.value
+    ∙ ap (λ (s : Memory). run l s (take cut.place (net_of h)))
+    (steps_of_all l base before hs (others_legal l base before hs h legal)).value
+    ∙ sym (run_past l base first (net_of h) place cut.place same)
+    ∙ ap (λ (n : List Record). run l base (take place n)) (sym (net-last hs h))
+
+pub given_back_in_all : (l : LayoutParts) (base : Memory) (before : ℕ) (hs : List (List Record))
+    (h : List Record) (r : Record) (place : ℕ) (b : Record) (plan : List Item)
+    → IsLayout l → IsWellPlaced l base → AreLegal l base before (hs ++ (h ++ r ∷ []) ∷ [])
+    → BeginsAt (net_of_all (hs ++ h ∷ [])) place b plan → r.event ≡ Cancel b.serial
+    → is_refused r.reply ≡ false
+    → RowsAre (value_of_all l base (hs ++ (h ++ r ∷ []) ∷ [])) plan
+    (λ item. row_of (state_just_before l base before (hs ++ h ∷ []) b).blocks item.block)
+given_back_in_all l base before hs h r place b plan layout p legal at is good =
+    subst (λ (t : Memory). RowsAre t plan
+    (λ item. row_of (state_just_before l base before (hs ++ h ∷ []) b).blocks item.block))
+    (sym (value-last l base hs (h ++ r ∷ [])))
+    (subst (λ (o : Memory). RowsAre (value_of l s (h ++ r ∷ [])) plan (λ item. row_of o.blocks item.block))
+    (sym (begin_of_all l base before (hs ++ h ∷ []) place b plan front at).was)
+    (elim (cancel_ends l s last.earlier h r b.serial last.legal is good)
+    [ inl back ↦ by_restore back | inr ends ↦ by_release ends ]))
+  where
+    s : Memory
+    s = value_of_all l base hs
+
+    old : Memory
+    old = old_of l base (hs ++ h ∷ []) place
+
+    front : AreLegal l base before (hs ++ h ∷ [])
+    front = front_of_all l base before hs h r legal
+
+    last : IsLast l base before hs (h ++ r ∷ [])
+    last = last_legal l base before hs (h ++ r ∷ []) legal
+
+    by_restore : r.reply ≡ Restored
+        → RowsAre (value_of l s (h ++ r ∷ [])) plan (λ item. row_of old.blocks item.block)
+    by_restore back =
+        subst (λ (t : Memory). RowsAre t plan (λ item. row_of old.blocks item.block))
+        (sym (cut_of_all l base before hs h r place b plan front at
+        (restored_cut l s last.earlier b.serial h r last.legal is back))) (each_same old plan)
+
+    by_release : IsEndOf (value_of l s h) (value_of l s (h ++ r ∷ [])) (release_blocks l (value_of l s h)
+        b.serial) b.serial
+        → RowsAre (value_of l s (h ++ r ∷ [])) plan (λ item. row_of old.blocks item.block)
+    by_release ends =
+        subst (λ (t : Memory). RowsAre t plan (λ item. row_of old.blocks item.block)) (sym ends.memory)
+        (cancel-gives_back l (value_of l s h) b.serial old plan
+        (value-placed l s h layout (placed_of_all l base hs layout p))
+        (live_begun l base before hs h place b plan layout p front at ends.live))

@@ -1,0 +1,20 @@
+//! The law of a machine and the volumes that it sealed. It is a function that does nothing; what it
+//! ensures is the law.
+ghost use Rattle.std.specs.Prelude.{ℕ, List, [], ◌∷◌, ◌++◌};
+ghost use Rattle.hp_units.specs.LayoutParts.{LayoutParts};
+ghost use Rattle.hp_units.specs.declared.events.Event.{Event};
+ghost use Rattle.hp_units.specs.declared.replies.Receipt.{Receipt};
+ghost use Rattle.hp_history.specs.Volumes.{volume_of};
+ghost use Rattle.hp_history.specs.declared.volumes.Volume.{Volume};
+ghost use Rattle.hp_machine.specs.Machine.{IsCalled, IsHistory, MachineValue, booted, sealed};
+ghost use Rattle.hp_machine.specs.Volumes.{GoesOnFrom};
+
+/// A machine goes on from the volumes that it sealed: at its start from none, after a call from the
+/// same, and after a seal from one more, which is the one that the seal hands out (own rule).
+pub fn machines_go_on_from_their_volumes()
+    ensures boot { (l : LayoutParts) → GoesOnFrom [] (booted l) }
+    ensures call { (volumes : List Volume) (old new : MachineValue) (cpu : ℕ) (event : Event) (r : Receipt)
+        → IsCalled old cpu event r new → GoesOnFrom volumes old → GoesOnFrom volumes new }
+    ensures seal { (volumes : List Volume) (m : MachineValue) → IsHistory m → GoesOnFrom volumes m
+        → GoesOnFrom (volumes ++ volume_of m ∷ []) (sealed m) }
+{}

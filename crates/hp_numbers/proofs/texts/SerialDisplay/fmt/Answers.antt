@@ -1,8 +1,0 @@
-use Rattle.std.proofs.Common.{rules}
-use Rattle.hp_numbers.proofs.texts.SerialDisplay.fmt.Goals as goal
-
-pub returns-clause-writes : goal.returns-clause-writes
-returns-clause-writes g c = search rules
-
-pub returns-clause-styled : goal.returns-clause-styled
-returns-clause-styled g c = search rules

@@ -1,0 +1,4 @@
+pub mod AddressSpelled
+pub mod Hex
+pub mod PathSpelled
+pub mod Slash

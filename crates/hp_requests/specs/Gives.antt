@@ -1,0 +1,25 @@
+-- Answers in a row of which each may be a fault, and what a function that may want memory gives.
+use Rattle.std.specs.Prelude.{◌≡◌, Option, Some, None, Result, Ok, Err}
+use Rattle.hp_requests.specs.Names.{ControlFault, OutOfMemory}
+
+-- what is there, or a fault
+abbrev pub or_fault : {A : Type 0} → ControlFault → Option A → Result A ControlFault
+or_fault fault None = Err fault
+or_fault fault (Some x) = Ok x
+
+-- the answer to what came before it, unless that was a fault
+infixl 10 ◌>>=◌
+abbrev pub ◌>>=◌ : {A B : Type 0} → Result A ControlFault → (A → Result B ControlFault)
+    → Result B ControlFault
+(Ok x) >>= f = f x
+(Err fault) >>= f = Err fault
+
+-- out of memory may come in place of any answer, and each other fault only where it is the answer
+abbrev pub Fails : {A : Type 0} → ControlFault → Result A ControlFault → Type 0
+Fails OutOfMemory answer = Unit {0}
+Fails fault answer = answer ≡ Err fault
+
+-- what a function returned, seen by view, is the answer
+abbrev pub Gives : {X Y : Type 0} → (X → Y) → Result X ControlFault → Result Y ControlFault → Type 0
+Gives view (Ok x) answer = answer ≡ Ok (view x)
+Gives view (Err fault) answer = Fails fault answer

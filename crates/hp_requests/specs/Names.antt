@@ -1,0 +1,13 @@
+-- The variants of zones, files and faults under names of their own, passed on from one place.
+-- Declares nothing.
+pub use Rattle.hp_units.specs.declared.rows.Zone.{Zone}
+pub use Rattle.hp_units.specs.declared.rows.Zone.TheVariants.{Normal as NormalZone, Movable as MovableZone}
+pub use Rattle.hp_units.specs.declared.rows.Wish.TheVariants.{Off as OffWish}
+pub use Rattle.hp_units.specs.declared.rows.Auto.{Auto}
+pub use Rattle.hp_units.specs.declared.rows.Auto.TheVariants.{Offline as OfflineAuto, Online as OnlineAuto, OnlineKernel as KernelAuto, OnlineMovable as MovableAuto}
+pub use Rattle.hp_requests.specs.declared.files.File.{File}
+pub use Rattle.hp_requests.specs.declared.files.File.TheVariants.{BlockSizeBytes, Buddyinfo, Probe, AutoOnlineBlocks, OfBlock}
+pub use Rattle.hp_requests.specs.declared.files.BlockFile.{BlockFile}
+pub use Rattle.hp_requests.specs.declared.files.BlockFile.TheVariants.{State as StateFile, Online as OnlineFile, ValidZones as ZonesFile, Removable as RemovableFile}
+pub use Rattle.hp_requests.specs.declared.fault.ControlFault.{ControlFault}
+pub use Rattle.hp_requests.specs.declared.fault.ControlFault.TheVariants.{NoFile, ReadOnly, BadText, OutOfMemory, WriteOnly}

@@ -1,0 +1,171 @@
+//! What writing to a control file asks for.
+ghost use Rattle.std.specs.Prelude.{◌≡◌, IfOk};
+ghost use Rattle.hp_requests.specs.Gives.{Gives};
+ghost use Rattle.hp_requests.specs.Writes as means;
+
+use crate::fault::ControlFault;
+use crate::files::{BlockFile, File, file_at};
+use crate::words::{address_from, without_newline};
+use hp_units::{Auto, Block, Event, Item, Plan, Wish, Zone};
+use std::alloc::{AllocError, Global};
+
+/// The migrations that a plan may try that a control file asks for (own rule).
+pub const CONTROL_TURNS: u32 = 1024;
+
+/// What a written text asks for.
+#[derive(Drop)]
+pub enum Request {
+    /// One event.
+    Event(Event),
+    /// A plan, to be carried through.
+    Plan(Plan),
+}
+
+/// What bytes that are written to the control file at a path ask for (Linux guide, Memory
+/// Hot(Un)Plug). One final newline is taken off; what is left must be one of the words. No machine
+/// is looked at: a block that isn't there is refused later.
+///
+/// `memoryN/state`: `online` and `online_kernel` for zone Normal, `online_movable` for zone
+/// Movable, `offline`. `memoryN/online`: `1` for zone Normal, `0` for offline. `probe`: `0x` and 1
+/// to 16 hexadecimal digits, a byte address. `auto_online_blocks`: `offline`, `online`,
+/// `online_kernel` or `online_movable`.
+///
+/// Errors in their order: NoFile for another path; ReadOnly for another file; BadText; OutOfMemory,
+/// which may come in place of any answer.
+#[tactic(auto, unfolding(crate::specs::Writes::request_of))]
+pub fn parse_write(alloc: Global, path: &str, bytes: &[u8]) -> Result<Request, ControlFault>
+    ensures { Gives (λ request. request) result (means.request_of path.now bytes.now) }
+{
+    match file_at(path) {
+        Some(file) => request_to(alloc, file, without_newline(bytes)),
+        None => Err(ControlFault::NoFile),
+    }
+}
+
+/// What a word asks for that is written with a newline after it. Errors as of `parse_write`.
+fn parse_echo(alloc: Global, path: &str, word: &str) -> Result<Request, ControlFault>
+    ensures { Gives (λ request. request) result (means.echo_request path.now word.now) }
+{
+    let mut line = String::from_str(alloc, word)?;
+    line.push_str("\n")?;
+    parse_write(alloc, path, line.as_bytes())
+}
+
+/// What a word asks for that `echo` writes to the control file at a path, or why the file does not
+/// take it: a newline follows the word. An error is out of memory.
+pub fn echo_answer(
+    alloc: Global,
+    path: &str,
+    word: &str,
+) -> Result<Result<Request, ControlFault>, AllocError>
+    ensures { IfOk result (λ answer. answer ≡ means.echo_request path.now word.now) }
+{
+    match parse_echo(alloc, path, word) {
+        Ok(request) => Ok(Ok(request)),
+        Err(ControlFault::OutOfMemory) => Err(AllocError),
+        Err(fault) => Ok(Err(fault)),
+    }
+}
+
+/// What a text written to a file asks for.
+#[tactic(auto, unfolding(crate::specs::Writes::request_to))]
+fn request_to(alloc: Global, file: File, text: &[u8]) -> Result<Request, ControlFault>
+    ensures { Gives (λ request. request) result (means.request_to file text.now) }
+{
+    match file {
+        File::BlockSizeBytes | File::Buddyinfo => Err(ControlFault::ReadOnly),
+        File::Probe => match address_from(text) {
+            Some(address) => Ok(Request::Event(Event::Probe { address })),
+            None => Err(ControlFault::BadText),
+        },
+        File::AutoOnlineBlocks => match auto_from(text) {
+            Some(auto) => Ok(Request::Event(Event::SetAuto { auto })),
+            None => Err(ControlFault::BadText),
+        },
+        File::OfBlock { block, file } => block_request(alloc, block, file, text),
+    }
+}
+
+/// What a text written to a file of a memory block asks for.
+fn block_request(
+    alloc: Global,
+    block: Block,
+    file: BlockFile,
+    text: &[u8],
+) -> Result<Request, ControlFault>
+    ensures { Gives (λ request. request) result (means.block_request block file text.now) }
+{
+    match file {
+        BlockFile::State => state_request(alloc, block, text),
+        BlockFile::Online => online_request(alloc, block, text),
+        BlockFile::ValidZones | BlockFile::Removable => Err(ControlFault::ReadOnly),
+    }
+}
+
+/// What a text written to a block's `state` asks for.
+#[tactic(auto, unfolding(crate::specs::Writes::state_request))]
+fn state_request(alloc: Global, block: Block, text: &[u8]) -> Result<Request, ControlFault>
+    ensures { Gives (λ request. request) result (means.state_request block text.now) }
+{
+    if text == b"online".as_slice() || text == b"online_kernel".as_slice() {
+        Ok(online(block, Zone::Normal))
+    } else if text == b"online_movable".as_slice() {
+        Ok(online(block, Zone::Movable))
+    } else if text == b"offline".as_slice() {
+        Ok(offline(alloc, block)?)
+    } else {
+        Err(ControlFault::BadText)
+    }
+}
+
+/// What a text written to a block's `online` asks for.
+#[tactic(auto, unfolding(crate::specs::Writes::online_request))]
+fn online_request(alloc: Global, block: Block, text: &[u8]) -> Result<Request, ControlFault>
+    ensures { Gives (λ request. request) result (means.online_request block text.now) }
+{
+    if text == b"1".as_slice() {
+        Ok(online(block, Zone::Normal))
+    } else if text == b"0".as_slice() {
+        Ok(offline(alloc, block)?)
+    } else {
+        Err(ControlFault::BadText)
+    }
+}
+
+/// A block goes online in a zone.
+fn online(block: Block, zone: Zone) -> Request
+    ensures { result ≡ means.online block zone }
+{
+    Request::Event(Event::Online { block, zone })
+}
+
+/// A block goes offline.
+fn offline(alloc: Global, block: Block) -> Result<Request, AllocError>
+    ensures { IfOk result (λ request. request ≡ means.offline block) }
+{
+    let item = Item {
+        block,
+        wish: Wish::Off,
+    };
+    let items = vec![in alloc; item]?;
+    let plan = Plan::new(alloc, items)?;
+    Ok(Request::Plan(plan))
+}
+
+/// What a block that is added becomes, by the word for it.
+#[tactic(auto, unfolding(crate::specs::Writes::auto_of))]
+fn auto_from(text: &[u8]) -> Option<Auto>
+    ensures { result ≡ means.auto_of text.now }
+{
+    if text == b"offline".as_slice() {
+        Some(Auto::Offline)
+    } else if text == b"online".as_slice() {
+        Some(Auto::Online)
+    } else if text == b"online_kernel".as_slice() {
+        Some(Auto::OnlineKernel)
+    } else if text == b"online_movable".as_slice() {
+        Some(Auto::OnlineMovable)
+    } else {
+        None
+    }
+}

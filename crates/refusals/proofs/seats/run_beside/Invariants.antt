@@ -1,8 +1,0 @@
-use Rattle.refusals.proofs.seats.run_beside.Given as goal
-
--- the machine's own layout, and the ledger that was just made
-abbrev pub ghosts-share-L-Job : goal.ghosts-share-L-Job
-ghosts-share-L-Job g a = record { layout = a.machine.layout }
-
-abbrev pub ghosts-share-L-Ledger : goal.ghosts-share-L-Ledger
-ghosts-share-L-Ledger g a = record { name = a.blank.name; parts = a.blank.parts }
