@@ -12,14 +12,15 @@ What is compared, of `hotplug_lab explore`:
   the first line that cannot stand in a script is refused by its place;
 - 50 runs of `hotplug run` on each of three small scenarios: each outcome is one of the ends.
 Of `hotplug_lab trace`, on each file of examples/ and on a scenario with hostile texts: it has all
-lines in their order, and what they answer is what `hotplug serial` prints before the state; in lines
-of 100 columns each memory block begins after the columns of what was asked and answered, and no line
-is longer. Of `--orders`: it is the trace, but for the brackets of free blocks; these have 2^order
-frames; and after each line there are as many of each order as `cat buddyinfo` says. Of `hotplug_lab
-trace --svg`: it is well-formed XML, its rows have the texts of the trace in their order, as many
-cells of each meaning in the legend as the trace has characters of it, and as many outlines of each
-order as the trace has brackets. Of `hotplug_lab check`: it finds no fault in any file of examples/,
-and one where a text that is no line comes last. None of them writes a control character.
+lines in their order, and what they answer is what `hotplug serial` prints before the state; in
+lines of 100 columns each memory block begins after the columns of what was asked and answered, and
+no line is longer. Of `--orders`: it is the trace, but for the brackets of free blocks; these have
+2^order frames; and after each line there are as many of each order as `cat buddyinfo` says. Of
+`hotplug_lab trace --svg`: it is well-formed XML, its rows have the texts of the trace in their
+order, as many cells of each meaning in the legend as the trace has characters of it, and as many
+outlines of each width as the trace has brackets. Of `hotplug_lab check`: it finds no fault in any
+file of examples/, and one where a text that is no line comes last. None of them writes a control
+character.
 The last line is 'lab: N passed, M failed'; the exit status is 0 where nothing failed, else 1.
 """
 import json

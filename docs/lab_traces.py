@@ -19,8 +19,8 @@ def shown(call):
 
 
 def unfolded(text):
-    """The rows and the other lines of a trace; what stands below the columns goes on with a row after
-    a null character."""
+    """The rows and the other lines of a trace; what stands below the columns goes on with a row,
+    after a null character."""
     rows = []
     for line in text.splitlines():
         if line.startswith(" " * 29):
@@ -144,8 +144,8 @@ def is_cell(element):
 
 
 def pictured(svg):
-    """The texts of a picture's rows, how many cells of each meaning they have, and how many outlines
-    of each order."""
+    """The texts of a picture's rows, how many cells of each meaning they have, and how many
+    outlines of each width."""
     root = ElementTree.fromstring(svg)
     rows = root.find(SVG + "g")
     above = list(root)[:list(root).index(rows)]
@@ -169,8 +169,8 @@ def label_of(label):
 
 
 def words_of(text):
-    """The texts of a trace as a picture has them: what was asked, what was answered, and the head of
-    each memory block; and lines without memory blocks."""
+    """The texts of a trace as a picture has them: what was asked, what was answered, and the head
+    of each memory block; and lines without memory blocks."""
     words = []
     for line in unfolded(text):
         block = BLOCK.search(line)

@@ -1,5 +1,5 @@
 //! Free blocks among the frames of a memory block.
-ghost use Rattle.std.specs.Prelude.{◌≡◌, ◌+◌, ◌*◌, ◌/◌, ◌%◌, ◌-◌, ◌^◌, ◌<◌, ◌≤◌, ◌++◌, [], ◌∷◌, IfOk, OnOk, if◌then◌else◌, string_bytes};
+ghost use Rattle.std.specs.Prelude.{◌≡◌, ◌+◌, ◌*◌, ◌/◌, ◌%◌, ◌-◌, ◌^◌, ◌<◌, ◌≤◌, ◌++◌, [], ◌∷◌, IfOk, IfSome, OnOk, if◌then◌else◌, string_bytes};
 ghost use Rattle.std.specs.List.{flat_map, range_with_len};
 ghost use Rattle.hp_units.specs.Arithmetic.{block_size, frame_count};
 ghost use Rattle.hp_buddy.specs.Buddy.{place_of};
@@ -154,7 +154,7 @@ fn ordered_sign(is_isolated: bool, order: Order, offset: u32) -> char
         plain_sign(is_isolated)
     } else if offset == 0 {
         if is_isolated { '{' } else { '(' }
-    } else if offset + 1 == size_of(order) {
+    } else if u64::from(offset) + 1 == u64::from(size_of(order)) {
         if is_isolated { '}' } else { ')' }
     } else {
         inner_sign(is_isolated, order, offset)

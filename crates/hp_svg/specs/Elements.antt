@@ -85,16 +85,20 @@ run_text layer left top run =
 -- ---- free blocks
 
 -- an outline
+unfoldable pub outlined : List ℕ
+outlined = codes " rx='3' fill='none' stroke='#14532d'/>"
+
 unfoldable pub outline_element : (x y width : ℕ) → List ℕ
-outline_element x y width =
-    codes "<rect" ++ position x y ++ extent width 10 ++ codes " rx='3' fill='none' stroke='#14532d'/>"
+outline_element x y width = codes "<rect" ++ position x y ++ extent width 10 ++ outlined
 
 -- an order
-unfoldable pub order_element : (x y order : ℕ) → List ℕ
-order_element x y order =
-    codes "<text" ++ position x y
-    ++ codes " font-size='8' fill='#052e16' stroke='#ffffff' stroke-width='2' paint-order='stroke'>"
+unfoldable pub order_text : (order : ℕ) → List ℕ
+order_text order =
+    codes " font-size='8' fill='#052e16' stroke='#ffffff' stroke-width='2' paint-order='stroke'>"
     ++ decimal order ++ codes "</text>"
+
+unfoldable pub order_element : (x y order : ℕ) → List ℕ
+order_element x y order = codes "<text" ++ position x y ++ order_text order
 
 -- lines between the cells of a block
 unfoldable pub grid_element : (x y width height : ℕ) → List ℕ

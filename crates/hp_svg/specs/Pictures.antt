@@ -24,14 +24,19 @@ note_text place text =
     text_element (legend_left place + 18) (legend_top place + 10) false 0 text ++ newline
 
 -- what outlines and strips mean, after so many entries
-unfoldable pub notes_text : (place : ℕ) → List ℕ
-notes_text place =
+unfoldable pub outline_note : (place : ℕ) → List ℕ
+outline_note place =
     outline_element (legend_left place) (legend_top place + 1) 12
     ++ note_text place (codes "free block, its order")
-    ++ strip_element (legend_left (place + 1)) (legend_top (place + 1) + 5) 12 77
-    ++ note_text (place + 1) (codes "movable pageblock")
-    ++ strip_element (legend_left (place + 2)) (legend_top (place + 2) + 5) 12 85
-    ++ note_text (place + 2) (codes "unmovable pageblock")
+
+unfoldable pub strip_note : (place letter : ℕ) → (text : List ℕ) → List ℕ
+strip_note place letter text =
+    strip_element (legend_left place) (legend_top place + 5) 12 letter ++ note_text place text
+
+unfoldable pub notes_text : (place : ℕ) → List ℕ
+notes_text place =
+    outline_note place ++ strip_note (place + 1) 77 (codes "movable pageblock")
+    ++ strip_note (place + 2) 85 (codes "unmovable pageblock")
 
 -- the number of a block, that of its first frame, and a grid over its cells; the legend has so many
 -- entries, and this many rows have room below one another

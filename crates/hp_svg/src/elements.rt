@@ -1,6 +1,6 @@
 //! The elements of a picture: texts, and rectangles for cells. Lengths are in pixels.
 ghost use Rattle.std.specs.Prelude.{◌≡◌, ◌++◌, ◌<◌, ◌^◌, OnOk, string_bytes};
-ghost use Rattle.hp_svg.specs.Elements.{box_element, cell_element, escaped, escaped_text, extent, grid_element, ink, inked, is_unfit, layer_element, letter_element, narrowed, order_element, outline_element, position, run_text, strip_element, text_element};
+ghost use Rattle.hp_svg.specs.Elements.{box_element, cell_element, escaped, escaped_text, extent, grid_element, ink, inked, is_unfit, layer_element, letter_element, narrowed, order_element, order_text, outline_element, outlined, position, run_text, strip_element, text_element};
 
 use crate::marks::{fill_of, ink_of, is_lettered, write_mark};
 use crate::runs::{Layer, Run};
@@ -214,6 +214,14 @@ fn write_layer(
     }
 }
 
+/// Writes how outlines look.
+#[tactic(auto, unfolding(crate::specs::Elements::outlined))]
+fn write_outlined(out: &mut String) -> Result<(), AllocError>
+    ensures { OnOk result (string_bytes out.new ≡ string_bytes out.old ++ outlined) }
+{
+    out.push_str(" rx='3' fill='none' stroke='#14532d'/>")
+}
+
 /// Writes the outline of a free block, within its cells.
 #[tactic(auto, unfolding(crate::specs::Elements::outline_element))]
 pub(crate) fn write_outline(
@@ -227,7 +235,18 @@ pub(crate) fn write_outline(
     out.push_str("<rect")?;
     write_position(out, x, y)?;
     write_extent(out, width, 10)?;
-    out.push_str(" rx='3' fill='none' stroke='#14532d'/>")
+    write_outlined(out)
+}
+
+/// Writes an order as it looks in a free block, and the end of its text.
+#[tactic(auto, unfolding(crate::specs::Elements::order_text))]
+fn write_order_text(out: &mut String, order: u32) -> Result<(), AllocError>
+    ensures { OnOk result (string_bytes out.new ≡ string_bytes out.old ++ order_text order) }
+{
+    write!(
+        out,
+        " font-size='8' fill='#052e16' stroke='#ffffff' stroke-width='2' paint-order='stroke'>{order}</text>"
+    )
 }
 
 /// Writes the order of a free block in it.
@@ -237,10 +256,7 @@ pub(crate) fn write_order(out: &mut String, x: u128, y: u128, order: u32) -> Res
 {
     out.push_str("<text")?;
     write_position(out, x, y)?;
-    write!(
-        out,
-        " font-size='8' fill='#052e16' stroke='#ffffff' stroke-width='2' paint-order='stroke'>{order}</text>"
-    )
+    write_order_text(out, order)
 }
 
 /// Writes lines between the cells of a block.

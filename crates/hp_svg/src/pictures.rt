@@ -1,7 +1,7 @@
 //! Rows as one picture.
 ghost use Rattle.std.specs.Prelude.{◌≡◌, ◌++◌, ◌<◌, ◌^◌, IfOk, OnOk, string_bytes};
 ghost use Rattle.std.specs.List.{enumerate_from, flat_map, range_with_len};
-ghost use Rattle.hp_svg.specs.Pictures.{block_text, corner, entry_text, font, grid, ground, hatching, namespace, note_text, notes_text, opening, picture_of, picture_with, style, title, view};
+ghost use Rattle.hp_svg.specs.Pictures.{block_text, corner, entry_text, font, grid, ground, hatching, namespace, note_text, notes_text, opening, outline_note, picture_of, picture_with, strip_note, style, title, view};
 
 use crate::elements::{
     write_cell, write_extent, write_grid, write_outline, write_strip, write_text,
@@ -195,24 +195,33 @@ fn write_notes(out: &mut String, place: usize) -> Result<(), AllocError>
     requires { place < 2 ^ 63 }
     ensures { OnOk result (string_bytes out.new ≡ string_bytes out.old ++ notes_text place) }
 {
+    write_outline_note(out, place)?;
+    write_strip_note(out, place + 1, b'M', "movable pageblock")?;
+    write_strip_note(out, place + 2, b'U', "unmovable pageblock")
+}
+
+/// Writes what outlines mean, at a place of the legend.
+#[tactic(auto, unfolding(crate::specs::Pictures::outline_note))]
+fn write_outline_note(out: &mut String, place: usize) -> Result<(), AllocError>
+    ensures { OnOk result (string_bytes out.new ≡ string_bytes out.old ++ outline_note place) }
+{
     write_outline(out, legend_left(place), legend_top(place) + 1, 12)?;
-    write_note(out, place, "free block, its order")?;
-    write_strip(
-        out,
-        legend_left(place + 1),
-        legend_top(place + 1) + 5,
-        12,
-        b'M',
-    )?;
-    write_note(out, place + 1, "movable pageblock")?;
-    write_strip(
-        out,
-        legend_left(place + 2),
-        legend_top(place + 2) + 5,
-        12,
-        b'U',
-    )?;
-    write_note(out, place + 2, "unmovable pageblock")
+    write_note(out, place, "free block, its order")
+}
+
+/// Writes what a strip means, at a place of the legend.
+#[tactic(auto, unfolding(crate::specs::Pictures::strip_note))]
+fn write_strip_note(
+    out: &mut String,
+    place: usize,
+    letter: u8,
+    text: &str,
+) -> Result<(), AllocError>
+    ensures { OnOk result
+        (string_bytes out.new ≡ string_bytes out.old ++ strip_note place letter text.now) }
+{
+    write_strip(out, legend_left(place), legend_top(place) + 5, 12, letter)?;
+    write_note(out, place, text)
 }
 
 /// Writes the text at a place of the legend.

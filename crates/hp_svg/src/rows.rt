@@ -1,7 +1,7 @@
 //! The rows of a picture.
 ghost use Rattle.std.specs.Prelude.{◌≡◌, ◌++◌, ◌<◌, ◌^◌, ◌&&◌, IfOk, OnOk, string_bytes};
 ghost use Rattle.std.specs.List.{enumerate_from, flat_map};
-ghost use Rattle.hp_svg.specs.Rows.{block_text, columned, free_text, head_text, headed, row_text, rows_opening, rows_text, size_of, texts_of};
+ghost use Rattle.hp_svg.specs.Rows.{block_text, columned, free_text, head_text, row_text, rows_opening, rows_text, size_of, texts_of};
 
 use crate::elements::{write_order, write_outline, write_text};
 use crate::runs::{Layer, write_cells};

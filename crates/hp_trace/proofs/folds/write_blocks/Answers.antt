@@ -6,7 +6,7 @@ pub loop-number-preserved : goal.loop-number-preserved
 loop-number-preserved c =
     shown_more c.args.paper c.args.before.now c.args.blocks.now c.loop-number.left _ c.loop-number.number
     c.index-blocks-number.result _ _ _ c.loop-number-test.true c.index-blocks-number.is
-    c.loop-number.invariant c.in_ok-write_shown.ensures.text c.in_ok-write_shown.ensures.left
+    c.loop-number.invariant c.in_ok-left.ensures.text c.in_ok-left.ensures.left
 
 pub returns : goal.returns
 returns c =
