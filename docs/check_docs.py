@@ -8,10 +8,13 @@ What is checked, in each *.md file at the top, in docs/, examples/ and bench/:
 - what `hotplug serial` prints for examples/NAME.json is examples/NAME.out, and examples/README.md
   names it;
 - a code block marked `console`: each line `$ COMMAND` is run by bash at the top, with `hotplug` and
-  `hotplug_lab` on the path, and prints the lines below it, standard error included;
+  `hotplug_lab` on the path, and prints the lines below it, standard error included; a command goes
+  on after a backslash at a line's end;
 - a code block marked `lines FILE`: lines and their answers in two columns, on the layout of the
   scenario FILE; a further line of an answer begins with spaces;
 - a code block marked `json FILE` is that file, and one marked `state FILE` the state it prints;
+- docs/pictures/NAME.svg is what `hotplug_lab trace --svg` draws of examples/NAME.json, and a
+  document shows it;
 - a table after `<!-- answers: FILE -->`: its first two columns are FILE's lines and their answers;
   after `<!-- answers: FILE FIRST LAST FOLDER -->` they are some of FILE's lines, and the third is
   what a real Linux answered the same step, by one of FOLDER's transcripts;
@@ -100,13 +103,24 @@ def check_examples(checks, program):
                      "is not in examples/README.md")
 
 
+def check_pictures(checks):
+    shown = "".join(document.read_text() for document in (ROOT / "docs").glob("*.md"))
+    for picture in sorted((ROOT / "docs/pictures").glob("*.svg")):
+        words = [LAB, "trace", "--svg", f"examples/{picture.stem}.json"]
+        drawn = subprocess.run(words, cwd=ROOT, stdout=subprocess.PIPE, timeout=SECONDS).stdout
+        checks.holds(f"docs/pictures/{picture.name}", drawn == picture.read_bytes(), "is not what is drawn")
+        checks.holds(f"docs/pictures/{picture.name}", f"](pictures/{picture.name})" in shown, "is shown nowhere")
+
+
 # Blocks
 
 def commands_of(body):
     """The commands of a console block, each with the text below it."""
     commands = []
     for line in body:
-        if line.startswith("$ "):
+        if commands and not commands[-1][1] and commands[-1][0].endswith("\\"):
+            commands[-1] = (commands[-1][0] + "\n" + line, "")
+        elif line.startswith("$ "):
             commands.append((line[2:], ""))
         elif commands:
             command, text = commands[-1]
@@ -332,6 +346,7 @@ def check_all(checks, program):
         checks.holds("documents", False, f"no program at {program}: README.md says how to build it")
         return
     check_examples(checks, program)
+    check_pictures(checks)
     for folder in (ROOT, ROOT / "docs", ROOT / "examples", ROOT / "bench"):
         for document in sorted(folder.glob("*.md")):
             check_document(checks, document, program)

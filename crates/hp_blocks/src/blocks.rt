@@ -14,7 +14,7 @@ use std::marker::Model;
 use std::mem::replace;
 
 /// The rows of the memory blocks of a layout, and what a block that is added becomes. No call but
-/// `new` takes memory.
+/// `new` and `copy` takes memory.
 pub struct Blocks {
     layout: Layout,
     rows: Vec<Row>,
@@ -58,6 +58,19 @@ impl Blocks {
             layout: layout.copy(alloc)?,
             rows,
             auto: Auto::Offline,
+        })
+    }
+
+    /// Equal rows. An error is out of memory.
+    pub fn copy(&self, alloc: Global) -> Result<Blocks, AllocError>
+        ensures { IfOk result (λ blocks. blocks ≡ self.now) }
+    {
+        let layout = self.layout.copy(alloc)?;
+        let rows = Vec::from_slice(alloc, self.rows.as_slice())?;
+        Ok(Blocks {
+            layout,
+            rows,
+            auto: self.auto,
         })
     }
 

@@ -26,7 +26,7 @@ use hp_units::{Class, Frame, Kind, Layout, Mobility, Order, Pageblock, Zone};
 use std::alloc::{AllocError, Global};
 use std::marker::Model;
 
-/// The free areas of a layout. No call but `new` and `list` takes memory.
+/// The free areas of a layout. No call but `new`, `copy` and `list` takes memory.
 pub struct Buddy {
     layout: Layout,
     links: Links,
@@ -83,6 +83,20 @@ impl Buddy {
         let links = Links::new(alloc, layout.frames(), 5 * (layout.order() + 1))?;
         let pageblocks = layout.blocks() as usize * layout.pageblocks() as usize;
         let kinds = vec![in alloc; Kind::plain(); pageblocks]?;
+        Ok(Buddy {
+            layout,
+            links,
+            kinds,
+        })
+    }
+
+    /// Equal areas, by as many requests for memory whatever the layout. An error is out of memory.
+    pub fn copy(&self, alloc: Global) -> Result<Buddy, AllocError>
+        ensures { IfOk result (λ buddy. buddy ≡ self.now) }
+    {
+        let layout = self.layout.copy(alloc)?;
+        let links = self.links.copy(alloc)?;
+        let kinds = Vec::from_slice(alloc, self.kinds.as_slice())?;
         Ok(Buddy {
             layout,
             links,

@@ -1,5 +1,5 @@
 -- When a line hardly does what is wanted (own rule): the first that applies.
-use Rattle.std.specs.Prelude.{ℕ, ◌+◌, ◌==◌, Bool, not, List, [], ◌∷◌, length, find, take, Option, Some, None, Result, Ok, Err, nat_lt, nat_le, slice_get, is_some}
+use Rattle.std.specs.Prelude.{ℕ, ◌+◌, ◌==◌, not, List, [], ◌∷◌, length, find, take, Option, Some, None, Result, Ok, Err, nat_lt, nat_le, slice_get, is_some}
 use Rattle.std.specs.Bool.{then_some}
 use Rattle.std.specs.Option.{option_map, option_or}
 use Rattle.hp_units.specs.Arithmetic.{frame_count}

@@ -21,7 +21,7 @@ use hp_units::{Cpu, Frame, Layout, Pool, Zone, pageblock_of};
 use std::alloc::{AllocError, Global};
 use std::marker::Model;
 
-/// Each processor's lists of single frames, one for each pool. No call but `new` and `list` takes memory.
+/// Each processor's lists of single frames, one for each pool. No call but `new`, `copy` and `list` takes memory.
 pub struct Cpus {
     layout: Layout,
     links: Links,
@@ -57,6 +57,15 @@ impl Cpus {
     {
         let layout = layout.copy(alloc)?;
         let links = Links::new(alloc, layout.frames(), 3 * layout.cpus())?;
+        Ok(Cpus { layout, links })
+    }
+
+    /// Equal lists, by as many requests for memory whatever the layout. An error is out of memory.
+    pub fn copy(&self, alloc: Global) -> Result<Cpus, AllocError>
+        ensures { IfOk result (λ cpus. cpus ≡ self.now) }
+    {
+        let layout = self.layout.copy(alloc)?;
+        let links = self.links.copy(alloc)?;
         Ok(Cpus { layout, links })
     }
 

@@ -70,7 +70,8 @@ histories_from : (l : LayoutParts) (s : Memory) (before : ℕ) (volumes : List V
     → AreLegal l s before (histories_of volumes)
 histories_from l s before [] each = tt
 histories_from l s before (v ∷ volumes) each =
-    let none : before + records_in [] ≡ before = omega arith in (
+    let nothing : records_in [] ≡ 0 = refl in
+    let none : before + records_in [] ≡ before = omega (arith, nothing) in (
       subst (λ (n : ℕ). IsLegal l s n v.records) none (each 0 v refl),
       histories_from l (value_of l s v.records) (before + length v.records) volumes
           (λ at x e. let sum : before + records_in (v ∷ take at volumes)
@@ -98,7 +99,8 @@ histories_value l volumes =
 pub histories_count : (volumes : List Volume) → count_of_all (histories_of volumes) ≡ records_in volumes
 histories_count [] = refl
 histories_count (v ∷ volumes) =
-    omega (arith, histories_count volumes, sum_by-cons (λ (x : Volume). length x.records) v volumes)
+    ap (λ (n : ℕ). length v.records + n) (histories_count volumes)
+    ∙ sym (sum_by-cons (λ (x : Volume). length x.records) v volumes)
 
 -- ---- a list of volumes
 

@@ -29,7 +29,8 @@ use Rattle.hp_lemmas.proofs.Lists.{free_list-cases, on_tail}
 use Rattle.hp_laws.proofs.Onlines.{online_block-placed, quotient}
 use Rattle.hp_laws.proofs.Isolations.{pageblock_elsewhere, some_pageblocks}
 use Rattle.hp_laws.proofs.Claims.{fold_blocks, later_rows}
-use Rattle.hp_laws.proofs.Offlined.{IsOutside, IsAllFree, remove_block-range, offlined-placed}
+use Rattle.hp_laws.specs.Commits.{IsAllFree, IsGrantable}
+use Rattle.hp_laws.proofs.Offlined.{IsOutside, remove_block-range, offlined-placed}
 
 -- ---- what the blocks that come later need
 
@@ -92,11 +93,6 @@ going_plugged GoingState e = refl
 going_plugged OfflineState e = cc
 going_plugged OnlineState e = cc
 going_plugged AbsentState e = cc
-
--- of a block that an operation holds: if it is going, it is all free
-abbrev pub IsGrantable : LayoutParts → Memory → ℕ → Type 0
-IsGrantable l s block =
-    is_going (row_of s.blocks block) ≡ true → IsAllFree l s.free.areas (zone_of_block s.blocks block) block
 
 online-next : (l : LayoutParts) (s t : Memory) (block : ℕ) (zone : Zone) → IsLayout l → block < l.blocks
     → is_unplugged (row_of t.blocks block) ≡ true → CommitsFrom l s block t

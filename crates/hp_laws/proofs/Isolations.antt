@@ -26,7 +26,8 @@ use Rattle.hp_laws.proofs.Areas.{on_free, other-ordered}
 use Rattle.hp_laws.proofs.States.{areas_of, get_or-cases}
 use Rattle.hp_laws.proofs.Rows.{unplugged_zone}
 use Rattle.hp_laws.proofs.Onlines.{quotient}
-use Rattle.hp_laws.proofs.Pageblocks.{IsInRange, IsKeptBlock, MovesBelow, WasBlock, moves_below}
+use Rattle.hp_laws.specs.Commits.{IsInRange}
+use Rattle.hp_laws.proofs.Pageblocks.{IsKeptBlock, MovesBelow, WasBlock, moves_below}
 
 -- ---- one pageblock's free blocks
 

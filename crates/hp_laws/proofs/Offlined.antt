@@ -20,6 +20,7 @@ use Rattle.hp_units.specs.Isolation.{remove_block, remove_pageblock}
 use Rattle.hp_units.specs.Rows.{is_going, with_areas, with_block_row}
 use Rattle.hp_units.specs.Placement.{IsInOrder, IsKernelAt, IsRow, IsWellPlaced, cached_places, class_at, free_places, is_unplugged, kernel_places, kind_at, offline_places, row_at}
 use Rattle.hp_lemmas.proofs.Joins.{without_free-places}
+use Rattle.hp_laws.specs.Commits.{IsAllFree, IsInRange}
 use Rattle.hp_laws.proofs.Ordered.{AreOrdered}
 use Rattle.hp_lemmas.proofs.Lists.{free_list-cases}
 use Rattle.hp_laws.proofs.Areas.{has_order, other-ordered, part-ordered}
@@ -27,7 +28,6 @@ use Rattle.hp_lemmas.proofs.Parts.{without-part}
 use Rattle.hp_laws.proofs.States.{areas_of, block_of-pageblock, get_or-cases}
 use Rattle.hp_laws.proofs.Rows.{kernel_some, on_cached, row_at-other}
 use Rattle.hp_laws.proofs.Onlines.{inside, outside, within, within-split}
-use Rattle.hp_laws.proofs.Pageblocks.{IsInRange}
 use Rattle.hp_laws.proofs.Isolations.{pageblock_elsewhere, pageblock_range, some_pageblocks}
 
 -- ---- what stays on a list
@@ -178,12 +178,6 @@ remove_all l class_at zone a from (suc count) short h on =
     before pageblock (inr high) = inr (omega arith)
 
 -- ---- a block goes offline
-
--- each pageblock of the block is one isolated free block
-abbrev pub IsAllFree : LayoutParts → FreeAreas → Zone → ℕ → Type 0
-IsAllFree l a zone block =
-    (pageblock : ℕ) → IsInRange (block * l.pageblocks) l.pageblocks pageblock
-    → is_on (pageblock * 2 ^ l.order) (free_list a (isolated_class zone) l.order) ≡ true
 
 pub remove_block-range : (l : LayoutParts) (s : Memory) (block : ℕ) (zone : Zone) → IsWellPlaced l s
     → block < l.blocks → IsAllFree l s.free.areas zone block

@@ -19,6 +19,7 @@ use Rattle.hp_units.specs.Placement.{free_places, list_places, covered}
 use Rattle.hp_lemmas.proofs.Sizes.{with_free_list-size}
 use Rattle.hp_lemmas.proofs.Places.{HasOrder, with_free_list-places}
 use Rattle.hp_lemmas.proofs.Lists.{free_list-apart, free_list-cases, free_list-same, list_places-le, that_list}
+use Rattle.hp_laws.specs.Commits.{IsInRange}
 use Rattle.hp_laws.proofs.Onlines.{quotient}
 use Rattle.hp_laws.proofs.Moves.{AreApart, apart_by_places, is_among, moved-sum}
 
@@ -53,10 +54,6 @@ on_filter p frame (x ∷ xs) on = step (p x) refl on (on_filter p frame xs)
           }
       | inr there ↦ record { left = (rest there).left; right = later (x == frame) (rest there).right }
     ]
-
-pub record IsInRange (from count x : ℕ) : Type 0 where
-  pub low : from ≤ x
-  pub high : x < from + count
 
 pub on_range : (frame from count : ℕ) → is_on frame (range_with_len from count) ≡ true
     → IsInRange from count frame

@@ -1,3 +1,4 @@
+pub mod Commits
 pub mod Operations
 pub mod Consequences
 pub mod Offline

@@ -18,7 +18,7 @@ use Rattle.hp_history.specs.Volumes.{IsChain, histories_of, records_in, state_af
 use Rattle.hp_history.specs.declared.volumes.Volume.{Volume}
 use Rattle.hp_history.proofs.Chains.{chain_legal, chain_more, count_more, histories_count, histories_value, state_more}
 use Rattle.hp_machine.specs.Kept.{IsMachine}
-use Rattle.hp_machine.specs.Machine.{IsCalled, IsHistory, MachineValue, booted, last_serial, sealed}
+use Rattle.hp_machine.specs.Machine.{IsCalled, IsHistory, MachineValue, booted, sealed}
 use Rattle.hp_machine.specs.Volumes.{GoesOnFrom, KeepsOperationsAfter, all_records, left_by}
 
 -- ---- a machine goes on from its volumes

@@ -83,3 +83,12 @@ pub record KeepsOperationsAfter (volumes : List Volume) (m : MachineValue) : Typ
   pub rows : HoldsRowsAfter volumes m
   pub commits : GrantsWishesAfter volumes m
   pub cancels : GivesRowsBackAfter volumes m
+
+-- of a machine, after whatever volumes it goes on from
+abbrev pub KeepsOperationsAcrossSeals : MachineValue → Type 0
+KeepsOperationsAcrossSeals m =
+    (volumes : List Volume) → GoesOnFrom volumes m → KeepsOperationsAfter volumes m
+
+-- a machine that goes on from volumes goes on from these and one more, once it was sealed
+abbrev pub GoesOnWith : MachineValue → Volume → MachineValue → Type 0
+GoesOnWith old v new = (volumes : List Volume) → GoesOnFrom volumes old → GoesOnFrom (volumes ++ v ∷ []) new

@@ -1,5 +1,5 @@
 //! A machine with its history.
-ghost use Rattle.std.specs.Prelude.{◌≡◌, ◌↔◌, ◌≤◌, Err, IfOk, List, MatchOption, OnErr, OnOk, IsTrue, length, slice_get};
+ghost use Rattle.std.specs.Prelude.{◌≡◌, ◌↔◌, ◌≤◌, Err, IfOk, MatchOption, OnErr, OnOk, IsTrue, length, slice_get};
 ghost use Rattle.hp_units.specs.Boot.{boot_memory};
 ghost use Rattle.hp_units.specs.History.{net_of};
 ghost use Rattle.hp_units.specs.Memory.{free_list, kernel_order};
@@ -9,10 +9,9 @@ ghost use Rattle.hp_pages.specs.Pages.{AreSettled};
 ghost use Rattle.hp_history.specs.Course.{receipt_for};
 ghost use Rattle.hp_history.specs.Entries.{IsEntry};
 ghost use Rattle.hp_history.specs.Volumes.{volume_of};
-ghost use Rattle.hp_history.specs.declared.volumes.Volume.{Volume};
 ghost use Rattle.hp_machine.specs.Machine.{IsCalled, IsHistory, IsSound, booted, is_full, last_serial, sealed};
 ghost use Rattle.hp_machine.specs.Operations.{KeepsOperations};
-ghost use Rattle.hp_machine.specs.Volumes.{GoesOnFrom, KeepsOperationsAfter};
+ghost use Rattle.hp_machine.specs.Volumes.{KeepsOperationsAcrossSeals};
 
 use hp_blocks::Blocks;
 use hp_buddy::Buddy;
@@ -188,8 +187,7 @@ impl Machine {
     /// and then its own records: an operation may begin before a seal and end after it (Linux,
     /// memory hotplug: offlining; own rule).
     pub fn keeps_operations_across_seals(&self)
-        ensures { (volumes : List Volume) → GoesOnFrom volumes self.now
-            → KeepsOperationsAfter volumes self.now }
+        ensures { KeepsOperationsAcrossSeals self.now }
     {
         let _ = &self.course;
     }

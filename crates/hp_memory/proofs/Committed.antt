@@ -24,8 +24,8 @@ use Rattle.hp_tape.specs.Bounds.{committed_block_bound}
 use Rattle.hp_tape.specs.Deltas.{Fits, undo}
 use Rattle.hp_tape.specs.Tapes.{TapeValue}
 use Rattle.hp_tape.proofs.Leads.{notes-more}
-use Rattle.hp_laws.proofs.Commits.{CommitsFrom, IsGrantable, claim_going, claim_offline, commit_block-next, grantable, grantable_later}
-use Rattle.hp_laws.proofs.Offlined.{IsAllFree}
+use Rattle.hp_laws.specs.Commits.{IsAllFree, IsGrantable}
+use Rattle.hp_laws.proofs.Commits.{CommitsFrom, claim_going, claim_offline, commit_block-next, grantable, grantable_later}
 use Rattle.hp_plain.specs.Asked.{asked}
 use Rattle.hp_memory.specs.declared.layers.Layers.{Layers}
 use Rattle.hp_memory.specs.Commits.{IsHeldBy, is_in_use, is_ready, leaving_frames}

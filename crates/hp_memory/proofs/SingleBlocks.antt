@@ -1,5 +1,5 @@
 -- Events of single memory blocks, and their answers.
-use Rattle.std.proofs.Common.{◌≡◌, ℕ, ◌/◌, ◌<◌, ◌≤◌, List, false, true, Option, Some, None, refl, sym, ◌∙◌, ap, subst, arith}
+use Rattle.std.proofs.Common.{◌≡◌, ℕ, ◌/◌, ◌<◌, ◌≤◌, List, true, Option, Some, None, refl, sym, ◌∙◌, ap, subst, arith}
 use Rattle.std.proofs.lemmas.Bool.{not-false, or_left, or_right}
 use Rattle.std.proofs.lemmas.List.{set-set}
 use Rattle.hp_units.specs.declared.events.Event.{Event}
@@ -17,9 +17,9 @@ use Rattle.hp_units.specs.Arithmetic.{block_bytes}
 use Rattle.hp_units.specs.Choices.{first_some}
 use Rattle.hp_units.specs.Isolation.{add_block}
 use Rattle.hp_units.specs.Memory.{Blocks, Memory, offline_row, row_of}
-use Rattle.hp_units.specs.Placement.{IsRow, is_unplugged}
+use Rattle.hp_units.specs.Placement.{is_unplugged}
 use Rattle.hp_units.specs.Refusals.{event_refusals}
-use Rattle.hp_units.specs.Rows.{is_absent, is_going, is_offline, online_block, with_block_row}
+use Rattle.hp_units.specs.Rows.{is_absent, is_offline, online_block, with_block_row}
 use Rattle.hp_units.specs.Step.{Answered, answer, auto_online, perform}
 use Rattle.hp_tape.specs.Bounds.{delta_bound, online_bound}
 use Rattle.hp_tape.specs.Deltas.{Fits, undo}
@@ -29,7 +29,6 @@ use Rattle.hp_tape.proofs.Leads.{notes-more}
 use Rattle.hp_blocks.specs.Blocks.{BlocksValue}
 use Rattle.hp_laws.proofs.EventSteps.{below, then_none}
 use Rattle.hp_laws.proofs.OwnedContents.{all_none}
-use Rattle.hp_laws.proofs.Rows.{unplugged-placed}
 use Rattle.hp_plain.specs.Asked.{asked}
 use Rattle.hp_memory.specs.declared.layers.Layers.{Layers}
 use Rattle.hp_memory.specs.Frames.{IsTidy}
@@ -39,9 +38,7 @@ use Rattle.hp_memory.specs.SingleBlocks.{added_zone}
 use Rattle.hp_memory.proofs.Answers.{refused}
 use Rattle.hp_memory.proofs.Claims.{row-one}
 use Rattle.hp_memory.proofs.Lifts.{notes-blocks}
-use Rattle.hp_memory.proofs.OnlineBlocks.{reworked-led}
 use Rattle.hp_memory.proofs.Releases.{reworked-answered}
-use Rattle.hp_memory.proofs.States.{are-placed}
 
 -- ---- the answers
 
@@ -112,16 +109,6 @@ blocks-put m bs wanted was now one tidy set_is layout_is notes = record {
       notes-blocks (view_of m) m.layout 1 was now bs.blocks m.blocks.blocks
       (subst (λ (k : LayoutParts). NotesBlocks k 1 was now bs.blocks m.blocks.blocks) one.blocks notes);
 }
-
--- a row of an unplugged block becomes that of another unplugged one
-pub bare-placed : (m new : Layers) (block : ℕ) (row : Row) (most : ℕ) (was now : TapeValue) → ArePlaced m
-    → block < m.layout.blocks → is_unplugged (row_of m.blocks.blocks block) ≡ true
-    → IsRow row → is_going row ≡ false → is_unplugged row ≡ true
-    → IsReworked m (with_block_row (state_of m) block row) most new was now → ArePlaced new
-bare-placed m new block row most was now p low off is still gone r =
-    (are-placed m new (with_block_row (state_of m) block row)
-    (reworked-led m new (with_block_row (state_of m) block row) most was now p r)
-    (unplugged-placed m.layout (state_of m) block row p.placed off low is still gone)).0
 
 -- ---- an added block goes online at once
 

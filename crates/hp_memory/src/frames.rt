@@ -1,5 +1,5 @@
 //! The frames that can be handed out: the free areas and the processors' lists together.
-ghost use Rattle.std.specs.Prelude.{◌≡◌, ℕ, ◌+◌, ◌*◌, ◌^◌, ◌<◌, ◌≤◌};
+ghost use Rattle.std.specs.Prelude.{◌≡◌, ℕ, ◌+◌, ◌*◌, ◌^◌, ◌<◌, ◌≤◌, IfOk};
 ghost use Rattle.hp_units.specs.Arithmetic.{frame_count, pageblock_count};
 ghost use Rattle.hp_units.specs.Isolation.{add_block, add_pageblock, move_block, move_pageblock};
 ghost use Rattle.hp_units.specs.LayoutParts.{IsLayout};
@@ -21,6 +21,7 @@ use hp_tape::Tape;
 use hp_units::{
     Block, Class, Cpu, Frame, Layout, Mobility, Order, Pageblock, Pool, Zone, pageblock_of,
 };
+use std::alloc::{AllocError, Global};
 
 /// The free areas, and the processors' lists in front of them.
 #[derive(Drop)]
@@ -30,6 +31,15 @@ pub(crate) struct Frames {
 }
 
 impl Frames {
+    /// Equal areas and lists.
+    pub(crate) fn copy(&self, alloc: Global) -> Result<Frames, AllocError>
+        ensures { IfOk result (λ frames. frames ≡ self.now) }
+    {
+        let buddy = self.buddy.copy(alloc)?;
+        let cpus = self.cpus.copy(alloc)?;
+        Ok(Frames { buddy, cpus })
+    }
+
     /// How many deltas taking a block for the kernel may note now.
     pub(crate) fn kernel_block_room(&self, layout: &Layout, cpu: Cpu, order: Order) -> usize
         requires cpu { cpu < self.now.cpus.layout.cpus }

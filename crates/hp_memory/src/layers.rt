@@ -1,5 +1,5 @@
 //! All layers of a machine's memory.
-ghost use Rattle.std.specs.Prelude.{◌≡◌, ◌≤◌, drop, length, take};
+ghost use Rattle.std.specs.Prelude.{◌≡◌, ◌≤◌, drop, length, take, IfOk};
 ghost use Rattle.std.specs.List.{AllByRecursion};
 ghost use Rattle.hp_units.specs.Arithmetic.{IsFrame};
 ghost use Rattle.hp_units.specs.Rows.{zone_of};
@@ -27,6 +27,7 @@ use hp_blocks::Blocks;
 use hp_pages::Pages;
 use hp_tape::{Delta, Tape};
 use hp_units::{Frame, Layout, Zone, block_of};
+use std::alloc::{AllocError, Global};
 
 /// The layers, and the order of the kernel's block that starts at each frame.
 pub(crate) struct Layers {
@@ -51,6 +52,19 @@ impl Drop for Layers {
 }
 
 impl Layers {
+    /// Equal layers. An error is out of memory.
+    pub(crate) fn copy(&self, alloc: Global) -> Result<Layers, AllocError>
+        ensures { IfOk result (λ m. m ≡ self.now) }
+    {
+        Ok(Layers {
+            layout: self.layout.copy(alloc)?,
+            frames: self.frames.copy(alloc)?,
+            pages: self.pages.copy(alloc)?,
+            kernel: self.kernel.copy(alloc)?,
+            blocks: self.blocks.copy(alloc)?,
+        })
+    }
+
     /// Undoes what stands on a tape after its first `mark` deltas, latest first, and takes it off.
     pub(crate) fn unwind(&mut self, tape: &mut Tape, mark: usize)
         requires one { AreOfOneLayout self.old }

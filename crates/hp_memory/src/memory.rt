@@ -43,8 +43,8 @@ impl Memory {
         ensures { IfOk result
             (λ memory. memory ≡ record { layout = layout.now; state = boot_memory layout.now }) }
     {
-        let layers = Layers::boot(alloc, layout)?;
-        Ok(Memory { layers })
+        let image = Image::boot(alloc, layout)?;
+        Memory::from_image(alloc, &image)
     }
 
     /// The layers of a well placed state. An error is out of memory.
@@ -70,9 +70,8 @@ impl Memory {
     pub fn copy(&self, alloc: Global) -> Result<Memory, AllocError>
         ensures { IfOk result (λ copy. copy ≡ self.now) }
     {
-        self.is_placed();
-        let image = self.image(alloc)?;
-        Memory::from_image(alloc, &image)
+        let layers = self.layers.copy(alloc)?;
+        Ok(Memory { layers })
     }
 
     /// The layout.

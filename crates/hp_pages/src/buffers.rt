@@ -34,6 +34,17 @@ impl Buffers {
         Ok(Buffers { frames })
     }
 
+    /// Equal buffers.
+    pub(crate) fn copy(&self, alloc: Global) -> Result<Buffers, AllocError>
+        ensures { IfOk result (λ buffers. buffers ≡ self.now) }
+    {
+        let mut frames = Vec::with_capacity(alloc, self.frames.len())?;
+        for words in &self.frames {
+            frames.push(copy_of(alloc, words)?)?;
+        }
+        Ok(Buffers { frames })
+    }
+
     /// The words of a frame, if it has a buffer.
     pub(crate) fn words(&self, frame: Frame) -> Option<&[u64]>
         requires { frame < length self.now }
@@ -90,6 +101,16 @@ impl Buffers {
         if let Some(words) = &mut self.frames[frame.0 as usize] {
             words.set(index, value);
         }
+    }
+}
+
+/// An equal buffer, if there is one.
+fn copy_of(alloc: Global, words: &Option<Words>) -> Result<Option<Words>, AllocError>
+    ensures { IfOk result (λ copy. copy ≡ words.now) }
+{
+    match words {
+        Some(words) => Ok(Some(words.copy(alloc)?)),
+        None => Ok(None),
     }
 }
 

@@ -31,6 +31,14 @@ impl FrameSet {
         Ok(FrameSet { words })
     }
 
+    /// An equal set.
+    pub(crate) fn copy(&self, alloc: Global) -> Result<FrameSet, AllocError>
+        ensures { IfOk result (λ set. set ≡ self.now) }
+    {
+        let words = Vec::from_slice(alloc, self.words.as_slice())?;
+        Ok(FrameSet { words })
+    }
+
     /// Puts a frame in or takes it out.
     pub(crate) fn set(&mut self, frame: Frame, is_in: bool)
         requires { frame < 64 * length self.old }

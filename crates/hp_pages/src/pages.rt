@@ -21,7 +21,7 @@ mod back;
 
 /// The owners' pages of a layout: the frame of each page, and the words of each mapped frame. A
 /// page whose words are all 0 has no buffer: one page of zeros serves all of them. No call but
-/// `new` and `spare_for` takes memory.
+/// `new`, `copy` and `spare_for` takes memory.
 pub struct Pages {
     layout: Layout,
     table: Table,
@@ -65,6 +65,22 @@ impl Pages {
             table: Table::empty(alloc, layout.owners(), layout.pages(), frames)?,
             buffers: Buffers::none(alloc, frames)?,
             zeros: zeros(alloc, layout)?,
+        })
+    }
+
+    /// Equal pages. An error is out of memory.
+    pub fn copy(&self, alloc: Global) -> Result<Pages, AllocError>
+        ensures { IfOk result (λ pages. pages ≡ self.now) }
+    {
+        let layout = self.layout.copy(alloc)?;
+        let table = self.table.copy(alloc)?;
+        let buffers = self.buffers.copy(alloc)?;
+        let zeros = self.zeros.copy(alloc)?;
+        Ok(Pages {
+            layout,
+            table,
+            buffers,
+            zeros,
         })
     }
 

@@ -39,6 +39,15 @@ impl PlaceSums {
         Ok(PlaceSums { sums, mapped })
     }
 
+    /// Equal sums.
+    pub(crate) fn copy(&self, alloc: Global) -> Result<PlaceSums, AllocError>
+        ensures { IfOk result (λ sums. sums ≡ self.now) }
+    {
+        let sums = Vec::from_slice(alloc, self.sums.as_slice())?;
+        let mapped = self.mapped.copy(alloc)?;
+        Ok(PlaceSums { sums, mapped })
+    }
+
     /// The sum of a frame.
     pub(crate) fn at(&self, frame: Frame) -> u64
         requires { frame < length self.now }

@@ -33,6 +33,14 @@ impl PageRow {
         Ok(PageRow { frames })
     }
 
+    /// An equal row.
+    fn copy(&self, alloc: Global) -> Result<PageRow, AllocError>
+        ensures { IfOk result (λ row. row ≡ self.now) }
+    {
+        let frames = Vec::from_slice(alloc, self.frames.as_slice())?;
+        Ok(PageRow { frames })
+    }
+
     /// The frame of a page, if it is mapped.
     fn at(&self, page: Page) -> Option<Frame>
         requires { page < length self.now }
@@ -89,6 +97,19 @@ impl Table {
         let rows = empty_rows(alloc, owners, pages)?;
         let sums = PlaceSums::none(alloc, frames)?;
         Ok(Table { pages, rows, sums })
+    }
+
+    /// An equal table.
+    pub(crate) fn copy(&self, alloc: Global) -> Result<Table, AllocError>
+        ensures { IfOk result (λ t. t ≡ self.now) }
+    {
+        let rows = copy_of_rows(alloc, &self.rows)?;
+        let sums = self.sums.copy(alloc)?;
+        Ok(Table {
+            pages: self.pages,
+            rows,
+            sums,
+        })
     }
 
     /// The frame of a page, if it is mapped.
@@ -165,4 +186,15 @@ fn empty_rows(alloc: Global, owners: u32, pages: u32) -> Result<Vec<PageRow>, Al
         rows.push(PageRow::empty(alloc, pages)?)?;
     }
     Ok(rows)
+}
+
+/// Equal rows.
+fn copy_of_rows(alloc: Global, rows: &[PageRow]) -> Result<Vec<PageRow>, AllocError>
+    ensures { IfOk result (λ copy. copy.items ≡ rows.now) }
+{
+    let mut copy = Vec::with_capacity(alloc, rows.len())?;
+    for row in rows {
+        copy.push(row.copy(alloc)?)?;
+    }
+    Ok(copy)
 }

@@ -1,10 +1,11 @@
 -- A seat's call is a port's.
-use Rattle.std.proofs.Common.{◌≡◌, ℕ, ◌+◌, ◌<◌, List, [], ◌∷◌, ◌++◌, length, Option, None, refl, ap, sym, subst, ◌∙◌, arith}
+use Rattle.std.proofs.Common.{◌≡◌, ℕ, ◌+◌, ◌<◌, List, [], ◌∷◌, ◌++◌, length, Option, None, Result, Err, refl, ap, sym, subst, ◌∙◌, arith}
 use Rattle.std.proofs.lemmas.List.{length-append}
 use Rattle.hp_units.specs.LayoutParts.{LayoutParts}
 use Rattle.hp_units.specs.History.{reply_of}
 use Rattle.hp_units.specs.declared.events.Event.{Event}
 use Rattle.hp_units.specs.declared.replies.CallFault.{CallFault}
+use Rattle.hp_units.specs.declared.replies.CallFault.TheVariants.{HistoryFull, OutOfMemory}
 use Rattle.hp_units.specs.declared.replies.Receipt.{Receipt}
 use Rattle.hp_units.specs.declared.replies.Reply.{Reply}
 use Rattle.hp_history.specs.Course.{receipt_for}
@@ -75,3 +76,12 @@ seat_called l cpu was held now event copy answer share more copied inside same p
             (subst (IsTurn l cpu event (receipt_for event answer)) amount turn);
       };
     }
+
+-- a full history is the same fault, whatever the call would have answered
+abbrev pub faulted : (A : Type 0) → CallFault → Result A CallFault
+faulted A fault = Err fault
+
+pub full_still : {A B : Type 0} (fault : CallFault) → faulted A fault ≡ faulted A HistoryFull
+    → faulted B fault ≡ faulted B HistoryFull
+full_still HistoryFull is = refl
+full_still OutOfMemory is = absurd cc

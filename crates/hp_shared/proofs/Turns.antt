@@ -1,6 +1,7 @@
 -- A recorded call keeps what every lock shows, and so does a seal.
-use Rattle.std.specs.Prelude.{IfErr, IfOk, IsTrue, is_ok, ◌↔◌}
-use Rattle.std.proofs.Common.{◌≡◌, true, Result, Ok, Err, ℕ, ◌+◌, List, [], ◌∷◌, ◌++◌, length, Some, slice_get, take, refl, ap, sym, subst, ◌∙◌, arith}
+use Rattle.std.specs.Prelude.{IfOk, IsTrue, is_ok, nat_le, ◌||◌, ◌≤◌, ◌↔◌}
+use Rattle.std.proofs.Common.{◌≡◌, Bool, true, false, Result, Ok, Err, ℕ, ◌+◌, List, [], ◌∷◌, ◌++◌, length, Some, slice_get, take, refl, ap, sym, subst, ◌∙◌, arith}
+use Rattle.std.proofs.lemmas.Bool.{leb-true}
 use Rattle.std.proofs.lemmas.List.{length-append}
 use Rattle.hp_units.specs.LayoutParts.{LayoutParts}
 use Rattle.hp_units.specs.Boot.{boot_memory}
@@ -8,17 +9,17 @@ use Rattle.hp_units.specs.Memory.{Memory}
 use Rattle.hp_units.specs.History.{IsLegal, net_of, reply_of, run, value_of}
 use Rattle.hp_units.specs.declared.events.Event.{Event}
 use Rattle.hp_units.specs.declared.replies.CallFault.{CallFault}
-use Rattle.hp_units.specs.declared.replies.CallFault.TheVariants.{HistoryFull, OutOfMemory}
+use Rattle.hp_units.specs.declared.replies.CallFault.TheVariants.{HistoryFull}
 use Rattle.hp_units.specs.declared.replies.Receipt.{Receipt}
 use Rattle.hp_units.specs.declared.replies.Record.{Record}
 use Rattle.hp_units.specs.declared.replies.Reply.{Reply}
 use Rattle.hp_laws.proofs.Lists.{get_end}
-use Rattle.hp_history.specs.Course.{receipt_for}
+use Rattle.hp_history.specs.Course.{is_spent, receipt_for}
 use Rattle.hp_history.specs.Volumes.{FollowsVolumes, records_in, state_after, volume_of}
 use Rattle.hp_history.proofs.Chains.{chain_more, count_more, state_more}
 use Rattle.hp_history.specs.declared.volumes.Volume.{Volume}
-use Rattle.hp_machine.specs.Machine.{IsCalled, IsHistory, MachineValue, is_full, last_serial, record_of, sealed}
-use Rattle.hp_shared.specs.Shared.{HasSharedCause, IsFresh, IsLastOf, IsShared, LockedValue}
+use Rattle.hp_machine.specs.Machine.{IsCalled, IsHistory, IsSound, MachineValue, is_full, last_serial, record_of, sealed}
+use Rattle.hp_shared.specs.Shared.{IsFresh, IsLastOf, IsShared}
 
 -- the machine that a call made has a legal history again, and the state of that history
 called_history : (old new : MachineValue) (cpu : ℕ) (event : Event) (r : Receipt)
@@ -68,13 +69,35 @@ turned_ok l old new was total cpu event (Ok answer) shared called recorded more 
     turned l old new was total cpu event (receipt_for event answer) shared called more
 turned_ok l old new was total cpu event (Err fault) shared called recorded more = absurd cc
 
--- the fault of a full history comes where the machine under the lock has one
-pub fault_caused : {A : Type 0} (l : LayoutParts) (seen : LockedValue) (answer : Result A CallFault)
-    → IsShared l seen → ((answer ≡ Err HistoryFull) ↔ IsTrue (is_full seen.machine))
-    → IfErr answer (HasSharedCause l)
-fault_caused l seen (Ok r) shared full = tt
-fault_caused l seen (Err HistoryFull) shared full = (seen, shared, full.0 refl)
-fault_caused l seen (Err OutOfMemory) shared full = tt
+-- a machine with a full history has made as many records as the history may hold
+full_count : (m : MachineValue) → IsSound m → is_full m ≡ true → m.layout.history ≤ last_serial m
+full_count m sound full =
+    by_room (nat_le m.layout.history (length m.history)) (is_spent m) refl refl full
+  where
+    by_room : (held spent : Bool) → nat_le m.layout.history (length m.history) ≡ held → is_spent m ≡ spent
+        → (held || spent) ≡ true → m.layout.history ≤ last_serial m
+    by_room true spent is so both =
+        let within = leb-true m.layout.history (length m.history) is in omega (arith, within)
+    by_room false true is so both =
+        let last = leb-true 18446744073709551615 (m.before + length m.history) so in
+        omega (arith, last, sound.limits.history)
+    by_room false false is so both = absurd cc
+
+-- and so has the share that counts all of them
+pub filled : {A : Type 0} (l : LayoutParts) (m : MachineValue) (total amount parts all : ℕ)
+    (answer : Result A CallFault)
+    → IsShared l (record { machine = m; total = total }) → IsSound m
+    → ((answer ≡ Err HistoryFull) ↔ IsTrue (is_full m)) → (parts ≡ all → amount ≡ total) → parts ≡ all
+    → answer ≡ Err HistoryFull → l.history ≤ amount
+filled l m total amount parts all answer shared sound full counts whole is =
+    let most = full_count m sound (full.0 is) in
+    omega (
+      arith,
+      most,
+      shared.total,
+      counts whole,
+      ap (λ (k : LayoutParts). k.history) shared.layout,
+    )
 
 -- a machine with no records that sealed nothing may lie under the lock
 pub begun : (l : LayoutParts) (m : MachineValue) (total : ℕ) → IsFresh l m

@@ -1,17 +1,15 @@
 -- What a contract sees of a shared machine and of its seats, and what a call of a seat does.
-use Rattle.std.specs.Prelude.{ℕ, ◌≡◌, ◌<◌, ◌≤◌, true, List, [], ◌∷◌, ◌++◌, length, map, ⊤}
+use Rattle.std.specs.Prelude.{ℕ, ◌≡◌, ◌<◌, ◌≤◌, List, [], ◌∷◌, ◌++◌, length, map}
 use Rattle.std.specs.List.{range_with_len}
 use Rattle.hp_units.specs.LayoutParts.{LayoutParts}
 use Rattle.hp_units.specs.Memory.{Memory}
 use Rattle.hp_units.specs.declared.events.Event.{Event}
-use Rattle.hp_units.specs.declared.replies.CallFault.{CallFault}
-use Rattle.hp_units.specs.declared.replies.CallFault.TheVariants.{HistoryFull, OutOfMemory}
 use Rattle.hp_units.specs.declared.replies.Receipt.{Receipt}
 use Rattle.hp_units.specs.declared.replies.Record.{Record}
 use Rattle.hp_units.specs.declared.replies.Reply.{Reply}
 use Rattle.hp_history.specs.Volumes.{IsChain, records_in, state_after}
 use Rattle.hp_history.specs.declared.volumes.Volume.{Volume}
-use Rattle.hp_machine.specs.Machine.{IsHistory, MachineValue, is_full, last_serial, record_of}
+use Rattle.hp_machine.specs.Machine.{IsHistory, MachineValue, last_serial, record_of}
 
 -- what lies under the lock: a machine, and how many records it has made
 pub record LockedValue : Type 0 where
@@ -83,9 +81,3 @@ pub record IsSeatCall (l : LayoutParts) (old : SeatValue) (event : Event) (reply
   pub receipt : Receipt
   pub replied : receipt.reply ≡ reply
   pub seated : IsSeated l old event receipt new
-
--- a call's fault has its cause: some state of the shared machine has a full history; memory may run
--- out at any time
-abbrev pub HasSharedCause : LayoutParts → CallFault → Type 0
-HasSharedCause l HistoryFull = (seen : LockedValue) × IsShared l seen × (is_full seen.machine ≡ true)
-HasSharedCause l OutOfMemory = ⊤

@@ -1,9 +1,11 @@
 //! The end of a shared machine.
 ghost use Rattle.std.specs.Prelude.{◌≡◌, IfErr, IfOk};
 ghost use Rattle.hp_shared.specs.Closing.{HasCause, HasFault, IsChecked, IsClosed};
+ghost use Rattle.hp_shared.specs.Shared.{IsShared};
 
 use crate::comparing::{compare, has_each};
 use crate::job::Job;
+use crate::locked::Locked;
 use crate::seat::Seat;
 use crate::shared::Shared;
 use crate::volumes::wrong_volume;
@@ -54,11 +56,9 @@ pub struct CloseRefused<L: Job> {
 /// Closes a shared machine, where each seat's receipts are exactly its processor's records, in
 /// order, and there are no others (own rule). The records are those of the volumes, which are all
 /// that the machine sealed, and then the machine's own. It waits for nobody: no other thread has a
-/// part in it any more. Its time is linear in the records and receipts, its memory one mark for
-/// each seat.
+/// part in it any more. Its answer is that of `Locked::check` on what lay under the lock.
 ///
-/// Errors, in this order: `SeatMissing`, `WrongVolume`, `Mismatch`; `OutOfMemory` may come in place
-/// of `Mismatch` or of `Ok`. Each hands the machine, all seats and all volumes back.
+/// Errors are those of `Locked::check`; each hands the machine, all seats and all volumes back.
 pub fn close<L: Job>(
     alloc: Global,
     shared: Shared<L>,
@@ -72,9 +72,8 @@ pub fn close<L: Job>(
         (λ refused. (refused.seats.items ≡ seats.items) × (refused.volumes.items ≡ volumes.items)) }
     ensures err { IfErr result (λ refused. HasCause L.layout seats.items volumes.items refused.fault) }
 {
-    let cpus = shared.cpus();
     let locked = shared.into_locked();
-    match check(alloc, locked.machine(), &seats, &volumes, cpus) {
+    match locked.check(alloc, &seats, &volumes) {
         Ok(records) => Ok(Closed {
             machine: locked.into_machine(),
             volumes,
@@ -82,35 +81,44 @@ pub fn close<L: Job>(
         }),
         Err(fault) => Err(CloseRefused {
             fault,
-            shared: Shared::again(locked, cpus),
+            shared: Shared::again(locked),
             seats,
             volumes,
         }),
     }
 }
 
-/// Compares the receipts of all seats with the records of volumes and a machine, and answers how
-/// many records there are.
-fn check<L: Job>(
-    alloc: Global,
-    machine: &Machine,
-    seats: &Vec<Seat<L>>,
-    volumes: &Vec<Volume>,
-    cpus: u32,
-) -> Result<u64, CloseFault>
-    ensures ok { IfOk result
-        (λ records. IsChecked machine.now cpus seats.now.items volumes.now.items records) }
-    ensures err { IfErr result (HasFault machine.now cpus seats.now.items volumes.now.items) }
-{
-    if !has_each(seats, cpus) {
-        return Err(CloseFault::SeatMissing);
-    }
-    if let Some(at) = wrong_volume(volumes, machine.sealed()) {
-        return Err(CloseFault::WrongVolume { at });
-    }
-    match compare(alloc, volumes, machine, seats) {
-        Ok(None) => Ok(machine.last_serial()),
-        Ok(Some(serial)) => Err(CloseFault::Mismatch { serial }),
-        Err(AllocError) => Err(CloseFault::OutOfMemory),
+impl<L: Job> Locked<L> {
+    /// Whether it may be closed (own rule): there is one seat for each processor, the volumes are
+    /// all that the machine sealed, and each seat's receipts are exactly its processor's records, in
+    /// the volumes and then in the machine. It answers how many records there are in all. Its time
+    /// is linear in the records and receipts, its memory one mark for each seat.
+    ///
+    /// Errors, in this order: `SeatMissing`, `WrongVolume`, `Mismatch`, each only where it has its
+    /// cause and none before it has; `OutOfMemory` may come in place of `Mismatch` or of `Ok`.
+    pub fn check(
+        &self,
+        alloc: Global,
+        seats: &Vec<Seat<L>>,
+        volumes: &Vec<Volume>,
+    ) -> Result<u64, CloseFault>
+        ensures ok { IfOk result
+            (λ records. IsChecked self.now.machine L.layout.cpus seats.now.items volumes.now.items records) }
+        ensures err { IfErr result
+            (HasFault self.now.machine L.layout.cpus seats.now.items volumes.now.items) }
+        ensures shown { IsShared L.layout self.now }
+    {
+        let machine = self.machine();
+        if !has_each(seats, self.cpus()) {
+            return Err(CloseFault::SeatMissing);
+        }
+        if let Some(at) = wrong_volume(volumes, machine.sealed()) {
+            return Err(CloseFault::WrongVolume { at });
+        }
+        match compare(alloc, volumes, machine, seats) {
+            Ok(None) => Ok(machine.last_serial()),
+            Ok(Some(serial)) => Err(CloseFault::Mismatch { serial }),
+            Err(AllocError) => Err(CloseFault::OutOfMemory),
+        }
     }
 }

@@ -15,7 +15,7 @@ use std::marker::Model;
 use std::sync::ledger::{Book, Share};
 
 /// A machine of the job's layout, and the total of its records, which the ledger of the seats'
-/// shares carries (own rule).
+/// shares carries: one part for each processor (own rule).
 #[derive(Drop)]
 pub struct Locked<L: Job> {
     machine: Machine,
@@ -23,13 +23,16 @@ pub struct Locked<L: Job> {
 }
 
 impl<L: Job> Model for Locked<L> {
+    ghost use Rattle.std.specs.Prelude.{◌≡◌};
     ghost use Rattle.hp_shared.specs.Shared.{IsShared, LockedValue};
 
     ghost Value = { LockedValue };
 
     ghost view = { λ l. record { machine = l.machine; total = l.book.total } };
 
-    ghost invariant = { λ l. IsShared L.layout (record { machine = l.machine; total = l.book.total }) };
+    ghost invariant = { λ l.
+        IsShared L.layout (record { machine = l.machine; total = l.book.total })
+        × (L.parts ≡ L.layout.cpus) };
 }
 
 impl<L: Job> Locked<L> {
@@ -37,6 +40,7 @@ impl<L: Job> Locked<L> {
     pub(crate) fn new(machine: Machine, book: Book<L>) -> Locked<L>
         requires machine { IsFresh L.layout machine }
         requires book { book.total ≡ 0 }
+        requires one_each { L.parts ≡ L.layout.cpus }
         ensures { result ≡ record { machine = machine; total = 0 } }
     {
         machine.begins_at_boot();
@@ -49,7 +53,9 @@ impl<L: Job> Locked<L> {
     /// share is above the total. It waits for nobody, since whoever calls it holds the lock.
     ///
     /// Errors are those of `Machine::answer`, `HistoryFull` exactly where the history holds its
-    /// limit; they leave all as it was.
+    /// limit or the last serial is 2^64 - 1; they leave all as it was. To a share of a part
+    /// for each processor, which counts all records, `HistoryFull` comes only where these are as many
+    /// as the limit.
     pub fn turn(
         &mut self,
         alloc: Global,
@@ -59,6 +65,8 @@ impl<L: Job> Locked<L> {
     ) -> Result<(Serial, Reply), CallFault>
         requires { 0 < share.old.parts }
         ensures full { (result ≡ Err HistoryFull) ↔ IsTrue (is_full self.old.machine) }
+        ensures only { share.old.parts ≡ L.layout.cpus → result ≡ Err HistoryFull
+            → L.layout.history ≤ share.old.amount }
         ensures err { OnErr result ((self.new ≡ self.old) × (share.new.amount ≡ share.old.amount)) }
         ensures ok { IfOk result
             (λ answer. IsCalled self.old.machine cpu event.now (receipt_for event.now answer)
@@ -71,6 +79,8 @@ impl<L: Job> Locked<L> {
         ensures kept { IsShared L.layout self.new }
     {
         self.book.audit(share);
+        // No effect at run time: the proof reads the layout's limits from this call.
+        self.machine.stays_sound();
         let answer = self.machine.answer(alloc, cpu, event);
         if answer.is_ok() {
             self.book.add(share, 1);
@@ -95,6 +105,13 @@ impl<L: Job> Locked<L> {
         self.book.audit(share);
         let volume = self.machine.seal(alloc)?;
         Ok(volume)
+    }
+
+    /// The number of processors.
+    pub(crate) fn cpus(&self) -> u32
+        ensures { result ≡ L.layout.cpus }
+    {
+        self.machine.layout().cpus()
     }
 
     /// The machine.

@@ -1,6 +1,7 @@
 //! A processor's access to the shared machine.
-ghost use Rattle.std.specs.Prelude.{◌≡◌, ◌<◌, [], IfErr, IfOk, OnErr, length};
-ghost use Rattle.hp_shared.specs.Shared.{HasSharedCause, IsSeatCall, first_seat};
+ghost use Rattle.std.specs.Prelude.{◌≡◌, ◌≤◌, ◌<◌, [], Err, IfOk, OnErr, length};
+ghost use Rattle.hp_units.specs.declared.replies.CallFault.TheVariants.{HistoryFull};
+ghost use Rattle.hp_shared.specs.Shared.{IsSeatCall, first_seat};
 ghost use Rattle.hp_shared.specs.Volumes.{IsSealOf};
 
 use crate::job::Job;
@@ -13,7 +14,7 @@ use std::sync::Wait;
 use std::sync::ledger::Share;
 
 /// The one access of a processor to the shared machine (own rule). It keeps a receipt of each of
-/// its calls, and holds a share of the machine's total: the number of its receipts.
+/// its calls, and holds a share of one part of the machine's total: the number of its receipts.
 #[derive(Drop)]
 pub struct Seat<L: Job> {
     cpu: Cpu,
@@ -30,14 +31,14 @@ impl<L: Job> Model for Seat<L> {
     ghost view = { λ s. record { cpu = s.cpu; receipts = s.receipts.items } };
 
     ghost invariant = { λ s.
-        (s.cpu < L.layout.cpus) × (0 < s.share.parts) × (s.share.amount ≡ length s.receipts.items) };
+        (s.cpu < L.layout.cpus) × (s.share.parts ≡ 1) × (s.share.amount ≡ length s.receipts.items) };
 }
 
 impl<L: Job> Seat<L> {
     /// A seat with a share that counts nothing yet.
     pub(crate) fn new(alloc: Global, cpu: Cpu, share: Share<L>) -> Seat<L>
         requires cpu { cpu < L.layout.cpus }
-        requires share { (0 < share.parts) × (share.amount ≡ 0) }
+        requires share { (share.parts ≡ 1) × (share.amount ≡ 0) }
         ensures { result ≡ first_seat cpu }
     {
         Seat {
@@ -51,8 +52,9 @@ impl<L: Job> Seat<L> {
     /// answers the reply, and keeps the receipt. Room for the receipt and its copy of the event are
     /// made before the lock is taken.
     ///
-    /// Errors: `HistoryFull` where the history holds its limit of records, `OutOfMemory` before the
-    /// lock or under it. Either leaves seat and machine as they were.
+    /// Errors: `HistoryFull` as `Locked::turn` answers it, on a machine of one processor only where
+    /// the seat has as many receipts as the history may hold records; `OutOfMemory` before the lock
+    /// or under it. Either leaves seat and machine as they were.
     pub fn call(
         &mut self,
         rt: &impl Wait,
@@ -62,7 +64,8 @@ impl<L: Job> Seat<L> {
     ) -> Result<Reply, CallFault>
         ensures ok { IfOk result (λ reply. IsSeatCall L.layout self.old event.now reply self.new) }
         ensures err { OnErr result (self.new ≡ self.old) }
-        ensures cause { IfErr result (HasSharedCause L.layout) }
+        ensures only { L.layout.cpus ≡ 1 → result ≡ Err HistoryFull
+            → L.layout.history ≤ length self.old.receipts }
     {
         let Ok(()) = self.receipts.reserve(1) else {
             return Err(CallFault::OutOfMemory);

@@ -1,7 +1,8 @@
 //! The lock round the machine.
-ghost use Rattle.std.specs.Prelude.{◌≡◌, ◌+◌, ◌<◌, IfErr, IfOk, OnErr, OnOk};
+ghost use Rattle.std.specs.Prelude.{◌≡◌, ◌+◌, ◌≤◌, ◌<◌, Err, IfErr, IfOk, OnErr, OnOk};
+ghost use Rattle.hp_units.specs.declared.replies.CallFault.TheVariants.{HistoryFull};
 ghost use Rattle.hp_history.specs.Course.{receipt_for};
-ghost use Rattle.hp_shared.specs.Shared.{HasSharedCause, IsFresh, IsTurn, first_seats};
+ghost use Rattle.hp_shared.specs.Shared.{IsFresh, IsTurn, first_seats};
 ghost use Rattle.hp_shared.specs.Volumes.{IsSealOf};
 
 use crate::job::Job;
@@ -74,7 +75,8 @@ impl<L: Job> Shared<L> {
             (λ answer. IsTurn L.layout cpu event.now (receipt_for event.now answer) share.new.amount) }
         ensures counted { OnOk result (share.new.amount ≡ share.old.amount + 1) }
         ensures err { OnErr result (share.new.amount ≡ share.old.amount) }
-        ensures cause { IfErr result (HasSharedCause L.layout) }
+        ensures only { share.old.parts ≡ L.layout.cpus → result ≡ Err HistoryFull
+            → L.layout.history ≤ share.old.amount }
         ensures parts { share.new.parts ≡ share.old.parts }
     {
         self.locked.lock(rt).turn(alloc, share, cpu, event)
@@ -94,9 +96,8 @@ impl<L: Job> Shared<L> {
     }
 
     /// A machine under a lock again.
-    pub(crate) fn again(locked: Locked<L>, cpus: u32) -> Shared<L>
-        requires { cpus ≡ L.layout.cpus }
-    {
+    pub(crate) fn again(locked: Locked<L>) -> Shared<L> {
+        let cpus = locked.cpus();
         Shared {
             locked: Mutex::new(locked),
             cpus,

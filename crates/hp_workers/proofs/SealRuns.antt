@@ -35,7 +35,7 @@ sealed_none l old new before after same kept =
       handed = [];
       turns = same;
       line = (refl, refl, refl);
-      caused = tt;
+      caused = λ named one. absurd cc;
       kept = kept ∙ sym (append-nil before);
     }
 
@@ -55,7 +55,7 @@ sealed_one l old new before after v receipts count same kept seal own = record {
     record { seen = seal.seen; shared = seal.shared; is = seal.is; within = omega arith },
     own,
   );
-  caused = tt;
+  caused = λ named one. absurd cc;
   kept = kept;
 }
 

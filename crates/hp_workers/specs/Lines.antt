@@ -1,5 +1,5 @@
 -- What running lines makes of a seat, and how the lines end (own rule).
-use Rattle.std.specs.Prelude.{◌≡◌, ℕ, ◌≤◌, List, [], ◌∷◌, ◌++◌, Option, Some, None, IfSome, Result, Ok, Err, length, take}
+use Rattle.std.specs.Prelude.{◌≡◌, ℕ, ◌≤◌, List, [], ◌∷◌, ◌++◌, Option, Some, None, Result, Ok, Err, length, take}
 use Rattle.std.specs.List.{All}
 use Rattle.hp_units.specs.Driver.{IsDriverRun}
 use Rattle.hp_units.specs.LayoutParts.{LayoutParts}
@@ -18,7 +18,7 @@ use Rattle.hp_requests.specs.declared.writes.Request.TheVariants as request
 use Rattle.hp_scenario.specs.declared.lines.Line.{Line}
 use Rattle.hp_scenario.specs.declared.lines.Work.{Work}
 use Rattle.hp_scenario.specs.declared.lines.Work.TheVariants as work
-use Rattle.hp_shared.specs.Shared.{HasSharedCause, SeatValue}
+use Rattle.hp_shared.specs.Shared.{SeatValue}
 use Rattle.hp_shared.specs.SeatPorts.{AreTurns}
 use Rattle.hp_shared.specs.Volumes.{IsSealOf}
 use Rattle.hp_workers.specs.declared.lines.LineEnd.{LineEnd}
@@ -95,9 +95,10 @@ fault_in (Faulted fault) = Some fault
 fault_in (Planned (Left op fault)) = Some fault
 fault_in end = None
 
--- that fault has its cause: it is HistoryFull only where some state of the shared machine has a full history
-abbrev pub IsCaused : LayoutParts → LineEnd → Type 0
-IsCaused l end = IfSome (fault_in end) (HasSharedCause l)
+-- that fault has its cause: on a machine of one processor it is HistoryFull only where the seat has as
+-- many receipts as the history may hold records
+abbrev pub IsCaused : LayoutParts → SeatValue → LineEnd → Type 0
+IsCaused l seat end = fault_in end ≡ Some call.HistoryFull → l.cpus ≡ 1 → l.history ≤ length seat.receipts
 
 -- it was run through a port, of whose calls at most the last left a fault; the end names no full
 -- history but that of this call
@@ -115,7 +116,7 @@ pub record IsCallsRun (l : LayoutParts) (old : SeatValue) (asked : Work) (end : 
   pub gained : List Receipt
   pub turns : AreTurns l old gained new
   pub line : IsWorkRun l.cpus asked gained end
-  pub caused : IsCaused l end
+  pub caused : IsCaused l new end
 
 -- a line was run by a seat, which keeps the receipts that it gained; what it handed out stands
 -- after the volumes before it
@@ -125,7 +126,7 @@ pub record IsLineRun (l : LayoutParts) (old : SeatValue) (before : List Volume) 
   pub handed : List Volume
   pub turns : AreTurns l old gained new
   pub line : IsLine l asked gained handed end
-  pub caused : IsCaused l end
+  pub caused : IsCaused l new end
   pub kept : after ≡ before ++ handed
 
 -- lines, one after another, gained these receipts, handed out these volumes and ended so
@@ -144,4 +145,4 @@ pub record IsWorked (l : LayoutParts) (old : SeatValue) (lines : List Line) (new
   pub turns : AreTurns l old gained new
   pub ran : AreLines l (take (length ends) lines) gained handed ends
   pub within : length ends ≤ length lines
-  pub caused : All (IsCaused l) ends
+  pub caused : All (IsCaused l new) ends

@@ -25,7 +25,8 @@ pub(crate) fn one_free_pageblock(alloc: Global, layout: &Layout) -> Result<Buddy
     let mut buddy = Buddy::new(alloc, layout)?;
     let mut tape = Tape::with_room(alloc, 1)?;
     buddy.add_pageblock(Zone::Normal, Pageblock(0), &mut tape);
-    Ok(buddy)
+    let copy = buddy.copy(alloc)?;
+    Ok(copy)
 }
 
 /// A buddy of one pageblock of sixteen frames, which is one free block of zone Normal.

@@ -21,7 +21,8 @@ fn small_blocks(alloc: Global) -> Result<Blocks, AllocError>
 {
     let layout = two_blocks(alloc)?;
     let blocks = Blocks::new(alloc, &layout)?;
-    Ok(blocks)
+    let copy = blocks.copy(alloc)?;
+    Ok(copy)
 }
 
 /// Whether the second memory block is offline, as added ones are, and no operation is live.

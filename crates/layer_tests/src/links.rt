@@ -28,7 +28,8 @@ fn three_listed(alloc: Global) -> Result<Links, AllocError>
     links.push_back(list, Frame(2));
     links.push_back(list, Frame(0));
     links.push_front(list, Frame(3));
-    Ok(links)
+    let copy = links.copy(alloc)?;
+    Ok(copy)
 }
 
 /// Whether the three frames stand one after another.

@@ -21,7 +21,8 @@ fn small_pages(alloc: Global) -> Result<Pages, AllocError>
 {
     let layout = two_blocks(alloc)?;
     let pages = Pages::new(alloc, &layout)?;
-    Ok(pages)
+    let copy = pages.copy(alloc)?;
+    Ok(copy)
 }
 
 /// Takes back what a tape notes, the latest first.

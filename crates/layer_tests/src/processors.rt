@@ -34,7 +34,8 @@ fn small_memory(alloc: Global, order: u64, batch: u64) -> Result<Small, AllocErr
 {
     let layout = one_pageblock(alloc, order, 1, batch)?;
     let buddy = one_free_pageblock(alloc, &layout)?;
-    let cpus = Cpus::new(alloc, &layout)?;
+    let empty = Cpus::new(alloc, &layout)?;
+    let cpus = empty.copy(alloc)?;
     Ok(Small { cpus, buddy })
 }
 

@@ -1,6 +1,6 @@
 //! The lines of a situation, each of them a call that may be out of memory.
 use crate::calls::{call, plan, seal};
-use crate::trouble::{Case, Outcome};
+use crate::trouble::{Case, Outcome, Trouble};
 use hp_control::{buddyinfo, read_file, read_text};
 use hp_machine::Machine;
 use hp_requests::{CONTROL_TURNS, Request, echo_answer, parse_write};

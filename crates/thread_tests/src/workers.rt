@@ -1,16 +1,18 @@
-//! Workers that meet, a call between those of a plan, and texts written to control files.
+//! Workers that meet, calls between those of a plan, one that ends the plan's operation among them,
+//! and texts written to control files.
 ghost use Rattle.std.specs.Prelude.{◌≡◌};
 ghost use Rattle.hp_scenario.specs.Scripts.{AreForRun};
 ghost use Rattle.hp_shared.specs.Shared.{IsFresh};
 
 mod gates;
 
-use gates::{Between, Meeting};
+use gates::{Before, Between, Meeting};
 use hp_machine::Machine;
+use hp_plain::Image;
 use hp_requests::ControlFault;
 use hp_scenario::{Scenario, Script};
 use hp_shared::{Closed, Job, Shared, close};
-use hp_units::{Frame, OpEnd, Owner, Page, Reply};
+use hp_units::{Event, Frame, OpEnd, Owner, Page, Record, Refusal, Reply, Serial};
 use hp_workers::{Ends, Gate, LineEnd, OpenGate, RunEnd, run_workers};
 use std::alloc::Global;
 use std::marker::Brand;
@@ -34,6 +36,10 @@ struct Outcome {
     sealed: u64,
     /// Where page 0 of owner 0 lies.
     frame: Option<Frame>,
+    /// The operation of which the last record says that it has ended.
+    ended: Option<Serial>,
+    /// The state at the end.
+    state: Option<Image>,
 }
 
 impl Outcome {
@@ -44,15 +50,53 @@ impl Outcome {
         };
         left.as_slice() == first && right.as_slice() == second && self.records == records
     }
+
+    /// Whether the state is that of another outcome.
+    fn has_state_of(&self, other: &Outcome) -> bool {
+        let Some(state) = &self.state else {
+            return false;
+        };
+        let Some(wanted) = &other.state else {
+            return false;
+        };
+        state.same(wanted)
+    }
+}
+
+/// The operation that an event works on.
+fn operation_of(event: &Event) -> Option<Serial> {
+    match event {
+        Event::DrainFor { op, .. }
+        | Event::Migrate { op }
+        | Event::Commit { op }
+        | Event::Cancel { op } => Some(*op),
+        _ => None,
+    }
+}
+
+/// The operation that the last event works on, if it is refused because the operation has ended.
+fn ended_in(records: &[Record]) -> Option<Serial> {
+    let Some(last) = records.last() else {
+        return None;
+    };
+    match last.reply {
+        Reply::Refused(refusal) => match refusal {
+            Refusal::NoOp => operation_of(&last.event),
+            _ => None,
+        },
+        _ => None,
+    }
 }
 
 /// What a machine shows once it is closed, and how the lines ended.
-fn outcome_of(closed: Closed, ends: Vec<Ends>) -> Outcome {
+fn outcome_of(alloc: Global, closed: Closed, ends: Vec<Ends>) -> Outcome {
     Outcome {
         ends,
         records: closed.records,
         sealed: closed.machine.sealed(),
         frame: closed.machine.frame_at(Owner(0), Page(0)),
+        ended: ended_in(closed.machine.history()),
+        state: closed.machine.image(alloc).ok(),
     }
 }
 
@@ -71,7 +115,7 @@ fn close_after<L: Job>(alloc: Global, shared: Shared<L>, end: RunEnd<L>) -> Opti
         return None;
     }
     let closed = close(alloc, shared, seats, volumes).ok()?;
-    Some(outcome_of(closed, ends))
+    Some(outcome_of(alloc, closed, ends))
 }
 
 /// Runs a script for each processor of a machine, and closes.
@@ -154,5 +198,71 @@ fn seals_of_two_workers_are_in_order(rt: HostRuntime) -> Result<(), Fail> {
     let outcome = run_lines(&rt, rt.alloc(), calls, &OpenGate)?;
     assert_eq!(rt; outcome.records, 4);
     assert!(rt; outcome.sealed < 5);
+    Ok(())
+}
+
+/// Processor 0 maps a page and takes its block offline by a plan, and processor 1 makes a call just
+/// before the plan's `nth` call. The outcome, unless that call came at another time.
+fn interrupted<R: Threads + Wait + Sync>(
+    rt: &R,
+    alloc: Global,
+    call: &str,
+    nth: u64,
+) -> Result<Outcome, Fail> {
+    let gate = Before::new(nth.saturating_add(1));
+    let calls = format!(in alloc; "\"0 map db 0\",\"0 plan 4 off 2\",\"1 {call}\"")?;
+    let outcome = run_lines(rt, alloc, calls.as_str(), &gate)?;
+    Ok(gate.was_met().then_some(outcome).ok_or("not met")?)
+}
+
+/// Whether a call of processor 1 just before the plan's `nth` call answers so and ends the plan's
+/// operation, which is that of record 2, and nothing of the plan is left.
+fn is_ended_before<R: Threads + Wait + Sync>(
+    rt: &R,
+    alloc: Global,
+    call: &str,
+    nth: u64,
+    answer: Reply,
+) -> Result<bool, Fail> {
+    let outcome = interrupted(rt, alloc, call, nth)?;
+    let mapped = run_lines(rt, alloc, "\"0 map db 0\"", &OpenGate)?;
+    let undone = [DONE, LineEnd::Plan(OpEnd::Undone)];
+    let records = nth.saturating_add(2);
+    Ok(
+        outcome.is(&undone, &[LineEnd::Reply(answer)], records)
+            && outcome.ended == Some(Serial(2))
+            && outcome.has_state_of(&mapped),
+    )
+}
+
+/// Whether a call of processor 1 before the plan's first call answers so and the plan is done.
+fn is_done_after<R: Threads + Wait + Sync>(
+    rt: &R,
+    alloc: Global,
+    call: &str,
+    answer: Reply,
+) -> Result<bool, Fail> {
+    let outcome = interrupted(rt, alloc, call, 1)?;
+    let done = [DONE, LineEnd::Plan(OpEnd::Done)];
+    Ok(outcome.is(&done, &[LineEnd::Reply(answer)], 8) && outcome.ended.is_none())
+}
+
+#[test]
+fn a_plan_under_way_is_undone(rt: HostRuntime) -> Result<(), Fail> {
+    // The Begin, both drains and the first migration are steps, the refused migration is none.
+    for (nth, count) in [(2u64, 1u64), (3, 2), (4, 3), (5, 4), (6, 4)] {
+        let answer = Reply::Undone { count };
+        assert!(rt; is_ended_before(&rt, rt.alloc(), "undo 1", nth, answer)?);
+    }
+    assert!(rt; is_done_after(&rt, rt.alloc(), "undo 1", Reply::Undone { count: 0 })?);
+    Ok(())
+}
+
+#[test]
+fn a_plan_under_way_is_cancelled(rt: HostRuntime) -> Result<(), Fail> {
+    for nth in 2..7u64 {
+        assert!(rt; is_ended_before(&rt, rt.alloc(), "cancel 2", nth, Reply::Restored)?);
+    }
+    assert!(rt; is_done_after(&rt, rt.alloc(), "cancel 2", Reply::Refused(Refusal::NoOp))?);
     Ok(())
 }

@@ -5,7 +5,7 @@ ghost use Rattle.hp_units.specs.FreeAreas.{is_on};
 ghost use Rattle.hp_units.specs.Isolation.{remove_block, remove_pageblock};
 ghost use Rattle.hp_units.specs.Memory.{free_list, isolated_class};
 ghost use Rattle.hp_tape.specs.Tapes.{HasRoom};
-ghost use Rattle.hp_laws.proofs.Offlined.{IsAllFree};
+ghost use Rattle.hp_laws.specs.Commits.{IsAllFree};
 ghost use Rattle.hp_memory.specs.Frames.{IsGiven, IsTidy, free_of};
 
 use super::Frames;

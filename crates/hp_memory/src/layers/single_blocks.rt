@@ -96,7 +96,7 @@ impl Layers {
     }
 
     /// A block of the layout has a row with no zone and no claim.
-    pub(crate) fn set_bare(&mut self, state: State, block: Block, tape: &mut Tape)
+    fn set_bare(&mut self, state: State, block: Block, tape: &mut Tape)
         requires one { AreOfOneLayout self.old }
         requires tidy { IsTidy self.old.frames }
         requires block { block < self.old.layout.blocks }
@@ -114,7 +114,7 @@ impl Layers {
     }
 
     /// How many deltas a block that goes online may note.
-    pub(crate) fn online_room(&self) -> usize
+    fn online_room(&self) -> usize
         ensures is { result ≡ online_bound self.now.layout }
         ensures layout { IsLayout self.now.layout }
     {

@@ -76,6 +76,46 @@ impl Gate for Meeting {
     }
 }
 
+/// Holds worker 0 before one of its calls until worker 1's first call was answered, and holds worker
+/// 1 before that call until worker 0 stands there.
+#[derive(Drop)]
+pub struct Before {
+    nth: u64,
+    done: Progress,
+}
+
+impl Before {
+    /// A gate before worker 0's `nth` call, from 1.
+    pub fn new(nth: u64) -> Before {
+        Before {
+            nth,
+            done: Progress::new(),
+        }
+    }
+
+    pub fn was_met(&self) -> bool {
+        self.done.was_met(2)
+    }
+}
+
+impl Gate for Before {
+    fn before(&self, cpu: Cpu, nth: u64) {
+        if cpu.0 == 0 && nth == self.nth {
+            self.done.step();
+            self.done.wait_for(2);
+        }
+        if cpu.0 == 1 && nth == 1 {
+            self.done.wait_for(1);
+        }
+    }
+
+    fn after(&self, cpu: Cpu, nth: u64) {
+        if cpu.0 == 1 && nth == 1 {
+            self.done.step();
+        }
+    }
+}
+
 /// Lets worker 1 map a page first, then holds worker 0 after its fourth call, the first migration
 /// of its plan, until worker 1's second call was answered, and holds worker 1 before that call
 /// until worker 0 stands there.

@@ -1,18 +1,15 @@
 use Rattle.std.proofs.Common.{rules}
-use Rattle.hp_shared.proofs.Closings.{caused, closed}
+use Rattle.hp_shared.proofs.Closings.{closed}
 use Rattle.hp_shared.proofs.closing.close.Goals as goal
 
 pub returns-in-Ok-clause-ok : goal.returns-in-Ok-clause-ok
 returns-in-Ok-clause-ok g c =
-    closed g.L.Job.layout c.into_locked-locked.result c.machine.result.now c.into_machine.result
-    c.cpus-cpus.result c.in-Ok.records c.args.seats.items c.args.volumes.items c.machine.ensures.kept
-    c.machine.ensures.machine c.into_machine.ensures c.cpus-cpus.ensures c.in-Ok.ensures.ok
+    closed g.L.Job.layout c.into_locked-locked.result c.into_machine.result c.in-Ok.records
+    c.args.seats.items c.args.volumes.items c.check.ensures.shown c.into_machine.ensures c.in-Ok.ensures.ok
 
 pub returns-in-Err-clause-err : goal.returns-in-Err-clause-err
 returns-in-Err-clause-err g c =
-    caused g.L.Job.layout c.into_locked-locked.result c.machine.result.now c.cpus-cpus.result
-    c.args.seats.items c.args.volumes.items c.in-Err.fault c.machine.ensures.kept c.machine.ensures.machine
-    c.cpus-cpus.ensures c.in-Err.ensures.err
+    record { seen = c.into_locked-locked.result; shared = c.check.ensures.shown; fault = c.in-Err.ensures.err }
 
 pub returns-in-Ok-clause-volumes : goal.returns-in-Ok-clause-volumes
 returns-in-Ok-clause-volumes g c = search rules

@@ -1,4 +1,4 @@
-use Rattle.std.proofs.Common.{◌≡◌, ◌<◌, ◌++◌, ◌∷◌, [], ◌∙◌, ap, subst, sym, rules}
+use Rattle.std.proofs.Common.{◌≡◌, ◌<◌, ◌++◌, ◌∷◌, [], ◌∙◌, ap, subst, sym}
 use Rattle.hp_units.specs.Memory.{row_of}
 use Rattle.hp_units.specs.declared.rows.Row.{Row}
 use Rattle.hp_tape.specs.RowChanges.{RowChangeValue}
@@ -22,9 +22,3 @@ returns-clause-notes c =
     rw (c.block.view_is, ← c.self.view_is)
     (notes-row c.self.inside.layout (record { rows = c.self.inside.rows.items; auto = c.self.inside.auto })
     c.args.block c.args.row _ _ c.self.invariant.rows lt c.note.ensures.room told)
-
-pub returns-clause-set : goal.returns-clause-set
-returns-clause-set c = search rules
-
-pub returns-clause-layout : goal.returns-clause-layout
-returns-clause-layout c = search rules

@@ -1,4 +1,3 @@
-use Rattle.std.proofs.Common.{rules}
 use Rattle.hp_blocks.proofs.Notes.{notes-auto}
 use Rattle.hp_blocks.proofs.blocks.Blocks.set_auto.Goals as goal
 
@@ -7,9 +6,3 @@ returns-clause-notes c =
     rw (c.replace-was.ensures.after, ← c.self.view_is) (notes-auto c.self.inside.layout
     (record { rows = c.self.inside.rows.items; auto = c.self.inside.auto }) c.args.auto _ _
     c.note.ensures.room (rw c.replace-was.ensures.value at c.note.ensures.noted))
-
-pub returns-clause-set : goal.returns-clause-set
-returns-clause-set c = search rules
-
-pub returns-clause-layout : goal.returns-clause-layout
-returns-clause-layout c = search rules

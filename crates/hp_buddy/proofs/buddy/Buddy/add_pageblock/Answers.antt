@@ -1,4 +1,4 @@
-use Rattle.std.proofs.Common.{subst, sym, ap, ◌∙◌, ◌*◌, rules}
+use Rattle.std.proofs.Common.{subst, sym, ap, ◌∙◌, ◌*◌}
 use Rattle.hp_units.specs.LayoutParts.{LayoutParts}
 use Rattle.hp_units.specs.Arithmetic.{pageblock_size}
 use Rattle.hp_buddy.specs.Buddy.{BuddyValue, AreApart}
@@ -24,12 +24,3 @@ returns-clause-apart c =
 
 pub returns-clause-places : goal.returns-clause-places
 returns-clause-places c = (gives (goal.at.returns-clause-places c).After-push_back).places
-
-pub returns-clause-added : goal.returns-clause-added
-returns-clause-added c = search rules
-
-pub returns-clause-layout : goal.returns-clause-layout
-returns-clause-layout c = search rules
-
-pub returns-clause-notes : goal.returns-clause-notes
-returns-clause-notes c = search rules

@@ -1,4 +1,3 @@
-use Rattle.std.proofs.Common.{rules}
 -- Each delta by its own lemma.
 use Rattle.hp_buddy.proofs.Notes.{seen-listed}
 use Rattle.hp_buddy.proofs.Backs.{linked-on, link-undone, unlinked-after, unlink-undone}
@@ -39,30 +38,3 @@ returns-in-Area-list-clause-back c =
     c.in-Unlink.after
     (record { is = c.self.view_is; kept = c.self.invariant }) c.in-Unlink.is c.in-Area-list.is
     c.list_number-number.ensures c.relink_after.ensures
-
-pub returns-in-Area-clause-layout : goal.returns-in-Area-clause-layout
-returns-in-Area-clause-layout c = search rules
-
-pub returns-in-Link-clause-back : goal.returns-in-Link-clause-back
-returns-in-Link-clause-back c = search rules
-
-pub returns-in-Link-clause-layout : goal.returns-in-Link-clause-layout
-returns-in-Link-clause-layout c = search rules
-
-pub returns-in-Area-list-clause-layout : goal.returns-in-Area-list-clause-layout
-returns-in-Area-list-clause-layout c = search rules
-
-pub returns-in-Unlink-clause-back : goal.returns-in-Unlink-clause-back
-returns-in-Unlink-clause-back c = search rules
-
-pub returns-in-Unlink-clause-layout : goal.returns-in-Unlink-clause-layout
-returns-in-Unlink-clause-layout c = search rules
-
-pub returns-in-Kind-clause-back : goal.returns-in-Kind-clause-back
-returns-in-Kind-clause-back c = search rules
-
-pub returns-in-Kind-clause-layout : goal.returns-in-Kind-clause-layout
-returns-in-Kind-clause-layout c = search rules
-
-pub returns : goal.returns
-returns c = search rules

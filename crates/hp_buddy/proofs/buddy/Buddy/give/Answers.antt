@@ -1,6 +1,6 @@
 -- The buddies below the order that is joined up to are free, and the block joined is in no free
 -- block when they have left.
-use Rattle.std.proofs.Common.{◌≡◌, ◌≤◌, ◌<◌, ℕ, ◌+◌, ◌-◌, arith, subst, sym, ◌∙◌, rules}
+use Rattle.std.proofs.Common.{◌≡◌, ◌≤◌, ◌<◌, ℕ, ◌+◌, ◌-◌, arith, subst, sym, ◌∙◌}
 use Rattle.std.proofs.lemmas.Nat.{pow_pos}
 use Rattle.hp_units.specs.LayoutParts.{LayoutParts}
 use Rattle.hp_numbers.specs.Numbers.{ancestor}
@@ -122,6 +122,3 @@ returns-clause-apart c =
 
 pub returns-clause-places : goal.returns-clause-places
 returns-clause-places c = (gives (goal.at.returns-clause-places c).After-push_front).places
-
-pub returns-clause-layout : goal.returns-clause-layout
-returns-clause-layout c = search rules

@@ -1,4 +1,4 @@
-use Rattle.std.proofs.Common.{◌≡◌, ℕ, ◌+◌, ◌*◌, ◌/◌, Some, ◌∙◌, ap, rules}
+use Rattle.std.proofs.Common.{◌≡◌, ℕ, ◌+◌, ◌*◌, ◌/◌, Some, ◌∙◌, ap}
 use Rattle.std.proofs.lemmas.Option.{same_Some}
 use Rattle.hp_units.specs.declared.rows.Class.{Class}
 use Rattle.hp_units.specs.Memory.{class_index}
@@ -46,12 +46,3 @@ returns-in-None-clause-on c = λ class order on.
     let b = c.self.inside in
     absurd (c.in-None.ensures.free _ (seen-on c.args.self.now b.layout b.links b.kinds.items class order
     c.args.frame (record { is = c.self.view_is; kept = c.self.invariant }) on))
-
-pub returns-in-Some-clause-in_order : goal.returns-in-Some-clause-in_order
-returns-in-Some-clause-in_order c = search rules
-
-pub returns-in-None-clause-free : goal.returns-in-None-clause-free
-returns-in-None-clause-free c = search rules
-
-pub returns-in-None-clause-in_order : goal.returns-in-None-clause-in_order
-returns-in-None-clause-in_order c = search rules

@@ -1,4 +1,4 @@
-use Rattle.std.proofs.Common.{◌≡◌, subst, sym, ap, ◌∙◌, ◌*◌, arith, true, rules}
+use Rattle.std.proofs.Common.{◌≡◌, subst, sym, ap, ◌∙◌, ◌*◌, arith, true}
 use Rattle.hp_units.specs.LayoutParts.{LayoutParts}
 use Rattle.hp_units.specs.Arithmetic.{pageblock_size}
 use Rattle.hp_units.specs.declared.rows.Class.{Class}
@@ -38,9 +38,3 @@ returns-clause-apart c =
 
 pub returns-clause-places : goal.returns-clause-places
 returns-clause-places c = (removes (goal.at.returns-clause-places c).After-set_kind).places
-
-pub returns-clause-removed : goal.returns-clause-removed
-returns-clause-removed c = search rules
-
-pub returns-clause-layout : goal.returns-clause-layout
-returns-clause-layout c = search rules

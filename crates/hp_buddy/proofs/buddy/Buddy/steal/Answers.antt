@@ -1,5 +1,5 @@
 -- The greatest order that has a block lies in the layout, and its front block is stolen.
-use Rattle.std.proofs.Common.{◌+◌, ◌-◌, arith, ap, ◌∙◌, rules}
+use Rattle.std.proofs.Common.{◌+◌, ◌-◌, arith, ap, ◌∙◌}
 use Rattle.hp_units.specs.declared.rows.Mobility.{Mobility}
 use Rattle.hp_units.specs.declared.rows.Zone.TheVariants.{Normal as NormalZone}
 use Rattle.hp_units.specs.Memory.{usable_class}
@@ -69,27 +69,3 @@ returns-in-None-clause-stolen c =
     let from = c.usable-from.ensures ∙ ap (λ (m : Mobility). usable_class NormalZone m) c.other.ensures in
     steal_block-none c.args.self.now.layout c.args.self.now.areas c.args.wanted c.usable-from.result
     c.args.order from c.in-None.ensures
-
-pub returns-in-Some-clause-none : goal.returns-in-Some-clause-none
-returns-in-Some-clause-none c = search rules
-
-pub returns-in-Some-clause-layout : goal.returns-in-Some-clause-layout
-returns-in-Some-clause-layout c = search rules
-
-pub returns-in-None-clause-none : goal.returns-in-None-clause-none
-returns-in-None-clause-none c = search rules
-
-pub returns-in-None-clause-layout : goal.returns-in-None-clause-layout
-returns-in-None-clause-layout c = search rules
-
-pub returns-in-None-clause-notes : goal.returns-in-None-clause-notes
-returns-in-None-clause-notes c = search rules
-
-pub returns-in-None-clause-apart : goal.returns-in-None-clause-apart
-returns-in-None-clause-apart c = search rules
-
-pub returns-in-None-clause-block : goal.returns-in-None-clause-block
-returns-in-None-clause-block c = search rules
-
-pub returns-in-None-clause-places : goal.returns-in-None-clause-places
-returns-in-None-clause-places c = search rules

@@ -1,5 +1,5 @@
 -- The least order that has a block lies in the layout, and its front block is taken.
-use Rattle.std.proofs.Common.{◌+◌, ◌-◌, arith, rules}
+use Rattle.std.proofs.Common.{◌+◌, ◌-◌, arith}
 use Rattle.hp_units.specs.FreeAreas.{take_block, take_front}
 use Rattle.hp_lemmas.proofs.Places.{IsOrderAmong}
 use Rattle.hp_buddy.proofs.Splits.{take_block-takes}
@@ -62,27 +62,3 @@ returns-in-Some-clause-places c =
 pub returns-in-None-clause-taken : goal.returns-in-None-clause-taken
 returns-in-None-clause-taken c =
     take_block-none c.args.self.now.layout c.args.self.now.areas c.args.class c.args.order c.in-None.ensures
-
-pub returns-in-Some-clause-none : goal.returns-in-Some-clause-none
-returns-in-Some-clause-none c = search rules
-
-pub returns-in-Some-clause-layout : goal.returns-in-Some-clause-layout
-returns-in-Some-clause-layout c = search rules
-
-pub returns-in-None-clause-none : goal.returns-in-None-clause-none
-returns-in-None-clause-none c = search rules
-
-pub returns-in-None-clause-layout : goal.returns-in-None-clause-layout
-returns-in-None-clause-layout c = search rules
-
-pub returns-in-None-clause-notes : goal.returns-in-None-clause-notes
-returns-in-None-clause-notes c = search rules
-
-pub returns-in-None-clause-apart : goal.returns-in-None-clause-apart
-returns-in-None-clause-apart c = search rules
-
-pub returns-in-None-clause-block : goal.returns-in-None-clause-block
-returns-in-None-clause-block c = search rules
-
-pub returns-in-None-clause-places : goal.returns-in-None-clause-places
-returns-in-None-clause-places c = search rules

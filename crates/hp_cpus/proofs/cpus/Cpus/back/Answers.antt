@@ -1,4 +1,3 @@
-use Rattle.std.proofs.Common.{rules}
 -- Each delta by its own lemma.
 use Rattle.hp_cpus.proofs.Edits.{seen-listed}
 use Rattle.hp_cpus.proofs.Backs.{linked-on, link-undone, unlinked-after, unlink-undone}
@@ -37,24 +36,3 @@ returns-in-Cpu-list-clause-back c =
     c.in-Cpu-list.cpu c.in-Cpu-list.pool c.in-Unlink.frame c.list_number.result c.in-Unlink.after
     (record { is = c.self.view_is; kept = c.self.invariant }) c.in-Unlink.is c.in-Cpu-list.is
     c.list_number.ensures c.relink_after.ensures
-
-pub returns-in-Cpu-clause-layout : goal.returns-in-Cpu-clause-layout
-returns-in-Cpu-clause-layout c = search rules
-
-pub returns-in-Link-clause-back : goal.returns-in-Link-clause-back
-returns-in-Link-clause-back c = search rules
-
-pub returns-in-Link-clause-layout : goal.returns-in-Link-clause-layout
-returns-in-Link-clause-layout c = search rules
-
-pub returns-in-Cpu-list-clause-layout : goal.returns-in-Cpu-list-clause-layout
-returns-in-Cpu-list-clause-layout c = search rules
-
-pub returns-in-Unlink-clause-back : goal.returns-in-Unlink-clause-back
-returns-in-Unlink-clause-back c = search rules
-
-pub returns-in-Unlink-clause-layout : goal.returns-in-Unlink-clause-layout
-returns-in-Unlink-clause-layout c = search rules
-
-pub returns : goal.returns
-returns c = search rules

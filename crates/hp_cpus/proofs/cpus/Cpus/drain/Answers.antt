@@ -1,5 +1,5 @@
 -- The three lists, one after another.
-use Rattle.std.proofs.Common.{◌≡◌, ◌+◌, ◌*◌, ℕ, List, length, ◌∙◌, ap, arith, rules}
+use Rattle.std.proofs.Common.{◌≡◌, ◌+◌, ◌*◌, ℕ, List, length, ◌∙◌, ap, arith}
 use Rattle.hp_units.specs.declared.rows.Pool.TheVariants.{Nu, Nm, Mm}
 use Rattle.hp_units.specs.LayoutParts.{LayoutParts}
 use Rattle.hp_tape.specs.Tapes.{NotesFree}
@@ -59,9 +59,3 @@ returns-clause-notes c =
       three_lists (length (list_of v cpu Nu)) (length (list_of v cpu Nm))
           (length (list_of v cpu Mm)) each,
     )) two_notes c.drain_pool-3.ensures.notes
-
-pub returns-clause-layout : goal.returns-clause-layout
-returns-clause-layout c = search rules
-
-pub returns-clause-together : goal.returns-clause-together
-returns-clause-together c = search rules

@@ -1,4 +1,4 @@
-use Rattle.std.proofs.Common.{ℕ, ◌*◌, ap, ◌∙◌, [], replicate, rules}
+use Rattle.std.proofs.Common.{ℕ, ◌*◌, ap, ◌∙◌, [], replicate}
 use Rattle.hp_links.specs.LinkedLists.{LinkedLists}
 use Rattle.hp_cpus.proofs.Together.{empty-together}
 use Rattle.hp_cpus.proofs.cpus.Cpus.new.Goals as goal
@@ -8,18 +8,3 @@ returns-clause-together c =
     empty-together c.in_ok-layout.layout c.in_ok-links.links.lists
     (ap (λ (k : LinkedLists). k.lists) c.in_ok-links.ensures
     ∙ ap (λ (n : ℕ). replicate (3 * n) []) c.cpus.ensures.is)
-
-pub returns-in_err-layout-clause-value : goal.returns-in_err-layout-clause-value
-returns-in_err-layout-clause-value c = search rules
-
-pub returns-in_err-layout-clause-together : goal.returns-in_err-layout-clause-together
-returns-in_err-layout-clause-together c = search rules
-
-pub returns-in_err-links-clause-value : goal.returns-in_err-links-clause-value
-returns-in_err-links-clause-value c = search rules
-
-pub returns-in_err-links-clause-together : goal.returns-in_err-links-clause-together
-returns-in_err-links-clause-together c = search rules
-
-pub returns-clause-value : goal.returns-clause-value
-returns-clause-value c = search rules

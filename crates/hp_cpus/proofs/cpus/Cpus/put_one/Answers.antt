@@ -1,5 +1,5 @@
 -- The pageblock's kind says where the frame goes.
-use Rattle.std.proofs.Common.{◌≡◌, ◌<◌, ℕ, sym, ◌∙◌, ap, subst, rules}
+use Rattle.std.proofs.Common.{◌≡◌, ◌<◌, ℕ, sym, ◌∙◌, ap, subst}
 use Rattle.hp_units.specs.LayoutParts.{LayoutParts}
 use Rattle.hp_units.specs.Arithmetic.{pageblock_of, pageblock_count}
 use Rattle.hp_units.specs.Memory.{FreeAreas}
@@ -33,27 +33,3 @@ returns-else-kind-clause-put c =
     c.args.zone c.args.frame c.pageblock_of.result c.kind-kind.result c.of_mobility.result
     (place (goal.at.returns-else-kind-clause-put c).After-pageblock_of) c.kind-kind.ensures c.if-kind.false
     c.of_mobility.ensures)
-
-pub returns-then-kind-clause-layout : goal.returns-then-kind-clause-layout
-returns-then-kind-clause-layout c = search rules
-
-pub returns-then-kind-clause-notes : goal.returns-then-kind-clause-notes
-returns-then-kind-clause-notes c = search rules
-
-pub returns-then-kind-clause-together : goal.returns-then-kind-clause-together
-returns-then-kind-clause-together c = search rules
-
-pub returns-then-kind-clause-places : goal.returns-then-kind-clause-places
-returns-then-kind-clause-places c = search rules
-
-pub returns-else-kind-clause-layout : goal.returns-else-kind-clause-layout
-returns-else-kind-clause-layout c = search rules
-
-pub returns-else-kind-clause-notes : goal.returns-else-kind-clause-notes
-returns-else-kind-clause-notes c = search rules
-
-pub returns-else-kind-clause-together : goal.returns-else-kind-clause-together
-returns-else-kind-clause-together c = search rules
-
-pub returns-else-kind-clause-places : goal.returns-else-kind-clause-places
-returns-else-kind-clause-places c = search rules

@@ -1,5 +1,5 @@
 -- The front frame of a list that has one, or of one that was filled.
-use Rattle.std.proofs.Common.{◌≡◌, ◌<◌, ◌+◌, ◌*◌, ℕ, length, sym, ◌∙◌, ap, subst, arith, rules}
+use Rattle.std.proofs.Common.{◌≡◌, ◌<◌, ◌+◌, ◌*◌, ℕ, length, sym, ◌∙◌, ap, subst, arith}
 use Rattle.std.proofs.lemmas.List.{nil_from_length}
 use Rattle.hp_units.specs.LayoutParts.{LayoutParts}
 use Rattle.hp_tape.specs.Bounds.{batch_bound}
@@ -103,15 +103,3 @@ returns-clause-places c =
     same_places c.pop-2.result (places_among c.refill.new.buddy.areas c.refill.new.self) (places_among
     c.args.buddy.now.areas c.args.self.now) (places_among c.refill.new.buddy.areas c.pop-2.new.self)
     c.refill.ensures.places (second (goal.at.returns-clause-places c).After-pop-2).places
-
-pub returns-then-len-gt0-clause-none : goal.returns-then-len-gt0-clause-none
-returns-then-len-gt0-clause-none c = search rules
-
-pub returns-then-len-gt0-clause-layout : goal.returns-then-len-gt0-clause-layout
-returns-then-len-gt0-clause-layout c = search rules
-
-pub returns-clause-none : goal.returns-clause-none
-returns-clause-none c = search rules
-
-pub returns-clause-layout : goal.returns-clause-layout
-returns-clause-layout c = search rules

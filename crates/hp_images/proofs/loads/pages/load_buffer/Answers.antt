@@ -1,4 +1,4 @@
-use Rattle.std.proofs.Common.{ℕ, List, Some, sym, ◌∙◌, ap, rules}
+use Rattle.std.proofs.Common.{ℕ, List, Some, sym, ◌∙◌, ap}
 use Rattle.std.specs.Option.{option_and_then}
 use Rattle.hp_tape.specs.Deltas.{buffer_for, with_buffer}
 use Rattle.hp_pages.proofs.Blanks.{none-needed, some-needed}
@@ -45,6 +45,3 @@ returns c =
     c.back.ensures.layout
     (c.back.ensures.back ∙ ap (λ (words : List ℕ). with_buffer c.args.pages.now.pages c.args.frame
     (Some words)) (c.in_ok-words.ensures ∙ c.in_ok-from_slice.ensures.items))
-
-pub returns-in_err-from_slice : goal.returns-in_err-from_slice
-returns-in_err-from_slice c = search rules

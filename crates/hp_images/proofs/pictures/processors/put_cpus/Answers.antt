@@ -1,4 +1,4 @@
-use Rattle.std.proofs.Common.{[], ◌∙◌, ap, arith, rules}
+use Rattle.std.proofs.Common.{[], ◌∙◌, ap, arith}
 use Rattle.hp_images.proofs.Images.{with_cached}
 use Rattle.hp_images.proofs.Tables.{copied-all}
 use Rattle.hp_images.proofs.pictures.processors.put_cpus.Goals as goal
@@ -16,6 +16,3 @@ returns c =
           (c.layout.ensures ∙ c.requires.layout),
       c.requires.size,
     )) c.loop-number.invariant.lists)
-
-pub returns-in_err-put_list : goal.returns-in_err-put_list
-returns-in_err-put_list c = search rules

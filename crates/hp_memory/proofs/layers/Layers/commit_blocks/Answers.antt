@@ -4,7 +4,7 @@ use Rattle.std.proofs.lemmas.List.{get_or_read}
 use Rattle.hp_units.specs.LayoutParts.{LayoutParts}
 use Rattle.hp_units.specs.Rows.{commit_block}
 use Rattle.hp_tape.specs.Bounds.{committed_block_bound}
-use Rattle.hp_laws.proofs.Commits.{IsGrantable}
+use Rattle.hp_laws.specs.Commits.{IsGrantable}
 use Rattle.hp_memory.specs.Layers.{state_of}
 use Rattle.hp_memory.proofs.Claims.{reworked-none}
 use Rattle.hp_memory.proofs.Committed.{committing-next, committing-none, middle-placed, middle-ready}

@@ -3,7 +3,7 @@ use Rattle.hp_units.specs.declared.rows.Zone.{Zone}
 use Rattle.hp_units.specs.Isolation.{remove_block}
 use Rattle.hp_units.specs.Memory.{offline_row}
 use Rattle.hp_units.specs.Rows.{zone_of_block}
-use Rattle.hp_laws.proofs.Offlined.{IsAllFree}
+use Rattle.hp_laws.specs.Commits.{IsAllFree}
 use Rattle.hp_memory.specs.Frames.{IsGiven, free_of}
 use Rattle.hp_memory.proofs.Releases.{areas-and-row}
 use Rattle.hp_memory.proofs.layers.Layers.offline_block.Goals as goal

@@ -1,4 +1,4 @@
-use Rattle.std.proofs.Common.{sym, ◌∙◌, arith, rules}
+use Rattle.std.proofs.Common.{sym, ◌∙◌, arith}
 use Rattle.hp_memory.proofs.PageEvents.{settled, write-done}
 use Rattle.hp_memory.proofs.layers.Layers.write.Goals as goal
 
@@ -14,6 +14,3 @@ returns-clause-ok c =
     (omega (arith, c.if-index-words.false, c.words.ensures.is))
     (sym c.frame_at.ensures.frame ∙ c.in-Some.is) c.reserve.ensures.deltas c.write.ensures.layout
     c.write.ensures.written c.write.ensures.notes
-
-pub returns-in_err-spare-clause-kept : goal.returns-in_err-spare-clause-kept
-returns-in_err-spare-clause-kept c = search rules

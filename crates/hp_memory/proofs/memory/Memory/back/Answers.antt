@@ -1,4 +1,4 @@
-use Rattle.std.proofs.Common.{◌≡◌, drop, sym, subst, rules}
+use Rattle.std.proofs.Common.{◌≡◌, drop, sym, subst}
 use Rattle.hp_units.specs.Memory.{Memory}
 use Rattle.hp_memory.specs.Layers.{ArePlaced, state_of}
 use Rattle.hp_memory.specs.Memory.{LeadsBack, MemoryValue}
@@ -21,12 +21,3 @@ invariant_of-self c =
 
 pub returns-clause-state : goal.returns-clause-state
 returns-clause-state c = λ s back. (here (goal.at.returns-clause-state c).After-unwind s back).1
-
-pub returns-clause-tape : goal.returns-clause-tape
-returns-clause-tape c = search rules
-
-pub returns-clause-room : goal.returns-clause-room
-returns-clause-room c = search rules
-
-pub returns-clause-layout : goal.returns-clause-layout
-returns-clause-layout c = search rules

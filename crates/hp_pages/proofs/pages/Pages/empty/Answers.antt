@@ -1,4 +1,4 @@
-use Rattle.std.proofs.Common.{◌≡◌, None, Some, subst, sym, ◌∙◌, rules}
+use Rattle.std.proofs.Common.{◌≡◌, None, Some, subst, sym, ◌∙◌}
 use Rattle.hp_tape.specs.Deltas.{buffer_of, with_buffer}
 use Rattle.hp_tape.specs.Tapes.{NotesPages}
 use Rattle.hp_pages.specs.Pages.{PagesValue}
@@ -34,9 +34,3 @@ returns-clause-notes c =
           (notes-nothing l v (with_buffer v c.args.frame None) c.args.tape.now
           (kept-none v c.args.frame none)))
     ]
-
-pub returns-clause-emptied : goal.returns-clause-emptied
-returns-clause-emptied c = search rules
-
-pub returns-clause-layout : goal.returns-clause-layout
-returns-clause-layout c = search rules

@@ -1,4 +1,4 @@
-use Rattle.std.proofs.Common.{ap, subst, sym, rules}
+use Rattle.std.proofs.Common.{ap, subst, sym}
 use Rattle.hp_tape.specs.Tapes.{NotesPages}
 use Rattle.hp_pages.specs.Pages.{ArePageFramesOf, AreSettled, PagesValue, map_frame}
 use Rattle.hp_pages.specs.Places.{TableValue}
@@ -30,9 +30,3 @@ returns-clause-notes c =
     c.requires.settled
     c.requires.owner c.requires.page c.requires.frame c.requires.unmapped c.requires.free c.note.ensures.room
     c.note.ensures.noted))
-
-pub returns-clause-mapped : goal.returns-clause-mapped
-returns-clause-mapped c = search rules
-
-pub returns-clause-layout : goal.returns-clause-layout
-returns-clause-layout c = search rules

@@ -1,4 +1,4 @@
-use Rattle.std.proofs.Common.{ap, rules}
+use Rattle.std.proofs.Common.{ap}
 use Rattle.hp_pages.specs.Places.{TableValue}
 use Rattle.hp_pages.proofs.PageParts.{new_is}
 use Rattle.hp_pages.proofs.pages.Pages.new.Goals as goal
@@ -9,27 +9,3 @@ returns-clause-empty c =
     c.in_ok-copy.ensures
     (rw (← c.owners.ensures.is, ← c.pages.ensures.is) (ap (λ (t : TableValue). t.rows) c.in_ok-empty.ensures))
     (rw (← c.frames-frames.ensures.is) c.in_ok-none.ensures)
-
-pub returns-in_err-copy-clause-empty : goal.returns-in_err-copy-clause-empty
-returns-in_err-copy-clause-empty c = search rules
-
-pub returns-in_err-copy-clause-settled : goal.returns-in_err-copy-clause-settled
-returns-in_err-copy-clause-settled c = search rules
-
-pub returns-in_err-empty-clause-empty : goal.returns-in_err-empty-clause-empty
-returns-in_err-empty-clause-empty c = search rules
-
-pub returns-in_err-empty-clause-settled : goal.returns-in_err-empty-clause-settled
-returns-in_err-empty-clause-settled c = search rules
-
-pub returns-in_err-none-clause-empty : goal.returns-in_err-none-clause-empty
-returns-in_err-none-clause-empty c = search rules
-
-pub returns-in_err-none-clause-settled : goal.returns-in_err-none-clause-settled
-returns-in_err-none-clause-settled c = search rules
-
-pub returns-in_err-zeros-clause-empty : goal.returns-in_err-zeros-clause-empty
-returns-in_err-zeros-clause-empty c = search rules
-
-pub returns-in_err-zeros-clause-settled : goal.returns-in_err-zeros-clause-settled
-returns-in_err-zeros-clause-settled c = search rules

@@ -1,4 +1,4 @@
-use Rattle.std.proofs.Common.{◌≡◌, ◌<◌, ℕ, List, [], Option, None, Some, length, set, ap, subst, sym, ◌∙◌, Bor, false, arith, rules}
+use Rattle.std.proofs.Common.{◌≡◌, ◌<◌, ℕ, List, [], Option, None, Some, length, set, ap, subst, sym, ◌∙◌, Bor, false, arith}
 use Rattle.std.specs.Prelude.{IfSome, option_map, slice_get, unwrap_or}
 use Rattle.std.proofs.lemmas.Option.{slice_get-get_or}
 use Rattle.hp_tape.specs.Deltas.{buffer_of, is_blank}
@@ -53,24 +53,3 @@ returns-else-value-eq0-clause-written c =
           set-some words c.args.index c.args.value inside (λ zero. w.if-value-eq0.false zero)
     ] in
     c.set_word.ensures.set ∙ written-word l v c.args.frame c.args.index c.args.value words there some
-
-pub returns-in_default-clause-layout : goal.returns-in_default-clause-layout
-returns-in_default-clause-layout c = search rules
-
-pub returns-in_default-clause-notes : goal.returns-in_default-clause-notes
-returns-in_default-clause-notes c = search rules
-
-pub returns-then-is_blank_beside-clause-written : goal.returns-then-is_blank_beside-clause-written
-returns-then-is_blank_beside-clause-written c = search rules
-
-pub returns-then-is_blank_beside-clause-layout : goal.returns-then-is_blank_beside-clause-layout
-returns-then-is_blank_beside-clause-layout c = search rules
-
-pub returns-then-is_blank_beside-clause-notes : goal.returns-then-is_blank_beside-clause-notes
-returns-then-is_blank_beside-clause-notes c = search rules
-
-pub returns-else-value-eq0-clause-layout : goal.returns-else-value-eq0-clause-layout
-returns-else-value-eq0-clause-layout c = search rules
-
-pub returns-else-value-eq0-clause-notes : goal.returns-else-value-eq0-clause-notes
-returns-else-value-eq0-clause-notes c = search rules

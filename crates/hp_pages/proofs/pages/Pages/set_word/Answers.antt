@@ -1,4 +1,4 @@
-use Rattle.std.proofs.Common.{List, ℕ, set, refl, subst, sym, rules}
+use Rattle.std.proofs.Common.{List, ℕ, set, refl, subst, sym}
 use Rattle.std.specs.Prelude.{option_map}
 use Rattle.hp_tape.specs.Deltas.{buffer_of, with_buffer}
 use Rattle.hp_tape.specs.Tapes.{NotesPages}
@@ -22,9 +22,3 @@ returns-clause-notes c =
     (notes-changed l v c.args.frame c.args.index c.args.was c.args.now (buffer_of v c.args.frame)
     c.args.tape.now c.note.new.self sized c.requires.frame c.requires.index refl c.requires.was
     c.note.ensures.room c.note.ensures.noted))
-
-pub returns-clause-set : goal.returns-clause-set
-returns-clause-set c = search rules
-
-pub returns-clause-layout : goal.returns-clause-layout
-returns-clause-layout c = search rules

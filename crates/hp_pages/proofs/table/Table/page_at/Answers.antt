@@ -1,4 +1,4 @@
-use Rattle.std.proofs.Common.{◌<◌, ◌≤◌, length, subst, sym, ◌∙◌, arith, rules}
+use Rattle.std.proofs.Common.{◌<◌, ◌≤◌, length, subst, sym, ◌∙◌, arith}
 use Rattle.hp_pages.specs.Places.{TableValue, holders}
 use Rattle.hp_pages.proofs.Tables.{page_none, page_told}
 use Rattle.hp_pages.proofs.table.Table.page_at.Goals as goal
@@ -49,9 +49,3 @@ returns-clause-page c =
     page_told t c.self.inside.sums c.args.frame c.at-sum.result c.self.invariant in_frames once
     c.at-sum.ensures c.if-sum-eq0.false in
     rw (← c.self.view_is) told.0
-
-pub returns-then-sum-eq0-clause-table : goal.returns-then-sum-eq0-clause-table
-returns-then-sum-eq0-clause-table c = search rules
-
-pub returns-clause-table : goal.returns-clause-table
-returns-clause-table c = search rules

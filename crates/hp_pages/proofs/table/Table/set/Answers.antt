@@ -1,4 +1,4 @@
-use Rattle.std.proofs.Common.{◌≡◌, ◌<◌, [], length, get_or, subst, sym, refl, rules}
+use Rattle.std.proofs.Common.{◌≡◌, ◌<◌, [], length, get_or, subst, sym, refl}
 use Rattle.std.proofs.lemmas.List.{get_or_read}
 use Rattle.std.specs.Prelude.{IfSome}
 use Rattle.hp_pages.specs.Places.{TableValue}
@@ -59,6 +59,3 @@ invariant_of-self c =
     )
     (are_sums-set c.self.inside.sums c.self.inside.pages c.self.inside.rows.items c.args.owner c.args.page
     c.args.now c.self.invariant in_owners in_pages in_frames)
-
-pub returns-clause-was_table : goal.returns-clause-was_table
-returns-clause-was_table c = search rules

@@ -1,4 +1,4 @@
-use Rattle.std.proofs.Common.{◌≡◌, sym, subst, rules}
+use Rattle.std.proofs.Common.{◌≡◌, sym, subst}
 use Rattle.std.proofs.lemmas.Result.{on_ok_weaker, on_err_weaker}
 use Rattle.hp_units.specs.FreeAreas.{with_back}
 use Rattle.hp_units.specs.InLayout.{AreFreeAreasOf, AreFreeFramesOf}
@@ -18,9 +18,3 @@ returns-clause-layout c =
     let kept = λ (e : new ≡ mid). subst (AreFreeAreasOf l) (sym e) old.areas in
     of_areas l _ new old (either_way c.add_back.result (AreFreeAreasOf l new) (on_ok_weaker c.add_back.result
     added c.add_back.ensures.value) (on_err_weaker c.add_back.result kept c.add_back.ensures.err))
-
-pub returns-clause-value : goal.returns-clause-value
-returns-clause-value c = search rules
-
-pub returns-clause-err : goal.returns-clause-err
-returns-clause-err c = search rules

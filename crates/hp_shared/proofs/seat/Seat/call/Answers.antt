@@ -1,5 +1,5 @@
-use Rattle.std.proofs.Common.{rules}
-use Rattle.hp_shared.proofs.SeatCalls.{seat_called}
+use Rattle.std.proofs.Common.{◌∙◌, sym, arith, rules}
+use Rattle.hp_shared.proofs.SeatCalls.{full_still, seat_called}
 use Rattle.hp_shared.proofs.seat.Seat.call.Goals as goal
 
 pub returns-in_default-clause-ok : goal.returns-in_default-clause-ok
@@ -8,8 +8,8 @@ returns-in_default-clause-ok g c = search rules
 pub returns-in_default-clause-err : goal.returns-in_default-clause-err
 returns-in_default-clause-err g c = search rules
 
-pub returns-in_default-clause-cause : goal.returns-in_default-clause-cause
-returns-in_default-clause-cause g c = search rules
+pub returns-in_default-clause-only : goal.returns-in_default-clause-only
+returns-in_default-clause-only g c = search rules
 
 pub returns-in_default-copy-clause-ok : goal.returns-in_default-copy-clause-ok
 returns-in_default-copy-clause-ok g c = search rules
@@ -17,8 +17,8 @@ returns-in_default-copy-clause-ok g c = search rules
 pub returns-in_default-copy-clause-err : goal.returns-in_default-copy-clause-err
 returns-in_default-copy-clause-err g c = search rules
 
-pub returns-in_default-copy-clause-cause : goal.returns-in_default-copy-clause-cause
-returns-in_default-copy-clause-cause g c = search rules
+pub returns-in_default-copy-clause-only : goal.returns-in_default-copy-clause-only
+returns-in_default-copy-clause-only g c = search rules
 
 pub returns-in-Ok-turn-clause-ok : goal.returns-in-Ok-turn-clause-ok
 returns-in-Ok-turn-clause-ok g c =
@@ -32,8 +32,8 @@ returns-in-Ok-turn-clause-ok g c =
 pub returns-in-Ok-turn-clause-err : goal.returns-in-Ok-turn-clause-err
 returns-in-Ok-turn-clause-err g c = search rules
 
-pub returns-in-Ok-turn-clause-cause : goal.returns-in-Ok-turn-clause-cause
-returns-in-Ok-turn-clause-cause g c = search rules
+pub returns-in-Ok-turn-clause-only : goal.returns-in-Ok-turn-clause-only
+returns-in-Ok-turn-clause-only g c = search rules
 
 pub returns-in-Err-clause-ok : goal.returns-in-Err-clause-ok
 returns-in-Err-clause-ok g c = search rules
@@ -41,5 +41,7 @@ returns-in-Err-clause-ok g c = search rules
 pub returns-in-Err-clause-err : goal.returns-in-Err-clause-err
 returns-in-Err-clause-err g c = search rules
 
-pub returns-in-Err-clause-cause : goal.returns-in-Err-clause-cause
-returns-in-Err-clause-cause g c = search rules
+pub returns-in-Err-clause-only : goal.returns-in-Err-clause-only
+returns-in-Err-clause-only g c one is =
+    let filled = c.in-Err.ensures.only (c.self.invariant.1 ∙ sym one) (full_still c.in-Err.fault is) in
+    rw (← c.self.view_is) (omega (arith, filled, c.self.invariant.2))

@@ -1,4 +1,5 @@
-use Rattle.std.proofs.Common.{rules}
+use Rattle.std.proofs.Common.{Err, ap, rules}
+use Rattle.hp_units.specs.declared.replies.CallFault.{CallFault}
 use Rattle.hp_shared.proofs.SeatCalls.{seated_is_given, turned_once}
 use Rattle.hp_workers.proofs.port.GatedPortPort.call.Goals as goal
 
@@ -17,3 +18,10 @@ returns-in-Ok-clause-ok g c =
             called.receipt called.seated,
       );
     }
+
+pub returns-in-Err-clause-leaves : goal.returns-in-Err-clause-leaves
+returns-in-Err-clause-leaves g c = (
+  search rules,
+  search rules,
+  λ one is. c.in-Err.ensures.only one (ap (λ (f : CallFault). Err f) is),
+)
