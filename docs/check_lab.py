@@ -11,20 +11,25 @@ What is compared, of `hotplug_lab explore`:
   interleaving of each end, pasted after the setup's lines, has that end in `hotplug serial`; and
   the first line that cannot stand in a script is refused by its place;
 - 50 runs of `hotplug run` on each of three small scenarios: each outcome is one of the ends.
-Of `hotplug_lab trace`, on each file of examples/: it has all lines in their order, and what they
-answer is what `hotplug serial` prints before the state. Of `hotplug_lab trace --svg`: it is
-well-formed XML, its rows have the texts of the trace in their order, and as many cells of each
-meaning in the legend as the trace has characters of it. Of `hotplug_lab check`: it finds no fault
-in any file of examples/, and one where a text that is no line comes last.
+Of `hotplug_lab trace`, on each file of examples/ and on a scenario with hostile texts: it has all
+lines in their order, and what they answer is what `hotplug serial` prints before the state; in
+lines of 100 columns each memory block begins after the columns of what was asked and answered, and
+no line is longer. Of `--orders`: it is the trace, but for the brackets of free blocks; these have
+2^order frames; and after each line there are as many of each order as `cat buddyinfo` says. Of
+`hotplug_lab trace --svg`: it is well-formed XML, its rows have the texts of the trace in their
+order, as many cells of each meaning in the legend as the trace has characters of it, and as many
+outlines of each width as the trace has brackets. Of `hotplug_lab check`: it finds no fault in any
+file of examples/, and one where a text that is no line comes last. None of them writes a control
+character.
 The last line is 'lab: N passed, M failed'; the exit status is 0 where nothing failed, else 1.
 """
 import json
-import re
 import subprocess
 import sys
-from collections import Counter
 from pathlib import Path
 from xml.etree import ElementTree
+
+from lab_traces import check_drawn, hostile
 
 ROOT = Path(__file__).resolve().parent.parent
 SECONDS = 60
@@ -255,30 +260,7 @@ def check_runs(checks, programs):
             checks.holds(f"run of race {number}", outcome in known, f"{outcome} is no end")
 
 
-# Traces
-
-def traced(text, calls):
-    """What each line answers in a trace, and the lines that it lacks. A row of a plan's call begins
-    with five spaces, and the memory in a row with block 0."""
-    answers = []
-    lacking = [f"{number:>4} {call}" for number, call in enumerate(calls, 1)]
-    for line in text.splitlines()[1:]:
-        if lacking and line.startswith(lacking[0]):
-            answer = line.removeprefix(lacking.pop(0)).partition(" 0:")[0].strip()
-            answers += [answer] if answer else []
-        elif not line.startswith(" " * 5):
-            answers.append(line)
-    return answers, lacking
-
-
-def check_trace(checks, programs, file):
-    scenario = json.loads(file.read_text())
-    layout, calls = scenario["layout"], scenario["calls"]
-    expected = programs.serial(layout, calls).rpartition("state\nblock 0 ")[0].splitlines()
-    answers, lacking = traced(programs.trace(scenario), calls)
-    checks.holds(f"trace of {file.name}", not lacking, f"lacks {lacking}")
-    checks.holds(f"trace of {file.name}", answers == expected, f"{answers} in place of {expected}")
-
+# Findings
 
 def check_findings(checks, programs, file):
     scenario = json.loads(file.read_text())
@@ -290,57 +272,13 @@ def check_findings(checks, programs, file):
                                                "faults: 1, warnings: 0\n", f"says {text!r}")
 
 
-# Pictures
-
-SVG = "{http://www.w3.org/2000/svg}"
-MEANINGS = {".": "free", ":": "free and isolated", "-": "offline", " ": "absent", "K": "the kernel"}
-
-
-def meaning(mark):
-    """What a character of a trace means, as the legend has it."""
-    if mark.isdigit():
-        return f"list of processor {mark}"
-    return MEANINGS.get(mark, f"page of owner {mark}")
-
-
-def texts_in(elements):
-    """The texts that are not written on cells."""
-    texts = [element for element in elements if element.tag == SVG + "text"]
-    return [text.text for text in texts if text.get("font-size") is None]
-
-
-def pictured(svg):
-    """The texts of a picture's rows, and how many cells of each meaning they have."""
-    root = ElementTree.fromstring(svg)
-    rows = root.find(SVG + "g")
-    above = list(root)[:list(root).index(rows)]
-    fills = [element.get("fill") for element in above if element.get("height") == "12"]
-    legend = dict(zip(fills, texts_in(above), strict=True))
-    cells = Counter()
-    for cell in rows.iter(SVG + "rect"):
-        cells[legend[cell.get("fill")]] += int(cell.get("width")) // 8
-    return texts_in(rows), cells
-
-
-def check_picture(checks, programs, file):
-    scenario = json.loads(file.read_text())
-    text = programs.trace(scenario, "--width", "1000000")
-    pieces = [piece for line in text.splitlines() for piece in line.split("]") if piece]
-    heads = [piece.partition("[")[0] for piece in pieces]
-    marks = "".join(re.findall(r"\[([^]]*)\]", text)).replace("|", "")
-    texts, cells = pictured(programs.trace(scenario, "--svg"))
-    checks.holds(f"picture of {file.name}", texts == heads, f"{texts} in place of {heads}")
-    counts = Counter(map(meaning, marks))
-    checks.holds(f"picture of {file.name}", cells == counts, f"{cells} in place of {counts}")
-
-
 def check_all(checks, programs):
     check_by_force(checks, programs)
     for file in sorted((ROOT / "examples").glob("*.json")):
         check_example(checks, programs, file)
-        check_trace(checks, programs, file)
         check_findings(checks, programs, file)
-        check_picture(checks, programs, file)
+        check_drawn(checks, programs, file.name, json.loads(file.read_text()))
+    check_drawn(checks, programs, "hostile texts", hostile(ROOT))
     check_runs(checks, programs)
 
 

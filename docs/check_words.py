@@ -131,6 +131,9 @@ def check_trace(checks, lab):
     checks.same("trace --width", plain, lab.call("trace", "--width", str(widest), scenario=whole))
     narrow = lab.call("trace", "--width", str(widest - 1), scenario=whole)
     checks.holds("trace --width", narrow != plain, "shows all memory blocks in a narrower row")
+    status, out, _ = lab.call("trace", "--orders", scenario=whole)
+    checks.same("trace --orders", (0, list(range(1, 10))), (status, lines_shown(out)))
+    checks.holds("trace --orders", "(" in out and "(" not in plain[1], "shows no free block")
 
 
 def check_picture(checks, lab):
@@ -154,6 +157,7 @@ def check_lab(checks, lab):
     check_picture(checks, lab)
     for words in ((), ("walk",), ("explore", "--setup", "x"), ("explore", "--setup", "-1"),
                   ("explore", "--every", "2"), ("trace", "--limit", "2"), ("check", "--svg"),
+                  ("explore", "--orders"),
                   ("trace", "a", "b"), ("trace", "--width"), ("trace", "--to", str(2**64))):
         status, out, error = lab.call(*words, scenario=whole)
         checks.same(f"hotplug_lab {words}", (2, ""), (status, out))

@@ -1,5 +1,5 @@
 -- What a word writes of the bytes of a scenario, the exit status, and when each fault comes.
-use Rattle.std.specs.Prelude.{◌≡◌, ◌⊎◌, ℕ, ◌<◌, ◌==◌, List, [], length, Option, IfSome, count_by, if◌then◌else◌}
+use Rattle.std.specs.Prelude.{◌≡◌, ◌⊎◌, ℕ, ◌<◌, ◌==◌, List, [], length, Option, Ok, IfSome, count_by, if◌then◌else◌}
 use Rattle.std.specs.Io.KnownBytes.{Appends}
 use Rattle.hp_check.specs.Checking.{AreFindings}
 use Rattle.hp_check.specs.Findings.{is_fault}
@@ -9,7 +9,7 @@ use Rattle.hp_lab.specs.Explorations.{IsExplorationOf, IsFaultOf}
 use Rattle.hp_lab.specs.declared.fault.LabFault.{LabFault}
 use Rattle.hp_lab.specs.declared.fault.LabFault.TheVariants.{OutOfMemory}
 use Rattle.hp_scenario.specs.Gives.{Fails}
-use Rattle.hp_scenario.specs.Scenario.{scenario_in}
+use Rattle.hp_scenario.specs.Scenario.{ScenarioValue, scenario_in}
 use Rattle.hp_scenario.specs.declared.fault.ScenarioFault.{ScenarioFault}
 use Rattle.hp_streams.specs.Reading.{limit}
 use Rattle.hp_pictures.specs.Rows.{RowValue}
@@ -28,11 +28,13 @@ pub record IsCheckOf (input text : List ℕ) (status : ℕ) : Type 0 where
   pub report : IsReport input found [] text
   pub judged : status ≡ (if count_by is_fault found == 0 then 0 else 1)
 
--- the picture of a trace's rows
+-- the picture of a trace's rows, with the names of the scenario's owners
 pub record IsPictureOf (view : View) (input text : List ℕ) : Type 0 where
+  pub scenario : ScenarioValue
+  pub read : scenario_in input ≡ Ok scenario
   pub rows : List RowValue
   pub traced : AreRowsOf view input rows
-  pub drawn : text ≡ picture_of rows
+  pub drawn : text ≡ picture_of scenario.names rows
 
 abbrev pub IsAnswerOf : Word → (input text : List ℕ) → (status : ℕ) → Type 0
 IsAnswerOf Check input text status = IsCheckOf input text status

@@ -11,6 +11,7 @@ use crate::words::Word;
 use hp_check::{check, fault_count, write_report};
 use hp_explore::Watch;
 use hp_lab::explore_text;
+use hp_scenario::Scenario;
 use hp_streams::{Failed, Sink, Source, read_all, write_all};
 use hp_svg::picture_of;
 use hp_trace::{View, trace, trace_rows};
@@ -119,11 +120,13 @@ fn checked(alloc: Global, input: &[u8]) -> Result<Answer, ProgramFault>
     Ok(Answer { text, status })
 }
 
-/// The rows of the scenario that the bytes are, with all memory blocks in each, as a picture.
+/// The rows of the scenario that the bytes are, with all memory blocks in each, as a picture, with the
+/// owners' names in its legend.
 fn picture_text(alloc: Global, input: &[u8], view: View) -> Result<String, ProgramFault>
     ensures ok { IfOk result (λ text. IsPictureOf view input.now (string_bytes text)) }
     ensures err { IfErr result (IsUnanswered (Picture view) input.now) }
 {
+    let scenario = Scenario::read(alloc, input)?;
     let rows = trace_rows(alloc, input, view)?;
-    Ok(picture_of(alloc, &rows)?)
+    Ok(picture_of(alloc, &scenario.names, &rows)?)
 }

@@ -93,8 +93,9 @@ fn trace_command<'a>(alloc: Global) -> Result<Command<'a>, AllocError> {
         .arg(number(
             alloc,
             "width",
-            "Where a row takes more columns, shows only the memory blocks that changed (200)",
+            "Folds lines that take more columns, and shows only the memory blocks that changed (200)",
         ))?
+        .arg(orders(alloc))?
         .arg(svg(alloc))?
         .arg(scenario(alloc))
 }
@@ -110,6 +111,14 @@ fn svg<'a>(alloc: Global) -> Arg<'a> {
         .long("svg")
         .action(ArgAction::SetTrue)
         .help("Writes one SVG picture, with all memory blocks in each row")
+}
+
+/// The flag that asks for the orders of free blocks.
+fn orders<'a>(alloc: Global) -> Arg<'a> {
+    Arg::new(alloc, "orders")
+        .long("orders")
+        .action(ArgAction::SetTrue)
+        .help("Shows free frames by the orders of their blocks, as (3.....)")
 }
 
 /// An argument that takes a number.
@@ -156,5 +165,6 @@ fn view_from(words: &ArgMatches<'_>) -> View {
         to: words.get_one::<u64>("to").unwrap_or(u64::MAX),
         every: words.get_one::<u64>("every").unwrap_or(1),
         width: words.get_one::<u64>("width").unwrap_or(WIDTH),
+        orders: words.get_flag("orders"),
     }
 }

@@ -1,3 +1,4 @@
+mod Bounds
 pub mod MarkLemmas
 pub mod PlaceLemmas
 mod PlacesTogether

@@ -1,4 +1,4 @@
--- The texts of rising numbers, one more after another.
+-- What rising numbers give, one more after another.
 use Rattle.std.proofs.Common.{◌≡◌, ℕ, zero, suc, ◌+◌, List, [], ◌∷◌, ◌++◌, sym, ap, ◌∙◌, add-one, arith}
 use Rattle.std.proofs.lemmas.List.{flat_map_more}
 use Rattle.std.specs.List.{flat_map, range_with_len}
@@ -10,13 +10,13 @@ range_more a (suc n) j e = ap (λ (xs : List ℕ). a ∷ xs) (range_more (a + 1)
 pub range_up : (n : ℕ) → range_with_len 0 (n + 1) ≡ range_with_len 0 n ++ n ∷ []
 range_up n = ap (λ (k : ℕ). range_with_len 0 k) (add-one n) ∙ range_more 0 n n (omega arith)
 
--- one more text
-pub text_more : (text : ℕ → List ℕ) (n : ℕ) (old now new piece : List ℕ)
-    → now ≡ old ++ flat_map text (range_with_len 0 n) → new ≡ now ++ piece → piece ≡ text n
-    → new ≡ old ++ flat_map text (range_with_len 0 (n + 1))
-text_more text n old now new piece before written is =
+-- the items of one more number
+pub items_more : {A : Type 0} (f : ℕ → List A) (n : ℕ) (old now new piece : List A)
+    → now ≡ old ++ flat_map f (range_with_len 0 n) → new ≡ now ++ piece → piece ≡ f n
+    → new ≡ old ++ flat_map f (range_with_len 0 (n + 1))
+items_more {A} f n old now new piece before written is =
     written
-    ∙ (ap (λ (p : List ℕ). now ++ p) is
-    ∙ (ap (λ (b : List ℕ). b ++ text n) before
-    ∙ (flat_map_more text old (range_with_len 0 n) n
-    ∙ ap (λ (ns : List ℕ). old ++ flat_map text ns) (sym (range_up n)))))
+    ∙ (ap (λ (p : List A). now ++ p) is
+    ∙ (ap (λ (b : List A). b ++ f n) before
+    ∙ (flat_map_more f old (range_with_len 0 n) n
+    ∙ ap (λ (ns : List ℕ). old ++ flat_map f ns) (sym (range_up n)))))

@@ -122,7 +122,7 @@ fn mark_frames(places: &mut Vec<Place>, first: u32, count: u32, place: &Place)
 }
 
 /// How many frames a block of an order has.
-fn size_of(order: Order) -> u32
+pub(crate) fn size_of(order: Order) -> u32
     requires { order ≤ 10 }
     ensures { result ≡ 2 ^ order }
 {

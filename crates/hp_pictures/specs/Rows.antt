@@ -1,11 +1,12 @@
--- A row of memory blocks with a text (own rule).
+-- A row of memory blocks with texts (own rule).
 use Rattle.std.specs.Prelude.{ℕ, List}
-use Rattle.hp_pictures.specs.declared.block_picture.BlockPicture.{BlockPicture}
+use Rattle.hp_pictures.specs.Blocks.{BlockValue}
 
--- the text, and the memory blocks after it
+-- what was asked, what was answered, and the memory blocks after it
 pub record RowValue : Type 0 where
-  pub label : List ℕ
-  pub blocks : List BlockPicture
+  pub asked : List ℕ
+  pub answer : List ℕ
+  pub blocks : List BlockValue
 
-abbrev pub row_with : (label : List ℕ) → (blocks : List BlockPicture) → RowValue
-row_with label blocks = record { label = label; blocks = blocks }
+abbrev pub row_with : (asked answer : List ℕ) → (blocks : List BlockValue) → RowValue
+row_with asked answer blocks = record { asked = asked; answer = answer; blocks = blocks }

@@ -1,4 +1,4 @@
-//! A row of memory blocks with a text.
+//! A row of memory blocks with texts.
 ghost use Rattle.std.specs.Prelude.{◌≡◌};
 ghost use Rattle.hp_pictures.specs.Rows.{row_with};
 
@@ -6,11 +6,12 @@ use crate::block_picture::BlockPicture;
 use hp_numbers::Text;
 use std::marker::Model;
 
-/// A row: a text, and the memory blocks after it by rising number; none where the row is a line of
-/// text alone.
+/// A row: what was asked, what was answered, and the memory blocks after it by rising number. Where
+/// the row is a line of text alone, it has no answer and no memory blocks.
 #[derive(Drop)]
 pub struct RowPicture {
-    label: Text,
+    asked: Text,
+    answer: Text,
     blocks: Vec<BlockPicture>,
 }
 
@@ -19,22 +20,33 @@ impl Model for RowPicture {
 
     ghost Value = { RowValue };
 
-    ghost view = { λ r. row_with r.label r.blocks.items };
+    ghost view = { λ r. row_with r.asked r.answer r.blocks.items };
 }
 
 impl RowPicture {
-    /// A row of a text and memory blocks.
-    pub fn new(label: Text, blocks: Vec<BlockPicture>) -> RowPicture
-        ensures { result ≡ row_with label blocks.items }
+    /// A row of these texts and memory blocks.
+    pub fn new(asked: Text, answer: Text, blocks: Vec<BlockPicture>) -> RowPicture
+        ensures { result ≡ row_with asked answer blocks.items }
     {
-        RowPicture { label, blocks }
+        RowPicture {
+            asked,
+            answer,
+            blocks,
+        }
     }
 
-    /// Its text.
-    pub fn label(&self) -> &str
-        ensures { result.now ≡ self.now.label }
+    /// What was asked.
+    pub fn asked(&self) -> &str
+        ensures { result.now ≡ self.now.asked }
     {
-        self.label.as_str()
+        self.asked.as_str()
+    }
+
+    /// What was answered.
+    pub fn answer(&self) -> &str
+        ensures { result.now ≡ self.now.answer }
+    {
+        self.answer.as_str()
     }
 
     /// Its memory blocks.

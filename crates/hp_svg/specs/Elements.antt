@@ -5,6 +5,8 @@ use Rattle.std.specs.Fmt.{decimal}
 use Rattle.std.specs.List.{flat_map}
 use Rattle.std.specs.Str.{chars}
 use Rattle.hp_svg.specs.Marks.{fill_of, ink_of, is_lettered}
+use Rattle.hp_svg.specs.declared.runs.Layer.{Layer}
+use Rattle.hp_svg.specs.declared.runs.Layer.TheVariants.{Cells, Strips}
 use Rattle.hp_svg.specs.declared.runs.Run.{Run}
 
 unfoldable pub position : (x y : ℕ) → List ℕ
@@ -64,10 +66,39 @@ box_element x y width height fill =
 unfoldable pub cell_element : (x y width mark : ℕ) → List ℕ
 cell_element x y width mark = box_element x y width 12 (fill_of mark) ++ letter_element (x + 2) (y + 9) mark
 
--- a run of cells in a row; a bar is a gap
-unfoldable pub run_text : (left top : ℕ) → Run → List ℕ
-run_text left top run =
-    if run.mark == 124 then [] else cell_element (left + 8 * run.at) top (8 * run.count) run.mark
+-- the mobility of pageblocks as a strip, unless their memory block is not in use
+unfoldable pub strip_element : (x y width letter : ℕ) → List ℕ
+strip_element x y width letter =
+    if letter == 77 then box_element x y width 2 (codes "#0072b2")
+    else (if letter == 85 then box_element x y width 2 (codes "#d55e00") else [])
+
+-- cells with this character, or a strip below them with this letter
+abbrev pub layer_element : Layer → (x top width mark : ℕ) → List ℕ
+layer_element Cells x top width mark = cell_element x top width mark
+layer_element Strips x top width mark = strip_element x (top + 12) width mark
+
+-- a run of a row; a bar is a gap
+unfoldable pub run_text : Layer → (left top : ℕ) → Run → List ℕ
+run_text layer left top run =
+    if run.mark == 124 then [] else layer_element layer (left + 8 * run.at) top (8 * run.count) run.mark
+
+-- ---- free blocks
+
+-- an outline
+unfoldable pub outlined : List ℕ
+outlined = codes " rx='3' fill='none' stroke='#14532d'/>"
+
+unfoldable pub outline_element : (x y width : ℕ) → List ℕ
+outline_element x y width = codes "<rect" ++ position x y ++ extent width 10 ++ outlined
+
+-- an order
+unfoldable pub order_text : (order : ℕ) → List ℕ
+order_text order =
+    codes " font-size='8' fill='#052e16' stroke='#ffffff' stroke-width='2' paint-order='stroke'>"
+    ++ decimal order ++ codes "</text>"
+
+unfoldable pub order_element : (x y order : ℕ) → List ℕ
+order_element x y order = codes "<text" ++ position x y ++ order_text order
 
 -- lines between the cells of a block
 unfoldable pub grid_element : (x y width height : ℕ) → List ℕ

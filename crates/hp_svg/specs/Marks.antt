@@ -1,11 +1,12 @@
 -- The characters of cells: their colours, and what they mean (own rule). The owners' colours are those of
 -- M. Okabe and K. Ito, "Color Universal Design", without black, and then P. Tol's "Colour Schemes": muted,
 -- bright and vibrant.
-use Rattle.std.specs.Prelude.{ℕ, ◌-◌, ◌==◌, ◌&&◌, ◌||◌, nat_le, not, Bool, true, List, [], ◌∷◌, ◌++◌, codes, filter, slice_index_or, if◌then◌else◌}
+use Rattle.std.specs.Prelude.{ℕ, ◌+◌, ◌-◌, ◌==◌, ◌&&◌, ◌||◌, nat_le, nat_lt, not, Bool, true, List, [], ◌∷◌, ◌++◌, codes, filter, length, Option, Some, None, slice_get, slice_index_or, if◌then◌else◌}
 use Rattle.std.specs.List.{list_any}
 use Rattle.std.specs.Str.{bytes_eq}
+use Rattle.hp_pictures.specs.Blocks.{BlockValue}
+use Rattle.hp_pictures.specs.Counts.{known_marks}
 use Rattle.hp_pictures.specs.Rows.{RowValue}
-use Rattle.hp_pictures.specs.declared.block_picture.BlockPicture.{BlockPicture}
 
 abbrev pub is_between : (first last mark : ℕ) → Bool
 is_between first last mark = nat_le first mark && nat_le mark last
@@ -62,7 +63,7 @@ list_fill mark = slice_index_or list_fills (mark - 48) []
 -- a place that is neither an owner's nor a processor's
 unfoldable pub plain_fill : ℕ → List ℕ
 plain_fill mark =
-    if mark == 46 then codes "#dfeadf"
+    if mark == 46 then codes "#b5dcb0"
     else (if mark == 58 then codes "url(#isolated)"
     else (if mark == 75 then codes "#3d3d3d"
     else (if mark == 45 then codes "#d4d4d8"
@@ -92,22 +93,30 @@ plain_label mark =
     else (if mark == 45 then codes "offline"
     else (if mark == 32 then codes "absent" else []))))
 
-unfoldable pub owner_label : ℕ → List ℕ
-owner_label mark = codes "page of owner " ++ mark ∷ []
+-- an owner who has no name, and one who has, maybe with others whose letter is the same
+unfoldable pub letter_label : ℕ → List ℕ
+letter_label mark = codes "page of owner " ++ mark ∷ []
+
+unfoldable pub name_label : (name : List ℕ) → (has_others : Bool) → List ℕ
+name_label name has_others = codes "page of " ++ name ++ (if has_others then codes ", others" else [])
+
+abbrev pub named_label : (names : List (List ℕ)) → (mark : ℕ) → Option (List ℕ) → List ℕ
+named_label names mark None = letter_label mark
+named_label names mark (Some name) = name_label name (nat_lt (mark - 97 + 26) (length names))
+
+-- the first owner that has the letter
+unfoldable pub owner_label : (names : List (List ℕ)) → (mark : ℕ) → List ℕ
+owner_label names mark = named_label names mark (slice_get names (mark - 97))
 
 unfoldable pub list_label : ℕ → List ℕ
 list_label mark = codes "list of processor " ++ mark ∷ []
 
-unfoldable pub label_of : ℕ → List ℕ
-label_of mark =
-    if is_letter mark then owner_label mark else (if is_digit mark then list_label mark else plain_label mark)
-
--- all characters that have a meaning
-abbrev pub known_marks : List ℕ
-known_marks = codes ".:- K0123456789abcdefghijklmnopqrstuvwxyz"
+unfoldable pub label_of : (names : List (List ℕ)) → (mark : ℕ) → List ℕ
+label_of names mark =
+    if is_letter mark then owner_label names mark else (if is_digit mark then list_label mark else plain_label mark)
 
 -- whether a character is one of the cells of a block, of a row, or of one of these rows
-abbrev pub has_mark : (mark : ℕ) → BlockPicture → Bool
+abbrev pub has_mark : (mark : ℕ) → BlockValue → Bool
 has_mark mark block = list_any (λ byte. byte == mark) block.cells
 
 abbrev pub row_has_mark : (mark : ℕ) → RowValue → Bool

@@ -1,66 +1,42 @@
 -- Rows as one picture (own rule): SVG, with time downwards and frames across.
-use Rattle.std.specs.Prelude.{ℕ, ◌+◌, ◌==◌, ◌&&◌, nat_lt, Bool, false, List, [], ◌∷◌, ◌++◌, codes, length, if◌then◌else◌}
+use Rattle.std.specs.Prelude.{ℕ, ◌+◌, nat_lt, false, List, ◌++◌, codes, length}
 use Rattle.std.specs.Fmt.{decimal}
 use Rattle.std.specs.List.{enumerate_from, flat_map, range_with_len}
 use Rattle.hp_pictures.specs.Rows.{RowValue}
-use Rattle.hp_pictures.specs.declared.block_picture.BlockPicture.{BlockPicture}
-use Rattle.hp_svg.specs.Elements.{cell_element, extent, grid_element, run_text, text_element}
+use Rattle.hp_svg.specs.Elements.{cell_element, extent, grid_element, outline_element, strip_element, text_element}
 use Rattle.hp_svg.specs.Marks.{label_of, marks_in}
-use Rattle.hp_svg.specs.Runs.{runs_of}
-use Rattle.hp_svg.specs.Sheets.{cells_at, cells_width, first_frame, height_of, legend_left, legend_top, numbers_at, room_at, row_top, rows_at, sheet_of, text_at, width_of}
+use Rattle.hp_svg.specs.Rows.{newline, rows_text}
+use Rattle.hp_svg.specs.Sheets.{cells_at, cells_width, first_frame, height_of, legend_left, legend_top, numbers_at, row_top, rows_at, sheet_of, width_of}
 use Rattle.hp_svg.specs.declared.sheets.Sheet.{Sheet}
-
-abbrev pub newline : List ℕ
-newline = 10 ∷ []
-
--- ---- the rows
-
--- a text is made narrower where it has no room before its cells
-abbrev pub is_narrow : (block : ℕ) → (text cells : List ℕ) → Bool
-is_narrow block text cells = nat_lt 0 (length cells) && nat_lt (room_at block) (length text)
-
--- the text before a block's cells, where there is one
-unfoldable pub head_text : Sheet → (top block : ℕ) → (text cells : List ℕ) → List ℕ
-head_text s top block [] cells = []
-head_text s top block (c ∷ cs) cells =
-    text_element (text_at s block) (top + 10) (is_narrow block (c ∷ cs) cells) (room_at block) (c ∷ cs)
-
--- a row's text stands before the head of its first block
-unfoldable pub headed : (block : ℕ) → (label head : List ℕ) → List ℕ
-headed block label head = (if block == 0 then label else []) ++ codes " " ++ head
-
--- a block by its place in a row with this text: its head, and its cells
-unfoldable pub cells_text : Sheet → (top : ℕ) → (label : List ℕ) → (block : ℕ × BlockPicture) → List ℕ
-cells_text s top label block =
-    head_text s top block.0 (headed block.0 label block.1.head) block.1.cells
-    ++ flat_map (run_text (cells_at s block.0) top) (runs_of block.1.cells)
-
--- the text of a row without blocks
-unfoldable pub words_text : Sheet → (top : ℕ) → (label : List ℕ) → List BlockPicture → List ℕ
-words_text s top label [] = head_text s top 0 label []
-words_text s top label (block ∷ blocks) = []
-
--- a row by its number: its text, and its blocks side by side
-unfoldable pub row_text : Sheet → (row : ℕ × RowValue) → List ℕ
-row_text s row =
-    words_text s (row_top row.0) row.1.label row.1.blocks
-    ++ flat_map (cells_text s (row_top row.0) row.1.label) (enumerate_from 0 row.1.blocks) ++ newline
-
--- all rows, one under another from some place on, and a line without one
-unfoldable pub rows_opening : (top : ℕ) → List ℕ
-rows_opening top = codes "<g transform='translate(0 " ++ decimal top ++ codes ")'>"
-
-unfoldable pub rows_text : Sheet → (top : ℕ) → (rows : List RowValue) → List ℕ
-rows_text s top rows =
-    rows_opening top ++ flat_map (row_text s) (enumerate_from 0 rows) ++ newline ++ codes "</g>" ++ newline
 
 -- ---- above and over the rows
 
 -- a character and what it means
-unfoldable pub entry_text : (entry : ℕ × ℕ) → List ℕ
-entry_text entry =
+unfoldable pub entry_text : (names : List (List ℕ)) → (entry : ℕ × ℕ) → List ℕ
+entry_text names entry =
     cell_element (legend_left entry.0) (legend_top entry.0) 12 entry.1
-    ++ text_element (legend_left entry.0 + 18) (legend_top entry.0 + 10) false 0 (label_of entry.1) ++ newline
+    ++ text_element (legend_left entry.0 + 18) (legend_top entry.0 + 10)
+    (nat_lt 22 (length (label_of names entry.1))) 22 (label_of names entry.1) ++ newline
+
+-- the text at a place of the legend
+unfoldable pub note_text : (place : ℕ) → (text : List ℕ) → List ℕ
+note_text place text =
+    text_element (legend_left place + 18) (legend_top place + 10) false 0 text ++ newline
+
+-- what outlines and strips mean, after so many entries
+unfoldable pub outline_note : (place : ℕ) → List ℕ
+outline_note place =
+    outline_element (legend_left place) (legend_top place + 1) 12
+    ++ note_text place (codes "free block, its order")
+
+unfoldable pub strip_note : (place letter : ℕ) → (text : List ℕ) → List ℕ
+strip_note place letter text =
+    strip_element (legend_left place) (legend_top place + 5) 12 letter ++ note_text place text
+
+unfoldable pub notes_text : (place : ℕ) → List ℕ
+notes_text place =
+    outline_note place ++ strip_note (place + 1) 77 (codes "movable pageblock")
+    ++ strip_note (place + 2) 85 (codes "unmovable pageblock")
 
 -- the number of a block, that of its first frame, and a grid over its cells; the legend has so many
 -- entries, and this many rows have room below one another
@@ -109,15 +85,15 @@ ground = codes "<rect width='100%' height='100%' fill='#ffffff'/>"
 unfoldable pub style : List ℕ
 style = title ++ hatching ++ grid ++ ground ++ newline
 
--- below the rows there is room for one more
-unfoldable pub picture_with : Sheet → (marks : List ℕ) → (rows : List RowValue) → List ℕ
-picture_with s marks rows =
-    opening (width_of s) (height_of (length marks) (length rows + 1)) ++ style
-    ++ flat_map entry_text (enumerate_from 0 marks)
-    ++ rows_text s (rows_at (length marks)) rows
-    ++ flat_map (block_text s (length marks) (length rows + 1)) (range_with_len 0 s.blocks)
+-- with so many entries in the legend; below the rows there is room for one more
+unfoldable pub picture_with : Sheet → (names : List (List ℕ)) → (marks : List ℕ) → (rows : List RowValue) → List ℕ
+picture_with s names marks rows =
+    opening (width_of s) (height_of (length marks + 3) (length rows + 1)) ++ style
+    ++ flat_map (entry_text names) (enumerate_from 0 marks) ++ notes_text (length marks)
+    ++ rows_text s (rows_at (length marks + 3)) rows
+    ++ flat_map (block_text s (length marks + 3) (length rows + 1)) (range_with_len 0 s.blocks)
     ++ codes "</svg>" ++ newline
 
--- the picture of rows
-abbrev pub picture_of : (rows : List RowValue) → List ℕ
-picture_of rows = picture_with (sheet_of rows) (marks_in rows) rows
+-- the picture of rows, where the owners have these names
+abbrev pub picture_of : (names : List (List ℕ)) → (rows : List RowValue) → List ℕ
+picture_of names rows = picture_with (sheet_of rows) names (marks_in rows) rows

@@ -1,7 +1,7 @@
 -- Where things stand in a picture (own rule). Lengths are in pixels.
 use Rattle.std.specs.Prelude.{ℕ, ◌+◌, ◌-◌, ◌*◌, ◌/◌, ◌%◌, ◌^◌, ◌==◌, not, List, [], ◌∷◌, count_by, length, max, min, if◌then◌else◌}
+use Rattle.hp_pictures.specs.Blocks.{BlockValue}
 use Rattle.hp_pictures.specs.Rows.{RowValue}
-use Rattle.hp_pictures.specs.declared.block_picture.BlockPicture.{BlockPicture}
 use Rattle.hp_svg.specs.declared.sheets.Sheet.{Sheet}
 
 -- a count of at most 32 bits
@@ -9,11 +9,11 @@ abbrev pub bounded : ℕ → ℕ
 bounded count = min count (2 ^ 32 - 1)
 
 -- the blocks of the first row, and the cells of the first of these
-abbrev pub first_blocks : List RowValue → List BlockPicture
+abbrev pub first_blocks : List RowValue → List BlockValue
 first_blocks [] = []
 first_blocks (row ∷ rows) = row.blocks
 
-abbrev pub first_cells : List BlockPicture → List ℕ
+abbrev pub first_cells : List BlockValue → List ℕ
 first_cells [] = []
 first_cells (block ∷ blocks) = block.cells
 
@@ -28,7 +28,7 @@ sheet_of rows =
       frames = bounded (count_by (λ byte. not (byte == 124)) cells);
     }
 
--- ---- across: a text of 55 characters, and for each block its head of 8 and its cells
+-- ---- across: texts of 29 and 25 characters, and for each block its head of 8 and its cells
 
 -- where the head of a block begins, and where its cells do
 abbrev pub head_at : Sheet → (block : ℕ) → ℕ
@@ -36,14 +36,6 @@ head_at s block = 336 + block * (48 + 8 * s.cells)
 
 abbrev pub cells_at : Sheet → (block : ℕ) → ℕ
 cells_at s block = 384 + block * (48 + 8 * s.cells)
-
--- the text before the first block stands in front of all, with the head of that block
-abbrev pub text_at : Sheet → (block : ℕ) → ℕ
-text_at s block = if block == 0 then 8 else head_at s block
-
--- how many characters it has room for
-abbrev pub room_at : (block : ℕ) → ℕ
-room_at block = if block == 0 then 62 else 7
 
 abbrev pub cells_width : Sheet → ℕ
 cells_width s = 8 * s.cells

@@ -1,9 +1,9 @@
 //! The elements of a picture: texts, and rectangles for cells. Lengths are in pixels.
 ghost use Rattle.std.specs.Prelude.{◌≡◌, ◌++◌, ◌<◌, ◌^◌, OnOk, string_bytes};
-ghost use Rattle.hp_svg.specs.Elements.{box_element, cell_element, escaped, escaped_text, extent, grid_element, ink, inked, is_unfit, letter_element, narrowed, position, run_text, text_element};
+ghost use Rattle.hp_svg.specs.Elements.{box_element, cell_element, escaped, escaped_text, extent, grid_element, ink, inked, is_unfit, layer_element, letter_element, narrowed, order_element, order_text, outline_element, outlined, position, run_text, strip_element, text_element};
 
 use crate::marks::{fill_of, ink_of, is_lettered, write_mark};
-use crate::runs::Run;
+use crate::runs::{Layer, Run};
 use std::alloc::AllocError;
 
 /// Whether no XML document may contain a character, or it is a tab or a return.
@@ -156,19 +156,107 @@ pub(crate) fn write_cell(
     write_letter(out, x + 2, y + 9, mark)
 }
 
-/// Writes a run of cells in a row; a bar is a gap.
+/// Writes the mobility of pageblocks as a strip, unless their memory block is not in use.
+#[tactic(auto, unfolding(crate::specs::Elements::strip_element))]
+pub(crate) fn write_strip(
+    out: &mut String,
+    x: u128,
+    y: u128,
+    width: u128,
+    letter: u8,
+) -> Result<(), AllocError>
+    ensures { OnOk result (string_bytes out.new ≡ string_bytes out.old ++ strip_element x y width letter) }
+{
+    match letter {
+        b'M' => write_box(out, x, y, width, 2, "#0072b2"),
+        b'U' => write_box(out, x, y, width, 2, "#d55e00"),
+        _ => Ok(()),
+    }
+}
+
+/// Writes a run of a row: cells, or a strip below them; a bar is a gap.
 #[tactic(auto, unfolding(crate::specs::Elements::run_text))]
-pub(crate) fn write_run(out: &mut String, left: u128, top: u128, run: Run) -> Result<(), AllocError>
+pub(crate) fn write_run(
+    out: &mut String,
+    layer: Layer,
+    left: u128,
+    top: u128,
+    run: Run,
+) -> Result<(), AllocError>
     requires left { left < 2 ^ 101 }
     requires top { top < 2 ^ 101 }
-    ensures { OnOk result (string_bytes out.new ≡ string_bytes out.old ++ run_text left top run) }
+    ensures { OnOk result (string_bytes out.new ≡ string_bytes out.old ++ run_text layer left top run) }
 {
     if run.mark == b'|' {
         return Ok(());
     }
     let x = left + 8 * run.at as u128;
     let width = 8 * run.count as u128;
-    write_cell(out, x, top, width, run.mark)
+    write_layer(out, layer, x, top, width, run.mark)
+}
+
+/// Writes cells with this character, or a strip below them with this letter.
+fn write_layer(
+    out: &mut String,
+    layer: Layer,
+    x: u128,
+    top: u128,
+    width: u128,
+    mark: u8,
+) -> Result<(), AllocError>
+    requires x { x < 2 ^ 102 }
+    requires top { top < 2 ^ 101 }
+    ensures { OnOk result (string_bytes out.new ≡ string_bytes out.old ++ layer_element layer x top width mark) }
+{
+    match layer {
+        Layer::Cells => write_cell(out, x, top, width, mark),
+        Layer::Strips => write_strip(out, x, top + 12, width, mark),
+    }
+}
+
+/// Writes how outlines look.
+#[tactic(auto, unfolding(crate::specs::Elements::outlined))]
+fn write_outlined(out: &mut String) -> Result<(), AllocError>
+    ensures { OnOk result (string_bytes out.new ≡ string_bytes out.old ++ outlined) }
+{
+    out.push_str(" rx='3' fill='none' stroke='#14532d'/>")
+}
+
+/// Writes the outline of a free block, within its cells.
+#[tactic(auto, unfolding(crate::specs::Elements::outline_element))]
+pub(crate) fn write_outline(
+    out: &mut String,
+    x: u128,
+    y: u128,
+    width: u128,
+) -> Result<(), AllocError>
+    ensures { OnOk result (string_bytes out.new ≡ string_bytes out.old ++ outline_element x y width) }
+{
+    out.push_str("<rect")?;
+    write_position(out, x, y)?;
+    write_extent(out, width, 10)?;
+    write_outlined(out)
+}
+
+/// Writes an order as it looks in a free block, and the end of its text.
+#[tactic(auto, unfolding(crate::specs::Elements::order_text))]
+fn write_order_text(out: &mut String, order: u32) -> Result<(), AllocError>
+    ensures { OnOk result (string_bytes out.new ≡ string_bytes out.old ++ order_text order) }
+{
+    write!(
+        out,
+        " font-size='8' fill='#052e16' stroke='#ffffff' stroke-width='2' paint-order='stroke'>{order}</text>"
+    )
+}
+
+/// Writes the order of a free block in it.
+#[tactic(auto, unfolding(crate::specs::Elements::order_element))]
+pub(crate) fn write_order(out: &mut String, x: u128, y: u128, order: u32) -> Result<(), AllocError>
+    ensures { OnOk result (string_bytes out.new ≡ string_bytes out.old ++ order_element x y order) }
+{
+    out.push_str("<text")?;
+    write_position(out, x, y)?;
+    write_order_text(out, order)
 }
 
 /// Writes lines between the cells of a block.

@@ -1,13 +1,14 @@
 //! Rows as one picture: time downwards, the frames of a memory across, a colour for each character.
 //!
 //! The crate owns the picture: where each text and each cell of a row stands, its colour, the
-//! legend. It knows nothing of machines or scenarios. Read specs/Pictures first, then specs/Runs and
-//! specs/Marks.
+//! legend. It knows nothing of machines or scenarios. Read specs/Pictures first, then specs/Rows,
+//! specs/Runs and specs/Marks.
 #![tactic(auto)]
 
 mod elements;
 mod marks;
 mod pictures;
+mod rows;
 mod runs;
 mod sheets;
 

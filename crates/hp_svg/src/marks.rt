@@ -1,12 +1,12 @@
 //! The characters of cells: their colours, and what they mean.
 ghost use Rattle.std.specs.Prelude.{◌≡◌, ◌<◌, ◌≤◌, [], ◌∷◌, ◌++◌, IfOk, IsTrue, OnOk, map, string_bytes};
-ghost use Rattle.hp_svg.specs.Marks.{all_differ, bright_fill, fill_of, has_mark, ink_of, is_lettered, known_marks, label_of, list_fill, list_label, marks_in, muted_fill, occurs, okabe_fill, owner_label, plain_fill, plain_label, row_has_mark};
+ghost use Rattle.hp_pictures.specs.Counts.{known_marks};
+ghost use Rattle.hp_svg.specs.Marks.{all_differ, bright_fill, fill_of, has_mark, ink_of, is_lettered, label_of, letter_label, list_fill, list_label, marks_in, muted_fill, name_label, occurs, okabe_fill, owner_label, plain_fill, plain_label, row_has_mark};
 
-use hp_pictures::{BlockPicture, RowPicture};
+use hp_numbers::Text;
+use hp_pictures::{BlockPicture, MARKS, RowPicture};
+use indexmap::IndexSet;
 use std::alloc::{AllocError, Global};
-
-/// All characters that have a meaning, in the order of the legend.
-const KNOWN: &str = ".:- K0123456789abcdefghijklmnopqrstuvwxyz";
 
 /// The characters whose colours are dark.
 const DARK: &str = "Kacfhijmpqsvxyz";
@@ -102,7 +102,7 @@ fn plain_fill(mark: u8) -> &'static str
     ensures { result.now ≡ plain_fill mark }
 {
     match mark {
-        b'.' => "#dfeadf",
+        b'.' => "#b5dcb0",
         b':' => "url(#isolated)",
         b'K' => "#3d3d3d",
         b'-' => "#d4d4d8",
@@ -123,13 +123,17 @@ pub(crate) fn ink_of(mark: u8) -> &'static str
     }
 }
 
-/// Writes what a character means.
+/// Writes what a character means, where the owners have these names.
 #[tactic(auto, unfolding(crate::specs::Marks::label_of))]
-pub(crate) fn write_label(out: &mut String, mark: u8) -> Result<(), AllocError>
-    ensures { OnOk result (string_bytes out.new ≡ string_bytes out.old ++ label_of mark) }
+pub(crate) fn write_label(
+    out: &mut String,
+    names: &IndexSet<Text>,
+    mark: u8,
+) -> Result<(), AllocError>
+    ensures { OnOk result (string_bytes out.new ≡ string_bytes out.old ++ label_of names.now.keys mark) }
 {
     match mark {
-        b'a'..=b'z' => write_owner_label(out, mark),
+        b'a'..=b'z' => write_owner_label(out, names, mark),
         b'0'..=b'9' => write_list_label(out, mark),
         _ => out.push_str(plain_label(mark)),
     }
@@ -144,11 +148,38 @@ pub(crate) fn write_mark(out: &mut String, mark: u8) -> Result<(), AllocError>
     out.push(char::from(mark))
 }
 
-/// Writes what an owner's letter means.
+/// Writes what an owner's letter means: the name of the first owner that has it.
 #[tactic(auto, unfolding(crate::specs::Marks::owner_label))]
-fn write_owner_label(out: &mut String, mark: u8) -> Result<(), AllocError>
+fn write_owner_label(out: &mut String, names: &IndexSet<Text>, mark: u8) -> Result<(), AllocError>
+    requires first { 97 ≤ mark }
+    requires last { mark < 128 }
+    ensures { OnOk result (string_bytes out.new ≡ string_bytes out.old ++ owner_label names.now.keys mark) }
+{
+    let owner = (mark - b'a') as usize;
+    match names.get_index(owner) {
+        Some(name) => write_name(out, name.as_str(), names.len() > owner + 26),
+        None => write_letter_label(out, mark),
+    }
+}
+
+/// Writes whose pages they are, of an owner who has a name, and maybe of others.
+#[tactic(auto, unfolding(crate::specs::Marks::name_label))]
+fn write_name(out: &mut String, name: &str, has_others: bool) -> Result<(), AllocError>
+    ensures { OnOk result (string_bytes out.new ≡ string_bytes out.old ++ name_label name.now has_others) }
+{
+    out.push_str("page of ")?;
+    out.push_str(name)?;
+    if has_others {
+        out.push_str(", others")?;
+    }
+    Ok(())
+}
+
+/// Writes whose pages they are, of an owner who has no name.
+#[tactic(auto, unfolding(crate::specs::Marks::letter_label))]
+fn write_letter_label(out: &mut String, mark: u8) -> Result<(), AllocError>
     requires { mark < 128 }
-    ensures { OnOk result (string_bytes out.new ≡ string_bytes out.old ++ owner_label mark) }
+    ensures { OnOk result (string_bytes out.new ≡ string_bytes out.old ++ letter_label mark) }
 {
     out.push_str("page of owner ")?;
     write_mark(out, mark)
@@ -183,7 +214,7 @@ fn plain_label(mark: u8) -> &'static str
 fn has_mark(mark: u8, block: &BlockPicture) -> bool
     ensures { result ≡ has_mark mark block.now }
 {
-    block.cells.as_str().as_bytes().contains(&mark)
+    block.cells().as_bytes().contains(&mark)
 }
 
 /// Whether a character is one of the cells of a row.
@@ -205,7 +236,7 @@ fn occurs(rows: &[RowPicture], mark: u8) -> bool
 pub(crate) fn marks_in(alloc: Global, rows: &[RowPicture]) -> Result<Vec<u8>, AllocError>
     ensures { IfOk result (λ marks. marks.items ≡ marks_in rows.now) }
 {
-    KNOWN
+    MARKS
         .as_bytes()
         .iter()
         .copied()

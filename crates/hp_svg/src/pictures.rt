@@ -1,29 +1,37 @@
 //! Rows as one picture.
-ghost use Rattle.std.specs.Prelude.{◌≡◌, ◌++◌, ◌<◌, ◌^◌, ◌&&◌, IfOk, OnOk, string_bytes};
+ghost use Rattle.std.specs.Prelude.{◌≡◌, ◌++◌, ◌<◌, ◌^◌, IfOk, OnOk, string_bytes};
 ghost use Rattle.std.specs.List.{enumerate_from, flat_map, range_with_len};
-ghost use Rattle.hp_svg.specs.Pictures.{block_text, cells_text, corner, entry_text, font, grid, ground, hatching, head_text, headed, is_narrow, namespace, opening, picture_of, picture_with, row_text, rows_opening, rows_text, style, title, view, words_text};
+ghost use Rattle.hp_svg.specs.Pictures.{block_text, corner, entry_text, font, grid, ground, hatching, namespace, note_text, notes_text, opening, outline_note, picture_of, picture_with, strip_note, style, title, view};
 
-use crate::elements::{write_cell, write_extent, write_grid, write_text};
-use crate::marks::{marks_in, write_label};
-use crate::runs::write_cells;
-use crate::sheets::{
-    Sheet, height_of, legend_left, legend_top, numbers_at, room_at, row_top, rows_at,
+use crate::elements::{
+    write_cell, write_extent, write_grid, write_outline, write_strip, write_text,
 };
-use hp_pictures::{BlockPicture, RowPicture};
+use crate::marks::{marks_in, write_label};
+use crate::rows::write_all_rows;
+use crate::sheets::{Sheet, height_of, legend_left, legend_top, numbers_at, row_top, rows_at};
+use hp_numbers::Text;
+use hp_pictures::RowPicture;
+use indexmap::IndexSet;
 use std::alloc::{AllocError, Global};
 
-/// The picture of rows as SVG (own rule): one row under another, with its text and the heads of its
-/// memory blocks as text, and a rectangle for each run of equal characters of a block's cells; above
-/// the rows stand a legend of all characters that occur, and the numbers of the blocks and of their
-/// first frames. How wide a block is, and how many there are, is that of the first row. An error is
-/// out of memory.
+/// The picture of rows as SVG (own rule): one row under another, with its texts and the heads of its
+/// memory blocks as text, a rectangle for each run of equal characters of a block's cells, an outline
+/// for each free block with its order, and below the cells a strip for the mobility of pageblocks;
+/// above the rows stand a legend of all characters that occur, of outlines and strips, and the numbers
+/// of the blocks and of their first frames. How wide a block is, and how many there are, is that of the
+/// first row. Of an owner whose letter is in the legend the name stands there. An error is out of
+/// memory.
 ///
 /// Each row has all memory blocks, or none where it is a line of text alone.
-pub fn picture_of(alloc: Global, rows: &[RowPicture]) -> Result<String, AllocError>
-    ensures { IfOk result (λ picture. string_bytes picture ≡ picture_of rows.now) }
+pub fn picture_of(
+    alloc: Global,
+    names: &IndexSet<Text>,
+    rows: &[RowPicture],
+) -> Result<String, AllocError>
+    ensures { IfOk result (λ picture. string_bytes picture ≡ picture_of names.now.keys rows.now) }
 {
     let marks = marks_in(alloc, rows)?;
-    picture_with(alloc, Sheet::of(rows), marks.as_slice(), rows)
+    picture_with(alloc, Sheet::of(rows), names, marks.as_slice(), rows)
 }
 
 /// The picture of rows, with these characters in the legend.
@@ -31,17 +39,20 @@ pub fn picture_of(alloc: Global, rows: &[RowPicture]) -> Result<String, AllocErr
 fn picture_with(
     alloc: Global,
     sheet: Sheet,
+    names: &IndexSet<Text>,
     marks: &[u8],
     rows: &[RowPicture],
 ) -> Result<String, AllocError>
-    ensures { IfOk result (λ picture. string_bytes picture ≡ picture_with sheet marks.now rows.now) }
+    ensures { IfOk result
+        (λ picture. string_bytes picture ≡ picture_with sheet names.now.keys marks.now rows.now) }
 {
-    let entries = marks.len();
+    let entries = marks.len() + 3;
     let room = rows.len() + 1;
     let mut out = String::new(alloc);
     write_opening(&mut out, sheet.width(), height_of(entries, room))?;
     write_style(&mut out)?;
-    write_legend(&mut out, alloc, marks)?;
+    write_legend(&mut out, alloc, names, marks)?;
+    write_notes(&mut out, marks.len())?;
     write_all_rows(&mut out, alloc, sheet, rows_at(entries), rows)?;
     write_blocks(&mut out, alloc, sheet, entries, room)?;
     out.push_str("</svg>\n")?;
@@ -141,27 +152,86 @@ fn write_style(out: &mut String) -> Result<(), AllocError>
 }
 
 /// Writes the legend of characters.
-fn write_legend(out: &mut String, alloc: Global, marks: &[u8]) -> Result<(), AllocError>
+fn write_legend(
+    out: &mut String,
+    alloc: Global,
+    names: &IndexSet<Text>,
+    marks: &[u8],
+) -> Result<(), AllocError>
     ensures { OnOk result (string_bytes out.new ≡ string_bytes out.old
-        ++ flat_map entry_text (enumerate_from 0 marks.now)) }
+        ++ flat_map (entry_text names.now.keys) (enumerate_from 0 marks.now)) }
 {
     for (place, mark) in marks.iter().enumerate() {
-        write_entry(out, alloc, place, *mark)?;
+        write_entry(out, alloc, names, place, *mark)?;
     }
     Ok(())
 }
 
 /// Writes a character and what it means, at a place of the legend.
 #[tactic(auto, unfolding(crate::specs::Pictures::entry_text))]
-fn write_entry(out: &mut String, alloc: Global, place: usize, mark: u8) -> Result<(), AllocError>
-    ensures { OnOk result (string_bytes out.new ≡ string_bytes out.old ++ entry_text (place, mark)) }
+fn write_entry(
+    out: &mut String,
+    alloc: Global,
+    names: &IndexSet<Text>,
+    place: usize,
+    mark: u8,
+) -> Result<(), AllocError>
+    ensures { OnOk result (string_bytes out.new ≡ string_bytes out.old
+        ++ entry_text names.now.keys (place, mark)) }
 {
     let left = legend_left(place);
     let top = legend_top(place);
     let mut label = String::new(alloc);
-    write_label(&mut label, mark)?;
+    write_label(&mut label, names, mark)?;
     write_cell(out, left, top, 12, mark)?;
-    write_text(out, left + 18, top + 10, false, 0, label.as_str())?;
+    let is_narrow = label.len() > 22;
+    write_text(out, left + 18, top + 10, is_narrow, 22, label.as_str())?;
+    out.push_str("\n")
+}
+
+/// Writes what outlines and strips mean, after so many entries of the legend.
+#[tactic(auto, unfolding(crate::specs::Pictures::notes_text))]
+fn write_notes(out: &mut String, place: usize) -> Result<(), AllocError>
+    requires { place < 2 ^ 63 }
+    ensures { OnOk result (string_bytes out.new ≡ string_bytes out.old ++ notes_text place) }
+{
+    write_outline_note(out, place)?;
+    write_strip_note(out, place + 1, b'M', "movable pageblock")?;
+    write_strip_note(out, place + 2, b'U', "unmovable pageblock")
+}
+
+/// Writes what outlines mean, at a place of the legend.
+#[tactic(auto, unfolding(crate::specs::Pictures::outline_note))]
+fn write_outline_note(out: &mut String, place: usize) -> Result<(), AllocError>
+    ensures { OnOk result (string_bytes out.new ≡ string_bytes out.old ++ outline_note place) }
+{
+    write_outline(out, legend_left(place), legend_top(place) + 1, 12)?;
+    write_note(out, place, "free block, its order")
+}
+
+/// Writes what a strip means, at a place of the legend.
+#[tactic(auto, unfolding(crate::specs::Pictures::strip_note))]
+fn write_strip_note(
+    out: &mut String,
+    place: usize,
+    letter: u8,
+    text: &str,
+) -> Result<(), AllocError>
+    ensures { OnOk result
+        (string_bytes out.new ≡ string_bytes out.old ++ strip_note place letter text.now) }
+{
+    write_strip(out, legend_left(place), legend_top(place) + 5, 12, letter)?;
+    write_note(out, place, text)
+}
+
+/// Writes the text at a place of the legend.
+#[tactic(auto, unfolding(crate::specs::Pictures::note_text))]
+fn write_note(out: &mut String, place: usize, text: &str) -> Result<(), AllocError>
+    ensures { OnOk result (string_bytes out.new ≡ string_bytes out.old ++ note_text place text.now) }
+{
+    let left = legend_left(place) + 18;
+    let top = legend_top(place) + 10;
+    write_text(out, left, top, false, 0, text)?;
     out.push_str("\n")
 }
 
@@ -210,156 +280,4 @@ fn write_block(
         row_top(rows),
     )?;
     out.push_str("\n")
-}
-
-/// Writes how the rows begin.
-#[tactic(auto, unfolding(crate::specs::Pictures::rows_opening))]
-fn write_rows_opening(out: &mut String, top: u128) -> Result<(), AllocError>
-    ensures { OnOk result (string_bytes out.new ≡ string_bytes out.old ++ rows_opening top) }
-{
-    write!(out, "<g transform='translate(0 {top})'>")
-}
-
-/// Writes rows, one under another from some place on.
-#[tactic(auto, unfolding(crate::specs::Pictures::rows_text))]
-fn write_all_rows(
-    out: &mut String,
-    alloc: Global,
-    sheet: Sheet,
-    top: u128,
-    rows: &[RowPicture],
-) -> Result<(), AllocError>
-    ensures { OnOk result (string_bytes out.new ≡ string_bytes out.old ++ rows_text sheet top rows.now) }
-{
-    write_rows_opening(out, top)?;
-    write_rows(out, alloc, sheet, rows)?;
-    out.push_str("\n</g>\n")
-}
-
-/// Writes rows.
-fn write_rows(
-    out: &mut String,
-    alloc: Global,
-    sheet: Sheet,
-    rows: &[RowPicture],
-) -> Result<(), AllocError>
-    ensures { OnOk result (string_bytes out.new ≡ string_bytes out.old
-        ++ flat_map (row_text sheet) (enumerate_from 0 rows.now)) }
-{
-    for (number, row) in rows.iter().enumerate() {
-        write_row(out, alloc, sheet, number, row)?;
-    }
-    Ok(())
-}
-
-/// Writes a row.
-#[tactic(auto, unfolding(crate::specs::Pictures::row_text))]
-fn write_row(
-    out: &mut String,
-    alloc: Global,
-    sheet: Sheet,
-    number: usize,
-    row: &RowPicture,
-) -> Result<(), AllocError>
-    ensures { OnOk result (string_bytes out.new ≡ string_bytes out.old ++ row_text sheet (number, row.now)) }
-{
-    let top = row_top(number);
-    write_words(out, sheet, top, row.label(), row.blocks())?;
-    write_row_blocks(out, alloc, sheet, top, row.label(), row.blocks())?;
-    out.push_str("\n")
-}
-
-/// Writes the text of a row without blocks.
-#[tactic(auto, unfolding(crate::specs::Pictures::words_text))]
-fn write_words(
-    out: &mut String,
-    sheet: Sheet,
-    top: u128,
-    label: &str,
-    blocks: &[BlockPicture],
-) -> Result<(), AllocError>
-    requires { top < 2 ^ 101 }
-    ensures { OnOk result (string_bytes out.new ≡ string_bytes out.old
-        ++ words_text sheet top label.now blocks.now) }
-{
-    match blocks {
-        [] => write_head(out, sheet, top, 0, label, ""),
-        [..] => Ok(()),
-    }
-}
-
-/// Writes the blocks of a row with this text.
-fn write_row_blocks(
-    out: &mut String,
-    alloc: Global,
-    sheet: Sheet,
-    top: u128,
-    label: &str,
-    blocks: &[BlockPicture],
-) -> Result<(), AllocError>
-    requires { top < 2 ^ 101 }
-    ensures { OnOk result (string_bytes out.new ≡ string_bytes out.old
-        ++ flat_map (cells_text sheet top label.now) (enumerate_from 0 blocks.now)) }
-{
-    for (number, block) in blocks.iter().enumerate() {
-        write_cells_of(out, alloc, sheet, top, label, number, block)?;
-    }
-    Ok(())
-}
-
-/// Writes the head of a block in a row with this text, and its cells.
-#[tactic(auto, unfolding(crate::specs::Pictures::cells_text))]
-fn write_cells_of(
-    out: &mut String,
-    alloc: Global,
-    sheet: Sheet,
-    top: u128,
-    label: &str,
-    number: usize,
-    block: &BlockPicture,
-) -> Result<(), AllocError>
-    requires { top < 2 ^ 101 }
-    ensures { OnOk result (string_bytes out.new ≡ string_bytes out.old
-        ++ cells_text sheet top label.now (number, block.now)) }
-{
-    let head = headed(alloc, number, label, block.head.as_str())?;
-    let cells = block.cells.as_str();
-    write_head(out, sheet, top, number, head.as_str(), cells)?;
-    write_cells(out, sheet.cells_at(number), top, cells.as_bytes())
-}
-
-/// The head of a block, after the text of its row where the block is the first.
-#[tactic(auto, unfolding(crate::specs::Pictures::headed))]
-fn headed(alloc: Global, block: usize, label: &str, head: &str) -> Result<String, AllocError>
-    ensures { IfOk result (λ text. string_bytes text ≡ headed block label.now head.now) }
-{
-    let mut out = String::new(alloc);
-    if block == 0 {
-        out.push_str(label)?;
-    }
-    out.push_str(" ")?;
-    out.push_str(head)?;
-    Ok(out)
-}
-
-/// Writes the text before a block's cells, where there is one.
-#[tactic(auto, unfolding(crate::specs::Pictures::head_text))]
-fn write_head(
-    out: &mut String,
-    sheet: Sheet,
-    top: u128,
-    block: usize,
-    text: &str,
-    cells: &str,
-) -> Result<(), AllocError>
-    requires { top < 2 ^ 101 }
-    ensures { OnOk result (string_bytes out.new ≡ string_bytes out.old
-        ++ head_text sheet top block text.now cells.now) }
-{
-    if text.is_empty() {
-        return Ok(());
-    }
-    let room = room_at(block);
-    let is_narrow = !cells.is_empty() && text.len() > room as usize;
-    write_text(out, sheet.text_at(block), top + 10, is_narrow, room, text)
 }

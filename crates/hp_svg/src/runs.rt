@@ -16,6 +16,13 @@ pub(crate) struct Run {
     pub(crate) mark: u8,
 }
 
+/// What runs are drawn as: cells, or strips below them.
+#[derive(Clone, Copy)]
+pub(crate) enum Layer {
+    Cells,
+    Strips,
+}
+
 impl Run {
     /// A run of one cell.
     fn new(at: usize, mark: u8) -> Run
@@ -25,9 +32,10 @@ impl Run {
     }
 }
 
-/// Writes cells, a rectangle for each run.
+/// Writes cells, or strips below them, a rectangle for each run.
 pub(crate) fn write_cells(
     out: &mut String,
+    layer: Layer,
     left: u128,
     top: u128,
     cells: &[u8],
@@ -35,7 +43,7 @@ pub(crate) fn write_cells(
     requires left { left < 2 ^ 101 }
     requires top { top < 2 ^ 101 }
     ensures { OnOk result (string_bytes out.new ≡ string_bytes out.old
-        ++ flat_map (run_text left top) (runs_of cells.now)) }
+        ++ flat_map (run_text layer left top) (runs_of cells.now)) }
 {
     let [first, rest @ ..] = cells else {
         return Ok(());
@@ -45,11 +53,11 @@ pub(crate) fn write_cells(
         if *mark == run.mark {
             run.count += 1;
         } else {
-            write_run(out, left, top, run)?;
+            write_run(out, layer, left, top, run)?;
             run = Run::new(run.at + run.count, *mark);
         }
     }
-    write_run(out, left, top, run)
+    write_run(out, layer, left, top, run)
 }
 
 /// Each cell is covered by one run, that has its character.

@@ -1,6 +1,6 @@
 //! Where things stand in a picture. Lengths are in pixels.
 ghost use Rattle.std.specs.Prelude.{◌≡◌, ◌+◌, ◌*◌, ◌<◌, ◌^◌, ◌==◌, count_by, not};
-ghost use Rattle.hp_svg.specs.Sheets.{bounded, cells_at, cells_width, first_blocks, first_cells, first_frame, head_at, height_of, legend_left, legend_top, numbers_at, room_at, row_top, rows_at, sheet_of, text_at, width_of};
+ghost use Rattle.hp_svg.specs.Sheets.{bounded, cells_at, cells_width, first_blocks, first_cells, first_frame, head_at, height_of, legend_left, legend_top, numbers_at, row_top, rows_at, sheet_of, width_of};
 
 use hp_pictures::{BlockPicture, RowPicture};
 
@@ -35,7 +35,7 @@ fn first_cells(blocks: &[BlockPicture]) -> &str
     ensures { result.now ≡ first_cells blocks.now }
 {
     match blocks {
-        [block, ..] => block.cells.as_str(),
+        [block, ..] => block.cells(),
         [] => "",
     }
 }
@@ -97,13 +97,6 @@ impl Sheet {
         8 * self.cells as u128
     }
 
-    /// Where the text before the cells of a block begins.
-    pub(crate) fn text_at(&self, block: usize) -> u128
-        ensures { result ≡ text_at self.now block }
-    {
-        if block == 0 { 8 } else { self.head_at(block) }
-    }
-
     /// The number of the first frame of a block.
     pub(crate) fn first_frame(&self, block: usize) -> u128
         ensures { result ≡ first_frame self.now block }
@@ -117,13 +110,6 @@ impl Sheet {
     {
         self.head_at(self.blocks).max(820)
     }
-}
-
-/// How many characters the text before the cells of a block has room for.
-pub(crate) fn room_at(block: usize) -> u32
-    ensures { result ≡ room_at block }
-{
-    if block == 0 { 62 } else { 7 }
 }
 
 /// Where an entry of the legend stands across, by its place.

@@ -1,4 +1,4 @@
-mod Drawings
+mod Folded
 mod LinesTraced
 mod PlansTraced
 mod WorkAdded

@@ -1,4 +1,6 @@
 pub mod Calls
+pub mod Columns
+pub mod Folds
 pub mod Ports
 pub mod Rows
 pub mod Spelling

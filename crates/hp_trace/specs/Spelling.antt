@@ -1,17 +1,23 @@
 -- Lines as a scenario has them (own rule).
 use Rattle.std.specs.Prelude.{ℕ, List, ◌++◌, codes}
 use Rattle.std.specs.Fmt.{decimal}
+use Rattle.hp_escapes.specs.Escapes.{escaped_text}
+use Rattle.hp_escapes.specs.declared.escapes.Brackets.TheVariants.{Escaped}
 use Rattle.hp_scenario.specs.declared.lines.Line.{Line}
 use Rattle.hp_scenario.specs.declared.lines.Work.{Work}
 use Rattle.hp_scenario.specs.declared.lines.Work.TheVariants as work
 use Rattle.hp_text.specs.Spelling.{event_text, plan_text}
 
+-- a text of a line, without brackets
+abbrev pub shown_text : List ℕ → List ℕ
+shown_text text = escaped_text Escaped text
+
 -- what a line asks for
 abbrev pub work_text : (names : List (List ℕ)) → Work → List ℕ
 work_text names (work.Event event) = event_text names event
 work_text names (work.Plan items turns) = plan_text items turns
-work_text names (work.Echo echo) = codes "echo " ++ echo.word ++ codes " " ++ echo.path
-work_text names (work.Cat path) = codes "cat " ++ path
+work_text names (work.Echo echo) = codes "echo " ++ shown_text echo.word ++ codes " " ++ shown_text echo.path
+work_text names (work.Cat path) = codes "cat " ++ shown_text path
 work_text names work.Seal = codes "seal"
 
 -- a line: its processor, and what it asks for

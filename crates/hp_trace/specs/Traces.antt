@@ -40,8 +40,8 @@ shown_rows v number (rows ∷ rest) = rows_if (shows v number) rows ++ shown_row
 -- changed
 pub record IsStart (form : Form) (v : View) (m : MachineValue) (rows : RowsValue) : Type 0 where
   pub first : RowsValue
-  pub drawn : DrawsIf form m (codes "   0 boot") [] (no_rows form) first
-  pub is : rows ≡ fitted v.width first
+  pub drawn : DrawsIf form m (codes "   0 boot") [] (no_rows form v) first
+  pub is : rows ≡ fitted first
 
 -- a line was done, and its rows drawn where it is shown
 pub record TracesLine (v : View) (names : List (List ℕ)) (number : ℕ) (m : MachineValue) (line : Line)

@@ -72,9 +72,9 @@ fn trace_scenario(
 fn start(alloc: Global, machine: &Machine, view: View, form: Form) -> Result<Rows, AllocError>
     ensures { IfOk result (IsStart form view machine.now) }
 {
-    let mut rows = Rows::new(alloc, form);
+    let mut rows = Rows::new(alloc, form, view);
     rows.draw(alloc, machine, "   0 boot", "")?;
-    rows.fit(view.width);
+    rows.fit(alloc)?;
     Ok(rows)
 }
 
@@ -114,7 +114,7 @@ fn trace_line(
     if view.shows(number) {
         trace_work(rows, alloc, machine, line.cpu, &line.work, asked.as_str())
     } else {
-        let mut unseen = Rows::new(alloc, Form::Unseen);
+        let mut unseen = Rows::new(alloc, Form::Unseen, view);
         trace_work(
             &mut unseen,
             alloc,

@@ -1,9 +1,12 @@
 //! The rows of a trace.
-ghost use Rattle.std.specs.Prelude.{◌≡◌, [], ◌++◌, ◌&&◌, IfOk, OnOk, slice_get, string_bytes};
+ghost use Rattle.std.specs.Prelude.{◌≡◌, ◌++◌, IfOk, OnOk, string_bytes};
 ghost use Rattle.std.specs.Str.Lines.{lines};
-ghost use Rattle.hp_trace.specs.Rows.{AreDrawn, DrawsIf, IsKept, IsRow, blocks_text, fitted, is_drawn_same, label_text, line_rows, memory_text, no_rows, noted, row_text, said, spaced_text};
+ghost use Rattle.hp_trace.specs.Rows.{AreDrawn, DrawsIf, IsKept, IsRow, fitted, line_rows, no_rows, noted, row_text, said};
 ghost use Rattle.hp_pictures.specs.Rows.{row_with};
 
+use crate::columns::write_label;
+use crate::folds::{Paper, is_past, memory_text};
+use crate::view::View;
 use hp_machine::Machine;
 use hp_map::picture_of;
 use hp_pictures::{BlockPicture, RowPicture};
@@ -28,8 +31,7 @@ pub(crate) struct Rows {
     form: Form,
     text: String,
     shown: Vec<BlockPicture>,
-    /// Whether a row has only the memory blocks that changed.
-    is_wide: bool,
+    paper: Paper,
     kept: Vec<RowPicture>,
 }
 
@@ -43,31 +45,33 @@ impl Model for Rows {
       form = r.form;
       text = string_bytes r.text;
       shown = r.shown.items;
-      is_wide = r.is_wide;
+      paper = r.paper;
       kept = r.kept.items;
     } };
 }
 
 impl Rows {
     /// No rows yet.
-    pub(crate) fn new(alloc: Global, form: Form) -> Rows
-        ensures { result ≡ no_rows form }
+    pub(crate) fn new(alloc: Global, form: Form, view: View) -> Rows
+        ensures { result ≡ no_rows form view }
     {
         Rows {
             form,
             text: String::new(alloc),
             shown: Vec::new(alloc),
-            is_wide: false,
+            paper: Paper::new(view),
             kept: Vec::new(alloc),
         }
     }
 
-    /// From now on with only the memory blocks that changed, where the text so far, one row, takes
-    /// more columns.
-    pub(crate) fn fit(&mut self, width: u64)
-        ensures { self.new ≡ fitted width self.old }
+    /// From now on with only the memory blocks that changed, where those that the last row shows
+    /// have no room in one line. An error is out of memory.
+    pub(crate) fn fit(&mut self, alloc: Global) -> Result<(), AllocError>
+        ensures { OnOk result (self.new ≡ fitted self.old) }
     {
-        self.is_wide = self.text.len().saturating_sub(1) as u64 > width;
+        let is_wide = is_past(alloc, self.paper, self.shown.as_slice())?;
+        self.paper = self.paper.widened(is_wide);
+        Ok(())
     }
 
     /// Adds a text of lines. An error is out of memory.
@@ -109,15 +113,10 @@ impl Rows {
     ) -> Result<(), AllocError>
         ensures { OnOk result (IsRow machine.now asked.now answer.now self.old self.new) }
     {
-        let blocks = picture_of(alloc, machine)?;
-        let memory = memory_text(
-            alloc,
-            self.is_wide,
-            self.shown.as_slice(),
-            blocks.as_slice(),
-        )?;
-        let label = label_text(alloc, asked, answer)?;
-        write_row(&mut self.text, label.as_str(), memory.as_str())?;
+        let blocks = picture_of(alloc, machine, self.paper.orders)?;
+        let before = self.shown.as_slice();
+        let memory = memory_text(alloc, self.paper, before, blocks.as_slice())?;
+        write_row(&mut self.text, asked, answer, memory.as_str())?;
         self.shown = blocks;
         Ok(())
     }
@@ -132,9 +131,9 @@ impl Rows {
     ) -> Result<(), AllocError>
         ensures { OnOk result (IsKept machine.now asked.now answer.now self.old self.new) }
     {
-        let blocks = picture_of(alloc, machine)?;
-        let label = label_text(alloc, asked, answer)?;
-        self.kept.push(RowPicture::new(label, blocks))?;
+        let blocks = picture_of(alloc, machine, self.paper.orders)?;
+        let row = kept_row(alloc, asked, answer, blocks)?;
+        self.kept.push(row)?;
         Ok(())
     }
 
@@ -160,7 +159,7 @@ impl Rows {
             form: _,
             text: all,
             shown: _,
-            is_wide: _,
+            paper: _,
             kept: _,
         } = self;
         all
@@ -174,7 +173,7 @@ impl Rows {
             form: _,
             text: _,
             shown: _,
-            is_wide: _,
+            paper: _,
             kept: all,
         } = self;
         all
@@ -186,92 +185,30 @@ fn keep_lines(kept: &mut Vec<RowPicture>, alloc: Global, text: &str) -> Result<(
     ensures { OnOk result (kept.new.items ≡ kept.old.items ++ line_rows (lines text.now)) }
 {
     for line in text.lines() {
-        kept.push(line_row(alloc, line)?)?;
+        kept.push(kept_row(alloc, line, "", Vec::new(alloc))?)?;
     }
     Ok(())
 }
 
-/// A line as a row without memory blocks.
-fn line_row(alloc: Global, line: &str) -> Result<RowPicture, AllocError>
-    ensures { IfOk result (λ row. row ≡ row_with line.now []) }
+/// A row of these texts and memory blocks.
+fn kept_row(
+    alloc: Global,
+    asked: &str,
+    answer: &str,
+    blocks: Vec<BlockPicture>,
+) -> Result<RowPicture, AllocError>
+    ensures { IfOk result (λ row. row ≡ row_with asked.now answer.now blocks.items) }
 {
-    let label = String::from_str(alloc, line)?;
-    Ok(RowPicture::new(Text::new(label), Vec::new(alloc)))
-}
-
-/// What was asked and what was answered, in their columns.
-fn label_text(alloc: Global, asked: &str, answer: &str) -> Result<Text, AllocError>
-    ensures { IfOk result (λ text. text ≡ label_text asked.now answer.now) }
-{
-    let label = format!(in alloc; "{asked:<29} {answer:<25}")?;
-    Ok(Text::new(label))
+    let asked = String::from_str(alloc, asked)?;
+    let answer = String::from_str(alloc, answer)?;
+    Ok(RowPicture::new(Text::new(asked), Text::new(answer), blocks))
 }
 
 /// Writes what was asked and answered, and the memory.
-fn write_row(out: &mut String, label: &str, memory: &str) -> Result<(), AllocError>
-    ensures { OnOk result (string_bytes out.new ≡ string_bytes out.old ++ row_text label.now memory.now) }
-{
-    writeln!(out, "{label}{memory}")
-}
-
-/// A memory as a row has it: its memory blocks, or a sign where only those that changed are drawn
-/// and none did.
-fn memory_text(
-    alloc: Global,
-    is_wide: bool,
-    before: &[BlockPicture],
-    blocks: &[BlockPicture],
-) -> Result<String, AllocError>
-    ensures { IfOk result (λ text. string_bytes text ≡ memory_text is_wide before.now blocks.now) }
-{
-    let mut out = String::new(alloc);
-    write_blocks(&mut out, is_wide, before, blocks)?;
-    if out.is_empty() {
-        out.push_str(" =")?;
-    }
-    Ok(out)
-}
-
-/// Writes memory blocks as they are drawn, each after a space: all of them, or those that changed.
-fn write_blocks(
-    out: &mut String,
-    is_wide: bool,
-    before: &[BlockPicture],
-    blocks: &[BlockPicture],
-) -> Result<(), AllocError>
+fn write_row(out: &mut String, asked: &str, answer: &str, memory: &str) -> Result<(), AllocError>
     ensures { OnOk result
-        (string_bytes out.new ≡ string_bytes out.old ++ blocks_text is_wide before.now blocks.now) }
+        (string_bytes out.new ≡ string_bytes out.old ++ row_text asked.now answer.now memory.now) }
 {
-    for (number, block) in blocks.iter().enumerate() {
-        write_spaced(out, is_left_out(is_wide, before, number, block), block)?;
-    }
-    Ok(())
-}
-
-/// Whether a memory block is left out: where only those that changed are drawn, and it is the same.
-fn is_left_out(is_wide: bool, before: &[BlockPicture], number: usize, block: &BlockPicture) -> bool
-    ensures { result ≡ (is_wide && is_drawn_same (slice_get before.now number) block.now) }
-{
-    is_wide && is_drawn_same(before, number, block)
-}
-
-/// Whether a memory block is drawn as it was.
-fn is_drawn_same(before: &[BlockPicture], number: usize, block: &BlockPicture) -> bool
-    ensures { result ≡ is_drawn_same (slice_get before.now number) block.now }
-{
-    match before.get(number) {
-        Some(before) => before.is_same(block),
-        None => false,
-    }
-}
-
-/// Writes a memory block after a space, unless it is left out.
-fn write_spaced(out: &mut String, is_left_out: bool, block: &BlockPicture) -> Result<(), AllocError>
-    ensures { OnOk result (string_bytes out.new ≡ string_bytes out.old ++ spaced_text is_left_out block.now) }
-{
-    if is_left_out {
-        return Ok(());
-    }
-    out.push_str(" ")?;
-    block.write(out)
+    write_label(out, asked, answer)?;
+    writeln!(out, "{memory}")
 }

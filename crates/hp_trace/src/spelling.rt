@@ -2,6 +2,7 @@
 ghost use Rattle.std.specs.Prelude.{◌≡◌, ◌++◌, OnOk, string_bytes};
 ghost use Rattle.hp_trace.specs.Spelling.{line_text, work_text};
 
+use hp_escapes::{Brackets, write_escaped};
 use hp_scenario::{Line, Work};
 use hp_text::{write_event, write_plan};
 use hp_units::Text;
@@ -21,7 +22,8 @@ pub(crate) fn write_line(
     write_work(out, names, &line.work)
 }
 
-/// Writes what a line asks for.
+/// Writes what a line asks for; of its texts, each bracket and each character that a terminal may obey
+/// is escaped.
 fn write_work(out: &mut String, names: &IndexSet<Text>, work: &Work) -> Result<(), AllocError>
     ensures { OnOk result (string_bytes out.new ≡ string_bytes out.old ++ work_text names.now.keys work.now) }
 {
@@ -29,13 +31,14 @@ fn write_work(out: &mut String, names: &IndexSet<Text>, work: &Work) -> Result<(
         Work::Event(event) => write_event(out, names, event),
         Work::Plan { plan, turns } => write_plan(out, plan, *turns),
         Work::Echo(echo) => {
-            let word = echo.word();
-            let path = echo.path();
-            write!(out, "echo {word} {path}")
+            out.push_str("echo ")?;
+            write_escaped(out, echo.word(), Brackets::Escaped)?;
+            out.push_str(" ")?;
+            write_escaped(out, echo.path(), Brackets::Escaped)
         }
         Work::Cat { path } => {
-            let path = path.as_str();
-            write!(out, "cat {path}")
+            out.push_str("cat ")?;
+            write_escaped(out, path.as_str(), Brackets::Escaped)
         }
         Work::Seal => out.push_str("seal"),
     }

@@ -2,7 +2,8 @@
 ghost use Rattle.std.specs.Prelude.{◌≡◌};
 ghost use Rattle.hp_trace.specs.Views.{shows};
 
-/// Which lines are shown, counted from 1, and how wide a row may be.
+/// Which lines are shown, counted from 1, how wide a row may be, and whether free frames are shown
+/// by the orders of their blocks.
 #[derive(Clone, Copy, PartialEq, Eq)]
 pub struct View {
     /// The first line that is shown.
@@ -11,9 +12,12 @@ pub struct View {
     pub to: u64,
     /// One line of so many is shown, from the first on; each where it is 0 or 1.
     pub every: u64,
-    /// The columns of a row. Where the row of the memory at boot takes more, each later row has
+    /// The columns of a line. A row that takes more goes on below, and a memory block that has no
+    /// room in a line is counted. Where the row of the memory at boot takes more, each later row has
     /// only the memory blocks that changed since the row above it.
     pub width: u64,
+    /// Whether free frames are shown by the orders of their blocks.
+    pub orders: bool,
 }
 
 impl View {

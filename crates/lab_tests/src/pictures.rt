@@ -1,13 +1,14 @@
 //! Rows drawn as a picture.
-use hp_pictures::{BlockPicture, RowPicture};
+use hp_pictures::{BlockPicture, FreeBlock, RowPicture};
 use hp_svg::picture_of;
 use hp_trace::{View, trace_rows};
 use hp_units::Text;
+use indexmap::IndexSet;
 use std::alloc::{AllocError, Global};
 use std::test::Fail;
 
-/// The text of the memory at boot.
-const BOOT: &str = "   0 boot                                              ";
+/// What is asked in the row of the memory at boot.
+const BOOT: &str = "   0 boot";
 
 /// A text of characters that XML spells otherwise, or has not.
 const WORDS: &str = "<&>\"\t";
@@ -17,66 +18,119 @@ const WORDS: &str = "<&>\"\t";
 const PICTURE: &str =
     "<svg xmlns='http://www.w3.org/2000/svg' width='820' height='120' viewBox='0 0 820 120' \
      font-family='monospace' font-size='10' xml:space='preserve'><title>Trace of a \
-     memory</title><style>text{white-space:pre}</style><pattern id='isolated' width='4' height='4' \
-     patternUnits='userSpaceOnUse'><rect width='4' height='4' fill='#eef5ee'/><path d='M-1 1L1 \
-     -1M0 4L4 0M3 5L5 3' stroke='#4f9d69'/></pattern><pattern id='grid' width='8' height='8' \
-     patternUnits='userSpaceOnUse'><path d='M0 0V8M8 0V8' stroke='#ffffff'/></pattern><rect \
-     width='100%' height='100%' fill='#ffffff'/>\n\
-     <rect x='8' y='8' width='12' height='12' fill='#dfeadf'/><text x='26' y='18'>free</text>\n\
+     memory</title><style>text{white-space:pre}</style><pattern id='isolated' width='4' \
+     height='4' patternUnits='userSpaceOnUse'><rect width='4' height='4' fill='#eef5ee'/><path \
+     d='M-1 1L1 -1M0 4L4 0M3 5L5 3' stroke='#4f9d69'/></pattern><pattern id='grid' width='8' \
+     height='8' patternUnits='userSpaceOnUse'><path d='M0 0V8M8 0V8' \
+     stroke='#ffffff'/></pattern><rect width='100%' height='100%' fill='#ffffff'/>\n\
+     <rect x='8' y='8' width='12' height='12' fill='#b5dcb0'/><text x='26' y='18'>free</text>\n\
      <rect x='168' y='8' width='12' height='12' fill='url(#isolated)'/><text x='186' y='18'>free \
-     and isolated</text>\n<rect x='328' y='8' width='12' height='12' fill='#d4d4d8'/><text x='346' \
-     y='18'>offline</text>\n<rect x='488' y='8' width='12' height='12' fill='#f4f4f6'/><text \
-     x='506' y='18'>absent</text>\n<rect x='648' y='8' width='12' height='12' \
-     fill='#3d3d3d'/><text x='650' y='17' font-size='8' fill='#ffffff'>K</text><text x='666' \
-     y='18'>the kernel</text>\n<rect x='8' y='24' width='12' height='12' fill='#fff4cc'/><text \
-     x='10' y='33' font-size='8' fill='#000000'>0</text><text x='26' y='34'>list of processor \
-     0</text>\n<rect x='168' y='24' width='12' height='12' fill='#0072b2'/><text x='170' y='33' \
-     font-size='8' fill='#ffffff'>a</text><text x='186' y='34'>page of owner a</text>\n<g \
-     transform='translate(0 78)'><text x='8' y='10'>   0 \
-     boot                                               0:N</text><rect x='384' y='0' width='8' \
-     height='12' fill='#0072b2'/><text x='386' y='9' font-size='8' fill='#ffffff'>a</text><rect \
-     x='392' y='0' width='8' height='12' fill='#dfeadf'/><rect x='408' y='0' width='16' \
-     height='12' fill='#3d3d3d'/><text x='410' y='9' font-size='8' fill='#ffffff'>K</text><text \
-     x='424' y='10' textLength='42' lengthAdjust='spacingAndGlyphs'> 1:M&gt;off</text><rect \
-     x='472' y='0' width='8' height='12' fill='url(#isolated)'/><rect x='480' y='0' width='8' \
-     height='12' fill='#fff4cc'/><text x='482' y='9' font-size='8' fill='#000000'>0</text><rect \
-     x='496' y='0' width='8' height='12' fill='#d4d4d8'/><rect x='504' y='0' width='8' height='12' \
-     fill='#f4f4f6'/>\n<text x='8' y='24'>&lt;&amp;&gt;&quot;?</text>\n\n</g>\n<text x='384' \
-     y='60'>block 0</text><text x='384' y='72'>frame 0</text><rect x='384' y='78' width='40' \
-     height='42' fill='url(#grid)'/>\n<text x='472' y='60'>block 1</text><text x='472' \
-     y='72'>frame 4</text><rect x='472' y='78' width='40' height='42' fill='url(#grid)'/>\n</svg>\n";
+     and isolated</text>\n\
+     <rect x='328' y='8' width='12' height='12' fill='#d4d4d8'/><text x='346' \
+     y='18'>offline</text>\n\
+     <rect x='488' y='8' width='12' height='12' fill='#f4f4f6'/><text x='506' \
+     y='18'>absent</text>\n\
+     <rect x='648' y='8' width='12' height='12' fill='#3d3d3d'/><text x='650' y='17' \
+     font-size='8' fill='#ffffff'>K</text><text x='666' y='18'>the kernel</text>\n\
+     <rect x='8' y='24' width='12' height='12' fill='#fff4cc'/><text x='10' y='33' font-size='8' \
+     fill='#000000'>0</text><text x='26' y='34'>list of processor 0</text>\n\
+     <rect x='168' y='24' width='12' height='12' fill='#0072b2'/><text x='170' y='33' \
+     font-size='8' fill='#ffffff'>a</text><text x='186' y='34'>page of db</text>\n\
+     <rect x='328' y='25' width='12' height='10' rx='3' fill='none' stroke='#14532d'/><text \
+     x='346' y='34'>free block, its order</text>\n\
+     <rect x='488' y='29' width='12' height='2' fill='#0072b2'/><text x='506' y='34'>movable \
+     pageblock</text>\n\
+     <rect x='648' y='29' width='12' height='2' fill='#d55e00'/><text x='666' y='34'>unmovable \
+     pageblock</text>\n\
+     <g transform='translate(0 78)'><text x='8' y='10'>   0 boot</text><text x='188' y='10'>1: \
+     done</text><text x='336' y='10'> 0:N</text><rect x='384' y='0' width='8' height='12' \
+     fill='#0072b2'/><text x='386' y='9' font-size='8' fill='#ffffff'>a</text><rect x='392' y='0' \
+     width='24' height='12' fill='#b5dcb0'/><rect x='424' y='0' width='16' height='12' \
+     fill='#3d3d3d'/><text x='426' y='9' font-size='8' fill='#ffffff'>K</text><rect x='440' y='0' \
+     width='16' height='12' fill='#b5dcb0'/><rect x='384' y='12' width='32' height='2' \
+     fill='#0072b2'/><rect x='424' y='12' width='32' height='2' fill='#d55e00'/><rect x='393' \
+     y='1' width='6' height='10' rx='3' fill='none' stroke='#14532d'/><rect x='401' y='1' \
+     width='14' height='10' rx='3' fill='none' stroke='#14532d'/><text x='404' y='9' \
+     font-size='8' fill='#052e16' stroke='#ffffff' stroke-width='2' \
+     paint-order='stroke'>1</text><rect x='441' y='1' width='14' height='10' rx='3' fill='none' \
+     stroke='#14532d'/><text x='444' y='9' font-size='8' fill='#052e16' stroke='#ffffff' \
+     stroke-width='2' paint-order='stroke'>1</text><text x='456' y='10' textLength='42' \
+     lengthAdjust='spacingAndGlyphs'> 1:M&gt;off</text><rect x='504' y='0' width='8' height='12' \
+     fill='url(#isolated)'/><rect x='512' y='0' width='8' height='12' fill='#fff4cc'/><text \
+     x='514' y='9' font-size='8' fill='#000000'>0</text><rect x='520' y='0' width='16' \
+     height='12' fill='url(#isolated)'/><rect x='544' y='0' width='16' height='12' \
+     fill='#d4d4d8'/><rect x='560' y='0' width='8' height='12' fill='#f4f4f6'/><rect x='568' \
+     y='0' width='8' height='12' fill='#d4d4d8'/><rect x='504' y='12' width='32' height='2' \
+     fill='#0072b2'/><rect x='505' y='1' width='6' height='10' rx='3' fill='none' \
+     stroke='#14532d'/><rect x='521' y='1' width='14' height='10' rx='3' fill='none' \
+     stroke='#14532d'/><text x='524' y='9' font-size='8' fill='#052e16' stroke='#ffffff' \
+     stroke-width='2' paint-order='stroke'>1</text>\n\
+     <text x='8' y='24'>&lt;&amp;&gt;&quot;?</text>\n\
+     \n\
+     </g>\n\
+     <text x='384' y='60'>block 0</text><text x='384' y='72'>frame 0</text><rect x='384' y='78' \
+     width='72' height='42' fill='url(#grid)'/>\n\
+     <text x='504' y='60'>block 1</text><text x='504' y='72'>frame 8</text><rect x='504' y='78' \
+     width='72' height='42' fill='url(#grid)'/>\n\
+     </svg>\n";
 
 /// A text.
 fn text(alloc: Global, from: &str) -> Result<Text, AllocError> {
     Ok(Text::new(String::from_str(alloc, from)?))
 }
 
-/// A memory block.
-fn block(alloc: Global, head: &str, cells: &str) -> Result<BlockPicture, AllocError> {
-    Ok(BlockPicture {
-        head: text(alloc, head)?,
-        cells: text(alloc, cells)?,
-    })
+/// A free block.
+fn free(at: u32, order: u32, is_isolated: bool) -> FreeBlock {
+    FreeBlock {
+        at,
+        order,
+        is_isolated,
+    }
 }
 
-/// Memory blocks with each kind of cell.
+/// A memory block without orders in its cells.
+fn block(
+    alloc: Global,
+    head: &str,
+    cells: &str,
+    free: Vec<FreeBlock>,
+    kinds: &str,
+) -> Result<BlockPicture, AllocError> {
+    let head = text(alloc, head)?;
+    let cells = text(alloc, cells)?;
+    let kinds = text(alloc, kinds)?;
+    Ok(BlockPicture::new(head, cells, text(alloc, "")?, free, kinds))
+}
+
+/// Memory blocks with each kind of cell, free blocks, and pageblocks of each mobility.
 fn blocks(alloc: Global) -> Result<Vec<BlockPicture>, AllocError> {
-    let first = block(alloc, "0:N", "a.|KK")?;
-    let second = block(alloc, "1:M>off", ":0|- ")?;
+    let here = vec![in alloc; free(1, 0, false), free(2, 1, false), free(7, 1, false)]?;
+    let there = vec![in alloc; free(0, 0, true), free(2, 1, true)]?;
+    let first = block(alloc, "0:N", "a...|KK..", here, "MMMM|UUUU")?;
+    let second = block(alloc, "1:M>off", ":0::|-- -", there, "MMMM|    ")?;
     Ok(vec![in alloc; first, second]?)
 }
 
 /// A row with each kind of cell, and one of words.
 fn rows(alloc: Global) -> Result<Vec<RowPicture>, AllocError> {
-    let boot = RowPicture::new(text(alloc, BOOT)?, blocks(alloc)?);
-    let words = RowPicture::new(text(alloc, WORDS)?, Vec::new(alloc));
+    let answer = text(alloc, "1: done")?;
+    let boot = RowPicture::new(text(alloc, BOOT)?, answer, blocks(alloc)?);
+    let words = RowPicture::new(text(alloc, WORDS)?, text(alloc, "")?, Vec::new(alloc));
     Ok(vec![in alloc; boot, words]?)
 }
 
-/// The picture of those rows.
+/// The names of owners.
+fn names(alloc: Global) -> Result<IndexSet<Text>, AllocError> {
+    let mut names = IndexSet::new(alloc);
+    names.insert(text(alloc, "db")?)?;
+    Ok(names)
+}
+
+/// The picture of those rows, where the first owner has a name.
 fn picture(alloc: Global) -> Result<String, AllocError> {
+    let names = names(alloc)?;
     let rows = rows(alloc)?;
-    picture_of(alloc, &rows)
+    picture_of(alloc, &names, &rows)
 }
 
 /// Whether the picture of those rows is this one.
@@ -107,12 +161,13 @@ const ALL: View = View {
     to: u64::MAX,
     every: 1,
     width: u64::MAX,
+    orders: false,
 };
 
 /// The picture of a scenario.
 fn scenario_picture(alloc: Global, scenario: &[u8]) -> Option<String> {
     let rows = trace_rows(alloc, scenario, ALL).ok()?;
-    picture_of(alloc, &rows).ok()
+    picture_of(alloc, &IndexSet::new(alloc), &rows).ok()
 }
 
 /// How many rectangles a picture has.

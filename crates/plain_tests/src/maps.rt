@@ -51,7 +51,7 @@ fn are_drawn(blocks: &[BlockPicture], wanted: &[(&str, &str)]) -> bool {
         return false;
     }
     for (block, other) in blocks.iter().zip(wanted) {
-        if block.head.as_str() != other.0 || block.cells.as_str() != other.1 {
+        if block.head() != other.0 || block.cells() != other.1 {
             return false;
         }
     }
@@ -60,7 +60,7 @@ fn are_drawn(blocks: &[BlockPicture], wanted: &[(&str, &str)]) -> bool {
 
 /// Whether a machine's memory is drawn so.
 fn draws(alloc: Global, machine: &Machine, wanted: &[(&str, &str)]) -> bool {
-    match picture_of(alloc, machine) {
+    match picture_of(alloc, machine, false) {
         Ok(blocks) => are_drawn(&blocks, wanted),
         Err(AllocError) => false,
     }

@@ -1,4 +1,4 @@
-//! A scenario traced: all of it, and one line on narrow paper.
+//! Scenarios traced: all of one, one line on narrow paper and by orders, and hostile texts.
 use hp_trace::{View, trace};
 use std::alloc::Global;
 use std::test::Fail;
@@ -21,40 +21,87 @@ plan: done
 offline
 ";
 
-const NARROW: &str =
-    "   0 boot                                               0:N[....] 1:M[....] 2:off[----]
+/// Each memory block that has no room in a line is counted.
+const NARROW: &str = "   0 boot                                               0:N[....]
+                                                        1:M[....]
+                                                        2:off[4: -*4]
    2 0 plan 4 off 1                                     1:M[a0..]
-     begin off 1              2: opened 2               1:M>off[a0::]
-     drainfor 2 0             3: done                   1:M>off[a:::]
-     migrate 2                4: moved 4 0              0:N[a...] 1:M>off[::::]
+     begin off 1              2: opened 2               1:M>off[4: :*2 0*1 a*1]
+     drainfor 2 0             3: done                   1:M>off[4: :*3 a*1]
+     migrate 2                4: moved 4 0              0:N[a...]
+                                                        1:M>off[4: :*4]
      migrate 2                5: refused NothingToMove  =
-     commit 2                 6: done                   1:off[----]
+     commit 2                 6: done                   1:off[4: -*4]
 plan: done
 ";
 
-/// Whether the trace of the scenario is this text.
-fn is_traced(alloc: Global, view: View, text: &str) -> bool {
-    match trace(alloc, SCENARIO, view) {
+/// Free frames by the orders of their blocks.
+const ORDERED: &str =
+    "   0 boot                                               0:N[(2.)] 1:M[(2.)] 2:off[----]
+   2 0 plan 4 off 1                                     0:N[(2.)] 1:M[a0()] 2:off[----]
+     begin off 1              2: opened 2               0:N[(2.)] 1:M>off[a0{}] 2:off[----]
+     drainfor 2 0             3: done                   0:N[(2.)] 1:M>off[a:{}] 2:off[----]
+     migrate 2                4: moved 4 0              0:N[a.()] 1:M>off[{2:}] 2:off[----]
+     migrate 2                5: refused NothingToMove  0:N[a.()] 1:M>off[{2:}] 2:off[----]
+     commit 2                 6: done                   0:N[a.()] 1:off[----] 2:off[----]
+plan: done
+";
+
+/// A text that is long, looks like a memory block, and has characters that a terminal obeys.
+const HOSTILE: &[u8] =
+    br#"{"layout":{"order":2,"pageblocks":1,"blocks":3,"cpus":1,"batch":2,"high":2,"owners":1,"pages":4,"words":1,"history":9,"boot":["normal","movable","offline"]},"calls":["0 echo \u001b[31m\n\u009b]0:N[....] memory1/state"]}"#;
+
+const ESCAPED: &str =
+    "   0 boot                                               0:N[....] 1:M[....] 2:off[----]
+   1 0 echo \\u001b\\u005b31m\\n\\u009b\\u005d0:N\\u005b....\\u005d memory1/state
+                                                        0:N[....] 1:M[....] 2:off[----]
+echo: fault BadText
+";
+
+/// Whether the trace of a scenario is this text.
+fn is_traced(alloc: Global, scenario: &[u8], view: View, text: &str) -> bool {
+    match trace(alloc, scenario, view) {
         Ok(traced) => traced.as_str() == text,
         Err(_fault) => false,
     }
 }
 
+/// All lines, in rows of 120 columns.
+const ALL: View = View {
+    from: 1,
+    to: 9,
+    every: 1,
+    width: 120,
+    orders: false,
+};
+
+/// The plan alone.
+const PLAN: View = View {
+    from: 2,
+    to: 2,
+    ..ALL
+};
+
 #[test]
 fn lines_are_traced(rt: HostRuntime) -> Result<(), Fail> {
-    let whole = View {
-        from: 1,
-        to: 9,
-        every: 1,
-        width: 120,
+    let narrow = View { width: 66, ..PLAN };
+    assert!(rt; is_traced(rt.alloc(), SCENARIO, ALL, WHOLE));
+    assert!(rt; is_traced(rt.alloc(), SCENARIO, narrow, NARROW));
+    Ok(())
+}
+
+#[test]
+fn free_blocks_are_seen(rt: HostRuntime) -> Result<(), Fail> {
+    let ordered = View {
+        orders: true,
+        ..PLAN
     };
-    let narrow = View {
-        from: 2,
-        to: 2,
-        width: 60,
-        ..whole
-    };
-    assert!(rt; is_traced(rt.alloc(), whole, WHOLE));
-    assert!(rt; is_traced(rt.alloc(), narrow, NARROW));
+    assert!(rt; is_traced(rt.alloc(), SCENARIO, ordered, ORDERED));
+    Ok(())
+}
+
+#[test]
+fn texts_are_escaped(rt: HostRuntime) -> Result<(), Fail> {
+    assert!(rt; is_traced(rt.alloc(), HOSTILE, ALL, ESCAPED));
     Ok(())
 }

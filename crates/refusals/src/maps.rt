@@ -7,9 +7,9 @@ use std::alloc::Global;
 
 /// The heads and the cells of the memory blocks at boot.
 const DRAWN: &[(&str, &str)] = &[
-    ("0:N", "...."),
-    ("1:N", "...."),
-    ("2:M", "...."),
+    ("0:N", "(2.)"),
+    ("1:N", "(2.)"),
+    ("2:M", "(2.)"),
     ("3:off", "----"),
 ];
 
@@ -43,12 +43,12 @@ fn count_of(places: &[Place], wanted: Place) -> u32 {
 
 /// Whether the memory blocks are drawn as at boot.
 fn is_drawn(alloc: Global, machine: &Machine) -> Outcome {
-    let blocks = picture_of(alloc, machine)?;
+    let blocks = picture_of(alloc, machine, true)?;
     if blocks.len() != DRAWN.len() {
         return Ok(false);
     }
     for (block, wanted) in blocks.iter().zip(DRAWN) {
-        if block.head.as_str() != wanted.0 || block.cells.as_str() != wanted.1 {
+        if block.head() != wanted.0 || block.ordered() != wanted.1 {
             return Ok(false);
         }
     }

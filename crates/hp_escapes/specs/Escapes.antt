@@ -1,0 +1,38 @@
+-- Texts as JSON has them between quotation marks (RFC 8259, section 7; own rule).
+use Rattle.std.specs.Prelude.{ℕ, ◌-◌, ◌^◌, ◌==◌, ◌&&◌, ◌||◌, nat_le, nat_lt, Bool, true, false, List, [], ◌++◌, codes, encode_utf8, if◌then◌else◌}
+use Rattle.std.specs.Fmt.{digits, format_spec, padded_integral}
+use Rattle.std.specs.List.{flat_map}
+use Rattle.std.specs.Str.{chars}
+use Rattle.hp_escapes.specs.declared.escapes.Brackets.{Brackets}
+use Rattle.hp_escapes.specs.declared.escapes.Brackets.TheVariants.{Kept, Escaped}
+
+abbrev pub are_escaped : Brackets → Bool
+are_escaped Kept = false
+are_escaped Escaped = true
+
+abbrev pub is_bracket : ℕ → Bool
+is_bracket c = (c == 91) || (c == 93)
+
+-- a control character, a separator of lines or paragraphs, or a mark of direction
+abbrev pub is_hidden : ℕ → Bool
+is_hidden c =
+    nat_lt c 32 || ((nat_le 127 c && nat_le c 159) || ((nat_le 8232 c && nat_le c 8238)
+    || (nat_le 8294 c && nat_le c 8297)))
+
+-- a character by its number: four digits or more in hexadecimal
+abbrev pub numbered : ℕ → List ℕ
+numbered c = codes "\\u" ++ padded_integral (format_spec 32 0 4 4 (2 ^ 64 - 1)) false [] (digits 16 false c)
+
+-- a character
+abbrev pub escaped : Brackets → ℕ → List ℕ
+escaped brackets c =
+    if c == 34 then codes "\\\""
+    else (if c == 92 then codes "\\\\"
+    else (if c == 10 then codes "\\n"
+    else (if c == 13 then codes "\\r"
+    else (if c == 9 then codes "\\t"
+    else (if is_hidden c || (are_escaped brackets && is_bracket c) then numbered c else encode_utf8 c)))))
+
+-- a text
+unfoldable pub escaped_text : Brackets → List ℕ → List ℕ
+escaped_text brackets text = flat_map (escaped brackets) (chars text)

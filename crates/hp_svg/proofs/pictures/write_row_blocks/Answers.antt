@@ -1,9 +1,0 @@
-use Rattle.hp_svg.specs.Pictures.{cells_text}
-use Rattle.hp_svg.proofs.Entries.{item_more}
-use Rattle.hp_svg.proofs.pictures.write_row_blocks.Goals as goal
-
-pub loop-number-preserved : goal.loop-number-preserved
-loop-number-preserved c =
-    item_more (cells_text c.args.sheet c.args.top c.args.label.now) c.args.blocks.now c.loop-number.number
-    c.index-blocks-number.result _ _ _ c.loop-number-test.true c.index-blocks-number.is
-    c.loop-number.invariant c.in_ok-write_cells_of.ensures

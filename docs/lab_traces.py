@@ -1,0 +1,213 @@
+"""What check_lab.py compares of `hotplug_lab trace`, with its options, and of its pictures."""
+import json
+import re
+from collections import Counter
+from xml.etree import ElementTree
+
+
+# Traces
+
+COLUMNS = 55
+HOSTILE = "\x1b[31m\n\x9b]0:N[....]\u2028"
+
+
+def shown(call):
+    """A text of a scenario as a trace has it."""
+    hidden = r'["\\\x00-\x1f\x7f-\x9f\u2028-\u202e\u2066-\u2069\[\]]'
+    short = {'"': '\\"', "\\": "\\\\", "\n": "\\n", "\r": "\\r", "\t": "\\t"}
+    return re.sub(hidden, lambda m: short.get(m[0], f"\\u{ord(m[0]):04x}"), call)
+
+
+def unfolded(text):
+    """The rows and the other lines of a trace; what stands below the columns goes on with a row,
+    after a null character."""
+    rows = []
+    for line in text.splitlines():
+        if line.startswith(" " * 29):
+            rows[-1] += "\0" + line[29:]
+        else:
+            rows.append(line)
+    return rows
+
+
+def traced(text, calls):
+    """What each line answers in a trace, and the lines that it lacks. A row of a plan's call begins
+    with five spaces, and the memory in a row with block 0."""
+    answers = []
+    lacking = [f"{number:>4} {shown(call)}" for number, call in enumerate(calls, 1)]
+    for line in unfolded(text)[1:]:
+        if lacking and line.startswith(lacking[0]):
+            answer = line.removeprefix(lacking.pop(0)).partition(" 0:")[0].strip(" \0")
+            answers += [answer] if answer else []
+        elif not line.startswith(" " * 5):
+            answers.append(line)
+    return answers, lacking
+
+
+def check_trace(checks, programs, name, scenario):
+    layout, calls = scenario["layout"], scenario["calls"]
+    expected = programs.serial(layout, calls).rpartition("state\nblock 0 ")[0].splitlines()
+    text = programs.trace(scenario)
+    answers, lacking = traced(text, calls)
+    checks.holds(f"trace of {name}", not lacking, f"lacks {lacking}")
+    checks.holds(f"trace of {name}", answers == expected, f"{answers} in place of {expected}")
+    checks.holds(f"trace of {name}", is_harmless(text), "has a control character")
+
+
+def is_harmless(text):
+    return not re.search(r"[\x00-\x09\x0b-\x1f\x7f-\x9f\u2028-\u202e]", text)
+
+
+def check_columns(checks, programs, name, scenario):
+    for line in programs.trace(scenario, "--width", "100").splitlines():
+        first = re.search(r" [0-9]+:[^ \[]*\[", line)
+        where = f"trace --width 100 of {name}"
+        checks.holds(where, not first or first.start() == COLUMNS, f"not in its column: {line!r}")
+        checks.holds(where, not first or len(line) <= 100, f"too long: {line!r}")
+
+
+# Free blocks by their orders
+
+BLOCK = re.compile(r" [0-9]+:([^ \[]*)\[([^]]*)\]")
+BRACKETS = re.compile(r"\([0-9]*\.*\)|\{[0-9]*:*\}|[.:]")
+
+
+def order_of(block):
+    """The order of a free block between its brackets, and whether it has that many frames."""
+    order = len(block).bit_length() - 1
+    digits = "" if order < 2 else str(order)
+    return order, len(block) == 1 << order and block[1:-1].rstrip(".:") == digits
+
+
+def plain(text):
+    """A trace with orders as one without."""
+    return BRACKETS.sub(lambda m: (":" if m[0][0] in ":{" else ".") * len(m[0]), text)
+
+
+def counted(row, orders):
+    """As `cat buddyinfo` says it: the free blocks of each order in each zone of a row."""
+    counts = {"N": [0] * orders, "M": [0] * orders}
+    for head, cells in BLOCK.findall(row):
+        for block in BRACKETS.findall(cells):
+            counts[head[0]][order_of(block)[0]] += 1
+    return [counts["N"], counts["M"]]
+
+
+def check_orders(checks, programs, name, scenario):
+    where, wide = f"trace --orders of {name}", ("--width", "1000000")
+    text = programs.trace(scenario, "--orders", *wide)
+    drawn = "".join(cells + "|" for _, cells in BLOCK.findall(text))
+    sizes = all(order_of(block)[1] for block in BRACKETS.findall(drawn))
+    again = BLOCK.sub(lambda m: plain(m[0]), text)
+    checks.holds(where, sizes, "a free block has not 2^order frames")
+    checks.holds(where, again == programs.trace(scenario, *wide), "not the trace but for brackets")
+    asked = [call for line in scenario["calls"] for call in (line, "0 cat buddyinfo")]
+    rows = unfolded(programs.trace({**scenario, "calls": asked}, "--orders", *wide))
+    said = [at for at, row in enumerate(rows) if row[4:].startswith(" 0 cat buddyinfo ")]
+    checks.holds(where, len(said) == asked.count("0 cat buddyinfo"), "lacks rows")
+    for at in said:
+        info = [[int(word) for word in line.split()[4:]] for line in rows[at + 1:at + 3]]
+        here = counted(rows[at], scenario["layout"]["order"] + 1)
+        checks.holds(where, here == info, f"{here} in place of {info} in {rows[at]!r}")
+
+
+# Pictures
+
+SVG = "{http://www.w3.org/2000/svg}"
+MEANINGS = {".": "free", ":": "free and isolated", "-": "offline", " ": "absent", "K": "the kernel"}
+
+
+def meaning(mark, names):
+    """What a character of a trace means, as the legend has it; the owners' names in their order."""
+    if mark.isdigit():
+        return f"list of processor {mark}"
+    if mark in MEANINGS:
+        return MEANINGS[mark]
+    return f"page of {names[ord(mark) - ord('a')]}"
+
+
+def owners(calls):
+    """The names of owners, in the order in which lines name them."""
+    accesses = [call.split(" ")[2] for call in calls
+                if call.split(" ")[1] in ("map", "unmap", "write", "read")]
+    return list(dict.fromkeys(accesses))
+
+
+def texts_in(elements):
+    """The texts that are not written on cells."""
+    texts = [element for element in elements if element.tag == SVG + "text"]
+    return [text.text for text in texts if text.get("font-size") is None]
+
+
+def is_cell(element):
+    return element.get("height") == "12"
+
+
+def pictured(svg):
+    """The texts of a picture's rows, how many cells of each meaning they have, and how many
+    outlines of each width."""
+    root = ElementTree.fromstring(svg)
+    rows = root.find(SVG + "g")
+    above = list(root)[:list(root).index(rows)]
+    fills = [element.get("fill") for element in above if is_cell(element)]
+    legend = dict(zip(fills, texts_in(above)))
+    cells, outlines = Counter(), Counter()
+    for box in rows.iter(SVG + "rect"):
+        if is_cell(box):
+            cells[legend[box.get("fill")]] += int(box.get("width")) // 8
+        elif box.get("fill") == "none":
+            outlines[(int(box.get("width")) + 2) // 8] += 1
+    return texts_in(rows), cells, outlines
+
+
+def label_of(label):
+    """What was asked and what was answered, which stand before the memory blocks."""
+    first, _, second = label.partition("\0")
+    if second and not re.match(" [0-9]+: ", first[29:]):
+        return first, second
+    return first[:29], first[29:]
+
+
+def words_of(text):
+    """The texts of a trace as a picture has them: what was asked, what was answered, and the head
+    of each memory block; and lines without memory blocks."""
+    words = []
+    for line in unfolded(text):
+        block = BLOCK.search(line)
+        asked, answer = label_of(line[:block.start()]) if block else (line, "")
+        words += [part for part in (asked.rstrip(), answer.strip()) if part]
+        words += [f" {head}" for head in re.findall(r" ([0-9]+:[^ \[]*)\[", line)]
+    return words
+
+
+def check_picture(checks, programs, name, scenario):
+    text = programs.trace(scenario, "--width", "1000000")
+    orders = programs.trace(scenario, "--orders", "--width", "1000000")
+    marks = "".join(cells for _, cells in BLOCK.findall(text)).replace("|", "")
+    drawn = "".join(cells + "|" for _, cells in BLOCK.findall(orders))
+    svg = programs.trace(scenario, "--svg")
+    texts, cells, outlines = pictured(svg)
+    where, wanted = f"picture of {name}", words_of(text)
+    checks.holds(where, texts == wanted, f"{texts} in place of {wanted}")
+    names = owners(scenario["calls"])
+    counts = Counter(meaning(mark, names) for mark in marks)
+    checks.holds(where, cells == counts, f"{cells} in place of {counts}")
+    sizes = Counter(map(len, BRACKETS.findall(drawn)))
+    checks.holds(where, outlines == sizes, f"{outlines} in place of {sizes}")
+    checks.holds(where, is_harmless(svg), "has a control character")
+
+
+def hostile(root):
+    """The tour, with texts that look like memory blocks and have what a terminal obeys."""
+    scenario = json.loads((root / "examples/tour.json").read_text())
+    calls = [f"0 echo {HOSTILE} memory1/state", f"0 cat {HOSTILE}", f"0 echo 1 memory0/{HOSTILE}"]
+    return {**scenario, "calls": scenario["calls"] + calls}
+
+
+def check_drawn(checks, programs, name, scenario):
+    check_trace(checks, programs, name, scenario)
+    check_columns(checks, programs, name, scenario)
+    check_orders(checks, programs, name, scenario)
+    check_picture(checks, programs, name, scenario)
+    text = programs.check({**scenario, "calls": scenario["calls"] + [f"0 {HOSTILE}"]})
+    checks.holds(f"check of {name}", is_harmless(text), "has a control character")
