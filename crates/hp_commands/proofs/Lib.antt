@@ -1,4 +1,5 @@
 pub mod Audited
+pub mod Called
 pub mod EventsDue
 pub mod FilesDue
 pub mod Lines

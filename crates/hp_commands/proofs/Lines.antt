@@ -22,7 +22,7 @@ unfolding WritesLines
 lines_none m xs old = record { text = []; grown = sym (append-nil old); is = (refl, refl) }
 
 -- one more line at the end
-one_more : (xs : List Line) (line : Line) (m mid new : MachineValue) (text written : List ℕ)
+pub one_more : (xs : List Line) (line : Line) (m mid new : MachineValue) (text written : List ℕ)
     → WritesLines m xs text mid → WritesLine mid line written new
     → WritesLines m (xs ++ line ∷ []) (text ++ written) new
 unfolding WritesLines

@@ -1,4 +1,5 @@
 pub mod Audits
+pub mod Called
 pub mod Events
 pub mod FaultText
 pub mod Faults

@@ -1,9 +1,10 @@
 //! The text of a scenario.
-ghost use Rattle.std.specs.Prelude.{◌≡◌, [], OnOk, IfOk, IfErr, string_bytes};
+ghost use Rattle.std.specs.Prelude.{◌≡◌, [], OnOk, IfOk, IfErr, IfSome, IsTrue, string_bytes};
 ghost use Rattle.hp_machine.specs.Machine.{booted};
 ghost use Rattle.hp_scenario.specs.Gives.{Fails, Gives};
 ghost use Rattle.hp_scenario.specs.Scenario.{scenario_in};
 ghost use Rattle.hp_scenario.specs.Seen.{scenario_seen};
+ghost use Rattle.hp_commands.specs.Called.{WritesAll};
 ghost use Rattle.hp_commands.specs.Serial.{GrowsBy, WritesLine, WritesLines, serial_text};
 ghost use Rattle.hp_commands.specs.Served.{IsTextOf};
 
@@ -12,14 +13,91 @@ use crate::files::{write_file, write_request};
 use crate::plans::write_plan;
 use crate::seals::write_seal;
 use hp_machine::Machine;
-use hp_scenario::{Line, Scenario, ScenarioFault, Work};
+use hp_scenario::{Calls, Line, Next, Scenario, ScenarioFault, Work};
 use hp_text::write_state;
 use hp_units::Layout;
+use json::Scratch;
 use std::alloc::{AllocError, Global};
 
-/// The text of a scenario: what each line writes, and then the state. It takes the input, which is
-/// dropped once it is read.
+/// The text of a scenario: what each line writes, and then the state. Where the input has the usual
+/// form each line is run as it is read; else, and where it has a fault, the lines are read before the
+/// first one is run.
 pub fn serial(alloc: Global, input: Vec<u8>) -> Result<String, ScenarioFault>
+    ensures ok { IfOk result (λ out. IsTextOf input.items (string_bytes out)) }
+    ensures err { IfErr result (λ fault. Fails fault (serial_text input.items)) }
+{
+    match usual_text(alloc, &input) {
+        Ok(Some(out)) => Ok(out),
+        Ok(None) => any_text(alloc, input),
+        Err(AllocError) => Err(ScenarioFault::OutOfMemory),
+    }
+}
+
+/// The text of a scenario in its usual form, with no fault. None says nothing.
+fn usual_text(alloc: Global, input: &[u8]) -> Result<Option<String>, AllocError>
+    ensures { IfOk result (λ out. IfSome out (λ out. IsTextOf input.now (string_bytes out))) }
+{
+    let mut scratch = Scratch::new(alloc);
+    text_with(alloc, input, &mut scratch)
+}
+
+/// The same with room for the reader.
+fn text_with(
+    alloc: Global,
+    input: &[u8],
+    scratch: &mut Scratch,
+) -> Result<Option<String>, AllocError>
+    ensures { IfOk result (λ out. IfSome out (λ out. IsTextOf input.now (string_bytes out))) }
+{
+    let Some(mut calls) = Calls::open(alloc, input, scratch)? else {
+        return Ok(None);
+    };
+    let count = input.len() / 16;
+    let mut machine = boot(alloc, calls.layout(), count)?;
+    let mut out = room_for(alloc, count)?;
+    if !write_calls(&mut out, alloc, &mut machine, &mut calls)? {
+        return Ok(None);
+    }
+    let end = machine.image(alloc)?;
+    write_state(&mut out, alloc, &end, calls.names())?;
+    Ok(Some(out))
+}
+
+/// Runs lines as they are read, and writes what each answers; whether these were all, and there is
+/// no fault.
+fn write_calls(
+    out: &mut String,
+    alloc: Global,
+    machine: &mut Machine,
+    calls: &mut Calls<'_>,
+) -> Result<bool, AllocError>
+    ensures { IfOk result (λ sure. IsTrue sure → WritesAll calls.old calls.new
+        (string_bytes out.old) (string_bytes out.new) machine.old machine.new) }
+{
+    loop {
+        match calls.next(alloc)? {
+            Next::Another(line) => write_taken(out, alloc, machine, line)?,
+            Next::End => return Ok(true),
+            Next::Unsure => return Ok(false),
+        }
+    }
+}
+
+/// Runs a line that is dropped then, and writes what it answers.
+fn write_taken(
+    out: &mut String,
+    alloc: Global,
+    machine: &mut Machine,
+    line: Line,
+) -> Result<(), AllocError>
+    ensures { OnOk result (GrowsBy (string_bytes out.old) (string_bytes out.new)
+        (λ text. WritesLine machine.old line text machine.new)) }
+{
+    write_line(out, alloc, machine, &line)
+}
+
+/// The text of any scenario. It takes the input, which is dropped once it is read.
+fn any_text(alloc: Global, input: Vec<u8>) -> Result<String, ScenarioFault>
     ensures ok { IfOk result (λ out. IsTextOf input.items (string_bytes out)) }
     ensures err { IfErr result (λ fault. Fails fault (serial_text input.items)) }
 {
@@ -48,11 +126,11 @@ pub(crate) fn boot(alloc: Global, layout: &Layout, lines: usize) -> Result<Machi
     Ok(machine)
 }
 
-/// The scenario that the input is, which is dropped.
+/// The scenario that the input is, which is dropped once it is read.
 fn read_scenario(alloc: Global, input: Vec<u8>) -> Result<Scenario, ScenarioFault>
     ensures { Gives scenario_seen result (scenario_in input.items) }
 {
-    Scenario::read(alloc, &input)
+    Scenario::read_any(alloc, &input)
 }
 
 /// An empty text with room for the answers of so many lines, most of which have no more than 24 bytes.

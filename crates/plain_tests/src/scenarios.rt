@@ -1,4 +1,5 @@
 //! Scenarios and the lines of each processor, from texts of one layout.
+mod forms;
 mod parts;
 mod scripts;
 mod shapes;

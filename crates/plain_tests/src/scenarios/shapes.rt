@@ -111,11 +111,13 @@ fn nested(alloc: Global, depth: usize) -> Result<String, Fail> {
 
 #[test]
 fn refuses_deep_lists(rt: HostRuntime) -> Result<(), Fail> {
-    let deep = nested(rt.alloc(), 200)?;
-    assert_eq!(rt;
-        fault_of(rt.alloc(), deep.as_str()),
-        Some(ScenarioFault::NotJson)
-    );
+    for (depth, fault) in [
+        (127, ScenarioFault::BadShape),
+        (128, ScenarioFault::NotJson),
+    ] {
+        let deep = nested(rt.alloc(), depth)?;
+        assert_eq!(rt; fault_of(rt.alloc(), deep.as_str()), Some(fault), "{depth}");
+    }
     Ok(())
 }
 

@@ -1,7 +1,7 @@
 use Rattle.std.proofs.lemmas.Result.{err_from_is_err_and}
 use Rattle.hp_scenario.specs.Seen.{scenario_seen}
 use Rattle.hp_commands.proofs.Served.{serial_fails, ran_text}
-use Rattle.hp_commands.proofs.serial.serial.Goals as goal
+use Rattle.hp_commands.proofs.serial.any_text.Goals as goal
 
 pub returns-in_err-layout-clause-err : goal.returns-in_err-layout-clause-err
 returns-in_err-layout-clause-err c =

@@ -1,0 +1,107 @@
+//! Texts of an unusual form.
+use super::{LAYOUT, text_of};
+use hp_scenario::{Calls, Next, Scenario, ScenarioFault};
+use json::Scratch;
+use std::alloc::{AllocError, Global};
+use std::test::Fail;
+
+const CALLS: &str = r#""0 kalloc 1","0 map db 3","1 undo 0""#;
+
+/// A scenario with a text in place of another that stands in it.
+fn changed(alloc: Global, old: &str, new: &str) -> Result<String, Fail> {
+    let text = text_of(alloc, LAYOUT, CALLS)?;
+    Ok(text.replace(alloc, old, new)?)
+}
+
+/// Parts of a scenario, and what means the same in their place.
+const SAME: &[(&str, &str)] = &[
+    ("", ""),
+    (
+        "\"order\":2,\"pageblocks\":1",
+        "\"pageblocks\":1,\"order\":2",
+    ),
+    ("\"order\":2", "\"order\":3,\"order\":2"),
+    ("{\"layout\":", "{\"calls\":[],\"layout\":"),
+    ("kalloc 1", "k\\u0061lloc\\u00201"),
+    ("\"calls\"", "\"c\\u0061lls\""),
+    ("\"calls\":[", " \"calls\"\t:\r\n [ "),
+];
+
+/// Whether what was read is a scenario of three lines and one name, of blocks up to 2^2 frames.
+fn is_the_scenario(read: Result<Scenario, ScenarioFault>) -> bool {
+    match read {
+        Ok(scenario) => {
+            scenario.lines.as_slice().len() == 3
+                && scenario.names.len() == 1
+                && scenario.layout.order() == 2
+        }
+        Err(_) => false,
+    }
+}
+
+#[test]
+fn reads_other_forms(rt: HostRuntime) -> Result<(), Fail> {
+    for (old, new) in SAME {
+        let text = changed(rt.alloc(), old, new)?;
+        assert!(rt;
+            is_the_scenario(Scenario::read(rt.alloc(), text.as_bytes())),
+            "{new}"
+        );
+        assert!(rt;
+            is_the_scenario(Scenario::read_any(rt.alloc(), text.as_bytes())),
+            "{new}"
+        );
+    }
+    Ok(())
+}
+
+/// Whether a text is a scenario in its usual form of one line and one name.
+fn is_one_line(alloc: Global, text: &str, scratch: &mut Scratch) -> Result<bool, AllocError> {
+    let Some(mut calls) = Calls::open(alloc, text.as_bytes(), scratch)? else {
+        return Ok(false);
+    };
+    let first = calls.next(alloc)?;
+    let last = calls.next(alloc)?;
+    let is_usual = matches!(first, Next::Another(_)) && matches!(last, Next::End);
+    Ok(is_usual && calls.names().len() == 1 && calls.layout().order() == 2)
+}
+
+#[test]
+fn takes_line_by_line(rt: HostRuntime) -> Result<(), Fail> {
+    let text = text_of(rt.alloc(), LAYOUT, "\"0 map db 3\"")?;
+    let mut scratch = Scratch::new(rt.alloc());
+    assert!(rt; is_one_line(rt.alloc(), text.as_str(), &mut scratch)?);
+    Ok(())
+}
+
+/// Parts of a scenario, and what is a fault in their place.
+const FAULTS: &[(&str, &str, ScenarioFault)] = &[
+    ("\"order\":2", "\"order\":2.0", ScenarioFault::BadShape),
+    ("\"order\":2", "\"order\":2e0", ScenarioFault::BadShape),
+    ("\"order\":2", "\"order\":\"2\"", ScenarioFault::BadShape),
+    ("\"order\":2", "\"order\":02", ScenarioFault::NotJson),
+    (
+        "\"calls\"",
+        "\"other\":1,\"calls\"",
+        ScenarioFault::BadShape,
+    ),
+    ("\"0 kalloc 1\"", "0", ScenarioFault::BadShape),
+    ("\"1 undo 0\"", "\"1 undo 0\",", ScenarioFault::NotJson),
+    (
+        "kalloc 1",
+        "kalloc\\u00001",
+        ScenarioFault::BadLine { line: 1 },
+    ),
+    ("undo 0", "undo 00", ScenarioFault::BadLine { line: 3 }),
+    ("{\"layout\"", "\u{feff}{\"layout\"", ScenarioFault::NotJson),
+];
+
+#[test]
+fn refuses_other_forms(rt: HostRuntime) -> Result<(), Fail> {
+    for (old, new, fault) in FAULTS {
+        let text = changed(rt.alloc(), old, new)?;
+        let found = Scenario::read(rt.alloc(), text.as_bytes()).err();
+        assert_eq!(rt; found, Some(*fault), "{new}");
+    }
+    Ok(())
+}
