@@ -7,7 +7,12 @@ use std::test::Fail;
 /// Whether a path is that of a block's file `online`.
 fn is_online_of(path: &str, block: u32) -> bool {
     match file_at(path) {
-        Some(File::OfBlock { block: Block(of), file: BlockFile::Online }) => of == block,
+        Some(
+            File::OfBlock {
+                block: Block(of),
+                file: BlockFile::Online,
+            },
+        ) => of == block,
         _ => false,
     }
 }
