@@ -2,9 +2,9 @@
 //! undos, and of explorations.
 //!
 //! Each module tests one crate through what it makes public: `memories` tests hp_memory,
-//! `histories` and `volumes` hp_history, `machines` and `seals` hp_machine, `explorations` and
-//! `merges` hp_explore; `layouts` are the layouts that they share. The crate has nothing but tests:
-//! run them by `rt test` in this folder.
+//! `histories` and `volumes` hp_history, `machines` hp_machine, `explorations` and `merges`
+//! hp_explore; `layouts` are the layouts that they share. The crate has nothing but tests: run them
+//! by `rt test` in this folder.
 #![tactic(auto)]
 
 #[cfg(test)]
@@ -19,7 +19,5 @@ mod machines;
 mod memories;
 #[cfg(test)]
 mod merges;
-#[cfg(test)]
-mod seals;
 #[cfg(test)]
 mod volumes;
