@@ -31,7 +31,7 @@ class Sources:
     """The functions of the files of a crate's src/, by their paths below the crate."""
 
     def __init__(self, files):
-        self.files, self.types, self.functions = files, set(), {}
+        self.files, self.types, self.traits, self.functions = files, set(), {}, {}
         for file, text in self.files.items():
             self.types |= {(self.module(file), kind) for kind in TYPE.findall(text)}
         for file, text in self.files.items():
@@ -70,7 +70,9 @@ class Sources:
         if trait and trait.strip() != "Drop":
             name, _, given = trait.strip().partition("<")
             given = re.findall(r"\w{2,}", re.sub(r"'\w+|\w+\s*::", "", given.partition("<")[0]))
-            return here, "".join([kind, name.split("::")[-1].strip(), *given])
+            name = "".join([kind, name.split("::")[-1].strip(), *given])
+            self.traits["::".join(filter(None, [here, name]))] = kind
+            return here, name
         homes = [module for module, name in self.types if name == kind]
         return here if here in homes else min(homes, default=here), kind
 
@@ -95,6 +97,14 @@ class Sources:
         others = [it.rpartition("::")[2] for it, (_, one) in self.functions.items() if cycle and one.cycle == cycle]
         owners = [it for it in others if goal.startswith(f"{it}-")]
         return not others or path.rpartition("::")[2] == max(owners, key=len, default="")
+
+    def kinds_reaching(self, paths):
+        """Returns the types of whose traits a function is one of these or calls one: who names such a type may reach
+        them with no call of theirs in sight."""
+        names = {it.rpartition("::")[2] for it in paths}
+        homes = {it: it.rpartition("::")[0] for it in self.functions}
+        reach = [it for it, home in homes.items() if home in self.traits and (it in paths or names & self.called_by(it))]
+        return {self.traits[homes[it]] for it in reach}
 
     def called_by(self, path):
         """Returns the names of all that a function may call, and of what these may call."""
