@@ -80,7 +80,7 @@ impl Course {
         ensures limits { IfOk result (λ _. IsLayout layout.now) }
     {
         let base = Image::boot(alloc, layout)?;
-        let memory = Memory::boot(alloc, layout)?;
+        let memory = Memory::from_image(alloc, &base)?;
         Course::starting(alloc, base, memory, 0)
     }
 

@@ -1,6 +1,6 @@
 -- An operation among steps of which none was refused, with serials that rise: what its Begin made,
 -- and that it holds its rows or is over.
-use Rattle.std.proofs.Common.{◌≡◌, ◌≢◌, ℕ, suc, List, drop, take, false, slice_get, ap, sym, subst, ◌∙◌, arith, inl}
+use Rattle.std.proofs.Common.{◌≡◌, ◌≢◌, ℕ, suc, List, drop, take, ap, sym, subst, ◌∙◌, arith, inl}
 use Rattle.std.proofs.lemmas.List.{take-append-drop}
 use Rattle.hp_units.specs.LayoutParts.{LayoutParts, IsLayout}
 use Rattle.hp_units.specs.Memory.{Memory}

@@ -1,2 +1,3 @@
 pub mod Gained
+mod Receipts
 pub mod Runs

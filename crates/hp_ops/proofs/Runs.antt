@@ -1,114 +1,17 @@
 -- Steps of a driver's run, and its ends.
-use Rattle.std.proofs.Common.{◌⊎◌, one-mul, ◌≡◌, ℕ, ◌+◌, ◌*◌, ◌-◌, ◌<◌, ◌≤◌, Bool, true, false, cond, if◌then◌else◌, List, [], ◌∷◌, ◌++◌, Option, Some, None, refl, ap, sym, subst, ◌∙◌, append_assoc, append-nil, arith, inl, inr}
+use Rattle.std.proofs.Common.{◌⊎◌, one-mul, ◌≡◌, ℕ, ◌+◌, ◌*◌, ◌-◌, ◌<◌, Bool, true, false, cond, if◌then◌else◌, List, [], ◌∷◌, ◌++◌, Option, Some, None, refl, ap, sym, subst, ◌∙◌, arith, inl, inr}
 use Rattle.std.specs.Prelude.{nat_lt}
 use Rattle.std.specs.List.{last_or}
-use Rattle.std.specs.Option.{option_map_or, option_and_then}
-use Rattle.std.proofs.lemmas.Bool.{lt-ltb, le-ltb, ltb-true, ltb-false}
+use Rattle.std.specs.Option.{option_map_or}
+use Rattle.std.proofs.lemmas.Bool.{le-ltb, ltb-true}
 use Rattle.std.proofs.Math.Nat.{add-mul}
 use Rattle.std.specs.Prelude.{◌||◌}
-use Rattle.std.proofs.lemmas.List.Sums.{fold-append, sum_by-append, sum_by-cons}
-use Rattle.hp_units.specs.Driver.{AllNext, Ends, IsDriverRun, cause_after, cause_of, end_after, end_of, is_migrate, next_after, next_event, next_drain, migrate_or_cancel, opened_by, operation_of, tried}
+use Rattle.hp_units.specs.Driver.{Ends, IsDriverRun, cause_after, cause_of, end_after, is_migrate, next_after, next_event, next_drain, migrate_or_cancel, opened_by, operation_of, tried}
 use Rattle.hp_ops.specs.Names.{Item, Event, Begin, DrainFor, Migrate, Commit, Cancel, Reply, Done, Moved, Opened, Refused, Refusal, NoFrame, NoOp, NothingToMove, NotFree, Receipt, OpEnd, EndsDone, EndsRefused, EndsCancelled, EndsUndone, Driver, Stage, Begins, DrainsFor, Migrates, Commits, Cancels, Ended}
 use Rattle.hp_ops.specs.Ports.{IsBeginReply, IsDriverReply, IsGiven, IsLiveReply, PortValue, has_opened, is_opened, with_receipts}
-use Rattle.hp_ops.specs.Stages.{EndsAs, Follows, IsAfter, MovesOn, end_in, event_in, work_in}
+use Rattle.hp_ops.specs.Stages.{IsAfter, MovesOn, end_in, event_in, work_in}
 use Rattle.hp_ops.specs.Courses.{IsUnderWay, calls_left, calls_to_turn, operation_in}
-
--- ---- one receipt more
-
--- the last of a list with one item more
-last_push : {A : Type 0} (o : Option A) (xs : List A) (x : A) → last_or o (xs ++ x ∷ []) ≡ Some x
-last_push o [] x = refl
-last_push o (y ∷ ys) x = last_push (Some y) ys x
-
--- each receipt is the next one, and so is one more
-all_push : (cpus turns : ℕ) (plan : List Item) (earlier rs : List Receipt) (r : Receipt)
-    → AllNext cpus turns plan earlier rs → next_event cpus turns plan (earlier ++ rs) ≡ Some r.event
-    → AllNext cpus turns plan earlier (rs ++ r ∷ [])
-all_push cpus turns plan earlier [] r h e =
-    (subst (λ (xs : List Receipt). next_event cpus turns plan xs ≡ Some r.event) (append-nil earlier) e, tt)
-all_push cpus turns plan earlier (x ∷ rs) r h e = (
-  h.0,
-  all_push cpus turns plan (earlier ++ x ∷ []) rs r h.1 (subst (λ (xs : List Receipt).
-      next_event cpus turns plan xs ≡ Some r.event) (sym (append_assoc earlier (x ∷ []) rs)) e),
-)
-
--- what is next after one receipt more
-next_push : (cpus turns : ℕ) (plan : List Item) (rs : List Receipt) (r : Receipt)
-    → next_event cpus turns plan (rs ++ r ∷ []) ≡ next_after cpus turns (rs ++ r ∷ []) r.event r.reply
-next_push cpus turns plan rs r =
-    ap (λ (o : Option Receipt). option_map_or (λ x. next_after cpus turns (rs ++ r ∷ []) x.event x.reply) o
-    (Some (Begin plan))) (last_push None rs r)
-
--- the last refusal, the number of migrations and the operation after one receipt more
-cause_push : (rs : List Receipt) (r : Receipt)
-    → cause_of (rs ++ r ∷ []) ≡ cause_after (cause_of rs) r.event r.reply
-cause_push rs r =
-    fold-append (λ (cause : Option Refusal) (x : Receipt). cause_after cause x.event x.reply) None rs (r ∷ [])
-
-count_push : (rs : List Receipt) (r : Receipt)
-    → tried (rs ++ r ∷ []) ≡ tried rs + cond (is_migrate r.event) 1 0
-count_push rs r =
-    omega (
-      arith,
-      sum_by-append (λ (x : Receipt). cond (is_migrate x.event) 1 0) rs (r ∷ []),
-      sum_by-cons (λ (x : Receipt). cond (is_migrate x.event) 1 0) r [],
-    )
-
--- the end after one receipt more
-end_push : (rs : List Receipt) (r : Receipt)
-    → end_of (rs ++ r ∷ []) ≡ end_after (cause_after (cause_of rs) r.event r.reply) r.event r.reply
-end_push rs r =
-    ap (λ (o : Option Receipt). option_and_then (λ x. end_after (cause_of (rs ++ r ∷ [])) x.event x.reply) o)
-    (last_push None rs r)
-    ∙ ap (λ (w : Option Refusal). end_after w r.event r.reply) (cause_push rs r)
-
--- ---- the driver's value moves on
-
--- whether a migration is left
-pub left_is : (n turns left : ℕ) → left ≡ turns - n → (b : Bool) → nat_lt n turns ≡ b → b ≡ nat_lt 0 left
-left_is n turns left is true h =
-    let below : n < turns = ltb-true n turns h in
-    sym (lt-ltb 0 left (omega (arith, below, is)))
-left_is n turns left is false h =
-    let above : turns ≤ n = ltb-false n turns h in
-    sym (le-ltb 0 left (omega (arith, above, is)))
-
--- one receipt more
-pub moved_on : (old new : Driver) (event : Event) (reply : Reply) → new.cpus ≡ old.cpus
-    → new.left ≡ old.left - cond (is_migrate event) 1 0 → new.why ≡ cause_after old.why event reply
-    → Follows new.cpus new.left event reply new.stage → EndsAs new.why event reply new.stage
-    → MovesOn old event reply new
-moved_on old new event reply same fewer why follows ends cpus turns earlier r asked replied at =
-    let rs = earlier ++ r ∷ [] in
-    let left : new.left ≡ turns - tried rs =
-    omega (
-      arith,
-      fewer,
-      at.left,
-      count_push earlier r,
-      ap {B = ℕ} (λ (e : Event). cond (is_migrate e) 1 0) asked,
-    ) in
-    let cause : new.why ≡ cause_of rs =
-    why ∙ (ap (λ (w : Option Refusal). cause_after w event reply) at.why
-    ∙ sym (cause_push earlier r ∙ (ap (λ (e : Event). cause_after (cause_of earlier) e r.reply) asked
-    ∙ ap (λ (y : Reply). cause_after (cause_of earlier) event y) replied))) in
-    record {
-      processors = same ∙ at.processors;
-      left = left;
-      why = cause;
-      next =
-          λ plan. follows turns plan rs (left_is (tried rs) turns new.left left _ refl)
-          ∙ (ap (λ (n : ℕ). next_after n turns rs event reply) (same ∙ at.processors)
-          ∙ sym (next_push cpus turns plan earlier r
-          ∙ (ap (λ (e : Event). next_after cpus turns rs e r.reply) asked
-          ∙ ap (λ (y : Reply). next_after cpus turns rs event y) replied)));
-      end =
-          ends
-          ∙ sym (end_push earlier r ∙ (ap (λ (w : Option Refusal). end_after w r.event r.reply)
-          (sym (cause_push earlier r) ∙ sym cause)
-          ∙ (ap (λ (e : Event). end_after new.why e r.reply) asked
-          ∙ ap (λ (y : Reply). end_after new.why event y) replied)));
-    }
+use Rattle.hp_ops.proofs.Receipts.{all_push, next_push, count_push, end_push}
 
 -- ---- what the next event is
 

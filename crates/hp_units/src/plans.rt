@@ -32,7 +32,8 @@ impl Model for Plan {
 }
 
 impl Plan {
-    /// The plan of these items. An error is out of memory.
+    /// The plan of these items, in a place of its own, for which it takes memory. An error is out
+    /// of memory.
     pub fn new(alloc: Global, items: Vec<Item>) -> Result<Plan, AllocError>
         ensures { IfOk result (λ plan. plan ≡ items.items) }
     {
@@ -99,7 +100,8 @@ impl Model for Words {
 }
 
 impl Words {
-    /// The words of a vector. An error is out of memory.
+    /// The words of a vector, in a place of their own, for which it takes memory. An error is out
+    /// of memory.
     pub fn new(alloc: Global, words: Vec<u64>) -> Result<Words, AllocError>
         ensures { IfOk result (λ page. page ≡ words.items) }
     {

@@ -1,5 +1,5 @@
 use Rattle.std.proofs.Common.{refl}
-use Rattle.hp_ops.proofs.Runs.{moved_on}
+use Rattle.hp_ops.proofs.Receipts.{moved_on}
 use Rattle.hp_ops.proofs.stages.Driver.answer.Goals as goal
 
 pub returns : goal.returns
