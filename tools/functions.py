@@ -14,6 +14,11 @@ ITEM = re.compile(
 CLAUSE = re.compile(r"\b(requires|ensures|ghost)\b")
 # The attribute of functions that call one another.
 CYCLE = re.compile(r"#\[cycle\((\w+)\)\]")
+# What makes a function no plain one: its attribute or a word before it, and type parameters after its name.
+NOT_PLAIN = re.compile(r"\b(?:const|unsafe|extern)\b[^\n]*\Z")
+PARAMETERS = re.compile(r"fn\s+\w+\s*<([^>]*)>")
+# The body of a function that is taken by its contract.
+NO_BODY = "{ unreachable!() }"
 # A call, by the last word of its path.
 CALL = re.compile(r"(\w+)\s*(?:::<[^>]*>)?\(")
 
@@ -134,6 +139,26 @@ class Sources:
                 if old[a.body : a.end] != text[b.body : b.end]:
                     new[a.path] = text[b.start : b.end]
         return new, "" if new else "it changes no body"
+
+    def is_plain(self, file, text, it):
+        """Whether a function can be taken by its contract: one of a module or a type's own, without type parameters."""
+        home, _, name = it.path.rpartition("::")
+        is_own = home == self.module(file) or home in {"::".join(filter(None, kind)) for kind in self.types}
+        given = PARAMETERS.match(text[it.start : it.body])
+        kinds = [one for one in given[1].split(",") if not one.strip().startswith("'")] if given else []
+        is_special = it.cycle or kinds or name in ("drop", "main") or NOT_PLAIN.search(text[: it.start])
+        return is_own and home not in self.traits and not is_special
+
+    def by_contract(self, edits, kept):
+        """Returns the texts of all files with the edits made, and the functions other than the kept ones that have no
+        body there any more, being plain."""
+        texts, taken = {**self.files, **self.with_edits(edits)}, []
+        for file, text in texts.items():
+            for it in sorted(self.found(file, text), key=lambda it: -it.start):
+                if it.path not in kept and self.is_plain(file, text, it):
+                    texts[file] = texts[file][: it.body] + NO_BODY + texts[file][it.end :]
+                    taken.append(it.path)
+        return texts, taken
 
     def with_edits(self, edits):
         """Returns the texts of the files that the edits change."""
