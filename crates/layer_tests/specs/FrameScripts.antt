@@ -1,7 +1,5 @@
 -- What the tests' scripts are said to do.
-use Rattle.std.specs.Prelude.{ℕ, ◌≡◌, ◌+◌, ◌*◌, ◌<◌, Bool, true, false}
-use Rattle.hp_units.specs.LayoutParts.{LayoutParts}
-use Rattle.hp_tape.specs.Bounds.{batch_bound, give_bound, move_bound, steal_bound}
+use Rattle.std.specs.Prelude.{◌≡◌, ◌<◌, Bool, true, false}
 use Rattle.hp_tape.specs.declared.deltas.Delta.{Delta}
 use Rattle.hp_tape.specs.declared.deltas.Delta.TheVariants.{Link, Unlink}
 use Rattle.hp_tape.specs.declared.deltas.ListId.TheVariants.{Cpu as CpuList}
@@ -13,14 +11,6 @@ abbrev pub is_of_cpus : Delta → Bool
 is_of_cpus (Link (CpuList pool cpu) frame after) = true
 is_of_cpus (Unlink (CpuList pool cpu) frame after) = true
 is_of_cpus delta = false
-
--- lists of at most twelve frames that are drained
-abbrev pub short_drain_bound : LayoutParts → ℕ
-short_drain_bound l = 12 * (l.order + 2)
-
--- a turn of a script: a pageblock moved, lists drained, a frame stolen, or one taken or put
-abbrev pub turn_bound : LayoutParts → ℕ
-turn_bound l = move_bound l + short_drain_bound l + steal_bound l + (batch_bound l + give_bound l)
 
 -- lists and areas of pageblocks of four frames, with batches of one frame
 pub record IsSmall (c : CpusValue) (b : BuddyValue) : Type 0 where

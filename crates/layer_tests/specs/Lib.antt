@@ -1,4 +1,3 @@
-pub mod AreaScripts
 pub mod FrameScripts
 pub mod SmallLayouts
 pub mod SmallLinks
