@@ -13,7 +13,8 @@ run.
   as the single events that they make.
 - sealed: the mixes that undo nothing, sealed after every 100,000 calls, without the seals' time;
   the peer keeps no records.
-- serial: `hotplug serial` on scenarios of 16 MiB of each mix, on the medium layout.
+- serial: `hotplug serial` on scenarios of 16 MiB of each mix, on the medium layout; and the
+  instructions of each on 200,000 lines of the mix, in millions, where valgrind is there.
 - growth: `serial` of 20,000 and of 320,000 lines: how much more time each takes.
 - offline: a plan on 24 frames of 512 words that 8 processors' drains can't help, 4,096 turns.
 - maps: 6,000 lines of map and unmap on 1,024 frames of 512 words.
@@ -25,6 +26,7 @@ import hashlib
 import json
 import re
 import resource
+import shutil
 import subprocess
 import sys
 import tempfile
@@ -67,10 +69,26 @@ def in_turn(runs, ours, peer, stdin=None):
     return [a for a, _ in pairs], [b for _, b in pairs]
 
 
-def line(name, time, unit, ours, peer, peaks):
-    """One line of figures: a time and a peak of each, and their ratios."""
+def instructions(command, stdin):
+    """The millions of instructions of one run, as callgrind counts them."""
+    with open(stdin, "rb") as source:
+        run = subprocess.run(["valgrind", "--tool=callgrind", "--callgrind-out-file=/dev/null", *map(str, command)],
+                             stdin=source, stdout=subprocess.DEVNULL, stderr=subprocess.PIPE, check=True, text=True)
+    return int(re.search(r"Collected : ([0-9]+)", run.stderr)[1]) / 1e6
+
+
+def counts(ours, peer, scenario):
+    """A text of the instructions of both commands on a scenario, and their ratio; none without valgrind."""
+    if shutil.which("valgrind") is None:
+        return ""
+    ours, peer = instructions(ours, scenario), instructions(peer, scenario)
+    return f"   {ours:9.1f} {peer:9.1f} M   {ours / peer:6.2f}x"
+
+
+def line(name, time, unit, ours, peer, peaks, more=""):
+    """One line of figures: a time and a peak of each, and their ratios; and what more there is to say."""
     print(f"{name:24} {time(ours):10.2f} {time(peer):10.2f} {unit:3}{time(ours) / time(peer):6.2f}x"
-          f"   {peaks[0]:9.1f} {peaks[1]:9.1f} MiB {peaks[0] / peaks[1]:6.2f}x", flush=True)
+          f"   {peaks[0]:9.1f} {peaks[1]:9.1f} MiB {peaks[0] / peaks[1]:6.2f}x{more}", flush=True)
 
 
 def least(runs, time):
@@ -110,14 +128,15 @@ def calls(choice, folder, layouts, count, part=None):
             line(mix, nanoseconds, "ns", ours, peer, (ours.peak, peer.peak))
 
 
-def serial(choice, name, scenario):
-    """`hotplug serial` of one scenario; answers both least times."""
-    ours, peer = in_turn(choice.runs, [choice.ours / "hotplug/out/hotplug", "serial"], [PEER / "hotplug", "serial"],
-                         scenario)
+def serial(choice, name, scenario, counted=None):
+    """`hotplug serial` of one scenario; answers both least times. Instructions are those of the scenario `counted`."""
+    programs = [choice.ours / "hotplug/out/hotplug", "serial"], [PEER / "hotplug", "serial"]
+    ours, peer = in_turn(choice.runs, *programs, scenario)
     if len({run.hash for run in ours + peer}) != 1:
         sys.exit(f"{name}: the answers differ")
     ours, peer = least(ours, lambda run: run.wall), least(peer, lambda run: run.wall)
-    line(name, lambda run: run.wall * 1e3, "ms", ours, peer, (ours.peak, peer.peak))
+    more = counts(*programs, counted) if counted else ""
+    line(name, lambda run: run.wall * 1e3, "ms", ours, peer, (ours.peak, peer.peak), more)
     return ours.wall, peer.wall
 
 
@@ -185,9 +204,10 @@ def main():
         if "sealed" in parts:
             calls(choice, folder, layouts, choice.calls, 100_000)
         if "serial" in parts:
-            heading("serial of 16 MiB on the layout medium")
+            heading("serial of 16 MiB on the layout medium, and instructions of 200,000 lines")
             for mix in MIXES:
-                serial(choice, mix, generated(folder, mix, "medium", 10_000_000))
+                serial(choice, mix, generated(folder, mix, "medium", 10_000_000),
+                       generated(folder, mix, "medium", 200_000))
         if "growth" in parts:
             heading("serial of mixed lines on the layout medium")
             few = serial(choice, "20,000 lines", generated(folder, "mixed", "medium", 20_000))

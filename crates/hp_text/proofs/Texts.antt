@@ -1,5 +1,6 @@
 -- The texts of numbers, one more after another.
-use Rattle.std.proofs.Common.{◌≡◌, ℕ, ◌+◌, List, ◌++◌, sym, ap, ◌∙◌, append_assoc, append-nil, add-one}
+use Rattle.std.proofs.Common.{◌≡◌, ℕ, ◌+◌, List, ◌++◌, OnOk, Result, Ok, Err, sym, ap, ◌∙◌, append_assoc, append-nil, add-one}
+use Rattle.std.specs.Fmt.{decimal}
 use Rattle.hp_text.specs.State.{texts_below}
 
 -- before the first number
@@ -14,3 +15,11 @@ unfolding texts_below
 texts_more text n old now new piece p q r =
     q ∙ ap (λ (l : List ℕ). now ++ l) r ∙ ap (λ (l : List ℕ). l ++ text n) p ∙ append_assoc old
     (texts_below text n) (text n) ∙ ap (λ (k : ℕ). old ++ texts_below text k) (sym (add-one n))
+
+-- words and a number after them
+pub numbered : {A B : Type 0} (r : Result A B) (old new words text : List ℕ) (n m : ℕ)
+    → OnOk r (new ≡ old ++ words ++ decimal n) → n ≡ m → text ≡ words ++ decimal m → OnOk r (new ≡ old ++ text)
+numbered (Ok x) old new words text n m h same is =
+    h ∙ ap (λ (k : ℕ). old ++ words ++ decimal k) same ∙ append_assoc old words (decimal m)
+    ∙ ap (λ (t : List ℕ). old ++ t) (sym is)
+numbered (Err x) old new words text n m h same is = tt

@@ -1,10 +1,10 @@
 //! The answer to an event.
 ghost use Rattle.std.specs.Prelude.{◌≡◌, ◌++◌, OnOk, string_bytes};
-ghost use Rattle.std.specs.Fmt.{decimal};
 ghost use Rattle.hp_units.specs.Texts.{reply_text};
 ghost use Rattle.hp_text.specs.Answers.{bare_reply_line, fault_line, reply_line, sealed_line, unrecorded_line};
 
-use crate::numbers::write_number;
+use crate::numbers::{write_number, write_numbered};
+use crate::refusals::{write_fault_end, write_refusal};
 use hp_units::{CallFault, Reply, Serial};
 use std::alloc::AllocError;
 
@@ -22,7 +22,7 @@ pub fn write_reply(out: &mut String, reply: Reply) -> Result<(), AllocError>
     ensures { OnOk result (string_bytes out.new ≡ string_bytes out.old ++ bare_reply_line reply) }
 {
     write_words(out, reply)?;
-    out.push_str("\n")
+    out.push('\n')
 }
 
 /// Writes the words of a reply.
@@ -38,19 +38,14 @@ fn write_words(out: &mut String, reply: Reply) -> Result<(), AllocError>
         }
         Reply::Opened { op } => write_numbered(out, "opened ", op.0),
         Reply::Undone { count } => write_numbered(out, "undone ", count),
-        Reply::Refused(refusal) => write!(out, "refused {refusal}"),
+        Reply::Refused(refusal) => {
+            out.push_str("refused ")?;
+            write_refusal(out, refusal)
+        }
         Reply::Done => out.push_str("done"),
         Reply::Restored => out.push_str("restored"),
         Reply::Released => out.push_str("released"),
     }
-}
-
-/// Writes words and a number after them.
-fn write_numbered(out: &mut String, words: &str, number: u64) -> Result<(), AllocError>
-    ensures { OnOk result (string_bytes out.new ≡ string_bytes out.old ++ words.now ++ decimal number) }
-{
-    out.push_str(words)?;
-    write_number(out, number)
 }
 
 /// Writes why an event left no record, with a dash in place of a serial, as `-: fault HistoryFull`
@@ -58,14 +53,16 @@ fn write_numbered(out: &mut String, words: &str, number: u64) -> Result<(), Allo
 pub fn write_unrecorded(out: &mut String, fault: CallFault) -> Result<(), AllocError>
     ensures { OnOk result (string_bytes out.new ≡ string_bytes out.old ++ unrecorded_line fault) }
 {
-    writeln!(out, "-: fault {fault}")
+    out.push_str("-: fault ")?;
+    write_fault_end(out, fault)
 }
 
 /// Writes why an event left no record, as `fault HistoryFull` (own rule).
 pub fn write_call_fault(out: &mut String, fault: CallFault) -> Result<(), AllocError>
     ensures { OnOk result (string_bytes out.new ≡ string_bytes out.old ++ fault_line fault) }
 {
-    writeln!(out, "fault {fault}")
+    out.push_str("fault ")?;
+    write_fault_end(out, fault)
 }
 
 /// Writes how many records a seal handed out, as `sealed 3` (own rule).
@@ -73,5 +70,5 @@ pub fn write_sealed(out: &mut String, count: u64) -> Result<(), AllocError>
     ensures { OnOk result (string_bytes out.new ≡ string_bytes out.old ++ sealed_line count) }
 {
     write_numbered(out, "sealed ", count)?;
-    out.push_str("\n")
+    out.push('\n')
 }

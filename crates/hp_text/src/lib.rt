@@ -11,6 +11,7 @@ mod answers;
 mod files;
 mod numbers;
 mod plans;
+mod refusals;
 mod spelling;
 mod state;
 

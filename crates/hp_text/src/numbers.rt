@@ -18,6 +18,14 @@ pub(crate) fn write_number(out: &mut String, number: u64) -> Result<(), AllocErr
 pub(crate) fn write_word(out: &mut String, number: u64) -> Result<(), AllocError>
     ensures { OnOk result (string_bytes out.new ≡ string_bytes out.old ++ number_word number) }
 {
-    out.push_str(" ")?;
+    out.push(' ')?;
+    write_number(out, number)
+}
+
+/// Writes words and a number after them.
+pub(crate) fn write_numbered(out: &mut String, words: &str, number: u64) -> Result<(), AllocError>
+    ensures { OnOk result (string_bytes out.new ≡ string_bytes out.old ++ words.now ++ decimal number) }
+{
+    out.push_str(words)?;
     write_number(out, number)
 }

@@ -3,6 +3,8 @@ ghost use Rattle.std.specs.Prelude.{◌≡◌, ◌++◌, OnOk, codes, string_byt
 ghost use Rattle.hp_units.specs.Texts.{call_fault_text};
 ghost use Rattle.hp_text.specs.Plans.{cancel_word, end_words, operation_text, plan_line, why_text};
 
+use crate::numbers::write_number;
+use crate::refusals::{write_call_fault_name, write_refusal};
 use hp_units::{CallFault, OpEnd, Refusal, Serial};
 use std::alloc::AllocError;
 
@@ -12,7 +14,7 @@ pub fn write_plan_end(out: &mut String, end: OpEnd) -> Result<(), AllocError>
 {
     out.push_str("plan: ")?;
     write_words(out, end)?;
-    out.push_str("\n")
+    out.push('\n')
 }
 
 /// Writes how a plan ended.
@@ -21,7 +23,10 @@ fn write_words(out: &mut String, end: OpEnd) -> Result<(), AllocError>
 {
     match end {
         OpEnd::Done => out.push_str("done"),
-        OpEnd::Refused(refusal) => write!(out, "refused {refusal}"),
+        OpEnd::Refused(refusal) => {
+            out.push_str("refused ")?;
+            write_refusal(out, refusal)
+        }
         OpEnd::Cancelled { why, restored } => write_cancelled(out, why, restored),
         OpEnd::Undone => out.push_str("undone"),
         OpEnd::Left { op, fault } => write_left(out, op, fault),
@@ -43,7 +48,7 @@ fn write_why(out: &mut String, why: Option<Refusal>) -> Result<(), AllocError>
     ensures { OnOk result (string_bytes out.new ≡ string_bytes out.old ++ why_text why) }
 {
     match why {
-        Some(refusal) => write!(out, "{refusal}"),
+        Some(refusal) => write_refusal(out, refusal),
         None => out.push_str("-"),
     }
 }
@@ -55,7 +60,8 @@ fn write_left(out: &mut String, op: Option<Serial>, fault: CallFault) -> Result<
 {
     out.push_str("left ")?;
     write_operation(out, op)?;
-    write!(out, " {fault}")
+    out.push_str(" ")?;
+    write_call_fault_name(out, fault)
 }
 
 /// Writes an operation's number, or a dash.
@@ -63,7 +69,7 @@ fn write_operation(out: &mut String, op: Option<Serial>) -> Result<(), AllocErro
     ensures { OnOk result (string_bytes out.new ≡ string_bytes out.old ++ operation_text op) }
 {
     match op {
-        Some(op) => write!(out, "{op}"),
+        Some(op) => write_number(out, op.0),
         None => out.push_str("-"),
     }
 }

@@ -7,7 +7,7 @@ mod pages;
 
 pub(crate) use self::pages::name_of;
 use self::pages::write_pages;
-use crate::numbers::write_word;
+use crate::numbers::{write_numbered, write_word};
 use hp_plain::Image;
 use hp_units::{
     Auto, Block, Class, Cpu, Frame, Kind, Mobility, Order, Pageblock, Pool, Row, State, Text, Zone,
@@ -340,7 +340,9 @@ fn write_kernel_block(
     ensures { OnOk result (string_bytes out.new ≡ string_bytes out.old ++ kernel_line frame order) }
 {
     if let Some(order) = order {
-        writeln!(out, "kernel {frame} order {order}")?;
+        write_numbered(out, "kernel ", u64::from(frame.0))?;
+        write_numbered(out, " order ", u64::from(order.0))?;
+        out.push('\n')?;
     }
     Ok(())
 }

@@ -3,7 +3,7 @@ ghost use Rattle.std.specs.Prelude.{◌≡◌, ◌++◌, OnOk, option_map, strin
 ghost use Rattle.std.specs.List.{flat_map};
 ghost use Rattle.hp_text.specs.State.{name_of, number_word, owner_text, page_line, page_text, pages_text};
 
-use crate::numbers::write_word;
+use crate::numbers::{write_numbered, write_word};
 use hp_plain::Image;
 use hp_units::{Frame, Owner, Page, Text};
 use indexmap::IndexSet;
@@ -89,7 +89,11 @@ fn write_page_line(
     ensures { OnOk result
         (string_bytes out.new ≡ string_bytes out.old ++ page_line name.now page frame words.now) }
 {
-    write!(out, "page {name} {page} at {frame}:")?;
+    out.push_str("page ")?;
+    out.push_str(name)?;
+    write_word(out, u64::from(page.0))?;
+    write_numbered(out, " at ", u64::from(frame.0))?;
+    out.push(':')?;
     write_words(out, words)?;
     out.push('\n')?;
     Ok(())
