@@ -140,7 +140,8 @@ joined_more l base a b r leaves j = by_reply (is_refused r.reply) refl
 
 -- ---- the same call
 
-all_calls : (g : Setting) (h k : List Record) → AreAlike g h k → length (g.start ++ h) ≡ length (g.start ++ k)
+pub all_calls : (g : Setting) (h k : List Record) → AreAlike g h k
+    → length (g.start ++ h) ≡ length (g.start ++ k)
 all_calls g h k alike = omega (arith, length-append g.start h, length-append g.start k, alike.calls)
 
 -- has the same reply
@@ -251,7 +252,7 @@ script_same cpus cpu lines h k same begun =
     ∙ next_plain cpus (own_operation (receipts_of cpu k)) lines (receipts_of cpu k)))
 
 -- of a processor
-call_same : (g : Setting) (h k : List Record) (cpu : ℕ) → AreAlike g h k
+pub call_same : (g : Setting) (h k : List Record) (cpu : ℕ) → AreAlike g h k
     → next_call g cpu h ≡ next_call g cpu k
 unfolding next_call
 call_same g h k cpu alike = by_script (slice_get g.scripts cpu) refl
@@ -289,12 +290,13 @@ call_leaves g h cpu e all is = by_script (slice_get g.scripts cpu) refl is
 
 -- ---- the same continuations
 
-record PlaysAlike (g : Setting) (k : List Record) (rest : List ℕ) (end : List Record) : Type 0 where
-  other : List Record
-  played : from_news g k rest ≡ Some other
-  alike : AreAlike g end other
+pub record PlaysAlike (g : Setting) (k : List Record) (rest : List ℕ) (end : List Record) : Type 0 where
+  pub other : List Record
+  pub played : from_news g k rest ≡ Some other
+  pub alike : AreAlike g end other
 
-played_alike : (g : Setting) (rest : List ℕ) (h k end : List Record) → UndoNothing g.scripts → AreAlike g h k
+pub played_alike : (g : Setting) (rest : List ℕ) (h k end : List Record) → UndoNothing g.scripts
+    → AreAlike g h k
     → from_news g h rest ≡ Some end → PlaysAlike g k rest end
 played_alike g [] h k end all alike is = record {
   other = k;

@@ -4,25 +4,26 @@ use Rattle.std.specs.Prelude.{sum, sum_by}
 use Rattle.std.proofs.lemmas.Bool.{cases_lt}
 use Rattle.std.proofs.lemmas.List.{get_or_append_left, get_or_past, get_or_push, length-map, length_push}
 use Rattle.std.proofs.lemmas.Option.{same_Some, slice_get_read}
-use Rattle.hp_laws.proofs.Lists.{get_some}
+use Rattle.hp_laws.proofs.Lists.{get_push_cases, get_some}
 use Rattle.hp_units.specs.History.{net_of, value_of}
 use Rattle.hp_units.specs.Memory.{Memory}
 use Rattle.hp_units.specs.declared.replies.Record.{Record}
 use Rattle.hp_steps.specs.Steps.{StepsValue}
-use Rattle.hp_explore.specs.Alike.{IsClosed}
+use Rattle.hp_explore.specs.Alike.{AreAlike, IsClosed}
 use Rattle.hp_explore.specs.Ends.{AreCounted}
 use Rattle.hp_explore.specs.Faults.{HasMoreThan, IsWalkCause}
 use Rattle.hp_explore.specs.Notes.{TallyValue}
 use Rattle.hp_explore.specs.Outcomes.{OutcomeValue}
 use Rattle.hp_explore.specs.Schedules.{IsComplete, Setting, plays, schedule_of}
 use Rattle.hp_explore.specs.Seen.{AddsCounts, AreNoMore, AreSince, Grow, IsAddCause, IsLike, IsLikeAmong, IsMemo, IsSeen, MemoValue, SeenValue}
-use Rattle.hp_explore.specs.Walks.{Before, CountsBefore, CountsThrough, IsAt, Through}
+use Rattle.hp_explore.specs.Walks.{Before, CountsBefore, CountsThrough, HasRoomFrom, IsAt, IsWalkedBefore, IsWalkedThrough, Through}
 use Rattle.hp_explore.specs.declared.exploring.ExploreFault.{ExploreFault}
 use Rattle.hp_explore.specs.declared.tally.Ending.{Ending}
 use Rattle.hp_explore.proofs.Adding.{added_sums}
 use Rattle.hp_explore.proofs.Counting.{more_listed}
 use Rattle.hp_explore.proofs.Grown.{all_grow, all_more}
 use Rattle.hp_explore.proofs.Merges.{like_alike, merged, walked_seen}
+use Rattle.hp_explore.proofs.Rooms.{ordered_added, room_alike}
 
 -- ---- counts that were read
 
@@ -137,15 +138,38 @@ place_kept g p seen old new earlier here memory news closed is since grow before
 -- one more is kept
 pub memo_more : (g : Setting) (new : List Ending) (memo later : MemoValue) (seen : SeenValue)
     → later ≡ record memo { seen = memo.seen ++ seen ∷ [] } → IsMemo g new memo → IsSeen g new seen
-    → IsMemo g new later
-memo_more g new memo later seen is kept one =
+    → HasRoomFrom g (schedule_of seen.news) → IsMemo g new later
+memo_more g new memo later seen is kept one room =
     subst (IsMemo g new) (sym is)
-    (record { all = all_more g new memo.seen seen kept.all one; undo = kept.undo })
+    (record { all = all_more g new memo.seen seen kept.all one; room = roomy; undo = kept.undo })
+  where
+    roomy : (i : ℕ) (other : SeenValue) → slice_get (memo.seen ++ seen ∷ []) i ≡ Some other
+        → HasRoomFrom g (schedule_of other.news)
+    roomy i other h =
+        elim (get_push_cases memo.seen seen other i h) [
+          | inl there ↦ kept.room i other there
+          | inr here ↦ subst (λ (s : SeenValue). HasRoomFrom g (schedule_of s.news)) here.1 room
+        ]
 
 -- ---- one that is found again
 
+-- all goes on alike
+found_alike : (g : Setting) (p : StepsValue) (memo : MemoValue) (ends : List Ending) (memory : Memory)
+    (news : List Record) (cpus : ℕ) (counts : List ℕ)
+    → IsAt g p → IsMemo g ends memo → IsClosed (net_of (g.start ++ p.records)) → memory ≡ p.state
+    → news ≡ p.records → cpus ≡ length g.scripts
+    → (like : IsLikeAmong memo.seen memory news cpus counts) → AreAlike g like.1.news p.records
+found_alike g p memo ends memory news cpus counts here kept closed memory_is news_is cpus_is like =
+    like_alike g p ends like.1 here (kept.all like.0 like.1 like.2) alike closed
+  where
+    alike : IsLike like.1 p.state p.records (length g.scripts)
+    alike =
+        subst (λ (s : Memory). IsLike like.1 s p.records (length g.scripts)) memory_is
+        (subst (λ (h : List Record). IsLike like.1 memory h (length g.scripts)) news_is
+        (subst (λ (n : ℕ). IsLike like.1 memory news n) cpus_is like.3))
+
 -- what is added to the ends
-pub found_counted : (g : Setting) (p : StepsValue) (memo : MemoValue) (old new : List Ending)
+found_counted : (g : Setting) (p : StepsValue) (memo : MemoValue) (old new : List Ending)
     (memory : Memory) (news : List Record) (cpus : ℕ) (counts : List ℕ)
     → IsAt g p → IsMemo g old memo → memo.is_on ≡ true → IsClosed (net_of (g.start ++ p.records))
     → memory ≡ p.state → news ≡ p.records → cpus ≡ length g.scripts
@@ -153,17 +177,30 @@ pub found_counted : (g : Setting) (p : StepsValue) (memo : MemoValue) (old new :
     → CountsThrough g p new
 found_counted g p memo old new memory news cpus counts here kept on closed memory_is news_is cpus_is like
     before adds =
-    merged g (schedule_of p.records) p.records like.1 old new (kept.undo on) here.played (like_alike g p old
-    like.1 here seen alike closed) seen before (subst (λ (ks : List ℕ). AddsCounts old ks new) like.4 adds)
-  where
-    seen : IsSeen g old like.1
-    seen = kept.all like.0 like.1 like.2
+    merged g (schedule_of p.records) p.records like.1 old new (kept.undo on) here.played
+    (found_alike g p memo old memory news cpus counts here kept closed memory_is news_is cpus_is like)
+    (kept.all like.0 like.1 like.2) before (subst (λ (ks : List ℕ). AddsCounts old ks new) like.4 adds)
 
-    alike : IsLike like.1 p.state p.records (length g.scripts)
-    alike =
-        subst (λ (s : Memory). IsLike like.1 s p.records (length g.scripts)) memory_is
-        (subst (λ (h : List Record). IsLike like.1 memory h (length g.scripts)) news_is
-        (subst (λ (n : ℕ). IsLike like.1 memory news n) cpus_is like.3))
+-- and the history has room for what goes on from here
+pub found_walked : (g : Setting) (p : StepsValue) (memo : MemoValue) (old new : List Ending)
+    (memory : Memory) (news : List Record) (cpus : ℕ) (counts : List ℕ)
+    → IsAt g p → IsMemo g old memo → memo.is_on ≡ true → IsClosed (net_of (g.start ++ p.records))
+    → memory ≡ p.state → news ≡ p.records → cpus ≡ length g.scripts
+    → IsLikeAmong memo.seen memory news cpus counts → IsWalkedBefore g (schedule_of p.records) old
+    → AddsCounts old counts new → IsWalkedThrough g (schedule_of p.records) new
+found_walked g p memo old new memory news cpus counts here kept on closed memory_is news_is cpus_is like
+    before adds = record {
+      counted =
+          found_counted g p memo old new memory news cpus counts here kept on closed memory_is news_is cpus_is
+          like before.counted adds;
+      ordered = ordered_added old new counts before.ordered adds;
+      room = before.room;
+      onward =
+          room_alike g (schedule_of like.1.news) (schedule_of p.records) like.1.news p.records (kept.undo on)
+          (kept.all like.0 like.1 like.2).played here.played
+          (found_alike g p memo old memory news cpus counts here kept closed memory_is news_is cpus_is like)
+          (kept.room like.0 like.1 like.2);
+    }
 
 pub found_few : (g : Setting) (memo : MemoValue) (ends : List Ending) (memory : Memory) (news : List Record)
     (cpus : ℕ) (counts : List ℕ)
@@ -174,7 +211,7 @@ found_few g memo ends memory news cpus counts kept like =
 pub memo_added : (g : Setting) (old new : List Ending) (memo : MemoValue) → Grow old new → IsMemo g old memo
     → IsMemo g new memo
 memo_added g old new memo grow kept =
-    record { all = all_grow g old new memo.seen grow kept.all; undo = kept.undo }
+    record { all = all_grow g old new memo.seen grow kept.all; room = kept.room; undo = kept.undo }
 
 -- ---- counts that are added
 

@@ -1,6 +1,6 @@
 -- A machine that is a call further than another, and the one where the scripts begin.
 use Rattle.std.proofs.Common.{◌≡◌, ℕ, ◌+◌, Bool, true, false, List, [], ◌∷◌, ◌++◌, length, drop, Option, Some, slice_get, refl, ap, sym, subst, ◌∙◌, arith}
-use Rattle.std.specs.Prelude.{Result, Ok, Err, IsTrue, option_and_then}
+use Rattle.std.specs.Prelude.{◌||◌, Result, Ok, Err, IsTrue, nat_le, option_and_then}
 use Rattle.std.proofs.lemmas.List.{append-nil, append_assoc, length_push, map-append}
 use Rattle.std.proofs.Math.Seq.{drop-length}
 use Rattle.hp_units.specs.LayoutParts.{LayoutParts}
@@ -8,14 +8,19 @@ use Rattle.hp_units.specs.Memory.{Memory}
 use Rattle.hp_units.specs.History.{reply_of}
 use Rattle.hp_units.specs.Receipts.{receipts_of}
 use Rattle.hp_units.specs.declared.events.Event.{Event}
+use Rattle.hp_units.specs.declared.replies.CallFault.{CallFault}
+use Rattle.hp_units.specs.declared.replies.CallFault.TheVariants.{HistoryFull as CallFull, OutOfMemory as CallMemory}
 use Rattle.hp_units.specs.declared.replies.Receipt.{Receipt}
 use Rattle.hp_units.specs.declared.replies.Record.{Record}
 use Rattle.hp_machine.specs.Machine.{IsCalled, MachineValue, is_full, record_of}
 use Rattle.hp_machine.proofs.Machines.{room}
+use Rattle.hp_explore.specs.declared.exploring.ExploreFault.TheVariants.{HistoryFull}
 use Rattle.hp_explore.specs.declared.scripts.Line.{Line}
+use Rattle.hp_explore.specs.Faults.{IsCallCause, is_full_after}
+use Rattle.hp_explore.specs.Notes.{fault_of}
 use Rattle.hp_explore.specs.Schedules.{Setting, next_call, plays, record_of_call, schedule_of, setting}
 use Rattle.hp_explore.specs.Scripts.{next_of}
-use Rattle.hp_explore.specs.Walks.{IsFurther, IsReached, news_in, place_of}
+use Rattle.hp_explore.specs.Walks.{FillsAt, IsFurther, IsReached, news_in, place_of}
 use Rattle.hp_explore.proofs.Plays.{plays_push, recorded}
 
 -- the event that a processor's script asks for
@@ -117,3 +122,38 @@ pub news_shown : (start m : MachineValue) (scripts : List (List Line)) (first al
     → news ≡ news_in (setting start scripts) m
 news_shown start m scripts first all news is_first is_all is =
     is ∙ (ap (λ (h : List Record). drop (length h) all) is_first ∙ ap (drop (length start.history)) is_all)
+
+-- whether its history is full is so by the new records alone
+full_as : (g : Setting) (m : MachineValue) → IsReached g m → is_full m ≡ is_full_after g (news_in g m)
+full_as g m here =
+    ap (λ (l : LayoutParts). nat_le l.history (length m.history) || spent m.before m.history) here.layout
+    ∙ (ap (λ (k : ℕ). nat_le g.layout.history (length m.history) || spent k m.history) here.before
+    ∙ ap (λ (h : List Record). nat_le g.layout.history (length h) || spent g.before h) here.history)
+  where
+    spent : ℕ → List Record → Bool
+    spent before history = nat_le 18446744073709551615 (before + length history)
+
+-- so its next call has no room there
+pub fills_here : (g : Setting) (m : MachineValue) (cpu : ℕ) (event : Event) → IsReached g m
+    → next_call g cpu (news_in g m) ≡ Some event → is_full m ≡ true → FillsAt g m cpu
+fills_here g m cpu event here asked full = (
+  record {
+    news = news_in g m;
+    cpu = cpu;
+    event = event;
+    played = here.played;
+    asked = asked;
+    full = sym (full_as g m here) ∙ full;
+  },
+  refl,
+)
+
+-- a call's fault
+pub call_full : (fault : CallFault) → fault_of fault ≡ HistoryFull → fault ≡ CallFull
+call_full CallFull is = refl
+call_full CallMemory is = absurd cc
+
+pub call_cause : (g : Setting) (m : MachineValue) (cpu : ℕ) (fault : CallFault)
+    → (fault ≡ CallFull → FillsAt g m cpu) → IsCallCause g (fault_of fault)
+call_cause g m cpu CallFull full = (place_of g m, (full refl).0)
+call_cause g m cpu CallMemory full = tt

@@ -29,7 +29,7 @@ use Rattle.hp_explore.proofs.Regions.{before_longer, not_before_longer}
 
 -- ---- a place that goes on like another
 
-turned : (g : Setting) (h k : List Record) → AreAlike g h k → AreAlike g k h
+pub turned : (g : Setting) (h k : List Record) → AreAlike g h k → AreAlike g k h
 turned g h k alike = record {
   calls = sym alike.calls;
   exchanged = λ cpu within. sym (alike.exchanged cpu within);

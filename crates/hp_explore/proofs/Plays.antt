@@ -196,7 +196,7 @@ walk_up g p news cpu event ends played asked ok =
     below s on = extends_before s p on.0 (length g.scripts) on.1 on.2
 
 -- where no script asks for anything those before the last continuation are those before the place
-walk_here : (g : Setting) (p : List ℕ) (news : List Record) (ends : List Ending) → plays g p ≡ Some news
+pub walk_here : (g : Setting) (p : List ℕ) (news : List Record) (ends : List Ending) → plays g p ≡ Some news
     → ((cpu : ℕ) → next_call g cpu news ≡ None) → AreCounted (Before g (p ++ length g.scripts ∷ [])) ends
     → AreCounted (Before g p) ends
 walk_here g p news ends played over ok =

@@ -16,7 +16,7 @@ not_before_longer [] (c ∷ q) h = h
 not_before_longer (c ∷ p) q h = elim h [ inl l ↦ absurd (omega arith) | inr e ↦ not_before_longer p q e.1 ]
 
 -- one processor more in front
-extends_cons : (c d : ℕ) (s p : List ℕ) → d ≡ c → Extends s p → Extends (d ∷ s) (c ∷ p)
+pub extends_cons : (c d : ℕ) (s p : List ℕ) → d ≡ c → Extends s p → Extends (d ∷ s) (c ∷ p)
 extends_cons c d s p same h = (h.0, rw (same, h.1) refl)
 
 -- what stands before a schedule stands before each that it begins

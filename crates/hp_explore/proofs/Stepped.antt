@@ -61,7 +61,7 @@ plain_state l base h r goes reply = by_reply (is_refused r.reply) refl ∙ ap (r
         by_effect (effect_of r.event) refl goes ∙ ap (run l base) (sym (with_good (net_of h) r good))
 
 -- the record of the step is the one that the schedule makes
-step_recorded : (g : Setting) (p : StepsValue) (serial cpu : ℕ) (event : Event) → IsAt g p
+pub step_recorded : (g : Setting) (p : StepsValue) (serial cpu : ℕ) (event : Event) → IsAt g p
     → may_go_back (effect_of event) ≡ false → serial ≡ g.before + length (g.start ++ p.records) + 1
     → record_of_step p.layout p.state serial cpu event ≡ record_of_call g p.records cpu event
 unfolding record_of_call reply_of

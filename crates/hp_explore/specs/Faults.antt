@@ -1,11 +1,13 @@
 -- Why the schedules were not all counted.
-use Rattle.std.specs.Prelude.{◌≡◌, ℕ, ◌+◌, Bool, ◌||◌, true, List, ◌++◌, Some, length, nat_le, slice_get, sum_by}
+use Rattle.std.specs.Prelude.{◌≡◌, ℕ, ◌+◌, Bool, ◌||◌, true, List, [], ◌∷◌, ◌++◌, Some, length, nat_le, slice_get, sum_by}
+use Rattle.hp_units.specs.declared.events.Event.{Event}
 use Rattle.hp_units.specs.declared.replies.Record.{Record}
 use Rattle.hp_explore.specs.declared.exploring.ExploreFault.{ExploreFault}
 use Rattle.hp_explore.specs.declared.exploring.ExploreFault.TheVariants.{TooMany, HistoryFull, OutOfMemory}
 use Rattle.hp_explore.specs.Interleavings.{IsNotKnownTooMany}
 use Rattle.hp_explore.specs.Notes.{TallyValue}
-use Rattle.hp_explore.specs.Schedules.{IsComplete, Setting, plays}
+use Rattle.hp_explore.specs.Orders.{Extends}
+use Rattle.hp_explore.specs.Schedules.{IsComplete, Setting, next_call, plays}
 
 -- there are more schedules of a kind than so many: a list of one more, each of the kind and each once
 pub record AreSome (P : List ℕ → Type 0) (all : List (List ℕ)) : Type 0 where
@@ -15,14 +17,27 @@ pub record AreSome (P : List ℕ → Type 0) (all : List (List ℕ)) : Type 0 wh
 abbrev pub HasMoreThan : (List ℕ → Type 0) → ℕ → Type 0
 HasMoreThan P n = (all : List (List ℕ)) × AreSome P all × (length all ≡ n + 1)
 
--- some schedule of the scripts leaves no room in the history, or no further serial
+-- after new records the history has no room for a further one, or there is no further serial
 abbrev pub is_full_after : Setting → List Record → Bool
 is_full_after g news =
     nat_le g.layout.history (length (g.start ++ news))
     || nat_le 18446744073709551615 (g.before + length (g.start ++ news))
 
+-- where a schedule leads to the history has no room for a call that a processor has to make
+pub record HasNoRoom (g : Setting) (s : List ℕ) : Type 0 where
+  pub news : List Record
+  pub cpu : ℕ
+  pub event : Event
+  pub played : plays g s ≡ Some news
+  pub asked : next_call g cpu news ≡ Some event
+  pub full : is_full_after g news ≡ true
+
 abbrev pub FillsHistory : Setting → Type 0
-FillsHistory g = (s : List ℕ) × (news : List Record) × (plays g s ≡ Some news) × (is_full_after g news ≡ true)
+FillsHistory g = (s : List ℕ) × HasNoRoom g s
+
+-- such a call is one of this schedule
+abbrev pub FillsAlong : Setting → List ℕ → Type 0
+FillsAlong g schedule = (s : List ℕ) × (h : HasNoRoom g s) × Extends schedule (s ++ h.cpu ∷ [])
 
 -- the cause of a fault: a full history is one only where the limit was not known to be exceeded
 -- before any call

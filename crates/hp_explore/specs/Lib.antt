@@ -2,11 +2,13 @@ pub mod Alike
 pub mod Digests
 pub mod Ends
 pub mod Faults
+pub mod Frames
 pub mod Interleavings
 pub mod Multinomials
 pub mod Notes
 pub mod Orders
 pub mod Outcomes
+pub mod Paths
 pub mod Schedules
 pub mod Scripts
 pub mod Seen

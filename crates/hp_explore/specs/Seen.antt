@@ -10,6 +10,7 @@ use Rattle.hp_explore.specs.Orders.{Extends, HasCount}
 use Rattle.hp_explore.specs.Outcomes.{OutcomeValue}
 use Rattle.hp_explore.specs.Schedules.{EndsWith, Setting, plays, schedule_of}
 use Rattle.hp_explore.specs.Scripts.{own_operation}
+use Rattle.hp_explore.specs.Walks.{HasRoomFrom}
 use Rattle.hp_explore.specs.declared.exploring.ExploreFault.{ExploreFault}
 use Rattle.hp_explore.specs.declared.exploring.ExploreFault.TheVariants.{TooMany}
 use Rattle.hp_explore.specs.declared.tally.Ending.{Ending}
@@ -98,8 +99,9 @@ pub record AddsAt (old : List Ending) (at count : ℕ) (new : List Ending) : Typ
 abbrev pub IsAddCause : TallyValue → List ℕ → ExploreFault → Type 0
 IsAddCause t counts fault = (fault ≡ TooMany) × (t.limit < sum_by (λ e. e.count) t.ends + sum counts)
 
--- the places that are kept, where the ends are these; where any are to be kept no script undoes
--- steps by their serials
+-- the places that are kept, where the ends are these: the history has room for what goes on from them;
+-- and where any are to be kept no script undoes steps by their serials
 pub record IsMemo (g : Setting) (ends : List Ending) (memo : MemoValue) : Type 0 where
   pub all : AllSeen g ends memo.seen
+  pub room : (i : ℕ) (seen : SeenValue) → slice_get memo.seen i ≡ Some seen → HasRoomFrom g (schedule_of seen.news)
   pub undo : memo.is_on ≡ true → UndoNothing g.scripts

@@ -7,7 +7,8 @@ use Rattle.hp_units.specs.declared.replies.Record.{Record}
 use Rattle.hp_machine.specs.Machine.{MachineValue}
 use Rattle.hp_steps.specs.Steps.{StepsValue}
 use Rattle.hp_explore.specs.declared.tally.Ending.{Ending}
-use Rattle.hp_explore.specs.Ends.{AreCounted}
+use Rattle.hp_explore.specs.Ends.{AreCounted, AreInOrder}
+use Rattle.hp_explore.specs.Faults.{HasNoRoom}
 use Rattle.hp_explore.specs.Notes.{IsNoted}
 use Rattle.hp_explore.specs.Orders.{Extends, IsBefore}
 use Rattle.hp_explore.specs.Outcomes.{OutcomeValue, outcome}
@@ -52,10 +53,14 @@ pub record IsFurther (g : Setting) (m : MachineValue) (cpu : ℕ) (n : MachineVa
   pub longer : length n.history ≡ length m.history + 1
   pub room : length m.history < m.layout.history
 
--- the machine after a processor's next call, or none where its script asks for nothing
-abbrev pub IsChild : Setting → MachineValue → (cpu : ℕ) → Option MachineValue → Type 0
-IsChild g m cpu None = next_call g cpu (news_in g m) ≡ None
-IsChild g m cpu (Some n) = IsFurther g m cpu n
+-- whether a processor made its next call on a machine, or its script asks for nothing and all stays
+abbrev pub IsMade : Setting → MachineValue → (cpu : ℕ) → (made : Bool) → MachineValue → Type 0
+IsMade g m cpu true n = IsFurther g m cpu n
+IsMade g m cpu false n = (next_call g cpu (news_in g m) ≡ None) × (n ≡ m)
+
+-- the history of a machine has no room for a processor's next call
+abbrev pub FillsAt : Setting → MachineValue → (cpu : ℕ) → Type 0
+FillsAt g m cpu = (h : HasNoRoom g (place_of g m)) × (h.cpu ≡ cpu)
 
 -- the complete schedules that stand before a place of the walk, and those up to its last continuation
 abbrev pub Before : Setting → List ℕ → List ℕ → OutcomeValue → Type 0
@@ -64,12 +69,26 @@ Before g place s x = IsBefore s place × EndsWith g s x
 abbrev pub Through : Setting → List ℕ → List ℕ → OutcomeValue → Type 0
 Through g place s x = (IsBefore s place ⊎ Extends s place) × EndsWith g s x
 
--- the same of a processor's next call
-abbrev pub BeforeNext : Setting → StepsValue → (cpu : ℕ) → List ℕ → OutcomeValue → Type 0
-BeforeNext g p cpu = Before g (schedule_of p.records ++ cpu ∷ [])
+-- the history has room for each call that stands before a place, and for each that is made there or later
+abbrev pub HasRoomBefore : Setting → List ℕ → Type 0
+HasRoomBefore g place = (s : List ℕ) (h : HasNoRoom g s) → IsBefore (s ++ h.cpu ∷ []) place → ⊥
 
-abbrev pub ThroughNext : Setting → StepsValue → (cpu : ℕ) → List ℕ → OutcomeValue → Type 0
-ThroughNext g p cpu = Through g (schedule_of p.records ++ cpu ∷ [])
+abbrev pub HasRoomFrom : Setting → List ℕ → Type 0
+HasRoomFrom g place = (s : List ℕ) → HasNoRoom g s → Extends s place → ⊥
+
+-- all before a place was walked: the schedules are counted, the ends in the order of their first
+-- ones, and the history has room for each call
+pub record IsWalkedBefore (g : Setting) (place : List ℕ) (ends : List Ending) : Type 0 where
+  pub counted : AreCounted (Before g place) ends
+  pub ordered : AreInOrder ends
+  pub room : HasRoomBefore g place
+
+-- and all that goes on from there
+pub record IsWalkedThrough (g : Setting) (place : List ℕ) (ends : List Ending) : Type 0 where
+  pub counted : AreCounted (Through g place) ends
+  pub ordered : AreInOrder ends
+  pub room : HasRoomBefore g place
+  pub onward : HasRoomFrom g place
 
 -- the ends are those of the schedules before where the walk stands, and up to the last one that
 -- goes on from there
@@ -112,11 +131,6 @@ may_go_back Acts = false
 abbrev pub IsOverBelow : Setting → List Record → (below : ℕ) → Bool → Type 0
 IsOverBelow g news below true = (cpu : ℕ) → cpu < below → next_call g cpu news ≡ None
 IsOverBelow g news below false = (cpu : ℕ) × (event : Event) × (next_call g cpu news ≡ Some event)
-
--- where the rest of a schedule leads to from where a machine is; none where it can't be played
-abbrev pub IsPlayedOn : Setting → MachineValue → List ℕ → Option MachineValue → Type 0
-IsPlayedOn g m rest None = plays g (place_of g m ++ rest) ≡ None
-IsPlayedOn g m rest (Some n) = IsReached g n × (place_of g n ≡ place_of g m ++ rest)
 
 -- where a schedule leads to
 abbrev pub IsPlayed : Setting → List ℕ → Option MachineValue → Type 0

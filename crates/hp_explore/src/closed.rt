@@ -1,30 +1,22 @@
 //! Whether the steps of a history are closed: no later Cancel can drop one of them.
-ghost use Rattle.std.specs.Prelude.{◌≡◌, ◌++◌, fold};
+ghost use Rattle.std.specs.Prelude.{◌≡◌};
 ghost use Rattle.hp_explore.specs.Alike.{closed_after, closed_by, is_closed};
 
 use hp_units::{Event, Record, Reply};
 
-/// Whether no later Cancel can drop a step of a history and of new records after it, as far as
-/// their events and refusals tell.
-pub(crate) fn is_closed(history: &[Record], news: &[Record]) -> bool
-    ensures { result ≡ is_closed (history.now ++ news.now) }
+/// Whether no later Cancel can drop a step of a history, as far as its events and refusals tell.
+pub(crate) fn is_closed(history: &[Record]) -> bool
+    ensures { result ≡ is_closed history.now }
 {
-    stays_closed(stays_closed(true, history), news)
-}
-
-/// Whether it is so after more records.
-fn stays_closed(was: bool, records: &[Record]) -> bool
-    ensures { result ≡ fold closed_after was records.now }
-{
-    let mut closed = was;
-    for record in records {
+    let mut closed = true;
+    for record in history {
         closed = closed_after(closed, record);
     }
     closed
 }
 
 /// Whether it is so after one record more.
-fn closed_after(was: bool, last: &Record) -> bool
+pub(crate) fn closed_after(was: bool, last: &Record) -> bool
     ensures { result ≡ closed_after was last.now }
 {
     match last.reply {

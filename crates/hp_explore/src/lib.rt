@@ -11,15 +11,19 @@
 mod closed;
 mod digests;
 mod exploring;
+mod frames;
 mod laws;
 mod memo;
 mod multinomials;
 mod outcomes;
+mod path;
 mod playing;
 mod scripts;
 mod tally;
+mod turns;
 mod walk;
 mod watch;
+mod ways;
 
 pub use exploring::{ExploreFault, explore};
 pub use laws::{
@@ -27,6 +31,7 @@ pub use laws::{
     schedules_are_interleavings,
 };
 pub use outcomes::{Answers, Outcome};
+pub use path::Path;
 pub use playing::play;
 pub use scripts::{Line, Script, Work};
 pub use tally::Ending;

@@ -177,13 +177,15 @@ fn have_exchanges_alike(
 fn same_exchanges(receipts: &[Receipt], others: &[Receipt]) -> bool
     ensures { IsTrue result ↔ (map unnumbered receipts.now ≡ map unnumbered others.now) }
 {
-    match (receipts, others) {
-        ([], []) => true,
-        ([receipt, receipts @ ..], [other, others @ ..]) => {
-            same_exchange(receipt, other) && same_exchanges(receipts, others)
-        }
-        _ => false,
+    if receipts.len() != others.len() {
+        return false;
     }
+    for (place, receipt) in receipts.iter().enumerate() {
+        if !same_exchange(receipt, &others[place]) {
+            return false;
+        }
+    }
+    true
 }
 
 /// Whether two receipts are the same but for their numbers.

@@ -1,9 +1,11 @@
 //! How a schedule ends.
 ghost use Rattle.std.specs.Prelude.{◌≡◌, ◌↔◌, ◌+◌, ◌<◌, ◌^◌, IfOk, IsTrue, None, length, map};
 ghost use Rattle.std.specs.List.{range_with_len};
-ghost use Rattle.hp_explore.specs.Outcomes.{ended_row, outcome_with, replies_below, replies_to, told};
+ghost use Rattle.hp_explore.specs.Outcomes.{ended_row, ended_rows_below, outcome, outcome_with, replies_below, replies_to, told};
 
-use hp_units::{Claim, Cpu, Record, Reply, Row, Serial, State};
+use hp_memory::Memory;
+use hp_steps::Steps;
+use hp_units::{Block, Claim, Cpu, Record, Reply, Row, Serial, State};
 use std::alloc::{AllocError, Global};
 use std::marker::Model;
 
@@ -136,6 +138,32 @@ pub(crate) fn claimed_row(row: Option<Row>, claim: Option<Claim>) -> Row
             claim,
         },
     }
+}
+
+/// Each memory block's row, without the operation that may hold it. An error is out of memory.
+pub(crate) fn ended_rows(alloc: Global, memory: &Memory) -> Result<Vec<Row>, AllocError>
+    ensures { IfOk result (λ rows. rows.items ≡ ended_rows_below memory.now.layout.blocks memory.now.state) }
+{
+    let mut rows = Vec::new(alloc);
+    for block in 0..memory.layout().blocks() {
+        rows.reserve(1)?;
+        let unclaimed: Option<Claim> = None;
+        rows.push_reserved(claimed_row(memory.row(Block(block)), unclaimed));
+    }
+    Ok(rows)
+}
+
+/// How a schedule ends where steps stand, for so many processors. An error is out of memory.
+pub(crate) fn outcome_at(
+    alloc: Global,
+    processors: u32,
+    here: &Steps,
+) -> Result<Outcome, AllocError>
+    ensures { IfOk result (λ x. x ≡ outcome processors here.now.records here.now.layout here.now.state) }
+{
+    let replies = all_answers(alloc, processors, here.records())?;
+    let blocks = ended_rows(alloc, here.memory())?;
+    Ok(Outcome::new(replies, blocks))
 }
 
 /// Whether lists of replies are those of so many processors.

@@ -1,18 +1,20 @@
 //! A schedule played: each call in turn on a copy of the machine.
 ghost use Rattle.std.specs.Prelude.{◌≡◌, ◌<◌, ◌≤◌, IfErr, IfOk, drop, length};
-ghost use Rattle.hp_explore.specs.Faults.{IsCallCause};
-ghost use Rattle.hp_explore.specs.Schedules.{setting};
-ghost use Rattle.hp_explore.specs.Walks.{IsChild, IsPlayed, IsPlayedOn, IsReached};
+ghost use Rattle.hp_explore.specs.Faults.{FillsAlong, IsCallCause};
+ghost use Rattle.hp_explore.specs.Schedules.{next_call, setting};
+ghost use Rattle.hp_explore.specs.Walks.{FillsAt, IsMade, IsPlayed, IsReached, news_in};
+ghost use Rattle.hp_explore.specs.declared.exploring.ExploreFault.TheVariants.{HistoryFull};
 
 use crate::exploring::ExploreFault;
 use crate::scripts::Script;
 use hp_machine::Machine;
-use hp_units::{Cpu, Record};
-use std::alloc::Global;
+use hp_units::{Cpu, Event, Record};
+use std::alloc::{AllocError, Global};
 
 /// The machine that a schedule of the scripts leads to, on a copy; none where it asks a processor
 /// for a call when its script is over. So the records of an end's first schedule can be read.
-/// Errors come as those of `explore`, but never `TooMany`.
+/// An error is `HistoryFull` where the layout's history has no room for a call of this schedule, or
+/// `OutOfMemory`.
 pub fn play(
     alloc: Global,
     machine: &Machine,
@@ -21,73 +23,60 @@ pub fn play(
 ) -> Result<Option<Machine>, ExploreFault>
     ensures ok { IfOk result (IsPlayed (setting machine.now scripts.now) schedule.now) }
     ensures err { IfErr result (IsCallCause (setting machine.now scripts.now)) }
+    ensures along { IfErr result (λ fault. fault ≡ HistoryFull
+        → FillsAlong (setting machine.now scripts.now) schedule.now) }
 {
-    let copy = machine.copy(alloc)?;
-    play_on(alloc, machine, scripts, copy, schedule)
-}
-
-/// The machine that the rest of a schedule leads to from where a machine is, if it can be played.
-fn play_on(
-    alloc: Global,
-    start: &Machine,
-    scripts: &[Script],
-    machine: Machine,
-    rest: &[Cpu],
-) -> Result<Option<Machine>, ExploreFault>
-    requires { IsReached (setting start.now scripts.now) machine }
-    ensures ok { IfOk result (IsPlayedOn (setting start.now scripts.now) machine rest.now) }
-    ensures err { IfErr result (IsCallCause (setting start.now scripts.now)) }
-{
-    match rest {
-        [cpu, rest @ ..] => match child_of(alloc, start, scripts, machine, *cpu)? {
-            Some(next) => play_on(alloc, start, scripts, next, rest),
-            None => Ok(None),
-        },
-        [] => Ok(Some(machine)),
-    }
-}
-
-/// The machine after a processor's next call, or none where it has no script or its script asks for nothing.
-fn child_of(
-    alloc: Global,
-    start: &Machine,
-    scripts: &[Script],
-    machine: Machine,
-    cpu: Cpu,
-) -> Result<Option<Machine>, ExploreFault>
-    requires { IsReached (setting start.now scripts.now) machine }
-    ensures ok { IfOk result (IsChild (setting start.now scripts.now) machine cpu) }
-    ensures err { IfErr result (IsCallCause (setting start.now scripts.now)) }
-{
-    if (cpu.0 as usize) < scripts.len() {
-        child(alloc, start, scripts, machine, cpu.0)
-    } else {
-        Ok(None)
-    }
-}
-
-/// The machine after a processor's next call, or none where its script asks for nothing.
-fn child(
-    alloc: Global,
-    start: &Machine,
-    scripts: &[Script],
-    machine: Machine,
-    cpu: u32,
-) -> Result<Option<Machine>, ExploreFault>
-    requires within { cpu < length scripts.now }
-    requires reached { IsReached (setting start.now scripts.now) machine }
-    ensures ok { IfOk result (IsChild (setting start.now scripts.now) machine cpu) }
-    ensures err { IfErr result (IsCallCause (setting start.now scripts.now)) }
-{
-    let news = records_from(machine.history(), start.history().len());
-    match scripts[cpu as usize].next_event(alloc, machine.layout().cpus(), Cpu(cpu), news)? {
-        Some(event) => {
-            let mut next = machine;
-            next.answer(alloc, Cpu(cpu), &event)?;
-            Ok(Some(next))
+    let mut played = machine.copy(alloc)?;
+    for cpu in schedule {
+        if !make_call(alloc, machine, scripts, &mut played, *cpu)? {
+            return Ok(None);
         }
-        None => Ok(None),
     }
+    Ok(Some(played))
+}
+
+/// Makes a processor's next call on a machine that a schedule led to, and says so; where it has no
+/// script, or its script asks for nothing, nothing changes.
+fn make_call(
+    alloc: Global,
+    start: &Machine,
+    scripts: &[Script],
+    played: &mut Machine,
+    cpu: Cpu,
+) -> Result<bool, ExploreFault>
+    requires { IsReached (setting start.now scripts.now) played.old }
+    ensures ok { IfOk result (λ made. IsMade (setting start.now scripts.now) played.old cpu made played.new) }
+    ensures err { IfErr result (IsCallCause (setting start.now scripts.now)) }
+    ensures full { IfErr result (λ fault. fault ≡ HistoryFull
+        → FillsAt (setting start.now scripts.now) played.old cpu) }
+{
+    match asked(alloc, start, scripts, played, cpu.0)? {
+        Some(event) => match played.answer(alloc, cpu, &event) {
+            Ok(_answered) => Ok(true),
+            Err(fault) => Err(ExploreFault::from(fault)),
+        },
+        None => Ok(false),
+    }
+}
+
+/// The event that a processor asks for on a machine that a schedule led to; none where it has no
+/// script, or its script asks for nothing. An error is out of memory.
+fn asked(
+    alloc: Global,
+    start: &Machine,
+    scripts: &[Script],
+    played: &Machine,
+    cpu: u32,
+) -> Result<Option<Event>, AllocError>
+    requires { IsReached (setting start.now scripts.now) played.now }
+    ensures { IfOk result (λ next. next_call (setting start.now scripts.now) cpu
+        (news_in (setting start.now scripts.now) played.now) ≡ next) }
+{
+    if cpu as usize >= scripts.len() {
+        return Ok(None);
+    }
+    let news = records_from(played.history(), start.history().len());
+    scripts[cpu as usize].next_event(alloc, played.layout().cpus(), Cpu(cpu), news)
 }
 
 /// The records from a place on.

@@ -1,31 +1,29 @@
--- The schedule is played from where the scripts begin.
-use Rattle.std.proofs.Common.{subst, sym, rules}
-use Rattle.std.proofs.lemmas.Result.{IfOk-weaker}
-use Rattle.hp_machine.specs.Machine.{MachineValue}
+-- One call more in each turn of the loop, or one that is not asked for.
 use Rattle.hp_explore.specs.Schedules.{setting}
-use Rattle.hp_explore.specs.Walks.{IsPlayedOn, IsReached}
-use Rattle.hp_explore.proofs.Machines.{reached_start}
-use Rattle.hp_explore.proofs.Walking.{played_all}
+use Rattle.hp_explore.specs.Walks.{IsMade}
+use Rattle.std.proofs.Common.{Bool, subst, sym}
+use Rattle.std.proofs.lemmas.Result.{err_from_is_err_and}
+use Rattle.hp_explore.proofs.Walking.{filled_along, played_all, played_more, played_none, played_over}
 use Rattle.hp_explore.proofs.playing.play.Goals as goal
 
-pub play_on-requires : goal.play_on-requires
-play_on-requires c =
-    subst (IsReached (setting c.args.machine.now c.args.scripts.now)) (sym c.in_ok-copy.ensures)
-    (reached_start c.args.machine.now c.args.scripts.now)
+pub loop-cpu-init : goal.loop-cpu-init
+loop-cpu-init c =
+    played_none c.args.machine.now c.in_ok-played.played c.args.scripts.now c.args.schedule.now
+    c.in_ok-played.ensures
 
-pub returns-clause-ok : goal.returns-clause-ok
-returns-clause-ok c =
-    IfOk-weaker c.play_on.result _ _
-    (λ end on. played_all c.args.machine.now c.args.scripts.now c.args.schedule.now end
-    (subst (λ (m : MachineValue). IsPlayedOn (setting c.args.machine.now c.args.scripts.now) m
-    c.args.schedule.now end) c.in_ok-copy.ensures on))
-    c.play_on.ensures.ok
+pub returns-then-not-branch-clause-ok : goal.returns-then-not-branch-clause-ok
+returns-then-not-branch-clause-ok c =
+    let made =
+    subst (λ (b : Bool). IsMade (setting c.args.machine.now c.args.scripts.now) c.loop-cpu.played
+    c.cpu-item.result b c.make_call.new.played) c.if-not-branch.true c.in_ok-make_call.ensures.ok in
+    played_over (setting c.args.machine.now c.args.scripts.now) c.loop-cpu.played c.args.schedule.now
+    c.loop-cpu.cpu-index c.cpu-item.result c.loop-cpu-test.true c.cpu-item.is c.loop-cpu.invariant made.0
 
-pub returns-in_err-copy-clause-ok : goal.returns-in_err-copy-clause-ok
-returns-in_err-copy-clause-ok c = search rules
-
-pub returns-in_err-copy-clause-err : goal.returns-in_err-copy-clause-err
-returns-in_err-copy-clause-err c = search rules
-
-pub returns-clause-err : goal.returns-clause-err
-returns-clause-err c = search rules
+pub returns-in_err-make_call-clause-along : goal.returns-in_err-make_call-clause-along
+returns-in_err-make_call-clause-along c =
+    let p =
+    err_from_is_err_and c.from_residual-in_err-make_call.result c.from_residual-in_err-make_call.ensures.1 in
+    rw (p.1, p.2)
+    (λ full. filled_along (setting c.args.machine.now c.args.scripts.now) c.loop-cpu.played c.args.schedule.now
+    c.loop-cpu.cpu-index c.cpu-item.result c.loop-cpu-test.true c.cpu-item.is c.loop-cpu.invariant
+    (c.in_err-make_call.ensures.full full))

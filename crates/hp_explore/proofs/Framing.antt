@@ -1,0 +1,271 @@
+-- The turns of a walk: what each does to what is known of the places.
+use Rattle.std.proofs.Common.{◌≡◌, ℕ, ◌+◌, ◌<◌, ◌≤◌, Bool, true, false, List, [], ◌∷◌, ◌++◌, length, option_to_list, reverse, Option, Some, None, Box, refl, ap, sym, subst, ◌∙◌, arith}
+use Rattle.std.proofs.lemmas.List.{append-nil, length_push, map-append, reverse-append, same_from_push}
+use Rattle.std.proofs.lemmas.Option.{none-some, same_Some}
+use Rattle.std.specs.List.{list_all}
+use Rattle.std.specs.declared.alloc.Global.{Global}
+use Rattle.std.specs.Prelude.{option_map}
+use Rattle.hp_units.specs.declared.events.Event.{Event}
+use Rattle.hp_units.specs.declared.replies.Record.{Record}
+use Rattle.hp_explore.specs.Alike.{is_closed, leaves_script}
+use Rattle.hp_explore.specs.Faults.{is_full_after}
+use Rattle.hp_explore.specs.Frames.{AreBelow, AreWalked, IsEntered, IsFrame, IsPlaceKept, kept_of, path_of}
+use Rattle.hp_explore.specs.declared.frames.Kept.{Kept}
+use Rattle.hp_explore.specs.Paths.{IsBack, PathValue}
+use Rattle.hp_explore.specs.Schedules.{Setting, next_call, plays, record_of_call, schedule_of}
+use Rattle.hp_explore.specs.Seen.{Grow, IsMemo, MemoValue}
+use Rattle.hp_explore.specs.Walks.{IsOverBelow, IsWalkedBefore, IsWalkedThrough}
+use Rattle.hp_explore.specs.declared.frames.Entry.TheVariants.{Open}
+use Rattle.hp_explore.specs.declared.frames.Frame.{Frame}
+use Rattle.hp_explore.specs.declared.tally.Ending.{Ending}
+use Rattle.hp_explore.proofs.Grown.{grow_twice}
+use Rattle.hp_explore.proofs.Rooms.{done_begins, done_down, done_over, done_past}
+use Rattle.hp_explore.proofs.Walking.{over_next}
+
+-- ---- as the ends grow
+
+pub frame_grows : (g : Setting) (old new : List Ending) (news : List Record) (frame : Frame) → Grow old new
+    → IsFrame g news old frame → IsFrame g news new frame
+frame_grows g old new news frame grow is = record {
+  closed = is.closed;
+  kept = λ k here. let p = is.kept k here in record {
+    old = p.old;
+    memory = p.memory;
+    earlier = p.earlier;
+    closed = p.closed;
+    before = p.before;
+    grown = grow_twice p.old old new p.grown grow;
+  };
+}
+
+pub below_grows : (g : Setting) (old new : List Ending) (news : List Record) (frames : List Frame)
+    → Grow old new → AreBelow g old news frames → AreBelow g new news frames
+below_grows g old new news [] grow b = b
+below_grows g old new news (frame ∷ frames) grow b = (
+  b.0,
+  b.1,
+  b.2,
+  b.3,
+  b.4,
+  b.5,
+  b.6,
+  b.7,
+  b.8,
+  b.9,
+  frame_grows g old new b.0 frame grow b.10,
+  below_grows g old new b.0 frames grow b.11,
+)
+
+-- ---- a turn
+
+-- the schedule with one record more
+pub longer_schedule : (news : List Record) (r : Record) → schedule_of (news ++ r ∷ []) ≡ schedule_of news ++ r.cpu ∷ []
+longer_schedule news r = map-append (λ (q : Record). q.cpu) news (r ∷ [])
+
+-- a processor asks for nothing
+pub walk_passes : (g : Setting) (ends : List Ending) (news : List Record) (frame : Frame)
+    (frames : List Frame)
+    → plays g (schedule_of news) ≡ Some news → next_call g frame.next news ≡ None
+    → frame.next < length g.scripts → AreWalked g ends news (frame ∷ frames)
+    → AreWalked g ends news (record frame { next = frame.next + 1 } ∷ frames)
+walk_passes g ends news frame frames played none less w = (
+  record {
+    walked = done_over g (schedule_of news) news frame.next ends played none w.0.walked;
+    over = over_next g news frame.next frame.is_over none w.0.over;
+    within = omega arith;
+  },
+  record { closed = w.1.closed; kept = w.1.kept },
+  w.2,
+)
+
+-- a processor makes its call, and leads on to a place
+pub walk_leads : (g : Setting) (ends : List Ending) (news later : List Record) (frame : Frame)
+    (frames : List Frame) (event : Event)
+    → plays g (schedule_of news) ≡ Some news → next_call g frame.next news ≡ Some event
+    → is_full_after g news ≡ false → frame.next < length g.scripts
+    → later ≡ news ++ record_of_call g news frame.next event ∷ [] → AreWalked g ends news (frame ∷ frames)
+    → IsWalkedBefore g (schedule_of later) ends
+    × AreBelow g ends later (record frame { next = frame.next + 1; is_over = false } ∷ frames)
+unfolding record_of_call
+walk_leads g ends news later frame frames event played asked room less is w = (
+  subst (λ (p : List ℕ). IsWalkedBefore g p ends)
+      (sym (ap schedule_of is ∙ longer_schedule news (record_of_call g news frame.next event)))
+      w.0.walked,
+  (
+    news,
+    record_of_call g news frame.next event,
+    event,
+    is,
+    refl,
+    refl,
+    asked,
+    less,
+    played,
+    room,
+    record { closed = w.1.closed; kept = w.1.kept },
+    w.2,
+  ),
+)
+
+-- a place gets its frame
+pub walk_opens : (g : Setting) (ends : List Ending) (news : List Record) (frame : Frame) (frames : List Frame)
+    → frame.next ≡ 0 → frame.is_over ≡ true → IsFrame g news ends frame
+    → IsWalkedBefore g (schedule_of news) ends → AreBelow g ends news frames
+    → AreWalked g ends news (frame ∷ frames)
+walk_opens g ends news frame frames zero over is walked below = (
+  record {
+    walked =
+        subst (λ (n : ℕ). IsWalkedBefore g (schedule_of news ++ n ∷ []) ends) (sym zero)
+        (done_down g (schedule_of news) ends walked);
+    over =
+        subst (λ (b : Bool). IsOverBelow g news frame.next b) (sym over)
+        (λ cpu less. absurd (omega (arith, less, zero)));
+    within = omega (arith, zero);
+  },
+  is,
+  below,
+)
+
+-- ---- a place that the walk comes to
+
+-- it is walked, and nothing is kept of it
+pub entered_bare : (p : PathValue) (ends : List Ending) (closed : Bool) (frame : Frame)
+    → closed ≡ is_closed (p.setting.start ++ p.news)
+    → frame ≡ record { next = 0; is_over = true; is_closed = closed; kept = None }
+    → IsEntered p ends ends (Open frame)
+entered_bare p ends closed frame told is = (
+  refl,
+  ap (λ (f : Frame). f.next) is,
+  ap (λ (f : Frame). f.is_over) is,
+  record {
+    closed = ap (λ (f : Frame). f.is_closed) is ∙ told;
+    kept = λ k here. absurd (none-some k (sym (ap kept_of is) ∙ here));
+  },
+)
+
+-- or this is
+pub entered_kept : (p : PathValue) (ends : List Ending) (closed : Bool) (frame : Frame)
+    (boxed : Box Kept Global) (kept : Kept)
+    → closed ≡ is_closed (p.setting.start ++ p.news)
+    → frame ≡ record { next = 0; is_over = true; is_closed = closed; kept = Some boxed }
+    → boxed.value ≡ kept → IsPlaceKept p.setting p.news ends kept → IsEntered p ends ends (Open frame)
+entered_kept p ends closed frame boxed kept told is same here = (
+  refl,
+  ap (λ (f : Frame). f.next) is,
+  ap (λ (f : Frame). f.is_over) is,
+  record {
+    closed = ap (λ (f : Frame). f.is_closed) is ∙ told;
+    kept = λ k found. subst (IsPlaceKept p.setting p.news ends)
+        (sym same ∙ same_Some boxed.value k (sym (ap kept_of is) ∙ found)) here;
+  },
+)
+
+-- ---- the stack
+
+pub frames_pushed : (old reserved new : List Frame) (frame : Frame) → reserved ≡ old
+    → new ≡ reserved ++ frame ∷ [] → reverse new ≡ frame ∷ reverse old
+frames_pushed old reserved new frame same is =
+    ap reverse (is ∙ ap (λ (fs : List Frame). fs ++ frame ∷ []) same) ∙ reverse-append old (frame ∷ [])
+
+pub frames_popped : (old new : List Frame) (popped : Option Frame) (frame : Frame)
+    → old ≡ new ++ option_to_list popped → popped ≡ Some frame → reverse old ≡ frame ∷ reverse new
+frames_popped old new popped frame is some =
+    ap reverse (is ∙ ap (λ (o : Option Frame). new ++ option_to_list o) some)
+    ∙ reverse-append new (frame ∷ [])
+
+pub no_frames : (old new : List Frame) (popped : Option Frame) → old ≡ new ++ option_to_list popped
+    → popped ≡ None → reverse old ≡ reverse new
+no_frames old new popped is none =
+    ap reverse (is ∙ (ap (λ (o : Option Frame). new ++ option_to_list o) none ∙ append-nil new))
+
+pub none_left : (frames : List Frame) → length frames ≡ 0 → reverse frames ≡ []
+none_left [] none = refl
+none_left (frame ∷ frames) none = absurd (omega arith)
+
+-- ---- the start
+
+-- no call was made, and nothing is kept
+pub walk_begun : (g : Setting) (ends : List Ending) (frame : Frame) → frame.next ≡ 0 → frame.is_over ≡ true
+    → frame.is_closed ≡ is_closed g.start → frame.kept ≡ None → ends ≡ []
+    → AreWalked g ends [] (frame ∷ [])
+walk_begun g ends frame zero over closed nothing none =
+    walk_opens g ends [] frame [] zero over
+    (record {
+      closed = closed ∙ ap is_closed (sym (append-nil g.start));
+      kept = λ k here. absurd (none-some k (sym (ap (option_map (λ (boxed : Box Kept Global). boxed.value)) nothing) ∙ here));
+    })
+    (subst (IsWalkedBefore g []) (sym none) (done_begins g)) refl
+
+pub memo_begun : (g : Setting) (ends : List Ending) (memo : MemoValue) (on : Bool)
+    → memo ≡ record { is_on = on; seen = [] } → on ≡ list_all leaves_script g.scripts → IsMemo g ends memo
+memo_begun g ends memo on is undo =
+    subst (IsMemo g ends) (sym is)
+    (record { all = λ i seen h. absurd cc; room = λ i seen h. absurd cc; undo = λ set. sym undo ∙ set })
+
+-- ---- the way back
+
+-- the place that the latest turn came from
+came_from : (g : Setting) (news before : List Record) (r : Record) (cpu : Option ℕ) (p q : PathValue)
+    → p ≡ path_of g news → news ≡ before ++ r ∷ [] → IsBack p cpu q → q.news ≡ before
+came_from g news before r None p q is longer back =
+    absurd (omega (
+      arith,
+      length_push before r,
+      ap length (sym longer ∙ (sym (ap (λ (x : PathValue). x.news) is) ∙ back.0)),
+    ))
+came_from g news before r (Some cpu) p q is longer back =
+    (same_from_push q.news before back.0 r
+    (sym (ap (λ (x : PathValue). x.news) back.2) ∙ (ap (λ (x : PathValue). x.news) is ∙ longer))).0
+
+pub back_setting : (g : Setting) (news : List Record) (cpu : Option ℕ) (p q : PathValue)
+    → p ≡ path_of g news → IsBack p cpu q → q.setting ≡ g
+back_setting g news None p q is back =
+    ap (λ (x : PathValue). x.setting) back.1 ∙ ap (λ (x : PathValue). x.setting) is
+back_setting g news (Some cpu) p q is back =
+    sym (ap (λ (x : PathValue). x.setting) back.2) ∙ ap (λ (x : PathValue). x.setting) is
+
+pub back_shorter : (g : Setting) (news : List Record) (cpu : Option ℕ) (p q : PathValue)
+    → p ≡ path_of g news → IsBack p cpu q → length q.news ≤ length news
+back_shorter g news None p q is back =
+    omega (
+      arith,
+      ap (λ (x : PathValue). length x.news) back.1,
+      ap (λ (x : PathValue). length x.news) is,
+    )
+back_shorter g news (Some cpu) p q is back =
+    omega (
+      arith,
+      ap (λ (x : PathValue). length x.news) back.2,
+      ap (λ (x : PathValue). length x.news) is,
+      length_push q.news back.0,
+    )
+
+pub walk_back : (g : Setting) (old ends : List Ending) (news : List Record) (frames : List Frame)
+    (cpu : Option ℕ) (p q : PathValue)
+    → Grow old ends → AreBelow g old news frames → IsWalkedThrough g (schedule_of news) ends
+    → p ≡ path_of g news → IsBack p cpu q → AreWalked g ends q.news frames
+walk_back g old ends news [] cpu p q grow b walked is back =
+    subst (λ (h : List Record). IsWalkedThrough g (schedule_of h) ends) b walked
+walk_back g old ends news (frame ∷ frames) cpu p q grow b walked is back =
+    subst (λ (h : List Record). AreWalked g ends h (frame ∷ frames))
+    (sym (came_from g news b.0 b.1 cpu p q is b.3 back)) (
+      record {
+        walked =
+            subst (λ (n : ℕ). IsWalkedBefore g (schedule_of b.0 ++ n ∷ []) ends) (sym b.4)
+            (done_past g (schedule_of b.0) b.0 b.1.cpu ends b.8 b.9
+            (subst (λ (s : List ℕ). IsWalkedThrough g s ends)
+            (ap schedule_of b.3 ∙ longer_schedule b.0 b.1) walked));
+        over =
+            subst (λ (over : Bool). IsOverBelow g b.0 frame.next over) (sym b.5) (b.1.cpu, b.2, b.6);
+        within = omega (arith, b.4, b.7);
+      },
+      frame_grows g old ends b.0 frame grow b.10,
+      below_grows g old ends b.0 frames grow b.11,
+    )
+
+-- as many places as records
+pub below_many : (g : Setting) (ends : List Ending) (news : List Record) (frames : List Frame)
+    → AreBelow g ends news frames → length frames ≡ length news
+below_many g ends news [] b = sym (ap length b)
+below_many g ends news (frame ∷ frames) b =
+    omega (arith, below_many g ends b.0 frames b.11, ap length b.3, length_push b.0 b.1)

@@ -1,0 +1,51 @@
+-- A turn is what the schedule makes of the call, and has a way back.
+use Rattle.std.proofs.Common.{◌≡◌, ℕ, ◌+◌, false, true, List, [], ◌∷◌, ◌++◌, length, Some, ap, sym, subst, ◌∙◌}
+use Rattle.std.proofs.lemmas.Option.{same_Some}
+use Rattle.hp_units.specs.History.{effect_of}
+use Rattle.hp_units.specs.declared.events.Event.{Event}
+use Rattle.hp_units.specs.declared.replies.Record.{Record}
+use Rattle.hp_steps.specs.Steps.{IsLater, IsStepped, StepsValue, record_of_step}
+use Rattle.hp_explore.specs.Faults.{FillsHistory, is_full_after}
+use Rattle.hp_explore.specs.Paths.{IsTurned}
+use Rattle.hp_explore.specs.Schedules.{Setting, next_call, plays, record_of_call, schedule_of}
+use Rattle.hp_explore.specs.Walks.{IsAt, LeadsTo, may_go_back}
+use Rattle.hp_explore.specs.declared.ways.Way.TheVariants.{Mark, Kept}
+use Rattle.hp_explore.proofs.Plays.{plays_push}
+use Rattle.hp_explore.proofs.Stepped.{step_recorded, stepped_at}
+
+-- a step is taken back by its mark
+pub turned_step : (g : Setting) (p n : StepsValue) (serial cpu mark : ℕ) (event : Event) → IsAt g p
+    → next_call g cpu p.records ≡ Some event → may_go_back (effect_of event) ≡ false
+    → serial ≡ g.before + length (g.start ++ p.records) + 1 → is_full_after g p.records ≡ false
+    → IsStepped p serial cpu event mark n → IsTurned g p cpu event (Mark mark) n
+turned_step g p n serial cpu mark event here asked goes is room made = record {
+  at = stepped_at g p n serial cpu mark event here asked goes is made;
+  room = room;
+  records = made.later.records ∙ ap (λ (r : Record). p.records ++ r ∷ []) recorded;
+  over = subst (λ (r : Record). IsLater p r mark n) recorded made.later;
+}
+  where
+    recorded : record_of_step p.layout p.state serial cpu event ≡ record_of_call g p.records cpu event
+    recorded = step_recorded g p serial cpu event here goes is
+
+-- where the steps from before are kept they are the way back
+pub turned_kept : (g : Setting) (p n was now : StepsValue) (cpu : ℕ) (event : Event) → IsAt g p
+    → next_call g cpu p.records ≡ Some event → LeadsTo g (schedule_of p.records ++ cpu ∷ []) (Some n)
+    → is_full_after g p.records ≡ false → was ≡ p → now ≡ n → IsTurned g p cpu event (Kept was) now
+turned_kept g p n was now cpu event here asked leads room was_is now_is =
+    subst (λ (q : StepsValue). IsTurned g p cpu event (Kept was) q) (sym now_is)
+    (record { at = leads.0; room = room; records = longer; over = (was_is, longer) })
+  where
+    longer : n.records ≡ p.records ++ record_of_call g p.records cpu event ∷ []
+    longer =
+        same_Some n.records (p.records ++ record_of_call g p.records cpu event ∷ [])
+        (sym leads.0.played ∙ (ap (plays g) leads.1
+        ∙ plays_push g (schedule_of p.records) p.records cpu event here.played asked))
+
+-- where there is no room for it the history is full
+pub turned_full : (g : Setting) (p : StepsValue) (cpu : ℕ) (event : Event) → IsAt g p
+    → next_call g cpu p.records ≡ Some event → is_full_after g p.records ≡ true → FillsHistory g
+turned_full g p cpu event here asked full = (
+  schedule_of p.records,
+  record { news = p.records; cpu = cpu; event = event; played = here.played; asked = asked; full = full },
+)

@@ -1,0 +1,72 @@
+-- A turn leaves less of a walk.
+use Rattle.std.proofs.Common.{◌≡◌, ℕ, suc, ◌+◌, ◌-◌, ◌*◌, ◌^◌, ◌<◌, ◌≤◌, List, [], ◌∷◌, length, ap, sym, ◌∙◌, arith}
+use Rattle.std.proofs.Math.Nat.{mul-lt-mul_of_pos_right, one-le-pow, pow-suc}
+use Rattle.hp_explore.specs.Frames.{digits, left_of}
+use Rattle.hp_explore.specs.declared.frames.Frame.{Frame}
+
+scaled : (a b e : ℕ) → a < b → 0 < e → a * e < b * e
+scaled a b e less some = mul-lt-mul_of_pos_right {m = a} {n = b} {k = e} less some
+
+some_power : (n k : ℕ) → 0 < (n + 2) ^ k
+some_power n k = let h : 1 ≤ (n + 2) ^ k = one-le-pow k (n + 2) (omega arith) in omega (arith, h)
+
+-- the weight of a place is that of the next one times so many
+next_power : (n most m : ℕ) → m ≤ most → (n + 2) ^ (most + 1 - m) ≡ (n + 2) ^ (most + 1 - suc m) * (n + 2)
+next_power n most m le =
+    let here : most + 1 - m ≡ suc (most - m) = omega arith in
+    let below : most + 1 - suc m ≡ most - m = omega arith in
+    ap (λ (k : ℕ). (n + 2) ^ k) here
+    ∙ (pow-suc (n + 2) (most - m) ∙ ap (λ (k : ℕ). (n + 2) ^ k * (n + 2)) (sym below))
+
+opened_plain : (d n e p x : ℕ) → 0 < e → p ≡ e * (n + 2) → x ≡ d * (n + 2) + (n + 1) → x * e < (d + 1) * p
+opened_plain d n e p x some power is =
+    let h : (d * (n + 2) + (n + 1)) * e < ((d + 1) * (n + 2)) * e =
+    scaled (d * (n + 2) + (n + 1)) ((d + 1) * (n + 2)) e (omega arith) some in
+    omega (arith, h, ap (λ (q : ℕ). (d + 1) * q) power, ap (λ (y : ℕ). y * e) is)
+
+back_plain : (d n e p x t : ℕ) → 0 < e → p ≡ e * (n + 2) → x ≡ d * (n + 2) + t → 0 < t → d * p < x * e
+back_plain d n e p x t some power is digit =
+    let h : (d * (n + 2)) * e < (d * (n + 2) + t) * e =
+    scaled (d * (n + 2)) (d * (n + 2) + t) e (omega arith) some in
+    omega (arith, h, ap (λ (q : ℕ). d * q) power, ap (λ (y : ℕ). y * e) is)
+
+-- a processor asks for nothing
+pub left_passed : (n most : ℕ) (frames : List Frame) (frame later : Frame) → frame.next < n
+    → later.next ≡ frame.next + 1 → left_of n most (later ∷ frames) < left_of n most (frame ∷ frames)
+left_passed n most frames frame later less is =
+    scaled (digits n (later ∷ frames)) (digits n (frame ∷ frames)) ((n + 2) ^ (most + 1 - suc (length frames)))
+    (omega (arith, is, less)) (some_power n (most + 1 - suc (length frames)))
+
+-- a processor leads on: so much is left with its place still to come
+pub led_left : (n most : ℕ) (frames : List Frame) (frame later : Frame) → frame.next < n
+    → later.next ≡ frame.next + 1
+    → (digits n (later ∷ frames) + 1) * (n + 2) ^ (most + 1 - length (later ∷ frames))
+    ≡ left_of n most (frame ∷ frames)
+led_left n most frames frame later less is =
+    let digit : digits n (later ∷ frames) + 1 ≡ digits n (frame ∷ frames) = omega (arith, is, less) in
+    ap (λ (d : ℕ). d * (n + 2) ^ (most + 1 - suc (length frames))) digit
+
+-- the place gets its frame
+pub left_opened : (n most : ℕ) (frames : List Frame) (frame : Frame) → frame.next ≡ 0
+    → length frames ≤ most
+    → left_of n most (frame ∷ frames) < (digits n frames + 1) * (n + 2) ^ (most + 1 - length frames)
+left_opened n most frames frame zero le =
+    opened_plain (digits n frames) n ((n + 2) ^ (most + 1 - suc (length frames)))
+    ((n + 2) ^ (most + 1 - length frames)) (digits n (frame ∷ frames))
+    (some_power n (most + 1 - suc (length frames))) (next_power n most (length frames) le) (omega (arith, zero))
+
+-- or is left at once
+pub left_counted : (n most : ℕ) (frames : List Frame)
+    → left_of n most frames < (digits n frames + 1) * (n + 2) ^ (most + 1 - length frames)
+left_counted n most frames =
+    scaled (digits n frames) (digits n frames + 1) ((n + 2) ^ (most + 1 - length frames)) (omega arith)
+    (some_power n (most + 1 - length frames))
+
+-- a place is left
+pub left_back : (n most : ℕ) (frames : List Frame) (frame : Frame) → frame.next ≤ n → length frames ≤ most
+    → left_of n most frames < left_of n most (frame ∷ frames)
+left_back n most frames frame within le =
+    back_plain (digits n frames) n ((n + 2) ^ (most + 1 - suc (length frames)))
+    ((n + 2) ^ (most + 1 - length frames)) (digits n (frame ∷ frames)) (n + 1 - frame.next)
+    (some_power n (most + 1 - suc (length frames))) (next_power n most (length frames) le) (omega arith)
+    (omega arith)

@@ -1,0 +1,19 @@
+-- The latest way leads back over the latest record.
+use Rattle.hp_explore.specs.Schedules.{setting}
+use Rattle.hp_explore.proofs.Paths.{back_shown, path_taken}
+use Rattle.hp_explore.proofs.path.Path.back.Goals as goal
+
+pub step_back-requires : goal.step_back-requires
+step_back-requires c = (setting c.self.inside.machine.now c.self.inside.scripts.now, c.self.invariant)
+
+pub invariant_of-self : goal.invariant_of-self
+invariant_of-self c =
+    path_taken (setting c.self.inside.machine.now c.self.inside.scripts.now) c.self.inside.here
+    c.step_back.new.here c.step_back.result c.step_back.new.ways.items
+    (c.step_back.ensures (setting c.self.inside.machine.now c.self.inside.scripts.now) c.self.invariant)
+
+pub returns : goal.returns
+returns c =
+    back_shown (setting c.self.inside.machine.now c.self.inside.scripts.now) c.self.inside.here
+    c.step_back.new.here c.step_back.result c.step_back.new.ways.items c.args.self.now c.self.view_is
+    (c.step_back.ensures (setting c.self.inside.machine.now c.self.inside.scripts.now) c.self.invariant)

@@ -1,0 +1,30 @@
+-- One turn more, with its way back; or all stays.
+use Rattle.std.proofs.Common.{◌≡◌, ap, sym, subst, ◌∙◌}
+use Rattle.std.proofs.lemmas.Result.{IfErr-weaker, IfOk-weaker}
+use Rattle.hp_steps.specs.Steps.{StepsValue}
+use Rattle.hp_explore.specs.Faults.{IsCallCause}
+use Rattle.hp_explore.specs.Frames.{path_of}
+use Rattle.hp_explore.specs.Paths.{PathValue}
+use Rattle.hp_explore.specs.Schedules.{Setting, setting}
+use Rattle.hp_explore.proofs.Paths.{forth_shown, path_advanced}
+use Rattle.hp_explore.proofs.path.Path.forward.Goals as goal
+
+pub invariant_of-self : goal.invariant_of-self
+invariant_of-self c =
+    path_advanced (setting c.self.inside.machine.now c.self.inside.scripts.now) c.self.inside.here
+    c.advance.new.here c.args.cpu c.self.inside.ways.items c.advance.new.ways.items c.advance.result
+    c.self.invariant c.advance.ensures.ok c.advance.ensures.err
+
+pub returns-clause-ok : goal.returns-clause-ok
+returns-clause-ok c =
+    IfOk-weaker c.advance.result _ _
+    (λ went ok. forth_shown (setting c.self.inside.machine.now c.self.inside.scripts.now) c.self.inside.here
+    c.advance.new.here c.args.cpu c.self.inside.ways.items c.advance.new.ways.items went c.args.self.now
+    c.self.view_is ok)
+    c.advance.ensures.ok
+
+pub returns-clause-cause : goal.returns-clause-cause
+returns-clause-cause c =
+    IfErr-weaker c.advance.result _ _
+    (λ fault cause. subst (λ (p : PathValue). IsCallCause p.setting fault) c.self.view_is cause)
+    c.advance.ensures.cause

@@ -1,0 +1,31 @@
+-- No turn was made.
+use Rattle.std.proofs.Common.{◌≡◌, [], List, ap, ◌∙◌}
+use Rattle.std.proofs.Math.Seq.{drop-length}
+use Rattle.hp_units.specs.declared.replies.Record.{Record}
+use Rattle.hp_steps.specs.Steps.{StepsValue}
+use Rattle.hp_explore.specs.Schedules.{setting}
+use Rattle.hp_explore.proofs.Machines.{reached_start}
+use Rattle.hp_explore.specs.Frames.{path_of}
+use Rattle.hp_explore.proofs.Paths.{path_begins}
+use Rattle.hp_explore.proofs.Stepped.{machine_at}
+use Rattle.hp_explore.proofs.path.Path.start.Goals as goal
+use Rattle.hp_explore.proofs.path.Path.start.Goals.{In_ok-here}
+
+none_yet : (c : In_ok-here) → c.in_ok-here.here.records ≡ []
+none_yet c =
+    ap (λ (p : StepsValue). p.records) c.in_ok-here.ensures.value ∙ drop-length c.args.machine.now.history
+
+pub invariant_of-result : goal.invariant_of-result
+invariant_of-result c =
+    path_begins (setting c.args.machine.now c.args.scripts.now) c.in_ok-here.here _
+    (machine_at (setting c.args.machine.now c.args.scripts.now) c.args.machine.now c.in_ok-here.here
+    (reached_start c.args.machine.now c.args.scripts.now) c.steps_of.ensures.kept.state
+    (ap (λ (p : StepsValue). p.layout) c.in_ok-here.ensures.value)
+    (ap (λ (p : StepsValue). p.state) c.in_ok-here.ensures.value)
+    (ap (λ (p : StepsValue). p.records) c.in_ok-here.ensures.value))
+    (none_yet (goal.at.invariant_of-result c).In_ok-here) c.new.ensures.items
+
+pub returns : goal.returns
+returns c =
+    ap (path_of (setting c.args.machine.now c.args.scripts.now))
+    (none_yet (goal.at.returns c).In_ok-here)

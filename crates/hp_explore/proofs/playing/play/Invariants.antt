@@ -1,0 +1,8 @@
+-- What is played so far leads to the machine.
+use Rattle.std.proofs.Common.{take}
+use Rattle.hp_explore.specs.Schedules.{setting}
+use Rattle.hp_explore.proofs.Walking.{ArePlayed}
+use Rattle.hp_explore.proofs.playing.play.Given as goal
+
+abbrev pub invariant-loop-cpu : goal.invariant-loop-cpu
+invariant-loop-cpu l = ArePlayed (setting l.machine l.scripts) (take l.cpu-index l.schedule) l.played

@@ -1,0 +1,90 @@
+-- The place is left at once, or gets its frame.
+use Rattle.std.proofs.Common.{◌≡◌, ◌+◌, ◌*◌, ◌-◌, ◌^◌, ◌<◌, ◌∷◌, ℕ, List, length, reverse, ap, refl, sym, subst, ◌∙◌, arith}
+use Rattle.hp_explore.specs.Frames.{AreBelow, AreWalked, IsEntered, digits, frames_of, left_of}
+use Rattle.hp_explore.specs.Schedules.{Setting, schedule_of}
+use Rattle.hp_explore.specs.Seen.{IsMemo}
+use Rattle.hp_explore.specs.Walks.{IsWalkedBefore}
+use Rattle.hp_explore.specs.declared.frames.Entry.{Entry}
+use Rattle.hp_explore.specs.declared.frames.Frame.{Frame}
+use Rattle.hp_explore.specs.declared.tally.Ending.{Ending}
+use Rattle.hp_explore.proofs.Framing.{back_setting, below_many, frames_pushed, walk_opens}
+use Rattle.hp_explore.proofs.Kept.{memo_added}
+use Rattle.hp_explore.proofs.Walked.{gone_back}
+use Rattle.hp_explore.proofs.Weights.{left_counted, left_opened}
+use Rattle.hp_explore.proofs.walk.Walk.come_to.Goals as goal
+
+pub returns-in-Counted-clause-kept : goal.returns-in-Counted-clause-kept
+returns-in-Counted-clause-kept o c =
+    let w = c.args.self.now in
+    let entered =
+    subst (IsEntered w.path w.tally.ends c.enter.new.tally.ends) c.in-Counted.is
+    c.in_ok-entry.ensures.ok in
+    let all =
+    gone_back w.path.setting w.tally.ends c.enter.new.tally.ends w.path.news (frames_of w)
+    (reverse c.reserve.new.self.items) c.back.result c.back.new.self w.memo w.processors
+    (ap reverse c.in_ok-reserve.ensures.items) entered.1 c.requires.below entered.0 c.back.ensures
+    (memo_added w.path.setting w.tally.ends c.enter.new.tally.ends w.memo entered.1 c.requires.memo)
+    c.requires.processors c.requires.short in
+    record { walked = all.0; memo = all.1; processors = all.2; few = c.requires.few; short = all.3 }
+
+pub returns-in-Counted-clause-less : goal.returns-in-Counted-clause-less
+returns-in-Counted-clause-less o c =
+    let w = c.args.self.now in
+    subst (λ (g : Setting). left_of w.processors g.layout.history (reverse c.reserve.new.self.items)
+    < (digits w.processors (frames_of w) + 1)
+    * (w.processors + 2) ^ (w.path.setting.layout.history + 1 - length (frames_of w)))
+    (sym (back_setting w.path.setting w.path.news c.back.result w.path c.back.new.self refl c.back.ensures))
+    (subst (λ (fs : List Frame). left_of w.processors w.path.setting.layout.history fs
+    < (digits w.processors (frames_of w) + 1)
+    * (w.processors + 2) ^ (w.path.setting.layout.history + 1 - length (frames_of w)))
+    (sym (ap reverse c.in_ok-reserve.ensures.items))
+    (left_counted w.processors w.path.setting.layout.history (frames_of w)))
+
+pub returns-in-Counted-clause-same : goal.returns-in-Counted-clause-same
+returns-in-Counted-clause-same o c =
+    let w = c.args.self.now in (
+      back_setting w.path.setting w.path.news c.back.result w.path c.back.new.self refl c.back.ensures,
+      c.enter.ensures.limit,
+    )
+
+pub returns-in-Open-clause-kept : goal.returns-in-Open-clause-kept
+returns-in-Open-clause-kept o c =
+    let w = c.args.self.now in
+    let g = w.path.setting in
+    let ends = c.enter.new.tally.ends in
+    let entered =
+    subst (IsEntered w.path w.tally.ends ends) c.in-Open.is c.in_ok-entry.ensures.ok in
+    let pushed =
+    frames_pushed w.frames.items c.reserve.new.self.items c.push_reserved.new.self.items c.in-Open.frame
+    c.in_ok-reserve.ensures.items c.push_reserved.ensures.items in
+    record {
+      walked =
+          subst (AreWalked g ends w.path.news) (sym pushed)
+          (walk_opens g ends w.path.news c.in-Open.frame (frames_of w) entered.1 entered.2 entered.3
+          (subst (IsWalkedBefore g (schedule_of w.path.news)) (sym entered.0) c.requires.walked)
+          (subst (λ (es : List Ending). AreBelow g es w.path.news (frames_of w)) (sym entered.0)
+          c.requires.below));
+      memo = subst (λ (es : List Ending). IsMemo g es w.memo) (sym entered.0) c.requires.memo;
+      processors = c.requires.processors;
+      few = c.requires.few;
+      short = c.requires.short;
+    }
+
+pub returns-in-Open-clause-less : goal.returns-in-Open-clause-less
+returns-in-Open-clause-less o c =
+    let w = c.args.self.now in
+    let entered =
+    subst (IsEntered w.path w.tally.ends c.enter.new.tally.ends) c.in-Open.is c.in_ok-entry.ensures.ok in
+    let pushed =
+    frames_pushed w.frames.items c.reserve.new.self.items c.push_reserved.new.self.items c.in-Open.frame
+    c.in_ok-reserve.ensures.items c.push_reserved.ensures.items in
+    subst (λ (fs : List Frame). left_of w.processors w.path.setting.layout.history fs
+    < (digits w.processors (frames_of w) + 1)
+    * (w.processors + 2) ^ (w.path.setting.layout.history + 1 - length (frames_of w)))
+    (sym pushed)
+    (left_opened w.processors w.path.setting.layout.history (frames_of w) c.in-Open.frame entered.1
+    (omega (
+      arith,
+      below_many w.path.setting w.tally.ends w.path.news (frames_of w) c.requires.below,
+      c.requires.short,
+    )))

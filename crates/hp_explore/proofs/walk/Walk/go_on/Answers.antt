@@ -1,0 +1,97 @@
+-- Where a call was made the walk comes to a place by it.
+use Rattle.std.proofs.Common.{◌≡◌, ◌+◌, ◌*◌, ◌-◌, ◌^◌, ◌<◌, ◌≤◌, ◌∷◌, Bool, true, false, ℕ, List, length, reverse, ap, refl, sym, subst, ◌∙◌, arith}
+use Rattle.std.proofs.lemmas.Result.{IfErr-weaker, on_ok_weaker}
+use Rattle.hp_explore.specs.Faults.{IsWalkCause}
+use Rattle.hp_explore.specs.Frames.{digits, frames_of, left_of}
+use Rattle.hp_explore.specs.Paths.{IsForth, PathValue}
+use Rattle.hp_explore.specs.Schedules.{Setting}
+use Rattle.hp_explore.specs.Seen.{IsMemo}
+use Rattle.hp_explore.specs.declared.frames.Frame.{Frame}
+use Rattle.hp_explore.proofs.Framing.{frames_pushed}
+use Rattle.hp_explore.proofs.Walked.{closed_on, forth_setting, led_on, passed_on, short_on}
+use Rattle.hp_explore.proofs.Weights.{led_left, left_passed}
+use Rattle.hp_explore.proofs.walk.Walk.go_on.Goals as goal
+
+pub passed-requires : goal.passed-requires
+passed-requires o c = omega (arith, c.requires.some, c.requires.kept.few)
+
+pub led_on-requires : goal.led_on-requires
+led_on-requires o c = omega (arith, c.requires.some, c.requires.kept.few)
+
+pub returns-then-not-branch-clause-kept : goal.returns-then-not-branch-clause-kept
+returns-then-not-branch-clause-kept o c =
+    let w = c.args.self.now in
+    let forth =
+    subst (λ (b : Bool). IsForth w.path c.args.frame.next b c.forward.new.self) c.if-not-branch.true
+    c.in_ok-forward.ensures.ok in
+    let same = forth_setting w.path c.forward.new.self c.args.frame.next false forth in
+    let pushed =
+    frames_pushed w.frames.items c.reserve.new.self.items c.push_reserved.new.self.items c.passed.result
+    c.in_ok-reserve.ensures.items c.push_reserved.ensures.items in
+    record {
+      walked =
+          passed_on w.path c.forward.new.self w.tally.ends c.args.frame c.passed.result (frames_of w)
+          (reverse c.push_reserved.new.self.items) c.is_played.ensures forth
+          (omega (arith, c.requires.some, c.requires.kept.processors)) c.passed.ensures pushed
+          c.requires.kept.walked;
+      memo = subst (λ (g : Setting). IsMemo g w.tally.ends w.memo) (sym same) c.requires.kept.memo;
+      processors = c.requires.kept.processors ∙ ap (λ (g : Setting). length g.scripts) (sym same);
+      few = c.requires.kept.few;
+      short =
+          subst (λ (p : PathValue). length p.news ≤ p.setting.layout.history) (sym forth.1)
+          c.requires.kept.short;
+    }
+
+pub returns-then-not-branch-clause-less : goal.returns-then-not-branch-clause-less
+returns-then-not-branch-clause-less o c =
+    let w = c.args.self.now in
+    let n = w.processors in
+    let most = w.path.setting.layout.history in
+    let same =
+    forth_setting w.path c.forward.new.self c.args.frame.next c.in_ok-forward.field-0
+    c.in_ok-forward.ensures.ok in
+    let pushed =
+    frames_pushed w.frames.items c.reserve.new.self.items c.push_reserved.new.self.items c.passed.result
+    c.in_ok-reserve.ensures.items c.push_reserved.ensures.items in
+    subst (λ (g : Setting). left_of w.processors g.layout.history (reverse c.push_reserved.new.self.items)
+    < left_of w.processors w.path.setting.layout.history (c.args.frame ∷ frames_of w)) (sym same)
+    (subst (λ (fs : List Frame). left_of w.processors w.path.setting.layout.history fs
+    < left_of w.processors w.path.setting.layout.history (c.args.frame ∷ frames_of w)) (sym pushed)
+    (left_passed n most (frames_of w) c.args.frame c.passed.result c.requires.some
+    (ap (λ (f : Frame). f.next) c.passed.ensures)))
+
+pub returns-then-not-branch-clause-same : goal.returns-then-not-branch-clause-same
+returns-then-not-branch-clause-same o c = (
+  forth_setting c.args.self.now.path c.forward.new.self c.args.frame.next c.in_ok-forward.field-0
+      c.in_ok-forward.ensures.ok,
+  refl,
+)
+
+pub come_to-requires : goal.come_to-requires
+come_to-requires o c =
+    let w = c.args.self.now in
+    let forth =
+    subst (λ (b : Bool). IsForth w.path c.args.frame.next b c.forward.new.self) c.if-not-branch.false
+    c.in_ok-forward.ensures.ok in
+    let same = forth_setting w.path c.forward.new.self c.args.frame.next true forth in
+    let pushed =
+    frames_pushed w.frames.items c.reserve.new.self.items c.push_reserved-2.new.self.items c.led_on.result
+    c.in_ok-reserve.ensures.items c.push_reserved-2.ensures.items in
+    let led =
+    led_on w.path c.forward.new.self w.tally.ends c.args.frame c.led_on.result (frames_of w)
+    (reverse c.push_reserved-2.new.self.items) c.is_played.ensures forth
+    (omega (arith, c.requires.some, c.requires.kept.processors)) c.led_on.ensures pushed
+    c.requires.kept.walked in
+    record {
+      walked = led.0;
+      below = led.1;
+      closed =
+          closed_on w.path c.forward.new.self c.args.frame.next c.args.frame.is_closed
+          c.closed_after-closed.result c.latest.result.now forth c.requires.kept.walked.1.closed
+          c.closed_after-closed.ensures
+          (λ before r is. c.latest.ensures before r (c.records.ensures ∙ is));
+      memo = subst (λ (g : Setting). IsMemo g w.tally.ends w.memo) (sym same) c.requires.kept.memo;
+      processors = c.requires.kept.processors ∙ ap (λ (g : Setting). length g.scripts) (sym same);
+      few = c.requires.kept.few;
+      short = short_on w.path c.forward.new.self c.args.frame.next forth;
+    }

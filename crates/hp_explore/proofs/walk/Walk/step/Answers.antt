@@ -1,0 +1,76 @@
+-- The latest place makes its turn; where there is none all is walked.
+use Rattle.std.proofs.Common.{◌≡◌, ◌+◌, ◌<◌, ◌∷◌, [], List, MatchOption, Option, reverse, sym, subst, vec_len, ◌∙◌}
+use Rattle.hp_explore.specs.Frames.{AreWalked, frames_of, left, left_of}
+use Rattle.hp_explore.specs.declared.frames.Frame.{Frame}
+use Rattle.hp_explore.proofs.Framing.{frames_popped, no_frames, none_left}
+use Rattle.hp_explore.proofs.walk.Walk.step.Goals as goal
+
+pub go_on-requires-clause-kept : goal.go_on-requires-clause-kept
+go_on-requires-clause-kept o c =
+    let w = c.args.self.now in
+    record {
+      walked =
+          subst (AreWalked w.path.setting w.tally.ends w.path.news)
+          (frames_popped w.frames.items c.pop.new.self.items c.pop.result c.in-Some.frame c.pop.ensures.items
+          c.in-Some.is) c.requires.walked;
+      memo = c.requires.memo;
+      processors = c.requires.processors;
+      few = c.requires.few;
+      short = c.requires.short;
+    }
+
+pub go_back-requires-clause-kept : goal.go_back-requires-clause-kept
+go_back-requires-clause-kept o c =
+    let w = c.args.self.now in
+    record {
+      walked =
+          subst (AreWalked w.path.setting w.tally.ends w.path.news)
+          (frames_popped w.frames.items c.pop.new.self.items c.pop.result c.in-Some.frame c.pop.ensures.items
+          c.in-Some.is) c.requires.walked;
+      memo = c.requires.memo;
+      processors = c.requires.processors;
+      few = c.requires.few;
+      short = c.requires.short;
+    }
+
+pub returns-in_default-clause-kept : goal.returns-in_default-clause-kept
+returns-in_default-clause-kept o c =
+    let w = c.args.self.now in
+    record {
+      walked =
+          subst (AreWalked w.path.setting w.tally.ends w.path.news)
+          (no_frames w.frames.items c.pop.new.self.items c.pop.result c.pop.ensures.items c.in_default.is)
+          c.requires.walked;
+      memo = c.requires.memo;
+      processors = c.requires.processors;
+      few = c.requires.few;
+      short = c.requires.short;
+    }
+
+pub returns-in_default-clause-done : goal.returns-in_default-clause-done
+returns-in_default-clause-done o c =
+    let w = c.args.self.now in
+    let none =
+    subst (λ (p : Option Frame). MatchOption p ((vec_len w.frames ≡ 0) × (vec_len c.pop.new.self ≡ 0))
+    (λ _. vec_len c.pop.new.self + 1 ≡ vec_len w.frames)) c.in_default.is c.pop.ensures.cases in
+    λ over. subst (AreWalked w.path.setting w.tally.ends w.path.news)
+    (no_frames w.frames.items c.pop.new.self.items c.pop.result c.pop.ensures.items c.in_default.is
+    ∙ none_left c.pop.new.self.items (sym c.pop.new.self.ok.0 ∙ none.1)) c.requires.walked
+
+pub returns-then-frame-self-clause-more : goal.returns-then-frame-self-clause-more
+returns-then-frame-self-clause-more o c =
+    let w = c.args.self.now in
+    let popped =
+    frames_popped w.frames.items c.pop.new.self.items c.pop.result c.in-Some.frame c.pop.ensures.items
+    c.in-Some.is in
+    λ more. subst (λ (fs : List Frame). left c.go_on.new.self (frames_of c.go_on.new.self)
+    < left_of w.processors w.path.setting.layout.history fs) (sym popped) c.in_ok-go_on.ensures.less
+
+pub returns-clause-more : goal.returns-clause-more
+returns-clause-more o c =
+    let w = c.args.self.now in
+    let popped =
+    frames_popped w.frames.items c.pop.new.self.items c.pop.result c.in-Some.frame c.pop.ensures.items
+    c.in-Some.is in
+    λ more. subst (λ (fs : List Frame). left c.go_back.new.self (frames_of c.go_back.new.self)
+    < left_of w.processors w.path.setting.layout.history fs) (sym popped) c.in_ok-go_back.ensures.less

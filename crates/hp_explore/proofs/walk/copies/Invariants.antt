@@ -1,6 +1,0 @@
--- The records so far.
-use Rattle.std.proofs.Common.{◌≡◌, take}
-use Rattle.hp_explore.proofs.walk.copies.Given as goal
-
-abbrev pub invariant-loop-record : goal.invariant-loop-record
-invariant-loop-record l = l.copies.items ≡ take l.record-index l.records

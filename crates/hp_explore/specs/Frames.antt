@@ -1,0 +1,121 @@
+-- The stack of a walk: what it knows of each place between where the scripts begin and where it stands.
+use Rattle.std.specs.Prelude.{◌≡◌, ℕ, ◌+◌, ◌-◌, ◌*◌, ◌^◌, ◌<◌, ◌≤◌, Bool, true, false, List, [], ◌∷◌, ◌++◌, Option, Some, None, length, map, option_map, reverse, Box}
+use Rattle.std.specs.declared.alloc.Global.{Global}
+use Rattle.hp_units.specs.History.{net_of, value_of}
+use Rattle.hp_units.specs.declared.events.Event.{Event}
+use Rattle.hp_units.specs.declared.replies.Record.{Record}
+use Rattle.hp_steps.specs.Steps.{StepsValue}
+use Rattle.hp_explore.specs.Alike.{IsClosed, is_closed}
+use Rattle.hp_explore.specs.Ends.{AreCounted}
+use Rattle.hp_explore.specs.Faults.{is_full_after}
+use Rattle.hp_explore.specs.Notes.{TallyValue}
+use Rattle.hp_explore.specs.Paths.{PathValue, state_at}
+use Rattle.hp_explore.specs.Schedules.{Setting, next_call, plays, schedule_of}
+use Rattle.hp_explore.specs.Seen.{Grow, IsMemo}
+use Rattle.hp_explore.specs.Walks.{Before, IsOverBelow, IsWalkedBefore, IsWalkedThrough}
+use Rattle.hp_explore.specs.declared.frames.Entry.{Entry}
+use Rattle.hp_explore.specs.declared.frames.Entry.TheVariants.{Counted, Open}
+use Rattle.hp_explore.specs.declared.frames.Frame.{Frame}
+use Rattle.hp_explore.specs.declared.frames.Kept.{Kept}
+use Rattle.hp_explore.specs.declared.tally.Ending.{Ending}
+use Rattle.hp_explore.specs.declared.walk.Walk.{Walk}
+
+-- steps of where a path stands
+abbrev pub standing : PathValue → StepsValue
+standing p = record { layout = p.setting.layout; state = state_at p; deltas = []; records = p.news }
+
+abbrev pub path_of : Setting → List Record → PathValue
+path_of g news = record { setting = g; news = news }
+
+-- what is kept of a place until all that go on from it are counted: its state, which no Cancel can
+-- drop, and how much each end counted when the walk came there
+pub record IsPlaceKept (g : Setting) (news : List Record) (ends : List Ending) (kept : Kept) : Type 0 where
+  pub old : List Ending
+  pub memory : kept.image.memory ≡ value_of g.layout g.base (g.start ++ news)
+  pub earlier : kept.earlier.items ≡ map (λ e. e.count) old
+  pub closed : IsClosed (net_of (g.start ++ news))
+  pub before : AreCounted (Before g (schedule_of news)) old
+  pub grown : Grow old ends
+
+abbrev pub kept_of : Frame → Option Kept
+kept_of frame = option_map (λ (boxed : Box Kept Global). boxed.value) frame.kept
+
+-- the frame of a place
+pub record IsFrame (g : Setting) (news : List Record) (ends : List Ending) (frame : Frame) : Type 0 where
+  pub closed : frame.is_closed ≡ is_closed (g.start ++ news)
+  pub kept : (k : Kept) → kept_of frame ≡ Some k → IsPlaceKept g news ends k
+
+-- the turns of a place whose next processor is this: all before it was walked, and whether a script
+-- asked for anything so far is known
+pub record AreTurns (g : Setting) (news : List Record) (ends : List Ending) (frame : Frame) : Type 0 where
+  pub walked : IsWalkedBefore g (schedule_of news ++ frame.next ∷ []) ends
+  pub over : IsOverBelow g news frame.next frame.is_over
+  pub within : frame.next ≤ length g.scripts
+
+-- the places below one, latest first: each led on by the turn before its next processor, for whose
+-- call there was room
+abbrev pub AreBelow : Setting → List Ending → List Record → List Frame → Type 0
+AreBelow g ends news [] = news ≡ []
+AreBelow g ends news (frame ∷ frames) =
+    (before : List Record) × (r : Record) × (event : Event) × (news ≡ before ++ r ∷ [])
+    × (frame.next ≡ r.cpu + 1) × (frame.is_over ≡ false) × (next_call g r.cpu before ≡ Some event)
+    × (r.cpu < length g.scripts) × (plays g (schedule_of before) ≡ Some before)
+    × (is_full_after g before ≡ false) × IsFrame g before ends frame
+    × AreBelow g ends before frames
+
+-- the places of a walk, latest first; without any all is walked
+abbrev pub AreWalked : Setting → List Ending → List Record → List Frame → Type 0
+AreWalked g ends news [] = IsWalkedThrough g [] ends
+AreWalked g ends news (frame ∷ frames) =
+    AreTurns g news ends frame × IsFrame g news ends frame × AreBelow g ends news frames
+
+-- ---- the walk
+
+-- what a walk keeps, where these are its frames, latest first
+pub record IsWalking (w : Walk) (frames : List Frame) : Type 0 where
+  pub walked : AreWalked w.path.setting w.tally.ends w.path.news frames
+  pub memo : IsMemo w.path.setting w.tally.ends w.memo
+  pub processors : w.processors ≡ length w.path.setting.scripts
+  pub few : w.processors < 2 ^ 32
+  pub short : length w.path.news ≤ w.path.setting.layout.history
+
+abbrev pub frames_of : Walk → List Frame
+frames_of w = reverse w.frames.items
+
+-- how much of a walk is left: a number with a digit for each place, in which a later place counts less
+abbrev pub digits : (processors : ℕ) → List Frame → ℕ
+digits n [] = 0
+digits n (frame ∷ frames) = digits n frames * (n + 2) + (n + 1 - frame.next)
+
+abbrev pub left_of : (processors most : ℕ) → List Frame → ℕ
+left_of n most frames = digits n frames * (n + 2) ^ (most + 1 - length frames)
+
+abbrev pub left : Walk → List Frame → ℕ
+left w frames = left_of w.processors w.path.setting.layout.history frames
+
+-- so much is left before a turn by which this is left after it and its place
+abbrev pub left_before : Walk → List Frame → ℕ
+left_before w frames =
+    (digits w.processors frames + 1)
+    * (w.processors + 2) ^ (w.path.setting.layout.history + 1 - length frames)
+
+-- a walk stays that of its scripts and its limit
+abbrev pub IsSameWalk : Walk → Walk → Type 0
+IsSameWalk old new = (new.path.setting ≡ old.path.setting) × (new.tally.limit ≡ old.tally.limit)
+
+-- a walk has come to a place by a call: all before it was walked, and where these are its frames,
+-- latest first, they are those of the places below
+pub record IsComing (w : Walk) (is_closed_here : Bool) (frames : List Frame) : Type 0 where
+  pub walked : IsWalkedBefore w.path.setting (schedule_of w.path.news) w.tally.ends
+  pub below : AreBelow w.path.setting w.tally.ends w.path.news frames
+  pub closed : is_closed_here ≡ is_closed (w.path.setting.start ++ w.path.news)
+  pub memo : IsMemo w.path.setting w.tally.ends w.memo
+  pub processors : w.processors ≡ length w.path.setting.scripts
+  pub few : w.processors < 2 ^ 32
+  pub short : length w.path.news ≤ w.path.setting.layout.history
+
+-- what was done at a place: what goes on from there was counted, or it has a frame with all to come
+abbrev pub IsEntered : PathValue → (old new : List Ending) → Entry → Type 0
+IsEntered p old new Counted = IsWalkedThrough p.setting (schedule_of p.news) new × Grow old new
+IsEntered p old new (Open frame) =
+    (new ≡ old) × (frame.next ≡ 0) × (frame.is_over ≡ true) × IsFrame p.setting p.news new frame

@@ -1,0 +1,77 @@
+-- Where a walk over the schedules stands, and its way back.
+use Rattle.std.specs.Prelude.{◌≡◌, ℕ, Bool, true, false, List, [], ◌∷◌, ◌++◌, Option, Some, None, reverse}
+use Rattle.hp_units.specs.History.{value_of}
+use Rattle.hp_units.specs.Memory.{Memory}
+use Rattle.hp_units.specs.declared.events.Event.{Event}
+use Rattle.hp_units.specs.declared.replies.Record.{Record}
+use Rattle.hp_steps.specs.Steps.{IsLater, StepsValue}
+use Rattle.hp_explore.specs.Faults.{is_full_after}
+use Rattle.hp_explore.specs.Schedules.{Setting, next_call, record_of_call}
+use Rattle.hp_explore.specs.Walks.{IsAt}
+use Rattle.hp_explore.specs.declared.ways.Way.{Way}
+use Rattle.hp_explore.specs.declared.ways.Way.TheVariants.{Mark, Kept}
+
+-- scripts with where they begin, and the new records so far
+pub record PathValue : Type 0 where
+  pub setting : Setting
+  pub news : List Record
+
+-- the state after them
+abbrev pub state_at : PathValue → Memory
+state_at p = value_of p.setting.layout p.setting.base (p.setting.start ++ p.news)
+
+-- whether a processor made its next call: the history had room for its record, which is the last;
+-- or its script asks for nothing and all stays
+abbrev pub IsForth : PathValue → (cpu : ℕ) → (went : Bool) → PathValue → Type 0
+IsForth p cpu true q =
+    (event : Event) × (next_call p.setting cpu p.news ≡ Some event) × (is_full_after p.setting p.news ≡ false)
+    × (q ≡ record { setting = p.setting; news = p.news ++ record_of_call p.setting p.news cpu event ∷ [] })
+IsForth p cpu false q = (next_call p.setting cpu p.news ≡ None) × (q ≡ p)
+
+-- the latest call, a processor's, was taken back, or there was none
+abbrev pub IsBack : PathValue → Option ℕ → PathValue → Type 0
+IsBack p None q = (p.news ≡ []) × (q ≡ p)
+IsBack p (Some cpu) q =
+    (r : Record) × (r.cpu ≡ cpu) × (p ≡ record { setting = q.setting; news = q.news ++ r ∷ [] })
+
+-- ---- what a path keeps
+
+-- what leads back over a turn leads back to these steps over this record
+abbrev pub IsWayOver : Way → StepsValue → Record → StepsValue → Type 0
+IsWayOver (Mark mark) old r new = IsLater old r mark new
+IsWayOver (Kept steps) old r new = (steps ≡ old) × (new.records ≡ old.records ++ r ∷ [])
+
+-- a processor's event was made, and there is a way back over it
+pub record IsTurned (g : Setting) (old : StepsValue) (cpu : ℕ) (event : Event) (way : Way)
+    (new : StepsValue) : Type 0 where
+  pub at : IsAt g new
+  pub room : is_full_after g old.records ≡ false
+  pub records : new.records ≡ old.records ++ record_of_call g old.records cpu event ∷ []
+  pub over : IsWayOver way old (record_of_call g old.records cpu event) new
+
+-- the ways lead back to where the scripts begin, latest first
+abbrev pub IsWayBack : Setting → StepsValue → List Way → Type 0
+IsWayBack g here [] = here.records ≡ []
+IsWayBack g here (way ∷ ways) =
+    (old : StepsValue) × (r : Record) × IsAt g old × (here.records ≡ old.records ++ r ∷ [])
+    × IsWayOver way old r here × IsWayBack g old ways
+
+-- a path stands where its schedule leads to, and its ways lead back
+pub record IsPath (g : Setting) (here : StepsValue) (ways : List Way) : Type 0 where
+  pub at : IsAt g here
+  pub back : IsWayBack g here (reverse ways)
+
+-- whether a processor's call was made: it has a way back, or its script asks for nothing and all stays
+abbrev pub IsAdvanced : Setting → StepsValue → List Way → (cpu : ℕ) → (went : Bool) → StepsValue → List Way
+    → Type 0
+IsAdvanced g old ways cpu true new later =
+    (event : Event) × (way : Way) × (next_call g cpu old.records ≡ Some event)
+    × IsTurned g old cpu event way new × (later ≡ ways ++ way ∷ [])
+IsAdvanced g old ways cpu false new later =
+    (next_call g cpu old.records ≡ None) × (new ≡ old) × (later ≡ ways)
+
+-- the latest turn, a processor's, was taken back, or there was none
+abbrev pub IsTakenBack : Setting → StepsValue → Option ℕ → StepsValue → List Way → Type 0
+IsTakenBack g old None new ways = (old.records ≡ []) × (new ≡ old) × IsPath g new ways
+IsTakenBack g old (Some cpu) new ways =
+    (r : Record) × (r.cpu ≡ cpu) × (old.records ≡ new.records ++ r ∷ []) × IsPath g new ways

@@ -1,0 +1,135 @@
+//! Where a walk over the schedules stands, with its way back.
+ghost use Rattle.std.specs.Prelude.{◌≡◌, [], Some, IfErr, IfOk, OnErr};
+ghost use Rattle.hp_explore.specs.Faults.{IsCallCause};
+ghost use Rattle.hp_explore.specs.Outcomes.{outcome};
+ghost use Rattle.hp_explore.specs.Paths.{IsBack, IsForth, state_at};
+ghost use Rattle.hp_explore.specs.Schedules.{next_call, plays, schedule_of, setting};
+
+use crate::exploring::ExploreFault;
+use crate::outcomes::{Outcome, outcome_at};
+use crate::scripts::Script;
+use crate::turns::{advance, event_at, step_back, steps_of};
+use crate::ways::Way;
+use hp_machine::Machine;
+use hp_memory::Memory;
+use hp_steps::Steps;
+use hp_units::{Cpu, Event, Record};
+use std::alloc::{AllocError, Global};
+use std::marker::Model;
+
+/// Where a schedule of scripts leads to from a machine as it stands, and the way back over it, turn
+/// by turn. A contract sees the setting, which is the machine and the scripts, and the new records.
+/// The machine stays as it is.
+pub struct Path<'a> {
+    machine: &'a Machine,
+    scripts: &'a [Script],
+    here: Steps,
+    ways: Vec<Way>,
+}
+
+impl<'a> Model for Path<'a> {
+    ghost use Rattle.hp_explore.specs.Paths.{IsPath, PathValue};
+    ghost use Rattle.hp_explore.specs.Schedules.{setting};
+
+    ghost Value = { PathValue };
+
+    ghost view = { λ p. record { setting = setting p.machine.now p.scripts.now; news = p.here.records } };
+
+    ghost invariant = { λ p. IsPath (setting p.machine.now p.scripts.now) p.here p.ways.items };
+}
+
+/// A function of its own, so that no proof of a caller takes the fields apart.
+impl<'a> Drop for Path<'a> {
+    fn drop(self) {
+        let Path {
+            machine: _,
+            scripts: _,
+            here: _here,
+            ways: _ways,
+        } = self;
+    }
+}
+
+impl<'a> Path<'a> {
+    /// The place where the scripts begin: before any call. An error is out of memory.
+    pub fn start(
+        alloc: Global,
+        machine: &'a Machine,
+        scripts: &'a [Script],
+    ) -> Result<Path<'a>, AllocError>
+        ensures { IfOk result (λ path. path ≡ record { setting = setting machine.now scripts.now; news = [] }) }
+    {
+        let here = steps_of(alloc, machine, machine)?;
+        Ok(Path {
+            machine,
+            scripts,
+            here,
+            ways: Vec::new(alloc),
+        })
+    }
+
+    /// The new records, oldest first.
+    pub fn records(&self) -> &[Record]
+        ensures { result.now ≡ self.now.news }
+    {
+        let here = &self.here;
+        here.records()
+    }
+
+    /// The memory after the new records.
+    pub fn memory(&self) -> &Memory
+        ensures { result.now ≡ record { layout = self.now.setting.layout; state = state_at self.now } }
+    {
+        let here = &self.here;
+        here.memory()
+    }
+
+    /// The new records are those of the schedule of their processors.
+    pub fn is_played(&self)
+        ensures { plays self.now.setting (schedule_of self.now.news) ≡ Some self.now.news }
+    {
+        let _ = &self.here;
+    }
+
+    /// The event that a processor asks for here; none where it has no script, or its script is over.
+    /// An error is out of memory.
+    pub fn next_call(&self, alloc: Global, cpu: u32) -> Result<Option<Event>, AllocError>
+        ensures { IfOk result (λ next. next_call self.now.setting cpu self.now.news ≡ next) }
+    {
+        event_at(alloc, self.scripts, &self.here, cpu)
+    }
+
+    /// How the schedule ends here, if it is complete, for so many processors. An error is out of memory.
+    pub fn outcome(&self, alloc: Global, processors: u32) -> Result<Outcome, AllocError>
+        ensures { IfOk result (λ x.
+            x ≡ outcome processors self.now.news self.now.setting.layout (state_at self.now)) }
+    {
+        outcome_at(alloc, processors, &self.here)
+    }
+
+    /// Makes a processor's next call, and says so; where it has no script, or its script is over,
+    /// nothing changes. An error is `HistoryFull` where the layout's history has no room for it, or
+    /// `OutOfMemory`; then nothing changes either.
+    pub fn forward(&mut self, alloc: Global, cpu: u32) -> Result<bool, ExploreFault>
+        ensures ok { IfOk result (λ went. IsForth self.old cpu went self.new) }
+        ensures err { OnErr result (self.new ≡ self.old) }
+        ensures cause { IfErr result (IsCallCause self.old.setting) }
+    {
+        advance(
+            alloc,
+            self.machine,
+            self.scripts,
+            &mut self.here,
+            &mut self.ways,
+            cpu,
+        )
+    }
+
+    /// Takes the latest call back: all is as before it. It answers whose call that was; none where
+    /// the scripts begin, and then nothing changes. It takes no memory.
+    pub fn back(&mut self) -> Option<Cpu>
+        ensures { IsBack self.old result self.new }
+    {
+        step_back(&mut self.here, &mut self.ways)
+    }
+}

@@ -1,0 +1,280 @@
+//! A turn: a processor's next call, and what leads back over it.
+ghost use Rattle.std.specs.Prelude.{◌≡◌, ◌<◌, ◌≤◌, [], ◌∷◌, ◌++◌, List, Some, true, IfErr, IfOk, IsTrue, OnErr, OnOk, drop, false, length};
+ghost use Rattle.hp_units.specs.History.{effect_of};
+ghost use Rattle.hp_units.specs.declared.replies.Record.{Record as NewRecord};
+ghost use Rattle.hp_machine.specs.Machine.{IsHistory};
+ghost use Rattle.hp_steps.specs.Steps.{StepsValue};
+ghost use Rattle.hp_explore.specs.Faults.{IsCallCause, is_full_after};
+ghost use Rattle.hp_explore.specs.Paths.{IsAdvanced, IsPath, IsTakenBack, IsTurned};
+ghost use Rattle.hp_explore.specs.Schedules.{Setting, next_call, schedule_of, setting};
+ghost use Rattle.hp_explore.specs.Walks.{IsAt, IsGone, IsNextSerial, LeadsTo, may_go_back, news_since, with_record};
+ghost use Rattle.hp_explore.specs.declared.exploring.ExploreFault.TheVariants.{HistoryFull};
+
+use crate::exploring::ExploreFault;
+use crate::playing::{play, records_from};
+use crate::scripts::Script;
+use crate::tally::schedule_of;
+use crate::ways::Way;
+use hp_machine::Machine;
+use hp_steps::Steps;
+use hp_units::{Cpu, Event, Record, Refusal, Reply, Serial};
+use std::alloc::{AllocError, Global};
+use std::mem::replace;
+
+/// Makes a processor's next call, says so, and notes what leads back over it; where it has no
+/// script, or its script is over, nothing changes. An error leaves all as it was.
+pub(crate) fn advance(
+    alloc: Global,
+    start: &Machine,
+    scripts: &[Script],
+    here: &mut Steps,
+    ways: &mut Vec<Way>,
+    cpu: u32,
+) -> Result<bool, ExploreFault>
+    requires { IsAt (setting start.now scripts.now) here.old }
+    ensures ok { IfOk result (λ went. IsAdvanced (setting start.now scripts.now) here.old ways.old.items cpu
+        went here.new ways.new.items) }
+    ensures err { OnErr result ((here.new ≡ here.old) × (ways.new.items ≡ ways.old.items)) }
+    ensures cause { IfErr result (IsCallCause (setting start.now scripts.now)) }
+{
+    ways.reserve(1)?;
+    let next = event_at(alloc, scripts, here, cpu)?;
+    match next {
+        Some(event) => {
+            let way = turn(alloc, start, scripts, here, cpu, &event)?;
+            ways.push_reserved(way);
+            Ok(true)
+        }
+        None => Ok(false),
+    }
+}
+
+/// Takes the latest turn back, and answers whose it was; none where there was none.
+pub(crate) fn step_back(here: &mut Steps, ways: &mut Vec<Way>) -> Option<Cpu>
+    requires { (g : Setting) × IsPath g here.old ways.old.items }
+    ensures { (g : Setting) → IsPath g here.old ways.old.items
+        → IsTakenBack g here.old result here.new ways.new.items }
+{
+    match ways.pop() {
+        Some(way) => {
+            let cpu = latest(here.records()).cpu;
+            way.lead_back(here);
+            Some(cpu)
+        }
+        None => None,
+    }
+}
+
+/// Makes a processor's next call, and answers what leads back over it. The call is a step that is
+/// taken back; only after an undo or a Cancel, which may go back themselves, the steps from before
+/// it are kept. An error leaves all as it was.
+fn turn(
+    alloc: Global,
+    start: &Machine,
+    scripts: &[Script],
+    here: &mut Steps,
+    cpu: u32,
+    event: &Event,
+) -> Result<Way, ExploreFault>
+    requires at { IsAt (setting start.now scripts.now) here.old }
+    requires asked { next_call (setting start.now scripts.now) cpu here.old.records ≡ Some event.now }
+    ensures ok { IfOk result (λ way.
+        IsTurned (setting start.now scripts.now) here.old cpu event.now way here.new) }
+    ensures err { OnErr result (here.new ≡ here.old) }
+    ensures cause { IfErr result (IsCallCause (setting start.now scripts.now)) }
+{
+    let serial = next_serial(start, here.records())?;
+    if may_go_back(event) {
+        return match steps_after(alloc, start, scripts, here, cpu, serial, event)? {
+            Some(there) => Ok(Way::Kept(replace(here, there))),
+            None => unreachable!(),
+        };
+    }
+    let mark = here.make(alloc, serial, Cpu(cpu), event)?;
+    Ok(Way::Mark(mark))
+}
+
+/// The event that a processor asks for where steps stand; none where it has no script, or its
+/// script is over. An error is out of memory.
+pub(crate) fn event_at(
+    alloc: Global,
+    scripts: &[Script],
+    here: &Steps,
+    cpu: u32,
+) -> Result<Option<Event>, AllocError>
+    ensures { IfOk result (λ next. (g : Setting) → g.scripts ≡ scripts.now → g.layout ≡ here.now.layout
+        → next_call g cpu here.now.records ≡ next) }
+{
+    if cpu as usize >= scripts.len() {
+        return Ok(None);
+    }
+    next_at(alloc, scripts, here, cpu)
+}
+
+/// The event that a processor's script asks for where the walk stands. An error is out of memory.
+fn next_at(
+    alloc: Global,
+    scripts: &[Script],
+    here: &Steps,
+    cpu: u32,
+) -> Result<Option<Event>, AllocError>
+    requires { cpu < length scripts.now }
+    ensures { IfOk result (λ next. (g : Setting) → g.scripts ≡ scripts.now → g.layout ≡ here.now.layout
+        → next_call g cpu here.now.records ≡ next) }
+{
+    let script = &scripts[cpu as usize];
+    script.next_event(
+        alloc,
+        here.memory().layout().cpus(),
+        Cpu(cpu),
+        here.records(),
+    )
+}
+
+/// The serial of the next record after the new ones. An error is that the history has no room for
+/// it, or that there is none.
+fn next_serial(start: &Machine, news: &[Record]) -> Result<Serial, ExploreFault>
+    ensures ok { IfOk result (λ serial. IsNextSerial start.now news.now serial) }
+    ensures room { OnOk result (is_full_after (setting start.now []) news.now ≡ false) }
+    ensures err { IfErr result
+        (λ fault. (fault ≡ HistoryFull) × (is_full_after (setting start.now []) news.now ≡ true)) }
+{
+    let calls = news.len() as u64;
+    let last = start.last_serial();
+    let records = start.history().len() as u64;
+    let room = start.layout().history().saturating_sub(records);
+    if calls >= room || calls >= u64::MAX - last {
+        return Err(ExploreFault::HistoryFull);
+    }
+    Ok(Serial(last + calls + 1))
+}
+
+/// Whether an event may go back to an earlier state.
+fn may_go_back(event: &Event) -> bool
+    ensures { result ≡ may_go_back (effect_of event.now) }
+{
+    matches!(event, Event::UndoAfter { .. } | Event::Cancel { .. })
+}
+
+/// Where a processor's next call leads to that may go back. An undo of steps that there are not
+/// leaves the state as it is; after any other all calls are played again.
+fn steps_after(
+    alloc: Global,
+    start: &Machine,
+    scripts: &[Script],
+    here: &Steps,
+    cpu: u32,
+    serial: Serial,
+    event: &Event,
+) -> Result<Option<Steps>, ExploreFault>
+    requires at { IsAt (setting start.now scripts.now) here.now }
+    requires asked { next_call (setting start.now scripts.now) cpu here.now.records ≡ Some event.now }
+    requires serial { IsNextSerial start.now here.now.records serial }
+    ensures ok { IfOk result
+        (LeadsTo (setting start.now scripts.now) (schedule_of here.now.records ++ cpu ∷ [])) }
+    ensures err { IfErr result (IsCallCause (setting start.now scripts.now)) }
+{
+    if !is_gone(start, cpu, serial, event) {
+        return replayed(alloc, start, scripts, here.records(), cpu);
+    }
+    let latest = Record {
+        serial,
+        cpu: Cpu(cpu),
+        event: event.copy(alloc)?,
+        reply: Reply::Refused(Refusal::Gone),
+    };
+    let steps = with_record(alloc, here, latest)?;
+    Ok(Some(steps))
+}
+
+/// Whether an event is an undo of the steps above a serial that is above the last one, by a
+/// processor of the layout.
+fn is_gone(start: &Machine, cpu: u32, serial: Serial, event: &Event) -> bool
+    ensures { IsTrue result → IsGone start.now cpu serial event.now }
+{
+    match event {
+        Event::UndoAfter { serial: kept } => kept.0 >= serial.0 && cpu < start.layout().cpus(),
+        _ => false,
+    }
+}
+
+/// The same state after one record more. An error is out of memory.
+fn with_record(alloc: Global, here: &Steps, latest: Record) -> Result<Steps, AllocError>
+    ensures { IfOk result (λ steps. steps ≡ with_record here.now latest) }
+{
+    let memory = here.memory();
+    memory.is_placed();
+    let mut news = copies(alloc, here.records())?;
+    news.reserve(1)?;
+    news.push_reserved(latest);
+    let image = memory.image(alloc)?;
+    Steps::start(alloc, &image, news)
+}
+
+/// Where a processor's next call after new records leads to, none where its script asks for
+/// nothing: on a machine that plays all calls again. Errors come as those of `play`.
+fn replayed(
+    alloc: Global,
+    start: &Machine,
+    scripts: &[Script],
+    news: &[Record],
+    cpu: u32,
+) -> Result<Option<Steps>, ExploreFault>
+    ensures ok { IfOk result (LeadsTo (setting start.now scripts.now) (schedule_of news.now ++ cpu ∷ [])) }
+    ensures err { IfErr result (IsCallCause (setting start.now scripts.now)) }
+{
+    let mut schedule = schedule_of(alloc, news)?;
+    schedule.reserve(1)?;
+    schedule.push_reserved(Cpu(cpu));
+    match play(alloc, start, scripts, schedule.as_slice())? {
+        Some(machine) => Ok(Some(steps_of(alloc, start, &machine)?)),
+        None => Ok(None),
+    }
+}
+
+/// Where a machine stands, with its records since another. An error is out of memory.
+pub(crate) fn steps_of(
+    alloc: Global,
+    start: &Machine,
+    machine: &Machine,
+) -> Result<Steps, AllocError>
+    requires { length start.now.history ≤ length machine.now.history }
+    ensures value { IfOk result (λ steps. steps ≡ record {
+      layout = machine.now.layout;
+      state = machine.now.state;
+      deltas = [];
+      records = news_since start.now machine.now;
+    }) }
+    ensures kept { IsHistory machine.now }
+{
+    machine.stays_sound();
+    let news = records_from(machine.history(), start.history().len());
+    let news = copies(alloc, news)?;
+    let image = machine.image(alloc)?;
+    Steps::start(alloc, &image, news)
+}
+
+/// Copies of records. An error is out of memory.
+pub(crate) fn copies(alloc: Global, records: &[Record]) -> Result<Vec<Record>, AllocError>
+    ensures { IfOk result (λ copies. copies.items ≡ records.now) }
+{
+    let mut copies = Vec::with_capacity(alloc, records.len())?;
+    for record in records {
+        let event = record.event.copy(alloc)?;
+        copies.push_reserved(Record {
+            serial: record.serial,
+            cpu: record.cpu,
+            event,
+            reply: record.reply,
+        });
+    }
+    Ok(copies)
+}
+
+/// The latest of records.
+pub(crate) fn latest(records: &[Record]) -> &Record
+    requires { 0 < length records.now }
+    ensures { (before : List NewRecord) (r : NewRecord) → records.now ≡ before ++ r ∷ [] → result.now ≡ r }
+{
+    &records[records.len() - 1]
+}
