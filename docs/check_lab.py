@@ -10,7 +10,9 @@ What is compared, of `hotplug_lab explore`:
 - on each file of examples/, with a setup that leaves at most six lines for scripts: the first
   interleaving of each end, pasted after the setup's lines, has that end in `hotplug serial`; and
   the first line that cannot stand in a script is refused by its place;
-- 50 runs of `hotplug run` on each of three small scenarios: each outcome is one of the ends.
+- 50 runs of `hotplug run` on each of three small scenarios: each outcome is one of the ends;
+- a script of 4,000 calls of one processor: it has one interleaving, with the answers of `hotplug
+  serial`.
 Of `hotplug_lab trace`, on each file of examples/ and on a scenario with hostile texts: it has all
 lines in their order, and what they answer is what `hotplug serial` prints before the state; in
 lines of 100 columns each memory block begins after the columns of what was asked and answered, and
@@ -18,7 +20,8 @@ no line is longer. Of `--orders`: it is the trace, but for the brackets of free 
 2^order frames; and after each line there are as many of each order as `cat buddyinfo` says. Of
 `hotplug_lab trace --svg`: it is well-formed XML, its rows have the texts of the trace in their
 order, as many cells of each meaning in the legend as the trace has characters of it, and as many
-outlines of each width as the trace has brackets. Of `hotplug_lab check`: it finds no fault in any
+outlines of each width as the trace has brackets; layouts wider than a screen are folded, with all
+cells within the picture. Of `hotplug_lab check`: it finds no fault in any
 file of examples/, and one where a text that is no line comes last. None of them writes a control
 character.
 The last line is 'lab: N passed, M failed'; the exit status is 0 where nothing failed, else 1.
@@ -29,12 +32,13 @@ import sys
 from pathlib import Path
 from xml.etree import ElementTree
 
-from lab_traces import check_drawn, hostile
+from lab_traces import check_drawn, check_wide, hostile
 
 ROOT = Path(__file__).resolve().parent.parent
 SECONDS = 60
 RUNS = 50
 TAIL = 6
+CALLS = 4_000
 
 
 class Checks:
@@ -161,6 +165,20 @@ def check_by_force(checks, programs):
     checks.holds("last-frame.json", total == sum(counts.values()), "another number of orders")
     checks.holds("last-frame.json", found == counts, f"{found} in place of {counts}")
     checks.holds("last-frame.json", len(ends) == len(found), "an end comes twice")
+    firsts = [[int(call.split()[0]) for call in first] for _, _, first in ends]
+    checks.holds("last-frame.json", firsts == sorted(firsts), "the ends are in another order")
+
+
+# Deep scripts
+def check_depth(checks, programs):
+    layout = {"order": 0, "pageblocks": 4, "blocks": 1, "cpus": 1, "batch": 1, "high": 1,
+              "owners": 1, "pages": 1, "words": 1, "history": CALLS, "boot": ["normal"]}
+    calls = ["0 kalloc 0", "0 kfree 0"] * (CALLS // 2)
+    text = programs.explore({"layout": layout, "calls": calls}, 0)
+    total, ends = ends_of(text)
+    checks.holds("a deep script", total == 1 and len(ends) == 1, f"has {total} interleavings")
+    end = end_in_serial(programs, layout, [], calls)
+    checks.holds("a deep script", [it for _, it, _ in ends] == [end], "ends otherwise")
 
 
 # The examples
@@ -274,11 +292,13 @@ def check_findings(checks, programs, file):
 
 def check_all(checks, programs):
     check_by_force(checks, programs)
+    check_depth(checks, programs)
     for file in sorted((ROOT / "examples").glob("*.json")):
         check_example(checks, programs, file)
         check_findings(checks, programs, file)
         check_drawn(checks, programs, file.name, json.loads(file.read_text()))
     check_drawn(checks, programs, "hostile texts", hostile(ROOT))
+    check_wide(checks, programs)
     check_runs(checks, programs)
 
 

@@ -6,7 +6,8 @@ takes the folder of the crates:
 
 Of `hotplug`: each command writes what it alone writes, and other words end with status 2 and the
 names of the commands. Of `hotplug_lab`: each option has its place and its default, the file is
-read as standard input is, the status is that of the help, and other words end with status 2.
+read as standard input is, `-` names standard input, a file that is not read is named, the status is
+that of the help, and other words, or words that contradict one another, end with status 2.
 The last line is 'words: N passed, M failed'; the exit status is 0 where nothing failed, else 1.
 """
 import json
@@ -90,9 +91,12 @@ def check_file(checks, lab, word, scenario):
         json.dump(scenario, file)
         file.flush()
         checks.same(f"hotplug_lab {word} FILE", expected, lab.call(word, file.name))
-    status, out, error = lab.call(word, "no such file")
-    checks.same(f"hotplug_lab {word} of no file", (1, ""), (status, out))
-    checks.holds(f"hotplug_lab {word} of no file", error.startswith("hotplug_lab: "), error)
+    checks.same(f"hotplug_lab {word} -", expected, lab.call(word, "-", scenario=scenario))
+    for name, shown in (("no file", "no file"), ("no\x1b[31m\nfile", "no\\u001b[31m\\nfile")):
+        error = f"hotplug_lab: {shown}: file not opened\n"
+        checks.same(f"hotplug_lab {word} of no file", (1, "", error), lab.call(word, name))
+    checks.same(f"hotplug_lab {word} of a folder", (1, "", "hotplug_lab: /: reading failed\n"),
+                lab.call(word, "/"))
 
 
 def check_explore(checks, lab):
@@ -108,6 +112,9 @@ def check_explore(checks, lab):
     refused = (1, "", "hotplug_lab: more interleavings than the limit\n")
     options = ("--setup", "1", "--limit", "9")
     checks.same(f"explore {options}", refused, lab.call("explore", *options, scenario=scripts))
+    checks.same("explore --setup 6", 0, lab.call("explore", "--setup", "6", scenario=scripts)[0])
+    past = (1, "", "hotplug_lab: 7 is past the last line, 6\n")
+    checks.same("explore --setup 7", past, lab.call("explore", "--setup", "7", scenario=scripts))
     many = scenario_of([f"{cpu} read db 0 0" for cpu in (0, 1)] * READS)
     checks.same("explore by default", refused, lab.call("explore", scenario=many))
     status, out, _ = lab.call("explore", "--limit", str(READ_ORDERS), scenario=many)
@@ -127,6 +134,12 @@ def check_trace(checks, lab):
                             (2, 5, 8))):
         status, out, _ = lab.call("trace", *options, scenario=whole)
         checks.same(f"trace {options}", (0, list(shown)), (status, lines_shown(out)))
+    for svg in ((), ("--svg",)):
+        checks.same("trace --from 10", (1, "", "hotplug_lab: 10 is past the last line, 9\n"),
+                    lab.call("trace", *svg, "--from", "10", scenario=whole))
+        checks.same("trace --from 4 --to 3", (2, "", "hotplug_lab: --from is past --to\n"),
+                    lab.call("trace", *svg, "--from", "4", "--to", "3", scenario=whole))
+        checks.same("trace of no lines", 0, lab.call("trace", *svg, scenario=scenario_of([]))[0])
     widest = max(map(len, plain[1].splitlines()))
     checks.same("trace --width", plain, lab.call("trace", "--width", str(widest), scenario=whole))
     narrow = lab.call("trace", "--width", str(widest - 1), scenario=whole)
@@ -141,6 +154,11 @@ def check_picture(checks, lab):
     status, out, error = lab.call("trace", "--svg", "--to", "4", scenario=whole)
     checks.same("trace --svg", (0, ""), (status, error))
     checks.holds("trace --svg", out.startswith("<svg "), f"writes {out[:80]!r}")
+    checks.same("trace --svg --cell 8", out,
+                lab.call("trace", "--svg", "--to", "4", "--cell", "8", scenario=whole)[1])
+    for cell, expected in (("0", 2), ("1", 0), ("32", 0), ("33", 2), ("256", 2), ("264", 2)):
+        status, text, _ = lab.call("trace", "--svg", "--cell", cell, scenario=whole)
+        checks.same(f"trace --svg --cell {cell}", (expected, expected == 0), (status, text != ""))
     for number, call in enumerate(CALLS, 1):
         shown = f"{number} {call}" in out
         checks.holds("trace --svg --to 4", shown == (number <= 4), f"line {number}: {shown}")
@@ -162,10 +180,21 @@ def check_lab(checks, lab):
         status, out, error = lab.call(*words, scenario=whole)
         checks.same(f"hotplug_lab {words}", (2, ""), (status, out))
         checks.holds(f"hotplug_lab {words}", error, "says nothing")
+    check_full(checks, lab)
     for words in (("--help",), ("explore", "--help"), ("--version",)):
         status, out, error = lab.call(*words)
         checks.same(f"hotplug_lab {words}", (0, ""), (status, error))
         checks.holds(f"hotplug_lab {words}", out, "writes nothing")
+
+
+def check_full(checks, lab):
+    """Where the disk is full the status is 1, for the help too."""
+    for words in (("--help",), ("--version",), ("check",)):
+        with open("/dev/full", "w") as full:
+            ran = subprocess.run([lab.path, *words], input=json.dumps(scenario_of(CALLS)).encode(),
+                                 stdout=full, stderr=subprocess.PIPE, timeout=SECONDS)
+        checks.same(f"hotplug_lab {words} on a full disk", (1, "hotplug_lab: writing failed\n"),
+                    (ran.returncode, ran.stderr.decode()))
 
 
 def main(words):

@@ -143,9 +143,9 @@ def is_cell(element):
     return element.get("height") == "12"
 
 
-def pictured(svg):
+def pictured(svg, cell=8):
     """The texts of a picture's rows, how many cells of each meaning they have, and how many
-    outlines of each width."""
+    outlines of each width, where a cell is so wide."""
     root = ElementTree.fromstring(svg)
     rows = root.find(SVG + "g")
     above = list(root)[:list(root).index(rows)]
@@ -154,9 +154,9 @@ def pictured(svg):
     cells, outlines = Counter(), Counter()
     for box in rows.iter(SVG + "rect"):
         if is_cell(box):
-            cells[legend[box.get("fill")]] += int(box.get("width")) // 8
+            cells[legend[box.get("fill")]] += int(box.get("width")) // cell
         elif box.get("fill") == "none":
-            outlines[(int(box.get("width")) + 2) // 8] += 1
+            outlines[(int(box.get("width")) + 2) // cell] += 1
     return texts_in(rows), cells, outlines
 
 
@@ -195,6 +195,46 @@ def check_picture(checks, programs, name, scenario):
     sizes = Counter(map(len, BRACKETS.findall(drawn)))
     checks.holds(where, outlines == sizes, f"{outlines} in place of {sizes}")
     checks.holds(where, is_harmless(svg), "has a control character")
+
+
+SCREEN = 1600
+WIDE = [(2, 1, 64), (0, 2, 256), (10, 1, 4), (6, 2, 20)]
+
+
+def check_wide(checks, programs):
+    """Layouts wider than a screen: their pictures have all cells, within their frame, whatever a
+    cell's width; they are wider than a screen only where one block is."""
+    for order, pageblocks, blocks in WIDE:
+        layout = {"order": order, "pageblocks": pageblocks, "blocks": blocks, "cpus": 1, "batch": 1,
+                  "high": 1, "owners": 1, "pages": 2, "words": 1, "history": 9,
+                  "boot": (["normal", "movable", "offline", "absent"] * blocks)[:blocks]}
+        scenario = {"layout": layout, "calls": ["0 map db 0", "0 cat buddyinfo"]}
+        frames = pageblocks << order
+        for cell in (1, 3, 8, 32):
+            where = f"picture of {blocks} blocks of {frames} frames, --cell {cell}"
+            svg = programs.trace(scenario, "--svg", "--cell", str(cell))
+            cells = pictured(svg, cell)[1]
+            checks.holds(where, sum(cells.values()) == 3 * blocks * frames, f"cells: {cells}")
+            check_frame(checks, where, svg, 336 + 48 + cell * (frames + pageblocks - 1))
+
+
+def check_frame(checks, where, svg, block):
+    """All boxes stand within a picture, which is no wider than a screen or one block, and no two
+    cells stand on one another."""
+    root = ElementTree.fromstring(svg)
+    width, height = int(root.get("width")), int(root.get("height"))
+    checks.holds(where, width <= max(SCREEN, block), f"{width} wide")
+    rows = root.find(SVG + "g")
+    top = int(re.search(r"translate\(0 (\d+)\)", rows.get("transform"))[1])
+    boxes = [[int(box.get(name)) for name in ("x", "y", "width", "height")]
+             for box in rows.iter(SVG + "rect")]
+    within = all(x + w <= width and top + y + h <= height for x, y, w, h in boxes)
+    checks.holds(where, within, "a box stands outside")
+    ends = {}
+    for x, y, w, h in boxes:
+        if h == 12:
+            checks.holds(where, ends.get(y, 0) <= x, f"cells on one another at {x} {y}")
+            ends[y] = x + w
 
 
 def hostile(root):

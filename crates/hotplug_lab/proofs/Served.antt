@@ -6,9 +6,9 @@ use Rattle.hp_streams.specs.declared.reading.ReadFault.{ReadFault}
 use Rattle.hp_streams.specs.declared.reading.ReadFault.TheVariants as reading
 use Rattle.hp_streams.proofs.Whole.{given}
 use Rattle.hotplug_lab.specs.Faults.{read_fault_from}
-use Rattle.hotplug_lab.specs.Words.{IsAnswerOf, IsLabCause, IsScenarioCause, IsServeFault, IsUnanswered, Serves}
+use Rattle.hotplug_lab.specs.Words.{Answers, IsLabCause, IsPastEnd, IsScenarioCause, IsServeFault, IsUnanswered, Serves}
 use Rattle.hotplug_lab.specs.declared.fault.ProgramFault.{ProgramFault}
-use Rattle.hotplug_lab.specs.declared.fault.ProgramFault.TheVariants.{Lab, NotOpened, ReadFailed, Scenario, TooLong, WriteFailed}
+use Rattle.hotplug_lab.specs.declared.fault.ProgramFault.TheVariants.{Lab, NotOpened, PastEnd, ReadFailed, Scenario, TooLong, WriteFailed}
 use Rattle.hotplug_lab.specs.declared.words.Word.{Word}
 
 -- a fault of reading is one of the program
@@ -29,6 +29,8 @@ unanswered_of word a b input read written (Lab fault) p end h =
     inr (given a b input p end (λ i. IsLabCause word i fault) h)
 unanswered_of word a b input read written (Scenario fault) p end h =
     given a b input p end (λ i. IsScenarioCause word i fault) h
+unanswered_of word a b input read written (PastEnd asked lines) p end h =
+    given a b input p end (λ i. IsPastEnd word i asked lines) h
 unanswered_of word a b input read written WriteFailed p end h = absurd h
 
 -- `seen` is the slice that was passed on
@@ -42,8 +44,8 @@ unanswered word a b input seen read written fault same p end h =
 
 -- its text of all that was read was written
 pub all_served : (word : Word) (a b old new : Option (List ℕ)) (input seen text : List ℕ) (status : ℕ)
-    → seen ≡ input → Consumes a b input → IsAtEnd b → IsAnswerOf word seen text status → Appends old new text
+    → seen ≡ input → Consumes a b input → IsAtEnd b → Answers word seen text status → Appends old new text
     → Serves word a old new status
 all_served word a b old new input seen text status same p end h w =
-    given a b input p end (λ i. (t : List ℕ) × Appends old new t × IsAnswerOf word i t status)
-    (text, w, subst (λ (i : List ℕ). IsAnswerOf word i text status) same h)
+    given a b input p end (λ i. (t : List ℕ) × Appends old new t × Answers word i t status)
+    (text, w, subst (λ (i : List ℕ). Answers word i text status) same h)

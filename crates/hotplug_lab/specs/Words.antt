@@ -1,11 +1,12 @@
 -- What a word writes of the bytes of a scenario, the exit status, and when each fault comes.
-use Rattle.std.specs.Prelude.{◌≡◌, ◌⊎◌, ℕ, ◌<◌, ◌==◌, List, [], length, Option, Ok, IfSome, count_by, if◌then◌else◌}
+use Rattle.std.specs.Prelude.{◌≡◌, ◌⊎◌, ℕ, ◌-◌, ◌^◌, ◌<◌, ◌==◌, Bool, true, List, [], length, Option, Some, None, Result, Ok, Err, IfSome, count_by, nat_le, if◌then◌else◌}
 use Rattle.std.specs.Io.KnownBytes.{Appends}
 use Rattle.hp_check.specs.Checking.{AreFindings}
 use Rattle.hp_check.specs.Findings.{is_fault}
 use Rattle.hp_check.specs.Reports.{IsReport}
 use Rattle.hp_check.specs.declared.finding.Finding.{Finding}
-use Rattle.hp_lab.specs.Explorations.{IsExplorationOf, IsFaultOf}
+use Rattle.hp_find.specs.declared.wanted.Wanted.{Wanted}
+use Rattle.hp_lab.specs.Explorations.{IsExplorationOf, IsFaultOf, IsFindFaultOf, IsFindingOf}
 use Rattle.hp_lab.specs.declared.fault.LabFault.{LabFault}
 use Rattle.hp_lab.specs.declared.fault.LabFault.TheVariants.{OutOfMemory}
 use Rattle.hp_scenario.specs.Gives.{Fails}
@@ -17,45 +18,104 @@ use Rattle.hp_svg.specs.Pictures.{picture_of}
 use Rattle.hp_trace.specs.Traces.{AreRowsOf, IsTraceOf}
 use Rattle.hp_trace.specs.declared.view.View.{View}
 use Rattle.hotplug_lab.specs.declared.fault.ProgramFault.{ProgramFault}
-use Rattle.hotplug_lab.specs.declared.fault.ProgramFault.TheVariants.{Lab, NotOpened, ReadFailed, Scenario, TooLong, WriteFailed}
+use Rattle.hotplug_lab.specs.declared.fault.ProgramFault.TheVariants.{Lab, NotOpened, PastEnd, ReadFailed, Scenario, TooLong, WriteFailed}
+use Rattle.hotplug_lab.specs.declared.words.Drawing.{Drawing}
+use Rattle.hotplug_lab.specs.declared.words.Exploration.{Exploration}
 use Rattle.hotplug_lab.specs.declared.words.Word.{Word}
-use Rattle.hotplug_lab.specs.declared.words.Word.TheVariants.{Check, Explore, Picture, Trace}
+use Rattle.hotplug_lab.specs.declared.words.Word.TheVariants.{Check, Explore, Find, Never, Picture, Trace}
 
 -- the report of all findings; the status is 0 where none is a fault
-pub record IsCheckOf (input text : List ℕ) (status : ℕ) : Type 0 where
+pub record IsCheckOf (setup : ℕ) (input text : List ℕ) (status : ℕ) : Type 0 where
   pub found : List Finding
-  pub are : AreFindings input found
+  pub are : AreFindings input setup found
   pub report : IsReport input found [] text
   pub judged : status ≡ (if count_by is_fault found == 0 then 0 else 1)
 
 -- the picture of a trace's rows, with the names of the scenario's owners
-pub record IsPictureOf (view : View) (input text : List ℕ) : Type 0 where
+pub record IsPictureOf (drawing : Drawing) (input text : List ℕ) : Type 0 where
   pub scenario : ScenarioValue
   pub read : scenario_in input ≡ Ok scenario
   pub rows : List RowValue
-  pub traced : AreRowsOf view input rows
-  pub drawn : text ≡ picture_of scenario.names rows
+  pub traced : AreRowsOf drawing.view input rows
+  pub drawn : text ≡ picture_of scenario.names drawing.cell rows
+
+-- the text of a search; the status is one where an interleaving is found, and another where none is
+abbrev pub IsSearchOf : Exploration → List Wanted → (found_status absent_status : ℕ) → (input text : List ℕ)
+    → (status : ℕ) → Type 0
+IsSearchOf asked wanted found_status absent_status input text status =
+    (found : Bool) × IsFindingOf input asked.setup wanted text found
+    × (status ≡ (if found then found_status else absent_status))
 
 abbrev pub IsAnswerOf : Word → (input text : List ℕ) → (status : ℕ) → Type 0
-IsAnswerOf Check input text status = IsCheckOf input text status
+IsAnswerOf (Check setup) input text status = IsCheckOf setup input text status
 IsAnswerOf (Explore asked) input text status =
     IsExplorationOf input asked.setup asked.limit text × (status ≡ 0)
+IsAnswerOf (Find asked wanted) input text status = IsSearchOf asked wanted.now 0 3 input text status
+IsAnswerOf (Never asked wanted) input text status = IsSearchOf asked wanted.now 3 0 input text status
 IsAnswerOf (Trace view) input text status = IsTraceOf view input text × (status ≡ 0)
-IsAnswerOf (Picture view) input text status = IsPictureOf view input text × (status ≡ 0)
+IsAnswerOf (Picture drawing) input text status = IsPictureOf drawing input text × (status ≡ 0)
 
--- why a word has no answer: the fault of the exploration, or of the scenario that is to be traced;
+-- the last line, counted from 1, that a scenario needs for a word; 0 where it needs none
+abbrev pub first_shown : View → ℕ
+first_shown view = if nat_le view.from 1 then 0 else view.from
+
+-- the setup of a check, unless it is all of the scenario
+abbrev pub setup_named : (setup : ℕ) → ℕ
+setup_named setup = if setup == 2 ^ 64 - 1 then 0 else setup
+
+abbrev pub last_named : Word → ℕ
+last_named (Check setup) = setup_named setup
+last_named (Explore asked) = asked.setup
+last_named (Find asked wanted) = asked.setup
+last_named (Never asked wanted) = asked.setup
+last_named (Trace view) = first_shown view
+last_named (Picture drawing) = first_shown drawing.view
+
+-- how many lines the scenario has; none where the bytes are no scenario
+abbrev pub count_of : Result ScenarioValue ScenarioFault → Option ℕ
+count_of (Ok s) = Some (length s.lines)
+count_of (Err fault) = None
+
+-- there is a line of this number, where it is known how many there are
+abbrev pub has_line : (asked : ℕ) → (count : Option ℕ) → Bool
+has_line asked None = true
+has_line asked (Some lines) = nat_le asked lines
+
+-- the scenario, where the bytes are one, has the line that the word names
+abbrev pub HasLines : Word → (input : List ℕ) → Type 0
+HasLines word input = has_line (last_named word) (count_of (scenario_in input)) ≡ true
+
+-- the answer of a word to a scenario that has the lines that the word names
+abbrev pub Answers : Word → (input text : List ℕ) → (status : ℕ) → Type 0
+Answers word input text status = HasLines word input × IsAnswerOf word input text status
+
+-- the scenario has only so many lines, and the word names a later one
+abbrev pub IsPastEnd : Word → (input : List ℕ) → (asked lines : ℕ) → Type 0
+IsPastEnd word input asked lines =
+    (asked ≡ last_named word) × (count_of (scenario_in input) ≡ Some lines) × (lines < asked)
+
+-- a fault that says so of such a number
+abbrev pub IsPast : (asked : ℕ) → (count : Option ℕ) → ProgramFault → Type 0
+IsPast asked count (PastEnd number lines) = (number ≡ asked) × (count ≡ Some lines) × (lines < asked)
+IsPast asked count fault = ⊥
+
+-- why a word has no answer: the fault of the exploration or the search, or of the scenario that is to be traced;
 -- else out of memory alone
 abbrev pub IsLabCause : Word → (input : List ℕ) → LabFault → Type 0
-IsLabCause Check input fault = fault ≡ OutOfMemory
+IsLabCause (Check setup) input fault = fault ≡ OutOfMemory
 IsLabCause (Explore asked) input fault = IsFaultOf input asked.setup asked.limit fault
+IsLabCause (Find asked wanted) input fault = IsFindFaultOf input asked.setup asked.limit wanted.now fault
+IsLabCause (Never asked wanted) input fault = IsFindFaultOf input asked.setup asked.limit wanted.now fault
 IsLabCause (Trace view) input fault = fault ≡ OutOfMemory
-IsLabCause (Picture view) input fault = fault ≡ OutOfMemory
+IsLabCause (Picture drawing) input fault = fault ≡ OutOfMemory
 
 abbrev pub IsScenarioCause : Word → (input : List ℕ) → ScenarioFault → Type 0
-IsScenarioCause Check input fault = ⊥
+IsScenarioCause (Check setup) input fault = ⊥
 IsScenarioCause (Explore asked) input fault = ⊥
+IsScenarioCause (Find asked wanted) input fault = ⊥
+IsScenarioCause (Never asked wanted) input fault = ⊥
 IsScenarioCause (Trace view) input fault = Fails fault (scenario_in input)
-IsScenarioCause (Picture view) input fault = Fails fault (scenario_in input)
+IsScenarioCause (Picture drawing) input fault = Fails fault (scenario_in input)
 
 abbrev pub IsUnanswered : Word → (input : List ℕ) → ProgramFault → Type 0
 IsUnanswered word input NotOpened = ⊥
@@ -63,6 +123,7 @@ IsUnanswered word input ReadFailed = ⊥
 IsUnanswered word input TooLong = ⊥
 IsUnanswered word input (Lab fault) = IsLabCause word input fault
 IsUnanswered word input (Scenario fault) = IsScenarioCause word input fault
+IsUnanswered word input (PastEnd asked lines) = IsPastEnd word input asked lines
 IsUnanswered word input WriteFailed = ⊥
 
 -- ---- from a reader to a writer
@@ -70,7 +131,7 @@ IsUnanswered word input WriteFailed = ⊥
 -- it has written the word's text of the bytes that were read, and nothing else, and this is the status
 abbrev pub Serves : Word → (known old new : Option (List ℕ)) → (status : ℕ) → Type 0
 Serves word known old new status =
-    IfSome known (λ input. (text : List ℕ) × Appends old new text × IsAnswerOf word input text status)
+    IfSome known (λ input. (text : List ℕ) × Appends old new text × Answers word input text status)
 
 -- when each fault comes: `read` and `written` say that a reader's or a writer's call failed. No
 -- file is opened here
@@ -82,4 +143,6 @@ IsServeFault word known read written (Lab fault) =
     (fault ≡ OutOfMemory) ⊎ IfSome known (λ input. IsLabCause word input fault)
 IsServeFault word known read written (Scenario fault) =
     IfSome known (λ input. IsScenarioCause word input fault)
+IsServeFault word known read written (PastEnd asked lines) =
+    IfSome known (λ input. IsPastEnd word input asked lines)
 IsServeFault word known read written WriteFailed = written

@@ -25,19 +25,54 @@ pub enum ProgramFault {
     Lab(LabFault),
     /// The scenario is none.
     Scenario(ScenarioFault),
+    /// A line was asked for by its number, counted from 1, and the scenario has only so many.
+    PastEnd { asked: u64, lines: u64 },
     /// The writer failed.
     WriteFailed,
+}
+
+impl ProgramFault {
+    /// Whether it says that the input was not read.
+    pub fn is_of_input(&self) -> bool {
+        matches!(
+            self,
+            ProgramFault::NotOpened | ProgramFault::ReadFailed | ProgramFault::TooLong
+        )
+    }
+
+    /// Whether it says that the input is no scenario, of which `check` says more.
+    pub fn is_of_scenario(&self) -> bool {
+        match self {
+            ProgramFault::Scenario(fault) => !matches!(fault, ScenarioFault::OutOfMemory),
+            ProgramFault::Lab(fault) => is_of_text(*fault),
+            _ => false,
+        }
+    }
+}
+
+/// Whether an exploration failed because the input is no scenario.
+fn is_of_text(fault: LabFault) -> bool {
+    match fault {
+        LabFault::NotJson => true,
+        LabFault::BadShape => true,
+        LabFault::Layout(_) => true,
+        LabFault::BadLine { line: _ } => true,
+        _ => false,
+    }
 }
 
 impl fmt::Display for ProgramFault {
     fn fmt<W: fmt::Write>(&self, f: &mut fmt::Formatter<W>) -> fmt::Result {
         match self {
-            ProgramFault::NotOpened => write!(f, "hotplug_lab: file not opened"),
-            ProgramFault::ReadFailed => write!(f, "hotplug_lab: reading failed"),
-            ProgramFault::TooLong => write!(f, "hotplug_lab: input too long"),
-            ProgramFault::Lab(fault) => write!(f, "hotplug_lab: {fault}"),
-            ProgramFault::Scenario(fault) => write!(f, "hotplug_lab: {fault}"),
-            ProgramFault::WriteFailed => write!(f, "hotplug_lab: writing failed"),
+            ProgramFault::NotOpened => write!(f, "file not opened"),
+            ProgramFault::ReadFailed => write!(f, "reading failed"),
+            ProgramFault::TooLong => write!(f, "input too long"),
+            ProgramFault::Lab(fault) => write!(f, "{fault}"),
+            ProgramFault::Scenario(fault) => write!(f, "{fault}"),
+            ProgramFault::PastEnd { asked, lines } => {
+                write!(f, "{asked} is past the last line, {lines}")
+            }
+            ProgramFault::WriteFailed => write!(f, "writing failed"),
         }
     }
 }

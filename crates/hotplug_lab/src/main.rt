@@ -3,8 +3,10 @@
 //!
 //! What a word writes stands in a library of its own: `check` in hp_check, `explore` in hp_lab,
 //! `trace` in hp_trace, its picture in hp_svg. The exit status is 0; or 1 after a fault, which
-//! standard error names, and after a check that finds faults; or 2 where the command line is wrong.
-//! It is the same where standard error takes no text.
+//! standard error names, and after a check that finds faults; or 2 where the command line is wrong;
+//! or 3 where a search finds nothing, or what is never to be. It is the same where standard error
+//! takes no text. The help is a text like any other: where standard output does not take it, the
+//! status is 1.
 #![tactic(auto)]
 
 mod fault;
@@ -12,20 +14,24 @@ mod progress;
 mod serving;
 mod words;
 
+use clap::ArgMatches;
 use clap::error::ErrorKind;
 use fault::ProgramFault;
+use hp_escapes::{Brackets, write_escaped};
+use hp_find::Wanted;
+use hp_lab::wanted_line;
 use hp_streams::Counted;
 use progress::Progress;
 use serving::serve;
-use std::alloc::AllocError;
+use std::alloc::{AllocError, Global};
 use std::io::{IsTerminal, Read};
 use std::process::ExitCode;
 use std::{env, fs, io};
-use words::{Request, Word, lab_command, request_from};
+use words::{Request, Word, contradiction, lab_command, request_from, texts_from};
 
 /// Does a word on the file that is named, or else on standard input, and answers the exit status.
 /// Where standard error is a terminal, it shows how far a search has come.
-fn serve_request(rt: &HostRuntime, request: Request<'_>) -> Result<u8, ProgramFault> {
+fn serve_request(rt: &HostRuntime, request: Request<'_, '_>) -> Result<u8, ProgramFault> {
     let Some(path) = request.file else {
         return serve_input(rt, request.word, rt.stdin());
     };
@@ -36,26 +42,121 @@ fn serve_request(rt: &HostRuntime, request: Request<'_>) -> Result<u8, ProgramFa
 }
 
 /// Does a word on what the input has, and writes to standard output.
-fn serve_input<R: Read + Drop>(rt: &HostRuntime, word: Word, input: R) -> Result<u8, ProgramFault> {
+fn serve_input<R: Read + Drop>(
+    rt: &HostRuntime,
+    word: Word<'_>,
+    input: R,
+) -> Result<u8, ProgramFault> {
     let mut reader = Counted::new(input);
     let mut writer = Counted::new(rt.stdout());
     let progress = Progress::new(rt.stderr(), rt.stderr().is_terminal());
     serve(rt.alloc(), word, &mut reader, &mut writer, progress)
 }
 
+/// The lines that parsed words want of an end; none where a text is no line of any end, which
+/// standard error says.
+fn wanted_from(
+    rt: &HostRuntime,
+    matches: &ArgMatches<'_>,
+) -> Result<Option<Vec<Wanted>>, ProgramFault> {
+    let mut wanted = Vec::new(rt.alloc());
+    let Some(texts) = texts_from(matches) else {
+        return Ok(Some(wanted));
+    };
+    for text in texts {
+        if !push_line(rt.alloc(), &mut wanted, text)? {
+            let _ = eprintln!(rt; "hotplug_lab: no end has the line `{text}`");
+            return Ok(None);
+        }
+    }
+    Ok(Some(wanted))
+}
+
+/// Adds the line of an end that a text is, and says whether it is one. An error is out of memory.
+fn push_line(alloc: Global, wanted: &mut Vec<Wanted>, text: &str) -> Result<bool, AllocError> {
+    match wanted_line(alloc, text) {
+        Ok(Some(line)) => {
+            wanted.push(line)?;
+            Ok(true)
+        }
+        Ok(None) => Ok(false),
+        Err(error) => Err(error),
+    }
+}
+
+/// Does what parsed words ask for, and answers the exit status.
+fn serve_matches(rt: &HostRuntime, matches: &ArgMatches<'_>) -> Result<u8, ProgramFault> {
+    let Some(wanted) = wanted_from(rt, matches)? else {
+        return Ok(2);
+    };
+    Ok(answered(rt, request_from(matches, &wanted)))
+}
+
+/// Does what a request asks for, or says what failed, and answers the exit status.
+fn status_of(rt: &HostRuntime, request: Request<'_, '_>) -> u8 {
+    match serve_request(rt, request) {
+        Ok(status) => status,
+        Err(fault) => {
+            say_fault(rt, request.file, fault);
+            1
+        }
+    }
+}
+
+/// Says on standard error what failed, by the name of the file where that was not read, and what says
+/// more where the input is no scenario.
+fn say_fault(rt: &HostRuntime, file: Option<&str>, fault: ProgramFault) {
+    let _ = match unread_name(rt.alloc(), file, fault) {
+        Some(name) => eprintln!(rt; "hotplug_lab: {name}: {fault}"),
+        None => eprintln!(rt; "hotplug_lab: {fault}"),
+    };
+    if fault.is_of_scenario() {
+        let _ = eprintln!(rt; "hotplug_lab: `hotplug_lab check` says what is wrong, and where");
+    }
+}
+
+/// The name of the file that was not read, as JSON has it; none where there is no memory for it.
+fn unread_name(alloc: Global, file: Option<&str>, fault: ProgramFault) -> Option<String> {
+    if !fault.is_of_input() {
+        return None;
+    }
+    let mut name = String::new(alloc);
+    match write_escaped(&mut name, file?, Brackets::Kept) {
+        Ok(()) => Some(name),
+        Err(AllocError) => None,
+    }
+}
+
+/// Says what the words may be, or what the program is, and answers the exit status.
+fn say_words(rt: &HostRuntime, error: &clap::Error) -> Result<u8, ProgramFault> {
+    let status = error.exit_code() as u8;
+    match error.print(rt) {
+        Err(_) if status == 0 => Err(ProgramFault::WriteFailed),
+        _ => Ok(status),
+    }
+}
+
 /// Does what the words ask for, or says what they may be, and answers the exit status.
 fn run(rt: &HostRuntime, words: &[String]) -> Result<u8, ProgramFault> {
     let command = lab_command(rt.alloc())?;
     match command.try_get_matches_from(words) {
-        Ok(matches) => match request_from(&matches) {
-            Some(request) => serve_request(rt, request),
-            None => Ok(2),
-        },
+        Ok(matches) => serve_matches(rt, &matches),
         Err(error) if error.kind() == ErrorKind::OutOfMemory => Err(ProgramFault::from(AllocError)),
-        Err(error) => {
-            let _ = error.print(rt);
-            Ok(error.exit_code() as u8)
+        Err(error) => say_words(rt, &error),
+    }
+}
+
+/// Does what the words ask for, where they ask for something and do not contradict one another.
+fn answered(rt: &HostRuntime, request: Option<Request<'_, '_>>) -> u8 {
+    let Some(request) = request else {
+        return 2;
+    };
+    match contradiction(request.word) {
+        Some(text) => {
+            let _ = eprintln!(rt; "hotplug_lab: {text}");
+            2
         }
+        None => status_of(rt, request),
     }
 }
 
@@ -77,7 +178,7 @@ fn main(rt: HostRuntime) -> ExitCode {
     match run_words(&rt) {
         Ok(status) => ExitCode::from(status),
         Err(fault) => {
-            let _ = eprintln!(rt; "{fault}");
+            say_fault(&rt, None, fault);
             ExitCode::from(1)
         }
     }

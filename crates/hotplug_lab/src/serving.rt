@@ -1,21 +1,22 @@
 //! Bytes in to bytes out.
 
-ghost use Rattle.std.specs.Prelude.{◌≡◌, ◌≢◌, ◌<◌, ◌-◌, ◌^◌, IfErr, IfOk, OnOk, string_bytes};
+ghost use Rattle.std.specs.Prelude.{◌≡◌, ◌≢◌, ◌<◌, ◌-◌, ◌^◌, if◌then◌else◌, IfErr, IfOk, OnOk, string_bytes, true};
 ghost use Rattle.std.specs.Io.KnownBytes.{Appends, Keeps};
 ghost use Rattle.hp_streams.specs.Reading.{ReadsAll};
-ghost use Rattle.hotplug_lab.specs.Words.{IsAnswerOf, IsCheckOf, IsPictureOf, IsServeFault, IsUnanswered, Serves};
+ghost use Rattle.hotplug_lab.specs.Words.{Answers, HasLines, IsAnswerOf, IsCheckOf, IsPast, IsPictureOf, IsServeFault, IsUnanswered, Serves, count_of, first_shown, has_line, last_named, setup_named};
+ghost use Rattle.hp_scenario.specs.Scenario.{scenario_in};
 ghost use Rattle.hotplug_lab.specs.declared.words.Word.TheVariants.{Check, Picture};
 
 use crate::fault::ProgramFault;
-use crate::words::Word;
+use crate::words::{ALL, Drawing, Word};
 use hp_check::{check, fault_count, write_report};
 use hp_explore::Watch;
-use hp_lab::explore_text;
-use hp_scenario::Scenario;
+use hp_lab::{Finding, explore_text, find_text};
+use hp_scenario::{Scenario, ScenarioFault};
 use hp_streams::{Failed, Sink, Source, read_all, write_all};
 use hp_svg::picture_of;
 use hp_trace::{View, trace, trace_rows};
-use std::alloc::Global;
+use std::alloc::{AllocError, Global};
 
 /// What a word writes, and the exit status.
 #[derive(Debug, Drop)]
@@ -28,7 +29,7 @@ struct Answer {
 /// told how far a search has come, and is dropped before anything is written.
 pub fn serve<R: Source, W: Sink, P: Watch + Drop>(
     alloc: Global,
-    word: Word,
+    word: Word<'_>,
     reader: &mut R,
     writer: &mut W,
     watch: P,
@@ -40,12 +41,12 @@ pub fn serve<R: Source, W: Sink, P: Watch + Drop>(
     ensures read { OnOk result (ReadsAll (R.remaining reader.old) (R.remaining reader.new)) }
     // The word's text of the bytes that were read, and nothing else, and its status.
     ensures ok { IfOk result
-        (Serves word (R.remaining reader.old) (W.contents writer.old) (W.contents writer.new)) }
+        (Serves word.entry (R.remaining reader.old) (W.contents writer.old) (W.contents writer.new)) }
     // After another fault nothing was written.
     ensures silent { IfErr result
         (λ fault. fault ≢ ProgramFault.WriteFailed → Keeps (W.contents writer.old) (W.contents writer.new)) }
     // Each fault comes only where it has a cause.
-    ensures err { IfErr result (IsServeFault word (R.remaining reader.old)
+    ensures err { IfErr result (IsServeFault word.entry (R.remaining reader.old)
         (R.failures reader.old < R.failures reader.new) (W.failures writer.old < W.failures writer.new)) }
 {
     let input = read_all(alloc, reader)?;
@@ -72,48 +73,138 @@ fn write_answer<W: Sink>(writer: &mut W, answer: &Answer) -> Result<u8, ProgramF
 fn watched_answer<P: Watch + Drop>(
     alloc: Global,
     input: &[u8],
-    word: Word,
+    word: Word<'_>,
     mut watch: P,
 ) -> Result<Answer, ProgramFault>
-    ensures ok { IfOk result (λ answer. IsAnswerOf word input.now (string_bytes answer.text) answer.status) }
-    ensures err { IfErr result (IsUnanswered word input.now) }
+    ensures ok { IfOk result (λ answer. Answers word.entry input.now (string_bytes answer.text) answer.status) }
+    ensures err { IfErr result (IsUnanswered word.entry input.now) }
 {
+    look_for_line(alloc, input, word)?;
     answer_to(alloc, input, word, &mut watch)
+}
+
+/// Looks whether the scenario, where the bytes are one, has the line that a word names.
+#[tactic(auto, using(crate::proofs::Named::none_needed, crate::proofs::Named::no_memory))]
+fn look_for_line(alloc: Global, input: &[u8], word: Word<'_>) -> Result<(), ProgramFault>
+    ensures ok { OnOk result (HasLines word.entry input.now) }
+    ensures err { IfErr result (IsUnanswered word.entry input.now) }
+{
+    let asked = last_named(word);
+    if asked == 0 {
+        return Ok(());
+    }
+    let count = line_count(alloc, input)?;
+    look_among(asked, count)
+}
+
+/// How many lines the scenario has; none where the bytes are no scenario. An error is out of memory.
+fn line_count(alloc: Global, input: &[u8]) -> Result<Option<u64>, AllocError>
+    ensures { IfOk result (λ count. count ≡ count_of (scenario_in input.now)) }
+{
+    match Scenario::read(alloc, input) {
+        Ok(scenario) => Ok(Some(scenario.lines.as_slice().len() as u64)),
+        Err(ScenarioFault::OutOfMemory) => Err(AllocError),
+        Err(_fault) => Ok(None),
+    }
+}
+
+/// Looks whether there is a line of this number among so many, where it is known how many there are.
+fn look_among(asked: u64, count: Option<u64>) -> Result<(), ProgramFault>
+    ensures ok { OnOk result (has_line asked count ≡ true) }
+    ensures err { IfErr result (IsPast asked count) }
+{
+    match count {
+        Some(lines) => {
+            if lines < asked {
+                Err(ProgramFault::PastEnd { asked, lines })
+            } else {
+                Ok(())
+            }
+        }
+        None => Ok(()),
+    }
+}
+
+/// The last line, counted from 1, that a scenario needs for a word; 0 where it needs none.
+fn last_named(word: Word<'_>) -> u64
+    ensures { result ≡ last_named word.entry }
+{
+    match word {
+        Word::Check(setup) => setup_named(setup),
+        Word::Explore(asked) | Word::Find { asked, .. } | Word::Never { asked, .. } => asked.setup,
+        Word::Trace(view) => first_shown(view),
+        Word::Picture(drawing) => first_shown(drawing.view),
+    }
+}
+
+/// The last line of the setup of a check, unless it is all of the scenario.
+fn setup_named(setup: u64) -> u64
+    ensures { result ≡ setup_named setup }
+{
+    if setup == ALL { 0 } else { setup }
+}
+
+/// The first line that is shown, where one is asked for by its number.
+fn first_shown(view: View) -> u64
+    ensures { result ≡ first_shown view }
+{
+    if view.from <= 1 { 0 } else { view.from }
 }
 
 /// What a word makes of the bytes of a scenario. The watch is told how far a search has come.
 fn answer_to<W: Watch>(
     alloc: Global,
     input: &[u8],
-    word: Word,
+    word: Word<'_>,
     watch: &mut W,
 ) -> Result<Answer, ProgramFault>
-    ensures ok { IfOk result (λ answer. IsAnswerOf word input.now (string_bytes answer.text) answer.status) }
-    ensures err { IfErr result (IsUnanswered word input.now) }
+    ensures ok { IfOk result (λ answer. IsAnswerOf word.entry input.now (string_bytes answer.text) answer.status) }
+    ensures err { IfErr result (IsUnanswered word.entry input.now) }
 {
     match word {
-        Word::Check => checked(alloc, input),
+        Word::Check(setup) => checked(alloc, input, setup),
         Word::Explore(asked) => Ok(Answer {
             text: explore_text(alloc, input, asked.setup, asked.limit, watch)?,
             status: 0,
         }),
+        Word::Find { asked, wanted } => {
+            let finding = find_text(alloc, input, asked.setup, asked.limit, wanted, watch)?;
+            Ok(answer_with(finding, 0, 3))
+        }
+        Word::Never { asked, wanted } => {
+            let finding = find_text(alloc, input, asked.setup, asked.limit, wanted, watch)?;
+            Ok(answer_with(finding, 3, 0))
+        }
         Word::Trace(view) => Ok(Answer {
             text: trace(alloc, input, view)?,
             status: 0,
         }),
-        Word::Picture(view) => Ok(Answer {
-            text: picture_text(alloc, input, view)?,
+        Word::Picture(drawing) => Ok(Answer {
+            text: picture_text(alloc, input, drawing)?,
             status: 0,
         }),
     }
 }
 
-/// What is wrong with the scenario that the bytes are to be. The status is 0 where nothing is but warnings.
-fn checked(alloc: Global, input: &[u8]) -> Result<Answer, ProgramFault>
-    ensures ok { IfOk result (λ answer. IsCheckOf input.now (string_bytes answer.text) answer.status) }
-    ensures err { IfErr result (IsUnanswered Check input.now) }
+/// What a search found, with the status where it found an interleaving, and where there is none.
+fn answer_with(finding: Finding, found: u8, absent: u8) -> Answer
+    ensures text { string_bytes result.text ≡ string_bytes finding.text }
+    ensures status { result.status ≡ (if finding.is_found then found else absent) }
 {
-    let found = check(alloc, input)?;
+    let status = if finding.is_found { found } else { absent };
+    Answer {
+        text: finding.text,
+        status,
+    }
+}
+
+/// What is wrong with the scenario that the bytes are to be, of whose lines so many are the setup. The
+/// status is 0 where nothing is but warnings.
+fn checked(alloc: Global, input: &[u8], setup: u64) -> Result<Answer, ProgramFault>
+    ensures ok { IfOk result (λ answer. IsCheckOf setup input.now (string_bytes answer.text) answer.status) }
+    ensures err { IfErr result (IsUnanswered (Check setup) input.now) }
+{
+    let found = check(alloc, input, setup)?;
     let mut text = String::new(alloc);
     write_report(&mut text, alloc, input, &found)?;
     let status = if fault_count(&found) == 0 { 0 } else { 1 };
@@ -122,11 +213,11 @@ fn checked(alloc: Global, input: &[u8]) -> Result<Answer, ProgramFault>
 
 /// The rows of the scenario that the bytes are, with all memory blocks in each, as a picture, with the
 /// owners' names in its legend.
-fn picture_text(alloc: Global, input: &[u8], view: View) -> Result<String, ProgramFault>
-    ensures ok { IfOk result (λ text. IsPictureOf view input.now (string_bytes text)) }
-    ensures err { IfErr result (IsUnanswered (Picture view) input.now) }
+fn picture_text(alloc: Global, input: &[u8], drawing: Drawing) -> Result<String, ProgramFault>
+    ensures ok { IfOk result (λ text. IsPictureOf drawing input.now (string_bytes text)) }
+    ensures err { IfErr result (IsUnanswered (Picture drawing) input.now) }
 {
     let scenario = Scenario::read(alloc, input)?;
-    let rows = trace_rows(alloc, input, view)?;
-    Ok(picture_of(alloc, &scenario.names, &rows)?)
+    let rows = trace_rows(alloc, input, drawing.view)?;
+    Ok(picture_of(alloc, &scenario.names, drawing.cell, &rows)?)
 }

@@ -1,40 +1,72 @@
 //! The words that the program is called with.
 
 use clap::{Arg, ArgAction, ArgMatches, Command, value_parser};
+use hp_find::Wanted;
 use hp_trace::View;
 use std::alloc::{AllocError, Global};
 
 /// The most interleavings that are counted where no limit is given.
 const LIMIT: u64 = 10_000_000;
 
+/// The lines of a setup that is all of a scenario.
+pub const ALL: u64 = u64::MAX;
+
+/// The pixels of a cell where no number is given, and the most there may be.
+const CELL: u64 = 8;
+
+const WIDEST_CELL: u8 = 32;
+
 /// The columns of a trace's row where no width is given.
 const WIDTH: u64 = 200;
 
+/// The options that search an end, and that want none.
+const FIND: &str = "find";
+
+const NEVER: &str = "never";
+
 /// What is asked of an exploration: how many lines are run first, and the most interleavings that
 /// are counted.
-#[derive(Clone, Copy, PartialEq, Eq)]
+#[derive(Clone, Copy)]
 pub struct Exploration {
     pub setup: u64,
     pub limit: u64,
 }
 
-/// What is to be made of a scenario.
+/// What is asked of a picture: what it shows, and how many pixels wide the cell of a frame is.
 #[derive(Clone, Copy, PartialEq, Eq)]
-pub enum Word {
-    /// What is wrong with it and where.
-    Check,
+pub struct Drawing {
+    pub view: View,
+    pub cell: u8,
+}
+
+/// What is to be made of a scenario.
+#[derive(Clone, Copy)]
+pub enum Word<'a> {
+    /// What is wrong with it and where, where so many lines are the setup, and the later ones stand in
+    /// scripts.
+    Check(u64),
     /// Every interleaving of its scripts.
     Explore(Exploration),
+    /// An interleaving whose end has each of these lines.
+    Find {
+        asked: Exploration,
+        wanted: &'a [Wanted],
+    },
+    /// That no interleaving has such an end.
+    Never {
+        asked: Exploration,
+        wanted: &'a [Wanted],
+    },
     /// What each of its lines answers, with the memory after each call.
     Trace(View),
     /// The same as one picture, with all memory blocks in each row.
-    Picture(View),
+    Picture(Drawing),
 }
 
 /// What the program is asked for, and the file that is named.
 #[derive(Clone, Copy)]
-pub struct Request<'a> {
-    pub word: Word,
+pub struct Request<'a, 'w> {
+    pub word: Word<'w>,
     pub file: Option<&'a str>,
 }
 
@@ -45,7 +77,8 @@ pub fn lab_command<'a>(alloc: Global) -> Result<Command<'a>, AllocError> {
         .about("Looks into scenarios of the memory machine")
         .after_help(
             "Exit status: 0; 1 after a fault, which standard error names, and after a check that \
-             finds faults (warnings alone: 0); 2 for a wrong command line.",
+             finds faults (warnings alone: 0); 2 for a wrong command line; 3 where --find finds \
+             nothing, and where --never finds something.",
         )
         .subcommand_required(true)
         .subcommand(check_command(alloc)?)?
@@ -59,6 +92,11 @@ fn check_command<'a>(alloc: Global) -> Result<Command<'a>, AllocError> {
         .about(
             "Writes what is wrong with a scenario and where; the status is 0 where there are no faults",
         )
+        .arg(number(
+            alloc,
+            "setup",
+            "Takes the lines after so many for scripts, as explore does (all are the setup)",
+        ))?
         .arg(scenario(alloc))
 }
 
@@ -72,6 +110,17 @@ fn explore_command<'a>(alloc: Global) -> Result<Command<'a>, AllocError> {
             "limit",
             "Counts at most so many interleavings (10000000)",
         ))?
+        .arg(wanted(
+            alloc,
+            FIND,
+            "Searches an interleaving whose end has this line, with the fewest changes of processor",
+        ))?
+        .arg(wanted(
+            alloc,
+            NEVER,
+            "The same, where none is to end so: the status is turned round",
+        )
+        .conflicts_with(FIND)?)?
         .arg(scenario(alloc))
 }
 
@@ -97,12 +146,17 @@ fn trace_command<'a>(alloc: Global) -> Result<Command<'a>, AllocError> {
         ))?
         .arg(orders(alloc))?
         .arg(svg(alloc))?
+        .arg(number(
+            alloc,
+            "cell",
+            "Makes the cell of a frame so many pixels wide in the picture, 1 to 32 (8)",
+        ))?
         .arg(scenario(alloc))
 }
 
 /// The argument that names a scenario.
 fn scenario<'a>(alloc: Global) -> Arg<'a> {
-    Arg::new(alloc, "FILE").help("A scenario; standard input where none is named")
+    Arg::new(alloc, "FILE").help("A scenario; standard input where none is named, or -")
 }
 
 /// The flag that asks for a picture.
@@ -130,21 +184,71 @@ fn number<'a>(alloc: Global, name: &'a str, help: &'a str) -> Arg<'a> {
         .help(help)
 }
 
-/// What parsed words ask for.
-pub fn request_from<'a>(matches: &ArgMatches<'a>) -> Option<Request<'a>> {
+/// An argument that takes a line of an end, and may stand several times.
+fn wanted<'a>(alloc: Global, name: &'a str, help: &'a str) -> Arg<'a> {
+    Arg::new(alloc, name)
+        .long(name)
+        .value_name("TEXT")
+        .action(ArgAction::Append)
+        .help(help)
+}
+
+/// The lines that parsed words want of an end, as texts; none where they want none.
+pub fn texts_from<'m, 'a>(matches: &'m ArgMatches<'a>) -> Option<&'m [&'a str]> {
+    let (_name, words) = matches.subcommand()?;
+    words.get_strs(FIND).or(words.get_strs(NEVER))
+}
+
+/// What parsed words ask for, with the lines that they want of an end.
+pub fn request_from<'a, 'w>(
+    matches: &ArgMatches<'a>,
+    wanted: &'w [Wanted],
+) -> Option<Request<'a, 'w>> {
     let (name, words) = matches.subcommand()?;
     Some(Request {
-        word: word_from(name, words)?,
-        file: words.get_str("FILE"),
+        word: word_from(name, words, wanted)?,
+        file: named_file(words.get_str("FILE")),
     })
 }
 
-/// What a word asks for with the words after it.
-fn word_from(name: &str, words: &ArgMatches<'_>) -> Option<Word> {
+/// The file that is named: `-` names standard input.
+fn named_file(name: Option<&str>) -> Option<&str> {
     match name {
-        "check" => Some(Word::Check),
-        "explore" => Some(Word::Explore(exploration_from(words))),
-        "trace" if words.get_flag("svg") => Some(Word::Picture(view_from(words))),
+        Some("-") => None,
+        _ => name,
+    }
+}
+
+/// Why a word asks for nothing, whatever the scenario.
+pub fn contradiction(word: Word<'_>) -> Option<&'static str> {
+    match word {
+        Word::Trace(view) => empty_view(view),
+        Word::Picture(drawing) if drawing.cell == 0 || drawing.cell > WIDEST_CELL => {
+            Some("--cell may be 1 to 32")
+        }
+        Word::Picture(drawing) => empty_view(drawing.view),
+        _ => None,
+    }
+}
+
+/// Why a view shows nothing, whatever the scenario.
+fn empty_view(view: View) -> Option<&'static str> {
+    if view.from > view.to {
+        Some("--from is past --to")
+    } else {
+        None
+    }
+}
+
+/// What a word asks for with the words after it.
+fn word_from<'a>(name: &str, words: &ArgMatches<'_>, wanted: &'a [Wanted]) -> Option<Word<'a>> {
+    let asked = exploration_from(words);
+    match name {
+        "check" => Some(Word::Check(words.get_one::<u64>("setup").unwrap_or(ALL))),
+        "explore" if words.get_strs(FIND).is_some() => Some(Word::Find { asked, wanted }),
+        "explore" if words.get_strs(NEVER).is_some() => Some(Word::Never { asked, wanted }),
+        "explore" => Some(Word::Explore(asked)),
+        "trace" if words.get_flag("svg") => Some(Word::Picture(drawing_from(words))),
         "trace" => Some(Word::Trace(view_from(words))),
         _ => None,
     }
@@ -166,5 +270,14 @@ fn view_from(words: &ArgMatches<'_>) -> View {
         every: words.get_one::<u64>("every").unwrap_or(1),
         width: words.get_one::<u64>("width").unwrap_or(WIDTH),
         orders: words.get_flag("orders"),
+    }
+}
+
+/// What the words of `trace` ask for, where that is a picture.
+fn drawing_from(words: &ArgMatches<'_>) -> Drawing {
+    let cell = words.get_one::<u64>("cell").unwrap_or(CELL);
+    Drawing {
+        view: view_from(words),
+        cell: cell.min(u64::from(u8::MAX)) as u8,
     }
 }

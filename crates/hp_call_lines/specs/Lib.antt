@@ -1,2 +1,3 @@
 pub mod EntryLines
 pub mod Lexemes
+pub mod Looks

@@ -37,7 +37,7 @@ pub(crate) enum Lexeme {
 }
 
 /// Whether a byte is white space of JSON.
-fn is_space(byte: u8) -> bool
+pub(crate) fn is_space(byte: u8) -> bool
     ensures { result ≡ means.is_space byte }
 {
     matches!(byte, b' ' | b'\t' | b'\n' | b'\r')
@@ -51,7 +51,7 @@ fn is_sign(byte: u8) -> bool
 }
 
 /// Whether a sign, a word or a text begins at a byte.
-fn begins(mode: Mode, byte: u8) -> bool
+pub(crate) fn begins(mode: Mode, byte: u8) -> bool
     ensures { result ≡ means.begins mode byte }
 {
     match mode {

@@ -1,5 +1,5 @@
 -- The first finding is the fault that reading gives.
-use Rattle.std.proofs.Common.{◌≡◌, ℕ, zero, suc, ◌+◌, ◌≤◌, Bool, true, cond, List, [], ◌∷◌, ◌++◌, codes, count_by, length, slice_get, take, Option, Some, None, Result, Ok, Err, refl, sym, ap, subst, ◌∙◌, arith}
+use Rattle.std.proofs.Common.{◌≡◌, ℕ, zero, suc, ◌+◌, ◌≤◌, Bool, true, false, cond, List, [], ◌∷◌, ◌++◌, codes, count_by, length, slice_get, take, Option, Some, None, Result, Ok, Err, refl, sym, ap, subst, ◌∙◌, arith}
 use Rattle.std.proofs.lemmas.List.Sums.{sum_by-append}
 use Rattle.serde_json.specs.Data.{Data}
 use Rattle.serde_json.specs.Find.{get}
@@ -14,14 +14,21 @@ use Rattle.hp_scenario.specs.declared.lines.Line.{Line}
 use Rattle.hp_check.specs.Calls.{call_faults_in}
 use Rattle.hp_check.specs.Checking.{AreFaults, AreFindingsOf, faults_in}
 use Rattle.hp_check.specs.Each.{each_below}
-use Rattle.hp_check.specs.Findings.{is_fault}
+use Rattle.std.specs.Prelude.{nat_lt}
+use Rattle.std.specs.List.{flat_map}
+use Rattle.hp_call_lines.specs.Looks.{texts_at}
+use Rattle.hp_check.specs.Findings.{is_fault, key_quoted, keys_of}
 use Rattle.hp_check.specs.Laws.{Agrees, Begins, FirstFindingsAgree, IsFindingOf}
 use Rattle.hp_check.specs.Ranges.{parts_in, range_faults, range_faults_of}
+use Rattle.hp_check.specs.Repeats.{depth_of, repeat_of, repeats_in}
 use Rattle.hp_check.specs.Shape.{shape_faults}
 use Rattle.hp_check.specs.Tally.{TallyValue, tally_of}
 use Rattle.hp_check.specs.Warnings.{line_warning, warned, warned_at, warnings_of}
 use Rattle.hp_check.specs.declared.finding.Finding.{Finding}
 use Rattle.hp_check.specs.declared.finding.Finding.TheVariants as finding
+use Rattle.hp_check.specs.declared.finding.Key.{Key}
+use Rattle.hp_check.specs.declared.finding.Place.{Place}
+use Rattle.hp_check.specs.declared.finding.Place.TheVariants as place
 use Rattle.hp_check.specs.declared.finding.Warning.{Warning}
 use Rattle.hp_check.proofs.CallsAgree.{calls_begin}
 use Rattle.hp_check.proofs.Fronts.{begins_after, begins_left, begins_of_three}
@@ -34,10 +41,11 @@ warned_none : (number : ℕ) (o : Option Warning) → count_by is_fault (warned 
 warned_none number None = refl
 warned_none number (Some w) = refl
 
-warned_at_none : (l : LayoutParts) (t : TallyValue) (place : ℕ) (o : Option Line)
-    → count_by is_fault (warned_at l t place o) ≡ 0
-warned_at_none l t place None = refl
-warned_at_none l t place (Some line) = warned_none (place + 1) (line_warning l t line)
+warned_at_none : (l : LayoutParts) (setup : ℕ) (t : TallyValue) (place : ℕ) (o : Option Line)
+    → count_by is_fault (warned_at l setup t place o) ≡ 0
+warned_at_none l setup t place None = refl
+warned_at_none l setup t place (Some line) =
+    warned_none (place + 1) (line_warning l t (nat_lt place setup) line)
 
 each_none_fault : (f : ℕ → List Finding) (n : ℕ) → ((k : ℕ) → count_by is_fault (f k) ≡ 0)
     → count_by is_fault (each_below f n) ≡ 0
@@ -47,11 +55,41 @@ each_none_fault f (suc n) h =
     sum_by-append (λ x. cond (is_fault x) 1 0) (each_below f n) (f n)
     ∙ omega (arith, each_none_fault f n h, h n)
 
-warnings_none : (l : LayoutParts) (lines : List Line) → count_by is_fault (warnings_of l lines) ≡ 0
+warnings_none : (l : LayoutParts) (setup : ℕ) (lines : List Line)
+    → count_by is_fault (warnings_of l setup lines) ≡ 0
 unfolding warnings_of
-warnings_none l lines =
-    each_none_fault (λ place. warned_at l (tally_of (take place lines)) place (slice_get lines place))
-    (length lines) (λ k. warned_at_none l (tally_of (take k lines)) k (slice_get lines k))
+warnings_none l setup lines =
+    each_none_fault (λ place. warned_at l setup (tally_of (take place lines)) place (slice_get lines place))
+    (length lines) (λ k. warned_at_none l setup (tally_of (take k lines)) k (slice_get lines k))
+
+repeat_none : (b : Bool) (p : Place) (k : Key)
+    → count_by is_fault (cond b (finding.Repeat p k ∷ []) []) ≡ 0
+repeat_none true p k = refl
+repeat_none false p k = refl
+
+keys_none : (input : List ℕ) (p : Place) (ks : List Key)
+    → count_by is_fault (flat_map (repeat_of input p) ks) ≡ 0
+keys_none input p [] = refl
+keys_none input p (k ∷ ks) =
+    sum_by-append (λ x. cond (is_fault x) 1 0) (repeat_of input p k) (flat_map (repeat_of input p) ks)
+    ∙ omega (
+      arith,
+      repeat_none (nat_lt 1 (texts_at (depth_of p) (key_quoted k) input)) p k,
+      keys_none input p ks,
+    )
+
+repeats_none : (input : List ℕ) → count_by is_fault (repeats_in input) ≡ 0
+unfolding repeats_in
+repeats_none input =
+    sum_by-append (λ x. cond (is_fault x) 1 0) (flat_map (repeat_of input place.Whole) (keys_of place.Whole))
+    (flat_map (repeat_of input place.Layout) (keys_of place.Layout))
+    ∙ omega (arith, keys_none input place.Whole (keys_of place.Whole), keys_none input place.Layout (keys_of place.Layout))
+
+all_none : (input : List ℕ) (l : LayoutParts) (setup : ℕ) (lines : List Line)
+    → count_by is_fault (repeats_in input ++ warnings_of l setup lines) ≡ 0
+all_none input l setup lines =
+    sum_by-append (λ x. cond (is_fault x) 1 0) (repeats_in input) (warnings_of l setup lines)
+    ∙ omega (arith, repeats_none input, warnings_none l setup lines)
 
 -- ---- what is none begins with its fault
 
@@ -64,6 +102,15 @@ not_a_warning (BadLine n) number w h = h
 not_a_warning (NotForRun n) number w h = h
 not_a_warning OutOfMemory number w h = h
 
+not_a_repeat : (fault : ScenarioFault) (p : Place) (k : Key)
+    → IsFindingOf fault (finding.Repeat p k) → ⊥
+not_a_repeat NotJson p k h = h
+not_a_repeat BadShape p k h = h
+not_a_repeat (Layout f) p k h = h
+not_a_repeat (BadLine n) p k h = h
+not_a_repeat (NotForRun n) p k h = h
+not_a_repeat OutOfMemory p k h = h
+
 counted : (f : Finding) (fs : List Finding) → is_fault f ≡ true → 1 ≤ count_by is_fault (f ∷ fs)
 counted f fs h =
     let more = sum_by-append (λ x. cond (is_fault x) 1 0) (f ∷ []) fs in
@@ -72,10 +119,11 @@ counted f fs h =
 
 some_fault : (fault : ScenarioFault) (found : List Finding) → Begins fault found → 1 ≤ count_by is_fault found
 some_fault fault [] h = absurd h
-some_fault fault (finding.NotJson line column ∷ fs) h = counted (finding.NotJson line column) fs refl
+some_fault fault (finding.NotJson hint line column ∷ fs) h = counted (finding.NotJson hint line column) fs refl
 some_fault fault (finding.Shape s ∷ fs) h = counted (finding.Shape s) fs refl
 some_fault fault (finding.Layout out ∷ fs) h = counted (finding.Layout out) fs refl
 some_fault fault (finding.BadCall number text ∷ fs) h = counted (finding.BadCall number text) fs refl
+some_fault fault (finding.Repeat p k ∷ fs) h = absurd (not_a_repeat fault p k h)
 some_fault fault (finding.Warning number w ∷ fs) h = absurd (not_a_warning fault number w h)
 
 same_fault : (a b : ScenarioFault) (r : Result ScenarioValue ScenarioFault) → r ≡ Err a → r ≡ Err b → a ≡ b
@@ -135,17 +183,18 @@ value_agrees d fault h =
 -- ---- both
 
 text_agrees : (input : List ℕ) (found : List Finding) (fault : ScenarioFault) (o : Option Data)
-    → (or_fault NotJson o >>= scenario_of) ≡ Err fault → AreFaults o found → Begins fault found
+    → (or_fault NotJson o >>= scenario_of) ≡ Err fault → AreFaults input o found → Begins fault found
 text_agrees input found fault None h are =
     subst (λ (x : ScenarioFault). Begins x found) (same_fault NotJson fault
     (or_fault NotJson None >>= scenario_of) refl h) (subst (Begins NotJson) (sym are.2) tt)
 text_agrees input found fault (Some d) h are = subst (Begins fault) (sym are) (value_agrees d fault h)
 
-agrees_of : (input : List ℕ) (found : List Finding) (r : Result ScenarioValue ScenarioFault)
-    → (or_fault NotJson (json_of input) >>= scenario_of) ≡ r → AreFindingsOf r input found → Agrees r found
-agrees_of input found (Ok s) e are =
-    subst (λ (fs : List Finding). count_by is_fault fs ≡ 0) (sym are) (warnings_none s.layout s.lines)
-agrees_of input found (Err fault) e are =
+agrees_of : (input : List ℕ) (setup : ℕ) (found : List Finding) (r : Result ScenarioValue ScenarioFault)
+    → (or_fault NotJson (json_of input) >>= scenario_of) ≡ r → AreFindingsOf r input setup found
+    → Agrees r found
+agrees_of input setup found (Ok s) e are =
+    subst (λ (fs : List Finding). count_by is_fault fs ≡ 0) (sym are) (all_none input s.layout setup s.lines)
+agrees_of input setup found (Err fault) e are =
     let first = text_agrees input found fault (json_of input) e are in (first, some_fault fault found first)
 
 scenario_is : (input : List ℕ) → (or_fault NotJson (json_of input) >>= scenario_of) ≡ scenario_in input
@@ -153,4 +202,4 @@ unfolding scenario_in
 scenario_is input = refl
 
 pub agreement : FirstFindingsAgree
-agreement input found are = agrees_of input found (scenario_in input) (scenario_is input) are
+agreement input setup found are = agrees_of input setup found (scenario_in input) (scenario_is input) are

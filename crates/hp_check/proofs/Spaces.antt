@@ -3,7 +3,7 @@ use Rattle.std.proofs.Common.{◌≡◌, ℕ, ◌<◌, true, false, ltb, eqb, Li
 use Rattle.std.specs.List.{position_or_len, before_first, after_first}
 use Rattle.std.specs.Option.{MatchOption}
 use Rattle.std.proofs.lemmas.Bool.{lt-ltb, le-ltb}
-use Rattle.hp_check.specs.Expected.{halves_of}
+use Rattle.hp_check.specs.Cuts.{halves_of}
 
 -- what `split_once` gives is the text cut at its first space
 pub halves_are : (text : List ℕ) (r : Option (Bor (List ℕ) × Bor (List ℕ)))

@@ -1,5 +1,6 @@
 -- The warnings of lines, one line more after another.
 use Rattle.std.proofs.Common.{◌≡◌, ℕ, ◌+◌, ◌<◌, ◌≤◌, List, [], ◌∷◌, ◌++◌, length, get_or, slice_get, take, Result, Ok, Err, refl, sym, ap, ◌∙◌, arith}
+use Rattle.std.specs.Bool.{nat_lt}
 use Rattle.std.proofs.lemmas.List.{take_more}
 use Rattle.std.proofs.lemmas.List.Sums.{fold_push}
 use Rattle.std.proofs.lemmas.Option.{slice_get_read}
@@ -18,24 +19,26 @@ use Rattle.hp_check.specs.declared.finding.Finding.{Finding}
 use Rattle.hp_check.proofs.Each.{each_more, each_none}
 
 -- the warning of the line at a place
-abbrev pub warning_at : LayoutParts → List Line → ℕ → List Finding
-warning_at l lines place = warned_at l (tally_of (take place lines)) place (slice_get lines place)
+abbrev pub warning_at : LayoutParts → (setup : ℕ) → List Line → ℕ → List Finding
+warning_at l setup lines place = warned_at l setup (tally_of (take place lines)) place (slice_get lines place)
 
-pub none_warned : (l : LayoutParts) (lines : List Line) (found : List Finding) → found ≡ []
-    → found ≡ each_below (warning_at l lines) 0
-none_warned l lines found none = none ∙ each_none (warning_at l lines) []
+pub none_warned : (l : LayoutParts) (setup : ℕ) (lines : List Line) (old : List Finding)
+    → old ≡ old ++ each_below (warning_at l setup lines) 0
+none_warned l setup lines old = each_none (warning_at l setup lines) old
 
-pub one_warned : (l : LayoutParts) (lines : List Line) (i : ℕ) (line : Line) (t : TallyValue)
-    (found new : List Finding)
+pub one_warned : (l : LayoutParts) (setup : ℕ) (lines : List Line) (i : ℕ) (line : Line) (t : TallyValue)
+    (old found new : List Finding)
     → i < length lines → line ≡ get_or lines i line → t ≡ tally_of (take i lines)
-    → found ≡ each_below (warning_at l lines) i → new ≡ found ++ warned (i + 1) (line_warning l t line)
-    → new ≡ each_below (warning_at l lines) (i + 1)
-one_warned l lines i line t found new lt at tallied so_far more =
-    let here : warned (i + 1) (line_warning l t line) ≡ warning_at l lines i =
-    ap (λ (u : TallyValue). warned (i + 1) (line_warning l u line)) tallied
-    ∙ ap (warned_at l (tally_of (take i lines)) i)
+    → found ≡ old ++ each_below (warning_at l setup lines) i
+    → new ≡ found ++ warned (i + 1) (line_warning l t (nat_lt i setup) line)
+    → new ≡ old ++ each_below (warning_at l setup lines) (i + 1)
+one_warned l setup lines i line t old found new lt at tallied so_far more =
+    let here : warned (i + 1) (line_warning l t (nat_lt i setup) line) ≡ warning_at l setup lines i =
+    ap (λ (u : TallyValue). warned (i + 1) (line_warning l u (nat_lt i setup) line)) tallied
+    ∙ ap (warned_at l setup (tally_of (take i lines)) i)
     (sym (slice_get_read lines (length lines) i line refl lt at)) in
-    each_more (warning_at l lines) i [] found new (warned (i + 1) (line_warning l t line)) so_far more here
+    each_more (warning_at l setup lines) i old found new
+    (warned (i + 1) (line_warning l t (nat_lt i setup) line)) so_far more here
 
 pub one_tallied : (lines : List Line) (i : ℕ) (line : Line) (t after : TallyValue) → i < length lines
     → line ≡ get_or lines i line → t ≡ tally_of (take i lines) → after ≡ after_work t line.work

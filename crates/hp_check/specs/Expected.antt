@@ -1,23 +1,9 @@
 -- What was expected of a text that is no line (own rule).
-use Rattle.std.specs.Prelude.{ℕ, ◌==◌, List, [], codes, length, nat_lt, Option, Some, None, if◌then◌else◌}
-use Rattle.std.specs.List.{before_first, after_first, position_or_len}
+use Rattle.std.specs.Prelude.{ℕ, ◌-◌, ◌==◌, ◌++◌, List, [], codes, length, slice_get, Bool, false, Option, Some, None, if◌then◌else◌}
 use Rattle.std.specs.Str.{bytes_eq}
 use Rattle.hp_numbers.specs.NumberWords.{number_of}
-
--- the text before the first space, and the text after it
-unfoldable pub halves_of : List ℕ → Option (List ℕ × List ℕ)
-halves_of text =
-    if nat_lt (position_or_len (λ b. b == 32) text) (length text) then Some
-    (before_first (λ b. b == 32) text, after_first (λ b. b == 32) text)
-    else None
-
--- the text before the first space, or all of it
-abbrev pub first_or : List ℕ → Option (List ℕ × List ℕ) → List ℕ
-first_or text None = text
-first_or text (Some halves) = halves.0
-
-abbrev pub first_word : List ℕ → List ℕ
-first_word text = first_or text (halves_of text)
+use Rattle.hp_check.specs.Cuts.{first_word, halves_of}
+use Rattle.hp_check.specs.Slips.{slip_text}
 
 -- the form of each verb; words that are likely to be meant for one
 unfoldable pub rarer_form_of : List ℕ → List ℕ
@@ -68,5 +54,22 @@ abbrev pub expected_of : List ℕ → Option (List ℕ × List ℕ) → List ℕ
 expected_of text None = of_verb (number_of 32 text) (codes "a verb is missing")
 expected_of text (Some halves) = of_verb (number_of 32 halves.0) (form_of (first_word halves.1))
 
+abbrev pub wanted : List ℕ → List ℕ
+wanted text = expected_of text (halves_of text)
+
+-- a space at either end, and else the word at which the text is no line, where that is seen, before
+-- what was expected
+abbrev pub is_space : Option ℕ → Bool
+is_space None = false
+is_space (Some byte) = byte == 32
+
+abbrev pub begins_with_space : List ℕ → Bool
+begins_with_space text = is_space (slice_get text 0)
+
+abbrev pub ends_with_space : List ℕ → Bool
+ends_with_space text = is_space (slice_get text (length text - 1))
+
 abbrev pub expected : List ℕ → List ℕ
-expected text = expected_of text (halves_of text)
+expected text =
+    if begins_with_space text then codes "it begins with a space"
+    else (if ends_with_space text then codes "it ends with a space" else slip_text text ++ wanted text)

@@ -9,10 +9,11 @@ use Rattle.hp_check.specs.declared.finding.Place.TheVariants.{Whole, Layout}
 
 -- all but warnings
 abbrev pub is_fault : Finding → Bool
-is_fault (finding.NotJson line column) = true
+is_fault (finding.NotJson hint line column) = true
 is_fault (finding.Shape s) = true
 is_fault (finding.Layout r) = true
 is_fault (finding.BadCall number text) = true
+is_fault (finding.Repeat place k) = false
 is_fault (finding.Warning number w) = false
 
 -- a key as it is written
@@ -30,6 +31,22 @@ key_name key.Pages = codes "pages"
 key_name key.Words = codes "words"
 key_name key.History = codes "history"
 key_name key.Boot = codes "boot"
+
+-- between quotation marks
+abbrev pub key_quoted : Key → List ℕ
+key_quoted key.Layout = codes "\"layout\""
+key_quoted key.Calls = codes "\"calls\""
+key_quoted key.Order = codes "\"order\""
+key_quoted key.Pageblocks = codes "\"pageblocks\""
+key_quoted key.Blocks = codes "\"blocks\""
+key_quoted key.Cpus = codes "\"cpus\""
+key_quoted key.Batch = codes "\"batch\""
+key_quoted key.High = codes "\"high\""
+key_quoted key.Owners = codes "\"owners\""
+key_quoted key.Pages = codes "\"pages\""
+key_quoted key.Words = codes "\"words\""
+key_quoted key.History = codes "\"history\""
+key_quoted key.Boot = codes "\"boot\""
 
 -- the keys of a layout whose values are numbers
 abbrev pub number_keys : List Key

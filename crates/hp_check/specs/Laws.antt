@@ -29,7 +29,7 @@ fault_of (range.Boot words blocks) = BadBoot
 
 -- the finding says what this fault of reading says
 abbrev pub IsFindingOf : ScenarioFault → Finding → Type 0
-IsFindingOf NotJson (finding.NotJson line column) = Unit {0}
+IsFindingOf NotJson (finding.NotJson hint line column) = Unit {0}
 IsFindingOf BadShape (finding.Shape s) = Unit {0}
 IsFindingOf (Layout fault) (finding.Layout out) = fault ≡ fault_of out
 IsFindingOf (BadLine line) (finding.BadCall number text) = line ≡ number
@@ -46,4 +46,5 @@ Agrees (Err fault) found = Begins fault found × (1 ≤ count_by is_fault found)
 
 abbrev pub FirstFindingsAgree : Type 0
 FirstFindingsAgree =
-    (input : List ℕ) (found : List Finding) → AreFindings input found → Agrees (scenario_in input) found
+    (input : List ℕ) (setup : ℕ) (found : List Finding) → AreFindings input setup found
+    → Agrees (scenario_in input) found

@@ -1,12 +1,15 @@
 -- How findings are written, one a line.
-use Rattle.std.specs.Prelude.{ℕ, ◌-◌, ◌==◌, ◌&&◌, Bool, not, List, [], ◌∷◌, ◌++◌, codes, count_by, length, nat_le, Option, Some, None, slice_get, if◌then◌else◌}
+use Rattle.std.specs.Prelude.{ℕ, ◌-◌, ◌==◌, Bool, not, List, [], ◌∷◌, ◌++◌, codes, count_by, length, Option, Some, None, slice_get, if◌then◌else◌}
 use Rattle.std.specs.Fmt.{decimal}
-use Rattle.std.specs.List.{flat_map, list_all}
+use Rattle.std.specs.List.{flat_map}
 use Rattle.hp_requests.specs.FaultName.{fault_name}
 use Rattle.hp_check.specs.Expected.{expected}
 use Rattle.hp_check.specs.Findings.{is_fault, key_name, keys_of}
+use Rattle.hp_check.specs.Hints.{hint_text}
+use Rattle.hp_check.specs.Quotes.{quoted}
 use Rattle.hp_check.specs.declared.finding.Finding.{Finding}
 use Rattle.hp_check.specs.declared.finding.Finding.TheVariants as finding
+use Rattle.hp_check.specs.declared.finding.Hint.{Hint}
 use Rattle.hp_check.specs.declared.finding.Key.{Key}
 use Rattle.hp_check.specs.declared.finding.Key.TheVariants as key
 use Rattle.hp_check.specs.declared.finding.OutOfRange.{OutOfRange}
@@ -15,6 +18,8 @@ use Rattle.hp_check.specs.declared.finding.Place.{Place}
 use Rattle.hp_check.specs.declared.finding.Place.TheVariants as place
 use Rattle.hp_check.specs.declared.finding.Shape.{Shape}
 use Rattle.hp_check.specs.declared.finding.Shape.TheVariants.{NotObject, KeyCount, UnknownKey, MissingKey, NotNumber, NotList, NotBoot, NotText}
+use Rattle.hp_check.specs.declared.finding.Unfit.{Unfit}
+use Rattle.hp_check.specs.declared.finding.Unfit.TheVariants as unfit
 use Rattle.hp_check.specs.declared.finding.Warning.{Warning}
 use Rattle.hp_check.specs.declared.finding.Warning.TheVariants as warning
 use Rattle.hp_check.specs.declared.finding.What.{What}
@@ -37,13 +42,6 @@ what_text what.Word = codes "word"
 what_text what.Order = codes "order"
 what_text what.Frame = codes "frame"
 what_text what.Block = codes "block"
-
--- a text between backquotes, where it has no control characters
-abbrev pub is_plain : List ℕ → Bool
-is_plain text = list_all (λ b. nat_le 32 b && not (b == 127)) text
-
-abbrev pub quoted : List ℕ → List ℕ
-quoted text = if is_plain text then codes "`" ++ text ++ codes "`" else codes "a text with control characters"
 
 -- the place of a call, and where it is known the line of the text
 abbrev pub line_text : Option ℕ → List ℕ
@@ -100,6 +98,14 @@ past_text w number count =
     codes "warning: " ++ what_text w ++ numbers_text (codes " ") number
     (codes " is past the layout, which has ") count (codes ", counted from 0")
 
+abbrev pub unfit_text : Unfit → List ℕ
+unfit_text unfit.Processor =
+    codes "warning: not for a script: its processor is not in the layout" ++ newline
+unfit_text unfit.Cat = codes "warning: not for a script: cat makes no call" ++ newline
+unfit_text unfit.Seal = codes "warning: not for a script: seal makes no call" ++ newline
+unfit_text (unfit.Echo fault) =
+    codes "warning: not for a script: echo: fault " ++ fault_name fault ++ newline
+
 abbrev pub warning_text : Warning → List ℕ
 warning_text (warning.Past w number count) = past_text w number count
 warning_text (warning.NoBegin op) = number_text (codes "warning: no line before begins operation ") op []
@@ -110,6 +116,7 @@ warning_text (warning.Full history) =
     number_text (codes "warning: the lines before fill the history of ") history (codes " records")
 warning_text (warning.Echo fault) = codes "warning: echo: fault " ++ fault_name fault ++ newline
 warning_text warning.NoFile = codes "warning: cat: fault NoFile" ++ newline
+warning_text (warning.NotForScript why) = unfit_text why
 
 abbrev pub key_count_text : Place → (count : ℕ) → List ℕ
 key_count_text p n =
@@ -119,6 +126,12 @@ key_count_text p n =
 -- a key of an object, and what is said of it
 abbrev pub key_text : Place → (name : List ℕ) → (what : List ℕ) → List ℕ
 key_text p name what = place_text p ++ codes ": " ++ quoted name ++ what ++ newline
+
+-- a key that stands more than once
+abbrev pub repeat_text : Place → Key → List ℕ
+repeat_text p k =
+    place_text p ++ codes ": warning: `" ++ key_name k
+    ++ codes "` stands more than once, and the last counts" ++ newline
 
 abbrev pub shape_text : (lines : List ℕ) → Shape → List ℕ
 shape_text lines (NotObject p) = place_text p ++ codes ": no object" ++ newline
@@ -135,16 +148,17 @@ shape_text lines (NotText n) = head_text lines n ++ codes "no text" ++ newline
 abbrev pub call_text : List ℕ → List ℕ
 call_text text = quoted text ++ codes ": " ++ expected text ++ newline
 
-abbrev pub no_json_text : (line column : ℕ) → List ℕ
-no_json_text line column =
+abbrev pub no_json_text : Hint → (line column : ℕ) → List ℕ
+no_json_text hint line column =
     codes "line " ++ decimal line ++ codes ", " ++ codes "column " ++ decimal column ++ codes ": not JSON"
-    ++ newline
+    ++ hint_text hint ++ newline
 
 abbrev pub finding_text : (lines : List ℕ) → Finding → List ℕ
-finding_text lines (finding.NotJson line column) = no_json_text line column
+finding_text lines (finding.NotJson hint line column) = no_json_text hint line column
 finding_text lines (finding.Shape s) = shape_text lines s
 finding_text lines (finding.Layout r) = range_text r
 finding_text lines (finding.BadCall number text) = head_text lines number ++ call_text text
+finding_text lines (finding.Repeat p k) = repeat_text p k
 finding_text lines (finding.Warning number w) = head_text lines number ++ warning_text w
 
 abbrev pub is_warning : Finding → Bool

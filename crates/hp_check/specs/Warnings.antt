@@ -1,5 +1,5 @@
 -- When a line hardly does what is wanted (own rule): the first that applies.
-use Rattle.std.specs.Prelude.{ℕ, ◌+◌, ◌==◌, not, List, [], ◌∷◌, length, find, take, Option, Some, None, Result, Ok, Err, nat_lt, nat_le, slice_get, is_some}
+use Rattle.std.specs.Prelude.{ℕ, ◌+◌, ◌==◌, not, Bool, List, [], ◌∷◌, length, find, take, Option, Some, None, Result, Ok, Err, nat_lt, nat_le, slice_get, is_some, if◌then◌else◌}
 use Rattle.std.specs.Bool.{then_some}
 use Rattle.std.specs.Option.{option_map, option_or}
 use Rattle.hp_units.specs.Arithmetic.{frame_count}
@@ -17,6 +17,7 @@ use Rattle.hp_scenario.specs.declared.lines.Work.{Work}
 use Rattle.hp_scenario.specs.declared.lines.Work.TheVariants as work
 use Rattle.hp_check.specs.Each.{each_below}
 use Rattle.hp_check.specs.Tally.{TallyValue, may_begin, tally_of}
+use Rattle.hp_check.specs.Unfit.{unfit_warning, unless_last}
 use Rattle.hp_check.specs.declared.finding.Finding.{Finding}
 use Rattle.hp_check.specs.declared.finding.Finding.TheVariants as finding
 use Rattle.hp_check.specs.declared.finding.Warning.{Warning}
@@ -108,20 +109,22 @@ work_warning l t cpu (work.Echo echo) = request_warning l t cpu (echo_request ec
 work_warning l t cpu (work.Cat path) = cat_warning path
 work_warning l t cpu work.Seal = None
 
--- the warning of a line, after what the lines before it make
-abbrev pub line_warning : LayoutParts → TallyValue → Line → Option Warning
-line_warning l t line = work_warning l t line.cpu line.work
+-- the warning of a line, after what the lines before it make; the lines after the setup stand in scripts
+abbrev pub line_warning : LayoutParts → TallyValue → (is_setup : Bool) → Line → Option Warning
+line_warning l t is_setup line =
+    if is_setup then work_warning l t line.cpu line.work
+    else option_or (unfit_warning l.cpus line) (unless_last (work_warning l t line.cpu line.work))
 
 abbrev pub warned : (number : ℕ) → Option Warning → List Finding
 warned number None = []
 warned number (Some w) = finding.Warning number w ∷ []
 
-abbrev pub warned_at : LayoutParts → TallyValue → (place : ℕ) → Option Line → List Finding
-warned_at l t place None = []
-warned_at l t place (Some line) = warned (place + 1) (line_warning l t line)
+abbrev pub warned_at : LayoutParts → (setup : ℕ) → TallyValue → (place : ℕ) → Option Line → List Finding
+warned_at l setup t place None = []
+warned_at l setup t place (Some line) = warned (place + 1) (line_warning l t (nat_lt place setup) line)
 
--- the warnings of all lines; they are counted from 1
-unfoldable pub warnings_of : LayoutParts → List Line → List Finding
-warnings_of l lines =
-    each_below (λ place. warned_at l (tally_of (take place lines)) place (slice_get lines place))
+-- the warnings of all lines, of which so many are the setup; they are counted from 1
+unfoldable pub warnings_of : LayoutParts → (setup : ℕ) → List Line → List Finding
+warnings_of l setup lines =
+    each_below (λ place. warned_at l setup (tally_of (take place lines)) place (slice_get lines place))
     (length lines)

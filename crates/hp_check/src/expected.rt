@@ -1,12 +1,54 @@
 //! What was expected of a text that is no line.
-ghost use Rattle.std.specs.Prelude.{◌≡◌, option_map};
+ghost use Rattle.std.specs.Prelude.{◌≡◌, ◌++◌, OnOk, string_bytes};
 ghost use Rattle.hp_check.specs.Expected as means;
 
+use crate::cuts::{first_word, halves};
+use crate::slips::write_slip;
 use hp_units::number32;
+use std::alloc::AllocError;
+
+/// Writes why a text is no line: a space at one of its ends; or the word at fault, where that is seen,
+/// and what was expected.
+pub(crate) fn write_expected(out: &mut String, text: &str) -> Result<(), AllocError>
+    ensures { OnOk result (string_bytes out.new ≡ string_bytes out.old ++ means.expected text.now) }
+{
+    if begins_with_space(text) {
+        return out.push_str("it begins with a space");
+    }
+    if ends_with_space(text) {
+        return out.push_str("it ends with a space");
+    }
+    write_slip(out, text)?;
+    out.push_str(wanted(text))
+}
+
+/// Whether there is a byte, and it is a space.
+fn is_space(byte: Option<u8>) -> bool
+    ensures { result ≡ means.is_space byte }
+{
+    match byte {
+        Some(byte) => byte == b' ',
+        None => false,
+    }
+}
+
+/// Whether a text begins with a space.
+fn begins_with_space(text: &str) -> bool
+    ensures { result ≡ means.begins_with_space text.now }
+{
+    is_space(text.as_bytes().first().copied())
+}
+
+/// Whether a text ends with a space.
+fn ends_with_space(text: &str) -> bool
+    ensures { result ≡ means.ends_with_space text.now }
+{
+    is_space(text.as_bytes().last().copied())
+}
 
 /// What was expected of a text: the number of a processor, a verb, or what comes after its verb.
-pub(crate) fn expected(text: &str) -> &'static str
-    ensures { result.now ≡ means.expected text.now }
+fn wanted(text: &str) -> &'static str
+    ensures { result.now ≡ means.wanted text.now }
 {
     match halves(text) {
         Some((cpu, rest)) => {
@@ -23,23 +65,6 @@ pub(crate) fn expected(text: &str) -> &'static str
                 "its first word is no number of a processor"
             }
         }
-    }
-}
-
-/// The text before the first space, and the text after it.
-fn halves(text: &str) -> Option<(&str, &str)>
-    ensures { option_map (λ p. (p.0.now, p.1.now)) result ≡ means.halves_of text.now }
-{
-    text.split_once(' ')
-}
-
-/// The text before the first space, or all of it.
-fn first_word(text: &str) -> &str
-    ensures { result.now ≡ means.first_word text.now }
-{
-    match halves(text) {
-        Some((word, _rest)) => word,
-        None => text,
     }
 }
 

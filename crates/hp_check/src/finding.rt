@@ -1,6 +1,6 @@
 //! What may be wrong with a scenario.
 ghost use Rattle.std.specs.Prelude.{◌≡◌};
-ghost use Rattle.hp_check.specs.Findings.{is_fault, key_name};
+ghost use Rattle.hp_check.specs.Findings.{is_fault, key_name, key_quoted};
 
 use hp_requests::ControlFault;
 use hp_units::{Serial, Text};
@@ -9,13 +9,15 @@ use hp_units::{Serial, Text};
 #[derive(Drop)]
 pub enum Finding {
     /// The text is no JSON; the place is the reader's, counted from 1.
-    NotJson { line: u64, column: u64 },
+    NotJson { hint: Hint, line: u64, column: u64 },
     /// Keys, or the kinds of their values, differ from a scenario's.
     Shape(Shape),
     /// A part of the layout is out of its range.
     Layout(OutOfRange),
     /// A text of `calls` is no line.
     BadCall { number: u64, text: Text },
+    /// A key that stands more than once in an object of the text: the last counts. It is a warning.
+    Repeat { place: Place, key: Key },
     /// A line that hardly does what is wanted.
     Warning { number: u64, warning: Warning },
 }
@@ -25,8 +27,23 @@ impl Finding {
     pub fn is_fault(&self) -> bool
         ensures { result ≡ is_fault self.now }
     {
-        !matches!(self, Finding::Warning { .. })
+        !matches!(self, Finding::Warning { .. } | Finding::Repeat { .. })
     }
+}
+
+/// Why a text is likely to be no JSON.
+#[derive(Clone, Copy, PartialEq, Eq, Drop)]
+pub enum Hint {
+    /// It has nothing but white space.
+    NoText,
+    /// It begins with the byte order mark of UTF-8.
+    ByteOrderMark,
+    /// It has more objects and lists in one another than the reader takes.
+    TooDeep,
+    /// A comment, as other languages have it, stands in it.
+    Comment,
+    /// Nothing of the above.
+    Nothing,
 }
 
 /// An object of a scenario.
@@ -88,6 +105,27 @@ impl Key {
             Key::Words => "words",
             Key::History => "history",
             Key::Boot => "boot",
+        }
+    }
+
+    /// The key between quotation marks.
+    pub(crate) fn quoted(self) -> &'static [u8]
+        ensures { result.now ≡ key_quoted self }
+    {
+        match self {
+            Key::Layout => b"\"layout\"",
+            Key::Calls => b"\"calls\"",
+            Key::Order => b"\"order\"",
+            Key::Pageblocks => b"\"pageblocks\"",
+            Key::Blocks => b"\"blocks\"",
+            Key::Cpus => b"\"cpus\"",
+            Key::Batch => b"\"batch\"",
+            Key::High => b"\"high\"",
+            Key::Owners => b"\"owners\"",
+            Key::Pages => b"\"pages\"",
+            Key::Words => b"\"words\"",
+            Key::History => b"\"history\"",
+            Key::Boot => b"\"boot\"",
         }
     }
 }
@@ -161,6 +199,19 @@ pub enum What {
     Block,
 }
 
+/// Why a line makes no call, and so cannot stand in a script.
+#[derive(Clone, Copy, PartialEq, Eq, Drop)]
+pub enum Unfit {
+    /// Its processor is not in the layout.
+    Processor,
+    /// It reads a control file.
+    Cat,
+    /// It seals.
+    Seal,
+    /// It writes to a control file what that does not take.
+    Echo(ControlFault),
+}
+
 /// Why a line hardly does what is wanted.
 #[derive(Clone, Copy, PartialEq, Eq, Drop)]
 pub enum Warning {
@@ -176,4 +227,6 @@ pub enum Warning {
     Echo(ControlFault),
     /// A `cat` of no control file.
     NoFile,
+    /// A line after the setup that cannot stand in a script.
+    NotForScript(Unfit),
 }

@@ -4,23 +4,29 @@
 //! scenario hardly does what its writer wants. It runs no machine and opens no file or stream. What
 //! a scenario is, hp_scenario says.
 //!
-//! Read specs/Checking first: what `check` promises. Then specs/Shape, Ranges, Calls and Warnings,
-//! and last specs/Texts.
+//! Read specs/Checking first: what `check` promises. Then specs/Hints, Shape, Ranges and Calls for
+//! faults, specs/Repeats, Warnings and Unfit for warnings, and last specs/Texts, Expected and Slips.
 #![tactic(auto)]
 
 mod calls;
 mod checking;
+mod cuts;
 mod expected;
 mod finding;
+mod hints;
 mod laws;
+mod quotes;
 mod ranges;
+mod repeats;
 mod report;
 mod shape;
+mod slips;
 mod tally;
 mod texts;
+mod unfit;
 mod warnings;
 
 pub use checking::{check, fault_count};
-pub use finding::{Finding, Key, OutOfRange, Place, Shape, Warning, What};
+pub use finding::{Finding, Hint, Key, OutOfRange, Place, Shape, Unfit, Warning, What};
 pub use laws::first_findings_agree;
 pub use report::write_report;

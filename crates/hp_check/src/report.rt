@@ -1,12 +1,14 @@
 //! How findings are written.
 ghost use Rattle.std.specs.Prelude.{◌≡◌, ◌++◌, OnOk, count_by, string_bytes};
 ghost use Rattle.std.specs.List.{flat_map};
+ghost use Rattle.hp_check.specs.Hints.{hint_text};
 ghost use Rattle.hp_check.specs.Reports.{IsReport};
 ghost use Rattle.hp_check.specs.Texts as says;
 
 use crate::checking::fault_count;
-use crate::expected::expected;
-use crate::finding::{Finding, Key, OutOfRange, Place, Shape, Warning, What};
+use crate::expected::write_expected;
+use crate::finding::{Finding, Hint, Key, OutOfRange, Place, Shape, Unfit, Warning, What};
+use crate::quotes::write_quoted;
 use crate::shape::keys_of;
 use hp_call_lines::call_lines;
 use hp_requests::ControlFault;
@@ -68,13 +70,14 @@ fn write_finding(out: &mut String, lines: &[u64], finding: &Finding) -> Result<(
         (string_bytes out.new ≡ string_bytes out.old ++ says.finding_text lines.now finding.now) }
 {
     match finding {
-        Finding::NotJson { line, column } => write_no_json(out, *line, *column),
+        Finding::NotJson { hint, line, column } => write_no_json(out, *hint, *line, *column),
         Finding::Shape(shape) => write_shape(out, lines, shape),
         Finding::Layout(part) => write_range(out, *part),
         Finding::BadCall { number, text } => {
             write_head(out, lines, *number)?;
             write_call(out, text.as_str())
         }
+        Finding::Repeat { place, key } => write_repeat(out, *place, *key),
         Finding::Warning { number, warning } => {
             write_head(out, lines, *number)?;
             write_warning(out, *warning)
@@ -82,21 +85,36 @@ fn write_finding(out: &mut String, lines: &[u64], finding: &Finding) -> Result<(
     }
 }
 
-/// Writes that a text is no JSON.
-fn write_no_json(out: &mut String, line: u64, column: u64) -> Result<(), AllocError>
-    ensures { OnOk result (string_bytes out.new ≡ string_bytes out.old ++ says.no_json_text line column) }
+/// Writes that a text is no JSON, and what is likely to be the reason.
+fn write_no_json(out: &mut String, hint: Hint, line: u64, column: u64) -> Result<(), AllocError>
+    ensures { OnOk result (string_bytes out.new ≡ string_bytes out.old ++ says.no_json_text hint line column) }
 {
+    let reason = hint_text(hint);
     write!(out, "line {line}, ")?;
-    writeln!(out, "column {column}: not JSON")
+    writeln!(out, "column {column}: not JSON{reason}")
+}
+
+/// Why a text is likely to be no JSON, in words.
+fn hint_text(hint: Hint) -> &'static str
+    ensures { result.now ≡ hint_text hint }
+{
+    match hint {
+        Hint::NoText => ": there is no text",
+        Hint::ByteOrderMark => ": it begins with a byte order mark, which JSON has not",
+        Hint::TooDeep => ": more than 127 objects and lists in one another",
+        Hint::Comment => ": it has a comment, and JSON has none",
+        Hint::Nothing => "",
+    }
 }
 
 /// Writes a text that is no line, and what was expected.
 fn write_call(out: &mut String, text: &str) -> Result<(), AllocError>
     ensures { OnOk result (string_bytes out.new ≡ string_bytes out.old ++ says.call_text text.now) }
 {
-    let wanted = expected(text);
     write_quoted(out, text)?;
-    writeln!(out, ": {wanted}")
+    out.push_str(": ")?;
+    write_expected(out, text)?;
+    out.push_str("\n")
 }
 
 /// Writes the number of a text of `calls`, and in which line it stands, where that is known.
@@ -118,26 +136,6 @@ fn line_of(lines: &[u64], number: u64) -> Option<u64>
         return None;
     }
     lines.get((number - 1) as usize).copied()
-}
-
-/// Writes a text between backquotes, where it has no control characters.
-fn write_quoted(out: &mut String, text: &str) -> Result<(), AllocError>
-    ensures { OnOk result (string_bytes out.new ≡ string_bytes out.old ++ says.quoted text.now) }
-{
-    if is_plain(text) {
-        write!(out, "`{text}`")
-    } else {
-        out.push_str("a text with control characters")
-    }
-}
-
-/// Whether a text has no control characters of ASCII.
-fn is_plain(text: &str) -> bool
-    ensures { result ≡ says.is_plain text.now }
-{
-    text.as_bytes()
-        .iter()
-        .all(|byte| 32 <= *byte && *byte != 127)
 }
 
 /// Writes what is wrong with a key or a value.
@@ -188,6 +186,17 @@ fn write_key(out: &mut String, place: Place, name: &str, what: &str) -> Result<(
     write!(out, "{place}: ")?;
     write_quoted(out, name)?;
     writeln!(out, "{what}")
+}
+
+/// Writes that a key stands more than once in an object.
+fn write_repeat(out: &mut String, place: Place, key: Key) -> Result<(), AllocError>
+    ensures { OnOk result (string_bytes out.new ≡ string_bytes out.old ++ says.repeat_text place key) }
+{
+    let name = key.name();
+    writeln!(
+        out,
+        "{place}: warning: `{name}` stands more than once, and the last counts"
+    )
 }
 
 /// Writes a part of the layout that is out of its range.
@@ -311,6 +320,7 @@ fn write_warning(out: &mut String, warning: Warning) -> Result<(), AllocError>
         ),
         Warning::Echo(fault) => write_echo_fault(out, fault),
         Warning::NoFile => write_line(out, "warning: cat: fault NoFile"),
+        Warning::NotForScript(why) => write_unfit(out, why),
     }
 }
 
@@ -335,4 +345,19 @@ fn write_echo_fault(out: &mut String, fault: ControlFault) -> Result<(), AllocEr
         (string_bytes out.new ≡ string_bytes out.old ++ says.warning_text (Warning.Echo fault)) }
 {
     writeln!(out, "warning: echo: fault {fault}")
+}
+
+/// Writes why a line cannot stand in a script.
+fn write_unfit(out: &mut String, why: Unfit) -> Result<(), AllocError>
+    ensures { OnOk result (string_bytes out.new ≡ string_bytes out.old ++ says.unfit_text why) }
+{
+    match why {
+        Unfit::Processor => write_line(
+            out,
+            "warning: not for a script: its processor is not in the layout",
+        ),
+        Unfit::Cat => write_line(out, "warning: not for a script: cat makes no call"),
+        Unfit::Seal => write_line(out, "warning: not for a script: seal makes no call"),
+        Unfit::Echo(fault) => writeln!(out, "warning: not for a script: echo: fault {fault}"),
+    }
 }

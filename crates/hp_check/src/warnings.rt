@@ -1,32 +1,47 @@
 //! Lines that hardly do what is wanted.
-ghost use Rattle.std.specs.Prelude.{◌≡◌, ◌++◌, OnOk, IfOk};
+ghost use Rattle.std.specs.Prelude.{◌≡◌, ◌++◌, OnOk};
 ghost use Rattle.hp_check.specs.Warnings as means;
 
 use crate::finding::{Finding, Warning, What};
 use crate::tally::Tally;
+use crate::unfit::{unfit_warning, unless_last};
 use hp_requests::{ControlFault, Request, file_at};
 use hp_scenario::{Line, Work};
 use hp_units::{Block, Cpu, Event, Layout, Owner, Page, Plan, Serial};
 use std::alloc::{AllocError, Global};
 
-/// The warnings of lines on a layout. An error is out of memory.
+/// Adds the warnings of lines on a layout, of which so many are the setup; the others stand in the
+/// scripts of their processors. An error is out of memory.
 #[tactic(auto, unfolding(crate::specs::Warnings::warnings_of))]
-pub(crate) fn warnings_of(
+pub(crate) fn push_warnings(
+    found: &mut Vec<Finding>,
     alloc: Global,
     layout: &Layout,
+    setup: u64,
     lines: &[Line],
-) -> Result<Vec<Finding>, AllocError>
-    ensures { IfOk result (λ found. found.items ≡ means.warnings_of layout.now lines.now) }
+) -> Result<(), AllocError>
+    ensures { OnOk result
+        (found.new.items ≡ found.old.items ++ means.warnings_of layout.now setup lines.now) }
 {
-    let mut found = Vec::new(alloc);
     let mut tally = Tally::new(alloc);
     for index in 0..lines.len() {
         let line = &lines[index];
-        let warning = work_warning(layout, &tally, line.cpu, &line.work);
-        push_warning(&mut found, index as u64 + 1, warning)?;
+        let warning = line_warning(layout, &tally, (index as u64) < setup, line);
+        push_warning(found, index as u64 + 1, warning)?;
         tally.add(&line.work)?;
     }
-    Ok(found)
+    Ok(())
+}
+
+/// The warning of a line of the setup or of a script, if there is one.
+fn line_warning(layout: &Layout, tally: &Tally, is_setup: bool, line: &Line) -> Option<Warning>
+    ensures { result ≡ means.line_warning layout.now tally.now is_setup line.now }
+{
+    let warning = work_warning(layout, tally, line.cpu, &line.work);
+    if is_setup {
+        return warning;
+    }
+    unfit_warning(layout.cpus(), line).or(unless_last(warning))
 }
 
 /// Adds a warning of a line, if there is one. An error is out of memory.

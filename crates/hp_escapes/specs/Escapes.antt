@@ -1,5 +1,5 @@
 -- Texts as JSON has them between quotation marks (RFC 8259, section 7; own rule).
-use Rattle.std.specs.Prelude.{ℕ, ◌-◌, ◌^◌, ◌==◌, ◌&&◌, ◌||◌, nat_le, nat_lt, Bool, true, false, List, [], ◌++◌, codes, encode_utf8, if◌then◌else◌}
+use Rattle.std.specs.Prelude.{ℕ, ◌-◌, ◌^◌, ◌==◌, ◌&&◌, ◌||◌, nat_le, nat_lt, Bool, true, false, List, [], ◌++◌, codes, encode_utf8, length, take, if◌then◌else◌}
 use Rattle.std.specs.Fmt.{digits, format_spec, padded_integral}
 use Rattle.std.specs.List.{flat_map}
 use Rattle.std.specs.Str.{chars}
@@ -36,3 +36,9 @@ escaped brackets c =
 -- a text
 unfoldable pub escaped_text : Brackets → List ℕ → List ℕ
 escaped_text brackets text = flat_map (escaped brackets) (chars text)
+
+-- the first characters of a text, at most so many, and two dots where there are more
+unfoldable pub escaped_start : Brackets → (most : ℕ) → List ℕ → List ℕ
+escaped_start brackets most text =
+    flat_map (escaped brackets) (take most (chars text))
+    ++ (if nat_lt most (length (chars text)) then codes ".." else [])

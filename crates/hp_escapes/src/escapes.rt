@@ -1,6 +1,6 @@
 //! Texts as JSON has them.
 ghost use Rattle.std.specs.Prelude.{◌≡◌, ◌++◌, ◌&&◌, OnOk, string_bytes};
-ghost use Rattle.hp_escapes.specs.Escapes.{are_escaped, escaped, escaped_text, is_bracket, is_hidden, numbered};
+ghost use Rattle.hp_escapes.specs.Escapes.{are_escaped, escaped, escaped_start, escaped_text, is_bracket, is_hidden, numbered};
 
 use std::alloc::AllocError;
 
@@ -24,6 +24,30 @@ pub fn write_escaped(out: &mut String, text: &str, brackets: Brackets) -> Result
 {
     for c in text.chars() {
         write_character(out, brackets, c)?;
+    }
+    Ok(())
+}
+
+/// Writes the first characters of a text as `write_escaped` does, at most so many, and two dots after
+/// them where there are more (own rule). An error is out of memory.
+#[tactic(auto, unfolding(crate::specs::Escapes::escaped_start))]
+pub fn write_start(
+    out: &mut String,
+    text: &str,
+    brackets: Brackets,
+    most: usize,
+) -> Result<(), AllocError>
+    ensures { OnOk result
+        (string_bytes out.new ≡ string_bytes out.old ++ escaped_start brackets most text.now) }
+{
+    let mut written = 0;
+    for c in text.chars() {
+        if written == most {
+            out.push_str("..")?;
+            return Ok(());
+        }
+        write_character(out, brackets, c)?;
+        written += 1;
     }
     Ok(())
 }

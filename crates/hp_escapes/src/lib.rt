@@ -5,4 +5,4 @@
 
 mod escapes;
 
-pub use escapes::{Brackets, write_escaped};
+pub use escapes::{Brackets, write_escaped, write_start};

@@ -5,3 +5,4 @@ pub mod FaultText
 pub mod Scripts
 pub mod Setup
 pub mod Texts
+pub mod WantedLines

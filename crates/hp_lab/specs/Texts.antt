@@ -1,4 +1,4 @@
--- How an exploration is written.
+-- How an exploration and a search are written.
 use Rattle.std.specs.Prelude.{ℕ, ◌+◌, List, [], ◌∷◌, ◌++◌, codes, Option, Some, None, length, slice_get, sum_by}
 use Rattle.std.specs.Fmt.{decimal}
 use Rattle.std.specs.List.{flat_map}
@@ -12,6 +12,7 @@ use Rattle.hp_text.specs.State.{block_line, newline, texts_below}
 use Rattle.hp_explore.specs.declared.tally.Ending.{Ending}
 use Rattle.hp_explore.specs.Outcomes.{OutcomeValue}
 use Rattle.hp_explore.specs.Schedules.{Setting, plays}
+use Rattle.hp_find.specs.Changes.{changes}
 
 -- ---- how it ends
 
@@ -82,3 +83,14 @@ end_at_text names g ends place = numbered_text names g (place + 1) (slice_get en
 -- the counts, and then the ends in order
 abbrev pub exploration_text : (names : List (List ℕ)) → Setting → List Ending → List ℕ
 exploration_text names g ends = counts_text ends ++ texts_below (end_at_text names g ends) (length ends)
+
+-- ---- a search
+
+-- a schedule: how often it changes the processor, and its calls
+abbrev pub nearest_text : (names : List (List ℕ)) → Setting → (schedule : List ℕ) → List ℕ
+nearest_text names g schedule =
+    codes "changes: " ++ decimal (changes schedule) ++ codes "\nfirst:\n" ++ first_text names g schedule
+
+-- no schedule ends so, and there are so many
+abbrev pub absent_text : (schedules : ℕ) → List ℕ
+absent_text schedules = codes "interleavings: " ++ decimal schedules ++ codes "\nends so: 0\n"

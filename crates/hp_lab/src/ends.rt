@@ -149,7 +149,7 @@ fn write_block(out: &mut String, block: Block, row: Option<Row>) -> Result<(), A
 }
 
 /// Writes the calls that a schedule makes, with the numbers that operations have in it.
-fn write_first(
+pub(crate) fn write_first(
     out: &mut String,
     alloc: Global,
     names: &IndexSet<Text>,

@@ -1,18 +1,15 @@
 //! A scenario explored.
-ghost use Rattle.std.specs.Prelude.{◌≡◌, ◌^◌, ◌<◌, IfErr, IfOk, drop, length, string_bytes, take};
+ghost use Rattle.std.specs.Prelude.{◌^◌, ◌<◌, IfErr, IfOk, length, string_bytes};
 ghost use Rattle.hp_explore.specs.Faults.{IsCause};
 ghost use Rattle.hp_explore.specs.Schedules.{setting};
-ghost use Rattle.hp_lab.specs.Explorations.{IsExplorationOf, IsExploredAfter, IsExploredOn, IsFaultOf, IsUnexplored};
+ghost use Rattle.hp_lab.specs.Explorations.{IsExplorationOf, IsExploredOn, IsFaultOf};
 
-use crate::checks::check_lines;
+use crate::answering::{Ask, answer_to};
 use crate::ends::write_ends;
 use crate::fault::LabFault;
-use crate::scripts::scripts_of;
-use crate::setup::run_lines;
 use hp_explore::{ExploreFault, Script, Watch, explore};
 use hp_machine::Machine;
-use hp_scenario::{Line, Scenario};
-use hp_units::{Layout, Text};
+use hp_units::Text;
 use indexmap::IndexSet;
 use std::alloc::Global;
 
@@ -38,69 +35,12 @@ pub fn explore_text<W: Watch>(
     ensures ok { IfOk result (λ out. IsExplorationOf input.now setup limit (string_bytes out)) }
     ensures err { IfErr result (IsFaultOf input.now setup limit) }
 {
-    let scenario = Scenario::read(alloc, input)?;
-    let cpus = scenario.layout.cpus();
-    let lines = scenario.lines.as_slice();
-    let before = front_of(lines, setup);
-    let after = rest_of(lines, setup);
-    check_lines(cpus, before.len() as u64, after)?;
-    let scripts = scripts_of(alloc, cpus, after)?;
-    let text = explored_after(
-        alloc,
-        &scenario.layout,
-        &scenario.names,
-        before,
-        &scripts,
-        limit,
-        watch,
-    )?;
-    Ok(text)
-}
-
-/// The first lines, as many as there are up to a number.
-fn front_of(lines: &[Line], count: u64) -> &[Line]
-    ensures { result.now ≡ take count lines.now }
-{
-    if count < lines.len() as u64 {
-        &lines[..count as usize]
-    } else {
-        lines
-    }
-}
-
-/// The lines after the first so many.
-fn rest_of(lines: &[Line], count: u64) -> &[Line]
-    ensures { result.now ≡ drop count lines.now }
-{
-    if count < lines.len() as u64 {
-        &lines[count as usize..]
-    } else {
-        &lines[lines.len()..]
-    }
-}
-
-/// The text of the exploration of scripts after lines that are run first.
-fn explored_after<W: Watch>(
-    alloc: Global,
-    layout: &Layout,
-    names: &IndexSet<Text>,
-    before: &[Line],
-    scripts: &[Script],
-    limit: u64,
-    watch: &mut W,
-) -> Result<String, ExploreFault>
-    requires { length scripts.now < 2 ^ 32 }
-    ensures ok { IfOk result
-        (λ out. IsExploredAfter layout.now names.now.keys before.now scripts.now limit (string_bytes out)) }
-    ensures err { IfErr result (IsUnexplored layout.now before.now scripts.now limit) }
-{
-    let mut machine = Machine::boot(alloc, layout)?;
-    run_lines(alloc, &mut machine, before)?;
-    explored_on(alloc, names, &machine, scripts, limit, watch)
+    let answer = answer_to(alloc, input, setup, limit, Ask::Ends, watch)?;
+    Ok(answer.text)
 }
 
 /// The text of the exploration of scripts on a machine.
-fn explored_on<W: Watch>(
+pub(crate) fn explored_on<W: Watch>(
     alloc: Global,
     names: &IndexSet<Text>,
     machine: &Machine,

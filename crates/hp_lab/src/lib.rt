@@ -9,12 +9,17 @@
 //! specs/Texts.
 #![tactic(auto)]
 
+mod answering;
 mod checks;
 mod ends;
 mod exploring;
 mod fault;
+mod finding;
 mod scripts;
 mod setup;
+mod wanted_lines;
 
 pub use exploring::explore_text;
 pub use fault::{LabFault, Unfit};
+pub use finding::{Finding, find_text};
+pub use wanted_lines::wanted_line;

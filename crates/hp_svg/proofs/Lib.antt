@@ -1,3 +1,4 @@
 mod Covering
 mod Entries
 mod Joined
+mod Stacked

@@ -1,5 +1,5 @@
 -- The elements of a picture (own rule): texts, and rectangles for cells. Lengths are in pixels: a letter of a
--- text is 6 wide, a cell 8, a row 14 high.
+-- text is 6 wide, and each line is 14 high.
 use Rattle.std.specs.Prelude.{ℕ, ◌+◌, ◌*◌, ◌==◌, ◌||◌, nat_lt, Bool, List, [], ◌∷◌, ◌++◌, codes, encode_utf8, if◌then◌else◌}
 use Rattle.std.specs.Fmt.{decimal}
 use Rattle.std.specs.List.{flat_map}
@@ -62,25 +62,27 @@ unfoldable pub box_element : (x y width height : ℕ) → (fill : List ℕ) → 
 box_element x y width height fill =
     codes "<rect" ++ position x y ++ extent width height ++ codes " fill='" ++ fill ++ codes "'/>"
 
--- cells in the colour of their character
+-- cells in the colour of their character, and the character where it has room
 unfoldable pub cell_element : (x y width mark : ℕ) → List ℕ
-cell_element x y width mark = box_element x y width 12 (fill_of mark) ++ letter_element (x + 2) (y + 9) mark
+cell_element x y width mark =
+    box_element x y width 12 (fill_of mark)
+    ++ (if nat_lt width 8 then [] else letter_element (x + 2) (y + 9) mark)
 
 -- the mobility of pageblocks as a strip, unless their memory block is not in use
 unfoldable pub strip_element : (x y width letter : ℕ) → List ℕ
 strip_element x y width letter =
-    if letter == 77 then box_element x y width 2 (codes "#0072b2")
-    else (if letter == 85 then box_element x y width 2 (codes "#d55e00") else [])
+    if letter == 77 then box_element x y width 2 (codes "#a78bfa")
+    else (if letter == 85 then box_element x y width 2 (codes "#4c1d95") else [])
 
 -- cells with this character, or a strip below them with this letter
 abbrev pub layer_element : Layer → (x top width mark : ℕ) → List ℕ
 layer_element Cells x top width mark = cell_element x top width mark
 layer_element Strips x top width mark = strip_element x (top + 12) width mark
 
--- a run of a row; a bar is a gap
-unfoldable pub run_text : Layer → (left top : ℕ) → Run → List ℕ
-run_text layer left top run =
-    if run.mark == 124 then [] else layer_element layer (left + 8 * run.at) top (8 * run.count) run.mark
+-- a run of a row, where a cell is so wide; a bar is a gap
+unfoldable pub run_text : (cell : ℕ) → Layer → (left top : ℕ) → Run → List ℕ
+run_text cell layer left top run =
+    if run.mark == 124 then [] else layer_element layer (left + cell * run.at) top (cell * run.count) run.mark
 
 -- ---- free blocks
 
@@ -100,6 +102,9 @@ order_text order =
 unfoldable pub order_element : (x y order : ℕ) → List ℕ
 order_element x y order = codes "<text" ++ position x y ++ order_text order
 
--- lines between the cells of a block
-unfoldable pub grid_element : (x y width height : ℕ) → List ℕ
-grid_element x y width height = box_element x y width height (codes "url(#grid)")
+-- lines between the cells of a block, as they stand in the picture's definitions
+unfoldable pub grid_start : List ℕ
+grid_start = codes "<use href='#lines'"
+
+unfoldable pub grid_element : (x y : ℕ) → List ℕ
+grid_element x y = grid_start ++ position x y ++ codes "/>"

@@ -63,7 +63,7 @@ list_fill mark = slice_index_or list_fills (mark - 48) []
 -- a place that is neither an owner's nor a processor's
 unfoldable pub plain_fill : ℕ → List ℕ
 plain_fill mark =
-    if mark == 46 then codes "#b5dcb0"
+    if mark == 46 then codes "#7fbf7b"
     else (if mark == 58 then codes "url(#isolated)"
     else (if mark == 75 then codes "#3d3d3d"
     else (if mark == 45 then codes "#d4d4d8"

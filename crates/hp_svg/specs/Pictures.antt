@@ -1,12 +1,12 @@
 -- Rows as one picture (own rule): SVG, with time downwards and frames across.
-use Rattle.std.specs.Prelude.{ℕ, ◌+◌, nat_lt, false, List, ◌++◌, codes, length}
+use Rattle.std.specs.Prelude.{ℕ, ◌+◌, nat_lt, false, List, [], ◌++◌, codes, length, if◌then◌else◌}
 use Rattle.std.specs.Fmt.{decimal}
 use Rattle.std.specs.List.{enumerate_from, flat_map, range_with_len}
 use Rattle.hp_pictures.specs.Rows.{RowValue}
-use Rattle.hp_svg.specs.Elements.{cell_element, extent, grid_element, outline_element, strip_element, text_element}
+use Rattle.hp_svg.specs.Elements.{cell_element, extent, outline_element, strip_element, text_element}
 use Rattle.hp_svg.specs.Marks.{label_of, marks_in}
 use Rattle.hp_svg.specs.Rows.{newline, rows_text}
-use Rattle.hp_svg.specs.Sheets.{cells_at, cells_width, first_frame, height_of, legend_left, legend_top, numbers_at, row_top, rows_at, sheet_of, width_of}
+use Rattle.hp_svg.specs.Sheets.{cells_at, cells_width, first_frame, has_grid, height_of, legend_left, legend_top, number_at, rows_at, sheet_of, width_of}
 use Rattle.hp_svg.specs.declared.sheets.Sheet.{Sheet}
 
 -- ---- above and over the rows
@@ -38,14 +38,12 @@ notes_text place =
     outline_note place ++ strip_note (place + 1) 77 (codes "movable pageblock")
     ++ strip_note (place + 2) 85 (codes "unmovable pageblock")
 
--- the number of a block, that of its first frame, and a grid over its cells; the legend has so many
--- entries, and this many rows have room below one another
-unfoldable pub block_text : Sheet → (entries lines block : ℕ) → List ℕ
-block_text s entries lines block =
-    text_element (cells_at s block) (numbers_at entries) false 0 (codes "block " ++ decimal block)
-    ++ text_element (cells_at s block) (numbers_at entries + 12) false 0
-    (codes "frame " ++ decimal (first_frame s block))
-    ++ grid_element (cells_at s block) (rows_at entries) (cells_width s) (row_top lines) ++ newline
+-- the number of a block and that of its first frame; the legend has so many entries
+unfoldable pub block_text : Sheet → (entries block : ℕ) → List ℕ
+block_text s entries block =
+    text_element (cells_at s block) (number_at s entries block) false 0 (codes "block " ++ decimal block)
+    ++ text_element (cells_at s block) (number_at s entries block + 12) false 0
+    (codes "frame " ++ decimal (first_frame s block)) ++ newline
 
 -- ---- the whole
 
@@ -73,27 +71,42 @@ unfoldable pub hatching : List ℕ
 hatching =
     codes "<pattern id='isolated' width='4' height='4' patternUnits='userSpaceOnUse'><rect width='4' height='4' fill='#eef5ee'/><path d='M-1 1L1 -1M0 4L4 0M3 5L5 3' stroke='#4f9d69'/></pattern>"
 
--- lines between cells
-unfoldable pub grid : List ℕ
-grid = codes "<pattern id='grid' width='8' height='8' patternUnits='userSpaceOnUse'><path d='M0 0V8M8 0V8' stroke='#ffffff'/></pattern>"
+-- lines between the cells of a block, as its rows use them, where cells are wide enough: at both ends of
+-- each cell
+unfoldable pub line_size : (cell : ℕ) → List ℕ
+line_size cell = codes "<pattern id='grid' width='" ++ decimal cell ++ codes "' height='14'"
+
+unfoldable pub line_path : (cell : ℕ) → List ℕ
+line_path cell =
+    codes " patternUnits='userSpaceOnUse'><path d='M0 0V14M" ++ decimal cell ++ codes " 0V14'"
+
+unfoldable pub line_colour : List ℕ
+line_colour = codes " stroke='#ffffff'/></pattern><defs><rect id='lines'"
+
+unfoldable pub line_end : List ℕ
+line_end = codes " fill='url(#grid)'/></defs>"
+
+unfoldable pub grid : Sheet → List ℕ
+grid s =
+    if has_grid s then line_size s.cell ++ line_path s.cell ++ line_colour ++ extent (cells_width s) 14
+    ++ line_end else []
 
 -- a white ground
 unfoldable pub ground : List ℕ
 ground = codes "<rect width='100%' height='100%' fill='#ffffff'/>"
 
--- what all pictures have
-unfoldable pub style : List ℕ
-style = title ++ hatching ++ grid ++ ground ++ newline
+-- what all rows use
+unfoldable pub style : Sheet → List ℕ
+style s = title ++ hatching ++ grid s ++ ground ++ newline
 
--- with so many entries in the legend; below the rows there is room for one more
+-- with so many entries in the legend
 unfoldable pub picture_with : Sheet → (names : List (List ℕ)) → (marks : List ℕ) → (rows : List RowValue) → List ℕ
 picture_with s names marks rows =
-    opening (width_of s) (height_of (length marks + 3) (length rows + 1)) ++ style
+    opening (width_of s) (height_of s (length marks + 3) rows) ++ style s
     ++ flat_map (entry_text names) (enumerate_from 0 marks) ++ notes_text (length marks)
-    ++ rows_text s (rows_at (length marks + 3)) rows
-    ++ flat_map (block_text s (length marks + 3) (length rows + 1)) (range_with_len 0 s.blocks)
-    ++ codes "</svg>" ++ newline
+    ++ rows_text s (rows_at s (length marks + 3)) rows
+    ++ flat_map (block_text s (length marks + 3)) (range_with_len 0 s.blocks) ++ codes "</svg>" ++ newline
 
--- the picture of rows, where the owners have these names
-abbrev pub picture_of : (names : List (List ℕ)) → (rows : List RowValue) → List ℕ
-picture_of names rows = picture_with (sheet_of rows) names (marks_in rows) rows
+-- the picture of rows, where the owners have these names and a cell is so wide
+abbrev pub picture_of : (names : List (List ℕ)) → (cell : ℕ) → (rows : List RowValue) → List ℕ
+picture_of names cell rows = picture_with (sheet_of rows cell) names (marks_in rows) rows

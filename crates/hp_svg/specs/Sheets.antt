@@ -1,5 +1,5 @@
 -- Where things stand in a picture (own rule). Lengths are in pixels.
-use Rattle.std.specs.Prelude.{ℕ, ◌+◌, ◌-◌, ◌*◌, ◌/◌, ◌%◌, ◌^◌, ◌==◌, not, List, [], ◌∷◌, count_by, length, max, min, if◌then◌else◌}
+use Rattle.std.specs.Prelude.{ℕ, ◌+◌, ◌-◌, ◌*◌, ◌/◌, ◌%◌, ◌^◌, ◌==◌, not, Bool, true, false, List, [], ◌∷◌, count_by, length, max, min, nat_le, nat_lt, if◌then◌else◌}
 use Rattle.hp_pictures.specs.Blocks.{BlockValue}
 use Rattle.hp_pictures.specs.Rows.{RowValue}
 use Rattle.hp_svg.specs.declared.sheets.Sheet.{Sheet}
@@ -18,34 +18,57 @@ first_cells [] = []
 first_cells (block ∷ blocks) = block.cells
 
 -- how many blocks the first row has, and of the first of them how many characters, and how many of these
--- are frames
-unfoldable pub sheet_of : (rows : List RowValue) → Sheet
-sheet_of rows =
+-- are frames; and how wide a cell is
+unfoldable pub sheet_of : (rows : List RowValue) → (cell : ℕ) → Sheet
+sheet_of rows cell =
     let cells = first_cells (first_blocks rows) in
     record {
-      blocks = length (first_blocks rows);
+      blocks = bounded (length (first_blocks rows));
       cells = bounded (length cells);
       frames = bounded (count_by (λ byte. not (byte == 124)) cells);
+      cell = cell;
     }
 
--- ---- across: texts of 29 and 25 characters, and for each block its head of 8 and its cells
+-- ---- across: texts of 29 and 25 characters, and for each block of a strip its head of 8 and its cells
+
+abbrev pub cells_width : Sheet → ℕ
+cells_width s = s.cells * s.cell
+
+-- cells are wide enough for lines between them
+abbrev pub has_grid : Sheet → Bool
+has_grid s = nat_le 4 s.cell
+
+abbrev pub block_width : Sheet → ℕ
+block_width s = 48 + cells_width s
+
+-- how many blocks stand side by side: as many as have room in a picture of 1,600, and at least one
+abbrev pub per_strip : Sheet → ℕ
+per_strip s = (1264 - block_width s) / block_width s + 1
+
+-- how many strips of blocks a row has, one below another; in which of them a block stands, and how many
+-- stand before it there
+abbrev pub strips : Sheet → ℕ
+strips s = (s.blocks - 1) / per_strip s + 1
+
+abbrev pub strip_of : Sheet → (block : ℕ) → ℕ
+strip_of s block = block / per_strip s
+
+abbrev pub place_of : Sheet → (block : ℕ) → ℕ
+place_of s block = block % per_strip s
 
 -- where the head of a block begins, and where its cells do
 abbrev pub head_at : Sheet → (block : ℕ) → ℕ
-head_at s block = 336 + block * (48 + 8 * s.cells)
+head_at s block = 336 + place_of s block * block_width s
 
 abbrev pub cells_at : Sheet → (block : ℕ) → ℕ
-cells_at s block = 384 + block * (48 + 8 * s.cells)
-
-abbrev pub cells_width : Sheet → ℕ
-cells_width s = 8 * s.cells
+cells_at s block = head_at s block + 48
 
 -- the number of the first frame of a block
 abbrev pub first_frame : Sheet → (block : ℕ) → ℕ
 first_frame s block = block * s.frames
 
 abbrev pub width_of : Sheet → ℕ
-width_of s = max 820 (head_at s s.blocks)
+width_of s = max (336 + min s.blocks (per_strip s) * block_width s) 820
 
 -- ---- down: the legend, the numbers of the blocks, the rows
 
@@ -56,16 +79,44 @@ legend_left place = 8 + 160 * (place % 5)
 abbrev pub legend_top : (place : ℕ) → ℕ
 legend_top place = 8 + 16 * (place / 5)
 
--- where the numbers of the blocks stand below a legend of so many entries, and where the rows begin
+-- where the numbers of the blocks stand below a legend of so many entries, two lines for each strip, and
+-- where the rows begin
 abbrev pub numbers_at : (entries : ℕ) → ℕ
 numbers_at entries = 28 + 16 * ((entries + 4) / 5)
 
-abbrev pub rows_at : (entries : ℕ) → ℕ
-rows_at entries = numbers_at entries + 18
+abbrev pub number_at : Sheet → (entries block : ℕ) → ℕ
+number_at s entries block = numbers_at entries + 24 * strip_of s block
 
--- a row below the first, by its number, or the end of so many rows
-abbrev pub row_top : (number : ℕ) → ℕ
-row_top number = 14 * number
+abbrev pub rows_at : Sheet → (entries : ℕ) → ℕ
+rows_at s entries = numbers_at entries + 24 * strips s - 6
 
-abbrev pub height_of : (entries rows : ℕ) → ℕ
-height_of entries rows = rows_at entries + row_top rows
+-- the strip of a block below the first of its row
+abbrev pub strip_top : Sheet → (block : ℕ) → ℕ
+strip_top s block = 14 * strip_of s block
+
+-- how high the blocks of a row are: where they are folded there is a gap below
+abbrev pub blocks_height : Sheet → ℕ
+blocks_height s = if strips s == 1 then 14 else 14 * strips s + 6
+
+-- how much lower than a text stands what comes after it: a text that has no room before that has a line
+-- of its own
+abbrev pub lines_above : (room : ℕ) → (text : List ℕ) → ℕ
+lines_above room text = if nat_lt room (length text) then 14 else 0
+
+-- a row: a line of text alone, or texts and blocks
+abbrev pub is_empty : {A : Type 0} → List A → Bool
+is_empty [] = true
+is_empty (x ∷ xs) = false
+
+abbrev pub row_height : Sheet → RowValue → ℕ
+row_height s row =
+    if is_empty row.blocks then 14 else lines_above 29 row.asked + lines_above 25 row.answer + blocks_height s
+
+-- rows one under another
+unfoldable pub rows_height : Sheet → List RowValue → ℕ
+rows_height s [] = 0
+rows_height s (row ∷ rows) = row_height s row + rows_height s rows
+
+-- below the rows there is room for one more line
+abbrev pub height_of : Sheet → (entries : ℕ) → List RowValue → ℕ
+height_of s entries rows = rows_at s entries + rows_height s rows + 14

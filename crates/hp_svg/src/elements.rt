@@ -1,6 +1,6 @@
 //! The elements of a picture: texts, and rectangles for cells. Lengths are in pixels.
-ghost use Rattle.std.specs.Prelude.{◌≡◌, ◌++◌, ◌<◌, ◌^◌, OnOk, string_bytes};
-ghost use Rattle.hp_svg.specs.Elements.{box_element, cell_element, escaped, escaped_text, extent, grid_element, ink, inked, is_unfit, layer_element, letter_element, narrowed, order_element, order_text, outline_element, outlined, position, run_text, strip_element, text_element};
+ghost use Rattle.std.specs.Prelude.{◌≡◌, ◌++◌, ◌*◌, ◌<◌, ◌^◌, OnOk, string_bytes};
+ghost use Rattle.hp_svg.specs.Elements.{box_element, cell_element, escaped, escaped_text, extent, grid_element, grid_start, ink, inked, is_unfit, layer_element, letter_element, narrowed, order_element, order_text, outline_element, outlined, position, run_text, strip_element, text_element};
 
 use crate::marks::{fill_of, ink_of, is_lettered, write_mark};
 use crate::runs::{Layer, Run};
@@ -139,7 +139,7 @@ fn write_box(
     write!(out, " fill='{fill}'/>")
 }
 
-/// Writes cells in the colour of their character.
+/// Writes cells in the colour of their character, and the character where it has room.
 #[tactic(auto, unfolding(crate::specs::Elements::cell_element))]
 pub(crate) fn write_cell(
     out: &mut String,
@@ -148,11 +148,14 @@ pub(crate) fn write_cell(
     width: u128,
     mark: u8,
 ) -> Result<(), AllocError>
-    requires x { x < 2 ^ 102 }
-    requires y { y < 2 ^ 102 }
+    requires x { x < 2 ^ 108 }
+    requires y { y < 2 ^ 108 }
     ensures { OnOk result (string_bytes out.new ≡ string_bytes out.old ++ cell_element x y width mark) }
 {
     write_box(out, x, y, width, 12, fill_of(mark))?;
+    if width < 8 {
+        return Ok(());
+    }
     write_letter(out, x + 2, y + 9, mark)
 }
 
@@ -168,31 +171,40 @@ pub(crate) fn write_strip(
     ensures { OnOk result (string_bytes out.new ≡ string_bytes out.old ++ strip_element x y width letter) }
 {
     match letter {
-        b'M' => write_box(out, x, y, width, 2, "#0072b2"),
-        b'U' => write_box(out, x, y, width, 2, "#d55e00"),
+        b'M' => write_box(out, x, y, width, 2, "#a78bfa"),
+        b'U' => write_box(out, x, y, width, 2, "#4c1d95"),
         _ => Ok(()),
     }
 }
 
-/// Writes a run of a row: cells, or a strip below them; a bar is a gap.
+/// Writes a run of a row, where a cell is so wide: cells, or a strip below them; a bar is a gap.
 #[tactic(auto, unfolding(crate::specs::Elements::run_text))]
 pub(crate) fn write_run(
     out: &mut String,
+    cell: u8,
     layer: Layer,
     left: u128,
     top: u128,
     run: Run,
 ) -> Result<(), AllocError>
-    requires left { left < 2 ^ 101 }
-    requires top { top < 2 ^ 101 }
-    ensures { OnOk result (string_bytes out.new ≡ string_bytes out.old ++ run_text layer left top run) }
+    requires left { left < 2 ^ 107 }
+    requires top { top < 2 ^ 107 }
+    ensures { OnOk result (string_bytes out.new ≡ string_bytes out.old ++ run_text cell layer left top run) }
 {
     if run.mark == b'|' {
         return Ok(());
     }
-    let x = left + 8 * run.at as u128;
-    let width = 8 * run.count as u128;
+    let x = left + cells_of(cell, run.at);
+    let width = cells_of(cell, run.count);
     write_layer(out, layer, x, top, width, run.mark)
+}
+
+/// How wide so many cells of this width are.
+pub(crate) fn cells_of(cell: u8, count: usize) -> u128
+    ensures is { result ≡ cell * count }
+    ensures low { result < 2 ^ 72 }
+{
+    cell as u128 * count as u128
 }
 
 /// Writes cells with this character, or a strip below them with this letter.
@@ -204,8 +216,8 @@ fn write_layer(
     width: u128,
     mark: u8,
 ) -> Result<(), AllocError>
-    requires x { x < 2 ^ 102 }
-    requires top { top < 2 ^ 101 }
+    requires x { x < 2 ^ 108 }
+    requires top { top < 2 ^ 107 }
     ensures { OnOk result (string_bytes out.new ≡ string_bytes out.old ++ layer_element layer x top width mark) }
 {
     match layer {
@@ -259,16 +271,20 @@ pub(crate) fn write_order(out: &mut String, x: u128, y: u128, order: u32) -> Res
     write_order_text(out, order)
 }
 
-/// Writes lines between the cells of a block.
-#[tactic(auto, unfolding(crate::specs::Elements::grid_element))]
-pub(crate) fn write_grid(
-    out: &mut String,
-    x: u128,
-    y: u128,
-    width: u128,
-    height: u128,
-) -> Result<(), AllocError>
-    ensures { OnOk result (string_bytes out.new ≡ string_bytes out.old ++ grid_element x y width height) }
+/// Writes what the lines between the cells of a block are.
+#[tactic(auto, unfolding(crate::specs::Elements::grid_start))]
+fn write_grid_start(out: &mut String) -> Result<(), AllocError>
+    ensures { OnOk result (string_bytes out.new ≡ string_bytes out.old ++ grid_start) }
 {
-    write_box(out, x, y, width, height, "url(#grid)")
+    out.push_str("<use href='#lines'")
+}
+
+/// Writes lines between the cells of a block, as they stand in the picture's definitions.
+#[tactic(auto, unfolding(crate::specs::Elements::grid_element))]
+pub(crate) fn write_grid(out: &mut String, x: u128, y: u128) -> Result<(), AllocError>
+    ensures { OnOk result (string_bytes out.new ≡ string_bytes out.old ++ grid_element x y) }
+{
+    write_grid_start(out)?;
+    write_position(out, x, y)?;
+    out.push_str("/>")
 }

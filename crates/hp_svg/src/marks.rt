@@ -102,7 +102,7 @@ fn plain_fill(mark: u8) -> &'static str
     ensures { result.now ≡ plain_fill mark }
 {
     match mark {
-        b'.' => "#b5dcb0",
+        b'.' => "#7fbf7b",
         b':' => "url(#isolated)",
         b'K' => "#3d3d3d",
         b'-' => "#d4d4d8",

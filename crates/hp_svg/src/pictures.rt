@@ -1,37 +1,38 @@
 //! Rows as one picture.
 ghost use Rattle.std.specs.Prelude.{◌≡◌, ◌++◌, ◌<◌, ◌^◌, IfOk, OnOk, string_bytes};
 ghost use Rattle.std.specs.List.{enumerate_from, flat_map, range_with_len};
-ghost use Rattle.hp_svg.specs.Pictures.{block_text, corner, entry_text, font, grid, ground, hatching, namespace, note_text, notes_text, opening, outline_note, picture_of, picture_with, strip_note, style, title, view};
+ghost use Rattle.hp_svg.specs.Pictures.{block_text, corner, entry_text, font, grid, ground, hatching, line_colour, line_end, line_path, line_size, namespace, note_text, notes_text, opening, outline_note, picture_of, picture_with, strip_note, style, title, view};
 
-use crate::elements::{
-    write_cell, write_extent, write_grid, write_outline, write_strip, write_text,
-};
+use crate::elements::{write_cell, write_extent, write_outline, write_strip, write_text};
 use crate::marks::{marks_in, write_label};
 use crate::rows::write_all_rows;
-use crate::sheets::{Sheet, height_of, legend_left, legend_top, numbers_at, row_top, rows_at};
+use crate::sheets::{Sheet, legend_left, legend_top};
 use hp_numbers::Text;
 use hp_pictures::RowPicture;
 use indexmap::IndexSet;
 use std::alloc::{AllocError, Global};
 
-/// The picture of rows as SVG (own rule): one row under another, with its texts and the heads of its
-/// memory blocks as text, a rectangle for each run of equal characters of a block's cells, an outline
-/// for each free block with its order, and below the cells a strip for the mobility of pageblocks;
-/// above the rows stand a legend of all characters that occur, of outlines and strips, and the numbers
-/// of the blocks and of their first frames. How wide a block is, and how many there are, is that of the
-/// first row. Of an owner whose letter is in the legend the name stands there. An error is out of
-/// memory.
+/// The picture of rows as SVG (own rule), where the cell of a frame is so many pixels wide: one row
+/// under another, with its texts and the heads of its memory blocks as text, a rectangle for each run
+/// of equal characters of a block's cells, an outline for each free block with its order, and below
+/// the cells a strip for the mobility of pageblocks; above the rows stand a legend of all characters
+/// that occur, of outlines and strips, and the numbers of the blocks and of their first frames. How
+/// wide a block is, and how many there are, is that of the first row; blocks that have no room in
+/// 1,600 pixels go on below the first. Of an owner whose letter is in the legend the name stands
+/// there. An error is out of memory.
 ///
-/// Each row has all memory blocks, or none where it is a line of text alone.
+/// Each row has all memory blocks, or none where it is a line of text alone, which stands where
+/// answers do. A text that has no room before what comes next has a line of its own.
 pub fn picture_of(
     alloc: Global,
     names: &IndexSet<Text>,
+    cell: u8,
     rows: &[RowPicture],
 ) -> Result<String, AllocError>
-    ensures { IfOk result (λ picture. string_bytes picture ≡ picture_of names.now.keys rows.now) }
+    ensures { IfOk result (λ picture. string_bytes picture ≡ picture_of names.now.keys cell rows.now) }
 {
     let marks = marks_in(alloc, rows)?;
-    picture_with(alloc, Sheet::of(rows), names, marks.as_slice(), rows)
+    picture_with(alloc, Sheet::of(rows, cell), names, marks.as_slice(), rows)
 }
 
 /// The picture of rows, with these characters in the legend.
@@ -47,14 +48,13 @@ fn picture_with(
         (λ picture. string_bytes picture ≡ picture_with sheet names.now.keys marks.now rows.now) }
 {
     let entries = marks.len() + 3;
-    let room = rows.len() + 1;
     let mut out = String::new(alloc);
-    write_opening(&mut out, sheet.width(), height_of(entries, room))?;
-    write_style(&mut out)?;
+    write_opening(&mut out, sheet.width(), sheet.height(entries, rows))?;
+    write_style(&mut out, sheet)?;
     write_legend(&mut out, alloc, names, marks)?;
     write_notes(&mut out, marks.len())?;
-    write_all_rows(&mut out, alloc, sheet, rows_at(entries), rows)?;
-    write_blocks(&mut out, alloc, sheet, entries, room)?;
+    write_all_rows(&mut out, alloc, sheet, sheet.rows_at(entries), rows)?;
+    write_blocks(&mut out, alloc, sheet, entries)?;
     out.push_str("</svg>\n")?;
     Ok(out)
 }
@@ -121,14 +121,54 @@ fn write_hatching(out: &mut String) -> Result<(), AllocError>
     )
 }
 
-/// Writes the lines of the grid over cells.
-#[tactic(auto, unfolding(crate::specs::Pictures::grid))]
-fn write_grid_lines(out: &mut String) -> Result<(), AllocError>
-    ensures { OnOk result (string_bytes out.new ≡ string_bytes out.old ++ grid) }
+/// Writes where the lines between cells of this width begin anew.
+#[tactic(auto, unfolding(crate::specs::Pictures::line_size))]
+fn write_line_size(out: &mut String, cell: u8) -> Result<(), AllocError>
+    ensures { OnOk result (string_bytes out.new ≡ string_bytes out.old ++ line_size cell) }
 {
-    out.push_str(
-        "<pattern id='grid' width='8' height='8' patternUnits='userSpaceOnUse'><path d='M0 0V8M8 0V8' stroke='#ffffff'/></pattern>",
+    write!(out, "<pattern id='grid' width='{cell}' height='14'")
+}
+
+/// Writes the lines at both ends of a cell of this width.
+#[tactic(auto, unfolding(crate::specs::Pictures::line_path))]
+fn write_line_path(out: &mut String, cell: u8) -> Result<(), AllocError>
+    ensures { OnOk result (string_bytes out.new ≡ string_bytes out.old ++ line_path cell) }
+{
+    write!(
+        out,
+        " patternUnits='userSpaceOnUse'><path d='M0 0V14M{cell} 0V14'"
     )
+}
+
+/// Writes the colour of lines between cells, and how their definition goes on.
+#[tactic(auto, unfolding(crate::specs::Pictures::line_colour))]
+fn write_line_colour(out: &mut String) -> Result<(), AllocError>
+    ensures { OnOk result (string_bytes out.new ≡ string_bytes out.old ++ line_colour) }
+{
+    out.push_str(" stroke='#ffffff'/></pattern><defs><rect id='lines'")
+}
+
+/// Writes the end of the definition of lines between cells.
+#[tactic(auto, unfolding(crate::specs::Pictures::line_end))]
+fn write_line_end(out: &mut String) -> Result<(), AllocError>
+    ensures { OnOk result (string_bytes out.new ≡ string_bytes out.old ++ line_end) }
+{
+    out.push_str(" fill='url(#grid)'/></defs>")
+}
+
+/// Writes the lines between the cells of a block, as its rows use them, where cells are wide enough.
+#[tactic(auto, unfolding(crate::specs::Pictures::grid))]
+fn write_grid_lines(out: &mut String, sheet: Sheet) -> Result<(), AllocError>
+    ensures { OnOk result (string_bytes out.new ≡ string_bytes out.old ++ grid sheet) }
+{
+    if !sheet.has_grid() {
+        return Ok(());
+    }
+    write_line_size(out, sheet.cell)?;
+    write_line_path(out, sheet.cell)?;
+    write_line_colour(out)?;
+    write_extent(out, sheet.cells_width(), 14)?;
+    write_line_end(out)
 }
 
 /// Writes a white ground.
@@ -139,14 +179,14 @@ fn write_ground(out: &mut String) -> Result<(), AllocError>
     out.push_str("<rect width='100%' height='100%' fill='#ffffff'/>")
 }
 
-/// Writes what all pictures have: the title, how cells are hatched, the grid over them, and a white ground.
+/// Writes what all rows use: the title, how cells are hatched, lines between them, and a white ground.
 #[tactic(auto, unfolding(crate::specs::Pictures::style))]
-fn write_style(out: &mut String) -> Result<(), AllocError>
-    ensures { OnOk result (string_bytes out.new ≡ string_bytes out.old ++ style) }
+fn write_style(out: &mut String, sheet: Sheet) -> Result<(), AllocError>
+    ensures { OnOk result (string_bytes out.new ≡ string_bytes out.old ++ style sheet) }
 {
     write_title(out)?;
     write_hatching(out)?;
-    write_grid_lines(out)?;
+    write_grid_lines(out, sheet)?;
     write_ground(out)?;
     out.push_str("\n")
 }
@@ -235,49 +275,39 @@ fn write_note(out: &mut String, place: usize, text: &str) -> Result<(), AllocErr
     out.push_str("\n")
 }
 
-/// Writes the numbers of the blocks and of their first frames, and a grid over their cells.
+/// Writes the numbers of the blocks and of their first frames.
 fn write_blocks(
     out: &mut String,
     alloc: Global,
     sheet: Sheet,
     entries: usize,
-    rows: usize,
 ) -> Result<(), AllocError>
     ensures { OnOk result (string_bytes out.new ≡ string_bytes out.old
-        ++ flat_map (block_text sheet entries rows) (range_with_len 0 sheet.blocks)) }
+        ++ flat_map (block_text sheet entries) (range_with_len 0 sheet.blocks)) }
 {
-    for block in 0..sheet.blocks {
-        write_block(out, alloc, sheet, entries, rows, block)?;
+    for block in 0..sheet.blocks as usize {
+        write_block(out, alloc, sheet, entries, block)?;
     }
     Ok(())
 }
 
-/// Writes the number of a block, that of its first frame, and a grid over its cells.
+/// Writes the number of a block and that of its first frame.
 #[tactic(auto, unfolding(crate::specs::Pictures::block_text))]
 fn write_block(
     out: &mut String,
     alloc: Global,
     sheet: Sheet,
     entries: usize,
-    rows: usize,
     block: usize,
 ) -> Result<(), AllocError>
-    ensures { OnOk result (string_bytes out.new ≡ string_bytes out.old
-        ++ block_text sheet entries rows block) }
+    ensures { OnOk result (string_bytes out.new ≡ string_bytes out.old ++ block_text sheet entries block) }
 {
     let left = sheet.cells_at(block);
-    let top = numbers_at(entries);
+    let top = sheet.number_at(entries, block);
     let frame = sheet.first_frame(block);
     let first = format!(in alloc; "block {block}")?;
     let second = format!(in alloc; "frame {frame}")?;
     write_text(out, left, top, false, 0, first.as_str())?;
     write_text(out, left, top + 12, false, 0, second.as_str())?;
-    write_grid(
-        out,
-        left,
-        rows_at(entries),
-        sheet.cells_width(),
-        row_top(rows),
-    )?;
     out.push_str("\n")
 }

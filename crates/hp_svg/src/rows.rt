@@ -1,11 +1,11 @@
 //! The rows of a picture.
-ghost use Rattle.std.specs.Prelude.{◌≡◌, ◌++◌, ◌<◌, ◌^◌, ◌&&◌, IfOk, OnOk, string_bytes};
+ghost use Rattle.std.specs.Prelude.{◌≡◌, ◌++◌, ◌<◌, ◌^◌, OnOk, string_bytes};
 ghost use Rattle.std.specs.List.{enumerate_from, flat_map};
-ghost use Rattle.hp_svg.specs.Rows.{block_text, columned, free_text, head_text, row_text, rows_opening, rows_text, size_of, texts_of};
+ghost use Rattle.hp_svg.specs.Rows.{block_text, blocks_text, column_text, frames_text, free_text, head_text, lines_text, row_text, rows_from, rows_opening, rows_text, size_of, words_text};
 
-use crate::elements::{write_order, write_outline, write_text};
+use crate::elements::{cells_of, write_grid, write_order, write_outline, write_text};
 use crate::runs::{Layer, write_cells};
-use crate::sheets::{Sheet, row_top};
+use crate::sheets::{ANSWER, ASKED, Sheet, lines_above};
 use hp_pictures::{BlockPicture, FreeBlock, RowPicture};
 use std::alloc::{AllocError, Global};
 
@@ -33,18 +33,19 @@ pub(crate) fn write_all_rows(
     out.push_str("\n</g>\n")
 }
 
-/// Writes rows.
+/// Writes rows, one under another.
 fn write_rows(
     out: &mut String,
     alloc: Global,
     sheet: Sheet,
     rows: &[RowPicture],
 ) -> Result<(), AllocError>
-    ensures { OnOk result (string_bytes out.new ≡ string_bytes out.old
-        ++ flat_map (row_text sheet) (enumerate_from 0 rows.now)) }
+    ensures { OnOk result (string_bytes out.new ≡ string_bytes out.old ++ rows_from sheet 0 rows.now) }
 {
-    for (number, row) in rows.iter().enumerate() {
-        write_row(out, alloc, sheet, number, row)?;
+    let mut top = 0u128;
+    for row in rows {
+        write_row(out, alloc, sheet, top, row)?;
+        top += sheet.row_height(row);
     }
     Ok(())
 }
@@ -55,48 +56,58 @@ fn write_row(
     out: &mut String,
     alloc: Global,
     sheet: Sheet,
-    number: usize,
+    top: u128,
     row: &RowPicture,
 ) -> Result<(), AllocError>
-    ensures { OnOk result (string_bytes out.new ≡ string_bytes out.old ++ row_text sheet (number, row.now)) }
+    requires { top < 2 ^ 105 }
+    ensures { OnOk result (string_bytes out.new ≡ string_bytes out.old ++ row_text sheet top row.now) }
 {
-    let top = row_top(number);
-    write_texts(out, top, row)?;
-    write_row_blocks(out, alloc, sheet, top, row.blocks())?;
+    if row.blocks().is_empty() {
+        return write_words(out, top, row.asked());
+    }
+    write_blocks(out, alloc, sheet, top, row)
+}
+
+/// Writes a row with memory blocks.
+#[tactic(auto, unfolding(crate::specs::Rows::blocks_text))]
+fn write_blocks(
+    out: &mut String,
+    alloc: Global,
+    sheet: Sheet,
+    top: u128,
+    row: &RowPicture,
+) -> Result<(), AllocError>
+    requires { top < 2 ^ 105 }
+    ensures { OnOk result (string_bytes out.new ≡ string_bytes out.old ++ blocks_text sheet top row.now) }
+{
+    let below_asked = top + lines_above(ASKED, row.asked());
+    let below_answer = below_asked + lines_above(ANSWER, row.answer());
+    write_column(out, 8, top, row.asked())?;
+    write_column(out, 188, below_asked, row.answer())?;
+    write_row_blocks(out, alloc, sheet, below_answer, row.blocks())?;
     out.push_str("\n")
 }
 
-/// Writes what was asked and answered in a row.
-#[tactic(auto, unfolding(crate::specs::Rows::texts_of))]
-fn write_texts(out: &mut String, top: u128, row: &RowPicture) -> Result<(), AllocError>
-    requires { top < 2 ^ 101 }
-    ensures { OnOk result (string_bytes out.new ≡ string_bytes out.old ++ texts_of top row.now) }
+/// Writes a line of text alone: it stands where answers do.
+#[tactic(auto, unfolding(crate::specs::Rows::words_text))]
+fn write_words(out: &mut String, top: u128, text: &str) -> Result<(), AllocError>
+    requires { top < 2 ^ 105 }
+    ensures { OnOk result (string_bytes out.new ≡ string_bytes out.old ++ words_text top text.now) }
 {
-    let is_alone = row.blocks().is_empty();
-    write_columned(out, 8, top, is_alone, 29, row.asked())?;
-    write_columned(out, 188, top, is_alone, 25, row.answer())
+    write_column(out, 188, top, text)?;
+    out.push_str("\n")
 }
 
-/// Writes a text of a row, where there is one: it is made narrower where it has no room before the
-/// next, unless it is alone in its row.
-#[tactic(auto, unfolding(crate::specs::Rows::columned))]
-fn write_columned(
-    out: &mut String,
-    left: u128,
-    top: u128,
-    is_alone: bool,
-    room: u32,
-    text: &str,
-) -> Result<(), AllocError>
-    requires { top < 2 ^ 101 }
-    ensures { OnOk result (string_bytes out.new ≡ string_bytes out.old
-        ++ columned left top is_alone room text.now) }
+/// Writes a text of a row, where there is one.
+#[tactic(auto, unfolding(crate::specs::Rows::column_text))]
+fn write_column(out: &mut String, left: u128, top: u128, text: &str) -> Result<(), AllocError>
+    requires { top < 2 ^ 107 }
+    ensures { OnOk result (string_bytes out.new ≡ string_bytes out.old ++ column_text left top text.now) }
 {
     if text.is_empty() {
         return Ok(());
     }
-    let is_narrow = !is_alone && text.len() > room as usize;
-    write_text(out, left, top + 10, is_narrow, room, text)
+    write_text(out, left, top + 10, false, 0, text)
 }
 
 /// Writes the blocks of a row.
@@ -107,7 +118,7 @@ fn write_row_blocks(
     top: u128,
     blocks: &[BlockPicture],
 ) -> Result<(), AllocError>
-    requires { top < 2 ^ 101 }
+    requires { top < 2 ^ 106 }
     ensures { OnOk result (string_bytes out.new ≡ string_bytes out.old
         ++ flat_map (block_text sheet top) (enumerate_from 0 blocks.now)) }
 {
@@ -117,7 +128,7 @@ fn write_row_blocks(
     Ok(())
 }
 
-/// Writes the head of a block, its cells, its free blocks, and the mobility of its pageblocks.
+/// Writes a block by its number, in the strip where it stands.
 #[tactic(auto, unfolding(crate::specs::Rows::block_text))]
 fn write_block(
     out: &mut String,
@@ -127,15 +138,52 @@ fn write_block(
     number: usize,
     block: &BlockPicture,
 ) -> Result<(), AllocError>
-    requires { top < 2 ^ 101 }
+    requires { top < 2 ^ 106 }
     ensures { OnOk result (string_bytes out.new ≡ string_bytes out.old
         ++ block_text sheet top (number, block.now)) }
 {
-    let left = sheet.cells_at(number);
-    write_head(out, alloc, sheet.head_at(number), top, block.head())?;
-    write_cells(out, Layer::Cells, left, top, block.cells().as_bytes())?;
-    write_cells(out, Layer::Strips, left, top, block.kinds().as_bytes())?;
-    write_free(out, left, top, block.free())
+    let strip = top + sheet.strip_top(number);
+    write_head(out, alloc, sheet.head_at(number), strip, block.head())?;
+    write_frames(out, sheet, sheet.cells_at(number), strip, block)
+}
+
+/// Writes the cells of a block, the mobility of its pageblocks, lines between cells, and its free blocks.
+#[tactic(auto, unfolding(crate::specs::Rows::frames_text))]
+fn write_frames(
+    out: &mut String,
+    sheet: Sheet,
+    left: u128,
+    top: u128,
+    block: &BlockPicture,
+) -> Result<(), AllocError>
+    requires left { left < 2 ^ 107 }
+    requires top { top < 2 ^ 107 }
+    ensures { OnOk result (string_bytes out.new ≡ string_bytes out.old
+        ++ frames_text sheet left top block.now) }
+{
+    let cell = sheet.cell;
+    write_cells(out, cell, Layer::Cells, left, top, block.cells().as_bytes())?;
+    write_cells(
+        out,
+        cell,
+        Layer::Strips,
+        left,
+        top,
+        block.kinds().as_bytes(),
+    )?;
+    write_lines(out, sheet, left, top)?;
+    write_free(out, cell, left, top, block.free())
+}
+
+/// Writes lines between cells, where these are wide enough.
+#[tactic(auto, unfolding(crate::specs::Rows::lines_text))]
+fn write_lines(out: &mut String, sheet: Sheet, left: u128, top: u128) -> Result<(), AllocError>
+    ensures { OnOk result (string_bytes out.new ≡ string_bytes out.old ++ lines_text sheet left top) }
+{
+    if !sheet.has_grid() {
+        return Ok(());
+    }
+    write_grid(out, left, top)
 }
 
 /// Writes the head of a block before its cells; it is made narrower where it has no room there.
@@ -147,7 +195,7 @@ fn write_head(
     top: u128,
     head: &str,
 ) -> Result<(), AllocError>
-    requires { top < 2 ^ 101 }
+    requires { top < 2 ^ 107 }
     ensures { OnOk result (string_bytes out.new ≡ string_bytes out.old ++ head_text left top head.now) }
 {
     let text = format!(in alloc; " {head}")?;
@@ -155,44 +203,50 @@ fn write_head(
     write_text(out, left, top + 10, is_narrow, 7, text.as_str())
 }
 
-/// Writes the outlines of free blocks.
-fn write_free(out: &mut String, left: u128, top: u128, free: &[FreeBlock]) -> Result<(), AllocError>
-    requires left { left < 2 ^ 101 }
-    requires top { top < 2 ^ 101 }
+/// Writes the outlines of free blocks, where a cell is so wide.
+fn write_free(
+    out: &mut String,
+    cell: u8,
+    left: u128,
+    top: u128,
+    free: &[FreeBlock],
+) -> Result<(), AllocError>
+    requires left { left < 2 ^ 107 }
+    requires top { top < 2 ^ 107 }
     ensures { OnOk result (string_bytes out.new ≡ string_bytes out.old
-        ++ flat_map (free_text left top) free.now) }
+        ++ flat_map (free_text cell left top) free.now) }
 {
     for block in free {
-        write_free_block(out, left, top, *block)?;
+        write_free_block(out, cell, left, top, *block)?;
     }
     Ok(())
 }
 
-/// Writes the outline of a free block, and its order where it has more than one frame.
+/// Writes the outline of a free block, and its order where it has more than one frame and room.
 #[tactic(auto, unfolding(crate::specs::Rows::free_text))]
 fn write_free_block(
     out: &mut String,
+    cell: u8,
     left: u128,
     top: u128,
     block: FreeBlock,
 ) -> Result<(), AllocError>
-    requires left { left < 2 ^ 101 }
-    requires top { top < 2 ^ 101 }
-    ensures { OnOk result (string_bytes out.new ≡ string_bytes out.old ++ free_text left top block) }
+    requires left { left < 2 ^ 107 }
+    requires top { top < 2 ^ 107 }
+    ensures { OnOk result (string_bytes out.new ≡ string_bytes out.old ++ free_text cell left top block) }
 {
-    let x = left + 8 * block.at as u128;
-    write_outline(out, x + 1, top + 1, 8 * size_of(block.order) - 2)?;
-    if block.order == 0 {
+    let x = left + cells_of(cell, block.at as usize);
+    let width = cells_of(cell, size_of(block.order));
+    write_outline(out, x + 1, top + 1, width.saturating_sub(2))?;
+    if block.order == 0 || width < 16 {
         return Ok(());
     }
     write_order(out, x + 4, top + 9, block.order)
 }
 
 /// How many frames a free block of an order has; an order is at most 31.
-fn size_of(order: u32) -> u128
-    ensures is { result ≡ size_of order }
-    ensures low { result < 2 ^ 32 }
-    ensures some { 0 < result }
+fn size_of(order: u32) -> usize
+    ensures { result ≡ size_of order }
 {
     1 << order.min(31)
 }

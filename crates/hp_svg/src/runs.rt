@@ -32,18 +32,19 @@ impl Run {
     }
 }
 
-/// Writes cells, or strips below them, a rectangle for each run.
+/// Writes cells of this width, or strips below them, a rectangle for each run.
 pub(crate) fn write_cells(
     out: &mut String,
+    cell: u8,
     layer: Layer,
     left: u128,
     top: u128,
     cells: &[u8],
 ) -> Result<(), AllocError>
-    requires left { left < 2 ^ 101 }
-    requires top { top < 2 ^ 101 }
+    requires left { left < 2 ^ 107 }
+    requires top { top < 2 ^ 107 }
     ensures { OnOk result (string_bytes out.new ≡ string_bytes out.old
-        ++ flat_map (run_text layer left top) (runs_of cells.now)) }
+        ++ flat_map (run_text cell layer left top) (runs_of cells.now)) }
 {
     let [first, rest @ ..] = cells else {
         return Ok(());
@@ -53,11 +54,11 @@ pub(crate) fn write_cells(
         if *mark == run.mark {
             run.count += 1;
         } else {
-            write_run(out, layer, left, top, run)?;
+            write_run(out, cell, layer, left, top, run)?;
             run = Run::new(run.at + run.count, *mark);
         }
     }
-    write_run(out, layer, left, top, run)
+    write_run(out, cell, layer, left, top, run)
 }
 
 /// Each cell is covered by one run, that has its character.

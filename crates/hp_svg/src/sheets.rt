@@ -1,16 +1,22 @@
 //! Where things stand in a picture. Lengths are in pixels.
-ghost use Rattle.std.specs.Prelude.{◌≡◌, ◌+◌, ◌*◌, ◌<◌, ◌^◌, ◌==◌, count_by, not};
-ghost use Rattle.hp_svg.specs.Sheets.{bounded, cells_at, cells_width, first_blocks, first_cells, first_frame, head_at, height_of, legend_left, legend_top, numbers_at, row_top, rows_at, sheet_of, width_of};
+ghost use Rattle.std.specs.Prelude.{◌≡◌, ◌+◌, ◌*◌, ◌<◌, ◌≤◌, ◌^◌, ◌==◌, count_by, not};
+ghost use Rattle.hp_svg.specs.Sheets.{block_width, blocks_height, bounded, cells_at, cells_width, first_blocks, first_cells, first_frame, has_grid, head_at, height_of, legend_left, legend_top, lines_above, number_at, numbers_at, per_strip, place_of, row_height, rows_at, rows_height, sheet_of, strip_of, strip_top, strips, width_of};
 
 use hp_pictures::{BlockPicture, RowPicture};
 
+/// The characters that have room for what was asked, and for what was answered.
+pub(crate) const ASKED: u32 = 29;
+
+pub(crate) const ANSWER: u32 = 25;
+
 /// What the first row has: how many blocks, and of the first of them how many characters, and how
-/// many of these are frames.
+/// many of these are frames; and how wide a cell is.
 #[derive(Clone, Copy)]
 pub(crate) struct Sheet {
-    pub(crate) blocks: usize,
+    pub(crate) blocks: u32,
     pub(crate) cells: u32,
     pub(crate) frames: u32,
+    pub(crate) cell: u8,
 }
 
 /// A count of at most 32 bits.
@@ -52,49 +58,125 @@ fn frames_of(cells: &str) -> usize
 }
 
 impl Sheet {
-    /// What the first row has.
+    /// What the first row has, for cells of this width.
     #[tactic(auto, unfolding(crate::specs::Sheets::sheet_of))]
-    pub(crate) fn of(rows: &[RowPicture]) -> Sheet
-        ensures { result ≡ sheet_of rows.now }
+    pub(crate) fn of(rows: &[RowPicture], cell: u8) -> Sheet
+        ensures { result ≡ sheet_of rows.now cell }
     {
         let blocks = first_blocks(rows);
         let cells = first_cells(blocks);
         Sheet {
-            blocks: blocks.len(),
+            blocks: bounded(blocks.len()),
             cells: bounded(cells.len()),
             frames: bounded(frames_of(cells)),
+            cell,
         }
     }
 
-    /// How far a block stands right of the first.
-    fn shift(&self, block: usize) -> u128
-        ensures is { result ≡ block * (48 + 8 * self.now.cells) }
-        ensures low { result < 2 ^ 100 }
+    /// How wide the cells of a block are.
+    pub(crate) fn cells_width(&self) -> u128
+        ensures is { result ≡ cells_width self.now }
+        ensures low { result < 2 ^ 40 }
     {
-        block as u128 * (48 + 8 * self.cells as u128)
+        self.cells as u128 * self.cell as u128
+    }
+
+    /// Whether there are lines between cells: these are wide enough for them.
+    pub(crate) fn has_grid(&self) -> bool
+        ensures { result ≡ has_grid self.now }
+    {
+        self.cell >= 4
+    }
+
+    /// How wide a block is: its head, and its cells.
+    fn block_width(&self) -> u128
+        ensures is { result ≡ block_width self.now }
+        ensures low { result < 2 ^ 41 }
+        ensures some { 0 < result }
+    {
+        48 + self.cells_width()
+    }
+
+    /// How wide so many blocks are, side by side.
+    fn blocks_width(&self, count: u128) -> u128
+        requires { count < 2 ^ 64 }
+        ensures is { result ≡ count * block_width self.now }
+        ensures low { result < 2 ^ 105 }
+    {
+        let width = self.block_width();
+        let all = count * width;
+        all
+    }
+
+    /// How many blocks stand side by side: as many as have room in a picture of 1,600, and at least one.
+    fn per_strip(&self) -> u128
+        ensures is { result ≡ per_strip self.now }
+        ensures low { result ≤ 1264 }
+        ensures some { 0 < result }
+    {
+        let width = self.block_width();
+        1264u128.saturating_sub(width) / width + 1
+    }
+
+    /// How many strips of blocks a row has, one below another.
+    fn strips(&self) -> u128
+        ensures is { result ≡ strips self.now }
+        ensures low { result ≤ 2 ^ 32 }
+        ensures some { 0 < result }
+    {
+        let per_strip = self.per_strip();
+        (self.blocks as u128).saturating_sub(1) / per_strip + 1
+    }
+
+    /// In which strip of a row a block stands.
+    fn strip_of(&self, block: usize) -> u128
+        ensures is { result ≡ strip_of self.now block }
+        ensures low { result < 2 ^ 64 }
+    {
+        let per_strip = self.per_strip();
+        block as u128 / per_strip
+    }
+
+    /// How many blocks stand before a block in its strip.
+    fn place_of(&self, block: usize) -> u128
+        ensures is { result ≡ place_of self.now block }
+        ensures low { result < 1264 }
+    {
+        let per_strip = self.per_strip();
+        block as u128 % per_strip
+    }
+
+    /// How high the blocks of a row are, with a gap below where they are folded.
+    fn blocks_height(&self) -> u128
+        ensures is { result ≡ blocks_height self.now }
+        ensures low { result < 2 ^ 38 }
+    {
+        let strips = self.strips();
+        if strips == 1 { 14 } else { 14 * strips + 6 }
     }
 
     /// Where the head of a block begins.
     pub(crate) fn head_at(&self, block: usize) -> u128
         ensures is { result ≡ head_at self.now block }
-        ensures low { result < 2 ^ 101 }
+        ensures low { result < 2 ^ 106 }
     {
-        336 + self.shift(block)
+        336 + self.blocks_width(self.place_of(block))
     }
 
     /// Where the cells of a block begin.
     pub(crate) fn cells_at(&self, block: usize) -> u128
         ensures is { result ≡ cells_at self.now block }
-        ensures low { result < 2 ^ 101 }
+        ensures low { result < 2 ^ 107 }
     {
-        384 + self.shift(block)
+        self.head_at(block) + 48
     }
 
-    /// How wide the cells of a block are.
-    pub(crate) fn cells_width(&self) -> u128
-        ensures { result ≡ cells_width self.now }
+    /// Where the strip of a block stands below the first of its row.
+    pub(crate) fn strip_top(&self, block: usize) -> u128
+        ensures is { result ≡ strip_top self.now block }
+        ensures low { result < 2 ^ 70 }
     {
-        8 * self.cells as u128
+        14 * self.strip_of(block)
     }
 
     /// The number of the first frame of a block.
@@ -108,8 +190,67 @@ impl Sheet {
     pub(crate) fn width(&self) -> u128
         ensures { result ≡ width_of self.now }
     {
-        self.head_at(self.blocks).max(820)
+        let blocks = (self.blocks as u128).min(self.per_strip());
+        let end = 336 + self.blocks_width(blocks);
+        end.max(820)
     }
+
+    /// Where the number of a block stands, below a legend of so many entries.
+    pub(crate) fn number_at(&self, entries: usize, block: usize) -> u128
+        ensures is { result ≡ number_at self.now entries block }
+        ensures low { result < 2 ^ 91 }
+    {
+        numbers_at(entries) + 24 * self.strip_of(block)
+    }
+
+    /// Where the rows begin, below a legend of so many entries.
+    pub(crate) fn rows_at(&self, entries: usize) -> u128
+        ensures is { result ≡ rows_at self.now entries }
+        ensures low { result < 2 ^ 91 }
+    {
+        numbers_at(entries) + 24 * self.strips() - 6
+    }
+
+    /// How high a row is.
+    pub(crate) fn row_height(&self, row: &RowPicture) -> u128
+        ensures is { result ≡ row_height self.now row.now }
+        ensures low { result < 2 ^ 40 }
+    {
+        if row.blocks().is_empty() {
+            return 14;
+        }
+        let texts = lines_above(ASKED, row.asked()) + lines_above(ANSWER, row.answer());
+        texts + self.blocks_height()
+    }
+
+    /// How high rows are together.
+    fn rows_height(&self, rows: &[RowPicture]) -> u128
+        ensures is { result ≡ rows_height self.now rows.now }
+        ensures low { result < 2 ^ 105 }
+    {
+        let mut height = 0u128;
+        for row in rows {
+            height += self.row_height(row);
+        }
+        height
+    }
+
+    /// The height of a picture with so many entries in its legend; below the rows there is room for
+    /// one more line.
+    pub(crate) fn height(&self, entries: usize, rows: &[RowPicture]) -> u128
+        ensures { result ≡ height_of self.now entries rows.now }
+    {
+        self.rows_at(entries) + self.rows_height(rows) + 14
+    }
+}
+
+/// How much lower what comes after a text stands than the text, where it has room for so many
+/// characters before what comes next: a longer one has a line of its own.
+pub(crate) fn lines_above(room: u32, text: &str) -> u128
+    ensures is { result ≡ lines_above room text.now }
+    ensures low { result ≤ 14 }
+{
+    if text.len() > room as usize { 14 } else { 0 }
 }
 
 /// Where an entry of the legend stands across, by its place.
@@ -134,27 +275,4 @@ pub(crate) fn numbers_at(entries: usize) -> u128
     ensures low { result < 2 ^ 90 }
 {
     28 + 16 * ((entries as u128 + 4) / 5)
-}
-
-/// Where the rows begin, below a legend of so many entries.
-pub(crate) fn rows_at(entries: usize) -> u128
-    ensures is { result ≡ rows_at entries }
-    ensures low { result < 2 ^ 91 }
-{
-    numbers_at(entries) + 18
-}
-
-/// Where a row stands below the first, by its number, or the end of so many rows.
-pub(crate) fn row_top(number: usize) -> u128
-    ensures is { result ≡ row_top number }
-    ensures low { result < 2 ^ 100 }
-{
-    14 * number as u128
-}
-
-/// The height of a picture with so many entries in its legend, and room for so many rows.
-pub(crate) fn height_of(entries: usize, rows: usize) -> u128
-    ensures { result ≡ height_of entries rows }
-{
-    rows_at(entries) + row_top(rows)
 }

@@ -11,7 +11,7 @@ use Rattle.hp_trace.specs.declared.view.View.{View}
 abbrev pub room_in : (width : ℕ) → ℕ
 room_in width = max (width - 55) 1
 
--- the paper of a view, for rows with all memory blocks
+-- what a view says of how rows are written, for rows with all memory blocks
 abbrev pub paper_of : View → Paper
 paper_of v = record { room = room_in v.width; orders = v.orders; is_wide = false }
 

@@ -14,8 +14,8 @@ use Rattle.hp_trace.specs.declared.rows.Form.{Form}
 use Rattle.hp_trace.specs.declared.rows.Form.TheVariants.{Kept, Unseen, Written}
 use Rattle.hp_trace.specs.declared.view.View.{View}
 
--- what becomes of rows; the text so far, the memory blocks as its last row shows them, and the paper; and
--- the rows that are kept
+-- what becomes of rows; the text so far, the memory blocks as its last row shows them, and how rows are
+-- written; and the rows that are kept
 pub record RowsValue : Type 0 where
   pub form : Form
   pub text : List ℕ

@@ -1,5 +1,5 @@
 //! Scenarios that are checked, and the report on each.
-use hp_call_lines::call_lines;
+use hp_call_lines::{call_lines, has_comment, is_blank, nests_deeper, texts_at};
 use hp_check::{Key, check, fault_count, write_report};
 use std::alloc::{AllocError, Global};
 use std::test::Fail;
@@ -46,7 +46,7 @@ const CHECKED: &[Checked] = &[
          calls 3 (line 4): `x`: its first word is no number of a processor\n\
          calls 4 (line 5): `0`: a verb is missing\ncalls 5 (line 5): `0 offline 1`: its second \
          word is no verb; perhaps C plan TURNS off BLOCK, or C echo offline memoryN/state\n\
-         calls 6 (line 5): a text with control characters: its second word is no verb\n\
+         calls 6 (line 5): `0 se\\nal`: its second word is no verb\n\
          faults: 6, warnings: 0\n",
     ),
     (
@@ -81,16 +81,96 @@ const CHECKED: &[Checked] = &[
          \"x\\\\\", \"y [,\\\"\",\n7, -8], \"layout\": \"calls\"}",
         "layout: no object\ncalls 2 (line 2): no text\ncalls 5 (line 5): no text\n\
          calls 6 (line 5): no text\n\
-         calls 3 (line 4): `x\\`: its first word is no number of a processor\n\
-         calls 4 (line 4): `y [,\"`: its first word is no number of a processor\n\
+         calls 3 (line 4): `x\\\\`: its first word is no number of a processor\n\
+         calls 4 (line 4): `y [,\\\"`: its first word is no number of a processor\n\
          faults: 6, warnings: 0\n",
     ),
 ];
 
+/// Texts that are no JSON, for a reason that is likely to be seen.
+const HINTED: &[Checked] = &[
+    (
+        "",
+        "line 1, column 0: not JSON: there is no text\nfaults: 1, warnings: 0\n",
+    ),
+    (
+        " \r\n",
+        "line 2, column 0: not JSON: there is no text\nfaults: 1, warnings: 0\n",
+    ),
+    (
+        "\u{feff}[]",
+        "line 1, column 1: not JSON: it begins with a byte order mark, which JSON has not\n\
+         faults: 1, warnings: 0\n",
+    ),
+    (
+        "[ // x\n]",
+        "line 1, column 3: not JSON: it has a comment, and JSON has none\nfaults: 1, warnings: 0\n",
+    ),
+    (
+        "[\"//\" 1]",
+        "line 1, column 7: not JSON\nfaults: 1, warnings: 0\n",
+    ),
+];
+
+/// Lines with a word at fault.
+const SLIPPED: Checked = (
+    "{\"layout\":{\"order\":1,\"pageblocks\":1,\"blocks\":2,\"cpus\":2,\"batch\":1,\"high\":1,\
+         \"owners\":2,\"pages\":2,\"words\":1,\"history\":40,\"boot\":[\"normal\",\"movable\"]},\n\
+     \"calls\":[\" 0 seal\",\"0 seal \",\"00 seal\",\"0 Seal\",\"0 map Db 0\",\n\
+     \"0 map aaaaaaaaaabbbbbbbbbbccccccccccddd 0\",\"0 write db 0 4294967296 1\",\n\
+     \"0 commit 18446744073709551616\",\"0 plan 5 off 01\",\"0 map db\",\n\
+     \"0 walk aaaaaaaaaabbbbbbbbbbccccccccccddddddddddeeeeeeeeeeffffffffff\",\n\
+     \"0 \\u001b[31m\\nwalk\"]}",
+    "calls 1 (line 2): ` 0 seal`: it begins with a space\n\
+     calls 2 (line 2): `0 seal `: it ends with a space\n\
+     calls 3 (line 2): `00 seal`: `00` has a zero in front; its first word is no number of a processor\n\
+     calls 4 (line 2): `0 Seal`: `Seal` has capital letters; its second word is no verb\n\
+     calls 5 (line 2): `0 map Db 0`: `Db` has capital letters; wanted: C map NAME PAGE\n\
+     calls 6 (line 3): `0 map aaaaaaaaaabbbbbbbbbbccccccccccddd 0`: \
+     `aaaaaaaaaabbbbbbbbbbccccccccccddd` has more than 32 letters; wanted: C map NAME PAGE\n\
+     calls 7 (line 3): `0 write db 0 4294967296 1`: `4294967296` is above 4294967295; \
+     wanted: C write NAME PAGE INDEX VALUE\n\
+     calls 8 (line 4): `0 commit 18446744073709551616`: `18446744073709551616` is above \
+     18446744073709551615; wanted: C commit OP\n\
+     calls 9 (line 4): `0 plan 5 off 01`: `01` has a zero in front; wanted: C plan TURNS ITEM .., \
+     where an ITEM is off BLOCK, normal BLOCK or movable BLOCK\n\
+     calls 10 (line 4): `0 map db`: wanted: C map NAME PAGE\n\
+     calls 11 (line 5): `0 walk aaaaaaaaaabbbbbbbbbbccccccccccddddddddddeeeeeeeeeefff..`: its second \
+     word is no verb\n\
+     calls 12 (line 6): `0 \\u001b[31m\\nwalk`: its second word is no verb\nfaults: 12, warnings: 0\n",
+);
+
+/// Lines of a script after the first, and the report on them.
+const SCRIPTED: Checked = (
+    "{\"layout\":{\"order\":1,\"pageblocks\":1,\"blocks\":2,\"cpus\":2,\"batch\":1,\"high\":1,\
+     \"owners\":2,\"pages\":2,\"words\":1,\"history\":40,\"boot\":[\"normal\",\"movable\"]},\n\
+     \"calls\":[\"0 map db 0\",\"0 begin off 1\",\"0 commit 0\",\"1 cat memory0/state\",\"1 seal\",\n\
+     \"2 drain 0\",\"0 echo x memory1/state\",\"0 commit 9\"]}",
+    "calls 4 (line 2): warning: not for a script: cat makes no call\n\
+     calls 5 (line 2): warning: not for a script: seal makes no call\n\
+     calls 6 (line 3): warning: not for a script: its processor is not in the layout\n\
+     calls 7 (line 3): warning: not for a script: echo: fault BadText\n\
+     calls 8 (line 3): warning: no line before begins operation 9\nfaults: 0, warnings: 5\n",
+);
+
+/// Keys that stand twice.
+const REPEATED: Checked = (
+    "{\"layout\":{\"order\":2,\"order\":1,\"pageblocks\":1,\"blocks\":2,\"cpus\":2,\"batch\":1,\"high\":1,\
+         \"owners\":2,\"pages\":2,\"words\":1,\"history\":40,\"boot\":[\"normal\",\"movable\"]},\n\
+     \"calls\":[\"order\"],\"calls\":[\"0 drain 0\"]}",
+    "scenario: warning: `calls` stands more than once, and the last counts\n\
+     layout: warning: `order` stands more than once, and the last counts\nfaults: 0, warnings: 2\n",
+);
+
 /// The report on a text.
 fn report(alloc: Global, text: &str) -> Result<String, AllocError> {
+    report_after(alloc, u64::MAX, text)
+}
+
+/// The report on a text, of whose lines so many are the setup.
+fn report_after(alloc: Global, setup: u64, text: &str) -> Result<String, AllocError> {
     let mut out = String::new(alloc);
-    let found = check(alloc, text.as_bytes())?;
+    let found = check(alloc, text.as_bytes(), setup)?;
     write_report(&mut out, alloc, text.as_bytes(), &found)?;
     Ok(out)
 }
@@ -108,6 +188,59 @@ fn first_other(alloc: Global, rows: &[Checked]) -> Result<Option<usize>, AllocEr
 #[test]
 fn each_text_has_its_report(rt: HostRuntime) -> Result<(), Fail> {
     assert!(rt; first_other(rt.alloc(), CHECKED)?.is_none());
+    assert!(rt; first_other(rt.alloc(), HINTED)?.is_none());
+    assert!(rt; first_other(rt.alloc(), &[SLIPPED, REPEATED])?.is_none());
+    Ok(())
+}
+
+/// Whether the lines of scripts have their report.
+fn are_scripts_checked(alloc: Global) -> Result<bool, AllocError> {
+    let (text, expected) = SCRIPTED;
+    let after_one = report_after(alloc, 1, text)?;
+    Ok(after_one.as_str() == expected)
+}
+
+#[test]
+fn scripts_have_their_report(rt: HostRuntime) -> Result<(), Fail> {
+    assert!(rt; are_scripts_checked(rt.alloc())?);
+    Ok(())
+}
+
+/// So many lists in one another.
+fn nested(alloc: Global, count: usize) -> Result<String, AllocError> {
+    "[".repeat(alloc, count)
+}
+
+/// Whether the depth of lists in one another is said where the reader does not take it.
+fn is_depth_said(alloc: Global) -> Result<bool, AllocError> {
+    let deep = report(alloc, nested(alloc, 128)?.as_str())?;
+    let flat = report(alloc, nested(alloc, 127)?.as_str())?;
+    Ok(
+        deep.as_str()
+            == "line 1, column 128: not JSON: more than 127 objects and lists in one another\n\
+                faults: 1, warnings: 0\n"
+            && flat.as_str() == "line 1, column 127: not JSON\nfaults: 1, warnings: 0\n",
+    )
+}
+
+#[test]
+fn depth_is_said(rt: HostRuntime) -> Result<(), Fail> {
+    assert!(rt; is_depth_said(rt.alloc())?);
+    Ok(())
+}
+
+/// Whether what a walk over a text sees is so.
+fn is_seen() -> bool {
+    is_blank(b" \t\r\n")
+        && has_comment(b"{} # x")
+        && nests_deeper(b"[[], {\"[\": [1]}]", 2)
+        && !nests_deeper(b"[[], {\"[\": [1]}]", 3)
+        && texts_at(b"{\"a\": \"a\", \"b\": [\"a\"]}", 1, b"\"a\"") == 2
+}
+
+#[test]
+fn texts_are_seen(rt: HostRuntime) -> Result<(), Fail> {
+    assert!(rt; is_seen());
     Ok(())
 }
 
@@ -115,8 +248,8 @@ fn each_text_has_its_report(rt: HostRuntime) -> Result<(), Fail> {
 fn are_counted(alloc: Global) -> Result<bool, AllocError> {
     let (faulty, _report) = CHECKED[5];
     let (whole, _report) = CHECKED[7];
-    let faults = check(alloc, faulty.as_bytes())?;
-    let warnings = check(alloc, whole.as_bytes())?;
+    let faults = check(alloc, faulty.as_bytes(), u64::MAX)?;
+    let warnings = check(alloc, whole.as_bytes(), u64::MAX)?;
     Ok(
         fault_count(&faults) == 6
             && fault_count(&warnings) == 0

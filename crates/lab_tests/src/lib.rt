@@ -15,3 +15,5 @@ mod explorations;
 mod pictures;
 #[cfg(test)]
 mod refusals;
+#[cfg(test)]
+mod searches;

@@ -21,9 +21,10 @@ const PICTURE: &str =
      memory</title><style>text{white-space:pre}</style><pattern id='isolated' width='4' \
      height='4' patternUnits='userSpaceOnUse'><rect width='4' height='4' fill='#eef5ee'/><path \
      d='M-1 1L1 -1M0 4L4 0M3 5L5 3' stroke='#4f9d69'/></pattern><pattern id='grid' width='8' \
-     height='8' patternUnits='userSpaceOnUse'><path d='M0 0V8M8 0V8' \
-     stroke='#ffffff'/></pattern><rect width='100%' height='100%' fill='#ffffff'/>\n\
-     <rect x='8' y='8' width='12' height='12' fill='#b5dcb0'/><text x='26' y='18'>free</text>\n\
+     height='14' patternUnits='userSpaceOnUse'><path d='M0 0V14M8 0V14' \
+     stroke='#ffffff'/></pattern><defs><rect id='lines' width='72' height='14' \
+     fill='url(#grid)'/></defs><rect width='100%' height='100%' fill='#ffffff'/>\n\
+     <rect x='8' y='8' width='12' height='12' fill='#7fbf7b'/><text x='26' y='18'>free</text>\n\
      <rect x='168' y='8' width='12' height='12' fill='url(#isolated)'/><text x='186' y='18'>free \
      and isolated</text>\n\
      <rect x='328' y='8' width='12' height='12' fill='#d4d4d8'/><text x='346' \
@@ -38,40 +39,38 @@ const PICTURE: &str =
      font-size='8' fill='#ffffff'>a</text><text x='186' y='34'>page of db</text>\n\
      <rect x='328' y='25' width='12' height='10' rx='3' fill='none' stroke='#14532d'/><text \
      x='346' y='34'>free block, its order</text>\n\
-     <rect x='488' y='29' width='12' height='2' fill='#0072b2'/><text x='506' y='34'>movable \
+     <rect x='488' y='29' width='12' height='2' fill='#a78bfa'/><text x='506' y='34'>movable \
      pageblock</text>\n\
-     <rect x='648' y='29' width='12' height='2' fill='#d55e00'/><text x='666' y='34'>unmovable \
+     <rect x='648' y='29' width='12' height='2' fill='#4c1d95'/><text x='666' y='34'>unmovable \
      pageblock</text>\n\
      <g transform='translate(0 78)'><text x='8' y='10'>   0 boot</text><text x='188' y='10'>1: \
      done</text><text x='336' y='10'> 0:N</text><rect x='384' y='0' width='8' height='12' \
      fill='#0072b2'/><text x='386' y='9' font-size='8' fill='#ffffff'>a</text><rect x='392' y='0' \
-     width='24' height='12' fill='#b5dcb0'/><rect x='424' y='0' width='16' height='12' \
+     width='24' height='12' fill='#7fbf7b'/><rect x='424' y='0' width='16' height='12' \
      fill='#3d3d3d'/><text x='426' y='9' font-size='8' fill='#ffffff'>K</text><rect x='440' y='0' \
-     width='16' height='12' fill='#b5dcb0'/><rect x='384' y='12' width='32' height='2' \
-     fill='#0072b2'/><rect x='424' y='12' width='32' height='2' fill='#d55e00'/><rect x='393' \
-     y='1' width='6' height='10' rx='3' fill='none' stroke='#14532d'/><rect x='401' y='1' \
-     width='14' height='10' rx='3' fill='none' stroke='#14532d'/><text x='404' y='9' \
-     font-size='8' fill='#052e16' stroke='#ffffff' stroke-width='2' \
-     paint-order='stroke'>1</text><rect x='441' y='1' width='14' height='10' rx='3' fill='none' \
-     stroke='#14532d'/><text x='444' y='9' font-size='8' fill='#052e16' stroke='#ffffff' \
-     stroke-width='2' paint-order='stroke'>1</text><text x='456' y='10' textLength='42' \
-     lengthAdjust='spacingAndGlyphs'> 1:M&gt;off</text><rect x='504' y='0' width='8' height='12' \
-     fill='url(#isolated)'/><rect x='512' y='0' width='8' height='12' fill='#fff4cc'/><text \
-     x='514' y='9' font-size='8' fill='#000000'>0</text><rect x='520' y='0' width='16' \
-     height='12' fill='url(#isolated)'/><rect x='544' y='0' width='16' height='12' \
+     width='16' height='12' fill='#7fbf7b'/><rect x='384' y='12' width='32' height='2' \
+     fill='#a78bfa'/><rect x='424' y='12' width='32' height='2' fill='#4c1d95'/><use \
+     href='#lines' x='384' y='0'/><rect x='393' y='1' width='6' height='10' rx='3' fill='none' \
+     stroke='#14532d'/><rect x='401' y='1' width='14' height='10' rx='3' fill='none' \
+     stroke='#14532d'/><text x='404' y='9' font-size='8' fill='#052e16' stroke='#ffffff' \
+     stroke-width='2' paint-order='stroke'>1</text><rect x='441' y='1' width='14' height='10' \
+     rx='3' fill='none' stroke='#14532d'/><text x='444' y='9' font-size='8' fill='#052e16' \
+     stroke='#ffffff' stroke-width='2' paint-order='stroke'>1</text><text x='456' y='10' \
+     textLength='42' lengthAdjust='spacingAndGlyphs'> 1:M&gt;off</text><rect x='504' y='0' \
+     width='8' height='12' fill='url(#isolated)'/><rect x='512' y='0' width='8' height='12' \
+     fill='#fff4cc'/><text x='514' y='9' font-size='8' fill='#000000'>0</text><rect x='520' y='0' \
+     width='16' height='12' fill='url(#isolated)'/><rect x='544' y='0' width='16' height='12' \
      fill='#d4d4d8'/><rect x='560' y='0' width='8' height='12' fill='#f4f4f6'/><rect x='568' \
      y='0' width='8' height='12' fill='#d4d4d8'/><rect x='504' y='12' width='32' height='2' \
-     fill='#0072b2'/><rect x='505' y='1' width='6' height='10' rx='3' fill='none' \
-     stroke='#14532d'/><rect x='521' y='1' width='14' height='10' rx='3' fill='none' \
-     stroke='#14532d'/><text x='524' y='9' font-size='8' fill='#052e16' stroke='#ffffff' \
-     stroke-width='2' paint-order='stroke'>1</text>\n\
-     <text x='8' y='24'>&lt;&amp;&gt;&quot;?</text>\n\
+     fill='#a78bfa'/><use href='#lines' x='504' y='0'/><rect x='505' y='1' width='6' height='10' \
+     rx='3' fill='none' stroke='#14532d'/><rect x='521' y='1' width='14' height='10' rx='3' \
+     fill='none' stroke='#14532d'/><text x='524' y='9' font-size='8' fill='#052e16' \
+     stroke='#ffffff' stroke-width='2' paint-order='stroke'>1</text>\n\
+     <text x='188' y='24'>&lt;&amp;&gt;&quot;?</text>\n\
      \n\
      </g>\n\
-     <text x='384' y='60'>block 0</text><text x='384' y='72'>frame 0</text><rect x='384' y='78' \
-     width='72' height='42' fill='url(#grid)'/>\n\
-     <text x='504' y='60'>block 1</text><text x='504' y='72'>frame 8</text><rect x='504' y='78' \
-     width='72' height='42' fill='url(#grid)'/>\n\
+     <text x='384' y='60'>block 0</text><text x='384' y='72'>frame 0</text>\n\
+     <text x='504' y='60'>block 1</text><text x='504' y='72'>frame 8</text>\n\
      </svg>\n";
 
 /// A text.
@@ -130,7 +129,7 @@ fn names(alloc: Global) -> Result<IndexSet<Text>, AllocError> {
 fn picture(alloc: Global) -> Result<String, AllocError> {
     let names = names(alloc)?;
     let rows = rows(alloc)?;
-    picture_of(alloc, &names, &rows)
+    picture_of(alloc, &names, 8, &rows)
 }
 
 /// Whether the picture of those rows is this one.
@@ -155,6 +154,10 @@ const PLAIN: &[u8] =
 const BRACKETS: &[u8] =
     br#"{"layout":{"order":2,"pageblocks":1,"blocks":3,"cpus":1,"batch":2,"high":2,"owners":1,"pages":4,"words":1,"history":9,"boot":["normal","movable","offline"]},"calls":["0 echo 0:N[....]][\t1:M[aa] memory1/state"]}"#;
 
+/// Another, with what a terminal obeys, a line end and brackets.
+const HOSTILE: &[u8] =
+    br#"{"layout":{"order":2,"pageblocks":1,"blocks":3,"cpus":1,"batch":2,"high":2,"owners":1,"pages":4,"words":1,"history":9,"boot":["normal","movable","offline"]},"calls":["0 echo \u001b[31m\n\u009b]0:N[....] memory1/state"]}"#;
+
 /// All lines, in rows that may take any width.
 const ALL: View = View {
     from: 1,
@@ -167,7 +170,7 @@ const ALL: View = View {
 /// The picture of a scenario.
 fn scenario_picture(alloc: Global, scenario: &[u8]) -> Option<String> {
     let rows = trace_rows(alloc, scenario, ALL).ok()?;
-    picture_of(alloc, &IndexSet::new(alloc), &rows).ok()
+    picture_of(alloc, &IndexSet::new(alloc), 8, &rows).ok()
 }
 
 /// How many rectangles a picture has.
@@ -181,5 +184,26 @@ fn brackets_are_no_cells(rt: HostRuntime) -> Result<(), Fail> {
     let plain = boxes(rt.alloc(), PLAIN);
     assert!(rt; plain.is_some());
     assert!(rt; boxes(rt.alloc(), BRACKETS) == plain);
+    Ok(())
+}
+
+/// Whether a text has no control character but line ends.
+fn is_harmless(text: &str) -> bool {
+    text.chars().all(|c| c == '\n' || !c.is_control())
+}
+
+/// Whether the picture of a scenario has no control character but line ends.
+fn is_drawn_harmless(alloc: Global, scenario: &[u8]) -> bool {
+    match scenario_picture(alloc, scenario) {
+        Some(picture) => is_harmless(picture.as_str()),
+        None => false,
+    }
+}
+
+#[test]
+fn a_terminal_obeys_nothing(rt: HostRuntime) -> Result<(), Fail> {
+    assert!(rt; is_drawn_harmless(rt.alloc(), HOSTILE));
+    let plain = boxes(rt.alloc(), PLAIN);
+    assert!(rt; boxes(rt.alloc(), HOSTILE) == plain);
     Ok(())
 }

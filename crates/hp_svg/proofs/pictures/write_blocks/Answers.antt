@@ -4,5 +4,5 @@ use Rattle.hp_svg.proofs.pictures.write_blocks.Goals as goal
 
 pub loop-block-preserved : goal.loop-block-preserved
 loop-block-preserved c =
-    number_more (block_text c.args.sheet c.args.entries c.args.rows) c.loop-block.block _ _ _
+    number_more (block_text c.args.sheet c.args.entries) c.loop-block.block _ _ _
     c.loop-block.invariant c.in_ok-write_block.ensures

@@ -6,4 +6,4 @@ use Rattle.hp_svg.proofs.pictures.write_blocks.Given as goal
 abbrev pub invariant-loop-block : goal.invariant-loop-block
 invariant-loop-block l =
     string_bytes l.out ≡ string_bytes l.initial.out
-    ++ flat_map (block_text l.sheet l.entries l.rows) (range_with_len 0 l.block)
+    ++ flat_map (block_text l.sheet l.entries) (range_with_len 0 l.block)

@@ -1,9 +1,11 @@
-use Rattle.std.proofs.Common.{◌≡◌, ◌++◌, flat_map, string_bytes, take}
-use Rattle.std.specs.List.{enumerate_from}
-use Rattle.hp_svg.specs.Rows.{row_text}
+use Rattle.std.proofs.Common.{◌≡◌, ◌≤◌, ◌*◌, ◌++◌, drop, string_bytes}
+use Rattle.hp_svg.specs.Rows.{rows_from}
 use Rattle.hp_svg.proofs.rows.write_rows.Given as goal
 
-abbrev pub invariant-loop-number : goal.invariant-loop-number
-invariant-loop-number l =
-    string_bytes l.out ≡ string_bytes l.initial.out
-    ++ flat_map (row_text l.sheet) (enumerate_from 0 (take l.number l.rows))
+-- what is written, and what is left to write
+abbrev pub invariant-loop-row : goal.invariant-loop-row
+invariant-loop-row l = record {
+  text : string_bytes l.out ++ rows_from l.sheet l.top (drop l.row-index l.rows)
+      ≡ string_bytes l.fn.out ++ rows_from l.sheet 0 l.rows;
+  low : l.top ≤ l.row-index * 1099511627776;
+}

@@ -1,0 +1,133 @@
+-- What is seen of a text, one byte further.
+use Rattle.std.proofs.Common.{◌≡◌, ℕ, ◌+◌, ◌-◌, ◌<◌, ◌≤◌, ◌==◌, ◌||◌, Bool, true, false, cond, List, ◌∷◌, length, get_or, drop, sym, ap, ◌∙◌, arith}
+use Rattle.std.specs.Bool.{nat_lt}
+use Rattle.std.proofs.lemmas.List.{drop_all, drop_more}
+use Rattle.hp_call_lines.specs.Lexemes.{begins, mode_after}
+use Rattle.hp_call_lines.specs.Looks.{begins_comment, begun, comment_from, nested_after, deeper_from, texts_from}
+use Rattle.hp_call_lines.specs.declared.lexemes.Mode.{Mode}
+
+-- what is left counts the text here and those after it
+counted_here : (depth : ℕ) (start : List ℕ) (mode : Mode) (nested : ℕ) (input : List ℕ) (i b : ℕ)
+    → i < length input → b ≡ get_or input i 0
+    → texts_from depth start mode nested (drop i input) ≡ begun mode (nested == depth) b (drop i input) start
+    + texts_from depth start (mode_after mode b) (nested_after mode b nested) (drop (i + 1) input)
+unfolding texts_from
+counted_here depth start mode nested input i b lt at =
+    let here : drop i input ≡ b ∷ drop (i + 1) input =
+    drop_more input i 0 lt ∙ ap (λ (x : ℕ). x ∷ drop (i + 1) input) (sym at) in
+    ap (texts_from depth start mode nested) here
+    ∙ ap (λ (bs : List ℕ). begun mode (nested == depth) b bs start
+    + texts_from depth start (mode_after mode b) (nested_after mode b nested) (drop (i + 1) input)) (sym here)
+
+pub counted_more : (depth : ℕ) (start : List ℕ) (mode after : Mode) (nested next : ℕ) (input : List ℕ)
+    (i b count one more all : ℕ)
+    → i < length input → b ≡ get_or input i 0
+    → count + texts_from depth start mode nested (drop i input) ≡ all
+    → one ≡ begun mode (nested == depth) b (drop i input) start → more ≡ count + one
+    → next ≡ nested_after mode b nested → after ≡ mode_after mode b
+    → more + texts_from depth start after next (drop (i + 1) input) ≡ all
+counted_more depth start mode after nested next input i b count one more all lt at so_far is add n m =
+    rw (n, m) (omega (arith, so_far, is, add, counted_here depth start mode nested input i b lt at))
+
+-- no byte is left
+pub counted_all : (depth : ℕ) (start : List ℕ) (mode : Mode) (nested : ℕ) (input : List ℕ)
+    (i count all : ℕ)
+    → length input ≤ i → count + texts_from depth start mode nested (drop i input) ≡ all → count ≡ all
+unfolding texts_from
+counted_all depth start mode nested input i count all end so_far =
+    let none : texts_from depth start mode nested (drop i input) ≡ 0 =
+    ap (texts_from depth start mode nested) (drop_all i input end) in
+    omega (arith, so_far, none)
+
+-- ---- how many are open
+
+either_low : (t : Bool) (x y k : ℕ) → x ≤ k → y ≤ k → cond t x y ≤ k
+either_low true x y k p q = p
+either_low false x y k p q = q
+
+pub nested_more : (mode : Mode) (b nested next i : ℕ) → nested ≤ i → next ≡ nested_after mode b nested
+    → next ≤ i + 1
+nested_more mode b nested next i so_far is =
+    omega (
+      arith,
+      is,
+      either_low (begins mode b)
+          (cond ((b == 123) || (b == 91)) (nested + 1) (cond ((b == 125) || (b == 93)) (nested - 1) nested))
+          nested (i + 1)
+          (either_low ((b == 123) || (b == 91)) (nested + 1)
+          (cond ((b == 125) || (b == 93)) (nested - 1) nested) (i + 1) (omega (arith, so_far))
+          (either_low ((b == 125) || (b == 93)) (nested - 1) nested (i + 1) (omega (arith, so_far))
+          (omega (arith, so_far)))) (omega (arith, so_far)),
+    )
+
+-- ---- a test that stops a walk
+
+either_true : (t x : Bool) → t ≡ true → (t || x) ≡ true
+either_true t x h = ap (λ (b : Bool). b || x) h
+
+either_false : (t x : Bool) → t ≡ false → (t || x) ≡ x
+either_false t x h = ap (λ (b : Bool). b || x) h
+
+next_byte : (input : List ℕ) (i b : ℕ) → i < length input → b ≡ get_or input i 0
+    → drop i input ≡ b ∷ drop (i + 1) input
+next_byte input i b lt at = drop_more input i 0 lt ∙ ap (λ (x : ℕ). x ∷ drop (i + 1) input) (sym at)
+
+comment_here : (mode : Mode) (input : List ℕ) (i b : ℕ) → i < length input → b ≡ get_or input i 0
+    → comment_from mode (drop i input)
+    ≡ (begins_comment mode b || comment_from (mode_after mode b) (drop (i + 1) input))
+unfolding comment_from
+comment_here mode input i b lt at = ap (comment_from mode) (next_byte input i b lt at)
+
+pub comment_found : (mode : Mode) (input : List ℕ) (i b : ℕ) (found all : Bool) → i < length input
+    → b ≡ get_or input i 0 → found ≡ begins_comment mode b → found ≡ true
+    → comment_from mode (drop i input) ≡ all → true ≡ all
+comment_found mode input i b found all lt at is set so_far =
+    sym (either_true (begins_comment mode b) (comment_from (mode_after mode b) (drop (i + 1) input))
+    (sym is ∙ set)) ∙ sym (comment_here mode input i b lt at) ∙ so_far
+
+pub comment_not : (mode after : Mode) (input : List ℕ) (i b : ℕ) (found all : Bool) → i < length input
+    → b ≡ get_or input i 0 → found ≡ begins_comment mode b → found ≡ false → after ≡ mode_after mode b
+    → comment_from mode (drop i input) ≡ all → comment_from after (drop (i + 1) input) ≡ all
+comment_not mode after input i b found all lt at is unset m so_far =
+    ap (λ (k : Mode). comment_from k (drop (i + 1) input)) m
+    ∙ sym (either_false (begins_comment mode b) (comment_from (mode_after mode b) (drop (i + 1) input))
+    (sym is ∙ unset)) ∙ sym (comment_here mode input i b lt at) ∙ so_far
+
+pub comment_none : (mode : Mode) (input : List ℕ) (i : ℕ) (all : Bool) → length input ≤ i
+    → comment_from mode (drop i input) ≡ all → false ≡ all
+unfolding comment_from
+comment_none mode input i all end so_far = sym (ap (comment_from mode) (drop_all i input end)) ∙ so_far
+
+deep_here : (limit : ℕ) (mode : Mode) (nested : ℕ) (input : List ℕ) (i b : ℕ) → i < length input
+    → b ≡ get_or input i 0 → deeper_from limit mode nested (drop i input)
+    ≡ (nat_lt limit nested
+    || deeper_from limit (mode_after mode b) (nested_after mode b nested) (drop (i + 1) input))
+unfolding deeper_from
+deep_here limit mode nested input i b lt at = ap (deeper_from limit mode nested) (next_byte input i b lt at)
+
+pub deep_found : (limit : ℕ) (mode : Mode) (nested : ℕ) (input : List ℕ) (i b : ℕ) (found all : Bool)
+    → i < length input → b ≡ get_or input i 0 → found ≡ nat_lt limit nested → found ≡ true
+    → deeper_from limit mode nested (drop i input) ≡ all → true ≡ all
+deep_found limit mode nested input i b found all lt at is set so_far =
+    sym (either_true (nat_lt limit nested)
+    (deeper_from limit (mode_after mode b) (nested_after mode b nested) (drop (i + 1) input)) (sym is ∙ set))
+    ∙ sym (deep_here limit mode nested input i b lt at) ∙ so_far
+
+pub deep_not : (limit : ℕ) (mode after : Mode) (nested next : ℕ) (input : List ℕ) (i b : ℕ)
+    (found all : Bool)
+    → i < length input → b ≡ get_or input i 0 → found ≡ nat_lt limit nested → found ≡ false
+    → next ≡ nested_after mode b nested → after ≡ mode_after mode b
+    → deeper_from limit mode nested (drop i input) ≡ all
+    → deeper_from limit after next (drop (i + 1) input) ≡ all
+deep_not limit mode after nested next input i b found all lt at is unset n m so_far =
+    ap (λ (k : Mode). deeper_from limit k next (drop (i + 1) input)) m
+    ∙ ap (λ (k : ℕ). deeper_from limit (mode_after mode b) k (drop (i + 1) input)) n
+    ∙ sym (either_false (nat_lt limit nested)
+    (deeper_from limit (mode_after mode b) (nested_after mode b nested) (drop (i + 1) input)) (sym is ∙ unset))
+    ∙ sym (deep_here limit mode nested input i b lt at) ∙ so_far
+
+pub deep_ended : (limit : ℕ) (mode : Mode) (nested : ℕ) (input : List ℕ) (i : ℕ) (all : Bool)
+    → length input ≤ i → deeper_from limit mode nested (drop i input) ≡ all → nat_lt limit nested ≡ all
+unfolding deeper_from
+deep_ended limit mode nested input i all end so_far =
+    sym (ap (deeper_from limit mode nested) (drop_all i input end)) ∙ so_far

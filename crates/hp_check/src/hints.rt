@@ -1,0 +1,45 @@
+//! Why a text is likely to be no JSON.
+ghost use Rattle.std.specs.Prelude.{◌≡◌};
+ghost use Rattle.hp_check.specs.Hints as means;
+
+use crate::finding::Hint;
+use hp_call_lines::{has_comment, is_blank, nests_deeper};
+
+/// The byte order mark of UTF-8.
+const MARK: &[u8] = &[0xEF, 0xBB, 0xBF];
+
+/// The greatest number of objects and lists that the reader of JSON takes in one another.
+const DEEPEST: u64 = 127;
+
+/// Why a text that is no JSON is likely to be none: the first of these that applies.
+pub(crate) fn hint_of(input: &[u8]) -> Hint
+    ensures { result ≡ means.hint_of input.now }
+{
+    if is_blank(input) {
+        return Hint::NoText;
+    }
+    if has_mark(input) {
+        return Hint::ByteOrderMark;
+    }
+    hint_in(input)
+}
+
+/// Whether a text begins with a byte order mark.
+fn has_mark(input: &[u8]) -> bool
+    ensures { result ≡ means.has_mark input.now }
+{
+    input.starts_with(MARK)
+}
+
+/// Why a text is likely to be no JSON, by its brackets and comments.
+fn hint_in(input: &[u8]) -> Hint
+    ensures { result ≡ means.hint_in input.now }
+{
+    if nests_deeper(input, DEEPEST) {
+        Hint::TooDeep
+    } else if has_comment(input) {
+        Hint::Comment
+    } else {
+        Hint::Nothing
+    }
+}

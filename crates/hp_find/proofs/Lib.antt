@@ -1,0 +1,6 @@
+pub mod Below
+pub mod Growing
+pub mod Levels
+pub mod Reaching
+pub mod SearchTurns
+pub mod Turns

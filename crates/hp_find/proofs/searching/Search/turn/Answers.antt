@@ -1,0 +1,38 @@
+-- A turn down, and one up.
+use Rattle.std.proofs.Common.{◌≡◌, ◌<◌, Some, length, ap, subst, arith}
+use Rattle.std.proofs.lemmas.Bool.{iff_false}
+use Rattle.hp_explore.specs.Schedules.{plays, schedule_of}
+use Rattle.hp_find.specs.Searches.{SearchValue}
+use Rattle.hp_find.proofs.SearchTurns.{gone_down, gone_up}
+use Rattle.hp_find.proofs.searching.Search.turn.Goals as goal
+
+pub returns-then-self-processors-clause-ok : goal.returns-then-self-processors-clause-ok
+returns-then-self-processors-clause-ok c =
+    let v = c.args.self.now in
+    let less : v.next < length v.path.setting.scripts =
+    omega (
+      arith,
+      c.if-self-processors.true,
+      c.requires.processors,
+      ap (λ (w : SearchValue). w.next) c.self.view_is,
+    ) in
+    gone_down c.args.wanted.now c.args.budget v c.down.new.self less
+    (subst (λ (w : SearchValue). plays w.path.setting (schedule_of w.path.news) ≡ Some w.path.news)
+    c.self.view_is c.is_played.ensures)
+    c.requires.searching c.in_ok-down.ensures.ok
+
+pub returns-clause-ok : goal.returns-clause-ok
+returns-clause-ok c =
+    let v = c.args.self.now in
+    let all : v.next ≡ length v.path.setting.scripts =
+    omega (
+      arith,
+      c.if-self-processors.false,
+      c.requires.processors,
+      c.requires.searching.next,
+      ap (λ (w : SearchValue). w.next) c.self.view_is,
+    ) in
+    gone_up c.args.wanted.now c.args.budget v c.up.new.self c.up.result all
+    (subst (λ (w : SearchValue). plays w.path.setting (schedule_of w.path.news) ≡ Some w.path.news)
+    c.self.view_is c.is_played.ensures)
+    (iff_false c.in_ok-is_end.ensures c.if-branch.false) c.requires.searching c.up.ensures

@@ -1,0 +1,18 @@
+-- Why nothing was found.
+use Rattle.std.specs.Prelude.{ℕ, List}
+use Rattle.hp_explore.specs.Faults.{FillsHistory, HasMoreThan}
+use Rattle.hp_explore.specs.Schedules.{IsComplete, Setting}
+use Rattle.hp_explore.specs.declared.exploring.ExploreFault.{ExploreFault}
+use Rattle.hp_explore.specs.declared.exploring.ExploreFault.TheVariants.{TooMany, HistoryFull, OutOfMemory}
+use Rattle.hp_find.specs.Reaching.{NeedsChanges}
+use Rattle.hp_find.specs.declared.wanted.Wanted.{Wanted}
+
+-- the schedules with fewer changes than this are searched before all are counted (own rule)
+abbrev pub few_changes : ℕ
+few_changes = 3
+
+-- the cause of a fault: there are too many schedules only where none with few changes ends as is wanted
+abbrev pub IsFindCause : Setting → List Wanted → (limit : ℕ) → ExploreFault → Type 0
+IsFindCause g wanted limit TooMany = NeedsChanges g wanted few_changes × HasMoreThan (IsComplete g) limit
+IsFindCause g wanted limit HistoryFull = FillsHistory g
+IsFindCause g wanted limit OutOfMemory = Unit {0}

@@ -1,0 +1,42 @@
+-- Which schedules end as is wanted, and what is said of the nearest.
+use Rattle.std.specs.Prelude.{ℕ, ◌+◌, ◌≤◌, List, Option, Some, None}
+use Rattle.hp_explore.specs.Orders.{HasCount}
+use Rattle.hp_explore.specs.Outcomes.{OutcomeValue}
+use Rattle.hp_explore.specs.Schedules.{EndsWith, IsComplete, Setting}
+use Rattle.hp_find.specs.Changes.{changes}
+use Rattle.hp_find.specs.Wanted.{Meets}
+use Rattle.hp_find.specs.declared.finding.Found.{Found}
+use Rattle.hp_find.specs.declared.finding.Found.TheVariants.{Nearest, Absent}
+use Rattle.hp_find.specs.declared.wanted.Wanted.{Wanted}
+
+-- a complete schedule of the scripts whose end has each of the wanted lines
+abbrev pub Reaches : Setting → List Wanted → List ℕ → Type 0
+Reaches g wanted s = (x : OutcomeValue) × EndsWith g s x × Meets wanted x
+
+-- each that does has so many changes of processor or more
+abbrev pub NeedsChanges : Setting → List Wanted → (least : ℕ) → Type 0
+NeedsChanges g wanted least = (s : List ℕ) → Reaches g wanted s → least ≤ changes s
+
+-- a schedule does, and none does with fewer changes of processor
+abbrev pub IsNearest : Setting → List Wanted → List ℕ → Type 0
+IsNearest g wanted s = Reaches g wanted s × NeedsChanges g wanted (changes s)
+
+-- none does, and there are so many complete schedules
+abbrev pub IsAbsent : Setting → List Wanted → ℕ → Type 0
+IsAbsent g wanted n = ((s : List ℕ) → Reaches g wanted s → ⊥) × HasCount (IsComplete g) n
+
+-- what was found is so
+abbrev pub IsFound : Setting → List Wanted → Found → Type 0
+IsFound g wanted (Nearest schedule) = IsNearest g wanted schedule.items
+IsFound g wanted (Absent schedules) = IsAbsent g wanted schedules
+
+-- the first that was found from some number of changes on is a nearest one; where there is none,
+-- each has so many changes or more
+abbrev pub IsNearestBelow : Setting → List Wanted → (below : ℕ) → Option (List ℕ) → Type 0
+IsNearestBelow g wanted below None = NeedsChanges g wanted below
+IsNearestBelow g wanted below (Some s) = IsNearest g wanted s
+
+-- one that has at most so many changes; where there is none, each has more
+abbrev pub IsFirstWithin : Setting → List Wanted → (budget : ℕ) → Option (List ℕ) → Type 0
+IsFirstWithin g wanted budget None = NeedsChanges g wanted (budget + 1)
+IsFirstWithin g wanted budget (Some s) = Reaches g wanted s × (changes s ≤ budget)

@@ -1,0 +1,132 @@
+//! The search by rising number of changes.
+ghost use Rattle.std.specs.Prelude.{◌≡◌, ◌<◌, ◌≤◌, ◌^◌, IfErr, IfNone, IfOk, IfSome, length, option_map, sum_by};
+ghost use Rattle.hp_explore.specs.Faults.{IsCallCause};
+ghost use Rattle.hp_explore.specs.Schedules.{setting};
+ghost use Rattle.hp_find.specs.Faults.{IsFindCause};
+ghost use Rattle.hp_find.specs.Ends.{HasNoSuchEnd, IsSuchEnd};
+ghost use Rattle.hp_find.specs.Reaching.{IsFound, IsNearest, IsNearestBelow, NeedsChanges, Reaches};
+
+use crate::changes::changes_of;
+use crate::searching::first_within;
+use crate::wanted::{Wanted, are_met};
+use hp_explore::{Ending, ExploreFault, Script, Watch, explore};
+use hp_machine::Machine;
+use hp_units::Cpu;
+use std::alloc::Global;
+
+/// The schedules with fewer changes than this are searched before all schedules are counted (own rule).
+const FEW: u64 = 3;
+
+/// What a search found.
+#[derive(Drop)]
+pub enum Found {
+    /// A schedule that ends as is wanted, with the fewest changes of processor: the processors in
+    /// the order of their calls.
+    Nearest(Vec<Cpu>),
+    /// None ends so, and there are so many complete schedules.
+    Absent(u128),
+}
+
+/// A complete schedule of the processors' scripts on a machine as it stands whose end has each of
+/// the wanted lines, with the fewest changes of processor; or that there is none, and how many
+/// schedules there are (own rule). Script k is that of processor k. The machine stays as it is. The
+/// watch is told how far the count of all schedules has come.
+///
+/// An error is `HistoryFull` where the layout's history has no room for all calls of a schedule,
+/// `OutOfMemory`, or `TooMany` where no schedule with fewer than three changes ends so and there
+/// are more schedules than the limit.
+pub fn find<W: Watch>(
+    alloc: Global,
+    machine: &Machine,
+    scripts: &[Script],
+    wanted: &[Wanted],
+    limit: u64,
+    watch: &mut W,
+) -> Result<Found, ExploreFault>
+    requires { length scripts.now < 2 ^ 32 }
+    ensures ok { IfOk result (IsFound (setting machine.now scripts.now) wanted.now) }
+    ensures err { IfErr result (IsFindCause (setting machine.now scripts.now) wanted.now limit) }
+{
+    if let Some(schedule) = nearest_below(alloc, machine, scripts, wanted, 0, FEW)? {
+        return Ok(Found::Nearest(schedule));
+    }
+    let ends = explore(alloc, machine, scripts, limit, watch)?;
+    match end_with(&ends, wanted) {
+        Some(end) => {
+            let schedule = nearest_to(alloc, machine, scripts, wanted, end.first.as_slice())?;
+            Ok(Found::Nearest(schedule))
+        }
+        None => Ok(Found::Absent(total_of(&ends))),
+    }
+}
+
+/// A schedule with the fewest changes, where one is known and none has fewer than `FEW`.
+fn nearest_to(
+    alloc: Global,
+    machine: &Machine,
+    scripts: &[Script],
+    wanted: &[Wanted],
+    known: &[Cpu],
+) -> Result<Vec<Cpu>, ExploreFault>
+    requires few { length scripts.now < 2 ^ 32 }
+    requires known { Reaches (setting machine.now scripts.now) wanted.now known.now }
+    requires from { NeedsChanges (setting machine.now scripts.now) wanted.now FEW }
+    ensures ok { IfOk result (λ s. IsNearest (setting machine.now scripts.now) wanted.now s.items) }
+    ensures err { IfErr result (IsCallCause (setting machine.now scripts.now)) }
+{
+    let below = changes_of(known) as u64;
+    match nearest_below(alloc, machine, scripts, wanted, FEW, below)? {
+        Some(schedule) => Ok(schedule),
+        None => Ok(known.iter().copied().collect(alloc)?),
+    }
+}
+
+/// A schedule with the fewest changes, where none has fewer than the first number, and one has
+/// fewer than the second.
+#[tactic(auto, using(crate::proofs::Levels::nearest_found))]
+fn nearest_below(
+    alloc: Global,
+    machine: &Machine,
+    scripts: &[Script],
+    wanted: &[Wanted],
+    from: u64,
+    below: u64,
+) -> Result<Option<Vec<Cpu>>, ExploreFault>
+    requires few { length scripts.now < 2 ^ 32 }
+    requires from { NeedsChanges (setting machine.now scripts.now) wanted.now from }
+    requires order { from ≤ below }
+    ensures ok { IfOk result (λ found. IsNearestBelow (setting machine.now scripts.now) wanted.now below
+        (option_map (λ s. s.items) found)) }
+    ensures err { IfErr result (IsCallCause (setting machine.now scripts.now)) }
+{
+    for budget in from..below {
+        if let Some(schedule) = first_within(alloc, machine, scripts, wanted, budget)? {
+            return Ok(Some(schedule));
+        }
+    }
+    Ok(None)
+}
+
+/// The first end that has each of the lines.
+fn end_with<'a>(ends: &'a [Ending], wanted: &[Wanted]) -> Option<&'a Ending>
+    ensures some { IfSome result (λ end. IsSuchEnd ends.now wanted.now end.now) }
+    ensures none { IfNone result (HasNoSuchEnd ends.now wanted.now) }
+{
+    for index in 0..ends.len() {
+        if are_met(wanted, &ends[index].outcome) {
+            return Some(&ends[index]);
+        }
+    }
+    None
+}
+
+/// The sum of the counts.
+fn total_of(ends: &[Ending]) -> u128
+    ensures { result ≡ sum_by (λ e. e.count) ends.now }
+{
+    let mut total: u128 = 0;
+    for end in ends {
+        total += u128::from(end.count);
+    }
+    total
+}

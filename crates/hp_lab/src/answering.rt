@@ -1,0 +1,132 @@
+//! What is asked of a scenario, answered on the machine after its setup.
+ghost use Rattle.std.specs.Prelude.{◌≡◌, ◌^◌, ◌<◌, IfErr, IfOk, drop, length, string_bytes, take};
+ghost use Rattle.hp_explore.specs.Schedules.{setting};
+ghost use Rattle.hp_lab.specs.Explorations.{HoldsAfter, HoldsIn, IsAnsweredOn, IsAskCause, IsFaultWith, IsUnanswered};
+
+use crate::checks::check_lines;
+use crate::exploring::explored_on;
+use crate::fault::LabFault;
+use crate::finding::{Finding, found_on};
+use crate::scripts::scripts_of;
+use crate::setup::run_lines;
+use hp_explore::{ExploreFault, Script, Watch};
+use hp_find::Wanted;
+use hp_machine::Machine;
+use hp_scenario::{Line, Scenario};
+use hp_units::{Layout, Text};
+use indexmap::IndexSet;
+use std::alloc::Global;
+
+/// What is asked.
+#[derive(Clone, Copy)]
+pub(crate) enum Ask<'a> {
+    /// The ends of all interleavings.
+    Ends,
+    /// An interleaving whose end has each of these lines.
+    Find(&'a [Wanted]),
+}
+
+/// The answer of the scenario that the bytes are. The first `setup` lines are run in order; each
+/// later line goes to the script of its processor.
+pub(crate) fn answer_to<W: Watch>(
+    alloc: Global,
+    input: &[u8],
+    setup: u64,
+    limit: u64,
+    ask: Ask<'_>,
+    watch: &mut W,
+) -> Result<Finding, LabFault>
+    ensures ok { IfOk result (λ f.
+        HoldsIn (IsAnsweredOn ask.entry limit (string_bytes f.text) f.is_found) input.now setup) }
+    ensures err { IfErr result (IsFaultWith (IsAskCause ask.entry limit) input.now setup) }
+{
+    let scenario = Scenario::read(alloc, input)?;
+    let cpus = scenario.layout.cpus();
+    let lines = scenario.lines.as_slice();
+    let before = front_of(lines, setup);
+    let after = rest_of(lines, setup);
+    check_lines(cpus, before.len() as u64, after)?;
+    let scripts = scripts_of(alloc, cpus, after)?;
+    let answer = answer_after(
+        alloc,
+        &scenario.layout,
+        &scenario.names,
+        before,
+        &scripts,
+        limit,
+        ask,
+        watch,
+    )?;
+    Ok(answer)
+}
+
+/// The first lines, as many as there are up to a number.
+fn front_of(lines: &[Line], count: u64) -> &[Line]
+    ensures { result.now ≡ take count lines.now }
+{
+    if count < lines.len() as u64 {
+        &lines[..count as usize]
+    } else {
+        lines
+    }
+}
+
+/// The lines after the first so many.
+fn rest_of(lines: &[Line], count: u64) -> &[Line]
+    ensures { result.now ≡ drop count lines.now }
+{
+    if count < lines.len() as u64 {
+        &lines[count as usize..]
+    } else {
+        &lines[lines.len()..]
+    }
+}
+
+/// The answer of scripts after lines that are run first.
+fn answer_after<W: Watch>(
+    alloc: Global,
+    layout: &Layout,
+    names: &IndexSet<Text>,
+    before: &[Line],
+    scripts: &[Script],
+    limit: u64,
+    ask: Ask<'_>,
+    watch: &mut W,
+) -> Result<Finding, ExploreFault>
+    requires { length scripts.now < 2 ^ 32 }
+    ensures ok { IfOk result (λ f.
+        HoldsAfter (IsAnsweredOn ask.entry limit (string_bytes f.text) f.is_found names.now.keys) layout.now before.now
+        scripts.now) }
+    ensures err { IfErr result (IsUnanswered (IsAskCause ask.entry limit) layout.now before.now scripts.now) }
+{
+    let mut machine = Machine::boot(alloc, layout)?;
+    run_lines(alloc, &mut machine, before)?;
+    answer_on(alloc, names, &machine, scripts, limit, ask, watch)
+}
+
+/// The answer of scripts on a machine.
+fn answer_on<W: Watch>(
+    alloc: Global,
+    names: &IndexSet<Text>,
+    machine: &Machine,
+    scripts: &[Script],
+    limit: u64,
+    ask: Ask<'_>,
+    watch: &mut W,
+) -> Result<Finding, ExploreFault>
+    requires { length scripts.now < 2 ^ 32 }
+    ensures ok { IfOk result (λ f. IsAnsweredOn ask.entry limit (string_bytes f.text) f.is_found names.now.keys
+        (setting machine.now scripts.now)) }
+    ensures err { IfErr result (IsAskCause ask.entry limit (setting machine.now scripts.now)) }
+{
+    match ask {
+        Ask::Ends => {
+            let text = explored_on(alloc, names, machine, scripts, limit, watch)?;
+            Ok(Finding {
+                text,
+                is_found: true,
+            })
+        }
+        Ask::Find(wanted) => found_on(alloc, names, machine, scripts, wanted, limit, watch),
+    }
+}

@@ -1,0 +1,109 @@
+//! A scenario searched for an end.
+ghost use Rattle.std.specs.Prelude.{◌≡◌, ◌++◌, ◌^◌, ◌<◌, IfErr, IfOk, OnOk, length, string_bytes};
+ghost use Rattle.hp_explore.specs.Faults.{IsCallCause};
+ghost use Rattle.hp_explore.specs.Schedules.{setting};
+ghost use Rattle.hp_find.specs.Faults.{IsFindCause};
+ghost use Rattle.hp_lab.specs.Explorations.{IsFindFaultOf, IsFindingOf, IsFoundOn};
+ghost use Rattle.hp_lab.specs.Texts.{absent_text, nearest_text};
+
+use crate::answering::{Ask, answer_to};
+use crate::ends::write_first;
+use crate::fault::LabFault;
+use hp_explore::{ExploreFault, Script, Watch};
+use hp_find::{Found, Wanted, changes_of, find};
+use hp_machine::Machine;
+use hp_units::{Cpu, Text};
+use indexmap::IndexSet;
+use std::alloc::{AllocError, Global};
+
+/// What a search says, and whether it found an interleaving.
+#[derive(Debug, Drop)]
+pub struct Finding {
+    /// The schedule, or that there is none.
+    pub text: String,
+    /// Whether there is one.
+    pub is_found: bool,
+}
+
+/// The text of a search in the scenario that the bytes are, for an interleaving whose end has each
+/// of the wanted lines. The first `setup` lines are run in order; each later line goes to the
+/// script of its processor, as for `explore_text`. Where there is such an interleaving, the text
+/// has one with the fewest changes of processor: how many it has, and its calls. Else it says how
+/// many interleavings there are, at most `limit` (own rule).
+///
+/// The watch is told how many interleavings are counted so far, once those with few changes were
+/// searched.
+///
+/// Errors: those of reading the scenario; NotForScript with the first line after the setup that
+/// cannot stand in a script; TooMany, where no interleaving with fewer than three changes ends so;
+/// HistoryFull; OutOfMemory, which may come in place of any answer.
+pub fn find_text<W: Watch>(
+    alloc: Global,
+    input: &[u8],
+    setup: u64,
+    limit: u64,
+    wanted: &[Wanted],
+    watch: &mut W,
+) -> Result<Finding, LabFault>
+    ensures ok { IfOk result (λ f. IsFindingOf input.now setup wanted.now (string_bytes f.text) f.is_found) }
+    ensures err { IfErr result (IsFindFaultOf input.now setup limit wanted.now) }
+{
+    answer_to(alloc, input, setup, limit, Ask::Find(wanted), watch)
+}
+
+/// The text of a search of scripts on a machine.
+#[tactic(auto, using(crate::proofs::Known::found_cause))]
+pub(crate) fn found_on<W: Watch>(
+    alloc: Global,
+    names: &IndexSet<Text>,
+    machine: &Machine,
+    scripts: &[Script],
+    wanted: &[Wanted],
+    limit: u64,
+    watch: &mut W,
+) -> Result<Finding, ExploreFault>
+    requires { length scripts.now < 2 ^ 32 }
+    ensures ok { IfOk result (λ f. IsFoundOn names.now.keys (setting machine.now scripts.now) wanted.now
+        (string_bytes f.text) f.is_found) }
+    ensures err { IfErr result (IsFindCause (setting machine.now scripts.now) wanted.now limit) }
+{
+    let found = find(alloc, machine, scripts, wanted, limit, watch)?;
+    match &found {
+        Found::Nearest(schedule) => Ok(Finding {
+            text: nearest_text(alloc, names, machine, scripts, schedule.as_slice())?,
+            is_found: true,
+        }),
+        Found::Absent(schedules) => Ok(Finding {
+            text: absent_text(alloc, *schedules)?,
+            is_found: false,
+        }),
+    }
+}
+
+/// How often a schedule changes the processor, and its calls.
+fn nearest_text(
+    alloc: Global,
+    names: &IndexSet<Text>,
+    machine: &Machine,
+    scripts: &[Script],
+    schedule: &[Cpu],
+) -> Result<String, ExploreFault>
+    ensures ok { IfOk result (λ text.
+        string_bytes text ≡ nearest_text names.now.keys (setting machine.now scripts.now) schedule.now) }
+    ensures err { IfErr result (IsCallCause (setting machine.now scripts.now)) }
+{
+    let mut text = String::new(alloc);
+    let changes = changes_of(schedule);
+    writeln!(&mut text, "changes: {changes}\nfirst:")?;
+    write_first(&mut text, alloc, names, machine, scripts, schedule)?;
+    Ok(text)
+}
+
+/// That no schedule ends so, and of how many.
+fn absent_text(alloc: Global, schedules: u128) -> Result<String, AllocError>
+    ensures { IfOk result (λ text. string_bytes text ≡ absent_text schedules) }
+{
+    let mut text = String::new(alloc);
+    writeln!(&mut text, "interleavings: {schedules}\nends so: 0")?;
+    Ok(text)
+}

@@ -1,0 +1,19 @@
+use Rattle.std.proofs.Common.{arith}
+use Rattle.std.proofs.lemmas.Nat.{mul-lt}
+use Rattle.hp_svg.proofs.sheets.Sheet.blocks_width.Goals as goal
+
+pub overflow_mul-all : goal.overflow_mul-all
+overflow_mul-all c =
+    omega (
+      arith,
+      mul-lt c.args.count c.block_width-width.result 18446744073709551616 2199023255552 c.requires
+          c.block_width-width.ensures.low,
+    )
+
+pub returns-clause-low : goal.returns-clause-low
+returns-clause-low c =
+    omega (
+      arith,
+      mul-lt c.args.count c.block_width-width.result 18446744073709551616 2199023255552 c.requires
+          c.block_width-width.ensures.low,
+    )

@@ -1,0 +1,11 @@
+use Rattle.std.proofs.Common.{arith}
+use Rattle.std.proofs.lemmas.Nat.{mod_below}
+use Rattle.hp_svg.proofs.sheets.Sheet.place_of.Goals as goal
+
+pub returns-clause-low : goal.returns-clause-low
+returns-clause-low c =
+    omega (
+      arith,
+      mod_below c.args.block c.per_strip-per_strip.result c.per_strip-per_strip.ensures.some,
+      c.per_strip-per_strip.ensures.low,
+    )

@@ -1,0 +1,60 @@
+//! Searches for an end, and their text.
+use super::explorations::scenario;
+use hp_explore::Silent;
+use hp_find::Wanted;
+use hp_lab::{find_text, wanted_line};
+use std::alloc::{AllocError, Global};
+use std::test::Fail;
+
+/// An offline against a map, where each finds one free frame outside the block.
+const RACE: &str =
+    "0 map db 0;0 write db 0 0 7;0 kalloc 0;0 begin off 1;0 migrate 0;0 commit 0;1 map web 0";
+
+/// Each order of the four calls was played by another program, written by hand.
+const REFUSED: &str =
+    "changes: 1\nfirst:\n\"1 map web 0\",\n\"0 begin off 1\",\n\"0 migrate 5\",\n\"0 commit 5\"\n";
+
+const MOVED_TOO_LATE: &str =
+    "changes: 2\nfirst:\n\"0 begin off 1\",\n\"1 map web 0\",\n\"0 migrate 4\",\n\"0 commit 4\"\n";
+
+const ABSENT: &str = "interleavings: 4\nends so: 0\n";
+
+/// Adds the line of an end that a text is, if it is one.
+fn push_line(alloc: Global, wanted: &mut Vec<Wanted>, text: &str) -> Result<(), AllocError> {
+    match wanted_line(alloc, text) {
+        Ok(Some(line)) => {
+            wanted.push(line)?;
+            Ok(())
+        }
+        Ok(None) => Ok(()),
+        Err(error) => Err(error),
+    }
+}
+
+/// Texts as lines, of which each is one.
+fn wanted_of(alloc: Global, texts: &[&str]) -> Result<Vec<Wanted>, AllocError> {
+    let mut wanted = Vec::new(alloc);
+    for text in texts {
+        push_line(alloc, &mut wanted, text)?;
+    }
+    Ok(wanted)
+}
+
+/// Whether the search for an end with lines has this text.
+fn finds(alloc: Global, texts: &[&str], text: &str, is_found: bool) -> Result<bool, AllocError> {
+    let scenario = scenario(alloc, 40, RACE)?;
+    let wanted = wanted_of(alloc, texts)?;
+    match find_text(alloc, scenario.as_bytes(), 3, 100, &wanted, &mut Silent) {
+        Ok(finding) => Ok(finding.is_found == is_found && finding.text.as_str() == text),
+        Err(_fault) => Ok(false),
+    }
+}
+
+#[test]
+fn the_fewest_changes_are_found(rt: HostRuntime) -> Result<(), Fail> {
+    assert!(rt; finds(rt.alloc(), &["refused NotFree"], REFUSED, true)?);
+    let texts = ["0: refused NoFrame", "block 1 going movable", "1: done"];
+    assert!(rt; finds(rt.alloc(), &texts, MOVED_TOO_LATE, true)?);
+    assert!(rt; finds(rt.alloc(), &["block 1 offline", "1: done"], ABSENT, false)?);
+    Ok(())
+}

@@ -1,0 +1,234 @@
+#!/usr/bin/env python3
+"""Compares what `hotplug_lab explore --find` and `--never` print with every order of the lines,
+each played by `hotplug serial`. `check` at the top runs it after the gate; alone it takes the
+folder of the crates:
+
+    python3 docs/check_find.py [CRATES [SEED [COUNT]]]        without them: crates, 34 and 40
+
+On so many scenarios that are drawn at random, with events of all kinds and plans: an interleaving
+is found where an order has an end with the lines; it is one of those orders, with the fewest
+changes of processor; and where there is none, as many interleavings are told as there are orders.
+`--never` prints the same with the other status, and a text that no end has as a line ends with
+status 2.
+The last line is 'find: N passed, M failed'; the exit status is 0 where nothing failed, else 1.
+"""
+import json
+import random
+import re
+import subprocess
+import sys
+from pathlib import Path
+
+from check_lab import LAYOUT, ROOT, SECONDS, Checks, Programs, end_in_serial
+
+SEED = 34
+COUNT = 40
+MOST_ORDERS = 120
+NO_LINES = ("", "refused", "refused Nonsense", "refused NotFree x", "refused NotFree 01", "word",
+            "opened 3", "block x", "block 1", "block 1 online", "block 1 offline normal", "cpu 0",
+            "0:done", "x: done", "0: 1: done", "done ", "moved 1", "interleavings: 1")
+
+
+class Searches(Programs):
+    """The two programs, where one searches."""
+
+    def find(self, scenario, setup, option, texts):
+        """The exit status and what is printed of a search for an end with lines."""
+        words = [self.lab, "explore", "--setup", str(setup)]
+        words += [word for text in texts for word in (option, text)]
+        ran = subprocess.run(words, input=json.dumps(scenario).encode(), stdout=subprocess.PIPE,
+                             stderr=subprocess.STDOUT, timeout=SECONDS)
+        return ran.returncode, ran.stdout.decode()
+
+
+def driven(items, turns, cpus):
+    """The calls of a plan's driver. Each is sent its serial and its reply."""
+    op, reply = yield f"begin {items}"
+    if not reply.startswith("opened "):
+        return
+    while True:
+        for cpu in range(cpus):
+            _, reply = yield f"drainfor {op} {cpu}"
+            if reply == "refused NoOp":
+                return
+        reply = "moved"
+        while reply.startswith("moved"):
+            if turns == 0:
+                yield f"cancel {op}"
+                return
+            turns -= 1
+            _, reply = yield f"migrate {op}"
+        if reply == "refused NothingToMove":
+            _, reply = yield f"commit {op}"
+        if reply in ("done", "refused NoOp"):
+            return
+
+
+def calls_of(text, cpus):
+    """The calls of a line, without its processor."""
+    words = text.split()
+    if words[0] == "plan":
+        yield from driven(" ".join(words[2:]), int(words[1]), cpus)
+    elif words[0] == "echo":
+        yield from driven(f"off {re.search('[0-9]+', words[2])[0]}", 1024, cpus)
+    else:
+        yield text
+
+
+def next_call(script, cpus, receipts):
+    """What a processor asks for after its receipts, each a call with its serial and reply; None
+    where its script is over."""
+    left = [(serial, reply) for _, serial, reply in receipts]
+    for text in script:
+        calls = calls_of(text, cpus)
+        try:
+            call = next(calls)
+            while left:
+                call = calls.send(left.pop(0))
+        except StopIteration:
+            continue
+        words = call.split()
+        if words[0] in ("drainfor", "migrate", "commit", "cancel") and words[1] == "0":
+            begun = [serial for text, serial, _ in receipts if text.startswith("begin")]
+            words[1] = str(begun[-1] if begun else 0)
+        return " ".join(words)
+    return None
+
+
+class Orders:
+    """Every order of the lines after a setup, each played by `hotplug serial`."""
+
+    def __init__(self, programs, scenario, setup):
+        self.programs, self.layout = programs, scenario["layout"]
+        self.setup, lines = scenario["calls"][:setup], scenario["calls"][setup:]
+        self.scripts = [[line.partition(" ")[2] for line in lines if line.split()[0] == str(cpu)]
+                        for cpu in range(self.layout["cpus"])]
+
+    def receipts(self, calls):
+        """The calls of each processor with their serials and replies."""
+        before = self.programs.serial(self.layout, self.setup).rpartition("state\nblock 0 ")[0]
+        text = self.programs.serial(self.layout, self.setup + calls)
+        lines = text.rpartition("state\nblock 0 ")[0][len(before):].splitlines()
+        receipts = [[] for _ in self.scripts]
+        for call, line in zip(calls, lines, strict=True):
+            cpu, _, asked = call.partition(" ")
+            serial, _, reply = line.partition(": ")
+            receipts[int(cpu)].append((asked, int(serial), reply))
+        return receipts
+
+    def all_from(self, calls, most):
+        """The complete orders that go on from calls, as long as there are no more than so many."""
+        receipts, is_over, orders = self.receipts(calls), True, []
+        for cpu, script in enumerate(self.scripts):
+            call = next_call(script, self.layout["cpus"], receipts[cpu])
+            if call is not None and len(orders) <= most:
+                is_over = False
+                orders += self.all_from(calls + [f"{cpu} {call}"], most)
+        return [calls] if is_over else orders
+
+
+def changes_of(calls):
+    """How often calls go from one processor to another."""
+    cpus = [call.split()[0] for call in calls]
+    return sum(cpu != other for cpu, other in zip(cpus, cpus[1:]))
+
+
+def has_line(end, text):
+    """Whether an end has a line."""
+    answers, blocks = end
+    cpu, colon, reply = text.partition(": ")
+    wanted = reply if colon else text
+    told_to = [answers[int(cpu)]] if colon and int(cpu) < len(answers) else [] if colon else answers
+    return text in blocks or any(answer == wanted or answer.rpartition(" ")[0] == wanted
+                                 and answer.startswith("refused ")
+                                 for replies in told_to for answer in replies)
+
+
+def drawn_call(draw, cpu, cpus):
+    """A call of a processor, or a plan, drawn at random."""
+    owner, page, block = draw.choice(("db", "web")), draw.randrange(2), draw.randrange(1, 3)
+    texts = [f"kalloc {draw.randrange(2)}", f"kfree {draw.randrange(4)}", f"map {owner} {page}",
+             f"map {owner} {page}", f"unmap {owner} {page}", f"read {owner} {page} 0",
+             f"write {owner} {page} 0 {draw.randrange(3)}", f"drain {draw.randrange(cpus)}",
+             f"online {block} movable", f"begin off {block}", f"begin off {block}", "migrate 0",
+             f"drainfor 0 {draw.randrange(cpus)}", "commit 0", "commit 0", "cancel 0",
+             f"undo {draw.randrange(6)}", f"remove {block}",
+             f"plan {draw.randrange(2)} off {block}", f"echo offline memory{block}/state"]
+    return f"{cpu} {draw.choice(texts)}"
+
+
+def drawn_texts(draw, ends):
+    """Lines that an end may have, alone and together."""
+    answers, blocks = draw.choice(ends)
+    lines = list(blocks) + [reply for replies in answers for reply in replies]
+    lines += [f"{cpu}: {reply}" for cpu, replies in enumerate(answers) for reply in replies]
+    lines += [line.rpartition(" ")[0] for line in lines
+              if re.fullmatch("(. )?refused [A-Za-z]+ [0-9]+", line)]
+    some = [[draw.choice(lines)], draw.sample(lines, min(3, len(lines)))]
+    return some + [[text] for text in ("refused NotFree", "0: restored", "block 1 going movable",
+                                       "1: refused NoFrame", "block 2 absent", "refused Twice 1")]
+
+
+def check_search(checks, programs, scenario, setup, orders, texts):
+    where = f"--find {texts} --setup {setup} {json.dumps(scenario)}"
+    found = [calls for calls, end in orders if all(has_line(end, text) for text in texts)]
+    status, text = programs.find(scenario, setup, "--find", texts)
+    turned = programs.find(scenario, setup, "--never", texts)
+    checks.holds(where, turned == (3 - status, text), f"--never says {turned}")
+    if not found:
+        absent = (3, f"interleavings: {len(orders)}\nends so: 0\n")
+        checks.holds(where, (status, text) == absent, f"says {status}, {text!r}")
+        return
+    head, _, quoted = text.partition("\nfirst:\n")
+    calls = json.loads(f"[{quoted}]")
+    fewest = min(map(changes_of, found))
+    checks.holds(where, (status, head) == (0, f"changes: {fewest}"), f"says {status}, {head!r}")
+    checks.holds(where, calls in found and changes_of(calls) == fewest, f"{calls} is none of them")
+
+
+def check_drawn(checks, programs, draw):
+    """Checks searches of a scenario that is drawn; it answers whether it has few enough orders."""
+    cpus = draw.choice((1, 2, 2, 2, 3))
+    layout = dict(LAYOUT, cpus=cpus, history=200)
+    setup = draw.randrange(3)
+    calls = [drawn_call(draw, draw.randrange(cpus), cpus)
+             for _ in range(setup + draw.randrange(2, 6))]
+    scenario = {"layout": layout, "calls": calls}
+    every = Orders(programs, scenario, setup).all_from([], MOST_ORDERS)
+    if len(every) > MOST_ORDERS:
+        return False
+    orders = [(order, end_in_serial(programs, layout, calls[:setup], order)) for order in every]
+    for texts in drawn_texts(draw, [end for _, end in orders]):
+        check_search(checks, programs, scenario, setup, orders, texts)
+    return True
+
+
+def check_no_lines(checks, programs):
+    scenario = {"layout": LAYOUT, "calls": ["0 map db 0"]}
+    for text in NO_LINES:
+        for option in ("--find", "--never"):
+            status, said = programs.find(scenario, 0, option, ["done", text])
+            expected = (2, f"hotplug_lab: no end has the line `{text}`\n")
+            is_so = (status, said) == expected
+            checks.holds(f"{option} {text!r}", is_so, f"says {status}, {said!r}")
+
+
+def main(words):
+    crates, seed, count = (words + [ROOT / "crates", SEED, COUNT][len(words):])
+    checks, draw = Checks(), random.Random(int(seed))
+    try:
+        programs = Searches(Path(crates).resolve())
+        check_no_lines(checks, programs)
+        drawn = 0
+        while drawn < int(count):
+            drawn += check_drawn(checks, programs, draw)
+    except (ValueError, LookupError, OSError, subprocess.SubprocessError) as error:
+        checks.holds("find", False, f"cannot be checked: {error!r}")
+    for failure in checks.failures:
+        print(failure)
+    print(f"find: {checks.passed} passed, {len(checks.failures)} failed")
+    return 1 if checks.failures else 0
+
+
+if __name__ == "__main__":
+    sys.exit(main(sys.argv[1:]))
