@@ -110,6 +110,12 @@ pub ends_none : (l : LayoutParts) (volumes : List Volume) (end : CourseValue)
 ends_none l volumes end is =
     rw is (record { start = refl; layout = refl; count = refl; state = refl; chain = λ at v e. absurd cc })
 
+-- what it shows
+pub end_shown : (l : LayoutParts) (volumes : List Volume) (end : CourseValue) → EndsVolumes l volumes end
+    → pictured end.layout end.base ≡ pictured l (state_after l volumes)
+end_shown l volumes end ok =
+    ap (λ (m : LayoutParts). pictured m end.base) ok.layout ∙ ap (pictured l) ok.state
+
 -- one volume more
 pub ends_more : (l : LayoutParts) (volumes : List Volume) (at : ℕ) (v : Volume) (end next : CourseValue)
     → slice_get volumes at ≡ Some v → EndsVolumes l (take at volumes) end → FollowsEnd end v
@@ -126,7 +132,11 @@ ends_more l volumes at v end next here ok follows legal is =
           ∙ (ap (λ (s : Memory). value_of l s v.records) ok.state ∙ sym (state_more l (take at volumes) v));
       chain =
           chain_more l (take at volumes) v ok.chain
-          (record { count = follows.count ∙ ok.count; base = follows.base ∙ ok.state; legal = legal_after });
+          (record {
+            count = follows.count ∙ ok.count;
+            base = follows.base ∙ end_shown l (take at volumes) end ok;
+            legal = legal_after;
+          });
     }))
   where
     legal_after : IsLegal l (state_after l (take at volumes)) (records_in (take at volumes)) v.records
@@ -139,12 +149,6 @@ ends_more l volumes at v end next here ok follows legal is =
 pub ends_all : (l : LayoutParts) (volumes : List Volume) (at : ℕ) (end : CourseValue) → length volumes ≤ at
     → EndsVolumes l (take at volumes) end → EndsVolumes l volumes end
 ends_all l volumes at end le ok = subst (λ (g : List Volume). EndsVolumes l g end) (take_all at volumes le) ok
-
--- what it shows
-pub end_shown : (l : LayoutParts) (volumes : List Volume) (end : CourseValue) → EndsVolumes l volumes end
-    → pictured end.layout end.base ≡ pictured l (state_after l volumes)
-end_shown l volumes end ok =
-    ap (λ (m : LayoutParts). pictured m end.base) ok.layout ∙ ap (pictured l) ok.state
 
 -- the state that volumes lead to is well placed
 placed_after : (l : LayoutParts) (volumes : List Volume) (s : Memory) → IsLayout l → IsWellPlaced l s
@@ -182,7 +186,7 @@ fault_after l volumes at v end (WrongBase place) here ok wrong =
       record {
         first = record { here = here; chain = ok.chain };
         count = wrong.1 ∙ ok.count;
-        base = λ e. wrong.2 (e ∙ sym ok.state);
+        base = λ e. wrong.2 (e ∙ sym (end_shown l (take at volumes) end ok));
       },
     )
 fault_after l volumes at v end (Replay place fault) here ok wrong =
@@ -191,7 +195,7 @@ fault_after l volumes at v end (Replay place fault) here ok wrong =
       record {
         first = record { here = here; chain = ok.chain };
         count = wrong.1.count ∙ ok.count;
-        base = wrong.1.base ∙ ok.state;
+        base = wrong.1.base ∙ end_shown l (take at volumes) end ok;
         records = fault_at l volumes at v end fault ok wrong.2;
         known = wrong.3;
       },

@@ -7,4 +7,5 @@ pub mod Names
 mod NotedSteps
 pub mod Places
 pub mod Replays
+mod SameLayouts
 pub mod Starts

@@ -26,10 +26,10 @@ abbrev pub state_after : LayoutParts → List Volume → Memory
 state_after l volumes = fold (λ s v. value_of l s v.records) (boot_memory l) volumes
 
 -- a volume follows the earlier ones: it was sealed after as many records as they hold, its base is
--- the state that they lead to, and its records are a legal history over it (own rule)
+-- the state of this layout that they lead to, and its records are a legal history over it (own rule)
 pub record FollowsVolumes (l : LayoutParts) (earlier : List Volume) (v : Volume) : Type 0 where
   pub count : v.before ≡ records_in earlier
-  pub base : v.base.memory ≡ state_after l earlier
+  pub base : v.base ≡ pictured l (state_after l earlier)
   pub legal : IsLegal l (state_after l earlier) (records_in earlier) v.records
 
 -- each volume follows those before it
@@ -57,14 +57,14 @@ pub record HasWrongCount (l : LayoutParts) (volumes : List Volume) (at : ℕ) (v
 pub record HasWrongBase (l : LayoutParts) (volumes : List Volume) (at : ℕ) (v : Volume) : Type 0 where
   pub first : StandsAfter l volumes at v
   pub count : v.before ≡ records_in (take at volumes)
-  pub base : v.base.memory ≢ state_after l (take at volumes)
+  pub base : v.base ≢ pictured l (state_after l (take at volumes))
 
 -- its count and its base are right, and its records are at fault
 pub record HasWrongRecords (l : LayoutParts) (volumes : List Volume) (at : ℕ) (v : Volume)
     (fault : ReplayFault) : Type 0 where
   pub first : StandsAfter l volumes at v
   pub count : v.before ≡ records_in (take at volumes)
-  pub base : v.base.memory ≡ state_after l (take at volumes)
+  pub base : v.base ≡ pictured l (state_after l (take at volumes))
   pub records : IsFault l (state_after l (take at volumes)) (records_in (take at volumes)) v.records fault
   pub known : fault ≢ ReplayOutOfMemory
 
@@ -95,7 +95,7 @@ pub record EndsVolumes (l : LayoutParts) (volumes : List Volume) (end : CourseVa
 -- a volume's count and base are those that such a course begins with
 pub record FollowsEnd (end : CourseValue) (v : Volume) : Type 0 where
   pub count : v.before ≡ end.before
-  pub base : v.base.memory ≡ end.base
+  pub base : v.base ≡ pictured end.layout end.base
 
 -- the course after the volume's records, sealed
 abbrev pub sealed_after : CourseValue → Volume → CourseValue
@@ -105,7 +105,8 @@ sealed_after end v =
 -- the fault of a volume that stands at a place after such a course
 abbrev pub IsFaultAfter : CourseValue → (at : ℕ) → Volume → ChainFault → Type 0
 IsFaultAfter end at v (WrongCount place) = (place ≡ at) × (v.before ≢ end.before)
-IsFaultAfter end at v (WrongBase place) = (place ≡ at) × (v.before ≡ end.before) × (v.base.memory ≢ end.base)
+IsFaultAfter end at v (WrongBase place) =
+    (place ≡ at) × (v.before ≡ end.before) × (v.base ≢ pictured end.layout end.base)
 IsFaultAfter end at v (Replay place fault) =
     (place ≡ at) × FollowsEnd end v × IsFault end.layout end.base end.before v.records fault
     × (fault ≢ ReplayOutOfMemory)

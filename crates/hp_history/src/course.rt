@@ -7,11 +7,12 @@ ghost use Rattle.hp_units.specs.Placement.{IsWellPlaced};
 ghost use Rattle.hp_units.specs.declared.events.Event.TheVariants.{Cancel, UndoAfter};
 ghost use Rattle.hp_units.specs.declared.replies.Reply.TheVariants.{Restored};
 ghost use Rattle.hp_history.specs.Course.{IsAnswered, IsHistory, is_spent, last_serial, receipt_for, started};
-ghost use Rattle.hp_history.specs.Kept.{IsCut, IsStep, is_gone, may_cancel};
+ghost use Rattle.hp_history.specs.Kept.{IsCut, IsStep, is_gone, may_cancel, pictured};
 ghost use Rattle.hp_history.specs.Volumes.{volume_of};
 
 use crate::journal::{Entry, keep_step, kept_len, sole_place, start_of};
 use crate::records::{Records, copy_records};
+use crate::same_layouts::same_layout;
 use crate::volumes::Volume;
 use hp_memory::Memory;
 use hp_plain::Image;
@@ -194,11 +195,12 @@ impl Course {
         &self.base
     }
 
-    /// Whether the base state is that of an Image.
+    /// Whether an Image is of this layout, and the base state is its own.
     pub(crate) fn begins_at(&self, image: &Image) -> bool
-        ensures { MatchBool result (image.now.memory ≡ self.now.base) (image.now.memory ≢ self.now.base) }
+        ensures { MatchBool result (image.now ≡ pictured self.now.layout self.now.base)
+            (image.now ≢ pictured self.now.layout self.now.base) }
     {
-        image.same(&self.base)
+        same_layout(image.layout(), self.base.layout()) && image.same(&self.base)
     }
 
     /// The base state alone.

@@ -14,6 +14,7 @@ mod course;
 mod journal;
 mod records;
 mod replaying;
+mod same_layouts;
 mod volumes;
 
 pub use course::Course;

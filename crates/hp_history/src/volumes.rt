@@ -31,7 +31,8 @@ pub struct Volume {
 pub enum ChainFault {
     /// The volume at this place was not sealed after as many records as the volumes before it hold.
     WrongCount { at: u64 },
-    /// The base of the volume at this place is not the state that the volumes before it lead to.
+    /// The base of the volume at this place is of another layout, or not the state that the volumes
+    /// before it lead to.
     WrongBase { at: u64 },
     /// The records of the volume at this place are no legal history over its base.
     Replay { at: u64, fault: ReplayFault },

@@ -15,6 +15,7 @@ use Rattle.hp_units.specs.declared.replies.Record.{Record}
 use Rattle.hp_units.specs.declared.replies.Reply.{Reply}
 use Rattle.hp_laws.proofs.Lists.{get_end}
 use Rattle.hp_history.specs.Course.{is_spent, receipt_for}
+use Rattle.hp_history.specs.Kept.{pictured}
 use Rattle.hp_history.specs.Volumes.{FollowsVolumes, records_in, state_after, volume_of}
 use Rattle.hp_history.proofs.Chains.{chain_more, count_more, state_more}
 use Rattle.hp_history.specs.declared.volumes.Volume.{Volume}
@@ -144,7 +145,13 @@ sealed_on l old new was total shared is same =
         shared.history.legal))
 
     follows : FollowsVolumes l volumes (volume_of old)
-    follows = record { count = shared.sealed.2; base = shared.sealed.3; legal = legal }
+    follows = record {
+      count = shared.sealed.2;
+      base =
+          ap (λ (parts : LayoutParts). pictured parts old.base) shared.layout
+          ∙ ap (pictured l) shared.sealed.3;
+      legal = legal;
+    }
 
     count : last_serial old ≡ records_in (volumes ++ volume_of old ∷ [])
     count = ap (λ (n : ℕ). n + length old.history) shared.sealed.2 ∙ sym (count_more volumes (volume_of old))

@@ -148,3 +148,17 @@ fn a_volume_whose_earlier_ones_are_missing_is_named(rt: HostRuntime) -> Result<(
     assert_eq!(rt; fault_without_first(rt.alloc())?, counted);
     Ok(())
 }
+
+/// The fault of the first volume in a chain of a layout with another limit of records.
+fn fault_under_another_layout(alloc: Global) -> Result<Option<ChainFault>, Fail> {
+    let layout = one_block(alloc, 8)?;
+    let first = first_volume(alloc)?;
+    Ok(audit_chain(alloc, &layout, &[first]).err())
+}
+
+#[test]
+fn a_volume_of_another_layout_is_named(rt: HostRuntime) -> Result<(), Fail> {
+    let based = Some(ChainFault::WrongBase { at: 0 });
+    assert_eq!(rt; fault_under_another_layout(rt.alloc())?, based);
+    Ok(())
+}
