@@ -14,6 +14,7 @@ use Rattle.hp_laws.specs.Seals.{AreLegal, value_of_all}
 use Rattle.hp_laws.proofs.Boots.{boot-placed}
 use Rattle.hp_laws.proofs.SealedLaws.{claimed_in_all, commit_granted_in_all, commit_held_in_all, given_back_in_all, held_in_all}
 use Rattle.hp_laws.proofs.SealedNets.{all_more, all_up_to, count_of_all, value-last}
+use Rattle.hp_history.specs.Kept.{pictured}
 use Rattle.hp_history.specs.Volumes.{IsChain, histories_of, records_in, state_after, volume_of}
 use Rattle.hp_history.specs.declared.volumes.Volume.{Volume}
 use Rattle.hp_history.proofs.Chains.{chain_legal, chain_more, count_more, histories_count, histories_value, state_more}
@@ -49,7 +50,11 @@ pub from_one_more : (volumes : List Volume) (m : MachineValue) → IsHistory m �
 from_one_more volumes m history ok = record {
   chain =
       chain_more m.layout volumes (volume_of m) ok.chain
-      (record { count = ok.count; base = ok.base; legal = history_after volumes m history ok });
+      (record {
+        count = ok.count;
+        base = ap (pictured m.layout) ok.base;
+        legal = history_after volumes m history ok;
+      });
   count =
       ap (λ (n : ℕ). n + length m.history) ok.count ∙ sym (count_more volumes (volume_of m));
   base =
