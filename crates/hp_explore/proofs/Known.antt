@@ -1,7 +1,6 @@
 -- The digests of the ends have places.
 use Rattle.std.proofs.Common.{◌≡◌, ℕ, ◌+◌, true, false, List, [], ◌∷◌, ◌++◌, length, set, get_or, Some, None, slice_get, refl, ap, sym, subst, ◌∙◌, inl, inr, is_some}
 use Rattle.std.specs.Prelude.{fold, nat_eq}
-use Rattle.std.proofs.lemmas.List.FromFn.{length-map-range_with_len}
 use Rattle.std.proofs.lemmas.List.Sums.{fold-append}
 use Rattle.indexmap.specs.IndexMap.{ContainsKey, IndexMap, get}
 use Rattle.hp_units.specs.declared.replies.Record.{Record}
@@ -24,13 +23,6 @@ digest_more news cpu digest part next so_far is more =
     ∙ (ap (mixed (replies_digest (replies_below cpu news))) is
     ∙ (sym (fold-append mixed_replies 0 (replies_below cpu news) (replies_to cpu news ∷ []))
     ∙ ap replies_digest (replies_more (replies_below cpu news) (replies_to cpu news) news cpu refl refl))))
-
--- there are as many processors' replies as processors
-pub answered_length : (answers : List (List Reply)) (news : List Record) (processors : ℕ)
-    → answers ≡ replies_below processors news → length answers ≡ processors
-answered_length answers news processors is =
-    ap (λ (xs : List (List Reply)). length xs) is
-    ∙ length-map-range_with_len (λ (c : ℕ). replies_to c news) 0 processors
 
 -- where a digest has no place, no end has it
 pub unknown : {S : Type 0} (ends : List Ending) (x : OutcomeValue) (latest : IndexMap ℕ ℕ S) (digest : ℕ)

@@ -1,6 +1,5 @@
 //! How a schedule ends.
-ghost use Rattle.std.specs.Prelude.{◌≡◌, ◌↔◌, ◌+◌, ◌<◌, ◌^◌, IfOk, IsTrue, None, length, map};
-ghost use Rattle.std.specs.List.{range_with_len};
+ghost use Rattle.std.specs.Prelude.{◌≡◌, ◌↔◌, IfOk, IsTrue, None, Some, slice_get};
 ghost use Rattle.hp_explore.specs.Outcomes.{ended_row, ended_rows_below, outcome, outcome_with, replies_below, replies_to, told};
 
 use hp_memory::Memory;
@@ -173,41 +172,37 @@ fn are_answers_below(answers: &[Answers], processors: u32, records: &[Record]) -
     if answers.len() != processors as usize {
         return false;
     }
-    are_answers_from(answers, 0, records)
-}
-
-/// Whether lists of replies are those of the processors from one on.
-fn are_answers_from(answers: &[Answers], cpu: u32, records: &[Record]) -> bool
-    requires { cpu + length answers.now < 2 ^ 32 }
-    ensures { IsTrue result
-        ↔ (answers.now ≡ map (λ c. replies_to c records.now) (range_with_len cpu (length answers.now))) }
-{
-    match answers {
-        [first, answers @ ..] => {
-            are_replies_to(first.as_slice(), Cpu(cpu), records)
-                && are_answers_from(answers, cpu + 1, records)
+    for cpu in 0..processors {
+        if !are_replies_to(answers[cpu as usize].as_slice(), Cpu(cpu), records) {
+            return false;
         }
-        [] => true,
     }
+    true
 }
 
 /// Whether replies are those that a processor had among records.
 fn are_replies_to(replies: &[Reply], cpu: Cpu, records: &[Record]) -> bool
     ensures { IsTrue result ↔ (replies.now ≡ replies_to cpu records.now) }
 {
-    match records {
-        [record, records @ ..] => {
-            if record.cpu != cpu {
-                return are_replies_to(replies, cpu, records);
+    let mut compared = 0;
+    for record in records {
+        if record.cpu == cpu {
+            if !is_told_at(replies, compared, record) {
+                return false;
             }
-            match replies {
-                [reply, replies @ ..] => {
-                    told(&record.reply).same(reply) && are_replies_to(replies, cpu, records)
-                }
-                [] => false,
-            }
+            compared += 1;
         }
-        [] => replies.is_empty(),
+    }
+    compared == replies.len()
+}
+
+/// Whether a record tells the reply at a place.
+fn is_told_at(replies: &[Reply], place: usize, latest: &Record) -> bool
+    ensures { IsTrue result ↔ (slice_get replies.now place ≡ Some (told latest.now.reply)) }
+{
+    match replies.get(place) {
+        Some(reply) => told(&latest.reply).same(reply),
+        None => false,
     }
 }
 
@@ -215,11 +210,15 @@ fn are_replies_to(replies: &[Reply], cpu: Cpu, records: &[Record]) -> bool
 fn same_rows(rows: &[Row], others: &[Row]) -> bool
     ensures { IsTrue result ↔ (rows.now ≡ others.now) }
 {
-    match (rows, others) {
-        ([], []) => true,
-        ([row, rows @ ..], [other, others @ ..]) => same_row(row, other) && same_rows(rows, others),
-        _ => false,
+    if rows.len() != others.len() {
+        return false;
     }
+    for (place, row) in rows.iter().enumerate() {
+        if !same_row(row, &others[place]) {
+            return false;
+        }
+    }
+    true
 }
 
 /// Whether the rows are the same.
