@@ -8,12 +8,12 @@ from xml.etree import ElementTree
 # Traces
 
 COLUMNS = 55
-HOSTILE = "\x1b[31m\n\x9b]0:N[....]\u2028"
+HOSTILE = "\x1b[31m\n\x9b]0:N[....]\u2028\u061c\u200e\u200f\u2066"
 
 
 def shown(call):
     """A text of a scenario as a trace has it."""
-    hidden = r'["\\\x00-\x1f\x7f-\x9f\u2028-\u202e\u2066-\u2069\[\]]'
+    hidden = r'["\\\x00-\x1f\x7f-\x9f\u061c\u200e\u200f\u2028-\u202e\u2066-\u2069\[\]]'
     short = {'"': '\\"', "\\": "\\\\", "\n": "\\n", "\r": "\\r", "\t": "\\t"}
     return re.sub(hidden, lambda m: short.get(m[0], f"\\u{ord(m[0]):04x}"), call)
 
@@ -55,7 +55,8 @@ def check_trace(checks, programs, name, scenario):
 
 
 def is_harmless(text):
-    return not re.search(r"[\x00-\x09\x0b-\x1f\x7f-\x9f\u2028-\u202e]", text)
+    hidden = r"[\x00-\x09\x0b-\x1f\x7f-\x9f\u061c\u200e\u200f\u2028-\u202e\u2066-\u2069]"
+    return not re.search(hidden, text)
 
 
 def check_columns(checks, programs, name, scenario):

@@ -16,8 +16,8 @@ is_bracket c = (c == 91) || (c == 93)
 -- a control character, a separator of lines or paragraphs, or a mark of direction
 abbrev pub is_hidden : ℕ → Bool
 is_hidden c =
-    nat_lt c 32 || ((nat_le 127 c && nat_le c 159) || ((nat_le 8232 c && nat_le c 8238)
-    || (nat_le 8294 c && nat_le c 8297)))
+    nat_lt c 32 || ((nat_le 127 c && nat_le c 159) || (c == 1564 || ((nat_le 8206 c && nat_le c 8207)
+    || ((nat_le 8232 c && nat_le c 8238) || (nat_le 8294 c && nat_le c 8297)))))
 
 -- a character by its number: four digits or more in hexadecimal
 abbrev pub numbered : ℕ → List ℕ

@@ -16,8 +16,8 @@ pub enum Brackets {
 /// Writes a text as JSON has it between quotation marks (RFC 8259, section 7), with each character
 /// escaped that a terminal may obey or that changes the order in which text is read: the control
 /// characters (U+0000 to U+001F, U+007F to U+009F), separators of lines and paragraphs, and marks
-/// of direction (U+2028 to U+202E, U+2066 to U+2069). So it has one line (own rule). An error is
-/// out of memory.
+/// of direction (U+061C, U+200E, U+200F, U+2028 to U+202E, U+2066 to U+2069). So it has one line
+/// (own rule). An error is out of memory.
 #[tactic(auto, unfolding(crate::specs::Escapes::escaped_text))]
 pub fn write_escaped(out: &mut String, text: &str, brackets: Brackets) -> Result<(), AllocError>
     ensures { OnOk result (string_bytes out.new ≡ string_bytes out.old ++ escaped_text brackets text.now) }
@@ -98,6 +98,8 @@ fn is_hidden(c: char) -> bool
 {
     c < ' '
         || ('\u{7F}' <= c && c <= '\u{9F}')
+        || c == '\u{61C}'
+        || ('\u{200E}' <= c && c <= '\u{200F}')
         || ('\u{2028}' <= c && c <= '\u{202E}')
         || ('\u{2066}' <= c && c <= '\u{2069}')
 }
