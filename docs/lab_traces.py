@@ -161,6 +161,30 @@ def pictured(svg, cell=8):
     return texts_in(rows), cells, outlines
 
 
+def lines_of(svg):
+    """The ends of the lines of a picture, each as the colour of the cell in which it lies."""
+    root = ElementTree.fromstring(svg)
+    cells = [(*(int(box.get(name)) for name in ("x", "y", "width")), box.get("fill"))
+             for box in root.find(SVG + "g").iter(SVG + "rect") if is_cell(box)]
+
+    def colour(x, y):
+        return [fill for left, top, width, fill in cells
+                if left <= x < left + width and top <= y < top + 12]
+
+    lines = root.find(f"{SVG}defs/{SVG}g[@id='moves']")
+    ends = [[int(number) for number in re.findall(r"\d+", path.get("d"))] for path in lines]
+    return [(colour(*end[:2]), colour(*end[2:]), end[1] < end[3]) for end in ends]
+
+
+def check_lines(checks, where, trace, svg):
+    """There is a line for each page that moved, from its cell in a row above to its cell."""
+    lines, moves = lines_of(svg), re.findall(r" \d+: moved \d+ \d+ ", trace)
+    checks.holds(where, len(lines) == len(moves), f"{len(lines)} lines for {len(moves)} moves")
+    for before, after, is_down in lines:
+        checks.holds(where, len(before) == 1 and before == after and is_down,
+                     f"a line from {before} to {after}, downwards: {is_down}")
+
+
 def label_of(label):
     """What was asked and what was answered, which stand before the memory blocks."""
     first, _, second = label.partition("\0")
@@ -196,26 +220,33 @@ def check_picture(checks, programs, name, scenario):
     sizes = Counter(map(len, BRACKETS.findall(drawn)))
     checks.holds(where, outlines == sizes, f"{outlines} in place of {sizes}")
     checks.holds(where, is_harmless(svg), "has a control character")
+    check_lines(checks, where, text, svg)
 
 
 SCREEN = 1600
 WIDE = [(2, 1, 64), (0, 2, 256), (10, 1, 4), (6, 2, 20)]
+WIDE_CALLS = ["0 map db 0", "0 cat buddyinfo", "0 echo offline memory1/state"]
+WIDE_ROWS = 9  # at boot, for each line, and for the five calls of its driver
 
 
 def check_wide(checks, programs):
     """Layouts wider than a screen: their pictures have all cells, within their frame, whatever a
-    cell's width; they are wider than a screen only where one block is."""
+    cell's width, and the line of a page that moves; they are wider than a screen only where one
+    block is."""
     for order, pageblocks, blocks in WIDE:
         layout = {"order": order, "pageblocks": pageblocks, "blocks": blocks, "cpus": 1, "batch": 1,
-                  "high": 1, "owners": 1, "pages": 2, "words": 1, "history": 9,
+                  "high": 1, "owners": 1, "pages": 2, "words": 1, "history": 20,
                   "boot": (["normal", "movable", "offline", "absent"] * blocks)[:blocks]}
-        scenario = {"layout": layout, "calls": ["0 map db 0", "0 cat buddyinfo"]}
+        scenario = {"layout": layout, "calls": WIDE_CALLS}
+        trace = programs.trace(scenario)
         frames = pageblocks << order
         for cell in (1, 3, 8, 32):
             where = f"picture of {blocks} blocks of {frames} frames, --cell {cell}"
             svg = programs.trace(scenario, "--svg", "--cell", str(cell))
             cells = pictured(svg, cell)[1]
-            checks.holds(where, sum(cells.values()) == 3 * blocks * frames, f"cells: {cells}")
+            drawn = sum(cells.values())
+            checks.holds(where, drawn == WIDE_ROWS * blocks * frames, f"cells: {cells}")
+            check_lines(checks, where, trace, svg)
             check_frame(checks, where, svg, 336 + 48 + cell * (frames + pageblocks - 1))
 
 

@@ -11,4 +11,4 @@ mod row_picture;
 
 pub use block_picture::{BlockPicture, FreeBlock};
 pub use counts::MARKS;
-pub use row_picture::RowPicture;
+pub use row_picture::{Move, RowPicture};

@@ -3,15 +3,25 @@ ghost use Rattle.std.specs.Prelude.{◌≡◌};
 ghost use Rattle.hp_pictures.specs.Rows.{row_with};
 
 use crate::block_picture::BlockPicture;
-use hp_numbers::Text;
+use hp_numbers::{Frame, Text};
 use std::marker::Model;
 
-/// A row: what was asked, what was answered, and the memory blocks after it by rising number. Where
-/// the row is a line of text alone, it has no answer and no memory blocks.
+/// A page that moved: in which frame it was, and in which it is.
+#[derive(Clone, Copy)]
+pub struct Move {
+    /// The frame where it was.
+    pub from: Frame,
+    /// The frame where it is.
+    pub to: Frame,
+}
+
+/// A row: what was asked, what was answered, which page moved by it, and the memory blocks after it by
+/// rising number. Where the row is a line of text alone, it has no answer, no move and no memory blocks.
 #[derive(Drop)]
 pub struct RowPicture {
     asked: Text,
     answer: Text,
+    moved: Option<Move>,
     blocks: Vec<BlockPicture>,
 }
 
@@ -20,17 +30,23 @@ impl Model for RowPicture {
 
     ghost Value = { RowValue };
 
-    ghost view = { λ r. row_with r.asked r.answer r.blocks.items };
+    ghost view = { λ r. row_with r.asked r.answer r.moved r.blocks.items };
 }
 
 impl RowPicture {
-    /// A row of these texts and memory blocks.
-    pub fn new(asked: Text, answer: Text, blocks: Vec<BlockPicture>) -> RowPicture
-        ensures { result ≡ row_with asked answer blocks.items }
+    /// A row of these texts, this move and these memory blocks.
+    pub fn new(
+        asked: Text,
+        answer: Text,
+        moved: Option<Move>,
+        blocks: Vec<BlockPicture>,
+    ) -> RowPicture
+        ensures { result ≡ row_with asked answer moved blocks.items }
     {
         RowPicture {
             asked,
             answer,
+            moved,
             blocks,
         }
     }
@@ -47,6 +63,13 @@ impl RowPicture {
         ensures { result.now ≡ self.now.answer }
     {
         self.answer.as_str()
+    }
+
+    /// Which page moved, if one did.
+    pub fn moved(&self) -> Option<Move>
+        ensures { result ≡ self.now.moved }
+    {
+        self.moved
     }
 
     /// Its memory blocks.

@@ -1,7 +1,9 @@
 -- Rows under one another, one more after another.
-use Rattle.std.proofs.Common.{◌≡◌, ℕ, ◌+◌, ◌<◌, ◌≤◌, List, ◌∷◌, ◌++◌, drop, get_or, length, sym, ap, ◌∙◌, append-nil, append_assoc, arith}
+use Rattle.std.proofs.Common.{◌≡◌, ℕ, ◌+◌, ◌<◌, ◌≤◌, List, ◌∷◌, ◌++◌, Option, drop, get_or, length, sym, ap, ◌∙◌, append-nil, append_assoc, arith}
 use Rattle.std.proofs.lemmas.List.{drop_all, drop_more}
 use Rattle.hp_pictures.specs.Rows.{RowValue}
+use Rattle.hp_pictures.specs.declared.row_picture.Move.{Move}
+use Rattle.hp_svg.specs.Moves.{blocks_top, last_blocks, move_text, moves_from}
 use Rattle.hp_svg.specs.Rows.{row_text, rows_from}
 use Rattle.hp_svg.specs.Sheets.{row_height, rows_height}
 use Rattle.hp_svg.specs.declared.sheets.Sheet.{Sheet}
@@ -57,3 +59,37 @@ unfolding rows_from
 text_all s top rows i now all end so_far =
     sym (append-nil now) ∙ ap (λ (t : List ℕ). now ++ t) (sym (ap (rows_from s top) (drop_all i rows end)))
     ∙ so_far
+
+-- ---- the lines of their moves
+
+moves_here : (s : Sheet) (above top : ℕ) (rows : List RowValue) (i : ℕ) (row : RowValue) → i < length rows
+    → row ≡ get_or rows i row
+    → moves_from s above top (drop i rows)
+    ≡ move_text s above (blocks_top top row) row.moved
+    ++ moves_from s (last_blocks above top row) (top + row_height s row) (drop (i + 1) rows)
+unfolding moves_from
+moves_here s above top rows i row lt at = ap (moves_from s above top) (next_row rows i row lt at)
+
+pub moves_more : (s : Sheet) (above here last top more : ℕ) (rows : List RowValue) (i : ℕ) (row : RowValue)
+    (moved : Option Move) (now new all : List ℕ)
+    → i < length rows → row ≡ get_or rows i row → now ++ moves_from s above top (drop i rows) ≡ all
+    → new ≡ now ++ move_text s above here moved → here ≡ blocks_top top row → moved ≡ row.moved
+    → last ≡ last_blocks above top row → more ≡ row_height s row
+    → new ++ moves_from s last (top + more) (drop (i + 1) rows) ≡ all
+moves_more s above here last top more rows i row moved now new all lt at so_far written at_here page at_last is =
+    let rest : ℕ → ℕ → List ℕ = λ a n. moves_from s a (top + n) (drop (i + 1) rows) in
+    let move = move_text s above (blocks_top top row) row.moved in
+    ap (λ (t : List ℕ). t ++ rest last more) written
+    ∙ ap (λ (h : ℕ). (now ++ move_text s above h moved) ++ rest last more) at_here
+    ∙ ap (λ (m : Option Move). (now ++ move_text s above (blocks_top top row) m) ++ rest last more) page
+    ∙ append_assoc now move (rest last more)
+    ∙ ap (λ (a : ℕ). now ++ (move ++ rest a more)) at_last
+    ∙ ap (λ (n : ℕ). now ++ (move ++ rest (last_blocks above top row) n)) is
+    ∙ ap (λ (t : List ℕ). now ++ t) (sym (moves_here s above top rows i row lt at)) ∙ so_far
+
+pub moves_all : (s : Sheet) (above top : ℕ) (rows : List RowValue) (i : ℕ) (now all : List ℕ)
+    → length rows ≤ i → now ++ moves_from s above top (drop i rows) ≡ all → now ≡ all
+unfolding moves_from
+moves_all s above top rows i now all end so_far =
+    sym (append-nil now)
+    ∙ ap (λ (t : List ℕ). now ++ t) (sym (ap (moves_from s above top) (drop_all i rows end))) ∙ so_far

@@ -102,6 +102,23 @@ order_text order =
 unfoldable pub order_element : (x y order : ℕ) → List ℕ
 order_element x y order = codes "<text" ++ position x y ++ order_text order
 
+-- ---- moves
+
+-- a point of a path, a path from one to another, the look of one that shows a page's move, and the whole
+unfoldable pub point : (x y : ℕ) → List ℕ
+point x y = decimal x ++ codes " " ++ decimal y
+
+unfoldable pub path : (x y to_x to_y : ℕ) → List ℕ
+path x y to_x to_y = codes "<path d='M" ++ point x y ++ codes "L" ++ point to_x to_y ++ codes "'"
+
+unfoldable pub move_look : List ℕ
+move_look = codes " stroke='#b91c1c' stroke-width='1.2' marker-end='url(#arrow)'/>"
+
+unfoldable pub move_element : (x y to_x to_y : ℕ) → List ℕ
+move_element x y to_x to_y = path x y to_x to_y ++ move_look
+
+-- ---- lines between cells
+
 -- lines between the cells of a block, as they stand in the picture's definitions
 unfoldable pub grid_start : List ℕ
 grid_start = codes "<use href='#lines'"

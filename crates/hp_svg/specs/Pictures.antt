@@ -3,8 +3,9 @@ use Rattle.std.specs.Prelude.{ℕ, ◌+◌, nat_lt, false, List, [], ◌++◌, c
 use Rattle.std.specs.Fmt.{decimal}
 use Rattle.std.specs.List.{enumerate_from, flat_map, range_with_len}
 use Rattle.hp_pictures.specs.Rows.{RowValue}
-use Rattle.hp_svg.specs.Elements.{cell_element, extent, outline_element, strip_element, text_element}
+use Rattle.hp_svg.specs.Elements.{cell_element, extent, move_element, outline_element, strip_element, text_element}
 use Rattle.hp_svg.specs.Marks.{label_of, marks_in}
+use Rattle.hp_svg.specs.Moves.{moves_text}
 use Rattle.hp_svg.specs.Rows.{newline, rows_text}
 use Rattle.hp_svg.specs.Sheets.{cells_at, cells_width, first_frame, has_grid, height_of, legend_left, legend_top, number_at, rows_at, sheet_of, width_of}
 use Rattle.hp_svg.specs.declared.sheets.Sheet.{Sheet}
@@ -23,7 +24,7 @@ unfoldable pub note_text : (place : ℕ) → (text : List ℕ) → List ℕ
 note_text place text =
     text_element (legend_left place + 18) (legend_top place + 10) false 0 text ++ newline
 
--- what outlines and strips mean, after so many entries
+-- what outlines, strips and lines mean, after so many entries
 unfoldable pub outline_note : (place : ℕ) → List ℕ
 outline_note place =
     outline_element (legend_left place) (legend_top place + 1) 12
@@ -33,10 +34,17 @@ unfoldable pub strip_note : (place letter : ℕ) → (text : List ℕ) → List 
 strip_note place letter text =
     strip_element (legend_left place) (legend_top place + 5) 12 letter ++ note_text place text
 
+unfoldable pub move_note : (place : ℕ) → List ℕ
+move_note place =
+    move_element (legend_left place) (legend_top place + 2) (legend_left place + 12) (legend_top place + 10)
+    ++ note_text place (codes "page that moved")
+
+unfoldable pub strip_notes : (place : ℕ) → List ℕ
+strip_notes place =
+    strip_note place 77 (codes "movable pageblock") ++ strip_note (place + 1) 85 (codes "unmovable pageblock")
+
 unfoldable pub notes_text : (place : ℕ) → List ℕ
-notes_text place =
-    outline_note place ++ strip_note (place + 1) 77 (codes "movable pageblock")
-    ++ strip_note (place + 2) 85 (codes "unmovable pageblock")
+notes_text place = outline_note place ++ strip_notes (place + 1) ++ move_note (place + 3)
 
 -- the number of a block and that of its first frame; the legend has so many entries
 unfoldable pub block_text : Sheet → (entries block : ℕ) → List ℕ
@@ -102,10 +110,11 @@ style s = title ++ hatching ++ grid s ++ ground ++ newline
 -- with so many entries in the legend
 unfoldable pub picture_with : Sheet → (names : List (List ℕ)) → (marks : List ℕ) → (rows : List RowValue) → List ℕ
 picture_with s names marks rows =
-    opening (width_of s) (height_of s (length marks + 3) rows) ++ style s
+    opening (width_of s) (height_of s (length marks + 4) rows) ++ style s
     ++ flat_map (entry_text names) (enumerate_from 0 marks) ++ notes_text (length marks)
-    ++ rows_text s (rows_at s (length marks + 3)) rows
-    ++ flat_map (block_text s (length marks + 3)) (range_with_len 0 s.blocks) ++ codes "</svg>" ++ newline
+    ++ rows_text s (rows_at s (length marks + 4)) rows
+    ++ moves_text s (rows_at s (length marks + 4)) rows
+    ++ flat_map (block_text s (length marks + 4)) (range_with_len 0 s.blocks) ++ codes "</svg>" ++ newline
 
 -- the picture of rows, where the owners have these names and a cell is so wide
 abbrev pub picture_of : (names : List (List ℕ)) → (cell : ℕ) → (rows : List RowValue) → List ℕ

@@ -98,6 +98,30 @@ strip_top s block = 14 * strip_of s block
 abbrev pub blocks_height : Sheet → ℕ
 blocks_height s = if strips s == 1 then 14 else 14 * strips s + 6
 
+-- ---- where a frame is
+
+-- in which block, and how many frames of that stand before it
+abbrev pub block_of : Sheet → (frame : ℕ) → ℕ
+block_of s frame = frame / max s.frames 1
+
+abbrev pub offset_of : Sheet → (frame : ℕ) → ℕ
+offset_of s frame = frame % max s.frames 1
+
+-- how many frames a pageblock has, where a bar stands between two of them
+abbrev pub pageblock_size : Sheet → ℕ
+pageblock_size s = max (s.frames / (s.cells - s.frames + 1)) 1
+
+-- the middle of its cell, across, and down where the blocks of its row stand here
+abbrev pub frame_left : Sheet → (frame : ℕ) → ℕ
+frame_left s frame =
+    cells_at s (block_of s frame) + s.cell * (offset_of s frame + offset_of s frame / pageblock_size s)
+    + s.cell / 2
+
+abbrev pub frame_top : Sheet → (here frame : ℕ) → ℕ
+frame_top s here frame = here + strip_top s (block_of s frame) + 6
+
+-- ---- texts and rows
+
 -- how much lower than a text stands what comes after it: a text that has no room before that has a line
 -- of its own
 abbrev pub lines_above : (room : ℕ) → (text : List ℕ) → ℕ
@@ -108,9 +132,11 @@ abbrev pub is_empty : {A : Type 0} → List A → Bool
 is_empty [] = true
 is_empty (x ∷ xs) = false
 
+abbrev pub texts_height : RowValue → ℕ
+texts_height row = lines_above 29 row.asked + lines_above 25 row.answer
+
 abbrev pub row_height : Sheet → RowValue → ℕ
-row_height s row =
-    if is_empty row.blocks then 14 else lines_above 29 row.asked + lines_above 25 row.answer + blocks_height s
+row_height s row = if is_empty row.blocks then 14 else texts_height row + blocks_height s
 
 -- rows one under another
 unfoldable pub rows_height : Sheet → List RowValue → ℕ

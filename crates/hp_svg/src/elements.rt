@@ -1,6 +1,6 @@
 //! The elements of a picture: texts, and rectangles for cells. Lengths are in pixels.
 ghost use Rattle.std.specs.Prelude.{◌≡◌, ◌++◌, ◌*◌, ◌<◌, ◌^◌, OnOk, string_bytes};
-ghost use Rattle.hp_svg.specs.Elements.{box_element, cell_element, escaped, escaped_text, extent, grid_element, grid_start, ink, inked, is_unfit, layer_element, letter_element, narrowed, order_element, order_text, outline_element, outlined, position, run_text, strip_element, text_element};
+ghost use Rattle.hp_svg.specs.Elements.{box_element, cell_element, escaped, escaped_text, extent, grid_element, grid_start, ink, inked, is_unfit, layer_element, letter_element, move_element, move_look, narrowed, order_element, order_text, outline_element, outlined, path, point, position, run_text, strip_element, text_element};
 
 use crate::marks::{fill_of, ink_of, is_lettered, write_mark};
 use crate::runs::{Layer, Run};
@@ -269,6 +269,55 @@ pub(crate) fn write_order(out: &mut String, x: u128, y: u128, order: u32) -> Res
     out.push_str("<text")?;
     write_position(out, x, y)?;
     write_order_text(out, order)
+}
+
+/// Writes a point of a path.
+#[tactic(auto, unfolding(crate::specs::Elements::point))]
+fn write_point(out: &mut String, x: u128, y: u128) -> Result<(), AllocError>
+    ensures { OnOk result (string_bytes out.new ≡ string_bytes out.old ++ point x y) }
+{
+    write!(out, "{x} {y}")
+}
+
+/// Writes a path from one point to another, up to how it looks.
+#[tactic(auto, unfolding(crate::specs::Elements::path))]
+pub(crate) fn write_path(
+    out: &mut String,
+    x: u128,
+    y: u128,
+    to_x: u128,
+    to_y: u128,
+) -> Result<(), AllocError>
+    ensures { OnOk result (string_bytes out.new ≡ string_bytes out.old ++ path x y to_x to_y) }
+{
+    out.push_str("<path d='M")?;
+    write_point(out, x, y)?;
+    out.push_str("L")?;
+    write_point(out, to_x, to_y)?;
+    out.push_str("'")
+}
+
+/// Writes how the line of a page's move looks, and the end of its element.
+#[tactic(auto, unfolding(crate::specs::Elements::move_look))]
+pub(crate) fn write_move_look(out: &mut String) -> Result<(), AllocError>
+    ensures { OnOk result (string_bytes out.new ≡ string_bytes out.old ++ move_look) }
+{
+    out.push_str(" stroke='#b91c1c' stroke-width='1.2' marker-end='url(#arrow)'/>")
+}
+
+/// Writes a path that looks like the line of a page's move.
+#[tactic(auto, unfolding(crate::specs::Elements::move_element))]
+pub(crate) fn write_move_element(
+    out: &mut String,
+    x: u128,
+    y: u128,
+    to_x: u128,
+    to_y: u128,
+) -> Result<(), AllocError>
+    ensures { OnOk result (string_bytes out.new ≡ string_bytes out.old ++ move_element x y to_x to_y) }
+{
+    write_path(out, x, y, to_x, to_y)?;
+    write_move_look(out)
 }
 
 /// Writes what the lines between the cells of a block are.

@@ -7,6 +7,7 @@
 
 mod elements;
 mod marks;
+mod moves;
 mod pictures;
 mod rows;
 mod runs;

@@ -1,10 +1,13 @@
 //! Rows as one picture.
-ghost use Rattle.std.specs.Prelude.{◌≡◌, ◌++◌, ◌<◌, ◌^◌, IfOk, OnOk, string_bytes};
+ghost use Rattle.std.specs.Prelude.{◌≡◌, ◌++◌, ◌<◌, ◌≤◌, ◌^◌, IfOk, OnOk, string_bytes};
 ghost use Rattle.std.specs.List.{enumerate_from, flat_map, range_with_len};
-ghost use Rattle.hp_svg.specs.Pictures.{block_text, corner, entry_text, font, grid, ground, hatching, line_colour, line_end, line_path, line_size, namespace, note_text, notes_text, opening, outline_note, picture_of, picture_with, strip_note, style, title, view};
+ghost use Rattle.hp_svg.specs.Pictures.{block_text, corner, entry_text, font, grid, ground, hatching, line_colour, line_end, line_path, line_size, move_note, namespace, note_text, notes_text, opening, outline_note, picture_of, picture_with, strip_note, strip_notes, style, title, view};
 
-use crate::elements::{write_cell, write_extent, write_outline, write_strip, write_text};
+use crate::elements::{
+    write_cell, write_extent, write_move_element, write_outline, write_strip, write_text,
+};
 use crate::marks::{marks_in, write_label};
+use crate::moves::write_all_moves;
 use crate::rows::write_all_rows;
 use crate::sheets::{Sheet, legend_left, legend_top};
 use hp_numbers::Text;
@@ -15,9 +18,9 @@ use std::alloc::{AllocError, Global};
 /// The picture of rows as SVG (own rule), where the cell of a frame is so many pixels wide: one row
 /// under another, with its texts and the heads of its memory blocks as text, a rectangle for each run
 /// of equal characters of a block's cells, an outline for each free block with its order, and below
-/// the cells a strip for the mobility of pageblocks; above the rows stand a legend of all characters
-/// that occur, of outlines and strips, and the numbers of the blocks and of their first frames. How
-/// wide a block is, and how many there are, is that of the first row; blocks that have no room in
+/// the cells a strip for the mobility of pageblocks; a line from where a page was, in the row above, to
+/// where it moved; above the rows stand a legend of all characters that occur, of outlines, strips and
+/// lines, and the numbers of the blocks and of their first frames. How wide a block is, and how many there are, is that of the first row; blocks that have no room in
 /// 1,600 pixels go on below the first. Of an owner whose letter is in the legend the name stands
 /// there. An error is out of memory.
 ///
@@ -47,13 +50,14 @@ fn picture_with(
     ensures { IfOk result
         (λ picture. string_bytes picture ≡ picture_with sheet names.now.keys marks.now rows.now) }
 {
-    let entries = marks.len() + 3;
+    let entries = marks.len() + 4;
     let mut out = String::new(alloc);
     write_opening(&mut out, sheet.width(), sheet.height(entries, rows))?;
     write_style(&mut out, sheet)?;
     write_legend(&mut out, alloc, names, marks)?;
     write_notes(&mut out, marks.len())?;
     write_all_rows(&mut out, alloc, sheet, sheet.rows_at(entries), rows)?;
+    write_all_moves(&mut out, sheet, sheet.rows_at(entries), rows)?;
     write_blocks(&mut out, alloc, sheet, entries)?;
     out.push_str("</svg>\n")?;
     Ok(out)
@@ -229,15 +233,36 @@ fn write_entry(
     out.push_str("\n")
 }
 
-/// Writes what outlines and strips mean, after so many entries of the legend.
+/// Writes what outlines, strips and lines mean, after so many entries of the legend.
 #[tactic(auto, unfolding(crate::specs::Pictures::notes_text))]
 fn write_notes(out: &mut String, place: usize) -> Result<(), AllocError>
     requires { place < 2 ^ 63 }
     ensures { OnOk result (string_bytes out.new ≡ string_bytes out.old ++ notes_text place) }
 {
     write_outline_note(out, place)?;
-    write_strip_note(out, place + 1, b'M', "movable pageblock")?;
-    write_strip_note(out, place + 2, b'U', "unmovable pageblock")
+    write_strip_notes(out, place + 1)?;
+    write_move_note(out, place + 3)
+}
+
+/// Writes what strips mean, at two places of the legend.
+#[tactic(auto, unfolding(crate::specs::Pictures::strip_notes))]
+fn write_strip_notes(out: &mut String, place: usize) -> Result<(), AllocError>
+    requires { place ≤ 2 ^ 63 }
+    ensures { OnOk result (string_bytes out.new ≡ string_bytes out.old ++ strip_notes place) }
+{
+    write_strip_note(out, place, b'M', "movable pageblock")?;
+    write_strip_note(out, place + 1, b'U', "unmovable pageblock")
+}
+
+/// Writes what a line from row to row means, at a place of the legend.
+#[tactic(auto, unfolding(crate::specs::Pictures::move_note))]
+fn write_move_note(out: &mut String, place: usize) -> Result<(), AllocError>
+    ensures { OnOk result (string_bytes out.new ≡ string_bytes out.old ++ move_note place) }
+{
+    let left = legend_left(place);
+    let top = legend_top(place);
+    write_move_element(out, left, top + 2, left + 12, top + 10)?;
+    write_note(out, place, "page that moved")
 }
 
 /// Writes what outlines mean, at a place of the legend.

@@ -1,7 +1,9 @@
 //! Where things stand in a picture. Lengths are in pixels.
 ghost use Rattle.std.specs.Prelude.{◌≡◌, ◌+◌, ◌*◌, ◌<◌, ◌≤◌, ◌^◌, ◌==◌, count_by, not};
-ghost use Rattle.hp_svg.specs.Sheets.{block_width, blocks_height, bounded, cells_at, cells_width, first_blocks, first_cells, first_frame, has_grid, head_at, height_of, legend_left, legend_top, lines_above, number_at, numbers_at, per_strip, place_of, row_height, rows_at, rows_height, sheet_of, strip_of, strip_top, strips, width_of};
+ghost use Rattle.hp_svg.specs.Sheets.{block_of, block_width, blocks_height, bounded, cells_at, cells_width, first_blocks, first_cells, first_frame, frame_left, frame_top, has_grid, head_at, height_of, legend_left, legend_top, lines_above, number_at, numbers_at, offset_of, pageblock_size, per_strip, place_of, row_height, rows_at, rows_height, sheet_of, strip_of, strip_top, strips, texts_height, width_of};
 
+use crate::elements::cells_of;
+use hp_numbers::Frame;
 use hp_pictures::{BlockPicture, RowPicture};
 
 /// The characters that have room for what was asked, and for what was answered.
@@ -186,6 +188,48 @@ impl Sheet {
         block as u128 * self.frames as u128
     }
 
+    /// In which block a frame is.
+    fn block_of(&self, frame: Frame) -> usize
+        ensures { result ≡ block_of self.now frame }
+    {
+        (frame.0 / self.frames.max(1)) as usize
+    }
+
+    /// How many frames of its block stand before a frame.
+    fn offset_of(&self, frame: Frame) -> u64
+        ensures is { result ≡ offset_of self.now frame }
+        ensures low { result < 2 ^ 32 }
+    {
+        (frame.0 % self.frames.max(1)) as u64
+    }
+
+    /// How many frames a pageblock has.
+    fn pageblock_size(&self) -> u64
+        ensures is { result ≡ pageblock_size self.now }
+        ensures some { 0 < result }
+    {
+        let bars = self.cells.saturating_sub(self.frames) as u64;
+        (self.frames as u64 / (bars + 1)).max(1)
+    }
+
+    /// The middle of a frame's cell, across.
+    pub(crate) fn frame_left(&self, frame: Frame) -> u128
+        ensures { result ≡ frame_left self.now frame }
+    {
+        let offset = self.offset_of(frame);
+        let bars = offset / self.pageblock_size();
+        let left = self.cells_at(self.block_of(frame));
+        left + cells_of(self.cell, (offset + bars) as usize) + self.cell as u128 / 2
+    }
+
+    /// The middle of a frame's cell, down, where the blocks of its row stand here.
+    pub(crate) fn frame_top(&self, here: u128, frame: Frame) -> u128
+        requires { here < 2 ^ 106 }
+        ensures { result ≡ frame_top self.now here frame }
+    {
+        here + self.strip_top(self.block_of(frame)) + 6
+    }
+
     /// The width of a picture.
     pub(crate) fn width(&self) -> u128
         ensures { result ≡ width_of self.now }
@@ -219,8 +263,7 @@ impl Sheet {
         if row.blocks().is_empty() {
             return 14;
         }
-        let texts = lines_above(ASKED, row.asked()) + lines_above(ANSWER, row.answer());
-        texts + self.blocks_height()
+        texts_height(row) + self.blocks_height()
     }
 
     /// How high rows are together.
@@ -251,6 +294,14 @@ pub(crate) fn lines_above(room: u32, text: &str) -> u128
     ensures low { result ≤ 14 }
 {
     if text.len() > room as usize { 14 } else { 0 }
+}
+
+/// How high the texts of a row are that stand above its blocks.
+pub(crate) fn texts_height(row: &RowPicture) -> u128
+    ensures is { result ≡ texts_height row.now }
+    ensures low { result ≤ 28 }
+{
+    lines_above(ASKED, row.asked()) + lines_above(ANSWER, row.answer())
 }
 
 /// Where an entry of the legend stands across, by its place.

@@ -10,7 +10,7 @@ use Rattle.hp_machine.specs.Machine.{MachineValue}
 use Rattle.hp_machine.specs.MachinePorts.{AreCalls}
 use Rattle.hp_ops.specs.Ports.{AreMade}
 use Rattle.hp_text.specs.Plans.{plan_line}
-use Rattle.hp_trace.specs.Calls.{IsDriven, IsStop, MakesPlan, MakesSteps, answer_text, step_text}
+use Rattle.hp_trace.specs.Calls.{IsDriven, IsStop, MakesPlan, MakesSteps, answer_text, moved_of, step_text}
 use Rattle.hp_trace.specs.Ports.{IsTraced, LeavesOff}
 use Rattle.hp_trace.specs.Rows.{Adds, AreDrawn, DrawsIf, RowsValue, drawing, drawn_joined, said, words}
 
@@ -122,11 +122,11 @@ driven m first last after cpu caller turns plan end old start rows new fault gai
 pub plan_added : (m after : MachineValue) (cpu turns : ℕ) (plan copied : List Item) (end : OpEnd)
     (asked : List ℕ) (old head steps new : RowsValue)
     → copied ≡ plan
-    → DrawsIf old.form m asked [] old head
+    → DrawsIf old.form m asked [] None old head
     → Adds head steps (λ list. IsDriven m cpu turns copied end list after) → new ≡ said steps (plan_line end)
     → Adds old new (λ list. MakesPlan m cpu turns plan asked list after)
 plan_added m after cpu turns plan copied end asked old head steps new same drawn a is = record {
-  rows = drawing asked [] m ∷ (a.rows ++ words (plan_line end) ∷ []);
+  rows = drawing asked [] None m ∷ (a.rows ++ words (plan_line end) ∷ []);
   drawn =
       (head, drawn, drawn_joined a.rows (words (plan_line end) ∷ []) head steps new a.drawn (new, is, refl));
   is =
@@ -141,12 +141,12 @@ plan_added m after cpu turns plan copied end asked old head steps new same drawn
 -- one call of a plan
 pub step_traced : (cpu : ℕ) (m after : MachineValue) (r : Receipt) (old new : RowsValue) (was is drawn : Bool)
     → is ≡ (was || not drawn) → AreCalls m cpu (r ∷ []) after
-    → (IsTrue drawn → DrawsIf old.form after (step_text r.event) (answer_text r) old new)
+    → (IsTrue drawn → DrawsIf old.form after (step_text r.event) (answer_text r) (moved_of r.reply) old new)
     → IsTraced cpu old was m (r ∷ []) new is after
 step_traced cpu m after r old new false is true lost calls row = λ none. (
   refl,
   record {
-    rows = drawing (step_text r.event) (answer_text r) after ∷ [];
+    rows = drawing (step_text r.event) (answer_text r) (moved_of r.reply) after ∷ [];
     drawn = (new, row refl, refl);
     is = (
       calls.0,
@@ -154,7 +154,7 @@ step_traced cpu m after r old new false is true lost calls row = λ none. (
       calls.1,
       calls.2,
       ap
-          (λ (k : MachineValue). drawing (step_text r.event) (answer_text r) k ∷ []) calls.3,
+          (λ (k : MachineValue). drawing (step_text r.event) (answer_text r) (moved_of r.reply) k ∷ []) calls.3,
       (calls.3, refl),
     );
   },

@@ -9,7 +9,7 @@ use Rattle.hp_machine.specs.Machine.{IsCalled, MachineValue, is_full, sealed}
 use Rattle.hp_machine.specs.MachinePorts.{AreCalls}
 use Rattle.hp_text.specs.Answers.{sealed_line, unrecorded_line}
 use Rattle.hp_text.specs.Files.{write_fault_line}
-use Rattle.hp_trace.specs.Calls.{MakesEvent, MakesRequest, MakesSeal, answer_text}
+use Rattle.hp_trace.specs.Calls.{MakesEvent, MakesRequest, MakesSeal, answer_text, moved_of}
 use Rattle.hp_trace.specs.Rows.{Adds, AreDrawn, DrawsIf, RowsValue, drawing, noted}
 
 -- ---- an event
@@ -17,10 +17,10 @@ use Rattle.hp_trace.specs.Rows.{Adds, AreDrawn, DrawsIf, RowsValue, drawing, not
 pub event_added : (m after : MachineValue) (cpu : ℕ) (event : Event) (r : Receipt) (asked : List ℕ)
     (old new : RowsValue)
     → IsCalled m cpu event r after → AreCalls m cpu (r ∷ []) after
-    → DrawsIf old.form after asked (answer_text r) old new
+    → DrawsIf old.form after asked (answer_text r) (moved_of r.reply) old new
     → Adds old new (λ rows. MakesEvent m cpu event asked rows after)
 event_added m after cpu event r asked old new called calls drawn = record {
-  rows = drawing asked (answer_text r) after ∷ [];
+  rows = drawing asked (answer_text r) (moved_of r.reply) after ∷ [];
   drawn = (new, drawn, refl);
   is = inl (r, calls.1, called, refl);
 }

@@ -9,6 +9,8 @@ use Rattle.hp_units.specs.declared.replies.CallFault.{CallFault}
 use Rattle.hp_units.specs.declared.replies.CallFault.TheVariants.{HistoryFull, OutOfMemory}
 use Rattle.hp_units.specs.declared.replies.OpEnd.{OpEnd}
 use Rattle.hp_units.specs.declared.replies.Receipt.{Receipt}
+use Rattle.hp_units.specs.declared.replies.Reply.{Reply}
+use Rattle.hp_units.specs.declared.replies.Reply.TheVariants.{Moved}
 use Rattle.hp_requests.specs.declared.fault.ControlFault.{ControlFault}
 use Rattle.hp_requests.specs.declared.writes.Request.{Request}
 use Rattle.hp_requests.specs.declared.writes.Request.TheVariants as request
@@ -17,6 +19,7 @@ use Rattle.hp_requests.specs.Writes.{control_turns, echo_request}
 use Rattle.hp_machine.specs.Machine.{MachineValue, IsCalled, is_full, sealed}
 use Rattle.hp_scenario.specs.declared.lines.Work.{Work}
 use Rattle.hp_scenario.specs.declared.lines.Work.TheVariants as work
+use Rattle.hp_pictures.specs.declared.row_picture.Move.{Move}
 use Rattle.hp_text.specs.Answers.{sealed_line, unrecorded_line}
 use Rattle.hp_text.specs.Files.{read_fault_line, write_fault_line}
 use Rattle.hp_text.specs.Plans.{plan_line}
@@ -29,12 +32,17 @@ use Rattle.hp_trace.specs.Rows.{Row, drawing, noted, words}
 abbrev pub answer_text : Receipt → List ℕ
 answer_text r = decimal r.serial ++ codes ": " ++ reply_text r.reply
 
+-- which page moved by it
+abbrev pub moved_of : Reply → Option Move
+moved_of (Moved from to) = Some (record { from = from; to = to })
+moved_of _ = None
+
 -- an event was called; or the history is full, which is said
 abbrev pub MakesEvent : MachineValue → (cpu : ℕ) → Event → (asked : List ℕ) → (rows : List Row)
     → (after : MachineValue) → Type 0
 MakesEvent m cpu event asked rows after =
     ((r : Receipt) × (is_full m ≡ false) × IsCalled m cpu event r after
-    × (rows ≡ drawing asked (answer_text r) after ∷ []))
+    × (rows ≡ drawing asked (answer_text r) (moved_of r.reply) after ∷ []))
     ⊎ ((is_full m ≡ true) × (after ≡ m) × (rows ≡ noted m asked (unrecorded_line HistoryFull)))
 
 -- ---- a plan
@@ -49,7 +57,7 @@ abbrev pub MakesSteps : (cpu : ℕ) → MachineValue → List Receipt → (rows 
 MakesSteps cpu m [] rows after = (after ≡ m) × (rows ≡ [])
 MakesSteps cpu m (r ∷ rs) rows after =
     (next : MachineValue) × (rest : List Row) × (is_full m ≡ false) × IsCalled m cpu r.event r next
-    × (rows ≡ drawing (step_text r.event) (answer_text r) next ∷ rest) × MakesSteps cpu next rs rest after
+    × (rows ≡ drawing (step_text r.event) (answer_text r) (moved_of r.reply) next ∷ rest) × MakesSteps cpu next rs rest after
 
 -- a plan's driver stops early only at a full history
 abbrev pub IsStop : Option CallFault → MachineValue → Type 0
@@ -72,7 +80,7 @@ pub record MakesPlan (m : MachineValue) (cpu turns : ℕ) (plan : List Item) (as
   pub steps : List Row
   pub end : OpEnd
   pub driven : IsDriven m cpu turns plan end steps after
-  pub is : rows ≡ drawing asked [] m ∷ (steps ++ words (plan_line end) ∷ [])
+  pub is : rows ≡ drawing asked [] None m ∷ (steps ++ words (plan_line end) ∷ [])
 
 -- ---- control files
 

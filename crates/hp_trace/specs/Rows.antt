@@ -1,11 +1,12 @@
 -- The rows of a trace: what was asked, what was answered, and the memory after it (own rule).
-use Rattle.std.specs.Prelude.{ℕ, ◌≡◌, List, [], ◌∷◌, ◌++◌, codes, map}
+use Rattle.std.specs.Prelude.{ℕ, ◌≡◌, List, [], ◌∷◌, ◌++◌, codes, map, Option, None}
 use Rattle.std.proofs.Common.{subst}
 use Rattle.std.specs.Str.Lines.{lines}
 use Rattle.hp_machine.specs.Machine.{MachineValue}
 use Rattle.hp_map.specs.Pictures.{IsPicture}
 use Rattle.hp_pictures.specs.Blocks.{BlockValue}
 use Rattle.hp_pictures.specs.Rows.{RowValue, row_with}
+use Rattle.hp_pictures.specs.declared.row_picture.Move.{Move}
 use Rattle.hp_text.specs.State.{newline}
 use Rattle.hp_trace.specs.Columns.{label_text}
 use Rattle.hp_trace.specs.Folds.{is_past, memory_text, paper_of, widened}
@@ -32,7 +33,7 @@ fitted r = record r { paper = widened (is_past r.paper r.shown) r.paper }
 
 -- lines as rows without memory blocks
 abbrev pub line_rows : (texts : List (List ℕ)) → List RowValue
-line_rows texts = map (λ text. row_with text [] []) texts
+line_rows texts = map (λ text. row_with text [] None []) texts
 
 -- a text of lines more
 abbrev pub said_as : Form → RowsValue → List ℕ → RowsValue
@@ -58,27 +59,30 @@ pub record IsRow (m : MachineValue) (asked answer : List ℕ) (old new : RowsVal
     shown = blocks;
   }
 
--- a row more that is kept, with all memory blocks
-pub record IsKept (m : MachineValue) (asked answer : List ℕ) (old new : RowsValue) : Type 0 where
+-- a row more that is kept, with the page that moved and all memory blocks
+pub record IsKept (m : MachineValue) (asked answer : List ℕ) (moved : Option Move) (old new : RowsValue)
+    : Type 0 where
   pub blocks : List BlockValue
   pub picture : IsPicture m.layout m.state old.paper.orders blocks
-  pub is : new ≡ record old { kept = old.kept ++ row_with asked answer blocks ∷ [] }
+  pub is : new ≡ record old { kept = old.kept ++ row_with asked answer moved blocks ∷ [] }
 
 -- a row more in its form, and none where it is not seen
-abbrev pub DrawsIf : Form → MachineValue → (asked answer : List ℕ) → (old new : RowsValue) → Type 0
-DrawsIf Unseen m asked answer old new = new ≡ old
-DrawsIf Written m asked answer old new = IsRow m asked answer old new
-DrawsIf Kept m asked answer old new = IsKept m asked answer old new
+abbrev pub DrawsIf : Form → MachineValue → (asked answer : List ℕ) → (moved : Option Move)
+    → (old new : RowsValue) → Type 0
+DrawsIf Unseen m asked answer moved old new = new ≡ old
+DrawsIf Written m asked answer moved old new = IsRow m asked answer old new
+DrawsIf Kept m asked answer moved old new = IsKept m asked answer moved old new
 
 -- ---- rows one under another
 
--- a row: what was asked and answered, and the machine whose memory is drawn; or a text of lines below one
+-- a row: what was asked and answered, which page moved by it, and the machine whose memory is drawn; or a
+-- text of lines below one
 pub data Row : Type 0 where
-  drawing : (asked answer : List ℕ) → MachineValue → Row
+  drawing : (asked answer : List ℕ) → (moved : Option Move) → MachineValue → Row
   words : (text : List ℕ) → Row
 
 abbrev pub IsDrawn : Row → (old new : RowsValue) → Type 0
-IsDrawn (drawing asked answer m) old new = DrawsIf old.form m asked answer old new
+IsDrawn (drawing asked answer moved m) old new = DrawsIf old.form m asked answer moved old new
 IsDrawn (words text) old new = new ≡ said old text
 
 abbrev pub AreDrawn : List Row → (old new : RowsValue) → Type 0
@@ -87,7 +91,7 @@ AreDrawn (row ∷ rows) old new = (mid : RowsValue) × IsDrawn row old mid × Ar
 
 -- a row without an answer, and a text below it
 abbrev pub noted : MachineValue → (asked text : List ℕ) → List Row
-noted m asked text = drawing asked [] m ∷ words text ∷ []
+noted m asked text = drawing asked [] None m ∷ words text ∷ []
 
 -- rows of which P holds were drawn
 pub record Adds (old new : RowsValue) (P : List Row → Type 0) : Type 0 where

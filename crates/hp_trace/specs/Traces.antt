@@ -1,5 +1,5 @@
 -- A scenario traced (own rule).
-use Rattle.std.specs.Prelude.{ℕ, ◌≡◌, ◌+◌, ◌-◌, ◌^◌, Bool, List, [], ◌∷◌, ◌++◌, codes, Ok, if◌then◌else◌}
+use Rattle.std.specs.Prelude.{ℕ, ◌≡◌, ◌+◌, ◌-◌, ◌^◌, Bool, List, [], ◌∷◌, ◌++◌, codes, None, Ok, if◌then◌else◌}
 use Rattle.std.specs.Fmt.{format_spec, styled_decimal}
 use Rattle.hp_machine.specs.Machine.{MachineValue, booted}
 use Rattle.hp_scenario.specs.Scenario.{ScenarioValue, scenario_in}
@@ -40,7 +40,7 @@ shown_rows v number (rows ∷ rest) = rows_if (shows v number) rows ++ shown_row
 -- changed
 pub record IsStart (form : Form) (v : View) (m : MachineValue) (rows : RowsValue) : Type 0 where
   pub first : RowsValue
-  pub drawn : DrawsIf form m (codes "   0 boot") [] (no_rows form v) first
+  pub drawn : DrawsIf form m (codes "   0 boot") [] None (no_rows form v) first
   pub is : rows ≡ fitted first
 
 -- a line was done, and its rows drawn where it is shown

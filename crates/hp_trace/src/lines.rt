@@ -73,7 +73,7 @@ fn start(alloc: Global, machine: &Machine, view: View, form: Form) -> Result<Row
     ensures { IfOk result (IsStart form view machine.now) }
 {
     let mut rows = Rows::new(alloc, form, view);
-    rows.draw(alloc, machine, "   0 boot", "")?;
+    rows.draw(alloc, machine, "   0 boot", "", None)?;
     rows.fit(alloc)?;
     Ok(rows)
 }

@@ -1,6 +1,6 @@
 //! A plan, with a row for each of its calls.
 ghost use Rattle.std.specs.Prelude.{◌≡◌, ◌||◌, not, None, IfOk, IsTrue, OnOk, false, string_bytes};
-ghost use Rattle.hp_trace.specs.Calls.{IsDriven, MakesPlan, answer_text, step_text};
+ghost use Rattle.hp_trace.specs.Calls.{IsDriven, MakesPlan, answer_text, moved_of, step_text};
 ghost use Rattle.hp_trace.specs.Ports.{is_memory};
 ghost use Rattle.hp_text.specs.Plans.{plan_line};
 ghost use Rattle.hp_trace.specs.Rows.{Adds, DrawsIf, said};
@@ -8,6 +8,7 @@ ghost use Rattle.hp_trace.specs.Rows.{Adds, DrawsIf, said};
 use crate::rows::Rows;
 use hp_machine::Machine;
 use hp_ops::{Port, run_plan};
+use hp_pictures::Move;
 use hp_text::{write_event, write_plan_end};
 use hp_units::{CallFault, Cpu, Event, OpEnd, Plan, Receipt, Reply};
 use indexmap::IndexSet;
@@ -114,8 +115,8 @@ fn is_memory(fault: CallFault) -> bool
 /// Draws the row of a call of a plan, and answers whether there was memory for it.
 fn draw_step(rows: &mut Rows, alloc: Global, machine: &Machine, receipt: &Receipt) -> bool
     ensures { IsTrue result
-        → DrawsIf rows.old.form machine.now (step_text receipt.now.event) (answer_text receipt.now) rows.old
-        rows.new }
+        → DrawsIf rows.old.form machine.now (step_text receipt.now.event) (answer_text receipt.now)
+        (moved_of receipt.now.reply) rows.old rows.new }
 {
     match step_text(alloc, &receipt.event) {
         Ok(asked) => draw_receipt(rows, alloc, machine, asked.as_str(), receipt).is_ok(),
@@ -143,10 +144,27 @@ pub(crate) fn draw_receipt(
     receipt: &Receipt,
 ) -> Result<(), AllocError>
     ensures { OnOk result
-        (DrawsIf rows.old.form machine.now asked.now (answer_text receipt.now) rows.old rows.new) }
+        (DrawsIf rows.old.form machine.now asked.now (answer_text receipt.now) (moved_of receipt.now.reply)
+        rows.old rows.new) }
 {
     let answer = answer_text(alloc, receipt)?;
-    rows.draw(alloc, machine, asked, answer.as_str())
+    rows.draw(
+        alloc,
+        machine,
+        asked,
+        answer.as_str(),
+        moved_of(receipt.reply),
+    )
+}
+
+/// Which page moved by a call, if one did.
+fn moved_of(reply: Reply) -> Option<Move>
+    ensures { result ≡ moved_of reply }
+{
+    match reply {
+        Reply::Moved { from, to } => Some(Move { from, to }),
+        _ => None,
+    }
 }
 
 /// The answer of a call: its serial and its reply.
@@ -174,7 +192,7 @@ pub(crate) fn trace_plan(
     ensures { OnOk result (Adds rows.old rows.new
         (λ list. MakesPlan machine.old cpu turns plan.now asked.now list machine.new)) }
 {
-    rows.draw(alloc, machine, asked, "")?;
+    rows.draw(alloc, machine, asked, "", None)?;
     let plan = plan.copy(alloc)?;
     match drive(rows, alloc, machine, cpu, plan, turns) {
         Ok(end) => say_end(rows, alloc, end),

@@ -9,7 +9,7 @@ use crate::folds::{Paper, is_past, memory_text};
 use crate::view::View;
 use hp_machine::Machine;
 use hp_map::picture_of;
-use hp_pictures::{BlockPicture, RowPicture};
+use hp_pictures::{BlockPicture, Move, RowPicture};
 use hp_units::Text;
 use std::alloc::{AllocError, Global};
 use std::marker::Model;
@@ -85,21 +85,23 @@ impl Rows {
         }
     }
 
-    /// Adds a row: what was asked, what was answered, and the machine's memory. An error is out of
-    /// memory.
+    /// Adds a row: what was asked, what was answered, which page moved by it, and the machine's
+    /// memory. An error is out of memory.
     pub(crate) fn draw(
         &mut self,
         alloc: Global,
         machine: &Machine,
         asked: &str,
         answer: &str,
+        moved: Option<Move>,
     ) -> Result<(), AllocError>
-        ensures { OnOk result (DrawsIf self.old.form machine.now asked.now answer.now self.old self.new) }
+        ensures { OnOk result
+            (DrawsIf self.old.form machine.now asked.now answer.now moved self.old self.new) }
     {
         match self.form {
             Form::Unseen => Ok(()),
             Form::Written => self.draw_row(alloc, machine, asked, answer),
-            Form::Kept => self.keep_row(alloc, machine, asked, answer),
+            Form::Kept => self.keep_row(alloc, machine, asked, answer, moved),
         }
     }
 
@@ -128,11 +130,12 @@ impl Rows {
         machine: &Machine,
         asked: &str,
         answer: &str,
+        moved: Option<Move>,
     ) -> Result<(), AllocError>
-        ensures { OnOk result (IsKept machine.now asked.now answer.now self.old self.new) }
+        ensures { OnOk result (IsKept machine.now asked.now answer.now moved self.old self.new) }
     {
         let blocks = picture_of(alloc, machine, self.paper.orders)?;
-        let row = kept_row(alloc, asked, answer, blocks)?;
+        let row = kept_row(alloc, asked, answer, moved, blocks)?;
         self.kept.push(row)?;
         Ok(())
     }
@@ -147,7 +150,7 @@ impl Rows {
     ) -> Result<(), AllocError>
         ensures { OnOk result (AreDrawn (noted machine.now asked.now text.now) self.old self.new) }
     {
-        self.draw(alloc, machine, asked, "")?;
+        self.draw(alloc, machine, asked, "", None)?;
         self.say(alloc, text)
     }
 
@@ -185,23 +188,26 @@ fn keep_lines(kept: &mut Vec<RowPicture>, alloc: Global, text: &str) -> Result<(
     ensures { OnOk result (kept.new.items ≡ kept.old.items ++ line_rows (lines text.now)) }
 {
     for line in text.lines() {
-        kept.push(kept_row(alloc, line, "", Vec::new(alloc))?)?;
+        kept.push(kept_row(alloc, line, "", None, Vec::new(alloc))?)?;
     }
     Ok(())
 }
 
-/// A row of these texts and memory blocks.
+/// A row of these texts, this move and these memory blocks.
 fn kept_row(
     alloc: Global,
     asked: &str,
     answer: &str,
+    moved: Option<Move>,
     blocks: Vec<BlockPicture>,
 ) -> Result<RowPicture, AllocError>
-    ensures { IfOk result (λ row. row ≡ row_with asked.now answer.now blocks.items) }
+    ensures { IfOk result (λ row. row ≡ row_with asked.now answer.now moved blocks.items) }
 {
     let asked = String::from_str(alloc, asked)?;
     let answer = String::from_str(alloc, answer)?;
-    Ok(RowPicture::new(Text::new(asked), Text::new(answer), blocks))
+    let asked = Text::new(asked);
+    let answer = Text::new(answer);
+    Ok(RowPicture::new(asked, answer, moved, blocks))
 }
 
 /// Writes what was asked and answered, and the memory.

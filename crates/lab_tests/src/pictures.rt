@@ -1,8 +1,8 @@
 //! Rows drawn as a picture.
-use hp_pictures::{BlockPicture, FreeBlock, RowPicture};
+use hp_pictures::{BlockPicture, FreeBlock, Move, RowPicture};
 use hp_svg::picture_of;
 use hp_trace::{View, trace_rows};
-use hp_units::Text;
+use hp_units::{Frame, Text};
 use indexmap::IndexSet;
 use std::alloc::{AllocError, Global};
 use std::test::Fail;
@@ -13,10 +13,10 @@ const BOOT: &str = "   0 boot";
 /// A text of characters that XML spells otherwise, or has not.
 const WORDS: &str = "<&>\"\t";
 
-/// A row with each kind of cell and one of words, as a picture, which another program wrote, by hand,
-/// from the rules of LAB.md.
+/// A row with each kind of cell, one of words and one whose page moved, as a picture, which another
+/// program wrote, by hand, from the rules of LAB.md.
 const PICTURE: &str =
-    "<svg xmlns='http://www.w3.org/2000/svg' width='820' height='120' viewBox='0 0 820 120' \
+    "<svg xmlns='http://www.w3.org/2000/svg' width='820' height='150' viewBox='0 0 820 150' \
      font-family='monospace' font-size='10' xml:space='preserve'><title>Trace of a \
      memory</title><style>text{white-space:pre}</style><pattern id='isolated' width='4' \
      height='4' patternUnits='userSpaceOnUse'><rect width='4' height='4' fill='#eef5ee'/><path \
@@ -43,7 +43,9 @@ const PICTURE: &str =
      pageblock</text>\n\
      <rect x='648' y='29' width='12' height='2' fill='#4c1d95'/><text x='666' y='34'>unmovable \
      pageblock</text>\n\
-     <g transform='translate(0 78)'><text x='8' y='10'>   0 boot</text><text x='188' y='10'>1: \
+     <path d='M8 42L20 50' stroke='#b91c1c' stroke-width='1.2' marker-end='url(#arrow)'/><text \
+     x='26' y='50'>page that moved</text>\n\
+     <g transform='translate(0 94)'><text x='8' y='10'>   0 boot</text><text x='188' y='10'>1: \
      done</text><text x='336' y='10'> 0:N</text><rect x='384' y='0' width='8' height='12' \
      fill='#0072b2'/><text x='386' y='9' font-size='8' fill='#ffffff'>a</text><rect x='392' y='0' \
      width='24' height='12' fill='#7fbf7b'/><rect x='424' y='0' width='16' height='12' \
@@ -67,10 +69,18 @@ const PICTURE: &str =
      fill='none' stroke='#14532d'/><text x='524' y='9' font-size='8' fill='#052e16' \
      stroke='#ffffff' stroke-width='2' paint-order='stroke'>1</text>\n\
      <text x='188' y='24'>&lt;&amp;&gt;&quot;?</text>\n\
+     <text x='8' y='38'>   1 0 migrate 1</text><text x='188' y='38'>2: moved 0 5</text><text \
+     x='336' y='38'> 0:N</text><rect x='384' y='28' width='32' height='12' fill='#d4d4d8'/><rect \
+     x='424' y='28' width='32' height='12' fill='#d4d4d8'/><use href='#lines' x='384' y='28'/>\n\
      \n\
      </g>\n\
-     <text x='384' y='60'>block 0</text><text x='384' y='72'>frame 0</text>\n\
-     <text x='504' y='60'>block 1</text><text x='504' y='72'>frame 8</text>\n\
+     <marker id='arrow' viewBox='0 0 6 6' refX='5' refY='3' markerWidth='5' markerHeight='5' \
+     orient='auto'><path d='M0 0L6 3L0 6Z' fill='#b91c1c'/></marker><defs><g id='moves' \
+     transform='translate(0 94)'><path d='M388 6L436 34'/></g></defs><use href='#moves' \
+     stroke='#ffffff' stroke-width='3' stroke-opacity='0.6'/><use href='#moves' stroke='#b91c1c' \
+     stroke-width='1.2' marker-end='url(#arrow)'/>\n\
+     <text x='384' y='76'>block 0</text><text x='384' y='88'>frame 0</text>\n\
+     <text x='504' y='76'>block 1</text><text x='504' y='88'>frame 8</text>\n\
      </svg>\n";
 
 /// A text.
@@ -110,12 +120,25 @@ fn blocks(alloc: Global) -> Result<Vec<BlockPicture>, AllocError> {
     Ok(vec![in alloc; first, second]?)
 }
 
-/// A row with each kind of cell, and one of words.
+/// A row of a page that moved, to a frame after a bar, and of a memory block that is offline.
+fn moved(alloc: Global) -> Result<RowPicture, AllocError> {
+    let offline = block(alloc, "0:N", "----|----", Vec::new(alloc), "    |    ")?;
+    let asked = text(alloc, "   1 0 migrate 1")?;
+    let answer = text(alloc, "2: moved 0 5")?;
+    let page = Move {
+        from: Frame(0),
+        to: Frame(5),
+    };
+    let blocks = vec![in alloc; offline]?;
+    Ok(RowPicture::new(asked, answer, Some(page), blocks))
+}
+
+/// A row with each kind of cell, one of words, and one whose page moved.
 fn rows(alloc: Global) -> Result<Vec<RowPicture>, AllocError> {
     let answer = text(alloc, "1: done")?;
-    let boot = RowPicture::new(text(alloc, BOOT)?, answer, blocks(alloc)?);
-    let words = RowPicture::new(text(alloc, WORDS)?, text(alloc, "")?, Vec::new(alloc));
-    Ok(vec![in alloc; boot, words]?)
+    let boot = RowPicture::new(text(alloc, BOOT)?, answer, None, blocks(alloc)?);
+    let words = RowPicture::new(text(alloc, WORDS)?, text(alloc, "")?, None, Vec::new(alloc));
+    Ok(vec![in alloc; boot, words, moved(alloc)?]?)
 }
 
 /// The names of owners.
