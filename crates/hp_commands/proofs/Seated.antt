@@ -1,23 +1,16 @@
 -- The seats after a run: one for each processor still.
-use Rattle.std.proofs.Common.{◌≡◌, ℕ, ◌<◌, List, [], ◌∷◌, length, Option, Some, slice_get, get_or, sym, ap, ◌∙◌, arith}
+use Rattle.std.proofs.Common.{◌≡◌, ℕ, ◌<◌, List, [], length, Option, Some, slice_get, get_or, sym, ap, ◌∙◌, arith}
 use Rattle.std.proofs.lemmas.List.FromFn.{get_or-map-range_with_len, length-map-range_with_len}
 use Rattle.std.proofs.lemmas.Option.{slice_get-get_or, slice_get_within}
 use Rattle.hp_units.specs.LayoutParts.{LayoutParts}
-use Rattle.hp_units.specs.declared.replies.Receipt.{Receipt}
 use Rattle.hp_history.specs.declared.volumes.Volume.{Volume}
 use Rattle.hp_scenario.specs.declared.lines.Line.{Line}
 use Rattle.hp_shared.specs.Comparing.{HasEach}
-use Rattle.hp_shared.specs.SeatPorts.{AreTurns}
 use Rattle.hp_shared.specs.Shared.{SeatValue, first_seat, first_seats}
 use Rattle.hp_workers.specs.declared.fault.RunFault.{RunFault}
 use Rattle.hp_workers.specs.declared.lines.LineEnd.{LineEnd}
 use Rattle.hp_workers.specs.Workers.{AreWorkers}
-
--- calls don't change a seat's processor
-turns_cpu : (gained : List Receipt) (l : LayoutParts) (old new : SeatValue) → AreTurns l old gained new
-    → new.cpu ≡ old.cpu
-turns_cpu [] l old new turns = ap (λ (s : SeatValue). s.cpu) turns
-turns_cpu (r ∷ rs) l old new turns = turns_cpu rs l turns.0 new turns.2 ∙ turns.1.cpu
+use Rattle.hp_workers.proofs.LineRuns.{worked_cpu}
 
 first_seat_at : (cpus place : ℕ) → place < cpus → slice_get (first_seats cpus) place ≡ Some (first_seat place)
 first_seat_at cpus place inside =
@@ -55,7 +48,8 @@ seat_is_own l scripts seats handed ends fault count workers place seat here =
       inside = inside;
       own =
           sym (ap (λ (s : SeatValue). s.cpu) same)
-          ∙ turns_cpu found.worker.worked.gained l (first_seat place) found.new found.worker.worked.turns;
+          ∙ worked_cpu l (first_seat place) (get_or scripts place []) found.new found.handed found.own
+          found.worker.worked;
     }
 
 pub has_each : (l : LayoutParts) (scripts : List (List Line)) (seats : List SeatValue) (handed : List Volume)

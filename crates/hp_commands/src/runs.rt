@@ -58,9 +58,10 @@ pub fn work_off<R: Threads + Wait + Sync>(
 {
     let scenario = Scenario::read(alloc, input)?;
     let machine = boot(alloc, &scenario.layout, scenario.lines.as_slice().len())?;
-    let blank = Blank::new(scenario.layout.cpus() as u64);
+    let records = Blank::new(scenario.layout.cpus() as u64);
+    let sealed = Blank::new(scenario.layout.cpus() as u64);
     let scripts = scenario.scripts(alloc)?;
-    run_scripts::<Brand, R>(rt, alloc, blank, machine, scripts)
+    run_scripts::<Brand, R>(rt, alloc, records, sealed, machine, scripts)
 }
 
 /// Runs a script for each processor of a machine at its start, each in a thread of its own, and
@@ -68,21 +69,23 @@ pub fn work_off<R: Threads + Wait + Sync>(
 fn run_scripts<L: Job + Send + Sync, R: Threads + Wait + Sync>(
     rt: &R,
     alloc: Global,
-    blank: Blank,
+    records: Blank,
+    sealed: Blank,
     machine: Machine,
     scripts: Vec<Script>,
 ) -> Result<Worked, ProgramFault>
     requires machine { IsFresh L.layout machine }
-    requires name { blank.name ≡ L.name }
-    requires parts { blank.parts ≡ L.parts }
-    requires one_each { blank.parts ≡ L.layout.cpus }
+    requires name { records.name ≡ L.name }
+    requires parts { records.parts ≡ L.parts }
+    requires one_each { records.parts ≡ L.layout.cpus }
+    requires sealed { (sealed.name ≡ L.sealed) × (sealed.parts ≡ L.layout.cpus) }
     requires scripts { length scripts.items ≡ L.layout.cpus }
     requires run { AreForRun scripts.items }
     ensures ok { IfOk result (λ worked. IsWorkedOff L.layout scripts.items worked.ends.items
         worked.closed.volumes.items worked.closed.machine worked.closed.records) }
     ensures err { IfErr result (IsWorkFault L.layout scripts.items) }
 {
-    let Ok((shared, seats)) = Shared::<L>::new(alloc, blank, machine) else {
+    let Ok((shared, seats)) = Shared::<L>::new(alloc, records, sealed, machine) else {
         return Err(ProgramFault::OutOfMemory);
     };
     let RunEnd {

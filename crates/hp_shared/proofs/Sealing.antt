@@ -5,10 +5,10 @@ use Rattle.std.proofs.lemmas.Bool.{cases_lt}
 use Rattle.std.proofs.lemmas.List.{append_assoc, append-nil, length-append}
 use Rattle.std.proofs.lemmas.List.Sums.{sum_by-cons, sum_by-take-le}
 use Rattle.hp_units.specs.declared.replies.Record.{Record}
-use Rattle.hp_history.specs.Volumes.{records_in}
+use Rattle.hp_history.specs.Volumes.{records_in, volume_of}
 use Rattle.hp_history.proofs.Chains.{count_more}
 use Rattle.hp_history.specs.declared.volumes.Volume.{Volume}
-use Rattle.hp_machine.specs.Machine.{MachineValue, last_serial}
+use Rattle.hp_machine.specs.Machine.{MachineValue, last_serial, sealed}
 use Rattle.hp_shared.specs.declared.marks.Mark.{Mark}
 use Rattle.hp_shared.specs.Comparing.{IsOutcome, StraysAt}
 use Rattle.hp_shared.specs.Marks.{AreMarks, AreSeated, lower}
@@ -55,6 +55,21 @@ pub counted_all : (vs : List Volume) (m : MachineValue) (n : ℕ) → ReachSeale
     → n ≡ length (all_records vs m)
 counted_all vs m n reach is =
     omega (arith, is, length-append (sealed_records vs) m.history, length_sealed vs, reach.sealed_all)
+
+-- where a seal handed out a volume, as many more records are sealed as it has
+pub handed_on : (old new : MachineValue) (v : Volume) (was : ℕ) (records : List Record) (len now : ℕ)
+    → was ≡ old.before → v ≡ volume_of old → new ≡ sealed old → records ≡ v.records → len ≡ length records
+    → now ≡ was + len → now ≡ new.before
+handed_on old new v was records len now counted is goes_on own count more =
+    omega (
+      arith,
+      counted,
+      count,
+      more,
+      ap (λ (rs : List Record). length rs) own,
+      ap (λ (x : Volume). length x.records) is,
+      ap (λ (m : MachineValue). m.before) goes_on,
+    )
 
 -- ---- marks
 

@@ -1,5 +1,6 @@
 -- A seat's call is a port's.
-use Rattle.std.proofs.Common.{◌≡◌, ℕ, ◌+◌, ◌<◌, List, [], ◌∷◌, ◌++◌, length, Option, None, Result, Err, refl, ap, sym, subst, ◌∙◌, arith}
+use Rattle.std.specs.Prelude.{◌≤◌}
+use Rattle.std.proofs.Common.{◌≡◌, ℕ, ◌+◌, ◌<◌, List, [], ◌∷◌, ◌++◌, length, Option, None, Result, Err, refl, ap, sym, subst, ◌∙◌, arith, inl, inr}
 use Rattle.std.proofs.lemmas.List.{length-append}
 use Rattle.hp_units.specs.LayoutParts.{LayoutParts}
 use Rattle.hp_units.specs.History.{reply_of}
@@ -11,7 +12,7 @@ use Rattle.hp_units.specs.declared.replies.Reply.{Reply}
 use Rattle.hp_history.specs.Course.{receipt_for}
 use Rattle.hp_ops.specs.Ports.{IsBeginReply, IsDriverReply, IsGiven}
 use Rattle.hp_machine.proofs.Replies.{begin_known, driver_known}
-use Rattle.hp_shared.specs.Shared.{IsSeatCall, IsSeated, IsTurn, SeatValue}
+use Rattle.hp_shared.specs.Shared.{IsFilled, IsSeatCall, IsSeated, IsTurn, SeatValue}
 use Rattle.hp_shared.specs.SeatPorts.{AreTurns, port_value}
 use Rattle.hp_shared.proofs.Turns.{last_reply}
 
@@ -48,12 +49,14 @@ turned_once l old new event r seated =
 
 -- a turn's receipt, which has a copy of the event, is appended
 pub seat_called : (l : LayoutParts) (cpu : ℕ) (was held now : List Receipt) (event copy : Event)
-    (answer : ℕ × Reply) (share more : ℕ)
+    (answer : ℕ × Reply) (share more sealed kept : ℕ)
     → copy ≡ event → cpu < l.cpus → held ≡ was → now ≡ held ++ receipt_for copy answer ∷ []
-    → share ≡ length was → more ≡ share + 1 → IsTurn l cpu event (receipt_for event answer) more
-    → IsSeatCall l (record { cpu = cpu; receipts = was }) event answer.1
-    (record { cpu = cpu; receipts = now })
-seat_called l cpu was held now event copy answer share more copied inside same pushed counted risen turn =
+    → share ≡ length was → more ≡ share + 1 → kept ≡ sealed
+    → IsTurn l cpu event (receipt_for event answer) more
+    → IsSeatCall l (record { cpu = cpu; receipts = was; sealed = sealed }) event answer.1
+    (record { cpu = cpu; receipts = now; sealed = kept })
+seat_called l cpu was held now event copy answer share more sealed kept copied inside same pushed counted risen
+    still turn =
     let receipts : now ≡ was ++ receipt_for copy answer ∷ [] =
     pushed ∙ ap (λ (rs : List Receipt). rs ++ receipt_for copy answer ∷ []) same in
     let amount : more ≡ length now =
@@ -71,11 +74,19 @@ seat_called l cpu was held now event copy answer share more copied inside same p
         inside = inside;
         cpu = refl;
         receipts = receipts;
+        sealed = still;
         turn =
             subst (λ (e : Event). IsTurn l cpu event (receipt_for e answer) (length now)) (sym copied)
             (subst (IsTurn l cpu event (receipt_for event answer)) amount turn);
       };
     }
+
+-- what fills a history, of receipts that are fewer than 2^63
+pub fills : (l : LayoutParts) (sealed share held len room : ℕ) → IsFilled l sealed share → share ≡ held
+    → len ≡ held → len ≤ room → room < 9223372036854775808 → l.history + sealed ≤ held
+fills l sealed share held len room (inl most) counted is within small = omega (arith, most, counted)
+fills l sealed share held len room (inr last) counted is within small =
+    absurd (omega (arith, last, counted, is, within, small))
 
 -- a full history is the same fault, whatever the call would have answered
 abbrev pub faulted : (A : Type 0) → CallFault → Result A CallFault

@@ -1,6 +1,6 @@
 -- A recorded call keeps what every lock shows, and so does a seal.
 use Rattle.std.specs.Prelude.{IfOk, IsTrue, is_ok, nat_le, ◌||◌, ◌≤◌, ◌↔◌}
-use Rattle.std.proofs.Common.{◌≡◌, Bool, true, false, Result, Ok, Err, ℕ, ◌+◌, List, [], ◌∷◌, ◌++◌, length, Some, slice_get, take, refl, ap, sym, subst, ◌∙◌, arith}
+use Rattle.std.proofs.Common.{◌≡◌, Bool, true, false, Result, Ok, Err, ℕ, ◌+◌, List, [], ◌∷◌, ◌++◌, length, Some, slice_get, take, refl, ap, sym, subst, ◌∙◌, arith, inl, inr}
 use Rattle.std.proofs.lemmas.Bool.{leb-true}
 use Rattle.std.proofs.lemmas.List.{length-append}
 use Rattle.hp_units.specs.LayoutParts.{LayoutParts}
@@ -19,8 +19,8 @@ use Rattle.hp_history.specs.Kept.{pictured}
 use Rattle.hp_history.specs.Volumes.{FollowsVolumes, records_in, state_after, volume_of}
 use Rattle.hp_history.proofs.Chains.{chain_more, count_more, state_more}
 use Rattle.hp_history.specs.declared.volumes.Volume.{Volume}
-use Rattle.hp_machine.specs.Machine.{IsCalled, IsHistory, IsSound, MachineValue, is_full, last_serial, record_of, sealed}
-use Rattle.hp_shared.specs.Shared.{IsFresh, IsLastOf, IsShared}
+use Rattle.hp_machine.specs.Machine.{IsCalled, IsHistory, MachineValue, is_full, last_serial, record_of, sealed}
+use Rattle.hp_shared.specs.Shared.{IsFilled, IsFresh, IsLastOf, IsShared}
 
 -- the machine that a call made has a legal history again, and the state of that history
 called_history : (old new : MachineValue) (cpu : ℕ) (event : Event) (r : Receipt)
@@ -70,35 +70,50 @@ turned_ok l old new was total cpu event (Ok answer) shared called recorded more 
     turned l old new was total cpu event (receipt_for event answer) shared called more
 turned_ok l old new was total cpu event (Err fault) shared called recorded more = absurd cc
 
--- a machine with a full history has made as many records as the history may hold
-full_count : (m : MachineValue) → IsSound m → is_full m ≡ true → m.layout.history ≤ last_serial m
-full_count m sound full =
-    by_room (nat_le m.layout.history (length m.history)) (is_spent m) refl refl full
+-- where it was recorded, as many records are sealed as before
+pub still_sealed : (old new : MachineValue) (cpu : ℕ) (event : Event) (result : Result (ℕ × Reply) CallFault)
+    (count : ℕ)
+    → IfOk result (λ answer. IsCalled old cpu event (receipt_for event answer) new)
+    → is_ok result ≡ true → count ≡ old.before → count ≡ new.before
+still_sealed old new cpu event (Ok answer) count called recorded is = is ∙ sym called.before
+still_sealed old new cpu event (Err fault) count called recorded is = absurd cc
+
+-- a machine with a full history has made as many records since its last seal as the history may
+-- hold, or there is no further serial
+full_count : (m : MachineValue) → is_full m ≡ true → IsFilled m.layout m.before (last_serial m)
+full_count m full = by_room (nat_le m.layout.history (length m.history)) (is_spent m) refl refl full
   where
     by_room : (held spent : Bool) → nat_le m.layout.history (length m.history) ≡ held → is_spent m ≡ spent
-        → (held || spent) ≡ true → m.layout.history ≤ last_serial m
+        → (held || spent) ≡ true → IsFilled m.layout m.before (last_serial m)
     by_room true spent is so both =
-        let within = leb-true m.layout.history (length m.history) is in omega (arith, within)
+        let within = leb-true m.layout.history (length m.history) is in inl (omega (arith, within))
     by_room false true is so both =
         let last = leb-true 18446744073709551615 (m.before + length m.history) so in
-        omega (arith, last, sound.limits.history)
+        inr (omega (arith, last))
     by_room false false is so both = absurd cc
 
--- and so has the share that counts all of them
-pub filled : {A : Type 0} (l : LayoutParts) (m : MachineValue) (total amount parts all : ℕ)
+-- and so it is for a share that counts all of them, and one that counts no more than are sealed
+pub filled : {A : Type 0} (l : LayoutParts) (m : MachineValue) (total amount parts all handed : ℕ)
     (answer : Result A CallFault)
-    → IsShared l (record { machine = m; total = total }) → IsSound m
+    → IsShared l (record { machine = m; total = total }) → handed ≤ m.before
     → ((answer ≡ Err HistoryFull) ↔ IsTrue (is_full m)) → (parts ≡ all → amount ≡ total) → parts ≡ all
-    → answer ≡ Err HistoryFull → l.history ≤ amount
-filled l m total amount parts all answer shared sound full counts whole is =
-    let most = full_count m sound (full.0 is) in
-    omega (
-      arith,
-      most,
-      shared.total,
-      counts whole,
-      ap (λ (k : LayoutParts). k.history) shared.layout,
-    )
+    → answer ≡ Err HistoryFull → IsFilled l handed amount
+filled l m total amount parts all handed answer shared few full counts whole is =
+    by_cause (full_count m (full.0 is))
+  where
+    by_cause : IsFilled m.layout m.before (last_serial m) → IsFilled l handed amount
+    by_cause (inl most) =
+        inl (
+        omega (
+          arith,
+          most,
+          few,
+          shared.total,
+          counts whole,
+          ap (λ (k : LayoutParts). k.history) shared.layout,
+        )
+        )
+    by_cause (inr last) = inr (omega (arith, last, shared.total, counts whole))
 
 -- a machine with no records that sealed nothing may lie under the lock
 pub begun : (l : LayoutParts) (m : MachineValue) (total : ℕ) → IsFresh l m

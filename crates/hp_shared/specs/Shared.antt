@@ -1,5 +1,5 @@
 -- What a contract sees of a shared machine and of its seats, and what a call of a seat does.
-use Rattle.std.specs.Prelude.{ℕ, ◌≡◌, ◌<◌, ◌≤◌, List, [], ◌∷◌, ◌++◌, length, map}
+use Rattle.std.specs.Prelude.{ℕ, ◌≡◌, ◌+◌, ◌<◌, ◌≤◌, ◌⊎◌, List, [], ◌∷◌, ◌++◌, length, map}
 use Rattle.std.specs.List.{range_with_len}
 use Rattle.hp_units.specs.LayoutParts.{LayoutParts}
 use Rattle.hp_units.specs.Memory.{Memory}
@@ -38,17 +38,28 @@ pub record IsShared (l : LayoutParts) (v : LockedValue) : Type 0 where
   pub history : IsHistory v.machine
   pub total : v.total ≡ last_serial v.machine
 
--- a seat: its processor, and the receipts of its calls, oldest first
+-- a seat: its processor, the receipts of its calls, oldest first, and how many records its seals
+-- handed out
 pub record SeatValue : Type 0 where
   pub cpu : ℕ
   pub receipts : List Receipt
+  pub sealed : ℕ
 
 -- the seat of each processor, with no call made yet
 abbrev pub first_seat : ℕ → SeatValue
-first_seat cpu = record { cpu = cpu; receipts = [] }
+first_seat cpu = record { cpu = cpu; receipts = []; sealed = 0 }
 
 abbrev pub first_seats : (cpus : ℕ) → List SeatValue
 first_seats cpus = map first_seat (range_with_len 0 cpus)
+
+-- of all records so many are sealed, and the others fill a history; or there is no further serial
+abbrev pub IsFilled : LayoutParts → (sealed all : ℕ) → Type 0
+IsFilled l sealed all = (l.history + sealed ≤ all) ⊎ (18446744073709551615 ≤ all)
+
+-- as far as a seat can know, the history may be full: if there is one processor, the seat's receipts
+-- without the records that its seals handed out are as many as the history may hold
+abbrev pub MayBeFull : LayoutParts → SeatValue → Type 0
+MayBeFull l seat = l.cpus ≡ 1 → l.history + seat.sealed ≤ length seat.receipts
 
 -- a receipt is that of the last record of a machine's history, a record of the processor
 pub record IsLastOf (m : MachineValue) (cpu : ℕ) (r : Receipt) : Type 0 where
@@ -73,6 +84,7 @@ pub record IsSeated (l : LayoutParts) (old : SeatValue) (event : Event) (r : Rec
   pub inside : old.cpu < l.cpus
   pub cpu : new.cpu ≡ old.cpu
   pub receipts : new.receipts ≡ old.receipts ++ r ∷ []
+  pub sealed : new.sealed ≡ old.sealed
   pub turn : IsTurn l old.cpu event r (length new.receipts)
 
 -- the call of an event by a seat was answered by a reply: a receipt that has it is appended

@@ -1,11 +1,11 @@
 -- What seals handed out, beside the machine.
-use Rattle.std.specs.Prelude.{ℕ, ◌≡◌, ◌≢◌, ◌<◌, ◌≤◌, ◌⊎◌, List, [], ◌∷◌, ◌++◌, Some, length, slice_get, take}
+use Rattle.std.specs.Prelude.{ℕ, ◌≡◌, ◌≢◌, ◌+◌, ◌<◌, ◌≤◌, ◌⊎◌, List, [], ◌∷◌, ◌++◌, Some, length, slice_get, take}
 use Rattle.hp_units.specs.LayoutParts.{LayoutParts}
 use Rattle.hp_units.specs.declared.replies.Record.{Record}
 use Rattle.hp_history.specs.Volumes.{records_in, volume_of}
 use Rattle.hp_history.specs.declared.volumes.Volume.{Volume}
 use Rattle.hp_machine.specs.Machine.{MachineValue, last_serial}
-use Rattle.hp_shared.specs.Shared.{IsShared, LockedValue}
+use Rattle.hp_shared.specs.Shared.{IsShared, LockedValue, SeatValue}
 
 -- the records of all volumes, in order
 abbrev pub sealed_records : List Volume → List Record
@@ -44,3 +44,8 @@ pub record IsSealOf (l : LayoutParts) (v : Volume) (receipts : ℕ) : Type 0 whe
   pub shared : IsShared l seen
   pub is : v ≡ volume_of seen.machine
   pub within : receipts ≤ last_serial seen.machine
+
+-- a seat after its seal handed out a volume
+abbrev pub sealed_by : SeatValue → Volume → SeatValue
+sealed_by seat v =
+    record { cpu = seat.cpu; receipts = seat.receipts; sealed = seat.sealed + length v.records }

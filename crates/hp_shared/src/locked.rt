@@ -1,12 +1,12 @@
 //! What lies under the lock.
-ghost use Rattle.std.specs.Prelude.{◌≡◌, ◌↔◌, ◌+◌, ◌≤◌, ◌<◌, Err, IfOk, OnErr, OnOk, IsTrue};
+ghost use Rattle.std.specs.Prelude.{◌≡◌, ◌↔◌, ◌+◌, ◌≤◌, ◌<◌, Err, IfOk, OnErr, OnOk, IsTrue, length};
 ghost use Rattle.hp_units.specs.declared.replies.CallFault.TheVariants.{HistoryFull};
 ghost use Rattle.hp_machine.specs.Machine.{IsCalled, is_full, sealed};
 ghost use Rattle.hp_history.specs.Course.{receipt_for};
 ghost use Rattle.hp_history.specs.Volumes.{volume_of};
-ghost use Rattle.hp_shared.specs.Shared.{IsFresh, IsShared};
+ghost use Rattle.hp_shared.specs.Shared.{IsFilled, IsFresh, IsShared};
 
-use crate::job::Job;
+use crate::job::{Job, Sealed};
 use hp_history::Volume;
 use hp_machine::Machine;
 use hp_units::{CallFault, Cpu, Event, Reply, Serial};
@@ -14,12 +14,13 @@ use std::alloc::{AllocError, Global};
 use std::marker::Model;
 use std::sync::ledger::{Book, Share};
 
-/// A machine of the job's layout, and the total of its records, which the ledger of the seats'
-/// shares carries: one part for each processor (own rule).
+/// A machine of the job's layout, and the totals of its records and of its sealed records, which the
+/// ledgers of the seats' shares carry: one part for each processor (own rule).
 #[derive(Drop)]
 pub struct Locked<L: Job> {
     machine: Machine,
     book: Book<L>,
+    sealed: Book<Sealed<L>>,
 }
 
 impl<L: Job> Model for Locked<L> {
@@ -32,20 +33,24 @@ impl<L: Job> Model for Locked<L> {
 
     ghost invariant = { λ l.
         IsShared L.layout (record { machine = l.machine; total = l.book.total })
-        × (L.parts ≡ L.layout.cpus) };
+        × (L.parts ≡ L.layout.cpus) × (l.sealed.total ≡ l.machine.before) };
 }
 
 impl<L: Job> Locked<L> {
-    /// A machine at its start, whose records the ledger counts from now on.
-    pub(crate) fn new(machine: Machine, book: Book<L>) -> Locked<L>
+    /// A machine at its start, whose records and sealed records the ledgers count from now on.
+    pub(crate) fn new(machine: Machine, book: Book<L>, sealed: Book<Sealed<L>>) -> Locked<L>
         requires machine { IsFresh L.layout machine }
-        requires book { book.total ≡ 0 }
+        requires book { (book.total ≡ 0) × (sealed.total ≡ 0) }
         requires one_each { L.parts ≡ L.layout.cpus }
         ensures { result ≡ record { machine = machine; total = 0 } }
     {
         machine.begins_at_boot();
         let _ = machine.history();
-        Locked { machine, book }
+        Locked {
+            machine,
+            book,
+            sealed,
+        }
     }
 
     /// The one step of a seat: a call of the machine, answered by the serial of its record and the
@@ -53,20 +58,21 @@ impl<L: Job> Locked<L> {
     /// share is above the total. It waits for nobody, since whoever calls it holds the lock.
     ///
     /// Errors are those of `Machine::answer`, `HistoryFull` exactly where the history holds its
-    /// limit or the last serial is 2^64 - 1; they leave all as it was. To a share of a part
-    /// for each processor, which counts all records, `HistoryFull` comes only where these are as many
-    /// as the limit.
+    /// limit or the last serial is 2^64 - 1; they leave all as it was. To a share of a part for each
+    /// processor, which counts all records, `HistoryFull` comes only where these, without the sealed
+    /// ones that the seat counts, are as many as the limit, or they are 2^64 - 1.
     pub fn turn(
         &mut self,
         alloc: Global,
         share: &mut Share<L>,
+        handed: &mut Share<Sealed<L>>,
         cpu: Cpu,
         event: &Event,
     ) -> Result<(Serial, Reply), CallFault>
         requires { 0 < share.old.parts }
         ensures full { (result ≡ Err HistoryFull) ↔ IsTrue (is_full self.old.machine) }
         ensures only { share.old.parts ≡ L.layout.cpus → result ≡ Err HistoryFull
-            → L.layout.history ≤ share.old.amount }
+            → IsFilled L.layout handed.old.amount share.old.amount }
         ensures err { OnErr result ((self.new ≡ self.old) × (share.new.amount ≡ share.old.amount)) }
         ensures ok { IfOk result
             (λ answer. IsCalled self.old.machine cpu event.now (receipt_for event.now answer)
@@ -74,13 +80,14 @@ impl<L: Job> Locked<L> {
         ensures counted { OnOk result
             ((self.new.total ≡ self.old.total + 1) × (share.new.amount ≡ share.old.amount + 1)) }
         ensures parts { share.new.parts ≡ share.old.parts }
+        ensures handed { (handed.new.amount ≡ handed.old.amount)
+            × (handed.new.parts ≡ handed.old.parts) }
         ensures within { share.new.amount ≤ self.new.total }
         ensures shown { IsShared L.layout self.old }
         ensures kept { IsShared L.layout self.new }
     {
         self.book.audit(share);
-        // No effect at run time: the proof reads the layout's limits from this call.
-        self.machine.stays_sound();
+        self.sealed.audit(handed);
         let answer = self.machine.answer(alloc, cpu, event);
         if answer.is_ok() {
             self.book.add(share, 1);
@@ -89,21 +96,34 @@ impl<L: Job> Locked<L> {
     }
 
     /// Hands out the records since the last seal, with the state before them (own rule). It makes
-    /// no record: total and share stay as they were. It waits for nobody.
+    /// no record: total and share stay as they were. The seat's share of the sealed records rises by
+    /// as many as are handed out. It waits for nobody.
     ///
     /// An error is out of memory; then all is as it was.
-    pub fn seal(&mut self, alloc: Global, share: &mut Share<L>) -> Result<Volume, AllocError>
-        ensures err { OnErr result (self.new ≡ self.old) }
+    pub fn seal(
+        &mut self,
+        alloc: Global,
+        share: &mut Share<L>,
+        handed: &mut Share<Sealed<L>>,
+    ) -> Result<Volume, AllocError>
+        requires { 0 < handed.old.parts }
+        ensures err { OnErr result
+            ((self.new ≡ self.old) × (handed.new.amount ≡ handed.old.amount)) }
+        ensures counted { IfOk result
+            (λ volume. handed.new.amount ≡ handed.old.amount + length volume.records) }
         ensures volume { IfOk result (λ volume. volume ≡ volume_of self.old.machine) }
         ensures goes_on { OnOk result (self.new.machine ≡ sealed self.old.machine) }
         ensures total { self.new.total ≡ self.old.total }
         ensures share { (share.new.amount ≡ share.old.amount) × (share.new.parts ≡ share.old.parts) }
+        ensures parts { handed.new.parts ≡ handed.old.parts }
         ensures within { share.new.amount ≤ self.new.total }
         ensures shown { IsShared L.layout self.old }
         ensures kept { IsShared L.layout self.new }
     {
         self.book.audit(share);
         let volume = self.machine.seal(alloc)?;
+        self.sealed
+            .add(handed, volume.records.as_slice().len() as u64);
         Ok(volume)
     }
 
@@ -126,7 +146,11 @@ impl<L: Job> Locked<L> {
     pub(crate) fn into_machine(self) -> Machine
         ensures { result ≡ self.machine }
     {
-        let Locked { machine, book: _ } = self;
+        let Locked {
+            machine,
+            book: _,
+            sealed: _,
+        } = self;
         machine
     }
 }

@@ -1,10 +1,10 @@
 //! A processor's access to the shared machine.
-ghost use Rattle.std.specs.Prelude.{◌≡◌, ◌≤◌, ◌<◌, [], Err, IfOk, OnErr, length};
+ghost use Rattle.std.specs.Prelude.{◌≡◌, ◌<◌, [], Err, IfOk, OnErr, length};
 ghost use Rattle.hp_units.specs.declared.replies.CallFault.TheVariants.{HistoryFull};
-ghost use Rattle.hp_shared.specs.Shared.{IsSeatCall, first_seat};
-ghost use Rattle.hp_shared.specs.Volumes.{IsSealOf};
+ghost use Rattle.hp_shared.specs.Shared.{IsSeatCall, MayBeFull, first_seat};
+ghost use Rattle.hp_shared.specs.Volumes.{IsSealOf, sealed_by};
 
-use crate::job::Job;
+use crate::job::{Job, Sealed};
 use crate::shared::Shared;
 use hp_history::Volume;
 use hp_units::{CallFault, Cpu, Event, Receipt, Reply};
@@ -14,12 +14,14 @@ use std::sync::Wait;
 use std::sync::ledger::Share;
 
 /// The one access of a processor to the shared machine (own rule). It keeps a receipt of each of
-/// its calls, and holds a share of one part of the machine's total: the number of its receipts.
+/// its calls, and holds shares of one part of the machine's totals: the number of its receipts, and
+/// how many records its seals handed out. Shares take no memory.
 #[derive(Drop)]
 pub struct Seat<L: Job> {
     cpu: Cpu,
     receipts: Vec<Receipt>,
     share: Share<L>,
+    sealed: Share<Sealed<L>>,
 }
 
 impl<L: Job> Model for Seat<L> {
@@ -28,23 +30,27 @@ impl<L: Job> Model for Seat<L> {
 
     ghost Value = { SeatValue };
 
-    ghost view = { λ s. record { cpu = s.cpu; receipts = s.receipts.items } };
+    ghost view = { λ s.
+        record { cpu = s.cpu; receipts = s.receipts.items; sealed = s.sealed.amount } };
 
     ghost invariant = { λ s.
-        (s.cpu < L.layout.cpus) × (s.share.parts ≡ 1) × (s.share.amount ≡ length s.receipts.items) };
+        (s.cpu < L.layout.cpus) × (s.share.parts ≡ 1) × (s.share.amount ≡ length s.receipts.items)
+        × (s.sealed.parts ≡ 1) };
 }
 
 impl<L: Job> Seat<L> {
-    /// A seat with a share that counts nothing yet.
-    pub(crate) fn new(alloc: Global, cpu: Cpu, share: Share<L>) -> Seat<L>
+    /// A seat with shares that count nothing yet.
+    pub(crate) fn new(alloc: Global, cpu: Cpu, share: Share<L>, sealed: Share<Sealed<L>>) -> Seat<L>
         requires cpu { cpu < L.layout.cpus }
         requires share { (share.parts ≡ 1) × (share.amount ≡ 0) }
+        requires sealed { (sealed.parts ≡ 1) × (sealed.amount ≡ 0) }
         ensures { result ≡ first_seat cpu }
     {
         Seat {
             cpu,
             receipts: Vec::new(alloc),
             share,
+            sealed,
         }
     }
 
@@ -53,8 +59,8 @@ impl<L: Job> Seat<L> {
     /// made before the lock is taken.
     ///
     /// Errors: `HistoryFull` as `Locked::turn` answers it, on a machine of one processor only where
-    /// the seat has as many receipts as the history may hold records; `OutOfMemory` before the lock
-    /// or under it. Either leaves seat and machine as they were.
+    /// the seat has as many receipts since its last seal as the history may hold records;
+    /// `OutOfMemory` before the lock or under it. Either leaves seat and machine as they were.
     pub fn call(
         &mut self,
         rt: &impl Wait,
@@ -64,8 +70,7 @@ impl<L: Job> Seat<L> {
     ) -> Result<Reply, CallFault>
         ensures ok { IfOk result (λ reply. IsSeatCall L.layout self.old event.now reply self.new) }
         ensures err { OnErr result (self.new ≡ self.old) }
-        ensures only { L.layout.cpus ≡ 1 → result ≡ Err HistoryFull
-            → L.layout.history ≤ length self.old.receipts }
+        ensures only { result ≡ Err HistoryFull → MayBeFull L.layout self.old }
     {
         let Ok(()) = self.receipts.reserve(1) else {
             return Err(CallFault::OutOfMemory);
@@ -73,7 +78,14 @@ impl<L: Job> Seat<L> {
         let Ok(asked) = event.copy(alloc) else {
             return Err(CallFault::OutOfMemory);
         };
-        match shared.turn(rt, alloc, &mut self.share, self.cpu, event) {
+        match shared.turn(
+            rt,
+            alloc,
+            &mut self.share,
+            &mut self.sealed,
+            self.cpu,
+            event,
+        ) {
             Ok(answer) => {
                 self.receipts.push_reserved(Receipt {
                     serial: answer.0,
@@ -105,9 +117,10 @@ impl<L: Job> Seat<L> {
         shared: &Shared<L>,
     ) -> Result<Volume, AllocError>
         ensures ok { IfOk result (λ volume. IsSealOf L.layout volume (length self.old.receipts)) }
-        ensures seat { self.new ≡ self.old }
+        ensures seat { IfOk result (λ volume. self.new ≡ sealed_by self.old volume) }
+        ensures err { OnErr result (self.new ≡ self.old) }
     {
-        shared.seal(rt, alloc, &mut self.share)
+        shared.seal(rt, alloc, &mut self.share, &mut self.sealed)
     }
 
     /// The processor's number, below the layout's number of processors.

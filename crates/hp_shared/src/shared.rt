@@ -1,17 +1,18 @@
 //! The lock round the machine.
-ghost use Rattle.std.specs.Prelude.{◌≡◌, ◌+◌, ◌≤◌, ◌<◌, Err, IfErr, IfOk, OnErr, OnOk};
+ghost use Rattle.std.specs.Prelude.{◌≡◌, ◌+◌, ◌<◌, Err, IfErr, IfOk, OnErr, OnOk, length};
 ghost use Rattle.hp_units.specs.declared.replies.CallFault.TheVariants.{HistoryFull};
 ghost use Rattle.hp_history.specs.Course.{receipt_for};
-ghost use Rattle.hp_shared.specs.Shared.{IsFresh, IsTurn, first_seats};
+ghost use Rattle.hp_shared.specs.Shared.{IsFilled, IsFresh, IsTurn, first_seats};
 ghost use Rattle.hp_shared.specs.Volumes.{IsSealOf};
 
-use crate::job::Job;
+use crate::job::{Job, Sealed};
 use crate::locked::Locked;
 use crate::seat::Seat;
 use hp_history::Volume;
 use hp_machine::Machine;
 use hp_units::{CallFault, Cpu, Event, Reply, Serial};
 use std::alloc::{AllocError, Global};
+use std::marker::Model;
 use std::sync::ledger::{Blank, Share};
 use std::sync::{Mutex, Wait};
 
@@ -20,35 +21,50 @@ use std::sync::{Mutex, Wait};
 pub struct Shared<L: Job> {
     locked: Mutex<Locked<L>>,
     cpus: u32,
-    ghost counted: { cpus ≡ L.layout.cpus },
+}
+
+impl<L: Job> Model for Shared<L> {
+    ghost use Rattle.std.specs.Prelude.{◌≡◌, ℕ};
+
+    ghost Value = { ℕ };
+
+    ghost view = { λ s. s.cpus };
+
+    ghost invariant = { λ s. s.cpus ≡ L.layout.cpus };
 }
 
 impl<L: Job> Shared<L> {
     /// Shares a machine that has no records and sealed nothing, with one seat for each processor,
-    /// in order. The ledger has one part for each. An error is out of memory; then both come back.
+    /// in order. The ledgers of its records and of its sealed records have one part for each. An
+    /// error is out of memory; then all comes back.
     pub fn new(
         alloc: Global,
-        blank: Blank,
+        records: Blank,
+        sealed: Blank,
         machine: Machine,
-    ) -> Result<(Shared<L>, Vec<Seat<L>>), (Blank, Machine)>
+    ) -> Result<(Shared<L>, Vec<Seat<L>>), (Blank, Blank, Machine)>
         requires machine { IsFresh L.layout machine }
-        requires name { blank.name ≡ L.name }
-        requires parts { blank.parts ≡ L.parts }
-        requires one_each { blank.parts ≡ L.layout.cpus }
+        requires name { records.name ≡ L.name }
+        requires parts { records.parts ≡ L.parts }
+        requires one_each { records.parts ≡ L.layout.cpus }
+        requires sealed { (sealed.name ≡ L.sealed) × (sealed.parts ≡ L.layout.cpus) }
         ensures seats { IfOk result (λ made. made.1.items ≡ first_seats L.layout.cpus) }
-        ensures back { IfErr result (λ back. (back.0 ≡ blank) × (back.1 ≡ machine)) }
+        ensures back { IfErr result
+            (λ back. (back.0 ≡ records) × (back.1 ≡ sealed) × (back.2 ≡ machine)) }
     {
         let cpus = machine.layout().cpus();
         let Ok(mut seats) = Vec::with_capacity(alloc, cpus as usize) else {
-            return Err((blank, machine));
+            return Err((records, sealed, machine));
         };
-        let (book, mut rest) = blank.open::<L>();
+        let (book, mut rest) = records.open::<L>();
+        let (handed, mut left) = sealed.open::<Sealed<L>>();
         for cpu in 0..cpus {
             let share = rest.split_off(1, 0);
-            seats.push_reserved(Seat::new(alloc, Cpu(cpu), share));
+            let own = left.split_off(1, 0);
+            seats.push_reserved(Seat::new(alloc, Cpu(cpu), share, own));
         }
         let shared = Shared {
-            locked: Mutex::new(Locked::new(machine, book)),
+            locked: Mutex::new(Locked::new(machine, book, handed)),
             cpus,
         };
         Ok((shared, seats))
@@ -67,6 +83,7 @@ impl<L: Job> Shared<L> {
         rt: &impl Wait,
         alloc: Global,
         share: &mut Share<L>,
+        handed: &mut Share<Sealed<L>>,
         cpu: Cpu,
         event: &Event,
     ) -> Result<(Serial, Reply), CallFault>
@@ -76,10 +93,12 @@ impl<L: Job> Shared<L> {
         ensures counted { OnOk result (share.new.amount ≡ share.old.amount + 1) }
         ensures err { OnErr result (share.new.amount ≡ share.old.amount) }
         ensures only { share.old.parts ≡ L.layout.cpus → result ≡ Err HistoryFull
-            → L.layout.history ≤ share.old.amount }
+            → IsFilled L.layout handed.old.amount share.old.amount }
         ensures parts { share.new.parts ≡ share.old.parts }
+        ensures handed { (handed.new.amount ≡ handed.old.amount)
+            × (handed.new.parts ≡ handed.old.parts) }
     {
-        self.locked.lock(rt).turn(alloc, share, cpu, event)
+        self.locked.lock(rt).turn(alloc, share, handed, cpu, event)
     }
 
     /// One seal under the lock, for which it may wait.
@@ -88,11 +107,17 @@ impl<L: Job> Shared<L> {
         rt: &impl Wait,
         alloc: Global,
         share: &mut Share<L>,
+        handed: &mut Share<Sealed<L>>,
     ) -> Result<Volume, AllocError>
+        requires { 0 < handed.old.parts }
         ensures ok { IfOk result (λ volume. IsSealOf L.layout volume share.new.amount) }
+        ensures counted { IfOk result
+            (λ volume. handed.new.amount ≡ handed.old.amount + length volume.records) }
+        ensures err { OnErr result (handed.new.amount ≡ handed.old.amount) }
         ensures share { (share.new.amount ≡ share.old.amount) × (share.new.parts ≡ share.old.parts) }
+        ensures parts { handed.new.parts ≡ handed.old.parts }
     {
-        self.locked.lock(rt).seal(alloc, share)
+        self.locked.lock(rt).seal(alloc, share, handed)
     }
 
     /// A machine under a lock again.

@@ -1,8 +1,7 @@
 -- Lines, one after another.
-use Rattle.std.proofs.Common.{◌≡◌, ℕ, List, [], ◌∷◌, ◌++◌, length, take, Option, Some, None, slice_get, refl, ap, sym, subst, ◌∙◌, arith, add-one}
-use Rattle.std.specs.Prelude.{◌≤◌, IfSome}
+use Rattle.std.proofs.Common.{◌≡◌, ℕ, List, [], ◌∷◌, ◌++◌, length, take, Option, Some, None, slice_get, refl, ap, sym, subst, ◌∙◌, arith, add-one, inl, inr}
+use Rattle.std.specs.Prelude.{IfSome}
 use Rattle.std.proofs.lemmas.List.{append_assoc, append-nil, length-append}
-use Rattle.std.proofs.lemmas.List.Elements.{All-nil, All-push, All-weaker}
 use Rattle.std.proofs.lemmas.Option.{slice_get_within}
 use Rattle.hp_units.specs.LayoutParts.{LayoutParts}
 use Rattle.hp_units.specs.declared.replies.CallFault.{CallFault}
@@ -14,14 +13,15 @@ use Rattle.hp_scenario.specs.declared.lines.Line.{Line}
 use Rattle.hp_scenario.specs.declared.lines.Work.{Work}
 use Rattle.hp_history.specs.declared.volumes.Volume.{Volume}
 use Rattle.hp_scenario.specs.declared.lines.Work.TheVariants as work
-use Rattle.hp_shared.specs.Shared.{SeatValue}
-use Rattle.hp_shared.specs.SeatPorts.{AreTurns, turns_joined}
+use Rattle.hp_shared.specs.Shared.{MayBeFull, SeatValue}
+use Rattle.hp_shared.specs.SeatPorts.{AreTurns}
 use Rattle.hp_workers.specs.declared.lines.LineEnd.{LineEnd}
-use Rattle.hp_workers.specs.Lines.{AreLines, IsCallsRun, IsCaused, IsLine, IsLineRun, IsWorkRun, IsWorked, fault_in}
+use Rattle.hp_workers.specs.declared.lines.LineEnd.TheVariants.{Reply as Replied, Fault as Faulted, Plan as Planned, Control as Untaken, Sealed}
+use Rattle.hp_workers.specs.Lines.{AreLines, IsCallsRun, IsLine, IsLineRun, IsSealRun, IsWorkRun, IsWorked}
 
 -- the last call's fault has its cause
 abbrev pub FaultCaused : LayoutParts → SeatValue → CallFault → Type 0
-FaultCaused l seat fault = l.cpus ≡ 1 → fault ≡ HistoryFull → l.history ≤ length seat.receipts
+FaultCaused l seat fault = fault ≡ HistoryFull → MayBeFull l seat
 
 -- what a port's calls made of its seat
 pub seat_made : {S N : Type 0} (l : LayoutParts) (makes : S → List Receipt → S → Type 0)
@@ -44,79 +44,60 @@ seat_made l makes leaves old new gained (Some fault) made name seat as_turns as_
       subst (λ (s : SeatValue). FaultCaused l s fault) (sym left.1) left.2,
     )
 
--- what an end names has its cause, where a full history is that of the last call, whose fault has its cause
-caused_by : (l : LayoutParts) (seat : SeatValue) (end : LineEnd) (fault : Option CallFault)
-    → (fault_in end ≡ Some HistoryFull → fault ≡ Some HistoryFull) → IfSome fault (FaultCaused l seat)
-    → IsCaused l seat end
-caused_by l seat end fault full caused named one =
+-- a full history that the last call left has its cause
+caused_by : (l : LayoutParts) (seat : SeatValue) (fault : Option CallFault)
+    → IfSome fault (FaultCaused l seat) → fault ≡ Some HistoryFull → MayBeFull l seat
+caused_by l seat fault caused named =
     let here : FaultCaused l seat HistoryFull =
-    subst (λ (o : Option CallFault). IfSome o (FaultCaused l seat)) (full named) caused in here one refl
+    subst (λ (o : Option CallFault). IfSome o (FaultCaused l seat)) named caused in here refl
 
 -- a line was run by the seat that a port had
 pub line_run : (l : LayoutParts) (old first last new : SeatValue) (asked : Work) (gained : List Receipt)
     (fault : Option CallFault) (end : LineEnd)
-    → first ≡ old → new ≡ last → AreTurns l first gained last → IsWorkRun l.cpus asked gained end
-    → (fault_in end ≡ Some HistoryFull → fault ≡ Some HistoryFull) → IfSome fault (FaultCaused l last)
-    → IsCallsRun l old asked end new
-line_run l old first last new asked gained fault end first_is new_is turns ran full caused =
+    → first ≡ old → new ≡ last → AreTurns l first gained last → IsWorkRun l.cpus asked gained fault end
+    → IfSome fault (FaultCaused l last) → IsCallsRun l old asked end new
+line_run l old first last new asked gained fault end first_is new_is turns ran caused =
     subst (λ (s : SeatValue). IsCallsRun l s asked end new) first_is
     (subst (λ (s : SeatValue). IsCallsRun l first asked end s) (sym new_is) (record {
       gained = gained;
+      fault = fault;
       turns = turns;
       line = ran;
-      caused = caused_by l last end fault full caused;
+      caused = caused_by l last fault caused;
     }))
 
 -- what calls did hands nothing out
-by_calls : (l : LayoutParts) (asked : Work) (gained : List Receipt) (end : LineEnd)
-    → IsWorkRun l.cpus asked gained end → IsLine l asked gained [] end
-by_calls l (work.Event event) gained end ran = (refl, ran)
-by_calls l (work.Plan plan turns) gained end ran = (refl, ran)
-by_calls l (work.Echo echo) gained end ran = (refl, ran)
-by_calls l (work.Cat path) gained end ran = absurd ran
-by_calls l work.Seal gained end ran = absurd ran
-
 pub line_called : (l : LayoutParts) (old new : SeatValue) (before after : List Volume) (asked : Work)
     (end : LineEnd)
     → after ≡ before → IsCallsRun l old asked end new → IsLineRun l old before asked end new after
-line_called l old new before after asked end same run = record {
-  gained = run.gained;
-  handed = [];
-  turns = run.turns;
-  line = by_calls l asked run.gained end run.line;
-  caused = run.caused;
-  kept = same ∙ sym (append-nil before);
-}
+line_called l old new before after asked end same run =
+    record { handed = []; line = inl (refl, run); kept = same ∙ sym (append-nil before) }
 
 -- one more line
-lines_more : (l : LayoutParts) (lines : List Line) (line : Line) (gained more : List Receipt)
+lines_more : (l : LayoutParts) (lines : List Line) (line : Line) (old mid new : SeatValue)
     (handed out : List Volume) (ends : List LineEnd) (end : LineEnd)
-    → AreLines l lines gained handed ends → IsLine l line.work more out end
-    → AreLines l (lines ++ line ∷ []) (gained ++ more) (handed ++ out) (ends ++ end ∷ [])
-lines_more l [] line gained more handed out ends end none ran = (
-  more,
+    → AreLines l old lines handed ends mid → IsLine l mid line.work out end new
+    → AreLines l old (lines ++ line ∷ []) (handed ++ out) (ends ++ end ∷ []) new
+lines_more l [] line old mid new handed out ends end none ran = (
+  new,
   out,
   end,
   [],
   [],
-  [],
-  ap (λ (rs : List Receipt). rs ++ more) none.0 ∙ sym (append-nil more),
-  ap (λ (vs : List Volume). vs ++ out) none.1 ∙ sym (append-nil out),
-  ap (λ (es : List LineEnd). es ++ end ∷ []) none.2,
-  (ran, (refl, refl, refl)),
+  ap (λ (vs : List Volume). vs ++ out) none.0 ∙ sym (append-nil out),
+  ap (λ (es : List LineEnd). es ++ end ∷ []) none.1,
+  (subst (λ (s : SeatValue). IsLine l s line.work out end new) none.2 ran, (refl, refl, refl)),
 )
-lines_more l (x ∷ lines) line gained more handed out ends end before ran =
-    let later = lines_more l lines line before.3 more before.4 out before.5 end before.9.1 ran in (
+lines_more l (x ∷ lines) line old mid new handed out ends end before ran =
+    let later = lines_more l lines line before.0 mid new before.3 out before.4 end before.7.1 ran in (
       before.0,
       before.1,
       before.2,
-      before.3 ++ more,
-      before.4 ++ out,
-      before.5 ++ end ∷ [],
-      ap (λ (rs : List Receipt). rs ++ more) before.6 ∙ append_assoc before.0 before.3 more,
-      ap (λ (vs : List Volume). vs ++ out) before.7 ∙ append_assoc before.1 before.4 out,
-      ap (λ (es : List LineEnd). es ++ end ∷ []) before.8,
-      (before.9.0, later),
+      before.3 ++ out,
+      before.4 ++ end ∷ [],
+      ap (λ (vs : List Volume). vs ++ out) before.5 ∙ append_assoc before.1 before.3 out,
+      ap (λ (es : List LineEnd). es ++ end ∷ []) before.6,
+      (before.7.0, later),
     )
 
 -- no line yet
@@ -125,33 +106,8 @@ pub worked_none : (l : LayoutParts) (seat : SeatValue) (lines : List Line) (hand
     → handed ≡ [] → ends ≡ [] → IsWorked l seat lines seat handed ends
 worked_none l seat lines handed ends empty none =
     subst (λ (vs : List Volume). IsWorked l seat lines seat vs ends) (sym empty)
-    (subst (IsWorked l seat lines seat []) (sym none) (record {
-      gained = [];
-      turns = refl;
-      ran = (refl, refl, refl);
-      within = omega arith;
-      caused = All-nil (IsCaused l seat);
-    }))
-
--- calls only add receipts
-turns_grow : (l : LayoutParts) (rs : List Receipt) (old new : SeatValue) → AreTurns l old rs new
-    → length old.receipts ≤ length new.receipts
-turns_grow l [] old new same = omega (arith, ap (λ (s : SeatValue). length s.receipts) same)
-turns_grow l (r ∷ rs) old new turns =
-    let later = turns_grow l rs turns.0 new turns.2 in
-    omega (
-      arith,
-      later,
-      ap (λ (xs : List Receipt). length xs) turns.1.receipts,
-      length-append old.receipts (r ∷ []),
-    )
-
--- so a fault that had its cause has it still
-still_caused : (l : LayoutParts) (rs : List Receipt) (old new : SeatValue) → AreTurns l old rs new
-    → (end : LineEnd) → IsCaused l old end → IsCaused l new end
-still_caused l rs old new turns end caused named one =
-    let grown = turns_grow l rs old new turns in
-    let held = caused named one in omega (arith, held, grown)
+    (subst (IsWorked l seat lines seat []) (sym none)
+    (record { ran = (refl, refl, refl); within = omega arith }))
 
 -- one more line of a script
 pub worked_next : (l : LayoutParts) (old mid new : SeatValue) (lines : List Line) (line : Line)
@@ -162,23 +118,52 @@ pub worked_next : (l : LayoutParts) (old mid new : SeatValue) (lines : List Line
 worked_next l old mid new lines line before after ends more end here is worked run =
     subst (λ (vs : List Volume). IsWorked l old lines new vs more) (sym run.kept)
     (subst (IsWorked l old lines new (before ++ run.handed)) (sym is) (record {
-      gained = worked.gained ++ run.gained;
-      turns = turns_joined l worked.gained run.gained old mid new worked.turns run.turns;
       ran =
           subst (λ (ls : List Line).
-          AreLines l ls (worked.gained ++ run.gained) (before ++ run.handed) (ends ++ end ∷ [])) (sym taken)
-          (lines_more l (take (length ends) lines) line worked.gained run.gained before run.handed ends end
-          worked.ran run.line);
+          AreLines l old ls (before ++ run.handed) (ends ++ end ∷ []) new) (sym taken)
+          (lines_more l (take (length ends) lines) line old mid new before run.handed ends end worked.ran
+          run.line);
       within =
           (let inside = slice_get_within lines (length ends) line here in
           omega (arith, length-append ends (end ∷ []), inside));
-      caused =
-          All-push (IsCaused l new) ends end
-          (All-weaker (IsCaused l mid) (IsCaused l new)
-          (still_caused l run.gained mid new run.turns) ends worked.caused) run.caused;
     }))
   where
     taken : take (length (ends ++ end ∷ [])) lines ≡ take (length ends) lines ++ line ∷ []
     taken =
         ap (λ (k : ℕ). take k lines) (omega (arith, length-append ends (end ∷ [])) ∙ add-one (length ends))
         ∙ take_next lines (length ends) line here
+
+-- ---- whose seat it is
+
+turns_cpu : (l : LayoutParts) (gained : List Receipt) (old new : SeatValue) → AreTurns l old gained new
+    → new.cpu ≡ old.cpu
+turns_cpu l [] old new turns = ap (λ (s : SeatValue). s.cpu) turns
+turns_cpu l (r ∷ rs) old new turns = turns_cpu l rs turns.0 new turns.2 ∙ turns.1.cpu
+
+seal_cpu : (l : LayoutParts) (old new : SeatValue) (handed : List Volume) (end : LineEnd)
+    → IsSealRun l old handed end new → new.cpu ≡ old.cpu
+seal_cpu l old new handed (Replied reply) ran = absurd ran
+seal_cpu l old new handed (Faulted named) ran = ap (λ (s : SeatValue). s.cpu) ran.2
+seal_cpu l old new handed (Planned end) ran = absurd ran
+seal_cpu l old new handed (Untaken why) ran = absurd ran
+seal_cpu l old new handed (Sealed count) ran = ap (λ (s : SeatValue). s.cpu) ran.4
+
+line_cpu : (l : LayoutParts) (old new : SeatValue) (asked : Work) (handed : List Volume) (end : LineEnd)
+    → IsLine l old asked handed end new → new.cpu ≡ old.cpu
+line_cpu l old new asked handed end (inl ran) = turns_cpu l ran.1.gained old new ran.1.turns
+line_cpu l old new asked handed end (inr ran) = seal_cpu l old new handed end ran.1
+
+lines_cpu : (l : LayoutParts) (lines : List Line) (old new : SeatValue) (handed : List Volume)
+    (ends : List LineEnd)
+    → AreLines l old lines handed ends new → new.cpu ≡ old.cpu
+lines_cpu l [] old new handed ends none = ap (λ (s : SeatValue). s.cpu) none.2
+lines_cpu l (line ∷ lines) old new handed ends ran =
+    lines_cpu l lines ran.0 new ran.3 ran.4 ran.7.1
+    ∙ line_cpu l old ran.0 line.work ran.1 ran.2 ran.7.0
+
+-- lines don't change a seat's processor
+pub worked_cpu : (l : LayoutParts) (old : SeatValue) (lines : List Line) (new : SeatValue)
+    (handed : List Volume) (ends : List LineEnd)
+    → IsWorked l old lines new handed ends → new.cpu ≡ old.cpu
+worked_cpu l old lines new handed ends worked =
+    lines_cpu l (take (length ends) lines) old new handed ends worked.ran

@@ -1,5 +1,5 @@
 -- Seals: what one hands out, and how many volumes there can be.
-use Rattle.std.proofs.Common.{◌≡◌, ℕ, ◌+◌, ◌<◌, ◌≤◌, true, List, [], ◌∷◌, ◌++◌, length, take, get_or, Option, Some, slice_get, refl, sym, ap, subst, ◌∙◌, append-nil, arith, add-one, is_ok, if◌then◌else◌, Result, Ok, Err}
+use Rattle.std.proofs.Common.{◌≡◌, ℕ, ◌+◌, ◌<◌, ◌≤◌, true, List, [], ◌∷◌, ◌++◌, length, take, get_or, Option, Some, slice_get, refl, sym, ap, subst, ◌∙◌, append-nil, arith, add-one, is_ok, if◌then◌else◌, Result, Ok, Err, inl, inr}
 use Rattle.std.specs.Prelude.{IsOk}
 use Rattle.std.proofs.lemmas.List.{length-append, take-take, take_more}
 use Rattle.std.specs.List.Sorted.{IsPermutation}
@@ -9,18 +9,17 @@ use Rattle.std.proofs.lemmas.List.Sums.{sum_by-append, sum_by-cons, sum_by-take-
 use Rattle.hp_laws.proofs.Lists.{take_next}
 use Rattle.hp_units.specs.LayoutParts.{LayoutParts}
 use Rattle.hp_units.specs.declared.replies.CallFault.TheVariants.{OutOfMemory}
-use Rattle.hp_units.specs.declared.replies.Receipt.{Receipt}
 use Rattle.hp_history.specs.declared.volumes.Volume.{Volume}
 use Rattle.hp_scenario.specs.Scripts.{is_seal}
 use Rattle.hp_scenario.specs.declared.lines.Line.{Line}
 use Rattle.hp_scenario.specs.declared.lines.Work.{Work}
 use Rattle.hp_scenario.specs.declared.lines.Work.TheVariants as work
 use Rattle.hp_shared.specs.Shared.{SeatValue}
-use Rattle.hp_shared.specs.Volumes.{IsSealOf}
+use Rattle.hp_shared.specs.Volumes.{IsSealOf, sealed_by}
 use Rattle.hp_workers.specs.declared.lines.LineEnd.{LineEnd}
 use Rattle.hp_workers.specs.declared.lines.LineEnd.TheVariants.{Reply as Replied, Fault as Faulted, Plan as Planned, Control as Untaken, Sealed}
 use Rattle.hp_workers.specs.declared.fault.RunFault.{RunFault}
-use Rattle.hp_workers.specs.Lines.{AreLines, IsLine, IsLineRun}
+use Rattle.hp_workers.specs.Lines.{AreLines, IsLine, IsLineRun, IsSealRun}
 use Rattle.hp_workers.specs.Seals.{AreInOrder, AreSealed, one_if, seals_in, seals_in_all}
 use Rattle.hp_workers.specs.Workers.{AreGathered, AreWorkers, IsWorker}
 
@@ -30,34 +29,14 @@ use Rattle.hp_workers.specs.Workers.{AreGathered, AreWorkers, IsWorker}
 pub sealed_none : (l : LayoutParts) (old new : SeatValue) (before after : List Volume) → new ≡ old
     → after ≡ before → IsLineRun l old before work.Seal (Faulted OutOfMemory) new after
 sealed_none l old new before after same kept =
-    record {
-      gained = [];
-      handed = [];
-      turns = same;
-      line = (refl, refl, refl);
-      caused = λ named one. absurd cc;
-      kept = kept ∙ sym (append-nil before);
-    }
+    record { handed = []; line = inr (refl, (refl, refl, same)); kept = kept ∙ sym (append-nil before) }
 
 -- a volume was handed out
-pub sealed_one : (l : LayoutParts) (old new : SeatValue) (before after : List Volume) (v : Volume)
-    (receipts count : ℕ)
-    → new ≡ old → after ≡ before ++ v ∷ [] → IsSealOf l v receipts → count ≡ length v.records
-    → IsLineRun l old before work.Seal (Sealed count) new after
-sealed_one l old new before after v receipts count same kept seal own = record {
-  gained = [];
-  handed = v ∷ [];
-  turns = same;
-  line = (
-    v,
-    refl,
-    refl,
-    record { seen = seal.seen; shared = seal.shared; is = seal.is; within = omega arith },
-    own,
-  );
-  caused = λ named one. absurd cc;
-  kept = kept;
-}
+pub sealed_one : (l : LayoutParts) (old new : SeatValue) (before after : List Volume) (v : Volume) (count : ℕ)
+    → new ≡ sealed_by old v → after ≡ before ++ v ∷ [] → IsSealOf l v (length old.receipts)
+    → count ≡ length v.records → IsLineRun l old before work.Seal (Sealed count) new after
+sealed_one l old new before after v count is kept seal own =
+    record { handed = v ∷ []; line = inr (refl, (v, refl, seal, own, is)); kept = kept }
 
 -- a line that seals
 pub line_sealed : (l : LayoutParts) (old new : SeatValue) (before after : List Volume) (asked : Work)
@@ -72,34 +51,34 @@ line_sealed l old new before after work.Seal end is run = run
 
 -- ---- how many
 
-seal_few : (l : LayoutParts) (asked : Work) (gained : List Receipt) (handed : List Volume) (end : LineEnd)
-    → IsLine l asked gained handed end → length handed ≤ one_if (is_seal asked)
-seal_few l (work.Event event) gained handed end ran =
+handed_few : (l : LayoutParts) (old new : SeatValue) (handed : List Volume) (end : LineEnd)
+    → IsSealRun l old handed end new → length handed ≤ 1
+handed_few l old new handed (Replied reply) ran = absurd ran
+handed_few l old new handed (Faulted named) ran =
     omega (arith, ap (λ (vs : List Volume). length vs) ran.0)
-seal_few l (work.Plan plan turns) gained handed end ran =
-    omega (arith, ap (λ (vs : List Volume). length vs) ran.0)
-seal_few l (work.Echo echo) gained handed end ran =
-    omega (arith, ap (λ (vs : List Volume). length vs) ran.0)
-seal_few l (work.Cat path) gained handed end ran = absurd ran
-seal_few l work.Seal gained handed (Replied reply) ran = absurd ran
-seal_few l work.Seal gained handed (Faulted fault) ran =
+handed_few l old new handed (Planned end) ran = absurd ran
+handed_few l old new handed (Untaken why) ran = absurd ran
+handed_few l old new handed (Sealed count) ran =
     omega (arith, ap (λ (vs : List Volume). length vs) ran.1)
-seal_few l work.Seal gained handed (Planned end) ran = absurd ran
-seal_few l work.Seal gained handed (Untaken fault) ran = absurd ran
-seal_few l work.Seal gained handed (Sealed count) ran =
-    omega (arith, ap (λ (vs : List Volume). length vs) ran.2)
 
-lines_few : (l : LayoutParts) (lines : List Line) (gained : List Receipt) (handed : List Volume)
+seal_few : (l : LayoutParts) (old new : SeatValue) (asked : Work) (handed : List Volume) (end : LineEnd)
+    → IsLine l old asked handed end new → length handed ≤ one_if (is_seal asked)
+seal_few l old new asked handed end (inl ran) = omega (arith, ap (λ (vs : List Volume). length vs) ran.0)
+seal_few l old new asked handed end (inr ran) =
+    omega
+    (arith, handed_few l old new handed end ran.1, ap (λ (asked : Work). one_if (is_seal asked)) ran.0)
+
+lines_few : (l : LayoutParts) (lines : List Line) (old new : SeatValue) (handed : List Volume)
     (ends : List LineEnd)
-    → AreLines l lines gained handed ends → length handed ≤ seals_in lines
-lines_few l [] gained handed ends none = omega (arith, ap (λ (vs : List Volume). length vs) none.1)
-lines_few l (line ∷ lines) gained handed ends ran =
+    → AreLines l old lines handed ends new → length handed ≤ seals_in lines
+lines_few l [] old new handed ends none = omega (arith, ap (λ (vs : List Volume). length vs) none.0)
+lines_few l (line ∷ lines) old new handed ends ran =
     omega (
       arith,
-      seal_few l line.work ran.0 ran.1 ran.2 ran.9.0,
-      lines_few l lines ran.3 ran.4 ran.5 ran.9.1,
-      ap (λ (vs : List Volume). length vs) ran.7,
-      length-append ran.1 ran.4,
+      seal_few l old ran.0 line.work ran.1 ran.2 ran.7.0,
+      lines_few l lines ran.0 new ran.3 ran.4 ran.7.1,
+      ap (λ (vs : List Volume). length vs) ran.5,
+      length-append ran.1 ran.3,
       sum_by-cons (λ (x : Line). one_if (is_seal x.work)) line lines,
     )
 
@@ -110,7 +89,7 @@ pub worker_few : (l : LayoutParts) (old : SeatValue) (lines : List Line) (new : 
 worker_few l old lines new handed ends fault worker =
     omega (
       arith,
-      lines_few l (take (length ends) lines) worker.worked.gained handed ends worker.worked.ran,
+      lines_few l (take (length ends) lines) old new handed ends worker.worked.ran,
       sum_by-take-le (λ (x : Line). one_if (is_seal x.work)) lines (length ends),
     )
 
@@ -119,33 +98,37 @@ worker_few l old lines new handed ends fault worker =
 pub none_sealed : (l : LayoutParts) (handed : List Volume) → handed ≡ [] → AreSealed l handed
 none_sealed l handed none = subst (AreSealed l) (sym none) (λ i d lt. absurd (omega (arith, lt)))
 
-line_seals : (l : LayoutParts) (asked : Work) (gained : List Receipt) (handed : List Volume) (end : LineEnd)
-    → IsLine l asked gained handed end → AreSealed l handed
-line_seals l (work.Event event) gained handed end ran = none_sealed l handed ran.0
-line_seals l (work.Plan plan turns) gained handed end ran = none_sealed l handed ran.0
-line_seals l (work.Echo echo) gained handed end ran = none_sealed l handed ran.0
-line_seals l (work.Cat path) gained handed end ran = absurd ran
-line_seals l work.Seal gained handed (Replied reply) ran = absurd ran
-line_seals l work.Seal gained handed (Faulted fault) ran = none_sealed l handed ran.1
-line_seals l work.Seal gained handed (Planned end) ran = absurd ran
-line_seals l work.Seal gained handed (Untaken fault) ran = absurd ran
-line_seals l work.Seal gained handed (Sealed count) ran =
-    subst (AreSealed l) (sym ran.2)
-    (All-cons (λ (v : Volume). IsSealOf l v 0) ran.0 [] ran.3 (none_sealed l [] refl))
+seal_seals : (l : LayoutParts) (old new : SeatValue) (handed : List Volume) (end : LineEnd)
+    → IsSealRun l old handed end new → AreSealed l handed
+seal_seals l old new handed (Replied reply) ran = absurd ran
+seal_seals l old new handed (Faulted named) ran = none_sealed l handed ran.0
+seal_seals l old new handed (Planned end) ran = absurd ran
+seal_seals l old new handed (Untaken why) ran = absurd ran
+seal_seals l old new handed (Sealed count) ran =
+    subst (AreSealed l) (sym ran.1)
+    (All-cons (λ (v : Volume). IsSealOf l v 0) ran.0 []
+    (record { seen = ran.2.seen; shared = ran.2.shared; is = ran.2.is; within = omega arith })
+    (none_sealed l [] refl))
 
-lines_seal : (l : LayoutParts) (lines : List Line) (gained : List Receipt) (handed : List Volume)
+line_seals : (l : LayoutParts) (old new : SeatValue) (asked : Work) (handed : List Volume) (end : LineEnd)
+    → IsLine l old asked handed end new → AreSealed l handed
+line_seals l old new asked handed end (inl ran) = none_sealed l handed ran.0
+line_seals l old new asked handed end (inr ran) = seal_seals l old new handed end ran.1
+
+lines_seal : (l : LayoutParts) (lines : List Line) (old new : SeatValue) (handed : List Volume)
     (ends : List LineEnd)
-    → AreLines l lines gained handed ends → AreSealed l handed
-lines_seal l [] gained handed ends none = none_sealed l handed none.1
-lines_seal l (line ∷ lines) gained handed ends ran =
-    subst (AreSealed l) (sym ran.7) (All-append (λ (v : Volume). IsSealOf l v 0) ran.1 ran.4
-    (line_seals l line.work ran.0 ran.1 ran.2 ran.9.0) (lines_seal l lines ran.3 ran.4 ran.5 ran.9.1))
+    → AreLines l old lines handed ends new → AreSealed l handed
+lines_seal l [] old new handed ends none = none_sealed l handed none.0
+lines_seal l (line ∷ lines) old new handed ends ran =
+    subst (AreSealed l) (sym ran.5) (All-append (λ (v : Volume). IsSealOf l v 0) ran.1 ran.3
+    (line_seals l old ran.0 line.work ran.1 ran.2 ran.7.0)
+    (lines_seal l lines ran.0 new ran.3 ran.4 ran.7.1))
 
 pub worker_seals : (l : LayoutParts) (old : SeatValue) (lines : List Line) (new : SeatValue)
     (handed : List Volume) (ends : List LineEnd) (fault : Option RunFault)
     → IsWorker l old lines new handed ends fault → AreSealed l handed
 worker_seals l old lines new handed ends fault worker =
-    lines_seal l (take (length ends) lines) worker.worked.gained handed ends worker.worked.ran
+    lines_seal l (take (length ends) lines) old new handed ends worker.worked.ran
 
 pub more_seals : (l : LayoutParts) (volumes earlier handed : List Volume) → volumes ≡ earlier ++ handed
     → AreSealed l earlier → AreSealed l handed → AreSealed l volumes

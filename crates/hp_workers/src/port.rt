@@ -44,10 +44,11 @@ impl<'a, L: Job, G: Gate, R: Wait> GatedPort<'a, L, G, R> {
 }
 
 impl<'a, L: Job, G: Gate, R: Wait> Port for GatedPort<'a, L, G, R> {
-    ghost use Rattle.std.specs.Prelude.{◌≡◌, ◌≤◌, length, refl};
+    ghost use Rattle.std.specs.Prelude.{◌≡◌, refl};
     ghost use Rattle.std.proofs.Common.{◌∙◌};
     ghost use Rattle.hp_units.specs.declared.replies.CallFault.TheVariants.{HistoryFull};
     ghost use Rattle.hp_shared.specs.SeatPorts.{AreTurns, port_value, turns_joined};
+    ghost use Rattle.hp_shared.specs.Shared.{MayBeFull};
 
     ghost shows = { λ p. port_value L.layout p.seat.now p.fault };
 
@@ -56,7 +57,7 @@ impl<'a, L: Job, G: Gate, R: Wait> Port for GatedPort<'a, L, G, R> {
 
     ghost leaves = { λ p fault q.
         (q.seat.ghost_name ≡ p.seat.ghost_name) × (q.seat.now ≡ p.seat.now)
-        × (L.layout.cpus ≡ 1 → fault ≡ HistoryFull → L.layout.history ≤ length p.seat.now.receipts) };
+        × (fault ≡ HistoryFull → MayBeFull L.layout p.seat.now) };
 
     fn cpus(&self) -> u32 {
         self.shared.cpus()

@@ -24,11 +24,13 @@ pub const CALLS: &str =
 pub fn run<R: Wait>(rt: &R, case: &mut Case<'_>, scenario: &Scenario) -> Outcome {
     let mut twin = Machine::boot(case.alloc, &scenario.layout)?;
     let machine = Machine::boot(case.alloc, &scenario.layout)?;
-    let blank = Blank::new(scenario.layout.cpus() as u64);
+    let records = Blank::new(scenario.layout.cpus() as u64);
+    let sealed = Blank::new(scenario.layout.cpus() as u64);
     share::<Brand, R>(
         rt,
         case,
-        blank,
+        records,
+        sealed,
         machine,
         &mut twin,
         scenario.lines.as_slice(),
@@ -39,23 +41,25 @@ pub fn run<R: Wait>(rt: &R, case: &mut Case<'_>, scenario: &Scenario) -> Outcome
 fn share<L: Job, R: Wait>(
     rt: &R,
     case: &mut Case<'_>,
-    blank: Blank,
+    records: Blank,
+    sealed: Blank,
     machine: Machine,
     twin: &mut Machine,
     lines: &[Line],
 ) -> Outcome
     requires machine { IsFresh L.layout machine }
-    requires name { blank.name ≡ L.name }
-    requires parts { blank.parts ≡ L.parts }
-    requires one_each { blank.parts ≡ L.layout.cpus }
+    requires name { records.name ≡ L.name }
+    requires parts { records.parts ≡ L.parts }
+    requires one_each { records.parts ≡ L.layout.cpus }
+    requires sealed { (sealed.name ≡ L.sealed) × (sealed.parts ≡ L.layout.cpus) }
 {
-    let (blank, machine) = match Shared::<L>::new(case.alloc, blank, machine) {
+    let (records, sealed, machine) = match Shared::<L>::new(case.alloc, records, sealed, machine) {
         Ok((shared, seats)) => return run_all(rt, case, shared, seats, twin, lines),
         Err(back) => back,
     };
     case.note();
     let is_kept = same_machines(case.alloc, &machine, twin);
-    match Shared::<L>::new(case.alloc, blank, machine) {
+    match Shared::<L>::new(case.alloc, records, sealed, machine) {
         Ok((shared, seats)) => {
             let is_right = run_all(rt, case, shared, seats, twin, lines);
             holds(is_kept?)?;

@@ -30,26 +30,29 @@ const DONE: LineEnd = LineEnd::Reply(Reply::Done);
 pub fn run<R: Threads + Wait + Sync>(rt: &R, alloc: Global) -> Outcome {
     let scenario = scenario_of(alloc, CALLS)?;
     let machine = Machine::boot(alloc, &scenario.layout)?;
-    let blank = Blank::new(scenario.layout.cpus() as u64);
+    let records = Blank::new(scenario.layout.cpus() as u64);
+    let sealed = Blank::new(scenario.layout.cpus() as u64);
     let scripts = scenario.scripts(alloc)?;
-    run_scripts::<Brand, R>(rt, alloc, blank, machine, scripts)
+    run_scripts::<Brand, R>(rt, alloc, records, sealed, machine, scripts)
 }
 
 /// Has workers run a script for each processor, and closes.
 fn run_scripts<L: Job + Send + Sync, R: Threads + Wait + Sync>(
     rt: &R,
     alloc: Global,
-    blank: Blank,
+    records: Blank,
+    sealed: Blank,
     machine: Machine,
     scripts: Vec<Script>,
 ) -> Outcome
     requires machine { IsFresh L.layout machine }
-    requires name { blank.name ≡ L.name }
-    requires parts { blank.parts ≡ L.parts }
-    requires one_each { blank.parts ≡ L.layout.cpus }
+    requires name { records.name ≡ L.name }
+    requires parts { records.parts ≡ L.parts }
+    requires one_each { records.parts ≡ L.layout.cpus }
+    requires sealed { (sealed.name ≡ L.sealed) × (sealed.parts ≡ L.layout.cpus) }
     requires run { AreForRun scripts.items }
 {
-    match Shared::<L>::new(alloc, blank, machine) {
+    match Shared::<L>::new(alloc, records, sealed, machine) {
         Ok((shared, seats)) => run_seats(rt, alloc, shared, seats, scripts),
         Err(_) => Err(Trouble::OutOfMemory),
     }

@@ -25,26 +25,29 @@ pub fn run_scenario<R: Threads + Wait + Sync>(
 ) -> Result<Option<u64>> {
     let scenario = Scenario::read(alloc, text)?;
     let machine = Machine::boot(alloc, &scenario.layout)?;
-    let blank = Blank::new(scenario.layout.cpus() as u64);
+    let records = Blank::new(scenario.layout.cpus() as u64);
+    let sealed = Blank::new(scenario.layout.cpus() as u64);
     let scripts = scenario.scripts(alloc)?;
-    Ok(run_scripts::<Brand, _>(rt, alloc, blank, machine, scripts))
+    Ok(run_scripts::<Brand, _>(rt, alloc, records, sealed, machine, scripts))
 }
 
 /// Runs a script for each processor of a machine.
 fn run_scripts<L: Job + Send + Sync, R: Threads + Wait + Sync>(
     rt: &R,
     alloc: Global,
-    blank: Blank,
+    records: Blank,
+    sealed: Blank,
     machine: Machine,
     scripts: Vec<Script>,
 ) -> Option<u64>
     requires machine { IsFresh L.layout machine }
-    requires name { blank.name ≡ L.name }
-    requires parts { blank.parts ≡ L.parts }
-    requires one_each { blank.parts ≡ L.layout.cpus }
+    requires name { records.name ≡ L.name }
+    requires parts { records.parts ≡ L.parts }
+    requires one_each { records.parts ≡ L.layout.cpus }
+    requires sealed { (sealed.name ≡ L.sealed) × (sealed.parts ≡ L.layout.cpus) }
     requires run { AreForRun scripts.items }
 {
-    let Ok((shared, seats)) = Shared::<L>::new(alloc, blank, machine) else {
+    let Ok((shared, seats)) = Shared::<L>::new(alloc, records, sealed, machine) else {
         return None;
     };
     if seats.len() != scripts.len() {

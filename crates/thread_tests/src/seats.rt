@@ -247,16 +247,18 @@ enum Scene {
 fn plays_on<L: Job + Send + Sync, R: Threads + Wait + Sync>(
     rt: &R,
     alloc: Global,
-    blank: Blank,
+    records: Blank,
+    sealed: Blank,
     machine: Machine,
     scene: Scene,
 ) -> bool
     requires machine { IsFresh L.layout machine }
-    requires name { blank.name ≡ L.name }
-    requires parts { blank.parts ≡ L.parts }
-    requires one_each { blank.parts ≡ L.layout.cpus }
+    requires name { records.name ≡ L.name }
+    requires parts { records.parts ≡ L.parts }
+    requires one_each { records.parts ≡ L.layout.cpus }
+    requires sealed { (sealed.name ≡ L.sealed) × (sealed.parts ≡ L.layout.cpus) }
 {
-    let Ok((shared, seats)) = Shared::<L>::new(alloc, blank, machine) else {
+    let Ok((shared, seats)) = Shared::<L>::new(alloc, records, sealed, machine) else {
         return false;
     };
     match scene {
@@ -276,8 +278,9 @@ fn plays_on<L: Job + Send + Sync, R: Threads + Wait + Sync>(
 fn plays<R: Threads + Wait + Sync>(rt: &R, alloc: Global, scene: Scene) -> Result<bool, Fail> {
     let layout = layout(alloc)?;
     let machine = Machine::boot(alloc, &layout)?;
-    let blank = Blank::new(layout.cpus() as u64);
-    Ok(plays_on::<Brand, _>(rt, alloc, blank, machine, scene))
+    let records = Blank::new(layout.cpus() as u64);
+    let sealed = Blank::new(layout.cpus() as u64);
+    Ok(plays_on::<Brand, _>(rt, alloc, records, sealed, machine, scene))
 }
 
 #[test]

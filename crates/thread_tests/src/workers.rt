@@ -122,18 +122,20 @@ fn close_after<L: Job>(alloc: Global, shared: Shared<L>, end: RunEnd<L>) -> Opti
 fn run_scripts<L: Job + Send + Sync, G: Gate + Sync, R: Threads + Wait + Sync>(
     rt: &R,
     alloc: Global,
-    blank: Blank,
+    records: Blank,
+    sealed: Blank,
     machine: Machine,
     scripts: Vec<Script>,
     gate: &G,
 ) -> Option<Outcome>
     requires machine { IsFresh L.layout machine }
-    requires name { blank.name ≡ L.name }
-    requires parts { blank.parts ≡ L.parts }
-    requires one_each { blank.parts ≡ L.layout.cpus }
+    requires name { records.name ≡ L.name }
+    requires parts { records.parts ≡ L.parts }
+    requires one_each { records.parts ≡ L.layout.cpus }
+    requires sealed { (sealed.name ≡ L.sealed) × (sealed.parts ≡ L.layout.cpus) }
     requires run { AreForRun scripts.items }
 {
-    let (shared, seats) = Shared::<L>::new(alloc, blank, machine).ok()?;
+    let (shared, seats) = Shared::<L>::new(alloc, records, sealed, machine).ok()?;
     if seats.len() != scripts.len() {
         drop(shared);
         drop(seats);
@@ -154,9 +156,10 @@ fn run_lines<G: Gate + Sync, R: Threads + Wait + Sync>(
     let text = format!(in alloc; "{{\"layout\":{LAYOUT},\"calls\":[{calls}]}}")?;
     let scenario = Scenario::read(alloc, text.as_bytes())?;
     let machine = Machine::boot(alloc, &scenario.layout)?;
-    let blank = Blank::new(scenario.layout.cpus() as u64);
+    let records = Blank::new(scenario.layout.cpus() as u64);
+    let sealed = Blank::new(scenario.layout.cpus() as u64);
     let scripts = scenario.scripts(alloc)?;
-    let outcome = run_scripts::<Brand, _, _>(rt, alloc, blank, machine, scripts, gate);
+    let outcome = run_scripts::<Brand, _, _>(rt, alloc, records, sealed, machine, scripts, gate);
     Ok(outcome.ok_or("no outcome")?)
 }
 

@@ -8,8 +8,7 @@ returns-in-Ok g c =
       gained = called.receipt ∷ [];
       fault = None;
       made = called.made;
-      ran = (called.receipt, refl, called.given.asked, called.replied);
-      full = λ none. absurd cc;
+      ran = (called.receipt, refl, refl, called.given.asked, called.replied);
     }
 
 pub returns-in-Err : goal.returns-in-Err
@@ -17,6 +16,5 @@ returns-in-Err g c = record {
   gained = [];
   fault = Some c.in-Err.fault;
   made = (c.args.port.now, g.met.P.Port.nothing c.args.port.now, c.in-Err.ensures.leaves);
-  ran = refl;
-  full = λ is. is;
+  ran = (refl, refl);
 }

@@ -11,4 +11,4 @@ returns g c =
     let name = made.0 ∙ c.new-port.ensures.same_reference in
     line_run g.L.Job.layout c.args.seat.now c.new-port.result.seat.now c.run_work-end.new.port.seat.now _
     c.args.work.now ran.gained ran.fault c.run_work-end.result c.new-port.ensures.seat (search rules) made.1
-    ran.ran ran.full made.2
+    ran.ran made.2

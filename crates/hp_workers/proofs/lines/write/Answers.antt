@@ -6,6 +6,5 @@ returns-in-Err g c = record {
   gained = [];
   fault = None;
   made = g.met.P.Port.nothing c.args.port.now;
-  ran = rw c.in-Err.is (refl, refl);
-  full = λ none. absurd cc;
+  ran = rw c.in-Err.is (refl, refl, refl);
 }

@@ -1,8 +1,8 @@
 use Rattle.thread_tests.proofs.workers.run_lines.Given as goal
 
--- the machine's own layout, and the ledger that was just made
+-- the machine's own layout, and the ledgers that were just made
 abbrev pub ghosts-run_scripts-L-Job : goal.ghosts-run_scripts-L-Job
-ghosts-run_scripts-L-Job g a = record { layout = a.machine.layout }
+ghosts-run_scripts-L-Job g a = record { layout = a.machine.layout; sealed = a.sealed.name }
 
 abbrev pub ghosts-run_scripts-L-Ledger : goal.ghosts-run_scripts-L-Ledger
-ghosts-run_scripts-L-Ledger g a = record { name = a.blank.name; parts = a.blank.parts }
+ghosts-run_scripts-L-Ledger g a = record { name = a.records.name; parts = a.records.parts }

@@ -1,5 +1,7 @@
-use Rattle.std.proofs.Common.{rules}
+use Rattle.std.proofs.Common.{List, length, refl, ap, arith, rules}
+use Rattle.hp_units.specs.declared.replies.Record.{Record}
 use Rattle.hp_shared.proofs.Turns.{sealed_on}
+use Rattle.hp_shared.proofs.Sealing.{handed_on}
 use Rattle.hp_shared.proofs.locked.Locked.seal.Goals as goal
 
 pub invariant_of-self-2 : goal.invariant_of-self-2
@@ -7,6 +9,10 @@ invariant_of-self-2 g c = (
   sealed_on g.L.Job.layout c.self.inside.machine c.seal.new.self c.self.inside.book.total
       c.audit.new.self.total c.self.invariant.0 c.in_ok-volume.ensures.goes_on c.audit.ensures.total,
   c.self.invariant.1,
+  handed_on c.self.inside.machine c.seal.new.self c.in_ok-volume.volume c.self.inside.sealed.total
+      c.as_slice.result.now (length c.as_slice.result.now) c.add.new.self.total c.self.invariant.2
+      c.in_ok-volume.ensures.volume
+      c.in_ok-volume.ensures.goes_on c.as_slice.ensures refl c.add.ensures.total,
 )
 
 pub returns-clause-kept : goal.returns-clause-kept
@@ -58,3 +64,16 @@ returns-clause-within g c = search rules
 
 pub returns-clause-shown : goal.returns-clause-shown
 returns-clause-shown g c = search rules
+
+pub returns-in_err-volume-clause-counted : goal.returns-in_err-volume-clause-counted
+returns-in_err-volume-clause-counted g c = search rules
+
+pub returns-in_err-volume-clause-parts : goal.returns-in_err-volume-clause-parts
+returns-in_err-volume-clause-parts g c = search rules
+
+pub returns-clause-counted : goal.returns-clause-counted
+returns-clause-counted g c =
+    omega (arith, c.add.ensures.amount, ap (λ (rs : List Record). length rs) c.as_slice.ensures)
+
+pub returns-clause-parts : goal.returns-clause-parts
+returns-clause-parts g c = search rules

@@ -1,5 +1,6 @@
-use Rattle.std.proofs.Common.{◌∙◌, sym, arith, rules}
-use Rattle.hp_shared.proofs.SeatCalls.{full_still, seat_called}
+use Rattle.std.specs.Prelude.{vec_len, vec_capacity}
+use Rattle.std.proofs.Common.{◌∙◌, length, sym, rules}
+use Rattle.hp_shared.proofs.SeatCalls.{fills, full_still, seat_called}
 use Rattle.hp_shared.proofs.seat.Seat.call.Goals as goal
 
 pub returns-in_default-clause-ok : goal.returns-in_default-clause-ok
@@ -25,9 +26,10 @@ returns-in-Ok-turn-clause-ok g c =
     rw (← c.self.view_is)
     (seat_called g.L.Job.layout c.self.inside.cpu c.self.inside.receipts.items c.reserve.new.self.items
     c.push_reserved.new.self.items c.args.event.now c.in-Ok-copy.asked c.in-Ok-turn.answer
-    c.self.inside.share.amount c.turn.new.share.amount c.in-Ok-copy.ensures c.self.invariant.0
+    c.self.inside.share.amount c.turn.new.share.amount c.self.inside.sealed.amount c.turn.new.handed.amount
+    c.in-Ok-copy.ensures c.self.invariant.0
     c.reserve.ensures.items c.push_reserved.ensures.items c.self.invariant.2 c.in-Ok-turn.ensures.counted
-    c.in-Ok-turn.ensures.ok)
+    c.in-Ok-turn.ensures.handed.0 c.in-Ok-turn.ensures.ok)
 
 pub returns-in-Ok-turn-clause-err : goal.returns-in-Ok-turn-clause-err
 returns-in-Ok-turn-clause-err g c = search rules
@@ -42,6 +44,10 @@ pub returns-in-Err-clause-err : goal.returns-in-Err-clause-err
 returns-in-Err-clause-err g c = search rules
 
 pub returns-in-Err-clause-only : goal.returns-in-Err-clause-only
-returns-in-Err-clause-only g c one is =
+returns-in-Err-clause-only g c is one =
     let filled = c.in-Err.ensures.only (c.self.invariant.1 ∙ sym one) (full_still c.in-Err.fault is) in
-    rw (← c.self.view_is) (omega (arith, filled, c.self.invariant.2))
+    let receipts = c.self.inside.receipts in
+    rw (← c.self.view_is)
+    (fills g.L.Job.layout c.self.inside.sealed.amount c.self.inside.share.amount (length receipts.items)
+    (vec_len receipts) (vec_capacity receipts) filled c.self.invariant.2 receipts.ok.0 receipts.ok.1
+    receipts.small)

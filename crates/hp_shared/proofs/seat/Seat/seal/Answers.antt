@@ -6,3 +6,6 @@ returns-clause-ok g c = search rules
 
 pub returns-clause-seat : goal.returns-clause-seat
 returns-clause-seat g c = search rules
+
+pub returns-clause-err : goal.returns-clause-err
+returns-clause-err g c = search rules

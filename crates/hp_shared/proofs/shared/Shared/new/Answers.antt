@@ -15,6 +15,8 @@ loop-cpu-preserved g c =
           ∙ sym (map-range_with_len_more first_seat 0 c.loop-cpu.cpu c.loop-cpu.cpu (omega arith)))),
       omega (arith, i.3, c.push_reserved.ensures.len),
       omega (arith, i.4, c.push_reserved.ensures.capacity),
+      omega (arith, i.5, c.split_off-own.ensures.parts_left),
+      omega (arith, i.6, c.split_off-own.ensures.amount_left),
     )
 
 pub returns-clause-seats : goal.returns-clause-seats

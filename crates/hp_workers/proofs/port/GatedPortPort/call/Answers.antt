@@ -23,5 +23,5 @@ pub returns-in-Err-clause-leaves : goal.returns-in-Err-clause-leaves
 returns-in-Err-clause-leaves g c = (
   search rules,
   search rules,
-  λ one is. c.in-Err.ensures.only one (ap (λ (f : CallFault). Err f) is),
+  λ is. c.in-Err.ensures.only (ap (λ (f : CallFault). Err f) is),
 )
