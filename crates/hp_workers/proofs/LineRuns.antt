@@ -12,7 +12,6 @@ use Rattle.hp_laws.proofs.Lists.{take_next}
 use Rattle.hp_scenario.specs.declared.lines.Line.{Line}
 use Rattle.hp_scenario.specs.declared.lines.Work.{Work}
 use Rattle.hp_history.specs.declared.volumes.Volume.{Volume}
-use Rattle.hp_scenario.specs.declared.lines.Work.TheVariants as work
 use Rattle.hp_shared.specs.Shared.{MayBeFull, SeatValue}
 use Rattle.hp_shared.specs.SeatPorts.{AreTurns}
 use Rattle.hp_workers.specs.declared.lines.LineEnd.{LineEnd}
@@ -99,15 +98,6 @@ lines_more l (x ∷ lines) line old mid new handed out ends end before ran =
       ap (λ (es : List LineEnd). es ++ end ∷ []) before.6,
       (before.7.0, later),
     )
-
--- no line yet
-pub worked_none : (l : LayoutParts) (seat : SeatValue) (lines : List Line) (handed : List Volume)
-    (ends : List LineEnd)
-    → handed ≡ [] → ends ≡ [] → IsWorked l seat lines seat handed ends
-worked_none l seat lines handed ends empty none =
-    subst (λ (vs : List Volume). IsWorked l seat lines seat vs ends) (sym empty)
-    (subst (IsWorked l seat lines seat []) (sym none)
-    (record { ran = (refl, refl, refl); within = omega arith }))
 
 -- one more line of a script
 pub worked_next : (l : LayoutParts) (old mid new : SeatValue) (lines : List Line) (line : Line)

@@ -1,5 +1,5 @@
 -- Seals: what one hands out, and how many volumes there can be.
-use Rattle.std.proofs.Common.{◌≡◌, ℕ, ◌+◌, ◌<◌, ◌≤◌, true, List, [], ◌∷◌, ◌++◌, length, take, get_or, Option, Some, slice_get, refl, sym, ap, subst, ◌∙◌, append-nil, arith, add-one, is_ok, if◌then◌else◌, Result, Ok, Err, inl, inr}
+use Rattle.std.proofs.Common.{◌≡◌, ℕ, ◌+◌, ◌<◌, ◌≤◌, List, [], ◌∷◌, ◌++◌, length, take, get_or, Option, Some, slice_get, refl, sym, ap, subst, ◌∙◌, arith, add-one, is_ok, if◌then◌else◌, Result, Ok, Err, inl, inr}
 use Rattle.std.specs.Prelude.{IsOk}
 use Rattle.std.proofs.lemmas.List.{length-append, take-take, take_more}
 use Rattle.std.specs.List.Sorted.{IsPermutation}
@@ -8,46 +8,18 @@ use Rattle.std.proofs.lemmas.List.Sorted.{length_permutation}
 use Rattle.std.proofs.lemmas.List.Sums.{sum_by-append, sum_by-cons, sum_by-take-le}
 use Rattle.hp_laws.proofs.Lists.{take_next}
 use Rattle.hp_units.specs.LayoutParts.{LayoutParts}
-use Rattle.hp_units.specs.declared.replies.CallFault.TheVariants.{OutOfMemory}
 use Rattle.hp_history.specs.declared.volumes.Volume.{Volume}
 use Rattle.hp_scenario.specs.Scripts.{is_seal}
 use Rattle.hp_scenario.specs.declared.lines.Line.{Line}
 use Rattle.hp_scenario.specs.declared.lines.Work.{Work}
-use Rattle.hp_scenario.specs.declared.lines.Work.TheVariants as work
 use Rattle.hp_shared.specs.Shared.{SeatValue}
-use Rattle.hp_shared.specs.Volumes.{IsSealOf, sealed_by}
+use Rattle.hp_shared.specs.Volumes.{IsSealOf}
 use Rattle.hp_workers.specs.declared.lines.LineEnd.{LineEnd}
 use Rattle.hp_workers.specs.declared.lines.LineEnd.TheVariants.{Reply as Replied, Fault as Faulted, Plan as Planned, Control as Untaken, Sealed}
 use Rattle.hp_workers.specs.declared.fault.RunFault.{RunFault}
-use Rattle.hp_workers.specs.Lines.{AreLines, IsLine, IsLineRun, IsSealRun}
+use Rattle.hp_workers.specs.Lines.{AreLines, IsLine, IsSealRun}
 use Rattle.hp_workers.specs.Seals.{AreInOrder, AreSealed, one_if, seals_in, seals_in_all}
 use Rattle.hp_workers.specs.Workers.{AreGathered, AreWorkers, IsWorker}
-
--- ---- one seal
-
--- nothing was handed out
-pub sealed_none : (l : LayoutParts) (old new : SeatValue) (before after : List Volume) → new ≡ old
-    → after ≡ before → IsLineRun l old before work.Seal (Faulted OutOfMemory) new after
-sealed_none l old new before after same kept =
-    record { handed = []; line = inr (refl, (refl, refl, same)); kept = kept ∙ sym (append-nil before) }
-
--- a volume was handed out
-pub sealed_one : (l : LayoutParts) (old new : SeatValue) (before after : List Volume) (v : Volume) (count : ℕ)
-    → new ≡ sealed_by old v → after ≡ before ++ v ∷ [] → IsSealOf l v (length old.receipts)
-    → count ≡ length v.records → IsLineRun l old before work.Seal (Sealed count) new after
-sealed_one l old new before after v count is kept seal own =
-    record { handed = v ∷ []; line = inr (refl, (v, refl, seal, own, is)); kept = kept }
-
--- a line that seals
-pub line_sealed : (l : LayoutParts) (old new : SeatValue) (before after : List Volume) (asked : Work)
-    (end : LineEnd)
-    → is_seal asked ≡ true → IsLineRun l old before work.Seal end new after
-    → IsLineRun l old before asked end new after
-line_sealed l old new before after (work.Event event) end is run = absurd cc
-line_sealed l old new before after (work.Plan plan turns) end is run = absurd cc
-line_sealed l old new before after (work.Echo echo) end is run = absurd cc
-line_sealed l old new before after (work.Cat path) end is run = absurd cc
-line_sealed l old new before after work.Seal end is run = run
 
 -- ---- how many
 
