@@ -10,16 +10,20 @@ times each, and every answer is compared. Of each the least time counts, and the
 run.
 
 - calls: the calls of each mix on each layout (--layouts, else small and medium), history kept; plans
-  as the single events that they make.
+  as the single events that they make. Instructions are those of one time more that the calls are
+  made, so neither the reading of the scenario nor its generation is in them.
 - sealed: the mixes that undo nothing, sealed after every 100,000 calls, without the seals' time;
   the peer keeps no records.
 - serial: `hotplug serial` on scenarios of 16 MiB of each mix, on the medium layout; and the
-  instructions of each on 200,000 lines of the mix, in millions, where valgrind is there.
+  instructions of each on 200,000 lines of the mix.
 - growth: `serial` of 20,000 and of 320,000 lines: how much more time each takes.
 - offline: a plan on 24 frames of 512 words that 8 processors' drains can't help, 4,096 turns.
 - maps: 6,000 lines of map and unmap on 1,024 frames of 512 words.
 - commands: `serial`, `run` and `audit` on 16 MiB of each mix whose lines are all one processor's,
-  on the medium layout: what `run` costs over `serial`, and `audit` over `run`. No peer here.
+  on the medium layout: what `run` costs over `serial`, and `audit` over `run`. No peer here. And
+  the instructions of each on 200,000 such lines.
+
+Instructions are counted where valgrind is there, in millions. They hardly move from run to run.
 """
 import argparse
 import hashlib
@@ -77,12 +81,24 @@ def instructions(command, stdin):
     return int(re.search(r"Collected : ([0-9]+)", run.stderr)[1]) / 1e6
 
 
+def shown(ours, peer):
+    """A text of the millions of instructions of both, and their ratio."""
+    return f"   {ours:9.1f} {peer:9.1f} M   {ours / peer:6.2f}x"
+
+
 def counts(ours, peer, scenario):
-    """A text of the instructions of both commands on a scenario, and their ratio; none without valgrind."""
+    """A text of the instructions of both commands on a scenario; none without valgrind."""
     if shutil.which("valgrind") is None:
         return ""
-    ours, peer = instructions(ours, scenario), instructions(peer, scenario)
-    return f"   {ours:9.1f} {peer:9.1f} M   {ours / peer:6.2f}x"
+    return shown(instructions(ours, scenario), instructions(peer, scenario))
+
+
+def counts_once_more(ours, peer, scenario):
+    """A text of the instructions by which two runs of what a command does are more than one; none without
+    valgrind. `ours` and `peer` make the command of a number of runs."""
+    if shutil.which("valgrind") is None:
+        return ""
+    return shown(*(instructions(made(2), scenario) - instructions(made(1), scenario) for made in (ours, peer)))
 
 
 def line(name, time, unit, ours, peer, peaks, more=""):
@@ -119,13 +135,20 @@ def calls(choice, folder, layouts, count, part=None):
         for mix in ["kernel", "pages"] if part else MIXES:
             events = generated(folder, mix, layout, count, "--events")
             made = len(json.loads(events.read_bytes())["calls"])
-            ours, peer = in_turn(
-                choice.runs, [choice.ours / "bench_calls/out/bench_calls", 3, *([part] if part else [])],
-                [PEER / "bench_calls", mix, layout, made, SEED, "--reps", 3, *(["--no-history"] if part else [])], events)
+
+            def ours_of(runs):
+                return [choice.ours / "bench_calls/out/bench_calls", runs, *([part] if part else [])]
+
+            def peer_of(runs):
+                return [PEER / "bench_calls", mix, layout, made, SEED, "--reps", runs,
+                        *(["--no-history"] if part else [])]
+
+            ours, peer = in_turn(choice.runs, ours_of(3), peer_of(3), events)
             if {checksum(run) for run in ours} != {checksum(run) for run in peer}:
                 sys.exit(f"{mix}: the replies differ")
             ours, peer = least(ours, nanoseconds), least(peer, nanoseconds)
-            line(mix, nanoseconds, "ns", ours, peer, (ours.peak, peer.peak))
+            line(mix, nanoseconds, "ns", ours, peer, (ours.peak, peer.peak),
+                 counts_once_more(ours_of, peer_of, events))
 
 
 def serial(choice, name, scenario, counted=None):
@@ -168,23 +191,33 @@ def maps(folder):
     return written(folder, "maps", layout, [f"0 {verbs[at % 2]} db {at // 2 % 1024}" for at in range(6000)])
 
 
-def of_one_processor(folder, mix):
+def of_one_processor(folder, mix, lines):
     """A generated scenario whose lines are all processor 0's."""
-    path = generated(folder, mix, "medium", 10_000_000)
+    path = generated(folder, mix, "medium", lines)
     path.write_bytes(re.sub(rb'^"[0-9]+ ', b'"0 ', path.read_bytes(), flags=re.MULTILINE))
     return path
 
 
+def ratios(figures, unit):
+    """A text of the figures of the three commands, and of what the later two cost over the one before."""
+    serial, run, audit = figures
+    return (f"{serial:10.1f} {run:10.1f} {audit:10.1f} {unit:2}"
+            f"   run {run / serial:.2f}x serial, audit {audit / run:.2f}x run")
+
+
 def commands(choice, folder):
     """The three commands on the same lines."""
-    print("\nserial, run and audit of 16 MiB of one processor's lines on the layout medium")
+    print("\nserial, run and audit of one processor's lines on the layout medium: 16 MiB, and instructions of 200,000")
     program = choice.ours / "hotplug/out/hotplug"
+    words = ("serial", "run", "audit")
     for mix in MIXES:
-        scenario = of_one_processor(folder, mix)
-        rounds = [[Run([program, word], scenario) for word in ("serial", "run", "audit")] for _ in range(choice.runs)]
-        serial, run, audit = (min(row[at].wall for row in rounds) for at in range(3))
-        print(f"{mix:24} {serial * 1e3:10.0f} {run * 1e3:10.0f} {audit * 1e3:10.0f} ms"
-              f"   run {run / serial:.2f}x serial, audit {audit / run:.2f}x run", flush=True)
+        scenario = of_one_processor(folder, mix, 10_000_000)
+        rounds = [[Run([program, word], scenario) for word in words] for _ in range(choice.runs)]
+        least_of = [min(row[at].wall for row in rounds) * 1e3 for at in range(3)]
+        print(f"{mix:24} {ratios(least_of, 'ms')}", flush=True)
+        if shutil.which("valgrind"):
+            counted = of_one_processor(folder, mix, 200_000)
+            print(f"{'':24} {ratios([instructions([program, word], counted) for word in words], 'M')}", flush=True)
 
 
 def main():

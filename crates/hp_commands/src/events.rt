@@ -9,6 +9,7 @@ use hp_units::{CallFault, Cpu, Event};
 use std::alloc::{AllocError, Global};
 
 /// Calls the machine with an event, and writes the answer or why there is none.
+#[inline(always)]
 #[tactic(auto, unfolding(crate::specs::Events::event_text, crate::specs::Events::machine_after_event))]
 pub fn write_event(
     out: &mut String,

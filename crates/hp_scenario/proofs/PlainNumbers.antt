@@ -1,10 +1,11 @@
 -- Numbers of few digits, read digit by digit.
-use Rattle.std.proofs.Common.{◌≡◌, ℕ, ◌+◌, ◌-◌, ◌*◌, ◌^◌, ◌<◌, ◌≤◌, true, cond, ◌&&◌, ltb, leb, List, [], ◌∷◌, length, get_or, drop, Option, Some, None, refl, sym, ap, subst, ◌∙◌, arith, add-one, drop-cons}
+use Rattle.std.proofs.Common.{◌≡◌, ℕ, ◌+◌, ◌-◌, ◌*◌, ◌^◌, ◌<◌, ◌≤◌, true, cond, ◌&&◌, eqb, false, ltb, leb, List, [], ◌∷◌, length, get_or, drop, Option, Some, None, refl, sym, ap, subst, ◌∙◌, arith, add-one, drop-cons}
+use Rattle.std.proofs.Math.Nat.{pow-suc, pow-le-pow_right}
 use Rattle.std.specs.Str.{all_ascii_digits}
 use Rattle.std.specs.Str.Parse.{digits_value, digits_value_after}
 use Rattle.std.specs.Char.{digit_value}
 use Rattle.std.specs.Prelude.{IfSome}
-use Rattle.std.proofs.lemmas.Bool.{and_parts, le-ltb, lt-ltb, leb-true}
+use Rattle.std.proofs.lemmas.Bool.{and_parts, le-ltb, lt-ltb, leb-true, ne_eqb}
 use Rattle.std.proofs.lemmas.List.{drop_all}
 use Rattle.std.proofs.lemmas.Str.{digit_value_digit}
 use Rattle.hp_numbers.specs.NumberWords.{is_bare, digits_in, number_of}
@@ -48,7 +49,41 @@ pub none_left : (digits : List ℕ) (i n : ℕ) → length digits ≤ i → AreL
 none_left digits i n over left =
     nothing_left digits n (subst (λ (xs : List ℕ). AreLeft digits xs n) (drop_all i digits over) left)
 
+-- so many digits write a number below 10 ^ i
+pub short_number : (i n c m : ℕ) → n < 10 ^ i → (leb 48 c && leb c 57) ≡ true → m ≡ n * 10 + (c - 48)
+    → m < 10 ^ (i + 1)
+short_number i n c m lt digit next =
+    let both = and_parts (leb 48 c) (leb c 57) digit in
+    let low = leb-true 48 c both.0 in
+    let high = leb-true c 57 both.1 in
+    let more : 10 ^ (i + 1) ≡ 10 ^ i * 10 = rw (add-one i) (pow-suc 10 i) in
+    omega (arith, lt, low, high, next, more)
+
+-- after fewer than 18 digits there is room for one more
+pub has_room : (i n len : ℕ) → n < 10 ^ i → i < len → len ≤ 18 → n * 10 + 9 < 18446744073709551616
+has_room i n len lt before few =
+    let within : i ≤ 17 = omega (arith, before, few) in
+    let some : 0 < 10 = omega arith in
+    let most : 10 ^ i ≤ 10 ^ 17 = pow-le-pow_right some {i = i} {j = 17} within in
+    let bound : 10 ^ 17 ≡ 100000000000000000 = refl in
+    omega (arith, lt, most, bound)
+
 -- ---- the number that a word is
+
+-- a word that is one digit
+pub lone : (word : List ℕ) (n : ℕ) → length word ≡ 1
+    → (leb 48 (get_or word 0 0) && leb (get_or word 0 0) 57) ≡ true → n ≡ get_or word 0 0 - 48
+    → IsPlainNumber word n
+lone [] n one digit is = absurd cc
+lone (c ∷ d ∷ ds) n one digit is = absurd cc
+lone (c ∷ []) n one digit is =
+    let both = and_parts (leb 48 c) (leb c 57) digit in
+    let low = leb-true 48 c both.0 in
+    let next : n ≡ 0 * 10 + (c - 48) = omega (arith, is) in
+    let left = one_digit (c ∷ []) 0 0 c n (omega arith) refl digit next (all_left (c ∷ [])) in
+    let all = none_left (c ∷ []) 1 n (omega arith) left in
+    let signed : eqb c 43 ≡ false = ne_eqb c 43 (λ e. omega (arith, e, low)) in
+    (rw signed refl, ap (λ b. b && ltb 0 1) all.0, all.1)
 
 pub plain : (word : List ℕ) (r : Option ℕ) → 0 < length word → is_bare word ≡ true
     → IfSome r (λ n. all_ascii_digits word ≡ true) → IfSome r (λ n. digits_value 10 word ≡ n)

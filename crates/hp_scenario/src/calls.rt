@@ -131,6 +131,7 @@ impl<'a> Calls<'a> {
 
     /// What comes next. After an error, after the end and once it is unsure, nothing is said of
     /// what it would be.
+    #[inline(always)]
     pub fn next(&mut self, alloc: Global) -> Result<Next, AllocError>
         ensures { IfOk result (λ next. Goes self.old next self.new) }
     {

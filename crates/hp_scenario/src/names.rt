@@ -14,6 +14,7 @@ use std::alloc::{AllocError, Global};
 
 /// The line that a text is. A name that is new becomes the last one.
 /// What `words` held before is dropped: its room serves line after line.
+#[inline(always)]
 #[tactic(auto, unfolding(crate::specs::Names::line_in))]
 pub(crate) fn line_from<'a>(
     alloc: Global,

@@ -1,7 +1,7 @@
 use Rattle.std.proofs.Common.{ℕ, List, subst, arith}
 use Rattle.hp_scenario.specs.Words.{IsPlainNumber}
 use Rattle.hp_scenario.proofs.PlainNumbers.{plain_exceeds}
-use Rattle.hp_scenario.proofs.numbers.number32.Goals as goal
+use Rattle.hp_scenario.proofs.numbers.longer_number32.Goals as goal
 
 pub returns-then-number : goal.returns-then-number
 returns-then-number c =
