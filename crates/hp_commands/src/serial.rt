@@ -18,7 +18,6 @@ use hp_text::write_state;
 use hp_units::Layout;
 use json::Scratch;
 use std::alloc::{AllocError, Global};
-use std::mem::forget;
 
 /// The text of a scenario: what each line writes, and then the state. Where the input has the usual
 /// form each line is run as it is read; else, and where it has a fault, the lines are read before the
@@ -61,9 +60,6 @@ fn text_with(
     }
     let end = machine.image(alloc)?;
     write_state(&mut out, alloc, &end, calls.names())?;
-    // The program ends after this text: what these hold in many pieces is not given back one by one.
-    forget(end);
-    forget(machine);
     Ok(Some(out))
 }
 
