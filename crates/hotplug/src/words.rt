@@ -6,18 +6,8 @@ use std::alloc::{AllocError, Global};
 
 /// The command that the words name, the program's own name first; none where they name none, or ask for help.
 pub fn command_from(alloc: Global, words: &[String]) -> Result<Option<Command>, AllocError> {
-    let program = clap::Command::new(alloc, "hotplug")
-        .subcommand(clap::Command::new(alloc, "serial"))?
-        .subcommand(clap::Command::new(alloc, "run"))?
-        .subcommand(clap::Command::new(alloc, "audit"))?
-        .subcommand_required(true);
-    match program.try_get_matches_from(words) {
-        Ok(matches) => match matches.subcommand_name() {
-            Some("serial") => Ok(Some(Command::Serial)),
-            Some("run") => Ok(Some(Command::Run)),
-            Some("audit") => Ok(Some(Command::Audit)),
-            _ => Ok(None),
-        },
+    match program(alloc)?.try_get_matches_from(words) {
+        Ok(matches) => Ok(command_named(matches.subcommand_name())),
         Err(error) => {
             if error.kind() == ErrorKind::OutOfMemory {
                 Err(AllocError)
@@ -25,5 +15,24 @@ pub fn command_from(alloc: Global, words: &[String]) -> Result<Option<Command>, 
                 Ok(None)
             }
         }
+    }
+}
+
+/// The command line: one of three words.
+fn program<'a>(alloc: Global) -> Result<clap::Command<'a>, AllocError> {
+    let mut program = clap::Command::new(alloc, "hotplug").subcommand_required(true);
+    for word in ["serial", "run", "audit"] {
+        program = program.subcommand(clap::Command::new(alloc, word))?;
+    }
+    Ok(program)
+}
+
+/// The command of a name.
+fn command_named(name: Option<&str>) -> Option<Command> {
+    match name {
+        Some("serial") => Some(Command::Serial),
+        Some("run") => Some(Command::Run),
+        Some("audit") => Some(Command::Audit),
+        _ => None,
     }
 }
