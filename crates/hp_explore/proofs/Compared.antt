@@ -92,7 +92,8 @@ pub answered_at : (answers : List (List Reply)) (news : List Record) (processors
 answered_at answers news processors cpu replies within here is =
     here
     ∙ (ap (λ (xs : List (List Reply)). get_or xs cpu replies) is
-    ∙ get_or-map-range_with_len (λ (c : ℕ). replies_to c news) 0 processors cpu cpu replies within (omega arith))
+    ∙ get_or-map-range_with_len (λ (c : ℕ). replies_to c news) 0 processors cpu cpu replies within
+    (omega arith))
 
 -- one list more
 pub answered_more : (answers : List (List Reply)) (news : List Record) (cpu : ℕ) (replies : List Reply)

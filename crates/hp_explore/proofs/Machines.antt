@@ -55,6 +55,32 @@ same_record g m n cpu event a here call =
         ∙ (ap (λ (k : ℕ). reply_of g.layout g.base k m.history cpu event) here.before
         ∙ ap (λ (h : List Record). reply_of g.layout g.base g.before h cpu event) here.history))
 
+-- its history and its new records after the call
+call_longer : (g : Setting) (m n : MachineValue) (cpu : ℕ) (event : Event) (a : Receipt) → IsReached g m
+    → IsCalled m cpu event a n → n.history ≡ g.start ++ (news_in g m ++ record_of cpu a ∷ [])
+call_longer g m n cpu event a here call =
+    call.history ∙ (ap (λ (h : List Record). h ++ record_of cpu a ∷ []) here.history
+    ∙ append_assoc g.start (news_in g m) (record_of cpu a ∷ []))
+
+call_news : (g : Setting) (m n : MachineValue) (cpu : ℕ) (event : Event) (a : Receipt) → IsReached g m
+    → IsCalled m cpu event a n → news_in g n ≡ news_in g m ++ record_of cpu a ∷ []
+call_news g m n cpu event a here call =
+    ap (drop (length g.start)) (call_longer g m n cpu event a here call)
+    ∙ after_start g.start (news_in g m ++ record_of cpu a ∷ [])
+
+-- with the latest record
+pub call_latest : (g : Setting) (m n : MachineValue) (cpu : ℕ) (event : Event) (a : Receipt) (latest : Record)
+    → IsReached g m → IsCalled m cpu event a n
+    → ((before : List Record) (r : Record) → n.history ≡ before ++ r ∷ [] → latest ≡ r)
+    → (latest.cpu ≡ cpu) × (news_in g n ≡ news_in g m ++ latest ∷ [])
+call_latest g m n cpu event a latest here call last = (
+  ap (λ (r : Record). r.cpu) is,
+  call_news g m n cpu event a here call ∙ ap (λ (r : Record). news_in g m ++ r ∷ []) (sym is),
+)
+  where
+    is : latest ≡ record_of cpu a
+    is = last m.history (record_of cpu a) call.history
+
 -- the machine after the call
 pub further : (g : Setting) (m n : MachineValue) (cpu : ℕ) (event : Event) (a : Receipt) → IsReached g m
     → next_call g cpu (news_in g m) ≡ Some event → is_full m ≡ false → IsCalled m cpu event a n
@@ -79,12 +105,10 @@ further g m n cpu event a here asked free call = record {
 }
   where
     longer : n.history ≡ g.start ++ (news_in g m ++ record_of cpu a ∷ [])
-    longer =
-        call.history ∙ (ap (λ (h : List Record). h ++ record_of cpu a ∷ []) here.history
-        ∙ append_assoc g.start (news_in g m) (record_of cpu a ∷ []))
+    longer = call_longer g m n cpu event a here call
 
     news : news_in g n ≡ news_in g m ++ record_of cpu a ∷ []
-    news = ap (drop (length g.start)) longer ∙ after_start g.start (news_in g m ++ record_of cpu a ∷ [])
+    news = call_news g m n cpu event a here call
 
     place : place_of g n ≡ place_of g m ++ cpu ∷ []
     place = ap schedule_of news ∙ map-append (λ (r : Record). r.cpu) (news_in g m) (record_of cpu a ∷ [])
@@ -115,13 +139,6 @@ reached_start m scripts = record {
 -- the place where they begin
 pub start_place : (m : MachineValue) (scripts : List (List Line)) → place_of (setting m scripts) m ≡ []
 start_place m scripts = ap schedule_of (drop-length m.history)
-
--- the records after the start, as they are read
-pub news_shown : (start m : MachineValue) (scripts : List (List Line)) (first all news : List Record)
-    → first ≡ start.history → all ≡ m.history → news ≡ drop (length first) all
-    → news ≡ news_in (setting start scripts) m
-news_shown start m scripts first all news is_first is_all is =
-    is ∙ (ap (λ (h : List Record). drop (length h) all) is_first ∙ ap (drop (length start.history)) is_all)
 
 -- whether its history is full is so by the new records alone
 full_as : (g : Setting) (m : MachineValue) → IsReached g m → is_full m ≡ is_full_after g (news_in g m)

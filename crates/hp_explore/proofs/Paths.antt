@@ -1,113 +1,189 @@
 -- A path one turn further, and one turn back.
-use Rattle.std.proofs.Common.{◌≡◌, ◌<◌, ℕ, List, [], ◌∷◌, ◌++◌, length, reverse, Option, Some, None, Bool, true, false, Result, Ok, Err, IfOk, OnErr, refl, ap, sym, subst, ◌∙◌, arith}
+use Rattle.std.proofs.Common.{◌≡◌, ◌<◌, ℕ, List, [], ◌∷◌, ◌++◌, length, reverse, set, Option, Some, None, Bool, true, false, Result, Ok, Err, IfOk, OnErr, refl, ap, sym, subst, ◌∙◌, arith}
 use Rattle.std.proofs.lemmas.List.{length_push, reverse-append}
 use Rattle.hp_units.specs.declared.events.Event.{Event}
 use Rattle.hp_units.specs.declared.replies.Record.{Record}
 use Rattle.hp_steps.specs.Steps.{StepsValue}
+use Rattle.hp_explore.specs.Cursors.{AreCursors}
 use Rattle.hp_explore.specs.Frames.{path_of}
-use Rattle.hp_explore.specs.Paths.{IsAdvanced, IsBack, IsForth, IsPath, IsTakenBack, IsTurned, IsWayBack, IsWayOver, PathValue}
-use Rattle.hp_explore.specs.Schedules.{Setting, record_of_call}
+use Rattle.hp_explore.specs.Paths.{IsAdvanced, IsBack, IsForth, IsPath, IsTakenBack, IsTurned, IsWayBack, PathValue}
+use Rattle.hp_explore.specs.Schedules.{Setting, next_call, record_of_call}
 use Rattle.hp_explore.specs.Walks.{IsAt}
+use Rattle.hp_explore.specs.declared.cursors.Cursor.{Cursor}
 use Rattle.hp_explore.specs.declared.exploring.ExploreFault.{ExploreFault}
+use Rattle.hp_explore.specs.declared.ways.Turn.{Turn}
 use Rattle.hp_explore.specs.declared.ways.Way.{Way}
 
-reverse_push : (ways : List Way) (way : Way) → reverse (ways ++ way ∷ []) ≡ way ∷ reverse ways
-reverse_push ways way = reverse-append ways (way ∷ [])
+reverse_push : (turns : List Turn) (turn : Turn) → reverse (turns ++ turn ∷ []) ≡ turn ∷ reverse turns
+reverse_push turns turn = reverse-append turns (turn ∷ [])
 
 -- no turn yet
-pub path_begins : (g : Setting) (here : StepsValue) (ways : List Way) → IsAt g here → here.records ≡ []
-    → ways ≡ [] → IsPath g here ways
-path_begins g here ways at none is =
-    subst (IsPath g here) (sym is) (record { at = at; back = none })
+pub path_begins : (g : Setting) (here : StepsValue) (cursors : List Cursor) (turns : List Turn) → IsAt g here
+    → here.records ≡ [] → AreCursors g [] cursors → turns ≡ [] → IsPath g here cursors turns
+path_begins g here cursors turns at none begun is =
+    subst (IsPath g here cursors) (sym is) (record {
+      at = at;
+      cursors_at = subst (λ (h : List Record). AreCursors g h cursors) (sym none) begun;
+      back = none;
+    })
 
 -- one turn more
-pub path_forth : (g : Setting) (old new : StepsValue) (cpu : ℕ) (event : Event) (way : Way)
-    (reserved ways : List Way)
-    → IsPath g old reserved → IsTurned g old cpu event way new → ways ≡ reserved ++ way ∷ []
-    → IsPath g new ways
-path_forth g old new cpu event way reserved ways so_far turned is = record {
-  at = turned.at;
-  back =
-      subst (IsWayBack g new) (sym (ap reverse is ∙ reverse_push reserved way))
-      (old, record_of_call g old.records cpu event, so_far.at, turned.records, turned.over, so_far.back);
-}
+path_forth : (g : Setting) (old new : StepsValue) (cpu : ℕ) (event : Event) (turn : Turn)
+    (cursors moved : List Cursor) (reserved turns : List Turn)
+    → IsPath g old cursors reserved → IsTurned g old cpu event turn.way new → AreCursors g new.records moved
+    → cpu < length moved → set moved cpu turn.from ≡ cursors → turns ≡ reserved ++ turn ∷ []
+    → IsPath g new moved turns
+unfolding record_of_call
+path_forth g old new cpu event turn cursors moved reserved turns so_far turned there within undone is =
+    record {
+      at = turned.at;
+      cursors_at = there;
+      back =
+          subst (IsWayBack g new moved) (sym (ap reverse is ∙ reverse_push reserved turn)) (
+            old,
+            record_of_call g old.records cpu event,
+            so_far.at,
+            turned.records,
+            turned.over,
+            within,
+            subst (AreCursors g old.records) (sym undone) so_far.cursors_at,
+            subst (λ (cs : List Cursor). IsWayBack g old cs (reverse reserved)) (sym undone) so_far.back,
+          );
+    }
+
+-- its record is the latest
+pub turned_latest : (g : Setting) (old new : StepsValue) (cpu : ℕ) (event : Event) (way : Way)
+    (latest : Record)
+    → IsTurned g old cpu event way new
+    → ((before : List Record) (r : Record) → new.records ≡ before ++ r ∷ [] → latest ≡ r)
+    → (latest.cpu ≡ cpu) × (new.records ≡ old.records ++ latest ∷ [])
+unfolding record_of_call
+turned_latest g old new cpu event way latest turned last =
+    let is = last old.records (record_of_call g old.records cpu event) turned.records in (
+      ap (λ (r : Record). r.cpu) is,
+      turned.records ∙ ap (λ (r : Record). old.records ++ r ∷ []) (sym is),
+    )
+
+abbrev turn_of : Way → Cursor → Turn
+turn_of way from = record { way = way; from = from }
+
+pub advanced : (g : Setting) (old new : StepsValue) (cpu : ℕ) (event : Event) (way : Way) (latest : Record)
+    (from : Cursor) (cursors moved : List Cursor) (turns later : List Turn)
+    → next_call g cpu old.records ≡ Some event → IsTurned g old cpu event way new
+    → ((before : List Record) (r : Record) → new.records ≡ before ++ r ∷ [] → latest ≡ r)
+    → AreCursors g (old.records ++ latest ∷ []) moved → cpu < length moved
+    → set moved cpu from ≡ cursors → later ≡ turns ++ turn_of way from ∷ []
+    → IsAdvanced g old cursors turns cpu true new moved later
+advanced g old new cpu event way latest from cursors moved turns later asked turned last there within undone
+    is =
+    let one = turned_latest g old new cpu event way latest turned last in (
+      event,
+      turn_of way from,
+      asked,
+      turned,
+      subst (λ (h : List Record). AreCursors g h moved) (sym one.1) there,
+      within,
+      undone,
+      is,
+    )
 
 -- the latest turn
-pub latest_way : (g : Setting) (here : StepsValue) (ways rest : List Way) (way : Way) → IsPath g here ways
-    → ways ≡ rest ++ way ∷ [] → IsWayBack g here (way ∷ reverse rest)
-latest_way g here ways rest way path is =
-    subst (IsWayBack g here) (ap reverse is ∙ reverse_push rest way) path.back
+pub latest_turn : (g : Setting) (here : StepsValue) (cursors : List Cursor) (turns rest : List Turn)
+    (turn : Turn)
+    → IsPath g here cursors turns → turns ≡ rest ++ turn ∷ []
+    → IsWayBack g here cursors (turn ∷ reverse rest)
+latest_turn g here cursors turns rest turn path is =
+    subst (IsWayBack g here cursors) (ap reverse is ∙ reverse_push rest turn) path.back
 
 -- there is a record of it
-pub latest_some : (g : Setting) (here : StepsValue) (rest : List Way) (way : Way)
-    → IsWayBack g here (way ∷ rest) → 0 < length here.records
-latest_some g here rest way back =
+pub latest_some : (g : Setting) (here : StepsValue) (cursors : List Cursor) (rest : List Turn) (turn : Turn)
+    → IsWayBack g here cursors (turn ∷ rest) → 0 < length here.records
+latest_some g here cursors rest turn back =
     omega (arith, ap length back.3, length_push back.0.records back.1)
 
--- without it
-pub path_back : (g : Setting) (here new : StepsValue) (rest : List Way) (way : Way)
-    (back : IsWayBack g here (way ∷ reverse rest)) → new ≡ back.0 → IsPath g new rest
-path_back g here new rest way back is =
-    subst (λ (p : StepsValue). IsPath g p rest) (sym is) (record { at = back.2; back = back.5 })
+-- of a processor that has a cursor
+pub latest_within : (g : Setting) (here : StepsValue) (cursors : List Cursor) (rest : List Turn) (turn : Turn)
+    (cpu : ℕ) (back : IsWayBack g here cursors (turn ∷ rest))
+    → ((before : List Record) (r : Record) → here.records ≡ before ++ r ∷ [] → r.cpu ≡ cpu)
+    → cpu < length cursors
+latest_within g here cursors rest turn cpu back whose =
+    subst (λ (k : ℕ). k < length cursors) (whose back.0.records back.1 back.3) back.5
 
 -- the latest turn taken back
-pub taken_back : (g : Setting) (here new : StepsValue) (cpu : ℕ) (rest : List Way) (way : Way)
-    (back : IsWayBack g here (way ∷ reverse rest))
-    → new ≡ back.0
+pub taken_back : (g : Setting) (here new : StepsValue) (cpu : ℕ) (cursors moved : List Cursor)
+    (rest : List Turn) (turn : Turn) (back : IsWayBack g here cursors (turn ∷ reverse rest))
+    → new ≡ back.0 → moved ≡ set cursors cpu turn.from
     → ((before : List Record) (r : Record) → here.records ≡ before ++ r ∷ [] → r.cpu ≡ cpu)
-    → IsTakenBack g here (Some cpu) new rest
-taken_back g here new cpu rest way back is whose = (
+    → IsTakenBack g here (Some cpu) new moved rest
+taken_back g here new cpu cursors moved rest turn back is moved_is whose = (
   back.1,
-  whose back.0.records back.1 back.3,
+  own,
   back.3 ∙ ap (λ (p : StepsValue). p.records ++ back.1 ∷ []) (sym is),
-  path_back g here new rest way back is,
+  subst (λ (p : StepsValue). IsPath g p moved rest) (sym is)
+      (subst (λ (cs : List Cursor). IsPath g back.0 cs rest)
+      (ap (λ (k : ℕ). set cursors k turn.from) own ∙ sym moved_is)
+      (record { at = back.2; cursors_at = back.6; back = back.7 })),
 )
+  where
+    own : back.1.cpu ≡ cpu
+    own = whose back.0.records back.1 back.3
 
 -- no turn was made
-pub none_made : (g : Setting) (here : StepsValue) (ways rest : List Way) → IsPath g here ways
-    → ways ≡ rest ++ [] → rest ≡ [] → IsTakenBack g here None here rest
-none_made g here ways rest path is none =
-    let same : ways ≡ [] = is ∙ ap (λ (ws : List Way). ws ++ []) none in (
-      subst (λ (ws : List Way). IsWayBack g here (reverse ws)) same path.back,
+pub none_made : (g : Setting) (here : StepsValue) (cursors : List Cursor) (turns rest : List Turn)
+    → IsPath g here cursors turns → turns ≡ rest ++ [] → rest ≡ []
+    → IsTakenBack g here None here cursors rest
+none_made g here cursors turns rest path is none =
+    let same : turns ≡ [] = is ∙ ap (λ (ts : List Turn). ts ++ []) none in (
+      subst (λ (ts : List Turn). IsWayBack g here cursors (reverse ts)) same path.back,
       refl,
-      subst (IsPath g here) (same ∙ sym none) path,
+      subst (IsPath g here cursors) (same ∙ sym none) path,
     )
 
 -- ---- as a path sees it
 
-pub path_advanced : (g : Setting) (old new : StepsValue) (cpu : ℕ) (ways later : List Way)
-    (result : Result Bool ExploreFault)
-    → IsPath g old ways → IfOk result (λ went. IsAdvanced g old ways cpu went new later)
-    → OnErr result ((new ≡ old) × (later ≡ ways)) → IsPath g new later
-path_advanced g old new cpu ways later (Ok true) path ok err =
-    path_forth g old new cpu ok.0 ok.1 ways later path ok.3 ok.4
-path_advanced g old new cpu ways later (Ok false) path ok err =
-    subst (λ (p : StepsValue). IsPath g p later) (sym ok.1) (subst (IsPath g old) (sym ok.2) path)
-path_advanced g old new cpu ways later (Err fault) path ok err =
-    subst (λ (p : StepsValue). IsPath g p later) (sym err.0) (subst (IsPath g old) (sym err.1) path)
+stayed : (g : Setting) (old new : StepsValue) (cursors moved : List Cursor) (turns later : List Turn)
+    → IsPath g old cursors turns → new ≡ old → moved ≡ cursors → later ≡ turns → IsPath g new moved later
+stayed g old new cursors moved turns later path here there is =
+    subst (λ (p : StepsValue). IsPath g p moved later) (sym here)
+    (subst (λ (cs : List Cursor). IsPath g old cs later) (sym there)
+    (subst (IsPath g old cursors) (sym is) path))
 
-pub forth_shown : (g : Setting) (old new : StepsValue) (cpu : ℕ) (ways later : List Way) (went : Bool)
-    (p : PathValue)
-    → path_of g old.records ≡ p → IsAdvanced g old ways cpu went new later
+pub path_advanced : (g : Setting) (old new : StepsValue) (cpu : ℕ) (cursors moved : List Cursor)
+    (turns later : List Turn) (result : Result Bool ExploreFault)
+    → IsPath g old cursors turns
+    → IfOk result (λ went. IsAdvanced g old cursors turns cpu went new moved later)
+    → OnErr result ((new ≡ old) × (moved ≡ cursors) × (later ≡ turns)) → IsPath g new moved later
+path_advanced g old new cpu cursors moved turns later (Ok true) path ok err =
+    path_forth g old new cpu ok.0 ok.1 cursors moved turns later path ok.3 ok.4 ok.5 ok.6 ok.7
+path_advanced g old new cpu cursors moved turns later (Ok false) path ok err =
+    stayed g old new cursors moved turns later path ok.1 ok.2 ok.3
+path_advanced g old new cpu cursors moved turns later (Err fault) path ok err =
+    stayed g old new cursors moved turns later path err.0 err.1 err.2
+
+pub forth_shown : (g : Setting) (old new : StepsValue) (cpu : ℕ) (cursors moved : List Cursor)
+    (turns later : List Turn) (went : Bool) (p : PathValue)
+    → path_of g old.records ≡ p → IsAdvanced g old cursors turns cpu went new moved later
     → IsForth p cpu went (path_of g new.records)
-forth_shown g old new cpu ways later true p is ok =
+forth_shown g old new cpu cursors moved turns later true p is ok =
     subst (λ (x : PathValue). IsForth x cpu true (path_of g new.records)) is
     (ok.0, ok.2, ok.3.room, ap (path_of g) ok.3.records)
-forth_shown g old new cpu ways later false p is ok =
+forth_shown g old new cpu cursors moved turns later false p is ok =
     subst (λ (x : PathValue). IsForth x cpu false (path_of g new.records)) is
     (ok.0, ap (λ (x : StepsValue). path_of g x.records) ok.1)
 
-pub path_taken : (g : Setting) (old new : StepsValue) (result : Option ℕ) (ways : List Way)
-    → IsTakenBack g old result new ways → IsPath g new ways
-path_taken g old new None ways taken = taken.2
-path_taken g old new (Some cpu) ways taken = taken.3
+pub path_taken : (g : Setting) (old new : StepsValue) (result : Option ℕ) (cursors : List Cursor)
+    (turns : List Turn)
+    → IsTakenBack g old result new cursors turns → IsPath g new cursors turns
+path_taken g old new None cursors turns taken = taken.2
+path_taken g old new (Some cpu) cursors turns taken = taken.3
 
-pub back_shown : (g : Setting) (old new : StepsValue) (result : Option ℕ) (ways : List Way) (p : PathValue)
-    → path_of g old.records ≡ p → IsTakenBack g old result new ways
+pub back_shown : (g : Setting) (old new : StepsValue) (result : Option ℕ) (cursors : List Cursor)
+    (turns : List Turn) (p : PathValue)
+    → path_of g old.records ≡ p → IsTakenBack g old result new cursors turns
     → IsBack p result (path_of g new.records)
-back_shown g old new None ways p is taken =
+back_shown g old new None cursors turns p is taken =
     subst (λ (x : PathValue). IsBack x None (path_of g new.records)) is
     (taken.0, ap (λ (x : StepsValue). path_of g x.records) taken.1)
-back_shown g old new (Some cpu) ways p is taken =
+back_shown g old new (Some cpu) cursors turns p is taken =
     subst (λ (x : PathValue). IsBack x (Some cpu) (path_of g new.records)) is
     (taken.0, taken.1, ap (path_of g) taken.2)

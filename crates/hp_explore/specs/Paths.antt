@@ -1,13 +1,16 @@
 -- Where a walk over the schedules stands, and its way back.
-use Rattle.std.specs.Prelude.{◌≡◌, ℕ, Bool, true, false, List, [], ◌∷◌, ◌++◌, Option, Some, None, reverse}
+use Rattle.std.specs.Prelude.{◌≡◌, ℕ, ◌<◌, Bool, true, false, List, [], ◌∷◌, ◌++◌, Option, Some, None, length, reverse, slice_set}
 use Rattle.hp_units.specs.History.{value_of}
 use Rattle.hp_units.specs.Memory.{Memory}
 use Rattle.hp_units.specs.declared.events.Event.{Event}
 use Rattle.hp_units.specs.declared.replies.Record.{Record}
 use Rattle.hp_steps.specs.Steps.{IsLater, StepsValue}
+use Rattle.hp_explore.specs.Cursors.{AreCursors}
 use Rattle.hp_explore.specs.Faults.{is_full_after}
 use Rattle.hp_explore.specs.Schedules.{Setting, next_call, record_of_call}
 use Rattle.hp_explore.specs.Walks.{IsAt}
+use Rattle.hp_explore.specs.declared.cursors.Cursor.{Cursor}
+use Rattle.hp_explore.specs.declared.ways.Turn.{Turn}
 use Rattle.hp_explore.specs.declared.ways.Way.{Way}
 use Rattle.hp_explore.specs.declared.ways.Way.TheVariants.{Mark, Kept}
 
@@ -49,29 +52,34 @@ pub record IsTurned (g : Setting) (old : StepsValue) (cpu : ℕ) (event : Event)
   pub records : new.records ≡ old.records ++ record_of_call g old.records cpu event ∷ []
   pub over : IsWayOver way old (record_of_call g old.records cpu event) new
 
--- the ways lead back to where the scripts begin, latest first
-abbrev pub IsWayBack : Setting → StepsValue → List Way → Type 0
-IsWayBack g here [] = here.records ≡ []
-IsWayBack g here (way ∷ ways) =
+-- the turns lead back to where the scripts begin, latest first: over each record, and its
+-- processor's cursor back to where it was
+abbrev pub IsWayBack : Setting → StepsValue → List Cursor → List Turn → Type 0
+IsWayBack g here cursors [] = here.records ≡ []
+IsWayBack g here cursors (turn ∷ turns) =
     (old : StepsValue) × (r : Record) × IsAt g old × (here.records ≡ old.records ++ r ∷ [])
-    × IsWayOver way old r here × IsWayBack g old ways
+    × IsWayOver turn.way old r here × (r.cpu < length cursors)
+    × AreCursors g old.records (slice_set cursors r.cpu turn.from)
+    × IsWayBack g old (slice_set cursors r.cpu turn.from) turns
 
--- a path stands where its schedule leads to, and its ways lead back
-pub record IsPath (g : Setting) (here : StepsValue) (ways : List Way) : Type 0 where
+-- a path stands where its schedule leads to, its cursors where the scripts are, and its turns lead back
+pub record IsPath (g : Setting) (here : StepsValue) (cursors : List Cursor) (turns : List Turn) : Type 0 where
   pub at : IsAt g here
-  pub back : IsWayBack g here (reverse ways)
+  pub cursors_at : AreCursors g here.records cursors
+  pub back : IsWayBack g here cursors (reverse turns)
 
 -- whether a processor's call was made: it has a way back, or its script asks for nothing and all stays
-abbrev pub IsAdvanced : Setting → StepsValue → List Way → (cpu : ℕ) → (went : Bool) → StepsValue → List Way
-    → Type 0
-IsAdvanced g old ways cpu true new later =
-    (event : Event) × (way : Way) × (next_call g cpu old.records ≡ Some event)
-    × IsTurned g old cpu event way new × (later ≡ ways ++ way ∷ [])
-IsAdvanced g old ways cpu false new later =
-    (next_call g cpu old.records ≡ None) × (new ≡ old) × (later ≡ ways)
+abbrev pub IsAdvanced : Setting → StepsValue → List Cursor → List Turn → (cpu : ℕ) → (went : Bool)
+    → StepsValue → List Cursor → List Turn → Type 0
+IsAdvanced g old cursors turns cpu true new moved later =
+    (event : Event) × (turn : Turn) × (next_call g cpu old.records ≡ Some event)
+    × IsTurned g old cpu event turn.way new × AreCursors g new.records moved × (cpu < length moved)
+    × (slice_set moved cpu turn.from ≡ cursors) × (later ≡ turns ++ turn ∷ [])
+IsAdvanced g old cursors turns cpu false new moved later =
+    (next_call g cpu old.records ≡ None) × (new ≡ old) × (moved ≡ cursors) × (later ≡ turns)
 
 -- the latest turn, a processor's, was taken back, or there was none
-abbrev pub IsTakenBack : Setting → StepsValue → Option ℕ → StepsValue → List Way → Type 0
-IsTakenBack g old None new ways = (old.records ≡ []) × (new ≡ old) × IsPath g new ways
-IsTakenBack g old (Some cpu) new ways =
-    (r : Record) × (r.cpu ≡ cpu) × (old.records ≡ new.records ++ r ∷ []) × IsPath g new ways
+abbrev pub IsTakenBack : Setting → StepsValue → Option ℕ → StepsValue → List Cursor → List Turn → Type 0
+IsTakenBack g old None new cursors turns = (old.records ≡ []) × (new ≡ old) × IsPath g new cursors turns
+IsTakenBack g old (Some cpu) new cursors turns =
+    (r : Record) × (r.cpu ≡ cpu) × (old.records ≡ new.records ++ r ∷ []) × IsPath g new cursors turns

@@ -1,5 +1,5 @@
 -- What a processor's script asks for after the processor's own receipts.
-use Rattle.std.specs.Prelude.{ℕ, if◌then◌else◌, List, [], ◌∷◌, ◌++◌, Option, Some, None, drop, fold, option_map}
+use Rattle.std.specs.Prelude.{ℕ, if◌then◌else◌, List, [], ◌∷◌, ◌++◌, Option, Some, None, fold}
 use Rattle.std.specs.Option.{option_map_or}
 use Rattle.hp_units.specs.Driver.{next_event}
 use Rattle.hp_units.specs.Marks.{is_opening, mark_of}
@@ -45,10 +45,6 @@ after_line cpus op line earlier [] = option_map_or (λ event. None) (line_next c
 after_line cpus op line earlier (r ∷ rs) =
     option_map_or (λ event. after_line cpus op line (earlier ++ r ∷ []) rs) (line_next cpus op line earlier)
     (Some (r ∷ rs))
-
--- the receipts from a place on, if there is one
-abbrev pub rest_at : List Receipt → Option ℕ → Option (List Receipt)
-rest_at receipts at = option_map (λ n. drop n receipts) at
 
 -- the event that lines ask for after the receipts since the first of them began
 abbrev pub next_in : (cpus op : ℕ) → List Line → List Receipt → Option Event

@@ -9,6 +9,7 @@
 #![tactic(auto)]
 
 mod closed;
+mod cursors;
 mod digests;
 mod exploring;
 mod frames;
@@ -18,6 +19,7 @@ mod multinomials;
 mod outcomes;
 mod path;
 mod playing;
+mod positions;
 mod scripts;
 mod tally;
 mod turns;

@@ -7,9 +7,10 @@ ghost use Rattle.hp_explore.specs.Schedules.{next_call, plays, schedule_of, sett
 
 use crate::exploring::ExploreFault;
 use crate::outcomes::{Outcome, outcome_at};
+use crate::positions::Positions;
 use crate::scripts::Script;
-use crate::turns::{advance, event_at, step_back, steps_of};
-use crate::ways::Way;
+use crate::turns::{advance, step_back, steps_of};
+use crate::ways::Turn;
 use hp_machine::Machine;
 use hp_memory::Memory;
 use hp_steps::Steps;
@@ -17,14 +18,15 @@ use hp_units::{Cpu, Event, Record};
 use std::alloc::{AllocError, Global};
 use std::marker::Model;
 
-/// Where a schedule of scripts leads to from a machine as it stands, and the way back over it, turn
-/// by turn. A contract sees the setting, which is the machine and the scripts, and the new records.
-/// The machine stays as it is.
+/// Where a schedule of scripts leads to from a machine as it stands, where each processor is in its
+/// script then, and the way back over it, turn by turn. A contract sees the setting, which is the
+/// machine and the scripts, and the new records. The machine stays as it is.
 pub struct Path<'a> {
     machine: &'a Machine,
     scripts: &'a [Script],
     here: Steps,
-    ways: Vec<Way>,
+    positions: Positions,
+    turns: Vec<Turn>,
 }
 
 impl<'a> Model for Path<'a> {
@@ -35,7 +37,8 @@ impl<'a> Model for Path<'a> {
 
     ghost view = { λ p. record { setting = setting p.machine.now p.scripts.now; news = p.here.records } };
 
-    ghost invariant = { λ p. IsPath (setting p.machine.now p.scripts.now) p.here p.ways.items };
+    ghost invariant = { λ p. IsPath (setting p.machine.now p.scripts.now) p.here
+        p.positions.cursors.items p.turns.items };
 }
 
 /// A function of its own, so that no proof of a caller takes the fields apart.
@@ -45,7 +48,8 @@ impl<'a> Drop for Path<'a> {
             machine: _,
             scripts: _,
             here: _here,
-            ways: _ways,
+            positions: _positions,
+            turns: _turns,
         } = self;
     }
 }
@@ -60,11 +64,13 @@ impl<'a> Path<'a> {
         ensures { IfOk result (λ path. path ≡ record { setting = setting machine.now scripts.now; news = [] }) }
     {
         let here = steps_of(alloc, machine, machine)?;
+        let positions = Positions::start(alloc, machine.layout().cpus(), scripts)?;
         Ok(Path {
             machine,
             scripts,
             here,
-            ways: Vec::new(alloc),
+            positions,
+            turns: Vec::new(alloc),
         })
     }
 
@@ -96,7 +102,11 @@ impl<'a> Path<'a> {
     pub fn next_call(&self, alloc: Global, cpu: u32) -> Result<Option<Event>, AllocError>
         ensures { IfOk result (λ next. next_call self.now.setting cpu self.now.news ≡ next) }
     {
-        event_at(alloc, self.scripts, &self.here, cpu)
+        let cpus = self.machine.layout().cpus();
+        match self.positions.request(alloc, cpus, self.scripts, cpu)? {
+            Some(request) => Ok(Some(request.event)),
+            None => Ok(None),
+        }
     }
 
     /// How the schedule ends here, if it is complete, for so many processors. An error is out of memory.
@@ -120,7 +130,8 @@ impl<'a> Path<'a> {
             self.machine,
             self.scripts,
             &mut self.here,
-            &mut self.ways,
+            &mut self.positions,
+            &mut self.turns,
             cpu,
         )
     }
@@ -130,6 +141,6 @@ impl<'a> Path<'a> {
     pub fn back(&mut self) -> Option<Cpu>
         ensures { IsBack self.old result self.new }
     {
-        step_back(&mut self.here, &mut self.ways)
+        step_back(&mut self.here, &mut self.positions, &mut self.turns)
     }
 }

@@ -1,15 +1,18 @@
 //! A schedule played: each call in turn on a copy of the machine.
-ghost use Rattle.std.specs.Prelude.{◌≡◌, ◌<◌, ◌≤◌, IfErr, IfOk, drop, length};
+ghost use Rattle.std.specs.Prelude.{◌≡◌, ◌≤◌, IfErr, IfOk, OnOk, drop, length};
+ghost use Rattle.hp_explore.specs.Cursors.{AreCursors};
 ghost use Rattle.hp_explore.specs.Faults.{FillsAlong, IsCallCause};
-ghost use Rattle.hp_explore.specs.Schedules.{next_call, setting};
+ghost use Rattle.hp_explore.specs.Schedules.{setting};
 ghost use Rattle.hp_explore.specs.Walks.{FillsAt, IsMade, IsPlayed, IsReached, news_in};
 ghost use Rattle.hp_explore.specs.declared.exploring.ExploreFault.TheVariants.{HistoryFull};
 
 use crate::exploring::ExploreFault;
+use crate::positions::Positions;
 use crate::scripts::Script;
+use crate::turns::latest;
 use hp_machine::Machine;
-use hp_units::{Cpu, Event, Record};
-use std::alloc::{AllocError, Global};
+use hp_units::{Cpu, Record};
+use std::alloc::Global;
 
 /// The machine that a schedule of the scripts leads to, on a copy; none where it asks a processor
 /// for a call when its script is over. So the records of an end's first schedule can be read.
@@ -27,8 +30,9 @@ pub fn play(
         → FillsAlong (setting machine.now scripts.now) schedule.now) }
 {
     let mut played = machine.copy(alloc)?;
+    let mut positions = Positions::start(alloc, machine.layout().cpus(), scripts)?;
     for cpu in schedule {
-        if !make_call(alloc, machine, scripts, &mut played, *cpu)? {
+        if !make_call(alloc, machine, scripts, &mut played, &mut positions, *cpu)? {
             return Ok(None);
         }
     }
@@ -42,41 +46,30 @@ fn make_call(
     start: &Machine,
     scripts: &[Script],
     played: &mut Machine,
+    positions: &mut Positions,
     cpu: Cpu,
 ) -> Result<bool, ExploreFault>
-    requires { IsReached (setting start.now scripts.now) played.old }
+    requires reached { IsReached (setting start.now scripts.now) played.old }
+    requires cursors { AreCursors (setting start.now scripts.now)
+        (news_in (setting start.now scripts.now) played.old) positions.old.cursors.items }
     ensures ok { IfOk result (λ made. IsMade (setting start.now scripts.now) played.old cpu made played.new) }
+    ensures cursors { OnOk result (AreCursors (setting start.now scripts.now)
+        (news_in (setting start.now scripts.now) played.new) positions.new.cursors.items) }
     ensures err { IfErr result (IsCallCause (setting start.now scripts.now)) }
     ensures full { IfErr result (λ fault. fault ≡ HistoryFull
         → FillsAt (setting start.now scripts.now) played.old cpu) }
 {
-    match asked(alloc, start, scripts, played, cpu.0)? {
-        Some(event) => match played.answer(alloc, cpu, &event) {
-            Ok(_answered) => Ok(true),
+    let cpus = start.layout().cpus();
+    match positions.request(alloc, cpus, scripts, cpu.0)? {
+        Some(request) => match played.answer(alloc, cpu, &request.event) {
+            Ok(_answered) => {
+                let _ = positions.go_on(cpus, scripts, cpu.0, &request, latest(played.history()));
+                Ok(true)
+            }
             Err(fault) => Err(ExploreFault::from(fault)),
         },
         None => Ok(false),
     }
-}
-
-/// The event that a processor asks for on a machine that a schedule led to; none where it has no
-/// script, or its script asks for nothing. An error is out of memory.
-fn asked(
-    alloc: Global,
-    start: &Machine,
-    scripts: &[Script],
-    played: &Machine,
-    cpu: u32,
-) -> Result<Option<Event>, AllocError>
-    requires { IsReached (setting start.now scripts.now) played.now }
-    ensures { IfOk result (λ next. next_call (setting start.now scripts.now) cpu
-        (news_in (setting start.now scripts.now) played.now) ≡ next) }
-{
-    if cpu as usize >= scripts.len() {
-        return Ok(None);
-    }
-    let news = records_from(played.history(), start.history().len());
-    scripts[cpu as usize].next_event(alloc, played.layout().cpus(), Cpu(cpu), news)
 }
 
 /// The records from a place on.

@@ -105,15 +105,10 @@ impl Tally {
                 end.count += 1;
             }
             None => {
-                let replies = all_answers(alloc, processors, records)?;
-                let first = schedule_of(alloc, records)?;
+                let entry = new_end(alloc, processors, records, blocks)?;
                 self.ends.reserve(1)?;
                 learn(&mut self.latest, digest, self.ends.len())?;
-                self.ends.push_reserved(Ending {
-                    outcome: Outcome::new(replies, blocks),
-                    count: 1,
-                    first,
-                });
+                self.ends.push_reserved(entry);
             }
         }
         self.total += 1;
@@ -195,6 +190,28 @@ impl Tally {
         let Tally { ends, .. } = self;
         ends
     }
+}
+
+/// The end of the one schedule that records came from: that of so many processors' replies, with
+/// these rows. An error is out of memory.
+fn new_end(
+    alloc: Global,
+    processors: u32,
+    records: &[Record],
+    blocks: Vec<Row>,
+) -> Result<Ending, AllocError>
+    ensures outcome { IfOk result
+        (λ end. end.outcome ≡ outcome_with processors records.now blocks.items) }
+    ensures count { IfOk result (λ end. end.count ≡ 1) }
+    ensures first { IfOk result (λ end. end.first.items ≡ schedule_of records.now) }
+{
+    let replies = all_answers(alloc, processors, records)?;
+    let first = schedule_of(alloc, records)?;
+    Ok(Ending {
+        outcome: Outcome::new(replies, blocks),
+        count: 1,
+        first,
+    })
 }
 
 /// The count at a place, and 0 where there is none.

@@ -4,6 +4,7 @@ ghost use Rattle.hp_units.specs.History.{effect_of};
 ghost use Rattle.hp_units.specs.declared.replies.Record.{Record as NewRecord};
 ghost use Rattle.hp_machine.specs.Machine.{IsHistory};
 ghost use Rattle.hp_steps.specs.Steps.{StepsValue};
+ghost use Rattle.hp_explore.specs.Cursors.{AreCursors};
 ghost use Rattle.hp_explore.specs.Faults.{IsCallCause, is_full_after};
 ghost use Rattle.hp_explore.specs.Paths.{IsAdvanced, IsPath, IsTakenBack, IsTurned};
 ghost use Rattle.hp_explore.specs.Schedules.{Setting, next_call, schedule_of, setting};
@@ -12,9 +13,10 @@ ghost use Rattle.hp_explore.specs.declared.exploring.ExploreFault.TheVariants.{H
 
 use crate::exploring::ExploreFault;
 use crate::playing::{play, records_from};
+use crate::positions::Positions;
 use crate::scripts::Script;
 use crate::tally::schedule_of;
-use crate::ways::Way;
+use crate::ways::{Turn, Way};
 use hp_machine::Machine;
 use hp_steps::Steps;
 use hp_units::{Cpu, Event, Record, Refusal, Reply, Serial};
@@ -28,21 +30,27 @@ pub(crate) fn advance(
     start: &Machine,
     scripts: &[Script],
     here: &mut Steps,
-    ways: &mut Vec<Way>,
+    positions: &mut Positions,
+    turns: &mut Vec<Turn>,
     cpu: u32,
 ) -> Result<bool, ExploreFault>
-    requires { IsAt (setting start.now scripts.now) here.old }
-    ensures ok { IfOk result (λ went. IsAdvanced (setting start.now scripts.now) here.old ways.old.items cpu
-        went here.new ways.new.items) }
-    ensures err { OnErr result ((here.new ≡ here.old) × (ways.new.items ≡ ways.old.items)) }
+    requires at { IsAt (setting start.now scripts.now) here.old }
+    requires cursors { AreCursors (setting start.now scripts.now) here.old.records
+        positions.old.cursors.items }
+    ensures ok { IfOk result (λ went. IsAdvanced (setting start.now scripts.now)
+        here.old positions.old.cursors.items turns.old.items cpu went
+        here.new positions.new.cursors.items turns.new.items) }
+    ensures err { OnErr result ((here.new ≡ here.old)
+        × (positions.new.cursors.items ≡ positions.old.cursors.items) × (turns.new.items ≡ turns.old.items)) }
     ensures cause { IfErr result (IsCallCause (setting start.now scripts.now)) }
 {
-    ways.reserve(1)?;
-    let next = event_at(alloc, scripts, here, cpu)?;
-    match next {
-        Some(event) => {
-            let way = turn(alloc, start, scripts, here, cpu, &event)?;
-            ways.push_reserved(way);
+    turns.reserve(1)?;
+    let cpus = start.layout().cpus();
+    match positions.request(alloc, cpus, scripts, cpu)? {
+        Some(request) => {
+            let way = make_turn(alloc, start, scripts, here, cpu, &request.event)?;
+            let from = positions.go_on(cpus, scripts, cpu, &request, latest(here.records()));
+            turns.push_reserved(Turn { way, from });
             Ok(true)
         }
         None => Ok(false),
@@ -50,15 +58,20 @@ pub(crate) fn advance(
 }
 
 /// Takes the latest turn back, and answers whose it was; none where there was none.
-pub(crate) fn step_back(here: &mut Steps, ways: &mut Vec<Way>) -> Option<Cpu>
-    requires { (g : Setting) × IsPath g here.old ways.old.items }
-    ensures { (g : Setting) → IsPath g here.old ways.old.items
-        → IsTakenBack g here.old result here.new ways.new.items }
+pub(crate) fn step_back(
+    here: &mut Steps,
+    positions: &mut Positions,
+    turns: &mut Vec<Turn>,
+) -> Option<Cpu>
+    requires { (g : Setting) × IsPath g here.old positions.old.cursors.items turns.old.items }
+    ensures { (g : Setting) → IsPath g here.old positions.old.cursors.items turns.old.items
+        → IsTakenBack g here.old result here.new positions.new.cursors.items turns.new.items }
 {
-    match ways.pop() {
-        Some(way) => {
+    match turns.pop() {
+        Some(turn) => {
             let cpu = latest(here.records()).cpu;
-            way.lead_back(here);
+            positions.go_back(cpu, turn.from);
+            turn.way.lead_back(here);
             Some(cpu)
         }
         None => None,
@@ -68,7 +81,7 @@ pub(crate) fn step_back(here: &mut Steps, ways: &mut Vec<Way>) -> Option<Cpu>
 /// Makes a processor's next call, and answers what leads back over it. The call is a step that is
 /// taken back; only after an undo or a Cancel, which may go back themselves, the steps from before
 /// it are kept. An error leaves all as it was.
-fn turn(
+fn make_turn(
     alloc: Global,
     start: &Machine,
     scripts: &[Script],
@@ -92,43 +105,6 @@ fn turn(
     }
     let mark = here.make(alloc, serial, Cpu(cpu), event)?;
     Ok(Way::Mark(mark))
-}
-
-/// The event that a processor asks for where steps stand; none where it has no script, or its
-/// script is over. An error is out of memory.
-pub(crate) fn event_at(
-    alloc: Global,
-    scripts: &[Script],
-    here: &Steps,
-    cpu: u32,
-) -> Result<Option<Event>, AllocError>
-    ensures { IfOk result (λ next. (g : Setting) → g.scripts ≡ scripts.now → g.layout ≡ here.now.layout
-        → next_call g cpu here.now.records ≡ next) }
-{
-    if cpu as usize >= scripts.len() {
-        return Ok(None);
-    }
-    next_at(alloc, scripts, here, cpu)
-}
-
-/// The event that a processor's script asks for where the walk stands. An error is out of memory.
-fn next_at(
-    alloc: Global,
-    scripts: &[Script],
-    here: &Steps,
-    cpu: u32,
-) -> Result<Option<Event>, AllocError>
-    requires { cpu < length scripts.now }
-    ensures { IfOk result (λ next. (g : Setting) → g.scripts ≡ scripts.now → g.layout ≡ here.now.layout
-        → next_call g cpu here.now.records ≡ next) }
-{
-    let script = &scripts[cpu as usize];
-    script.next_event(
-        alloc,
-        here.memory().layout().cpus(),
-        Cpu(cpu),
-        here.records(),
-    )
 }
 
 /// The serial of the next record after the new ones. An error is that the history has no room for

@@ -4,6 +4,7 @@ ghost use Rattle.hp_units.specs.declared.replies.Record.{Record as NewRecord};
 ghost use Rattle.hp_steps.specs.Steps.{StepsValue};
 ghost use Rattle.hp_explore.specs.Paths.{IsWayOver};
 
+use crate::cursors::Cursor;
 use hp_steps::Steps;
 
 /// What leads back over a turn.
@@ -13,6 +14,13 @@ pub(crate) enum Way {
     Mark(usize),
     /// Its call may go back itself, so the steps from before it are kept.
     Kept(Steps),
+}
+
+/// A turn that was made: what leads back over it, and where its processor's script was before it.
+#[derive(Drop)]
+pub(crate) struct Turn {
+    pub way: Way,
+    pub from: Cursor,
 }
 
 impl Way {

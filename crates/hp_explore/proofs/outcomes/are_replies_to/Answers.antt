@@ -28,7 +28,8 @@ loop-record-preserved c =
           let told_next = w.is_told_at.ensures.0 w.if-not-is_told_at.false in
           rw w.compared-is (
             told_more c.args.cpu c.args.replies.now c.args.records.now c.loop-record.compared
-                c.loop-record.record-index c.record-item.result here (sym c.eq.ensures ∙ w.if-eq.true) told_next
+                c.loop-record.record-index c.record-item.result here (sym c.eq.ensures ∙ w.if-eq.true)
+                told_next
                 c.loop-record.invariant.0,
             omega (arith, slice_get_within c.args.replies.now c.loop-record.compared _ told_next),
           )

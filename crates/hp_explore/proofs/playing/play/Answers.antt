@@ -1,15 +1,28 @@
 -- One call more in each turn of the loop, or one that is not asked for.
 use Rattle.hp_explore.specs.Schedules.{setting}
-use Rattle.hp_explore.specs.Walks.{IsMade}
-use Rattle.std.proofs.Common.{Bool, subst, sym}
+use Rattle.hp_explore.specs.Walks.{IsMade, news_in}
+use Rattle.std.proofs.Common.{◌≡◌, ◌∙◌, [], Bool, List, ap, drop, length, refl, subst, sym}
+use Rattle.std.proofs.Math.Seq.{drop-length}
+use Rattle.hp_machine.specs.Machine.{MachineValue}
+use Rattle.hp_units.specs.LayoutParts.{LayoutParts}
+use Rattle.hp_units.specs.declared.replies.Record.{Record}
+use Rattle.hp_explore.specs.Cursors.{AreCursors}
 use Rattle.std.proofs.lemmas.Result.{err_from_is_err_and}
 use Rattle.hp_explore.proofs.Walking.{filled_along, played_all, played_more, played_none, played_over}
 use Rattle.hp_explore.proofs.playing.play.Goals as goal
 
 pub loop-cpu-init : goal.loop-cpu-init
 loop-cpu-init c =
-    played_none c.args.machine.now c.in_ok-played.played c.args.scripts.now c.args.schedule.now
-    c.in_ok-played.ensures
+    let none : news_in (setting c.args.machine.now c.args.scripts.now) c.in_ok-played.played ≡ [] =
+    ap (λ (m : MachineValue). drop (length c.args.machine.now.history) m.history) c.in_ok-played.ensures
+    ∙ drop-length c.args.machine.now.history in (
+      played_none c.args.machine.now c.in_ok-played.played c.args.scripts.now c.args.schedule.now
+          c.in_ok-played.ensures,
+      subst (λ (h : List Record). AreCursors (setting c.args.machine.now c.args.scripts.now) h
+          c.in_ok-positions.positions.cursors.items) (sym none)
+          (c.in_ok-positions.ensures (setting c.args.machine.now c.args.scripts.now) refl
+          (sym (c.cpus.ensures.is ∙ ap (λ (l : LayoutParts). l.cpus) c.layout.ensures))),
+    )
 
 pub returns-then-not-branch-clause-ok : goal.returns-then-not-branch-clause-ok
 returns-then-not-branch-clause-ok c =
@@ -17,13 +30,14 @@ returns-then-not-branch-clause-ok c =
     subst (λ (b : Bool). IsMade (setting c.args.machine.now c.args.scripts.now) c.loop-cpu.played
     c.cpu-item.result b c.make_call.new.played) c.if-not-branch.true c.in_ok-make_call.ensures.ok in
     played_over (setting c.args.machine.now c.args.scripts.now) c.loop-cpu.played c.args.schedule.now
-    c.loop-cpu.cpu-index c.cpu-item.result c.loop-cpu-test.true c.cpu-item.is c.loop-cpu.invariant made.0
+    c.loop-cpu.cpu-index c.cpu-item.result c.loop-cpu-test.true c.cpu-item.is c.loop-cpu.invariant.0 made.0
 
 pub returns-in_err-make_call-clause-along : goal.returns-in_err-make_call-clause-along
 returns-in_err-make_call-clause-along c =
     let p =
     err_from_is_err_and c.from_residual-in_err-make_call.result c.from_residual-in_err-make_call.ensures.1 in
     rw (p.1, p.2)
-    (λ full. filled_along (setting c.args.machine.now c.args.scripts.now) c.loop-cpu.played c.args.schedule.now
-    c.loop-cpu.cpu-index c.cpu-item.result c.loop-cpu-test.true c.cpu-item.is c.loop-cpu.invariant
+    (λ full.
+    filled_along (setting c.args.machine.now c.args.scripts.now) c.loop-cpu.played c.args.schedule.now
+    c.loop-cpu.cpu-index c.cpu-item.result c.loop-cpu-test.true c.cpu-item.is c.loop-cpu.invariant.0
     (c.in_err-make_call.ensures.full full))

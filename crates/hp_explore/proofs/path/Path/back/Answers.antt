@@ -1,4 +1,4 @@
--- The latest way leads back over the latest record.
+-- The latest turn leads back over the latest record.
 use Rattle.hp_explore.specs.Schedules.{setting}
 use Rattle.hp_explore.proofs.Paths.{back_shown, path_taken}
 use Rattle.hp_explore.proofs.path.Path.back.Goals as goal
@@ -9,11 +9,13 @@ step_back-requires c = (setting c.self.inside.machine.now c.self.inside.scripts.
 pub invariant_of-self : goal.invariant_of-self
 invariant_of-self c =
     path_taken (setting c.self.inside.machine.now c.self.inside.scripts.now) c.self.inside.here
-    c.step_back.new.here c.step_back.result c.step_back.new.ways.items
+    c.step_back.new.here c.step_back.result c.step_back.new.positions.cursors.items
+    c.step_back.new.turns.items
     (c.step_back.ensures (setting c.self.inside.machine.now c.self.inside.scripts.now) c.self.invariant)
 
 pub returns : goal.returns
 returns c =
     back_shown (setting c.self.inside.machine.now c.self.inside.scripts.now) c.self.inside.here
-    c.step_back.new.here c.step_back.result c.step_back.new.ways.items c.args.self.now c.self.view_is
+    c.step_back.new.here c.step_back.result c.step_back.new.positions.cursors.items
+    c.step_back.new.turns.items c.args.self.now c.self.view_is
     (c.step_back.ensures (setting c.self.inside.machine.now c.self.inside.scripts.now) c.self.invariant)

@@ -1,6 +1,7 @@
 -- No turn was made.
-use Rattle.std.proofs.Common.{◌≡◌, [], List, ap, ◌∙◌}
+use Rattle.std.proofs.Common.{◌≡◌, [], List, ap, refl, sym, ◌∙◌}
 use Rattle.std.proofs.Math.Seq.{drop-length}
+use Rattle.hp_units.specs.LayoutParts.{LayoutParts}
 use Rattle.hp_units.specs.declared.replies.Record.{Record}
 use Rattle.hp_steps.specs.Steps.{StepsValue}
 use Rattle.hp_explore.specs.Schedules.{setting}
@@ -17,13 +18,17 @@ none_yet c =
 
 pub invariant_of-result : goal.invariant_of-result
 invariant_of-result c =
-    path_begins (setting c.args.machine.now c.args.scripts.now) c.in_ok-here.here _
+    path_begins (setting c.args.machine.now c.args.scripts.now) c.in_ok-here.here
+    c.in_ok-positions.positions.cursors.items _
     (machine_at (setting c.args.machine.now c.args.scripts.now) c.args.machine.now c.in_ok-here.here
     (reached_start c.args.machine.now c.args.scripts.now) c.steps_of.ensures.kept.state
     (ap (λ (p : StepsValue). p.layout) c.in_ok-here.ensures.value)
     (ap (λ (p : StepsValue). p.state) c.in_ok-here.ensures.value)
     (ap (λ (p : StepsValue). p.records) c.in_ok-here.ensures.value))
-    (none_yet (goal.at.invariant_of-result c).In_ok-here) c.new.ensures.items
+    (none_yet (goal.at.invariant_of-result c).In_ok-here)
+    (c.in_ok-positions.ensures (setting c.args.machine.now c.args.scripts.now) refl
+    (sym (c.cpus.ensures.is ∙ ap (λ (l : LayoutParts). l.cpus) c.layout.ensures)))
+    c.new.ensures.items
 
 pub returns : goal.returns
 returns c =

@@ -7,8 +7,8 @@ use Rattle.hp_explore.specs.Schedules.{schedule_of, setting}
 use Rattle.hp_explore.specs.Walks.{IsNextSerial, LeadsTo}
 use Rattle.hp_explore.proofs.Stepped.{leads_on}
 use Rattle.hp_explore.proofs.Turning.{turned_full, turned_kept, turned_step}
-use Rattle.hp_explore.proofs.turns.turn.Goals as goal
-use Rattle.hp_explore.proofs.turns.turn.Goals.{In_ok-serial}
+use Rattle.hp_explore.proofs.turns.make_turn.Goals as goal
+use Rattle.hp_explore.proofs.turns.make_turn.Goals.{In_ok-serial}
 
 roomy : (c : In_ok-serial)
     → is_full_after (setting c.args.start.now c.args.scripts.now) c.args.here.now.records ≡ false
@@ -29,7 +29,8 @@ returns-then-may_go_back-clause-ok c =
     c.args.event.now c.requires.at c.requires.asked
     (subst (LeadsTo g (schedule_of c.args.here.now.records ++ c.args.cpu ∷ [])) c.in-Some.is
     c.in_ok-there.ensures.ok)
-    (roomy (goal.at.returns-then-may_go_back-clause-ok c).In_ok-serial) c.replace.ensures.value c.replace.ensures.after
+    (roomy (goal.at.returns-then-may_go_back-clause-ok c).In_ok-serial) c.replace.ensures.value
+    c.replace.ensures.after
 
 pub unreachable-requires : goal.unreachable-requires
 unreachable-requires c =

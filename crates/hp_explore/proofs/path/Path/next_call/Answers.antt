@@ -1,0 +1,31 @@
+-- It is what the processor's script asks for from its cursor.
+use Rattle.std.proofs.Common.{◌≡◌, ◌∙◌, None, Some, ap, refl, subst, sym}
+use Rattle.hp_units.specs.LayoutParts.{LayoutParts}
+use Rattle.hp_explore.specs.Cursors.{IsCalledFor}
+use Rattle.hp_explore.specs.Paths.{PathValue}
+use Rattle.hp_explore.specs.Schedules.{next_call, setting}
+use Rattle.hp_explore.proofs.path.Path.next_call.Goals as goal
+
+pub request-requires : goal.request-requires
+request-requires c = c.self.invariant.cursors_at.many
+
+pub returns-in-Some : goal.returns-in-Some
+returns-in-Some c =
+    subst (λ (p : PathValue). next_call p.setting c.args.cpu p.news ≡ Some c.in-Some.request.event)
+    c.self.view_is
+    (subst (IsCalledFor (setting c.self.inside.machine.now c.self.inside.scripts.now) c.args.cpu
+    c.self.inside.here.records) c.in-Some.is
+    (c.in_ok-request.ensures (setting c.self.inside.machine.now c.self.inside.scripts.now)
+    c.self.inside.here.records refl
+    (sym (c.cpus-cpus.ensures.is ∙ ap (λ (l : LayoutParts). l.cpus) c.layout.ensures))
+    c.self.invariant.cursors_at)).0
+
+pub returns-in-None : goal.returns-in-None
+returns-in-None c =
+    subst (λ (p : PathValue). next_call p.setting c.args.cpu p.news ≡ None) c.self.view_is
+    (subst (IsCalledFor (setting c.self.inside.machine.now c.self.inside.scripts.now) c.args.cpu
+    c.self.inside.here.records) c.in-None.is
+    (c.in_ok-request.ensures (setting c.self.inside.machine.now c.self.inside.scripts.now)
+    c.self.inside.here.records refl
+    (sym (c.cpus-cpus.ensures.is ∙ ap (λ (l : LayoutParts). l.cpus) c.layout.ensures))
+    c.self.invariant.cursors_at))
