@@ -13,54 +13,52 @@ use Rattle.hp_scenario.proofs.WordsSpelled.{is_space}
 
 -- ---- where a word ends
 
-pub space_place : (text : List ℕ) (end : ℕ) → position is_space text ≡ Some end
-    → end ≡ position_or_len is_space text
-space_place text end h =
+-- where the first space stands
+record IsSpace (text : List ℕ) (end : ℕ) : Type 0 where
+  first : end ≡ position_or_len is_space text
+  within : end < length text
+  there : get_or text end 0 ≡ 32
+
+space_found : (text : List ℕ) (end : ℕ) → position is_space text ≡ Some end → IsSpace text end
+space_found text end h =
     let p = position-Some is_space text end 0 h in
-    sym (position_or_len_is is_space text end 0 (omega (arith, p.0)) p.2 (λ lt. p.1))
+    let first = sym (position_or_len_is is_space text end 0 (omega (arith, p.0)) p.2 (λ lt. p.1)) in
+    record { first = first; within = p.0; there = eqb-true _ _ p.1 }
+
+pub before_space : (text : List ℕ) (end : ℕ) → position is_space text ≡ Some end → IsCharBoundary text end
+before_space text end h =
+    let f = space_found text end h in
+    IsCharBoundary-before_ascii text end f.within (omega (arith, f.there))
+
+pub after_space : (text : List ℕ) (end : ℕ) → position is_space text ≡ Some end → IsUtf8 text
+    → IsCharBoundary text (end + 1)
+after_space text end h utf8 =
+    let f = space_found text end h in
+    IsCharBoundary-after_ascii text end utf8 f.within (omega (arith, f.there))
+
+pub space_within : (text : List ℕ) (end : ℕ) → position is_space text ≡ Some end → end < length text
+space_within text end h = (space_found text end h).within
+
+pub first_word : (text : List ℕ) (end : ℕ) → position is_space text ≡ Some end
+    → words_of text ≡ take end text ∷ words_of (drop (end + 1) text)
+first_word text end h =
+    let f = space_found text end h in
+    rw f.first (slice_split_first is_space text 0 (rw (sym f.first) f.within))
 
 not_found : (b : Bool) (k : ℕ) → cond b (Some k) None ≡ None → b ≡ false
 not_found true k e = absurd cc
 not_found false k e = refl
 
-pub no_space : (text : List ℕ) → position is_space text ≡ None → length text ≡ position_or_len is_space text
-no_space text h =
+pub only_word : (text : List ℕ) → position is_space text ≡ None → words_of text ≡ text ∷ []
+only_word text h =
     let place = position_or_len is_space text in
     let past = ltb-false place (length text) (not_found (ltb place (length text)) place h) in
-    let within : place ≤ length text = prefix_len-le-length (λ x. not (is_space x)) text in
-    omega (arith, past, within)
-
-space_there : (text : List ℕ) (end : ℕ) → end ≡ position_or_len is_space text → end < length text
-    → get_or text end 0 ≡ 32
-space_there text end is lt =
-    eqb-true _ _ (rw is (passes_at_first is_space text 0 (rw (sym is) lt)))
-
-pub before_space : (text : List ℕ) (end : ℕ) → end ≡ position_or_len is_space text → end < length text
-    → IsCharBoundary text end
-before_space text end is lt =
-    IsCharBoundary-before_ascii text end lt (omega (arith, space_there text end is lt))
-
-pub after_space : (text : List ℕ) (end : ℕ) → end ≡ position_or_len is_space text → end < length text
-    → IsUtf8 text → IsCharBoundary text (end + 1)
-after_space text end is lt utf8 =
-    IsCharBoundary-after_ascii text end utf8 lt (omega (arith, space_there text end is lt))
-
-pub first_word : (text : List ℕ) (end : ℕ) → end ≡ position_or_len is_space text → end < length text
-    → words_of text ≡ take end text ∷ words_of (drop (end + 1) text)
-first_word text end is lt = rw is (slice_split_first is_space text 0 (rw (sym is) lt))
-
-pub only_word : (text : List ℕ) (end : ℕ) → end ≡ position_or_len is_space text → length text ≤ end
-    → words_of text ≡ text ∷ []
-only_word text end is over =
-    slice_split_none is_space text (λ k e m. fails_before_first is_space text k e (omega (arith, is)))
+    slice_split_none is_space text (λ k e m. fails_before_first is_space text k e (omega (arith, past)))
 
 -- ---- word by word
 
 abbrev bytes_of : List (Bor (List ℕ)) → List (List ℕ)
 bytes_of words = map (λ w. w.now) words
-
-abbrev pub left_of : Option (Bor (List ℕ)) → List (List ℕ)
-left_of left = words_left (option_map (λ w. w.now) left)
 
 -- one word more
 pub one_more_word : (before after : List (Bor (List ℕ))) (word : Bor (List ℕ))
@@ -72,3 +70,12 @@ one_more_word before after word left rest total grown first so_far =
     ∙ ap (λ (ws : List (List ℕ)). ws ++ rest) (map-append (λ (w : Bor (List ℕ)). w.now) before (word ∷ []))
     ∙ append_assoc (bytes_of before) (word.now ∷ []) rest
     ∙ ap (λ (ws : List (List ℕ)). bytes_of before ++ ws) (sym first) ∙ so_far
+
+-- the last word
+pub last_word : (before after : List (Bor (List ℕ))) (word : Bor (List ℕ)) (left total : List (List ℕ))
+    → after ≡ before ++ word ∷ [] → left ≡ word.now ∷ [] → bytes_of before ++ left ≡ total
+    → bytes_of after ≡ total
+last_word before after word left total grown last so_far =
+    ap (λ (ws : List (Bor (List ℕ))). bytes_of ws) grown
+    ∙ map-append (λ (w : Bor (List ℕ)). w.now) before (word ∷ [])
+    ∙ ap (λ (ws : List (List ℕ)). bytes_of before ++ ws) (sym last) ∙ so_far

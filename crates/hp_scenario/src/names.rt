@@ -34,6 +34,7 @@ pub(crate) fn line_from<'a>(
 }
 
 /// The work of a request, with its name numbered.
+#[inline(always)]
 fn numbered_work(
     alloc: Global,
     names: &mut IndexSet<Text>,

@@ -35,6 +35,7 @@ pub(crate) struct Said<'a> {
 
 /// What a text says, where it is a line. What `words` held before is dropped: its room serves line
 /// after line.
+#[inline(always)]
 #[tactic(auto, unfolding(crate::specs::Lines::line_says))]
 pub(crate) fn line_says<'a>(
     alloc: Global,

@@ -1,44 +1,34 @@
 //! The words of a line, and the names among them.
-ghost use Rattle.std.specs.Prelude.{◌≡◌, ◌==◌, ◌∷◌, OnOk, map, option_map};
-ghost use Rattle.std.specs.List.{list_all, position, position_or_len};
-ghost use Rattle.hp_scenario.specs.Words.{is_name_byte as name_byte, is_name as names, words_left, words_of};
+ghost use Rattle.std.specs.Prelude.{◌≡◌, ◌==◌, ◌∷◌, [], MatchOption, OnOk, map};
+ghost use Rattle.std.specs.List.{list_all, position};
+ghost use Rattle.hp_scenario.specs.Words.{is_name_byte as name_byte, is_name as names, words_of};
 
 use std::alloc::AllocError;
 
 /// Makes `words` the words between single spaces.
+#[tactic(auto, using(crate::proofs::WordsCut::last_word))]
 pub(crate) fn split_words<'a>(words: &mut Vec<&'a str>, text: &'a str) -> Result<(), AllocError>
     ensures { OnOk result (map (λ w. w.now) words.new.items ≡ words_of text.now) }
 {
     words.clear();
-    let mut left = Some(text);
-    'cut: while let Some(rest) = left {
-        let (word, more) = cut_word(rest);
+    let mut rest = text;
+    'cut: while let Some((word, more)) = cut_word(rest) {
         words.push(word)?;
-        left = more;
+        rest = more;
     }
+    words.push(rest)?;
     Ok(())
 }
 
-/// The first word, and what comes after the space that ends it.
+/// The first word, and what comes after the space that ends it; none where the text is one word.
 #[tactic(auto, using(crate::proofs::WordsCut::before_space, crate::proofs::WordsCut::after_space, crate::proofs::WordsCut::first_word, crate::proofs::WordsCut::only_word))]
-fn cut_word<'a>(text: &'a str) -> (&'a str, Option<&'a str>)
-    ensures { words_of text.now ≡ result.0.now ∷ words_left (option_map (λ w. w.now) result.1) }
+fn cut_word<'a>(text: &'a str) -> Option<(&'a str, &'a str)>
+    ensures { MatchOption result (words_of text.now ≡ text.now ∷ [])
+        (λ cut. words_of text.now ≡ cut.0.now ∷ words_of cut.1.now) }
 {
-    let end = word_end(text.as_bytes());
-    if end < text.len() {
-        (&text[..end], Some(&text[end + 1..]))
-    } else {
-        (text, None)
-    }
-}
-
-/// Where the first space stands, or the end.
-fn word_end(text: &[u8]) -> usize
-    ensures { result ≡ position_or_len (λ b. b == 32) text.now }
-{
-    match space_in(text) {
-        Some(end) => end,
-        None => text.len(),
+    match space_in(text.as_bytes()) {
+        Some(end) => Some((&text[..end], &text[end + 1..])),
+        None => None,
     }
 }
 
