@@ -1,5 +1,5 @@
 -- The room for the calls of a walk, and the order of its ends, from place to place.
-use Rattle.std.proofs.Common.{◌≡◌, ℕ, ◌+◌, ◌<◌, ◌≤◌, Bool, true, false, List, [], ◌∷◌, ◌++◌, length, set, Option, Some, None, slice_get, refl, ap, sym, subst, ◌∙◌, arith, inl, inr}
+use Rattle.std.proofs.Common.{◌≡◌, ℕ, ◌+◌, ◌<◌, true, false, List, [], ◌∷◌, ◌++◌, length, set, Option, Some, None, slice_get, refl, ap, sym, subst, ◌∙◌, arith, inl, inr}
 use Rattle.std.specs.Prelude.{◌⊎◌, ◌||◌, nat_le, fold}
 use Rattle.std.proofs.lemmas.List.{append-nil, append_assoc, same_from_push}
 use Rattle.std.proofs.lemmas.Option.{none-some, same_Some, slice_get_within}
@@ -19,7 +19,7 @@ use Rattle.hp_explore.specs.declared.tally.Ending.{Ending}
 use Rattle.hp_explore.proofs.Alike.{PlaysAlike, all_calls, call_same, played_alike}
 use Rattle.hp_explore.proofs.Counts.{get_set_cases}
 use Rattle.hp_explore.proofs.Merges.{turned}
-use Rattle.hp_explore.proofs.Plays.{asks_within, from_news, plays_on, plays_push, stops, walk_begins, walk_down, walk_over, walk_past}
+use Rattle.hp_explore.proofs.Plays.{asks_within, plays_on, plays_push, stops, walk_begins, walk_down, walk_over, walk_past}
 use Rattle.hp_explore.proofs.Regions.{before_first, before_longer, before_next, extends_before, extends_cons}
 
 -- ---- one call

@@ -1,5 +1,5 @@
 -- The stack of a walk: what it knows of each place between where the scripts begin and where it stands.
-use Rattle.std.specs.Prelude.{◌≡◌, ℕ, ◌+◌, ◌-◌, ◌*◌, ◌^◌, ◌<◌, ◌≤◌, Bool, true, false, List, [], ◌∷◌, ◌++◌, Option, Some, None, length, map, option_map, reverse, Box}
+use Rattle.std.specs.Prelude.{◌≡◌, ℕ, ◌+◌, ◌-◌, ◌*◌, ◌^◌, ◌<◌, ◌≤◌, Bool, true, false, List, [], ◌∷◌, ◌++◌, Option, Some, length, map, option_map, reverse, Box}
 use Rattle.std.specs.declared.alloc.Global.{Global}
 use Rattle.hp_units.specs.History.{net_of, value_of}
 use Rattle.hp_units.specs.declared.events.Event.{Event}
@@ -8,7 +8,6 @@ use Rattle.hp_steps.specs.Steps.{StepsValue}
 use Rattle.hp_explore.specs.Alike.{IsClosed, is_closed}
 use Rattle.hp_explore.specs.Ends.{AreCounted}
 use Rattle.hp_explore.specs.Faults.{is_full_after}
-use Rattle.hp_explore.specs.Notes.{TallyValue}
 use Rattle.hp_explore.specs.Paths.{PathValue, state_at}
 use Rattle.hp_explore.specs.Schedules.{Setting, next_call, plays, schedule_of}
 use Rattle.hp_explore.specs.Seen.{Grow, IsMemo}

@@ -2,7 +2,6 @@
 use Rattle.std.proofs.Common.{◌∙◌, length, refl, sym, arith}
 use Rattle.std.proofs.lemmas.Bool.{iff_false}
 use Rattle.std.proofs.lemmas.Option.{slice_get_read, slice_get_within}
-use Rattle.hp_explore.specs.Outcomes.{told}
 use Rattle.hp_explore.proofs.Compared.{told_here, told_more, told_past}
 use Rattle.hp_explore.proofs.outcomes.are_replies_to.Goals as goal
 use Rattle.hp_explore.proofs.outcomes.are_replies_to.Goals.{then-eq+else-not-is_told_at, else-eq}

@@ -8,7 +8,7 @@ use Rattle.hp_units.specs.LayoutParts.{LayoutParts}
 use Rattle.hp_units.specs.declared.replies.Record.{Record}
 use Rattle.hp_explore.specs.Cursors.{AreCursors}
 use Rattle.std.proofs.lemmas.Result.{err_from_is_err_and}
-use Rattle.hp_explore.proofs.Walking.{filled_along, played_all, played_more, played_none, played_over}
+use Rattle.hp_explore.proofs.Walking.{filled_along, played_none, played_over}
 use Rattle.hp_explore.proofs.playing.play.Goals as goal
 
 pub loop-cpu-init : goal.loop-cpu-init

@@ -2,7 +2,6 @@
 use Rattle.std.proofs.Common.{◌≡◌, ◌∷◌, ◌++◌, ◌<◌, ◌∙◌, [], List, Some, ap, arith, length, refl, subst, sym}
 use Rattle.std.proofs.lemmas.List.{length_push}
 use Rattle.hp_units.specs.LayoutParts.{LayoutParts}
-use Rattle.hp_units.specs.declared.replies.Record.{Record}
 use Rattle.hp_explore.specs.Cursors.{IsCalledFor}
 use Rattle.hp_explore.specs.Schedules.{record_of_call, setting}
 use Rattle.hp_explore.specs.declared.ways.Turn.{Turn}

@@ -1,5 +1,5 @@
 -- The turn is a step with its mark, or leads to other steps, and the earlier are kept.
-use Rattle.std.proofs.Common.{◌≡◌, false, true, ◌++◌, ◌∷◌, [], List, Some, sym, subst, ◌∙◌}
+use Rattle.std.proofs.Common.{◌≡◌, false, true, ◌++◌, ◌∷◌, [], List, sym, subst, ◌∙◌}
 use Rattle.hp_units.specs.declared.replies.Record.{Record}
 use Rattle.std.proofs.lemmas.Result.{err_from_is_err_and}
 use Rattle.hp_explore.specs.Faults.{IsCallCause, is_full_after}

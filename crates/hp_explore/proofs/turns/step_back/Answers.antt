@@ -1,5 +1,5 @@
 -- The latest way leads back over the latest record.
-use Rattle.std.proofs.Common.{◌≡◌, ℕ, ◌+◌, ◌∷◌, ◌++◌, [], List, Option, Some, None, MatchOption, length, vec_len, ap, arith, sym, subst, ◌∙◌, option_to_list, reverse, refl}
+use Rattle.std.proofs.Common.{◌≡◌, ◌+◌, ◌∷◌, ◌++◌, [], List, Option, MatchOption, length, vec_len, ap, arith, sym, subst, ◌∙◌, option_to_list, reverse, refl}
 use Rattle.hp_units.specs.declared.replies.Record.{Record}
 use Rattle.hp_explore.specs.Paths.{IsPath, IsWayBack}
 use Rattle.hp_explore.specs.Schedules.{Setting}

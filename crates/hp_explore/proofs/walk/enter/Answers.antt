@@ -1,6 +1,6 @@
 -- What is found is like the place, so that its counts are those of what goes on from here; else the
 -- place gets a frame, with what is kept of it.
-use Rattle.std.proofs.Common.{◌≡◌, ◌++◌, Bor, List, Option, ℕ, ap, refl, length, sym, subst, ◌∙◌}
+use Rattle.std.proofs.Common.{◌++◌, Bor, List, Option, ℕ, ap, refl, sym, subst, ◌∙◌}
 use Rattle.std.specs.Option.{IfSome}
 use Rattle.std.proofs.lemmas.Result.{IfErr-weaker, IfOk-weaker}
 use Rattle.hp_plain.specs.Image.{Pictured}

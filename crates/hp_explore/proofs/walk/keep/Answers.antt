@@ -1,5 +1,5 @@
 -- What each end counts more since the walk came to the place is what goes on from there.
-use Rattle.std.proofs.Common.{◌≡◌, ℕ, List, ap, refl, sym, subst, ◌∙◌}
+use Rattle.std.proofs.Common.{ℕ, List, ap, refl, sym, subst, ◌∙◌}
 use Rattle.std.proofs.lemmas.Result.{on_ok_weaker}
 use Rattle.hp_units.specs.declared.replies.Record.{Record}
 use Rattle.hp_explore.specs.Frames.{standing}

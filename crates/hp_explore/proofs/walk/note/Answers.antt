@@ -1,5 +1,4 @@
 -- Where no script asked for anything the schedule ends here; else all that go on were walked.
-use Rattle.std.proofs.Common.{◌≡◌}
 use Rattle.std.proofs.lemmas.Result.{IfErr-weaker, on_ok_weaker}
 use Rattle.hp_explore.proofs.Grown.{grow_none, grow_noted}
 use Rattle.hp_explore.proofs.Walking.{leaf, leaf_fault, walked}

@@ -1,11 +1,9 @@
 -- One turn more, with its way back; or all stays.
-use Rattle.std.proofs.Common.{◌≡◌, ap, sym, subst, ◌∙◌}
+use Rattle.std.proofs.Common.{subst}
 use Rattle.std.proofs.lemmas.Result.{IfErr-weaker, IfOk-weaker}
-use Rattle.hp_steps.specs.Steps.{StepsValue}
 use Rattle.hp_explore.specs.Faults.{IsCallCause}
-use Rattle.hp_explore.specs.Frames.{path_of}
 use Rattle.hp_explore.specs.Paths.{PathValue}
-use Rattle.hp_explore.specs.Schedules.{Setting, setting}
+use Rattle.hp_explore.specs.Schedules.{setting}
 use Rattle.hp_explore.proofs.Paths.{forth_shown, path_advanced}
 use Rattle.hp_explore.proofs.path.Path.forward.Goals as goal
 

@@ -1,5 +1,5 @@
 -- The state is that after the records.
-use Rattle.std.proofs.Common.{◌≡◌, ap, sym, ◌∙◌}
+use Rattle.std.proofs.Common.{ap, ◌∙◌}
 use Rattle.hp_units.specs.LayoutParts.{LayoutParts}
 use Rattle.hp_units.specs.Memory.{Memory}
 use Rattle.hp_memory.specs.Memory.{MemoryValue}

@@ -1,8 +1,7 @@
 -- No turn was made.
-use Rattle.std.proofs.Common.{◌≡◌, [], List, ap, refl, sym, ◌∙◌}
+use Rattle.std.proofs.Common.{◌≡◌, [], ap, refl, sym, ◌∙◌}
 use Rattle.std.proofs.Math.Seq.{drop-length}
 use Rattle.hp_units.specs.LayoutParts.{LayoutParts}
-use Rattle.hp_units.specs.declared.replies.Record.{Record}
 use Rattle.hp_steps.specs.Steps.{StepsValue}
 use Rattle.hp_explore.specs.Schedules.{setting}
 use Rattle.hp_explore.proofs.Machines.{reached_start}

@@ -1,5 +1,5 @@
 -- The processor's cursor goes on from where its script asked for the call.
-use Rattle.std.proofs.Common.{◌∙◌, length, refl, set, sym, ap}
+use Rattle.std.proofs.Common.{length, refl}
 use Rattle.std.proofs.lemmas.Option.{slice_get_read}
 use Rattle.hp_explore.proofs.Placed.{set_back, went_on}
 use Rattle.hp_explore.proofs.positions.Positions.go_on.Goals as goal

@@ -1,5 +1,5 @@
 -- The place is counted, and the walk stands at the one before it.
-use Rattle.std.proofs.Common.{◌≡◌, ◌<◌, ◌∷◌, length, refl, sym, subst, arith}
+use Rattle.std.proofs.Common.{◌<◌, ◌∷◌, refl, sym, subst, arith}
 use Rattle.hp_explore.specs.Frames.{frames_of, left_of}
 use Rattle.hp_explore.specs.Schedules.{Setting}
 use Rattle.hp_explore.proofs.Framing.{back_setting, below_many}

@@ -1,15 +1,13 @@
 -- Where a call was made the walk comes to a place by it.
-use Rattle.std.proofs.Common.{◌≡◌, ◌+◌, ◌*◌, ◌-◌, ◌^◌, ◌<◌, ◌≤◌, ◌∷◌, Bool, true, false, ℕ, List, length, reverse, ap, refl, sym, subst, ◌∙◌, arith}
-use Rattle.std.proofs.lemmas.Result.{IfErr-weaker, on_ok_weaker}
-use Rattle.hp_explore.specs.Faults.{IsWalkCause}
-use Rattle.hp_explore.specs.Frames.{digits, frames_of, left_of}
+use Rattle.std.proofs.Common.{◌<◌, ◌≤◌, ◌∷◌, Bool, true, false, List, length, reverse, ap, refl, sym, subst, ◌∙◌, arith}
+use Rattle.hp_explore.specs.Frames.{frames_of, left_of}
 use Rattle.hp_explore.specs.Paths.{IsForth, PathValue}
 use Rattle.hp_explore.specs.Schedules.{Setting}
 use Rattle.hp_explore.specs.Seen.{IsMemo}
 use Rattle.hp_explore.specs.declared.frames.Frame.{Frame}
 use Rattle.hp_explore.proofs.Framing.{frames_pushed}
 use Rattle.hp_explore.proofs.Walked.{closed_on, forth_setting, led_on, passed_on, short_on}
-use Rattle.hp_explore.proofs.Weights.{led_left, left_passed}
+use Rattle.hp_explore.proofs.Weights.{left_passed}
 use Rattle.hp_explore.proofs.walk.Walk.go_on.Goals as goal
 
 pub passed-requires : goal.passed-requires

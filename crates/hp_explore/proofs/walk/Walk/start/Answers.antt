@@ -1,7 +1,6 @@
 -- No call was made, and no place is kept.
-use Rattle.std.proofs.Common.{◌≡◌, ◌∷◌, [], Bool, List, length, reverse, ap, refl, sym, subst, ◌∙◌, arith}
+use Rattle.std.proofs.Common.{◌≡◌, ◌∷◌, [], length, reverse, ap, sym, subst, ◌∙◌, arith}
 use Rattle.std.specs.List.{list_all}
-use Rattle.hp_units.specs.declared.replies.Record.{Record}
 use Rattle.hp_explore.specs.Alike.{is_closed, leaves_script}
 use Rattle.hp_explore.specs.Frames.{AreWalked}
 use Rattle.hp_explore.specs.Notes.{TallyValue}

@@ -1,5 +1,5 @@
 -- The latest place makes its turn; where there is none all is walked.
-use Rattle.std.proofs.Common.{◌≡◌, ◌+◌, ◌<◌, ◌∷◌, [], List, MatchOption, Option, reverse, sym, subst, vec_len, ◌∙◌}
+use Rattle.std.proofs.Common.{◌≡◌, ◌+◌, ◌<◌, List, MatchOption, Option, sym, subst, vec_len, ◌∙◌}
 use Rattle.hp_explore.specs.Frames.{AreWalked, frames_of, left, left_of}
 use Rattle.hp_explore.specs.declared.frames.Frame.{Frame}
 use Rattle.hp_explore.proofs.Framing.{frames_popped, no_frames, none_left}

@@ -1,5 +1,5 @@
 -- A mark takes the step back; steps that were kept are those from before it.
-use Rattle.std.proofs.Common.{◌≡◌, subst, sym, ◌∙◌}
+use Rattle.std.proofs.Common.{subst}
 use Rattle.hp_explore.specs.Paths.{IsWayOver}
 use Rattle.hp_explore.specs.declared.ways.Way.{Way}
 use Rattle.hp_explore.proofs.ways.Way.lead_back.Goals as goal
