@@ -17,7 +17,8 @@ pub(crate) fn same_layout(layout: &Layout, other: &Layout) -> bool
 
 /// Whether two layouts have the same memory blocks.
 fn same_blocks(layout: &Layout, other: &Layout) -> bool
-    ensures { MatchBool result (blocks_of layout.now ≡ blocks_of other.now) (blocks_of layout.now ≢ blocks_of other.now) }
+    ensures { MatchBool result (blocks_of layout.now ≡ blocks_of other.now)
+        (blocks_of layout.now ≢ blocks_of other.now) }
 {
     layout.order() == other.order()
         && layout.pageblocks() == other.pageblocks()
@@ -26,7 +27,8 @@ fn same_blocks(layout: &Layout, other: &Layout) -> bool
 
 /// Whether two layouts have the same processors.
 fn same_processors(layout: &Layout, other: &Layout) -> bool
-    ensures { MatchBool result (processors_of layout.now ≡ processors_of other.now) (processors_of layout.now ≢ processors_of other.now) }
+    ensures { MatchBool result (processors_of layout.now ≡ processors_of other.now)
+        (processors_of layout.now ≢ processors_of other.now) }
 {
     layout.cpus() == other.cpus()
         && layout.batch() == other.batch()
@@ -35,7 +37,8 @@ fn same_processors(layout: &Layout, other: &Layout) -> bool
 
 /// Whether two layouts have the same owners and the same limit of records.
 fn same_owners(layout: &Layout, other: &Layout) -> bool
-    ensures { MatchBool result (owners_of layout.now ≡ owners_of other.now) (owners_of layout.now ≢ owners_of other.now) }
+    ensures { MatchBool result (owners_of layout.now ≡ owners_of other.now)
+        (owners_of layout.now ≢ owners_of other.now) }
 {
     layout.owners() == other.owners()
         && layout.pages() == other.pages()
