@@ -5,11 +5,13 @@ folder of the crates:
 
     python3 docs/check_find.py [CRATES [SEED [COUNT]]]        without them: crates, 34 and 40
 
-On so many scenarios that are drawn at random, with events of all kinds and plans: an interleaving
-is found where an order has an end with the lines; it is one of those orders, with the fewest
-changes of processor; and where there is none, as many interleavings are told as there are orders.
-`--never` prints the same with the other status, and a text that no end has as a line ends with
-status 2.
+On so many scenarios that are drawn at random, with events of all kinds and plans, where 0 may stand
+for an operation of the setup: an interleaving is found where an order has an end with the lines; it
+is one of those orders, with the fewest changes of processor; and where there is none, as many
+interleavings are told as there are orders. `--never` prints the same with the other status,
+`--scenario 1` writes what is found as a scenario with the setup's lines before the calls, `--json`
+the same as an object, scripts that use 0 before a begin are told, and a text that no end has as a
+line ends with status 2.
 The last line is 'find: N passed, M failed'; the exit status is 0 where nothing failed, else 1.
 """
 import json
@@ -30,15 +32,21 @@ NO_LINES = ("", "refused", "refused Nonsense", "refused NotFree x", "refused Not
 
 
 class Searches(Programs):
-    """The two programs, where one searches."""
+    """The two programs, where one searches, and what it said last on standard error."""
 
-    def find(self, scenario, setup, option, texts):
-        """The exit status and what is printed of a search for an end with lines."""
+    def __init__(self, crates):
+        super().__init__(crates)
+        self.said = ""
+
+    def find(self, scenario, setup, option, texts, *more):
+        """The exit status and what is printed of a search for an end with lines; what is said where
+        it was not made."""
         words = [self.lab, "explore", "--setup", str(setup)]
-        words += [word for text in texts for word in (option, text)]
-        ran = subprocess.run(words, input=json.dumps(scenario).encode(), stdout=subprocess.PIPE,
-                             stderr=subprocess.STDOUT, timeout=SECONDS)
-        return ran.returncode, ran.stdout.decode()
+        words += [word for text in texts for word in (option, text)] + list(more)
+        ran = subprocess.run(words, input=json.dumps(scenario).encode(), capture_output=True,
+                             timeout=SECONDS)
+        self.said = ran.stderr.decode()
+        return ran.returncode, ran.stdout.decode() if ran.returncode in (0, 3) else self.said
 
 
 def driven(items, turns, cpus):
@@ -75,9 +83,9 @@ def calls_of(text, cpus):
         yield text
 
 
-def next_call(script, cpus, receipts):
-    """What a processor asks for after its receipts, each a call with its serial and reply; None
-    where its script is over."""
+def next_call(script, cpus, begun, receipts):
+    """What a processor asks for after the number of its last begin in the setup and its receipts,
+    each a call with its serial and reply; None where its script is over."""
     left = [(serial, reply) for _, serial, reply in receipts]
     for text in script:
         calls = calls_of(text, cpus)
@@ -89,8 +97,8 @@ def next_call(script, cpus, receipts):
             continue
         words = call.split()
         if words[0] in ("drainfor", "migrate", "commit", "cancel") and words[1] == "0":
-            begun = [serial for text, serial, _ in receipts if text.startswith("begin")]
-            words[1] = str(begun[-1] if begun else 0)
+            own = [serial for text, serial, _ in receipts if text.startswith("begin")]
+            words[1] = str(own[-1] if own else begun)
         return " ".join(words)
     return None
 
@@ -103,6 +111,18 @@ class Orders:
         self.setup, lines = scenario["calls"][:setup], scenario["calls"][setup:]
         self.scripts = [[line.partition(" ")[2] for line in lines if line.split()[0] == str(cpu)]
                         for cpu in range(self.layout["cpus"])]
+        self.begun = [self.begun_by(cpu) for cpu in range(self.layout["cpus"])]
+
+    def begun_by(self, cpu):
+        """The number of a processor's last begin in the setup, 0 where there is none: that of the
+        next record, where a line begins an operation."""
+        begun = 0
+        for at, line in enumerate(self.setup):
+            if line.startswith((f"{cpu} begin", f"{cpu} plan", f"{cpu} echo")):
+                text = self.programs.serial(self.layout, self.setup[:at] + [f"{cpu} drain 0"])
+                answers = text.rpartition("state\nblock 0 ")[0].splitlines()
+                begun = int(answers[-1].partition(":")[0])
+        return begun
 
     def receipts(self, calls):
         """The calls of each processor with their serials and replies."""
@@ -120,7 +140,7 @@ class Orders:
         """The complete orders that go on from calls, as long as there are no more than so many."""
         receipts, is_over, orders = self.receipts(calls), True, []
         for cpu, script in enumerate(self.scripts):
-            call = next_call(script, self.layout["cpus"], receipts[cpu])
+            call = next_call(script, self.layout["cpus"], self.begun[cpu], receipts[cpu])
             if call is not None and len(orders) <= most:
                 is_over = False
                 orders += self.all_from(calls + [f"{cpu} {call}"], most)
@@ -169,21 +189,54 @@ def drawn_texts(draw, ends):
                                        "1: refused NoFrame", "block 2 absent", "refused Twice 1")]
 
 
+def warnings_of(scenario, setup):
+    """What is said of the first line of each script that uses 0 before its processor begins any."""
+    told = []
+    for cpu in range(scenario["layout"]["cpus"]):
+        for number, line in enumerate(scenario["calls"], 1):
+            who, verb, *words = line.split()
+            if who == str(cpu) and verb in ("begin", "plan", "echo"):
+                break
+            if (who == str(cpu) and verb in ("drainfor", "migrate", "commit", "cancel")
+                    and words[0] == "0" and number > setup):
+                told.append(f"hotplug_lab: line {number}: 0 is no operation: processor {cpu} has "
+                            "begun none\n")
+                break
+    return "".join(told)
+
+
 def check_search(checks, programs, scenario, setup, orders, texts):
     where = f"--find {texts} --setup {setup} {json.dumps(scenario)}"
     found = [calls for calls, end in orders if all(has_line(end, text) for text in texts)]
     status, text = programs.find(scenario, setup, "--find", texts)
+    checks.holds(where, programs.said == warnings_of(scenario, setup), f"warns {programs.said!r}")
     turned = programs.find(scenario, setup, "--never", texts)
     checks.holds(where, turned == (3 - status, text), f"--never says {turned}")
     if not found:
         absent = (3, f"interleavings: {len(orders)}\nends so: 0\n")
         checks.holds(where, (status, text) == absent, f"says {status}, {text!r}")
+        check_object(checks, programs, scenario, setup, texts,
+                     (3, {"found": False, "interleavings": len(orders)}))
         return
     head, _, quoted = text.partition("\nfirst:\n")
     calls = json.loads(f"[{quoted}]")
     fewest = min(map(changes_of, found))
     checks.holds(where, (status, head) == (0, f"changes: {fewest}"), f"says {status}, {head!r}")
     checks.holds(where, calls in found and changes_of(calls) == fewest, f"{calls} is none of them")
+    status, text = programs.find(scenario, setup, "--find", texts, "--scenario", "1")
+    replay = dict(scenario, calls=scenario["calls"][:setup] + calls)
+    is_so = status == 0 and json.loads(text) == replay
+    checks.holds(where, is_so, f"--scenario 1 says {status}, {text!r}")
+    check_object(checks, programs, scenario, setup, texts,
+                 (0, {"found": True, "changes": fewest, "first": calls}))
+
+
+def check_object(checks, programs, scenario, setup, texts, expected):
+    """With `--json` what a search tells is an object on one line."""
+    status, text = programs.find(scenario, setup, "--find", texts, "--json")
+    is_so = text.endswith("}\n") and (status, json.loads(text)) == expected
+    checks.holds(f"--json --find {texts} --setup {setup} {json.dumps(scenario)}", is_so,
+                 f"says {status}, {text!r}")
 
 
 def check_drawn(checks, programs, draw):

@@ -8,8 +8,10 @@ What is compared, of `hotplug_lab explore`:
 - the ends and counts of an offline against map, write and read of another processor
   (examples/last-frame.json) with those of `hotplug serial` on each order of the calls;
 - on each file of examples/, with a setup that leaves at most six lines for scripts: the first
-  interleaving of each end, pasted after the setup's lines, has that end in `hotplug serial`; and
-  the first line that cannot stand in a script is refused by its place;
+  interleaving of each end, pasted after the setup's lines, has that end in `hotplug serial`;
+  `--scenario` writes it as a scenario with the same layout and lines, which `hotplug serial` reads;
+  `--json` writes the same ends; and the first line that cannot stand in a script is refused by its place;
+- on a scenario with hostile texts: `--scenario` writes each of its lines as it is;
 - 50 runs of `hotplug run` on each of three small scenarios: each outcome is one of the ends;
 - a script of 4,000 calls of one processor: it has one interleaving, with the answers of `hotplug
   serial`.
@@ -62,18 +64,24 @@ class Programs:
         self.lab = crates / "hotplug_lab/out/hotplug_lab"
 
     def call(self, words, scenario):
-        ran = subprocess.run(words, input=json.dumps(scenario).encode(), stdout=subprocess.PIPE,
+        return self.call_on(words, json.dumps(scenario))
+
+    def call_on(self, words, text):
+        ran = subprocess.run(words, input=text.encode(), stdout=subprocess.PIPE,
                              stderr=subprocess.STDOUT, timeout=SECONDS)
         return ran.stdout.decode()
 
     def serial(self, layout, calls):
         return self.call([self.hotplug, "serial"], {"layout": layout, "calls": calls})
 
+    def serial_of(self, text):
+        return self.call_on([self.hotplug, "serial"], text)
+
     def run(self, scenario):
         return self.call([self.hotplug, "run"], scenario)
 
-    def explore(self, scenario, setup, limit=100000):
-        words = [self.lab, "explore", "--setup", str(setup), "--limit", str(limit)]
+    def explore(self, scenario, setup, *options, limit=100000):
+        words = [self.lab, "explore", "--setup", str(setup), "--limit", str(limit), *options]
         return self.call(words, scenario)
 
     def check(self, scenario):
@@ -181,6 +189,33 @@ def check_depth(checks, programs):
     checks.holds("a deep script", [it for _, it, _ in ends] == [end], "ends otherwise")
 
 
+# Ends as JSON
+
+def check_replay(checks, programs, name, scenario, setup, number, first):
+    """The scenario of an end is read, and has the setup's lines and then the first calls."""
+    where = f"{name} --setup {setup} --scenario {number}"
+    layout, calls = scenario["layout"], scenario["calls"][:setup] + first
+    text = programs.explore(scenario, setup, "--scenario", str(number))
+    checks.holds(where, json.loads(text) == {"layout": layout, "calls": calls}, f"says {text!r}")
+    checks.holds(where, programs.serial_of(text) == programs.serial(layout, calls), "ends otherwise")
+
+
+def check_objects(checks, programs, name, scenario, setup, ends):
+    """With `--json` each end is an object on a line, with the same texts."""
+    expected = [{"end": number, "interleavings": count, "answers": list(map(list, answers)),
+                 "blocks": [block.split(" ", 2)[2] for block in blocks], "first": first}
+                for number, (count, (answers, blocks), first) in enumerate(ends, 1)]
+    text = programs.explore(scenario, setup, "--json")
+    found = [json.loads(line) for line in text.splitlines()]
+    checks.holds(f"{name} --setup {setup} --json", found == expected, f"says {text!r}")
+
+
+def check_hostile_replay(checks, programs):
+    scenario = hostile(ROOT)
+    setup = len(scenario["calls"])
+    check_replay(checks, programs, "hostile texts", scenario, setup, 1, [])
+
+
 # The examples
 
 def unfit(line):
@@ -199,9 +234,12 @@ def check_example(checks, programs, file):
             line = f"hotplug_lab: line {bad[0] + 1} not for a script: {unfit(calls[bad[0]])}\n"
             checks.holds(f"{file.name} --setup {setup}", text == line, f"says {text!r}")
             continue
-        for _, end, first in ends_of(text)[1]:
+        ends = ends_of(text)[1]
+        check_objects(checks, programs, file.name, scenario, setup, ends)
+        for number, (_, end, first) in enumerate(ends, 1):
             played = end_in_serial(programs, scenario["layout"], calls[:setup], first)
             checks.holds(f"{file.name} --setup {setup}", end == played, f"{first} ends as {played}")
+            check_replay(checks, programs, file.name, scenario, setup, number, first)
 
 
 # Runs in threads
@@ -293,6 +331,7 @@ def check_findings(checks, programs, file):
 def check_all(checks, programs):
     check_by_force(checks, programs)
     check_depth(checks, programs)
+    check_hostile_replay(checks, programs)
     for file in sorted((ROOT / "examples").glob("*.json")):
         check_example(checks, programs, file)
         check_findings(checks, programs, file)

@@ -115,11 +115,43 @@ def check_explore(checks, lab):
     checks.same("explore --setup 6", 0, lab.call("explore", "--setup", "6", scenario=scripts)[0])
     past = (1, "", "hotplug_lab: 7 is past the last line, 6\n")
     checks.same("explore --setup 7", past, lab.call("explore", "--setup", "7", scenario=scripts))
+    check_replays(checks, lab, scripts)
+    check_unbegun(checks, lab)
     many = scenario_of([f"{cpu} read db 0 0" for cpu in (0, 1)] * READS)
     checks.same("explore by default", refused, lab.call("explore", scenario=many))
     status, out, _ = lab.call("explore", "--limit", str(READ_ORDERS), scenario=many)
     checks.same(f"explore --limit {READ_ORDERS}", (0, f"interleavings: {READ_ORDERS}"),
                 (status, out.split("\n")[0]))
+
+
+def check_unbegun(checks, lab):
+    """Scripts that use 0 before any begin of their processor are told, whatever becomes of them."""
+    calls = ["0 begin off 1", "1 commit 0", "0 commit 0", "1 commit 0", "1 begin off 1"]
+    told = "hotplug_lab: line {}: 0 is no operation: processor {} has begun none\n"
+    for setup, expected in ((0, told.format(2, 1)), (2, told.format(4, 1)), (4, "")):
+        for options in ((), ("--json",), ("--find", "refused NoOp"), ("--never", "word 3")):
+            status, out, error = lab.call("explore", "--setup", str(setup), *options,
+                                          scenario=scenario_of(calls))
+            checks.holds(f"explore --setup {setup} {options}", status in (0, 3) and out,
+                         f"ends with {status} and writes {out!r}")
+            checks.same(f"explore --setup {setup} {options}", expected, error)
+
+
+def check_replays(checks, lab, scripts):
+    """An end that there is, and none; and with a search 1 alone."""
+    for options in (("--scenario", "1"), ("--find", "done", "--scenario", "1")):
+        status, out, error = lab.call("explore", *options, scenario=scripts)
+        checks.same(f"explore {options}", (0, ""), (status, error))
+        checks.same(f"explore {options}", LAYOUT, json.loads(out)["layout"])
+    for number in ("0", "99"):
+        options = ("--scenario", number)
+        status, out, error = lab.call("explore", *options, scenario=scripts)
+        head = lab.call("explore", scenario=scripts)[1].partition("\n\n")[0] + "\n"
+        checks.same(f"explore {options}", (3, head, ""), (status, out, error))
+    twice = (2, "", "hotplug_lab: a search tells one interleaving: --scenario 1\n")
+    for option in ("--find", "--never"):
+        options = (option, "done", "--scenario", "2")
+        checks.same(f"explore {options}", twice, lab.call("explore", *options, scenario=scripts))
 
 
 def check_trace(checks, lab):
@@ -175,7 +207,7 @@ def check_lab(checks, lab):
     check_picture(checks, lab)
     for words in ((), ("walk",), ("explore", "--setup", "x"), ("explore", "--setup", "-1"),
                   ("explore", "--every", "2"), ("trace", "--limit", "2"), ("check", "--svg"),
-                  ("explore", "--orders"),
+                  ("explore", "--orders"), ("explore", "--json", "--scenario", "1"),
                   ("trace", "a", "b"), ("trace", "--width"), ("trace", "--to", str(2**64))):
         status, out, error = lab.call(*words, scenario=whole)
         checks.same(f"hotplug_lab {words}", (2, ""), (status, out))

@@ -21,9 +21,9 @@ none_needed word input none =
 -- out of memory is a fault of each word
 pub no_memory : (word : Word) (input : List ℕ) → IsUnanswered word input (Lab OutOfMemory)
 no_memory (Check setup) input = refl
-no_memory (Explore asked) input = tt
-no_memory (Find asked wanted) input = tt
-no_memory (Never asked wanted) input = tt
+no_memory (Explore asked form) input = tt
+no_memory (Find asked wanted form) input = tt
+no_memory (Never asked wanted form) input = tt
 no_memory (Trace view) input = refl
 no_memory (Picture drawing) input = refl
 

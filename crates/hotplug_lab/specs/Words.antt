@@ -9,6 +9,10 @@ use Rattle.hp_find.specs.declared.wanted.Wanted.{Wanted}
 use Rattle.hp_lab.specs.Explorations.{IsExplorationOf, IsFaultOf, IsFindFaultOf, IsFindingOf}
 use Rattle.hp_lab.specs.declared.fault.LabFault.{LabFault}
 use Rattle.hp_lab.specs.declared.fault.LabFault.TheVariants.{OutOfMemory}
+use Rattle.hp_lab.specs.declared.forms.EndsForm.{EndsForm}
+use Rattle.hp_lab.specs.declared.forms.ScheduleForm.{ScheduleForm}
+use Rattle.hp_lab.specs.Unbegun.{unbegun_lines}
+use Rattle.hp_lab.specs.declared.unbegun.Unbegun.{Unbegun}
 use Rattle.hp_scenario.specs.Gives.{Fails}
 use Rattle.hp_scenario.specs.Scenario.{ScenarioValue, scenario_in}
 use Rattle.hp_scenario.specs.declared.fault.ScenarioFault.{ScenarioFault}
@@ -39,21 +43,40 @@ pub record IsPictureOf (drawing : Drawing) (input text : List ℕ) : Type 0 wher
   pub traced : AreRowsOf drawing.view input rows
   pub drawn : text ≡ picture_of scenario.names drawing.cell rows
 
+-- the text of an exploration; the status is 0 where what is asked for is found, and 3 where it is not
+abbrev pub IsExploringOf : Exploration → EndsForm → (input text : List ℕ) → (status : ℕ) → Type 0
+IsExploringOf asked form input text status =
+    (found : Bool) × IsExplorationOf form input asked.setup asked.limit text found
+    × (status ≡ (if found then 0 else 3))
+
 -- the text of a search; the status is one where an interleaving is found, and another where none is
-abbrev pub IsSearchOf : Exploration → List Wanted → (found_status absent_status : ℕ) → (input text : List ℕ)
-    → (status : ℕ) → Type 0
-IsSearchOf asked wanted found_status absent_status input text status =
-    (found : Bool) × IsFindingOf input asked.setup wanted text found
+abbrev pub IsSearchOf : Exploration → List Wanted → ScheduleForm → (found_status absent_status : ℕ)
+    → (input text : List ℕ) → (status : ℕ) → Type 0
+IsSearchOf asked wanted form found_status absent_status input text status =
+    (found : Bool) × IsFindingOf form input asked.setup wanted text found
     × (status ≡ (if found then found_status else absent_status))
 
 abbrev pub IsAnswerOf : Word → (input text : List ℕ) → (status : ℕ) → Type 0
 IsAnswerOf (Check setup) input text status = IsCheckOf setup input text status
-IsAnswerOf (Explore asked) input text status =
-    IsExplorationOf input asked.setup asked.limit text × (status ≡ 0)
-IsAnswerOf (Find asked wanted) input text status = IsSearchOf asked wanted.now 0 3 input text status
-IsAnswerOf (Never asked wanted) input text status = IsSearchOf asked wanted.now 3 0 input text status
+IsAnswerOf (Explore asked form) input text status = IsExploringOf asked form input text status
+IsAnswerOf (Find asked wanted form) input text status = IsSearchOf asked wanted.now form 0 3 input text status
+IsAnswerOf (Never asked wanted form) input text status = IsSearchOf asked wanted.now form 3 0 input text status
 IsAnswerOf (Trace view) input text status = IsTraceOf view input text × (status ≡ 0)
 IsAnswerOf (Picture drawing) input text status = IsPictureOf drawing input text × (status ≡ 0)
+
+-- the lines of scripts that work on operation 0 where their processor has begun none
+abbrev pub unbegun_in : (setup : ℕ) → Result ScenarioValue ScenarioFault → List Unbegun
+unbegun_in setup (Ok s) = unbegun_lines s.layout.cpus setup s.lines
+unbegun_in setup (Err fault) = []
+
+-- of the scripts that a word searches
+abbrev pub unbegun_of : Word → Result ScenarioValue ScenarioFault → List Unbegun
+unbegun_of (Check setup) read = []
+unbegun_of (Explore asked form) read = unbegun_in asked.setup read
+unbegun_of (Find asked wanted form) read = unbegun_in asked.setup read
+unbegun_of (Never asked wanted form) read = unbegun_in asked.setup read
+unbegun_of (Trace view) read = []
+unbegun_of (Picture drawing) read = []
 
 -- the last line, counted from 1, that a scenario needs for a word; 0 where it needs none
 abbrev pub first_shown : View → ℕ
@@ -65,9 +88,9 @@ setup_named setup = if setup == 2 ^ 64 - 1 then 0 else setup
 
 abbrev pub last_named : Word → ℕ
 last_named (Check setup) = setup_named setup
-last_named (Explore asked) = asked.setup
-last_named (Find asked wanted) = asked.setup
-last_named (Never asked wanted) = asked.setup
+last_named (Explore asked form) = asked.setup
+last_named (Find asked wanted form) = asked.setup
+last_named (Never asked wanted form) = asked.setup
 last_named (Trace view) = first_shown view
 last_named (Picture drawing) = first_shown drawing.view
 
@@ -103,17 +126,17 @@ IsPast asked count fault = ⊥
 -- else out of memory alone
 abbrev pub IsLabCause : Word → (input : List ℕ) → LabFault → Type 0
 IsLabCause (Check setup) input fault = fault ≡ OutOfMemory
-IsLabCause (Explore asked) input fault = IsFaultOf input asked.setup asked.limit fault
-IsLabCause (Find asked wanted) input fault = IsFindFaultOf input asked.setup asked.limit wanted.now fault
-IsLabCause (Never asked wanted) input fault = IsFindFaultOf input asked.setup asked.limit wanted.now fault
+IsLabCause (Explore asked form) input fault = IsFaultOf input asked.setup asked.limit fault
+IsLabCause (Find asked wanted form) input fault = IsFindFaultOf input asked.setup asked.limit wanted.now fault
+IsLabCause (Never asked wanted form) input fault = IsFindFaultOf input asked.setup asked.limit wanted.now fault
 IsLabCause (Trace view) input fault = fault ≡ OutOfMemory
 IsLabCause (Picture drawing) input fault = fault ≡ OutOfMemory
 
 abbrev pub IsScenarioCause : Word → (input : List ℕ) → ScenarioFault → Type 0
 IsScenarioCause (Check setup) input fault = ⊥
-IsScenarioCause (Explore asked) input fault = ⊥
-IsScenarioCause (Find asked wanted) input fault = ⊥
-IsScenarioCause (Never asked wanted) input fault = ⊥
+IsScenarioCause (Explore asked form) input fault = ⊥
+IsScenarioCause (Find asked wanted form) input fault = ⊥
+IsScenarioCause (Never asked wanted form) input fault = ⊥
 IsScenarioCause (Trace view) input fault = Fails fault (scenario_in input)
 IsScenarioCause (Picture drawing) input fault = Fails fault (scenario_in input)
 

@@ -4,9 +4,9 @@
 //! What a word writes stands in a library of its own: `check` in hp_check, `explore` in hp_lab,
 //! `trace` in hp_trace, its picture in hp_svg. The exit status is 0; or 1 after a fault, which
 //! standard error names, and after a check that finds faults; or 2 where the command line is wrong;
-//! or 3 where a search finds nothing, or what is never to be. It is the same where standard error
-//! takes no text. The help is a text like any other: where standard output does not take it, the
-//! status is 1.
+//! or 3 where a search finds nothing, or what is never to be, and where an end that is asked for is
+//! not there. It is the same where standard error takes no text. The help is a text like any other:
+//! where standard output does not take it, the status is 1.
 #![tactic(auto)]
 
 mod fault;
@@ -19,7 +19,7 @@ use clap::error::ErrorKind;
 use fault::ProgramFault;
 use hp_escapes::{Brackets, write_escaped};
 use hp_find::Wanted;
-use hp_lab::wanted_line;
+use hp_lab::{Unbegun, wanted_line};
 use hp_streams::Counted;
 use progress::Progress;
 use serving::serve;
@@ -27,7 +27,9 @@ use std::alloc::{AllocError, Global};
 use std::io::{IsTerminal, Read};
 use std::process::ExitCode;
 use std::{env, fs, io};
-use words::{Request, Word, contradiction, lab_command, request_from, texts_from};
+use words::{
+    Request, Word, contradiction, is_past_the_found, lab_command, request_from, texts_from,
+};
 
 /// Does a word on the file that is named, or else on standard input, and answers the exit status.
 /// Where standard error is a terminal, it shows how far a search has come.
@@ -50,7 +52,19 @@ fn serve_input<R: Read + Drop>(
     let mut reader = Counted::new(input);
     let mut writer = Counted::new(rt.stdout());
     let progress = Progress::new(rt.stderr(), rt.stderr().is_terminal());
-    serve(rt.alloc(), word, &mut reader, &mut writer, progress)
+    let served = serve(rt.alloc(), word, &mut reader, &mut writer, progress)?;
+    say_unbegun(rt, &served.unbegun);
+    Ok(served.status)
+}
+
+/// Says on standard error which lines of scripts work on no operation.
+fn say_unbegun(rt: &HostRuntime, unbegun: &[Unbegun]) {
+    for lost in unbegun {
+        let (cpu, line) = (lost.cpu, lost.line);
+        let _ = eprintln!(rt;
+            "hotplug_lab: line {line}: 0 is no operation: processor {cpu} has begun none"
+        );
+    }
 }
 
 /// The lines that parsed words want of an end; none where a text is no line of any end, which
@@ -86,6 +100,10 @@ fn push_line(alloc: Global, wanted: &mut Vec<Wanted>, text: &str) -> Result<bool
 
 /// Does what parsed words ask for, and answers the exit status.
 fn serve_matches(rt: &HostRuntime, matches: &ArgMatches<'_>) -> Result<u8, ProgramFault> {
+    if is_past_the_found(matches) {
+        let _ = eprintln!(rt; "hotplug_lab: a search tells one interleaving: --scenario 1");
+        return Ok(2);
+    }
     let Some(wanted) = wanted_from(rt, matches)? else {
         return Ok(2);
     };

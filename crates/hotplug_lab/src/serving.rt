@@ -1,9 +1,9 @@
 //! Bytes in to bytes out.
 
-ghost use Rattle.std.specs.Prelude.{◌≡◌, ◌≢◌, ◌<◌, ◌-◌, ◌^◌, if◌then◌else◌, IfErr, IfOk, OnOk, string_bytes, true};
+ghost use Rattle.std.specs.Prelude.{◌≡◌, ◌≢◌, ◌<◌, ◌-◌, ◌^◌, if◌then◌else◌, IfErr, IfOk, IfSome, OnOk, string_bytes, true};
 ghost use Rattle.std.specs.Io.KnownBytes.{Appends, Keeps};
 ghost use Rattle.hp_streams.specs.Reading.{ReadsAll};
-ghost use Rattle.hotplug_lab.specs.Words.{Answers, HasLines, IsAnswerOf, IsCheckOf, IsPast, IsPictureOf, IsServeFault, IsUnanswered, Serves, count_of, first_shown, has_line, last_named, setup_named};
+ghost use Rattle.hotplug_lab.specs.Words.{Answers, HasLines, IsAnswerOf, IsCheckOf, IsPast, IsPictureOf, IsServeFault, IsUnanswered, Serves, count_of, first_shown, has_line, last_named, setup_named, unbegun_in, unbegun_of};
 ghost use Rattle.hp_scenario.specs.Scenario.{scenario_in};
 ghost use Rattle.hotplug_lab.specs.declared.words.Word.TheVariants.{Check, Picture};
 
@@ -11,7 +11,7 @@ use crate::fault::ProgramFault;
 use crate::words::{ALL, Drawing, Word};
 use hp_check::{check, fault_count, write_report};
 use hp_explore::Watch;
-use hp_lab::{Finding, explore_text, find_text};
+use hp_lab::{Finding, Unbegun, explore_text, find_text, unbegun_lines};
 use hp_scenario::{Scenario, ScenarioFault};
 use hp_streams::{Failed, Sink, Source, read_all, write_all};
 use hp_svg::picture_of;
@@ -25,7 +25,15 @@ struct Answer {
     status: u8,
 }
 
-/// Does a word on what the reader gives, writes its text, and answers the exit status. The watch is
+/// What a word came to: the exit status, and what is worth a warning.
+#[derive(Debug, Drop)]
+pub struct Served {
+    pub status: u8,
+    /// The lines of scripts that work on operation 0 where their processor has begun none.
+    pub unbegun: Vec<Unbegun>,
+}
+
+/// Does a word on what the reader gives, writes its text, and answers what it came to. The watch is
 /// told how far a search has come, and is dropped before anything is written.
 pub fn serve<R: Source, W: Sink, P: Watch + Drop>(
     alloc: Global,
@@ -33,15 +41,18 @@ pub fn serve<R: Source, W: Sink, P: Watch + Drop>(
     reader: &mut R,
     writer: &mut W,
     watch: P,
-) -> Result<u8, ProgramFault>
+) -> Result<Served, ProgramFault>
     requires reader { R.failures reader.old < 2 ^ 64 - 1 }
     requires writer { W.failures writer.old < 2 ^ 64 - 1 }
 
     // The reader gave all that it had, at most the limit.
     ensures read { OnOk result (ReadsAll (R.remaining reader.old) (R.remaining reader.new)) }
     // The word's text of the bytes that were read, and nothing else, and its status.
-    ensures ok { IfOk result
-        (Serves word.entry (R.remaining reader.old) (W.contents writer.old) (W.contents writer.new)) }
+    ensures ok { IfOk result (λ served. Serves word.entry (R.remaining reader.old) (W.contents writer.old)
+        (W.contents writer.new) served.status) }
+    // The lines of its scripts that are worth a warning.
+    ensures told { IfOk result (λ served. IfSome (R.remaining reader.old)
+        (λ input. served.unbegun.items ≡ unbegun_of word.entry (scenario_in input))) }
     // After another fault nothing was written.
     ensures silent { IfErr result
         (λ fault. fault ≢ ProgramFault.WriteFailed → Keeps (W.contents writer.old) (W.contents writer.new)) }
@@ -51,7 +62,9 @@ pub fn serve<R: Source, W: Sink, P: Watch + Drop>(
 {
     let input = read_all(alloc, reader)?;
     let answer = watched_answer(alloc, &input, word, watch)?;
-    write_answer(writer, &answer)
+    let unbegun = unbegun_of(alloc, &input, word)?;
+    let status = write_answer(writer, &answer)?;
+    Ok(Served { status, unbegun })
 }
 
 /// Writes an answer's text, and answers its status.
@@ -66,6 +79,35 @@ fn write_answer<W: Sink>(writer: &mut W, answer: &Answer) -> Result<u8, ProgramF
     match write_all(writer, answer.text.as_bytes()) {
         Ok(()) => Ok(answer.status),
         Err(Failed) => Err(ProgramFault::WriteFailed),
+    }
+}
+
+/// The lines of a word's scripts that work on operation 0 where their processor has begun none. An
+/// error is out of memory.
+fn unbegun_of(alloc: Global, input: &[u8], word: Word<'_>) -> Result<Vec<Unbegun>, AllocError>
+    ensures { IfOk result (λ found. found.items ≡ unbegun_of word.entry (scenario_in input.now)) }
+{
+    match word {
+        Word::Explore { asked, .. } | Word::Find { asked, .. } | Word::Never { asked, .. } => {
+            unbegun_in(alloc, input, asked.setup)
+        }
+        Word::Check(_) => Ok(Vec::new(alloc)),
+        Word::Trace(_) => Ok(Vec::new(alloc)),
+        Word::Picture(_) => Ok(Vec::new(alloc)),
+    }
+}
+
+/// The same after so many lines of setup; none where the bytes are no scenario. An error is out of memory.
+fn unbegun_in(alloc: Global, input: &[u8], setup: u64) -> Result<Vec<Unbegun>, AllocError>
+    ensures { IfOk result (λ found. found.items ≡ unbegun_in setup (scenario_in input.now)) }
+{
+    match Scenario::read(alloc, input) {
+        Ok(scenario) => {
+            let cpus = scenario.layout.cpus();
+            unbegun_lines(alloc, cpus, setup, scenario.lines.as_slice())
+        }
+        Err(ScenarioFault::OutOfMemory) => Err(AllocError),
+        Err(_fault) => Ok(Vec::new(alloc)),
     }
 }
 
@@ -131,7 +173,9 @@ fn last_named(word: Word<'_>) -> u64
 {
     match word {
         Word::Check(setup) => setup_named(setup),
-        Word::Explore(asked) | Word::Find { asked, .. } | Word::Never { asked, .. } => asked.setup,
+        Word::Explore { asked, .. } | Word::Find { asked, .. } | Word::Never { asked, .. } => {
+            asked.setup
+        }
         Word::Trace(view) => first_shown(view),
         Word::Picture(drawing) => first_shown(drawing.view),
     }
@@ -163,16 +207,24 @@ fn answer_to<W: Watch>(
 {
     match word {
         Word::Check(setup) => checked(alloc, input, setup),
-        Word::Explore(asked) => Ok(Answer {
-            text: explore_text(alloc, input, asked.setup, asked.limit, watch)?,
-            status: 0,
-        }),
-        Word::Find { asked, wanted } => {
-            let finding = find_text(alloc, input, asked.setup, asked.limit, wanted, watch)?;
+        Word::Explore { asked, form } => {
+            let finding = explore_text(alloc, input, asked.setup, asked.limit, form, watch)?;
             Ok(answer_with(finding, 0, 3))
         }
-        Word::Never { asked, wanted } => {
-            let finding = find_text(alloc, input, asked.setup, asked.limit, wanted, watch)?;
+        Word::Find {
+            asked,
+            wanted,
+            form,
+        } => {
+            let finding = find_text(alloc, input, asked.setup, asked.limit, wanted, form, watch)?;
+            Ok(answer_with(finding, 0, 3))
+        }
+        Word::Never {
+            asked,
+            wanted,
+            form,
+        } => {
+            let finding = find_text(alloc, input, asked.setup, asked.limit, wanted, form, watch)?;
             Ok(answer_with(finding, 3, 0))
         }
         Word::Trace(view) => Ok(Answer {

@@ -2,6 +2,7 @@
 
 use clap::{Arg, ArgAction, ArgMatches, Command, value_parser};
 use hp_find::Wanted;
+use hp_lab::{EndsForm, ScheduleForm};
 use hp_trace::View;
 use std::alloc::{AllocError, Global};
 
@@ -23,6 +24,12 @@ const WIDTH: u64 = 200;
 const FIND: &str = "find";
 
 const NEVER: &str = "never";
+
+/// The option that writes an interleaving as a scenario.
+const SCENARIO: &str = "scenario";
+
+/// The option that writes JSON, an object a line.
+const JSON: &str = "json";
 
 /// What is asked of an exploration: how many lines are run first, and the most interleavings that
 /// are counted.
@@ -46,16 +53,21 @@ pub enum Word<'a> {
     /// scripts.
     Check(u64),
     /// Every interleaving of its scripts.
-    Explore(Exploration),
+    Explore {
+        asked: Exploration,
+        form: EndsForm,
+    },
     /// An interleaving whose end has each of these lines.
     Find {
         asked: Exploration,
         wanted: &'a [Wanted],
+        form: ScheduleForm,
     },
     /// That no interleaving has such an end.
     Never {
         asked: Exploration,
         wanted: &'a [Wanted],
+        form: ScheduleForm,
     },
     /// What each of its lines answers, with the memory after each call.
     Trace(View),
@@ -77,8 +89,8 @@ pub fn lab_command<'a>(alloc: Global) -> Result<Command<'a>, AllocError> {
         .about("Looks into scenarios of the memory machine")
         .after_help(
             "Exit status: 0; 1 after a fault, which standard error names, and after a check that \
-             finds faults (warnings alone: 0); 2 for a wrong command line; 3 where --find finds \
-             nothing, and where --never finds something.",
+             finds faults (warnings alone: 0); 2 for a wrong command line; 3 where --find or \
+             --scenario finds nothing, and where --never finds something.",
         )
         .subcommand_required(true)
         .subcommand(check_command(alloc)?)?
@@ -121,6 +133,12 @@ fn explore_command<'a>(alloc: Global) -> Result<Command<'a>, AllocError> {
             "The same, where none is to end so: the status is turned round",
         )
         .conflicts_with(FIND)?)?
+        .arg(number(
+            alloc,
+            SCENARIO,
+            "Writes the interleaving that is told of end N as a scenario; that of a search where N is 1",
+        ))?
+        .arg(json(alloc).conflicts_with(SCENARIO)?)?
         .arg(scenario(alloc))
 }
 
@@ -157,6 +175,14 @@ fn trace_command<'a>(alloc: Global) -> Result<Command<'a>, AllocError> {
 /// The argument that names a scenario.
 fn scenario<'a>(alloc: Global) -> Arg<'a> {
     Arg::new(alloc, "FILE").help("A scenario; standard input where none is named, or -")
+}
+
+/// The flag that asks for JSON.
+fn json<'a>(alloc: Global) -> Arg<'a> {
+    Arg::new(alloc, JSON)
+        .long(JSON)
+        .action(ArgAction::SetTrue)
+        .help("Writes an object of JSON a line: of each end, or of what a search finds")
 }
 
 /// The flag that asks for a picture.
@@ -197,6 +223,14 @@ fn wanted<'a>(alloc: Global, name: &'a str, help: &'a str) -> Arg<'a> {
 pub fn texts_from<'m, 'a>(matches: &'m ArgMatches<'a>) -> Option<&'m [&'a str]> {
     let (_name, words) = matches.subcommand()?;
     words.get_strs(FIND).or(words.get_strs(NEVER))
+}
+
+/// Whether parsed words ask a search, which tells one interleaving, for the scenario of another.
+pub fn is_past_the_found(matches: &ArgMatches<'_>) -> bool {
+    let Some((_name, words)) = matches.subcommand() else {
+        return false;
+    };
+    texts_from(matches).is_some() && words.get_one::<u64>(SCENARIO).unwrap_or(1) != 1
 }
 
 /// What parsed words ask for, with the lines that they want of an end.
@@ -245,9 +279,20 @@ fn word_from<'a>(name: &str, words: &ArgMatches<'_>, wanted: &'a [Wanted]) -> Op
     let asked = exploration_from(words);
     match name {
         "check" => Some(Word::Check(words.get_one::<u64>("setup").unwrap_or(ALL))),
-        "explore" if words.get_strs(FIND).is_some() => Some(Word::Find { asked, wanted }),
-        "explore" if words.get_strs(NEVER).is_some() => Some(Word::Never { asked, wanted }),
-        "explore" => Some(Word::Explore(asked)),
+        "explore" if words.get_strs(FIND).is_some() => Some(Word::Find {
+            asked,
+            wanted,
+            form: schedule_form_from(words),
+        }),
+        "explore" if words.get_strs(NEVER).is_some() => Some(Word::Never {
+            asked,
+            wanted,
+            form: schedule_form_from(words),
+        }),
+        "explore" => Some(Word::Explore {
+            asked,
+            form: ends_form_from(words),
+        }),
         "trace" if words.get_flag("svg") => Some(Word::Picture(drawing_from(words))),
         "trace" => Some(Word::Trace(view_from(words))),
         _ => None,
@@ -259,6 +304,24 @@ fn exploration_from(words: &ArgMatches<'_>) -> Exploration {
     Exploration {
         setup: words.get_one::<u64>("setup").unwrap_or(0),
         limit: words.get_one::<u64>("limit").unwrap_or(LIMIT),
+    }
+}
+
+/// How the ends are to be written.
+fn ends_form_from(words: &ArgMatches<'_>) -> EndsForm {
+    match words.get_one::<u64>(SCENARIO) {
+        Some(number) => EndsForm::Scenario(number),
+        None if words.get_flag(JSON) => EndsForm::Objects,
+        None => EndsForm::Words,
+    }
+}
+
+/// How the interleaving that is found is to be written.
+fn schedule_form_from(words: &ArgMatches<'_>) -> ScheduleForm {
+    match words.get_one::<u64>(SCENARIO) {
+        Some(_) => ScheduleForm::Scenario,
+        None if words.get_flag(JSON) => ScheduleForm::Object,
+        None => ScheduleForm::Words,
     }
 }
 

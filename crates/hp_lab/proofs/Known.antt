@@ -1,6 +1,9 @@
 -- From what the parts of an answer say to what the whole promises.
-use Rattle.std.proofs.Common.{◌≡◌, ℕ, ◌<◌, ◌≤◌, ◌^◌, List, length, take, drop, Ok, ap, subst, sum_by, ◌∙◌, arith}
+use Rattle.std.proofs.Common.{◌≡◌, ℕ, ◌-◌, ◌<◌, ◌≤◌, ◌^◌, List, [], ◌++◌, length, get_or, take, drop, Ok, refl, ap, subst, sum_by, ◌∙◌, arith}
 use Rattle.std.proofs.lemmas.List.FromFn.{length-map-range_with_len}
+use Rattle.std.proofs.lemmas.Option.{slice_get_read}
+use Rattle.hp_units.specs.LayoutParts.{LayoutParts}
+use Rattle.hp_machine.specs.Machine.{MachineValue, booted}
 use Rattle.hp_scenario.specs.declared.lines.Line.{Line}
 use Rattle.hp_scenario.specs.Scenario.{ScenarioValue, scenario_in}
 use Rattle.hp_explore.specs.declared.exploring.ExploreFault.{ExploreFault}
@@ -10,7 +13,7 @@ use Rattle.hp_explore.specs.declared.tally.Ending.{Ending}
 use Rattle.hp_explore.specs.Ends.{AreEnds}
 use Rattle.hp_explore.specs.Faults.{IsCallCause, IsCause}
 use Rattle.hp_explore.specs.Interleavings.{IsNotKnownTooMany}
-use Rattle.hp_explore.specs.Schedules.{Setting}
+use Rattle.hp_explore.specs.Schedules.{Setting, setting}
 use Rattle.hp_explore.proofs.Interleavings.{counted_by_lengths}
 use Rattle.hp_find.specs.Faults.{IsFindCause}
 use Rattle.hp_find.specs.declared.wanted.Wanted.{Wanted}
@@ -18,9 +21,12 @@ use Rattle.hp_lab.specs.declared.fault.LabFault.{LabFault}
 use Rattle.hp_lab.specs.declared.fault.LabFault.TheVariants.{NotJson, BadShape, Layout, BadLine, NotForScript, TooMany, HistoryFull, OutOfMemory}
 use Rattle.hp_lab.specs.declared.fault.Unfit.{Unfit}
 use Rattle.hp_lab.specs.Checks.{AreFit, IsFirstUnfit, IsUnfit}
-use Rattle.hp_lab.specs.Explorations.{HoldsAfter, HoldsIn, IsFaultWith, IsStoppedAfter, IsUnanswered, IsUnfitAfter}
+use Rattle.hp_lab.specs.Explorations.{HoldsAfter, HoldsIn, IsFaultWith, IsNumbered, IsStoppedAfter, IsUnanswered, IsUnfitAfter}
 use Rattle.hp_lab.specs.Faults.{search_fault_from}
+use Rattle.hp_lab.specs.Begins.{begins_in}
 use Rattle.hp_lab.specs.Scripts.{script_of, scripts_of}
+use Rattle.hp_lab.specs.Setup.{RunsLines}
+use Rattle.hp_lab.specs.declared.begins.Begin.{Begin}
 
 -- the lines of a scenario in two parts, and the number of its processors
 pub record AreParts (s : ScenarioValue) (setup cpus : ℕ) (before after : List Line) : Type 0 where
@@ -93,60 +99,89 @@ fit_after s setup cpus before after parts h =
     subst (λ (xs : List Line). AreFit s.layout.cpus xs (length xs)) parts.rest
     (subst (λ (k : ℕ). AreFit k after (length after)) parts.processors h)
 
-scripts_are : (s : ScenarioValue) (setup cpus : ℕ) (before after : List Line) (scripts : List (List Step))
-    → AreParts s setup cpus before after → scripts ≡ scripts_of cpus after
-    → scripts ≡ scripts_of s.layout.cpus (drop setup s.lines)
-scripts_are s setup cpus before after scripts parts h =
-    h ∙ (ap (λ (k : ℕ). scripts_of k after) parts.processors ∙ ap (scripts_of s.layout.cpus) parts.rest)
-
--- the same of the lines and scripts of a scenario
-moved : (P : Setting → Type 0) (s : ScenarioValue) (setup cpus : ℕ) (before after : List Line)
-    (scripts : List (List Step))
-    → AreParts s setup cpus before after → scripts ≡ scripts_of cpus after
-    → HoldsAfter P s.layout before scripts
-    → HoldsAfter P s.layout (take setup s.lines) (scripts_of s.layout.cpus (drop setup s.lines))
-moved P s setup cpus before after scripts parts are h =
-    subst (λ (xs : List (List Step)). HoldsAfter P s.layout (take setup s.lines) xs)
-    (scripts_are s setup cpus before after scripts parts are)
-    (subst (λ (xs : List Line). HoldsAfter P s.layout xs scripts) parts.front h)
+-- the same of the lines of a scenario
+moved : (P : List Line → Setting → Type 0) (s : ScenarioValue) (setup cpus : ℕ) (before after : List Line)
+    → AreParts s setup cpus before after → HoldsAfter (P before) s.layout before after
+    → HoldsAfter (P (take setup s.lines)) s.layout (take setup s.lines) (drop setup s.lines)
+moved P s setup cpus before after parts h =
+    subst (λ (xs : List Line). HoldsAfter (P (take setup s.lines)) s.layout (take setup s.lines) xs) parts.rest
+    (subst (λ (xs : List Line). HoldsAfter (P xs) s.layout xs after) parts.front h)
 
 stopped_after : (C : Setting → ExploreFault → Type 0) (s : ScenarioValue) (setup cpus : ℕ)
-    (before after : List Line) (scripts : List (List Step)) (fault : ExploreFault)
-    → AreParts s setup cpus before after → AreFit cpus after (length after) → scripts ≡ scripts_of cpus after
-    → HoldsAfter (λ g. C g fault) s.layout before scripts → IsStoppedAfter C setup fault s
-stopped_after C s setup cpus before after scripts fault parts fit are h =
-    (fit_after s setup cpus before after parts fit, moved (λ g. C g fault) s setup cpus before after scripts parts are h)
+    (before after : List Line) (fault : ExploreFault)
+    → AreParts s setup cpus before after → AreFit cpus after (length after)
+    → HoldsAfter (λ g. C g fault) s.layout before after → IsStoppedAfter C setup fault s
+stopped_after C s setup cpus before after fault parts fit h = (
+  fit_after s setup cpus before after parts fit,
+  moved (λ lines g. C g fault) s setup cpus before after parts h,
+)
 
 pub stopped_known : (C : Setting → ExploreFault → Type 0) (input : List ℕ) (s : ScenarioValue) (setup cpus : ℕ)
-    (before after : List Line) (scripts : List (List Step)) (fault : ExploreFault)
+    (before after : List Line) (fault : ExploreFault)
     → scenario_in input ≡ Ok s → AreParts s setup cpus before after → AreFit cpus after (length after)
-    → scripts ≡ scripts_of cpus after → IsUnanswered C s.layout before scripts fault
-    → IsFaultWith C input setup (search_fault_from fault)
-stopped_known C input s setup cpus before after scripts search.TooMany read parts fit are h =
-    (s, read, stopped_after C s setup cpus before after scripts search.TooMany parts fit are h)
-stopped_known C input s setup cpus before after scripts search.HistoryFull read parts fit are h =
-    (s, read, stopped_after C s setup cpus before after scripts search.HistoryFull parts fit are h)
-stopped_known C input s setup cpus before after scripts search.OutOfMemory read parts fit are h = tt
+    → IsUnanswered C s.layout before after fault → IsFaultWith C input setup (search_fault_from fault)
+stopped_known C input s setup cpus before after search.TooMany read parts fit h =
+    (s, read, stopped_after C s setup cpus before after search.TooMany parts fit h)
+stopped_known C input s setup cpus before after search.HistoryFull read parts fit h =
+    (s, read, stopped_after C s setup cpus before after search.HistoryFull parts fit h)
+stopped_known C input s setup cpus before after search.OutOfMemory read parts fit h = tt
 
-pub answer_known : (P : (names : List (List ℕ)) → Setting → Type 0) (input : List ℕ) (s : ScenarioValue)
-    (setup cpus : ℕ) (before after : List Line) (scripts : List (List Step))
+pub answer_known : (P : (names : List (List ℕ)) → (before : List Line) → Setting → Type 0) (input : List ℕ)
+    (s : ScenarioValue) (setup cpus : ℕ) (before after : List Line)
     → scenario_in input ≡ Ok s → AreParts s setup cpus before after → AreFit cpus after (length after)
-    → scripts ≡ scripts_of cpus after → HoldsAfter (P s.names) s.layout before scripts → HoldsIn P input setup
-answer_known P input s setup cpus before after scripts read parts fit are h = record {
+    → HoldsAfter (P s.names before) s.layout before after → HoldsIn P input setup
+answer_known P input s setup cpus before after read parts fit h = record {
   scenario = s;
   read = read;
   fit = fit_after s setup cpus before after parts fit;
-  after = moved (P s.names) s setup cpus before after scripts parts are h;
+  after = moved (P s.names) s setup cpus before after parts h;
+}
+
+-- ---- after lines that were run first
+
+pub answered_after : (P : Setting → Type 0) (l : LayoutParts) (cpus : ℕ) (before after : List Line)
+    (boot start : MachineValue) (none sealed all : List Begin) (scripts : List (List Step))
+    → boot ≡ booted l → none ≡ [] → RunsLines boot none before start sealed
+    → all ≡ sealed ++ begins_in start.history → cpus ≡ l.cpus → scripts ≡ scripts_of cpus all after
+    → P (setting start scripts) → HoldsAfter P l before after
+answered_after P l cpus before after boot start none sealed all scripts at_boot at_first ran all_is count are h =
+    record {
+      start = start;
+      sealed = sealed;
+      run =
+          subst (λ (b : List Begin). RunsLines (booted l) b before start sealed) at_first
+          (subst (λ (m : MachineValue). RunsLines m none before start sealed) at_boot ran);
+      holds =
+          subst (λ (xs : List (List Step)). P (setting start xs))
+          (are ∙ (ap (λ (k : ℕ). scripts_of k all after) count
+          ∙ ap (λ (b : List Begin). scripts_of l.cpus b after) all_is)) h;
+    }
+
+pub unanswered_after : (C : Setting → ExploreFault → Type 0) (l : LayoutParts) (before after : List Line)
+    (fault : ExploreFault)
+    → HoldsAfter (λ g. C g fault) l before after → IsUnanswered C l before after fault
+unanswered_after C l before after search.TooMany h = h
+unanswered_after C l before after search.HistoryFull h = h
+unanswered_after C l before after search.OutOfMemory h = tt
+
+-- ---- the number of an end
+
+pub numbered_at : (ends : List Ending) (number : ℕ) (e : Ending) → (number ≡ 0 → ⊥) → number ≤ length ends
+    → e ≡ get_or ends (number - 1) e → IsNumbered ends number e
+numbered_at ends number e some within is = record {
+  place = number - 1;
+  counted = omega (arith, some);
+  here = slice_get_read ends (length ends) (number - 1) e refl (omega (arith, some, within)) is;
 }
 
 -- ---- the number of scripts
 
-pub scripts_fit : (cpus : ℕ) (lines : List Line) (scripts : List (List Step)) → cpus < 2 ^ 32
-    → scripts ≡ scripts_of cpus lines → length scripts < 2 ^ 32
-scripts_fit cpus lines scripts fits are =
+pub scripts_fit : (cpus : ℕ) (begins : List Begin) (lines : List Line) (scripts : List (List Step)) → cpus < 2 ^ 32
+    → scripts ≡ scripts_of cpus begins lines → length scripts < 2 ^ 32
+scripts_fit cpus begins lines scripts fits are =
     omega (
       arith,
       fits,
       ap (λ (xs : List (List Step)). length xs) are,
-      length-map-range_with_len (script_of lines) 0 cpus,
+      length-map-range_with_len (script_of begins lines) 0 cpus,
     )

@@ -6,27 +6,40 @@ use Rattle.hp_machine.specs.Machine.{MachineValue}
 use Rattle.hp_explore.specs.declared.scripts.Line as step
 use Rattle.hp_scenario.specs.declared.lines.Line.{Line}
 use Rattle.hp_lab.specs.Scripts.{script_of, scripts_of}
-use Rattle.hp_lab.specs.Setup.{RunsLines, RunsWork}
+use Rattle.hp_lab.specs.Setup.{RunsLines, RunsWork, begins_sealed}
+use Rattle.hp_lab.specs.declared.begins.Begin.{Begin}
 
 -- one more line is run
-one_more : (xs : List Line) (line : Line) (m mid new : MachineValue) → RunsLines m xs mid
-    → RunsWork mid line.cpu line.work new → RunsLines m (xs ++ line ∷ []) new
-one_more [] line m mid new ran w =
-    (new, subst (λ (k : MachineValue). RunsWork k line.cpu line.work new) ran w, refl)
-one_more (x ∷ xs) line m mid new ran w = (ran.0, ran.1, one_more xs line ran.0 mid new ran.2 w)
+one_more : (xs : List Line) (line : Line) (m mid new : MachineValue) (before so_far after : List Begin)
+    → RunsLines m before xs mid so_far → RunsWork mid line.cpu line.work new
+    → after ≡ so_far ++ begins_sealed mid line.work → RunsLines m before (xs ++ line ∷ []) new after
+one_more [] line m mid new before so_far after ran w is = (
+  new,
+  subst (λ (k : MachineValue). RunsWork k line.cpu line.work new) ran.0 w,
+  (
+    refl,
+    is ∙ (ap (λ (l : List Begin). l ++ begins_sealed mid line.work) ran.1
+        ∙ ap (λ (k : MachineValue). before ++ begins_sealed k line.work) ran.0),
+  ),
+)
+one_more (x ∷ xs) line m mid new before so_far after ran w is =
+    (ran.0, ran.1, one_more xs line ran.0 mid new (before ++ begins_sealed m x.work) so_far after ran.2 w is)
 
-pub lines_more : (xs : List Line) (i : ℕ) (line : Line) (m mid next : MachineValue) → i < length xs
-    → RunsLines m (take i xs) mid → line ≡ get_or xs i line → RunsWork mid line.cpu line.work next
-    → RunsLines m (take (i + 1) xs) next
-lines_more xs i line m mid next lt so_far is_at one =
-    subst (λ (l : List Line). RunsLines m l next) (sym (take_more xs i line lt
-    ∙ ap (λ (x : Line). take i xs ++ x ∷ []) (sym is_at))) (one_more (take i xs) line m mid next so_far one)
+pub lines_more : (xs : List Line) (i : ℕ) (line : Line) (m mid next : MachineValue) (before so_far after : List Begin)
+    → i < length xs → RunsLines m before (take i xs) mid so_far → line ≡ get_or xs i line
+    → after ≡ so_far ++ begins_sealed mid line.work → RunsWork mid line.cpu line.work next
+    → RunsLines m before (take (i + 1) xs) next after
+lines_more xs i line m mid next before so_far after lt ran is_at sealed one =
+    subst (λ (l : List Line). RunsLines m before l next after) (sym (take_more xs i line lt
+    ∙ ap (λ (x : Line). take i xs ++ x ∷ []) (sym is_at)))
+    (one_more (take i xs) line m mid next before so_far after ran one sealed)
 
 -- one more script
-pub scripts_more : (all : List (List step.Line)) (script : List step.Line) (lines : List Line) (cpu : ℕ)
-    → all ≡ scripts_of cpu lines → script ≡ script_of lines cpu
-    → all ++ script ∷ [] ≡ scripts_of (cpu + 1) lines
-scripts_more all script lines cpu so_far is =
+pub scripts_more : (all : List (List step.Line)) (script : List step.Line) (begins : List Begin) (lines : List Line)
+    (cpu : ℕ)
+    → all ≡ scripts_of cpu begins lines → script ≡ script_of begins lines cpu
+    → all ++ script ∷ [] ≡ scripts_of (cpu + 1) begins lines
+scripts_more all script begins lines cpu so_far is =
     ap (λ (xs : List (List step.Line)). xs ++ script ∷ []) so_far
-    ∙ (ap (λ (x : List step.Line). scripts_of cpu lines ++ x ∷ []) is
-    ∙ sym (map-range_with_len_more (script_of lines) 0 cpu cpu (omega arith)))
+    ∙ (ap (λ (x : List step.Line). scripts_of cpu begins lines ++ x ∷ []) is
+    ∙ sym (map-range_with_len_more (script_of begins lines) 0 cpu cpu (omega arith)))

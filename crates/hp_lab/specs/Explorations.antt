@@ -1,10 +1,9 @@
 -- What is promised of an exploration and of a search, and when each fault comes.
-use Rattle.std.specs.Prelude.{◌≡◌, ℕ, ◌≤◌, Bool, true, false, List, length, take, drop, Ok, Err, sum_by}
+use Rattle.std.specs.Prelude.{◌≡◌, ◌⊎◌, ℕ, ◌+◌, ◌<◌, ◌≤◌, Bool, true, false, List, [], ◌++◌, length, take, drop, Some, Ok, Err, slice_get, sum_by}
 use Rattle.hp_units.specs.LayoutParts.{LayoutParts}
 use Rattle.hp_machine.specs.Machine.{MachineValue, booted}
 use Rattle.hp_explore.specs.declared.exploring.ExploreFault.{ExploreFault}
 use Rattle.hp_explore.specs.declared.exploring.ExploreFault.TheVariants as search
-use Rattle.hp_explore.specs.declared.scripts.Line as step
 use Rattle.hp_explore.specs.declared.tally.Ending.{Ending}
 use Rattle.hp_explore.specs.Ends.{AreEnds}
 use Rattle.hp_explore.specs.Faults.{IsCause}
@@ -17,77 +16,114 @@ use Rattle.hp_scenario.specs.declared.lines.Line.{Line}
 use Rattle.hp_scenario.specs.Scenario.{ScenarioValue, scenario_in}
 use Rattle.hp_lab.specs.declared.answering.Ask.{Ask}
 use Rattle.hp_lab.specs.declared.answering.Ask.TheVariants.{Ends, Find}
+use Rattle.hp_lab.specs.declared.forms.EndsForm.{EndsForm}
+use Rattle.hp_lab.specs.declared.forms.EndsForm.TheVariants.{Words, Objects, Scenario}
+use Rattle.hp_lab.specs.Objects.{objects_text}
+use Rattle.hp_lab.specs.declared.forms.ScheduleForm.{ScheduleForm}
 use Rattle.hp_lab.specs.declared.fault.LabFault.{LabFault}
 use Rattle.hp_lab.specs.declared.fault.LabFault.TheVariants.{NotJson, BadShape, Layout, BadLine, NotForScript, TooMany, HistoryFull, OutOfMemory}
 use Rattle.hp_lab.specs.declared.fault.Unfit.{Unfit}
+use Rattle.hp_lab.specs.Begins.{begins_in}
 use Rattle.hp_lab.specs.Checks.{AreFit, IsFirstUnfit}
+use Rattle.hp_lab.specs.declared.begins.Begin.{Begin}
 use Rattle.hp_lab.specs.Faults.{fault_from}
 use Rattle.hp_lab.specs.Scripts.{scripts_of}
 use Rattle.hp_lab.specs.Setup.{RunsLines}
-use Rattle.hp_lab.specs.Texts.{absent_text, exploration_text, nearest_text}
+use Rattle.hp_lab.specs.Texts.{absent_told, counts_text, exploration_text, found_text, replay_text}
 
 -- ---- on a machine
 
--- the text is that of the ends of all complete schedules, which are no more than the limit
-pub record IsExploredOn (names : List (List ℕ)) (g : Setting) (limit : ℕ) (text : List ℕ) : Type 0 where
+-- an end has a number, and none has: ends are counted from 1
+pub record IsNumbered (ends : List Ending) (number : ℕ) (e : Ending) : Type 0 where
+  pub place : ℕ
+  pub counted : number ≡ place + 1
+  pub here : slice_get ends place ≡ Some e
+
+abbrev pub HasNoEnd : List Ending → (number : ℕ) → Type 0
+HasNoEnd ends number = (number ≡ 0) ⊎ (length ends < number)
+
+-- the text is the scenario of the first schedule of the end with a number, after lines that were run
+-- first; or no end has it, and the text says how many there are
+abbrev pub IsEndTold : (names : List (List ℕ)) → (before : List Line) → Setting → List Ending → (number : ℕ)
+    → (text : List ℕ) → (found : Bool) → Type 0
+IsEndTold names before g ends number text true =
+    (e : Ending) × IsNumbered ends number e × (text ≡ replay_text names before g e.first.items)
+IsEndTold names before g ends number text false = HasNoEnd ends number × (text ≡ counts_text ends)
+
+-- the text is that of ends in a form
+abbrev pub AreEndsTold : EndsForm → (names : List (List ℕ)) → (before : List Line) → Setting → List Ending
+    → (text : List ℕ) → (found : Bool) → Type 0
+AreEndsTold Words names before g ends text found = (text ≡ exploration_text names g ends) × (found ≡ true)
+AreEndsTold Objects names before g ends text found = (text ≡ objects_text names g ends) × (found ≡ true)
+AreEndsTold (Scenario number) names before g ends text found = IsEndTold names before g ends number text found
+
+-- of the ends of all complete schedules, which are no more than the limit
+pub record IsExploredOn (form : EndsForm) (names : List (List ℕ)) (before : List Line) (g : Setting) (limit : ℕ)
+    (text : List ℕ) (found : Bool) : Type 0 where
   pub ends : List Ending
   pub are : AreEnds g ends
   pub within : sum_by (λ e. e.count) ends ≤ limit
-  pub is : text ≡ exploration_text names g ends
+  pub told : AreEndsTold form names before g ends text found
 
 -- the text is that of a schedule whose end has each of the wanted lines, with the fewest changes of
--- processor; or that no schedule ends so, and of how many there are
-abbrev pub IsFoundOn : (names : List (List ℕ)) → Setting → List Wanted → (text : List ℕ) → (found : Bool) → Type 0
-IsFoundOn names g wanted text true =
-    (schedule : List ℕ) × IsNearest g wanted schedule × (text ≡ nearest_text names g schedule)
-IsFoundOn names g wanted text false =
-    (schedules : ℕ) × IsAbsent g wanted schedules × (text ≡ absent_text schedules)
+-- processor, in a form; or that no schedule ends so, and of how many there are
+abbrev pub IsFoundOn : ScheduleForm → (names : List (List ℕ)) → (before : List Line) → Setting → List Wanted
+    → (text : List ℕ) → (found : Bool) → Type 0
+IsFoundOn form names before g wanted text true =
+    (schedule : List ℕ) × IsNearest g wanted schedule × (text ≡ found_text form names before g schedule)
+IsFoundOn form names before g wanted text false =
+    (schedules : ℕ) × IsAbsent g wanted schedules × (text ≡ absent_told form schedules)
 
 -- what is asked: all ends, or one with lines
 abbrev pub IsAnsweredOn : Ask → (limit : ℕ) → (text : List ℕ) → (found : Bool) → (names : List (List ℕ))
-    → Setting → Type 0
-IsAnsweredOn Ends limit text found names g = IsExploredOn names g limit text
-IsAnsweredOn (Find wanted) limit text found names g = IsFoundOn names g wanted.now text found
+    → (before : List Line) → Setting → Type 0
+IsAnsweredOn (Ends form) limit text found names before g = IsExploredOn form names before g limit text found
+IsAnsweredOn (Find wanted form) limit text found names before g =
+    IsFoundOn form names before g wanted.now text found
 
 -- why there is no answer
 abbrev pub IsAskCause : Ask → (limit : ℕ) → Setting → ExploreFault → Type 0
-IsAskCause Ends limit g fault = IsCause g limit fault
-IsAskCause (Find wanted) limit g fault = IsFindCause g wanted.now limit fault
+IsAskCause (Ends form) limit g fault = IsCause g limit fault
+IsAskCause (Find wanted form) limit g fault = IsFindCause g wanted.now limit fault
 
 -- ---- in a scenario
 
--- it holds on the machine after lines that were run in order from boot on
-pub record HoldsAfter (P : Setting → Type 0) (l : LayoutParts) (before : List Line)
-    (scripts : List (List step.Line)) : Type 0 where
+-- it holds on the machine after lines that were run in order from boot on, with the scripts of the
+-- lines after them, where 0 stands for the operation that a processor began last
+pub record HoldsAfter (P : Setting → Type 0) (l : LayoutParts) (before after : List Line) : Type 0 where
   pub start : MachineValue
-  pub run : RunsLines (booted l) before start
-  pub holds : P (setting start scripts)
+  pub sealed : List Begin
+  pub run : RunsLines (booted l) [] before start sealed
+  pub holds : P (setting start (scripts_of l.cpus (sealed ++ begins_in start.history) after))
 
 -- the bytes are a scenario; its lines after the first so many can all stand in scripts, and it
--- holds, with the scenario's names, after those
-pub record HoldsIn (P : (names : List (List ℕ)) → Setting → Type 0) (input : List ℕ)
+-- holds, with the scenario's names and those first lines, after them
+pub record HoldsIn (P : (names : List (List ℕ)) → (before : List Line) → Setting → Type 0) (input : List ℕ)
     (setup : ℕ) : Type 0 where
   pub scenario : ScenarioValue
   pub read : scenario_in input ≡ Ok scenario
   pub fit : AreFit scenario.layout.cpus (drop setup scenario.lines) (length (drop setup scenario.lines))
-  pub after : HoldsAfter (P scenario.names) scenario.layout (take setup scenario.lines)
-      (scripts_of scenario.layout.cpus (drop setup scenario.lines))
+  pub after : HoldsAfter (P scenario.names (take setup scenario.lines)) scenario.layout
+      (take setup scenario.lines) (drop setup scenario.lines)
 
 -- the text is that of the exploration of the scripts, and of the search for an end
-abbrev pub IsExplorationOf : (input : List ℕ) → (setup limit : ℕ) → (text : List ℕ) → Type 0
-IsExplorationOf input setup limit text = HoldsIn (λ names g. IsExploredOn names g limit text) input setup
-
-abbrev pub IsFindingOf : (input : List ℕ) → (setup : ℕ) → List Wanted → (text : List ℕ) → (found : Bool)
+abbrev pub IsExplorationOf : EndsForm → (input : List ℕ) → (setup limit : ℕ) → (text : List ℕ) → (found : Bool)
     → Type 0
-IsFindingOf input setup wanted text found = HoldsIn (λ names g. IsFoundOn names g wanted text found) input setup
+IsExplorationOf form input setup limit text found =
+    HoldsIn (λ names before g. IsExploredOn form names before g limit text found) input setup
+
+abbrev pub IsFindingOf : ScheduleForm → (input : List ℕ) → (setup : ℕ) → List Wanted → (text : List ℕ)
+    → (found : Bool) → Type 0
+IsFindingOf form input setup wanted text found =
+    HoldsIn (λ names before g. IsFoundOn form names before g wanted text found) input setup
 
 -- ---- faults
 
 -- `C` says which causes the fault of a search has; out of memory may come in place of any answer
-abbrev pub IsUnanswered : (C : Setting → ExploreFault → Type 0) → LayoutParts → (before : List Line)
-    → List (List step.Line) → ExploreFault → Type 0
-IsUnanswered C l before scripts search.OutOfMemory = Unit {0}
-IsUnanswered C l before scripts fault = HoldsAfter (λ g. C g fault) l before scripts
+abbrev pub IsUnanswered : (C : Setting → ExploreFault → Type 0) → LayoutParts → (before after : List Line)
+    → ExploreFault → Type 0
+IsUnanswered C l before after search.OutOfMemory = Unit {0}
+IsUnanswered C l before after fault = HoldsAfter (λ g. C g fault) l before after
 
 -- the bytes are a scenario, of which this holds
 abbrev pub InScenario : (input : List ℕ) → (ScenarioValue → Type 0) → Type 0
@@ -103,8 +139,7 @@ abbrev pub IsStoppedAfter : (C : Setting → ExploreFault → Type 0) → (setup
     → Type 0
 IsStoppedAfter C setup fault s =
     AreFit s.layout.cpus (drop setup s.lines) (length (drop setup s.lines))
-    × HoldsAfter (λ g. C g fault) s.layout (take setup s.lines)
-    (scripts_of s.layout.cpus (drop setup s.lines))
+    × HoldsAfter (λ g. C g fault) s.layout (take setup s.lines) (drop setup s.lines)
 
 -- the bytes are no scenario, and this is said of why
 abbrev pub IsUnread : (input : List ℕ) → LabFault → Type 0

@@ -1,8 +1,11 @@
+pub mod Begins
 pub mod Checks
 pub mod Explorations
 pub mod Faults
 pub mod FaultText
+pub mod Objects
 pub mod Scripts
 pub mod Setup
 pub mod Texts
+pub mod Unbegun
 pub mod WantedLines

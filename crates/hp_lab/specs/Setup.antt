@@ -1,5 +1,5 @@
 -- What lines that are run in order make of a machine.
-use Rattle.std.specs.Prelude.{◌≡◌, ◌⊎◌, ℕ, Bool, true, false, List, [], ◌∷◌, Result, Ok, Err}
+use Rattle.std.specs.Prelude.{◌≡◌, ◌⊎◌, ℕ, Bool, true, false, if◌then◌else◌, List, [], ◌∷◌, ◌++◌, Result, Ok, Err}
 use Rattle.hp_units.specs.declared.events.Event.{Event}
 use Rattle.hp_units.specs.declared.plans.Item.{Item}
 use Rattle.hp_units.specs.declared.replies.CallFault.{CallFault}
@@ -13,9 +13,12 @@ use Rattle.hp_requests.specs.declared.fault.ControlFault.{ControlFault}
 use Rattle.hp_requests.specs.declared.writes.Request.{Request}
 use Rattle.hp_requests.specs.declared.writes.Request.TheVariants as request
 use Rattle.hp_requests.specs.Writes.{control_turns, echo_request}
+use Rattle.hp_scenario.specs.Scripts.{is_seal}
 use Rattle.hp_scenario.specs.declared.lines.Line.{Line}
 use Rattle.hp_scenario.specs.declared.lines.Work.{Work}
 use Rattle.hp_scenario.specs.declared.lines.Work.TheVariants as work
+use Rattle.hp_lab.specs.Begins.{begins_in}
+use Rattle.hp_lab.specs.declared.begins.Begin.{Begin}
 
 -- an event was called; where the history is full it leaves no record
 abbrev pub RunsEvent : MachineValue → (cpu : ℕ) → Event → (new : MachineValue) → Type 0
@@ -55,8 +58,14 @@ RunsWork m cpu (work.Echo echo) new = RunsRequest m cpu (echo_request echo.path 
 RunsWork m cpu (work.Cat path) new = new ≡ m
 RunsWork m cpu work.Seal new = RunsSeal m new
 
--- the lines were run one after another
-abbrev pub RunsLines : MachineValue → List Line → (new : MachineValue) → Type 0
-RunsLines m [] new = new ≡ m
-RunsLines m (line ∷ lines) new =
-    (next : MachineValue) × RunsWork m line.cpu line.work next × RunsLines next lines new
+-- the Begins that a line's work hands out
+abbrev pub begins_sealed : MachineValue → Work → List Begin
+begins_sealed m w = if is_seal w then begins_in m.history else []
+
+-- the lines were run one after another, after these Begins were sealed; and which were sealed in the end
+abbrev pub RunsLines : MachineValue → (before : List Begin) → List Line → (new : MachineValue)
+    → (after : List Begin) → Type 0
+RunsLines m before [] new after = (new ≡ m) × (after ≡ before)
+RunsLines m before (line ∷ lines) new after =
+    (next : MachineValue) × RunsWork m line.cpu line.work next
+    × RunsLines next (before ++ begins_sealed m line.work) lines new after

@@ -7,12 +7,17 @@ use Rattle.hp_units.specs.declared.replies.Record.{Record}
 use Rattle.hp_units.specs.declared.replies.Reply.{Reply}
 use Rattle.hp_units.specs.declared.rows.Row.{Row}
 use Rattle.hp_text.specs.Answers.{bare_reply_line}
-use Rattle.hp_text.specs.Spelling.{call_text}
 use Rattle.hp_text.specs.State.{block_line, newline, texts_below}
 use Rattle.hp_explore.specs.declared.tally.Ending.{Ending}
 use Rattle.hp_explore.specs.Outcomes.{OutcomeValue}
 use Rattle.hp_explore.specs.Schedules.{Setting, plays}
 use Rattle.hp_find.specs.Changes.{changes}
+use Rattle.hp_scenario.specs.declared.lines.Line.{Line}
+use Rattle.hp_spelling.specs.Entries.{calls_text}
+use Rattle.hp_spelling.specs.Scenarios.{scenario_text}
+use Rattle.hp_lab.specs.declared.forms.ScheduleForm.{ScheduleForm}
+use Rattle.hp_lab.specs.declared.forms.ScheduleForm.TheVariants.{Words, Object, Scenario}
+use Rattle.hp_lab.specs.Objects.{absent_object, found_object}
 
 -- ---- how it ends
 
@@ -33,23 +38,15 @@ outcome_text l x = processors_text l.cpus x.replies ++ blocks_text l.blocks x.bl
 
 -- ---- the calls
 
--- a call as a text of a scenario's `calls`
-abbrev pub quoted : (names : List (List ℕ)) → Record → List ℕ
-quoted names r = codes "\"" ++ call_text names r.cpu r.event ++ codes "\""
-
--- the calls, one a line, with a comma between two
-abbrev pub end_before : List Record → List ℕ
-end_before [] = codes "\n"
-end_before (r ∷ rs) = codes ",\n"
-
-abbrev pub calls_text : (names : List (List ℕ)) → List Record → List ℕ
-calls_text names [] = []
-calls_text names (r ∷ rs) = quoted names r ++ end_before rs ++ calls_text names rs
+-- the calls as texts of a scenario's `calls`, one a line, with a comma between two
+abbrev pub listed_calls : (names : List (List ℕ)) → List Record → List ℕ
+listed_calls names [] = []
+listed_calls names (r ∷ rs) = calls_text (codes ",\n") names (r ∷ rs) ++ newline
 
 -- the calls that a schedule makes, if it can be played
 abbrev pub played_text : (names : List (List ℕ)) → Option (List Record) → List ℕ
 played_text names None = []
-played_text names (Some news) = calls_text names news
+played_text names (Some news) = listed_calls names news
 
 abbrev pub first_text : (names : List (List ℕ)) → Setting → (schedule : List ℕ) → List ℕ
 first_text names g schedule = played_text names (plays g schedule)
@@ -91,6 +88,28 @@ abbrev pub nearest_text : (names : List (List ℕ)) → Setting → (schedule : 
 nearest_text names g schedule =
     codes "changes: " ++ decimal (changes schedule) ++ codes "\nfirst:\n" ++ first_text names g schedule
 
+-- a schedule as a scenario, if it can be played: the lines that were run first, and then its calls
+abbrev pub replayed_text : (names : List (List ℕ)) → (before : List Line) → LayoutParts → Option (List Record)
+    → List ℕ
+replayed_text names before l None = []
+replayed_text names before l (Some news) = scenario_text l names before news
+
+abbrev pub replay_text : (names : List (List ℕ)) → (before : List Line) → Setting → (schedule : List ℕ) → List ℕ
+replay_text names before g schedule = replayed_text names before g.layout (plays g schedule)
+
+-- in a form
+abbrev pub found_text : ScheduleForm → (names : List (List ℕ)) → (before : List Line) → Setting
+    → (schedule : List ℕ) → List ℕ
+found_text Words names before g schedule = nearest_text names g schedule
+found_text Object names before g schedule = found_object names g schedule
+found_text Scenario names before g schedule = replay_text names before g schedule
+
 -- no schedule ends so, and there are so many
 abbrev pub absent_text : (schedules : ℕ) → List ℕ
 absent_text schedules = codes "interleavings: " ++ decimal schedules ++ codes "\nends so: 0\n"
+
+-- in a form: a scenario that is not there is told in words
+abbrev pub absent_told : ScheduleForm → (schedules : ℕ) → List ℕ
+absent_told Words schedules = absent_text schedules
+absent_told Object schedules = absent_object schedules
+absent_told Scenario schedules = absent_text schedules

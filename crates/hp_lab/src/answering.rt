@@ -3,10 +3,12 @@ ghost use Rattle.std.specs.Prelude.{◌≡◌, ◌^◌, ◌<◌, IfErr, IfOk, dr
 ghost use Rattle.hp_explore.specs.Schedules.{setting};
 ghost use Rattle.hp_lab.specs.Explorations.{HoldsAfter, HoldsIn, IsAnsweredOn, IsAskCause, IsFaultWith, IsUnanswered};
 
+use crate::begins::note_begins;
 use crate::checks::check_lines;
 use crate::exploring::explored_on;
 use crate::fault::LabFault;
 use crate::finding::{Finding, found_on};
+use crate::forms::{EndsForm, ScheduleForm};
 use crate::scripts::scripts_of;
 use crate::setup::run_lines;
 use hp_explore::{ExploreFault, Script, Watch};
@@ -21,9 +23,12 @@ use std::alloc::Global;
 #[derive(Clone, Copy)]
 pub(crate) enum Ask<'a> {
     /// The ends of all interleavings.
-    Ends,
+    Ends(EndsForm),
     /// An interleaving whose end has each of these lines.
-    Find(&'a [Wanted]),
+    Find {
+        wanted: &'a [Wanted],
+        form: ScheduleForm,
+    },
 }
 
 /// The answer of the scenario that the bytes are. The first `setup` lines are run in order; each
@@ -46,13 +51,12 @@ pub(crate) fn answer_to<W: Watch>(
     let before = front_of(lines, setup);
     let after = rest_of(lines, setup);
     check_lines(cpus, before.len() as u64, after)?;
-    let scripts = scripts_of(alloc, cpus, after)?;
     let answer = answer_after(
         alloc,
         &scenario.layout,
         &scenario.names,
         before,
-        &scripts,
+        after,
         limit,
         ask,
         watch,
@@ -82,32 +86,35 @@ fn rest_of(lines: &[Line], count: u64) -> &[Line]
     }
 }
 
-/// The answer of scripts after lines that are run first.
+/// The answer of the scripts of lines after lines that are run first.
 fn answer_after<W: Watch>(
     alloc: Global,
     layout: &Layout,
     names: &IndexSet<Text>,
     before: &[Line],
-    scripts: &[Script],
+    after: &[Line],
     limit: u64,
     ask: Ask<'_>,
     watch: &mut W,
 ) -> Result<Finding, ExploreFault>
-    requires { length scripts.now < 2 ^ 32 }
     ensures ok { IfOk result (λ f.
-        HoldsAfter (IsAnsweredOn ask.entry limit (string_bytes f.text) f.is_found names.now.keys) layout.now before.now
-        scripts.now) }
-    ensures err { IfErr result (IsUnanswered (IsAskCause ask.entry limit) layout.now before.now scripts.now) }
+        HoldsAfter (IsAnsweredOn ask.entry limit (string_bytes f.text) f.is_found names.now.keys before.now)
+        layout.now before.now after.now) }
+    ensures err { IfErr result (IsUnanswered (IsAskCause ask.entry limit) layout.now before.now after.now) }
 {
     let mut machine = Machine::boot(alloc, layout)?;
-    run_lines(alloc, &mut machine, before)?;
-    answer_on(alloc, names, &machine, scripts, limit, ask, watch)
+    let mut begins = Vec::new(alloc);
+    run_lines(alloc, &mut machine, &mut begins, before)?;
+    note_begins(&mut begins, machine.history())?;
+    let scripts = scripts_of(alloc, layout.cpus(), &begins, after)?;
+    answer_on(alloc, names, before, &machine, &scripts, limit, ask, watch)
 }
 
-/// The answer of scripts on a machine.
+/// The answer of scripts on a machine, on which these lines were run first.
 fn answer_on<W: Watch>(
     alloc: Global,
     names: &IndexSet<Text>,
+    before: &[Line],
     machine: &Machine,
     scripts: &[Script],
     limit: u64,
@@ -116,17 +123,17 @@ fn answer_on<W: Watch>(
 ) -> Result<Finding, ExploreFault>
     requires { length scripts.now < 2 ^ 32 }
     ensures ok { IfOk result (λ f. IsAnsweredOn ask.entry limit (string_bytes f.text) f.is_found names.now.keys
-        (setting machine.now scripts.now)) }
+        before.now (setting machine.now scripts.now)) }
     ensures err { IfErr result (IsAskCause ask.entry limit (setting machine.now scripts.now)) }
 {
     match ask {
-        Ask::Ends => {
-            let text = explored_on(alloc, names, machine, scripts, limit, watch)?;
-            Ok(Finding {
-                text,
-                is_found: true,
-            })
+        Ask::Ends(form) => {
+            explored_on(alloc, names, before, machine, scripts, form, limit, watch)
         }
-        Ask::Find(wanted) => found_on(alloc, names, machine, scripts, wanted, limit, watch),
+        Ask::Find { wanted, form } => {
+            found_on(
+                alloc, names, before, machine, scripts, wanted, form, limit, watch,
+            )
+        }
     }
 }

@@ -5,11 +5,12 @@ ghost use Rattle.hp_text.specs.Answers.{bare_reply_line};
 ghost use Rattle.hp_text.specs.State.{block_line};
 ghost use Rattle.hp_explore.specs.Faults.{IsCallCause};
 ghost use Rattle.hp_explore.specs.Schedules.{setting};
-ghost use Rattle.hp_lab.specs.Texts.{answers_text, blocks_text, calls_text, counts_text, end_before, end_text, exploration_text, first_text, heading_text, outcome_text, processors_text, quoted};
+ghost use Rattle.hp_lab.specs.Texts.{answers_text, blocks_text, counts_text, end_text, exploration_text, first_text, heading_text, listed_calls, outcome_text, processors_text};
 
 use hp_explore::{Answers, Ending, ExploreFault, Outcome, Script, play};
 use hp_machine::Machine;
-use hp_text::{write_call, write_reply, write_row};
+use hp_spelling::write_calls;
+use hp_text::{write_reply, write_row};
 use hp_units::{Block, Cpu, Layout, Record, Reply, Row, Text};
 use indexmap::IndexSet;
 use std::alloc::{AllocError, Global};
@@ -37,7 +38,7 @@ pub(crate) fn write_ends(
 }
 
 /// Writes how many interleavings and ends there are.
-fn write_counts(out: &mut String, ends: &[Ending]) -> Result<(), AllocError>
+pub(crate) fn write_counts(out: &mut String, ends: &[Ending]) -> Result<(), AllocError>
     ensures { OnOk result (string_bytes out.new ≡ string_bytes out.old ++ counts_text ends.now) }
 {
     let total = total_of(ends);
@@ -163,44 +164,23 @@ pub(crate) fn write_first(
 {
     if let Some(played) = play(alloc, machine, scripts, schedule)? {
         let start = machine.history().len();
-        write_calls(out, names, &played.history()[start..])?;
+        write_listed(out, names, &played.history()[start..])?;
     }
     Ok(())
 }
 
 /// Writes calls as texts of a scenario's `calls`, one a line, with a comma between two.
-fn write_calls(out: &mut String, names: &IndexSet<Text>, calls: &[Record]) -> Result<(), AllocError>
-    ensures { OnOk result
-        (string_bytes out.new ≡ string_bytes out.old ++ calls_text names.now.keys calls.now) }
-{
-    match calls {
-        [call, rest @ ..] => {
-            write_quoted(out, names, call, end_before(rest))?;
-            write_calls(out, names, rest)
-        }
-        [] => Ok(()),
-    }
-}
-
-/// The end of a line before other calls: a comma where there are any.
-fn end_before(rest: &[Record]) -> &'static str
-    ensures { result.now ≡ end_before rest.now }
-{
-    if rest.is_empty() { "\n" } else { ",\n" }
-}
-
-/// Writes a call between quotation marks, and what comes after it.
-fn write_quoted(
+fn write_listed(
     out: &mut String,
     names: &IndexSet<Text>,
-    call: &Record,
-    end: &str,
+    calls: &[Record],
 ) -> Result<(), AllocError>
     ensures { OnOk result
-        (string_bytes out.new ≡ string_bytes out.old ++ quoted names.now.keys call.now ++ end.now) }
+        (string_bytes out.new ≡ string_bytes out.old ++ listed_calls names.now.keys calls.now) }
 {
-    out.push_str("\"")?;
-    write_call(out, names, call.cpu, &call.event)?;
-    out.push_str("\"")?;
-    out.push_str(end)
+    if calls.is_empty() {
+        return Ok(());
+    }
+    write_calls(out, names, calls, ",\n")?;
+    out.push('\n')
 }

@@ -1,24 +1,33 @@
 //! A scenario explored.
-ghost use Rattle.std.specs.Prelude.{◌^◌, ◌<◌, IfErr, IfOk, length, string_bytes};
-ghost use Rattle.hp_explore.specs.Faults.{IsCause};
+ghost use Rattle.std.specs.Prelude.{◌≡◌, ◌^◌, ◌<◌, IfErr, IfNone, IfOk, IfSome, length, string_bytes};
+ghost use Rattle.hp_explore.specs.Faults.{IsCallCause, IsCause};
 ghost use Rattle.hp_explore.specs.Schedules.{setting};
-ghost use Rattle.hp_lab.specs.Explorations.{IsExplorationOf, IsExploredOn, IsFaultOf};
+ghost use Rattle.hp_lab.specs.Explorations.{AreEndsTold, HasNoEnd, IsEndTold, IsExplorationOf, IsExploredOn, IsFaultOf, IsNumbered};
 
 use crate::answering::{Ask, answer_to};
-use crate::ends::write_ends;
+use crate::ends::{write_counts, write_ends};
 use crate::fault::LabFault;
-use hp_explore::{ExploreFault, Script, Watch, explore};
+use crate::finding::Finding;
+use crate::forms::EndsForm;
+use crate::objects::write_objects;
+use crate::replays::replay_text;
+use hp_explore::{Ending, ExploreFault, Script, Watch, explore};
 use hp_machine::Machine;
+use hp_scenario::Line;
 use hp_units::Text;
 use indexmap::IndexSet;
 use std::alloc::Global;
 
-/// The text of an exploration of the scenario that the bytes are. The first `setup` lines are run
-/// in order; each later line goes to the script of its processor, where 0 for the number of an
-/// operation stands for the one that this processor began last. All interleavings of the scripts'
-/// calls are counted, at most `limit` of them. The text says how many there are, and for each
-/// different end how many lead to it, what the processors were answered, what became of the memory
-/// blocks, and the calls of the first that leads to it (own rule).
+/// An exploration of the scenario that the bytes are. The first `setup` lines are run in order; each
+/// later line goes to the script of its processor, where 0 for the number of an operation stands
+/// for the one that this processor began last. All interleavings of the scripts' calls are counted,
+/// at most `limit` of them.
+///
+/// As words the text says how many there are, and for each different end how many lead to it, what
+/// the processors were answered, what became of the memory blocks, and the calls of the first that
+/// leads to it. As objects it has a line of JSON for each end. As a scenario it has the layout, the lines of the setup, and the calls of the first
+/// interleaving that leads to the end with the number; where no end has that number, it says how
+/// many interleavings and ends there are, and nothing is found (own rule).
 ///
 /// The watch is told while the search runs how many interleavings are counted so far.
 ///
@@ -30,31 +39,116 @@ pub fn explore_text<W: Watch>(
     input: &[u8],
     setup: u64,
     limit: u64,
+    form: EndsForm,
     watch: &mut W,
-) -> Result<String, LabFault>
-    ensures ok { IfOk result (λ out. IsExplorationOf input.now setup limit (string_bytes out)) }
+) -> Result<Finding, LabFault>
+    ensures ok { IfOk result (λ f.
+        IsExplorationOf form input.now setup limit (string_bytes f.text) f.is_found) }
     ensures err { IfErr result (IsFaultOf input.now setup limit) }
 {
-    let answer = answer_to(alloc, input, setup, limit, Ask::Ends, watch)?;
-    Ok(answer.text)
+    answer_to(alloc, input, setup, limit, Ask::Ends(form), watch)
 }
 
-/// The text of the exploration of scripts on a machine.
+/// The exploration of scripts on a machine, on which these lines were run first.
 pub(crate) fn explored_on<W: Watch>(
     alloc: Global,
     names: &IndexSet<Text>,
+    before: &[Line],
     machine: &Machine,
     scripts: &[Script],
+    form: EndsForm,
     limit: u64,
     watch: &mut W,
-) -> Result<String, ExploreFault>
+) -> Result<Finding, ExploreFault>
     requires { length scripts.now < 2 ^ 32 }
-    ensures ok { IfOk result
-        (λ out. IsExploredOn names.now.keys (setting machine.now scripts.now) limit (string_bytes out)) }
+    ensures ok { IfOk result (λ f. IsExploredOn form names.now.keys before.now (setting machine.now scripts.now)
+        limit (string_bytes f.text) f.is_found) }
     ensures err { IfErr result (IsCause (setting machine.now scripts.now) limit) }
 {
     let ends = explore(alloc, machine, scripts, limit, watch)?;
-    let mut out = String::new(alloc);
-    write_ends(&mut out, alloc, names, machine, scripts, &ends)?;
-    Ok(out)
+    let finding = ends_told(alloc, names, before, machine, scripts, &ends, form)?;
+    Ok(finding)
+}
+
+/// Ends in a form.
+fn ends_told(
+    alloc: Global,
+    names: &IndexSet<Text>,
+    before: &[Line],
+    machine: &Machine,
+    scripts: &[Script],
+    ends: &[Ending],
+    form: EndsForm,
+) -> Result<Finding, ExploreFault>
+    ensures ok { IfOk result (λ f. AreEndsTold form names.now.keys before.now (setting machine.now scripts.now)
+        ends.now (string_bytes f.text) f.is_found) }
+    ensures err { IfErr result (IsCallCause (setting machine.now scripts.now)) }
+{
+    match form {
+        EndsForm::Words => {
+            let mut text = String::new(alloc);
+            write_ends(&mut text, alloc, names, machine, scripts, ends)?;
+            Ok(Finding {
+                text,
+                is_found: true,
+            })
+        }
+        EndsForm::Objects => {
+            let mut text = String::new(alloc);
+            write_objects(&mut text, alloc, names, machine, scripts, ends)?;
+            Ok(Finding {
+                text,
+                is_found: true,
+            })
+        }
+        EndsForm::Scenario(number) => {
+            end_told(alloc, names, before, machine, scripts, ends, number)
+        }
+    }
+}
+
+/// The scenario of the end with a number; or how many ends there are, where none has it.
+fn end_told(
+    alloc: Global,
+    names: &IndexSet<Text>,
+    before: &[Line],
+    machine: &Machine,
+    scripts: &[Script],
+    ends: &[Ending],
+    number: u64,
+) -> Result<Finding, ExploreFault>
+    ensures ok { IfOk result (λ f. IsEndTold names.now.keys before.now (setting machine.now scripts.now)
+        ends.now number (string_bytes f.text) f.is_found) }
+    ensures err { IfErr result (IsCallCause (setting machine.now scripts.now)) }
+{
+    match numbered_end(ends, number) {
+        Some(end) => {
+            let schedule = end.first.as_slice();
+            let text = replay_text(alloc, names, before, machine, scripts, schedule)?;
+            Ok(Finding {
+                text,
+                is_found: true,
+            })
+        }
+        None => {
+            let mut text = String::new(alloc);
+            write_counts(&mut text, ends)?;
+            Ok(Finding {
+                text,
+                is_found: false,
+            })
+        }
+    }
+}
+
+/// The end with a number; ends are counted from 1.
+#[tactic(auto, using(crate::proofs::Known::numbered_at))]
+fn numbered_end(ends: &[Ending], number: u64) -> Option<&Ending>
+    ensures some { IfSome result (λ end. IsNumbered ends.now number end.now) }
+    ensures none { IfNone result (HasNoEnd ends.now number) }
+{
+    if number == 0 || number > ends.len() as u64 {
+        return None;
+    }
+    Some(&ends[(number - 1) as usize])
 }

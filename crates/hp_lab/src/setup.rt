@@ -1,23 +1,38 @@
 //! The setup: lines that are run in order on one machine, as `hotplug serial` runs them.
-ghost use Rattle.std.specs.Prelude.{◌≡◌, OnOk};
-ghost use Rattle.hp_lab.specs.Setup.{RunsEvent, RunsLines, RunsPlan, RunsRequest, RunsSeal, RunsWork, is_out_of_memory};
+ghost use Rattle.std.specs.Prelude.{◌≡◌, ◌++◌, OnOk};
+ghost use Rattle.hp_lab.specs.Setup.{RunsEvent, RunsLines, RunsPlan, RunsRequest, RunsSeal, RunsWork, begins_sealed, is_out_of_memory};
 
+use crate::begins::{Begin, note_begins};
 use hp_machine::Machine;
 use hp_requests::{CONTROL_TURNS, ControlFault, Request};
 use hp_scenario::{Line, Work};
 use hp_units::{CallFault, Cpu, Event, OpEnd, Plan};
 use std::alloc::{AllocError, Global};
 
-/// Runs lines one after another. An error is out of memory.
+/// Runs lines one after another, and adds the Begins that seals hand out. An error is out of memory.
 pub(crate) fn run_lines(
     alloc: Global,
     machine: &mut Machine,
+    begins: &mut Vec<Begin>,
     lines: &[Line],
 ) -> Result<(), AllocError>
-    ensures { OnOk result (RunsLines machine.old lines.now machine.new) }
+    ensures { OnOk result
+        (RunsLines machine.old begins.old.items lines.now machine.new begins.new.items) }
 {
     for line in lines {
+        note_sealed(begins, machine, &line.work)?;
         run_work(alloc, machine, line.cpu, &line.work)?;
+    }
+    Ok(())
+}
+
+/// Adds the Begins that a line's work hands out.
+fn note_sealed(begins: &mut Vec<Begin>, machine: &Machine, work: &Work) -> Result<(), AllocError>
+    ensures { OnOk result
+        (begins.new.items ≡ begins.old.items ++ begins_sealed machine.now work.now) }
+{
+    if work.is_seal() {
+        note_begins(begins, machine.history())?;
     }
     Ok(())
 }

@@ -1,6 +1,6 @@
 //! Explorations and their text.
 use hp_explore::Silent;
-use hp_lab::explore_text;
+use hp_lab::{EndsForm, explore_text};
 use std::alloc::{AllocError, Global};
 use std::test::Fail;
 
@@ -18,6 +18,17 @@ const RACE_TEXT: &str =
      \"0 commit 4\"\n\nend 3\ninterleavings: 1\ncpu 0\nopened 0\nmoved 2 1\nrefused NotFree 3\n\
      cpu 1\ndone\nblock 0 online normal\nblock 1 going movable\nfirst:\n\"1 map web 0\",\n\
      \"0 begin off 1\",\n\"0 migrate 5\",\n\"0 commit 5\"\n";
+
+const RACE_OBJECTS: &str =
+    "{\"end\": 1, \"interleavings\": 2, \"answers\": [[\"opened 0\", \"moved 2 1\", \"done\"], \
+     [\"refused NoFrame\"]], \"blocks\": [\"online normal\", \"offline\"], \"first\": \
+     [\"0 begin off 1\", \"0 migrate 4\", \"0 commit 4\", \"1 map web 0\"]}\n\
+     {\"end\": 2, \"interleavings\": 1, \"answers\": [[\"opened 0\", \"refused NoFrame\", \
+     \"refused NotFree 2\"], [\"done\"]], \"blocks\": [\"online normal\", \"going movable\"], \
+     \"first\": [\"0 begin off 1\", \"1 map web 0\", \"0 migrate 4\", \"0 commit 4\"]}\n\
+     {\"end\": 3, \"interleavings\": 1, \"answers\": [[\"opened 0\", \"moved 2 1\", \
+     \"refused NotFree 3\"], [\"done\"]], \"blocks\": [\"online normal\", \"going movable\"], \
+     \"first\": [\"1 map web 0\", \"0 begin off 1\", \"0 migrate 5\", \"0 commit 5\"]}\n";
 
 /// A setup with a line of each kind, after which one line brings the block online again.
 const SETUP: &str = "0 cat buddyinfo;0 map db 0;0 unmap db 0;0 echo offline memory1/state;0 seal;\
@@ -41,12 +52,30 @@ const PLAN_TEXT: &str =
      \"1 begin off 1\",\n\"1 drainfor 1 0\",\n\"1 drainfor 1 1\",\n\"1 migrate 1\",\n\
      \"1 commit 1\"\n";
 
-/// The lines of a scenario, how many of them are run first, and the text of its exploration.
-const EXPLORED: &[(&str, u64, &str)] = &[
-    (RACE, 3, RACE_TEXT),
-    (SETUP, 8, SETUP_TEXT),
-    (PLAN, 3, NO_SCRIPT_TEXT),
-    (PLAN, 0, PLAN_TEXT),
+/// An offline that the setup begins.
+const BEGUN: &str = "0 begin off 1;0 drainfor 0 0;0 drainfor 0 1;0 migrate 0;0 commit 0";
+
+const BEGUN_TEXT: &str = "interleavings: 1\nends: 1\n\nend 1\ninterleavings: 1\ncpu 0\ndone\ndone\n\
+     refused NothingToMove\ndone\ncpu 1\nblock 0 online normal\nblock 1 offline\nfirst:\n\
+     \"0 drainfor 1 0\",\n\"0 drainfor 1 1\",\n\"0 migrate 1\",\n\"0 commit 1\"\n";
+
+/// One that the setup begins and seals; then one that its script begins; and no one's.
+const AGAIN: &str = "0 begin off 1;0 seal;0 cancel 0;0 begin off 1;0 commit 0;1 commit 0";
+
+const AGAIN_TEXT: &str =
+    "interleavings: 4\nends: 1\n\nend 1\ninterleavings: 4\ncpu 0\nreleased\nopened 0\ndone\n\
+     cpu 1\nrefused NoOp\nblock 0 online normal\nblock 1 offline\nfirst:\n\
+     \"0 cancel 1\",\n\"0 begin off 1\",\n\"0 commit 3\",\n\"1 commit 0\"\n";
+
+/// The lines of a scenario, how many of them are run first, and the text of its exploration in a form.
+const EXPLORED: &[(&str, u64, EndsForm, &str)] = &[
+    (RACE, 3, EndsForm::Words, RACE_TEXT),
+    (RACE, 3, EndsForm::Objects, RACE_OBJECTS),
+    (SETUP, 8, EndsForm::Words, SETUP_TEXT),
+    (PLAN, 3, EndsForm::Words, NO_SCRIPT_TEXT),
+    (PLAN, 0, EndsForm::Words, PLAN_TEXT),
+    (BEGUN, 1, EndsForm::Words, BEGUN_TEXT),
+    (AGAIN, 2, EndsForm::Words, AGAIN_TEXT),
 ];
 
 /// The scenario of these lines, on a layout of two memory blocks of one pageblock of two frames,
@@ -60,19 +89,28 @@ pub fn scenario(alloc: Global, history: u64, lines: &str) -> Result<String, Allo
     )
 }
 
-/// Whether the exploration of a scenario after so many lines has this text.
-fn explores(alloc: Global, lines: &str, setup: u64, text: &str) -> Result<bool, AllocError> {
+/// Whether the exploration of a scenario after so many lines has this text in a form.
+fn explores(
+    alloc: Global,
+    lines: &str,
+    setup: u64,
+    form: EndsForm,
+    text: &str,
+) -> Result<bool, AllocError> {
     let scenario = scenario(alloc, 40, lines)?;
-    match explore_text(alloc, scenario.as_bytes(), setup, 100, &mut Silent) {
-        Ok(out) => Ok(out.as_str() == text),
+    match explore_text(alloc, scenario.as_bytes(), setup, 100, form, &mut Silent) {
+        Ok(finding) => Ok(finding.text.as_str() == text),
         Err(_fault) => Ok(false),
     }
 }
 
 #[test]
 fn explorations_have_their_text(rt: HostRuntime) -> Result<(), Fail> {
-    for (lines, setup, text) in EXPLORED {
-        assert!(rt; explores(rt.alloc(), lines, *setup, text)?, "{lines}");
+    for (lines, setup, form, text) in EXPLORED {
+        assert!(rt;
+            explores(rt.alloc(), lines, *setup, *form, text)?,
+            "{lines}"
+        );
     }
     Ok(())
 }

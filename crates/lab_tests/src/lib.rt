@@ -16,4 +16,8 @@ mod pictures;
 #[cfg(test)]
 mod refusals;
 #[cfg(test)]
+mod replays;
+#[cfg(test)]
 mod searches;
+#[cfg(test)]
+mod spellings;

@@ -1,7 +1,7 @@
 //! Scenarios that are not explored, and why.
 use super::explorations::scenario;
 use hp_explore::Silent;
-use hp_lab::{LabFault, Unfit, explore_text};
+use hp_lab::{EndsForm, LabFault, Unfit, explore_text};
 use hp_requests::ControlFault;
 use std::alloc::{AllocError, Global};
 use std::test::Fail;
@@ -52,8 +52,15 @@ const REFUSED: &[Refused] = &[
 
 /// Whether a scenario is not explored, for this fault.
 fn is_refused(alloc: Global, scenario: &str, setup: u64, limit: u64, fault: LabFault) -> bool {
-    match explore_text(alloc, scenario.as_bytes(), setup, limit, &mut Silent) {
-        Ok(_text) => false,
+    match explore_text(
+        alloc,
+        scenario.as_bytes(),
+        setup,
+        limit,
+        EndsForm::Words,
+        &mut Silent,
+    ) {
+        Ok(_finding) => false,
         Err(found) => found == fault,
     }
 }

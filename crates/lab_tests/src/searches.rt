@@ -2,7 +2,7 @@
 use super::explorations::scenario;
 use hp_explore::Silent;
 use hp_find::Wanted;
-use hp_lab::{find_text, wanted_line};
+use hp_lab::{ScheduleForm, find_text, wanted_line};
 use std::alloc::{AllocError, Global};
 use std::test::Fail;
 
@@ -18,6 +18,17 @@ const MOVED_TOO_LATE: &str =
     "changes: 2\nfirst:\n\"0 begin off 1\",\n\"1 map web 0\",\n\"0 migrate 4\",\n\"0 commit 4\"\n";
 
 const ABSENT: &str = "interleavings: 4\nends so: 0\n";
+
+const REFUSED_OBJECT: &str = "{\"found\": true, \"changes\": 1, \"first\": [\"1 map web 0\", \
+     \"0 begin off 1\", \"0 migrate 5\", \"0 commit 5\"]}\n";
+
+const ABSENT_OBJECT: &str = "{\"found\": false, \"interleavings\": 4}\n";
+
+const REFUSED_SCENARIO: &str =
+    "{\"layout\": {\"order\": 1, \"pageblocks\": 1, \"blocks\": 2, \"cpus\": 2, \
+     \"batch\": 1, \"high\": 1,\n\"owners\": 2, \"pages\": 2, \"words\": 1, \"history\": 40,\n\
+     \"boot\": [\"normal\", \"movable\"]},\n\"calls\": [\n\"0 map db 0\",\n\"0 write db 0 0 7\",\n\
+     \"0 kalloc 0\",\n\"1 map web 0\",\n\"0 begin off 1\",\n\"0 migrate 5\",\n\"0 commit 5\"\n]}\n";
 
 /// Adds the line of an end that a text is, if it is one.
 fn push_line(alloc: Global, wanted: &mut Vec<Wanted>, text: &str) -> Result<(), AllocError> {
@@ -40,11 +51,25 @@ fn wanted_of(alloc: Global, texts: &[&str]) -> Result<Vec<Wanted>, AllocError> {
     Ok(wanted)
 }
 
-/// Whether the search for an end with lines has this text.
-fn finds(alloc: Global, texts: &[&str], text: &str, is_found: bool) -> Result<bool, AllocError> {
+/// Whether the search for an end with lines has this text in a form.
+fn finds(
+    alloc: Global,
+    texts: &[&str],
+    form: ScheduleForm,
+    text: &str,
+    is_found: bool,
+) -> Result<bool, AllocError> {
     let scenario = scenario(alloc, 40, RACE)?;
     let wanted = wanted_of(alloc, texts)?;
-    match find_text(alloc, scenario.as_bytes(), 3, 100, &wanted, &mut Silent) {
+    match find_text(
+        alloc,
+        scenario.as_bytes(),
+        3,
+        100,
+        &wanted,
+        form,
+        &mut Silent,
+    ) {
         Ok(finding) => Ok(finding.is_found == is_found && finding.text.as_str() == text),
         Err(_fault) => Ok(false),
     }
@@ -52,9 +77,46 @@ fn finds(alloc: Global, texts: &[&str], text: &str, is_found: bool) -> Result<bo
 
 #[test]
 fn the_fewest_changes_are_found(rt: HostRuntime) -> Result<(), Fail> {
-    assert!(rt; finds(rt.alloc(), &["refused NotFree"], REFUSED, true)?);
+    let words = ScheduleForm::Words;
+    assert!(rt; finds(rt.alloc(), &["refused NotFree"], words, REFUSED, true)?);
     let texts = ["0: refused NoFrame", "block 1 going movable", "1: done"];
-    assert!(rt; finds(rt.alloc(), &texts, MOVED_TOO_LATE, true)?);
-    assert!(rt; finds(rt.alloc(), &["block 1 offline", "1: done"], ABSENT, false)?);
+    assert!(rt; finds(rt.alloc(), &texts, words, MOVED_TOO_LATE, true)?);
+    assert!(rt;
+        finds(
+            rt.alloc(),
+            &["block 1 offline", "1: done"],
+            words,
+            ABSENT,
+            false
+        )?
+    );
+    Ok(())
+}
+
+#[test]
+fn what_is_found_has_other_forms(rt: HostRuntime) -> Result<(), Fail> {
+    let object = ScheduleForm::Object;
+    assert!(rt;
+        finds(
+            rt.alloc(),
+            &["refused NotFree"],
+            object,
+            REFUSED_OBJECT,
+            true
+        )?
+    );
+    let texts = ["block 1 offline", "1: done"];
+    assert!(rt; finds(rt.alloc(), &texts, object, ABSENT_OBJECT, false)?);
+    let scenario = ScheduleForm::Scenario;
+    assert!(rt;
+        finds(
+            rt.alloc(),
+            &["refused NotFree"],
+            scenario,
+            REFUSED_SCENARIO,
+            true
+        )?
+    );
+    assert!(rt; finds(rt.alloc(), &texts, scenario, ABSENT, false)?);
     Ok(())
 }

@@ -1,8 +1,8 @@
-use Rattle.std.proofs.Common.{◌∙◌, arith, string_bytes}
+use Rattle.std.proofs.Common.{string_bytes}
 use Rattle.std.proofs.lemmas.Result.{err_from_is_err_and}
 use Rattle.hp_scenario.specs.Seen.{scenario_seen}
 use Rattle.hp_lab.specs.Explorations.{IsAnsweredOn, IsAskCause}
-use Rattle.hp_lab.proofs.Known.{parted, unfit_known, stopped_known, answer_known, scripts_fit}
+use Rattle.hp_lab.proofs.Known.{parted, unfit_known, stopped_known, answer_known}
 use Rattle.hp_lab.proofs.answering.answer_to.Goals as goal
 
 pub returns-in_err-check_lines-clause-err : goal.returns-in_err-check_lines-clause-err
@@ -19,12 +19,6 @@ returns-in_err-check_lines-clause-err o c =
     c.front_of-before.result.now c.rest_of-after.result.now _ c.in_ok-scenario.ensures parts
     c.in_err-check_lines.ensures.err)
 
-pub answer_after-requires : goal.answer_after-requires
-answer_after-requires o c =
-    scripts_fit c.cpus-cpus.result c.rest_of-after.result.now c.deref.result.now
-    (omega (arith, c.cpus-cpus.ensures.is, c.cpus-cpus.ensures.layout.cpus))
-    (c.deref.ensures.value ∙ c.in_ok-scripts.ensures)
-
 pub returns-in_err-answer-clause-err : goal.returns-in_err-answer-clause-err
 returns-in_err-answer-clause-err o c =
     let p = err_from_is_err_and c.from_residual-in_err-answer.result c.from_residual-in_err-answer.ensures.1 in
@@ -34,9 +28,8 @@ returns-in_err-answer-clause-err o c =
     c.rest_of-after.result.now c.cpus-cpus.ensures.is c.as_slice-lines.ensures c.front_of-before.ensures
     c.rest_of-after.ensures in
     rw (p.1, p.2) (stopped_known (IsAskCause c.args.ask c.args.limit) c.args.input.now s c.args.setup c.cpus-cpus.result
-    c.front_of-before.result.now c.rest_of-after.result.now c.deref.result.now _ c.in_ok-scenario.ensures
-    parts c.in_ok-check_lines.ensures.ok (c.deref.ensures.value ∙ c.in_ok-scripts.ensures)
-    c.in_err-answer.ensures.err)
+    c.front_of-before.result.now c.rest_of-after.result.now _ c.in_ok-scenario.ensures parts
+    c.in_ok-check_lines.ensures.ok c.in_err-answer.ensures.err)
 
 pub returns-clause-ok : goal.returns-clause-ok
 returns-clause-ok o c =
@@ -47,6 +40,5 @@ returns-clause-ok o c =
     c.rest_of-after.ensures in
     answer_known (IsAnsweredOn c.args.ask c.args.limit (string_bytes c.in_ok-answer.answer.text)
     c.in_ok-answer.answer.is_found) c.args.input.now s c.args.setup c.cpus-cpus.result
-    c.front_of-before.result.now c.rest_of-after.result.now c.deref.result.now c.in_ok-scenario.ensures
-    parts c.in_ok-check_lines.ensures.ok (c.deref.ensures.value ∙ c.in_ok-scripts.ensures)
-    c.in_ok-answer.ensures.ok
+    c.front_of-before.result.now c.rest_of-after.result.now c.in_ok-scenario.ensures parts
+    c.in_ok-check_lines.ensures.ok c.in_ok-answer.ensures.ok

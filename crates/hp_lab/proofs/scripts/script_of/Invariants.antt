@@ -1,7 +1,7 @@
-use Rattle.std.proofs.Common.{◌≡◌, take}
-use Rattle.std.specs.List.{flat_map}
-use Rattle.hp_lab.specs.Scripts.{line_for}
+use Rattle.std.proofs.Common.{◌≡◌, ◌++◌, drop, false}
+use Rattle.hp_lab.specs.Scripts.{steps_in}
 use Rattle.hp_lab.proofs.scripts.script_of.Given as goal
 
 abbrev pub invariant-loop-line : goal.invariant-loop-line
-invariant-loop-line l = l.steps.items ≡ flat_map (line_for l.cpu) (take l.line-index l.lines)
+invariant-loop-line l =
+    l.steps.items ++ steps_in l.cpu l.op l.has_begun (drop l.line-index l.lines) ≡ steps_in l.cpu l.op false l.lines

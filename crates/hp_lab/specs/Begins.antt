@@ -1,0 +1,50 @@
+-- The operation that a processor began last before the scripts: what 0 stands for in its script until the
+-- script itself begins one (own rule).
+use Rattle.std.specs.Prelude.{ℕ, ◌==◌, Bool, true, false, if◌then◌else◌, List, [], ◌∷◌, Result, Ok, Err, ◌&&◌, fold}
+use Rattle.std.specs.List.{flat_map}
+use Rattle.hp_units.specs.Marks.{is_opening, mark_of}
+use Rattle.hp_units.specs.declared.replies.Record.{Record}
+use Rattle.hp_requests.specs.declared.fault.ControlFault.{ControlFault}
+use Rattle.hp_requests.specs.declared.writes.Request.{Request}
+use Rattle.hp_requests.specs.declared.writes.Request.TheVariants as request
+use Rattle.hp_requests.specs.Writes.{echo_request}
+use Rattle.hp_scenario.specs.declared.lines.Line.{Line}
+use Rattle.hp_scenario.specs.declared.lines.Work.{Work}
+use Rattle.hp_scenario.specs.declared.lines.Work.TheVariants as work
+use Rattle.hp_lab.specs.declared.begins.Begin.{Begin}
+
+-- ---- in records
+
+-- the Begins among records, refused or not
+abbrev pub begin_of : Record → List Begin
+begin_of r = if is_opening (mark_of r.event) then record { cpu = r.cpu; serial = r.serial } ∷ [] else []
+
+abbrev pub begins_in : List Record → List Begin
+begins_in records = flat_map begin_of records
+
+-- the serial of a processor's last, and 0 where it made none
+abbrev pub later_begun : (cpu : ℕ) → (op : ℕ) → Begin → ℕ
+later_begun cpu op b = if b.cpu == cpu then b.serial else op
+
+abbrev pub last_begun : (cpu : ℕ) → List Begin → ℕ
+last_begun cpu begins = fold (later_begun cpu) 0 begins
+
+-- ---- in lines
+
+-- what a control file is asked for begins an operation
+abbrev pub request_begins : Result Request ControlFault → Bool
+request_begins (Ok (request.Event e)) = is_opening (mark_of e)
+request_begins (Ok (request.Plan plan)) = true
+request_begins (Err fault) = false
+
+-- a line's work does
+abbrev pub work_begins : Work → Bool
+work_begins (work.Event e) = is_opening (mark_of e)
+work_begins (work.Plan plan turns) = true
+work_begins (work.Echo echo) = request_begins (echo_request echo.path echo.word)
+work_begins (work.Cat path) = false
+work_begins work.Seal = false
+
+-- a line is a processor's and begins an operation
+abbrev pub line_begins : (cpu : ℕ) → Line → Bool
+line_begins cpu line = (line.cpu == cpu) && work_begins line.work

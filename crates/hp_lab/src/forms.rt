@@ -1,0 +1,23 @@
+//! How an answer is written.
+
+/// How the ends of an exploration are written.
+#[derive(Clone, Copy, PartialEq, Eq, Drop)]
+pub enum EndsForm {
+    /// All of them, as words.
+    Words,
+    /// All of them, as JSON, an object a line.
+    Objects,
+    /// The first interleaving of the end with this number, as a scenario; ends are counted from 1.
+    Scenario(u64),
+}
+
+/// How a schedule that was found is written.
+#[derive(Clone, Copy, PartialEq, Eq, Drop)]
+pub enum ScheduleForm {
+    /// How often it changes the processor, and its calls, as words.
+    Words,
+    /// The same as an object of JSON.
+    Object,
+    /// As a scenario.
+    Scenario,
+}

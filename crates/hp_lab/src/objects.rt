@@ -1,0 +1,264 @@
+//! How ends and schedules are written as JSON, an object a line.
+ghost use Rattle.std.specs.Prelude.{◌≡◌, ◌++◌, IfErr, IfOk, OnOk, codes, string_bytes, true};
+ghost use Rattle.hp_explore.specs.Faults.{IsCallCause};
+ghost use Rattle.hp_explore.specs.Schedules.{plays, setting};
+ghost use Rattle.hp_spelling.specs.Separated.{separated};
+ghost use Rattle.hp_text.specs.State.{state_words, zone_word};
+ghost use Rattle.hp_lab.specs.Objects.{absent_object, answer_list, answer_lists, block_list, block_string, call_list, counted_head, end_object, found_object, objects_text, outcome_lists, played_list, reply_string};
+
+use hp_explore::{Answers, Ending, ExploreFault, Outcome, Script, play};
+use hp_find::changes_of;
+use hp_machine::Machine;
+use hp_spelling::{write_calls, write_mark};
+use hp_units::{Cpu, Reply, Row, State, Text, Zone};
+use indexmap::IndexSet;
+use std::alloc::{AllocError, Global};
+
+/// What stands between two values of a list.
+const BETWEEN: &str = ", ";
+
+/// Writes an object for each end, in their order. A fault is that of a call: the first interleaving
+/// of each end is played once more.
+pub(crate) fn write_objects(
+    out: &mut String,
+    alloc: Global,
+    names: &IndexSet<Text>,
+    machine: &Machine,
+    scripts: &[Script],
+    ends: &[Ending],
+) -> Result<(), ExploreFault>
+    ensures ok { OnOk result (string_bytes out.new ≡ string_bytes out.old
+        ++ objects_text names.now.keys (setting machine.now scripts.now) ends.now) }
+    ensures err { IfErr result (IsCallCause (setting machine.now scripts.now)) }
+{
+    for index in 0..ends.len() {
+        write_object(out, alloc, names, machine, scripts, index + 1, &ends[index])?;
+    }
+    Ok(())
+}
+
+/// Writes the object of an end: its number, how many interleavings lead to it, what the processors
+/// were answered, what became of the memory blocks, and the calls of the first interleaving.
+fn write_object(
+    out: &mut String,
+    alloc: Global,
+    names: &IndexSet<Text>,
+    machine: &Machine,
+    scripts: &[Script],
+    number: usize,
+    end: &Ending,
+) -> Result<(), ExploreFault>
+    ensures ok { OnOk result (string_bytes out.new ≡ string_bytes out.old
+        ++ end_object names.now.keys (setting machine.now scripts.now) number end.now) }
+    ensures err { IfErr result (IsCallCause (setting machine.now scripts.now)) }
+{
+    write_counted(out, number, end.count)?;
+    write_outcome(out, &end.outcome)?;
+    let schedule = end.first.as_slice();
+    write_call_list(out, alloc, names, machine, scripts, schedule)
+}
+
+/// Writes the number of an end, and how many interleavings lead to it.
+#[tactic(auto, unfolding(crate::specs::Objects::counted_head))]
+fn write_counted(out: &mut String, number: usize, count: u64) -> Result<(), AllocError>
+    ensures { OnOk result (string_bytes out.new ≡ string_bytes out.old ++ counted_head number count) }
+{
+    write!(out, "{{\"end\": {number}, \"interleavings\": {count}")
+}
+
+/// Writes what the processors were answered, and what became of the memory blocks.
+#[tactic(auto, unfolding(crate::specs::Objects::outcome_lists))]
+fn write_outcome(out: &mut String, outcome: &Outcome) -> Result<(), AllocError>
+    ensures { OnOk result (string_bytes out.new ≡ string_bytes out.old ++ outcome_lists outcome.now) }
+{
+    write_answer_lists(out, outcome.replies())?;
+    write_block_list(out, outcome.blocks())
+}
+
+/// Writes a list of what each processor was answered, from processor 0 on, under its key.
+#[tactic(auto, unfolding(crate::specs::Objects::answer_lists))]
+fn write_answer_lists(out: &mut String, all: &[Answers]) -> Result<(), AllocError>
+    ensures { OnOk result (string_bytes out.new ≡ string_bytes out.old ++ answer_lists all.now) }
+{
+    out.push_str(", \"answers\": [")?;
+    write_answers(out, all)?;
+    out.push_str("]")
+}
+
+/// Writes what each processor was answered.
+fn write_answers(out: &mut String, all: &[Answers]) -> Result<(), AllocError>
+    ensures { OnOk result
+        (string_bytes out.new ≡ string_bytes out.old ++ separated (codes ", ") answer_list true all.now) }
+{
+    let mut is_first = true;
+    for answers in all {
+        write_mark(out, BETWEEN, is_first)?;
+        write_answer_list(out, answers.as_slice())?;
+        is_first = false;
+    }
+    Ok(())
+}
+
+/// Writes a list of replies.
+#[tactic(auto, unfolding(crate::specs::Objects::answer_list))]
+fn write_answer_list(out: &mut String, replies: &[Reply]) -> Result<(), AllocError>
+    ensures { OnOk result (string_bytes out.new ≡ string_bytes out.old ++ answer_list replies.now) }
+{
+    out.push_str("[")?;
+    write_replies(out, replies)?;
+    out.push_str("]")
+}
+
+/// Writes replies.
+fn write_replies(out: &mut String, replies: &[Reply]) -> Result<(), AllocError>
+    ensures { OnOk result (string_bytes out.new
+        ≡ string_bytes out.old ++ separated (codes ", ") reply_string true replies.now) }
+{
+    let mut is_first = true;
+    for reply in replies {
+        write_mark(out, BETWEEN, is_first)?;
+        write_reply(out, *reply)?;
+        is_first = false;
+    }
+    Ok(())
+}
+
+/// Writes a reply between quotation marks.
+fn write_reply(out: &mut String, reply: Reply) -> Result<(), AllocError>
+    ensures { OnOk result (string_bytes out.new ≡ string_bytes out.old ++ reply_string reply) }
+{
+    write!(out, "\"{reply}\"")
+}
+
+/// Writes a list of what became of each memory block, from block 0 on, under its key.
+#[tactic(auto, unfolding(crate::specs::Objects::block_list))]
+fn write_block_list(out: &mut String, rows: &[Row]) -> Result<(), AllocError>
+    ensures { OnOk result (string_bytes out.new ≡ string_bytes out.old ++ block_list rows.now) }
+{
+    out.push_str(", \"blocks\": [")?;
+    write_blocks(out, rows)?;
+    out.push_str("]")?;
+    Ok(())
+}
+
+/// Writes what became of memory blocks.
+fn write_blocks(out: &mut String, rows: &[Row]) -> Result<(), AllocError>
+    ensures { OnOk result (string_bytes out.new
+        ≡ string_bytes out.old ++ separated (codes ", ") block_string true rows.now) }
+{
+    let mut is_first = true;
+    for row in rows {
+        write_mark(out, BETWEEN, is_first)?;
+        write_block(out, *row)?;
+        is_first = false;
+    }
+    Ok(())
+}
+
+/// Writes what became of a memory block between quotation marks.
+fn write_block(out: &mut String, row: Row) -> Result<(), AllocError>
+    ensures { OnOk result (string_bytes out.new ≡ string_bytes out.old ++ block_string row) }
+{
+    out.push_str("\"")?;
+    write_words(out, row.state, row.zone)?;
+    out.push_str("\"")
+}
+
+/// Writes the state of a memory block, and its zone where it is online or going.
+fn write_words(out: &mut String, state: State, zone: Option<Zone>) -> Result<(), AllocError>
+    ensures { OnOk result (string_bytes out.new ≡ string_bytes out.old ++ state_words state zone) }
+{
+    match state {
+        State::Offline => out.push_str("offline"),
+        State::Online => {
+            out.push_str("online")?;
+            write_zone(out, zone)
+        }
+        State::Going => {
+            out.push_str("going")?;
+            write_zone(out, zone)
+        }
+        State::Absent => out.push_str("absent"),
+    }
+}
+
+/// Writes a zone after a space.
+fn write_zone(out: &mut String, zone: Option<Zone>) -> Result<(), AllocError>
+    ensures { OnOk result (string_bytes out.new ≡ string_bytes out.old ++ zone_word zone) }
+{
+    match zone {
+        Some(zone) => write!(out, " {zone}"),
+        None => Ok(()),
+    }
+}
+
+/// Writes a list of the calls that a schedule makes under its key, and the end of the object. A
+/// fault is that of a call: the schedule is played once more.
+fn write_call_list(
+    out: &mut String,
+    alloc: Global,
+    names: &IndexSet<Text>,
+    machine: &Machine,
+    scripts: &[Script],
+    schedule: &[Cpu],
+) -> Result<(), ExploreFault>
+    ensures ok { OnOk result (string_bytes out.new ≡ string_bytes out.old
+        ++ call_list names.now.keys (setting machine.now scripts.now) schedule.now) }
+    ensures err { IfErr result (IsCallCause (setting machine.now scripts.now)) }
+{
+    out.push_str(", \"first\": [")?;
+    write_played(out, alloc, names, machine, scripts, schedule)?;
+    out.push_str("]}\n")?;
+    Ok(())
+}
+
+/// Writes the calls that a schedule makes.
+fn write_played(
+    out: &mut String,
+    alloc: Global,
+    names: &IndexSet<Text>,
+    machine: &Machine,
+    scripts: &[Script],
+    schedule: &[Cpu],
+) -> Result<(), ExploreFault>
+    ensures ok { OnOk result (string_bytes out.new ≡ string_bytes out.old
+        ++ played_list names.now.keys (plays (setting machine.now scripts.now) schedule.now)) }
+    ensures err { IfErr result (IsCallCause (setting machine.now scripts.now)) }
+{
+    if let Some(played) = play(alloc, machine, scripts, schedule)? {
+        let start = machine.history().len();
+        write_calls(out, names, &played.history()[start..], BETWEEN)?;
+    }
+    Ok(())
+}
+
+/// The object of a schedule that was found: how often it changes the processor, and its calls.
+pub(crate) fn found_object(
+    alloc: Global,
+    names: &IndexSet<Text>,
+    machine: &Machine,
+    scripts: &[Script],
+    schedule: &[Cpu],
+) -> Result<String, ExploreFault>
+    ensures ok { IfOk result (λ text. string_bytes text
+        ≡ found_object names.now.keys (setting machine.now scripts.now) schedule.now) }
+    ensures err { IfErr result (IsCallCause (setting machine.now scripts.now)) }
+{
+    let mut text = String::new(alloc);
+    let changes = changes_of(schedule);
+    write!(&mut text, "{{\"found\": true, \"changes\": {changes}")?;
+    write_call_list(&mut text, alloc, names, machine, scripts, schedule)?;
+    Ok(text)
+}
+
+/// The object that says that no schedule ends so, and of how many.
+pub(crate) fn absent_object(alloc: Global, schedules: u128) -> Result<String, AllocError>
+    ensures { IfOk result (λ text. string_bytes text ≡ absent_object schedules) }
+{
+    let mut text = String::new(alloc);
+    writeln!(
+        &mut text,
+        "{{\"found\": false, \"interleavings\": {schedules}}}"
+    )?;
+    Ok(text)
+}

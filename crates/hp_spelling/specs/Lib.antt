@@ -1,0 +1,5 @@
+pub mod Entries
+pub mod Layouts
+pub mod Lines
+pub mod Scenarios
+pub mod Separated

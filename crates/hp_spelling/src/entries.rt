@@ -1,0 +1,100 @@
+//! Lines and calls as texts of a scenario's `calls`, one a line, with a comma between two.
+ghost use Rattle.std.specs.Prelude.{◌≡◌, ◌++◌, OnOk, codes, string_bytes, true};
+ghost use Rattle.hp_spelling.specs.Entries.{call_entry, calls_text, entries_text, line_entry};
+ghost use Rattle.hp_spelling.specs.Separated.{separated};
+
+use crate::lines::write_line;
+use crate::separated::write_mark;
+use hp_scenario::Line;
+use hp_text::write_call;
+use hp_units::{Record, Text};
+use indexmap::IndexSet;
+use std::alloc::AllocError;
+
+/// What stands between two texts of `calls`.
+const BETWEEN: &str = ",\n";
+
+/// Writes calls as texts of a scenario's `calls`, with a text between two (own rule). Owners are
+/// written by their names. An error is out of memory.
+pub fn write_calls(
+    out: &mut String,
+    names: &IndexSet<Text>,
+    calls: &[Record],
+    between: &str,
+) -> Result<(), AllocError>
+    ensures { OnOk result (string_bytes out.new
+        ≡ string_bytes out.old ++ calls_text between.now names.now.keys calls.now) }
+{
+    write_calls_after(out, names, calls, between, true)
+}
+
+/// Writes lines, and then calls.
+pub(crate) fn write_entries(
+    out: &mut String,
+    names: &IndexSet<Text>,
+    lines: &[Line],
+    calls: &[Record],
+) -> Result<(), AllocError>
+    ensures { OnOk result (string_bytes out.new
+        ≡ string_bytes out.old ++ entries_text names.now.keys lines.now calls.now) }
+{
+    write_lines(out, names, lines)?;
+    write_calls_after(out, names, calls, BETWEEN, lines.is_empty())
+}
+
+/// Writes lines.
+fn write_lines(out: &mut String, names: &IndexSet<Text>, lines: &[Line]) -> Result<(), AllocError>
+    ensures { OnOk result (string_bytes out.new
+        ≡ string_bytes out.old ++ separated (codes ",\n") (line_entry names.now.keys) true lines.now) }
+{
+    let mut is_first = true;
+    for line in lines {
+        write_mark(out, BETWEEN, is_first)?;
+        write_line_entry(out, names, line)?;
+        is_first = false;
+    }
+    Ok(())
+}
+
+/// Writes a line between quotation marks.
+fn write_line_entry(out: &mut String, names: &IndexSet<Text>, line: &Line) -> Result<(), AllocError>
+    ensures { OnOk result
+        (string_bytes out.new ≡ string_bytes out.old ++ line_entry names.now.keys line.now) }
+{
+    out.push_str("\"")?;
+    write_line(out, names, line)?;
+    out.push_str("\"")
+}
+
+/// Writes calls, of which the first may be the first entry of all.
+fn write_calls_after(
+    out: &mut String,
+    names: &IndexSet<Text>,
+    calls: &[Record],
+    between: &str,
+    mut is_first: bool,
+) -> Result<(), AllocError>
+    ensures { OnOk result (string_bytes out.new
+        ≡ string_bytes out.old ++ separated between.now (call_entry names.now.keys) is_first calls.now) }
+{
+    for call in calls {
+        write_mark(out, between, is_first)?;
+        write_call_entry(out, names, call)?;
+        is_first = false;
+    }
+    Ok(())
+}
+
+/// Writes a call as a line between quotation marks.
+fn write_call_entry(
+    out: &mut String,
+    names: &IndexSet<Text>,
+    call: &Record,
+) -> Result<(), AllocError>
+    ensures { OnOk result
+        (string_bytes out.new ≡ string_bytes out.old ++ call_entry names.now.keys call.now) }
+{
+    out.push_str("\"")?;
+    write_call(out, names, call.cpu, &call.event)?;
+    out.push_str("\"")
+}

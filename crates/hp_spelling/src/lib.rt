@@ -1,0 +1,16 @@
+//! Scenarios as text: a layout, lines and calls as the JSON that hp_scenario reads.
+//!
+//! The crate owns how they are spelled alone: it reads nothing, and runs nothing. Read
+//! specs/Scenarios first.
+#![tactic(auto)]
+
+mod entries;
+mod layouts;
+mod lines;
+mod scenarios;
+mod separated;
+
+pub use entries::write_calls;
+pub use lines::write_line;
+pub use scenarios::write_scenario;
+pub use separated::write_mark;

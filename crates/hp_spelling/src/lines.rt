@@ -1,0 +1,42 @@
+//! Lines as a scenario has them.
+ghost use Rattle.std.specs.Prelude.{◌≡◌, ◌++◌, OnOk, string_bytes};
+ghost use Rattle.hp_spelling.specs.Lines.{line_text, work_text};
+
+use hp_escapes::{Brackets, write_escaped};
+use hp_scenario::{Line, Work};
+use hp_text::{write_event, write_plan};
+use hp_units::Text;
+use indexmap::IndexSet;
+use std::alloc::AllocError;
+
+/// Writes a line as a text of a scenario's `calls`, without the quotation marks: its processor, and
+/// what it asks for (own rule). Owners are written by their names; texts of its own stand as JSON
+/// has them, with each character escaped that a terminal may obey. An error is out of memory.
+pub fn write_line(out: &mut String, names: &IndexSet<Text>, line: &Line) -> Result<(), AllocError>
+    ensures { OnOk result (string_bytes out.new ≡ string_bytes out.old ++ line_text names.now.keys line.now) }
+{
+    let cpu = line.cpu;
+    write!(out, "{cpu} ")?;
+    write_work(out, names, &line.work)
+}
+
+/// Writes what a line asks for.
+fn write_work(out: &mut String, names: &IndexSet<Text>, work: &Work) -> Result<(), AllocError>
+    ensures { OnOk result (string_bytes out.new ≡ string_bytes out.old ++ work_text names.now.keys work.now) }
+{
+    match work {
+        Work::Event(event) => write_event(out, names, event),
+        Work::Plan { plan, turns } => write_plan(out, plan, *turns),
+        Work::Echo(echo) => {
+            out.push_str("echo ")?;
+            write_escaped(out, echo.word(), Brackets::Kept)?;
+            out.push_str(" ")?;
+            write_escaped(out, echo.path(), Brackets::Kept)
+        }
+        Work::Cat { path } => {
+            out.push_str("cat ")?;
+            write_escaped(out, path.as_str(), Brackets::Kept)
+        }
+        Work::Seal => out.push_str("seal"),
+    }
+}

@@ -1,0 +1,16 @@
+//! Texts one after another, with a mark between two.
+ghost use Rattle.std.specs.Prelude.{◌≡◌, ◌++◌, OnOk, string_bytes};
+ghost use Rattle.hp_spelling.specs.Separated.{mark_before};
+
+use std::alloc::AllocError;
+
+/// Writes the mark that stands between two texts before a text, unless it is the first (own rule). An
+/// error is out of memory.
+pub fn write_mark(out: &mut String, mark: &str, is_first: bool) -> Result<(), AllocError>
+    ensures { OnOk result (string_bytes out.new ≡ string_bytes out.old ++ mark_before mark.now is_first) }
+{
+    if is_first {
+        return Ok(());
+    }
+    out.push_str(mark)
+}

@@ -1,0 +1,47 @@
+//! Interleavings as scenarios.
+use super::explorations::scenario;
+use hp_explore::Silent;
+use hp_lab::{EndsForm, explore_text};
+use std::alloc::Global;
+use std::test::Fail;
+
+/// An offline against a map, where each finds one free frame outside the block.
+const RACE: &str = "0 map db 0;0 echo o\\u007ff]\\\" memory0;0 kalloc 0;0 begin off 1;0 migrate 0;\
+     0 commit 0;1 map web 0";
+
+/// The third end's first interleaving, played by another program, written by hand.
+pub const LAST: &str =
+    "{\"layout\": {\"order\": 1, \"pageblocks\": 1, \"blocks\": 2, \"cpus\": 2, \"batch\": 1, \
+     \"high\": 1,\n\"owners\": 2, \"pages\": 2, \"words\": 1, \"history\": 40,\n\
+     \"boot\": [\"normal\", \"movable\"]},\n\"calls\": [\n\"0 map db 0\",\n\
+     \"0 echo o\\u007ff]\\\" memory0\",\n\"0 kalloc 0\",\n\"1 map web 0\",\n\"0 begin off 1\",\n\
+     \"0 migrate 4\",\n\"0 commit 4\"\n]}\n";
+
+const COUNTS: &str = "interleavings: 4\nends: 3\n";
+
+/// Whether the scenario of an end has this text, or it is said how many ends there are.
+fn replays(
+    alloc: Global,
+    scenario: &str,
+    setup: u64,
+    number: u64,
+    text: &str,
+    is_found: bool,
+) -> bool {
+    let form = EndsForm::Scenario(number);
+    match explore_text(alloc, scenario.as_bytes(), setup, 100, form, &mut Silent) {
+        Ok(finding) => finding.is_found == is_found && finding.text.as_str() == text,
+        Err(_fault) => false,
+    }
+}
+
+#[test]
+fn an_end_is_a_scenario(rt: HostRuntime) -> Result<(), Fail> {
+    let race = scenario(rt.alloc(), 40, RACE)?;
+    assert!(rt; replays(rt.alloc(), &race, 3, 3, LAST, true));
+    assert!(rt; replays(rt.alloc(), &race, 3, 0, COUNTS, false));
+    assert!(rt; replays(rt.alloc(), &race, 3, 4, COUNTS, false));
+    // All its lines are read again as they were written.
+    assert!(rt; replays(rt.alloc(), LAST, 7, 1, LAST, true));
+    Ok(())
+}

@@ -1,0 +1,117 @@
+//! Scenarios as the text that reads them.
+use super::replays::LAST;
+use hp_lab::{Unbegun, unbegun_lines};
+use hp_scenario::{Line, Scenario};
+use hp_spelling::{write_calls, write_line, write_mark, write_scenario};
+use hp_units::{Cpu, Event, Record, Reply, Serial, Text};
+use indexmap::IndexSet;
+use std::alloc::{AllocError, Global};
+use std::test::Fail;
+
+/// A plan, a file that is read, one that is written, and a seal.
+const LINES: &str =
+    "{\"layout\": {\"order\": 0, \"pageblocks\": 4, \"blocks\": 3, \"cpus\": 1, \"batch\": 1, \
+     \"high\": 2,\n\"owners\": 1, \"pages\": 2, \"words\": 1, \"history\": 5,\n\
+     \"boot\": [\"absent\", \"offline\", \"normal\"]},\n\"calls\": [\n\"0 plan 3 off 1 movable 0\",\n\
+     \"0 cat a\\u0007b\",\n\"0 echo c\\\\d e\",\n\"0 seal\"\n]}\n";
+
+const NO_LINES: &str =
+    "{\"layout\": {\"order\": 0, \"pageblocks\": 4, \"blocks\": 1, \"cpus\": 1, \"batch\": 1, \
+     \"high\": 2,\n\"owners\": 1, \"pages\": 2, \"words\": 1, \"history\": 5,\n\
+     \"boot\": [\"movable\"]},\n\"calls\": [\n\n]}\n";
+
+/// Scripts of which the second uses 0 before its own begin, and the third after the setup's.
+const SCRIPTS: &str =
+    "{\"layout\": {\"order\": 0, \"pageblocks\": 4, \"blocks\": 1, \"cpus\": 3, \"batch\": 1, \
+     \"high\": 2, \"owners\": 1, \"pages\": 2, \"words\": 1, \"history\": 9, \"boot\": [\"movable\"]}, \
+     \"calls\": [\"1 commit 0\", \"2 plan 1 off 0\", \"1 drain 0\", \"1 cancel 0\", \"1 begin off 0\", \
+     \"2 commit 0\", \"0 migrate 1\", \"1 commit 0\"]}";
+
+/// Whether a scenario is written as this text that it is read from.
+fn is_spelled(alloc: Global, text: &str) -> Result<bool, AllocError> {
+    let mut out = String::new(alloc);
+    match Scenario::read(alloc, text.as_bytes()) {
+        Ok(scenario) => {
+            let lines = scenario.lines.as_slice();
+            write_scenario(&mut out, &scenario.layout, &scenario.names, lines, &[])?;
+            Ok(out.as_str() == text)
+        }
+        Err(_fault) => Ok(false),
+    }
+}
+
+#[test]
+fn scenarios_are_read_as_they_are_written(rt: HostRuntime) -> Result<(), Fail> {
+    for text in [LAST, LINES, NO_LINES] {
+        assert!(rt; is_spelled(rt.alloc(), text)?, "{text}");
+    }
+    Ok(())
+}
+
+/// A line and two calls with a mark before each of the two.
+fn write_parts(
+    out: &mut String,
+    names: &IndexSet<Text>,
+    lines: &[Line],
+    calls: &[Record],
+) -> Result<(), AllocError> {
+    for line in lines {
+        write_line(out, names, line)?;
+    }
+    write_mark(out, " then ", true)?;
+    write_calls(out, names, calls, " + ")?;
+    write_mark(out, " then ", false)
+}
+
+fn drain(cpu: Cpu, serial: Serial) -> Record {
+    Record {
+        serial,
+        cpu,
+        event: Event::Drain { cpu },
+        reply: Reply::Done,
+    }
+}
+
+#[test]
+fn calls_are_written_as_lines(rt: HostRuntime) -> Result<(), Fail> {
+    let calls = [drain(Cpu(0), Serial(1)), drain(Cpu(7), Serial(2))];
+    let names = IndexSet::new(rt.alloc());
+    let mut out = String::new(rt.alloc());
+    write_parts(&mut out, &names, &[], &calls)?;
+    assert!(rt; out.as_str() == "\"0 drain 0\" + \"7 drain 7\" then ");
+    Ok(())
+}
+
+/// Whether this line of a processor alone is told; none for line 0.
+fn tells(found: &[Unbegun], cpu: Cpu, line: u64) -> bool {
+    match found {
+        [] => line == 0,
+        [one] => one.cpu == cpu && one.line == line,
+        _ => false,
+    }
+}
+
+/// Whether this line of a scenario's scripts alone works on no operation; none for line 0.
+fn has_unbegun(
+    alloc: Global,
+    text: &str,
+    setup: u64,
+    cpu: Cpu,
+    line: u64,
+) -> Result<bool, AllocError> {
+    match Scenario::read(alloc, text.as_bytes()) {
+        Ok(scenario) => {
+            let cpus = scenario.layout.cpus();
+            let found = unbegun_lines(alloc, cpus, setup, scenario.lines.as_slice())?;
+            Ok(tells(&found, cpu, line))
+        }
+        Err(_fault) => Ok(false),
+    }
+}
+
+#[test]
+fn the_first_lines_without_an_operation_are_told(rt: HostRuntime) -> Result<(), Fail> {
+    assert!(rt; has_unbegun(rt.alloc(), SCRIPTS, 2, Cpu(1), 4)?);
+    assert!(rt; has_unbegun(rt.alloc(), SCRIPTS, 4, Cpu(1), 0)?);
+    Ok(())
+}
