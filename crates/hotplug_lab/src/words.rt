@@ -31,6 +31,37 @@ const SCENARIO: &str = "scenario";
 /// The option that writes JSON, an object a line.
 const JSON: &str = "json";
 
+/// The options of `check` that take a number, each with its help.
+const CHECK_NUMBERS: [(&str, &str); 1] = [(
+    "setup",
+    "Takes the lines after so many for scripts, as explore does (all are the setup)",
+)];
+
+/// Those of `explore`.
+const EXPLORE_NUMBERS: [(&str, &str); 3] = [
+    ("setup", "Runs so many lines in order first (0)"),
+    ("limit", "Counts at most so many interleavings (10000000)"),
+    (
+        SCENARIO,
+        "Writes the interleaving that is told of end N as a scenario; that of a search where N is 1",
+    ),
+];
+
+/// Those of `trace`.
+const TRACE_NUMBERS: [(&str, &str); 5] = [
+    ("from", "The first line that is shown (1)"),
+    ("to", "The last line that is shown (the last there is)"),
+    ("every", "Shows one line of so many, from the first on (1)"),
+    (
+        "width",
+        "Folds lines that take more columns, and shows only the memory blocks that changed (200)",
+    ),
+    (
+        "cell",
+        "Makes the cell of a frame so many pixels wide in the picture, 1 to 32 (8)",
+    ),
+];
+
 /// What is asked of an exploration: how many lines are run first, and the most interleavings that
 /// are counted.
 #[derive(Clone, Copy)]
@@ -84,92 +115,94 @@ pub struct Request<'a, 'w> {
 
 /// The command line.
 pub fn lab_command<'a>(alloc: Global) -> Result<Command<'a>, AllocError> {
-    Command::new(alloc, "hotplug_lab")
+    let program = Command::new(alloc, "hotplug_lab")
         .version("1.0")
         .about("Looks into scenarios of the memory machine")
         .after_help(
             "Exit status: 0; 1 after a fault, which standard error names, and after a check that \
-             finds faults (warnings alone: 0); 2 for a wrong command line; 3 where --find or \
-             --scenario finds nothing, and where --never finds something.",
+             finds faults (warnings alone: 0); 2 for a wrong command line; 3 where --find finds \
+             nothing, and where --never finds something.",
         )
-        .subcommand_required(true)
-        .subcommand(check_command(alloc)?)?
-        .subcommand(explore_command(alloc)?)?
-        .subcommand(trace_command(alloc)?)
+        .subcommand_required(true);
+    with_trace(alloc, with_explore(alloc, with_check(alloc, program)?)?)
+}
+
+/// A command with the word `check`.
+fn with_check<'a>(alloc: Global, program: Command<'a>) -> Result<Command<'a>, AllocError> {
+    program.subcommand(check_command(alloc)?)
+}
+
+/// A command with the word `explore`.
+fn with_explore<'a>(alloc: Global, program: Command<'a>) -> Result<Command<'a>, AllocError> {
+    program.subcommand(explore_command(alloc)?)
+}
+
+/// A command with the word `trace`.
+fn with_trace<'a>(alloc: Global, program: Command<'a>) -> Result<Command<'a>, AllocError> {
+    program.subcommand(trace_command(alloc)?)
 }
 
 /// The words of `check`.
 fn check_command<'a>(alloc: Global) -> Result<Command<'a>, AllocError> {
-    Command::new(alloc, "check")
-        .about(
-            "Writes what is wrong with a scenario and where; the status is 0 where there are no faults",
-        )
-        .arg(number(
-            alloc,
-            "setup",
-            "Takes the lines after so many for scripts, as explore does (all are the setup)",
-        ))?
-        .arg(scenario(alloc))
+    let check = Command::new(alloc, "check").about(
+        "Writes what is wrong with a scenario and where; the status is 0 where there are no faults",
+    );
+    with_numbers(alloc, check, &CHECK_NUMBERS)?.arg(scenario(alloc))
 }
 
 /// The words of `explore`.
 fn explore_command<'a>(alloc: Global) -> Result<Command<'a>, AllocError> {
-    Command::new(alloc, "explore")
-        .about("Counts every interleaving of the processors' calls, and tells the ends apart")
-        .arg(number(alloc, "setup", "Runs so many lines in order first (0)"))?
-        .arg(number(
-            alloc,
-            "limit",
-            "Counts at most so many interleavings (10000000)",
-        ))?
-        .arg(wanted(
-            alloc,
-            FIND,
-            "Searches an interleaving whose end has this line, with the fewest changes of processor",
-        ))?
-        .arg(wanted(
-            alloc,
-            NEVER,
-            "The same, where none is to end so: the status is turned round",
-        )
-        .conflicts_with(FIND)?)?
-        .arg(number(
-            alloc,
-            SCENARIO,
-            "Writes the interleaving that is told of end N as a scenario; that of a search where N is 1",
-        ))?
-        .arg(json(alloc).conflicts_with(SCENARIO)?)?
-        .arg(scenario(alloc))
+    let explore = Command::new(alloc, "explore").about(
+        "Counts every interleaving of the processors' calls, and tells the ends apart",
+    );
+    let explore = with_numbers(alloc, explore, &EXPLORE_NUMBERS)?;
+    with_json(alloc, with_searches(alloc, explore)?)?.arg(scenario(alloc))
+}
+
+/// A command with the options that search an end.
+fn with_searches<'a>(alloc: Global, command: Command<'a>) -> Result<Command<'a>, AllocError> {
+    let find = wanted(
+        alloc,
+        FIND,
+        "Searches an interleaving whose end has this line, with the fewest changes of processor",
+    );
+    let never = wanted(
+        alloc,
+        NEVER,
+        "The same, where none is to end so: the status is turned round",
+    );
+    command.arg(find)?.arg(never.conflicts_with(FIND)?)
+}
+
+/// A command with the flag that asks for JSON.
+fn with_json<'a>(alloc: Global, command: Command<'a>) -> Result<Command<'a>, AllocError> {
+    command.arg(json(alloc).conflicts_with(SCENARIO)?)
 }
 
 /// The words of `trace`.
 fn trace_command<'a>(alloc: Global) -> Result<Command<'a>, AllocError> {
-    Command::new(alloc, "trace")
-        .about("Writes what each line answers, with a picture of the memory after each call")
-        .arg(number(alloc, "from", "The first line that is shown (1)"))?
-        .arg(number(
-            alloc,
-            "to",
-            "The last line that is shown (the last there is)",
-        ))?
-        .arg(number(
-            alloc,
-            "every",
-            "Shows one line of so many, from the first on (1)",
-        ))?
-        .arg(number(
-            alloc,
-            "width",
-            "Folds lines that take more columns, and shows only the memory blocks that changed (200)",
-        ))?
-        .arg(orders(alloc))?
-        .arg(svg(alloc))?
-        .arg(number(
-            alloc,
-            "cell",
-            "Makes the cell of a frame so many pixels wide in the picture, 1 to 32 (8)",
-        ))?
-        .arg(scenario(alloc))
+    let trace = Command::new(alloc, "trace").about(
+        "Writes what each line answers, with a picture of the memory after each call",
+    );
+    with_forms(alloc, with_numbers(alloc, trace, &TRACE_NUMBERS)?)?.arg(scenario(alloc))
+}
+
+/// A command with the flags that say how frames are shown.
+fn with_forms<'a>(alloc: Global, command: Command<'a>) -> Result<Command<'a>, AllocError> {
+    command.arg(orders(alloc))?.arg(svg(alloc))
+}
+
+/// A command with an option for each of these names and helps, which takes a number.
+fn with_numbers<'a>(
+    alloc: Global,
+    command: Command<'a>,
+    options: &[(&'a str, &'a str)],
+) -> Result<Command<'a>, AllocError> {
+    let mut command = command;
+    for (name, help) in options {
+        command = command.arg(number(alloc, name, help))?;
+    }
+    Ok(command)
 }
 
 /// The argument that names a scenario.
