@@ -1,4 +1,4 @@
-use Rattle.std.proofs.Common.{◌≡◌, string_bytes, refl}
+use Rattle.std.proofs.Common.{◌≡◌, refl}
 use Rattle.hp_scenario.specs.Calls.{IsOpened}
 use Rattle.hp_scenario.proofs.UsualForm.{there}
 use Rattle.hp_commands.proofs.Called.{called_text}
