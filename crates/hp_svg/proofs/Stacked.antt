@@ -76,7 +76,8 @@ pub moves_more : (s : Sheet) (above here last top more : ℕ) (rows : List RowVa
     → new ≡ now ++ move_text s above here moved → here ≡ blocks_top top row → moved ≡ row.moved
     → last ≡ last_blocks above top row → more ≡ row_height s row
     → new ++ moves_from s last (top + more) (drop (i + 1) rows) ≡ all
-moves_more s above here last top more rows i row moved now new all lt at so_far written at_here page at_last is =
+moves_more s above here last top more rows i row moved now new all lt at so_far written at_here page
+    at_last is =
     let rest : ℕ → ℕ → List ℕ = λ a n. moves_from s a (top + n) (drop (i + 1) rows) in
     let move = move_text s above (blocks_top top row) row.moved in
     ap (λ (t : List ℕ). t ++ rest last more) written

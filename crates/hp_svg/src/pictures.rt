@@ -18,11 +18,11 @@ use std::alloc::{AllocError, Global};
 /// The picture of rows as SVG (own rule), where the cell of a frame is so many pixels wide: one row
 /// under another, with its texts and the heads of its memory blocks as text, a rectangle for each run
 /// of equal characters of a block's cells, an outline for each free block with its order, and below
-/// the cells a strip for the mobility of pageblocks; a line from where a page was, in the row above, to
-/// where it moved; above the rows stand a legend of all characters that occur, of outlines, strips and
-/// lines, and the numbers of the blocks and of their first frames. How wide a block is, and how many there are, is that of the first row; blocks that have no room in
-/// 1,600 pixels go on below the first. Of an owner whose letter is in the legend the name stands
-/// there. An error is out of memory.
+/// the cells a strip for the mobility of pageblocks; a line from where a page was, in the row above,
+/// to where it moved; above the rows stand a legend of all characters that occur, of outlines, strips
+/// and lines, and the numbers of the blocks and of their first frames. How wide a block is, and how
+/// many there are, is that of the first row; blocks that have no room in 1,600 pixels go on below the
+/// first. Of an owner whose letter is in the legend the name stands there. An error is out of memory.
 ///
 /// Each row has all memory blocks, or none where it is a line of text alone, which stands where
 /// answers do. A text that has no room before what comes next has a line of its own.

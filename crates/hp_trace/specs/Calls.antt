@@ -57,7 +57,8 @@ abbrev pub MakesSteps : (cpu : ℕ) → MachineValue → List Receipt → (rows 
 MakesSteps cpu m [] rows after = (after ≡ m) × (rows ≡ [])
 MakesSteps cpu m (r ∷ rs) rows after =
     (next : MachineValue) × (rest : List Row) × (is_full m ≡ false) × IsCalled m cpu r.event r next
-    × (rows ≡ drawing (step_text r.event) (answer_text r) (moved_of r.reply) next ∷ rest) × MakesSteps cpu next rs rest after
+    × (rows ≡ drawing (step_text r.event) (answer_text r) (moved_of r.reply) next ∷ rest)
+    × MakesSteps cpu next rs rest after
 
 -- a plan's driver stops early only at a full history
 abbrev pub IsStop : Option CallFault → MachineValue → Type 0
