@@ -13,8 +13,8 @@ What is compared, of `hotplug_lab explore`:
   `--json` writes the same ends; and the first line that cannot stand in a script is refused by its place;
 - on a scenario with hostile texts: `--scenario` writes each of its lines as it is;
 - 50 runs of `hotplug run` on each of three small scenarios: each outcome is one of the ends;
-- a script of 4,000 calls of one processor: it has one interleaving, with the answers of `hotplug
-  serial`.
+- with 128 KiB of stack: a script of 4,000 calls of one processor has one interleaving, with the
+  answers of `hotplug serial`; and a setup of a million lines is written as it is by `--scenario`.
 Of `hotplug_lab trace`, on each file of examples/ and on a scenario with hostile texts: it has all
 lines in their order, and what they answer is what `hotplug serial` prints before the state; in
 lines of 100 columns each memory block begins after the columns of what was asked and answered, and
@@ -41,6 +41,8 @@ SECONDS = 60
 RUNS = 50
 TAIL = 6
 CALLS = 4_000
+LINES = 1_000_000
+SHALLOW = ["bash", "-c", 'ulimit -s 128; exec "$@"', "bash"]
 
 
 class Checks:
@@ -80,9 +82,9 @@ class Programs:
     def run(self, scenario):
         return self.call([self.hotplug, "run"], scenario)
 
-    def explore(self, scenario, setup, *options, limit=100000):
+    def explore(self, scenario, setup, *options, limit=100000, before=()):
         words = [self.lab, "explore", "--setup", str(setup), "--limit", str(limit), *options]
-        return self.call(words, scenario)
+        return self.call([*before, *words], scenario)
 
     def check(self, scenario):
         return self.call([self.lab, "check"], scenario)
@@ -182,11 +184,19 @@ def check_depth(checks, programs):
     layout = {"order": 0, "pageblocks": 4, "blocks": 1, "cpus": 1, "batch": 1, "high": 1,
               "owners": 1, "pages": 1, "words": 1, "history": CALLS, "boot": ["normal"]}
     calls = ["0 kalloc 0", "0 kfree 0"] * (CALLS // 2)
-    text = programs.explore({"layout": layout, "calls": calls}, 0)
+    text = programs.explore({"layout": layout, "calls": calls}, 0, before=SHALLOW)
     total, ends = ends_of(text)
     checks.holds("a deep script", total == 1 and len(ends) == 1, f"has {total} interleavings")
     end = end_in_serial(programs, layout, [], calls)
     checks.holds("a deep script", [it for _, it, _ in ends] == [end], "ends otherwise")
+
+
+def check_length(checks, programs):
+    layout = {"order": 0, "pageblocks": 4, "blocks": 1, "cpus": 1, "batch": 1, "high": 1,
+              "owners": 1, "pages": 1, "words": 1, "history": LINES, "boot": ["normal"]}
+    scenario = {"layout": layout, "calls": ["0 drain 0"] * LINES}
+    text = programs.explore(scenario, LINES, "--scenario", "1", before=SHALLOW)
+    checks.holds("a long setup", json.loads(text) == scenario, "is written otherwise")
 
 
 # Ends as JSON
@@ -331,6 +341,7 @@ def check_findings(checks, programs, file):
 def check_all(checks, programs):
     check_by_force(checks, programs)
     check_depth(checks, programs)
+    check_length(checks, programs)
     check_hostile_replay(checks, programs)
     for file in sorted((ROOT / "examples").glob("*.json")):
         check_example(checks, programs, file)

@@ -60,7 +60,8 @@ abbrev pub IsAnswerOf : Word → (input text : List ℕ) → (status : ℕ) → 
 IsAnswerOf (Check setup) input text status = IsCheckOf setup input text status
 IsAnswerOf (Explore asked form) input text status = IsExploringOf asked form input text status
 IsAnswerOf (Find asked wanted form) input text status = IsSearchOf asked wanted.now form 0 3 input text status
-IsAnswerOf (Never asked wanted form) input text status = IsSearchOf asked wanted.now form 3 0 input text status
+IsAnswerOf (Never asked wanted form) input text status =
+    IsSearchOf asked wanted.now form 3 0 input text status
 IsAnswerOf (Trace view) input text status = IsTraceOf view input text × (status ≡ 0)
 IsAnswerOf (Picture drawing) input text status = IsPictureOf drawing input text × (status ≡ 0)
 
@@ -122,13 +123,14 @@ abbrev pub IsPast : (asked : ℕ) → (count : Option ℕ) → ProgramFault → 
 IsPast asked count (PastEnd number lines) = (number ≡ asked) × (count ≡ Some lines) × (lines < asked)
 IsPast asked count fault = ⊥
 
--- why a word has no answer: the fault of the exploration or the search, or of the scenario that is to be traced;
--- else out of memory alone
+-- why a word has no answer: the fault of the exploration or the search, or of the scenario that is
+-- to be traced; else out of memory alone
 abbrev pub IsLabCause : Word → (input : List ℕ) → LabFault → Type 0
 IsLabCause (Check setup) input fault = fault ≡ OutOfMemory
 IsLabCause (Explore asked form) input fault = IsFaultOf input asked.setup asked.limit fault
 IsLabCause (Find asked wanted form) input fault = IsFindFaultOf input asked.setup asked.limit wanted.now fault
-IsLabCause (Never asked wanted form) input fault = IsFindFaultOf input asked.setup asked.limit wanted.now fault
+IsLabCause (Never asked wanted form) input fault =
+    IsFindFaultOf input asked.setup asked.limit wanted.now fault
 IsLabCause (Trace view) input fault = fault ≡ OutOfMemory
 IsLabCause (Picture drawing) input fault = fault ≡ OutOfMemory
 

@@ -118,7 +118,8 @@ fn watched_answer<P: Watch + Drop>(
     word: Word<'_>,
     mut watch: P,
 ) -> Result<Answer, ProgramFault>
-    ensures ok { IfOk result (λ answer. Answers word.entry input.now (string_bytes answer.text) answer.status) }
+    ensures ok { IfOk result
+        (λ answer. Answers word.entry input.now (string_bytes answer.text) answer.status) }
     ensures err { IfErr result (IsUnanswered word.entry input.now) }
 {
     look_for_line(alloc, input, word)?;
@@ -202,7 +203,8 @@ fn answer_to<W: Watch>(
     word: Word<'_>,
     watch: &mut W,
 ) -> Result<Answer, ProgramFault>
-    ensures ok { IfOk result (λ answer. IsAnswerOf word.entry input.now (string_bytes answer.text) answer.status) }
+    ensures ok { IfOk result
+        (λ answer. IsAnswerOf word.entry input.now (string_bytes answer.text) answer.status) }
     ensures err { IfErr result (IsUnanswered word.entry input.now) }
 {
     match word {

@@ -86,7 +86,8 @@ written_cause g ends limit search.HistoryFull are within h = (h, not_too_many g 
 written_cause g ends limit search.OutOfMemory are within h = tt
 
 -- of a search for an end too
-pub found_cause : (g : Setting) (wanted : List Wanted) (limit : ℕ) (fault : ExploreFault) → IsCallCause g fault
+pub found_cause : (g : Setting) (wanted : List Wanted) (limit : ℕ) (fault : ExploreFault)
+    → IsCallCause g fault
     → IsFindCause g wanted limit fault
 found_cause g wanted limit search.TooMany h = absurd h
 found_cause g wanted limit search.HistoryFull h = h
@@ -104,7 +105,8 @@ moved : (P : List Line → Setting → Type 0) (s : ScenarioValue) (setup cpus :
     → AreParts s setup cpus before after → HoldsAfter (P before) s.layout before after
     → HoldsAfter (P (take setup s.lines)) s.layout (take setup s.lines) (drop setup s.lines)
 moved P s setup cpus before after parts h =
-    subst (λ (xs : List Line). HoldsAfter (P (take setup s.lines)) s.layout (take setup s.lines) xs) parts.rest
+    subst (λ (xs : List Line). HoldsAfter (P (take setup s.lines)) s.layout (take setup s.lines) xs)
+    parts.rest
     (subst (λ (xs : List Line). HoldsAfter (P xs) s.layout xs after) parts.front h)
 
 stopped_after : (C : Setting → ExploreFault → Type 0) (s : ScenarioValue) (setup cpus : ℕ)
@@ -116,7 +118,8 @@ stopped_after C s setup cpus before after fault parts fit h = (
   moved (λ lines g. C g fault) s setup cpus before after parts h,
 )
 
-pub stopped_known : (C : Setting → ExploreFault → Type 0) (input : List ℕ) (s : ScenarioValue) (setup cpus : ℕ)
+pub stopped_known : (C : Setting → ExploreFault → Type 0) (input : List ℕ) (s : ScenarioValue)
+    (setup cpus : ℕ)
     (before after : List Line) (fault : ExploreFault)
     → scenario_in input ≡ Ok s → AreParts s setup cpus before after → AreFit cpus after (length after)
     → IsUnanswered C s.layout before after fault → IsFaultWith C input setup (search_fault_from fault)
@@ -144,7 +147,8 @@ pub answered_after : (P : Setting → Type 0) (l : LayoutParts) (cpus : ℕ) (be
     → boot ≡ booted l → none ≡ [] → RunsLines boot none before start sealed
     → all ≡ sealed ++ begins_in start.history → cpus ≡ l.cpus → scripts ≡ scripts_of cpus all after
     → P (setting start scripts) → HoldsAfter P l before after
-answered_after P l cpus before after boot start none sealed all scripts at_boot at_first ran all_is count are h =
+answered_after P l cpus before after boot start none sealed all scripts at_boot at_first ran all_is count are
+    h =
     record {
       start = start;
       sealed = sealed;
@@ -176,7 +180,8 @@ numbered_at ends number e some within is = record {
 
 -- ---- the number of scripts
 
-pub scripts_fit : (cpus : ℕ) (begins : List Begin) (lines : List Line) (scripts : List (List Step)) → cpus < 2 ^ 32
+pub scripts_fit : (cpus : ℕ) (begins : List Begin) (lines : List Line) (scripts : List (List Step))
+    → cpus < 2 ^ 32
     → scripts ≡ scripts_of cpus begins lines → length scripts < 2 ^ 32
 scripts_fit cpus begins lines scripts fits are =
     omega (

@@ -25,7 +25,8 @@ one_more [] line m mid new before so_far after ran w is = (
 one_more (x ∷ xs) line m mid new before so_far after ran w is =
     (ran.0, ran.1, one_more xs line ran.0 mid new (before ++ begins_sealed m x.work) so_far after ran.2 w is)
 
-pub lines_more : (xs : List Line) (i : ℕ) (line : Line) (m mid next : MachineValue) (before so_far after : List Begin)
+pub lines_more : (xs : List Line) (i : ℕ) (line : Line) (m mid next : MachineValue)
+    (before so_far after : List Begin)
     → i < length xs → RunsLines m before (take i xs) mid so_far → line ≡ get_or xs i line
     → after ≡ so_far ++ begins_sealed mid line.work → RunsWork mid line.cpu line.work next
     → RunsLines m before (take (i + 1) xs) next after
@@ -35,7 +36,8 @@ lines_more xs i line m mid next before so_far after lt ran is_at sealed one =
     (one_more (take i xs) line m mid next before so_far after ran one sealed)
 
 -- one more script
-pub scripts_more : (all : List (List step.Line)) (script : List step.Line) (begins : List Begin) (lines : List Line)
+pub scripts_more : (all : List (List step.Line)) (script : List step.Line) (begins : List Begin)
+    (lines : List Line)
     (cpu : ℕ)
     → all ≡ scripts_of cpu begins lines → script ≡ script_of begins lines cpu
     → all ++ script ∷ [] ≡ scripts_of (cpu + 1) begins lines

@@ -58,7 +58,8 @@ AreEndsTold Objects names before g ends text found = (text ≡ objects_text name
 AreEndsTold (Scenario number) names before g ends text found = IsEndTold names before g ends number text found
 
 -- of the ends of all complete schedules, which are no more than the limit
-pub record IsExploredOn (form : EndsForm) (names : List (List ℕ)) (before : List Line) (g : Setting) (limit : ℕ)
+pub record IsExploredOn (form : EndsForm) (names : List (List ℕ)) (before : List Line) (g : Setting)
+    (limit : ℕ)
     (text : List ℕ) (found : Bool) : Type 0 where
   pub ends : List Ending
   pub are : AreEnds g ends
@@ -107,7 +108,8 @@ pub record HoldsIn (P : (names : List (List ℕ)) → (before : List Line) → S
       (take setup scenario.lines) (drop setup scenario.lines)
 
 -- the text is that of the exploration of the scripts, and of the search for an end
-abbrev pub IsExplorationOf : EndsForm → (input : List ℕ) → (setup limit : ℕ) → (text : List ℕ) → (found : Bool)
+abbrev pub IsExplorationOf : EndsForm → (input : List ℕ) → (setup limit : ℕ) → (text : List ℕ)
+    → (found : Bool)
     → Type 0
 IsExplorationOf form input setup limit text found =
     HoldsIn (λ names before g. IsExploredOn form names before g limit text found) input setup

@@ -94,7 +94,8 @@ abbrev pub replayed_text : (names : List (List ℕ)) → (before : List Line) �
 replayed_text names before l None = []
 replayed_text names before l (Some news) = scenario_text l names before news
 
-abbrev pub replay_text : (names : List (List ℕ)) → (before : List Line) → Setting → (schedule : List ℕ) → List ℕ
+abbrev pub replay_text : (names : List (List ℕ)) → (before : List Line) → Setting → (schedule : List ℕ)
+    → List ℕ
 replay_text names before g schedule = replayed_text names before g.layout (plays g schedule)
 
 -- in a form

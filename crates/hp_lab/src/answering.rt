@@ -122,7 +122,8 @@ fn answer_on<W: Watch>(
     watch: &mut W,
 ) -> Result<Finding, ExploreFault>
     requires { length scripts.now < 2 ^ 32 }
-    ensures ok { IfOk result (λ f. IsAnsweredOn ask.entry limit (string_bytes f.text) f.is_found names.now.keys
+    ensures ok { IfOk result
+        (λ f. IsAnsweredOn ask.entry limit (string_bytes f.text) f.is_found names.now.keys
         before.now (setting machine.now scripts.now)) }
     ensures err { IfErr result (IsAskCause ask.entry limit (setting machine.now scripts.now)) }
 {

@@ -25,9 +25,10 @@ use std::alloc::Global;
 ///
 /// As words the text says how many there are, and for each different end how many lead to it, what
 /// the processors were answered, what became of the memory blocks, and the calls of the first that
-/// leads to it. As objects it has a line of JSON for each end. As a scenario it has the layout, the lines of the setup, and the calls of the first
-/// interleaving that leads to the end with the number; where no end has that number, it says how
-/// many interleavings and ends there are, and nothing is found (own rule).
+/// leads to it. As objects it has a line of JSON for each end. As a scenario it has the layout, the
+/// lines of the setup, and the calls of the first interleaving that leads to the end with the
+/// number; where no end has that number, it says how many interleavings and ends there are, and
+/// nothing is found (own rule).
 ///
 /// The watch is told while the search runs how many interleavings are counted so far.
 ///
@@ -61,7 +62,8 @@ pub(crate) fn explored_on<W: Watch>(
     watch: &mut W,
 ) -> Result<Finding, ExploreFault>
     requires { length scripts.now < 2 ^ 32 }
-    ensures ok { IfOk result (λ f. IsExploredOn form names.now.keys before.now (setting machine.now scripts.now)
+    ensures ok { IfOk result
+        (λ f. IsExploredOn form names.now.keys before.now (setting machine.now scripts.now)
         limit (string_bytes f.text) f.is_found) }
     ensures err { IfErr result (IsCause (setting machine.now scripts.now) limit) }
 {
@@ -80,7 +82,8 @@ fn ends_told(
     ends: &[Ending],
     form: EndsForm,
 ) -> Result<Finding, ExploreFault>
-    ensures ok { IfOk result (λ f. AreEndsTold form names.now.keys before.now (setting machine.now scripts.now)
+    ensures ok { IfOk result
+        (λ f. AreEndsTold form names.now.keys before.now (setting machine.now scripts.now)
         ends.now (string_bytes f.text) f.is_found) }
     ensures err { IfErr result (IsCallCause (setting machine.now scripts.now)) }
 {

@@ -6,8 +6,8 @@
 //! interleaving that leads to it, or such an interleaving as a scenario. It owns that text and the
 //! faults; it opens no file and no stream.
 //!
-//! Read specs/Explorations first: what `explore_text` promises. Then specs/Scripts, specs/Setup and
-//! specs/Texts.
+//! Read specs/Explorations first: what `explore_text` promises. Then specs/Scripts, specs/Setup,
+//! specs/Begins, specs/Texts and specs/Objects.
 #![tactic(auto)]
 
 mod answering;

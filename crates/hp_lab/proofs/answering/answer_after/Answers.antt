@@ -1,4 +1,5 @@
--- The machine after the lines is the one that they lead to, and the scripts are those of the lines after them.
+-- The machine after the lines is the one that they lead to, and the scripts are those of the lines
+-- after them.
 use Rattle.std.proofs.Common.{List, ◌++◌, ap, arith, string_bytes, ◌∙◌}
 use Rattle.std.proofs.lemmas.Result.{IfErr-weaker, IfOk-weaker}
 use Rattle.hp_lab.specs.Explorations.{IsAnsweredOn, IsAskCause}
@@ -17,11 +18,13 @@ pub returns-clause-ok : goal.returns-clause-ok
 returns-clause-ok o c =
     IfOk-weaker c.answer_on.result _ _
     (λ f h. answered_after (IsAnsweredOn c.args.ask c.args.limit (string_bytes f.text) f.is_found
-    c.args.names.now.keys c.args.before.now) c.args.layout.now c.cpus.result c.args.before.now c.args.after.now _
+    c.args.names.now.keys c.args.before.now) c.args.layout.now c.cpus.result c.args.before.now
+    c.args.after.now _
     c.run_lines.new.machine _ c.run_lines.new.begins.items c.deref.result.now c.deref-2.result.now
     c.in_ok-machine.ensures c.new-begins.ensures.items c.in_ok-run_lines.ensures
     (c.deref.ensures.value ∙ (c.in_ok-note_begins.ensures
-    ∙ ap (λ (h : List Record). c.run_lines.new.begins.items ++ begins_in h) c.history.ensures.records)) c.cpus.ensures.is
+    ∙ ap (λ (h : List Record). c.run_lines.new.begins.items ++ begins_in h) c.history.ensures.records))
+    c.cpus.ensures.is
     (c.deref-2.ensures.value ∙ c.in_ok-scripts.ensures) h) c.answer_on.ensures.ok
 
 pub returns-clause-err : goal.returns-clause-err
@@ -32,5 +35,6 @@ returns-clause-err o c =
     c.cpus.result c.args.before.now c.args.after.now _ c.run_lines.new.machine _ c.run_lines.new.begins.items
     c.deref.result.now c.deref-2.result.now c.in_ok-machine.ensures c.new-begins.ensures.items
     c.in_ok-run_lines.ensures (c.deref.ensures.value ∙ (c.in_ok-note_begins.ensures
-    ∙ ap (λ (h : List Record). c.run_lines.new.begins.items ++ begins_in h) c.history.ensures.records)) c.cpus.ensures.is
+    ∙ ap (λ (h : List Record). c.run_lines.new.begins.items ++ begins_in h) c.history.ensures.records))
+    c.cpus.ensures.is
     (c.deref-2.ensures.value ∙ c.in_ok-scripts.ensures) h)) c.answer_on.ensures.err

@@ -15,19 +15,22 @@ returns-in_err-check_lines-clause-err o c =
     parted s c.args.setup c.cpus-cpus.result c.as_slice-lines.result.now c.front_of-before.result.now
     c.rest_of-after.result.now c.cpus-cpus.ensures.is c.as_slice-lines.ensures c.front_of-before.ensures
     c.rest_of-after.ensures in
-    rw (p.1, p.2) (unfit_known (IsAskCause c.args.ask c.args.limit) c.args.input.now s c.args.setup c.cpus-cpus.result
+    rw (p.1, p.2)
+    (unfit_known (IsAskCause c.args.ask c.args.limit) c.args.input.now s c.args.setup c.cpus-cpus.result
     c.front_of-before.result.now c.rest_of-after.result.now _ c.in_ok-scenario.ensures parts
     c.in_err-check_lines.ensures.err)
 
 pub returns-in_err-answer-clause-err : goal.returns-in_err-answer-clause-err
 returns-in_err-answer-clause-err o c =
-    let p = err_from_is_err_and c.from_residual-in_err-answer.result c.from_residual-in_err-answer.ensures.1 in
+    let p =
+    err_from_is_err_and c.from_residual-in_err-answer.result c.from_residual-in_err-answer.ensures.1 in
     let s = scenario_seen c.in_ok-scenario.scenario in
     let parts =
     parted s c.args.setup c.cpus-cpus.result c.as_slice-lines.result.now c.front_of-before.result.now
     c.rest_of-after.result.now c.cpus-cpus.ensures.is c.as_slice-lines.ensures c.front_of-before.ensures
     c.rest_of-after.ensures in
-    rw (p.1, p.2) (stopped_known (IsAskCause c.args.ask c.args.limit) c.args.input.now s c.args.setup c.cpus-cpus.result
+    rw (p.1, p.2)
+    (stopped_known (IsAskCause c.args.ask c.args.limit) c.args.input.now s c.args.setup c.cpus-cpus.result
     c.front_of-before.result.now c.rest_of-after.result.now _ c.in_ok-scenario.ensures parts
     c.in_ok-check_lines.ensures.ok c.in_err-answer.ensures.err)
 

@@ -8,6 +8,7 @@ returns-in_ok-text-in-Some-clause-ok c = (
   c.in-Some.end.now,
   c.in-Some.ensures.some,
   c.in_ok-text-in-Some.ensures.ok
-      ∙ ap (replay_text c.args.names.now.keys c.args.before.now (setting c.args.machine.now c.args.scripts.now))
+      ∙ ap
+      (replay_text c.args.names.now.keys c.args.before.now (setting c.args.machine.now c.args.scripts.now))
       c.as_slice-schedule.ensures.value,
 )

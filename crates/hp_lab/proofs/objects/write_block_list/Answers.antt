@@ -7,5 +7,6 @@ use Rattle.hp_lab.proofs.objects.write_block_list.Goals as goal
 pub returns : goal.returns
 unfolding block_list
 returns c =
-    three (codes ", \"blocks\": [") (separated (codes ", ") block_string true c.args.rows.now) (codes "]") _ _ _ _
+    three (codes ", \"blocks\": [") (separated (codes ", ") block_string true c.args.rows.now) (codes "]") _ _
+    _ _
     c.in_ok-push_str.ensures.bytes c.in_ok-write_blocks.ensures c.in_ok-push_str-2.ensures.bytes

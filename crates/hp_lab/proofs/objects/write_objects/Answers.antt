@@ -7,7 +7,8 @@ use Rattle.hp_lab.proofs.objects.write_objects.Goals as goal
 
 pub loop-index-init : goal.loop-index-init
 loop-index-init c =
-    texts_none (object_at c.args.names.now.keys (setting c.args.machine.now c.args.scripts.now) c.args.ends.now) _
+    texts_none
+    (object_at c.args.names.now.keys (setting c.args.machine.now c.args.scripts.now) c.args.ends.now) _
 
 pub loop-index-preserved : goal.loop-index-preserved
 loop-index-preserved c =

@@ -7,4 +7,5 @@ use Rattle.hp_lab.proofs.objects.write_objects.Given as goal
 abbrev pub invariant-loop-index : goal.invariant-loop-index
 invariant-loop-index l =
     string_bytes l.out
-    ≡ string_bytes l.fn.out ++ texts_below (object_at l.names.keys (setting l.machine l.scripts) l.ends) l.index
+    ≡ string_bytes l.fn.out
+    ++ texts_below (object_at l.names.keys (setting l.machine l.scripts) l.ends) l.index

@@ -4,4 +4,5 @@ use Rattle.hp_lab.proofs.scripts.script_of.Given as goal
 
 abbrev pub invariant-loop-line : goal.invariant-loop-line
 invariant-loop-line l =
-    l.steps.items ++ steps_in l.cpu l.op l.has_begun (drop l.line-index l.lines) ≡ steps_in l.cpu l.op false l.lines
+    l.steps.items ++ steps_in l.cpu l.op l.has_begun (drop l.line-index l.lines)
+    ≡ steps_in l.cpu l.op false l.lines

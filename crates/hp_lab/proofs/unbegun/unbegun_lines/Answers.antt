@@ -8,5 +8,6 @@ loop-cpu-preserved c =
     let cpu = c.loop-cpu.cpu in
     let more : cpu + 1 ≡ suc cpu = omega arith in
     c.in_ok-push_unbegun.ensures
-    ∙ (ap (λ (found : List Unbegun). found ++ unbegun_of cpu c.args.setup c.args.lines.now) c.loop-cpu.invariant
+    ∙ (ap (λ (found : List Unbegun). found ++ unbegun_of cpu c.args.setup c.args.lines.now)
+    c.loop-cpu.invariant
     ∙ sym (ap (λ (k : ℕ). unbegun_lines k c.args.setup c.args.lines.now) more))

@@ -5,5 +5,6 @@ use Rattle.hp_spelling.proofs.entries.write_lines.Given as goal
 
 abbrev pub invariant-loop-line : goal.invariant-loop-line
 invariant-loop-line l =
-    string_bytes l.out ++ separated (codes ",\n") (line_entry l.names.keys) l.is_first (drop l.line-index l.lines)
+    string_bytes l.out
+    ++ separated (codes ",\n") (line_entry l.names.keys) l.is_first (drop l.line-index l.lines)
     ≡ string_bytes l.fn.out ++ separated (codes ",\n") (line_entry l.names.keys) true l.lines
