@@ -6,10 +6,11 @@ use Rattle.hp_units.specs.declared.events.Event.{Event}
 use Rattle.hp_units.specs.declared.replies.Record.{Record}
 use Rattle.hp_steps.specs.Steps.{IsLater, IsStepped, StepsValue, record_of_step}
 use Rattle.hp_explore.specs.Faults.{FillsHistory, is_full_after}
-use Rattle.hp_explore.specs.Paths.{IsTurned}
+use Rattle.hp_explore.specs.Paths.{IsTurned, IsWayOver}
 use Rattle.hp_explore.specs.Schedules.{Setting, next_call, plays, record_of_call, schedule_of}
 use Rattle.hp_explore.specs.Walks.{IsAt, LeadsTo, may_go_back}
-use Rattle.hp_explore.specs.declared.ways.Way.TheVariants.{Mark, Kept}
+use Rattle.hp_explore.specs.declared.ways.Way.{Way}
+use Rattle.hp_explore.specs.declared.ways.Way.TheVariants.{Mark}
 use Rattle.hp_explore.proofs.Plays.{plays_push}
 use Rattle.hp_explore.proofs.Stepped.{step_recorded, stepped_at}
 
@@ -29,12 +30,14 @@ turned_step g p n serial cpu mark event here asked goes is room made = record {
     recorded = step_recorded g p serial cpu event here goes is
 
 -- where the steps from before are kept they are the way back
-pub turned_kept : (g : Setting) (p n was now : StepsValue) (cpu : ℕ) (event : Event) → IsAt g p
+pub turned_kept : (g : Setting) (p n now : StepsValue) (cpu : ℕ) (event : Event) (way : Way) → IsAt g p
     → next_call g cpu p.records ≡ Some event → LeadsTo g (schedule_of p.records ++ cpu ∷ []) (Some n)
-    → is_full_after g p.records ≡ false → was ≡ p → now ≡ n → IsTurned g p cpu event (Kept was) now
-turned_kept g p n was now cpu event here asked leads room was_is now_is =
-    subst (λ (q : StepsValue). IsTurned g p cpu event (Kept was) q) (sym now_is)
-    (record { at = leads.0; room = room; records = longer; over = (was_is, longer) })
+    → is_full_after g p.records ≡ false
+    → ((r : Record) → n.records ≡ p.records ++ r ∷ [] → IsWayOver way p r n) → now ≡ n
+    → IsTurned g p cpu event way now
+turned_kept g p n now cpu event way here asked leads room over now_is =
+    subst (IsTurned g p cpu event way) (sym now_is)
+    (record { at = leads.0; room = room; records = longer; over = over _ longer })
   where
     longer : n.records ≡ p.records ++ record_of_call g p.records cpu event ∷ []
     longer =

@@ -42,7 +42,7 @@ IsBack p (Some cpu) q =
 -- what leads back over a turn leads back to these steps over this record
 abbrev pub IsWayOver : Way → StepsValue → Record → StepsValue → Type 0
 IsWayOver (Mark mark) old r new = IsLater old r mark new
-IsWayOver (Kept steps) old r new = (steps ≡ old) × (new.records ≡ old.records ++ r ∷ [])
+IsWayOver (Kept steps) old r new = (steps.value ≡ old) × (new.records ≡ old.records ++ r ∷ [])
 
 -- a processor's event was made, and there is a way back over it
 pub record IsTurned (g : Setting) (old : StepsValue) (cpu : ℕ) (event : Event) (way : Way)

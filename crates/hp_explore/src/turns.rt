@@ -21,7 +21,6 @@ use hp_machine::Machine;
 use hp_steps::Steps;
 use hp_units::{Cpu, Event, Record, Refusal, Reply, Serial};
 use std::alloc::{AllocError, Global};
-use std::mem::replace;
 
 /// Makes a processor's next call, says so, and notes what leads back over it; where it has no
 /// script, or its script is over, nothing changes. An error leaves all as it was.
@@ -99,7 +98,7 @@ fn make_turn(
     let serial = next_serial(start, here.records())?;
     if may_go_back(event) {
         return match steps_after(alloc, start, scripts, here, cpu, serial, event)? {
-            Some(there) => Ok(Way::Kept(replace(here, there))),
+            Some(there) => Ok(Way::keep(alloc, here, there)?),
             None => unreachable!(),
         };
     }

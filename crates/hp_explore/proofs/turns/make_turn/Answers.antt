@@ -25,12 +25,12 @@ steps_after-requires-clause-serial c =
 pub returns-then-may_go_back-clause-ok : goal.returns-then-may_go_back-clause-ok
 returns-then-may_go_back-clause-ok c =
     let g = setting c.args.start.now c.args.scripts.now in
-    turned_kept g c.args.here.now c.in-Some.there c.replace.result c.replace.new.dest c.args.cpu
-    c.args.event.now c.requires.at c.requires.asked
+    turned_kept g c.args.here.now c.in-Some.there c.keep.new.here c.args.cpu c.args.event.now
+    c.in_ok-keep-in-Some.field-0 c.requires.at c.requires.asked
     (subst (LeadsTo g (schedule_of c.args.here.now.records ++ c.args.cpu ∷ [])) c.in-Some.is
     c.in_ok-there.ensures.ok)
-    (roomy (goal.at.returns-then-may_go_back-clause-ok c).In_ok-serial) c.replace.ensures.value
-    c.replace.ensures.after
+    (roomy (goal.at.returns-then-may_go_back-clause-ok c).In_ok-serial) c.in_ok-keep-in-Some.ensures.over
+    c.in_ok-keep-in-Some.ensures.there
 
 pub unreachable-requires : goal.unreachable-requires
 unreachable-requires c =

@@ -1,5 +1,5 @@
 -- A mark takes the step back; steps that were kept are those from before it.
-use Rattle.std.proofs.Common.{subst}
+use Rattle.std.proofs.Common.{◌∙◌, subst}
 use Rattle.hp_explore.specs.Paths.{IsWayOver}
 use Rattle.hp_explore.specs.declared.ways.Way.{Way}
 use Rattle.hp_explore.proofs.ways.Way.lead_back.Goals as goal
@@ -18,4 +18,5 @@ returns-in-Mark c =
 
 pub returns-in-Kept : goal.returns-in-Kept
 returns-in-Kept c =
-    λ old r over. (subst (λ (way : Way). IsWayOver way old r c.args.here.now) c.in-Kept.is over).0
+    λ old r over. c.into_inner.ensures
+    ∙ (subst (λ (way : Way). IsWayOver way old r c.args.here.now) c.in-Kept.is over).0
