@@ -55,8 +55,8 @@ pub seat_called : (l : LayoutParts) (cpu : ℕ) (was held now : List Receipt) (e
     → IsTurn l cpu event (receipt_for event answer) more
     → IsSeatCall l (record { cpu = cpu; receipts = was; sealed = sealed }) event answer.1
     (record { cpu = cpu; receipts = now; sealed = kept })
-seat_called l cpu was held now event copy answer share more sealed kept copied inside same pushed counted risen
-    still turn =
+seat_called l cpu was held now event copy answer share more sealed kept copied inside same pushed counted
+    risen still turn =
     let receipts : now ≡ was ++ receipt_for copy answer ∷ [] =
     pushed ∙ ap (λ (rs : List Receipt). rs ++ receipt_for copy answer ∷ []) same in
     let amount : more ≡ length now =
