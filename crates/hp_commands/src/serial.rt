@@ -18,10 +18,12 @@ use hp_text::write_state;
 use hp_units::Layout;
 use json::Scratch;
 use std::alloc::{AllocError, Global};
+use std::mem::forget;
 
 /// The text of a scenario: what each line writes, and then the state. Where the input has the usual
 /// form each line is run as it is read; else, and where it has a fault, the lines are read before the
-/// first one is run.
+/// first one is run. The memory of a machine whose lines are run as they are read is left to the end
+/// of the program.
 pub fn serial(alloc: Global, input: Vec<u8>) -> Result<String, ScenarioFault>
     ensures ok { IfOk result (λ out. IsTextOf input.items (string_bytes out)) }
     ensures err { IfErr result (λ fault. Fails fault (serial_text input.items)) }
@@ -60,6 +62,9 @@ fn text_with(
     }
     let end = machine.image(alloc)?;
     write_state(&mut out, alloc, &end, calls.names())?;
+    // The program ends after this text: what these hold in many pieces is not given back one by one.
+    forget(end);
+    forget(machine);
     Ok(Some(out))
 }
 
