@@ -214,7 +214,7 @@ seal_is_legal l volumes at v fault seal wrong =
         (subst (λ (n : ℕ). IsLegal l (state_after l (take at volumes)) n m.history)
         (sym (ap (λ (x : Volume). x.before) seal.is) ∙ wrong.count)
         (subst (λ (b : Memory). IsLegal l b m.before m.history)
-        (sym (ap (λ (x : Volume). x.base.memory) seal.is) ∙ wrong.base)
+        (sym (ap (λ (x : Volume). x.base.memory) seal.is) ∙ ap (λ (p : Pictured). p.memory) wrong.base)
         (subst (λ (k : LayoutParts). IsLegal k m.base m.before m.history) seal.shared.layout
         seal.shared.history.legal)))
 
