@@ -13,8 +13,8 @@ What is compared, of `hotplug_lab explore`:
   `--json` writes the same ends; and the first line that cannot stand in a script is refused by its place;
 - on a scenario with hostile texts: `--scenario` writes each of its lines as it is;
 - 50 runs of `hotplug run` on each of three small scenarios: each outcome is one of the ends;
-- with 128 KiB of stack: a script of 4,000 calls of one processor has one interleaving, with the
-  answers of `hotplug serial`; and a setup of a million lines is written as it is by `--scenario`.
+- with 128 KiB of stack: a script of a million calls of one processor has one interleaving, with the
+  answers of `hotplug serial`; and a setup of as many lines is written as it is by `--scenario`.
 Of `hotplug_lab trace`, on each file of examples/ and on a scenario with hostile texts: it has all
 lines in their order, and what they answer is what `hotplug serial` prints before the state; in
 lines of 100 columns each memory block begins after the columns of what was asked and answered, and
@@ -40,7 +40,6 @@ ROOT = Path(__file__).resolve().parent.parent
 SECONDS = 60
 RUNS = 50
 TAIL = 6
-CALLS = 4_000
 LINES = 1_000_000
 SHALLOW = ["bash", "-c", 'ulimit -s 128; exec "$@"', "bash"]
 
@@ -182,8 +181,8 @@ def check_by_force(checks, programs):
 # Deep scripts
 def check_depth(checks, programs):
     layout = {"order": 0, "pageblocks": 4, "blocks": 1, "cpus": 1, "batch": 1, "high": 1,
-              "owners": 1, "pages": 1, "words": 1, "history": CALLS, "boot": ["normal"]}
-    calls = ["0 kalloc 0", "0 kfree 0"] * (CALLS // 2)
+              "owners": 1, "pages": 1, "words": 1, "history": LINES, "boot": ["normal"]}
+    calls = ["0 kalloc 0", "0 kfree 0"] * (LINES // 2)
     text = programs.explore({"layout": layout, "calls": calls}, 0, before=SHALLOW)
     total, ends = ends_of(text)
     checks.holds("a deep script", total == 1 and len(ends) == 1, f"has {total} interleavings")
