@@ -14,9 +14,8 @@ ITEM = re.compile(
 CLAUSE = re.compile(r"\b(requires|ensures|ghost)\b")
 # The attribute of functions that call one another.
 CYCLE = re.compile(r"#\[cycle\((\w+)\)\]")
-# What makes a function no plain one: its attribute or a word before it, and type parameters after its name.
+# What makes a function no plain one: a word before it.
 NOT_PLAIN = re.compile(r"\b(?:const|unsafe|extern)\b[^\n]*\Z")
-PARAMETERS = re.compile(r"fn\s+\w+\s*<([^>]*)>")
 # The body of a function that is taken by its contract.
 NO_BODY = "{ unreachable!() }"
 # A call, by the last word of its path.
@@ -141,12 +140,10 @@ class Sources:
         return new, "" if new else "it changes no body"
 
     def is_plain(self, file, text, it):
-        """Whether a function can be taken by its contract: one of a module or a type's own, without type parameters."""
+        """Whether a function can be taken by its contract: one of a module or a type's own."""
         home, _, name = it.path.rpartition("::")
         is_own = home == self.module(file) or home in {"::".join(filter(None, kind)) for kind in self.types}
-        given = PARAMETERS.match(text[it.start : it.body])
-        kinds = [one for one in given[1].split(",") if not one.strip().startswith("'")] if given else []
-        is_special = it.cycle or kinds or name in ("drop", "main") or NOT_PLAIN.search(text[: it.start])
+        is_special = it.cycle or name in ("drop", "main") or NOT_PLAIN.search(text[: it.start])
         return is_own and home not in self.traits and not is_special
 
     def by_contract(self, edits, kept):
