@@ -8,8 +8,20 @@ BAD_LINES = ["", " 0 kalloc 1", "0 kalloc 1 ", "0  kalloc 1", "00 kalloc 1", "-1
              "0 kalloc 4294967296", "4294967296 kalloc 1", "0 write db 0 0 18446744073709551616",
              "0 map Db 0", "0 map 1db 0", "0 map db", "0 map db 0 0", f"0 map {'a' * 33} 0",
              "0 begin off", "0 begin on 2", "0 plan off 2", "0 online 3 offline", "0 kalloc",
-             "kalloc 1", "0 alloc 1", "0 undo -1", "0 echo offline", "0 cat", "0 seal 1",
-             "0 kalloc\t1", "0 kalloc 1\n"]
+             "kalloc 1", "0 alloc 1", "0 undo -1", "0 undo 00", "0 echo offline",
+             "0 echo  memory3/state", "0 echo online memory3/state now", "0 cat", "0 cat ",
+             "0 cat memory3/state now", "0 plan", "0 plan 4294967296 off 2", "0 plan 5 off",
+             "0 plan 5 gone 2", "0 remove 03", "0 seal 1", "0 seal ", "seal", "0 kalloc\t1",
+             "0 kalloc 1\n", "0 kalloc\0001"]
+
+# Parts of a stored scenario, and what is a fault in their place.
+OTHER_FORMS = [(b'"order":2', b'"order":2.0', "wrong shape"),
+               (b'"order":2', b'"order":2e0', "wrong shape"),
+               (b'"order":2', b'"order":"2"', "wrong shape"),
+               (b'"order":2', b'"order":02', "not JSON"),
+               (b'"0 kalloc 1"', b"0", "wrong shape"),
+               (b'"0 undo 0"', b'"0 undo 0",', "not JSON"),
+               (b'{"layout"', b'\xef\xbb\xbf{"layout"', "not JSON")]
 
 # A history that is full in the middle of a plan, and of a cancel: records, lines, what is printed.
 FULL = [
@@ -41,6 +53,8 @@ def malformed(stored):
     for end in range(stored.rindex(b"}")):
         yield f"the first {end} bytes", stored[:end], "not JSON"
     yield "200 open brackets", b"[" * 200, "not JSON"
+    yield "127 brackets", b"[" * 127 + b"]" * 127, "wrong shape"
+    yield "128 brackets", b"[" * 128 + b"]" * 128, "not JSON"
     yield "200 brackets", b"[" * 200 + b"]" * 200, "not JSON"
     yield "deep lists", b"[" * NESTED, "not JSON"
     yield "deep objects", b'{"a":' * NESTED, "not JSON"
@@ -64,6 +78,8 @@ def misshapen(scenario):
 def hostile_texts(stored):
     """Texts made of a stored scenario, each with its name and the fault that it has to end in."""
     yield from malformed(stored)
+    for old, new, fault in OTHER_FORMS:
+        yield f"{new!r} for {old!r}", stored.replace(old, new), fault
     scenario = json.loads(stored)
     for name, value in misshapen(scenario):
         yield name, json.dumps(value).encode(), "wrong shape"

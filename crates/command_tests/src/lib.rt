@@ -1,5 +1,5 @@
-//! Tests of the commands: scenarios with the text that each must write, inputs that are refused,
-//! streams that fail.
+//! Tests of the commands: what each writes, streams that give and take pieces or fail, and what the
+//! program says at its end. What they write for many scenarios is compared by runs/check_runs.py.
 //!
 //! They stand in a crate of their own, as integration tests do, so that the gate does not prove
 //! hp_commands once more with them. `rt test` in this folder runs them.
@@ -7,12 +7,6 @@
 
 #[cfg(test)]
 mod ends;
-#[cfg(test)]
-mod events;
-#[cfg(test)]
-mod files;
-#[cfg(test)]
-mod inputs;
 #[cfg(test)]
 mod pieces;
 #[cfg(test)]

@@ -75,15 +75,27 @@ fn stolen_and_back(buddy: &mut Buddy, tape: &mut Tape) -> usize
     noted
 }
 
+/// Whether a frame is stolen, and all is as it was once that is taken back.
+fn is_as_it_was(buddy: &mut Buddy, tape: &mut Tape) -> bool
+    requires order { buddy.old.layout.order ≡ 4 }
+    requires pageblocks { buddy.old.layout.pageblocks ≡ 1 }
+    requires blocks { buddy.old.layout.blocks ≡ 1 }
+    requires apart { AreApart buddy.old.layout buddy.old.areas }
+    requires none { tape.old.deltas ≡ [] }
+    requires room { HasRoom tape.old (steal_bound buddy.old.layout) }
+{
+    let noted = stolen_and_back(buddy, tape);
+    noted > 5
+        && tape.len() == 0
+        && buddy.len(Class::Nm, Order(4)) == 1
+        && buddy.kind(Pageblock(0)).mobility == Mobility::Movable
+}
+
 #[test]
 fn comes_back(rt: HostRuntime) -> Result<(), Fail> {
     let mut buddy = small_buddy(rt.alloc())?;
     let mut tape = Tape::with_room(rt.alloc(), 39)?;
-    let noted = stolen_and_back(&mut buddy, &mut tape);
-    assert!(rt; noted > 5);
-    assert_eq!(rt; tape.len(), 0);
-    assert_eq!(rt; buddy.len(Class::Nm, Order(4)), 1);
-    assert!(rt; buddy.kind(Pageblock(0)).mobility == Mobility::Movable);
+    assert!(rt; is_as_it_was(&mut buddy, &mut tape));
     Ok(())
 }
 

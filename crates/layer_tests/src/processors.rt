@@ -176,30 +176,41 @@ fn has_the_first(cpus: &Cpus) -> bool
     cpus.len(Cpu(0), Pool::Nm) == 1 && cpus.front(Cpu(0), Pool::Nm) == Some(Frame(0))
 }
 
-/// The list keeps the frame that was put last.
+/// Whether the list keeps the frame that was put last, and all frames that went in join to one block
+/// again.
+fn spills_and_drains(cpus: &mut Cpus, buddy: &mut Buddy, alloc: Global) -> Result<bool, AllocError>
+    requires { IsSmall cpus.old buddy.old }
+{
+    spill(cpus, buddy, alloc)?;
+    let has_the_first = has_the_first(cpus);
+    drain(cpus, buddy, alloc)?;
+    let is_empty = cpus.len(Cpu(0), Pool::Nm) == 0;
+    Ok(has_the_first && is_empty && buddy.len(Class::Nm, Order(2)) == 1)
+}
+
 #[test]
-fn spills(rt: HostRuntime) -> Result<(), Fail> {
+fn frames_go_in_and_out(rt: HostRuntime) -> Result<(), Fail> {
     let Small {
         mut cpus,
         mut buddy,
     } = small_memory(rt.alloc(), 2, 1)?;
-    spill(&mut cpus, &mut buddy, rt.alloc())?;
-    assert!(rt; has_the_first(&cpus));
+    assert!(rt; spills_and_drains(&mut cpus, &mut buddy, rt.alloc())?);
     Ok(())
 }
 
-/// All frames that went in join to one block again.
-#[test]
-fn drains(rt: HostRuntime) -> Result<(), Fail> {
-    let Small {
-        mut cpus,
-        mut buddy,
-    } = small_memory(rt.alloc(), 2, 1)?;
-    spill(&mut cpus, &mut buddy, rt.alloc())?;
-    drain(&mut cpus, &mut buddy, rt.alloc())?;
-    assert_eq!(rt; cpus.len(Cpu(0), Pool::Nm), 0);
-    assert_eq!(rt; buddy.len(Class::Nm, Order(2)), 1);
-    Ok(())
+/// Whether a frame is taken, and all is as it was once that is taken back.
+fn is_as_it_was(cpus: &mut Cpus, buddy: &mut Buddy, tape: &mut Tape) -> bool
+    requires cpu { cpus.old.layout.cpus ≡ 1 }
+    requires order { cpus.old.layout.order ≡ 4 }
+    requires together { AreTogether cpus.old buddy.old }
+    requires none { tape.old.deltas ≡ [] }
+    requires room { HasRoom tape.old (batch_bound cpus.old.layout) }
+{
+    let noted = taken_and_back(cpus, buddy, tape);
+    noted > 5
+        && tape.len() == 0
+        && cpus.len(Cpu(0), Pool::Nm) == 0
+        && buddy.len(Class::Nm, Order(4)) == 1
 }
 
 #[test]
@@ -209,11 +220,7 @@ fn comes_back(rt: HostRuntime) -> Result<(), Fail> {
         mut buddy,
     } = small_memory(rt.alloc(), 4, 2)?;
     let mut tape = Tape::with_room(rt.alloc(), 13)?;
-    let noted = taken_and_back(&mut cpus, &mut buddy, &mut tape);
-    assert!(rt; noted > 5);
-    assert_eq!(rt; tape.len(), 0);
-    assert_eq!(rt; cpus.len(Cpu(0), Pool::Nm), 0);
-    assert_eq!(rt; buddy.len(Class::Nm, Order(4)), 1);
+    assert!(rt; is_as_it_was(&mut cpus, &mut buddy, &mut tape));
     Ok(())
 }
 

@@ -1,11 +1,9 @@
 //! Worked calls on one memory block of four frames, and a whole offline by the driver of a plan.
-mod undo_each;
-
 use crate::layouts::{four_blocks, one_block};
 use hp_machine::Machine;
 use hp_units::{
     Auto, Block, CallFault, Class, Cpu, Event, Frame, Item, Kind, OpEnd, Order, Owner, Page,
-    Pageblock, Plan, Refusal, Reply, Row, Serial, State, Wish, Zone,
+    Pageblock, Plan, Reply, Row, Serial, State, Wish, Zone,
 };
 use std::alloc::{AllocError, Global};
 use std::test::Fail;
@@ -42,31 +40,15 @@ fn undoes(alloc: Global, machine: &mut Machine, serial: Serial, reply: &Reply) -
     is_answered(alloc, machine, &Event::UndoAfter { serial }, reply)
 }
 
-/// Whether a block that is given back joins its buddy.
-fn joins(alloc: Global, machine: &mut Machine) -> bool {
-    takes(alloc, machine)
-        && machine.kernel_at(Frame(0)) == Some(Order(1))
-        && machine.front(Class::Nu, Order(1)) == Some(Frame(2))
-        && gives(alloc, machine)
-        && machine.list_len(Class::Nu, Order(2)) == 1
-}
-
-#[test]
-fn free_blocks_join(rt: HostRuntime) -> Result<(), Fail> {
-    let mut machine = booted(rt.alloc(), 9)?;
-    let joined = joins(rt.alloc(), &mut machine);
-    drop(machine);
-    assert!(rt; joined);
-    Ok(())
-}
-
 /// Whether a block that was stolen goes back to its list, and its step leaves the journal.
 fn returns_a_block(alloc: Global, machine: &mut Machine) -> bool {
     takes(alloc, machine)
+        && machine.kernel_at(Frame(0)) == Some(Order(1))
         && machine.journal_len() == 1
         && machine.entry(0).is_some()
         && undoes(alloc, machine, Serial(0), &Reply::Undone { count: 1 })
         && machine.front(Class::Nm, Order(2)) == Some(Frame(0))
+        && machine.list_len(Class::Nm, Order(2)) == 1
         && machine.journal_len() == 0
         && machine.last_serial() == 2
 }
@@ -114,42 +96,11 @@ fn a_full_history_takes_no_call(rt: HostRuntime) -> Result<(), Fail> {
     Ok(())
 }
 
-/// Whether a seal hands out so many records, after so many that were sealed before.
-fn seals(
-    alloc: Global,
-    machine: &mut Machine,
-    before: u64,
-    count: usize,
-) -> Result<bool, AllocError> {
-    let volume = machine.seal(alloc)?;
-    Ok(volume.before == before && volume.records.as_slice().len() == count)
-}
-
-/// Whether, after two records were sealed, they can't be undone, an undo of none counts none, and a
-/// block can be taken.
-fn goes_on(alloc: Global, machine: &mut Machine) -> bool {
-    undoes(alloc, machine, Serial(0), &Reply::Refused(Refusal::Gone))
-        && undoes(alloc, machine, Serial(2), &Reply::Undone { count: 0 })
-        && takes(alloc, machine)
-}
-
-/// Whether two records are sealed.
+/// Whether a block is taken and given back, and a seal hands out both records.
 fn seals_two(alloc: Global, machine: &mut Machine) -> Result<bool, AllocError> {
     let two = takes(alloc, machine) && gives(alloc, machine);
-    Ok(seals(alloc, machine, 0, 2)? && two)
-}
-
-#[test]
-fn a_seal_ends_what_can_be_undone(rt: HostRuntime) -> Result<(), Fail> {
-    let mut machine = booted(rt.alloc(), 3)?;
-    let sealed = seals_two(rt.alloc(), &mut machine);
-    let went_on = goes_on(rt.alloc(), &mut machine);
-    let sealed_again = seals(rt.alloc(), &mut machine, 2, 3);
-    drop(machine);
-    assert!(rt; sealed?);
-    assert!(rt; went_on);
-    assert!(rt; sealed_again?);
-    Ok(())
+    let volume = machine.seal(alloc)?;
+    Ok(two && volume.before == 0 && volume.records.as_slice().len() == 2)
 }
 
 /// Whether a copy has two sealed records, and a free block in its base.

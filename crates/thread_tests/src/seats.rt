@@ -1,11 +1,10 @@
-//! Two threads that share a machine, a plan through a seat, and a record of no seat.
+//! Two threads that share a machine, and a plan through a seat.
 ghost use Rattle.std.specs.Prelude.{◌≡◌};
 ghost use Rattle.hp_shared.specs.Shared.{IsFresh};
 
-use hp_history::Volume;
 use hp_machine::Machine;
 use hp_ops::run_plan;
-use hp_shared::{CloseFault, CloseRefused, Job, Seat, SeatPort, Shared, close};
+use hp_shared::{Job, Seat, SeatPort, Shared, close};
 use hp_units::{Block, Boot, Cpu, Event, Item, Layout, OpEnd, Owner, Page, Parts, Plan, Wish};
 use std::alloc::{AllocError, Global};
 use std::marker::Brand;
@@ -75,127 +74,31 @@ fn both_mapped<L: Job + Send + Sync, R: Threads + Wait + Sync>(
     })
 }
 
-/// Two threads map a page each, each by a seat of its own. The seats but one, that one, and how many
-/// receipts each has.
+/// Two threads map a page each, each by a seat of its own: the seats, and how many receipts each has.
 fn mapped_by_two<L: Job + Send + Sync, R: Threads + Wait + Sync>(
     rt: &R,
     alloc: Global,
     shared: &Shared<L>,
-    seats: Vec<Seat<L>>,
-) -> Option<(Vec<Seat<L>>, Seat<L>, (usize, usize))> {
-    let mut seats = seats;
+    mut seats: Vec<Seat<L>>,
+) -> Option<(Vec<Seat<L>>, (usize, usize))> {
     let second = seats.pop()?;
     let first = seats.pop()?;
     let (first, second) = both_mapped(rt, alloc, shared, first, second);
     let receipts = (first.receipts().len(), second.receipts().len());
-    let seats = with(seats, first)?;
-    Some((seats, second, receipts))
+    let seats = vec![in alloc; first, second].ok()?;
+    Some((seats, receipts))
 }
 
-/// A list and one more item, unless out of memory.
-fn with<T: Drop>(items: Vec<T>, last: T) -> Option<Vec<T>> {
-    let mut items = items;
-    items.push(last).ok()?;
-    Some(items)
-}
-
-/// How many records a close finds.
-fn records_of<L: Job>(
-    alloc: Global,
-    shared: Shared<L>,
-    seats: Vec<Seat<L>>,
-    volumes: Vec<Volume>,
-) -> Option<u64> {
-    match close(alloc, shared, seats, volumes) {
-        Ok(closed) => Some(closed.records),
-        Err(_refused) => None,
-    }
-}
-
-/// Why a close without a seat is refused, and how many records one with it finds.
-fn closed_with_seat<L: Job>(
-    alloc: Global,
-    shared: Shared<L>,
-    seats: Vec<Seat<L>>,
-    seat: Seat<L>,
-) -> Option<(CloseFault, u64)> {
-    let CloseRefused {
-        fault,
-        shared,
-        seats,
-        volumes,
-    } = close(alloc, shared, seats, Vec::new(alloc)).err()?;
-    let seats = with(seats, seat)?;
-    Some((fault, records_of(alloc, shared, seats, volumes)?))
-}
-
-/// Two threads map a page each. How many receipts each seat has, and of a close with the one seat why it
-/// is refused, of one with both how many records it finds.
+/// Two threads map a page each: how many receipts each seat has, and how many records a close finds.
 fn two_maps<L: Job + Send + Sync, R: Threads + Wait + Sync>(
     rt: &R,
     alloc: Global,
     shared: Shared<L>,
     seats: Vec<Seat<L>>,
-) -> Option<((usize, usize), (CloseFault, u64))> {
-    let (seats, second, receipts) = mapped_by_two(rt, alloc, &shared, seats)?;
-    Some((receipts, closed_with_seat(alloc, shared, seats, second)?))
-}
-
-/// A seat maps a page and seals.
-fn mapped_and_sealed<L: Job, R: Wait>(
-    rt: &R,
-    alloc: Global,
-    shared: &Shared<L>,
-    seat: &mut Seat<L>,
-) -> Option<Volume> {
-    map(rt, alloc, shared, seat, 0);
-    seat.seal(rt, alloc, shared).ok()
-}
-
-/// A record of the first seat is sealed, and another of the second follows: the volume.
-fn sealed_between<L: Job, R: Wait>(
-    rt: &R,
-    alloc: Global,
-    shared: &Shared<L>,
-    seats: &mut Vec<Seat<L>>,
-) -> Option<Volume> {
-    let volume = match seats.get_mut(0) {
-        Some(first) => mapped_and_sealed(rt, alloc, shared, first),
-        None => None,
-    };
-    if let Some(second) = seats.get_mut(1) {
-        map(rt, alloc, shared, second, 1);
-    }
-    volume
-}
-
-/// Why a close without a volume is refused, and how many records one with it finds.
-fn closed_with_volume<L: Job>(
-    alloc: Global,
-    shared: Shared<L>,
-    seats: Vec<Seat<L>>,
-    volume: Volume,
-) -> Option<(CloseFault, u64)> {
-    let CloseRefused {
-        fault,
-        shared,
-        seats,
-        volumes,
-    } = close(alloc, shared, seats, Vec::new(alloc)).err()?;
-    let volumes = with(volumes, volume)?;
-    Some((fault, records_of(alloc, shared, seats, volumes)?))
-}
-
-/// A record is sealed and another follows. Why a close without the volume is refused, and how many
-/// records one with it finds.
-fn one_sealed<L: Job, R: Wait>(
-    rt: &R,
-    alloc: Global,
-    shared: Shared<L>,
-    mut seats: Vec<Seat<L>>,
-) -> Option<(CloseFault, u64)> {
-    let volume = sealed_between(rt, alloc, &shared, &mut seats)?;
-    closed_with_volume(alloc, shared, seats, volume)
+) -> Option<((usize, usize), u64)> {
+    let (seats, receipts) = mapped_by_two(rt, alloc, &shared, seats)?;
+    let closed = close(alloc, shared, seats, Vec::new(alloc)).ok()?;
+    Some((receipts, closed.records))
 }
 
 /// A plan that takes the third memory block offline.
@@ -239,7 +142,6 @@ fn page_moved<L: Job, R: Wait>(
 #[derive(Clone, Copy, Drop)]
 enum Scene {
     TwoMaps,
-    OneSealed,
     PageMoved,
 }
 
@@ -262,14 +164,7 @@ fn plays_on<L: Job + Send + Sync, R: Threads + Wait + Sync>(
         return false;
     };
     match scene {
-        Scene::TwoMaps => matches!(
-            two_maps(rt, alloc, shared, seats),
-            Some(((1, 1), (CloseFault::SeatMissing, 2)))
-        ),
-        Scene::OneSealed => matches!(
-            one_sealed(rt, alloc, shared, seats),
-            Some((CloseFault::WrongVolume { at: 0 }, 2))
-        ),
+        Scene::TwoMaps => matches!(two_maps(rt, alloc, shared, seats), Some(((1, 1), 2))),
         Scene::PageMoved => matches!(page_moved(rt, alloc, shared, seats), Some((OpEnd::Done, 7))),
     }
 }
@@ -286,12 +181,6 @@ fn plays<R: Threads + Wait + Sync>(rt: &R, alloc: Global, scene: Scene) -> Resul
 #[test]
 fn two_threads_map_a_page_each(rt: HostRuntime) -> Result<(), Fail> {
     assert!(rt; plays(&rt, rt.alloc(), Scene::TwoMaps)?);
-    Ok(())
-}
-
-#[test]
-fn sealed_records_come_first(rt: HostRuntime) -> Result<(), Fail> {
-    assert!(rt; plays(&rt, rt.alloc(), Scene::OneSealed)?);
     Ok(())
 }
 

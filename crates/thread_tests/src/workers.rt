@@ -1,5 +1,4 @@
-//! Workers that meet, calls between those of a plan, one that ends the plan's operation among them,
-//! and texts written to control files.
+//! Workers that meet, and calls between those of a plan, one that ends the plan's operation among them.
 ghost use Rattle.std.specs.Prelude.{◌≡◌};
 ghost use Rattle.hp_scenario.specs.Scripts.{AreForRun};
 ghost use Rattle.hp_shared.specs.Shared.{IsFresh};
@@ -9,7 +8,6 @@ mod gates;
 use gates::{Before, Between, Meeting};
 use hp_machine::Machine;
 use hp_plain::Image;
-use hp_requests::ControlFault;
 use hp_scenario::{Scenario, Script};
 use hp_shared::{Closed, Job, Shared, close};
 use hp_units::{Event, Frame, OpEnd, Owner, Page, Record, Refusal, Reply, Serial};
@@ -32,8 +30,6 @@ const DONE: LineEnd = LineEnd::Reply(Reply::Done);
 struct Outcome {
     ends: Vec<Ends>,
     records: u64,
-    /// How many of them seals handed out.
-    sealed: u64,
     /// Where page 0 of owner 0 lies.
     frame: Option<Frame>,
     /// The operation of which the last record says that it has ended.
@@ -93,7 +89,6 @@ fn outcome_of(alloc: Global, closed: Closed, ends: Vec<Ends>) -> Outcome {
     Outcome {
         ends,
         records: closed.records,
-        sealed: closed.machine.sealed(),
         frame: closed.machine.frame_at(Owner(0), Page(0)),
         ended: ended_in(closed.machine.history()),
         state: closed.machine.image(alloc).ok(),
@@ -181,26 +176,6 @@ fn a_page_is_written_between_the_calls_of_a_plan(rt: HostRuntime) -> Result<(), 
     assert!(rt; outcome.is(&[LineEnd::Plan(OpEnd::Done)], &[DONE, DONE, word], 9));
     assert!(rt; outcome.frame == Some(Frame(0)));
     assert!(rt; gate.was_met());
-    Ok(())
-}
-
-#[test]
-fn texts_are_written_to_control_files(rt: HostRuntime) -> Result<(), Fail> {
-    let calls =
-        r#""0 echo offline memory2/state","1 echo online memory3/state","0 echo onlin memory3/state""#;
-    let outcome = run_lines(&rt, rt.alloc(), calls, &OpenGate)?;
-    let refused = LineEnd::Control(ControlFault::BadText);
-    assert!(rt; outcome.is(&[LineEnd::Plan(OpEnd::Done), refused], &[DONE], 6));
-    Ok(())
-}
-
-#[test]
-fn seals_of_two_workers_are_in_order(rt: HostRuntime) -> Result<(), Fail> {
-    let calls =
-        r#""0 kalloc 1","0 seal","0 kalloc 1","0 seal","0 seal","1 map db 0","1 seal","1 kalloc 3""#;
-    let outcome = run_lines(&rt, rt.alloc(), calls, &OpenGate)?;
-    assert_eq!(rt; outcome.records, 4);
-    assert!(rt; outcome.sealed < 5);
     Ok(())
 }
 

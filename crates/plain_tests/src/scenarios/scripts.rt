@@ -1,6 +1,6 @@
 //! The lines of each processor.
 use super::scenario;
-use hp_scenario::{Line, ScenarioFault, Work};
+use hp_scenario::{Line, Work};
 use hp_units::{Cpu, Event};
 use std::test::Fail;
 
@@ -24,18 +24,5 @@ fn lines_go_to_their_processors(rt: HostRuntime) -> Result<(), Fail> {
         return Err(Fail::from("not two lines"));
     };
     assert!(rt; is_drain_of(one, 0) && is_drain_of(other, 1));
-    Ok(())
-}
-
-#[test]
-fn some_lines_are_for_no_worker(rt: HostRuntime) -> Result<(), Fail> {
-    let refused = [
-        (r#""0 kalloc 1","2 drain 0""#, 2),
-        (r#""0 cat buddyinfo","2 drain 0""#, 1),
-    ];
-    for (calls, line) in refused {
-        let fault = scenario(rt.alloc(), calls)?.scripts(rt.alloc()).err();
-        assert_eq!(rt; fault, Some(ScenarioFault::NotForRun { line }));
-    }
     Ok(())
 }
