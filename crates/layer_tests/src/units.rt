@@ -90,19 +90,19 @@ fn going() -> Row {
 }
 
 /// Whether rows show what they are.
-fn are_shown(going: Row) -> bool {
+fn are_shown() -> bool {
     Wish::Off.is_off()
         && Row::online(Zone::Normal).is_online()
-        && going.is_going()
-        && going.is_claimed_by(Serial(5))
-        && !going.unclaimed().is_claimed()
+        && going().is_going()
+        && going().is_claimed_by(Serial(5))
+        && !going().unclaimed().is_claimed()
         && Row::bare(State::Offline).is_offline()
         && Row::bare(State::Absent).is_absent()
 }
 
 #[test]
 fn rows_show_their_state_and_claim(rt: HostRuntime) {
-    assert!(rt; are_shown(going()));
+    assert!(rt; are_shown());
 }
 
 /// Whether a word is changed.
