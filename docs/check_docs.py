@@ -20,8 +20,8 @@ What is checked, in each *.md file at the top, in docs/, examples/ and bench/:
   what a real Linux answered the same step, by one of FOLDER's transcripts;
 - no other kind of block stands there but `text` (a picture) and `sh` (commands to type);
 - no line has more than 100 columns, and each link has its target;
-- in docs/PROVED.md, each `function` (`clause`, ..) below a crate's heading is in its source, and
-  each library with public functions has a heading;
+- in docs/PROVED.md, each `function` (`clause`, ..) below the heading of some crates is in the source
+  of one, and each library with public functions stands in a heading;
 - each path `crates/..`, `docs/..`, `examples/..`, `bench/..` or `tools/..` in a code span is there,
   but for what is built;
   and below a line "In `crates/NAME`" each path `src/..`, `specs/..` or `proofs/..`, each name and
@@ -305,17 +305,26 @@ def functions_of(crate):
     return found
 
 
-def check_item(checks, where, item, crate):
+def functions_in(crates):
+    """Those of several crates; of a name that two of them have, the clauses of both."""
+    found = {}
+    for crate in crates:
+        for function, clauses in functions_of(crate).items():
+            found[function] = found.get(function, set()) | clauses
+    return found
+
+
+def check_item(checks, where, item, crates):
     """The functions that an item of PROVED.md names before its colon, and the clauses of each in parentheses after it."""
-    known = functions_of(crate)
+    known, names = functions_in(crates), ", ".join(crates)
     heads = [it.partition(": ")[0] for it in re.split(r"(?<=[.;]) (?=`)", item[2:])]
     for head in heads:
         for function, clauses in re.findall(r"`([\w:]+)`(?: \(((?:`\w+`(?:, )?)+)\))?", head):
             function = function.split("::")[-1]
-            checks.holds(where, function in known, f"{crate} has no {function}")
+            checks.holds(where, function in known, f"{names} has no {function}")
             for clause in re.findall(r"`(\w+)`", clauses):
                 has = clause in known.get(function, ())
-                checks.holds(where, has, f"{function} of {crate} has no clause {clause}")
+                checks.holds(where, has, f"{function} of {names} has no clause {clause}")
 
 
 def has_contracts(crate):
@@ -326,17 +335,16 @@ def has_contracts(crate):
 
 
 def check_proved(checks):
-    crate, headed = None, set()
+    crates, headed = [], set()
     text = (ROOT / "docs" / "PROVED.md").read_text()
     for part in re.findall(r"(?m)^#+ .*|^- .*(?:\n  .*)*", text):
-        heading = re.match(r"#+ (`(\w+)`)?", part)
-        if heading:
-            crate = heading[2]
-            headed.add(crate)
-            there = not crate or (ROOT / "crates" / crate).is_dir()
-            checks.holds("docs/PROVED.md", there, f"no crate {crate}")
-        elif crate:
-            check_item(checks, f"docs/PROVED.md: {part[:40]} ..", " ".join(part.split()), crate)
+        if part.startswith("#"):
+            crates = re.findall(r"`(\w+)`", part)
+            headed.update(crates)
+            for crate in crates:
+                checks.holds("docs/PROVED.md", (ROOT / "crates" / crate).is_dir(), f"no crate {crate}")
+        elif crates:
+            check_item(checks, f"docs/PROVED.md: {part[:40]} ..", " ".join(part.split()), crates)
     for name in re.findall(r"(?m)^(\w+)", (ROOT / "crates.txt").read_text()):
         checks.holds("docs/PROVED.md", name in headed or not has_contracts(name), f"no heading of crate {name}")
 
