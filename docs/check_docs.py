@@ -249,7 +249,7 @@ def check_crate_words(checks, where, line, crate):
 
 def crate_of(line, crate):
     """The crate that a line's paths are of, after that of the line before it."""
-    begins = re.match(r"In `((?:crates|bench)/\w+)`", line)
+    begins = re.match(r"(?:- )?In `((?:crates|bench)/\w+)`", line)
     if begins:
         return begins[1]
     return None if line.startswith("#") else crate
