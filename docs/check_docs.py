@@ -1,8 +1,9 @@
 #!/usr/bin/env python3
 """Runs every example and every output that the documents show, and compares what the program
-prints, byte by byte. `check` at the top runs it after the gate; alone it takes a program:
+prints, byte by byte. `check` at the top runs it after the gate; alone it takes the folder of the
+crates in which the programs were built:
 
-    python3 docs/check_docs.py [PROGRAM]        without PROGRAM: crates/hotplug/out/hotplug
+    python3 docs/check_docs.py [CRATES]        without CRATES: crates
 
 What is checked, in each *.md file at the top, in docs/, examples/ and bench/:
 - what `hotplug serial` prints for examples/NAME.json is examples/NAME.out, and examples/README.md
@@ -38,7 +39,6 @@ import tempfile
 from pathlib import Path
 
 ROOT = Path(__file__).resolve().parent.parent
-LAB = ROOT / "crates/hotplug_lab/out/hotplug_lab"
 WIDTH = 100
 SECONDS = 60
 
@@ -65,7 +65,12 @@ class Checks:
         print(f"documents: {self.passed} passed, {len(self.failures)} failed")
 
 
-# The program
+# The programs
+
+def lab_beside(program):
+    """`hotplug_lab`, from the folder of the crates that `hotplug` is from."""
+    return program.parents[2] / "hotplug_lab/out/hotplug_lab"
+
 
 def serial(program, scenario):
     """What the program prints for the bytes of a scenario."""
@@ -103,10 +108,10 @@ def check_examples(checks, program):
                      "is not in examples/README.md")
 
 
-def check_pictures(checks):
+def check_pictures(checks, program):
     shown = "".join(document.read_text() for document in (ROOT / "docs").glob("*.md"))
     for picture in sorted((ROOT / "docs/pictures").glob("*.svg")):
-        words = [LAB, "trace", "--svg", f"examples/{picture.stem}.json"]
+        words = [lab_beside(program), "trace", "--svg", f"examples/{picture.stem}.json"]
         drawn = subprocess.run(words, cwd=ROOT, stdout=subprocess.PIPE, timeout=SECONDS).stdout
         checks.holds(f"docs/pictures/{picture.name}", drawn == picture.read_bytes(), "is not what is drawn")
         checks.holds(f"docs/pictures/{picture.name}", f"](pictures/{picture.name})" in shown, "is shown nowhere")
@@ -131,7 +136,7 @@ def commands_of(body):
 def check_console(checks, where, body, program):
     with tempfile.TemporaryDirectory() as directory:
         (Path(directory) / "hotplug").symlink_to(program)
-        (Path(directory) / "hotplug_lab").symlink_to(LAB)
+        (Path(directory) / "hotplug_lab").symlink_to(lab_beside(program))
         path = directory + os.pathsep + os.environ["PATH"]
         for command, expected in commands_of(body):
             ran = subprocess.run(["bash", "-c", command], cwd=ROOT, stdout=subprocess.PIPE,
@@ -350,11 +355,12 @@ def check_proved(checks):
 
 
 def check_all(checks, program):
-    if not os.access(program, os.X_OK):
-        checks.holds("documents", False, f"no program at {program}: README.md says how to build it")
-        return
+    for built in (program, lab_beside(program)):
+        if not os.access(built, os.X_OK):
+            checks.holds("documents", False, f"no program at {built}: README.md says how to build it")
+            return
     check_examples(checks, program)
-    check_pictures(checks)
+    check_pictures(checks, program)
     for folder in (ROOT, ROOT / "docs", ROOT / "examples", ROOT / "bench"):
         for document in sorted(folder.glob("*.md")):
             check_document(checks, document, program)
@@ -362,10 +368,10 @@ def check_all(checks, program):
 
 
 def main(words):
-    program = Path(words[0] if words else ROOT / "crates/hotplug/out/hotplug").resolve()
+    crates = Path(words[0] if words else ROOT / "crates").resolve()
     checks = Checks()
     try:
-        check_all(checks, program)
+        check_all(checks, crates / "hotplug/out/hotplug")
     except (ValueError, LookupError, OSError, subprocess.SubprocessError) as error:
         checks.holds("documents", False, f"cannot be checked: {error!r}")
     checks.report()
