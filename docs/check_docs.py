@@ -1,8 +1,9 @@
 #!/usr/bin/env python3
 """Runs every example and every output that the documents show, and compares what the program
-prints, byte by byte. `check` at the top runs it after the gate; alone it takes a program:
+prints, byte by byte. `check` at the top runs it after the gate; alone it takes the folder of the
+crates in which the programs were built:
 
-    python3 docs/check_docs.py [PROGRAM]        without PROGRAM: crates/hotplug/out/hotplug
+    python3 docs/check_docs.py [CRATES]        without CRATES: crates
 
 What is checked, in each *.md file at the top, in docs/, examples/ and bench/:
 - what `hotplug serial` prints for examples/NAME.json is examples/NAME.out, and examples/README.md
@@ -20,8 +21,8 @@ What is checked, in each *.md file at the top, in docs/, examples/ and bench/:
   what a real Linux answered the same step, by one of FOLDER's transcripts;
 - no other kind of block stands there but `text` (a picture) and `sh` (commands to type);
 - no line has more than 100 columns, and each link has its target;
-- in docs/PROVED.md, each `function` (`clause`, ..) below a crate's heading is in its source, and
-  each library with public functions has a heading;
+- in docs/PROVED.md, each `function` (`clause`, ..) below the heading of some crates is in the source
+  of one, and each library with public functions stands in a heading;
 - each path `crates/..`, `docs/..`, `examples/..`, `bench/..` or `tools/..` in a code span is there,
   but for what is built;
   and below a line "In `crates/NAME`" each path `src/..`, `specs/..` or `proofs/..`, each name and
@@ -38,7 +39,6 @@ import tempfile
 from pathlib import Path
 
 ROOT = Path(__file__).resolve().parent.parent
-LAB = ROOT / "crates/hotplug_lab/out/hotplug_lab"
 WIDTH = 100
 SECONDS = 60
 
@@ -65,7 +65,12 @@ class Checks:
         print(f"documents: {self.passed} passed, {len(self.failures)} failed")
 
 
-# The program
+# The programs
+
+def lab_beside(program):
+    """`hotplug_lab`, from the folder of the crates that `hotplug` is from."""
+    return program.parents[2] / "hotplug_lab/out/hotplug_lab"
+
 
 def serial(program, scenario):
     """What the program prints for the bytes of a scenario."""
@@ -103,10 +108,10 @@ def check_examples(checks, program):
                      "is not in examples/README.md")
 
 
-def check_pictures(checks):
+def check_pictures(checks, program):
     shown = "".join(document.read_text() for document in (ROOT / "docs").glob("*.md"))
     for picture in sorted((ROOT / "docs/pictures").glob("*.svg")):
-        words = [LAB, "trace", "--svg", f"examples/{picture.stem}.json"]
+        words = [lab_beside(program), "trace", "--svg", f"examples/{picture.stem}.json"]
         drawn = subprocess.run(words, cwd=ROOT, stdout=subprocess.PIPE, timeout=SECONDS).stdout
         checks.holds(f"docs/pictures/{picture.name}", drawn == picture.read_bytes(), "is not what is drawn")
         checks.holds(f"docs/pictures/{picture.name}", f"](pictures/{picture.name})" in shown, "is shown nowhere")
@@ -131,7 +136,7 @@ def commands_of(body):
 def check_console(checks, where, body, program):
     with tempfile.TemporaryDirectory() as directory:
         (Path(directory) / "hotplug").symlink_to(program)
-        (Path(directory) / "hotplug_lab").symlink_to(LAB)
+        (Path(directory) / "hotplug_lab").symlink_to(lab_beside(program))
         path = directory + os.pathsep + os.environ["PATH"]
         for command, expected in commands_of(body):
             ran = subprocess.run(["bash", "-c", command], cwd=ROOT, stdout=subprocess.PIPE,
@@ -249,7 +254,7 @@ def check_crate_words(checks, where, line, crate):
 
 def crate_of(line, crate):
     """The crate that a line's paths are of, after that of the line before it."""
-    begins = re.match(r"In `((?:crates|bench)/\w+)`", line)
+    begins = re.match(r"(?:- )?In `((?:crates|bench)/\w+)`", line)
     if begins:
         return begins[1]
     return None if line.startswith("#") else crate
@@ -305,17 +310,26 @@ def functions_of(crate):
     return found
 
 
-def check_item(checks, where, item, crate):
+def functions_in(crates):
+    """Those of several crates; of a name that two of them have, the clauses of both."""
+    found = {}
+    for crate in crates:
+        for function, clauses in functions_of(crate).items():
+            found[function] = found.get(function, set()) | clauses
+    return found
+
+
+def check_item(checks, where, item, crates):
     """The functions that an item of PROVED.md names before its colon, and the clauses of each in parentheses after it."""
-    known = functions_of(crate)
+    known, names = functions_in(crates), ", ".join(crates)
     heads = [it.partition(": ")[0] for it in re.split(r"(?<=[.;]) (?=`)", item[2:])]
     for head in heads:
         for function, clauses in re.findall(r"`([\w:]+)`(?: \(((?:`\w+`(?:, )?)+)\))?", head):
             function = function.split("::")[-1]
-            checks.holds(where, function in known, f"{crate} has no {function}")
+            checks.holds(where, function in known, f"{names} has no {function}")
             for clause in re.findall(r"`(\w+)`", clauses):
                 has = clause in known.get(function, ())
-                checks.holds(where, has, f"{function} of {crate} has no clause {clause}")
+                checks.holds(where, has, f"{function} of {names} has no clause {clause}")
 
 
 def has_contracts(crate):
@@ -326,27 +340,27 @@ def has_contracts(crate):
 
 
 def check_proved(checks):
-    crate, headed = None, set()
+    crates, headed = [], set()
     text = (ROOT / "docs" / "PROVED.md").read_text()
     for part in re.findall(r"(?m)^#+ .*|^- .*(?:\n  .*)*", text):
-        heading = re.match(r"#+ (`(\w+)`)?", part)
-        if heading:
-            crate = heading[2]
-            headed.add(crate)
-            there = not crate or (ROOT / "crates" / crate).is_dir()
-            checks.holds("docs/PROVED.md", there, f"no crate {crate}")
-        elif crate:
-            check_item(checks, f"docs/PROVED.md: {part[:40]} ..", " ".join(part.split()), crate)
+        if part.startswith("#"):
+            crates = re.findall(r"`(\w+)`", part)
+            headed.update(crates)
+            for crate in crates:
+                checks.holds("docs/PROVED.md", (ROOT / "crates" / crate).is_dir(), f"no crate {crate}")
+        elif crates:
+            check_item(checks, f"docs/PROVED.md: {part[:40]} ..", " ".join(part.split()), crates)
     for name in re.findall(r"(?m)^(\w+)", (ROOT / "crates.txt").read_text()):
         checks.holds("docs/PROVED.md", name in headed or not has_contracts(name), f"no heading of crate {name}")
 
 
 def check_all(checks, program):
-    if not os.access(program, os.X_OK):
-        checks.holds("documents", False, f"no program at {program}: README.md says how to build it")
-        return
+    for built in (program, lab_beside(program)):
+        if not os.access(built, os.X_OK):
+            checks.holds("documents", False, f"no program at {built}: README.md says how to build it")
+            return
     check_examples(checks, program)
-    check_pictures(checks)
+    check_pictures(checks, program)
     for folder in (ROOT, ROOT / "docs", ROOT / "examples", ROOT / "bench"):
         for document in sorted(folder.glob("*.md")):
             check_document(checks, document, program)
@@ -354,10 +368,10 @@ def check_all(checks, program):
 
 
 def main(words):
-    program = Path(words[0] if words else ROOT / "crates/hotplug/out/hotplug").resolve()
+    crates = Path(words[0] if words else ROOT / "crates").resolve()
     checks = Checks()
     try:
-        check_all(checks, program)
+        check_all(checks, crates / "hotplug/out/hotplug")
     except (ValueError, LookupError, OSError, subprocess.SubprocessError) as error:
         checks.holds("documents", False, f"cannot be checked: {error!r}")
     checks.report()
