@@ -1,17 +1,18 @@
 #!/usr/bin/env python3
-"""Compares what `hotplug_lab explore --find` and `--never` print with every order of the lines,
-each played by `hotplug serial`. `check` at the top runs it after the gate; alone it takes the
-folder of the crates:
+"""Compares what `hotplug_lab explore` prints, alone and with `--find` and `--never`, with every
+order of the lines, each played by `hotplug serial`. `check` at the top runs it after the gate;
+alone it takes the folder of the crates:
 
-    python3 docs/check_find.py [CRATES [SEED [COUNT]]]        without them: crates, 34 and 40
+    python3 docs/check_find.py [CRATES [SEED [COUNT]]]        without them: crates, 34 and 400
 
 On so many scenarios that are drawn at random, with events of all kinds and plans, where 0 may stand
-for an operation of the setup: an interleaving is found where an order has an end with the lines; it
-is one of those orders, with the fewest changes of processor; and where there is none, as many
-interleavings are told as there are orders. `--never` prints the same with the other status,
-`--scenario 1` writes what is found as a scenario with the setup's lines before the calls, `--json`
-the same as an object, scripts that use 0 before a begin are told, and a text that no end has as a
-line ends with status 2.
+for an operation of the setup, and at most 120 orders each: `explore` tells the ends of the orders,
+each with its count and its first order, in the order of these. Of one in ten: an interleaving is
+found where an order has an end with the lines; it is one of those orders, with the fewest changes
+of processor; and where there is none, as many interleavings are told as there are orders. `--never`
+prints the same with the other status, `--scenario 1` writes what is found as a scenario with the
+setup's lines before the calls, `--json` the same as an object, scripts that use 0 before a begin
+are told, and a text that no end has as a line ends with status 2.
 The last line is 'find: N passed, M failed'; the exit status is 0 where nothing failed, else 1.
 """
 import json
@@ -21,10 +22,12 @@ import subprocess
 import sys
 from pathlib import Path
 
-from check_lab import LAYOUT, ROOT, SECONDS, Checks, Programs, end_in_serial
+from check_lab import (LAYOUT, ROOT, SECONDS, Checks, Programs, answers_and_state, end_with,
+                       ends_of)
 
 SEED = 34
-COUNT = 40
+COUNT = 400
+SEARCHED = 10
 MOST_ORDERS = 120
 NO_LINES = ("", "refused", "refused Nonsense", "refused NotFree x", "refused NotFree 01", "word",
             "opened 3", "block x", "block 1", "block 1 online", "block 1 offline normal", "cpu 0",
@@ -38,15 +41,20 @@ class Searches(Programs):
         super().__init__(crates)
         self.said = ""
 
+    def search(self, scenario, setup, *words):
+        """The exit status of `explore` and what it prints; what it says besides is kept."""
+        ran = subprocess.run([self.lab, "explore", "--setup", str(setup), *words],
+                             input=json.dumps(scenario).encode(), capture_output=True,
+                             timeout=SECONDS)
+        self.said = ran.stderr.decode()
+        return ran.returncode, ran.stdout.decode()
+
     def find(self, scenario, setup, option, texts, *more):
         """The exit status and what is printed of a search for an end with lines; what is said where
         it was not made."""
-        words = [self.lab, "explore", "--setup", str(setup)]
-        words += [word for text in texts for word in (option, text)] + list(more)
-        ran = subprocess.run(words, input=json.dumps(scenario).encode(), capture_output=True,
-                             timeout=SECONDS)
-        self.said = ran.stderr.decode()
-        return ran.returncode, ran.stdout.decode() if ran.returncode in (0, 3) else self.said
+        words = [word for text in texts for word in (option, text)]
+        status, text = self.search(scenario, setup, *words, *more)
+        return status, text if status in (0, 3) else self.said
 
 
 def driven(items, turns, cpus):
@@ -112,6 +120,7 @@ class Orders:
         self.scripts = [[line.partition(" ")[2] for line in lines if line.split()[0] == str(cpu)]
                         for cpu in range(self.layout["cpus"])]
         self.begun = [self.begun_by(cpu) for cpu in range(self.layout["cpus"])]
+        self.before = len(answers_and_state(programs.serial(self.layout, self.setup))[0])
 
     def begun_by(self, cpu):
         """The number of a processor's last begin in the setup, 0 where there is none: that of the
@@ -120,15 +129,17 @@ class Orders:
         for at, line in enumerate(self.setup):
             if line.startswith((f"{cpu} begin", f"{cpu} plan", f"{cpu} echo")):
                 text = self.programs.serial(self.layout, self.setup[:at] + [f"{cpu} drain 0"])
-                answers = text.rpartition("state\nblock 0 ")[0].splitlines()
-                begun = int(answers[-1].partition(":")[0])
+                answers, _ = answers_and_state(text)
+                begun = int(answers.splitlines()[-1].partition(":")[0])
         return begun
 
-    def receipts(self, calls):
+    def played(self, calls):
+        """The answers and the state that calls lead to after the setup."""
+        answers, state = answers_and_state(self.programs.serial(self.layout, self.setup + calls))
+        return answers[self.before:].splitlines(), state
+
+    def receipts(self, calls, lines):
         """The calls of each processor with their serials and replies."""
-        before = self.programs.serial(self.layout, self.setup).rpartition("state\nblock 0 ")[0]
-        text = self.programs.serial(self.layout, self.setup + calls)
-        lines = text.rpartition("state\nblock 0 ")[0][len(before):].splitlines()
         receipts = [[] for _ in self.scripts]
         for call, line in zip(calls, lines, strict=True):
             cpu, _, asked = call.partition(" ")
@@ -137,14 +148,16 @@ class Orders:
         return receipts
 
     def all_from(self, calls, most):
-        """The complete orders that go on from calls, as long as there are no more than so many."""
-        receipts, is_over, orders = self.receipts(calls), True, []
+        """The complete orders that go on from calls, each with its end, as long as there are no
+        more than so many."""
+        lines, state = self.played(calls)
+        receipts, is_over, orders = self.receipts(calls, lines), True, []
         for cpu, script in enumerate(self.scripts):
             call = next_call(script, self.layout["cpus"], self.begun[cpu], receipts[cpu])
             if call is not None and len(orders) <= most:
                 is_over = False
                 orders += self.all_from(calls + [f"{cpu} {call}"], most)
-        return [calls] if is_over else orders
+        return [(calls, end_with(self.layout["cpus"], calls, lines, state))] if is_over else orders
 
 
 def changes_of(calls):
@@ -239,20 +252,40 @@ def check_object(checks, programs, scenario, setup, texts, expected):
                  f"says {status}, {text!r}")
 
 
-def check_drawn(checks, programs, draw):
-    """Checks searches of a scenario that is drawn; it answers whether it has few enough orders."""
+def counted(orders):
+    """The ends of orders in the order of their first ones: count, end and first order of each."""
+    ends = {}
+    for calls, end in orders:
+        count, first = ends.get(end, (0, calls))
+        ends[end] = count + 1, first
+    return [(count, end, first) for end, (count, first) in ends.items()]
+
+
+def check_ends(checks, programs, scenario, setup, orders):
+    status, text = programs.search(scenario, setup)
+    where = f"explore --setup {setup} {json.dumps(scenario)}"
+    checks.holds(where, status == 0, f"ends with {status}, {programs.said!r}")
+    total, ends = ends_of(text)
+    checks.holds(where, total == len(orders), f"counts {total} of {len(orders)} orders")
+    checks.holds(where, ends == counted(orders), f"{ends} in place of {counted(orders)}")
+
+
+def check_drawn(checks, programs, draw, is_searched):
+    """Checks a scenario that is drawn, and searches of it where it is to be searched; it answers
+    whether it has few enough orders."""
     cpus = draw.choice((1, 2, 2, 2, 3))
     layout = dict(LAYOUT, cpus=cpus, history=200)
     setup = draw.randrange(3)
     calls = [drawn_call(draw, draw.randrange(cpus), cpus)
              for _ in range(setup + draw.randrange(2, 6))]
     scenario = {"layout": layout, "calls": calls}
-    every = Orders(programs, scenario, setup).all_from([], MOST_ORDERS)
-    if len(every) > MOST_ORDERS:
+    orders = Orders(programs, scenario, setup).all_from([], MOST_ORDERS)
+    if len(orders) > MOST_ORDERS:
         return False
-    orders = [(order, end_in_serial(programs, layout, calls[:setup], order)) for order in every]
-    for texts in drawn_texts(draw, [end for _, end in orders]):
-        check_search(checks, programs, scenario, setup, orders, texts)
+    check_ends(checks, programs, scenario, setup, orders)
+    if is_searched:
+        for texts in drawn_texts(draw, [end for _, end in orders]):
+            check_search(checks, programs, scenario, setup, orders, texts)
     return True
 
 
@@ -274,7 +307,7 @@ def main(words):
         check_no_lines(checks, programs)
         drawn = 0
         while drawn < int(count):
-            drawn += check_drawn(checks, programs, draw)
+            drawn += check_drawn(checks, programs, draw, drawn % SEARCHED == 0)
     except (ValueError, LookupError, OSError, subprocess.SubprocessError) as error:
         checks.holds("find", False, f"cannot be checked: {error!r}")
     for failure in checks.failures:

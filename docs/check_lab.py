@@ -123,16 +123,26 @@ def ends_of(text):
     return total, [end_of(part.rstrip("\n")) for part in parts]
 
 
-def end_in_serial(programs, layout, setup, calls):
-    """The end that calls have after a setup, as `hotplug serial` prints it."""
-    before = programs.serial(layout, setup).rpartition("state\nblock 0 ")[0]
-    answered, _, state = programs.serial(layout, setup + calls).rpartition("state\nblock 0 ")
-    lines = answered[len(before):].splitlines()
-    answers = [[] for _ in range(layout["cpus"])]
+def answers_and_state(text):
+    """What `hotplug serial` prints before and after the word that begins the state."""
+    answers, _, state = text.rpartition("state\nblock 0 ")
+    return answers, "block 0 " + state
+
+
+def end_with(cpus, calls, lines, state):
+    """The end of calls with these answers and this state, as `hotplug serial` prints them."""
+    answers = [[] for _ in range(cpus)]
     for call, line in zip(calls, lines):
         answers[int(call.split()[0])].append(told(line.partition(": ")[2]))
-    rows = [line for line in ("block 0 " + state).split("\n") if line.startswith("block ")]
+    rows = [line for line in state.split("\n") if line.startswith("block ")]
     return tuple(map(tuple, answers)), tuple(row.partition(" op ")[0] for row in rows)
+
+
+def end_in_serial(programs, layout, setup, calls):
+    """The end that calls have after a setup, as `hotplug serial` prints it."""
+    before, _ = answers_and_state(programs.serial(layout, setup))
+    answers, state = answers_and_state(programs.serial(layout, setup + calls))
+    return end_with(layout["cpus"], calls, answers[len(before):].splitlines(), state)
 
 
 # By brute force
