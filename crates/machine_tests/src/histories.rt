@@ -1,12 +1,9 @@
-//! Worked replays: a block of the kernel that is taken, given back and undone, and an operation
-//! that is cancelled.
+//! Worked replays: a block of the kernel that is taken, given back and undone.
 use crate::layouts::one_block;
 use hp_history::{Course, Records, Volume, audit_chain, replay, replay_from};
 use hp_plain::Image;
 use hp_tape::Delta;
-use hp_units::{
-    Block, Class, Cpu, Event, Frame, Item, Layout, Order, Plan, Record, Reply, Serial, Wish,
-};
+use hp_units::{Class, Cpu, Event, Frame, Layout, Order, Record, Reply, Serial};
 use std::alloc::{AllocError, Global};
 use std::test::Fail;
 
@@ -32,36 +29,18 @@ fn give() -> Record {
     record_of(2, event, Reply::Done)
 }
 
-/// So many steps are undone, which are all.
-fn undo(serial: u64, count: u64) -> Record {
-    let event = Event::UndoAfter { serial: Serial(0) };
-    record_of(serial, event, Reply::Undone { count })
-}
-
-/// The block is to go offline; after a drain the operation is cancelled, and nothing of it stays to
-/// be undone.
-fn cancelled(alloc: Global) -> Result<Vec<Record>, AllocError> {
-    let op = Serial(1);
-    let item = Item {
-        block: Block(0),
-        wish: Wish::Off,
-    };
-    let plan = Plan::new(alloc, vec![in alloc; item]?)?;
-    let drain = Event::DrainFor { op, cpu: Cpu(0) };
-    let mut records = Vec::new(alloc);
-    records.push(record_of(1, Event::Begin { plan }, Reply::Opened { op }))?;
-    records.push(record_of(2, drain, Reply::Done))?;
-    records.push(record_of(3, Event::Cancel { op }, Reply::Restored))?;
-    records.push(undo(4, 0))?;
-    Ok(records)
-}
-
 /// Both steps are undone.
+fn undo() -> Record {
+    let event = Event::UndoAfter { serial: Serial(0) };
+    record_of(3, event, Reply::Undone { count: 2 })
+}
+
+/// All three, in order.
 fn worked(alloc: Global) -> Result<Vec<Record>, AllocError> {
     let mut records = Vec::new(alloc);
     records.push(take())?;
     records.push(give())?;
-    records.push(undo(3, 2))?;
+    records.push(undo())?;
     Ok(records)
 }
 
@@ -85,13 +64,6 @@ fn leads_back(alloc: Global, records: &[Record]) -> Result<bool, Fail> {
 #[test]
 fn a_history_leads_back_to_boot(rt: HostRuntime) -> Result<(), Fail> {
     let records = worked(rt.alloc())?;
-    assert!(rt; leads_back(rt.alloc(), &records)?);
-    Ok(())
-}
-
-#[test]
-fn a_cancelled_operation_leads_back_to_boot(rt: HostRuntime) -> Result<(), Fail> {
-    let records = cancelled(rt.alloc())?;
     assert!(rt; leads_back(rt.alloc(), &records)?);
     Ok(())
 }

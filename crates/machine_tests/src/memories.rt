@@ -34,13 +34,25 @@ fn stepped_and_back(
     Ok(reply)
 }
 
+/// Whether a step is answered so.
+fn answers(
+    alloc: Global,
+    memory: &mut Memory,
+    tape: &mut Tape,
+    event: &Event,
+    wanted: &Reply,
+) -> Result<bool, AllocError> {
+    let answer = memory.step(alloc, Serial(1), Cpu(0), event, tape)?;
+    Ok(answer.same(wanted))
+}
+
 /// Whether a block is taken alike before and after a step that took it and was taken back.
 fn takes_twice(alloc: Global, memory: &mut Memory, tape: &mut Tape) -> Result<bool, AllocError> {
     let take = Event::KernelAlloc { order: Order(1) };
     let frame = Reply::Frame(Frame(0));
-    let first = stepped_and_back(alloc, memory, tape, Serial(1), &take)?;
-    let second = memory.step(alloc, Serial(1), Cpu(0), &take, tape)?;
-    Ok(first.same(&frame) && second.same(&frame))
+    let answer = stepped_and_back(alloc, memory, tape, Serial(1), &take)?;
+    let first = answer.same(&frame);
+    Ok(first && answers(alloc, memory, tape, &take, &frame)?)
 }
 
 /// Whether that holds on a tape of its own.
