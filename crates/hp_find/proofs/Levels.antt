@@ -1,15 +1,15 @@
 -- From level to level of a search, and what all ends say.
-use Rattle.std.proofs.Common.{◌≡◌, ℕ, ◌+◌, ◌≤◌, List, Some, slice_get, sum_by, sym, subst, arith}
+use Rattle.std.proofs.Common.{◌≡◌, ℕ, ◌+◌, ◌<◌, ◌≤◌, List, Some, slice_get, sum_by, sym, subst, arith}
 use Rattle.hp_explore.specs.Ends.{AreEnds}
-use Rattle.hp_explore.specs.Faults.{IsCallCause, IsCause}
-use Rattle.hp_explore.specs.Schedules.{Setting}
+use Rattle.hp_explore.specs.Faults.{FillsHistory, HasMoreThan, IsCallCause, IsCause}
+use Rattle.hp_explore.specs.Schedules.{IsComplete, Setting}
 use Rattle.hp_explore.specs.declared.exploring.ExploreFault.{ExploreFault}
 use Rattle.hp_explore.specs.declared.exploring.ExploreFault.TheVariants.{TooMany, HistoryFull, OutOfMemory}
 use Rattle.hp_explore.specs.declared.tally.Ending.{Ending}
 use Rattle.hp_find.specs.Changes.{changes}
 use Rattle.hp_find.specs.Ends.{HasNoSuchEnd, IsSuchEnd}
 use Rattle.hp_find.specs.Faults.{IsFindCause, few_changes}
-use Rattle.hp_find.specs.Reaching.{IsAbsent, IsNearest, NeedsChanges, Reaches}
+use Rattle.hp_find.specs.Reaching.{HasRoomAlong, IsAbsent, IsFirstWithin, IsNearestBelow, NeedsChanges, Reaches}
 use Rattle.hp_find.specs.Wanted.{Meets}
 use Rattle.hp_find.specs.declared.wanted.Wanted.{Wanted}
 
@@ -17,10 +17,14 @@ pub needs_none : (g : Setting) (wanted : List Wanted) → NeedsChanges g wanted 
 needs_none g wanted s reaches = omega arith
 
 -- the first that has no more changes than each needs
-pub nearest_found : (g : Setting) (wanted : List Wanted) (budget : ℕ) (s : List ℕ) → NeedsChanges g wanted budget
-    → Reaches g wanted s × (changes s ≤ budget) → IsNearest g wanted s
-nearest_found g wanted budget s needs found =
-    (found.0, λ t reaches. let more : budget ≤ changes t = needs t reaches in omega (arith, more, found.1))
+pub nearest_found : (g : Setting) (wanted : List Wanted) (budget below : ℕ) (s : List ℕ)
+    → NeedsChanges g wanted budget → budget < below → IsFirstWithin g wanted budget (Some s)
+    → IsNearestBelow g wanted below (Some s)
+nearest_found g wanted budget below s needs less found = (
+  (found.0, λ t reaches. let more : budget ≤ changes t = needs t reaches in omega (arith, more, found.1)),
+  omega (arith, found.1, less),
+  found.2,
+)
 
 -- the first schedule of an end with the lines
 pub such_reaches : (g : Setting) (wanted : List Wanted) (ends : List Ending) (e : Ending) → AreEnds g ends
@@ -36,6 +40,21 @@ none_reaches g wanted ends are none = (
       none at.0 at.1 at.2 (subst (Meets wanted) (sym at.3) reaches.2),
   are.total,
 )
+
+-- ---- the limit and the room
+
+-- one with few changes was found before all were counted
+pub few_counted : (g : Setting) (limit : ℕ) (s : List ℕ) → changes s < few_changes → few_changes ≤ changes s
+    → HasMoreThan (IsComplete g) limit → ⊥
+few_counted g limit s less few more = omega (arith, less, few)
+
+pub few_filled : (g : Setting) (s : List ℕ) → changes s < few_changes → few_changes ≤ changes s
+    → FillsHistory g → ⊥
+few_filled g s less few fills = omega (arith, less, few)
+
+-- where no schedule fills the history there is room for each call of every one
+pub room_along : (g : Setting) (s : List ℕ) → (FillsHistory g → ⊥) → HasRoomAlong g s
+room_along g s none fills = none (fills.0, fills.1)
 
 -- ---- faults
 

@@ -2,5 +2,6 @@ pub mod Below
 pub mod Growing
 pub mod Levels
 pub mod Reaching
+pub mod Rooms
 pub mod SearchTurns
 pub mod Turns

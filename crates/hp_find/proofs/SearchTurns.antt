@@ -12,7 +12,7 @@ use Rattle.hp_explore.specs.Outcomes.{OutcomeValue, outcome}
 use Rattle.hp_explore.specs.Schedules.{Setting, next_call, outcome_after, play_one, plays, record_of_call, schedule_of}
 use Rattle.hp_explore.proofs.Plays.{asks_within, only_this, plays_on, plays_one}
 use Rattle.hp_find.specs.Changes.{changes}
-use Rattle.hp_find.specs.Reaching.{NeedsChanges, Reaches}
+use Rattle.hp_find.specs.Reaching.{IsFirstWithin, NeedsChanges, Reaches}
 use Rattle.hp_find.specs.Searches.{IsCloser, IsDown, IsOver, IsPassed, IsSearching, IsTakenBack, IsTurned, IsUp, SearchValue, room_of, search_at}
 use Rattle.hp_find.specs.Wanted.{Meets}
 use Rattle.hp_find.specs.declared.searching.Turn.{Turn}
@@ -20,6 +20,7 @@ use Rattle.hp_find.specs.declared.searching.Turn.TheVariants.{On, Found, Over}
 use Rattle.hp_find.specs.declared.wanted.Wanted.{Wanted}
 use Rattle.hp_find.proofs.Growing.{changes_longer}
 use Rattle.hp_find.proofs.Reaching.{passed_down, passed_far, passed_none, passed_over, passed_up, passed_whole}
+use Rattle.hp_find.proofs.Rooms.{room_back, room_none, room_push}
 use Rattle.hp_find.proofs.Turns.{left_down, left_past, left_up}
 
 -- ---- schedules of records
@@ -78,17 +79,19 @@ started g wanted budget = record {
   within = omega arith;
   next = omega arith;
   room = omega arith;
+  along = room_none g;
   passed = passed_none g wanted budget;
 }
 
 -- ---- a call more
 
 made : (wanted : List Wanted) (budget : ℕ) (v : SearchValue) (r : Record)
-    → v.next < length v.path.setting.scripts → IsSearching wanted budget v → is_full_after v.path.setting v.path.news ≡ false → r.cpu ≡ v.next
+    → v.next < length v.path.setting.scripts
+    → plays v.path.setting (schedule_of v.path.news) ≡ Some v.path.news → IsSearching wanted budget v → is_full_after v.path.setting v.path.news ≡ false → r.cpu ≡ v.next
     → changes (v.schedule ++ v.next ∷ []) ≤ budget
     → IsCloser wanted budget v
     (search_at (record { setting = v.path.setting; news = v.path.news ++ r ∷ [] }) (v.schedule ++ v.next ∷ []) 0)
-made wanted budget v r less here has_room cpu_is few = record {
+made wanted budget v r less played here has_room cpu_is few = record {
   searching = record {
     schedule =
         ap (λ (s : List ℕ). s ++ v.next ∷ []) here.schedule
@@ -96,6 +99,9 @@ made wanted budget v r less here has_room cpu_is few = record {
     within = few;
     next = omega arith;
     room = omega (arith, length_push v.schedule v.next, shorter);
+    along =
+        room_push v.path.setting v.schedule v.path.news v.next here.along
+        (subst (λ (s : List ℕ). plays v.path.setting s ≡ Some v.path.news) (sym here.schedule) played) has_room;
     passed = passed_down v.path.setting wanted budget v.schedule v.next here.passed;
   };
   same = refl;
@@ -122,6 +128,7 @@ past wanted budget v less played here cause = record {
     within = here.within;
     next = omega (arith, less);
     room = here.room;
+    along = here.along;
     passed =
         elim cause [
           | inl far ↦ passed_far v.path.setting wanted budget v.schedule v.next far here.passed
@@ -144,7 +151,7 @@ gone_down wanted budget v w less played here down =
           subst (IsCloser wanted budget v) (sym m.is)
           (subst (λ (p : PathValue). IsCloser wanted budget v (search_at p (v.schedule ++ v.next ∷ []) 0))
           (sym m.forth.3)
-          (made wanted budget v (record_of_call v.path.setting v.path.news v.next m.forth.0) less here m.forth.2
+          (made wanted budget v (record_of_call v.path.setting v.path.news v.next m.forth.0) less played here m.forth.2
           (caller v.path.setting v.path.news v.next m.forth.0) m.within))
       | inr p ↦ subst (IsCloser wanted budget v) (sym p.is) (past wanted budget v less played here p.cause)
     ]
@@ -174,6 +181,7 @@ taken_back wanted budget path r next all played no_end here = record {
         last_within path.setting (schedule_of path.news) r.cpu (path.news ++ r ∷ []) played in
         omega (arith, less);
     room = omega (arith, length_push (schedule_of path.news) r.cpu, here.room);
+    along = room_back path.setting (schedule_of path.news) r.cpu here.along;
     passed =
         passed_up path.setting wanted budget (schedule_of path.news) r.cpu (path.news ++ r ∷ []) played no_end
         (subst (λ (n : ℕ). IsPassed path.setting wanted budget ((schedule_of path.news ++ r.cpu ∷ []) ++ n ∷ []))
@@ -243,6 +251,16 @@ gone_up wanted budget v w Over all played no_end here up =
         passed_whole v.path.setting wanted budget [] played no_end
         (subst (λ (n : ℕ). IsPassed v.path.setting wanted budget (n ∷ [])) all
         (subst (λ (s : List ℕ). IsPassed v.path.setting wanted budget (s ++ v.next ∷ [])) none here.passed))
+
+-- a search that found one
+pub found_here : (g : Setting) (wanted : List Wanted) (budget : ℕ) (v w : SearchValue) (turn : Turn)
+    (s : List ℕ)
+    → IsTurned wanted budget v w turn → turn ≡ Found → v.path.setting ≡ g → s ≡ w.schedule
+    → IsFirstWithin g wanted budget (Some s)
+found_here g wanted budget v w turn s turned is same items =
+    subst (λ (h : Setting). IsFirstWithin h wanted budget (Some s)) same
+    (subst (λ (t : List ℕ). IsFirstWithin v.path.setting wanted budget (Some t)) (sym items)
+    (subst (λ (t : Turn). IsTurned wanted budget v w t) is turned))
 
 -- ---- the end of a place
 

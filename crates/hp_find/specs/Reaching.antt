@@ -1,5 +1,6 @@
 -- Which schedules end as is wanted, and what is said of the nearest.
-use Rattle.std.specs.Prelude.{ℕ, ◌+◌, ◌≤◌, List, Option, Some, None}
+use Rattle.std.specs.Prelude.{ℕ, ◌+◌, ◌<◌, ◌≤◌, List, Option, Some, None}
+use Rattle.hp_explore.specs.Faults.{FillsAlong}
 use Rattle.hp_explore.specs.Orders.{HasCount}
 use Rattle.hp_explore.specs.Outcomes.{OutcomeValue}
 use Rattle.hp_explore.specs.Schedules.{EndsWith, IsComplete, Setting}
@@ -25,18 +26,22 @@ IsNearest g wanted s = Reaches g wanted s × NeedsChanges g wanted (changes s)
 abbrev pub IsAbsent : Setting → List Wanted → ℕ → Type 0
 IsAbsent g wanted n = ((s : List ℕ) → Reaches g wanted s → ⊥) × HasCount (IsComplete g) n
 
+-- the history has room for each call of a schedule
+abbrev pub HasRoomAlong : Setting → List ℕ → Type 0
+HasRoomAlong g s = FillsAlong g s → ⊥
+
 -- what was found is so
 abbrev pub IsFound : Setting → List Wanted → Found → Type 0
 IsFound g wanted (Nearest schedule) = IsNearest g wanted schedule.items
 IsFound g wanted (Absent schedules) = IsAbsent g wanted schedules
 
--- the first that was found from some number of changes on is a nearest one; where there is none,
--- each has so many changes or more
+-- the first that was found from some number of changes on is a nearest one, with fewer than so
+-- many, and can be recorded; where there is none, each has so many changes or more
 abbrev pub IsNearestBelow : Setting → List Wanted → (below : ℕ) → Option (List ℕ) → Type 0
 IsNearestBelow g wanted below None = NeedsChanges g wanted below
-IsNearestBelow g wanted below (Some s) = IsNearest g wanted s
+IsNearestBelow g wanted below (Some s) = IsNearest g wanted s × (changes s < below) × HasRoomAlong g s
 
--- one that has at most so many changes; where there is none, each has more
+-- one that has at most so many changes and can be recorded; where there is none, each has more
 abbrev pub IsFirstWithin : Setting → List Wanted → (budget : ℕ) → Option (List ℕ) → Type 0
 IsFirstWithin g wanted budget None = NeedsChanges g wanted (budget + 1)
-IsFirstWithin g wanted budget (Some s) = Reaches g wanted s × (changes s ≤ budget)
+IsFirstWithin g wanted budget (Some s) = Reaches g wanted s × (changes s ≤ budget) × HasRoomAlong g s

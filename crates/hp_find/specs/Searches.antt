@@ -4,7 +4,7 @@ use Rattle.hp_explore.specs.Orders.{IsBefore}
 use Rattle.hp_explore.specs.Paths.{IsBack, IsForth, PathValue}
 use Rattle.hp_explore.specs.Schedules.{Setting, next_call, schedule_of}
 use Rattle.hp_find.specs.Changes.{changes}
-use Rattle.hp_find.specs.Reaching.{NeedsChanges, Reaches}
+use Rattle.hp_find.specs.Reaching.{HasRoomAlong, NeedsChanges, Reaches}
 use Rattle.hp_find.specs.declared.searching.Turn.{Turn}
 use Rattle.hp_find.specs.declared.searching.Turn.TheVariants.{On, Found, Over}
 use Rattle.hp_find.specs.declared.wanted.Wanted.{Wanted}
@@ -81,6 +81,7 @@ pub record IsSearching (wanted : List Wanted) (budget : ℕ) (v : SearchValue) :
   pub within : changes v.schedule ≤ budget
   pub next : v.next ≤ length v.path.setting.scripts
   pub room : length v.schedule ≤ room_of v.path.setting
+  pub along : HasRoomAlong v.path.setting v.schedule
   pub passed : IsPassed v.path.setting wanted budget (v.schedule ++ v.next ∷ [])
 
 -- the most turns that are left to it
@@ -96,5 +97,7 @@ pub record IsCloser (wanted : List Wanted) (budget : ℕ) (v w : SearchValue) : 
 -- what a turn came to
 abbrev pub IsTurned : List Wanted → (budget : ℕ) → SearchValue → SearchValue → Turn → Type 0
 IsTurned wanted budget v w On = IsCloser wanted budget v w
-IsTurned wanted budget v w Found = Reaches v.path.setting wanted w.schedule × (changes w.schedule ≤ budget)
+IsTurned wanted budget v w Found =
+    Reaches v.path.setting wanted w.schedule × (changes w.schedule ≤ budget)
+    × HasRoomAlong v.path.setting w.schedule
 IsTurned wanted budget v w Over = NeedsChanges v.path.setting wanted (budget + 1)

@@ -1,8 +1,8 @@
 //! The search by rising number of changes.
 ghost use Rattle.std.specs.Prelude.{◌≡◌, ◌<◌, ◌≤◌, ◌^◌, IfErr, IfNone, IfOk, IfSome, length, option_map, sum_by};
-ghost use Rattle.hp_explore.specs.Faults.{IsCallCause};
-ghost use Rattle.hp_explore.specs.Schedules.{setting};
-ghost use Rattle.hp_find.specs.Faults.{IsFindCause};
+ghost use Rattle.hp_explore.specs.Faults.{FillsHistory, HasMoreThan, IsCallCause};
+ghost use Rattle.hp_explore.specs.Schedules.{IsComplete, setting};
+ghost use Rattle.hp_find.specs.Faults.{HasCounted, IsFindCause, IsRecorded};
 ghost use Rattle.hp_find.specs.Ends.{HasNoSuchEnd, IsSuchEnd};
 ghost use Rattle.hp_find.specs.Reaching.{IsFound, IsNearest, IsNearestBelow, NeedsChanges, Reaches};
 
@@ -35,6 +35,7 @@ pub enum Found {
 /// An error is `HistoryFull` where the layout's history has no room for all calls of a schedule,
 /// `OutOfMemory`, or `TooMany` where no schedule with fewer than three changes ends so and there
 /// are more schedules than the limit.
+#[tactic(auto, using(crate::proofs::Levels::few_counted, crate::proofs::Levels::few_filled, crate::proofs::Levels::room_along))]
 pub fn find<W: Watch>(
     alloc: Global,
     machine: &Machine,
@@ -45,6 +46,11 @@ pub fn find<W: Watch>(
 ) -> Result<Found, ExploreFault>
     requires { length scripts.now < 2 ^ 32 }
     ensures ok { IfOk result (IsFound (setting machine.now scripts.now) wanted.now) }
+    ensures few { IfOk result (λ found. HasCounted found
+        → HasMoreThan (IsComplete (setting machine.now scripts.now)) limit → ⊥) }
+    ensures room { IfOk result (λ found. HasCounted found
+        → FillsHistory (setting machine.now scripts.now) → ⊥) }
+    ensures along { IfOk result (IsRecorded (setting machine.now scripts.now)) }
     ensures err { IfErr result (IsFindCause (setting machine.now scripts.now) wanted.now limit) }
 {
     if let Some(schedule) = nearest_below(alloc, machine, scripts, wanted, 0, FEW)? {

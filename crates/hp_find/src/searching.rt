@@ -43,7 +43,6 @@ impl<'a> Model for Search<'a> {
 
 /// The first schedule in the order of the search that ends as is wanted and changes the processor
 /// at most so often. Errors come as those of `explore`, but never `TooMany`.
-#[tactic(auto, using(crate::proofs::SearchTurns::started))]
 pub(crate) fn first_within(
     alloc: Global,
     machine: &Machine,

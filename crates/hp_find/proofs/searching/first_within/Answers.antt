@@ -1,0 +1,22 @@
+-- The search begins before any call; where it found a schedule, that is one.
+use Rattle.std.proofs.Common.{ap, sym, subst}
+use Rattle.hp_explore.specs.Schedules.{setting}
+use Rattle.hp_find.specs.Searches.{IsSearching, SearchValue}
+use Rattle.hp_find.proofs.SearchTurns.{found_here, started}
+use Rattle.hp_find.proofs.searching.first_within.Goals as goal
+
+pub turns-init : goal.turns-init
+turns-init c =
+    let start = setting c.args.machine.now c.args.scripts.now in
+    record {
+      searching =
+          subst (IsSearching c.args.wanted.now c.args.budget) (sym c.in_ok-search.ensures)
+          (started start c.args.wanted.now c.args.budget);
+      same = ap (λ (v : SearchValue). v.path.setting) c.in_ok-search.ensures;
+    }
+
+pub returns-in-Found-clause-ok : goal.returns-in-Found-clause-ok
+returns-in-Found-clause-ok c =
+    found_here (setting c.args.machine.now c.args.scripts.now) c.args.wanted.now c.args.budget
+    c.turns.search c.turn.new.self c.in_ok-turn.field-0 c.into_schedule.result.items c.in_ok-turn.ensures.ok
+    c.in-Found.is c.turns.invariant.same c.into_schedule.ensures
