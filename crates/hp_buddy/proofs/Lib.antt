@@ -14,3 +14,4 @@ pub mod Searches
 pub mod Splits
 pub mod Standing
 pub mod Strides
+pub mod Wholes

@@ -75,7 +75,7 @@ move_free-first l a from to pageblock order has =
 -- ---- the lists of other orders
 
 -- lists of other orders have other numbers
-other-order : (class c : Class) (order o : ℕ) → order ≢ o
+pub other-order : (class c : Class) (order o : ℕ) → order ≢ o
     → 5 * o + class_index c ≢ 5 * order + class_index class
 other-order class c order o ne same = ne (omega (arith, class_index-lt class, class_index-lt c))
 

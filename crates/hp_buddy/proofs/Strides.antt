@@ -20,7 +20,7 @@ stays m from to order x off =
     ap (λ (on : Bool). cond on (with_back (without_free m from order x) to order x) m) off
 
 -- so many frames stay
-skip : (a : FreeAreas) (from to : Class) (order first at more : ℕ) → HasOrder a order
+pub skip : (a : FreeAreas) (from to : Class) (order first at more : ℕ) → HasOrder a order
     → ((j : ℕ) → j < more → is_on (first + (at + j)) (free_list a from order) ≡ false)
     → move_first a from to order first (at + more) ≡ move_first a from to order first at
 skip a from to order first at zero has off =

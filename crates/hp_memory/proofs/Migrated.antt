@@ -15,7 +15,8 @@ use Rattle.hp_units.specs.Migrations.{migration_source, migration_target}
 use Rattle.hp_units.specs.Rows.{is_live, with_areas, zone_of}
 use Rattle.hp_units.specs.Step.{Answered, migrate_step, with_pages}
 use Rattle.hp_units.specs.declared.events.Event.TheVariants.{Migrate}
-use Rattle.hp_units.specs.declared.replies.Reply.TheVariants.{Moved}
+use Rattle.hp_units.specs.declared.replies.Refusal.TheVariants.{NoFrame}
+use Rattle.hp_units.specs.declared.replies.Reply.TheVariants.{Moved, Refused}
 use Rattle.hp_lemmas.proofs.Placed.{in_frames}
 use Rattle.hp_tape.specs.declared.deltas.Delta.{Delta}
 use Rattle.hp_tape.specs.Bounds.{give_bound, steal_bound}
@@ -31,7 +32,7 @@ use Rattle.hp_memory.specs.declared.frames.Frames.{Frames}
 use Rattle.hp_memory.specs.declared.layers.Layers.{Layers}
 use Rattle.hp_memory.specs.Frames.{IsGiven, IsTaken, MayReturn, free_of, places_of}
 use Rattle.hp_memory.specs.Layers.{ArePlaced, IsAnswered, state_of, view_of}
-use Rattle.hp_memory.proofs.Answers.{hands-some, noted, notes-then}
+use Rattle.hp_memory.proofs.Answers.{hands-none, hands-some, noted, notes-then}
 use Rattle.hp_memory.proofs.Lifts.{notes-free, notes-pages}
 use Rattle.hp_memory.proofs.PageEvents.{both-one, pages_once, pages_seen, taken-free, taken-inside}
 
@@ -112,6 +113,26 @@ migrated : (l : LayoutParts) (s : Memory) (op from : ℕ) (taken : Taken) → is
     }
 migrated l s op from taken live source target =
     rw (live, source, target) (migrates l s op from taken source target)
+
+-- no frame was found
+not-handed : (fs : FreeFrames) (t : Option Taken) → handed_from fs t ≡ None → t ≡ None
+not-handed fs None e = refl
+not-handed fs (Some t) e = absurd cc
+
+migrate-none : (l : LayoutParts) (s : Memory) (op from : ℕ) → is_live s.blocks op ≡ true
+    → migration_source l s op ≡ Some from → migration_target l s.free.areas ≡ None
+    → asked l s 0 (Migrate op) ≡ record { memory = s; reply = Refused NoFrame }
+migrate-none l s op from live source target = rw (live, source, target) refl
+
+pub migrate-refused : (m : Layers) (f : Frames) (op from most : ℕ) (was now : TapeValue) → ArePlaced m
+    → is_live m.blocks.blocks op ≡ true → migration_source m.layout (state_of m) op ≡ Some from
+    → IsTaken (handed_from (free_of m.frames) (migration_target m.frames.cpus.layout m.frames.buddy.areas)) 0
+    most m.frames f was now None
+    → asked m.layout (state_of m) 0 (Migrate op) ≡ record { memory = state_of m; reply = Refused NoFrame }
+migrate-refused m f op from most was now p live source t =
+    migrate-none m.layout (state_of m) op from live source
+    (subst (λ (k : LayoutParts). migration_target k m.frames.buddy.areas ≡ None) p.one.cpus
+    (not-handed (free_of m.frames) _ (hands-none _ (free_of m.frames) (free_of f) t.handed)))
 
 pub migrate-done : {before : List Delta} (m : Layers) (f g : Frames) (ps : PagesValue) (op from to : ℕ)
     (zone : Zone) (was mid more now : TapeValue)

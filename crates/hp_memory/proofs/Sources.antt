@@ -1,15 +1,16 @@
 -- The page that a migration moves, looked for block by block.
-use Rattle.std.proofs.Common.{◌≡◌, ℕ, zero, suc, ◌+◌, ◌-◌, ◌<◌, ◌≤◌, Bool, true, false, cond, List, ◌∷◌, Option, Some, None, refl, sym, ◌∙◌, ap, arith, ◌&&◌}
+use Rattle.std.proofs.Common.{◌≡◌, ℕ, zero, suc, ◌+◌, ◌-◌, ◌<◌, ◌≤◌, Bool, true, false, cond, get_or, length, List, ◌∷◌, Option, Some, None, refl, sym, ◌∙◌, ap, arith, ◌&&◌}
 use Rattle.std.specs.Prelude.{filter, find, is_some}
-use Rattle.std.specs.List.{flat_map, range_with_len}
+use Rattle.std.specs.List.{flat_map, list_any, range_with_len}
 use Rattle.std.specs.Option.{option_or}
-use Rattle.std.proofs.lemmas.List.Folds.{find-append}
+use Rattle.std.proofs.lemmas.List.Folds.{find-append, list_any_at}
 use Rattle.hp_units.specs.LayoutParts.{LayoutParts}
 use Rattle.hp_units.specs.Arithmetic.{frames_of_block}
-use Rattle.hp_units.specs.Memory.{Memory, row_of}
+use Rattle.hp_units.specs.Memory.{Memory, offline_row, row_of}
+use Rattle.hp_units.specs.declared.rows.Row.{Row}
 use Rattle.hp_units.specs.Pages.{page_at}
 use Rattle.hp_units.specs.Migrations.{migration_source}
-use Rattle.hp_units.specs.Rows.{is_claimed_by, is_going}
+use Rattle.hp_units.specs.Rows.{is_claimed_by, is_going, is_live}
 use Rattle.hp_memory.specs.Migrations.{source_from, source_of}
 
 -- one block further
@@ -63,3 +64,29 @@ sources l s op block (suc count) =
 pub source-all : (l : LayoutParts) (s : Memory) (op : ℕ)
     → source_from l s op 0 l.blocks ≡ migration_source l s op
 source-all l s op = sources l s op 0 l.blocks
+
+-- ---- an operation that has a source is live
+
+-- where a block is claimed
+live-here : (claimed going : Bool) (op block from : ℕ) (rows : List Row) (here later : Option ℕ)
+    → is_claimed_by op (get_or rows block offline_row) ≡ claimed → block < length rows
+    → (later ≡ Some from → list_any (is_claimed_by op) rows ≡ true)
+    → option_or (cond (claimed && going) here None) later ≡ Some from
+    → list_any (is_claimed_by op) rows ≡ true
+live-here true going op block from rows here later claimed low further found =
+    list_any_at (is_claimed_by op) rows block offline_row low claimed
+live-here false going op block from rows here later claimed low further found = further found
+
+live-from : (l : LayoutParts) (s : Memory) (op block count from : ℕ) → block + count ≤ length s.blocks.rows
+    → source_from l s op block count ≡ Some from → is_live s.blocks op ≡ true
+live-from l s op block zero from within found = absurd cc
+live-from l s op block (suc count) from within found =
+    live-here (is_claimed_by op (row_of s.blocks block)) (is_going (row_of s.blocks block)) op block from
+    s.blocks.rows (find (λ frame. is_some (page_at s.pages frame)) (frames_of_block l block))
+    (source_from l s op (block + 1) count) refl (omega arith)
+    (λ later. live-from l s op (block + 1) count from (omega arith) later) found
+
+pub source-live : (l : LayoutParts) (s : Memory) (op from : ℕ) → length s.blocks.rows ≡ l.blocks
+    → migration_source l s op ≡ Some from → is_live s.blocks op ≡ true
+source-live l s op from rows found =
+    live-from l s op 0 l.blocks from (omega (arith, rows)) (source-all l s op ∙ found)

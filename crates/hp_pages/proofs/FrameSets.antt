@@ -76,6 +76,18 @@ none_in_word words first at before none n low high = elim (cases_lt n at) [
       (none (n % 64) same.1 same.2)
 ]
 
+-- nor words that are 0
+pub none_in_words : (words : List ℕ) (first at past : ℕ)
+    → ((n : ℕ) → first ≤ n → n < at / 64 * 64 + 64 → has words n ≡ false)
+    → ((k : ℕ) → at / 64 + 1 ≤ k → k < past → get_or words k 0 ≡ 0)
+    → (n : ℕ) → first ≤ n → n < past * 64 → has words n ≡ false
+none_in_words words first at past before empty n low high = elim (cases_lt n (at / 64 * 64 + 64)) [
+  | inl less ↦ before n low less
+  | inr more ↦
+      ap (λ (word : ℕ). eqb (bit_at word (n % 64)) 1) (empty (n / 64) (omega arith) (omega arith))
+      ∙ ap (λ (bit : ℕ). eqb bit 1) (bit_at-zero (n % 64))
+]
+
 -- no frame of the word is below its lowest
 found_below : (words : List ℕ) (first at bit : ℕ)
     → ((n : ℕ) → first ≤ n → n < at → has words n ≡ false)

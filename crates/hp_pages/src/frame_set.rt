@@ -1,5 +1,5 @@
 //! A set of frames, as a bitmap that is searched by words.
-ghost use Rattle.std.specs.Prelude.{◌≡◌, ℕ, ◌*◌, ◌<◌, ◌≤◌, ◌^◌, ◌/◌, ◌+◌, ◌==◌, IfOk, length, replicate, if◌then◌else◌};
+ghost use Rattle.std.specs.Prelude.{◌≡◌, ℕ, ◌*◌, ◌<◌, ◌≤◌, ◌^◌, ◌/◌, ◌+◌, ◌==◌, IfOk, length, replicate, slice_index, if◌then◌else◌};
 ghost use Rattle.std.specs.Int.{bit_at};
 ghost use Rattle.hp_pages.specs.FrameSets.{FindsLowest, bit_of, has};
 
@@ -65,9 +65,25 @@ impl FrameSet {
                     None
                 };
             }
-            at = at / 64 * 64 + 64;
+            at = self.skip_empty(at / 64 + 1, past / 64) * 64;
         }
         None
+    }
+
+    /// The first word of the set from one on and before another that has a frame; where none has,
+    /// the greater of the two.
+    fn skip_empty(&self, first: u32, past: u32) -> u32
+        requires within { past ≤ length self.now }
+        requires small { first + past < 2 ^ 32 }
+        ensures low { first ≤ result }
+        ensures most { result ≤ first + past }
+        ensures empty { (k : ℕ) → first ≤ k → k < result → slice_index self.now k ≡ 0 }
+    {
+        let mut at = first;
+        while at < past && self.words[at as usize] == 0 {
+            at += 1;
+        }
+        at
     }
 }
 

@@ -1,8 +1,10 @@
 //! Pageblocks whose free blocks change their class.
-ghost use Rattle.std.specs.Prelude.{◌≡◌, ◌+◌, ◌-◌, ◌*◌, ◌^◌, ◌<◌, ◌≤◌};
+ghost use Rattle.std.specs.Prelude.{◌≡◌, true, ◌+◌, ◌-◌, ◌*◌, ◌^◌, ◌<◌, ◌≤◌};
 ghost use Rattle.hp_units.specs.Arithmetic.{frame_count, pageblock_count, pageblock_size};
 ghost use Rattle.hp_units.specs.Isolation.{move_free, move_free_below};
+ghost use Rattle.hp_units.specs.FreeAreas.{is_on};
 ghost use Rattle.hp_units.specs.LayoutParts.{IsLayout};
+ghost use Rattle.hp_units.specs.Memory.{free_list};
 ghost use Rattle.hp_tape.specs.Tapes.{HasRoom, NotesAreas};
 ghost use Rattle.hp_buddy.specs.Buddy.{AreApart};
 ghost use Rattle.hp_buddy.specs.Moves.{free_count, free_one, move_one};
@@ -13,8 +15,54 @@ use hp_tape::Tape;
 use hp_units::{Class, Frame, Order, Pageblock};
 
 impl Buddy {
-    /// Moves the free blocks of a pageblock from one class to another, order by order.
+    /// Moves the free blocks of a pageblock from one class to another.
     pub(super) fn move_all(&mut self, from: Class, to: Class, pageblock: Pageblock, tape: &mut Tape)
+        requires pageblock { pageblock < pageblock_count self.old.layout }
+        requires apart { AreApart self.old.layout self.old.areas }
+        requires room { HasRoom tape.old (2 * pageblock_size self.old.layout) }
+        ensures areas { self.new.areas
+            ≡ move_free_below self.old.layout self.old.areas from to pageblock (self.old.layout.order + 1) }
+        ensures layout { self.new.layout ≡ self.old.layout }
+        ensures notes { NotesAreas self.old.layout (2 * pageblock_size self.old.layout) tape.old tape.new
+            self.new.areas self.old.areas }
+    {
+        if self.is_one_block(from, pageblock) {
+            self.move_whole(from, to, pageblock, tape);
+        } else {
+            self.move_orders(from, to, pageblock, tape);
+        }
+    }
+
+    /// Whether a pageblock is one free block of a class.
+    fn is_one_block(&self, class: Class, pageblock: Pageblock) -> bool
+        requires { pageblock < pageblock_count self.now.layout }
+        ensures { result ≡ is_on (pageblock * pageblock_size self.now.layout)
+            (free_list self.now.areas class self.now.layout.order) }
+    {
+        let order = Order(self.layout.order());
+        self.is_free(class, order, self.first_frame(pageblock))
+    }
+
+    /// Moves a pageblock that is one free block: none of its frames starts another.
+    fn move_whole(&mut self, from: Class, to: Class, pageblock: Pageblock, tape: &mut Tape)
+        requires pageblock { pageblock < pageblock_count self.old.layout }
+        requires whole { is_on (pageblock * pageblock_size self.old.layout)
+            (free_list self.old.areas from self.old.layout.order) ≡ true }
+        requires apart { AreApart self.old.layout self.old.areas }
+        requires room { HasRoom tape.old (2 * pageblock_size self.old.layout) }
+        ensures areas { self.new.areas
+            ≡ move_free_below self.old.layout self.old.areas from to pageblock (self.old.layout.order + 1) }
+        ensures layout { self.new.layout ≡ self.old.layout }
+        ensures notes { NotesAreas self.old.layout (2 * pageblock_size self.old.layout) tape.old tape.new
+            self.new.areas self.old.areas }
+    {
+        let order = Order(self.layout.order());
+        let first = self.first_frame(pageblock);
+        self.move_block(from, to, order, first, tape);
+    }
+
+    /// Moves the free blocks of a pageblock order by order.
+    fn move_orders(&mut self, from: Class, to: Class, pageblock: Pageblock, tape: &mut Tape)
         requires pageblock { pageblock < pageblock_count self.old.layout }
         requires apart { AreApart self.old.layout self.old.areas }
         requires room { HasRoom tape.old (2 * pageblock_size self.old.layout) }

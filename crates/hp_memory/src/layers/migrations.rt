@@ -24,11 +24,11 @@ impl Layers {
         ensures err { OnErr result (self.new ≡ self.old) }
         ensures kept { OnErr result (tape.new ≡ tape.old) }
     {
-        if !self.blocks.is_live(op) {
-            return Ok(Reply::Refused(Refusal::NoOp));
-        }
         let Some(from) = self.migration_source(op) else {
-            return Ok(Reply::Refused(Refusal::NothingToMove));
+            if self.blocks.is_live(op) {
+                return Ok(Reply::Refused(Refusal::NothingToMove));
+            }
+            return Ok(Reply::Refused(Refusal::NoOp));
         };
         let order = self.layout.order() as usize;
         tape.reserve(2 * order + 5)?;

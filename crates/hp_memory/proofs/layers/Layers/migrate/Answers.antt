@@ -1,13 +1,18 @@
-use Rattle.std.proofs.Common.{◌≡◌, ◌<◌, true, Some, sym, ◌∙◌, subst}
+use Rattle.std.proofs.Common.{◌≡◌, ◌<◌, true, Some, refl, sym, ◌∙◌, subst}
 use Rattle.std.specs.Prelude.{is_some}
 use Rattle.hp_units.specs.Arithmetic.{frame_count}
 use Rattle.hp_units.specs.LayoutParts.{LayoutParts}
 use Rattle.hp_units.specs.Pages.{page_at}
 use Rattle.hp_units.specs.Migrations.{migration_source}
+use Rattle.hp_units.specs.Rows.{is_live}
 use Rattle.hp_memory.specs.Layers.{state_of}
-use Rattle.hp_memory.proofs.Migrated.{migrate-done, source-holds, source-inside, source-returns}
+use Rattle.hp_units.specs.declared.events.Event.TheVariants.{Migrate}
+use Rattle.hp_units.specs.declared.replies.Refusal.TheVariants.{NoFrame}
+use Rattle.hp_memory.proofs.Answers.{refused_none}
+use Rattle.hp_memory.proofs.Migrated.{migrate-done, migrate-refused, source-holds, source-inside, source-returns}
 use Rattle.hp_memory.proofs.PageEvents.{settled}
 use Rattle.hp_memory.proofs.Placed.{tidy-placed}
+use Rattle.hp_memory.proofs.Sources.{source-live}
 use Rattle.hp_memory.proofs.layers.Layers.migrate.Goals as goal
 use Rattle.hp_memory.proofs.layers.Layers.migrate.Goals.{In-Some}
 
@@ -17,6 +22,11 @@ found c = sym c.migration_source.ensures ∙ c.in-Some.is
 
 holds : (c : In-Some) → is_some (page_at (state_of c.args.self.now).pages c.in-Some.from) ≡ true
 holds c = source-holds c.args.self.now c.args.op c.in-Some.from (found c)
+
+live : (c : In-Some) → is_live c.args.self.now.blocks.blocks c.args.op ≡ true
+live c =
+    source-live c.args.self.now.layout (state_of c.args.self.now) c.args.op c.in-Some.from
+    c.requires.placed.placed.in_order.shape.rows (found c)
 
 pub migration_target-requires-clause-tidy : goal.migration_target-requires-clause-tidy
 migration_target-requires-clause-tidy c = tidy-placed c.args.self.now c.requires.placed
@@ -49,7 +59,17 @@ returns-in-Some-migration_target-clause-ok c =
     migrate-done c.args.self.now c.migration_target.new.self c.give.new.self c.move_page.new.self c.args.op
     c.in-Some.from c.in-Some-migration_target.to c.zone_of-zone.result c.reserve.new.self
     c.migration_target.new.tape c.move_page.new.tape c.give.new.tape c.requires.placed
-    c.reserve.ensures.deltas (sym c.is_live.ensures ∙ c.if-not-is_live.false)
+    c.reserve.ensures.deltas (live (goal.at.returns-in-Some-migration_target-clause-ok c).In-Some)
     (found (goal.at.returns-in-Some-migration_target-clause-ok c).In-Some) c.in-Some-migration_target.ensures
     c.move_page.ensures.layout c.move_page.ensures.moved c.move_page.ensures.notes
     c.zone_of-zone.ensures c.give.ensures
+
+pub returns-in-None-clause-ok : goal.returns-in-None-clause-ok
+returns-in-None-clause-ok c =
+    let here = (goal.at.returns-in-None-clause-ok c).In-Some in
+    let m = c.args.self.now in
+    refused_none m c.migration_target.new.self (Migrate c.args.op) _ c.args.tape.now.deltas
+    c.reserve.new.self c.migration_target.new.tape NoFrame c.requires.placed (c.in-None.ensures.none refl)
+    c.reserve.ensures.deltas
+    (migrate-refused m c.migration_target.new.self c.args.op c.in-Some.from _ c.reserve.new.self
+    c.migration_target.new.tape c.requires.placed (live here) (found here) c.in-None.ensures)

@@ -3,7 +3,7 @@ use Rattle.hp_units.specs.Arithmetic.{pageblock_size}
 use Rattle.hp_units.specs.Isolation.{move_free_below}
 use Rattle.hp_tape.specs.Tapes.{NotesAreas}
 use Rattle.hp_buddy.specs.Moves.{free_total}
-use Rattle.hp_buddy.proofs.buddy.Buddy.move_all.Given as goal
+use Rattle.hp_buddy.proofs.buddy.Buddy.move_orders.Given as goal
 
 abbrev pub invariant-loop-order : goal.invariant-loop-order
 invariant-loop-order l = record {

@@ -10,7 +10,7 @@ use Rattle.hp_buddy.specs.Buddy.{BuddyValue, AreApart}
 use Rattle.hp_buddy.specs.Moves.{free_count, free_total}
 use Rattle.hp_buddy.proofs.Calls.{notes-then, room_left}
 use Rattle.hp_buddy.proofs.Pageblocks.{move_free_below-moves, order_count, below_next, total_next, total-le}
-use Rattle.hp_buddy.proofs.buddy.Buddy.move_all.Goals as goal
+use Rattle.hp_buddy.proofs.buddy.Buddy.move_orders.Goals as goal
 
 pub move_order-requires-clause-apart : goal.move_order-requires-clause-apart
 move_order-requires-clause-apart c =
