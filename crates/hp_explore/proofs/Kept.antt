@@ -170,9 +170,9 @@ memo_more g new memo later seen is kept one room number =
 -- ---- one that is found again
 
 -- a place that is like this one is kept, and has these counts
-pub record IsFound (g : Setting) (p : StepsValue) (memo : MemoValue) (ends : List Ending) : Type 0 where
+pub record IsFound (g : Setting) (p : StepsValue) (memo : MemoValue) (ends : List Ending)
+    (counts : List ℕ) : Type 0 where
   pub number : ℕ
-  pub counts : List ℕ
   pub here : IsAt g p
   pub kept : IsMemo g ends memo
   pub on : memo.is_on ≡ true
@@ -184,11 +184,10 @@ pub found_like : (g : Setting) (p : StepsValue) (memo : MemoValue) (ends : List 
     (number cpus : ℕ) (news : List Record) (counts : List ℕ)
     → IsAt g p → IsMemo g ends memo → memo.is_on ≡ true → IsNumbered g memo.lists p.records (Some number)
     → memory ≡ p.state → news ≡ p.records → cpus ≡ length g.scripts
-    → IsLikeAmong memo.seen memory number news cpus counts → IsFound g p memo ends
+    → IsLikeAmong memo.seen memory number news cpus counts → IsFound g p memo ends counts
 found_like g p memo ends memory number cpus news counts here kept on numbered memory_is news_is cpus_is like =
     record {
       number = number;
-      counts = counts;
       here = here;
       kept = kept;
       on = on;
@@ -219,42 +218,41 @@ memo_extended g ends old new on seen keep kept = record {
 }
 
 -- all goes on alike
-found_alike : (g : Setting) (p : StepsValue) (memo : MemoValue) (ends : List Ending) (found : IsFound g p memo ends)
-    → AreAlike g found.like.1.news p.records
-found_alike g p memo ends found =
+found_alike : (g : Setting) (p : StepsValue) (memo : MemoValue) (ends : List Ending) (counts : List ℕ)
+    (found : IsFound g p memo ends counts) → AreAlike g found.like.1.news p.records
+found_alike g p memo ends counts found =
     like_alike g p memo.lists ends found.like.1 found.number found.here
     (found.kept.all found.like.0 found.like.1 found.like.2)
     (found.kept.numbered found.like.0 found.like.1 found.like.2) found.numbered found.like.3
 
 -- what is added to the ends
-found_counted : (g : Setting) (p : StepsValue) (memo : MemoValue) (old new : List Ending)
-    (found : IsFound g p memo old)
-    → CountsBefore g p old → AddsCounts old found.counts new → CountsThrough g p new
-found_counted g p memo old new found before adds =
+found_counted : (g : Setting) (p : StepsValue) (memo : MemoValue) (old new : List Ending) (counts : List ℕ)
+    → IsFound g p memo old counts → CountsBefore g p old → AddsCounts old counts new → CountsThrough g p new
+found_counted g p memo old new counts found before adds =
     merged g (schedule_of p.records) p.records found.like.1 old new (found.kept.undo found.on)
-    found.here.played (found_alike g p memo old found)
+    found.here.played (found_alike g p memo old counts found)
     (found.kept.all found.like.0 found.like.1 found.like.2) before
     (subst (λ (ks : List ℕ). AddsCounts old ks new) found.like.4 adds)
 
 -- and the history has room for what goes on from here
 pub found_walked : (g : Setting) (p : StepsValue) (memo : MemoValue) (old new : List Ending)
-    (found : IsFound g p memo old)
-    → IsWalkedBefore g (schedule_of p.records) old → AddsCounts old found.counts new
+    (counts : List ℕ)
+    → IsFound g p memo old counts → IsWalkedBefore g (schedule_of p.records) old → AddsCounts old counts new
     → IsWalkedThrough g (schedule_of p.records) new
-found_walked g p memo old new found before adds = record {
-  counted = found_counted g p memo old new found before.counted adds;
-  ordered = ordered_added old new found.counts before.ordered adds;
+found_walked g p memo old new counts found before adds = record {
+  counted = found_counted g p memo old new counts found before.counted adds;
+  ordered = ordered_added old new counts before.ordered adds;
   room = before.room;
   onward =
       room_alike g (schedule_of found.like.1.news) (schedule_of p.records) found.like.1.news p.records
       (found.kept.undo found.on) (found.kept.all found.like.0 found.like.1 found.like.2).played
-      found.here.played (found_alike g p memo old found)
+      found.here.played (found_alike g p memo old counts found)
       (found.kept.room found.like.0 found.like.1 found.like.2);
 }
 
-pub found_few : (g : Setting) (p : StepsValue) (memo : MemoValue) (ends : List Ending)
-    (found : IsFound g p memo ends) → length found.counts ≤ length ends
-found_few g p memo ends found =
+pub found_few : (g : Setting) (p : StepsValue) (memo : MemoValue) (ends : List Ending) (counts : List ℕ)
+    → IsFound g p memo ends counts → length counts ≤ length ends
+found_few g p memo ends counts found =
     omega (
       arith,
       (found.kept.all found.like.0 found.like.1 found.like.2).few,
@@ -340,11 +338,12 @@ found_exceeds g q ends counts limit few counted above = (
         (counted (added_to ends counts) (adds_counts ends counts)).total
 
 -- the fault where what was found could not be added
-pub found_fault : (g : Setting) (p : StepsValue) (memo : MemoValue) (tally : TallyValue) (fault : ExploreFault)
-    (found : IsFound g p memo tally.ends)
-    → CountsBefore g p tally.ends → IsAddCause tally found.counts fault → IsWalkCause g tally.limit fault
-found_fault g p memo tally fault found before cause =
+pub found_fault : (g : Setting) (p : StepsValue) (memo : MemoValue) (tally : TallyValue) (counts : List ℕ)
+    (fault : ExploreFault)
+    → IsFound g p memo tally.ends counts → CountsBefore g p tally.ends → IsAddCause tally counts fault
+    → IsWalkCause g tally.limit fault
+found_fault g p memo tally counts fault found before cause =
     subst (IsWalkCause g tally.limit) (sym cause.0)
-    (found_exceeds g (schedule_of p.records) tally.ends found.counts tally.limit
-    (found_few g p memo tally.ends found)
-    (λ new adds. found_counted g p memo tally.ends new found before adds) cause.1)
+    (found_exceeds g (schedule_of p.records) tally.ends counts tally.limit
+    (found_few g p memo tally.ends counts found)
+    (λ new adds. found_counted g p memo tally.ends new counts found before adds) cause.1)

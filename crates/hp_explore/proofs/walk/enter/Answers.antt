@@ -30,7 +30,7 @@ add_counts-requires o c =
     (subst (λ (counts : Option (Bor (List ℕ))). IfSome counts (λ counts. IsLikeAmong c.args.memo.now.seen
     c.in_ok-snapshot.snapshot c.in-Some.openings c.records-news.result.now c.args.processors counts.now))
     c.in-Some-2.is c.in_ok-counts.ensures) in
-    found_few p.setting (standing p) c.args.memo.now c.args.tally.now.ends found
+    found_few p.setting (standing p) c.args.memo.now c.args.tally.now.ends c.in-Some-2.counts.now found
 
 pub returns-in-Some-2-clause-ok : goal.returns-in-Some-2-clause-ok
 returns-in-Some-2-clause-ok o c =
@@ -50,8 +50,8 @@ returns-in-Some-2-clause-ok o c =
     IfOk-weaker c.add_counts.result _ _
     (λ entry adds. subst (λ (e : Entry). IsEntered p c.args.tally.now.ends c.add_counts.new.tally.ends e)
     (sym adds.0) (
-      found_walked p.setting (standing p) c.args.memo.now c.args.tally.now.ends c.add_counts.new.tally.ends found
-          c.requires.walked adds.1,
+      found_walked p.setting (standing p) c.args.memo.now c.args.tally.now.ends c.add_counts.new.tally.ends
+          c.in-Some-2.counts.now found c.requires.walked adds.1,
       grow_added c.args.tally.now.ends c.add_counts.new.tally.ends c.in-Some-2.counts.now adds.1,
     ))
     c.add_counts.ensures.ok
@@ -72,8 +72,8 @@ returns-in-Some-2-clause-err o c =
     c.in_ok-snapshot.snapshot c.in-Some.openings c.records-news.result.now c.args.processors counts.now))
     c.in-Some-2.is c.in_ok-counts.ensures) in
     IfErr-weaker c.add_counts.result _ _
-    (λ fault cause. found_fault p.setting (standing p) c.args.memo.now c.args.tally.now fault found
-    c.requires.walked.counted cause)
+    (λ fault cause. found_fault p.setting (standing p) c.args.memo.now c.args.tally.now
+    c.in-Some-2.counts.now fault found c.requires.walked.counted cause)
     c.add_counts.ensures.err
 
 pub returns-clause-ok : goal.returns-clause-ok
