@@ -25,118 +25,10 @@ use Rattle.hp_explore.specs.Outcomes.{OutcomeValue, ended_rows_below, replies_be
 use Rattle.hp_explore.specs.Schedules.{EndsWith, Setting, next_call, outcome_after, play_one, plays, record_of_call}
 use Rattle.hp_explore.specs.Scripts.{later_operation, next_in, next_of, own_operation}
 use Rattle.hp_explore.specs.declared.scripts.Line.{Line}
+use Rattle.hp_explore.proofs.Opened.{cancelled_same, joined_more}
 use Rattle.hp_explore.proofs.Plays.{from_news, plays_on, plays_one, recorded, stays_none}
 use Rattle.hp_explore.proofs.Steps.{receipts_push}
 use Rattle.hp_explore.proofs.Unnumbered.{lines_leave, next_plain}
-
--- ---- nets that join
-
--- they lead to the same state
-joined_state : (l : LayoutParts) (base : Memory) (a b : List Record) → AreJoined l base a b
-    → run l base a ≡ run l base b
-joined_state l base a b j =
-    ap (run l base) j.first_is
-    ∙ (run-append l base j.before j.tail
-    ∙ (ap (λ (s : Memory). run l s j.tail) j.state
-    ∙ (sym (run-append l base j.other j.tail) ∙ sym (ap (run l base) j.second_is))))
-
--- an operation is sole in the one where it is in the other
-first_sole : (l : LayoutParts) (base : Memory) (a b : List Record) (op : ℕ) (j : AreJoined l base a b)
-    → sole_at op (map tag_of a)
-    ≡ option_map (λ place. length j.before + place) (sole_at op (map tag_of j.tail))
-first_sole l base a b op j =
-    ap (λ (net : List Record). sole_at op (map tag_of net)) j.first_is ∙ j.closed op j.tail
-
-second_sole : (l : LayoutParts) (base : Memory) (a b : List Record) (op : ℕ) (j : AreJoined l base a b)
-    → sole_at op (map tag_of b)
-    ≡ option_map (λ place. length j.other + place) (sole_at op (map tag_of j.tail))
-second_sole l base a b op j =
-    ap (λ (net : List Record). sole_at op (map tag_of net)) j.second_is ∙ j.other_closed op j.tail
-
--- so a Cancel has the same reply
-cancelled_same : (l : LayoutParts) (base : Memory) (a b : List Record) (op : ℕ) (reply : Reply)
-    → AreJoined l base a b
-    → cancel_reply reply (sole_at op (map tag_of a)) ≡ cancel_reply reply (sole_at op (map tag_of b))
-cancelled_same l base a b op reply j =
-    ap (cancel_reply reply) (first_sole l base a b op j)
-    ∙ (by_place (sole_at op (map tag_of j.tail))
-    ∙ sym (ap (cancel_reply reply) (second_sole l base a b op j)))
-  where
-    by_place : (o : Option ℕ)
-        → cancel_reply reply (option_map (λ place. length j.before + place) o)
-        ≡ cancel_reply reply (option_map (λ place. length j.other + place) o)
-    by_place None = refl
-    by_place (Some place) = refl
-
--- one record more
-pushed : (l : LayoutParts) (base : Memory) (a b : List Record) (r : Record) → AreJoined l base a b
-    → AreJoined l base (a ++ r ∷ []) (b ++ r ∷ [])
-pushed l base a b r j = record {
-  before = j.before;
-  other = j.other;
-  tail = j.tail ++ r ∷ [];
-  first_is = ap (λ (net : List Record). net ++ r ∷ []) j.first_is ∙ append_assoc j.before j.tail (r ∷ []);
-  second_is = ap (λ (net : List Record). net ++ r ∷ []) j.second_is ∙ append_assoc j.other j.tail (r ∷ []);
-  closed = j.closed;
-  other_closed = j.other_closed;
-  state = j.state;
-}
-
-take_joined : (xs ys : List Record) (n : ℕ) → take (length xs + n) (xs ++ ys) ≡ xs ++ take n ys
-take_joined [] ys n = let none : 0 + n ≡ n = omega arith in ap (λ (k : ℕ). take k ys) none
-take_joined (x ∷ xs) ys n =
-    let one : suc (length xs) + n ≡ suc (length xs + n) = omega arith in
-    ap (λ (k : ℕ). take k (x ∷ xs ++ ys)) one ∙ ap (λ (zs : List Record). x ∷ zs) (take_joined xs ys n)
-
--- the steps from a sole operation's Begin on are dropped
-cut : (l : LayoutParts) (base : Memory) (a b : List Record) (r : Record) (op : ℕ) → AreJoined l base a b
-    → AreJoined l base (cut_or_add a r (sole_at op (map tag_of a)))
-    (cut_or_add b r (sole_at op (map tag_of b)))
-cut l base a b r op j =
-    subst (λ (o : Option ℕ). AreJoined l base (cut_or_add a r o) (cut_or_add b r (sole_at op (map tag_of b))))
-    (sym (first_sole l base a b op j))
-    (subst (λ (o : Option ℕ). AreJoined l base
-    (cut_or_add a r (option_map (λ place. length j.before + place) (sole_at op (map tag_of j.tail))))
-    (cut_or_add b r o)) (sym (second_sole l base a b op j))
-    (by_place (sole_at op (map tag_of j.tail))))
-  where
-    by_place : (o : Option ℕ)
-        → AreJoined l base (cut_or_add a r (option_map (λ place. length j.before + place) o))
-        (cut_or_add b r (option_map (λ place. length j.other + place) o))
-    by_place None = pushed l base a b r j
-    by_place (Some place) = record {
-      before = j.before;
-      other = j.other;
-      tail = take place j.tail;
-      first_is = ap (take (length j.before + place)) j.first_is ∙ take_joined j.before j.tail place;
-      second_is = ap (take (length j.other + place)) j.second_is ∙ take_joined j.other j.tail place;
-      closed = j.closed;
-      other_closed = j.other_closed;
-      state = j.state;
-    }
-
--- and so with one record more of the history
-joined_more : (l : LayoutParts) (base : Memory) (a b : List Record) (r : Record)
-    → leaves_steps (effect_of r.event) ≡ true → AreJoined l base a b
-    → AreJoined l base (net_with a r) (net_with b r)
-joined_more l base a b r leaves j = by_reply (is_refused r.reply) refl
-  where
-    by_effect : (effect : Effect) → leaves_steps effect ≡ true
-        → AreJoined l base (net_with_effect a r effect) (net_with_effect b r effect)
-    by_effect Looks is = j
-    by_effect (Undoes serial) is = absurd cc
-    by_effect (Cancels op) is = cut l base a b r op j
-    by_effect Acts is = pushed l base a b r j
-
-    by_reply : (refused : Bool) → is_refused r.reply ≡ refused
-        → AreJoined l base (net_with a r) (net_with b r)
-    by_reply true is =
-        subst (λ (net : List Record). AreJoined l base net (net_with b r)) (net_bad a r is)
-        (subst (λ (net : List Record). AreJoined l base a net) (net_bad b r is) j)
-    by_reply false is =
-        subst (λ (net : List Record). AreJoined l base net (net_with b r)) (sym (with_good a r is))
-        (subst (λ (net : List Record). AreJoined l base (net_with_effect a r (effect_of r.event)) net)
-        (sym (with_good b r is)) (by_effect (effect_of r.event) leaves))
 
 -- ---- the same call
 
@@ -153,7 +45,7 @@ unfolding reply_of value_of
 reply_same g h k cpu e alike leaves = by_effect (effect_of e) leaves
   where
     state : run g.layout g.base (net_of (g.start ++ h)) ≡ run g.layout g.base (net_of (g.start ++ k))
-    state = joined_state g.layout g.base (net_of (g.start ++ h)) (net_of (g.start ++ k)) alike.nets
+    state = alike.nets.state
 
     stepped : (step g.layout (run g.layout g.base (net_of (g.start ++ h)))
         (g.before + length (g.start ++ h) + 1) cpu e).reply ≡ (step g.layout
@@ -186,7 +78,7 @@ record_same g h k cpu e alike leaves =
     (all_calls g h k alike)
     ∙ ap (recorded (g.before + length (g.start ++ k) + 1) cpu e) (reply_same g h k cpu e alike leaves)
 
-event_kept : (g : Setting) (h : List Record) (cpu : ℕ) (e : Event) → (record_of_call g h cpu e).event ≡ e
+pub event_kept : (g : Setting) (h : List Record) (cpu : ℕ) (e : Event) → (record_of_call g h cpu e).event ≡ e
 unfolding record_of_call
 event_kept g h cpu e = refl
 
@@ -275,7 +167,7 @@ script_leaves (first ∷ scripts) zero lines all here =
 script_leaves (first ∷ scripts) (suc cpu) lines all here =
     script_leaves scripts cpu lines (and_parts _ _ all).1 here
 
-call_leaves : (g : Setting) (h : List Record) (cpu : ℕ) (e : Event) → UndoNothing g.scripts
+pub call_leaves : (g : Setting) (h : List Record) (cpu : ℕ) (e : Event) → UndoNothing g.scripts
     → next_call g cpu h ≡ Some e → leaves_steps (effect_of e) ≡ true
 unfolding next_call
 call_leaves g h cpu e all is = by_script (slice_get g.scripts cpu) refl is
@@ -364,7 +256,7 @@ outcome_same g h k alike =
     ap (λ (replies : List (List Reply)). outcome_of g replies (run g.layout g.base (net_of (g.start ++ h))))
     (replies_same h k (length g.scripts) 0 (length g.scripts) (omega arith) alike.exchanged)
     ∙ ap (outcome_of g (replies_below (length g.scripts) k))
-    (joined_state g.layout g.base (net_of (g.start ++ h)) (net_of (g.start ++ k)) alike.nets)
+    alike.nets.state
 
 -- ---- complete schedules
 

@@ -1,7 +1,7 @@
 -- Nets that no later Cancel can drop.
 use Rattle.std.proofs.Common.{◌≡◌, ℕ, suc, ◌+◌, Bool, true, false, cond, eqb, List, [], ◌∷◌, ◌++◌, length, map, Option, Some, None, refl, ap, sym, subst, ◌∙◌, arith}
 use Rattle.std.specs.Prelude.{◌&&◌, fold, option_map}
-use Rattle.std.proofs.lemmas.List.{append_assoc, length_push}
+use Rattle.std.proofs.lemmas.List.{append-nil, append_assoc, length_push}
 use Rattle.hp_units.specs.History.{effect_of, is_refused, net_of, net_with, net_with_effect}
 use Rattle.hp_units.specs.Marks.{begins, holds_only_own_work, is_opening, is_work_of, mark_of, sole_at, tag_of}
 use Rattle.hp_units.specs.declared.events.Event.{Event}
@@ -121,9 +121,10 @@ closed_told history told = on history [] true (λ h. closed_none) told
     on (r ∷ rest) net was so_far is =
         on rest (net_with net r) (closed_after was r) (closed_more net r was so_far) is
 
--- the test as it was made
-pub told_closed : (history news shown read : List Record) (closed : Bool) → closed ≡ is_closed (shown ++ read)
-    → shown ≡ history → read ≡ news → closed ≡ true → is_closed (history ++ news) ≡ true
-told_closed history news shown read closed is of_history of_news told =
-    sym (is ∙ (ap (λ (h : List Record). is_closed (h ++ read)) of_history
-    ∙ ap (λ (h : List Record). is_closed (history ++ h)) of_news)) ∙ told
+-- where the test says so, no operation is sole
+pub closed_none_sole : (history : List Record) → is_closed history ≡ true → (op : ℕ)
+    → sole_at op (map tag_of (net_of history)) ≡ None
+unfolding sole_at
+closed_none_sole history told op =
+    ap (λ (steps : List Record). sole_at op (map tag_of steps)) (sym (append-nil (net_of history)))
+    ∙ closed_told history told op []

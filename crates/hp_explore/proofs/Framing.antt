@@ -1,24 +1,25 @@
 -- The turns of a walk: what each does to what is known of the places.
-use Rattle.std.proofs.Common.{◌≡◌, ℕ, ◌+◌, ◌<◌, ◌≤◌, Bool, true, false, List, [], ◌∷◌, ◌++◌, length, option_to_list, reverse, Option, Some, None, Box, refl, ap, sym, subst, ◌∙◌, arith}
+use Rattle.std.proofs.Common.{◌≡◌, ℕ, ◌+◌, ◌<◌, ◌≤◌, Bool, true, false, List, [], ◌∷◌, ◌++◌, length, map, option_to_list, reverse, Option, Some, None, slice_get, Box, refl, ap, sym, subst, ◌∙◌, arith}
 use Rattle.std.proofs.lemmas.List.{append-nil, length_push, map-append, reverse-append, same_from_push}
 use Rattle.std.proofs.lemmas.Option.{none-some, same_Some}
 use Rattle.std.specs.List.{list_all}
 use Rattle.std.specs.declared.alloc.Global.{Global}
 use Rattle.std.specs.Prelude.{option_map}
+use Rattle.hp_units.specs.Memory.{Memory}
 use Rattle.hp_units.specs.declared.events.Event.{Event}
 use Rattle.hp_units.specs.declared.replies.Record.{Record}
-use Rattle.hp_explore.specs.Alike.{is_closed, leaves_script}
+use Rattle.hp_explore.specs.Alike.{leaves_script}
 use Rattle.hp_explore.specs.Faults.{is_full_after}
-use Rattle.hp_explore.specs.Frames.{AreBelow, AreWalked, IsEntered, IsFrame, IsPlaceKept, kept_of, path_of}
+use Rattle.hp_explore.specs.Frames.{AreBelow, AreWalked, IsEntered, IsFrame, IsFresh, IsPlaceKept, kept_of, path_of}
 use Rattle.hp_explore.specs.declared.frames.Kept.{Kept}
-use Rattle.hp_explore.specs.Paths.{IsBack, PathValue}
+use Rattle.hp_explore.specs.Paths.{IsBack, PathValue, state_at}
 use Rattle.hp_explore.specs.Schedules.{Setting, next_call, plays, record_of_call, schedule_of}
-use Rattle.hp_explore.specs.Seen.{Grow, IsMemo, MemoValue}
+use Rattle.hp_explore.specs.Seen.{Grow, IsMemo, MemoValue, SeenValue}
 use Rattle.hp_explore.specs.Walks.{IsOverBelow, IsWalkedBefore, IsWalkedThrough}
 use Rattle.hp_explore.specs.declared.frames.Entry.TheVariants.{Open}
 use Rattle.hp_explore.specs.declared.frames.Frame.{Frame}
 use Rattle.hp_explore.specs.declared.tally.Ending.{Ending}
-use Rattle.hp_explore.proofs.Grown.{grow_twice}
+use Rattle.hp_explore.proofs.Grown.{grow_none, grow_twice}
 use Rattle.hp_explore.proofs.Rooms.{done_begins, done_down, done_over, done_past}
 use Rattle.hp_explore.proofs.Walking.{over_next}
 
@@ -27,12 +28,10 @@ use Rattle.hp_explore.proofs.Walking.{over_next}
 pub frame_grows : (g : Setting) (old new : List Ending) (news : List Record) (frame : Frame) → Grow old new
     → IsFrame g news old frame → IsFrame g news new frame
 frame_grows g old new news frame grow is = record {
-  closed = is.closed;
   kept = λ k here. let p = is.kept k here in record {
     old = p.old;
     memory = p.memory;
     earlier = p.earlier;
-    closed = p.closed;
     before = p.before;
     grown = grow_twice p.old old new p.grown grow;
   };
@@ -74,7 +73,7 @@ walk_passes g ends news frame frames played none less w = (
     over = over_next g news frame.next frame.is_over none w.0.over;
     within = omega arith;
   },
-  record { closed = w.1.closed; kept = w.1.kept },
+  record { kept = w.1.kept },
   w.2,
 )
 
@@ -102,7 +101,7 @@ walk_leads g ends news later frame frames event played asked room less is w = (
     less,
     played,
     room,
-    record { closed = w.1.closed; kept = w.1.kept },
+    record { kept = w.1.kept },
     w.2,
   ),
 )
@@ -128,36 +127,45 @@ walk_opens g ends news frame frames zero over is walked below = (
 
 -- ---- a place that the walk comes to
 
--- it is walked, and nothing is kept of it
-pub entered_bare : (p : PathValue) (ends : List Ending) (closed : Bool) (frame : Frame)
-    → closed ≡ is_closed (p.setting.start ++ p.news)
-    → frame ≡ record { next = 0; is_over = true; is_closed = closed; kept = None }
+-- it is walked, and this is kept of it
+fresh_frame : (p : PathValue) (ends : List Ending) (frame : Frame)
+    → IsWalkedBefore p.setting (schedule_of p.news) ends → IsFresh (state_at p) ends frame
+    → IsFrame p.setting p.news ends frame
+fresh_frame p ends frame walked fresh = record {
+  kept = λ k here. record {
+    old = ends;
+    memory = (fresh.2 k here).0;
+    earlier = (fresh.2 k here).1;
+    before = walked.counted;
+    grown = grow_none ends;
+  };
+}
+
+pub entered_fresh : (p : PathValue) (ends : List Ending) (frame : Frame)
+    → IsWalkedBefore p.setting (schedule_of p.news) ends → IsFresh (state_at p) ends frame
     → IsEntered p ends ends (Open frame)
-entered_bare p ends closed frame told is = (
-  refl,
+entered_fresh p ends frame walked fresh =
+    (refl, fresh.0, fresh.1, fresh_frame p ends frame walked fresh)
+
+-- or nothing is
+pub bare_fresh : (memory : Memory) (ends : List Ending) (frame : Frame)
+    → frame ≡ record { next = 0; is_over = true; kept = None } → IsFresh memory ends frame
+bare_fresh memory ends frame is = (
   ap (λ (f : Frame). f.next) is,
   ap (λ (f : Frame). f.is_over) is,
-  record {
-    closed = ap (λ (f : Frame). f.is_closed) is ∙ told;
-    kept = λ k here. absurd (none-some k (sym (ap kept_of is) ∙ here));
-  },
+  λ k here. absurd (none-some k (sym (ap kept_of is) ∙ here)),
 )
 
--- or this is
-pub entered_kept : (p : PathValue) (ends : List Ending) (closed : Bool) (frame : Frame)
-    (boxed : Box Kept Global) (kept : Kept)
-    → closed ≡ is_closed (p.setting.start ++ p.news)
-    → frame ≡ record { next = 0; is_over = true; is_closed = closed; kept = Some boxed }
-    → boxed.value ≡ kept → IsPlaceKept p.setting p.news ends kept → IsEntered p ends ends (Open frame)
-entered_kept p ends closed frame boxed kept told is same here = (
-  refl,
+pub kept_fresh : (memory : Memory) (ends : List Ending) (frame : Frame) (boxed : Box Kept Global) (kept : Kept)
+    → frame ≡ record { next = 0; is_over = true; kept = Some boxed } → boxed.value ≡ kept
+    → kept.snapshot ≡ memory → kept.earlier.items ≡ map (λ (e : Ending). e.count) ends
+    → IsFresh memory ends frame
+kept_fresh memory ends frame boxed kept is same here counted = (
   ap (λ (f : Frame). f.next) is,
   ap (λ (f : Frame). f.is_over) is,
-  record {
-    closed = ap (λ (f : Frame). f.is_closed) is ∙ told;
-    kept = λ k found. subst (IsPlaceKept p.setting p.news ends)
-        (sym same ∙ same_Some boxed.value k (sym (ap kept_of is) ∙ found)) here;
-  },
+  λ k found. subst (λ (x : Kept). (x.snapshot ≡ memory)
+      × (x.earlier.items ≡ map (λ (e : Ending). e.count) ends))
+      (sym same ∙ same_Some boxed.value k (sym (ap kept_of is) ∙ found)) (here, counted),
 )
 
 -- ---- the stack
@@ -184,23 +192,32 @@ none_left (frame ∷ frames) none = absurd (omega arith)
 
 -- ---- the start
 
--- no call was made, and nothing is kept
-pub walk_begun : (g : Setting) (ends : List Ending) (frame : Frame) → frame.next ≡ 0 → frame.is_over ≡ true
-    → frame.is_closed ≡ is_closed g.start → frame.kept ≡ None → ends ≡ []
-    → AreWalked g ends [] (frame ∷ [])
-walk_begun g ends frame zero over closed nothing none =
-    walk_opens g ends [] frame [] zero over
-    (record {
-      closed = closed ∙ ap is_closed (sym (append-nil g.start));
-      kept = λ k here. absurd (none-some k (sym (ap (option_map (λ (boxed : Box Kept Global). boxed.value)) nothing) ∙ here));
-    })
-    (subst (IsWalkedBefore g []) (sym none) (done_begins g)) refl
+-- no call was made
+pub walk_begun : (p : PathValue) (ends : List Ending) (frame : Frame) → p.news ≡ [] → ends ≡ []
+    → IsFresh (state_at p) ends frame → AreWalked p.setting ends p.news (frame ∷ [])
+walk_begun p ends frame begun none fresh =
+    walk_opens p.setting ends p.news frame [] fresh.0 fresh.1 (fresh_frame p ends frame walked fresh) walked
+    begun
+  where
+    walked : IsWalkedBefore p.setting (schedule_of p.news) ends
+    walked =
+        subst (λ (h : List Record). IsWalkedBefore p.setting (schedule_of h) ends) (sym begun)
+        (subst (IsWalkedBefore p.setting []) (sym none) (done_begins p.setting))
 
 pub memo_begun : (g : Setting) (ends : List Ending) (memo : MemoValue) (on : Bool)
-    → memo ≡ record { is_on = on; seen = [] } → on ≡ list_all leaves_script g.scripts → IsMemo g ends memo
-memo_begun g ends memo on is undo =
-    subst (IsMemo g ends) (sym is)
-    (record { all = λ i seen h. absurd cc; room = λ i seen h. absurd cc; undo = λ set. sym undo ∙ set })
+    → memo.is_on ≡ on → memo.seen ≡ [] → on ≡ list_all leaves_script g.scripts → IsMemo g ends memo
+memo_begun g ends memo on on_is none undo = record {
+  all = λ i seen h. absurd (nothing i seen h);
+  room = λ i seen h. absurd (nothing i seen h);
+  numbered = λ i seen h. absurd (nothing i seen h);
+  undo = λ set. sym undo ∙ (sym on_is ∙ set);
+}
+  where
+    nothing : (i : ℕ) (seen : SeenValue) → slice_get memo.seen i ≡ Some seen → ⊥
+    nothing i seen h =
+        let none_there : slice_get [] i ≡ Some seen =
+        subst (λ (all : List SeenValue). slice_get all i ≡ Some seen) none h in
+        cc
 
 -- ---- the way back
 

@@ -130,7 +130,6 @@ seen_grows : (g : Setting) (old new : List Ending) (seen : SeenValue) → Grow o
 seen_grows g old new seen grow is = record {
   played = is.played;
   state = is.state;
-  closed = is.closed;
   few = omega (arith, is.few, grow.longer);
   counted = counted;
   every = every;

@@ -1,21 +1,23 @@
 -- What the walk keeps of a place, and what it adds where it is found again.
-use Rattle.std.proofs.Common.{◌≡◌, ℕ, zero, suc, ◌+◌, ◌-◌, ◌<◌, ◌≤◌, true, List, [], ◌∷◌, ◌++◌, length, map, get_or, Option, Some, slice_get, refl, ap, sym, subst, ◌∙◌, arith, inl, inr}
+use Rattle.std.proofs.Common.{◌≡◌, ℕ, zero, suc, ◌+◌, ◌-◌, ◌<◌, ◌≤◌, true, List, [], ◌∷◌, ◌++◌, length, map, reverse, get_or, Option, Some, slice_get, refl, ap, sym, subst, ◌∙◌, arith, inl, inr}
 use Rattle.std.specs.Prelude.{sum, sum_by}
 use Rattle.std.proofs.lemmas.Bool.{cases_lt}
 use Rattle.std.proofs.lemmas.List.{get_or_append_left, get_or_past, get_or_push, length-map, length_push}
 use Rattle.std.proofs.lemmas.Option.{same_Some, slice_get_read}
 use Rattle.hp_laws.proofs.Lists.{get_push_cases, get_some}
-use Rattle.hp_units.specs.History.{net_of, value_of}
+use Rattle.hp_units.specs.History.{value_of}
 use Rattle.hp_units.specs.Memory.{Memory}
 use Rattle.hp_units.specs.declared.replies.Record.{Record}
 use Rattle.hp_steps.specs.Steps.{StepsValue}
-use Rattle.hp_explore.specs.Alike.{AreAlike, IsClosed}
+use Rattle.hp_explore.specs.Alike.{AreAlike}
 use Rattle.hp_explore.specs.Ends.{AreCounted}
 use Rattle.hp_explore.specs.Faults.{HasMoreThan, IsWalkCause}
 use Rattle.hp_explore.specs.Notes.{TallyValue}
+use Rattle.hp_explore.specs.Numbers.{AreNumbered, IsNumbered, KeepNumbers}
+use Rattle.hp_explore.specs.Openings.{Opening}
 use Rattle.hp_explore.specs.Outcomes.{OutcomeValue}
 use Rattle.hp_explore.specs.Schedules.{IsComplete, Setting, plays, schedule_of}
-use Rattle.hp_explore.specs.Seen.{AddsCounts, AreNoMore, AreSince, Grow, IsAddCause, IsLike, IsLikeAmong, IsMemo, IsSeen, MemoValue, SeenValue}
+use Rattle.hp_explore.specs.Seen.{AddsCounts, AllSeen, AreNoMore, AreSince, Grow, IsAddCause, IsLike, IsLikeAmong, IsMemo, IsSeen, MemoValue, SeenValue}
 use Rattle.hp_explore.specs.Walks.{Before, CountsBefore, CountsThrough, HasRoomFrom, IsAt, IsWalkedBefore, IsWalkedThrough, Through}
 use Rattle.hp_explore.specs.declared.exploring.ExploreFault.{ExploreFault}
 use Rattle.hp_explore.specs.declared.tally.Ending.{Ending}
@@ -23,6 +25,7 @@ use Rattle.hp_explore.proofs.Adding.{added_sums}
 use Rattle.hp_explore.proofs.Counting.{more_listed}
 use Rattle.hp_explore.proofs.Grown.{all_grow, all_more}
 use Rattle.hp_explore.proofs.Merges.{like_alike, merged, walked_seen}
+use Rattle.hp_explore.proofs.Numbered.{number_kept}
 use Rattle.hp_explore.proofs.Rooms.{ordered_added, room_alike}
 
 -- ---- counts that were read
@@ -111,14 +114,13 @@ since_more ends earlier before after place was e here no_more was_is after_is ma
 -- ---- a place that was walked
 
 pub place_kept : (g : Setting) (p : StepsValue) (seen : SeenValue) (old new : List Ending) (earlier : List ℕ)
-    → IsAt g p → seen.memory ≡ p.state → seen.news ≡ p.records → IsClosed (net_of (g.start ++ p.records))
+    → IsAt g p → seen.memory ≡ p.state → seen.news ≡ p.records
     → earlier ≡ counts_of old → AreSince earlier new seen.counts → Grow old new → CountsBefore g p old
     → CountsThrough g p new → IsSeen g new seen
-place_kept g p seen old new earlier here memory news closed is since grow before through =
+place_kept g p seen old new earlier here memory news is since grow before through =
     walked_seen g seen old new
     (ap (λ (h : List Record). plays_of h) news ∙ (here.played ∙ ap Some (sym news)))
     (memory ∙ (here.state ∙ ap (λ (h : List Record). value_of g.layout g.base (g.start ++ h)) (sym news)))
-    (subst (λ (h : List Record). IsClosed (net_of (g.start ++ h))) (sym news) closed)
     (omega (arith, since.as_many)) more all grow
     (subst (λ (h : List Record). AreCounted (Before g (schedule_of h)) old) (sym news) before)
     (subst (λ (h : List Record). AreCounted (Through g (schedule_of h)) new) (sym news) through)
@@ -138,11 +140,25 @@ place_kept g p seen old new earlier here memory news closed is since grow before
 -- one more is kept
 pub memo_more : (g : Setting) (new : List Ending) (memo later : MemoValue) (seen : SeenValue)
     → later ≡ record memo { seen = memo.seen ++ seen ∷ [] } → IsMemo g new memo → IsSeen g new seen
-    → HasRoomFrom g (schedule_of seen.news) → IsMemo g new later
-memo_more g new memo later seen is kept one room =
-    subst (IsMemo g new) (sym is)
-    (record { all = all_more g new memo.seen seen kept.all one; room = roomy; undo = kept.undo })
+    → HasRoomFrom g (schedule_of seen.news) → IsNumbered g memo.lists seen.news (Some seen.openings)
+    → IsMemo g new later
+memo_more g new memo later seen is kept one room number =
+    subst (IsMemo g new) (sym is) (record {
+      all = all_more g new memo.seen seen kept.all one;
+      room = roomy;
+      numbered = numbered;
+      undo = kept.undo;
+    })
   where
+    numbered : (i : ℕ) (other : SeenValue) → slice_get (memo.seen ++ seen ∷ []) i ≡ Some other
+        → IsNumbered g memo.lists other.news (Some other.openings)
+    numbered i other h =
+        elim (get_push_cases memo.seen seen other i h) [
+          | inl there ↦ kept.numbered i other there
+          | inr here ↦
+              subst (λ (s : SeenValue). IsNumbered g memo.lists s.news (Some s.openings)) here.1 number
+        ]
+
     roomy : (i : ℕ) (other : SeenValue) → slice_get (memo.seen ++ seen ∷ []) i ≡ Some other
         → HasRoomFrom g (schedule_of other.news)
     roomy i other h =
@@ -153,65 +169,119 @@ memo_more g new memo later seen is kept one room =
 
 -- ---- one that is found again
 
+-- a place that is like this one is kept, and has these counts
+pub record IsFound (g : Setting) (p : StepsValue) (memo : MemoValue) (ends : List Ending)
+    (counts : List ℕ) : Type 0 where
+  pub number : ℕ
+  pub here : IsAt g p
+  pub kept : IsMemo g ends memo
+  pub on : memo.is_on ≡ true
+  pub numbered : IsNumbered g memo.lists p.records (Some number)
+  pub like : IsLikeAmong memo.seen p.state number p.records (length g.scripts) counts
+
+-- as it was looked for
+pub found_like : (g : Setting) (p : StepsValue) (memo : MemoValue) (ends : List Ending) (memory : Memory)
+    (number cpus : ℕ) (news : List Record) (counts : List ℕ)
+    → IsAt g p → IsMemo g ends memo → memo.is_on ≡ true → IsNumbered g memo.lists p.records (Some number)
+    → memory ≡ p.state → news ≡ p.records → cpus ≡ length g.scripts
+    → IsLikeAmong memo.seen memory number news cpus counts → IsFound g p memo ends counts
+found_like g p memo ends memory number cpus news counts here kept on numbered memory_is news_is cpus_is like =
+    record {
+      number = number;
+      here = here;
+      kept = kept;
+      on = on;
+      numbered = numbered;
+      like = (
+        like.0,
+        like.1,
+        like.2,
+        subst (λ (s : Memory). IsLike like.1 s number p.records (length g.scripts)) memory_is
+            (subst (λ (h : List Record). IsLike like.1 memory number h (length g.scripts)) news_is
+            (subst (λ (n : ℕ). IsLike like.1 memory number news n) cpus_is like.3)),
+        like.4,
+      );
+    }
+
+-- the numbers mean what they did where more lists have some
+pub memo_extended : (g : Setting) (ends : List Ending) (old new : MemoValue)
+    → new.is_on ≡ old.is_on → new.seen ≡ old.seen → KeepNumbers old.lists new.lists → IsMemo g ends old
+    → IsMemo g ends new
+memo_extended g ends old new on seen keep kept = record {
+  all = subst (AllSeen g ends) (sym seen) kept.all;
+  room =
+      subst (λ (all : List SeenValue). (i : ℕ) (s : SeenValue) → slice_get all i ≡ Some s
+      → HasRoomFrom g (schedule_of s.news)) (sym seen) kept.room;
+  numbered = λ i s h. number_kept g old.lists new.lists s.news (Some s.openings) keep
+      (kept.numbered i s (subst (λ (all : List SeenValue). slice_get all i ≡ Some s) seen h));
+  undo = λ set. kept.undo (sym on ∙ set);
+}
+
 -- all goes on alike
-found_alike : (g : Setting) (p : StepsValue) (memo : MemoValue) (ends : List Ending) (memory : Memory)
-    (news : List Record) (cpus : ℕ) (counts : List ℕ)
-    → IsAt g p → IsMemo g ends memo → IsClosed (net_of (g.start ++ p.records)) → memory ≡ p.state
-    → news ≡ p.records → cpus ≡ length g.scripts
-    → (like : IsLikeAmong memo.seen memory news cpus counts) → AreAlike g like.1.news p.records
-found_alike g p memo ends memory news cpus counts here kept closed memory_is news_is cpus_is like =
-    like_alike g p ends like.1 here (kept.all like.0 like.1 like.2) alike closed
-  where
-    alike : IsLike like.1 p.state p.records (length g.scripts)
-    alike =
-        subst (λ (s : Memory). IsLike like.1 s p.records (length g.scripts)) memory_is
-        (subst (λ (h : List Record). IsLike like.1 memory h (length g.scripts)) news_is
-        (subst (λ (n : ℕ). IsLike like.1 memory news n) cpus_is like.3))
+found_alike : (g : Setting) (p : StepsValue) (memo : MemoValue) (ends : List Ending) (counts : List ℕ)
+    (found : IsFound g p memo ends counts) → AreAlike g found.like.1.news p.records
+found_alike g p memo ends counts found =
+    like_alike g p memo.lists ends found.like.1 found.number found.here
+    (found.kept.all found.like.0 found.like.1 found.like.2)
+    (found.kept.numbered found.like.0 found.like.1 found.like.2) found.numbered found.like.3
 
 -- what is added to the ends
-found_counted : (g : Setting) (p : StepsValue) (memo : MemoValue) (old new : List Ending)
-    (memory : Memory) (news : List Record) (cpus : ℕ) (counts : List ℕ)
-    → IsAt g p → IsMemo g old memo → memo.is_on ≡ true → IsClosed (net_of (g.start ++ p.records))
-    → memory ≡ p.state → news ≡ p.records → cpus ≡ length g.scripts
-    → IsLikeAmong memo.seen memory news cpus counts → CountsBefore g p old → AddsCounts old counts new
-    → CountsThrough g p new
-found_counted g p memo old new memory news cpus counts here kept on closed memory_is news_is cpus_is like
-    before adds =
-    merged g (schedule_of p.records) p.records like.1 old new (kept.undo on) here.played
-    (found_alike g p memo old memory news cpus counts here kept closed memory_is news_is cpus_is like)
-    (kept.all like.0 like.1 like.2) before (subst (λ (ks : List ℕ). AddsCounts old ks new) like.4 adds)
+found_counted : (g : Setting) (p : StepsValue) (memo : MemoValue) (old new : List Ending) (counts : List ℕ)
+    → IsFound g p memo old counts → CountsBefore g p old → AddsCounts old counts new → CountsThrough g p new
+found_counted g p memo old new counts found before adds =
+    merged g (schedule_of p.records) p.records found.like.1 old new (found.kept.undo found.on)
+    found.here.played (found_alike g p memo old counts found)
+    (found.kept.all found.like.0 found.like.1 found.like.2) before
+    (subst (λ (ks : List ℕ). AddsCounts old ks new) found.like.4 adds)
 
 -- and the history has room for what goes on from here
 pub found_walked : (g : Setting) (p : StepsValue) (memo : MemoValue) (old new : List Ending)
-    (memory : Memory) (news : List Record) (cpus : ℕ) (counts : List ℕ)
-    → IsAt g p → IsMemo g old memo → memo.is_on ≡ true → IsClosed (net_of (g.start ++ p.records))
-    → memory ≡ p.state → news ≡ p.records → cpus ≡ length g.scripts
-    → IsLikeAmong memo.seen memory news cpus counts → IsWalkedBefore g (schedule_of p.records) old
-    → AddsCounts old counts new → IsWalkedThrough g (schedule_of p.records) new
-found_walked g p memo old new memory news cpus counts here kept on closed memory_is news_is cpus_is like
-    before adds = record {
-      counted =
-          found_counted g p memo old new memory news cpus counts here kept on closed memory_is news_is cpus_is
-          like before.counted adds;
-      ordered = ordered_added old new counts before.ordered adds;
-      room = before.room;
-      onward =
-          room_alike g (schedule_of like.1.news) (schedule_of p.records) like.1.news p.records (kept.undo on)
-          (kept.all like.0 like.1 like.2).played here.played
-          (found_alike g p memo old memory news cpus counts here kept closed memory_is news_is cpus_is like)
-          (kept.room like.0 like.1 like.2);
-    }
+    (counts : List ℕ)
+    → IsFound g p memo old counts → IsWalkedBefore g (schedule_of p.records) old → AddsCounts old counts new
+    → IsWalkedThrough g (schedule_of p.records) new
+found_walked g p memo old new counts found before adds = record {
+  counted = found_counted g p memo old new counts found before.counted adds;
+  ordered = ordered_added old new counts before.ordered adds;
+  room = before.room;
+  onward =
+      room_alike g (schedule_of found.like.1.news) (schedule_of p.records) found.like.1.news p.records
+      (found.kept.undo found.on) (found.kept.all found.like.0 found.like.1 found.like.2).played
+      found.here.played (found_alike g p memo old counts found)
+      (found.kept.room found.like.0 found.like.1 found.like.2);
+}
 
-pub found_few : (g : Setting) (memo : MemoValue) (ends : List Ending) (memory : Memory) (news : List Record)
-    (cpus : ℕ) (counts : List ℕ)
-    → IsMemo g ends memo → IsLikeAmong memo.seen memory news cpus counts → length counts ≤ length ends
-found_few g memo ends memory news cpus counts kept like =
-    omega (arith, (kept.all like.0 like.1 like.2).few, ap (λ (ks : List ℕ). length ks) like.4)
+pub found_few : (g : Setting) (p : StepsValue) (memo : MemoValue) (ends : List Ending) (counts : List ℕ)
+    → IsFound g p memo ends counts → length counts ≤ length ends
+found_few g p memo ends counts found =
+    omega (
+      arith,
+      (found.kept.all found.like.0 found.like.1 found.like.2).few,
+      ap (λ (ks : List ℕ). length ks) found.like.4,
+    )
 
 pub memo_added : (g : Setting) (old new : List Ending) (memo : MemoValue) → Grow old new → IsMemo g old memo
     → IsMemo g new memo
-memo_added g old new memo grow kept =
-    record { all = all_grow g old new memo.seen grow kept.all; room = kept.room; undo = kept.undo }
+memo_added g old new memo grow kept = record {
+  all = all_grow g old new memo.seen grow kept.all;
+  room = kept.room;
+  numbered = kept.numbered;
+  undo = kept.undo;
+}
+
+-- the same where nothing but the numbers of the way is another
+pub memo_same : (g : Setting) (ends : List Ending) (old new : MemoValue)
+    → (new.is_on ≡ old.is_on) × (new.seen ≡ old.seen) × (new.lists ≡ old.lists) → IsMemo g ends old
+    → IsMemo g ends new
+memo_same g ends old new same kept =
+    memo_extended g ends old new same.0 same.1
+    (λ n os h. subst (λ (lists : List (List Opening)). slice_get lists n ≡ Some os) (sym same.2) h) kept
+
+pub numbers_same : (g : Setting) (news : List Record) (old new : MemoValue)
+    → (new.lists ≡ old.lists) × (new.numbers ≡ old.numbers)
+    → AreNumbered g old.lists news (reverse old.numbers) → AreNumbered g new.lists news (reverse new.numbers)
+numbers_same g news old new same are =
+    subst (λ (lists : List (List Opening)). AreNumbered g lists news (reverse new.numbers)) (sym same.0)
+    (subst (λ (numbers : List (Option ℕ)). AreNumbered g old.lists news (reverse numbers)) (sym same.1) are)
 
 -- ---- counts that are added
 
@@ -268,16 +338,12 @@ found_exceeds g q ends counts limit few counted above = (
         (counted (added_to ends counts) (adds_counts ends counts)).total
 
 -- the fault where what was found could not be added
-pub found_fault : (g : Setting) (p : StepsValue) (memo : MemoValue) (tally : TallyValue) (memory : Memory)
-    (news : List Record) (cpus : ℕ) (counts : List ℕ) (fault : ExploreFault)
-    → IsAt g p → IsMemo g tally.ends memo → memo.is_on ≡ true → IsClosed (net_of (g.start ++ p.records))
-    → memory ≡ p.state → news ≡ p.records → cpus ≡ length g.scripts
-    → IsLikeAmong memo.seen memory news cpus counts → CountsBefore g p tally.ends
-    → IsAddCause tally counts fault → IsWalkCause g tally.limit fault
-found_fault g p memo tally memory news cpus counts fault here kept on closed memory_is news_is cpus_is like
-    before cause =
+pub found_fault : (g : Setting) (p : StepsValue) (memo : MemoValue) (tally : TallyValue) (counts : List ℕ)
+    (fault : ExploreFault)
+    → IsFound g p memo tally.ends counts → CountsBefore g p tally.ends → IsAddCause tally counts fault
+    → IsWalkCause g tally.limit fault
+found_fault g p memo tally counts fault found before cause =
     subst (IsWalkCause g tally.limit) (sym cause.0)
     (found_exceeds g (schedule_of p.records) tally.ends counts tally.limit
-    (found_few g memo tally.ends memory news cpus counts kept like)
-    (λ new adds. found_counted g p memo tally.ends new memory news cpus counts here kept on closed memory_is
-    news_is cpus_is like before adds) cause.1)
+    (found_few g p memo tally.ends counts found)
+    (λ new adds. found_counted g p memo tally.ends new counts found before adds) cause.1)

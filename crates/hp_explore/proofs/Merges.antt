@@ -3,7 +3,7 @@ use Rattle.std.proofs.Common.{◌≡◌, ℕ, ◌+◌, ◌<◌, ◌≤◌, List,
 use Rattle.std.specs.Prelude.{◌⊎◌, sum_by}
 use Rattle.std.proofs.lemmas.Bool.{cases_lt}
 use Rattle.std.proofs.lemmas.List.{append-nil}
-use Rattle.std.proofs.lemmas.Option.{slice_get_within}
+use Rattle.std.proofs.lemmas.Option.{same_Some, slice_get_within}
 use Rattle.hp_laws.proofs.Lists.{get_some}
 use Rattle.hp_units.specs.History.{net_of, value_of}
 use Rattle.hp_units.specs.LayoutParts.{LayoutParts}
@@ -12,8 +12,10 @@ use Rattle.hp_units.specs.Receipts.{receipts_of}
 use Rattle.hp_units.specs.declared.replies.Record.{Record}
 use Rattle.hp_machine.specs.Machine.{MachineValue}
 use Rattle.hp_steps.specs.Steps.{StepsValue}
-use Rattle.hp_explore.specs.Alike.{AreAlike, IsClosed, UndoNothing, exchanges}
+use Rattle.hp_explore.specs.Alike.{AreAlike, UndoNothing, exchanges}
 use Rattle.hp_explore.specs.Ends.{AreCounted}
+use Rattle.hp_explore.specs.Numbers.{IsNumbered}
+use Rattle.hp_explore.specs.Openings.{AreOpen, Opening}
 use Rattle.hp_explore.specs.Orders.{HasCount, IsBefore, IsFirst}
 use Rattle.hp_explore.specs.Outcomes.{OutcomeValue}
 use Rattle.hp_explore.specs.Schedules.{EndsWith, Setting, plays, schedule_of}
@@ -35,40 +37,36 @@ turned g h k alike = record {
   exchanged = λ cpu within. sym (alike.exchanged cpu within);
   begun = λ cpu within. sym (alike.begun cpu within);
   nets = record {
-    before = alike.nets.other;
-    other = alike.nets.before;
-    tail = alike.nets.tail;
-    first_is = alike.nets.second_is;
-    second_is = alike.nets.first_is;
-    closed = alike.nets.other_closed;
-    other_closed = alike.nets.closed;
+    openings = alike.nets.openings;
+    first_open = alike.nets.second_open;
+    second_open = alike.nets.first_open;
     state = sym alike.nets.state;
   };
 }
 
--- where two nets can't be cut, and lead to the same state
-pub alike_closed : (g : Setting) (h k : List Record) → length h ≡ length k
+-- where the numbers are the same, Cancels lead back to the same states
+alike_numbered : (g : Setting) (lists : List (List Opening)) (h k : List Record) (n m : ℕ)
+    → length h ≡ length k
     → ((cpu : ℕ) → cpu < length g.scripts → exchanges cpu h ≡ exchanges cpu k)
     → ((cpu : ℕ) → cpu < length g.scripts
     → own_operation (receipts_of cpu h) ≡ own_operation (receipts_of cpu k))
-    → IsClosed (net_of (g.start ++ h)) → IsClosed (net_of (g.start ++ k))
+    → IsNumbered g lists h (Some n) → IsNumbered g lists k (Some m) → n ≡ m
     → value_of g.layout g.base (g.start ++ h) ≡ value_of g.layout g.base (g.start ++ k) → AreAlike g h k
 unfolding value_of
-alike_closed g h k calls exchanged begun closed other_closed state = record {
+alike_numbered g lists h k n m calls exchanged begun first second same state = record {
   calls = calls;
   exchanged = exchanged;
   begun = begun;
   nets = record {
-    before = net_of (g.start ++ h);
-    other = net_of (g.start ++ k);
-    tail = [];
-    first_is = sym (append-nil (net_of (g.start ++ h)));
-    second_is = sym (append-nil (net_of (g.start ++ k)));
-    closed = closed;
-    other_closed = other_closed;
+    openings = second.0;
+    first_open = subst (AreOpen g.layout g.base (net_of (g.start ++ h))) as_many first.2;
+    second_open = second.2;
     state = state;
   };
 }
+  where
+    as_many : first.0 ≡ second.0
+    as_many = same_Some first.0 second.0 (sym first.1 ∙ (ap (slice_get lists) same ∙ second.1))
 
 -- as many schedules go on from there to each end
 moved_count : (g : Setting) (p q : List ℕ) (h k : List Record) (x : OutcomeValue) (n : ℕ)
@@ -193,17 +191,16 @@ merged g q k seen old new all second alike is ok adds =
 -- its ends are known, and their counts are what came while it was walked
 pub walked_seen : (g : Setting) (seen : SeenValue) (old new : List Ending)
     → plays g (schedule_of seen.news) ≡ Some seen.news
-    → seen.memory ≡ value_of g.layout g.base (g.start ++ seen.news) → IsClosed (net_of (g.start ++ seen.news))
+    → seen.memory ≡ value_of g.layout g.base (g.start ++ seen.news)
     → length seen.counts ≤ length new
     → ((i : ℕ) (e f : Ending) → slice_get old i ≡ Some e → slice_get new i ≡ Some f
     → e.count + get_or seen.counts i 0 ≡ f.count)
     → ((i : ℕ) (f : Ending) → slice_get new i ≡ Some f → length old ≤ i → get_or seen.counts i 0 ≡ f.count)
     → Grow old new → AreCounted (Before g (schedule_of seen.news)) old
     → AreCounted (Through g (schedule_of seen.news)) new → IsSeen g new seen
-walked_seen g seen old new played state closed few more all grow before through = record {
+walked_seen g seen old new played state few more all grow before through = record {
   played = played;
   state = state;
-  closed = closed;
   few = few;
   counted = counted;
   every = λ s x on. through.every s x (inr on.0, on.1);
@@ -256,11 +253,13 @@ state_here g m here state =
     ∙ (ap (λ (s : Memory). value_of g.layout s m.history) here.base
     ∙ ap (λ (h : List Record). value_of g.layout g.base h) here.history))
 
--- a kept place with the same state and alike exchanges goes on like it
-pub like_alike : (g : Setting) (p : StepsValue) (ends : List Ending) (seen : SeenValue) → IsAt g p
-    → IsSeen g ends seen → IsLike seen p.state p.records (length g.scripts)
-    → IsClosed (net_of (g.start ++ p.records)) → AreAlike g seen.news p.records
-like_alike g p ends seen here is like closed =
-    alike_closed g seen.news p.records like.calls (λ cpu within. (like.exchanges cpu within).exchanged)
-    (λ cpu within. (like.exchanges cpu within).begun) is.closed closed
-    (sym is.state ∙ (like.state ∙ here.state))
+-- a kept place with the same state, number of openings and exchanges goes on like it
+pub like_alike : (g : Setting) (p : StepsValue) (lists : List (List Opening)) (ends : List Ending)
+    (seen : SeenValue) (number : ℕ)
+    → IsAt g p → IsSeen g ends seen → IsNumbered g lists seen.news (Some seen.openings)
+    → IsNumbered g lists p.records (Some number)
+    → IsLike seen p.state number p.records (length g.scripts) → AreAlike g seen.news p.records
+like_alike g p lists ends seen number here is first second like =
+    alike_numbered g lists seen.news p.records seen.openings number like.calls
+    (λ cpu within. (like.exchanges cpu within).exchanged) (λ cpu within. (like.exchanges cpu within).begun)
+    first second like.openings (sym is.state ∙ (like.state ∙ here.state))

@@ -1,13 +1,16 @@
 -- What a turn of the walk leaves, by what the path did.
-use Rattle.std.proofs.Common.{◌≡◌, ℕ, ◌+◌, ◌<◌, ◌≤◌, Bool, true, false, List, [], ◌∷◌, ◌++◌, length, Option, Some, refl, ap, sym, subst, ◌∙◌, arith, inl, inr}
-use Rattle.std.specs.Prelude.{◌||◌, nat_le}
+use Rattle.std.proofs.Common.{◌≡◌, ℕ, ◌+◌, ◌<◌, ◌≤◌, Bool, true, false, List, [], ◌∷◌, ◌++◌, length, reverse, Option, Some, None, refl, ap, sym, subst, ◌∙◌, arith, inl, inr}
+use Rattle.std.specs.Prelude.{◌||◌, nat_le, option_map}
 use Rattle.std.proofs.lemmas.Bool.{cases_lt, le-leb}
-use Rattle.std.proofs.lemmas.List.{append_assoc, length-append, length_push}
-use Rattle.std.proofs.lemmas.List.Sums.{fold-append}
+use Rattle.std.proofs.lemmas.List.{length-append, length_push}
 use Rattle.hp_units.specs.declared.replies.Record.{Record}
-use Rattle.hp_explore.specs.Alike.{closed_after, is_closed}
+use Rattle.hp_units.specs.History.{effect_of}
+use Rattle.hp_units.specs.Memory.{Memory}
+use Rattle.hp_units.specs.declared.events.Event.{Event}
+use Rattle.hp_explore.specs.Alike.{leaves_steps}
 use Rattle.hp_explore.specs.Faults.{IsCause, IsWalkCause, is_full_after}
-use Rattle.hp_explore.specs.Frames.{AreBelow, AreWalked, path_of}
+use Rattle.hp_explore.specs.Frames.{AreBelow, AreWalked, IsFrame, kept_of, path_of}
+use Rattle.hp_explore.specs.Numbers.{AreNumbered, IsStateAt}
 use Rattle.hp_explore.specs.Paths.{IsBack, IsForth, PathValue}
 use Rattle.hp_explore.specs.Schedules.{Setting, plays, record_of_call, schedule_of}
 use Rattle.hp_explore.specs.Interleavings.{IsNotKnownTooMany}
@@ -16,6 +19,8 @@ use Rattle.hp_explore.specs.Walks.{IsWalkedBefore, IsWalkedThrough}
 use Rattle.hp_explore.specs.declared.exploring.ExploreFault.{ExploreFault}
 use Rattle.hp_explore.specs.declared.exploring.ExploreFault.TheVariants.{TooMany, HistoryFull, OutOfMemory}
 use Rattle.hp_explore.specs.declared.frames.Frame.{Frame}
+use Rattle.hp_explore.specs.declared.frames.Kept.{Kept}
+use Rattle.hp_explore.proofs.Alike.{call_leaves, event_kept}
 use Rattle.hp_explore.specs.declared.tally.Ending.{Ending}
 use Rattle.hp_explore.proofs.Framing.{back_setting, back_shorter, walk_back, walk_leads, walk_passes}
 
@@ -49,21 +54,56 @@ led_on p q ends frame later frames all played forth less is all_is w =
     longer : List Record
     longer = p.news ++ record_of_call p.setting p.news frame.next forth.0 ∷ []
 
--- whether the steps are closed after it
-pub closed_on : (p q : PathValue) (cpu : ℕ) (was closed : Bool) (latest : Record) → IsForth p cpu true q
-    → was ≡ is_closed (p.setting.start ++ p.news) → closed ≡ closed_after was latest
+-- what Cancels can take back after it
+pub numbered_on : (p q : PathValue) (cpu : ℕ) (latest : Record) (memo later : MemoValue) (frame : Frame)
+    (ends : List Ending) (from : Option Memory)
+    → IsForth p cpu true q → IsMemo p.setting ends memo → IsFrame p.setting p.news ends frame
+    → from ≡ option_map (λ (k : Kept). k.snapshot) (kept_of frame)
     → ((before : List Record) (r : Record) → q.news ≡ before ++ r ∷ [] → latest ≡ r)
-    → closed ≡ is_closed (q.setting.start ++ q.news)
-closed_on p q cpu was closed latest forth was_is is last =
-    is
-    ∙ (ap (closed_after was) (last p.news r (ap (λ (x : PathValue). x.news) forth.3))
-    ∙ (ap (λ (b : Bool). closed_after b r) was_is
-    ∙ (sym (fold-append closed_after true (p.setting.start ++ p.news) (r ∷ []))
-    ∙ (ap is_closed (append_assoc p.setting.start p.news (r ∷ []))
-    ∙ ap (λ (x : PathValue). is_closed (x.setting.start ++ x.news)) (sym forth.3)))))
+    → AreNumbered p.setting memo.lists p.news (reverse memo.numbers)
+    → ((g : Setting) (news : List Record) → AreNumbered g memo.lists news (reverse memo.numbers)
+    → IsStateAt g news from → (memo.is_on ≡ true → leaves_steps (effect_of latest.event) ≡ true)
+    → AreNumbered g later.lists (news ++ latest ∷ []) (reverse later.numbers))
+    → AreNumbered q.setting later.lists q.news (reverse later.numbers)
+numbered_on p q cpu latest memo later frame ends from forth kept is from_is last numbered on =
+    subst (λ (x : PathValue). AreNumbered x.setting later.lists x.news (reverse later.numbers))
+    (sym (forth.3 ∙ ap (λ (s : Record). path_of p.setting (p.news ++ s ∷ [])) (sym latest_is)))
+    (on p.setting p.news numbered state leaves)
   where
-    r : Record
-    r = record_of_call p.setting p.news cpu forth.0
+    latest_is : latest ≡ record_of_call p.setting p.news cpu forth.0
+    latest_is =
+        last p.news (record_of_call p.setting p.news cpu forth.0) (ap (λ (x : PathValue). x.news) forth.3)
+
+    by_kept : (o : Option Kept) → kept_of frame ≡ o
+        → IsStateAt p.setting p.news (option_map (λ (k : Kept). k.snapshot) o)
+    by_kept None there = tt
+    by_kept (Some k) there = (is.kept k there).memory
+
+    state : IsStateAt p.setting p.news from
+    state = subst (IsStateAt p.setting p.news) (sym from_is) (by_kept (kept_of frame) refl)
+
+    leaves : memo.is_on ≡ true → leaves_steps (effect_of latest.event) ≡ true
+    leaves set =
+        subst (λ (e : Event). leaves_steps (effect_of e) ≡ true)
+        (sym (ap (λ (r : Record). r.event) latest_is ∙ event_kept p.setting p.news cpu forth.0))
+        (call_leaves p.setting p.news cpu forth.0 (kept.undo set) forth.1)
+
+-- and after a call was taken back
+pub numbers_taken : (p q : PathValue) (cpu : ℕ) (memo later : MemoValue) → IsBack p (Some cpu) q
+    → ((g : Setting) (news : List Record) (r : Record)
+    → AreNumbered g memo.lists (news ++ r ∷ []) (reverse memo.numbers)
+    → AreNumbered g later.lists news (reverse later.numbers))
+    → AreNumbered p.setting memo.lists p.news (reverse memo.numbers)
+    → AreNumbered q.setting later.lists q.news (reverse later.numbers)
+numbers_taken p q cpu memo later back led are =
+    led q.setting q.news back.0
+    (subst (λ (x : PathValue). AreNumbered x.setting memo.lists x.news (reverse memo.numbers)) back.2 are)
+
+pub numbers_stay : (p q : PathValue) (memo : MemoValue) → IsBack p None q
+    → AreNumbered p.setting memo.lists p.news (reverse memo.numbers)
+    → AreNumbered q.setting memo.lists q.news (reverse memo.numbers)
+numbers_stay p q memo back are =
+    subst (λ (x : PathValue). AreNumbered x.setting memo.lists x.news (reverse memo.numbers)) (sym back.1) are
 
 -- the history has room for it
 has_room : (g : Setting) (news : List Record) → is_full_after g news ≡ false

@@ -10,6 +10,7 @@ use Rattle.hp_units.specs.declared.events.Event.{Event}
 use Rattle.hp_units.specs.declared.events.Event.TheVariants.{Read, Begin, DrainFor, Migrate, Cancel, UndoAfter}
 use Rattle.hp_units.specs.declared.replies.Receipt.{Receipt}
 use Rattle.hp_units.specs.declared.replies.Record.{Record}
+use Rattle.hp_explore.specs.Openings.{AreOpen, Opening}
 use Rattle.hp_explore.specs.Schedules.{Setting}
 use Rattle.hp_explore.specs.Scripts.{own_operation}
 use Rattle.hp_explore.specs.declared.scripts.Line.{Line}
@@ -48,16 +49,12 @@ IsClosed steps =
     → sole_at op (map tag_of (steps ++ tail))
     ≡ option_map (λ place. length steps + place) (sole_at op (map tag_of tail))
 
--- two nets end in the same steps, after earlier ones that lead to the same state and that no Cancel can drop
+-- two nets lead to the same state, and Cancels lead back from them to the same states
 pub record AreJoined (l : LayoutParts) (base : Memory) (first second : List Record) : Type 0 where
-  pub before : List Record
-  pub other : List Record
-  pub tail : List Record
-  pub first_is : first ≡ before ++ tail
-  pub second_is : second ≡ other ++ tail
-  pub closed : IsClosed before
-  pub other_closed : IsClosed other
-  pub state : run l base before ≡ run l base other
+  pub openings : List Opening
+  pub first_open : AreOpen l base first openings
+  pub second_open : AreOpen l base second openings
+  pub state : run l base first ≡ run l base second
 
 -- after as many new records each of the scripts' processors had the same answers to the same
 -- requests, and began its last operation with the same number; and the steps that count join

@@ -1,13 +1,14 @@
 -- The stack of a walk: what it knows of each place between where the scripts begin and where it stands.
 use Rattle.std.specs.Prelude.{◌≡◌, ℕ, ◌+◌, ◌-◌, ◌*◌, ◌^◌, ◌<◌, ◌≤◌, Bool, true, false, List, [], ◌∷◌, ◌++◌, Option, Some, length, map, option_map, reverse, Box}
 use Rattle.std.specs.declared.alloc.Global.{Global}
-use Rattle.hp_units.specs.History.{net_of, value_of}
+use Rattle.hp_units.specs.History.{value_of}
+use Rattle.hp_units.specs.Memory.{Memory}
 use Rattle.hp_units.specs.declared.events.Event.{Event}
 use Rattle.hp_units.specs.declared.replies.Record.{Record}
 use Rattle.hp_steps.specs.Steps.{StepsValue}
-use Rattle.hp_explore.specs.Alike.{IsClosed, is_closed}
 use Rattle.hp_explore.specs.Ends.{AreCounted}
 use Rattle.hp_explore.specs.Faults.{is_full_after}
+use Rattle.hp_explore.specs.Numbers.{AreNumbered}
 use Rattle.hp_explore.specs.Paths.{PathValue, state_at}
 use Rattle.hp_explore.specs.Schedules.{Setting, next_call, plays, schedule_of}
 use Rattle.hp_explore.specs.Seen.{Grow, IsMemo}
@@ -26,22 +27,27 @@ standing p = record { layout = p.setting.layout; state = state_at p; deltas = []
 abbrev pub path_of : Setting → List Record → PathValue
 path_of g news = record { setting = g; news = news }
 
--- what is kept of a place until all that go on from it are counted: its state, which no Cancel can
--- drop, and how much each end counted when the walk came there
+-- what is kept of a place until all that go on from it are counted: its state, and how much each end
+-- counted when the walk came there
 pub record IsPlaceKept (g : Setting) (news : List Record) (ends : List Ending) (kept : Kept) : Type 0 where
   pub old : List Ending
-  pub memory : kept.image.memory ≡ value_of g.layout g.base (g.start ++ news)
+  pub memory : kept.snapshot ≡ value_of g.layout g.base (g.start ++ news)
   pub earlier : kept.earlier.items ≡ map (λ e. e.count) old
-  pub closed : IsClosed (net_of (g.start ++ news))
   pub before : AreCounted (Before g (schedule_of news)) old
   pub grown : Grow old ends
 
 abbrev pub kept_of : Frame → Option Kept
 kept_of frame = option_map (λ (boxed : Box Kept Global). boxed.value) frame.kept
 
+-- a frame whose turns are all to come; what it keeps is this state, and how much each end counts
+abbrev pub IsFresh : Memory → List Ending → Frame → Type 0
+IsFresh memory ends frame =
+    (frame.next ≡ 0) × (frame.is_over ≡ true)
+    × ((k : Kept) → kept_of frame ≡ Some k
+    → (k.snapshot ≡ memory) × (k.earlier.items ≡ map (λ e. e.count) ends))
+
 -- the frame of a place
 pub record IsFrame (g : Setting) (news : List Record) (ends : List Ending) (frame : Frame) : Type 0 where
-  pub closed : frame.is_closed ≡ is_closed (g.start ++ news)
   pub kept : (k : Kept) → kept_of frame ≡ Some k → IsPlaceKept g news ends k
 
 -- the turns of a place whose next processor is this: all before it was walked, and whether a script
@@ -74,6 +80,7 @@ AreWalked g ends news (frame ∷ frames) =
 pub record IsWalking (w : Walk) (frames : List Frame) : Type 0 where
   pub walked : AreWalked w.path.setting w.tally.ends w.path.news frames
   pub memo : IsMemo w.path.setting w.tally.ends w.memo
+  pub numbered : AreNumbered w.path.setting w.memo.lists w.path.news (reverse w.memo.numbers)
   pub processors : w.processors ≡ length w.path.setting.scripts
   pub few : w.processors < 2 ^ 32
   pub short : length w.path.news ≤ w.path.setting.layout.history
@@ -104,11 +111,11 @@ IsSameWalk old new = (new.path.setting ≡ old.path.setting) × (new.tally.limit
 
 -- a walk has come to a place by a call: all before it was walked, and where these are its frames,
 -- latest first, they are those of the places below
-pub record IsComing (w : Walk) (is_closed_here : Bool) (frames : List Frame) : Type 0 where
+pub record IsComing (w : Walk) (frames : List Frame) : Type 0 where
   pub walked : IsWalkedBefore w.path.setting (schedule_of w.path.news) w.tally.ends
   pub below : AreBelow w.path.setting w.tally.ends w.path.news frames
-  pub closed : is_closed_here ≡ is_closed (w.path.setting.start ++ w.path.news)
   pub memo : IsMemo w.path.setting w.tally.ends w.memo
+  pub numbered : AreNumbered w.path.setting w.memo.lists w.path.news (reverse w.memo.numbers)
   pub processors : w.processors ≡ length w.path.setting.scripts
   pub few : w.processors < 2 ^ 32
   pub short : length w.path.news ≤ w.path.setting.layout.history

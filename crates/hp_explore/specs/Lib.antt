@@ -7,6 +7,8 @@ pub mod Frames
 pub mod Interleavings
 pub mod Multinomials
 pub mod Notes
+pub mod Numbers
+pub mod Openings
 pub mod Orders
 pub mod Outcomes
 pub mod Paths

@@ -5,14 +5,12 @@ ghost use Rattle.hp_explore.specs.Digests.{digest_of, mixed, mixed_reply, refusa
 ghost use Rattle.hp_explore.specs.Outcomes.{outcome_with, replies_below, replies_to};
 
 use crate::outcomes::told;
-use hp_memory::Memory;
-use hp_units::{Class, Cpu, Order, Record, Refusal, Reply, Row, State, Zone};
+use crate::snapshots::Snapshot;
+use hp_units::{Cpu, Record, Refusal, Reply, Row, State, Zone};
 
-const CLASSES: [Class; 5] = [Class::Nu, Class::Nm, Class::Mm, Class::IsoN, Class::IsoM];
-
-/// A digest of a memory's free lists and of each processor's replies among records.
-pub(crate) fn place_digest(memory: &Memory, records: &[Record]) -> u64 {
-    let mut digest = free_digest(memory);
+/// A digest of a state and of each processor's replies among records.
+pub(crate) fn place_digest(snapshot: &Snapshot, records: &[Record]) -> u64 {
+    let mut digest = snapshot.digest();
     for part in &processor_digests(records) {
         digest = mixed(digest, *part);
     }
@@ -27,24 +25,6 @@ fn processor_digests(records: &[Record]) -> [u64; 64] {
         parts[at] = mixed(parts[at], reply_number(&record.reply));
     }
     parts
-}
-
-/// A digest of the free lists' lengths and fronts.
-fn free_digest(memory: &Memory) -> u64 {
-    let mut digest = 0;
-    for class in &CLASSES {
-        for order in 0..memory.layout().order() + 1 {
-            let order = Order(order);
-            let front = memory
-                .front(*class, order)
-                .map_or(0, |frame| u64::from(frame.0) + 1);
-            digest = mixed(
-                mixed(digest, front),
-                u64::from(memory.list_len(*class, order)),
-            );
-        }
-    }
-    digest
 }
 
 /// A digest of how a schedule ends: of the replies of so many processors among records, and of the

@@ -1,14 +1,17 @@
 //! What a walk knows of the places on its way.
-ghost use Rattle.std.specs.Prelude.{◌≡◌, ◌+◌, ◌-◌, ◌^◌, ◌<◌, true, false};
+ghost use Rattle.std.specs.Prelude.{◌≡◌, ◌+◌, ◌-◌, ◌^◌, ◌<◌, IfOk, option_map, true, false};
+ghost use Rattle.hp_explore.specs.Frames.{IsFresh, kept_of};
 
-use hp_plain::Image;
+use crate::snapshots::Snapshot;
+use crate::tally::Tally;
+use std::alloc::{AllocError, Global};
 
 /// What is kept of a place until all that go on from it are counted: its digest and state, and how
 /// much each end counted when the walk came there.
 #[derive(Drop)]
 pub(crate) struct Kept {
     pub digest: u64,
-    pub image: Image,
+    pub snapshot: Snapshot,
     pub earlier: Vec<u64>,
 }
 
@@ -19,8 +22,6 @@ pub(crate) struct Frame {
     pub next: u32,
     /// Whether no script of the processors before it asked for anything.
     pub is_over: bool,
-    /// Whether no later Cancel can drop a step that led there.
-    pub is_closed: bool,
     /// What is kept of it, on the heap, since most places keep nothing.
     pub kept: Option<Box<Kept>>,
 }
@@ -36,14 +37,51 @@ pub(crate) enum Entry {
 
 impl Frame {
     /// A place whose turns are all to come.
-    pub(crate) fn new(is_closed: bool, kept: Option<Box<Kept>>) -> Frame
-        ensures { result ≡ record { next = 0; is_over = true; is_closed = is_closed; kept = kept } }
+    pub(crate) fn new(kept: Option<Box<Kept>>) -> Frame
+        ensures { result ≡ record { next = 0; is_over = true; kept = kept } }
     {
         Frame {
             next: 0,
             is_over: true,
-            is_closed,
             kept,
+        }
+    }
+
+    /// The same, which is kept as long as there are few ends, since what is kept holds a count for each
+    /// end. An error is out of memory.
+    pub(crate) fn keeping(
+        alloc: Global,
+        tally: &Tally,
+        digest: u64,
+        snapshot: Snapshot,
+    ) -> Result<Frame, AllocError>
+        ensures { IfOk result (IsFresh snapshot tally.now.ends) }
+    {
+        if tally.has_many_ends() {
+            return Ok(Frame::new(None));
+        }
+        let earlier = tally.counts(alloc)?;
+        let kept = Kept {
+            digest,
+            snapshot,
+            earlier,
+        };
+        match Box::new(alloc, kept) {
+            Ok(kept) => {
+                let held = Frame::new(Some(kept));
+                Ok(held)
+            }
+            Err(_failed) => Err(AllocError),
+        }
+    }
+
+    /// The state of the place, where it is kept.
+    pub(crate) fn snapshot(&self) -> Option<&Snapshot>
+        ensures { option_map (λ s. s.now) result ≡ option_map (λ k. k.snapshot) (kept_of self.now) }
+    {
+        match &self.kept {
+            Some(kept) => Some(&kept.snapshot),
+            None => None,
         }
     }
 

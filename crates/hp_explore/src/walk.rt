@@ -1,14 +1,15 @@
 //! The walk over all schedules, depth first and processor 0 first, on a stack of its own.
-ghost use Rattle.std.specs.Prelude.{◌≡◌, ◌∷◌, ◌++◌, [], ◌<◌, ◌≤◌, ◌^◌, List, true, false, IfErr, IfOk, OnOk, length, sum_by};
-ghost use Rattle.hp_explore.specs.Alike.{is_closed};
+ghost use Rattle.std.specs.Prelude.{◌≡◌, ◌∷◌, ◌++◌, [], ◌<◌, ◌≤◌, ◌^◌, ℕ, List, Option, true, false, IfErr, IfOk, OnOk, length, reverse, sum_by};
 ghost use Rattle.hp_explore.specs.Faults.{IsNoteCause, IsWalkCause};
 ghost use Rattle.hp_explore.specs.Frames.{AreTurns, IsEntered, IsFrame, IsComing, IsPlaceKept, IsSameWalk, IsWalking, frames_of, left, left_before, standing};
+ghost use Rattle.hp_explore.specs.Numbers.{AreNumbered};
+ghost use Rattle.hp_explore.specs.Paths.{IsBack};
 ghost use Rattle.hp_explore.specs.Schedules.{schedule_of, setting};
 ghost use Rattle.hp_explore.specs.Seen.{AddsCounts, Grow, IsAddCause, IsMemo};
 ghost use Rattle.hp_explore.specs.declared.frames.Entry.TheVariants.{Counted};
 ghost use Rattle.hp_explore.specs.Walks.{IsEndNoted, IsOverBelow, IsWalkedBefore, IsWalkedThrough};
 
-use crate::closed::{closed_after, is_closed};
+use crate::closed::is_closed;
 use crate::digests::place_digest;
 use crate::exploring::ExploreFault;
 use crate::frames::{Entry, Frame, Kept};
@@ -16,6 +17,7 @@ use crate::memo::{Memo, Seen};
 use crate::outcomes::ended_rows;
 use crate::path::Path;
 use crate::scripts::{Script, undo_nothing};
+use crate::snapshots::Snapshot;
 use crate::tally::{Ending, Tally};
 use crate::turns::{copies, latest};
 use crate::watch::Watch;
@@ -58,14 +60,18 @@ impl<'a> Walk<'a> {
         ensures limit { IfOk result (λ walk. walk.tally.limit ≡ limit) }
     {
         let path = Path::start(alloc, machine, scripts)?;
+        let tally = Tally::new(alloc, limit);
+        let memo = Memo::start(alloc, undo_nothing(scripts), is_closed(machine.history()))?;
+        let snapshot = Snapshot::of(alloc, path.memory())?;
+        let first = Frame::keeping(alloc, &tally, 0, snapshot)?;
         let mut frames = Vec::new(alloc);
         frames.reserve(1)?;
-        frames.push_reserved(Frame::new(is_closed(machine.history()), None));
+        frames.push_reserved(first);
         Ok(Walk {
             path,
             processors: scripts.len() as u32,
-            tally: Tally::new(alloc, limit),
-            memo: Memo::new(alloc, undo_nothing(scripts)),
+            tally,
+            memo,
             frames,
         })
     }
@@ -124,20 +130,16 @@ impl<'a> Walk<'a> {
             self.frames.push_reserved(frame.passed());
             return Ok(());
         }
-        let closed = closed_after(frame.is_closed, latest(self.path.records()));
+        self.memo
+            .go_on(alloc, frame.snapshot(), latest(self.path.records()))?;
         self.frames.push_reserved(frame.led_on());
-        self.come_to(alloc, closed, watch)
+        self.come_to(alloc, watch)
     }
 
     /// Comes to a place by a call: it gets a frame of its own, or is left at once where what goes on
     /// from there is known.
-    fn come_to<W: Watch>(
-        &mut self,
-        alloc: Global,
-        closed: bool,
-        watch: &mut W,
-    ) -> Result<(), ExploreFault>
-        requires { IsComing self.old closed (frames_of self.old) }
+    fn come_to<W: Watch>(&mut self, alloc: Global, watch: &mut W) -> Result<(), ExploreFault>
+        requires { IsComing self.old (frames_of self.old) }
         ensures kept { OnOk result (IsWalking self.new (frames_of self.new)) }
         ensures same { OnOk result (IsSameWalk self.old self.new) }
         ensures less { OnOk result
@@ -149,14 +151,13 @@ impl<'a> Walk<'a> {
             alloc,
             &self.path,
             self.processors,
-            closed,
             &mut self.tally,
             &self.memo,
             watch,
         )?;
         match entry {
             Entry::Counted => {
-                let _ = self.path.back();
+                take_back(&mut self.path, &mut self.memo);
             }
             Entry::Open(frame) => self.frames.push_reserved(frame),
         }
@@ -187,7 +188,7 @@ impl<'a> Walk<'a> {
             &mut self.memo,
             watch,
         )?;
-        let _ = self.path.back();
+        take_back(&mut self.path, &mut self.memo);
         Ok(())
     }
 
@@ -207,51 +208,53 @@ impl<'a> Walk<'a> {
     }
 }
 
+/// Takes the latest call back, where there is one.
+fn take_back(path: &mut Path, memo: &mut Memo)
+    ensures back { (cpu : Option ℕ) × IsBack path.old cpu path.new }
+    ensures same { (memo.new.is_on ≡ memo.old.is_on) × (memo.new.seen ≡ memo.old.seen)
+        × (memo.new.lists ≡ memo.old.lists) }
+    ensures numbered { AreNumbered path.old.setting memo.old.lists path.old.news (reverse memo.old.numbers)
+        → AreNumbered path.new.setting memo.new.lists path.new.news (reverse memo.new.numbers) }
+{
+    match path.back() {
+        Some(_cpu) => memo.go_back(),
+        None => {}
+    }
+}
+
 /// What a place that the walk comes to is: where all goes on as from a place that was walked before,
-/// what was counted there is counted once more. A place is kept as long as there are few ends, since
-/// each holds a count for each end, and never where one processor has all calls.
+/// what was counted there is counted once more. No place is kept where one processor has all calls.
 fn enter<W: Watch>(
     alloc: Global,
     path: &Path,
     processors: u32,
-    closed: bool,
     tally: &mut Tally,
     memo: &Memo,
     watch: &mut W,
 ) -> Result<Entry, ExploreFault>
     requires processors { processors ≡ length path.now.setting.scripts }
-    requires closed { closed ≡ is_closed (path.now.setting.start ++ path.now.news) }
     requires walked { IsWalkedBefore path.now.setting (schedule_of path.now.news) tally.old.ends }
     requires memo { IsMemo path.now.setting tally.old.ends memo.now }
+    requires numbered { AreNumbered path.now.setting memo.now.lists path.now.news (reverse memo.now.numbers) }
     ensures ok { IfOk result (λ entry. IsEntered path.now tally.old.ends tally.new.ends entry) }
     ensures limit { tally.new.limit ≡ tally.old.limit }
     ensures err { IfErr result (IsWalkCause path.now.setting tally.old.limit) }
 {
-    if !closed || !memo.is_on() || processors < 2 {
-        return Ok(Entry::Open(Frame::new(closed, None)));
+    let Some(openings) = memo.number() else {
+        return Ok(Entry::Open(Frame::new(None)));
+    };
+    if !memo.is_on() || processors < 2 {
+        return Ok(Entry::Open(Frame::new(None)));
     }
     path.is_played();
-    let digest = place_digest(path.memory(), path.records());
-    let image = path.memory().image(alloc)?;
-    if let Some(counts) = memo.counts_like(alloc, digest, &image, path.records(), processors)? {
+    let snapshot = Snapshot::of(alloc, path.memory())?;
+    let digest = place_digest(&snapshot, path.records());
+    let news = path.records();
+    if let Some(counts) = memo.counts_like(alloc, digest, &snapshot, openings, news, processors)? {
         return add_counts(tally, counts, watch);
     }
-    if tally.has_many_ends() {
-        return Ok(Entry::Open(Frame::new(closed, None)));
-    }
-    let earlier = tally.counts(alloc)?;
-    let kept = Kept {
-        digest,
-        image,
-        earlier,
-    };
-    match Box::new(alloc, kept) {
-        Ok(kept) => {
-            let held = Frame::new(closed, Some(kept));
-            Ok(Entry::Open(held))
-        }
-        Err(_failed) => Err(ExploreFault::OutOfMemory),
-    }
+    let frame = Frame::keeping(alloc, tally, digest, snapshot)?;
+    Ok(Entry::Open(frame))
 }
 
 /// Counts so many schedules more under each end.
@@ -287,10 +290,12 @@ fn finish<W: Watch>(
     requires turns { AreTurns path.now.setting path.now.news tally.old.ends frame }
     requires frame { IsFrame path.now.setting path.now.news tally.old.ends frame }
     requires memo { IsMemo path.now.setting tally.old.ends memo.old }
+    requires numbered { AreNumbered path.now.setting memo.old.lists path.now.news (reverse memo.old.numbers) }
     ensures ok { OnOk result
         (IsWalkedThrough path.now.setting (schedule_of path.now.news) tally.new.ends) }
     ensures grows { OnOk result (Grow tally.old.ends tally.new.ends) }
     ensures memo { OnOk result (IsMemo path.now.setting tally.new.ends memo.new) }
+    ensures way { (memo.new.lists ≡ memo.old.lists) × (memo.new.numbers ≡ memo.old.numbers) }
     ensures limit { tally.new.limit ≡ tally.old.limit }
     ensures err { IfErr result (IsWalkCause path.now.setting tally.old.limit) }
 {
@@ -359,15 +364,20 @@ fn keep(
     requires kept { IsPlaceKept path.now.setting path.now.news tally.now.ends kept }
     requires through { IsWalkedThrough path.now.setting (schedule_of path.now.news) tally.now.ends }
     requires memo { IsMemo path.now.setting tally.now.ends memo.old }
-    ensures { OnOk result (IsMemo path.now.setting tally.now.ends memo.new) }
+    requires numbered { AreNumbered path.now.setting memo.old.lists path.now.news (reverse memo.old.numbers) }
+    ensures memo { OnOk result (IsMemo path.now.setting tally.now.ends memo.new) }
+    ensures way { (memo.new.lists ≡ memo.old.lists) × (memo.new.numbers ≡ memo.old.numbers) }
 {
+    let Some(openings) = memo.number() else {
+        return Ok(());
+    };
     path.is_played();
     let Kept {
         digest,
-        image,
+        snapshot,
         earlier,
     } = kept;
     let counts = tally.since(alloc, earlier.as_slice())?;
     let news = copies(alloc, path.records())?;
-    memo.add(digest, Seen::new(image, news, counts))
+    memo.add(digest, Seen::new(snapshot, news, openings, counts))
 }

@@ -1,90 +1,84 @@
 -- What is found is like the place, so that its counts are those of what goes on from here; else the
 -- place gets a frame, with what is kept of it.
-use Rattle.std.proofs.Common.{◌++◌, Bor, List, Option, ℕ, ap, refl, sym, subst, ◌∙◌}
+use Rattle.std.proofs.Common.{Bor, List, Option, ℕ, ap, refl, subst, sym, ◌∙◌}
 use Rattle.std.specs.Option.{IfSome}
 use Rattle.std.proofs.lemmas.Result.{IfErr-weaker, IfOk-weaker}
-use Rattle.hp_plain.specs.Image.{Pictured}
 use Rattle.hp_memory.specs.Memory.{MemoryValue}
-use Rattle.hp_explore.specs.Frames.{IsEntered, standing}
+use Rattle.hp_units.specs.Memory.{Memory}
+use Rattle.hp_explore.specs.Frames.{IsEntered, IsFresh, standing}
+use Rattle.hp_explore.specs.Numbers.{IsNumbered}
 use Rattle.hp_explore.specs.Seen.{IsLikeAmong}
 use Rattle.hp_explore.specs.Walks.{IsAt}
 use Rattle.hp_explore.specs.declared.frames.Entry.{Entry}
-use Rattle.hp_explore.proofs.ClosedNets.{closed_told}
-use Rattle.hp_explore.proofs.Framing.{entered_kept}
-use Rattle.hp_explore.proofs.Grown.{grow_added, grow_none}
-use Rattle.hp_explore.proofs.Kept.{found_fault, found_few, found_walked}
+use Rattle.hp_explore.proofs.Framing.{bare_fresh, entered_fresh}
+use Rattle.hp_explore.proofs.Grown.{grow_added}
+use Rattle.hp_explore.proofs.Kept.{found_fault, found_few, found_like, found_walked}
 use Rattle.hp_explore.proofs.walk.enter.Goals as goal
 
 pub add_counts-requires : goal.add_counts-requires
 add_counts-requires o c =
-    found_few c.args.path.now.setting c.args.memo.now c.args.tally.now.ends c.in_ok-image.image.memory
-    c.records-2.result.now c.args.processors c.in-Some.counts.now c.requires.memo
+    let p = c.args.path.now in
+    let at : IsAt (p.setting) (standing p) = record { layout = refl; played = c.is_played.ensures; state = refl } in
+    let found =
+    found_like p.setting (standing p) c.args.memo.now c.args.tally.now.ends c.in_ok-snapshot.snapshot
+    c.in-Some.openings c.args.processors c.records-news.result.now c.in-Some-2.counts.now at c.requires.memo
+    (sym c.is_on.ensures ∙ c.if-not-is_on.false)
+    (subst (IsNumbered p.setting c.args.memo.now.lists p.news) c.in-Some.is
+    (c.number.ensures p.setting p.news c.requires.numbered))
+    (c.in_ok-snapshot.ensures ∙ ap (λ (m : MemoryValue). m.state) c.memory.ensures) c.records-news.ensures
+    c.requires.processors
     (subst (λ (counts : Option (Bor (List ℕ))). IfSome counts (λ counts. IsLikeAmong c.args.memo.now.seen
-    c.in_ok-image.image.memory c.records-2.result.now c.args.processors counts.now)) c.in-Some.is
-    c.in_ok-counts.ensures)
+    c.in_ok-snapshot.snapshot c.in-Some.openings c.records-news.result.now c.args.processors counts.now))
+    c.in-Some-2.is c.in_ok-counts.ensures) in
+    found_few p.setting (standing p) c.args.memo.now c.args.tally.now.ends c.in-Some-2.counts.now found
 
-pub returns-in-Some-clause-ok : goal.returns-in-Some-clause-ok
-returns-in-Some-clause-ok o c =
-    let g = c.args.path.now.setting in
-    let at : IsAt g (standing c.args.path.now) =
-    record { layout = refl; played = c.is_played.ensures; state = refl } in
-    let memory =
-    ap (λ (i : Pictured). i.memory) c.in_ok-image.ensures
-    ∙ ap (λ (m : MemoryValue). m.state) c.memory-2.ensures in
-    let like =
-    subst (λ (counts : Option (Bor (List ℕ))). IfSome counts (λ counts. IsLikeAmong c.args.memo.now.seen
-    c.in_ok-image.image.memory c.records-2.result.now c.args.processors counts.now)) c.in-Some.is
-    c.in_ok-counts.ensures in
+pub returns-in-Some-2-clause-ok : goal.returns-in-Some-2-clause-ok
+returns-in-Some-2-clause-ok o c =
+    let p = c.args.path.now in
+    let at : IsAt (p.setting) (standing p) = record { layout = refl; played = c.is_played.ensures; state = refl } in
+    let found =
+    found_like p.setting (standing p) c.args.memo.now c.args.tally.now.ends c.in_ok-snapshot.snapshot
+    c.in-Some.openings c.args.processors c.records-news.result.now c.in-Some-2.counts.now at c.requires.memo
+    (sym c.is_on.ensures ∙ c.if-not-is_on.false)
+    (subst (IsNumbered p.setting c.args.memo.now.lists p.news) c.in-Some.is
+    (c.number.ensures p.setting p.news c.requires.numbered))
+    (c.in_ok-snapshot.ensures ∙ ap (λ (m : MemoryValue). m.state) c.memory.ensures) c.records-news.ensures
+    c.requires.processors
+    (subst (λ (counts : Option (Bor (List ℕ))). IfSome counts (λ counts. IsLikeAmong c.args.memo.now.seen
+    c.in_ok-snapshot.snapshot c.in-Some.openings c.records-news.result.now c.args.processors counts.now))
+    c.in-Some-2.is c.in_ok-counts.ensures) in
     IfOk-weaker c.add_counts.result _ _
-    (λ entry adds. subst (λ (e : Entry).
-    IsEntered c.args.path.now c.args.tally.now.ends c.add_counts.new.tally.ends e) (sym adds.0) (
-      found_walked g (standing c.args.path.now) c.args.memo.now c.args.tally.now.ends
-          c.add_counts.new.tally.ends c.in_ok-image.image.memory c.records-2.result.now c.args.processors
-          c.in-Some.counts.now at c.requires.memo (sym c.is_on.ensures ∙ c.if-not-is_on.false)
-          (closed_told (g.start ++ c.args.path.now.news) (sym c.requires.closed ∙ c.if-not-closed.false))
-          memory c.records-2.ensures c.requires.processors like c.requires.walked adds.1,
-      grow_added c.args.tally.now.ends c.add_counts.new.tally.ends c.in-Some.counts.now adds.1,
+    (λ entry adds. subst (λ (e : Entry). IsEntered p c.args.tally.now.ends c.add_counts.new.tally.ends e)
+    (sym adds.0) (
+      found_walked p.setting (standing p) c.args.memo.now c.args.tally.now.ends c.add_counts.new.tally.ends
+          c.in-Some-2.counts.now found c.requires.walked adds.1,
+      grow_added c.args.tally.now.ends c.add_counts.new.tally.ends c.in-Some-2.counts.now adds.1,
     ))
     c.add_counts.ensures.ok
 
-pub returns-in-Some-clause-err : goal.returns-in-Some-clause-err
-returns-in-Some-clause-err o c =
-    let g = c.args.path.now.setting in
-    let at : IsAt g (standing c.args.path.now) =
-    record { layout = refl; played = c.is_played.ensures; state = refl } in
-    let memory =
-    ap (λ (i : Pictured). i.memory) c.in_ok-image.ensures
-    ∙ ap (λ (m : MemoryValue). m.state) c.memory-2.ensures in
-    let like =
-    subst (λ (counts : Option (Bor (List ℕ))). IfSome counts (λ counts. IsLikeAmong c.args.memo.now.seen
-    c.in_ok-image.image.memory c.records-2.result.now c.args.processors counts.now)) c.in-Some.is
-    c.in_ok-counts.ensures in
+pub returns-in-Some-2-clause-err : goal.returns-in-Some-2-clause-err
+returns-in-Some-2-clause-err o c =
+    let p = c.args.path.now in
+    let at : IsAt (p.setting) (standing p) = record { layout = refl; played = c.is_played.ensures; state = refl } in
+    let found =
+    found_like p.setting (standing p) c.args.memo.now c.args.tally.now.ends c.in_ok-snapshot.snapshot
+    c.in-Some.openings c.args.processors c.records-news.result.now c.in-Some-2.counts.now at c.requires.memo
+    (sym c.is_on.ensures ∙ c.if-not-is_on.false)
+    (subst (IsNumbered p.setting c.args.memo.now.lists p.news) c.in-Some.is
+    (c.number.ensures p.setting p.news c.requires.numbered))
+    (c.in_ok-snapshot.ensures ∙ ap (λ (m : MemoryValue). m.state) c.memory.ensures) c.records-news.ensures
+    c.requires.processors
+    (subst (λ (counts : Option (Bor (List ℕ))). IfSome counts (λ counts. IsLikeAmong c.args.memo.now.seen
+    c.in_ok-snapshot.snapshot c.in-Some.openings c.records-news.result.now c.args.processors counts.now))
+    c.in-Some-2.is c.in_ok-counts.ensures) in
     IfErr-weaker c.add_counts.result _ _
-    (λ fault cause. found_fault g (standing c.args.path.now) c.args.memo.now c.args.tally.now
-    c.in_ok-image.image.memory c.records-2.result.now c.args.processors c.in-Some.counts.now fault at
-    c.requires.memo (sym c.is_on.ensures ∙ c.if-not-is_on.false)
-    (closed_told (g.start ++ c.args.path.now.news) (sym c.requires.closed ∙ c.if-not-closed.false))
-    memory c.records-2.ensures c.requires.processors like c.requires.walked.counted cause)
+    (λ fault cause. found_fault p.setting (standing p) c.args.memo.now c.args.tally.now
+    c.in-Some-2.counts.now fault found c.requires.walked.counted cause)
     c.add_counts.ensures.err
 
-pub returns-in-Ok-clause-ok : goal.returns-in-Ok-clause-ok
-returns-in-Ok-clause-ok o c =
-    let g = c.args.path.now.setting in
-    let memory =
-    ap (λ (i : Pictured). i.memory) c.in_ok-image.ensures
-    ∙ ap (λ (m : MemoryValue). m.state) c.memory-2.ensures in
-    entered_kept c.args.path.now c.args.tally.now.ends c.args.closed c.new-held.result c.in-Ok.kept
-    (record {
-      digest = c.place_digest-digest.result;
-      image = c.in_ok-image.image;
-      earlier = c.in_ok-earlier.earlier;
-    }) c.requires.closed c.new-held.ensures c.in-Ok.ensures.ok
-    (record {
-      old = c.args.tally.now.ends;
-      memory = memory;
-      earlier = c.in_ok-earlier.ensures;
-      closed =
-          closed_told (g.start ++ c.args.path.now.news) (sym c.requires.closed ∙ c.if-not-closed.false);
-      before = c.requires.walked.counted;
-      grown = grow_none c.args.tally.now.ends;
-    })
+pub returns-clause-ok : goal.returns-clause-ok
+returns-clause-ok o c =
+    let p = c.args.path.now in
+    entered_fresh p c.args.tally.now.ends c.in_ok-frame.frame c.requires.walked
+    (subst (λ (memory : Memory). IsFresh memory c.args.tally.now.ends c.in_ok-frame.frame)
+    (c.in_ok-snapshot.ensures ∙ ap (λ (m : MemoryValue). m.state) c.memory.ensures) c.in_ok-frame.ensures)

@@ -1,9 +1,6 @@
 use Rattle.std.proofs.Common.{rules}
 use Rattle.hp_explore.proofs.memo.Seen.is_like.Goals as goal
 
-pub returns-then-len-news : goal.returns-then-len-news
-returns-then-len-news c = search rules
-
 pub returns-in_err-have_exchanges_alike : goal.returns-in_err-have_exchanges_alike
 returns-in_err-have_exchanges_alike c = search rules
 

@@ -7,7 +7,7 @@ use Rattle.hp_explore.specs.Walks.{IsWalkedBefore}
 use Rattle.hp_explore.specs.declared.frames.Frame.{Frame}
 use Rattle.hp_explore.specs.declared.tally.Ending.{Ending}
 use Rattle.hp_explore.proofs.Framing.{back_setting, below_many, frames_pushed, walk_opens}
-use Rattle.hp_explore.proofs.Kept.{memo_added}
+use Rattle.hp_explore.proofs.Kept.{memo_added, memo_same}
 use Rattle.hp_explore.proofs.Walked.{gone_back}
 use Rattle.hp_explore.proofs.Weights.{left_counted, left_opened}
 use Rattle.hp_explore.proofs.walk.Walk.come_to.Goals as goal
@@ -20,11 +20,20 @@ returns-in-Counted-clause-kept o c =
     c.in_ok-entry.ensures.ok in
     let all =
     gone_back w.path.setting w.tally.ends c.enter.new.tally.ends w.path.news (frames_of w)
-    (reverse c.reserve.new.self.items) c.back.result c.back.new.self w.memo w.processors
-    (ap reverse c.in_ok-reserve.ensures.items) entered.1 c.requires.below entered.0 c.back.ensures
-    (memo_added w.path.setting w.tally.ends c.enter.new.tally.ends w.memo entered.1 c.requires.memo)
+    (reverse c.reserve.new.self.items) c.take_back.ensures.back.0 c.take_back.new.path c.take_back.new.memo
+    w.processors (ap reverse c.in_ok-reserve.ensures.items) entered.1 c.requires.below entered.0
+    c.take_back.ensures.back.1
+    (memo_same w.path.setting c.enter.new.tally.ends w.memo c.take_back.new.memo c.take_back.ensures.same
+    (memo_added w.path.setting w.tally.ends c.enter.new.tally.ends w.memo entered.1 c.requires.memo))
     c.requires.processors c.requires.short in
-    record { walked = all.0; memo = all.1; processors = all.2; few = c.requires.few; short = all.3 }
+    record {
+      walked = all.0;
+      memo = all.1;
+      numbered = c.take_back.ensures.numbered c.requires.numbered;
+      processors = all.2;
+      few = c.requires.few;
+      short = all.3;
+    }
 
 pub returns-in-Counted-clause-less : goal.returns-in-Counted-clause-less
 returns-in-Counted-clause-less o c =
@@ -32,7 +41,8 @@ returns-in-Counted-clause-less o c =
     subst (λ (g : Setting). left_of w.processors g.layout.history (reverse c.reserve.new.self.items)
     < (digits w.processors (frames_of w) + 1)
     * (w.processors + 2) ^ (w.path.setting.layout.history + 1 - length (frames_of w)))
-    (sym (back_setting w.path.setting w.path.news c.back.result w.path c.back.new.self refl c.back.ensures))
+    (sym (back_setting w.path.setting w.path.news c.take_back.ensures.back.0 w.path c.take_back.new.path refl
+    c.take_back.ensures.back.1))
     (subst (λ (fs : List Frame). left_of w.processors w.path.setting.layout.history fs
     < (digits w.processors (frames_of w) + 1)
     * (w.processors + 2) ^ (w.path.setting.layout.history + 1 - length (frames_of w)))
@@ -42,7 +52,8 @@ returns-in-Counted-clause-less o c =
 pub returns-in-Counted-clause-same : goal.returns-in-Counted-clause-same
 returns-in-Counted-clause-same o c =
     let w = c.args.self.now in (
-      back_setting w.path.setting w.path.news c.back.result w.path c.back.new.self refl c.back.ensures,
+      back_setting w.path.setting w.path.news c.take_back.ensures.back.0 w.path c.take_back.new.path refl
+          c.take_back.ensures.back.1,
       c.enter.ensures.limit,
     )
 
@@ -64,6 +75,7 @@ returns-in-Open-clause-kept o c =
           (subst (λ (es : List Ending). AreBelow g es w.path.news (frames_of w)) (sym entered.0)
           c.requires.below));
       memo = subst (λ (es : List Ending). IsMemo g es w.memo) (sym entered.0) c.requires.memo;
+      numbered = c.requires.numbered;
       processors = c.requires.processors;
       few = c.requires.few;
       short = c.requires.short;

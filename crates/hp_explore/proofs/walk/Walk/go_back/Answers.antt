@@ -3,6 +3,7 @@ use Rattle.std.proofs.Common.{◌<◌, ◌∷◌, refl, sym, subst, arith}
 use Rattle.hp_explore.specs.Frames.{frames_of, left_of}
 use Rattle.hp_explore.specs.Schedules.{Setting}
 use Rattle.hp_explore.proofs.Framing.{back_setting, below_many}
+use Rattle.hp_explore.proofs.Kept.{memo_same, numbers_same}
 use Rattle.hp_explore.proofs.Walked.{gone_back}
 use Rattle.hp_explore.proofs.Weights.{left_back}
 use Rattle.hp_explore.proofs.walk.Walk.go_back.Goals as goal
@@ -12,12 +13,17 @@ returns-clause-kept o c =
     let w = c.args.self.now in
     let all =
     gone_back w.path.setting w.tally.ends c.finish.new.tally.ends w.path.news (frames_of w) (frames_of w)
-    c.back.result c.back.new.self c.finish.new.memo w.processors refl c.in_ok-finish.ensures.grows
-    c.requires.kept.walked.2 c.in_ok-finish.ensures.ok c.back.ensures c.in_ok-finish.ensures.memo
+    c.take_back.ensures.back.0 c.take_back.new.path c.take_back.new.memo w.processors refl
+    c.in_ok-finish.ensures.grows c.requires.kept.walked.2 c.in_ok-finish.ensures.ok c.take_back.ensures.back.1
+    (memo_same w.path.setting c.finish.new.tally.ends c.finish.new.memo c.take_back.new.memo
+    c.take_back.ensures.same c.in_ok-finish.ensures.memo)
     c.requires.kept.processors c.requires.kept.short in
     record {
       walked = all.0;
       memo = all.1;
+      numbered =
+          c.take_back.ensures.numbered (numbers_same w.path.setting w.path.news w.memo c.finish.new.memo
+          c.finish.ensures.way c.requires.kept.numbered);
       processors = all.2;
       few = c.requires.kept.few;
       short = all.3;
@@ -28,7 +34,8 @@ returns-clause-less o c =
     let w = c.args.self.now in
     subst (λ (g : Setting). left_of w.processors g.layout.history (frames_of w)
     < left_of w.processors w.path.setting.layout.history (c.args.frame ∷ frames_of w))
-    (sym (back_setting w.path.setting w.path.news c.back.result w.path c.back.new.self refl c.back.ensures))
+    (sym (back_setting w.path.setting w.path.news c.take_back.ensures.back.0 w.path c.take_back.new.path refl
+    c.take_back.ensures.back.1))
     (left_back w.processors w.path.setting.layout.history (frames_of w) c.args.frame
     (omega (arith, c.requires.kept.walked.0.within, c.requires.kept.processors))
     (omega (
@@ -40,6 +47,7 @@ returns-clause-less o c =
 pub returns-clause-same : goal.returns-clause-same
 returns-clause-same o c =
     let w = c.args.self.now in (
-      back_setting w.path.setting w.path.news c.back.result w.path c.back.new.self refl c.back.ensures,
+      back_setting w.path.setting w.path.news c.take_back.ensures.back.0 w.path c.take_back.new.path refl
+          c.take_back.ensures.back.1,
       c.finish.ensures.limit,
     )

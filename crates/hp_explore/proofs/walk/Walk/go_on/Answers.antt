@@ -1,12 +1,16 @@
 -- Where a call was made the walk comes to a place by it.
-use Rattle.std.proofs.Common.{◌<◌, ◌≤◌, ◌∷◌, Bool, true, false, List, length, reverse, ap, refl, sym, subst, ◌∙◌, arith}
+use Rattle.std.proofs.Common.{◌<◌, ◌≤◌, ◌∷◌, Bool, Bor, true, false, List, length, reverse, ap, refl, sym, subst, ◌∙◌, arith}
 use Rattle.hp_explore.specs.Frames.{frames_of, left_of}
+use Rattle.std.specs.Option.{option_map}
+use Rattle.hp_units.specs.Memory.{Memory}
+use Rattle.hp_explore.specs.Numbers.{AreNumbered}
 use Rattle.hp_explore.specs.Paths.{IsForth, PathValue}
 use Rattle.hp_explore.specs.Schedules.{Setting}
 use Rattle.hp_explore.specs.Seen.{IsMemo}
 use Rattle.hp_explore.specs.declared.frames.Frame.{Frame}
 use Rattle.hp_explore.proofs.Framing.{frames_pushed}
-use Rattle.hp_explore.proofs.Walked.{closed_on, forth_setting, led_on, passed_on, short_on}
+use Rattle.hp_explore.proofs.Kept.{memo_extended}
+use Rattle.hp_explore.proofs.Walked.{forth_setting, led_on, numbered_on, passed_on, short_on}
 use Rattle.hp_explore.proofs.Weights.{left_passed}
 use Rattle.hp_explore.proofs.walk.Walk.go_on.Goals as goal
 
@@ -33,6 +37,9 @@ returns-then-not-branch-clause-kept o c =
           (omega (arith, c.requires.some, c.requires.kept.processors)) c.passed.ensures pushed
           c.requires.kept.walked;
       memo = subst (λ (g : Setting). IsMemo g w.tally.ends w.memo) (sym same) c.requires.kept.memo;
+      numbered =
+          subst (λ (p : PathValue). AreNumbered p.setting w.memo.lists p.news (reverse w.memo.numbers))
+          (sym forth.1) c.requires.kept.numbered;
       processors = c.requires.kept.processors ∙ ap (λ (g : Setting). length g.scripts) (sym same);
       few = c.requires.kept.few;
       short =
@@ -83,13 +90,22 @@ come_to-requires o c =
     record {
       walked = led.0;
       below = led.1;
-      closed =
-          closed_on w.path c.forward.new.self c.args.frame.next c.args.frame.is_closed
-          c.closed_after-closed.result c.latest.result.now forth c.requires.kept.walked.1.closed
-          c.closed_after-closed.ensures
-          (λ before r is. c.latest.ensures before r (c.records.ensures ∙ is));
-      memo = subst (λ (g : Setting). IsMemo g w.tally.ends w.memo) (sym same) c.requires.kept.memo;
+      memo =
+          subst (λ (g : Setting). IsMemo g w.tally.ends c.go_on.new.self) (sym same)
+          (memo_extended w.path.setting w.tally.ends w.memo c.go_on.new.self c.go_on.ensures.same.0
+          c.go_on.ensures.same.1 c.go_on.ensures.kept c.requires.kept.memo);
+      numbered =
+          numbered_on w.path c.forward.new.self c.args.frame.next c.latest.result.now w.memo c.go_on.new.self
+          c.args.frame w.tally.ends (option_map (λ (s : Bor Memory). s.now) c.snapshot.result) forth
+          c.requires.kept.memo c.requires.kept.walked.1 c.snapshot.ensures
+          (λ before r is. c.latest.ensures before r (c.records.ensures ∙ is)) c.requires.kept.numbered
+          c.in_ok-go_on.ensures.ok;
       processors = c.requires.kept.processors ∙ ap (λ (g : Setting). length g.scripts) (sym same);
       few = c.requires.kept.few;
       short = short_on w.path c.forward.new.self c.args.frame.next forth;
     }
+
+pub go_on-requires : goal.go_on-requires
+go_on-requires o c =
+    let w = c.args.self.now in
+    (w.path.setting, w.path.news, c.requires.kept.numbered)

@@ -14,6 +14,7 @@ go_on-requires-clause-kept o c =
           (frames_popped w.frames.items c.pop.new.self.items c.pop.result c.in-Some.frame c.pop.ensures.items
           c.in-Some.is) c.requires.walked;
       memo = c.requires.memo;
+      numbered = c.requires.numbered;
       processors = c.requires.processors;
       few = c.requires.few;
       short = c.requires.short;
@@ -28,6 +29,7 @@ go_back-requires-clause-kept o c =
           (frames_popped w.frames.items c.pop.new.self.items c.pop.result c.in-Some.frame c.pop.ensures.items
           c.in-Some.is) c.requires.walked;
       memo = c.requires.memo;
+      numbered = c.requires.numbered;
       processors = c.requires.processors;
       few = c.requires.few;
       short = c.requires.short;
@@ -42,6 +44,7 @@ returns-in_default-clause-kept o c =
           (no_frames w.frames.items c.pop.new.self.items c.pop.result c.pop.ensures.items c.in_default.is)
           c.requires.walked;
       memo = c.requires.memo;
+      numbered = c.requires.numbered;
       processors = c.requires.processors;
       few = c.requires.few;
       short = c.requires.short;
