@@ -25,7 +25,7 @@ order, as many cells of each meaning in the legend as the trace has characters o
 outlines of each width as the trace has brackets; a line for each page that moved, from its cell in
 a row above to its cell, also where blocks are folded; layouts wider than a screen are folded, with
 all cells within the picture. Of `hotplug_lab check`: it finds no fault in any file of examples/, and
-one where a text that is no line comes last. None of them writes a control character.
+one where a text that is no line comes last; with a setup it says how many interleavings there are. None of them writes a control character.
 The last line is 'lab: N passed, M failed'; the exit status is 0 where nothing failed, else 1.
 """
 import json
@@ -85,8 +85,8 @@ class Programs:
         words = [self.lab, "explore", "--setup", str(setup), "--limit", str(limit), *options]
         return self.call([*before, *words], scenario)
 
-    def check(self, scenario):
-        return self.call([self.lab, "check"], scenario)
+    def check(self, scenario, *options):
+        return self.call([self.lab, "check", *options], scenario)
 
     def trace(self, scenario, *options):
         return self.call([self.lab, "trace", *options], scenario)
@@ -233,6 +233,15 @@ def unfit(line):
     return f"{word} makes no call" if word in ("cat", "seal") else None
 
 
+def check_count(checks, programs, name, scenario, setup, total):
+    """`check` says as many interleavings as there are, where no script holds a plan."""
+    words = [line.split()[1] for line in scenario["calls"][setup:]]
+    told = "not known:" if {"plan", "echo"} & set(words) else f"{total}\n"
+    text = programs.check(scenario, "--setup", str(setup))
+    checks.holds(f"{name} check --setup {setup}", f"\ninterleavings: {told}" in text,
+                 f"says {text!r}, and there are {total}")
+
+
 def check_example(checks, programs, file):
     scenario = json.loads(file.read_text())
     calls = scenario["calls"]
@@ -243,7 +252,8 @@ def check_example(checks, programs, file):
             line = f"hotplug_lab: line {bad[0] + 1} not for a script: {unfit(calls[bad[0]])}\n"
             checks.holds(f"{file.name} --setup {setup}", text == line, f"says {text!r}")
             continue
-        ends = ends_of(text)[1]
+        total, ends = ends_of(text)
+        check_count(checks, programs, file.name, scenario, setup, total)
         check_objects(checks, programs, file.name, scenario, setup, ends)
         for number, (_, end, first) in enumerate(ends, 1):
             played = end_in_serial(programs, scenario["layout"], calls[:setup], first)

@@ -202,6 +202,7 @@ def check_lab(checks, lab):
         check_file(checks, lab, word, whole)
     checks.same("check", (0, "faults: 0, warnings: 0\n", ""), lab.call("check", scenario=whole))
     checks.same("check of a fault", 1, lab.call("check", scenario=scenario_of(["0 walk"]))[0])
+    check_counts(checks, lab)
     check_explore(checks, lab)
     check_trace(checks, lab)
     check_picture(checks, lab)
@@ -217,6 +218,25 @@ def check_lab(checks, lab):
         status, out, error = lab.call(*words)
         checks.same(f"hotplug_lab {words}", (0, ""), (status, error))
         checks.holds(f"hotplug_lab {words}", out, "writes nothing")
+
+
+def check_counts(checks, lab):
+    """With a setup `check` says how many interleavings the scripts have, where that is known."""
+    many = [f"{cpu} read db 0 0" for cpu in (0, 1)] * READS
+    unknown = "not known: the calls of a plan are counted only by explore"
+    for calls, setup, told in ((CALLS, 0, "126"), (CALLS, 7, "2"), (CALLS, 9, "1"),
+                               (many, 1, "5200300"),
+                               (many, 0, "more than 10000000: explore counts more with --limit N"),
+                               (["0 drain 0", "0 plan 2 off 1"], 1, unknown),
+                               (["0 echo offline memory1/state"], 0, unknown)):
+        status, out, error = lab.call("check", "--setup", str(setup), scenario=scenario_of(calls))
+        last = out.splitlines()[-1] if out else ""
+        checks.same(f"check --setup {setup} of {calls}", (0, f"interleavings: {told}", ""),
+                    (status, last, error))
+    for calls, setup in ((["0 walk"], 0), (["0 seal", "0 seal"], 1)):
+        out = lab.call("check", "--setup", str(setup), scenario=scenario_of(calls))[1]
+        checks.holds(f"check --setup {setup} of {calls}", "interleavings" not in out,
+                     f"says {out!r}")
 
 
 def check_full(checks, lab):

@@ -7,7 +7,7 @@ use hp_trace::View;
 use std::alloc::{AllocError, Global};
 
 /// The most interleavings that are counted where no limit is given.
-const LIMIT: u64 = 10_000_000;
+pub const LIMIT: u64 = 10_000_000;
 
 /// The lines of a setup that is all of a scenario.
 pub const ALL: u64 = u64::MAX;

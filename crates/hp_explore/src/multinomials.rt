@@ -1,11 +1,45 @@
 //! How many interleavings of scripts there are, known before any call.
-ghost use Rattle.std.specs.Prelude.{◌≡◌, ◌↔◌, ◌+◌, ◌^◌, ◌<◌, ℕ, IfNone, IfOk, IfSome, IsTrue, false};
+ghost use Rattle.std.specs.Prelude.{◌≡◌, ◌↔◌, ◌+◌, ◌^◌, ◌<◌, ◌≤◌, ℕ, IfNone, IfOk, IfSome, IsTrue, false};
 ghost use Rattle.std.specs.List.{list_all};
-ghost use Rattle.hp_explore.specs.Interleavings.{AreTooMany, IsNotKnownTooMany, holds_no_plan, script_lengths};
+ghost use Rattle.hp_explore.specs.Interleavings.{AreTooMany, IsKnown, IsNotKnownTooMany, holds_no_plan, script_lengths};
 ghost use Rattle.hp_explore.specs.Multinomials.{ExceedsWith, IsMultinomial, IsMultinomialWith, sum};
 
 use crate::scripts::Script;
 use std::alloc::{AllocError, Global};
+
+/// How many interleavings scripts have, as far as that is known before any call.
+#[derive(Clone, Copy, Debug, PartialEq, Eq, Drop)]
+pub enum Interleavings {
+    /// So many, which are no more than the limit.
+    Exactly(u64),
+    /// More than the limit.
+    MoreThanLimit,
+    /// A script holds a plan, whose calls only a search counts; or the scripts have 2^64 lines or
+    /// more.
+    Unknown,
+}
+
+/// How many interleavings scripts have: where each line is one call, the multinomial coefficient of
+/// their numbers of lines (Knuth 1, 1.2.6). An error is out of memory.
+pub fn interleavings_of(
+    alloc: Global,
+    scripts: &[Script],
+    limit: u64,
+) -> Result<Interleavings, AllocError>
+    ensures { IfOk result (IsKnown scripts.now limit) }
+{
+    if !hold_no_plan(scripts) {
+        return Ok(Interleavings::Unknown);
+    }
+    let lengths = lengths(alloc, scripts)?;
+    if !fit(lengths.as_slice()) {
+        return Ok(Interleavings::Unknown);
+    }
+    match coefficient(lengths.as_slice(), limit) {
+        Some(count) => Ok(Interleavings::Exactly(count)),
+        None => Ok(Interleavings::MoreThanLimit),
+    }
+}
 
 /// Whether each line of the scripts is one call and there are more interleavings than the limit.
 /// Where the scripts have 2^64 lines or more it may say no. An error is out of memory.
@@ -17,14 +51,8 @@ pub(crate) fn are_too_many(
     ensures yes { IfOk result (λ many. IsTrue many → AreTooMany scripts.now limit) }
     ensures no { IfOk result (λ many. many ≡ false → IsNotKnownTooMany scripts.now limit) }
 {
-    if !hold_no_plan(scripts) {
-        return Ok(false);
-    }
-    let lengths = lengths(alloc, scripts)?;
-    if !fit(lengths.as_slice()) {
-        return Ok(false);
-    }
-    Ok(exceed(lengths.as_slice(), limit))
+    let known = interleavings_of(alloc, scripts, limit)?;
+    Ok(known == Interleavings::MoreThanLimit)
 }
 
 /// The number of lines of each script. An error is out of memory.
@@ -55,22 +83,26 @@ fn fit(lengths: &[u64]) -> bool
     true
 }
 
-/// Whether sequences of these lengths have more interleavings than the limit: more than the
-/// lengths' multinomial coefficient (Knuth 1, 1.2.6).
-fn exceed(lengths: &[u64], limit: u64) -> bool
+/// The multinomial coefficient of lengths, which is how many interleavings sequences of these
+/// lengths have (Knuth 1, 1.2.6); none where it is above the limit.
+fn coefficient(lengths: &[u64], limit: u64) -> Option<u64>
     requires { sum lengths.now < 2 ^ 64 }
-    ensures { (m : ℕ) → IsMultinomial lengths.now m → (IsTrue result ↔ limit < m) }
+    ensures some { IfSome result (λ count. IsMultinomial lengths.now count × (count ≤ limit)) }
+    ensures none { IfNone result ((m : ℕ) → IsMultinomial lengths.now m → limit < m) }
 {
     let mut total = 0;
     let mut count = 1;
     for length in lengths {
         match with_length(count, total, *length, limit) {
             Some(more) => count = more,
-            None => return true,
+            None => return None,
         }
         total += *length;
     }
-    count > limit
+    if count > limit {
+        return None;
+    }
+    Some(count)
 }
 
 /// The multinomial coefficient with one number more, where that of the numbers so far and their sum

@@ -1,3 +1,4 @@
+pub mod Counting
 pub mod Known
 pub mod Lists
 pub mod Written

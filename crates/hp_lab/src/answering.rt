@@ -65,7 +65,7 @@ pub(crate) fn answer_to<W: Watch>(
 }
 
 /// The first lines, as many as there are up to a number.
-fn front_of(lines: &[Line], count: u64) -> &[Line]
+pub(crate) fn front_of(lines: &[Line], count: u64) -> &[Line]
     ensures { result.now ≡ take count lines.now }
 {
     if count < lines.len() as u64 {
@@ -76,7 +76,7 @@ fn front_of(lines: &[Line], count: u64) -> &[Line]
 }
 
 /// The lines after the first so many.
-fn rest_of(lines: &[Line], count: u64) -> &[Line]
+pub(crate) fn rest_of(lines: &[Line], count: u64) -> &[Line]
     ensures { result.now ≡ drop count lines.now }
 {
     if count < lines.len() as u64 {
