@@ -9,13 +9,14 @@ use Rattle.hp_units.specs.declared.events.Event.{Event}
 use Rattle.hp_units.specs.declared.replies.Record.{Record}
 use Rattle.hp_explore.specs.Alike.{is_closed, leaves_script}
 use Rattle.hp_explore.specs.Faults.{is_full_after}
-use Rattle.hp_explore.specs.Frames.{AreBelow, AreWalked, IsEntered, IsFrame, IsPlaceKept, kept_of, path_of}
+use Rattle.hp_explore.specs.Frames.{AreBelow, AreWalked, IsAdded, IsEntered, IsFrame, IsPlaceKept, kept_of, path_of}
 use Rattle.hp_explore.specs.declared.frames.Kept.{Kept}
 use Rattle.hp_explore.specs.Paths.{IsBack, PathValue}
 use Rattle.hp_explore.specs.Schedules.{Setting, next_call, plays, record_of_call, schedule_of}
-use Rattle.hp_explore.specs.Seen.{Grow, IsMemo, MemoValue}
+use Rattle.hp_explore.specs.Seen.{AddsCounts, Grow, IsMemo, MemoValue}
 use Rattle.hp_explore.specs.Walks.{IsOverBelow, IsWalkedBefore, IsWalkedThrough}
-use Rattle.hp_explore.specs.declared.frames.Entry.TheVariants.{Open}
+use Rattle.hp_explore.specs.declared.frames.Entry.{Entry}
+use Rattle.hp_explore.specs.declared.frames.Entry.TheVariants.{Counted, Open}
 use Rattle.hp_explore.specs.declared.frames.Frame.{Frame}
 use Rattle.hp_explore.specs.declared.tally.Ending.{Ending}
 use Rattle.hp_explore.proofs.Grown.{grow_twice}
@@ -159,6 +160,16 @@ entered_kept p ends closed frame boxed kept told is same here = (
         (sym same ∙ same_Some boxed.value k (sym (ap kept_of is) ∙ found)) here;
   },
 )
+
+-- or what was counted from another place is counted once more, as far as there is room
+pub entered_added : (p : PathValue) (old new : List Ending) (closed : Bool) (counts : List ℕ) (entry : Entry)
+    → closed ≡ is_closed (p.setting.start ++ p.news)
+    → (AddsCounts old counts new → IsWalkedThrough p.setting (schedule_of p.news) new × Grow old new)
+    → IsAdded closed old counts new entry → IsEntered p old new entry
+entered_added p old new closed counts Counted told walked added = walked added
+entered_added p old new closed counts (Open frame) told walked added =
+    subst (λ (ends : List Ending). IsEntered p old ends (Open frame)) (sym added.0)
+    (entered_bare p old closed frame told added.1)
 
 -- ---- the stack
 

@@ -9,17 +9,14 @@ use Rattle.hp_units.specs.Receipts.{receipt_of, receipts_of}
 use Rattle.hp_units.specs.declared.events.Event.{Event}
 use Rattle.hp_units.specs.declared.replies.Record.{Record}
 use Rattle.hp_units.specs.declared.replies.Receipt.{Receipt}
-use Rattle.hp_explore.specs.declared.multinomials.Interleavings.{Interleavings}
-use Rattle.hp_explore.specs.declared.multinomials.Interleavings.TheVariants.{Exactly, MoreThanLimit, Unknown}
 use Rattle.hp_explore.specs.declared.scripts.Line.{Line}
-use Rattle.hp_explore.specs.Interleavings.{AreOneCalls, AreTooMany, IsInterleaving, IsKnown, IsNotKnownTooMany, holds_no_plan, script_length, script_lengths}
+use Rattle.hp_explore.specs.Interleavings.{AreOneCalls, IsInterleaving, holds_no_plan, script_length, script_lengths}
 use Rattle.hp_explore.specs.Multinomials.{IsMultinomial, sum, turns_of}
-use Rattle.hp_explore.specs.Faults.{HasMoreThan}
 use Rattle.hp_explore.specs.Orders.{HasCount}
 use Rattle.hp_explore.specs.Schedules.{IsComplete, Setting, outcome_after, next_call, play_one, plays, record_of_call}
 use Rattle.hp_explore.specs.Scripts.{next_in, next_of, own_operation}
 use Rattle.hp_explore.proofs.Coefficients.{only_one}
-use Rattle.hp_explore.proofs.Counting.{more_listed, same_count}
+use Rattle.hp_explore.proofs.Counting.{same_count}
 use Rattle.hp_explore.proofs.Interleaved.{HasTurns, interleaved, turns_cons}
 use Rattle.hp_explore.proofs.OneCalls.{asks_once, skips, stays}
 use Rattle.hp_explore.proofs.Plays.{from_news, plays_one, stays_none}
@@ -247,17 +244,3 @@ pub lengths_count : (g : Setting) (m : ℕ) → AreOneCalls g.scripts
 lengths_count g m all is =
     let one = complete_counted g all in
     subst (HasCount (IsComplete g)) (only_one (script_lengths g.scripts) one.0 m one.2 is) one.1
-
--- so there are more than the limit where that coefficient is above it
-pub too_many : (g : Setting) (limit : ℕ) → AreTooMany g.scripts limit → HasMoreThan (IsComplete g) limit
-too_many g limit many =
-    let one = complete_counted g many.0 in
-    more_listed (IsComplete g) one.0 limit (many.1 one.0 one.2) one.1
-
--- a number that is no more than the limit is not above it
-pub known_within : (scripts : List (List Line)) (limit : ℕ) (known : Interleavings)
-    → IsKnown scripts limit known → (known ≡ MoreThanLimit → ⊥) → IsNotKnownTooMany scripts limit
-known_within scripts limit (Exactly m) h other =
-    λ many. absurd (let above = many.1 m h.1 in omega (arith, h.2, above))
-known_within scripts limit MoreThanLimit h other = absurd (other refl)
-known_within scripts limit Unknown h other = λ many. h many.0

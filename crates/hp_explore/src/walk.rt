@@ -1,11 +1,12 @@
 //! The walk over all schedules, depth first and processor 0 first, on a stack of its own.
-ghost use Rattle.std.specs.Prelude.{◌≡◌, ◌∷◌, ◌++◌, [], ◌<◌, ◌≤◌, ◌^◌, List, true, false, IfErr, IfOk, OnOk, length, sum_by};
+ghost use Rattle.std.specs.Prelude.{◌≡◌, ◌∷◌, ◌++◌, [], ◌<◌, ◌≤◌, ◌^◌, List, true, false, IfErr, IfOk, IsTrue, OnOk, length, sum_by};
 ghost use Rattle.hp_explore.specs.Alike.{is_closed};
-ghost use Rattle.hp_explore.specs.Faults.{IsNoteCause, IsWalkCause};
-ghost use Rattle.hp_explore.specs.Frames.{AreTurns, IsEntered, IsFrame, IsComing, IsPlaceKept, IsSameWalk, IsWalking, frames_of, left, left_before, standing};
+ghost use Rattle.hp_explore.specs.Faults.{IsCause};
+ghost use Rattle.hp_explore.specs.Frames.{AreTurns, IsAdded, IsComing, IsDone, IsEntered, IsFrame, IsPlaceKept, IsSameWalk, IsTurnedTo, IsWalking, frames_of, left, left_before, standing};
+ghost use Rattle.hp_explore.specs.Fronts.{AreFirst};
+ghost use Rattle.hp_explore.specs.Notes.{HasRoom};
 ghost use Rattle.hp_explore.specs.Schedules.{schedule_of, setting};
-ghost use Rattle.hp_explore.specs.Seen.{AddsCounts, Grow, IsAddCause, IsMemo};
-ghost use Rattle.hp_explore.specs.declared.frames.Entry.TheVariants.{Counted};
+ghost use Rattle.hp_explore.specs.Seen.{Grow, IsMemo};
 ghost use Rattle.hp_explore.specs.Walks.{IsEndNoted, IsOverBelow, IsWalkedBefore, IsWalkedThrough};
 
 use crate::closed::{closed_after, is_closed};
@@ -16,11 +17,22 @@ use crate::memo::{Memo, Seen};
 use crate::outcomes::ended_rows;
 use crate::path::Path;
 use crate::scripts::{Script, undo_nothing};
-use crate::tally::{Ending, Tally};
+use crate::tally::{Ending, Tally, fit_in};
 use crate::turns::{copies, latest};
 use crate::watch::Watch;
 use hp_machine::Machine;
 use std::alloc::{AllocError, Global};
+
+/// What a turn of a walk came to.
+#[derive(Clone, Copy, PartialEq, Eq, Drop)]
+pub(crate) enum Turned {
+    /// It goes on.
+    On,
+    /// All schedules are counted.
+    Over,
+    /// As many are counted as the limit says, and there is a further one.
+    Full,
+}
 
 /// A walk over the schedules of scripts, and what it counted so far.
 pub(crate) struct Walk<'a> {
@@ -70,37 +82,62 @@ impl<'a> Walk<'a> {
         })
     }
 
-    /// Walks over all schedules.
-    pub(crate) fn run<W: Watch>(&mut self, alloc: Global, watch: &mut W) -> Result<(), ExploreFault>
+    /// Walks over the schedules, and says whether over all of them: else as many are counted as the
+    /// limit says.
+    pub(crate) fn run<W: Watch>(
+        &mut self,
+        alloc: Global,
+        watch: &mut W,
+    ) -> Result<bool, ExploreFault>
         requires { IsWalking self.old (frames_of self.old) }
         ensures same { OnOk result (IsSameWalk self.old self.new) }
-        ensures done { OnOk result (IsWalkedThrough self.new.path.setting [] self.new.tally.ends) }
-        ensures err { IfErr result (IsWalkCause self.old.path.setting self.old.tally.limit) }
+        ensures done { IfOk result (IsDone self.new) }
+        ensures err { IfErr result (IsCause self.old.path.setting) }
     {
-        'turns: while self.step(alloc, watch)? {}
-        Ok(())
+        'turns: loop {
+            match self.step(alloc, watch)? {
+                Turned::On => {}
+                Turned::Over => return Ok(true),
+                Turned::Full => return Ok(false),
+            }
+        }
     }
 
-    /// Goes on by one turn; false where all schedules are counted.
-    fn step<W: Watch>(&mut self, alloc: Global, watch: &mut W) -> Result<bool, ExploreFault>
+    /// Goes on by one turn.
+    fn step<W: Watch>(&mut self, alloc: Global, watch: &mut W) -> Result<Turned, ExploreFault>
         requires { IsWalking self.old (frames_of self.old) }
-        ensures kept { OnOk result (IsWalking self.new (frames_of self.new)) }
         ensures same { OnOk result (IsSameWalk self.old self.new) }
-        ensures more { IfOk result (λ more. more ≡ true
-            → left self.new (frames_of self.new) < left self.old (frames_of self.old)) }
-        ensures done { IfOk result (λ more. more ≡ false
-            → IsWalkedThrough self.new.path.setting [] self.new.tally.ends) }
-        ensures err { IfErr result (IsWalkCause self.old.path.setting self.old.tally.limit) }
+        ensures ok { IfOk result (IsTurnedTo self.old self.new) }
+        ensures err { IfErr result (IsCause self.old.path.setting) }
     {
         let Some(frame) = self.frames.pop() else {
-            return Ok(false);
+            return Ok(Turned::Over);
         };
         if frame.next < self.processors {
             self.go_on(alloc, frame, watch)?;
-            return Ok(true);
+            return Ok(Turned::On);
+        }
+        if self.is_full(&frame) {
+            return Ok(Turned::Full);
         }
         self.go_back(alloc, frame, watch)?;
-        Ok(true)
+        Ok(Turned::On)
+    }
+
+    /// Whether a schedule ends at a place where all processors had their turn, and as many are counted
+    /// as the limit says.
+    fn is_full(&self, frame: &Frame) -> bool
+        requires kept { IsWalking self.now (frame.now ∷ frames_of self.now) }
+        requires all { self.now.processors ≤ frame.now.next }
+        ensures full { IsTrue result
+            → AreFirst self.now.path.setting self.now.tally.limit self.now.tally.ends }
+        ensures room { result ≡ false → frame.now.is_over ≡ true → HasRoom self.now.tally }
+    {
+        if !frame.is_over {
+            return false;
+        }
+        self.path.is_played();
+        self.tally.room() == 0
     }
 
     /// Makes the next processor's call at a place, where its script asks for one.
@@ -116,7 +153,7 @@ impl<'a> Walk<'a> {
         ensures same { OnOk result (IsSameWalk self.old self.new) }
         ensures less { OnOk result
             (left self.new (frames_of self.new) < left self.old (frame ∷ frames_of self.old)) }
-        ensures err { IfErr result (IsWalkCause self.old.path.setting self.old.tally.limit) }
+        ensures err { IfErr result (IsCause self.old.path.setting) }
     {
         self.frames.reserve(1)?;
         self.path.is_played();
@@ -126,7 +163,8 @@ impl<'a> Walk<'a> {
         }
         let closed = closed_after(frame.is_closed, latest(self.path.records()));
         self.frames.push_reserved(frame.led_on());
-        self.come_to(alloc, closed, watch)
+        self.come_to(alloc, closed, watch)?;
+        Ok(())
     }
 
     /// Comes to a place by a call: it gets a frame of its own, or is left at once where what goes on
@@ -136,13 +174,12 @@ impl<'a> Walk<'a> {
         alloc: Global,
         closed: bool,
         watch: &mut W,
-    ) -> Result<(), ExploreFault>
+    ) -> Result<(), AllocError>
         requires { IsComing self.old closed (frames_of self.old) }
         ensures kept { OnOk result (IsWalking self.new (frames_of self.new)) }
         ensures same { OnOk result (IsSameWalk self.old self.new) }
         ensures less { OnOk result
             (left self.new (frames_of self.new) < left_before self.old (frames_of self.old)) }
-        ensures err { IfErr result (IsWalkCause self.old.path.setting self.old.tally.limit) }
     {
         self.frames.reserve(1)?;
         let entry = enter(
@@ -169,14 +206,14 @@ impl<'a> Walk<'a> {
         alloc: Global,
         frame: Frame,
         watch: &mut W,
-    ) -> Result<(), ExploreFault>
+    ) -> Result<(), AllocError>
         requires kept { IsWalking self.old (frame ∷ frames_of self.old) }
         requires all { self.old.processors ≤ frame.next }
+        requires room { frame.is_over ≡ true → HasRoom self.old.tally }
         ensures kept { OnOk result (IsWalking self.new (frames_of self.new)) }
         ensures same { OnOk result (IsSameWalk self.old self.new) }
         ensures less { OnOk result
             (left self.new (frames_of self.new) < left self.old (frame ∷ frames_of self.old)) }
-        ensures err { IfErr result (IsWalkCause self.old.path.setting self.old.tally.limit) }
     {
         finish(
             alloc,
@@ -218,14 +255,13 @@ fn enter<W: Watch>(
     tally: &mut Tally,
     memo: &Memo,
     watch: &mut W,
-) -> Result<Entry, ExploreFault>
+) -> Result<Entry, AllocError>
     requires processors { processors ≡ length path.now.setting.scripts }
     requires closed { closed ≡ is_closed (path.now.setting.start ++ path.now.news) }
     requires walked { IsWalkedBefore path.now.setting (schedule_of path.now.news) tally.old.ends }
     requires memo { IsMemo path.now.setting tally.old.ends memo.now }
     ensures ok { IfOk result (λ entry. IsEntered path.now tally.old.ends tally.new.ends entry) }
     ensures limit { tally.new.limit ≡ tally.old.limit }
-    ensures err { IfErr result (IsWalkCause path.now.setting tally.old.limit) }
 {
     if !closed || !memo.is_on() || processors < 2 {
         return Ok(Entry::Open(Frame::new(closed, None)));
@@ -234,7 +270,7 @@ fn enter<W: Watch>(
     let digest = place_digest(path.memory(), path.records());
     let image = path.memory().image(alloc)?;
     if let Some(counts) = memo.counts_like(alloc, digest, &image, path.records(), processors)? {
-        return add_counts(tally, counts, watch);
+        return Ok(add_counts(closed, tally, counts, watch));
     }
     if tally.has_many_ends() {
         return Ok(Entry::Open(Frame::new(closed, None)));
@@ -250,25 +286,23 @@ fn enter<W: Watch>(
             let held = Frame::new(closed, Some(kept));
             Ok(Entry::Open(held))
         }
-        Err(_failed) => Err(ExploreFault::OutOfMemory),
+        Err(_failed) => Err(AllocError),
     }
 }
 
-/// Counts so many schedules more under each end.
-fn add_counts<W: Watch>(
-    tally: &mut Tally,
-    counts: &[u64],
-    watch: &mut W,
-) -> Result<Entry, ExploreFault>
+/// Counts so many schedules more under each end; where there is no room for all of them, the place is
+/// to be walked.
+fn add_counts<W: Watch>(closed: bool, tally: &mut Tally, counts: &[u64], watch: &mut W) -> Entry
     requires { length counts.now ≤ length tally.old.ends }
-    ensures ok { IfOk result (λ entry.
-        (entry ≡ Counted) × AddsCounts tally.old.ends counts.now tally.new.ends) }
+    ensures ok { IsAdded closed tally.old.ends counts.now tally.new.ends result }
     ensures limit { tally.new.limit ≡ tally.old.limit }
-    ensures err { IfErr result (IsAddCause tally.old counts.now) }
 {
-    tally.add(counts)?;
+    if !fit_in(counts, tally.room()) {
+        return Entry::Open(Frame::new(closed, None));
+    }
+    tally.add(counts);
     watch.counted(tally.total());
-    Ok(Entry::Counted)
+    Entry::Counted
 }
 
 /// Counts the schedule that led to a place where no script asked for anything, and keeps the place
@@ -281,18 +315,18 @@ fn finish<W: Watch>(
     tally: &mut Tally,
     memo: &mut Memo,
     watch: &mut W,
-) -> Result<(), ExploreFault>
+) -> Result<(), AllocError>
     requires processors { processors ≡ length path.now.setting.scripts }
     requires all { processors ≤ frame.next }
     requires turns { AreTurns path.now.setting path.now.news tally.old.ends frame }
     requires frame { IsFrame path.now.setting path.now.news tally.old.ends frame }
     requires memo { IsMemo path.now.setting tally.old.ends memo.old }
+    requires room { frame.is_over ≡ true → HasRoom tally.old }
     ensures ok { OnOk result
         (IsWalkedThrough path.now.setting (schedule_of path.now.news) tally.new.ends) }
     ensures grows { OnOk result (Grow tally.old.ends tally.new.ends) }
     ensures memo { OnOk result (IsMemo path.now.setting tally.new.ends memo.new) }
     ensures limit { tally.new.limit ≡ tally.old.limit }
-    ensures err { IfErr result (IsWalkCause path.now.setting tally.old.limit) }
 {
     note(alloc, path, processors, frame.is_over, tally, watch)?;
     let held = frame.kept;
@@ -310,16 +344,16 @@ fn note<W: Watch>(
     is_over: bool,
     tally: &mut Tally,
     watch: &mut W,
-) -> Result<(), ExploreFault>
+) -> Result<(), AllocError>
     requires processors { processors ≡ length path.now.setting.scripts }
     requires walked { IsWalkedBefore path.now.setting (schedule_of path.now.news ++ processors ∷ [])
         tally.old.ends }
     requires over { IsOverBelow path.now.setting path.now.news processors is_over }
+    requires room { is_over ≡ true → HasRoom tally.old }
     ensures ok { OnOk result
         (IsWalkedThrough path.now.setting (schedule_of path.now.news) tally.new.ends) }
     ensures grows { OnOk result (Grow tally.old.ends tally.new.ends) }
     ensures limit { tally.new.limit ≡ tally.old.limit }
-    ensures err { IfErr result (IsWalkCause path.now.setting tally.old.limit) }
 {
     path.is_played();
     if is_over {
@@ -336,10 +370,10 @@ fn note_end<W: Watch>(
     path: &Path,
     tally: &mut Tally,
     watch: &mut W,
-) -> Result<(), ExploreFault>
+) -> Result<(), AllocError>
+    requires { HasRoom tally.old }
     ensures ok { OnOk result (IsEndNoted processors (standing path.now) tally.old.ends tally.new.ends) }
     ensures limit { tally.new.limit ≡ tally.old.limit }
-    ensures err { IfErr result (IsNoteCause tally.old) }
 {
     let blocks = ended_rows(alloc, path.memory())?;
     let noted = tally.note(alloc, processors, path.records(), blocks);

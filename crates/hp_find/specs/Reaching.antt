@@ -1,8 +1,9 @@
 -- Which schedules end as is wanted, and what is said of the nearest.
 use Rattle.std.specs.Prelude.{ℕ, ◌+◌, ◌≤◌, List, Option, Some, None}
-use Rattle.hp_explore.specs.Orders.{HasCount}
+use Rattle.hp_explore.specs.Orders.{HasCount, IsBefore}
 use Rattle.hp_explore.specs.Outcomes.{OutcomeValue}
 use Rattle.hp_explore.specs.Schedules.{EndsWith, IsComplete, Setting}
+use Rattle.hp_explore.specs.Walks.{Before}
 use Rattle.hp_find.specs.Changes.{changes}
 use Rattle.hp_find.specs.Wanted.{Meets}
 use Rattle.hp_find.specs.declared.finding.Found.{Found}
@@ -24,6 +25,12 @@ IsNearest g wanted s = Reaches g wanted s × NeedsChanges g wanted (changes s)
 -- none does, and there are so many complete schedules
 abbrev pub IsAbsent : Setting → List Wanted → ℕ → Type 0
 IsAbsent g wanted n = ((s : List ℕ) → Reaches g wanted s → ⊥) × HasCount (IsComplete g) n
+
+-- none of the first ones does, which stand before a place and are as many as a limit
+abbrev pub IsAbsentAmongFirst : Setting → List Wanted → (limit : ℕ) → Type 0
+IsAbsentAmongFirst g wanted limit =
+    (place : List ℕ) × HasCount (λ s. (x : OutcomeValue) × Before g place s x) limit
+    × ((s : List ℕ) → Reaches g wanted s → IsBefore s place → ⊥)
 
 -- what was found is so
 abbrev pub IsFound : Setting → List Wanted → Found → Type 0

@@ -154,8 +154,8 @@ not_fit cpus before lines (Layout f) h fit = h
 not_fit cpus before lines (BadLine n) h fit = h
 not_fit cpus before lines (NotForScript place why) h fit =
     none-some why (sym (fit h.at h.line (slice_get_within lines h.at h.line h.here) h.here) ∙ h.cause)
-not_fit cpus before lines TooMany h fit = h
-not_fit cpus before lines HistoryFull h fit = h
+not_fit cpus before lines (TooMany n) h fit = h
+not_fit cpus before lines (HistoryFull needed) h fit = h
 not_fit cpus before lines OutOfMemory h fit = h
 
 -- the lines after the first so many

@@ -23,6 +23,7 @@ mod objects;
 mod replays;
 mod scripts;
 mod setup;
+mod telling;
 mod unbegun;
 mod wanted_lines;
 

@@ -3,7 +3,7 @@
 ghost use Rattle.std.specs.Prelude.{◌≡◌, IfOk, length};
 
 use hp_explore::{
-    Answers, Ending, ExploreFault, Line, Script, Silent, Work, alike_places_go_on_alike,
+    Answers, Ending, Line, Script, Silent, Work, alike_places_go_on_alike,
     counts_are_unique, explore, interleavings_are_counted, kept_counts_are_added, play,
     schedules_are_interleavings,
 };
@@ -79,7 +79,7 @@ fn serves_the_first(alloc: Global, machine: &Machine) -> Result<bool, AllocError
     let refused = Reply::Refused(Refusal::NoFrame);
     Ok(
         match explore(alloc, machine, scripts.as_slice(), 2, &mut Silent) {
-            Ok(ends) => match ends.as_slice() {
+            Ok(explored) => match explored.ends.as_slice() {
                 [end, other] => {
                     is_sole_end(end, (&got, &refused), 0) && is_sole_end(other, (&refused, &got), 1)
                 }
@@ -176,29 +176,23 @@ fn are_counts(ends: &[Ending], counts: &[u64]) -> bool {
     ends.len() == counts.len()
 }
 
-/// Whether the scripts have ends with these counts, in the order of their first schedules.
-fn ends_so(alloc: Global, machine: &Machine, scripts: &[Script], counts: &[u64]) -> bool
-    requires { length scripts.now ≡ 2 }
-{
-    match explore(alloc, machine, scripts, 84, &mut Silent) {
-        Ok(ends) => are_counts(ends.as_slice(), counts),
-        Err(_fault) => false,
-    }
-}
-
-/// Whether the exploration ends with this fault.
-fn faults(
+/// Whether the scripts have ends with these counts, in the order of their first schedules: all of
+/// them, or the first ones up to a limit.
+fn ends_so(
     alloc: Global,
     machine: &Machine,
     scripts: &[Script],
     limit: u64,
-    fault: ExploreFault,
+    counts: &[u64],
+    is_whole: bool,
 ) -> bool
     requires { length scripts.now ≡ 2 }
 {
     match explore(alloc, machine, scripts, limit, &mut Silent) {
-        Ok(_ends) => false,
-        Err(met) => met == fault,
+        Ok(explored) => {
+            explored.is_whole == is_whole && are_counts(explored.ends.as_slice(), counts)
+        }
+        Err(_fault) => false,
     }
 }
 
@@ -215,19 +209,45 @@ fn counts_of_both(alloc: Global, machine: &Machine) -> Result<bool, AllocError> 
     let by_hand = scripts(offline_by_hand(alloc)?, use_a_page(alloc)?, alloc)?;
     let by_plan = scripts(offline_by_plan(alloc)?, use_a_page(alloc)?, alloc)?;
     Ok(
-        ends_so(alloc, machine, by_hand.as_slice(), &[4, 6, 25, 21])
-            && ends_so(alloc, machine, by_plan.as_slice(), &[10, 10, 36, 8, 20]),
+        ends_so(
+            alloc,
+            machine,
+            by_hand.as_slice(),
+            84,
+            &[4, 6, 25, 21],
+            true,
+        ) && ends_so(
+            alloc,
+            machine,
+            by_plan.as_slice(),
+            84,
+            &[10, 10, 36, 8, 20],
+            true,
+        ),
     )
 }
 
-/// Whether the schedules are too many for a limit that is one too low: by hand, and by the driver of a plan.
+/// Whether the last schedule is left out where the limit is one too low: by hand, and by the driver of
+/// a plan.
 fn is_limited(alloc: Global, machine: &Machine) -> Result<bool, AllocError> {
     let by_hand = scripts(offline_by_hand(alloc)?, use_a_page(alloc)?, alloc)?;
     let by_plan = scripts(offline_by_plan(alloc)?, use_a_page(alloc)?, alloc)?;
-    let many = ExploreFault::TooMany;
     Ok(
-        faults(alloc, machine, by_hand.as_slice(), 55, many)
-            && faults(alloc, machine, by_plan.as_slice(), 83, many),
+        ends_so(
+            alloc,
+            machine,
+            by_hand.as_slice(),
+            55,
+            &[4, 6, 25, 20],
+            false,
+        ) && ends_so(
+            alloc,
+            machine,
+            by_plan.as_slice(),
+            83,
+            &[10, 10, 36, 8, 19],
+            false,
+        ),
     )
 }
 
@@ -258,7 +278,7 @@ fn takes_offline(alloc: Global, machine: &Machine) -> Result<bool, AllocError> {
     let by_hand = scripts(offline_by_hand(alloc)?, use_a_page(alloc)?, alloc)?;
     Ok(
         match explore(alloc, machine, by_hand.as_slice(), 56, &mut Silent) {
-            Ok(ends) => match ends.as_slice() {
+            Ok(explored) => match explored.ends.as_slice() {
                 [end, ..] => {
                     let schedule = end.first.as_slice();
                     shows_offline(end) && is_played(alloc, machine, by_hand.as_slice(), schedule, 8)
