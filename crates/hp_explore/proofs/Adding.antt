@@ -1,5 +1,5 @@
 -- Counts that are added to the ends, one after another.
-use Rattle.std.proofs.Common.{◌≡◌, ℕ, suc, ◌+◌, ◌<◌, ◌≤◌, List, [], ◌∷◌, length, set, take, get_or, Some, slice_get, refl, ap, sym, subst, ◌∙◌, arith, inl, inr}
+use Rattle.std.proofs.Common.{◌≡◌, ℕ, suc, ◌+◌, ◌-◌, ◌<◌, ◌≤◌, List, [], ◌∷◌, length, set, take, get_or, Some, slice_get, refl, ap, sym, subst, ◌∙◌, arith, inl, inr}
 use Rattle.std.specs.Prelude.{sum, sum_by}
 use Rattle.std.proofs.lemmas.Bool.{cases_lt}
 use Rattle.std.proofs.lemmas.List.{get_or-take, get_or_past, length-set, length-take-le, take_all}
@@ -164,16 +164,16 @@ added_room old mid counts at within few limit so_far room =
 
 -- the counts so far leave so much of it
 pub left_more : (counts : List ℕ) (room left less at : ℕ) → at < length counts
-    → left + sum (take at counts) ≡ room → less + get_or counts at 0 ≡ left
+    → left + sum (take at counts) ≡ room → get_or counts at 0 ≤ left → less ≡ left - get_or counts at 0
     → less + sum (take (at + 1) counts) ≡ room
-left_more counts room left less at within so_far is =
-    omega (arith, so_far, is, sum_by_more (λ (n : ℕ). n) counts at 0 within)
+left_more counts room left less at within so_far fits is =
+    omega (arith, so_far, fits, is, sum_by_more (λ (n : ℕ). n) counts at 0 within)
 
 -- one that is too great is one of all
 pub none_left : (counts : List ℕ) (room left at : ℕ) → at < length counts
-    → left + sum (take at counts) ≡ room → left < get_or counts at 0 → sum counts ≤ room → ⊥
-none_left counts room left at within so_far less fits =
-    omega (arith, so_far, less, fits, sum_by_more_le (λ (n : ℕ). n) counts at 0 within)
+    → left + sum (take at counts) ≡ room → (get_or counts at 0 ≤ left → ⊥) → sum counts ≤ room → ⊥
+none_left counts room left at within so_far over fits =
+    over (omega (arith, so_far, fits, sum_by_more_le (λ (n : ℕ). n) counts at 0 within))
 
 -- and all of them leave some
 pub all_left : (counts : List ℕ) (room left at : ℕ) → length counts ≤ at

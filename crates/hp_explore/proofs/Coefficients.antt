@@ -1,7 +1,8 @@
 -- Multinomial coefficients, one turn more at a time.
-use Rattle.std.proofs.Common.{◌≡◌, ℕ, zero, suc, ◌+◌, ◌*◌, ◌/◌, ◌-◌, ◌<◌, ◌≤◌, List, [], ◌∷◌, ◌++◌, length, take, drop, get_or, refl, ap, sym, subst, ◌∙◌, arith}
+use Rattle.std.proofs.Common.{◌≡◌, ℕ, zero, suc, ◌+◌, ◌*◌, ◌/◌, ◌-◌, ◌<◌, ◌≤◌, List, [], ◌∷◌, ◌++◌, length, take, drop, get_or, refl, ap, sym, subst, ◌∙◌, arith, inl, inr}
 use Rattle.std.proofs.Math.Nat.{mul_assoc, mul_comm, mul_left_comm, mul_right_comm, mul-pos, mul-le-mul_left, le_of_mul-le-mul_right, eq_of_mul-eq-mul_left, div-eq_of_eq-mul_left}
 use Rattle.std.proofs.lemmas.List.{append-nil, append_assoc, take-append-drop, take_all, take_more}
+use Rattle.std.proofs.lemmas.Bool.{cases_lt}
 use Rattle.std.proofs.lemmas.List.Sums.{sum_by_more_le, sum_by_push}
 use Rattle.hp_explore.specs.Multinomials.{ExceedsWith, IsMultinomial, IsMultinomialWith, factorial, factorials, sum}
 use Rattle.hp_explore.proofs.Interleaved.{AreInterleaved, interleaved}
@@ -213,6 +214,9 @@ all_summed ns total at past so_far fits =
 
 -- or those so far do not
 pub over_summed : (ns : List ℕ) (total at : ℕ) → at < length ns → total ≡ sum (take at ns)
-    → 18446744073709551616 ≤ total + get_or ns at 0 → 18446744073709551616 ≤ sum ns
+    → (total + get_or ns at 0 < 18446744073709551616 → ⊥) → 18446744073709551616 ≤ sum ns
 over_summed ns total at within so_far over =
-    omega (arith, so_far, over, sum_by_more_le (λ (n : ℕ). n) ns at 0 within)
+    elim (cases_lt (total + get_or ns at 0) 18446744073709551616) [
+      | inl fits ↦ absurd (over fits)
+      | inr past ↦ omega (arith, so_far, past, sum_by_more_le (λ (n : ℕ). n) ns at 0 within)
+    ]

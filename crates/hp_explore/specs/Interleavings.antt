@@ -4,8 +4,8 @@ use Rattle.std.specs.List.{list_all}
 use Rattle.std.specs.Option.{option_map_or}
 use Rattle.hp_explore.specs.Multinomials.{IsMultinomial, sum, turns_of}
 use Rattle.hp_explore.specs.Schedules.{Setting}
-use Rattle.hp_explore.specs.declared.multinomials.Interleavings.{Interleavings}
-use Rattle.hp_explore.specs.declared.multinomials.Interleavings.TheVariants.{Exactly, MoreThanLimit, Unknown}
+use Rattle.hp_explore.specs.declared.multinomials.HowMany.{HowMany}
+use Rattle.hp_explore.specs.declared.multinomials.HowMany.TheVariants.{Exactly, MoreThanLimit, Unknown}
 use Rattle.hp_explore.specs.declared.scripts.Line.{Line}
 use Rattle.hp_explore.specs.declared.scripts.Line.TheVariants.{Ask, Own, Carry}
 
@@ -51,7 +51,7 @@ IsRoomNeeded g (Some needed) =
 
 -- what is known before any call of how many there are: so many, which are no more than the limit; more
 -- than the limit; or nothing, since a line may be several calls, or the scripts have 2^64 lines or more
-abbrev pub IsKnown : List (List Line) → (limit : ℕ) → Interleavings → Type 0
+abbrev pub IsKnown : List (List Line) → (limit : ℕ) → HowMany → Type 0
 IsKnown scripts limit (Exactly m) = AreOneCalls scripts × IsCountOfLengths scripts m × (m ≤ limit)
 IsKnown scripts limit MoreThanLimit = AreTooMany scripts limit
 IsKnown scripts limit Unknown = AreOneCalls scripts → 2 ^ 64 ≤ sum (script_lengths scripts)

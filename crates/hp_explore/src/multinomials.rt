@@ -11,7 +11,7 @@ use std::alloc::{AllocError, Global};
 
 /// How many interleavings scripts have, as far as that is known before any call.
 #[derive(Clone, Copy, Debug, PartialEq, Eq, Drop)]
-pub enum Interleavings {
+pub enum HowMany {
     /// So many, which are no more than the limit.
     Exactly(u64),
     /// More than the limit.
@@ -27,19 +27,19 @@ pub fn interleavings_of(
     alloc: Global,
     scripts: &[Script],
     limit: u64,
-) -> Result<Interleavings, AllocError>
+) -> Result<HowMany, AllocError>
     ensures { IfOk result (IsKnown scripts.now limit) }
 {
     if !hold_no_plan(scripts) {
-        return Ok(Interleavings::Unknown);
+        return Ok(HowMany::Unknown);
     }
     let lengths = lengths(alloc, scripts)?;
     if total(lengths.as_slice()).is_none() {
-        return Ok(Interleavings::Unknown);
+        return Ok(HowMany::Unknown);
     }
     match coefficient(lengths.as_slice(), limit) {
-        Some(count) => Ok(Interleavings::Exactly(count)),
-        None => Ok(Interleavings::MoreThanLimit),
+        Some(count) => Ok(HowMany::Exactly(count)),
+        None => Ok(HowMany::MoreThanLimit),
     }
 }
 

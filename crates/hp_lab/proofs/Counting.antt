@@ -12,8 +12,8 @@ use Rattle.hp_requests.specs.declared.writes.Request.TheVariants as request
 use Rattle.hp_requests.specs.Writes.{echo_request}
 use Rattle.hp_explore.specs.Interleavings.{IsKnown, holds_no_plan, is_one_call, script_lengths}
 use Rattle.hp_explore.specs.Multinomials.{IsMultinomial, sum}
-use Rattle.hp_explore.specs.declared.multinomials.Interleavings.{Interleavings}
-use Rattle.hp_explore.specs.declared.multinomials.Interleavings.TheVariants.{Exactly, MoreThanLimit, Unknown}
+use Rattle.hp_explore.specs.declared.multinomials.HowMany.{HowMany}
+use Rattle.hp_explore.specs.declared.multinomials.HowMany.TheVariants.{Exactly, MoreThanLimit, Unknown}
 use Rattle.hp_explore.specs.declared.scripts.Line.{Line as Step}
 use Rattle.hp_explore.specs.declared.scripts.Line.TheVariants.{Ask}
 use Rattle.hp_explore.specs.declared.scripts.Work as own
@@ -120,7 +120,7 @@ calls_by (s ∷ scripts) =
     ap (λ (b : Bool). b && list_all holds_no_plan scripts) (lines_by s)
     ∙ ap (λ (b : Bool). list_all (λ (c : Bool). c) (shape s) && b) (calls_by scripts)
 
-known_alike : (scripts others : List (List Step)) (limit : ℕ) (known : Interleavings)
+known_alike : (scripts others : List (List Step)) (limit : ℕ) (known : HowMany)
     → script_lengths scripts ≡ script_lengths others
     → list_all holds_no_plan scripts ≡ list_all holds_no_plan others
     → IsKnown scripts limit known → IsKnown others limit known
@@ -133,7 +133,7 @@ known_alike scripts others limit Unknown lengths calls h =
 
 -- of the scripts of lines after any operations
 pub known_after_any : (cpus : ℕ) (begins others : List Begin) (lines : List Line) (limit : ℕ)
-    (known : Interleavings)
+    (known : HowMany)
     → IsKnown (scripts_of cpus begins lines) limit known → IsKnown (scripts_of cpus others lines) limit known
 known_after_any cpus begins others lines limit known h =
     let same = scripts_alike begins others lines (range_with_len 0 cpus) in
@@ -171,7 +171,7 @@ unscripted cpus setup before lines after fault is unfit scripts =
 
 -- what is known of their scripts
 pub known_of : (cpus setup limit : ℕ) (lines after : List Line) (begins : List Begin)
-    (scripts : List (List Step)) (known : Interleavings)
+    (scripts : List (List Step)) (known : HowMany)
     → after ≡ drop setup lines → scripts ≡ scripts_of cpus begins after
     → AreFit cpus after (length after) → IsKnown scripts limit known
     → IsKnownAfter cpus setup lines limit (Some known)

@@ -9,7 +9,7 @@ use Rattle.hp_scenario.specs.Scenario.{ScenarioValue, scenario_in}
 use Rattle.hp_explore.specs.declared.exploring.Exploration.{Exploration}
 use Rattle.hp_explore.specs.declared.exploring.ExploreFault.{ExploreFault}
 use Rattle.hp_explore.specs.declared.exploring.ExploreFault.TheVariants as explore
-use Rattle.hp_explore.specs.declared.multinomials.Interleavings.{Interleavings}
+use Rattle.hp_explore.specs.declared.multinomials.HowMany.{HowMany}
 use Rattle.hp_explore.specs.declared.scripts.Line.{Line as Step}
 use Rattle.hp_explore.specs.declared.tally.Ending.{Ending}
 use Rattle.hp_explore.specs.Ends.{AreEnds}
@@ -71,7 +71,7 @@ unfit_known C input s setup limit cpus before after OutOfMemory read parts h = a
 -- ---- the search
 
 -- the ends are all, or the first ones
-pub explored_told : (g : Setting) (limit : ℕ) (x : Exploration) (more : Option Interleavings)
+pub explored_told : (g : Setting) (limit : ℕ) (x : Exploration) (more : Option HowMany)
     → IfWhole x (AreEnds g) → IfFirst x (AreFirst g limit)
     → IfFirst x (λ _. HasMoreThan (IsComplete g) limit) → IsMore g.scripts x.is_whole more
     → AreExplored g limit x.ends.items more

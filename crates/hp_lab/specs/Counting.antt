@@ -3,8 +3,8 @@ use Rattle.std.specs.Prelude.{◌≡◌, ℕ, List, [], ◌++◌, codes, drop, l
 use Rattle.std.specs.Fmt.{decimal}
 use Rattle.hp_text.specs.State.{newline}
 use Rattle.hp_explore.specs.Interleavings.{IsKnown}
-use Rattle.hp_explore.specs.declared.multinomials.Interleavings.{Interleavings}
-use Rattle.hp_explore.specs.declared.multinomials.Interleavings.TheVariants.{Exactly, MoreThanLimit, Unknown}
+use Rattle.hp_explore.specs.declared.multinomials.HowMany.{HowMany}
+use Rattle.hp_explore.specs.declared.multinomials.HowMany.TheVariants.{Exactly, MoreThanLimit, Unknown}
 use Rattle.hp_scenario.specs.declared.lines.Line.{Line}
 use Rattle.hp_lab.specs.Checks.{AreFit}
 use Rattle.hp_lab.specs.Scripts.{scripts_of}
@@ -15,23 +15,23 @@ abbrev pub AreScripts : (cpus setup : ℕ) → List Line → Type 0
 AreScripts cpus setup lines = AreFit cpus (drop setup lines) (length (drop setup lines))
 
 -- it is known of their scripts, whatever operations were begun before; or a line cannot stand in one
-abbrev pub IsKnownAfter : (cpus setup : ℕ) → List Line → (limit : ℕ) → Option Interleavings → Type 0
+abbrev pub IsKnownAfter : (cpus setup : ℕ) → List Line → (limit : ℕ) → Option HowMany → Type 0
 IsKnownAfter cpus setup lines limit None = AreScripts cpus setup lines → ⊥
 IsKnownAfter cpus setup lines limit (Some known) =
     AreScripts cpus setup lines
     × ((begins : List Begin) → IsKnown (scripts_of cpus begins (drop setup lines)) limit known)
 
 -- what is said of it
-abbrev pub known_text : (limit : ℕ) → Interleavings → List ℕ
+abbrev pub known_text : (limit : ℕ) → HowMany → List ℕ
 known_text limit (Exactly count) = codes "interleavings: " ++ decimal count ++ newline
 known_text limit MoreThanLimit =
     codes "interleavings: more than " ++ decimal limit ++ codes ": explore counts more with --limit N\n"
 known_text limit Unknown = codes "interleavings: not known: the calls of a plan are counted only by explore\n"
 
-abbrev pub told_text : (limit : ℕ) → Option Interleavings → List ℕ
+abbrev pub told_text : (limit : ℕ) → Option HowMany → List ℕ
 told_text limit None = []
 told_text limit (Some known) = known_text limit known
 
 abbrev pub IsCountTold : (cpus setup : ℕ) → List Line → (limit : ℕ) → (text : List ℕ) → Type 0
 IsCountTold cpus setup lines limit text =
-    (known : Option Interleavings) × IsKnownAfter cpus setup lines limit known × (text ≡ told_text limit known)
+    (known : Option HowMany) × IsKnownAfter cpus setup lines limit known × (text ≡ told_text limit known)

@@ -3,7 +3,7 @@ use Rattle.std.specs.Prelude.{◌≡◌, ◌⊎◌, ℕ, ◌+◌, ◌-◌, ◌^�
 use Rattle.std.specs.Option.{is_none}
 use Rattle.hp_units.specs.LayoutParts.{LayoutParts}
 use Rattle.hp_machine.specs.Machine.{MachineValue, booted}
-use Rattle.hp_explore.specs.declared.multinomials.Interleavings.{Interleavings}
+use Rattle.hp_explore.specs.declared.multinomials.HowMany.{HowMany}
 use Rattle.hp_explore.specs.declared.scripts.Line.{Line as Step}
 use Rattle.hp_explore.specs.declared.tally.Ending.{Ending}
 use Rattle.hp_explore.specs.Ends.{AreEnds}
@@ -48,14 +48,14 @@ abbrev pub HasNoEnd : List Ending → (number : ℕ) → Type 0
 HasNoEnd ends number = (number ≡ 0) ⊎ (length ends < number)
 
 -- what is known of how many schedules there are, where not all of them were counted; none where all were
-abbrev pub IsMore : List (List Step) → (is_whole : Bool) → Option Interleavings → Type 0
+abbrev pub IsMore : List (List Step) → (is_whole : Bool) → Option HowMany → Type 0
 IsMore scripts is_whole None = is_whole ≡ true
 IsMore scripts is_whole (Some known) = (is_whole ≡ false) × IsKnown scripts (2 ^ 64 - 1) known
 
 -- the text is the scenario of the first schedule of the end with a number, after lines that were run
 -- first; or no end has it, and the text says how many there are
 abbrev pub IsEndTold : (names : List (List ℕ)) → (before : List Line) → Setting → List Ending
-    → Option Interleavings → (number : ℕ) → (text : List ℕ) → (found : Bool) → Type 0
+    → Option HowMany → (number : ℕ) → (text : List ℕ) → (found : Bool) → Type 0
 IsEndTold names before g ends more number text true =
     (e : Ending) × IsNumbered ends number e × (text ≡ replay_text names before g e.first.items)
 IsEndTold names before g ends more number text false =
@@ -64,7 +64,7 @@ IsEndTold names before g ends more number text false =
 -- the text is that of ends in a form; what was asked for is found where all schedules were counted,
 -- or where the end is there that was asked for by its number
 abbrev pub AreEndsTold : EndsForm → (names : List (List ℕ)) → (before : List Line) → Setting → List Ending
-    → Option Interleavings → (text : List ℕ) → (found : Bool) → Type 0
+    → Option HowMany → (text : List ℕ) → (found : Bool) → Type 0
 AreEndsTold Words names before g ends more text found =
     (text ≡ exploration_text names g ends more) × (found ≡ is_none more)
 AreEndsTold Objects names before g ends more text found =
@@ -74,7 +74,7 @@ AreEndsTold (Scenario number) names before g ends more text found =
 
 -- the ends are those of all complete schedules; or of the first ones, which are as many as the limit,
 -- and there are more
-abbrev pub AreExplored : Setting → (limit : ℕ) → List Ending → Option Interleavings → Type 0
+abbrev pub AreExplored : Setting → (limit : ℕ) → List Ending → Option HowMany → Type 0
 AreExplored g limit ends None = AreEnds g ends
 AreExplored g limit ends (Some known) =
     AreFirst g limit ends × HasMoreThan (IsComplete g) limit × IsKnown g.scripts (2 ^ 64 - 1) known
@@ -84,7 +84,7 @@ pub record IsExploredOn (form : EndsForm) (names : List (List ℕ)) (before : Li
     (limit : ℕ)
     (text : List ℕ) (found : Bool) : Type 0 where
   pub ends : List Ending
-  pub more : Option Interleavings
+  pub more : Option HowMany
   pub are : AreExplored g limit ends more
   pub within : sum_by (λ e. e.count) ends ≤ limit
   pub told : AreEndsTold form names before g ends more text found

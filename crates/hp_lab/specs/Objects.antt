@@ -6,8 +6,8 @@ use Rattle.hp_units.specs.declared.replies.Record.{Record}
 use Rattle.hp_units.specs.declared.replies.Reply.{Reply}
 use Rattle.hp_units.specs.declared.rows.Row.{Row}
 use Rattle.hp_text.specs.State.{state_words, texts_below}
-use Rattle.hp_explore.specs.declared.multinomials.Interleavings.{Interleavings}
-use Rattle.hp_explore.specs.declared.multinomials.Interleavings.TheVariants.{Exactly, MoreThanLimit, Unknown}
+use Rattle.hp_explore.specs.declared.multinomials.HowMany.{HowMany}
+use Rattle.hp_explore.specs.declared.multinomials.HowMany.TheVariants.{Exactly, MoreThanLimit, Unknown}
 use Rattle.hp_explore.specs.declared.tally.Ending.{Ending}
 use Rattle.hp_explore.specs.Outcomes.{OutcomeValue}
 use Rattle.hp_explore.specs.Schedules.{Setting, plays}
@@ -72,19 +72,19 @@ abbrev pub objects_text : (names : List (List ℕ)) → Setting → List Ending 
 objects_text names g ends = texts_below (object_at names g ends) (length ends)
 
 -- how many there are, where not all were counted: null where that is not known
-abbrev pub known_number : Interleavings → List ℕ
+abbrev pub known_number : HowMany → List ℕ
 known_number (Exactly count) = decimal count
 known_number MoreThanLimit = codes "null"
 known_number Unknown = codes "null"
 
 -- and how many were
-abbrev pub more_object : (counted : ℕ) → Option Interleavings → List ℕ
+abbrev pub more_object : (counted : ℕ) → Option HowMany → List ℕ
 more_object counted None = []
 more_object counted (Some known) =
     codes "{\"first\": " ++ decimal counted ++ codes ", \"interleavings\": " ++ known_number known
     ++ codes "}\n"
 
-abbrev pub all_objects_text : (names : List (List ℕ)) → Setting → List Ending → Option Interleavings → List ℕ
+abbrev pub all_objects_text : (names : List (List ℕ)) → Setting → List Ending → Option HowMany → List ℕ
 all_objects_text names g ends more =
     objects_text names g ends ++ more_object (sum_by (λ e. e.count) ends) more
 

@@ -5,7 +5,7 @@ ghost use Rattle.hp_lab.specs.Counting.{IsCountTold, IsKnownAfter, known_text};
 use crate::answering::{front_of, rest_of};
 use crate::checks::check_lines;
 use crate::scripts::scripts_of;
-use hp_explore::{Interleavings, interleavings_of};
+use hp_explore::{HowMany, interleavings_of};
 use hp_scenario::Line;
 use std::alloc::{AllocError, Global};
 
@@ -37,7 +37,7 @@ fn known_after(
     setup: u64,
     lines: &[Line],
     limit: u64,
-) -> Result<Option<Interleavings>, AllocError>
+) -> Result<Option<HowMany>, AllocError>
     ensures { IfOk result (IsKnownAfter cpus setup lines.now limit) }
 {
     let before = front_of(lines, setup);
@@ -53,17 +53,17 @@ fn known_after(
 }
 
 /// The line that says what is known.
-fn known_line(alloc: Global, known: Interleavings, limit: u64) -> Result<String, AllocError>
+fn known_line(alloc: Global, known: HowMany, limit: u64) -> Result<String, AllocError>
     ensures { IfOk result (λ text. string_bytes text ≡ known_text limit known) }
 {
     let mut text = String::new(alloc);
     match known {
-        Interleavings::Exactly(count) => writeln!(&mut text, "interleavings: {count}")?,
-        Interleavings::MoreThanLimit => writeln!(
+        HowMany::Exactly(count) => writeln!(&mut text, "interleavings: {count}")?,
+        HowMany::MoreThanLimit => writeln!(
             &mut text,
             "interleavings: more than {limit}: explore counts more with --limit N"
         )?,
-        Interleavings::Unknown => writeln!(
+        HowMany::Unknown => writeln!(
             &mut text,
             "interleavings: not known: the calls of a plan are counted only by explore"
         )?,

@@ -7,7 +7,7 @@ ghost use Rattle.hp_explore.specs.Faults.{IsCause};
 ghost use Rattle.hp_explore.specs.Schedules.{setting};
 ghost use Rattle.hp_lab.specs.Texts.{answers_text, blocks_text, counts_text, end_text, exploration_text, first_text, heading_text, listed_calls, many_text, outcome_text, processors_text, total_text};
 
-use hp_explore::{Answers, Ending, ExploreFault, Interleavings, Outcome, Script, play};
+use hp_explore::{Answers, Ending, ExploreFault, HowMany, Outcome, Script, play};
 use hp_machine::Machine;
 use hp_spelling::write_calls;
 use hp_text::{write_reply, write_row};
@@ -25,7 +25,7 @@ pub(crate) fn write_ends(
     machine: &Machine,
     scripts: &[Script],
     ends: &[Ending],
-    more: Option<Interleavings>,
+    more: Option<HowMany>,
 ) -> Result<(), ExploreFault>
     ensures ok { OnOk result (string_bytes out.new ≡ string_bytes out.old
         ++ exploration_text names.now.keys (setting machine.now scripts.now) ends.now more) }
@@ -43,7 +43,7 @@ pub(crate) fn write_ends(
 pub(crate) fn write_counts(
     out: &mut String,
     ends: &[Ending],
-    more: Option<Interleavings>,
+    more: Option<HowMany>,
 ) -> Result<(), AllocError>
     ensures { OnOk result (string_bytes out.new ≡ string_bytes out.old ++ counts_text ends.now more) }
 {
@@ -53,11 +53,7 @@ pub(crate) fn write_counts(
 }
 
 /// Writes how many interleavings there are, and how many of them were counted, where not all were.
-fn write_total(
-    out: &mut String,
-    counted: u128,
-    more: Option<Interleavings>,
-) -> Result<(), AllocError>
+fn write_total(out: &mut String, counted: u128, more: Option<HowMany>) -> Result<(), AllocError>
     ensures { OnOk result (string_bytes out.new ≡ string_bytes out.old ++ total_text counted more) }
 {
     match more {
@@ -70,13 +66,13 @@ fn write_total(
 }
 
 /// Writes how many interleavings there are, where so many were counted and not all.
-fn write_many(out: &mut String, counted: u128, known: Interleavings) -> Result<(), AllocError>
+fn write_many(out: &mut String, counted: u128, known: HowMany) -> Result<(), AllocError>
     ensures { OnOk result (string_bytes out.new ≡ string_bytes out.old ++ many_text counted known) }
 {
     match known {
-        Interleavings::Exactly(count) => write!(out, "{count} interleavings"),
-        Interleavings::MoreThanLimit => write!(out, "more than {counted} interleavings"),
-        Interleavings::Unknown => write!(out, "more than {counted} interleavings"),
+        HowMany::Exactly(count) => write!(out, "{count} interleavings"),
+        HowMany::MoreThanLimit => write!(out, "more than {counted} interleavings"),
+        HowMany::Unknown => write!(out, "more than {counted} interleavings"),
     }
 }
 

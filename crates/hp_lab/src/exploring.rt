@@ -11,7 +11,7 @@ use crate::finding::Finding;
 use crate::forms::EndsForm;
 use crate::objects::{write_more, write_objects};
 use crate::replays::replay_text;
-use hp_explore::{Ending, ExploreFault, Interleavings, Script, Watch, explore, interleavings_of};
+use hp_explore::{Ending, ExploreFault, HowMany, Script, Watch, explore, interleavings_of};
 use hp_machine::Machine;
 use hp_scenario::Line;
 use hp_units::Text;
@@ -69,8 +69,8 @@ pub(crate) fn explored_on<W: Watch>(
 {
     let explored = explore(alloc, machine, scripts, limit, watch)?;
     let more = more_than(alloc, scripts, explored.is_whole)?;
-    let ends = explored.ends;
-    let finding = ends_told(alloc, names, before, machine, scripts, &ends, more, form)?;
+    let ends = &explored.ends;
+    let finding = ends_told(alloc, names, before, machine, scripts, ends, more, form)?;
     Ok(finding)
 }
 
@@ -80,7 +80,7 @@ fn more_than(
     alloc: Global,
     scripts: &[Script],
     is_whole: bool,
-) -> Result<Option<Interleavings>, AllocError>
+) -> Result<Option<HowMany>, AllocError>
     ensures { IfOk result (IsMore scripts.now is_whole) }
 {
     if is_whole {
@@ -98,7 +98,7 @@ fn ends_told(
     machine: &Machine,
     scripts: &[Script],
     ends: &[Ending],
-    more: Option<Interleavings>,
+    more: Option<HowMany>,
     form: EndsForm,
 ) -> Result<Finding, ExploreFault>
     ensures ok { IfOk result
@@ -138,7 +138,7 @@ fn end_told(
     machine: &Machine,
     scripts: &[Script],
     ends: &[Ending],
-    more: Option<Interleavings>,
+    more: Option<HowMany>,
     number: u64,
 ) -> Result<Finding, ExploreFault>
     ensures ok { IfOk result (λ f. IsEndTold names.now.keys before.now (setting machine.now scripts.now)

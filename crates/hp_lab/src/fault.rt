@@ -79,15 +79,13 @@ impl fmt::Display for LabFault {
                 f,
                 "more than {limit} interleavings; none of the first {limit} ends so"
             ),
-            LabFault::HistoryFull { needed: None } => {
-                write!(f, "no room in the history for all calls of an interleaving")
-            }
-            LabFault::HistoryFull {
-                needed: Some(needed),
-            } => write!(
-                f,
-                "no room in the history for all calls of an interleaving: it needs {needed} records"
-            ),
+            LabFault::HistoryFull { needed } => match needed {
+                Some(needed) => write!(
+                    f,
+                    "no room in the history for all calls of an interleaving: it needs {needed} records"
+                ),
+                None => write!(f, "no room in the history for all calls of an interleaving"),
+            },
             LabFault::OutOfMemory => write!(f, "out of memory"),
         }
     }

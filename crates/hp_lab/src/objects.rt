@@ -6,7 +6,7 @@ ghost use Rattle.hp_spelling.specs.Separated.{separated};
 ghost use Rattle.hp_text.specs.State.{state_words, zone_word};
 ghost use Rattle.hp_lab.specs.Objects.{absent_object, answer_list, answer_lists, block_list, block_string, call_list, counted_head, end_object, found_object, known_number, more_object, objects_text, outcome_lists, played_list, reply_string};
 
-use hp_explore::{Answers, Ending, ExploreFault, Interleavings, Outcome, Script, play};
+use hp_explore::{Answers, Ending, ExploreFault, HowMany, Outcome, Script, play};
 use hp_find::changes_of;
 use hp_machine::Machine;
 use hp_spelling::{write_calls, write_mark};
@@ -42,7 +42,7 @@ pub(crate) fn write_objects(
 pub(crate) fn write_more(
     out: &mut String,
     counted: u128,
-    more: Option<Interleavings>,
+    more: Option<HowMany>,
 ) -> Result<(), AllocError>
     ensures { OnOk result (string_bytes out.new ≡ string_bytes out.old ++ more_object counted more) }
 {
@@ -57,13 +57,13 @@ pub(crate) fn write_more(
 }
 
 /// Writes how many interleavings there are, where that is known.
-fn write_known(out: &mut String, known: Interleavings) -> Result<(), AllocError>
+fn write_known(out: &mut String, known: HowMany) -> Result<(), AllocError>
     ensures { OnOk result (string_bytes out.new ≡ string_bytes out.old ++ known_number known) }
 {
     match known {
-        Interleavings::Exactly(count) => write!(out, "{count}"),
-        Interleavings::MoreThanLimit => out.push_str("null"),
-        Interleavings::Unknown => out.push_str("null"),
+        HowMany::Exactly(count) => write!(out, "{count}"),
+        HowMany::MoreThanLimit => out.push_str("null"),
+        HowMany::Unknown => out.push_str("null"),
     }
 }
 

@@ -1,7 +1,7 @@
 -- The end at its place counts so many more.
 use Rattle.std.proofs.Common.{◌≡◌, ◌+◌, ◌<◌, ◌≤◌, ◌∷◌, [], ℕ, List, length, set, ap, arith, refl, subst, sym}
 use Rattle.std.specs.Prelude.{sum_by}
-use Rattle.std.proofs.lemmas.List.Sums.{sum_by-cons, sum_by-set}
+use Rattle.std.proofs.lemmas.List.Sums.{get_or-le-sum_by, sum_by-cons, sum_by-set}
 use Rattle.std.proofs.lemmas.Option.{slice_get_read}
 use Rattle.hp_explore.specs.Notes.{TallyValue}
 use Rattle.hp_explore.specs.Seen.{AddsAt, HasRoomFor}
@@ -18,10 +18,26 @@ roomy ends limit count t is room =
     omega (arith, here, sum_by-cons (λ (n : ℕ). n) count [])
 
 pub overflow_add-end : goal.overflow_add-end
-overflow_add-end c = ?
+overflow_add-end c =
+    let ends = c.self.inside.ends.items in
+    let within : c.args.place < length ends =
+    subst (λ (xs : List Ending). c.args.place < length xs) (sym (ap (λ (t : TallyValue). t.ends) c.self.view_is))
+    c.requires.place in
+    omega (
+      arith,
+      roomy ends c.self.inside.limit c.args.count c.args.self.now c.self.view_is c.requires.room,
+      get_or-le-sum_by (λ (f : Ending). f.count) ends c.args.place c.index_mut-end.result.now within,
+      ap (λ (f : Ending). f.count) c.index_mut-end.ensures.value,
+    )
 
 pub overflow_add-self : goal.overflow_add-self
-overflow_add-self c = ?
+overflow_add-self c =
+    omega (
+      arith,
+      c.self.invariant.0,
+      roomy c.self.inside.ends.items c.self.inside.limit c.args.count c.args.self.now c.self.view_is
+          c.requires.room,
+    )
 
 pub invariant_of-self : goal.invariant_of-self
 invariant_of-self c =
