@@ -1,7 +1,8 @@
 -- Schedules of scripts whose lines are one call each.
 use Rattle.std.proofs.Common.{◌≡◌, ℕ, zero, suc, ◌+◌, ◌<◌, ◌≤◌, Bool, true, false, cond, List, [], ◌∷◌, ◌++◌, length, Option, Some, None, eqb, get_or, slice_get, refl, ap, sym, subst, ◌∙◌, arith, inl, inr}
 use Rattle.std.specs.Prelude.{◌↔◌, fold, option_and_then}
-use Rattle.std.specs.Option.{option_map_or}
+use Rattle.std.specs.List.{list_all}
+use Rattle.std.specs.Option.{SomeIff, option_map_or}
 use Rattle.std.proofs.lemmas.Bool.{and_parts, cases_lt, eq-eqb, eqb-true}
 use Rattle.std.proofs.lemmas.List.{append-nil, length_push}
 use Rattle.std.proofs.lemmas.Option.{none-some, same_Some}
@@ -10,7 +11,7 @@ use Rattle.hp_units.specs.declared.events.Event.{Event}
 use Rattle.hp_units.specs.declared.replies.Record.{Record}
 use Rattle.hp_units.specs.declared.replies.Receipt.{Receipt}
 use Rattle.hp_explore.specs.declared.scripts.Line.{Line}
-use Rattle.hp_explore.specs.Interleavings.{AreOneCalls, IsInterleaving, holds_no_plan, script_length, script_lengths}
+use Rattle.hp_explore.specs.Interleavings.{AreOneCalls, IsInterleaving, IsRoomNeeded, holds_no_plan, script_length, script_lengths}
 use Rattle.hp_explore.specs.Multinomials.{IsMultinomial, sum, turns_of}
 use Rattle.hp_explore.specs.Orders.{HasCount}
 use Rattle.hp_explore.specs.Schedules.{IsComplete, Setting, outcome_after, next_call, play_one, plays, record_of_call}
@@ -244,3 +245,20 @@ pub lengths_count : (g : Setting) (m : ℕ) → AreOneCalls g.scripts
 lengths_count g m all is =
     let one = complete_counted g all in
     subst (HasCount (IsComplete g)) (only_one (script_lengths g.scripts) one.0 m one.2 is) one.1
+
+-- ---- the room that they need
+
+pub room_told : (g : Setting) (lines records : ℕ) (needed : Option ℕ) → AreOneCalls g.scripts
+    → lines ≡ sum (script_lengths g.scripts) → records ≡ length g.start
+    → SomeIff needed (lines + records < 18446744073709551616) (lines + records) → IsRoomNeeded g needed
+room_told g lines records None one all are over =
+    elim (cases_lt (lines + records) 18446744073709551616) [
+      | inl fits ↦ absurd (over fits)
+      | inr past ↦ λ _. omega (arith, past, all, are)
+    ]
+room_told g lines records (Some needed) one all are is = (one, omega (arith, is.1, all, are))
+
+-- a script that holds a plan
+pub with_plan : (scripts : List (List Line)) (none : Bool) → none ≡ list_all holds_no_plan scripts
+    → none ≡ false → AreOneCalls scripts → ⊥
+with_plan scripts none is unset one = let both : true ≡ false = sym one ∙ (sym is ∙ unset) in cc

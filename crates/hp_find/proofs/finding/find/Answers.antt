@@ -1,9 +1,10 @@
 -- The first end with the lines is reached; where there is none, no schedule reaches one.
-use Rattle.std.proofs.Common.{List, ap, sum_by, sym, subst, ◌∙◌}
+use Rattle.std.proofs.Common.{List, ap, rules, sum_by, sym, subst, ◌∙◌}
 use Rattle.hp_explore.specs.Schedules.{setting}
 use Rattle.hp_explore.specs.declared.tally.Ending.{Ending}
 use Rattle.hp_find.specs.Ends.{HasNoSuchEnd, IsSuchEnd}
-use Rattle.hp_find.specs.Reaching.{IsAbsent, Reaches}
+use Rattle.hp_find.specs.Faults.{few_changes}
+use Rattle.hp_find.specs.Reaching.{IsAbsent, NeedsChanges, Reaches}
 use Rattle.hp_find.proofs.Levels.{first_cause, none_reaches, such_reaches}
 use Rattle.hp_find.proofs.finding.find.Goals as goal
 
@@ -29,8 +30,10 @@ returns-then-explored-clause-ok g c =
 
 pub returns-else-explored-clause-err : goal.returns-else-explored-clause-err
 returns-else-explored-clause-err g c =
-    first_cause (setting c.args.machine.now c.args.scripts.now) c.args.wanted.now c.args.limit
-    c.in_ok-explored.explored.ends.items ? (c.in_ok-explored.ensures.many c.if-explored.false)
+    let start = setting c.args.machine.now c.args.scripts.now in
+    let needs : NeedsChanges start c.args.wanted.now few_changes = search rules in
+    first_cause start c.args.wanted.now c.args.limit c.in_ok-explored.explored.ends.items needs
+    (c.in_ok-explored.ensures.many c.if-explored.false)
     (c.in_ok-explored.ensures.first c.if-explored.false)
     (subst (λ (ends : List Ending). HasNoSuchEnd ends c.args.wanted.now) c.deref.ensures.value
     c.in-None.ensures.none)
