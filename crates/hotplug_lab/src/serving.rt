@@ -1,9 +1,9 @@
 //! Bytes in to bytes out.
 
-ghost use Rattle.std.specs.Prelude.{◌≡◌, ◌≢◌, ◌<◌, ◌-◌, ◌^◌, ◌==◌, if◌then◌else◌, IfErr, IfOk, IfSome, OnOk, string_bytes, true};
+ghost use Rattle.std.specs.Prelude.{◌≡◌, ◌≢◌, ◌<◌, ◌-◌, ◌^◌, ◌==◌, [], if◌then◌else◌, IfErr, IfOk, IfSome, OnOk, string_bytes, true};
 ghost use Rattle.std.specs.Io.KnownBytes.{Appends, Keeps};
 ghost use Rattle.hp_streams.specs.Reading.{ReadsAll};
-ghost use Rattle.hotplug_lab.specs.Words.{Answers, HasLines, IsAnswerOf, IsCheckOf, IsCountOf, IsPast, IsPictureOf, IsServeFault, IsUnanswered, Serves, count_of, first_shown, has_line, last_named, setup_named, unbegun_in, unbegun_of};
+ghost use Rattle.hotplug_lab.specs.Words.{Answers, HasLines, IsAnswerOf, IsCheckOf, IsCountIn, IsCountOf, IsPast, IsPictureOf, IsServeFault, IsUnanswered, Serves, count_of, first_shown, has_line, last_named, setup_named, unbegun_in, unbegun_of};
 ghost use Rattle.hp_scenario.specs.Scenario.{scenario_in};
 ghost use Rattle.hotplug_lab.specs.declared.words.Word.TheVariants.{Check, Picture};
 
@@ -270,19 +270,37 @@ fn checked(alloc: Global, input: &[u8], setup: u64) -> Result<Answer, ProgramFau
 
 /// The line that says how many interleavings the scripts after so many lines of setup have; none
 /// where all lines are the setup, and where the bytes are no scenario. An error is out of memory.
+#[tactic(auto, using(crate::proofs::Counted::none_asked, crate::proofs::Counted::some_asked))]
 fn count_line(alloc: Global, input: &[u8], setup: u64) -> Result<String, AllocError>
     ensures { IfOk result (λ text. IsCountOf (setup == 2 ^ 64 - 1) setup input.now (string_bytes text)) }
 {
     if setup == ALL {
         return Ok(String::new(alloc));
     }
+    count_in(alloc, input, setup)
+}
+
+/// The same, where not all lines are the setup.
+fn count_in(alloc: Global, input: &[u8], setup: u64) -> Result<String, AllocError>
+    ensures { IfOk result (λ text. IsCountIn setup (scenario_in input.now) (string_bytes text)) }
+{
     match Scenario::read(alloc, input) {
         Ok(scenario) => {
             let cpus = scenario.layout.cpus();
             interleavings_line(alloc, cpus, setup, scenario.lines.as_slice(), LIMIT)
         }
-        Err(ScenarioFault::OutOfMemory) => Err(AllocError),
-        Err(_fault) => Ok(String::new(alloc)),
+        Err(fault) => no_count(alloc, fault),
+    }
+}
+
+/// No line, where the bytes are no scenario. An error is out of memory.
+fn no_count(alloc: Global, fault: ScenarioFault) -> Result<String, AllocError>
+    ensures none { IfOk result (λ text. string_bytes text ≡ []) }
+    ensures read { OnOk result (fault ≢ ScenarioFault.OutOfMemory) }
+{
+    match fault {
+        ScenarioFault::OutOfMemory => Err(AllocError),
+        _ => Ok(String::new(alloc)),
     }
 }
 

@@ -18,8 +18,8 @@ use Rattle.hp_explore.specs.declared.frames.Entry.TheVariants.{Counted, Open}
 use Rattle.hp_explore.specs.declared.frames.Frame.{Frame}
 use Rattle.hp_explore.specs.declared.frames.Kept.{Kept}
 use Rattle.hp_explore.specs.declared.tally.Ending.{Ending}
-use Rattle.hp_explore.specs.declared.walk.Turned.{Turned}
-use Rattle.hp_explore.specs.declared.walk.Turned.TheVariants.{On, Over, Full}
+use Rattle.hp_explore.specs.declared.frames.Turned.{Turned}
+use Rattle.hp_explore.specs.declared.frames.Turned.TheVariants.{On, Over, Full}
 use Rattle.hp_explore.specs.declared.walk.Walk.{Walk}
 
 -- steps of where a path stands

@@ -12,7 +12,7 @@ ghost use Rattle.hp_explore.specs.Walks.{IsEndNoted, IsOverBelow, IsWalkedBefore
 use crate::closed::{closed_after, is_closed};
 use crate::digests::place_digest;
 use crate::exploring::ExploreFault;
-use crate::frames::{Entry, Frame, Kept};
+use crate::frames::{Entry, Frame, Kept, Turned};
 use crate::memo::{Memo, Seen};
 use crate::outcomes::ended_rows;
 use crate::path::Path;
@@ -22,17 +22,6 @@ use crate::turns::{copies, latest};
 use crate::watch::Watch;
 use hp_machine::Machine;
 use std::alloc::{AllocError, Global};
-
-/// What a turn of a walk came to.
-#[derive(Clone, Copy, PartialEq, Eq, Drop)]
-pub(crate) enum Turned {
-    /// It goes on.
-    On,
-    /// All schedules are counted.
-    Over,
-    /// As many are counted as the limit says, and there is a further one.
-    Full,
-}
 
 /// A walk over the schedules of scripts, and what it counted so far.
 pub(crate) struct Walk<'a> {
