@@ -22,7 +22,7 @@ use Rattle.hp_scenario.specs.declared.lines.Work.{Work}
 use Rattle.hp_scenario.specs.declared.lines.Work.TheVariants as work
 use Rattle.hp_lab.specs.Begins.{last_begun, line_begins}
 use Rattle.hp_lab.specs.Checks.{AreFit, IsUnfit}
-use Rattle.hp_lab.specs.Counting.{AreScripts, IsKnownAfter}
+use Rattle.hp_lab.specs.Counting.{AreKnownAs, AreScripts, IsKnownAfter}
 use Rattle.hp_lab.specs.Scripts.{answered, asked, explored, line_for, own_step, own_work, requested, script_of, scripts_of, steps_in, steps_of}
 use Rattle.hp_lab.specs.declared.begins.Begin.{Begin}
 use Rattle.hp_lab.specs.declared.fault.LabFault.{LabFault}
@@ -170,14 +170,10 @@ unscripted cpus setup before lines after fault is unfit scripts =
     (subst (λ (xs : List Line). AreFit cpus xs (length xs)) (sym is) scripts)
 
 -- what is known of their scripts
-pub known_of : (cpus setup limit : ℕ) (lines after : List Line) (begins : List Begin)
-    (scripts : List (List Step)) (known : HowMany)
-    → after ≡ drop setup lines → scripts ≡ scripts_of cpus begins after
-    → AreFit cpus after (length after) → IsKnown scripts limit known
+pub known_there : (cpus setup limit : ℕ) (lines after : List Line) (known : HowMany)
+    → after ≡ drop setup lines → AreFit cpus after (length after) → AreKnownAs cpus after limit known
     → IsKnownAfter cpus setup lines limit (Some known)
-known_of cpus setup limit lines after begins scripts known is are fit h = (
+known_there cpus setup limit lines after known is fit h = (
   scripted cpus setup lines after is fit,
-  λ others. known_after_any cpus begins others (drop setup lines) limit known
-      (subst (λ (xs : List Line). IsKnown (scripts_of cpus begins xs) limit known) is
-      (subst (λ (ss : List (List Step)). IsKnown ss limit known) are h)),
+  subst (λ (xs : List Line). AreKnownAs cpus xs limit known) is h,
 )

@@ -14,12 +14,15 @@ use Rattle.hp_lab.specs.declared.begins.Begin.{Begin}
 abbrev pub AreScripts : (cpus setup : ℕ) → List Line → Type 0
 AreScripts cpus setup lines = AreFit cpus (drop setup lines) (length (drop setup lines))
 
--- it is known of their scripts, whatever operations were begun before; or a line cannot stand in one
+-- it is known of the scripts of lines, whatever operations were begun before them
+abbrev pub AreKnownAs : (cpus : ℕ) → List Line → (limit : ℕ) → HowMany → Type 0
+AreKnownAs cpus lines limit known = (begins : List Begin) → IsKnown (scripts_of cpus begins lines) limit known
+
+-- so it is of the lines after the first so many; or a line cannot stand in a script
 abbrev pub IsKnownAfter : (cpus setup : ℕ) → List Line → (limit : ℕ) → Option HowMany → Type 0
 IsKnownAfter cpus setup lines limit None = AreScripts cpus setup lines → ⊥
 IsKnownAfter cpus setup lines limit (Some known) =
-    AreScripts cpus setup lines
-    × ((begins : List Begin) → IsKnown (scripts_of cpus begins (drop setup lines)) limit known)
+    AreScripts cpus setup lines × AreKnownAs cpus (drop setup lines) limit known
 
 -- what is said of it
 abbrev pub known_text : (limit : ℕ) → HowMany → List ℕ

@@ -155,8 +155,7 @@ fn answer_on<W: Watch>(
 {
     match ask {
         Ask::Ends(form) => {
-            let ends = explored_on(alloc, names, before, machine, scripts, form, limit, watch)?;
-            Ok(ends)
+            explored_on(alloc, names, before, machine, scripts, form, limit, watch)
         }
         Ask::Find { wanted, form } => {
             found_on(

@@ -2,7 +2,7 @@
 ghost use Rattle.std.specs.Prelude.{◌≡◌, ◌^◌, ◌<◌, IfErr, IfNone, IfOk, IfSome, length, string_bytes};
 ghost use Rattle.hp_explore.specs.Faults.{IsCause};
 ghost use Rattle.hp_explore.specs.Schedules.{setting};
-ghost use Rattle.hp_lab.specs.Explorations.{AreEndsTold, HasNoEnd, IsEndTold, IsExplorationOf, IsExploredOn, IsFaultOf, IsMore, IsNumbered};
+ghost use Rattle.hp_lab.specs.Explorations.{AreEndsTold, HasNoEnd, IsEndTold, IsEndsCause, IsExplorationOf, IsExploredOn, IsFaultOf, IsMore, IsNumbered};
 
 use crate::answering::{Ask, answer_to};
 use crate::ends::{total_of, write_counts, write_ends};
@@ -12,6 +12,7 @@ use crate::forms::EndsForm;
 use crate::objects::{write_more, write_objects};
 use crate::replays::replay_text;
 use hp_explore::{Ending, ExploreFault, HowMany, Script, Watch, explore, interleavings_of};
+use hp_find::FindFault;
 use hp_machine::Machine;
 use hp_scenario::Line;
 use hp_units::Text;
@@ -60,12 +61,12 @@ pub(crate) fn explored_on<W: Watch>(
     form: EndsForm,
     limit: u64,
     watch: &mut W,
-) -> Result<Finding, ExploreFault>
+) -> Result<Finding, FindFault>
     requires { length scripts.now < 2 ^ 32 }
     ensures ok { IfOk result
         (λ f. IsExploredOn form names.now.keys before.now (setting machine.now scripts.now)
         limit (string_bytes f.text) f.is_found) }
-    ensures err { IfErr result (IsCause (setting machine.now scripts.now)) }
+    ensures err { IfErr result (IsEndsCause (setting machine.now scripts.now)) }
 {
     let explored = explore(alloc, machine, scripts, limit, watch)?;
     let more = more_than(alloc, scripts, explored.is_whole)?;

@@ -1,9 +1,10 @@
 -- The ends are those of all complete schedules, or of the first ones.
 use Rattle.std.proofs.Common.{List, string_bytes, subst}
+use Rattle.std.proofs.lemmas.Result.{err_from_is_err_and}
 use Rattle.hp_explore.specs.Schedules.{setting}
 use Rattle.hp_explore.specs.declared.tally.Ending.{Ending}
 use Rattle.hp_lab.specs.Explorations.{AreEndsTold}
-use Rattle.hp_lab.proofs.Known.{explored_told}
+use Rattle.hp_lab.proofs.Known.{ends_cause, explored_told}
 use Rattle.hp_lab.proofs.exploring.explored_on.Goals as goal
 
 pub returns-clause-ok : goal.returns-clause-ok
@@ -21,3 +22,18 @@ returns-clause-ok g c = record {
       (string_bytes c.in_ok-finding.finding.text) c.in_ok-finding.finding.is_found) c.deref.ensures.value
       c.in_ok-finding.ensures.ok;
 }
+
+pub returns-in_err-explored-clause-err : goal.returns-in_err-explored-clause-err
+returns-in_err-explored-clause-err g c =
+    let p =
+    err_from_is_err_and c.from_residual-in_err-explored.result
+    c.from_residual-in_err-explored.ensures.1 in
+    rw (p.1, p.2)
+    (ends_cause (setting c.args.machine.now c.args.scripts.now) _ c.in_err-explored.ensures.err)
+
+pub returns-in_err-finding-clause-err : goal.returns-in_err-finding-clause-err
+returns-in_err-finding-clause-err g c =
+    let p =
+    err_from_is_err_and c.from_residual-in_err-finding.result c.from_residual-in_err-finding.ensures.1 in
+    rw (p.1, p.2)
+    (ends_cause (setting c.args.machine.now c.args.scripts.now) _ c.in_err-finding.ensures.err)
