@@ -10,9 +10,9 @@ for an operation of the setup: an interleaving is found where an order has an en
 is one of those orders, with the fewest changes of processor; and where there is none, as many
 interleavings are told as there are orders. Past a limit the ends are those of the first orders,
 and a search finds what has few changes or is among them. `--never` prints the same with the other
-status, `--scenario 1` writes what is found as a scenario with the setup's lines before the calls, `--json`
-the same as an object, scripts that use 0 before a begin are told, and a text that no end has as a
-line ends with status 2.
+status, `--scenario 1` writes what is found as a scenario with the setup's lines before the calls,
+`--json` the same as an object, scripts that use 0 before a begin are told, and a text that no end
+has as a line ends with status 2.
 The last line is 'find: N passed, M failed'; the exit status is 0 where nothing failed, else 1.
 """
 import json

@@ -13,10 +13,11 @@ returns-then-not-hold_no_plan c =
 
 pub returns-in-Some : goal.returns-in-Some
 returns-in-Some c =
-    room_told (setting c.args.machine.now c.args.scripts.now) c.in-Some.lines c.len.result c.checked_add.result
+    room_told (setting c.args.machine.now c.args.scripts.now) c.in-Some.lines (length c.history.result.now)
+    c.checked_add.result
     (sym c.hold_no_plan.ensures ∙ c.if-not-hold_no_plan.false)
     (c.in-Some.ensures.some.0 ∙ ap sum (c.as_slice.ensures.value ∙ c.in_ok-lengths.ensures))
-    (omega (arith, c.len.ensures, ap (λ (h : List Record). length h) c.history.ensures.records)) c.checked_add.ensures
+    (ap (λ (h : List Record). length h) c.history.ensures.records) c.checked_add.ensures
 
 pub returns : goal.returns
 returns c =

@@ -22,14 +22,14 @@ returns-then-explored-clause-ok g c =
     let start = setting c.args.machine.now c.args.scripts.now in
     subst (IsAbsent start c.args.wanted.now)
     (sym (c.total_of.ensures
-    ∙ ap (λ (ends : List Ending). sum_by (λ (e : Ending). e.count) ends) c.deref-in-None.ensures.value))
+    ∙ ap (λ (ends : List Ending). sum_by (λ (e : Ending). e.count) ends) c.deref-then-explored.ensures.value))
     (none_reaches start c.args.wanted.now c.in_ok-explored.explored.ends.items
     (c.in_ok-explored.ensures.ok c.if-explored.true)
     (subst (λ (ends : List Ending). HasNoSuchEnd ends c.args.wanted.now) c.deref.ensures.value
     c.in-None.ensures.none))
 
-pub returns-else-explored-clause-err : goal.returns-else-explored-clause-err
-returns-else-explored-clause-err g c =
+pub returns-clause-err : goal.returns-else-explored-clause-err
+returns-clause-err g c =
     let start = setting c.args.machine.now c.args.scripts.now in
     let needs : NeedsChanges start c.args.wanted.now few_changes = search rules in
     first_cause start c.args.wanted.now c.args.limit c.in_ok-explored.explored.ends.items needs
