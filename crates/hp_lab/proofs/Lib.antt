@@ -1,4 +1,4 @@
-pub mod Counting
 pub mod Known
 pub mod Lists
+pub mod Scripted
 pub mod Written

@@ -1,5 +1,5 @@
 -- The scripts are those of the lines after the first ones, or a line cannot stand in one.
-use Rattle.hp_lab.proofs.Counting.{known_there, unscripted}
+use Rattle.hp_lab.proofs.Scripted.{known_there, unscripted}
 use Rattle.hp_lab.proofs.counting.known_after.Goals as goal
 
 pub returns-in_ok-known-in-Ok : goal.returns-in_ok-known-in-Ok

@@ -3,7 +3,7 @@ use Rattle.std.proofs.Common.{List, subst, ◌∙◌}
 use Rattle.std.proofs.lemmas.Result.{IfOk-weaker}
 use Rattle.hp_explore.specs.Interleavings.{IsKnown}
 use Rattle.hp_explore.specs.declared.scripts.Line.{Line}
-use Rattle.hp_lab.proofs.Counting.{known_after_any}
+use Rattle.hp_lab.proofs.Scripted.{known_after_any}
 use Rattle.hp_lab.proofs.counting.known_of.Goals as goal
 
 pub returns : goal.returns
