@@ -1,5 +1,5 @@
 -- From level to level of a search, and what all ends say.
-use Rattle.std.proofs.Common.{◌≡◌, ℕ, ◌+◌, ◌≤◌, Bool, true, false, List, Some, slice_get, sum_by, refl, sym, subst, arith}
+use Rattle.std.proofs.Common.{◌≡◌, ℕ, ◌≤◌, Bool, true, false, List, sum_by, refl, sym, subst, arith}
 use Rattle.hp_explore.specs.Ends.{AreEnds}
 use Rattle.hp_explore.specs.Faults.{HasMoreThan, IsCause}
 use Rattle.hp_explore.specs.Fronts.{AreFirst, IfFirst, IfWhole}

@@ -1,6 +1,4 @@
 -- Where each line is one call and the lengths fit, the coefficient is the number.
-use Rattle.std.proofs.Common.{ap, sym, subst, ◌∙◌, ℕ, List}
-use Rattle.hp_explore.specs.Multinomials.{IsMultinomial}
 use Rattle.hp_explore.proofs.Interleavings.{with_plan}
 use Rattle.hp_explore.proofs.multinomials.interleavings_of.Goals as goal
 

@@ -1,5 +1,5 @@
 -- The counts so far leave so much.
-use Rattle.std.proofs.Common.{◌≡◌, ◌+◌, ◌≤◌, take}
+use Rattle.std.proofs.Common.{◌≡◌, ◌+◌, take}
 use Rattle.std.specs.Prelude.{sum}
 use Rattle.hp_explore.proofs.tally.fit_in.Given as goal
 

@@ -28,10 +28,11 @@ returns-then-explored-clause-ok g c =
     (subst (λ (ends : List Ending). HasNoSuchEnd ends c.args.wanted.now) c.deref.ensures.value
     c.in-None.ensures.none))
 
-pub returns-clause-err : goal.returns-else-explored-clause-err
+pub returns-clause-err : goal.returns-clause-err
 returns-clause-err g c =
     let start = setting c.args.machine.now c.args.scripts.now in
-    let needs : NeedsChanges start c.args.wanted.now few_changes = search rules in
+    let needs : NeedsChanges (setting c.args.machine.now c.args.scripts.now) c.args.wanted.now few_changes =
+    search rules in
     first_cause start c.args.wanted.now c.args.limit c.in_ok-explored.explored.ends.items needs
     (c.in_ok-explored.ensures.many c.if-explored.false)
     (c.in_ok-explored.ensures.first c.if-explored.false)
