@@ -4,13 +4,12 @@ use Rattle.std.proofs.lemmas.List.{append-nil, length_push, map-append, reverse-
 use Rattle.std.proofs.lemmas.Option.{none-some, same_Some}
 use Rattle.std.specs.List.{list_all}
 use Rattle.std.specs.declared.alloc.Global.{Global}
-use Rattle.std.specs.Prelude.{option_map}
 use Rattle.hp_units.specs.Memory.{Memory}
 use Rattle.hp_units.specs.declared.events.Event.{Event}
 use Rattle.hp_units.specs.declared.replies.Record.{Record}
 use Rattle.hp_explore.specs.Alike.{leaves_script}
 use Rattle.hp_explore.specs.Faults.{is_full_after}
-use Rattle.hp_explore.specs.Frames.{AreBelow, AreWalked, IsAdded, IsEntered, IsFrame, IsFresh, IsPlaceKept, kept_of, path_of}
+use Rattle.hp_explore.specs.Frames.{AreBelow, AreWalked, IsAdded, IsEntered, IsFrame, IsFresh, kept_of, path_of}
 use Rattle.hp_explore.specs.declared.frames.Kept.{Kept}
 use Rattle.hp_explore.specs.Paths.{IsBack, PathValue, state_at}
 use Rattle.hp_explore.specs.Schedules.{Setting, next_call, plays, record_of_call, schedule_of}
@@ -59,7 +58,8 @@ below_grows g old new news (frame ∷ frames) grow b = (
 -- ---- a turn
 
 -- the schedule with one record more
-pub longer_schedule : (news : List Record) (r : Record) → schedule_of (news ++ r ∷ []) ≡ schedule_of news ++ r.cpu ∷ []
+pub longer_schedule : (news : List Record) (r : Record)
+    → schedule_of (news ++ r ∷ []) ≡ schedule_of news ++ r.cpu ∷ []
 longer_schedule news r = map-append (λ (q : Record). q.cpu) news (r ∷ [])
 
 -- a processor asks for nothing
@@ -157,7 +157,8 @@ bare_fresh memory ends frame is = (
   λ k here. absurd (none-some k (sym (ap kept_of is) ∙ here)),
 )
 
-pub kept_fresh : (memory : Memory) (ends : List Ending) (frame : Frame) (boxed : Box Kept Global) (kept : Kept)
+pub kept_fresh : (memory : Memory) (ends : List Ending) (frame : Frame) (boxed : Box Kept Global)
+    (kept : Kept)
     → frame ≡ record { next = 0; is_over = true; kept = Some boxed } → boxed.value ≡ kept
     → kept.snapshot ≡ memory → kept.earlier.items ≡ map (λ (e : Ending). e.count) ends
     → IsFresh memory ends frame

@@ -112,7 +112,8 @@ HasRoomFor t counts = sum_by (λ e. e.count) t.ends + sum counts ≤ t.limit
 -- undoes steps by their serials
 pub record IsMemo (g : Setting) (ends : List Ending) (memo : MemoValue) : Type 0 where
   pub all : AllSeen g ends memo.seen
-  pub room : (i : ℕ) (seen : SeenValue) → slice_get memo.seen i ≡ Some seen → HasRoomFrom g (schedule_of seen.news)
+  pub room : (i : ℕ) (seen : SeenValue) → slice_get memo.seen i ≡ Some seen
+      → HasRoomFrom g (schedule_of seen.news)
   pub numbered : (i : ℕ) (seen : SeenValue) → slice_get memo.seen i ≡ Some seen
       → IsNumbered g memo.lists seen.news (Some seen.openings)
   pub undo : memo.is_on ≡ true → UndoNothing g.scripts

@@ -8,7 +8,7 @@ use Rattle.hp_explore.specs.Frames.{IsFresh, standing}
 use Rattle.hp_explore.specs.Numbers.{IsNumbered}
 use Rattle.hp_explore.specs.Seen.{IsLikeAmong}
 use Rattle.hp_explore.specs.Walks.{IsAt}
-use Rattle.hp_explore.proofs.Framing.{bare_fresh, entered_added, entered_fresh}
+use Rattle.hp_explore.proofs.Framing.{entered_added, entered_fresh}
 use Rattle.hp_explore.proofs.Grown.{grow_added}
 use Rattle.hp_explore.proofs.Kept.{found_few, found_like, found_walked}
 use Rattle.hp_explore.proofs.walk.enter.Goals as goal
@@ -16,7 +16,8 @@ use Rattle.hp_explore.proofs.walk.enter.Goals as goal
 pub add_counts-requires : goal.add_counts-requires
 add_counts-requires o c =
     let p = c.args.path.now in
-    let at : IsAt (p.setting) (standing p) = record { layout = refl; played = c.is_played.ensures; state = refl } in
+    let at : IsAt (p.setting) (standing p) =
+    record { layout = refl; played = c.is_played.ensures; state = refl } in
     let found =
     found_like p.setting (standing p) c.args.memo.now c.args.tally.now.ends c.in_ok-snapshot.snapshot
     c.in-Some.openings c.args.processors c.records-news.result.now c.in-Some-2.counts.now at c.requires.memo
@@ -33,7 +34,8 @@ add_counts-requires o c =
 pub returns-in-Some-2-clause-ok : goal.returns-in-Some-2-clause-ok
 returns-in-Some-2-clause-ok o c =
     let p = c.args.path.now in
-    let at : IsAt (p.setting) (standing p) = record { layout = refl; played = c.is_played.ensures; state = refl } in
+    let at : IsAt (p.setting) (standing p) =
+    record { layout = refl; played = c.is_played.ensures; state = refl } in
     let found =
     found_like p.setting (standing p) c.args.memo.now c.args.tally.now.ends c.in_ok-snapshot.snapshot
     c.in-Some.openings c.args.processors c.records-news.result.now c.in-Some-2.counts.now at c.requires.memo
