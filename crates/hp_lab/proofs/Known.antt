@@ -13,7 +13,7 @@ use Rattle.hp_explore.specs.declared.multinomials.HowMany.{HowMany}
 use Rattle.hp_explore.specs.declared.scripts.Line.{Line as Step}
 use Rattle.hp_explore.specs.declared.tally.Ending.{Ending}
 use Rattle.hp_explore.specs.Ends.{AreEnds}
-use Rattle.hp_explore.specs.Faults.{HasMoreThan, IsCause}
+use Rattle.hp_explore.specs.Faults.{FillsHistory, HasMoreThan, IsCause}
 use Rattle.hp_explore.specs.Fronts.{AreFirst, IfFirst, IfWhole}
 use Rattle.hp_explore.specs.Schedules.{IsComplete, Setting, setting}
 use Rattle.hp_find.specs.Faults.{IsFindCause, find_fault_from}
@@ -72,11 +72,12 @@ unfit_known C input s setup limit cpus before after OutOfMemory read parts h = a
 
 -- the ends are all, or the first ones
 pub explored_told : (g : Setting) (limit : ℕ) (x : Exploration) (more : Option HowMany)
-    → IfWhole x (AreEnds g) → IfFirst x (AreFirst g limit)
+    → IfWhole x (AreEnds g) → IfWhole x (λ _. HasMoreThan (IsComplete g) limit → ⊥)
+    → IfWhole x (λ _. FillsHistory g → ⊥) → IfFirst x (AreFirst g limit)
     → IfFirst x (λ _. HasMoreThan (IsComplete g) limit) → IsMore g.scripts x.is_whole more
     → AreExplored g limit x.ends.items more
-explored_told g limit x None whole first many h = whole h
-explored_told g limit x (Some known) whole first many h = (first h.0, many h.0, h.1)
+explored_told g limit x None whole few room first many h = (whole h, few h, room h)
+explored_told g limit x (Some known) whole few room first many h = (first h.0, many h.0, h.1)
 
 -- a fault in writing what was found is one of the search
 pub found_cause : (g : Setting) (wanted : List Wanted) (limit : ℕ) (fault : ExploreFault) → IsCause g fault

@@ -6,7 +6,7 @@ use Rattle.hp_machine.specs.Machine.{MachineValue, booted}
 use Rattle.hp_explore.specs.declared.multinomials.HowMany.{HowMany}
 use Rattle.hp_explore.specs.declared.scripts.Line.{Line as Step}
 use Rattle.hp_explore.specs.declared.tally.Ending.{Ending}
-use Rattle.hp_explore.specs.Ends.{AreEnds}
+use Rattle.hp_explore.specs.Ends.{AreEnds, AreInOrder}
 use Rattle.hp_explore.specs.Faults.{FillsHistory, HasMoreThan}
 use Rattle.hp_explore.specs.Fronts.{AreFirst}
 use Rattle.hp_explore.specs.Interleavings.{IsKnown, IsRoomNeeded}
@@ -72,20 +72,21 @@ AreEndsTold Objects names before g ends more text found =
 AreEndsTold (Scenario number) names before g ends more text found =
     IsEndTold names before g ends more number text found
 
--- the ends are those of all complete schedules; or of the first ones, which are as many as the limit,
--- and there are more
+-- the ends are those of all complete schedules, which are no more than the limit, and none of which
+-- fills the history; or of the first ones, which are as many as the limit, and there are more
 abbrev pub AreExplored : Setting → (limit : ℕ) → List Ending → Option HowMany → Type 0
-AreExplored g limit ends None = AreEnds g ends
+AreExplored g limit ends None =
+    AreEnds g ends × (HasMoreThan (IsComplete g) limit → ⊥) × (FillsHistory g → ⊥)
 AreExplored g limit ends (Some known) =
     AreFirst g limit ends × HasMoreThan (IsComplete g) limit × IsKnown g.scripts (2 ^ 64 - 1) known
 
--- of ends that are no more than the limit
+-- of ends that are no more than the limit, in the order of their first schedules
 pub record IsExploredOn (form : EndsForm) (names : List (List ℕ)) (before : List Line) (g : Setting)
-    (limit : ℕ)
-    (text : List ℕ) (found : Bool) : Type 0 where
+    (limit : ℕ) (text : List ℕ) (found : Bool) : Type 0 where
   pub ends : List Ending
   pub more : Option HowMany
   pub are : AreExplored g limit ends more
+  pub ordered : AreInOrder ends
   pub within : sum_by (λ e. e.count) ends ≤ limit
   pub told : AreEndsTold form names before g ends more text found
 

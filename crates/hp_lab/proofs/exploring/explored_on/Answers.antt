@@ -13,8 +13,10 @@ returns-clause-ok g c = record {
   more = c.in_ok-more.more;
   are =
       explored_told (setting c.args.machine.now c.args.scripts.now) c.args.limit c.in_ok-explored.explored
-      c.in_ok-more.more c.in_ok-explored.ensures.ok c.in_ok-explored.ensures.first
-      c.in_ok-explored.ensures.many c.in_ok-more.ensures;
+      c.in_ok-more.more c.in_ok-explored.ensures.ok c.in_ok-explored.ensures.few
+      c.in_ok-explored.ensures.room c.in_ok-explored.ensures.first c.in_ok-explored.ensures.many
+      c.in_ok-more.ensures;
+  ordered = c.in_ok-explored.ensures.ordered;
   within = c.in_ok-explored.ensures.within;
   told =
       subst (λ (ends : List Ending). AreEndsTold c.args.form c.args.names.now.keys c.args.before.now
