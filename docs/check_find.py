@@ -7,12 +7,13 @@ alone it takes the folder of the crates:
 
 On so many scenarios that are drawn at random, with events of all kinds and plans, where 0 may stand
 for an operation of the setup, and at most 120 orders each: `explore` tells the ends of the orders,
-each with its count and its first order, in the order of these. Of one in ten: an interleaving is
-found where an order has an end with the lines; it is one of those orders, with the fewest changes
-of processor; and where there is none, as many interleavings are told as there are orders. `--never`
-prints the same with the other status, `--scenario 1` writes what is found as a scenario with the
-setup's lines before the calls, `--json` the same as an object, scripts that use 0 before a begin
-are told, and a text that no end has as a line ends with status 2.
+each with its count and its first order, in the order of these; past a limit, those of the first
+orders. Of one in ten: an interleaving is found where an order has an end with the lines; it is one
+of those orders, with the fewest changes of processor; and where there is none, as many
+interleavings are told as there are orders; past a limit a search finds what has few changes or is
+among the first. `--never` prints the same with the other status, `--scenario 1` writes what is
+found as a scenario with the setup's lines before the calls, `--json` the same as an object, scripts
+that use 0 before a begin are told, and a text that no end has as a line ends with status 2.
 The last line is 'find: N passed, M failed'; the exit status is 0 where nothing failed, else 1.
 """
 import json
@@ -22,8 +23,8 @@ import subprocess
 import sys
 from pathlib import Path
 
-from check_lab import (LAYOUT, ROOT, SECONDS, Checks, Programs, answers_and_state, end_with,
-                       ends_of)
+from check_lab import (LAYOUT, ROOT, SECONDS, Checks, Programs, answers_and_state, end_of,
+                       end_with, ends_of)
 
 SEED = 34
 COUNT = 400
@@ -244,6 +245,34 @@ def check_search(checks, programs, scenario, setup, orders, texts):
                  (0, {"found": True, "changes": fewest, "first": calls}))
 
 
+def check_within(checks, programs, scenario, setup, orders, texts, limit):
+    """Past a limit an interleaving is found where it has fewer than three changes, or where one of
+    the first ends so."""
+    where = f"--find {texts} --limit {limit} --setup {setup} {json.dumps(scenario)}"
+    found = [(at, calls) for at, (calls, end) in enumerate(orders)
+             if all(has_line(end, text) for text in texts)]
+    expected = (1, f"hotplug_lab: more than {limit} interleavings; none of the first {limit} ends "
+                   "so\n")
+    if any(at < limit or changes_of(calls) < 3 for at, calls in found):
+        expected = programs.find(scenario, setup, "--find", texts)
+    told = programs.find(scenario, setup, "--find", texts, "--limit", str(limit))
+    checks.holds(where, told == expected, f"says {told}")
+
+
+def check_first(checks, programs, scenario, setup, orders, limit):
+    """Past a limit the ends are those of the first orders, each with its first and its count."""
+    where = f"--limit {limit} --setup {setup} {json.dumps(scenario)}"
+    expected = counted(orders[:limit])
+    plans = {"plan", "echo"} & {line.split()[1] for line in scenario["calls"][setup:]}
+    total = f"more than {limit}" if plans else len(orders)
+    head = f"{total} interleavings; these are the first {limit}\nends: {len(expected)}"
+    status, text = programs.search(scenario, setup, "--limit", str(limit))
+    parts = text.rstrip("\n").split("\n\n")
+    checks.holds(where, (status, parts[0]) == (3, head), f"says {status}, {parts[0]!r}")
+    told = [end_of(part) for part in parts[1:]]
+    checks.holds(where, told == expected, f"tells {told} in place of {expected}")
+
+
 def check_object(checks, programs, scenario, setup, texts, expected):
     """With `--json` what a search tells is an object on one line."""
     status, text = programs.find(scenario, setup, "--find", texts, "--json")
@@ -282,10 +311,13 @@ def check_drawn(checks, programs, draw, is_searched):
     orders = Orders(programs, scenario, setup).all_from([], MOST_ORDERS)
     if len(orders) > MOST_ORDERS:
         return False
+    limit = draw.randrange(len(orders))
     check_ends(checks, programs, scenario, setup, orders)
+    check_first(checks, programs, scenario, setup, orders, limit)
     if is_searched:
         for texts in drawn_texts(draw, [end for _, end in orders]):
             check_search(checks, programs, scenario, setup, orders, texts)
+            check_within(checks, programs, scenario, setup, orders, texts, limit)
     return True
 
 

@@ -6,7 +6,8 @@ alone it takes the folder of the crates:
 
 What is compared, of `hotplug_lab explore`:
 - the ends and counts of an offline against map, write and read of another processor
-  (examples/last-frame.json) with those of `hotplug serial` on each order of the calls;
+  (examples/last-frame.json) with those of `hotplug serial` on each order of the calls, and past a
+  limit on the first orders;
 - on each file of examples/, with a setup that leaves at most six lines for scripts: the first
   interleaving of each end, pasted after the setup's lines, has that end in `hotplug serial`;
   `--scenario` writes it as a scenario with the same layout and lines, which `hotplug serial` reads;
@@ -25,7 +26,8 @@ order, as many cells of each meaning in the legend as the trace has characters o
 outlines of each width as the trace has brackets; a line for each page that moved, from its cell in
 a row above to its cell, also where blocks are folded; layouts wider than a screen are folded, with
 all cells within the picture. Of `hotplug_lab check`: it finds no fault in any file of examples/, and
-one where a text that is no line comes last. None of them writes a control character.
+one where a text that is no line comes last; with a setup it says how many interleavings there are.
+None of them writes a control character.
 The last line is 'lab: N passed, M failed'; the exit status is 0 where nothing failed, else 1.
 """
 import json
@@ -85,8 +87,8 @@ class Programs:
         words = [self.lab, "explore", "--setup", str(setup), "--limit", str(limit), *options]
         return self.call([*before, *words], scenario)
 
-    def check(self, scenario):
-        return self.call([self.lab, "check"], scenario)
+    def check(self, scenario, *options):
+        return self.call([self.lab, "check", *options], scenario)
 
     def trace(self, scenario, *options):
         return self.call([self.lab, "trace", *options], scenario)
@@ -188,6 +190,26 @@ def check_by_force(checks, programs):
     checks.holds("last-frame.json", firsts == sorted(firsts), "the ends are in another order")
 
 
+def check_limits(checks, programs):
+    """Past the limit the ends are those of the first orders, processor 0 first, each played by
+    `hotplug serial`."""
+    scenario = json.loads((ROOT / "examples/last-frame.json").read_text())
+    layout, setup, lines = scenario["layout"], scenario["calls"][:3], scenario["calls"][3:]
+    scripts = [[line[2:] for line in lines if line[0] == str(cpu)] for cpu in range(2)]
+    played = [end_in_serial(programs, layout, setup, numbered(order, len(setup)))
+              for order in orders(scripts)]
+    for limit in range(0, len(played), 5):
+        counts = {}
+        for end in played[:limit]:
+            counts[end] = counts.get(end, 0) + 1
+        text = programs.explore(scenario, 3, limit=limit)
+        head = f"{len(played)} interleavings; these are the first {limit}\nends: {len(counts)}\n"
+        checks.holds(f"last-frame.json --limit {limit}", text.startswith(head), f"says {text!r}")
+        found = {end: count for count, end, _ in map(end_of, text.rstrip("\n").split("\n\n")[1:])}
+        checks.holds(f"last-frame.json --limit {limit}", found == counts,
+                     f"{found} in place of {counts}")
+
+
 # Deep scripts
 def check_depth(checks, programs):
     layout = {"order": 0, "pageblocks": 4, "blocks": 1, "cpus": 1, "batch": 1, "high": 1,
@@ -243,6 +265,15 @@ def unfit(line):
     return f"{word} makes no call" if word in ("cat", "seal") else None
 
 
+def check_count(checks, programs, name, scenario, setup, total):
+    """`check` says as many interleavings as there are, where no script holds a plan."""
+    words = [line.split()[1] for line in scenario["calls"][setup:]]
+    told = "not known:" if {"plan", "echo"} & set(words) else f"{total}\n"
+    text = programs.check(scenario, "--setup", str(setup))
+    checks.holds(f"{name} check --setup {setup}", f"\ninterleavings: {told}" in text,
+                 f"says {text!r}, and there are {total}")
+
+
 def check_example(checks, programs, file):
     scenario = json.loads(file.read_text())
     calls = scenario["calls"]
@@ -253,7 +284,8 @@ def check_example(checks, programs, file):
             line = f"hotplug_lab: line {bad[0] + 1} not for a script: {unfit(calls[bad[0]])}\n"
             checks.holds(f"{file.name} --setup {setup}", text == line, f"says {text!r}")
             continue
-        ends = ends_of(text)[1]
+        total, ends = ends_of(text)
+        check_count(checks, programs, file.name, scenario, setup, total)
         check_objects(checks, programs, file.name, scenario, setup, ends)
         for number, (_, end, first) in enumerate(ends, 1):
             played = end_in_serial(programs, scenario["layout"], calls[:setup], first)
@@ -349,6 +381,7 @@ def check_findings(checks, programs, file):
 
 def check_all(checks, programs):
     check_by_force(checks, programs)
+    check_limits(checks, programs)
     check_depth(checks, programs)
     check_length(checks, programs)
     check_hostile_replay(checks, programs)

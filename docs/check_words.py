@@ -109,19 +109,70 @@ def check_explore(checks, lab):
         status, out, _ = lab.call("explore", *options, scenario=scripts)
         checks.same(f"explore {options}", (0, f"interleavings: {count}"),
                     (status, out.split("\n")[0]))
-    refused = (1, "", "hotplug_lab: more interleavings than the limit\n")
-    options = ("--setup", "1", "--limit", "9")
-    checks.same(f"explore {options}", refused, lab.call("explore", *options, scenario=scripts))
+    check_limits(checks, lab, scripts)
     checks.same("explore --setup 6", 0, lab.call("explore", "--setup", "6", scenario=scripts)[0])
     past = (1, "", "hotplug_lab: 7 is past the last line, 6\n")
     checks.same("explore --setup 7", past, lab.call("explore", "--setup", "7", scenario=scripts))
     check_replays(checks, lab, scripts)
     check_unbegun(checks, lab)
+    check_progress(checks, lab)
     many = scenario_of([f"{cpu} read db 0 0" for cpu in (0, 1)] * READS)
-    checks.same("explore by default", refused, lab.call("explore", scenario=many))
+    status, out, _ = lab.call("explore", scenario=many)
+    checks.same("explore by default",
+                (3, f"{READ_ORDERS} interleavings; these are the first 10000000"),
+                (status, out.split("\n")[0]))
     status, out, _ = lab.call("explore", "--limit", str(READ_ORDERS), scenario=many)
     checks.same(f"explore --limit {READ_ORDERS}", (0, f"interleavings: {READ_ORDERS}"),
                 (status, out.split("\n")[0]))
+
+
+def check_limits(checks, lab, scripts):
+    """Past the limit the first interleavings are told; a search that finds nothing has a fault, and
+    so has a history that is too short."""
+    ends = [json.loads(line) for line in
+            lab.call("explore", "--setup", "1", "--json", scenario=scripts)[1].splitlines()]
+    for limit in range(11):
+        options = ("--setup", "1", "--limit", str(limit))
+        status, out, error = lab.call("explore", *options, scenario=scripts)
+        told = (0, "interleavings: 10", "")
+        if limit < 10:
+            told = (3, f"10 interleavings; these are the first {limit}", "")
+        checks.same(f"explore {options}", told, (status, out.split("\n")[0], error))
+        status, out, _ = lab.call("explore", *options, "--json", scenario=scripts)
+        told = [json.loads(line) for line in out.splitlines()]
+        if limit < 10:
+            checks.same(f"explore {options} --json", {"first": limit, "interleavings": 10},
+                        told.pop())
+        checks.same(f"explore {options} --json", min(limit, 10),
+                    sum(end["interleavings"] for end in told))
+        for end, whole in zip(told, ends):
+            checks.same(f"explore {options} --json", {**whole, "interleavings": 0},
+                        {**end, "interleavings": 0})
+    status, out, _ = lab.call("explore", "--limit", "2",
+                              scenario=scenario_of(["0 plan 2 off 1", "1 drain 0"]))
+    checks.same("explore of a plan", (3, "more than 2 interleavings; these are the first 2"),
+                (status, out.split("\n")[0]))
+    for option in ("--find", "--never"):
+        options = ("--setup", "1", "--limit", "4", option, "refused Busy")
+        lost = "hotplug_lab: more than 4 interleavings; none of the first 4 ends so\n"
+        checks.same(f"explore {options}", (1, "", lost),
+                    lab.call("explore", *options, scenario=scripts))
+    short = {"layout": {**LAYOUT, "history": 5}, "calls": CALLS[:6]}
+    full = "hotplug_lab: no room in the history for all calls of an interleaving"
+    checks.same("explore with a short history", (1, "", f"{full}: it needs 6 records\n"),
+                lab.call("explore", "--setup", "2", scenario=short))
+    short["calls"] = ["0 plan 9 off 1"]
+    checks.same("explore of a plan with a short history", (1, "", f"{full}\n"),
+                lab.call("explore", scenario={**short, "layout": {**LAYOUT, "history": 2}}))
+
+
+def check_progress(checks, lab):
+    """With `--progress` it is told how far a search is, though standard error is no terminal."""
+    scenario = scenario_of([f"{cpu} undo 0" for cpu in (0, 1)] * 7)
+    for options, form in (((), ""), (("--progress",), r"(\d+ interleavings so far\n)+")):
+        status, out, error = lab.call("explore", *options, scenario=scenario)
+        checks.same(f"explore {options}", (0, "interleavings: 3432"), (status, out.split("\n")[0]))
+        checks.holds(f"explore {options}", re.fullmatch(form, error), f"says {error!r}")
 
 
 def check_unbegun(checks, lab):
@@ -202,11 +253,13 @@ def check_lab(checks, lab):
         check_file(checks, lab, word, whole)
     checks.same("check", (0, "faults: 0, warnings: 0\n", ""), lab.call("check", scenario=whole))
     checks.same("check of a fault", 1, lab.call("check", scenario=scenario_of(["0 walk"]))[0])
+    check_counts(checks, lab)
     check_explore(checks, lab)
     check_trace(checks, lab)
     check_picture(checks, lab)
     for words in ((), ("walk",), ("explore", "--setup", "x"), ("explore", "--setup", "-1"),
                   ("explore", "--every", "2"), ("trace", "--limit", "2"), ("check", "--svg"),
+                  ("check", "--progress"), ("trace", "--progress"),
                   ("explore", "--orders"), ("explore", "--json", "--scenario", "1"),
                   ("trace", "a", "b"), ("trace", "--width"), ("trace", "--to", str(2**64))):
         status, out, error = lab.call(*words, scenario=whole)
@@ -217,6 +270,25 @@ def check_lab(checks, lab):
         status, out, error = lab.call(*words)
         checks.same(f"hotplug_lab {words}", (0, ""), (status, error))
         checks.holds(f"hotplug_lab {words}", out, "writes nothing")
+
+
+def check_counts(checks, lab):
+    """With a setup `check` says how many interleavings the scripts have, where that is known."""
+    many = [f"{cpu} read db 0 0" for cpu in (0, 1)] * READS
+    unknown = "not known: the calls of a plan are counted only by explore"
+    for calls, setup, told in ((CALLS, 0, "126"), (CALLS, 7, "2"), (CALLS, 9, "1"),
+                               (many, 1, "5200300"),
+                               (many, 0, "more than 10000000: explore counts more with --limit N"),
+                               (["0 drain 0", "0 plan 2 off 1"], 1, unknown),
+                               (["0 echo offline memory1/state"], 0, unknown)):
+        status, out, error = lab.call("check", "--setup", str(setup), scenario=scenario_of(calls))
+        last = out.splitlines()[-1] if out else ""
+        checks.same(f"check --setup {setup} of {calls}", (0, f"interleavings: {told}", ""),
+                    (status, last, error))
+    for calls, setup in ((["0 walk"], 0), (["0 seal", "0 seal"], 1)):
+        out = lab.call("check", "--setup", str(setup), scenario=scenario_of(calls))[1]
+        checks.holds(f"check --setup {setup} of {calls}", "interleavings" not in out,
+                     f"says {out!r}")
 
 
 def check_full(checks, lab):

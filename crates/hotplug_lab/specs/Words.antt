@@ -1,11 +1,12 @@
 -- What a word writes of the bytes of a scenario, the exit status, and when each fault comes.
-use Rattle.std.specs.Prelude.{◌≡◌, ◌⊎◌, ℕ, ◌-◌, ◌^◌, ◌<◌, ◌==◌, Bool, true, List, [], length, Option, Some, None, Result, Ok, Err, IfSome, count_by, nat_le, if◌then◌else◌}
+use Rattle.std.specs.Prelude.{◌≡◌, ◌⊎◌, ℕ, ◌-◌, ◌^◌, ◌<◌, ◌==◌, Bool, true, false, List, [], ◌++◌, length, Option, Some, None, Result, Ok, Err, IfSome, count_by, nat_le, if◌then◌else◌}
 use Rattle.std.specs.Io.KnownBytes.{Appends}
 use Rattle.hp_check.specs.Checking.{AreFindings}
 use Rattle.hp_check.specs.Findings.{is_fault}
 use Rattle.hp_check.specs.Reports.{IsReport}
 use Rattle.hp_check.specs.declared.finding.Finding.{Finding}
 use Rattle.hp_find.specs.declared.wanted.Wanted.{Wanted}
+use Rattle.hp_lab.specs.Counting.{IsCountTold}
 use Rattle.hp_lab.specs.Explorations.{IsExplorationOf, IsFaultOf, IsFindFaultOf, IsFindingOf}
 use Rattle.hp_lab.specs.declared.fault.LabFault.{LabFault}
 use Rattle.hp_lab.specs.declared.fault.LabFault.TheVariants.{OutOfMemory}
@@ -28,11 +29,30 @@ use Rattle.hotplug_lab.specs.declared.words.Exploration.{Exploration}
 use Rattle.hotplug_lab.specs.declared.words.Word.{Word}
 use Rattle.hotplug_lab.specs.declared.words.Word.TheVariants.{Check, Explore, Find, Never, Picture, Trace}
 
--- the report of all findings; the status is 0 where none is a fault
+-- the interleavings that are counted where no limit is given, the most
+abbrev pub usual_limit : ℕ
+usual_limit = 10000000
+
+-- how many the scripts after the setup have: nothing is said where the bytes are no scenario, and
+-- where all lines are the setup
+abbrev pub IsCountIn : (setup : ℕ) → Result ScenarioValue ScenarioFault → (text : List ℕ) → Type 0
+IsCountIn setup (Ok s) text = IsCountTold s.layout.cpus setup s.lines usual_limit text
+IsCountIn setup (Err fault) text = text ≡ []
+
+abbrev pub IsCountOf : (all : Bool) → (setup : ℕ) → (input text : List ℕ) → Type 0
+IsCountOf true setup input text = text ≡ []
+IsCountOf false setup input text = IsCountIn setup (scenario_in input) text
+
+-- the report of all findings, and how many interleavings the scripts have; the status is 0 where no
+-- finding is a fault
 pub record IsCheckOf (setup : ℕ) (input text : List ℕ) (status : ℕ) : Type 0 where
   pub found : List Finding
+  pub reported : List ℕ
+  pub counted : List ℕ
   pub are : AreFindings input setup found
-  pub report : IsReport input found [] text
+  pub report : IsReport input found [] reported
+  pub count : IsCountOf (setup == 2 ^ 64 - 1) setup input counted
+  pub is : text ≡ reported ++ counted
   pub judged : status ≡ (if count_by is_fault found == 0 then 0 else 1)
 
 -- the picture of a trace's rows, with the names of the scenario's owners

@@ -4,8 +4,8 @@
 //! What a word writes stands in a library of its own: `check` in hp_check, `explore` in hp_lab,
 //! `trace` in hp_trace, its picture in hp_svg. The exit status is 0; or 1 after a fault, which
 //! standard error names, and after a check that finds faults; or 2 where the command line is wrong;
-//! or 3 where a search finds nothing, or what is never to be, and where an end that is asked for is
-//! not there. It is the same where standard error takes no text. The help is a text like any other:
+//! or 3 where a search finds nothing, or what is never to be, where an end that is asked for is not
+//! there, and where there are more interleavings than the limit. It is the same where standard error takes no text. The help is a text like any other:
 //! where standard output does not take it, the status is 1.
 #![tactic(auto)]
 
@@ -21,7 +21,7 @@ use hp_escapes::{Brackets, write_escaped};
 use hp_find::Wanted;
 use hp_lab::{Unbegun, wanted_line};
 use hp_streams::Counted;
-use progress::Progress;
+use progress::{Progress, Shown};
 use serving::serve;
 use std::alloc::{AllocError, Global};
 use std::io::{IsTerminal, Read};
@@ -32,14 +32,25 @@ use words::{
 };
 
 /// Does a word on the file that is named, or else on standard input, and answers the exit status.
-/// Where standard error is a terminal, it shows how far a search has come.
 fn serve_request(rt: &HostRuntime, request: Request<'_, '_>) -> Result<u8, ProgramFault> {
+    let shown = shown_on(rt.stderr().is_terminal(), request.progress);
     let Some(path) = request.file else {
-        return serve_input(rt, request.word, rt.stdin());
+        return serve_input(rt, request.word, rt.stdin(), shown);
     };
     match fs::open(rt, path) {
-        Ok(input) => serve_input(rt, request.word, input),
+        Ok(input) => serve_input(rt, request.word, input, shown),
         Err(_) => Err(ProgramFault::NotOpened),
+    }
+}
+
+/// Where it is shown how far a search has come, on a terminal or on what is none.
+fn shown_on(is_terminal: bool, is_wanted: bool) -> Shown {
+    if is_terminal {
+        Shown::InPlace
+    } else if is_wanted {
+        Shown::InLines
+    } else {
+        Shown::Nowhere
     }
 }
 
@@ -48,10 +59,11 @@ fn serve_input<R: Read + Drop>(
     rt: &HostRuntime,
     word: Word<'_>,
     input: R,
+    shown: Shown,
 ) -> Result<u8, ProgramFault> {
     let mut reader = Counted::new(input);
     let mut writer = Counted::new(rt.stdout());
-    let progress = Progress::new(rt.stderr(), rt.stderr().is_terminal());
+    let progress = Progress::new(rt.stderr(), shown);
     let served = serve(rt.alloc(), word, &mut reader, &mut writer, progress)?;
     say_unbegun(rt, &served.unbegun);
     Ok(served.status)

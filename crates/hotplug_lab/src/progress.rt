@@ -1,43 +1,54 @@
-//! How far a search has come, on a terminal.
+//! How far a search has come, on standard error.
 
 use hp_explore::Watch;
 use std::io::Write;
 
-/// A search tells some hundred thousand times a second how far it has come; after one that is shown
-/// so many are not (own rule).
+/// A search tells some hundred thousand times a second how far it has come. After one that is shown
+/// in place so many are not, and after one in a line of its own 64 times as many (own rule).
 const SILENT: u32 = 1024;
 
-/// Shows how far a search has come, in one line that is written over and over.
+/// Where it is shown how far a search has come.
+#[derive(Clone, Copy, Debug, PartialEq, Eq, Drop)]
+pub enum Shown {
+    /// Nowhere.
+    Nowhere,
+    /// In one line of a terminal, which is written over and over.
+    InPlace,
+    /// Each time in a line of its own, as in a file.
+    InLines,
+}
+
+/// Shows how far a search has come.
 #[derive(Debug)]
 pub struct Progress<W: Write + Drop> {
     out: W,
-    is_wanted: bool,
-    is_shown: bool,
+    shown: Shown,
+    is_open: bool,
     silent: u32,
 }
 
 impl<W: Write + Drop> Progress<W> {
-    /// Nothing is shown yet, and nothing ever is unless it is wanted.
-    pub fn new(out: W, is_wanted: bool) -> Progress<W> {
+    /// Nothing is shown yet.
+    pub fn new(out: W, shown: Shown) -> Progress<W> {
         Progress {
             out,
-            is_wanted,
-            is_shown: false,
+            shown,
+            is_open: false,
             silent: SILENT,
         }
     }
 }
 
-/// Ends the line, where one is shown.
+/// Ends the line that is written over and over, where there is one.
 impl<W: Write + Drop> Drop for Progress<W> {
     fn drop(self) {
         let Self {
             mut out,
-            is_wanted: _,
-            is_shown,
+            shown: _,
+            is_open,
             silent: _,
         } = self;
-        if is_shown {
+        if is_open {
             let _ = writeln!(&mut out);
         }
     }
@@ -45,15 +56,21 @@ impl<W: Write + Drop> Drop for Progress<W> {
 
 impl<W: Write + Drop> Watch for Progress<W> {
     fn counted(&mut self, schedules: u64) {
-        if !self.is_wanted {
-            return;
-        }
         if self.silent > 0 {
             self.silent -= 1;
             return;
         }
-        self.silent = SILENT;
-        self.is_shown = true;
-        let _ = write!(self.out, "\r{schedules} interleavings so far");
+        match self.shown {
+            Shown::Nowhere => {}
+            Shown::InPlace => {
+                self.silent = SILENT;
+                self.is_open = true;
+                let _ = write!(self.out, "\r{schedules} interleavings so far");
+            }
+            Shown::InLines => {
+                self.silent = 64 * SILENT;
+                let _ = writeln!(self.out, "{schedules} interleavings so far");
+            }
+        }
     }
 }

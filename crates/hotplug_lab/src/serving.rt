@@ -1,17 +1,17 @@
 //! Bytes in to bytes out.
 
-ghost use Rattle.std.specs.Prelude.{◌≡◌, ◌≢◌, ◌<◌, ◌-◌, ◌^◌, if◌then◌else◌, IfErr, IfOk, IfSome, OnOk, string_bytes, true};
+ghost use Rattle.std.specs.Prelude.{◌≡◌, ◌≢◌, ◌<◌, ◌-◌, ◌^◌, ◌==◌, [], if◌then◌else◌, IfErr, IfOk, IfSome, OnOk, string_bytes, true};
 ghost use Rattle.std.specs.Io.KnownBytes.{Appends, Keeps};
 ghost use Rattle.hp_streams.specs.Reading.{ReadsAll};
-ghost use Rattle.hotplug_lab.specs.Words.{Answers, HasLines, IsAnswerOf, IsCheckOf, IsPast, IsPictureOf, IsServeFault, IsUnanswered, Serves, count_of, first_shown, has_line, last_named, setup_named, unbegun_in, unbegun_of};
+ghost use Rattle.hotplug_lab.specs.Words.{Answers, HasLines, IsAnswerOf, IsCheckOf, IsCountIn, IsCountOf, IsPast, IsPictureOf, IsServeFault, IsUnanswered, Serves, count_of, first_shown, has_line, last_named, setup_named, unbegun_in, unbegun_of};
 ghost use Rattle.hp_scenario.specs.Scenario.{scenario_in};
 ghost use Rattle.hotplug_lab.specs.declared.words.Word.TheVariants.{Check, Picture};
 
 use crate::fault::ProgramFault;
-use crate::words::{ALL, Drawing, Word};
+use crate::words::{ALL, Drawing, LIMIT, Word};
 use hp_check::{check, fault_count, write_report};
 use hp_explore::Watch;
-use hp_lab::{Finding, Unbegun, explore_text, find_text, unbegun_lines};
+use hp_lab::{Finding, Unbegun, explore_text, find_text, interleavings_line, unbegun_lines};
 use hp_scenario::{Scenario, ScenarioFault};
 use hp_streams::{Failed, Sink, Source, read_all, write_all};
 use hp_svg::picture_of;
@@ -252,8 +252,9 @@ fn answer_with(finding: Finding, found: u8, absent: u8) -> Answer
     }
 }
 
-/// What is wrong with the scenario that the bytes are to be, of whose lines so many are the setup. The
-/// status is 0 where nothing is but warnings.
+/// What is wrong with the scenario that the bytes are to be, of whose lines so many are the setup, and
+/// how many interleavings the scripts after it have. The status is 0 where nothing is wrong but
+/// warnings.
 fn checked(alloc: Global, input: &[u8], setup: u64) -> Result<Answer, ProgramFault>
     ensures ok { IfOk result (λ answer. IsCheckOf setup input.now (string_bytes answer.text) answer.status) }
     ensures err { IfErr result (IsUnanswered (Check setup) input.now) }
@@ -261,8 +262,46 @@ fn checked(alloc: Global, input: &[u8], setup: u64) -> Result<Answer, ProgramFau
     let found = check(alloc, input, setup)?;
     let mut text = String::new(alloc);
     write_report(&mut text, alloc, input, &found)?;
+    let counted = count_line(alloc, input, setup)?;
+    text.push_str(&counted)?;
     let status = if fault_count(&found) == 0 { 0 } else { 1 };
     Ok(Answer { text, status })
+}
+
+/// The line that says how many interleavings the scripts after so many lines of setup have; none
+/// where all lines are the setup, and where the bytes are no scenario. An error is out of memory.
+#[tactic(auto, using(crate::proofs::Counted::none_asked, crate::proofs::Counted::some_asked))]
+fn count_line(alloc: Global, input: &[u8], setup: u64) -> Result<String, AllocError>
+    ensures { IfOk result (λ text. IsCountOf (setup == 2 ^ 64 - 1) setup input.now (string_bytes text)) }
+{
+    if setup == ALL {
+        return Ok(String::new(alloc));
+    }
+    count_in(alloc, input, setup)
+}
+
+/// The same, where not all lines are the setup.
+fn count_in(alloc: Global, input: &[u8], setup: u64) -> Result<String, AllocError>
+    ensures { IfOk result (λ text. IsCountIn setup (scenario_in input.now) (string_bytes text)) }
+{
+    match Scenario::read(alloc, input) {
+        Ok(scenario) => {
+            let cpus = scenario.layout.cpus();
+            interleavings_line(alloc, cpus, setup, scenario.lines.as_slice(), LIMIT)
+        }
+        Err(fault) => no_count(alloc, fault),
+    }
+}
+
+/// No line, where the bytes are no scenario. An error is out of memory.
+fn no_count(alloc: Global, fault: ScenarioFault) -> Result<String, AllocError>
+    ensures none { IfOk result (λ text. string_bytes text ≡ []) }
+    ensures read { OnOk result (fault ≢ ScenarioFault.OutOfMemory) }
+{
+    match fault {
+        ScenarioFault::OutOfMemory => Err(AllocError),
+        _ => Ok(String::new(alloc)),
+    }
 }
 
 /// The rows of the scenario that the bytes are, with all memory blocks in each, as a picture, with the

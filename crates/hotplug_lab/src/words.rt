@@ -7,7 +7,7 @@ use hp_trace::View;
 use std::alloc::{AllocError, Global};
 
 /// The most interleavings that are counted where no limit is given.
-const LIMIT: u64 = 10_000_000;
+pub const LIMIT: u64 = 10_000_000;
 
 /// The lines of a setup that is all of a scenario.
 pub const ALL: u64 = u64::MAX;
@@ -28,6 +28,9 @@ const NEVER: &str = "never";
 /// The option that writes an interleaving as a scenario.
 const SCENARIO: &str = "scenario";
 
+/// The option that tells how far a search has come.
+const PROGRESS: &str = "progress";
+
 /// The option that writes JSON, an object a line.
 const JSON: &str = "json";
 
@@ -40,7 +43,10 @@ const CHECK_NUMBERS: [(&str, &str); 1] = [(
 /// Those of `explore`.
 const EXPLORE_NUMBERS: [(&str, &str); 3] = [
     ("setup", "Runs so many lines in order first (0)"),
-    ("limit", "Counts at most so many interleavings (10000000)"),
+    (
+        "limit",
+        "Counts at most so many interleavings, the first ones (10000000)",
+    ),
     (
         SCENARIO,
         "Writes the interleaving that is told of end N as a scenario; that of a search where N is 1",
@@ -111,6 +117,8 @@ pub enum Word<'a> {
 pub struct Request<'a, 'w> {
     pub word: Word<'w>,
     pub file: Option<&'a str>,
+    /// Whether it is to be told how far a search has come, whatever standard error is.
+    pub progress: bool,
 }
 
 /// The command line.
@@ -121,7 +129,7 @@ pub fn lab_command<'a>(alloc: Global) -> Result<Command<'a>, AllocError> {
         .after_help(
             "Exit status: 0; 1 after a fault, which standard error names, and after a check that \
              finds faults (warnings alone: 0); 2 for a wrong command line; 3 where --find finds \
-             nothing, and where --never finds something.",
+             nothing, where --never finds something, and where explore stops at its limit.",
         )
         .subcommand_required(true);
     with_trace(alloc, with_explore(alloc, with_check(alloc, program)?)?)
@@ -156,7 +164,7 @@ fn explore_command<'a>(alloc: Global) -> Result<Command<'a>, AllocError> {
         "Counts every interleaving of the processors' calls, and tells the ends apart",
     );
     let explore = with_numbers(alloc, explore, &EXPLORE_NUMBERS)?;
-    with_json(alloc, with_searches(alloc, explore)?)?.arg(scenario(alloc))
+    with_flags(alloc, with_searches(alloc, explore)?)?.arg(scenario(alloc))
 }
 
 /// A command with the options that search an end.
@@ -174,9 +182,10 @@ fn with_searches<'a>(alloc: Global, command: Command<'a>) -> Result<Command<'a>,
     command.arg(find)?.arg(never.conflicts_with(FIND)?)
 }
 
-/// A command with the flag that asks for JSON.
-fn with_json<'a>(alloc: Global, command: Command<'a>) -> Result<Command<'a>, AllocError> {
-    command.arg(json(alloc).conflicts_with(SCENARIO)?)
+/// A command with the flags that ask for JSON, and to be told how far a search has come.
+fn with_flags<'a>(alloc: Global, command: Command<'a>) -> Result<Command<'a>, AllocError> {
+    let json = json(alloc).conflicts_with(SCENARIO)?;
+    command.arg(json)?.arg(progress(alloc))
 }
 
 /// The words of `trace`.
@@ -216,6 +225,14 @@ fn json<'a>(alloc: Global) -> Arg<'a> {
         .long(JSON)
         .action(ArgAction::SetTrue)
         .help("Writes an object of JSON a line: of each end, or of what a search finds")
+}
+
+/// The flag that asks to be told how far a search has come.
+fn progress<'a>(alloc: Global) -> Arg<'a> {
+    Arg::new(alloc, PROGRESS)
+        .long(PROGRESS)
+        .action(ArgAction::SetTrue)
+        .help("Tells on standard error how far a search has come, also where that is no terminal")
 }
 
 /// The flag that asks for a picture.
@@ -275,6 +292,7 @@ pub fn request_from<'a, 'w>(
     Some(Request {
         word: word_from(name, words, wanted)?,
         file: named_file(words.get_str("FILE")),
+        progress: name == "explore" && words.get_flag(PROGRESS),
     })
 }
 

@@ -1,13 +1,12 @@
 -- Counts that are added to the ends, one after another.
-use Rattle.std.proofs.Common.{◌≡◌, ℕ, suc, ◌+◌, ◌<◌, ◌≤◌, List, [], ◌∷◌, length, set, take, get_or, Some, slice_get, refl, ap, sym, subst, ◌∙◌, arith, inl, inr}
+use Rattle.std.proofs.Common.{◌≡◌, ℕ, suc, ◌+◌, ◌-◌, ◌<◌, ◌≤◌, List, [], ◌∷◌, length, set, take, get_or, Some, slice_get, refl, ap, sym, subst, ◌∙◌, arith, inl, inr}
 use Rattle.std.specs.Prelude.{sum, sum_by}
 use Rattle.std.proofs.lemmas.Bool.{cases_lt}
 use Rattle.std.proofs.lemmas.List.{get_or-take, get_or_past, length-set, length-take-le, take_all}
-use Rattle.std.proofs.lemmas.List.Sums.{sum_by-cons, sum_by_more_le}
+use Rattle.std.proofs.lemmas.List.Sums.{sum_by-cons, sum_by_more, sum_by_more_le}
 use Rattle.std.proofs.lemmas.Option.{same_Some, slice_get_read}
 use Rattle.hp_explore.specs.Notes.{TallyValue}
-use Rattle.hp_explore.specs.Seen.{AddsAt, AddsCounts, IsAddCause}
-use Rattle.hp_explore.specs.declared.exploring.ExploreFault.{ExploreFault}
+use Rattle.hp_explore.specs.Seen.{AddsAt, AddsCounts, HasRoomFor}
 use Rattle.hp_explore.specs.declared.tally.Ending.{Ending}
 use Rattle.hp_explore.proofs.Counts.{get_set_cases}
 
@@ -144,21 +143,40 @@ added_sums (e ∷ old) (f ∷ new) (c ∷ counts) few adds =
     lower : suc (length new) ≡ suc (length old) → length new ≡ length old
     lower h = omega arith
 
--- a count that can't be added
-pub added_cause : (old mid : TallyValue) (counts : List ℕ) (at : ℕ) (fault : ExploreFault)
+-- there is room for the next of them
+pub added_room : (old mid : TallyValue) (counts : List ℕ) (at : ℕ)
     → at < length counts → length counts ≤ length old.ends → mid.limit ≡ old.limit
-    → AddsCounts old.ends (take at counts) mid.ends → IsAddCause mid (get_or counts at 0 ∷ []) fault
-    → IsAddCause old counts fault
-added_cause old mid counts at fault within few limit so_far cause = (
-  cause.0,
-  omega (
-    arith,
-    cause.1,
-    limit,
-    added_sums old.ends mid.ends (take at counts)
-        (omega (arith, few, length-take-le at counts (omega arith))) so_far,
-    sum_by_more_le (λ (n : ℕ). n) counts
-        at 0 within,
-    sum_by-cons (λ (n : ℕ). n) (get_or counts at 0) [],
-  ),
-)
+    → AddsCounts old.ends (take at counts) mid.ends → HasRoomFor old counts
+    → HasRoomFor mid (get_or counts at 0 ∷ [])
+added_room old mid counts at within few limit so_far room =
+    omega (
+      arith,
+      room,
+      limit,
+      added_sums old.ends mid.ends (take at counts)
+          (omega (arith, few, length-take-le at counts (omega arith))) so_far,
+      sum_by_more_le (λ (n : ℕ). n) counts
+          at 0 within,
+      sum_by-cons (λ (n : ℕ). n) (get_or counts at 0) [],
+    )
+
+-- ---- room for counts
+
+-- the counts so far leave so much of it
+pub left_more : (counts : List ℕ) (room left less at : ℕ) → at < length counts
+    → left + sum (take at counts) ≡ room → get_or counts at 0 ≤ left → less ≡ left - get_or counts at 0
+    → less + sum (take (at + 1) counts) ≡ room
+left_more counts room left less at within so_far fits is =
+    omega (arith, so_far, fits, is, sum_by_more (λ (n : ℕ). n) counts at 0 within)
+
+-- one that is too great is one of all
+pub none_left : (counts : List ℕ) (room left at : ℕ) → at < length counts
+    → left + sum (take at counts) ≡ room → (get_or counts at 0 ≤ left → ⊥) → sum counts ≤ room → ⊥
+none_left counts room left at within so_far over fits =
+    over (omega (arith, so_far, fits, sum_by_more_le (λ (n : ℕ). n) counts at 0 within))
+
+-- and all of them leave some
+pub all_left : (counts : List ℕ) (room left at : ℕ) → length counts ≤ at
+    → left + sum (take at counts) ≡ room → sum counts ≤ room
+all_left counts room left at past so_far =
+    omega (arith, so_far, ap sum (take_all at counts past))

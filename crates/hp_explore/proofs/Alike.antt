@@ -1,14 +1,13 @@
 -- After two schedules whose records are alike each continuation is played alike.
-use Rattle.std.proofs.Common.{◌≡◌, ℕ, zero, suc, ◌+◌, ◌<◌, ◌≤◌, Bool, true, false, cond, eqb, List, [], ◌∷◌, ◌++◌, length, map, filter, take, Option, Some, None, slice_get, refl, ap, sym, subst, ◌∙◌, arith}
-use Rattle.std.specs.Prelude.{fold, option_map, option_and_then}
+use Rattle.std.proofs.Common.{◌≡◌, ℕ, zero, suc, ◌+◌, ◌<◌, ◌≤◌, Bool, true, false, cond, eqb, List, [], ◌∷◌, ◌++◌, length, map, filter, Option, Some, None, slice_get, refl, ap, sym, subst, ◌∙◌, arith}
+use Rattle.std.specs.Prelude.{fold, option_and_then}
 use Rattle.std.specs.List.{list_all, range_with_len}
 use Rattle.std.proofs.lemmas.Bool.{and_parts}
 use Rattle.std.proofs.lemmas.List.{append-nil, append_assoc, length-append, length_push, map-append}
 use Rattle.std.proofs.lemmas.Simd.{map-map}
 use Rattle.std.proofs.lemmas.List.Sums.{fold_push}
 use Rattle.std.proofs.lemmas.Option.{none-some, same_Some, slice_get_within}
-use Rattle.hp_units.specs.History.{Effect, Looks, Undoes, Cancels, Acts, cancel_reply, cut_or_add, effect_of, effect_reply, is_refused, net_of, net_with, net_with_effect, reply_of, run, value_of}
-use Rattle.hp_units.specs.LayoutParts.{LayoutParts}
+use Rattle.hp_units.specs.History.{Effect, Looks, Undoes, Cancels, Acts, cancel_reply, effect_of, effect_reply, net_of, net_with, reply_of, run, value_of}
 use Rattle.hp_units.specs.Marks.{sole_at, tag_of}
 use Rattle.hp_units.specs.Memory.{Memory}
 use Rattle.hp_units.specs.Receipts.{receipt_of, receipts_of}
@@ -17,9 +16,7 @@ use Rattle.hp_units.specs.declared.events.Event.{Event}
 use Rattle.hp_units.specs.declared.replies.Receipt.{Receipt}
 use Rattle.hp_units.specs.declared.replies.Record.{Record}
 use Rattle.hp_units.specs.declared.replies.Reply.{Reply}
-use Rattle.hp_laws.proofs.Net.{net-push, run-append}
-use Rattle.hp_laws.proofs.Records.{with_good}
-use Rattle.hp_laws.proofs.Replays.{net_bad}
+use Rattle.hp_laws.proofs.Net.{net-push}
 use Rattle.hp_explore.specs.Alike.{AreAlike, AreJoined, UndoNothing, exchanges, leaves_lines, leaves_steps, unnumbered}
 use Rattle.hp_explore.specs.Outcomes.{OutcomeValue, ended_rows_below, replies_below, replies_to, told}
 use Rattle.hp_explore.specs.Schedules.{EndsWith, Setting, next_call, outcome_after, play_one, plays, record_of_call}

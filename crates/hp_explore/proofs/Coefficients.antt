@@ -1,10 +1,9 @@
 -- Multinomial coefficients, one turn more at a time.
-use Rattle.std.proofs.Common.{◌≡◌, ℕ, zero, suc, Bool, true, false, ◌+◌, ◌*◌, ◌/◌, ◌-◌, ◌<◌, ◌≤◌, List, [], ◌∷◌, ◌++◌, length, take, drop, get_or, refl, ap, sym, subst, ◌∙◌, arith}
-use Rattle.std.specs.Prelude.{◌↔◌, IsTrue, nat_lt}
+use Rattle.std.proofs.Common.{◌≡◌, ℕ, zero, suc, ◌+◌, ◌*◌, ◌/◌, ◌-◌, ◌<◌, ◌≤◌, List, [], ◌∷◌, ◌++◌, length, take, drop, get_or, refl, ap, sym, subst, ◌∙◌, arith, inl, inr}
 use Rattle.std.proofs.Math.Nat.{mul_assoc, mul_comm, mul_left_comm, mul_right_comm, mul-pos, mul-le-mul_left, le_of_mul-le-mul_right, eq_of_mul-eq-mul_left, div-eq_of_eq-mul_left}
 use Rattle.std.proofs.lemmas.List.{append-nil, append_assoc, take-append-drop, take_all, take_more}
-use Rattle.std.proofs.lemmas.Bool.{lt-ltb, ltb-true}
-use Rattle.std.proofs.lemmas.List.Sums.{sum_by_push}
+use Rattle.std.proofs.lemmas.Bool.{cases_lt}
+use Rattle.std.proofs.lemmas.List.Sums.{sum_by_more_le, sum_by_push}
 use Rattle.hp_explore.specs.Multinomials.{ExceedsWith, IsMultinomial, IsMultinomialWith, factorial, factorials, sum}
 use Rattle.hp_explore.proofs.Interleaved.{AreInterleaved, interleaved}
 
@@ -195,28 +194,29 @@ exceeded ns m count total at limit within so_far all above is =
         ∙ ap (λ (ks : List ℕ). ks ++ drop (at + 1) ns) (take_more ns at 0 within)
 
 -- after all of them it is the coefficient
-pub all_counted : (ns : List ℕ) (count at limit : ℕ) → length ns ≤ at → IsMultinomial (take at ns) count
-    → (m : ℕ) → IsMultinomial ns m → IsTrue (nat_lt limit count) ↔ limit < m
-all_counted ns count at limit past so_far m is = (
-  λ told. omega (arith, same, ltb-true limit count told),
-  λ above. lt-ltb limit count (omega (arith, same, above)),
-)
-  where
-    same : count ≡ m
-    same =
-        only_one ns count m (subst (λ (ks : List ℕ). IsMultinomial ks count) (take_all at ns past) so_far) is
+pub all_counted : (ns : List ℕ) (count at : ℕ) → length ns ≤ at → IsMultinomial (take at ns) count
+    → IsMultinomial ns count
+all_counted ns count at past so_far =
+    subst (λ (ks : List ℕ). IsMultinomial ks count) (take_all at ns past) so_far
+
+-- and where that is above the limit, so is any other
+pub all_exceed : (ns : List ℕ) (count at limit : ℕ) → length ns ≤ at → IsMultinomial (take at ns) count
+    → limit < count → (m : ℕ) → IsMultinomial ns m → limit < m
+all_exceed ns count at limit past so_far above m is =
+    omega (arith, above, only_one ns count m (all_counted ns count at past so_far) is)
 
 -- and their sum fits
 pub all_summed : (ns : List ℕ) (total at : ℕ) → length ns ≤ at → total ≡ sum (take at ns)
-    → total < 18446744073709551616 → IsTrue true ↔ sum ns < 18446744073709551616
+    → total < 18446744073709551616 → (total ≡ sum ns) × (sum ns < 18446744073709551616)
 all_summed ns total at past so_far fits =
-    (λ told. omega (arith, fits, so_far, ap sum (take_all at ns past)), λ less. refl)
+    let all : total ≡ sum ns = so_far ∙ ap sum (take_all at ns past) in
+    (all, omega (arith, fits, all))
 
--- a coefficient that is not above the limit
-pub not_above : (ns : List ℕ) (limit : ℕ) (above : Bool)
-    → ((m : ℕ) → IsMultinomial ns m → IsTrue above ↔ limit < m) → above ≡ false
-    → ((m : ℕ) → IsMultinomial ns m → limit < m) → ⊥
-not_above ns limit above exact unset all =
-    let one : AreInterleaved ns = interleaved (sum ns) ns refl in
-    let told : above ≡ true = (exact one.0 one.2).1 (all one.0 one.2) in
-    let both : true ≡ false = sym told ∙ unset in cc
+-- or those so far do not
+pub over_summed : (ns : List ℕ) (total at : ℕ) → at < length ns → total ≡ sum (take at ns)
+    → (total + get_or ns at 0 < 18446744073709551616 → ⊥) → 18446744073709551616 ≤ sum ns
+over_summed ns total at within so_far over =
+    elim (cases_lt (total + get_or ns at 0) 18446744073709551616) [
+      | inl fits ↦ absurd (over fits)
+      | inr past ↦ omega (arith, so_far, past, sum_by_more_le (λ (n : ℕ). n) ns at 0 within)
+    ]

@@ -1,10 +1,8 @@
 -- How many schedules there are of a kind that is made of others.
-use Rattle.std.proofs.Common.{◌≡◌, ℕ, zero, suc, ◌+◌, ◌<◌, List, [], ◌∷◌, ◌++◌, length, map, take, Option, Some, None, slice_get, refl, ap, sym, subst, ◌∙◌, arith, inl, inr}
+use Rattle.std.proofs.Common.{◌≡◌, ℕ, zero, suc, ◌+◌, List, [], ◌∷◌, ◌++◌, length, map, Option, Some, None, slice_get, refl, ap, sym, subst, ◌∙◌, arith, inl, inr}
 use Rattle.std.specs.Prelude.{◌⊎◌, option_map}
-use Rattle.std.proofs.lemmas.List.{length-append, length-map, length-take-le}
+use Rattle.std.proofs.lemmas.List.{length-append, length-map}
 use Rattle.std.proofs.lemmas.Option.{slice_get-map, same_Some}
-use Rattle.hp_laws.proofs.Lists.{get_take}
-use Rattle.hp_explore.specs.Faults.{HasMoreThan}
 use Rattle.hp_explore.specs.Orders.{HasCount}
 
 -- each place of two lists, one after the other, is one of the first or of the second
@@ -130,15 +128,4 @@ same_count P Q n to from counted = (
     once = counted.1.once;
   },
   counted.2,
-)
-
--- more than a lower number
-pub more_listed : (P : List ℕ → Type 0) (m limit : ℕ) → limit < m → HasCount P m → HasMoreThan P limit
-more_listed P m limit less p = (
-  take (limit + 1) p.0,
-  record {
-    each = λ i s h. p.1.each i s (get_take (limit + 1) p.0 s i h).1;
-    once = λ i j s h k. p.1.once i j s (get_take (limit + 1) p.0 s i h).1 (get_take (limit + 1) p.0 s j k).1;
-  },
-  length-take-le (limit + 1) p.0 (omega (arith, less, p.2)),
 )

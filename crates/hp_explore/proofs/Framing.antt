@@ -4,19 +4,19 @@ use Rattle.std.proofs.lemmas.List.{append-nil, length_push, map-append, reverse-
 use Rattle.std.proofs.lemmas.Option.{none-some, same_Some}
 use Rattle.std.specs.List.{list_all}
 use Rattle.std.specs.declared.alloc.Global.{Global}
-use Rattle.std.specs.Prelude.{option_map}
 use Rattle.hp_units.specs.Memory.{Memory}
 use Rattle.hp_units.specs.declared.events.Event.{Event}
 use Rattle.hp_units.specs.declared.replies.Record.{Record}
 use Rattle.hp_explore.specs.Alike.{leaves_script}
 use Rattle.hp_explore.specs.Faults.{is_full_after}
-use Rattle.hp_explore.specs.Frames.{AreBelow, AreWalked, IsEntered, IsFrame, IsFresh, IsPlaceKept, kept_of, path_of}
+use Rattle.hp_explore.specs.Frames.{AreBelow, AreWalked, IsAdded, IsEntered, IsFrame, IsFresh, kept_of, path_of}
 use Rattle.hp_explore.specs.declared.frames.Kept.{Kept}
 use Rattle.hp_explore.specs.Paths.{IsBack, PathValue, state_at}
 use Rattle.hp_explore.specs.Schedules.{Setting, next_call, plays, record_of_call, schedule_of}
-use Rattle.hp_explore.specs.Seen.{Grow, IsMemo, MemoValue, SeenValue}
+use Rattle.hp_explore.specs.Seen.{AddsCounts, Grow, IsMemo, MemoValue, SeenValue}
 use Rattle.hp_explore.specs.Walks.{IsOverBelow, IsWalkedBefore, IsWalkedThrough}
-use Rattle.hp_explore.specs.declared.frames.Entry.TheVariants.{Open}
+use Rattle.hp_explore.specs.declared.frames.Entry.{Entry}
+use Rattle.hp_explore.specs.declared.frames.Entry.TheVariants.{Counted, Open}
 use Rattle.hp_explore.specs.declared.frames.Frame.{Frame}
 use Rattle.hp_explore.specs.declared.tally.Ending.{Ending}
 use Rattle.hp_explore.proofs.Grown.{grow_none, grow_twice}
@@ -58,7 +58,8 @@ below_grows g old new news (frame ∷ frames) grow b = (
 -- ---- a turn
 
 -- the schedule with one record more
-pub longer_schedule : (news : List Record) (r : Record) → schedule_of (news ++ r ∷ []) ≡ schedule_of news ++ r.cpu ∷ []
+pub longer_schedule : (news : List Record) (r : Record)
+    → schedule_of (news ++ r ∷ []) ≡ schedule_of news ++ r.cpu ∷ []
 longer_schedule news r = map-append (λ (q : Record). q.cpu) news (r ∷ [])
 
 -- a processor asks for nothing
@@ -156,7 +157,8 @@ bare_fresh memory ends frame is = (
   λ k here. absurd (none-some k (sym (ap kept_of is) ∙ here)),
 )
 
-pub kept_fresh : (memory : Memory) (ends : List Ending) (frame : Frame) (boxed : Box Kept Global) (kept : Kept)
+pub kept_fresh : (memory : Memory) (ends : List Ending) (frame : Frame) (boxed : Box Kept Global)
+    (kept : Kept)
     → frame ≡ record { next = 0; is_over = true; kept = Some boxed } → boxed.value ≡ kept
     → kept.snapshot ≡ memory → kept.earlier.items ≡ map (λ (e : Ending). e.count) ends
     → IsFresh memory ends frame
@@ -167,6 +169,16 @@ kept_fresh memory ends frame boxed kept is same here counted = (
       × (x.earlier.items ≡ map (λ (e : Ending). e.count) ends))
       (sym same ∙ same_Some boxed.value k (sym (ap kept_of is) ∙ found)) (here, counted),
 )
+
+-- or what was counted from another place is counted once more, as far as there is room
+pub entered_added : (p : PathValue) (old new : List Ending) (counts : List ℕ) (entry : Entry)
+    → IsWalkedBefore p.setting (schedule_of p.news) old
+    → (AddsCounts old counts new → IsWalkedThrough p.setting (schedule_of p.news) new × Grow old new)
+    → IsAdded old counts new entry → IsEntered p old new entry
+entered_added p old new counts Counted before walked added = walked added
+entered_added p old new counts (Open frame) before walked added =
+    subst (λ (ends : List Ending). IsEntered p old ends (Open frame)) (sym added.0)
+    (entered_fresh p old frame before (bare_fresh (state_at p) old frame added.1))
 
 -- ---- the stack
 

@@ -1,7 +1,8 @@
 -- Schedules of scripts whose lines are one call each.
 use Rattle.std.proofs.Common.{◌≡◌, ℕ, zero, suc, ◌+◌, ◌<◌, ◌≤◌, Bool, true, false, cond, List, [], ◌∷◌, ◌++◌, length, Option, Some, None, eqb, get_or, slice_get, refl, ap, sym, subst, ◌∙◌, arith, inl, inr}
 use Rattle.std.specs.Prelude.{◌↔◌, fold, option_and_then}
-use Rattle.std.specs.Option.{option_map_or}
+use Rattle.std.specs.List.{list_all}
+use Rattle.std.specs.Option.{SomeIff, option_map_or}
 use Rattle.std.proofs.lemmas.Bool.{and_parts, cases_lt, eq-eqb, eqb-true}
 use Rattle.std.proofs.lemmas.List.{append-nil, length_push}
 use Rattle.std.proofs.lemmas.Option.{none-some, same_Some}
@@ -10,13 +11,13 @@ use Rattle.hp_units.specs.declared.events.Event.{Event}
 use Rattle.hp_units.specs.declared.replies.Record.{Record}
 use Rattle.hp_units.specs.declared.replies.Receipt.{Receipt}
 use Rattle.hp_explore.specs.declared.scripts.Line.{Line}
-use Rattle.hp_explore.specs.Interleavings.{AreOneCalls, AreTooMany, IsInterleaving, holds_no_plan, script_length, script_lengths}
+use Rattle.hp_explore.specs.Interleavings.{AreOneCalls, IsInterleaving, IsRoomNeeded, holds_no_plan, script_length, script_lengths}
 use Rattle.hp_explore.specs.Multinomials.{IsMultinomial, sum, turns_of}
-use Rattle.hp_explore.specs.Faults.{HasMoreThan}
 use Rattle.hp_explore.specs.Orders.{HasCount}
 use Rattle.hp_explore.specs.Schedules.{IsComplete, Setting, outcome_after, next_call, play_one, plays, record_of_call}
 use Rattle.hp_explore.specs.Scripts.{next_in, next_of, own_operation}
-use Rattle.hp_explore.proofs.Counting.{more_listed, same_count}
+use Rattle.hp_explore.proofs.Coefficients.{only_one}
+use Rattle.hp_explore.proofs.Counting.{same_count}
 use Rattle.hp_explore.proofs.Interleaved.{HasTurns, interleaved, turns_cons}
 use Rattle.hp_explore.proofs.OneCalls.{asks_once, skips, stays}
 use Rattle.hp_explore.proofs.Plays.{from_news, plays_one, stays_none}
@@ -239,8 +240,25 @@ counted_by_lengths g m all counted =
     let one = complete_counted g all in
     subst (IsMultinomial (script_lengths g.scripts)) (only_count (IsComplete g) one.0 m one.1 counted) one.2
 
--- so there are more than the limit where that coefficient is above it
-pub too_many : (g : Setting) (limit : ℕ) → AreTooMany g.scripts limit → HasMoreThan (IsComplete g) limit
-too_many g limit many =
-    let one = complete_counted g many.0 in
-    more_listed (IsComplete g) one.0 limit (many.1 one.0 one.2) one.1
+pub lengths_count : (g : Setting) (m : ℕ) → AreOneCalls g.scripts
+    → IsMultinomial (script_lengths g.scripts) m → HasCount (IsComplete g) m
+lengths_count g m all is =
+    let one = complete_counted g all in
+    subst (HasCount (IsComplete g)) (only_one (script_lengths g.scripts) one.0 m one.2 is) one.1
+
+-- ---- the room that they need
+
+pub room_told : (g : Setting) (lines records : ℕ) (needed : Option ℕ) → AreOneCalls g.scripts
+    → lines ≡ sum (script_lengths g.scripts) → records ≡ length g.start
+    → SomeIff needed (lines + records < 18446744073709551616) (lines + records) → IsRoomNeeded g needed
+room_told g lines records None one all are over =
+    elim (cases_lt (lines + records) 18446744073709551616) [
+      | inl fits ↦ absurd (over fits)
+      | inr past ↦ λ _. omega (arith, past, all, are)
+    ]
+room_told g lines records (Some needed) one all are is = (one, omega (arith, is.1, all, are))
+
+-- a script that holds a plan
+pub with_plan : (scripts : List (List Line)) (none : Bool) → none ≡ list_all holds_no_plan scripts
+    → none ≡ false → AreOneCalls scripts → ⊥
+with_plan scripts none is unset one = let both : true ≡ false = sym one ∙ (sym is ∙ unset) in cc

@@ -1,6 +1,5 @@
 -- What the walk keeps of a place, and what it adds where it is found again.
 use Rattle.std.proofs.Common.{◌≡◌, ℕ, zero, suc, ◌+◌, ◌-◌, ◌<◌, ◌≤◌, true, List, [], ◌∷◌, ◌++◌, length, map, reverse, get_or, Option, Some, slice_get, refl, ap, sym, subst, ◌∙◌, arith, inl, inr}
-use Rattle.std.specs.Prelude.{sum, sum_by}
 use Rattle.std.proofs.lemmas.Bool.{cases_lt}
 use Rattle.std.proofs.lemmas.List.{get_or_append_left, get_or_past, get_or_push, length-map, length_push}
 use Rattle.std.proofs.lemmas.Option.{same_Some, slice_get_read}
@@ -11,18 +10,12 @@ use Rattle.hp_units.specs.declared.replies.Record.{Record}
 use Rattle.hp_steps.specs.Steps.{StepsValue}
 use Rattle.hp_explore.specs.Alike.{AreAlike}
 use Rattle.hp_explore.specs.Ends.{AreCounted}
-use Rattle.hp_explore.specs.Faults.{HasMoreThan, IsWalkCause}
-use Rattle.hp_explore.specs.Notes.{TallyValue}
 use Rattle.hp_explore.specs.Numbers.{AreNumbered, IsNumbered, KeepNumbers}
 use Rattle.hp_explore.specs.Openings.{Opening}
-use Rattle.hp_explore.specs.Outcomes.{OutcomeValue}
-use Rattle.hp_explore.specs.Schedules.{IsComplete, Setting, plays, schedule_of}
-use Rattle.hp_explore.specs.Seen.{AddsCounts, AllSeen, AreNoMore, AreSince, Grow, IsAddCause, IsLike, IsLikeAmong, IsMemo, IsSeen, MemoValue, SeenValue}
+use Rattle.hp_explore.specs.Schedules.{Setting, plays, schedule_of}
+use Rattle.hp_explore.specs.Seen.{AddsCounts, AllSeen, AreNoMore, AreSince, Grow, IsLike, IsLikeAmong, IsMemo, IsSeen, MemoValue, SeenValue}
 use Rattle.hp_explore.specs.Walks.{Before, CountsBefore, CountsThrough, HasRoomFrom, IsAt, IsWalkedBefore, IsWalkedThrough, Through}
-use Rattle.hp_explore.specs.declared.exploring.ExploreFault.{ExploreFault}
 use Rattle.hp_explore.specs.declared.tally.Ending.{Ending}
-use Rattle.hp_explore.proofs.Adding.{added_sums}
-use Rattle.hp_explore.proofs.Counting.{more_listed}
 use Rattle.hp_explore.proofs.Grown.{all_grow, all_more}
 use Rattle.hp_explore.proofs.Merges.{like_alike, merged, walked_seen}
 use Rattle.hp_explore.proofs.Numbered.{number_kept}
@@ -282,68 +275,3 @@ pub numbers_same : (g : Setting) (news : List Record) (old new : MemoValue)
 numbers_same g news old new same are =
     subst (λ (lists : List (List Opening)). AreNumbered g lists news (reverse new.numbers)) (sym same.0)
     (subst (λ (numbers : List (Option ℕ)). AreNumbered g old.lists news (reverse numbers)) (sym same.1) are)
-
--- ---- counts that are added
-
--- ends with counts added
-abbrev added_to : List Ending → List ℕ → List Ending
-added_to [] counts = []
-added_to (e ∷ ends) [] = e ∷ ends
-added_to (e ∷ ends) (c ∷ counts) =
-    record { outcome = e.outcome; count = e.count + c; first = e.first } ∷ added_to ends counts
-
-added_many : (ends : List Ending) (counts : List ℕ) → length (added_to ends counts) ≡ length ends
-added_many [] counts = refl
-added_many (e ∷ ends) [] = refl
-added_many (e ∷ ends) (c ∷ counts) = ap suc (added_many ends counts)
-
-added_each : (ends : List Ending) (counts : List ℕ) (k : ℕ) (e f : Ending) → slice_get ends k ≡ Some e
-    → slice_get (added_to ends counts) k ≡ Some f
-    → (f.outcome ≡ e.outcome) × (f.first.items ≡ e.first.items) × (f.count ≡ e.count + get_or counts k 0)
-added_each [] counts k e f h i = absurd cc
-added_each (x ∷ ends) [] k e f h i =
-    let same : e ≡ f = same_Some e f (sym h ∙ i) in (
-      ap (λ (y : Ending). y.outcome) (sym same),
-      ap (λ (y : Ending). y.first.items) (sym same),
-      omega (arith, ap (λ (y : Ending). y.count) same),
-    )
-added_each (x ∷ ends) (c ∷ counts) zero e f h i =
-    let first : x ≡ e = same_Some x e h in
-    let more : record { outcome = x.outcome; count = x.count + c; first = x.first } ≡ f = same_Some _ f i in (
-      ap (λ (y : Ending). y.outcome) (sym more) ∙ ap (λ (y : Ending). y.outcome) first,
-      ap (λ (y : Ending). y.first.items) (sym more) ∙ ap (λ (y : Ending). y.first.items) first,
-      omega (arith, ap (λ (y : Ending). y.count) more, ap (λ (y : Ending). y.count) first),
-    )
-added_each (x ∷ ends) (c ∷ counts) (suc k) e f h i = added_each ends counts k e f h i
-
-adds_counts : (ends : List Ending) (counts : List ℕ) → AddsCounts ends counts (added_to ends counts)
-adds_counts ends counts = record { as_many = added_many ends counts; more = added_each ends counts }
-
--- so there are more than the limit where they could not all be added
-pub found_exceeds : (g : Setting) (q : List ℕ) (ends : List Ending) (counts : List ℕ) (limit : ℕ)
-    → length counts ≤ length ends
-    → ((new : List Ending) → AddsCounts ends counts new → AreCounted (Through g q) new)
-    → limit < sum_by (λ (e : Ending). e.count) ends + sum counts → HasMoreThan (IsComplete g) limit
-found_exceeds g q ends counts limit few counted above = (
-  more.0,
-  record { each = λ i s h. let x = more.1.each i s h in (x.0, x.1.1); once = more.1.once },
-  more.2,
-)
-  where
-    more : HasMoreThan (λ s. (x : OutcomeValue) × Through g q s x) limit
-    more =
-        more_listed (λ s. (x : OutcomeValue) × Through g q s x)
-        (sum_by (λ (e : Ending). e.count) (added_to ends counts)) limit
-        (omega (arith, above, added_sums ends (added_to ends counts) counts few (adds_counts ends counts)))
-        (counted (added_to ends counts) (adds_counts ends counts)).total
-
--- the fault where what was found could not be added
-pub found_fault : (g : Setting) (p : StepsValue) (memo : MemoValue) (tally : TallyValue) (counts : List ℕ)
-    (fault : ExploreFault)
-    → IsFound g p memo tally.ends counts → CountsBefore g p tally.ends → IsAddCause tally counts fault
-    → IsWalkCause g tally.limit fault
-found_fault g p memo tally counts fault found before cause =
-    subst (IsWalkCause g tally.limit) (sym cause.0)
-    (found_exceeds g (schedule_of p.records) tally.ends counts tally.limit
-    (found_few g p memo tally.ends counts found)
-    (λ new adds. found_counted g p memo tally.ends new counts found before adds) cause.1)

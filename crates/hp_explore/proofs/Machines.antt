@@ -16,7 +16,7 @@ use Rattle.hp_machine.specs.Machine.{IsCalled, MachineValue, is_full, record_of}
 use Rattle.hp_machine.proofs.Machines.{room}
 use Rattle.hp_explore.specs.declared.exploring.ExploreFault.TheVariants.{HistoryFull}
 use Rattle.hp_explore.specs.declared.scripts.Line.{Line}
-use Rattle.hp_explore.specs.Faults.{IsCallCause, is_full_after}
+use Rattle.hp_explore.specs.Faults.{IsCause, is_full_after}
 use Rattle.hp_explore.specs.Notes.{fault_of}
 use Rattle.hp_explore.specs.Schedules.{Setting, next_call, plays, record_of_call, schedule_of, setting}
 use Rattle.hp_explore.specs.Scripts.{next_of}
@@ -171,6 +171,6 @@ call_full CallFull is = refl
 call_full CallMemory is = absurd cc
 
 pub call_cause : (g : Setting) (m : MachineValue) (cpu : ℕ) (fault : CallFault)
-    → (fault ≡ CallFull → FillsAt g m cpu) → IsCallCause g (fault_of fault)
+    → (fault ≡ CallFull → FillsAt g m cpu) → IsCause g (fault_of fault)
 call_cause g m cpu CallFull full = (place_of g m, (full refl).0)
 call_cause g m cpu CallMemory full = tt

@@ -1,13 +1,13 @@
 -- What numbers of openings mean: the lists that entries make, and the places on a walk's way.
-use Rattle.std.proofs.Common.{◌≡◌, ℕ, zero, suc, ◌+◌, ◌-◌, ◌<◌, ◌≤◌, Bool, true, false, cond, List, [], ◌∷◌, ◌++◌, length, option_to_list, reverse, eqb, get_or, IfNone, IfSome, Option, Some, None, slice_get, refl, ap, sym, subst, ◌∙◌, arith, inl, inr}
+use Rattle.std.proofs.Common.{◌≡◌, ℕ, zero, suc, ◌+◌, ◌-◌, ◌<◌, Bool, true, false, cond, List, [], ◌∷◌, ◌++◌, length, option_to_list, reverse, eqb, get_or, IfNone, IfSome, Option, Some, None, slice_get, refl, ap, sym, subst, ◌∙◌, arith, inl, inr}
 use Rattle.std.specs.Prelude.{fold}
 use Rattle.std.proofs.lemmas.List.{append-nil, append_assoc, length_push, reverse-append, same_from_push}
 use Rattle.std.proofs.lemmas.List.Sums.{fold_push}
-use Rattle.std.proofs.lemmas.Option.{get_or_from_slice_get, none-some, same_Some, slice_get-get_or, slice_get_within}
-use Rattle.hp_units.specs.History.{effect_of, net_of, net_with, run, value_of}
+use Rattle.std.proofs.lemmas.Option.{get_or_from_slice_get, same_Some, slice_get-get_or, slice_get_within}
+use Rattle.hp_units.specs.History.{effect_of, net_of, run, value_of}
 use Rattle.hp_units.specs.Memory.{Memory}
 use Rattle.hp_units.specs.declared.replies.Record.{Record}
-use Rattle.hp_laws.proofs.Lists.{get_end, get_left, get_push_cases, get_some}
+use Rattle.hp_laws.proofs.Lists.{get_end, get_left, get_push_cases}
 use Rattle.hp_laws.proofs.Net.{net-push}
 use Rattle.hp_explore.specs.Alike.{is_closed, leaves_steps}
 use Rattle.hp_explore.specs.Numbers.{AreNumbered, IsBegun, IsEntryOf, IsInFront, IsMadeBy, IsNumbered, IsStateAt, KeepNumbers, NumbersOn, StandOnEarlier, list_of, lists_of, with_entry}
@@ -15,7 +15,6 @@ use Rattle.hp_explore.specs.Openings.{AreOpen, Opening, after_cancel, after_work
 use Rattle.hp_explore.specs.Paths.{PathValue}
 use Rattle.hp_explore.specs.Schedules.{Setting}
 use Rattle.hp_explore.specs.Seen.{MemoValue}
-use Rattle.hp_explore.specs.declared.openings.Change.{Change}
 use Rattle.hp_explore.specs.declared.openings.Change.TheVariants.{Stays, Begins, Works, Cancels, Ends}
 use Rattle.hp_explore.specs.declared.openings.Entry.{Entry}
 use Rattle.hp_explore.proofs.ClosedNets.{closed_none_sole}
@@ -172,7 +171,8 @@ pub other_work : (lists : List (List Opening)) (was : Option ℕ) (n m op : ℕ)
     → IsMadeBy (after_work op) lists was (Some m)
 other_work lists was n m op e is at differ here =
     made_first (after_work op) lists was n m e is at
-    (here ∙ ap (λ (b : Bool). Some (cond b (record { op = e.op; memory = e.snapshot } ∷ at.0) [])) (sym differ))
+    (here
+    ∙ ap (λ (b : Bool). Some (cond b (record { op = e.op; memory = e.snapshot } ∷ at.0) [])) (sym differ))
 
 pub same_cancel : (lists : List (List Opening)) (was : Option ℕ) (n op : ℕ) (e : Entry)
     → was ≡ Some n → IsEntryOf lists n e → eqb e.op op ≡ true
@@ -213,7 +213,8 @@ pub stays_on : (lists : List (List Opening)) (from : Option Memory) (r : Record)
 stays_on lists from r None is g news here leaves before = tt
 stays_on lists from r (Some n) is g news here leaves before =
     numbered_on g lists news r before.0 n leaves before.2
-    (before.1 ∙ ap Some (sym (ap (changed (value_of g.layout g.base (g.start ++ news)) r.serial before.0) is)))
+    (before.1
+    ∙ ap Some (sym (ap (changed (value_of g.layout g.base (g.start ++ news)) r.serial before.0) is)))
 
 pub begins_on : (old new : List (List Opening)) (from : Option Memory) (r : Record) (was number : Option ℕ)
     → change_of r ≡ Begins → IsBegun old new r.serial from was number → NumbersOn old new from r was number
@@ -286,13 +287,16 @@ pub number_within : (g : Setting) (lists : List (List Opening)) (news : List Rec
 number_within g lists news None is = tt
 number_within g lists news (Some n) is = slice_get_within lists n is.0 is.1
 
+one_less : {X : Type 0} (y z : X) (xs : List X) → length (y ∷ z ∷ xs) - 1 ≡ suc (length (z ∷ xs) - 1)
+one_less y z xs = omega arith
+
 split_last : {X : Type 0} (xs : List X) (x : X) → 0 < length xs → x ≡ get_or xs (length xs - 1) x
     → (rest : List X) × (xs ≡ rest ++ x ∷ [])
 split_last [] x some is = absurd (omega arith)
 split_last (y ∷ []) x some is = ([], ap (λ z. z ∷ []) (sym is))
 split_last (y ∷ z ∷ xs) x some is =
-    let less : length (y ∷ z ∷ xs) - 1 ≡ suc (length (z ∷ xs) - 1) = omega arith in
-    let deep = split_last (z ∷ xs) x (omega arith) (is ∙ ap (λ (n : ℕ). get_or (y ∷ z ∷ xs) n x) less) in
+    let deep =
+    split_last (z ∷ xs) x (omega arith) (is ∙ ap (λ (n : ℕ). get_or (y ∷ z ∷ xs) n x) (one_less y z xs)) in
     (y ∷ deep.0, ap (λ zs. y ∷ zs) deep.1)
 
 -- the latest number is that of where the walk stands

@@ -1,5 +1,5 @@
 -- What one record more makes of the operations that Cancels can take back whole.
-use Rattle.std.proofs.Common.{◌≡◌, ℕ, zero, suc, ◌+◌, ◌<◌, ◌≤◌, Bool, true, false, cond, eqb, List, [], ◌∷◌, ◌++◌, length, map, take, Option, Some, None, refl, ap, sym, subst, ◌∙◌, arith}
+use Rattle.std.proofs.Common.{◌≡◌, ℕ, suc, ◌+◌, ◌<◌, Bool, true, false, cond, eqb, List, [], ◌∷◌, ◌++◌, length, map, take, Option, Some, None, refl, ap, sym, subst, ◌∙◌, arith}
 use Rattle.std.specs.Prelude.{◌&&◌, option_map}
 use Rattle.std.proofs.lemmas.Bool.{eq-eqb, eqb-true}
 use Rattle.std.proofs.lemmas.List.{length-map, map-append, take-append-le, take_all}
@@ -60,7 +60,8 @@ sole_push op [] t = by_tests (begins op t) (is_work_of op t.mark)
     by_tests false true = refl
     by_tests false false = refl
 sole_push op (u ∷ ts) t =
-    ap (λ (o : Option ℕ). cond (begins op u && holds_only_own_work op (ts ++ t ∷ [])) (Some 0) (option_map suc o))
+    ap (λ (o : Option ℕ).
+    cond (begins op u && holds_only_own_work op (ts ++ t ∷ [])) (Some 0) (option_map suc o))
     (sole_push op ts t)
     ∙ (ap (λ (b : Bool). cond (begins op u && b) (Some 0) (option_map suc
     (cond (begins op t) (Some (length ts)) (cond (is_work_of op t.mark) (sole_at op ts) None))))

@@ -213,7 +213,7 @@ walk_here g p news ends played over ok =
     (λ s x h. (before_longer s p (length g.scripts ∷ []) h.0, h.1)) ok
 
 -- the schedule that comes there is complete
-complete : (g : Setting) (p : List ℕ) (news : List Record) → plays g p ≡ Some news
+pub complete : (g : Setting) (p : List ℕ) (news : List Record) → plays g p ≡ Some news
     → ((cpu : ℕ) → next_call g cpu news ≡ None) → EndsWith g p (outcome_after g news)
 complete g p news played over = record { news = news; played = played; over = over; ends = refl }
 
@@ -240,17 +240,15 @@ walk_notes g p news old new played over ok adds =
     from : (s : List ℕ) (x : OutcomeValue) → Through g p s x → With (Before g p) p (outcome_after g news) s x
     from s x h = elim h.0 [ inl b ↦ inl (b, h.1) | inr e ↦ inr (only_this g p news s x played over e h.1) ]
 
--- so there are more than those before it
-pub walk_exceeds : (g : Setting) (p : List ℕ) (news : List Record) (ends : List Ending) (limit : ℕ)
-    → plays g p ≡ Some news → ((cpu : ℕ) → next_call g cpu news ≡ None)
-    → AreCounted (Before g (p ++ length g.scripts ∷ [])) ends → sum_by (λ (e : Ending). e.count) ends ≡ limit
+-- so there are more than those before a complete one
+pub walk_exceeds : (g : Setting) (p : List ℕ) (ends : List Ending) (limit : ℕ) → IsComplete g p
+    → AreCounted (Before g p) ends → sum_by (λ (e : Ending). e.count) ends ≡ limit
     → HasMoreThan (IsComplete g) limit
-walk_exceeds g p news ends limit played over ok sum =
+walk_exceeds g p ends limit next ok sum =
     subst (HasMoreThan (IsComplete g)) sum
     (more_than (λ s. (x : OutcomeValue) × Before g p s x) (IsComplete g)
-    (sum_by (λ (e : Ending). e.count) ends) p (λ h. not_before_itself p h.1.0) (λ s h. (h.0, h.1.1))
-    (outcome_after g news, complete g p news played over)
-    (walk_here g p news ends played over ok).total)
+    (sum_by (λ (e : Ending). e.count) ends) p (λ h. not_before_itself p h.1.0) (λ s h. (h.0, h.1.1)) next
+    ok.total)
 
 -- all scripts are at their ends where those of the scripts' processors are
 pub over_all : (g : Setting) (news : List Record) → IsOverBelow g news (length g.scripts) true → (cpu : ℕ)

@@ -8,16 +8,13 @@ use Rattle.hp_units.specs.History.{effect_of}
 use Rattle.hp_units.specs.Memory.{Memory}
 use Rattle.hp_units.specs.declared.events.Event.{Event}
 use Rattle.hp_explore.specs.Alike.{leaves_steps}
-use Rattle.hp_explore.specs.Faults.{IsCause, IsWalkCause, is_full_after}
+use Rattle.hp_explore.specs.Faults.{is_full_after}
 use Rattle.hp_explore.specs.Frames.{AreBelow, AreWalked, IsFrame, kept_of, path_of}
 use Rattle.hp_explore.specs.Numbers.{AreNumbered, IsStateAt}
 use Rattle.hp_explore.specs.Paths.{IsBack, IsForth, PathValue}
 use Rattle.hp_explore.specs.Schedules.{Setting, plays, record_of_call, schedule_of}
-use Rattle.hp_explore.specs.Interleavings.{IsNotKnownTooMany}
 use Rattle.hp_explore.specs.Seen.{Grow, IsMemo, MemoValue}
 use Rattle.hp_explore.specs.Walks.{IsWalkedBefore, IsWalkedThrough}
-use Rattle.hp_explore.specs.declared.exploring.ExploreFault.{ExploreFault}
-use Rattle.hp_explore.specs.declared.exploring.ExploreFault.TheVariants.{TooMany, HistoryFull, OutOfMemory}
 use Rattle.hp_explore.specs.declared.frames.Frame.{Frame}
 use Rattle.hp_explore.specs.declared.frames.Kept.{Kept}
 use Rattle.hp_explore.proofs.Alike.{call_leaves, event_kept}
@@ -165,15 +162,3 @@ gone_back g old ends news frames all cpu q memo n all_is grow below walked back 
   where
     same : q.setting ≡ g
     same = back_setting g news cpu (path_of g news) q refl back
-
--- why not all schedules were counted
-pub cause_of : (g h : Setting) (limit most : ℕ) (fault : ExploreFault) → h ≡ g → most ≡ limit
-    → IsNotKnownTooMany g.scripts limit → IsWalkCause h most fault → IsCause g limit fault
-cause_of g h limit most fault same is unknown cause =
-    by_fault fault (subst (λ (n : ℕ). IsWalkCause g n fault) is
-    (subst (λ (x : Setting). IsWalkCause x most fault) same cause))
-  where
-    by_fault : (f : ExploreFault) → IsWalkCause g limit f → IsCause g limit f
-    by_fault TooMany why = why
-    by_fault HistoryFull why = (why, unknown)
-    by_fault OutOfMemory why = why

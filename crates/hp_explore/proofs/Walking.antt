@@ -3,21 +3,20 @@ use Rattle.std.proofs.Common.{◌≡◌, ℕ, ◌+◌, ◌<◌, ◌≤◌, Bool,
 use Rattle.std.proofs.lemmas.Bool.{cases_lt}
 use Rattle.std.proofs.lemmas.List.{append_assoc, take-append-drop, take_all}
 use Rattle.std.proofs.lemmas.Option.{slice_get_read}
+use Rattle.std.specs.Prelude.{sum_by}
 use Rattle.hp_units.specs.declared.replies.Record.{Record}
 use Rattle.hp_machine.specs.Machine.{MachineValue}
 use Rattle.hp_explore.specs.declared.tally.Ending.{Ending}
-use Rattle.hp_explore.specs.Ends.{AreCounted}
 use Rattle.hp_explore.specs.Frames.{path_of, standing}
-use Rattle.hp_explore.specs.Faults.{FillsAlong, IsNoteCause, IsWalkCause}
-use Rattle.hp_explore.specs.Notes.{TallyValue}
-use Rattle.hp_explore.specs.declared.exploring.ExploreFault.{ExploreFault}
-use Rattle.hp_explore.specs.declared.exploring.ExploreFault.TheVariants.{TooMany, HistoryFull, OutOfMemory}
+use Rattle.hp_explore.specs.Faults.{FillsAlong, HasMoreThan}
+use Rattle.hp_explore.specs.Fronts.{AreFirst}
 use Rattle.hp_explore.specs.declared.scripts.Line.{Line}
-use Rattle.hp_explore.specs.Schedules.{Setting, next_call, outcome_after, plays, schedule_of, setting}
-use Rattle.hp_explore.specs.Walks.{Before, FillsAt, IsEndNoted, IsFurther, IsOverBelow, IsPlayed, IsReached, IsWalkedBefore, IsWalkedThrough, news_in, place_of}
+use Rattle.hp_explore.specs.Schedules.{IsComplete, Setting, next_call, outcome_after, plays, schedule_of, setting}
+use Rattle.hp_explore.specs.Walks.{FillsAt, IsEndNoted, IsFurther, IsOverBelow, IsPlayed, IsReached, IsWalkedBefore, IsWalkedThrough, news_in, place_of}
 use Rattle.hp_laws.proofs.Replays.{take_one}
 use Rattle.hp_explore.proofs.Machines.{reached_start, start_place}
-use Rattle.hp_explore.proofs.Plays.{over_all, stops, walk_exceeds, walk_here, walk_notes, walk_up}
+use Rattle.hp_explore.proofs.Plays.{complete, over_all, stops, walk_exceeds, walk_here, walk_notes, walk_up}
+use Rattle.hp_explore.proofs.Regions.{before_longer}
 use Rattle.hp_explore.proofs.Rooms.{done_up, ordered_noted}
 
 -- what is known of the processors below the next one, where this one asks for nothing
@@ -70,18 +69,33 @@ leaf g news n is_over ends new all none played done over adds =
     (walk_here g (schedule_of news) news ends played (over_here g news n is_over all none over)
     before.counted) noted)
 
--- why one more could not be counted
-pub leaf_fault : (g : Setting) (news : List Record) (n : ℕ) (is_over : Bool) (tally : TallyValue)
-    (fault : ExploreFault)
+-- which are as many as the limit
+pub full_here : (g : Setting) (news : List Record) (n : ℕ) (is_over : Bool) (ends : List Ending) (limit : ℕ)
     → n ≡ length g.scripts → is_over ≡ true → plays g (schedule_of news) ≡ Some news
-    → IsWalkedBefore g (schedule_of news ++ n ∷ []) tally.ends → IsOverBelow g news n is_over
-    → IsNoteCause tally fault → IsWalkCause g tally.limit fault
-leaf_fault g news n is_over tally TooMany all none played done over cause =
-    walk_exceeds g (schedule_of news) news tally.ends tally.limit played
-    (over_here g news n is_over all none over)
-    (subst (λ (k : ℕ). AreCounted (Before g (schedule_of news ++ k ∷ [])) tally.ends) all done.counted) cause
-leaf_fault g news n is_over tally HistoryFull all none played done over cause = absurd cause
-leaf_fault g news n is_over tally OutOfMemory all none played done over cause = tt
+    → IsWalkedBefore g (schedule_of news ++ n ∷ []) ends → IsOverBelow g news n is_over
+    → sum_by (λ (e : Ending). e.count) ends ≡ limit → AreFirst g limit ends
+full_here g news n is_over ends limit all none played done over sum =
+    let before : IsWalkedBefore g (schedule_of news ++ length g.scripts ∷ []) ends =
+    subst (λ (k : ℕ). IsWalkedBefore g (schedule_of news ++ k ∷ []) ends) all done in
+    let ended = over_here g news n is_over all none over in
+    record {
+      place = schedule_of news;
+      next = (outcome_after g news, complete g (schedule_of news) news played ended);
+      walked = record {
+        counted = walk_here g (schedule_of news) news ends played ended before.counted;
+        ordered = before.ordered;
+        room =
+            λ s h b. before.room s h
+            (before_longer (s ++ h.cpu ∷ []) (schedule_of news) (length g.scripts ∷ []) b);
+      };
+      full = sum;
+    }
+
+-- so there is a further one
+pub first_exceed : (g : Setting) (limit : ℕ) (ends : List Ending) → AreFirst g limit ends
+    → HasMoreThan (IsComplete g) limit
+first_exceed g limit ends first =
+    walk_exceeds g first.place ends limit first.next first.walked.counted first.full
 
 -- ---- one schedule
 

@@ -1,13 +1,11 @@
--- Why the schedules were not all counted.
-use Rattle.std.specs.Prelude.{◌≡◌, ℕ, ◌+◌, Bool, ◌||◌, true, List, [], ◌∷◌, ◌++◌, Some, length, nat_le, slice_get, sum_by}
+-- Why schedules were not counted.
+use Rattle.std.specs.Prelude.{◌≡◌, ℕ, ◌+◌, Bool, ◌||◌, true, List, [], ◌∷◌, ◌++◌, Some, length, nat_le, slice_get}
 use Rattle.hp_units.specs.declared.events.Event.{Event}
 use Rattle.hp_units.specs.declared.replies.Record.{Record}
 use Rattle.hp_explore.specs.declared.exploring.ExploreFault.{ExploreFault}
-use Rattle.hp_explore.specs.declared.exploring.ExploreFault.TheVariants.{TooMany, HistoryFull, OutOfMemory}
-use Rattle.hp_explore.specs.Interleavings.{IsNotKnownTooMany}
-use Rattle.hp_explore.specs.Notes.{TallyValue}
+use Rattle.hp_explore.specs.declared.exploring.ExploreFault.TheVariants.{HistoryFull, OutOfMemory}
 use Rattle.hp_explore.specs.Orders.{Extends}
-use Rattle.hp_explore.specs.Schedules.{IsComplete, Setting, next_call, plays}
+use Rattle.hp_explore.specs.Schedules.{Setting, next_call, plays}
 
 -- there are more schedules of a kind than so many: a list of one more, each of the kind and each once
 pub record AreSome (P : List ℕ → Type 0) (all : List (List ℕ)) : Type 0 where
@@ -39,25 +37,7 @@ FillsHistory g = (s : List ℕ) × HasNoRoom g s
 abbrev pub FillsAlong : Setting → List ℕ → Type 0
 FillsAlong g schedule = (s : List ℕ) × (h : HasNoRoom g s) × Extends schedule (s ++ h.cpu ∷ [])
 
--- the cause of a fault: a full history is one only where the limit was not known to be exceeded
--- before any call
-abbrev pub IsCause : Setting → (limit : ℕ) → ExploreFault → Type 0
-IsCause g limit TooMany = HasMoreThan (IsComplete g) limit
-IsCause g limit HistoryFull = FillsHistory g × IsNotKnownTooMany g.scripts limit
-IsCause g limit OutOfMemory = Unit {0}
-
--- the cause of a walk's fault, of a call's, and of one in counting
-abbrev pub IsWalkCause : Setting → (limit : ℕ) → ExploreFault → Type 0
-IsWalkCause g limit TooMany = HasMoreThan (IsComplete g) limit
-IsWalkCause g limit HistoryFull = FillsHistory g
-IsWalkCause g limit OutOfMemory = Unit {0}
-
-abbrev pub IsCallCause : Setting → ExploreFault → Type 0
-IsCallCause g TooMany = ⊥
-IsCallCause g HistoryFull = FillsHistory g
-IsCallCause g OutOfMemory = Unit {0}
-
-abbrev pub IsNoteCause : TallyValue → ExploreFault → Type 0
-IsNoteCause t TooMany = sum_by (λ e. e.count) t.ends ≡ t.limit
-IsNoteCause t HistoryFull = ⊥
-IsNoteCause t OutOfMemory = Unit {0}
+-- the cause of a fault
+abbrev pub IsCause : Setting → ExploreFault → Type 0
+IsCause g HistoryFull = FillsHistory g
+IsCause g OutOfMemory = Unit {0}

@@ -1,5 +1,5 @@
 -- The stack of a walk: what it knows of each place between where the scripts begin and where it stands.
-use Rattle.std.specs.Prelude.{◌≡◌, ℕ, ◌+◌, ◌-◌, ◌*◌, ◌^◌, ◌<◌, ◌≤◌, Bool, true, false, List, [], ◌∷◌, ◌++◌, Option, Some, length, map, option_map, reverse, Box}
+use Rattle.std.specs.Prelude.{◌≡◌, ℕ, ◌+◌, ◌-◌, ◌*◌, ◌^◌, ◌<◌, ◌≤◌, Bool, true, false, List, [], ◌∷◌, ◌++◌, Option, None, Some, length, map, option_map, reverse, Box}
 use Rattle.std.specs.declared.alloc.Global.{Global}
 use Rattle.hp_units.specs.History.{value_of}
 use Rattle.hp_units.specs.Memory.{Memory}
@@ -11,13 +11,16 @@ use Rattle.hp_explore.specs.Faults.{is_full_after}
 use Rattle.hp_explore.specs.Numbers.{AreNumbered}
 use Rattle.hp_explore.specs.Paths.{PathValue, state_at}
 use Rattle.hp_explore.specs.Schedules.{Setting, next_call, plays, schedule_of}
-use Rattle.hp_explore.specs.Seen.{Grow, IsMemo}
+use Rattle.hp_explore.specs.Fronts.{AreFirst}
+use Rattle.hp_explore.specs.Seen.{AddsCounts, Grow, IsMemo}
 use Rattle.hp_explore.specs.Walks.{Before, IsOverBelow, IsWalkedBefore, IsWalkedThrough}
 use Rattle.hp_explore.specs.declared.frames.Entry.{Entry}
 use Rattle.hp_explore.specs.declared.frames.Entry.TheVariants.{Counted, Open}
 use Rattle.hp_explore.specs.declared.frames.Frame.{Frame}
 use Rattle.hp_explore.specs.declared.frames.Kept.{Kept}
 use Rattle.hp_explore.specs.declared.tally.Ending.{Ending}
+use Rattle.hp_explore.specs.declared.frames.Turned.{Turned}
+use Rattle.hp_explore.specs.declared.frames.Turned.TheVariants.{On, Over, Full}
 use Rattle.hp_explore.specs.declared.walk.Walk.{Walk}
 
 -- steps of where a path stands
@@ -119,6 +122,26 @@ pub record IsComing (w : Walk) (frames : List Frame) : Type 0 where
   pub processors : w.processors ≡ length w.path.setting.scripts
   pub few : w.processors < 2 ^ 32
   pub short : length w.path.news ≤ w.path.setting.layout.history
+
+-- so many schedules more were counted under each end, or the place is to be walked since there is no
+-- room for them
+abbrev pub IsAdded : (old : List Ending) → (counts : List ℕ) → (new : List Ending) → Entry → Type 0
+IsAdded old counts new Counted = AddsCounts old counts new
+IsAdded old counts new (Open frame) =
+    (new ≡ old) × (frame ≡ record { next = 0; is_over = true; kept = None })
+
+-- what a turn of a walk came to: less of it is left; all is walked; or as many schedules are counted
+-- as the limit says, and there is a further one
+abbrev pub IsTurnedTo : (old new : Walk) → Turned → Type 0
+IsTurnedTo old new On =
+    IsWalking new (frames_of new) × (left new (frames_of new) < left old (frames_of old))
+IsTurnedTo old new Over = IsWalkedThrough new.path.setting [] new.tally.ends
+IsTurnedTo old new Full = AreFirst new.path.setting new.tally.limit new.tally.ends
+
+-- what a walk came to in the end
+abbrev pub IsDone : Walk → (is_whole : Bool) → Type 0
+IsDone w true = IsWalkedThrough w.path.setting [] w.tally.ends
+IsDone w false = AreFirst w.path.setting w.tally.limit w.tally.ends
 
 -- what was done at a place: what goes on from there was counted, or it has a frame with all to come
 abbrev pub IsEntered : PathValue → (old new : List Ending) → Entry → Type 0

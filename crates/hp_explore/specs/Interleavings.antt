@@ -1,8 +1,11 @@
 -- Complete schedules of scripts without plans, in plain terms.
-use Rattle.std.specs.Prelude.{◌≡◌, ℕ, ◌<◌, ◌≤◌, ◌^◌, Bool, true, false, List, length, map, slice_get}
+use Rattle.std.specs.Prelude.{◌≡◌, ℕ, ◌+◌, ◌<◌, ◌≤◌, ◌^◌, Bool, true, false, List, Option, Some, None, length, map, slice_get}
 use Rattle.std.specs.List.{list_all}
 use Rattle.std.specs.Option.{option_map_or}
 use Rattle.hp_explore.specs.Multinomials.{IsMultinomial, sum, turns_of}
+use Rattle.hp_explore.specs.Schedules.{Setting}
+use Rattle.hp_explore.specs.declared.multinomials.HowMany.{HowMany}
+use Rattle.hp_explore.specs.declared.multinomials.HowMany.TheVariants.{Exactly, MoreThanLimit, Unknown}
 use Rattle.hp_explore.specs.declared.scripts.Line.{Line}
 use Rattle.hp_explore.specs.declared.scripts.Line.TheVariants.{Ask, Own, Carry}
 
@@ -38,6 +41,17 @@ IsCountOfLengths scripts m = IsMultinomial (script_lengths scripts) m
 abbrev pub AreTooMany : List (List Line) → (limit : ℕ) → Type 0
 AreTooMany scripts limit = AreOneCalls scripts × ((m : ℕ) → IsCountOfLengths scripts m → limit < m)
 
--- it is not known before any call that there are: not so, or the scripts have 2^64 lines or more
-abbrev pub IsNotKnownTooMany : List (List Line) → (limit : ℕ) → Type 0
-IsNotKnownTooMany scripts limit = AreTooMany scripts limit → 2 ^ 64 ≤ sum (script_lengths scripts)
+-- how many records the history needs room for, so that it has room for each call: those that it has,
+-- and one for each line, where each is one call; none where not, or where that is 2^64 or more
+abbrev pub IsRoomNeeded : Setting → Option ℕ → Type 0
+IsRoomNeeded g None =
+    AreOneCalls g.scripts → 2 ^ 64 ≤ length g.start + sum (script_lengths g.scripts)
+IsRoomNeeded g (Some needed) =
+    AreOneCalls g.scripts × (needed ≡ length g.start + sum (script_lengths g.scripts))
+
+-- what is known before any call of how many there are: so many, which are no more than the limit; more
+-- than the limit; or nothing, since a line may be several calls, or the scripts have 2^64 lines or more
+abbrev pub IsKnown : List (List Line) → (limit : ℕ) → HowMany → Type 0
+IsKnown scripts limit (Exactly m) = AreOneCalls scripts × IsCountOfLengths scripts m × (m ≤ limit)
+IsKnown scripts limit MoreThanLimit = AreTooMany scripts limit
+IsKnown scripts limit Unknown = AreOneCalls scripts → 2 ^ 64 ≤ sum (script_lengths scripts)

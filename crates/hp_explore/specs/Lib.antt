@@ -4,6 +4,7 @@ pub mod Digests
 pub mod Ends
 pub mod Faults
 pub mod Frames
+pub mod Fronts
 pub mod Interleavings
 pub mod Multinomials
 pub mod Notes

@@ -13,8 +13,6 @@ use Rattle.hp_explore.specs.Outcomes.{OutcomeValue}
 use Rattle.hp_explore.specs.Schedules.{EndsWith, Setting, plays, schedule_of}
 use Rattle.hp_explore.specs.Scripts.{own_operation}
 use Rattle.hp_explore.specs.Walks.{HasRoomFrom}
-use Rattle.hp_explore.specs.declared.exploring.ExploreFault.{ExploreFault}
-use Rattle.hp_explore.specs.declared.exploring.ExploreFault.TheVariants.{TooMany}
 use Rattle.hp_explore.specs.declared.tally.Ending.{Ending}
 
 -- a place: the new records that lead there, the state, the number of what Cancels can take back, and
@@ -105,16 +103,17 @@ pub record AddsAt (old : List Ending) (at count : ℕ) (new : List Ending) : Typ
   pub first : more.first.items ≡ entry.first.items
   pub new_is : new ≡ slice_set old at more
 
--- why counts could not be added: there would be more schedules than the limit
-abbrev pub IsAddCause : TallyValue → List ℕ → ExploreFault → Type 0
-IsAddCause t counts fault = (fault ≡ TooMany) × (t.limit < sum_by (λ e. e.count) t.ends + sum counts)
+-- so many schedules more may be counted
+abbrev pub HasRoomFor : TallyValue → List ℕ → Type 0
+HasRoomFor t counts = sum_by (λ e. e.count) t.ends + sum counts ≤ t.limit
 
 -- the places that are kept, where the ends are these: the history has room for what goes on from them,
 -- and their numbers mean what Cancels can take back there; and where any are to be kept no script
 -- undoes steps by their serials
 pub record IsMemo (g : Setting) (ends : List Ending) (memo : MemoValue) : Type 0 where
   pub all : AllSeen g ends memo.seen
-  pub room : (i : ℕ) (seen : SeenValue) → slice_get memo.seen i ≡ Some seen → HasRoomFrom g (schedule_of seen.news)
+  pub room : (i : ℕ) (seen : SeenValue) → slice_get memo.seen i ≡ Some seen
+      → HasRoomFrom g (schedule_of seen.news)
   pub numbered : (i : ℕ) (seen : SeenValue) → slice_get memo.seen i ≡ Some seen
       → IsNumbered g memo.lists seen.news (Some seen.openings)
   pub undo : memo.is_on ≡ true → UndoNothing g.scripts

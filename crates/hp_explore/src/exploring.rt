@@ -2,9 +2,9 @@
 ghost use Rattle.std.specs.Prelude.{◌^◌, ◌<◌, ◌≤◌, IfErr, IfOk, length, sum_by};
 ghost use Rattle.hp_explore.specs.Ends.{AreEnds, AreInOrder};
 ghost use Rattle.hp_explore.specs.Faults.{FillsHistory, HasMoreThan, IsCause};
+ghost use Rattle.hp_explore.specs.Fronts.{AreFirst, IfFirst, IfWhole};
 ghost use Rattle.hp_explore.specs.Schedules.{IsComplete, setting};
 
-use crate::multinomials::are_too_many;
 use crate::scripts::Script;
 use crate::tally::Ending;
 use crate::walk::Walk;
@@ -14,12 +14,19 @@ use hp_units::CallFault;
 use std::alloc::{AllocError, Global};
 use thiserror::Error;
 
-/// Why the schedules were not all counted.
+/// The ends of schedules, each with its count and its first schedule, in the order of these.
+#[derive(Drop)]
+pub struct Exploration {
+    /// The ends.
+    pub ends: Vec<Ending>,
+    /// Whether they are those of all complete schedules; else of the first ones, as many as the
+    /// limit.
+    pub is_whole: bool,
+}
+
+/// Why schedules were not counted.
 #[derive(Error, Clone, Copy, Debug, PartialEq, Eq, Drop)]
 pub enum ExploreFault {
-    /// There are more complete schedules than the limit.
-    #[error("more schedules than the limit")]
-    TooMany,
     /// The layout's history has no room for a call that a schedule leads to.
     #[error("no room in the history for all calls of a schedule")]
     HistoryFull,
@@ -55,34 +62,41 @@ impl From<CallFault> for ExploreFault {
 
 /// The ends of all complete schedules of the processors' scripts on a machine as it stands (own
 /// rule): what each processor was answered, how many schedules end so, and the first of them in the
-/// order of a walk that takes processor 0 first; the ends stand in the order of these. Script k is
-/// that of processor k. The machine stays as it is. The watch is told how far the search has come.
+/// order of a walk that takes processor 0 first; the ends stand in the order of these. Where there
+/// are more schedules than the limit, they are the ends of the first ones in that order, exactly as
+/// many as the limit. Script k is that of processor k. The machine stays as it is. The watch is told
+/// how far the search has come.
 ///
-/// An error is `TooMany` where there are more schedules than the limit, `HistoryFull` where a
-/// schedule leads to a call for which the layout's history has no room, and `OutOfMemory`. Where
-/// none of these holds, there is no error. Where no script holds a plan and the scripts have fewer
-/// than 2^64 lines, `TooMany` comes before any call.
+/// An error is `HistoryFull` where a schedule leads to a call for which the layout's history has no
+/// room, or `OutOfMemory`. Where neither holds, there is no error.
 pub fn explore<W: Watch>(
     alloc: Global,
     machine: &Machine,
     scripts: &[Script],
     limit: u64,
     watch: &mut W,
-) -> Result<Vec<Ending>, ExploreFault>
+) -> Result<Exploration, ExploreFault>
     requires { length scripts.now < 2 ^ 32 }
-    ensures ok { IfOk result (λ ends. AreEnds (setting machine.now scripts.now) ends.items) }
-    ensures within { IfOk result (λ ends. sum_by (λ e. e.count) ends.items ≤ limit) }
-    ensures ordered { IfOk result (λ ends. AreInOrder ends.items) }
+
+    // Where all schedules were counted.
+    ensures ok { IfOk result (λ x. IfWhole x (AreEnds (setting machine.now scripts.now))) }
     ensures few { IfOk result
-        (λ _. HasMoreThan (IsComplete (setting machine.now scripts.now)) limit → ⊥) }
-    ensures room { IfOk result (λ _. FillsHistory (setting machine.now scripts.now) → ⊥) }
-    ensures err { IfErr result (IsCause (setting machine.now scripts.now) limit) }
+        (λ x. IfWhole x (λ _. HasMoreThan (IsComplete (setting machine.now scripts.now)) limit → ⊥)) }
+    ensures room { IfOk result
+        (λ x. IfWhole x (λ _. FillsHistory (setting machine.now scripts.now) → ⊥)) }
+    // Where the first ones were.
+    ensures first { IfOk result (λ x. IfFirst x (AreFirst (setting machine.now scripts.now) limit)) }
+    ensures many { IfOk result
+        (λ x. IfFirst x (λ _. HasMoreThan (IsComplete (setting machine.now scripts.now)) limit)) }
+    // In both cases.
+    ensures within { IfOk result (λ x. sum_by (λ e. e.count) x.ends.items ≤ limit) }
+    ensures ordered { IfOk result (λ x. AreInOrder x.ends.items) }
+    ensures err { IfErr result (IsCause (setting machine.now scripts.now)) }
 {
-    let many = are_too_many(alloc, scripts, limit)?;
-    if many {
-        return Err(ExploreFault::TooMany);
-    }
     let mut walk = Walk::start(alloc, machine, scripts, limit)?;
-    walk.run(alloc, watch)?;
-    Ok(walk.into_ends())
+    let is_whole = walk.run(alloc, watch)?;
+    Ok(Exploration {
+        ends: walk.into_ends(),
+        is_whole,
+    })
 }

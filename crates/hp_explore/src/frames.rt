@@ -35,6 +35,17 @@ pub(crate) enum Entry {
     Open(Frame),
 }
 
+/// What a turn of a walk came to.
+#[derive(Clone, Copy, PartialEq, Eq, Drop)]
+pub(crate) enum Turned {
+    /// It goes on.
+    On,
+    /// All schedules are counted.
+    Over,
+    /// As many are counted as the limit says, and there is a further one.
+    Full,
+}
+
 impl Frame {
     /// A place whose turns are all to come.
     pub(crate) fn new(kept: Option<Box<Kept>>) -> Frame

@@ -26,10 +26,10 @@ pub fn schedules_are_interleavings()
 {}
 
 /// Where each line of each script is one call, there are as many complete schedules as the
-/// multinomial coefficient of the scripts' lengths says (Knuth 1, 1.2.6).
+/// multinomial coefficient of the scripts' lengths says, and no other number (Knuth 1, 1.2.6).
 pub fn interleavings_are_counted()
     ensures { (g : Setting) (m : ℕ) → AreOneCalls g.scripts
-        → HasCount (IsComplete g) m → IsCountOfLengths g.scripts m }
+        → (HasCount (IsComplete g) m ↔ IsCountOfLengths g.scripts m) }
 {}
 
 /// Where no script undoes steps by their serials, two schedules with alike records have the same

@@ -29,11 +29,12 @@ mod walk;
 mod watch;
 mod ways;
 
-pub use exploring::{ExploreFault, explore};
+pub use exploring::{Exploration, ExploreFault, explore};
 pub use laws::{
     alike_places_go_on_alike, counts_are_unique, interleavings_are_counted, kept_counts_are_added,
     schedules_are_interleavings,
 };
+pub use multinomials::{HowMany, interleavings_of, room_needed};
 pub use outcomes::{Answers, Outcome};
 pub use path::Path;
 pub use playing::play;

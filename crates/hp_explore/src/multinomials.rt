@@ -1,30 +1,66 @@
 //! How many interleavings of scripts there are, known before any call.
-ghost use Rattle.std.specs.Prelude.{◌≡◌, ◌↔◌, ◌+◌, ◌^◌, ◌<◌, ℕ, IfNone, IfOk, IfSome, IsTrue, false};
+ghost use Rattle.std.specs.Prelude.{◌≡◌, ◌+◌, ◌^◌, ◌<◌, ◌≤◌, ℕ, IfNone, IfOk, IfSome};
 ghost use Rattle.std.specs.List.{list_all};
-ghost use Rattle.hp_explore.specs.Interleavings.{AreTooMany, IsNotKnownTooMany, holds_no_plan, script_lengths};
+ghost use Rattle.hp_explore.specs.Interleavings.{IsKnown, IsRoomNeeded, holds_no_plan, script_lengths};
 ghost use Rattle.hp_explore.specs.Multinomials.{ExceedsWith, IsMultinomial, IsMultinomialWith, sum};
+ghost use Rattle.hp_explore.specs.Schedules.{setting};
 
 use crate::scripts::Script;
+use hp_machine::Machine;
 use std::alloc::{AllocError, Global};
 
-/// Whether each line of the scripts is one call and there are more interleavings than the limit.
-/// Where the scripts have 2^64 lines or more it may say no. An error is out of memory.
-pub(crate) fn are_too_many(
+/// How many interleavings scripts have, as far as that is known before any call.
+#[derive(Clone, Copy, Debug, PartialEq, Eq, Drop)]
+pub enum HowMany {
+    /// So many, which are no more than the limit.
+    Exactly(u64),
+    /// More than the limit.
+    MoreThanLimit,
+    /// A script holds a plan, whose calls only a search counts; or the scripts have 2^64 lines or
+    /// more.
+    Unknown,
+}
+
+/// How many interleavings scripts have: where each line is one call, the multinomial coefficient of
+/// their numbers of lines (Knuth 1, 1.2.6). An error is out of memory.
+pub fn interleavings_of(
     alloc: Global,
     scripts: &[Script],
     limit: u64,
-) -> Result<bool, AllocError>
-    ensures yes { IfOk result (λ many. IsTrue many → AreTooMany scripts.now limit) }
-    ensures no { IfOk result (λ many. many ≡ false → IsNotKnownTooMany scripts.now limit) }
+) -> Result<HowMany, AllocError>
+    ensures { IfOk result (IsKnown scripts.now limit) }
 {
     if !hold_no_plan(scripts) {
-        return Ok(false);
+        return Ok(HowMany::Unknown);
     }
     let lengths = lengths(alloc, scripts)?;
-    if !fit(lengths.as_slice()) {
-        return Ok(false);
+    if total(lengths.as_slice()).is_none() {
+        return Ok(HowMany::Unknown);
     }
-    Ok(exceed(lengths.as_slice(), limit))
+    match coefficient(lengths.as_slice(), limit) {
+        Some(count) => Ok(HowMany::Exactly(count)),
+        None => Ok(HowMany::MoreThanLimit),
+    }
+}
+
+/// How many records the history needs room for, so that it has room for each call of each schedule:
+/// those that it has, and one for each line of the scripts. None where a script holds a plan, whose
+/// calls only a search counts, or where the number is 2^64 or more. An error is out of memory.
+pub fn room_needed(
+    alloc: Global,
+    machine: &Machine,
+    scripts: &[Script],
+) -> Result<Option<u64>, AllocError>
+    ensures { IfOk result (IsRoomNeeded (setting machine.now scripts.now)) }
+{
+    if !hold_no_plan(scripts) {
+        return Ok(None);
+    }
+    let lengths = lengths(alloc, scripts)?;
+    match total(lengths.as_slice()) {
+        Some(lines) => Ok(lines.checked_add(machine.history().len() as u64)),
+        None => Ok(None),
+    }
 }
 
 /// The number of lines of each script. An error is out of memory.
@@ -41,36 +77,41 @@ fn hold_no_plan(scripts: &[Script]) -> bool
     scripts.iter().all(|s| s.holds_no_plan())
 }
 
-/// Whether the sum of lengths fits.
-fn fit(lengths: &[u64]) -> bool
-    ensures { IsTrue result ↔ (sum lengths.now < 2 ^ 64) }
+/// The sum of lengths; none where it is 2^64 or more.
+fn total(lengths: &[u64]) -> Option<u64>
+    ensures some { IfSome result (λ total. (total ≡ sum lengths.now) × (sum lengths.now < 2 ^ 64)) }
+    ensures none { IfNone result (2 ^ 64 ≤ sum lengths.now) }
 {
     let mut total: u64 = 0;
     for length in lengths {
         match total.checked_add(*length) {
             Some(more) => total = more,
-            None => return false,
+            None => return None,
         }
     }
-    true
+    Some(total)
 }
 
-/// Whether sequences of these lengths have more interleavings than the limit: more than the
-/// lengths' multinomial coefficient (Knuth 1, 1.2.6).
-fn exceed(lengths: &[u64], limit: u64) -> bool
+/// The multinomial coefficient of lengths, which is how many interleavings sequences of these
+/// lengths have (Knuth 1, 1.2.6); none where it is above the limit.
+fn coefficient(lengths: &[u64], limit: u64) -> Option<u64>
     requires { sum lengths.now < 2 ^ 64 }
-    ensures { (m : ℕ) → IsMultinomial lengths.now m → (IsTrue result ↔ limit < m) }
+    ensures some { IfSome result (λ count. IsMultinomial lengths.now count × (count ≤ limit)) }
+    ensures none { IfNone result ((m : ℕ) → IsMultinomial lengths.now m → limit < m) }
 {
     let mut total = 0;
     let mut count = 1;
     for length in lengths {
         match with_length(count, total, *length, limit) {
             Some(more) => count = more,
-            None => return true,
+            None => return None,
         }
         total += *length;
     }
-    count > limit
+    if count > limit {
+        return None;
+    }
+    Some(count)
 }
 
 /// The multinomial coefficient with one number more, where that of the numbers so far and their sum

@@ -86,7 +86,8 @@ impl Openings {
     ) -> Result<Option<usize>, AllocError>
         requires { IfSome was (λ number. number < length self.old) }
         ensures kept { KeepNumbers self.old self.new }
-        ensures ok { IfOk result (NumbersOn self.old self.new (option_map (λ s. s.now) from.entry) latest.now was) }
+        ensures ok { IfOk result
+            (NumbersOn self.old self.new (option_map (λ s. s.now) from.entry) latest.now was) }
     {
         match change_of(latest) {
             Change::Stays => Ok(was),

@@ -1,6 +1,6 @@
 //! Where a walk over the schedules stands, with its way back.
 ghost use Rattle.std.specs.Prelude.{◌≡◌, [], Some, IfErr, IfOk, OnErr};
-ghost use Rattle.hp_explore.specs.Faults.{IsCallCause};
+ghost use Rattle.hp_explore.specs.Faults.{IsCause};
 ghost use Rattle.hp_explore.specs.Outcomes.{outcome};
 ghost use Rattle.hp_explore.specs.Paths.{IsBack, IsForth, state_at};
 ghost use Rattle.hp_explore.specs.Schedules.{next_call, plays, schedule_of, setting};
@@ -123,7 +123,7 @@ impl<'a> Path<'a> {
     pub fn forward(&mut self, alloc: Global, cpu: u32) -> Result<bool, ExploreFault>
         ensures ok { IfOk result (λ went. IsForth self.old cpu went self.new) }
         ensures err { OnErr result (self.new ≡ self.old) }
-        ensures cause { IfErr result (IsCallCause self.old.setting) }
+        ensures cause { IfErr result (IsCause self.old.setting) }
     {
         advance(
             alloc,

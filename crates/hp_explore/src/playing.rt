@@ -1,7 +1,7 @@
 //! A schedule played: each call in turn on a copy of the machine.
 ghost use Rattle.std.specs.Prelude.{◌≡◌, ◌≤◌, IfErr, IfOk, OnOk, drop, length};
 ghost use Rattle.hp_explore.specs.Cursors.{AreCursors};
-ghost use Rattle.hp_explore.specs.Faults.{FillsAlong, IsCallCause};
+ghost use Rattle.hp_explore.specs.Faults.{FillsAlong, IsCause};
 ghost use Rattle.hp_explore.specs.Schedules.{setting};
 ghost use Rattle.hp_explore.specs.Walks.{FillsAt, IsMade, IsPlayed, IsReached, news_in};
 ghost use Rattle.hp_explore.specs.declared.exploring.ExploreFault.TheVariants.{HistoryFull};
@@ -25,7 +25,7 @@ pub fn play(
     schedule: &[Cpu],
 ) -> Result<Option<Machine>, ExploreFault>
     ensures ok { IfOk result (IsPlayed (setting machine.now scripts.now) schedule.now) }
-    ensures err { IfErr result (IsCallCause (setting machine.now scripts.now)) }
+    ensures err { IfErr result (IsCause (setting machine.now scripts.now)) }
     ensures along { IfErr result (λ fault. fault ≡ HistoryFull
         → FillsAlong (setting machine.now scripts.now) schedule.now) }
 {
@@ -55,7 +55,7 @@ fn make_call(
     ensures ok { IfOk result (λ made. IsMade (setting start.now scripts.now) played.old cpu made played.new) }
     ensures cursors { OnOk result (AreCursors (setting start.now scripts.now)
         (news_in (setting start.now scripts.now) played.new) positions.new.cursors.items) }
-    ensures err { IfErr result (IsCallCause (setting start.now scripts.now)) }
+    ensures err { IfErr result (IsCause (setting start.now scripts.now)) }
     ensures full { IfErr result (λ fault. fault ≡ HistoryFull
         → FillsAt (setting start.now scripts.now) played.old cpu) }
 {

@@ -1,15 +1,13 @@
 //! The ends so far, with their counts.
-ghost use Rattle.std.specs.Prelude.{◌≡◌, ◌↔◌, ◌<◌, ◌≤◌, [], ◌∷◌, ℕ, IfErr, IfOk, IfSome, IfNone, IsTrue, OnOk, length, map, nat_eq, slice_index_or, sum_by};
-ghost use Rattle.hp_explore.specs.Faults.{IsNoteCause};
+ghost use Rattle.std.specs.Prelude.{◌≡◌, ◌↔◌, ◌<◌, ◌≤◌, ◌+◌, [], ◌∷◌, ℕ, IfOk, IfSome, IfNone, IsTrue, OnOk, length, map, nat_eq, slice_index_or, sum, sum_by};
 ghost use Rattle.indexmap.specs.IndexMap.{ContainsKey};
 ghost use Rattle.hp_explore.specs.Digests.{digest_of};
-ghost use Rattle.hp_explore.specs.Notes.{AreKnown, HasEndAt, HasNoEnd, IsNoted};
+ghost use Rattle.hp_explore.specs.Notes.{AreKnown, HasEndAt, HasNoEnd, HasRoom, IsNoted};
 ghost use Rattle.hp_explore.specs.Outcomes.{outcome_with};
 ghost use Rattle.hp_explore.specs.Schedules.{schedule_of};
-ghost use Rattle.hp_explore.specs.Seen.{AddsAt, AddsCounts, AreNoMore, AreSince, IsAddCause};
+ghost use Rattle.hp_explore.specs.Seen.{AddsAt, AddsCounts, AreNoMore, AreSince, HasRoomFor};
 
 use crate::digests::digest_of;
-use crate::exploring::ExploreFault;
 use crate::outcomes::{Outcome, all_answers};
 use hp_units::{Cpu, Record, Row};
 use indexmap::IndexMap;
@@ -74,23 +72,19 @@ impl Tally {
     }
 
     /// Counts the schedule that records came from under its end: that of so many processors'
-    /// replies, with these rows. An error is that the limit is reached, or out of memory; then
-    /// nothing is counted.
+    /// replies, with these rows. An error is out of memory; then nothing is counted.
     pub(crate) fn note(
         &mut self,
         alloc: Global,
         processors: u32,
         records: &[Record],
         blocks: Vec<Row>,
-    ) -> Result<(), ExploreFault>
+    ) -> Result<(), AllocError>
+        requires { HasRoom self.old }
         ensures ok { OnOk result (IsNoted self.old.ends (outcome_with processors records.now blocks.items)
             (schedule_of records.now) self.new.ends) }
         ensures limit { self.new.limit ≡ self.old.limit }
-        ensures err { IfErr result (IsNoteCause self.old) }
     {
-        if self.total >= self.limit {
-            return Err(ExploreFault::TooMany);
-        }
         let digest = digest_of(processors, records, blocks.as_slice());
         match place_of(
             self.ends.as_slice(),
@@ -122,6 +116,13 @@ impl Tally {
         self.total
     }
 
+    /// How many more may be counted.
+    pub(crate) fn room(&self) -> u64
+        ensures { sum_by (λ e. e.count) self.now.ends + result ≡ self.now.limit }
+    {
+        self.limit - self.total
+    }
+
     /// Whether there are too many ends for a place's counts to be kept.
     pub(crate) fn has_many_ends(&self) -> bool
         ensures { IsTrue result ↔ FEW < length self.now.ends }
@@ -151,35 +152,28 @@ impl Tally {
         Ok(counts)
     }
 
-    /// Counts so many schedules more under each end, by its place. An error is that there would be
-    /// more than the limit; then some may be counted.
-    pub(crate) fn add(&mut self, counts: &[u64]) -> Result<(), ExploreFault>
-        requires { length counts.now ≤ length self.old.ends }
-        ensures ok { OnOk result (AddsCounts self.old.ends counts.now self.new.ends) }
+    /// Counts so many schedules more under each end, by its place.
+    pub(crate) fn add(&mut self, counts: &[u64])
+        requires few { length counts.now ≤ length self.old.ends }
+        requires room { HasRoomFor self.old counts.now }
+        ensures added { AddsCounts self.old.ends counts.now self.new.ends }
         ensures limit { self.new.limit ≡ self.old.limit }
-        ensures err { IfErr result (IsAddCause self.old counts.now) }
     {
         for (place, count) in counts.iter().enumerate() {
-            self.add_at(place, *count)?;
+            self.add_at(place, *count);
         }
-        Ok(())
     }
 
-    /// Counts so many schedules more under the end at a place. An error is that there would be more
-    /// than the limit.
-    fn add_at(&mut self, place: usize, count: u64) -> Result<(), ExploreFault>
-        requires { place < length self.old.ends }
-        ensures ok { OnOk result (AddsAt self.old.ends place count self.new.ends) }
+    /// Counts so many schedules more under the end at a place.
+    fn add_at(&mut self, place: usize, count: u64)
+        requires place { place < length self.old.ends }
+        requires room { HasRoomFor self.old (count ∷ []) }
+        ensures added { AddsAt self.old.ends place count self.new.ends }
         ensures limit { self.new.limit ≡ self.old.limit }
-        ensures err { IfErr result (IsAddCause self.old (count ∷ [])) }
     {
-        if count > self.limit - self.total {
-            return Err(ExploreFault::TooMany);
-        }
         let end = &mut self.ends[place];
         end.count += count;
         self.total += count;
-        Ok(())
     }
 
     /// The ends with their counts.
@@ -212,6 +206,20 @@ fn new_end(
         count: 1,
         first,
     })
+}
+
+/// Whether the sum of counts is no more than what there is room for.
+pub(crate) fn fit_in(counts: &[u64], room: u64) -> bool
+    ensures { IsTrue result ↔ (sum counts.now ≤ room) }
+{
+    let mut left = room;
+    for count in counts {
+        match left.checked_sub(*count) {
+            Some(less) => left = less,
+            None => return false,
+        }
+    }
+    true
 }
 
 /// The count at a place, and 0 where there is none.

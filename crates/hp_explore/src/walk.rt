@@ -1,24 +1,25 @@
 //! The walk over all schedules, depth first and processor 0 first, on a stack of its own.
-ghost use Rattle.std.specs.Prelude.{◌≡◌, ◌∷◌, ◌++◌, [], ◌<◌, ◌≤◌, ◌^◌, ℕ, List, Option, true, false, IfErr, IfOk, OnOk, length, reverse, sum_by};
-ghost use Rattle.hp_explore.specs.Faults.{IsNoteCause, IsWalkCause};
-ghost use Rattle.hp_explore.specs.Frames.{AreTurns, IsEntered, IsFrame, IsComing, IsPlaceKept, IsSameWalk, IsWalking, frames_of, left, left_before, standing};
+ghost use Rattle.std.specs.Prelude.{◌≡◌, ◌∷◌, ◌++◌, [], ◌<◌, ◌≤◌, ◌^◌, ℕ, List, Option, true, false, IfErr, IfOk, IsTrue, OnOk, length, reverse, sum_by};
+ghost use Rattle.hp_explore.specs.Faults.{IsCause};
+ghost use Rattle.hp_explore.specs.Frames.{AreTurns, IsAdded, IsComing, IsDone, IsEntered, IsFrame, IsPlaceKept, IsSameWalk, IsTurnedTo, IsWalking, frames_of, left, left_before, standing};
+ghost use Rattle.hp_explore.specs.Fronts.{AreFirst};
+ghost use Rattle.hp_explore.specs.Notes.{HasRoom};
 ghost use Rattle.hp_explore.specs.Numbers.{AreNumbered};
 ghost use Rattle.hp_explore.specs.Paths.{IsBack};
 ghost use Rattle.hp_explore.specs.Schedules.{schedule_of, setting};
-ghost use Rattle.hp_explore.specs.Seen.{AddsCounts, Grow, IsAddCause, IsMemo};
-ghost use Rattle.hp_explore.specs.declared.frames.Entry.TheVariants.{Counted};
+ghost use Rattle.hp_explore.specs.Seen.{Grow, IsMemo};
 ghost use Rattle.hp_explore.specs.Walks.{IsEndNoted, IsOverBelow, IsWalkedBefore, IsWalkedThrough};
 
 use crate::closed::is_closed;
 use crate::digests::place_digest;
 use crate::exploring::ExploreFault;
-use crate::frames::{Entry, Frame, Kept};
+use crate::frames::{Entry, Frame, Kept, Turned};
 use crate::memo::{Memo, Seen};
 use crate::outcomes::ended_rows;
 use crate::path::Path;
 use crate::scripts::{Script, undo_nothing};
 use crate::snapshots::Snapshot;
-use crate::tally::{Ending, Tally};
+use crate::tally::{Ending, Tally, fit_in};
 use crate::turns::{copies, latest};
 use crate::watch::Watch;
 use hp_machine::Machine;
@@ -76,37 +77,62 @@ impl<'a> Walk<'a> {
         })
     }
 
-    /// Walks over all schedules.
-    pub(crate) fn run<W: Watch>(&mut self, alloc: Global, watch: &mut W) -> Result<(), ExploreFault>
+    /// Walks over the schedules, and says whether over all of them: else as many are counted as the
+    /// limit says.
+    pub(crate) fn run<W: Watch>(
+        &mut self,
+        alloc: Global,
+        watch: &mut W,
+    ) -> Result<bool, ExploreFault>
         requires { IsWalking self.old (frames_of self.old) }
         ensures same { OnOk result (IsSameWalk self.old self.new) }
-        ensures done { OnOk result (IsWalkedThrough self.new.path.setting [] self.new.tally.ends) }
-        ensures err { IfErr result (IsWalkCause self.old.path.setting self.old.tally.limit) }
+        ensures done { IfOk result (IsDone self.new) }
+        ensures err { IfErr result (IsCause self.old.path.setting) }
     {
-        'turns: while self.step(alloc, watch)? {}
-        Ok(())
+        'turns: loop {
+            match self.step(alloc, watch)? {
+                Turned::On => {}
+                Turned::Over => return Ok(true),
+                Turned::Full => return Ok(false),
+            }
+        }
     }
 
-    /// Goes on by one turn; false where all schedules are counted.
-    fn step<W: Watch>(&mut self, alloc: Global, watch: &mut W) -> Result<bool, ExploreFault>
+    /// Goes on by one turn.
+    fn step<W: Watch>(&mut self, alloc: Global, watch: &mut W) -> Result<Turned, ExploreFault>
         requires { IsWalking self.old (frames_of self.old) }
-        ensures kept { OnOk result (IsWalking self.new (frames_of self.new)) }
         ensures same { OnOk result (IsSameWalk self.old self.new) }
-        ensures more { IfOk result (λ more. more ≡ true
-            → left self.new (frames_of self.new) < left self.old (frames_of self.old)) }
-        ensures done { IfOk result (λ more. more ≡ false
-            → IsWalkedThrough self.new.path.setting [] self.new.tally.ends) }
-        ensures err { IfErr result (IsWalkCause self.old.path.setting self.old.tally.limit) }
+        ensures ok { IfOk result (IsTurnedTo self.old self.new) }
+        ensures err { IfErr result (IsCause self.old.path.setting) }
     {
         let Some(frame) = self.frames.pop() else {
-            return Ok(false);
+            return Ok(Turned::Over);
         };
         if frame.next < self.processors {
             self.go_on(alloc, frame, watch)?;
-            return Ok(true);
+            return Ok(Turned::On);
+        }
+        if self.is_full(&frame) {
+            return Ok(Turned::Full);
         }
         self.go_back(alloc, frame, watch)?;
-        Ok(true)
+        Ok(Turned::On)
+    }
+
+    /// Whether a schedule ends at a place where all processors had their turn, and as many are counted
+    /// as the limit says.
+    fn is_full(&self, frame: &Frame) -> bool
+        requires kept { IsWalking self.now (frame.now ∷ frames_of self.now) }
+        requires all { self.now.processors ≤ frame.now.next }
+        ensures full { IsTrue result
+            → AreFirst self.now.path.setting self.now.tally.limit self.now.tally.ends }
+        ensures room { result ≡ false → frame.now.is_over ≡ true → HasRoom self.now.tally }
+    {
+        if !frame.is_over {
+            return false;
+        }
+        self.path.is_played();
+        self.tally.room() == 0
     }
 
     /// Makes the next processor's call at a place, where its script asks for one.
@@ -122,7 +148,7 @@ impl<'a> Walk<'a> {
         ensures same { OnOk result (IsSameWalk self.old self.new) }
         ensures less { OnOk result
             (left self.new (frames_of self.new) < left self.old (frame ∷ frames_of self.old)) }
-        ensures err { IfErr result (IsWalkCause self.old.path.setting self.old.tally.limit) }
+        ensures err { IfErr result (IsCause self.old.path.setting) }
     {
         self.frames.reserve(1)?;
         self.path.is_played();
@@ -133,18 +159,18 @@ impl<'a> Walk<'a> {
         self.memo
             .go_on(alloc, frame.snapshot(), latest(self.path.records()))?;
         self.frames.push_reserved(frame.led_on());
-        self.come_to(alloc, watch)
+        self.come_to(alloc, watch)?;
+        Ok(())
     }
 
     /// Comes to a place by a call: it gets a frame of its own, or is left at once where what goes on
     /// from there is known.
-    fn come_to<W: Watch>(&mut self, alloc: Global, watch: &mut W) -> Result<(), ExploreFault>
+    fn come_to<W: Watch>(&mut self, alloc: Global, watch: &mut W) -> Result<(), AllocError>
         requires { IsComing self.old (frames_of self.old) }
         ensures kept { OnOk result (IsWalking self.new (frames_of self.new)) }
         ensures same { OnOk result (IsSameWalk self.old self.new) }
         ensures less { OnOk result
             (left self.new (frames_of self.new) < left_before self.old (frames_of self.old)) }
-        ensures err { IfErr result (IsWalkCause self.old.path.setting self.old.tally.limit) }
     {
         self.frames.reserve(1)?;
         let entry = enter(
@@ -170,14 +196,14 @@ impl<'a> Walk<'a> {
         alloc: Global,
         frame: Frame,
         watch: &mut W,
-    ) -> Result<(), ExploreFault>
+    ) -> Result<(), AllocError>
         requires kept { IsWalking self.old (frame ∷ frames_of self.old) }
         requires all { self.old.processors ≤ frame.next }
+        requires room { frame.is_over ≡ true → HasRoom self.old.tally }
         ensures kept { OnOk result (IsWalking self.new (frames_of self.new)) }
         ensures same { OnOk result (IsSameWalk self.old self.new) }
         ensures less { OnOk result
             (left self.new (frames_of self.new) < left self.old (frame ∷ frames_of self.old)) }
-        ensures err { IfErr result (IsWalkCause self.old.path.setting self.old.tally.limit) }
     {
         finish(
             alloc,
@@ -231,14 +257,13 @@ fn enter<W: Watch>(
     tally: &mut Tally,
     memo: &Memo,
     watch: &mut W,
-) -> Result<Entry, ExploreFault>
+) -> Result<Entry, AllocError>
     requires processors { processors ≡ length path.now.setting.scripts }
     requires walked { IsWalkedBefore path.now.setting (schedule_of path.now.news) tally.old.ends }
     requires memo { IsMemo path.now.setting tally.old.ends memo.now }
     requires numbered { AreNumbered path.now.setting memo.now.lists path.now.news (reverse memo.now.numbers) }
     ensures ok { IfOk result (λ entry. IsEntered path.now tally.old.ends tally.new.ends entry) }
     ensures limit { tally.new.limit ≡ tally.old.limit }
-    ensures err { IfErr result (IsWalkCause path.now.setting tally.old.limit) }
 {
     let Some(openings) = memo.number() else {
         return Ok(Entry::Open(Frame::new(None)));
@@ -251,27 +276,25 @@ fn enter<W: Watch>(
     let digest = place_digest(&snapshot, path.records());
     let news = path.records();
     if let Some(counts) = memo.counts_like(alloc, digest, &snapshot, openings, news, processors)? {
-        return add_counts(tally, counts, watch);
+        return Ok(add_counts(tally, counts, watch));
     }
     let frame = Frame::keeping(alloc, tally, digest, snapshot)?;
     Ok(Entry::Open(frame))
 }
 
-/// Counts so many schedules more under each end.
-fn add_counts<W: Watch>(
-    tally: &mut Tally,
-    counts: &[u64],
-    watch: &mut W,
-) -> Result<Entry, ExploreFault>
+/// Counts so many schedules more under each end; where there is no room for all of them, the place is
+/// to be walked.
+fn add_counts<W: Watch>(tally: &mut Tally, counts: &[u64], watch: &mut W) -> Entry
     requires { length counts.now ≤ length tally.old.ends }
-    ensures ok { IfOk result (λ entry.
-        (entry ≡ Counted) × AddsCounts tally.old.ends counts.now tally.new.ends) }
+    ensures ok { IsAdded tally.old.ends counts.now tally.new.ends result }
     ensures limit { tally.new.limit ≡ tally.old.limit }
-    ensures err { IfErr result (IsAddCause tally.old counts.now) }
 {
-    tally.add(counts)?;
+    if !fit_in(counts, tally.room()) {
+        return Entry::Open(Frame::new(None));
+    }
+    tally.add(counts);
     watch.counted(tally.total());
-    Ok(Entry::Counted)
+    Entry::Counted
 }
 
 /// Counts the schedule that led to a place where no script asked for anything, and keeps the place
@@ -284,20 +307,20 @@ fn finish<W: Watch>(
     tally: &mut Tally,
     memo: &mut Memo,
     watch: &mut W,
-) -> Result<(), ExploreFault>
+) -> Result<(), AllocError>
     requires processors { processors ≡ length path.now.setting.scripts }
     requires all { processors ≤ frame.next }
     requires turns { AreTurns path.now.setting path.now.news tally.old.ends frame }
     requires frame { IsFrame path.now.setting path.now.news tally.old.ends frame }
     requires memo { IsMemo path.now.setting tally.old.ends memo.old }
     requires numbered { AreNumbered path.now.setting memo.old.lists path.now.news (reverse memo.old.numbers) }
+    requires room { frame.is_over ≡ true → HasRoom tally.old }
     ensures ok { OnOk result
         (IsWalkedThrough path.now.setting (schedule_of path.now.news) tally.new.ends) }
     ensures grows { OnOk result (Grow tally.old.ends tally.new.ends) }
     ensures memo { OnOk result (IsMemo path.now.setting tally.new.ends memo.new) }
     ensures way { (memo.new.lists ≡ memo.old.lists) × (memo.new.numbers ≡ memo.old.numbers) }
     ensures limit { tally.new.limit ≡ tally.old.limit }
-    ensures err { IfErr result (IsWalkCause path.now.setting tally.old.limit) }
 {
     note(alloc, path, processors, frame.is_over, tally, watch)?;
     let held = frame.kept;
@@ -315,16 +338,16 @@ fn note<W: Watch>(
     is_over: bool,
     tally: &mut Tally,
     watch: &mut W,
-) -> Result<(), ExploreFault>
+) -> Result<(), AllocError>
     requires processors { processors ≡ length path.now.setting.scripts }
     requires walked { IsWalkedBefore path.now.setting (schedule_of path.now.news ++ processors ∷ [])
         tally.old.ends }
     requires over { IsOverBelow path.now.setting path.now.news processors is_over }
+    requires room { is_over ≡ true → HasRoom tally.old }
     ensures ok { OnOk result
         (IsWalkedThrough path.now.setting (schedule_of path.now.news) tally.new.ends) }
     ensures grows { OnOk result (Grow tally.old.ends tally.new.ends) }
     ensures limit { tally.new.limit ≡ tally.old.limit }
-    ensures err { IfErr result (IsWalkCause path.now.setting tally.old.limit) }
 {
     path.is_played();
     if is_over {
@@ -341,10 +364,10 @@ fn note_end<W: Watch>(
     path: &Path,
     tally: &mut Tally,
     watch: &mut W,
-) -> Result<(), ExploreFault>
+) -> Result<(), AllocError>
+    requires { HasRoom tally.old }
     ensures ok { OnOk result (IsEndNoted processors (standing path.now) tally.old.ends tally.new.ends) }
     ensures limit { tally.new.limit ≡ tally.old.limit }
-    ensures err { IfErr result (IsNoteCause tally.old) }
 {
     let blocks = ended_rows(alloc, path.memory())?;
     let noted = tally.note(alloc, processors, path.records(), blocks);

@@ -1,16 +1,23 @@
 -- From level to level of a search, and what all ends say.
-use Rattle.std.proofs.Common.{◌≡◌, ℕ, ◌+◌, ◌<◌, ◌≤◌, List, Some, slice_get, sum_by, sym, subst, arith}
+use Rattle.std.proofs.Common.{◌≡◌, ℕ, ◌+◌, ◌<◌, ◌≤◌, Bool, true, false, List, Some, slice_get, sum_by, refl, sym, subst, arith, inl, inr}
+use Rattle.std.specs.Prelude.{◌⊎◌}
 use Rattle.hp_explore.specs.Ends.{AreEnds}
-use Rattle.hp_explore.specs.Faults.{FillsHistory, HasMoreThan, IsCallCause, IsCause}
+use Rattle.hp_explore.specs.Faults.{FillsHistory, HasMoreThan, IsCause}
+use Rattle.hp_explore.specs.Fronts.{AreFirst, IfFirst, IfWhole}
+use Rattle.hp_explore.specs.Orders.{HasCount}
+use Rattle.hp_explore.specs.Outcomes.{OutcomeValue}
 use Rattle.hp_explore.specs.Schedules.{IsComplete, Setting}
+use Rattle.hp_explore.specs.Walks.{Before}
+use Rattle.hp_explore.specs.declared.exploring.Exploration.{Exploration}
 use Rattle.hp_explore.specs.declared.exploring.ExploreFault.{ExploreFault}
-use Rattle.hp_explore.specs.declared.exploring.ExploreFault.TheVariants.{TooMany, HistoryFull, OutOfMemory}
+use Rattle.hp_explore.specs.declared.exploring.ExploreFault.TheVariants.{HistoryFull, OutOfMemory}
 use Rattle.hp_explore.specs.declared.tally.Ending.{Ending}
 use Rattle.hp_find.specs.Changes.{changes}
 use Rattle.hp_find.specs.Ends.{HasNoSuchEnd, IsSuchEnd}
-use Rattle.hp_find.specs.Faults.{IsFindCause, few_changes}
-use Rattle.hp_find.specs.Reaching.{HasRoomAlong, IsAbsent, IsFirstWithin, IsNearestBelow, NeedsChanges, Reaches}
+use Rattle.hp_find.specs.Faults.{IsFindCause, few_changes, find_fault_from}
+use Rattle.hp_find.specs.Reaching.{HasRoomAlong, IsAbsent, IsAbsentAmongFirst, IsFirstWithin, IsMetAmongFirst, IsNearestBelow, NeedsChanges, Reaches}
 use Rattle.hp_find.specs.Wanted.{Meets}
+use Rattle.hp_find.specs.declared.fault.FindFault.TheVariants.{TooMany}
 use Rattle.hp_find.specs.declared.wanted.Wanted.{Wanted}
 
 pub needs_none : (g : Setting) (wanted : List Wanted) → NeedsChanges g wanted 0
@@ -26,12 +33,17 @@ nearest_found g wanted budget below s needs less found = (
   found.2,
 )
 
--- the first schedule of an end with the lines
-pub such_reaches : (g : Setting) (wanted : List Wanted) (ends : List Ending) (e : Ending) → AreEnds g ends
-    → IsSuchEnd ends wanted e → Reaches g wanted e.first.items
-such_reaches g wanted ends e are such = (e.outcome, (are.firsts such.0 e such.1).holds, such.2)
+-- the first schedule of an end with the lines, where all schedules are counted, and where the first ones are
+pub such_reaches : (g : Setting) (wanted : List Wanted) (limit : ℕ) (x : Exploration) (e : Ending)
+    → IfWhole x (AreEnds g) → IfFirst x (AreFirst g limit) → IsSuchEnd x.ends.items wanted e
+    → Reaches g wanted e.first.items
+such_reaches g wanted limit x e whole first such = by_kind x.is_whole refl
+  where
+    by_kind : (is_whole : Bool) → x.is_whole ≡ is_whole → Reaches g wanted e.first.items
+    by_kind true is = (e.outcome, ((whole is).firsts such.0 e such.1).holds, such.2)
+    by_kind false is = (e.outcome, ((first is).walked.counted.firsts such.0 e such.1).holds.1, such.2)
 
--- where no end has them no schedule does
+-- where no end of all has them no schedule does
 pub none_reaches : (g : Setting) (wanted : List Wanted) (ends : List Ending) → AreEnds g ends
     → HasNoSuchEnd ends wanted → IsAbsent g wanted (sum_by (λ (e : Ending). e.count) ends)
 none_reaches g wanted ends are none = (
@@ -41,31 +53,63 @@ none_reaches g wanted ends are none = (
   are.total,
 )
 
+-- and where none of the first ones has, none of these
+none_first : (g : Setting) (wanted : List Wanted) (limit : ℕ) (ends : List Ending) → AreFirst g limit ends
+    → HasNoSuchEnd ends wanted → IsAbsentAmongFirst g wanted limit
+none_first g wanted limit ends first none = (
+  first.place,
+  subst (HasCount (λ s. (x : OutcomeValue) × Before g first.place s x)) first.full first.walked.counted.total,
+  λ s reaches before.
+      let at = first.walked.counted.every s reaches.0 (before, reaches.1) in
+      none at.0 at.1 at.2 (subst (Meets wanted) (sym at.3) reaches.2),
+)
+
 -- ---- the limit and the room
 
--- one with few changes was found before all were counted
-pub few_counted : (g : Setting) (limit : ℕ) (s : List ℕ) → changes s < few_changes → few_changes ≤ changes s
-    → HasMoreThan (IsComplete g) limit → ⊥
-few_counted g limit s less few more = omega (arith, less, few)
+-- where there are more schedules than the limit, an end with the lines is one of the first ones
+pub met_within : (g : Setting) (wanted : List Wanted) (limit : ℕ) (x : Exploration) (e : Ending)
+    → IfWhole x (λ ends. HasMoreThan (IsComplete g) limit → ⊥) → IfFirst x (AreFirst g limit)
+    → IsSuchEnd x.ends.items wanted e → HasMoreThan (IsComplete g) limit → IsMetAmongFirst g wanted limit
+met_within g wanted limit x e few first such more = by_kind x.is_whole refl
+  where
+    by_kind : (is_whole : Bool) → x.is_whole ≡ is_whole → IsMetAmongFirst g wanted limit
+    by_kind true is = absurd (few is more)
+    by_kind false is =
+        let ends = first is in
+        let holds = (ends.walked.counted.firsts such.0 e such.1).holds in (
+          ends.place,
+          subst (HasCount (λ s. (y : OutcomeValue) × Before g ends.place s y)) ends.full
+              ends.walked.counted.total,
+          e.first.items,
+          (e.outcome, holds.1, such.2),
+          holds.0,
+        )
 
-pub few_filled : (g : Setting) (s : List ℕ) → changes s < few_changes → few_changes ≤ changes s
-    → FillsHistory g → ⊥
-few_filled g s less few fills = omega (arith, less, few)
-
--- where no schedule fills the history there is room for each call of every one
-pub room_along : (g : Setting) (s : List ℕ) → (FillsHistory g → ⊥) → HasRoomAlong g s
-room_along g s none fills = none (fills.0, fills.1)
+-- a schedule of more changes has room for its calls, where there are no more schedules than the limit
+pub found_recorded : (g : Setting) (limit : ℕ) (x : Exploration) (s : List ℕ)
+    → IfWhole x (λ ends. FillsHistory g → ⊥) → IfFirst x (λ ends. HasMoreThan (IsComplete g) limit)
+    → few_changes ≤ changes s → (changes s < few_changes) ⊎ (HasMoreThan (IsComplete g) limit → ⊥)
+    → HasRoomAlong g s
+found_recorded g limit x s room many few cause fills =
+    elim cause [
+      | inl less ↦ omega (arith, few, less)
+      | inr none ↦ by_kind none x.is_whole refl
+    ]
+  where
+    by_kind : (HasMoreThan (IsComplete g) limit → ⊥) → (is_whole : Bool) → x.is_whole ≡ is_whole → ⊥
+    by_kind none true is = room is (fills.0, fills.1)
+    by_kind none false is = none (many is)
 
 -- ---- faults
 
-pub call_cause : (g : Setting) (wanted : List Wanted) (limit : ℕ) (fault : ExploreFault) → IsCallCause g fault
-    → IsFindCause g wanted limit fault
-call_cause g wanted limit TooMany cause = absurd cause
-call_cause g wanted limit HistoryFull cause = cause
-call_cause g wanted limit OutOfMemory cause = tt
+pub find_cause : (g : Setting) (wanted : List Wanted) (limit : ℕ) (fault : ExploreFault) → IsCause g fault
+    → IsFindCause g wanted limit (find_fault_from fault)
+find_cause g wanted limit HistoryFull cause = cause
+find_cause g wanted limit OutOfMemory cause = tt
 
-pub count_cause : (g : Setting) (wanted : List Wanted) (limit : ℕ) (fault : ExploreFault)
-    → NeedsChanges g wanted few_changes → IsCause g limit fault → IsFindCause g wanted limit fault
-count_cause g wanted limit TooMany needs cause = (needs, cause)
-count_cause g wanted limit HistoryFull needs cause = cause.0
-count_cause g wanted limit OutOfMemory needs cause = tt
+-- none that was looked at has the lines
+pub first_cause : (g : Setting) (wanted : List Wanted) (limit : ℕ) (ends : List Ending)
+    → NeedsChanges g wanted few_changes → HasMoreThan (IsComplete g) limit → AreFirst g limit ends
+    → HasNoSuchEnd ends wanted → IsFindCause g wanted limit TooMany
+first_cause g wanted limit ends needs more first none =
+    (needs, more, none_first g wanted limit ends first none)

@@ -1,9 +1,10 @@
 -- Which schedules end as is wanted, and what is said of the nearest.
 use Rattle.std.specs.Prelude.{ℕ, ◌+◌, ◌<◌, ◌≤◌, List, Option, Some, None}
 use Rattle.hp_explore.specs.Faults.{FillsAlong}
-use Rattle.hp_explore.specs.Orders.{HasCount}
+use Rattle.hp_explore.specs.Orders.{HasCount, IsBefore}
 use Rattle.hp_explore.specs.Outcomes.{OutcomeValue}
 use Rattle.hp_explore.specs.Schedules.{EndsWith, IsComplete, Setting}
+use Rattle.hp_explore.specs.Walks.{Before}
 use Rattle.hp_find.specs.Changes.{changes}
 use Rattle.hp_find.specs.Wanted.{Meets}
 use Rattle.hp_find.specs.declared.finding.Found.{Found}
@@ -25,6 +26,18 @@ IsNearest g wanted s = Reaches g wanted s × NeedsChanges g wanted (changes s)
 -- none does, and there are so many complete schedules
 abbrev pub IsAbsent : Setting → List Wanted → ℕ → Type 0
 IsAbsent g wanted n = ((s : List ℕ) → Reaches g wanted s → ⊥) × HasCount (IsComplete g) n
+
+-- the schedules before a place are as many as a limit: none of these first ones ends as is wanted,
+-- or one does
+abbrev pub IsAbsentAmongFirst : Setting → List Wanted → (limit : ℕ) → Type 0
+IsAbsentAmongFirst g wanted limit =
+    (place : List ℕ) × HasCount (λ s. (x : OutcomeValue) × Before g place s x) limit
+    × ((s : List ℕ) → Reaches g wanted s → IsBefore s place → ⊥)
+
+abbrev pub IsMetAmongFirst : Setting → List Wanted → (limit : ℕ) → Type 0
+IsMetAmongFirst g wanted limit =
+    (place : List ℕ) × HasCount (λ s. (x : OutcomeValue) × Before g place s x) limit
+    × (s : List ℕ) × Reaches g wanted s × IsBefore s place
 
 -- the history has room for each call of a schedule
 abbrev pub HasRoomAlong : Setting → List ℕ → Type 0

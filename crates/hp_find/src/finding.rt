@@ -1,12 +1,13 @@
 //! The search by rising number of changes.
 ghost use Rattle.std.specs.Prelude.{◌≡◌, ◌<◌, ◌≤◌, ◌^◌, IfErr, IfNone, IfOk, IfSome, length, option_map, sum_by};
-ghost use Rattle.hp_explore.specs.Faults.{FillsHistory, HasMoreThan, IsCallCause};
-ghost use Rattle.hp_explore.specs.Schedules.{IsComplete, setting};
-ghost use Rattle.hp_find.specs.Faults.{HasCounted, IsFindCause, IsRecorded};
+ghost use Rattle.hp_explore.specs.Faults.{IsCause};
+ghost use Rattle.hp_explore.specs.Schedules.{setting};
+ghost use Rattle.hp_find.specs.Faults.{IsFindCause, IsRecorded, IsWithin, SparesHistory};
 ghost use Rattle.hp_find.specs.Ends.{HasNoSuchEnd, IsSuchEnd};
 ghost use Rattle.hp_find.specs.Reaching.{IsFound, IsNearest, IsNearestBelow, NeedsChanges, Reaches};
 
 use crate::changes::changes_of;
+use crate::fault::FindFault;
 use crate::searching::first_within;
 use crate::wanted::{Wanted, are_met};
 use hp_explore::{Ending, ExploreFault, Script, Watch, explore};
@@ -33,9 +34,10 @@ pub enum Found {
 /// watch is told how far the count of all schedules has come.
 ///
 /// An error is `HistoryFull` where the layout's history has no room for all calls of a schedule,
-/// `OutOfMemory`, or `TooMany` where no schedule with fewer than three changes ends so and there
-/// are more schedules than the limit.
-#[tactic(auto, using(crate::proofs::Levels::few_counted, crate::proofs::Levels::few_filled, crate::proofs::Levels::room_along))]
+/// `OutOfMemory`, or `TooMany` where there are more schedules than the limit, and none with fewer
+/// than three changes ends so, and none of the first ones in the order of `explore`, as many as the
+/// limit.
+#[tactic(auto, using(crate::proofs::Levels::met_within, crate::proofs::Levels::found_recorded))]
 pub fn find<W: Watch>(
     alloc: Global,
     machine: &Machine,
@@ -43,26 +45,30 @@ pub fn find<W: Watch>(
     wanted: &[Wanted],
     limit: u64,
     watch: &mut W,
-) -> Result<Found, ExploreFault>
+) -> Result<Found, FindFault>
     requires { length scripts.now < 2 ^ 32 }
     ensures ok { IfOk result (IsFound (setting machine.now scripts.now) wanted.now) }
-    ensures few { IfOk result (λ found. HasCounted found
-        → HasMoreThan (IsComplete (setting machine.now scripts.now)) limit → ⊥) }
-    ensures room { IfOk result (λ found. HasCounted found
-        → FillsHistory (setting machine.now scripts.now) → ⊥) }
-    ensures along { IfOk result (IsRecorded (setting machine.now scripts.now)) }
+    ensures few { IfOk result (IsWithin (setting machine.now scripts.now) wanted.now limit) }
+    ensures room { IfOk result (SparesHistory (setting machine.now scripts.now)) }
+    ensures along { IfOk result (IsRecorded (setting machine.now scripts.now) limit) }
     ensures err { IfErr result (IsFindCause (setting machine.now scripts.now) wanted.now limit) }
 {
     if let Some(schedule) = nearest_below(alloc, machine, scripts, wanted, 0, FEW)? {
         return Ok(Found::Nearest(schedule));
     }
-    let ends = explore(alloc, machine, scripts, limit, watch)?;
-    match end_with(&ends, wanted) {
+    let explored = explore(alloc, machine, scripts, limit, watch)?;
+    match end_with(&explored.ends, wanted) {
         Some(end) => {
             let schedule = nearest_to(alloc, machine, scripts, wanted, end.first.as_slice())?;
             Ok(Found::Nearest(schedule))
         }
-        None => Ok(Found::Absent(total_of(&ends))),
+        None => {
+            if explored.is_whole {
+                Ok(Found::Absent(total_of(&explored.ends)))
+            } else {
+                Err(FindFault::TooMany)
+            }
+        }
     }
 }
 
@@ -78,7 +84,7 @@ fn nearest_to(
     requires known { Reaches (setting machine.now scripts.now) wanted.now known.now }
     requires from { NeedsChanges (setting machine.now scripts.now) wanted.now FEW }
     ensures ok { IfOk result (λ s. IsNearest (setting machine.now scripts.now) wanted.now s.items) }
-    ensures err { IfErr result (IsCallCause (setting machine.now scripts.now)) }
+    ensures err { IfErr result (IsCause (setting machine.now scripts.now)) }
 {
     let below = changes_of(known) as u64;
     match nearest_below(alloc, machine, scripts, wanted, FEW, below)? {
@@ -103,7 +109,7 @@ fn nearest_below(
     requires order { from ≤ below }
     ensures ok { IfOk result (λ found. IsNearestBelow (setting machine.now scripts.now) wanted.now below
         (option_map (λ s. s.items) found)) }
-    ensures err { IfErr result (IsCallCause (setting machine.now scripts.now)) }
+    ensures err { IfErr result (IsCause (setting machine.now scripts.now)) }
 {
     for budget in from..below {
         if let Some(schedule) = first_within(alloc, machine, scripts, wanted, budget)? {

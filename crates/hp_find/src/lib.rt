@@ -11,10 +11,12 @@
 #![tactic(auto)]
 
 mod changes;
+mod fault;
 mod finding;
 mod searching;
 mod wanted;
 
 pub use changes::changes_of;
+pub use fault::FindFault;
 pub use finding::{Found, find};
 pub use wanted::{Pattern, Wanted};

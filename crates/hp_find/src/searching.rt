@@ -1,7 +1,7 @@
 //! The search of the schedules that change the processor only so often, depth first and processor 0
 //! first.
 ghost use Rattle.std.specs.Prelude.{◌≡◌, ◌<◌, ◌+◌, ◌^◌, ◌↔◌, [], IfErr, IfOk, IsTrue, OnOk, option_map, length};
-ghost use Rattle.hp_explore.specs.Faults.{IsCallCause};
+ghost use Rattle.hp_explore.specs.Faults.{IsCause};
 ghost use Rattle.hp_explore.specs.Schedules.{schedule_of, setting};
 ghost use Rattle.hp_find.specs.Reaching.{IsFirstWithin, Reaches};
 ghost use Rattle.hp_find.specs.Searches.{IsDown, IsOver, IsSearching, IsTurned, IsUp};
@@ -53,7 +53,7 @@ pub(crate) fn first_within(
     requires { length scripts.now < 2 ^ 32 }
     ensures ok { IfOk result (λ found. IsFirstWithin (setting machine.now scripts.now) wanted.now budget
         (option_map (λ s. s.items) found)) }
-    ensures err { IfErr result (IsCallCause (setting machine.now scripts.now)) }
+    ensures err { IfErr result (IsCause (setting machine.now scripts.now)) }
 {
     let mut search = Search::start(alloc, machine, scripts)?;
     let processors = scripts.len() as u32;
@@ -98,7 +98,7 @@ impl<'a> Search<'a> {
         requires searching { IsSearching wanted.now budget self.old }
         requires processors { processors ≡ length self.old.path.setting.scripts }
         ensures ok { IfOk result (IsTurned wanted.now budget self.old self.new) }
-        ensures err { IfErr result (IsCallCause self.old.path.setting) }
+        ensures err { IfErr result (IsCause self.old.path.setting) }
     {
         self.path.is_played();
         if self.next < processors {
@@ -116,7 +116,7 @@ impl<'a> Search<'a> {
     fn down(&mut self, alloc: Global, budget: u64) -> Result<(), ExploreFault>
         requires { self.old.next + 1 < 2 ^ 32 }
         ensures ok { OnOk result (IsDown budget self.old self.new) }
-        ensures err { IfErr result (IsCallCause self.old.path.setting) }
+        ensures err { IfErr result (IsCause self.old.path.setting) }
     {
         let cpu = Cpu(self.next);
         if changes_with(self.schedule.as_slice(), cpu) > u128::from(budget) {

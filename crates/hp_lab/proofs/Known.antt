@@ -1,28 +1,30 @@
 -- From what the parts of an answer say to what the whole promises.
-use Rattle.std.proofs.Common.{◌≡◌, ℕ, ◌-◌, ◌<◌, ◌≤◌, ◌^◌, List, [], ◌++◌, length, get_or, take, drop, Ok, refl, ap, subst, sum_by, ◌∙◌, arith}
+use Rattle.std.proofs.Common.{◌≡◌, ℕ, ◌-◌, ◌<◌, ◌≤◌, ◌^◌, List, [], ◌++◌, length, get_or, take, drop, Option, Some, None, Ok, refl, ap, sym, subst, ◌∙◌, arith}
 use Rattle.std.proofs.lemmas.List.FromFn.{length-map-range_with_len}
 use Rattle.std.proofs.lemmas.Option.{slice_get_read}
 use Rattle.hp_units.specs.LayoutParts.{LayoutParts}
 use Rattle.hp_machine.specs.Machine.{MachineValue, booted}
 use Rattle.hp_scenario.specs.declared.lines.Line.{Line}
 use Rattle.hp_scenario.specs.Scenario.{ScenarioValue, scenario_in}
+use Rattle.hp_explore.specs.declared.exploring.Exploration.{Exploration}
 use Rattle.hp_explore.specs.declared.exploring.ExploreFault.{ExploreFault}
-use Rattle.hp_explore.specs.declared.exploring.ExploreFault.TheVariants as search
+use Rattle.hp_explore.specs.declared.exploring.ExploreFault.TheVariants as explore
+use Rattle.hp_explore.specs.declared.multinomials.HowMany.{HowMany}
 use Rattle.hp_explore.specs.declared.scripts.Line.{Line as Step}
 use Rattle.hp_explore.specs.declared.tally.Ending.{Ending}
 use Rattle.hp_explore.specs.Ends.{AreEnds}
-use Rattle.hp_explore.specs.Faults.{IsCallCause, IsCause}
-use Rattle.hp_explore.specs.Interleavings.{IsNotKnownTooMany}
-use Rattle.hp_explore.specs.Schedules.{Setting, setting}
-use Rattle.hp_explore.proofs.Interleavings.{counted_by_lengths}
-use Rattle.hp_find.specs.Faults.{IsFindCause}
+use Rattle.hp_explore.specs.Faults.{FillsHistory, HasMoreThan, IsCause}
+use Rattle.hp_explore.specs.Fronts.{AreFirst, IfFirst, IfWhole}
+use Rattle.hp_explore.specs.Schedules.{IsComplete, Setting, setting}
+use Rattle.hp_find.specs.Faults.{IsFindCause, find_fault_from}
+use Rattle.hp_find.specs.declared.fault.FindFault.{FindFault}
+use Rattle.hp_find.specs.declared.fault.FindFault.TheVariants as search
 use Rattle.hp_find.specs.declared.wanted.Wanted.{Wanted}
 use Rattle.hp_lab.specs.declared.fault.LabFault.{LabFault}
 use Rattle.hp_lab.specs.declared.fault.LabFault.TheVariants.{NotJson, BadShape, Layout, BadLine, NotForScript, TooMany, HistoryFull, OutOfMemory}
 use Rattle.hp_lab.specs.declared.fault.Unfit.{Unfit}
 use Rattle.hp_lab.specs.Checks.{AreFit, IsFirstUnfit, IsUnfit}
-use Rattle.hp_lab.specs.Explorations.{HoldsAfter, HoldsIn, IsFaultWith, IsNumbered, IsStoppedAfter, IsUnanswered, IsUnfitAfter}
-use Rattle.hp_lab.specs.Faults.{search_fault_from}
+use Rattle.hp_lab.specs.Explorations.{AreExplored, HoldsAfter, HoldsIn, IsEndsCause, IsFaultWith, IsFull, IsFullTold, IsMore, IsNumbered, IsStoppedAfter, IsToldAs, IsUnanswered, IsUnfitAfter, IsUntold}
 use Rattle.hp_lab.specs.Begins.{begins_in}
 use Rattle.hp_lab.specs.Scripts.{script_of, scripts_of}
 use Rattle.hp_lab.specs.Setup.{RunsLines}
@@ -51,47 +53,60 @@ unfit_at s setup cpus before after place why parts h =
     (subst (λ (xs : List Line). IsFirstUnfit s.layout.cpus (length xs) after place why) parts.front
     (subst (λ (k : ℕ). IsFirstUnfit k (length before) after place why) parts.processors h))
 
-pub unfit_known : (C : Setting → ExploreFault → Type 0) (input : List ℕ) (s : ScenarioValue) (setup cpus : ℕ)
+pub unfit_known : (C : Setting → FindFault → Type 0) (input : List ℕ) (s : ScenarioValue)
+    (setup limit cpus : ℕ)
     (before after : List Line) (fault : LabFault)
     → scenario_in input ≡ Ok s → AreParts s setup cpus before after → IsUnfit cpus (length before) after fault
-    → IsFaultWith C input setup fault
-unfit_known C input s setup cpus before after NotJson read parts h = absurd h
-unfit_known C input s setup cpus before after BadShape read parts h = absurd h
-unfit_known C input s setup cpus before after (Layout f) read parts h = absurd h
-unfit_known C input s setup cpus before after (BadLine n) read parts h = absurd h
-unfit_known C input s setup cpus before after (NotForScript place why) read parts h =
+    → IsFaultWith C input setup limit fault
+unfit_known C input s setup limit cpus before after NotJson read parts h = absurd h
+unfit_known C input s setup limit cpus before after BadShape read parts h = absurd h
+unfit_known C input s setup limit cpus before after (Layout f) read parts h = absurd h
+unfit_known C input s setup limit cpus before after (BadLine n) read parts h = absurd h
+unfit_known C input s setup limit cpus before after (NotForScript place why) read parts h =
     (s, read, unfit_at s setup cpus before after place why parts h)
-unfit_known C input s setup cpus before after TooMany read parts h = absurd h
-unfit_known C input s setup cpus before after HistoryFull read parts h = absurd h
-unfit_known C input s setup cpus before after OutOfMemory read parts h = absurd h
+unfit_known C input s setup limit cpus before after (TooMany n) read parts h = absurd h
+unfit_known C input s setup limit cpus before after (HistoryFull needed) read parts h = absurd h
+unfit_known C input s setup limit cpus before after OutOfMemory read parts h = absurd h
 
 -- ---- the search
 
--- where the ends were counted within the limit, it was not known to be exceeded
-not_too_many : (g : Setting) (ends : List Ending) (limit : ℕ) → AreEnds g ends
-    → sum_by (λ (e : Ending). e.count) ends ≤ limit → IsNotKnownTooMany g.scripts limit
-not_too_many g ends limit are within =
-    λ many. absurd (omega (
-      arith,
-      within,
-      many.1 (sum_by (λ (e : Ending). e.count) ends)
-          (counted_by_lengths g (sum_by (λ (e : Ending). e.count) ends) many.0 are.total),
-    ))
+-- the ends are all, or the first ones
+pub explored_told : (g : Setting) (limit : ℕ) (x : Exploration) (more : Option HowMany)
+    → IfWhole x (AreEnds g) → IfWhole x (λ _. HasMoreThan (IsComplete g) limit → ⊥)
+    → IfWhole x (λ _. FillsHistory g → ⊥) → IfFirst x (AreFirst g limit)
+    → IfFirst x (λ _. HasMoreThan (IsComplete g) limit) → IsMore g.scripts x.is_whole more
+    → AreExplored g limit x.ends.items more
+explored_told g limit x None whole few room first many h = (whole h, few h, room h)
+explored_told g limit x (Some known) whole few room first many h = (first h.0, many h.0, h.1)
 
--- a fault in writing the ends is one of the search
-pub written_cause : (g : Setting) (ends : List Ending) (limit : ℕ) (fault : ExploreFault) → AreEnds g ends
-    → sum_by (λ (e : Ending). e.count) ends ≤ limit → IsCallCause g fault → IsCause g limit fault
-written_cause g ends limit search.TooMany are within h = absurd h
-written_cause g ends limit search.HistoryFull are within h = (h, not_too_many g ends limit are within)
-written_cause g ends limit search.OutOfMemory are within h = tt
+-- a fault in writing what was found is one of the search
+pub found_cause : (g : Setting) (wanted : List Wanted) (limit : ℕ) (fault : ExploreFault) → IsCause g fault
+    → IsFindCause g wanted limit (find_fault_from fault)
+found_cause g wanted limit explore.HistoryFull h = h
+found_cause g wanted limit explore.OutOfMemory h = tt
 
--- of a search for an end too
-pub found_cause : (g : Setting) (wanted : List Wanted) (limit : ℕ) (fault : ExploreFault)
-    → IsCallCause g fault
-    → IsFindCause g wanted limit fault
-found_cause g wanted limit search.TooMany h = absurd h
-found_cause g wanted limit search.HistoryFull h = h
-found_cause g wanted limit search.OutOfMemory h = tt
+-- and one of an exploration
+pub ends_cause : (g : Setting) (fault : ExploreFault) → IsCause g fault
+    → IsEndsCause g (find_fault_from fault)
+ends_cause g explore.HistoryFull h = h
+ends_cause g explore.OutOfMemory h = tt
+
+-- as it is told
+pub untold : (C : Setting → FindFault → Type 0) (limit : ℕ) (g : Setting) (fault : FindFault) (told : LabFault)
+    → IsToldAs limit g fault told → C g fault → IsUntold C limit g told
+untold C limit g search.TooMany told is cause = subst (IsUntold C limit g) (sym is) (refl, cause)
+untold C limit g search.HistoryFull told is cause = by_told told is
+  where
+    by_told : (told : LabFault) → IsFullTold g told → IsUntold C limit g told
+    by_told NotJson is = absurd is
+    by_told BadShape is = absurd is
+    by_told (Layout f) is = absurd is
+    by_told (BadLine n) is = absurd is
+    by_told (NotForScript place why) is = absurd is
+    by_told (TooMany n) is = absurd is
+    by_told (HistoryFull needed) is = (cause, is)
+    by_told OutOfMemory is = tt
+untold C limit g search.OutOfMemory told is cause = subst (IsUntold C limit g) (sym is) tt
 
 fit_after : (s : ScenarioValue) (setup cpus : ℕ) (before after : List Line)
     → AreParts s setup cpus before after → AreFit cpus after (length after)
@@ -109,25 +124,29 @@ moved P s setup cpus before after parts h =
     parts.rest
     (subst (λ (xs : List Line). HoldsAfter (P xs) s.layout xs after) parts.front h)
 
-stopped_after : (C : Setting → ExploreFault → Type 0) (s : ScenarioValue) (setup cpus : ℕ)
-    (before after : List Line) (fault : ExploreFault)
+stopped_after : (P : Setting → Type 0) (s : ScenarioValue) (setup cpus : ℕ) (before after : List Line)
     → AreParts s setup cpus before after → AreFit cpus after (length after)
-    → HoldsAfter (λ g. C g fault) s.layout before after → IsStoppedAfter C setup fault s
-stopped_after C s setup cpus before after fault parts fit h = (
+    → HoldsAfter P s.layout before after → IsStoppedAfter P setup s
+stopped_after P s setup cpus before after parts fit h = (
   fit_after s setup cpus before after parts fit,
-  moved (λ lines g. C g fault) s setup cpus before after parts h,
+  moved (λ lines g. P g) s setup cpus before after parts h,
 )
 
-pub stopped_known : (C : Setting → ExploreFault → Type 0) (input : List ℕ) (s : ScenarioValue)
-    (setup cpus : ℕ)
-    (before after : List Line) (fault : ExploreFault)
+pub stopped_known : (C : Setting → FindFault → Type 0) (input : List ℕ) (s : ScenarioValue)
+    (setup limit cpus : ℕ)
+    (before after : List Line) (fault : LabFault)
     → scenario_in input ≡ Ok s → AreParts s setup cpus before after → AreFit cpus after (length after)
-    → IsUnanswered C s.layout before after fault → IsFaultWith C input setup (search_fault_from fault)
-stopped_known C input s setup cpus before after search.TooMany read parts fit h =
-    (s, read, stopped_after C s setup cpus before after search.TooMany parts fit h)
-stopped_known C input s setup cpus before after search.HistoryFull read parts fit h =
-    (s, read, stopped_after C s setup cpus before after search.HistoryFull parts fit h)
-stopped_known C input s setup cpus before after search.OutOfMemory read parts fit h = tt
+    → IsUnanswered C limit s.layout before after fault → IsFaultWith C input setup limit fault
+stopped_known C input s setup limit cpus before after NotJson read parts fit h = absurd h
+stopped_known C input s setup limit cpus before after BadShape read parts fit h = absurd h
+stopped_known C input s setup limit cpus before after (Layout f) read parts fit h = absurd h
+stopped_known C input s setup limit cpus before after (BadLine n) read parts fit h = absurd h
+stopped_known C input s setup limit cpus before after (NotForScript place why) read parts fit h = absurd h
+stopped_known C input s setup limit cpus before after (TooMany most) read parts fit h =
+    (h.0, s, read, stopped_after (λ g. C g search.TooMany) s setup cpus before after parts fit h.1)
+stopped_known C input s setup limit cpus before after (HistoryFull needed) read parts fit h =
+    (s, read, stopped_after (IsFull C needed) s setup cpus before after parts fit h)
+stopped_known C input s setup limit cpus before after OutOfMemory read parts fit h = tt
 
 pub answer_known : (P : (names : List (List ℕ)) → (before : List Line) → Setting → Type 0) (input : List ℕ)
     (s : ScenarioValue) (setup cpus : ℕ) (before after : List Line)
@@ -161,12 +180,18 @@ answered_after P l cpus before after boot start none sealed all scripts at_boot 
           ∙ ap (λ (b : List Begin). scripts_of l.cpus b after) all_is)) h;
     }
 
-pub unanswered_after : (C : Setting → ExploreFault → Type 0) (l : LayoutParts) (before after : List Line)
-    (fault : ExploreFault)
-    → HoldsAfter (λ g. C g fault) l before after → IsUnanswered C l before after fault
-unanswered_after C l before after search.TooMany h = h
-unanswered_after C l before after search.HistoryFull h = h
-unanswered_after C l before after search.OutOfMemory h = tt
+pub unanswered_after : (C : Setting → FindFault → Type 0) (limit : ℕ) (l : LayoutParts)
+    (before after : List Line)
+    (g : Setting) (fault : LabFault) → ((P : Setting → Type 0) → P g → HoldsAfter P l before after)
+    → IsUntold C limit g fault → IsUnanswered C limit l before after fault
+unanswered_after C limit l before after g NotJson hold h = absurd h
+unanswered_after C limit l before after g BadShape hold h = absurd h
+unanswered_after C limit l before after g (Layout f) hold h = absurd h
+unanswered_after C limit l before after g (BadLine n) hold h = absurd h
+unanswered_after C limit l before after g (NotForScript place why) hold h = absurd h
+unanswered_after C limit l before after g (TooMany most) hold h = (h.0, hold (λ x. C x search.TooMany) h.1)
+unanswered_after C limit l before after g (HistoryFull needed) hold h = hold (IsFull C needed) h
+unanswered_after C limit l before after g OutOfMemory hold h = tt
 
 -- ---- the number of an end
 

@@ -1,3 +1,4 @@
 pub mod Known
 pub mod Lists
+pub mod Scripted
 pub mod Written

@@ -1,15 +1,20 @@
 -- What is promised of an exploration and of a search, and when each fault comes.
-use Rattle.std.specs.Prelude.{◌≡◌, ◌⊎◌, ℕ, ◌+◌, ◌<◌, ◌≤◌, Bool, true, false, List, [], ◌++◌, length, take, drop, Some, Ok, Err, slice_get, sum_by}
+use Rattle.std.specs.Prelude.{◌≡◌, ◌⊎◌, ℕ, ◌+◌, ◌-◌, ◌^◌, ◌<◌, ◌≤◌, Bool, true, false, List, [], ◌++◌, length, take, drop, Option, Some, None, Ok, Err, slice_get, sum_by}
+use Rattle.std.specs.Option.{is_none}
 use Rattle.hp_units.specs.LayoutParts.{LayoutParts}
 use Rattle.hp_machine.specs.Machine.{MachineValue, booted}
-use Rattle.hp_explore.specs.declared.exploring.ExploreFault.{ExploreFault}
-use Rattle.hp_explore.specs.declared.exploring.ExploreFault.TheVariants as search
+use Rattle.hp_explore.specs.declared.multinomials.HowMany.{HowMany}
+use Rattle.hp_explore.specs.declared.scripts.Line.{Line as Step}
 use Rattle.hp_explore.specs.declared.tally.Ending.{Ending}
-use Rattle.hp_explore.specs.Ends.{AreEnds}
-use Rattle.hp_explore.specs.Faults.{IsCause}
-use Rattle.hp_explore.specs.Schedules.{Setting, setting}
+use Rattle.hp_explore.specs.Ends.{AreEnds, AreInOrder}
+use Rattle.hp_explore.specs.Faults.{FillsHistory, HasMoreThan}
+use Rattle.hp_explore.specs.Fronts.{AreFirst}
+use Rattle.hp_explore.specs.Interleavings.{IsKnown, IsRoomNeeded}
+use Rattle.hp_explore.specs.Schedules.{IsComplete, Setting, setting}
 use Rattle.hp_find.specs.Faults.{IsFindCause}
 use Rattle.hp_find.specs.Reaching.{IsAbsent, IsNearest}
+use Rattle.hp_find.specs.declared.fault.FindFault.{FindFault}
+use Rattle.hp_find.specs.declared.fault.FindFault.TheVariants as search
 use Rattle.hp_find.specs.declared.wanted.Wanted.{Wanted}
 use Rattle.hp_scenario.specs.declared.fault.ScenarioFault.{ScenarioFault}
 use Rattle.hp_scenario.specs.declared.lines.Line.{Line}
@@ -18,7 +23,7 @@ use Rattle.hp_lab.specs.declared.answering.Ask.{Ask}
 use Rattle.hp_lab.specs.declared.answering.Ask.TheVariants.{Ends, Find}
 use Rattle.hp_lab.specs.declared.forms.EndsForm.{EndsForm}
 use Rattle.hp_lab.specs.declared.forms.EndsForm.TheVariants.{Words, Objects, Scenario}
-use Rattle.hp_lab.specs.Objects.{objects_text}
+use Rattle.hp_lab.specs.Objects.{all_objects_text}
 use Rattle.hp_lab.specs.declared.forms.ScheduleForm.{ScheduleForm}
 use Rattle.hp_lab.specs.declared.fault.LabFault.{LabFault}
 use Rattle.hp_lab.specs.declared.fault.LabFault.TheVariants.{NotJson, BadShape, Layout, BadLine, NotForScript, TooMany, HistoryFull, OutOfMemory}
@@ -42,29 +47,48 @@ pub record IsNumbered (ends : List Ending) (number : ℕ) (e : Ending) : Type 0 
 abbrev pub HasNoEnd : List Ending → (number : ℕ) → Type 0
 HasNoEnd ends number = (number ≡ 0) ⊎ (length ends < number)
 
+-- what is known of how many schedules there are, where not all of them were counted; none where all were
+abbrev pub IsMore : List (List Step) → (is_whole : Bool) → Option HowMany → Type 0
+IsMore scripts is_whole None = is_whole ≡ true
+IsMore scripts is_whole (Some known) = (is_whole ≡ false) × IsKnown scripts (2 ^ 64 - 1) known
+
 -- the text is the scenario of the first schedule of the end with a number, after lines that were run
 -- first; or no end has it, and the text says how many there are
-abbrev pub IsEndTold : (names : List (List ℕ)) → (before : List Line) → Setting → List Ending → (number : ℕ)
-    → (text : List ℕ) → (found : Bool) → Type 0
-IsEndTold names before g ends number text true =
+abbrev pub IsEndTold : (names : List (List ℕ)) → (before : List Line) → Setting → List Ending
+    → Option HowMany → (number : ℕ) → (text : List ℕ) → (found : Bool) → Type 0
+IsEndTold names before g ends more number text true =
     (e : Ending) × IsNumbered ends number e × (text ≡ replay_text names before g e.first.items)
-IsEndTold names before g ends number text false = HasNoEnd ends number × (text ≡ counts_text ends)
+IsEndTold names before g ends more number text false =
+    HasNoEnd ends number × (text ≡ counts_text ends more)
 
--- the text is that of ends in a form
+-- the text is that of ends in a form; what was asked for is found where all schedules were counted,
+-- or where the end is there that was asked for by its number
 abbrev pub AreEndsTold : EndsForm → (names : List (List ℕ)) → (before : List Line) → Setting → List Ending
-    → (text : List ℕ) → (found : Bool) → Type 0
-AreEndsTold Words names before g ends text found = (text ≡ exploration_text names g ends) × (found ≡ true)
-AreEndsTold Objects names before g ends text found = (text ≡ objects_text names g ends) × (found ≡ true)
-AreEndsTold (Scenario number) names before g ends text found = IsEndTold names before g ends number text found
+    → Option HowMany → (text : List ℕ) → (found : Bool) → Type 0
+AreEndsTold Words names before g ends more text found =
+    (text ≡ exploration_text names g ends more) × (found ≡ is_none more)
+AreEndsTold Objects names before g ends more text found =
+    (text ≡ all_objects_text names g ends more) × (found ≡ is_none more)
+AreEndsTold (Scenario number) names before g ends more text found =
+    IsEndTold names before g ends more number text found
 
--- of the ends of all complete schedules, which are no more than the limit
+-- the ends are those of all complete schedules, which are no more than the limit, and none of which
+-- fills the history; or of the first ones, which are as many as the limit, and there are more
+abbrev pub AreExplored : Setting → (limit : ℕ) → List Ending → Option HowMany → Type 0
+AreExplored g limit ends None =
+    AreEnds g ends × (HasMoreThan (IsComplete g) limit → ⊥) × (FillsHistory g → ⊥)
+AreExplored g limit ends (Some known) =
+    AreFirst g limit ends × HasMoreThan (IsComplete g) limit × IsKnown g.scripts (2 ^ 64 - 1) known
+
+-- of ends that are no more than the limit, in the order of their first schedules
 pub record IsExploredOn (form : EndsForm) (names : List (List ℕ)) (before : List Line) (g : Setting)
-    (limit : ℕ)
-    (text : List ℕ) (found : Bool) : Type 0 where
+    (limit : ℕ) (text : List ℕ) (found : Bool) : Type 0 where
   pub ends : List Ending
-  pub are : AreEnds g ends
+  pub more : Option HowMany
+  pub are : AreExplored g limit ends more
+  pub ordered : AreInOrder ends
   pub within : sum_by (λ e. e.count) ends ≤ limit
-  pub told : AreEndsTold form names before g ends text found
+  pub told : AreEndsTold form names before g ends more text found
 
 -- the text is that of a schedule whose end has each of the wanted lines, with the fewest changes of
 -- processor, in a form; or that no schedule ends so, and of how many there are
@@ -82,9 +106,14 @@ IsAnsweredOn (Ends form) limit text found names before g = IsExploredOn form nam
 IsAnsweredOn (Find wanted form) limit text found names before g =
     IsFoundOn form names before g wanted.now text found
 
--- why there is no answer
-abbrev pub IsAskCause : Ask → (limit : ℕ) → Setting → ExploreFault → Type 0
-IsAskCause (Ends form) limit g fault = IsCause g limit fault
+-- why there is no answer: the ends are told whatever the limit
+abbrev pub IsEndsCause : Setting → FindFault → Type 0
+IsEndsCause g search.TooMany = ⊥
+IsEndsCause g search.HistoryFull = FillsHistory g
+IsEndsCause g search.OutOfMemory = Unit {0}
+
+abbrev pub IsAskCause : Ask → (limit : ℕ) → Setting → FindFault → Type 0
+IsAskCause (Ends form) limit g fault = IsEndsCause g fault
 IsAskCause (Find wanted form) limit g fault = IsFindCause g wanted.now limit fault
 
 -- ---- in a scenario
@@ -121,11 +150,37 @@ IsFindingOf form input setup wanted text found =
 
 -- ---- faults
 
--- `C` says which causes the fault of a search has; out of memory may come in place of any answer
-abbrev pub IsUnanswered : (C : Setting → ExploreFault → Type 0) → LayoutParts → (before after : List Line)
-    → ExploreFault → Type 0
-IsUnanswered C l before after search.OutOfMemory = Unit {0}
-IsUnanswered C l before after fault = HoldsAfter (λ g. C g fault) l before after
+-- `C` says which causes the fault of a search has; a full history is told with how much room it
+-- needs, where that is known
+abbrev pub IsFull : (C : Setting → FindFault → Type 0) → (needed : Option ℕ) → Setting → Type 0
+IsFull C needed g = C g search.HistoryFull × IsRoomNeeded g needed
+
+-- a fault of a search is told so: a full history with how much room it needs, unless memory is out
+abbrev pub IsFullTold : Setting → LabFault → Type 0
+IsFullTold g (HistoryFull needed) = IsRoomNeeded g needed
+IsFullTold g OutOfMemory = Unit {0}
+IsFullTold g fault = ⊥
+
+abbrev pub IsToldAs : (limit : ℕ) → Setting → FindFault → LabFault → Type 0
+IsToldAs limit g search.TooMany fault = fault ≡ TooMany limit
+IsToldAs limit g search.HistoryFull fault = IsFullTold g fault
+IsToldAs limit g search.OutOfMemory fault = fault ≡ OutOfMemory
+
+-- why there is no answer on a machine, as it is told; out of memory may come in place of any
+abbrev pub IsUntold : (C : Setting → FindFault → Type 0) → (limit : ℕ) → Setting → LabFault → Type 0
+IsUntold C limit g (TooMany most) = (most ≡ limit) × C g search.TooMany
+IsUntold C limit g (HistoryFull needed) = IsFull C needed g
+IsUntold C limit g OutOfMemory = Unit {0}
+IsUntold C limit g fault = ⊥
+
+-- why there is no answer after lines that are run first; out of memory may come in place of any
+abbrev pub IsUnanswered : (C : Setting → FindFault → Type 0) → (limit : ℕ) → LayoutParts
+    → (before after : List Line) → LabFault → Type 0
+IsUnanswered C limit l before after (TooMany most) =
+    (most ≡ limit) × HoldsAfter (λ g. C g search.TooMany) l before after
+IsUnanswered C limit l before after (HistoryFull needed) = HoldsAfter (IsFull C needed) l before after
+IsUnanswered C limit l before after OutOfMemory = Unit {0}
+IsUnanswered C limit l before after fault = ⊥
 
 -- the bytes are a scenario, of which this holds
 abbrev pub InScenario : (input : List ℕ) → (ScenarioValue → Type 0) → Type 0
@@ -136,32 +191,34 @@ abbrev pub IsUnfitAfter : (setup place : ℕ) → Unfit → ScenarioValue → Ty
 IsUnfitAfter setup place why s =
     IsFirstUnfit s.layout.cpus (length (take setup s.lines)) (drop setup s.lines) place why
 
--- all of them can, and the search has this fault
-abbrev pub IsStoppedAfter : (C : Setting → ExploreFault → Type 0) → (setup : ℕ) → ExploreFault → ScenarioValue
-    → Type 0
-IsStoppedAfter C setup fault s =
+-- all of them can, and this holds after them
+abbrev pub IsStoppedAfter : (P : Setting → Type 0) → (setup : ℕ) → ScenarioValue → Type 0
+IsStoppedAfter P setup s =
     AreFit s.layout.cpus (drop setup s.lines) (length (drop setup s.lines))
-    × HoldsAfter (λ g. C g fault) s.layout (take setup s.lines) (drop setup s.lines)
+    × HoldsAfter P s.layout (take setup s.lines) (drop setup s.lines)
 
 -- the bytes are no scenario, and this is said of why
 abbrev pub IsUnread : (input : List ℕ) → LabFault → Type 0
 IsUnread input fault = (why : ScenarioFault) × (scenario_in input ≡ Err why) × (fault ≡ fault_from why)
 
 -- when each fault comes
-abbrev pub IsFaultWith : (C : Setting → ExploreFault → Type 0) → (input : List ℕ) → (setup : ℕ) → LabFault
+abbrev pub IsFaultWith : (C : Setting → FindFault → Type 0) → (input : List ℕ) → (setup limit : ℕ) → LabFault
     → Type 0
-IsFaultWith C input setup NotJson = IsUnread input NotJson
-IsFaultWith C input setup BadShape = IsUnread input BadShape
-IsFaultWith C input setup (Layout fault) = IsUnread input (Layout fault)
-IsFaultWith C input setup (BadLine line) = IsUnread input (BadLine line)
-IsFaultWith C input setup (NotForScript line why) = InScenario input (IsUnfitAfter setup line why)
-IsFaultWith C input setup TooMany = InScenario input (IsStoppedAfter C setup search.TooMany)
-IsFaultWith C input setup HistoryFull = InScenario input (IsStoppedAfter C setup search.HistoryFull)
-IsFaultWith C input setup OutOfMemory = Unit {0}
+IsFaultWith C input setup limit NotJson = IsUnread input NotJson
+IsFaultWith C input setup limit BadShape = IsUnread input BadShape
+IsFaultWith C input setup limit (Layout fault) = IsUnread input (Layout fault)
+IsFaultWith C input setup limit (BadLine line) = IsUnread input (BadLine line)
+IsFaultWith C input setup limit (NotForScript line why) = InScenario input (IsUnfitAfter setup line why)
+IsFaultWith C input setup limit (TooMany most) =
+    (most ≡ limit) × InScenario input (IsStoppedAfter (λ g. C g search.TooMany) setup)
+IsFaultWith C input setup limit (HistoryFull needed) =
+    InScenario input (IsStoppedAfter (IsFull C needed) setup)
+IsFaultWith C input setup limit OutOfMemory = Unit {0}
 
 -- of an exploration, and of a search
 abbrev pub IsFaultOf : (input : List ℕ) → (setup limit : ℕ) → LabFault → Type 0
-IsFaultOf input setup limit fault = IsFaultWith (λ g. IsCause g limit) input setup fault
+IsFaultOf input setup limit fault = IsFaultWith IsEndsCause input setup limit fault
 
 abbrev pub IsFindFaultOf : (input : List ℕ) → (setup limit : ℕ) → List Wanted → LabFault → Type 0
-IsFindFaultOf input setup limit wanted fault = IsFaultWith (λ g. IsFindCause g wanted limit) input setup fault
+IsFindFaultOf input setup limit wanted fault =
+    IsFaultWith (λ g. IsFindCause g wanted limit) input setup limit fault

@@ -1,5 +1,5 @@
 -- What is said of a fault.
-use Rattle.std.specs.Prelude.{ℕ, List, ◌++◌, codes}
+use Rattle.std.specs.Prelude.{ℕ, List, ◌++◌, codes, Some, None}
 use Rattle.std.specs.Fmt.{decimal}
 use Rattle.hp_units.specs.Texts.{layout_fault_text}
 use Rattle.hp_requests.specs.FaultName.{fault_name}
@@ -22,6 +22,11 @@ fault_text (Layout fault) = codes "layout fault " ++ layout_fault_text fault
 fault_text (BadLine line) = codes "line " ++ decimal line ++ codes " not understood"
 fault_text (NotForScript line why) =
     codes "line " ++ decimal line ++ codes " not for a script: " ++ unfit_text why
-fault_text TooMany = codes "more interleavings than the limit"
-fault_text HistoryFull = codes "no room in the history for all calls of an interleaving"
+fault_text (TooMany limit) =
+    codes "more than " ++ decimal limit ++ codes " interleavings; none of the first " ++ decimal limit
+    ++ codes " ends so"
+fault_text (HistoryFull None) = codes "no room in the history for all calls of an interleaving"
+fault_text (HistoryFull (Some needed)) =
+    codes "no room in the history for all calls of an interleaving: it needs " ++ decimal needed
+    ++ codes " records"
 fault_text OutOfMemory = codes "out of memory"

@@ -1,10 +1,8 @@
 -- Where a fault comes from.
-use Rattle.hp_explore.specs.declared.exploring.ExploreFault.{ExploreFault}
-use Rattle.hp_explore.specs.declared.exploring.ExploreFault.TheVariants as search
 use Rattle.hp_scenario.specs.declared.fault.ScenarioFault.{ScenarioFault}
 use Rattle.hp_scenario.specs.declared.fault.ScenarioFault.TheVariants as scenario
 use Rattle.hp_lab.specs.declared.fault.LabFault.{LabFault}
-use Rattle.hp_lab.specs.declared.fault.LabFault.TheVariants.{NotJson, BadShape, Layout, BadLine, TooMany, HistoryFull, OutOfMemory}
+use Rattle.hp_lab.specs.declared.fault.LabFault.TheVariants.{NotJson, BadShape, Layout, BadLine, OutOfMemory}
 
 -- the fault of reading a scenario, which is never that a line is not for workers
 abbrev pub fault_from : ScenarioFault → LabFault
@@ -14,9 +12,3 @@ fault_from (scenario.Layout fault) = Layout fault
 fault_from (scenario.BadLine line) = BadLine line
 fault_from (scenario.NotForRun line) = BadLine line
 fault_from scenario.OutOfMemory = OutOfMemory
-
--- the fault of the search
-abbrev pub search_fault_from : ExploreFault → LabFault
-search_fault_from search.TooMany = TooMany
-search_fault_from search.HistoryFull = HistoryFull
-search_fault_from search.OutOfMemory = OutOfMemory

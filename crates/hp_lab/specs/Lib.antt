@@ -1,5 +1,6 @@
 pub mod Begins
 pub mod Checks
+pub mod Counting
 pub mod Explorations
 pub mod Faults
 pub mod FaultText

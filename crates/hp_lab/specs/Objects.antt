@@ -1,11 +1,13 @@
 -- How ends and schedules are written as JSON, an object a line.
-use Rattle.std.specs.Prelude.{ℕ, ◌+◌, true, List, [], ◌++◌, codes, Option, Some, None, length, slice_get}
+use Rattle.std.specs.Prelude.{ℕ, ◌+◌, true, List, [], ◌++◌, codes, Option, Some, None, length, slice_get, sum_by}
 use Rattle.std.specs.Fmt.{decimal}
 use Rattle.hp_units.specs.Texts.{reply_text}
 use Rattle.hp_units.specs.declared.replies.Record.{Record}
 use Rattle.hp_units.specs.declared.replies.Reply.{Reply}
 use Rattle.hp_units.specs.declared.rows.Row.{Row}
 use Rattle.hp_text.specs.State.{state_words, texts_below}
+use Rattle.hp_explore.specs.declared.multinomials.HowMany.{HowMany}
+use Rattle.hp_explore.specs.declared.multinomials.HowMany.TheVariants.{Exactly, MoreThanLimit, Unknown}
 use Rattle.hp_explore.specs.declared.tally.Ending.{Ending}
 use Rattle.hp_explore.specs.Outcomes.{OutcomeValue}
 use Rattle.hp_explore.specs.Schedules.{Setting, plays}
@@ -68,6 +70,23 @@ object_at names g ends place = numbered_object names g (place + 1) (slice_get en
 
 abbrev pub objects_text : (names : List (List ℕ)) → Setting → List Ending → List ℕ
 objects_text names g ends = texts_below (object_at names g ends) (length ends)
+
+-- how many there are, where not all were counted: null where that is not known
+abbrev pub known_number : HowMany → List ℕ
+known_number (Exactly count) = decimal count
+known_number MoreThanLimit = codes "null"
+known_number Unknown = codes "null"
+
+-- and how many were
+abbrev pub more_object : (counted : ℕ) → Option HowMany → List ℕ
+more_object counted None = []
+more_object counted (Some known) =
+    codes "{\"first\": " ++ decimal counted ++ codes ", \"interleavings\": " ++ known_number known
+    ++ codes "}\n"
+
+abbrev pub all_objects_text : (names : List (List ℕ)) → Setting → List Ending → Option HowMany → List ℕ
+all_objects_text names g ends more =
+    objects_text names g ends ++ more_object (sum_by (λ e. e.count) ends) more
 
 -- ---- a search
 

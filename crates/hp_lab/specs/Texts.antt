@@ -8,6 +8,8 @@ use Rattle.hp_units.specs.declared.replies.Reply.{Reply}
 use Rattle.hp_units.specs.declared.rows.Row.{Row}
 use Rattle.hp_text.specs.Answers.{bare_reply_line}
 use Rattle.hp_text.specs.State.{block_line, newline, texts_below}
+use Rattle.hp_explore.specs.declared.multinomials.HowMany.{HowMany}
+use Rattle.hp_explore.specs.declared.multinomials.HowMany.TheVariants.{Exactly, MoreThanLimit, Unknown}
 use Rattle.hp_explore.specs.declared.tally.Ending.{Ending}
 use Rattle.hp_explore.specs.Outcomes.{OutcomeValue}
 use Rattle.hp_explore.specs.Schedules.{Setting, plays}
@@ -67,19 +69,31 @@ abbrev pub numbered_text : (names : List (List ℕ)) → Setting → (number : �
 numbered_text names g number None = []
 numbered_text names g number (Some e) = heading_text number ++ end_text names g e
 
+-- how many interleavings there are, where not all were counted
+abbrev pub many_text : (counted : ℕ) → HowMany → List ℕ
+many_text counted (Exactly count) = decimal count ++ codes " interleavings"
+many_text counted MoreThanLimit = codes "more than " ++ decimal counted ++ codes " interleavings"
+many_text counted Unknown = codes "more than " ++ decimal counted ++ codes " interleavings"
+
+-- so many were counted: all there are, or the first of more
+abbrev pub total_text : (counted : ℕ) → Option HowMany → List ℕ
+total_text counted None = codes "interleavings: " ++ decimal counted
+total_text counted (Some known) =
+    many_text counted known ++ codes "; these are the first " ++ decimal counted
+
 -- how many interleavings and ends there are
-abbrev pub counts_text : List Ending → List ℕ
-counts_text ends =
-    codes "interleavings: " ++ decimal (sum_by (λ e. e.count) ends) ++ codes "\nends: "
-    ++ decimal (length ends) ++ newline
+abbrev pub counts_text : List Ending → Option HowMany → List ℕ
+counts_text ends more =
+    total_text (sum_by (λ e. e.count) ends) more ++ codes "\nends: " ++ decimal (length ends) ++ newline
 
 -- the end at a place; ends are counted from 1
 abbrev pub end_at_text : (names : List (List ℕ)) → Setting → List Ending → (place : ℕ) → List ℕ
 end_at_text names g ends place = numbered_text names g (place + 1) (slice_get ends place)
 
 -- the counts, and then the ends in order
-abbrev pub exploration_text : (names : List (List ℕ)) → Setting → List Ending → List ℕ
-exploration_text names g ends = counts_text ends ++ texts_below (end_at_text names g ends) (length ends)
+abbrev pub exploration_text : (names : List (List ℕ)) → Setting → List Ending → Option HowMany → List ℕ
+exploration_text names g ends more =
+    counts_text ends more ++ texts_below (end_at_text names g ends) (length ends)
 
 -- ---- a search
 

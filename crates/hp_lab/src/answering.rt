@@ -1,7 +1,7 @@
 //! What is asked of a scenario, answered on the machine after its setup.
 ghost use Rattle.std.specs.Prelude.{◌≡◌, ◌^◌, ◌<◌, IfErr, IfOk, drop, length, string_bytes, take};
 ghost use Rattle.hp_explore.specs.Schedules.{setting};
-ghost use Rattle.hp_lab.specs.Explorations.{HoldsAfter, HoldsIn, IsAnsweredOn, IsAskCause, IsFaultWith, IsUnanswered};
+ghost use Rattle.hp_lab.specs.Explorations.{HoldsAfter, HoldsIn, IsAnsweredOn, IsAskCause, IsFaultWith, IsUnanswered, IsUntold};
 
 use crate::begins::note_begins;
 use crate::checks::check_lines;
@@ -11,8 +11,9 @@ use crate::finding::{Finding, found_on};
 use crate::forms::{EndsForm, ScheduleForm};
 use crate::scripts::scripts_of;
 use crate::setup::run_lines;
-use hp_explore::{ExploreFault, Script, Watch};
-use hp_find::Wanted;
+use crate::telling::told_fault;
+use hp_explore::{Script, Watch};
+use hp_find::{FindFault, Wanted};
 use hp_machine::Machine;
 use hp_scenario::{Line, Scenario};
 use hp_units::{Layout, Text};
@@ -43,7 +44,7 @@ pub(crate) fn answer_to<W: Watch>(
 ) -> Result<Finding, LabFault>
     ensures ok { IfOk result (λ f.
         HoldsIn (IsAnsweredOn ask.entry limit (string_bytes f.text) f.is_found) input.now setup) }
-    ensures err { IfErr result (IsFaultWith (IsAskCause ask.entry limit) input.now setup) }
+    ensures err { IfErr result (IsFaultWith (IsAskCause ask.entry limit) input.now setup limit) }
 {
     let scenario = Scenario::read(alloc, input)?;
     let cpus = scenario.layout.cpus();
@@ -51,7 +52,7 @@ pub(crate) fn answer_to<W: Watch>(
     let before = front_of(lines, setup);
     let after = rest_of(lines, setup);
     check_lines(cpus, before.len() as u64, after)?;
-    let answer = answer_after(
+    answer_after(
         alloc,
         &scenario.layout,
         &scenario.names,
@@ -60,12 +61,11 @@ pub(crate) fn answer_to<W: Watch>(
         limit,
         ask,
         watch,
-    )?;
-    Ok(answer)
+    )
 }
 
 /// The first lines, as many as there are up to a number.
-fn front_of(lines: &[Line], count: u64) -> &[Line]
+pub(crate) fn front_of(lines: &[Line], count: u64) -> &[Line]
     ensures { result.now ≡ take count lines.now }
 {
     if count < lines.len() as u64 {
@@ -76,7 +76,7 @@ fn front_of(lines: &[Line], count: u64) -> &[Line]
 }
 
 /// The lines after the first so many.
-fn rest_of(lines: &[Line], count: u64) -> &[Line]
+pub(crate) fn rest_of(lines: &[Line], count: u64) -> &[Line]
     ensures { result.now ≡ drop count lines.now }
 {
     if count < lines.len() as u64 {
@@ -96,18 +96,44 @@ fn answer_after<W: Watch>(
     limit: u64,
     ask: Ask<'_>,
     watch: &mut W,
-) -> Result<Finding, ExploreFault>
+) -> Result<Finding, LabFault>
     ensures ok { IfOk result (λ f.
         HoldsAfter (IsAnsweredOn ask.entry limit (string_bytes f.text) f.is_found names.now.keys before.now)
         layout.now before.now after.now) }
-    ensures err { IfErr result (IsUnanswered (IsAskCause ask.entry limit) layout.now before.now after.now) }
+    ensures err { IfErr result
+        (IsUnanswered (IsAskCause ask.entry limit) limit layout.now before.now after.now) }
 {
     let mut machine = Machine::boot(alloc, layout)?;
     let mut begins = Vec::new(alloc);
     run_lines(alloc, &mut machine, &mut begins, before)?;
     note_begins(&mut begins, machine.history())?;
     let scripts = scripts_of(alloc, layout.cpus(), &begins, after)?;
-    answer_on(alloc, names, before, &machine, &scripts, limit, ask, watch)
+    told_on(alloc, names, before, &machine, &scripts, limit, ask, watch)
+}
+
+/// The answer of scripts on a machine, on which these lines were run first; or why there is none, with
+/// what is known of it.
+fn told_on<W: Watch>(
+    alloc: Global,
+    names: &IndexSet<Text>,
+    before: &[Line],
+    machine: &Machine,
+    scripts: &[Script],
+    limit: u64,
+    ask: Ask<'_>,
+    watch: &mut W,
+) -> Result<Finding, LabFault>
+    requires { length scripts.now < 2 ^ 32 }
+    ensures ok { IfOk result
+        (λ f. IsAnsweredOn ask.entry limit (string_bytes f.text) f.is_found names.now.keys
+        before.now (setting machine.now scripts.now)) }
+    ensures err { IfErr result
+        (IsUntold (IsAskCause ask.entry limit) limit (setting machine.now scripts.now)) }
+{
+    match answer_on(alloc, names, before, machine, scripts, limit, ask, watch) {
+        Ok(finding) => Ok(finding),
+        Err(fault) => Err(told_fault(alloc, machine, scripts, limit, fault)),
+    }
 }
 
 /// The answer of scripts on a machine, on which these lines were run first.
@@ -120,7 +146,7 @@ fn answer_on<W: Watch>(
     limit: u64,
     ask: Ask<'_>,
     watch: &mut W,
-) -> Result<Finding, ExploreFault>
+) -> Result<Finding, FindFault>
     requires { length scripts.now < 2 ^ 32 }
     ensures ok { IfOk result
         (λ f. IsAnsweredOn ask.entry limit (string_bytes f.text) f.is_found names.now.keys

@@ -3,11 +3,11 @@ ghost use Rattle.std.specs.Prelude.{◌≡◌, ◌++◌, IfErr, OnOk, option_map
 ghost use Rattle.std.specs.List.{flat_map};
 ghost use Rattle.hp_text.specs.Answers.{bare_reply_line};
 ghost use Rattle.hp_text.specs.State.{block_line};
-ghost use Rattle.hp_explore.specs.Faults.{IsCallCause};
+ghost use Rattle.hp_explore.specs.Faults.{IsCause};
 ghost use Rattle.hp_explore.specs.Schedules.{setting};
-ghost use Rattle.hp_lab.specs.Texts.{answers_text, blocks_text, counts_text, end_text, exploration_text, first_text, heading_text, listed_calls, outcome_text, processors_text};
+ghost use Rattle.hp_lab.specs.Texts.{answers_text, blocks_text, counts_text, end_text, exploration_text, first_text, heading_text, listed_calls, many_text, outcome_text, processors_text, total_text};
 
-use hp_explore::{Answers, Ending, ExploreFault, Outcome, Script, play};
+use hp_explore::{Answers, Ending, ExploreFault, HowMany, Outcome, Script, play};
 use hp_machine::Machine;
 use hp_spelling::write_calls;
 use hp_text::{write_reply, write_row};
@@ -15,8 +15,9 @@ use hp_units::{Block, Cpu, Layout, Record, Reply, Row, Text};
 use indexmap::IndexSet;
 use std::alloc::{AllocError, Global};
 
-/// Writes how many interleavings and ends there are, and then each end. Owners are written by their
-/// names. A fault is that of a call: the first interleaving of each end is played once more.
+/// Writes how many interleavings and ends there are, and then each end. Where not all interleavings
+/// were counted it is given what is known of how many there are. Owners are written by their names. A
+/// fault is that of a call: the first interleaving of each end is played once more.
 pub(crate) fn write_ends(
     out: &mut String,
     alloc: Global,
@@ -24,12 +25,13 @@ pub(crate) fn write_ends(
     machine: &Machine,
     scripts: &[Script],
     ends: &[Ending],
+    more: Option<HowMany>,
 ) -> Result<(), ExploreFault>
     ensures ok { OnOk result (string_bytes out.new ≡ string_bytes out.old
-        ++ exploration_text names.now.keys (setting machine.now scripts.now) ends.now) }
-    ensures err { IfErr result (IsCallCause (setting machine.now scripts.now)) }
+        ++ exploration_text names.now.keys (setting machine.now scripts.now) ends.now more) }
+    ensures err { IfErr result (IsCause (setting machine.now scripts.now)) }
 {
-    write_counts(out, ends)?;
+    write_counts(out, ends, more)?;
     for index in 0..ends.len() {
         write_heading(out, index + 1)?;
         write_end(out, alloc, names, machine, scripts, &ends[index])?;
@@ -38,16 +40,44 @@ pub(crate) fn write_ends(
 }
 
 /// Writes how many interleavings and ends there are.
-pub(crate) fn write_counts(out: &mut String, ends: &[Ending]) -> Result<(), AllocError>
-    ensures { OnOk result (string_bytes out.new ≡ string_bytes out.old ++ counts_text ends.now) }
+pub(crate) fn write_counts(
+    out: &mut String,
+    ends: &[Ending],
+    more: Option<HowMany>,
+) -> Result<(), AllocError>
+    ensures { OnOk result (string_bytes out.new ≡ string_bytes out.old ++ counts_text ends.now more) }
 {
-    let total = total_of(ends);
     let count = ends.len();
-    writeln!(out, "interleavings: {total}\nends: {count}")
+    write_total(out, total_of(ends), more)?;
+    writeln!(out, "\nends: {count}")
+}
+
+/// Writes how many interleavings there are, and how many of them were counted, where not all were.
+fn write_total(out: &mut String, counted: u128, more: Option<HowMany>) -> Result<(), AllocError>
+    ensures { OnOk result (string_bytes out.new ≡ string_bytes out.old ++ total_text counted more) }
+{
+    match more {
+        Some(known) => {
+            write_many(out, counted, known)?;
+            write!(out, "; these are the first {counted}")
+        }
+        None => write!(out, "interleavings: {counted}"),
+    }
+}
+
+/// Writes how many interleavings there are, where so many were counted and not all.
+fn write_many(out: &mut String, counted: u128, known: HowMany) -> Result<(), AllocError>
+    ensures { OnOk result (string_bytes out.new ≡ string_bytes out.old ++ many_text counted known) }
+{
+    match known {
+        HowMany::Exactly(count) => write!(out, "{count} interleavings"),
+        HowMany::MoreThanLimit => write!(out, "more than {counted} interleavings"),
+        HowMany::Unknown => write!(out, "more than {counted} interleavings"),
+    }
 }
 
 /// The sum of the counts.
-fn total_of(ends: &[Ending]) -> u128
+pub(crate) fn total_of(ends: &[Ending]) -> u128
     ensures { result ≡ sum_by (λ e. e.count) ends.now }
 {
     let mut total: u128 = 0;
@@ -76,7 +106,7 @@ fn write_end(
 ) -> Result<(), ExploreFault>
     ensures ok { OnOk result (string_bytes out.new
         ≡ string_bytes out.old ++ end_text names.now.keys (setting machine.now scripts.now) end.now) }
-    ensures err { IfErr result (IsCallCause (setting machine.now scripts.now)) }
+    ensures err { IfErr result (IsCause (setting machine.now scripts.now)) }
 {
     let count = end.count;
     writeln!(out, "interleavings: {count}")?;
@@ -160,7 +190,7 @@ pub(crate) fn write_first(
 ) -> Result<(), ExploreFault>
     ensures ok { OnOk result (string_bytes out.new
         ≡ string_bytes out.old ++ first_text names.now.keys (setting machine.now scripts.now) schedule.now) }
-    ensures err { IfErr result (IsCallCause (setting machine.now scripts.now)) }
+    ensures err { IfErr result (IsCause (setting machine.now scripts.now)) }
 {
     if let Some(played) = play(alloc, machine, scripts, schedule)? {
         let start = machine.history().len();

@@ -2,7 +2,6 @@
 ghost use Rattle.std.specs.Prelude.{◌≡◌, Some};
 ghost use Rattle.hp_lab.specs.declared.fault.LabFault.TheVariants.{OutOfMemory};
 
-use hp_explore::ExploreFault;
 use hp_requests::ControlFault;
 use hp_scenario::ScenarioFault;
 use hp_units::LayoutFault;
@@ -51,10 +50,12 @@ pub enum LabFault {
     BadLine { line: u64 },
     /// A line after the setup cannot stand in a script; lines are counted from 1.
     NotForScript { line: u64, why: Unfit },
-    /// There are more interleavings than the limit.
-    TooMany,
-    /// The layout's history has no room for all calls of an interleaving.
-    HistoryFull,
+    /// There are more interleavings than the limit, and none that was looked at ends as is wanted:
+    /// none with few changes of processor, and none of the first ones, as many as the limit.
+    TooMany { limit: u64 },
+    /// The layout's history has no room for all calls of an interleaving. It needs room for so many
+    /// records, where that is known: where no script holds a plan.
+    HistoryFull { needed: Option<u64> },
     /// Out of memory.
     OutOfMemory,
 }
@@ -74,10 +75,17 @@ impl fmt::Display for LabFault {
                 write!(f, "line {line} not for a script: ")?;
                 write!(f, "{why}")
             }
-            LabFault::TooMany => write!(f, "more interleavings than the limit"),
-            LabFault::HistoryFull => {
-                write!(f, "no room in the history for all calls of an interleaving")
-            }
+            LabFault::TooMany { limit } => write!(
+                f,
+                "more than {limit} interleavings; none of the first {limit} ends so"
+            ),
+            LabFault::HistoryFull { needed } => match needed {
+                Some(needed) => write!(
+                    f,
+                    "no room in the history for all calls of an interleaving: it needs {needed} records"
+                ),
+                None => write!(f, "no room in the history for all calls of an interleaving"),
+            },
             LabFault::OutOfMemory => write!(f, "out of memory"),
         }
     }
@@ -107,21 +115,6 @@ impl From<ScenarioFault> for LabFault {
             ScenarioFault::BadLine { line } => LabFault::BadLine { line },
             ScenarioFault::NotForRun { line } => LabFault::BadLine { line },
             ScenarioFault::OutOfMemory => LabFault::OutOfMemory,
-        }
-    }
-}
-
-impl From<ExploreFault> for LabFault {
-    ghost use Rattle.std.specs.Prelude.{◌≡◌};
-    ghost use Rattle.hp_lab.specs.Faults.{search_fault_from};
-
-    ghost from_gives = { λ f e. e ≡ search_fault_from f };
-
-    fn from(fault: ExploreFault) -> LabFault {
-        match fault {
-            ExploreFault::TooMany => LabFault::TooMany,
-            ExploreFault::HistoryFull => LabFault::HistoryFull,
-            ExploreFault::OutOfMemory => LabFault::OutOfMemory,
         }
     }
 }

@@ -1,6 +1,6 @@
 //! A scenario searched for an end.
 ghost use Rattle.std.specs.Prelude.{◌≡◌, ◌++◌, ◌^◌, ◌<◌, IfErr, IfOk, OnOk, length, string_bytes};
-ghost use Rattle.hp_explore.specs.Faults.{IsCallCause};
+ghost use Rattle.hp_explore.specs.Faults.{IsCause};
 ghost use Rattle.hp_explore.specs.Schedules.{setting};
 ghost use Rattle.hp_find.specs.Faults.{IsFindCause};
 ghost use Rattle.hp_lab.specs.Explorations.{IsFindFaultOf, IsFindingOf, IsFoundOn};
@@ -13,7 +13,7 @@ use crate::forms::ScheduleForm;
 use crate::objects::{absent_object, found_object};
 use crate::replays::replay_text;
 use hp_explore::{ExploreFault, Script, Watch};
-use hp_find::{Found, Wanted, changes_of, find};
+use hp_find::{FindFault, Found, Wanted, changes_of, find};
 use hp_machine::Machine;
 use hp_scenario::Line;
 use hp_units::{Cpu, Text};
@@ -39,8 +39,9 @@ pub struct Finding {
 /// searched.
 ///
 /// Errors: those of reading the scenario; NotForScript with the first line after the setup that
-/// cannot stand in a script; TooMany, where no interleaving with fewer than three changes ends so;
-/// HistoryFull; OutOfMemory, which may come in place of any answer.
+/// cannot stand in a script; TooMany, where there are more interleavings than `limit`, and none with
+/// fewer than three changes ends so, and none of the first `limit`; HistoryFull; OutOfMemory, which
+/// may come in place of any answer.
 pub fn find_text<W: Watch>(
     alloc: Global,
     input: &[u8],
@@ -70,7 +71,7 @@ pub(crate) fn found_on<W: Watch>(
     form: ScheduleForm,
     limit: u64,
     watch: &mut W,
-) -> Result<Finding, ExploreFault>
+) -> Result<Finding, FindFault>
     requires { length scripts.now < 2 ^ 32 }
     ensures ok { IfOk result (λ f. IsFoundOn form names.now.keys before.now
         (setting machine.now scripts.now) wanted.now (string_bytes f.text) f.is_found) }
@@ -109,7 +110,7 @@ fn found_text(
 ) -> Result<String, ExploreFault>
     ensures ok { IfOk result (λ text. string_bytes text
         ≡ found_text form names.now.keys before.now (setting machine.now scripts.now) schedule.now) }
-    ensures err { IfErr result (IsCallCause (setting machine.now scripts.now)) }
+    ensures err { IfErr result (IsCause (setting machine.now scripts.now)) }
 {
     match form {
         ScheduleForm::Words => nearest_text(alloc, names, machine, scripts, schedule),
@@ -128,7 +129,7 @@ fn nearest_text(
 ) -> Result<String, ExploreFault>
     ensures ok { IfOk result (λ text.
         string_bytes text ≡ nearest_text names.now.keys (setting machine.now scripts.now) schedule.now) }
-    ensures err { IfErr result (IsCallCause (setting machine.now scripts.now)) }
+    ensures err { IfErr result (IsCause (setting machine.now scripts.now)) }
 {
     let mut text = String::new(alloc);
     let changes = changes_of(schedule);

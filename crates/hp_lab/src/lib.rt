@@ -13,6 +13,7 @@
 mod answering;
 mod begins;
 mod checks;
+mod counting;
 mod ends;
 mod exploring;
 mod fault;
@@ -22,9 +23,11 @@ mod objects;
 mod replays;
 mod scripts;
 mod setup;
+mod telling;
 mod unbegun;
 mod wanted_lines;
 
+pub use counting::interleavings_line;
 pub use exploring::explore_text;
 pub use fault::{LabFault, Unfit};
 pub use finding::{Finding, find_text};

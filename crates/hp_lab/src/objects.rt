@@ -1,12 +1,12 @@
 //! How ends and schedules are written as JSON, an object a line.
 ghost use Rattle.std.specs.Prelude.{◌≡◌, ◌++◌, IfErr, IfOk, OnOk, codes, string_bytes, true};
-ghost use Rattle.hp_explore.specs.Faults.{IsCallCause};
+ghost use Rattle.hp_explore.specs.Faults.{IsCause};
 ghost use Rattle.hp_explore.specs.Schedules.{plays, setting};
 ghost use Rattle.hp_spelling.specs.Separated.{separated};
 ghost use Rattle.hp_text.specs.State.{state_words, zone_word};
-ghost use Rattle.hp_lab.specs.Objects.{absent_object, answer_list, answer_lists, block_list, block_string, call_list, counted_head, end_object, found_object, objects_text, outcome_lists, played_list, reply_string};
+ghost use Rattle.hp_lab.specs.Objects.{absent_object, answer_list, answer_lists, block_list, block_string, call_list, counted_head, end_object, found_object, known_number, more_object, objects_text, outcome_lists, played_list, reply_string};
 
-use hp_explore::{Answers, Ending, ExploreFault, Outcome, Script, play};
+use hp_explore::{Answers, Ending, ExploreFault, HowMany, Outcome, Script, play};
 use hp_find::changes_of;
 use hp_machine::Machine;
 use hp_spelling::{write_calls, write_mark};
@@ -29,12 +29,42 @@ pub(crate) fn write_objects(
 ) -> Result<(), ExploreFault>
     ensures ok { OnOk result (string_bytes out.new ≡ string_bytes out.old
         ++ objects_text names.now.keys (setting machine.now scripts.now) ends.now) }
-    ensures err { IfErr result (IsCallCause (setting machine.now scripts.now)) }
+    ensures err { IfErr result (IsCause (setting machine.now scripts.now)) }
 {
     for index in 0..ends.len() {
         write_object(out, alloc, names, machine, scripts, index + 1, &ends[index])?;
     }
     Ok(())
+}
+
+/// Writes an object that says how many interleavings were counted and how many there are, where not
+/// all were counted.
+pub(crate) fn write_more(
+    out: &mut String,
+    counted: u128,
+    more: Option<HowMany>,
+) -> Result<(), AllocError>
+    ensures { OnOk result (string_bytes out.new ≡ string_bytes out.old ++ more_object counted more) }
+{
+    match more {
+        Some(known) => {
+            write!(out, "{{\"first\": {counted}, \"interleavings\": ")?;
+            write_known(out, known)?;
+            out.push_str("}\n")
+        }
+        None => Ok(()),
+    }
+}
+
+/// Writes how many interleavings there are, where that is known.
+fn write_known(out: &mut String, known: HowMany) -> Result<(), AllocError>
+    ensures { OnOk result (string_bytes out.new ≡ string_bytes out.old ++ known_number known) }
+{
+    match known {
+        HowMany::Exactly(count) => write!(out, "{count}"),
+        HowMany::MoreThanLimit => out.push_str("null"),
+        HowMany::Unknown => out.push_str("null"),
+    }
 }
 
 /// Writes the object of an end: its number, how many interleavings lead to it, what the processors
@@ -50,7 +80,7 @@ fn write_object(
 ) -> Result<(), ExploreFault>
     ensures ok { OnOk result (string_bytes out.new ≡ string_bytes out.old
         ++ end_object names.now.keys (setting machine.now scripts.now) number end.now) }
-    ensures err { IfErr result (IsCallCause (setting machine.now scripts.now)) }
+    ensures err { IfErr result (IsCause (setting machine.now scripts.now)) }
 {
     write_counted(out, number, end.count)?;
     write_outcome(out, &end.outcome)?;
@@ -204,7 +234,7 @@ fn write_call_list(
 ) -> Result<(), ExploreFault>
     ensures ok { OnOk result (string_bytes out.new ≡ string_bytes out.old
         ++ call_list names.now.keys (setting machine.now scripts.now) schedule.now) }
-    ensures err { IfErr result (IsCallCause (setting machine.now scripts.now)) }
+    ensures err { IfErr result (IsCause (setting machine.now scripts.now)) }
 {
     out.push_str(", \"first\": [")?;
     write_played(out, alloc, names, machine, scripts, schedule)?;
@@ -223,7 +253,7 @@ fn write_played(
 ) -> Result<(), ExploreFault>
     ensures ok { OnOk result (string_bytes out.new ≡ string_bytes out.old
         ++ played_list names.now.keys (plays (setting machine.now scripts.now) schedule.now)) }
-    ensures err { IfErr result (IsCallCause (setting machine.now scripts.now)) }
+    ensures err { IfErr result (IsCause (setting machine.now scripts.now)) }
 {
     if let Some(played) = play(alloc, machine, scripts, schedule)? {
         let start = machine.history().len();
@@ -242,7 +272,7 @@ pub(crate) fn found_object(
 ) -> Result<String, ExploreFault>
     ensures ok { IfOk result (λ text. string_bytes text
         ≡ found_object names.now.keys (setting machine.now scripts.now) schedule.now) }
-    ensures err { IfErr result (IsCallCause (setting machine.now scripts.now)) }
+    ensures err { IfErr result (IsCause (setting machine.now scripts.now)) }
 {
     let mut text = String::new(alloc);
     let changes = changes_of(schedule);

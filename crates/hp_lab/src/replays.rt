@@ -1,6 +1,6 @@
 //! A schedule as a scenario.
 ghost use Rattle.std.specs.Prelude.{◌≡◌, IfErr, IfOk, string_bytes};
-ghost use Rattle.hp_explore.specs.Faults.{IsCallCause};
+ghost use Rattle.hp_explore.specs.Faults.{IsCause};
 ghost use Rattle.hp_explore.specs.Schedules.{setting};
 ghost use Rattle.hp_lab.specs.Texts.{replay_text};
 
@@ -24,7 +24,7 @@ pub(crate) fn replay_text(
 ) -> Result<String, ExploreFault>
     ensures ok { IfOk result (λ text. string_bytes text
         ≡ replay_text names.now.keys before.now (setting machine.now scripts.now) schedule.now) }
-    ensures err { IfErr result (IsCallCause (setting machine.now scripts.now)) }
+    ensures err { IfErr result (IsCause (setting machine.now scripts.now)) }
 {
     let mut text = String::new(alloc);
     if let Some(played) = play(alloc, machine, scripts, schedule)? {

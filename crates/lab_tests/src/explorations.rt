@@ -114,3 +114,48 @@ fn explorations_have_their_text(rt: HostRuntime) -> Result<(), Fail> {
     }
     Ok(())
 }
+
+/// The first two interleavings of the race; and none, which are told as objects.
+const FIRST_TEXT: &str =
+    "4 interleavings; these are the first 2\nends: 1\n\nend 1\ninterleavings: 2\ncpu 0\n\
+     opened 0\nmoved 2 1\ndone\ncpu 1\nrefused NoFrame\nblock 0 online normal\nblock 1 offline\n\
+     first:\n\"0 begin off 1\",\n\"0 migrate 4\",\n\"0 commit 4\",\n\"1 map web 0\"\n";
+
+const NO_OBJECTS: &str = "{\"first\": 0, \"interleavings\": 4}\n";
+
+const NO_OBJECTS_OF_A_PLAN: &str = "{\"first\": 0, \"interleavings\": null}\n";
+
+/// The lines of a scenario, how many of them are run first, the limit, and the text in a form of the
+/// interleavings that come first.
+const LIMITED: &[(&str, u64, u64, EndsForm, &str)] = &[
+    (RACE, 3, 2, EndsForm::Words, FIRST_TEXT),
+    (RACE, 3, 0, EndsForm::Objects, NO_OBJECTS),
+    (PLAN, 0, 0, EndsForm::Objects, NO_OBJECTS_OF_A_PLAN),
+];
+
+/// Whether the exploration of a scenario stops at a limit, with this text.
+fn stops(
+    alloc: Global,
+    lines: &str,
+    setup: u64,
+    limit: u64,
+    form: EndsForm,
+    text: &str,
+) -> Result<bool, AllocError> {
+    let scenario = scenario(alloc, 40, lines)?;
+    match explore_text(alloc, scenario.as_bytes(), setup, limit, form, &mut Silent) {
+        Ok(finding) => Ok(!finding.is_found && finding.text.as_str() == text),
+        Err(_fault) => Ok(false),
+    }
+}
+
+#[test]
+fn the_first_are_told_past_the_limit(rt: HostRuntime) -> Result<(), Fail> {
+    for (lines, setup, limit, form, text) in LIMITED {
+        assert!(rt;
+            stops(rt.alloc(), lines, *setup, *limit, *form, text)?,
+            "{lines}"
+        );
+    }
+    Ok(())
+}

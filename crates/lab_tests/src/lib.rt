@@ -10,6 +10,8 @@ mod calls;
 #[cfg(test)]
 mod checks;
 #[cfg(test)]
+mod counts;
+#[cfg(test)]
 mod explorations;
 #[cfg(test)]
 mod pictures;

@@ -47,7 +47,6 @@ const REFUSED: &[Refused] = &[
             why: Unfit::Echo(ControlFault::NoFile),
         },
     ),
-    ("0 drain 0;0 drain 0;1 drain 0", 0, 2, LabFault::TooMany),
 ];
 
 /// Whether a scenario is not explored, for this fault.
@@ -82,6 +81,24 @@ fn each_fault_has_its_cause(rt: HostRuntime) -> Result<(), Fail> {
     assert!(rt; is_refused(rt.alloc(), "[", 0, 9, LabFault::NotJson));
     assert!(rt; is_refused(rt.alloc(), "{}", 0, 9, LabFault::BadShape));
     let text = scenario(rt.alloc(), 1, "0 drain 0;1 drain 0")?;
-    assert!(rt; is_refused(rt.alloc(), text.as_str(), 0, 9, LabFault::HistoryFull));
+    assert!(rt;
+        is_refused(
+            rt.alloc(),
+            text.as_str(),
+            0,
+            9,
+            LabFault::HistoryFull { needed: Some(2) }
+        )
+    );
+    let text = scenario(rt.alloc(), 1, "1 plan 2 off 1")?;
+    assert!(rt;
+        is_refused(
+            rt.alloc(),
+            text.as_str(),
+            0,
+            9,
+            LabFault::HistoryFull { needed: None }
+        )
+    );
     Ok(())
 }

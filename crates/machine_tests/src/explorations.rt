@@ -98,7 +98,12 @@ fn goes_to_the_first(alloc: Global, machine: &Machine) -> Result<bool, AllocErro
     let scripts = two_asks(alloc)?;
     Ok(
         match explore(alloc, machine, scripts.as_slice(), 2, &mut Silent) {
-            Ok(ends) => serve_the_first(alloc, machine, scripts.as_slice(), ends.as_slice()),
+            Ok(explored) => serve_the_first(
+                alloc,
+                machine,
+                scripts.as_slice(),
+                explored.ends.as_slice(),
+            ),
             Err(_fault) => false,
         },
     )

@@ -5,7 +5,7 @@ use Rattle.hp_units.specs.declared.replies.CallFault.{CallFault}
 use Rattle.hp_units.specs.declared.replies.CallFault.TheVariants.{HistoryFull}
 use Rattle.hp_units.specs.declared.replies.Record.{Record}
 use Rattle.hp_explore.specs.Cursors.{AreCursors, IsCalledFor}
-use Rattle.hp_explore.specs.Faults.{IsCallCause}
+use Rattle.hp_explore.specs.Faults.{IsCause}
 use Rattle.hp_explore.specs.Schedules.{next_call, setting}
 use Rattle.hp_explore.specs.Walks.{news_in}
 use Rattle.hp_explore.proofs.Machines.{call_cause, call_full, call_latest, fills_here, further, had_room}
@@ -79,7 +79,7 @@ returns-in-Ok-clause-ok c =
 pub returns-in-Some-clause-err : goal.returns-in-Some-clause-err
 returns-in-Some-clause-err c =
     let g = setting c.args.start.now c.args.scripts.now in
-    subst (IsCallCause g) (sym c.from.ensures)
+    subst (IsCause g) (sym c.from.ensures)
     (call_cause g c.args.played.now c.args.cpu c.in-Err.fault
     (λ full. fills_here g c.args.played.now c.args.cpu c.in-Some.request.event c.requires.reached
     (called (goal.at.returns-in-Some-clause-err c).In-Some).0

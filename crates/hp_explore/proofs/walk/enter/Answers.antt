@@ -2,23 +2,22 @@
 -- place gets a frame, with what is kept of it.
 use Rattle.std.proofs.Common.{Bor, List, Option, ℕ, ap, refl, subst, sym, ◌∙◌}
 use Rattle.std.specs.Option.{IfSome}
-use Rattle.std.proofs.lemmas.Result.{IfErr-weaker, IfOk-weaker}
 use Rattle.hp_memory.specs.Memory.{MemoryValue}
 use Rattle.hp_units.specs.Memory.{Memory}
-use Rattle.hp_explore.specs.Frames.{IsEntered, IsFresh, standing}
+use Rattle.hp_explore.specs.Frames.{IsFresh, standing}
 use Rattle.hp_explore.specs.Numbers.{IsNumbered}
 use Rattle.hp_explore.specs.Seen.{IsLikeAmong}
 use Rattle.hp_explore.specs.Walks.{IsAt}
-use Rattle.hp_explore.specs.declared.frames.Entry.{Entry}
-use Rattle.hp_explore.proofs.Framing.{bare_fresh, entered_fresh}
+use Rattle.hp_explore.proofs.Framing.{entered_added, entered_fresh}
 use Rattle.hp_explore.proofs.Grown.{grow_added}
-use Rattle.hp_explore.proofs.Kept.{found_fault, found_few, found_like, found_walked}
+use Rattle.hp_explore.proofs.Kept.{found_few, found_like, found_walked}
 use Rattle.hp_explore.proofs.walk.enter.Goals as goal
 
 pub add_counts-requires : goal.add_counts-requires
 add_counts-requires o c =
     let p = c.args.path.now in
-    let at : IsAt (p.setting) (standing p) = record { layout = refl; played = c.is_played.ensures; state = refl } in
+    let at : IsAt (p.setting) (standing p) =
+    record { layout = refl; played = c.is_played.ensures; state = refl } in
     let found =
     found_like p.setting (standing p) c.args.memo.now c.args.tally.now.ends c.in_ok-snapshot.snapshot
     c.in-Some.openings c.args.processors c.records-news.result.now c.in-Some-2.counts.now at c.requires.memo
@@ -35,7 +34,8 @@ add_counts-requires o c =
 pub returns-in-Some-2-clause-ok : goal.returns-in-Some-2-clause-ok
 returns-in-Some-2-clause-ok o c =
     let p = c.args.path.now in
-    let at : IsAt (p.setting) (standing p) = record { layout = refl; played = c.is_played.ensures; state = refl } in
+    let at : IsAt (p.setting) (standing p) =
+    record { layout = refl; played = c.is_played.ensures; state = refl } in
     let found =
     found_like p.setting (standing p) c.args.memo.now c.args.tally.now.ends c.in_ok-snapshot.snapshot
     c.in-Some.openings c.args.processors c.records-news.result.now c.in-Some-2.counts.now at c.requires.memo
@@ -47,34 +47,14 @@ returns-in-Some-2-clause-ok o c =
     (subst (λ (counts : Option (Bor (List ℕ))). IfSome counts (λ counts. IsLikeAmong c.args.memo.now.seen
     c.in_ok-snapshot.snapshot c.in-Some.openings c.records-news.result.now c.args.processors counts.now))
     c.in-Some-2.is c.in_ok-counts.ensures) in
-    IfOk-weaker c.add_counts.result _ _
-    (λ entry adds. subst (λ (e : Entry). IsEntered p c.args.tally.now.ends c.add_counts.new.tally.ends e)
-    (sym adds.0) (
+    entered_added p c.args.tally.now.ends c.add_counts.new.tally.ends c.in-Some-2.counts.now
+    c.add_counts.result c.requires.walked
+    (λ adds. (
       found_walked p.setting (standing p) c.args.memo.now c.args.tally.now.ends c.add_counts.new.tally.ends
-          c.in-Some-2.counts.now found c.requires.walked adds.1,
-      grow_added c.args.tally.now.ends c.add_counts.new.tally.ends c.in-Some-2.counts.now adds.1,
+          c.in-Some-2.counts.now found c.requires.walked adds,
+      grow_added c.args.tally.now.ends c.add_counts.new.tally.ends c.in-Some-2.counts.now adds,
     ))
     c.add_counts.ensures.ok
-
-pub returns-in-Some-2-clause-err : goal.returns-in-Some-2-clause-err
-returns-in-Some-2-clause-err o c =
-    let p = c.args.path.now in
-    let at : IsAt (p.setting) (standing p) = record { layout = refl; played = c.is_played.ensures; state = refl } in
-    let found =
-    found_like p.setting (standing p) c.args.memo.now c.args.tally.now.ends c.in_ok-snapshot.snapshot
-    c.in-Some.openings c.args.processors c.records-news.result.now c.in-Some-2.counts.now at c.requires.memo
-    (sym c.is_on.ensures ∙ c.if-not-is_on.false)
-    (subst (IsNumbered p.setting c.args.memo.now.lists p.news) c.in-Some.is
-    (c.number.ensures p.setting p.news c.requires.numbered))
-    (c.in_ok-snapshot.ensures ∙ ap (λ (m : MemoryValue). m.state) c.memory.ensures) c.records-news.ensures
-    c.requires.processors
-    (subst (λ (counts : Option (Bor (List ℕ))). IfSome counts (λ counts. IsLikeAmong c.args.memo.now.seen
-    c.in_ok-snapshot.snapshot c.in-Some.openings c.records-news.result.now c.args.processors counts.now))
-    c.in-Some-2.is c.in_ok-counts.ensures) in
-    IfErr-weaker c.add_counts.result _ _
-    (λ fault cause. found_fault p.setting (standing p) c.args.memo.now c.args.tally.now
-    c.in-Some-2.counts.now fault found c.requires.walked.counted cause)
-    c.add_counts.ensures.err
 
 pub returns-clause-ok : goal.returns-clause-ok
 returns-clause-ok o c =

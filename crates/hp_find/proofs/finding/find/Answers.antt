@@ -1,27 +1,40 @@
 -- The first end with the lines is reached; where there is none, no schedule reaches one.
-use Rattle.std.proofs.Common.{List, ap, sum_by, sym, subst, ◌∙◌}
+use Rattle.std.proofs.Common.{List, ap, rules, sum_by, sym, subst, ◌∙◌}
 use Rattle.hp_explore.specs.Schedules.{setting}
 use Rattle.hp_explore.specs.declared.tally.Ending.{Ending}
 use Rattle.hp_find.specs.Ends.{HasNoSuchEnd, IsSuchEnd}
-use Rattle.hp_find.specs.Reaching.{IsAbsent, Reaches}
-use Rattle.hp_find.proofs.Levels.{none_reaches, such_reaches}
+use Rattle.hp_find.specs.Faults.{few_changes}
+use Rattle.hp_find.specs.Reaching.{IsAbsent, NeedsChanges, Reaches}
+use Rattle.hp_find.proofs.Levels.{first_cause, none_reaches, such_reaches}
 use Rattle.hp_find.proofs.finding.find.Goals as goal
 
 pub nearest_to-requires-clause-known : goal.nearest_to-requires-clause-known
 nearest_to-requires-clause-known g c =
     let start = setting c.args.machine.now c.args.scripts.now in
     subst (Reaches start c.args.wanted.now) (sym c.as_slice.ensures.value)
-    (such_reaches start c.args.wanted.now c.in_ok-ends.ends.items c.in-Some-end_with.end.now
-    c.in_ok-ends.ensures.ok
+    (such_reaches start c.args.wanted.now c.args.limit c.in_ok-explored.explored c.in-Some-end_with.end.now
+    c.in_ok-explored.ensures.ok c.in_ok-explored.ensures.first
     (subst (λ (ends : List Ending). IsSuchEnd ends c.args.wanted.now c.in-Some-end_with.end.now)
     c.deref.ensures.value c.in-Some-end_with.ensures.some))
 
-pub returns-clause-ok : goal.returns-clause-ok
-returns-clause-ok g c =
+pub returns-then-explored-clause-ok : goal.returns-then-explored-clause-ok
+returns-then-explored-clause-ok g c =
     let start = setting c.args.machine.now c.args.scripts.now in
     subst (IsAbsent start c.args.wanted.now)
     (sym (c.total_of.ensures
-    ∙ ap (λ (ends : List Ending). sum_by (λ (e : Ending). e.count) ends) c.deref-in-None.ensures.value))
-    (none_reaches start c.args.wanted.now c.in_ok-ends.ends.items c.in_ok-ends.ensures.ok
+    ∙ ap (λ (ends : List Ending). sum_by (λ (e : Ending). e.count) ends) c.deref-then-explored.ensures.value))
+    (none_reaches start c.args.wanted.now c.in_ok-explored.explored.ends.items
+    (c.in_ok-explored.ensures.ok c.if-explored.true)
     (subst (λ (ends : List Ending). HasNoSuchEnd ends c.args.wanted.now) c.deref.ensures.value
     c.in-None.ensures.none))
+
+pub returns-clause-err : goal.returns-clause-err
+returns-clause-err g c =
+    let start = setting c.args.machine.now c.args.scripts.now in
+    let needs : NeedsChanges (setting c.args.machine.now c.args.scripts.now) c.args.wanted.now few_changes =
+    search rules in
+    first_cause start c.args.wanted.now c.args.limit c.in_ok-explored.explored.ends.items needs
+    (c.in_ok-explored.ensures.many c.if-explored.false)
+    (c.in_ok-explored.ensures.first c.if-explored.false)
+    (subst (λ (ends : List Ending). HasNoSuchEnd ends c.args.wanted.now) c.deref.ensures.value
+    c.in-None.ensures.none)

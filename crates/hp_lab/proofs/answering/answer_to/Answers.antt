@@ -1,5 +1,5 @@
 use Rattle.std.proofs.Common.{string_bytes}
-use Rattle.std.proofs.lemmas.Result.{err_from_is_err_and}
+use Rattle.std.proofs.lemmas.Result.{IfErr-weaker, IfOk-weaker, err_from_is_err_and}
 use Rattle.hp_scenario.specs.Seen.{scenario_seen}
 use Rattle.hp_lab.specs.Explorations.{IsAnsweredOn, IsAskCause}
 use Rattle.hp_lab.proofs.Known.{parted, unfit_known, stopped_known, answer_known}
@@ -16,23 +16,22 @@ returns-in_err-check_lines-clause-err o c =
     c.rest_of-after.result.now c.cpus-cpus.ensures.is c.as_slice-lines.ensures c.front_of-before.ensures
     c.rest_of-after.ensures in
     rw (p.1, p.2)
-    (unfit_known (IsAskCause c.args.ask c.args.limit) c.args.input.now s c.args.setup c.cpus-cpus.result
+    (unfit_known (IsAskCause c.args.ask c.args.limit) c.args.input.now s c.args.setup c.args.limit
+    c.cpus-cpus.result
     c.front_of-before.result.now c.rest_of-after.result.now _ c.in_ok-scenario.ensures parts
     c.in_err-check_lines.ensures.err)
 
-pub returns-in_err-answer-clause-err : goal.returns-in_err-answer-clause-err
-returns-in_err-answer-clause-err o c =
-    let p =
-    err_from_is_err_and c.from_residual-in_err-answer.result c.from_residual-in_err-answer.ensures.1 in
+pub returns-clause-err : goal.returns-clause-err
+returns-clause-err o c =
     let s = scenario_seen c.in_ok-scenario.scenario in
     let parts =
     parted s c.args.setup c.cpus-cpus.result c.as_slice-lines.result.now c.front_of-before.result.now
     c.rest_of-after.result.now c.cpus-cpus.ensures.is c.as_slice-lines.ensures c.front_of-before.ensures
     c.rest_of-after.ensures in
-    rw (p.1, p.2)
-    (stopped_known (IsAskCause c.args.ask c.args.limit) c.args.input.now s c.args.setup c.cpus-cpus.result
-    c.front_of-before.result.now c.rest_of-after.result.now _ c.in_ok-scenario.ensures parts
-    c.in_ok-check_lines.ensures.ok c.in_err-answer.ensures.err)
+    IfErr-weaker c.answer_after.result _ _
+    (λ fault h. stopped_known (IsAskCause c.args.ask c.args.limit) c.args.input.now s c.args.setup c.args.limit
+    c.cpus-cpus.result c.front_of-before.result.now c.rest_of-after.result.now fault c.in_ok-scenario.ensures
+    parts c.in_ok-check_lines.ensures.ok h) c.answer_after.ensures.err
 
 pub returns-clause-ok : goal.returns-clause-ok
 returns-clause-ok o c =
@@ -41,7 +40,8 @@ returns-clause-ok o c =
     parted s c.args.setup c.cpus-cpus.result c.as_slice-lines.result.now c.front_of-before.result.now
     c.rest_of-after.result.now c.cpus-cpus.ensures.is c.as_slice-lines.ensures c.front_of-before.ensures
     c.rest_of-after.ensures in
-    answer_known (IsAnsweredOn c.args.ask c.args.limit (string_bytes c.in_ok-answer.answer.text)
-    c.in_ok-answer.answer.is_found) c.args.input.now s c.args.setup c.cpus-cpus.result
+    IfOk-weaker c.answer_after.result _ _
+    (λ answer h. answer_known (IsAnsweredOn c.args.ask c.args.limit (string_bytes answer.text)
+    answer.is_found) c.args.input.now s c.args.setup c.cpus-cpus.result
     c.front_of-before.result.now c.rest_of-after.result.now c.in_ok-scenario.ensures parts
-    c.in_ok-check_lines.ensures.ok c.in_ok-answer.ensures.ok
+    c.in_ok-check_lines.ensures.ok h) c.answer_after.ensures.ok

@@ -29,5 +29,5 @@ returns-clause-ok c =
     let text = end_at_text c.args.names.now.keys (setting c.args.machine.now c.args.scripts.now) ends in
     let all : c.loop-index.index ≡ length ends =
     omega (arith, c.loop-index.auto.index-end, c.loop-index-test.false) in
-    c.loop-index.invariant ∙ (ap (λ (k : ℕ). old ++ counts_text ends ++ texts_below text k) all
-    ∙ append_assoc old (counts_text ends) (texts_below text (length ends)))
+    c.loop-index.invariant ∙ (ap (λ (k : ℕ). old ++ counts_text ends c.args.more ++ texts_below text k) all
+    ∙ append_assoc old (counts_text ends c.args.more) (texts_below text (length ends)))

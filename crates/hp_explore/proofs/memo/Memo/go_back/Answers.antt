@@ -14,5 +14,6 @@ returns-clause-back c =
     ((vec_len c.self.inside.numbers ≡ 0) × (vec_len c.pop.new.self ≡ 0))
     (λ _. vec_len c.pop.new.self + 1 ≡ vec_len c.self.inside.numbers)) none c.pop.ensures.cases in
     nothing_left c.pop.new.self.items (sym c.pop.new.self.ok.0 ∙ empty.1))
-    (subst (λ (m : MemoValue). AreNumbered g m.lists (news ++ r ∷ []) (reverse m.numbers)) (sym c.self.view_is)
+    (subst (λ (m : MemoValue). AreNumbered g m.lists (news ++ r ∷ []) (reverse m.numbers))
+    (sym c.self.view_is)
     are)

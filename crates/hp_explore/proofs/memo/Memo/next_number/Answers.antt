@@ -1,7 +1,7 @@
 -- The openings say what the number is after the call.
-use Rattle.std.proofs.Common.{IfSome, List, length, ap, subst, sym, ◌<◌, ◌∙◌, ◌≡◌, ℕ, Some, slice_get}
+use Rattle.std.proofs.Common.{IfSome, List, length, ap, subst, sym, ◌<◌, ◌∙◌}
 use Rattle.std.proofs.lemmas.Result.{IfOk-weaker}
-use Rattle.hp_explore.specs.Numbers.{IsNumbered, KeepNumbers}
+use Rattle.hp_explore.specs.Numbers.{IsNumbered}
 use Rattle.hp_explore.specs.Openings.{Opening}
 use Rattle.hp_explore.specs.Seen.{MemoValue}
 use Rattle.hp_explore.proofs.Numbered.{number_within}

@@ -1,6 +1,5 @@
 -- The latest number is that of where the walk stands.
-use Rattle.std.proofs.Common.{ap, reverse, subst, sym, ◌∙◌}
-use Rattle.hp_explore.specs.Numbers.{AreNumbered}
+use Rattle.std.proofs.Common.{ap, ◌∙◌}
 use Rattle.hp_explore.specs.Seen.{MemoValue}
 use Rattle.hp_explore.proofs.Numbered.{number_last}
 use Rattle.hp_explore.proofs.memo.Memo.number.Goals as goal

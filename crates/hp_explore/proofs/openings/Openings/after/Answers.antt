@@ -1,6 +1,5 @@
 -- By what the call does.
-use Rattle.std.proofs.Common.{◌≡◌, ap, refl, sym, subst, ◌∙◌}
-use Rattle.std.specs.Option.{option_map}
+use Rattle.std.proofs.Common.{sym, ◌∙◌}
 use Rattle.std.proofs.lemmas.Result.{IfOk-weaker}
 use Rattle.hp_explore.proofs.Numbered.{begins_on, cancels_on, ends_on, stays_on, works_on}
 use Rattle.hp_explore.proofs.openings.Openings.after.Goals as goal
@@ -28,5 +27,6 @@ returns-in-Cancels-clause-ok c =
 
 pub returns-in-Ends-clause-ok : goal.returns-in-Ends-clause-ok
 returns-in-Ends-clause-ok c =
-    ends_on c.args.self.now _ c.args.latest.now c.args.was c.empty.result (sym c.change_of.ensures ∙ c.in-Ends.is)
+    ends_on c.args.self.now _ c.args.latest.now c.args.was c.empty.result
+    (sym c.change_of.ensures ∙ c.in-Ends.is)
     c.empty.ensures

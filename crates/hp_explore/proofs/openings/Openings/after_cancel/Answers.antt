@@ -8,7 +8,8 @@ use Rattle.hp_explore.proofs.openings.Openings.after_cancel.Goals as goal
 
 pub returns-in_default-entry : goal.returns-in_default-entry
 returns-in_default-entry c =
-    made_empty (after_cancel c.args.cancelled) c.args.self.now c.args.was c.in-Some.number c.empty.result refl c.in-Some.is
+    made_empty (after_cancel c.args.cancelled) c.args.self.now c.args.was c.in-Some.number c.empty.result refl
+    c.in-Some.is
     (subst (λ (o : Option (Bor Entry)). IfNone o ((os : List Opening)
     → slice_get c.args.self.now c.in-Some.number ≡ Some os → os ≡ [])) c.in_default-entry.is
     c.entry.ensures.none)
@@ -19,7 +20,8 @@ returns-then-eq c =
     let at =
     subst (λ (o : Option (Bor Entry)). IfSome o (λ e. IsEntryOf c.args.self.now c.in-Some.number e.now))
     c.in-Some-entry.is c.entry.ensures.some in
-    same_cancel c.args.self.now c.args.was c.in-Some.number c.args.cancelled c.in-Some-entry.entry.now c.in-Some.is at
+    same_cancel c.args.self.now c.args.was c.in-Some.number c.args.cancelled c.in-Some-entry.entry.now
+    c.in-Some.is at
     (sym c.eq.ensures ∙ c.if-eq.true)
 
 pub returns-else-eq : goal.returns-else-eq
@@ -27,5 +29,6 @@ returns-else-eq c =
     let at =
     subst (λ (o : Option (Bor Entry)). IfSome o (λ e. IsEntryOf c.args.self.now c.in-Some.number e.now))
     c.in-Some-entry.is c.entry.ensures.some in
-    other_cancel c.args.self.now c.args.was c.in-Some.number c.empty-else-eq.result c.args.cancelled c.in-Some-entry.entry.now
+    other_cancel c.args.self.now c.args.was c.in-Some.number c.empty-else-eq.result c.args.cancelled
+    c.in-Some-entry.entry.now
     c.in-Some.is at (sym c.eq.ensures ∙ c.if-eq.false) c.empty-else-eq.ensures

@@ -1,5 +1,5 @@
 -- The list has the number of an entry that is found, or of one that is added.
-use Rattle.std.proofs.Common.{◌≡◌, ◌∷◌, ◌++◌, ◌<◌, ◌+◌, [], IfSome, List, Option, length, ℕ, ap, refl, subst, sym, ◌∙◌, arith}
+use Rattle.std.proofs.Common.{◌∷◌, ◌++◌, ◌<◌, ◌+◌, [], List, length, ap, subst, sym, ◌∙◌, arith}
 use Rattle.hp_units.specs.Memory.{Memory}
 use Rattle.hp_explore.specs.Numbers.{IsInFront, KeepNumbers, StandOnEarlier, lists_of}
 use Rattle.hp_explore.specs.Openings.{Opening}
@@ -27,7 +27,8 @@ returns-in-Ok-clause-kept c =
     subst (λ (lists : List (List Opening)). KeepNumbers lists (lists_of c.push_reserved.new.self.items))
     c.self.view_is
     (keep_added c.self.inside.entries.items c.push_reserved.new.self.items e
-    (c.push_reserved.ensures.items ∙ ap (λ (entries : List Entry). entries ++ e ∷ []) c.reserve.ensures.items))
+    (c.push_reserved.ensures.items
+    ∙ ap (λ (entries : List Entry). entries ++ e ∷ []) c.reserve.ensures.items))
 
 pub returns-in-Ok-clause-ok : goal.returns-in-Ok-clause-ok
 returns-in-Ok-clause-ok c =
@@ -35,8 +36,10 @@ returns-in-Ok-clause-ok c =
     let front =
     front_added c.self.inside.entries.items c.push_reserved.new.self.items e (c.len-number.result + 1)
     (c.push_reserved.ensures.items ∙ ap (λ (entries : List Entry). entries ++ e ∷ []) c.reserve.ensures.items)
-    (omega (arith, c.len-number.ensures, ap (λ (entries : List Entry). length entries) c.reserve.ensures.items)) in
-    subst (λ (lists : List (List Opening)). IsInFront lists (lists_of c.push_reserved.new.self.items) c.args.op
+    (omega
+    (arith, c.len-number.ensures, ap (λ (entries : List Entry). length entries) c.reserve.ensures.items)) in
+    subst (λ (lists : List (List Opening)).
+    IsInFront lists (lists_of c.push_reserved.new.self.items) c.args.op
     c.args.from.now c.args.below (c.len-number.result + 1)) c.self.view_is
     (subst (λ (memory : Memory). IsInFront (lists_of c.self.inside.entries.items)
     (lists_of c.push_reserved.new.self.items) c.args.op memory c.args.below (c.len-number.result + 1))

@@ -1,5 +1,5 @@
 -- No call was made.
-use Rattle.std.proofs.Common.{◌≡◌, ◌∷◌, [], List, length, reverse, ap, sym, subst, ◌∙◌, arith}
+use Rattle.std.proofs.Common.{◌≡◌, ◌∷◌, [], length, reverse, ap, sym, subst, ◌∙◌, arith}
 use Rattle.std.specs.List.{list_all}
 use Rattle.hp_memory.specs.Memory.{MemoryValue}
 use Rattle.hp_units.specs.Memory.{Memory}
@@ -8,7 +8,6 @@ use Rattle.hp_explore.specs.Frames.{AreWalked, IsFresh}
 use Rattle.hp_explore.specs.Notes.{TallyValue}
 use Rattle.hp_explore.specs.Paths.{PathValue}
 use Rattle.hp_explore.specs.Seen.{MemoValue}
-use Rattle.hp_explore.specs.declared.frames.Frame.{Frame}
 use Rattle.hp_explore.proofs.Framing.{frames_pushed, memo_begun, walk_begun}
 use Rattle.hp_explore.proofs.Numbered.{numbers_begun}
 use Rattle.hp_explore.proofs.walk.Walk.start.Goals as goal
@@ -31,7 +30,8 @@ returns-clause-kept c =
           (c.in_ok-snapshot.ensures ∙ ap (λ (m : MemoryValue). m.state) c.memory.ensures)
           c.in_ok-first.ensures));
       memo =
-          memo_begun p.setting ends memo c.undo_nothing.result (ap (λ (m : MemoValue). m.is_on) c.in_ok-memo.ensures)
+          memo_begun p.setting ends memo c.undo_nothing.result
+          (ap (λ (m : MemoValue). m.is_on) c.in_ok-memo.ensures)
           (ap (λ (m : MemoValue). m.seen) c.in_ok-memo.ensures)
           (c.undo_nothing.ensures
           ∙ ap (λ (q : PathValue). list_all leaves_script q.setting.scripts) (sym c.in_ok-path.ensures));

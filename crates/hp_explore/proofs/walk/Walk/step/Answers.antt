@@ -35,14 +35,14 @@ go_back-requires-clause-kept o c =
       short = c.requires.short;
     }
 
-pub returns-in_default-clause-kept : goal.returns-in_default-clause-kept
-returns-in_default-clause-kept o c =
+pub is_full-requires-clause-kept : goal.is_full-requires-clause-kept
+is_full-requires-clause-kept o c =
     let w = c.args.self.now in
     record {
       walked =
           subst (AreWalked w.path.setting w.tally.ends w.path.news)
-          (no_frames w.frames.items c.pop.new.self.items c.pop.result c.pop.ensures.items c.in_default.is)
-          c.requires.walked;
+          (frames_popped w.frames.items c.pop.new.self.items c.pop.result c.in-Some.frame c.pop.ensures.items
+          c.in-Some.is) c.requires.walked;
       memo = c.requires.memo;
       numbered = c.requires.numbered;
       processors = c.requires.processors;
@@ -50,30 +50,34 @@ returns-in_default-clause-kept o c =
       short = c.requires.short;
     }
 
-pub returns-in_default-clause-done : goal.returns-in_default-clause-done
-returns-in_default-clause-done o c =
+pub returns-in_default-clause-ok : goal.returns-in_default-clause-ok
+returns-in_default-clause-ok o c =
     let w = c.args.self.now in
     let none =
     subst (λ (p : Option Frame). MatchOption p ((vec_len w.frames ≡ 0) × (vec_len c.pop.new.self ≡ 0))
     (λ _. vec_len c.pop.new.self + 1 ≡ vec_len w.frames)) c.in_default.is c.pop.ensures.cases in
-    λ over. subst (AreWalked w.path.setting w.tally.ends w.path.news)
+    subst (AreWalked w.path.setting w.tally.ends w.path.news)
     (no_frames w.frames.items c.pop.new.self.items c.pop.result c.pop.ensures.items c.in_default.is
     ∙ none_left c.pop.new.self.items (sym c.pop.new.self.ok.0 ∙ none.1)) c.requires.walked
 
-pub returns-then-frame-self-clause-more : goal.returns-then-frame-self-clause-more
-returns-then-frame-self-clause-more o c =
+pub returns-then-frame-self-clause-ok : goal.returns-then-frame-self-clause-ok
+returns-then-frame-self-clause-ok o c =
     let w = c.args.self.now in
     let popped =
     frames_popped w.frames.items c.pop.new.self.items c.pop.result c.in-Some.frame c.pop.ensures.items
-    c.in-Some.is in
-    λ more. subst (λ (fs : List Frame). left c.go_on.new.self (frames_of c.go_on.new.self)
-    < left_of w.processors w.path.setting.layout.history fs) (sym popped) c.in_ok-go_on.ensures.less
+    c.in-Some.is in (
+      c.in_ok-go_on.ensures.kept,
+      subst (λ (fs : List Frame). left c.go_on.new.self (frames_of c.go_on.new.self)
+          < left_of w.processors w.path.setting.layout.history fs) (sym popped) c.in_ok-go_on.ensures.less,
+    )
 
-pub returns-clause-more : goal.returns-clause-more
-returns-clause-more o c =
+pub returns-clause-ok : goal.returns-clause-ok
+returns-clause-ok o c =
     let w = c.args.self.now in
     let popped =
     frames_popped w.frames.items c.pop.new.self.items c.pop.result c.in-Some.frame c.pop.ensures.items
-    c.in-Some.is in
-    λ more. subst (λ (fs : List Frame). left c.go_back.new.self (frames_of c.go_back.new.self)
-    < left_of w.processors w.path.setting.layout.history fs) (sym popped) c.in_ok-go_back.ensures.less
+    c.in-Some.is in (
+      c.in_ok-go_back.ensures.kept,
+      subst (λ (fs : List Frame). left c.go_back.new.self (frames_of c.go_back.new.self)
+          < left_of w.processors w.path.setting.layout.history fs) (sym popped) c.in_ok-go_back.ensures.less,
+    )

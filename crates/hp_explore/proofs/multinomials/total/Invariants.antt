@@ -1,7 +1,7 @@
 -- The sum of the lengths so far.
 use Rattle.std.proofs.Common.{◌≡◌, ◌<◌, ◌^◌, take}
 use Rattle.hp_explore.specs.Multinomials.{sum}
-use Rattle.hp_explore.proofs.multinomials.fit.Given as goal
+use Rattle.hp_explore.proofs.multinomials.total.Given as goal
 
 abbrev pub invariant-loop-length : goal.invariant-loop-length
 invariant-loop-length l = record {

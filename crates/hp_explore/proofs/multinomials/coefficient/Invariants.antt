@@ -1,7 +1,7 @@
 -- The coefficient of the lengths so far, and their sum.
 use Rattle.std.proofs.Common.{◌≡◌, take}
 use Rattle.hp_explore.specs.Multinomials.{IsMultinomial, sum}
-use Rattle.hp_explore.proofs.multinomials.exceed.Given as goal
+use Rattle.hp_explore.proofs.multinomials.coefficient.Given as goal
 
 abbrev pub invariant-loop-length : goal.invariant-loop-length
 invariant-loop-length l = record {

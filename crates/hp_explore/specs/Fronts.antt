@@ -1,0 +1,21 @@
+-- An exploration that ends with the limit: the first schedules in the order of the walk.
+use Rattle.std.specs.Prelude.{◌≡◌, ℕ, true, false, List, sum_by}
+use Rattle.hp_explore.specs.Schedules.{IsComplete, Setting}
+use Rattle.hp_explore.specs.Walks.{IsWalkedBefore}
+use Rattle.hp_explore.specs.declared.exploring.Exploration.{Exploration}
+use Rattle.hp_explore.specs.declared.tally.Ending.{Ending}
+
+-- the ends are those of the schedules before a further one: all before it was walked, and they are as
+-- many as the limit
+pub record AreFirst (g : Setting) (limit : ℕ) (ends : List Ending) : Type 0 where
+  pub place : List ℕ
+  pub next : IsComplete g place
+  pub walked : IsWalkedBefore g place ends
+  pub full : sum_by (λ e. e.count) ends ≡ limit
+
+-- this holds of the ends where all schedules were counted, and where the first ones were
+abbrev pub IfWhole : Exploration → (List Ending → Type 0) → Type 0
+IfWhole x P = x.is_whole ≡ true → P x.ends.items
+
+abbrev pub IfFirst : Exploration → (List Ending → Type 0) → Type 0
+IfFirst x P = x.is_whole ≡ false → P x.ends.items

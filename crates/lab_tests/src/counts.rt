@@ -1,0 +1,52 @@
+//! How many interleavings are known before any call.
+use super::explorations::scenario;
+use hp_lab::interleavings_line;
+use hp_scenario::Scenario;
+use std::alloc::{AllocError, Global};
+use std::test::Fail;
+
+/// The lines of a scenario, how many of them are the setup, and what is said of the others.
+const COUNTED: &[(&str, u64, &str)] = &[
+    (
+        "0 drain 0;1 drain 0;0 drain 1;1 drain 1;0 drain 0",
+        0,
+        "interleavings: 10\n",
+    ),
+    (
+        "0 drain 0;1 drain 0;0 drain 1;1 drain 1;0 drain 0",
+        5,
+        "interleavings: 1\n",
+    ),
+    (
+        "0 drain 0;1 drain 0;0 drain 1;1 drain 1;0 drain 0;1 drain 0",
+        0,
+        "interleavings: more than 10: explore counts more with --limit N\n",
+    ),
+    (
+        "0 drain 0;1 plan 2 off 1",
+        1,
+        "interleavings: not known: the calls of a plan are counted only by explore\n",
+    ),
+    ("0 drain 0;1 seal", 1, ""),
+];
+
+/// Whether this is said of how many interleavings a scenario has after so many lines, at most 10.
+fn says(alloc: Global, lines: &str, setup: u64, text: &str) -> Result<bool, AllocError> {
+    let bytes = scenario(alloc, 40, lines)?;
+    match Scenario::read(alloc, bytes.as_bytes()) {
+        Ok(read) => {
+            let cpus = read.layout.cpus();
+            let line = interleavings_line(alloc, cpus, setup, read.lines.as_slice(), 10)?;
+            Ok(line.as_str() == text)
+        }
+        Err(_fault) => Ok(false),
+    }
+}
+
+#[test]
+fn interleavings_are_known_before_any_call(rt: HostRuntime) -> Result<(), Fail> {
+    for (lines, setup, text) in COUNTED {
+        assert!(rt; says(rt.alloc(), lines, *setup, text)?, "{lines}");
+    }
+    Ok(())
+}
