@@ -37,7 +37,7 @@ pub enum Found {
 /// `OutOfMemory`, or `TooMany` where there are more schedules than the limit, and none with fewer
 /// than three changes ends so, and none of the first ones in the order of `explore`, as many as the
 /// limit.
-#[tactic(auto, using(crate::proofs::Levels::met_within, crate::proofs::Levels::found_recorded))]
+#[tactic(auto, using(crate::proofs::Levels::found_recorded))]
 pub fn find<W: Watch>(
     alloc: Global,
     machine: &Machine,

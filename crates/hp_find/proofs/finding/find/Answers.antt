@@ -5,7 +5,7 @@ use Rattle.hp_explore.specs.declared.tally.Ending.{Ending}
 use Rattle.hp_find.specs.Ends.{HasNoSuchEnd, IsSuchEnd}
 use Rattle.hp_find.specs.Faults.{few_changes}
 use Rattle.hp_find.specs.Reaching.{IsAbsent, NeedsChanges, Reaches}
-use Rattle.hp_find.proofs.Levels.{first_cause, none_reaches, such_reaches}
+use Rattle.hp_find.proofs.Levels.{first_cause, met_within, none_reaches, such_reaches}
 use Rattle.hp_find.proofs.finding.find.Goals as goal
 
 pub nearest_to-requires-clause-known : goal.nearest_to-requires-clause-known
@@ -16,6 +16,14 @@ nearest_to-requires-clause-known g c =
     c.in_ok-explored.ensures.ok c.in_ok-explored.ensures.first
     (subst (λ (ends : List Ending). IsSuchEnd ends c.args.wanted.now c.in-Some-end_with.end.now)
     c.deref.ensures.value c.in-Some-end_with.ensures.some))
+
+pub returns-in-Some-end_with-clause-few : goal.returns-in-Some-end_with-clause-few
+returns-in-Some-end_with-clause-few g c few more =
+    met_within (setting c.args.machine.now c.args.scripts.now) c.args.wanted.now c.args.limit
+    c.in_ok-explored.explored c.in-Some-end_with.end.now c.in_ok-explored.ensures.few
+    c.in_ok-explored.ensures.first
+    (subst (λ (ends : List Ending). IsSuchEnd ends c.args.wanted.now c.in-Some-end_with.end.now)
+    c.deref.ensures.value c.in-Some-end_with.ensures.some) more
 
 pub returns-then-explored-clause-ok : goal.returns-then-explored-clause-ok
 returns-then-explored-clause-ok g c =
