@@ -251,8 +251,8 @@ def check_within(checks, programs, scenario, setup, orders, texts, limit):
     where = f"--find {texts} --limit {limit} --setup {setup} {json.dumps(scenario)}"
     found = [(at, calls) for at, (calls, end) in enumerate(orders)
              if all(has_line(end, text) for text in texts)]
-    expected = (1, f"hotplug_lab: more than {limit} interleavings; none of the first {limit} ends "
-                   "so\n")
+    expected = (1, f"hotplug_lab: none of the first {limit} interleavings ends so, and there are "
+                   "more\n")
     if any(at < limit or changes_of(calls) < 3 for at, calls in found):
         expected = programs.find(scenario, setup, "--find", texts)
     told = programs.find(scenario, setup, "--find", texts, "--limit", str(limit))

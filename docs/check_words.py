@@ -154,7 +154,7 @@ def check_limits(checks, lab, scripts):
                 (status, out.split("\n")[0]))
     for option in ("--find", "--never"):
         options = ("--setup", "1", "--limit", "4", option, "refused Busy")
-        lost = "hotplug_lab: more than 4 interleavings; none of the first 4 ends so\n"
+        lost = "hotplug_lab: none of the first 4 interleavings ends so, and there are more\n"
         checks.same(f"explore {options}", (1, "", lost),
                     lab.call("explore", *options, scenario=scripts))
     short = {"layout": {**LAYOUT, "history": 5}, "calls": CALLS[:6]}

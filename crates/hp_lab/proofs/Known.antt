@@ -143,7 +143,7 @@ stopped_known C input s setup limit cpus before after (Layout f) read parts fit 
 stopped_known C input s setup limit cpus before after (BadLine n) read parts fit h = absurd h
 stopped_known C input s setup limit cpus before after (NotForScript place why) read parts fit h = absurd h
 stopped_known C input s setup limit cpus before after (TooMany most) read parts fit h =
-    (h.0, s, read, stopped_after (λ g. C g search.TooMany) s setup cpus before after parts fit h.1)
+    (h.0, (s, read, stopped_after (λ g. C g search.TooMany) s setup cpus before after parts fit h.1))
 stopped_known C input s setup limit cpus before after (HistoryFull needed) read parts fit h =
     (s, read, stopped_after (IsFull C needed) s setup cpus before after parts fit h)
 stopped_known C input s setup limit cpus before after OutOfMemory read parts fit h = tt

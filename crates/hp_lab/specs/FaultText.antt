@@ -23,8 +23,7 @@ fault_text (BadLine line) = codes "line " ++ decimal line ++ codes " not underst
 fault_text (NotForScript line why) =
     codes "line " ++ decimal line ++ codes " not for a script: " ++ unfit_text why
 fault_text (TooMany limit) =
-    codes "more than " ++ decimal limit ++ codes " interleavings; none of the first " ++ decimal limit
-    ++ codes " ends so"
+    codes "none of the first " ++ decimal limit ++ codes " interleavings ends so, and there are more"
 fault_text (HistoryFull None) = codes "no room in the history for all calls of an interleaving"
 fault_text (HistoryFull (Some needed)) =
     codes "no room in the history for all calls of an interleaving: it needs " ++ decimal needed

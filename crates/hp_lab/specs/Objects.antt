@@ -78,11 +78,15 @@ known_number MoreThanLimit = codes "null"
 known_number Unknown = codes "null"
 
 -- and how many were
+abbrev pub first_head : (counted : ℕ) → List ℕ
+first_head counted = codes "{\"first\": " ++ decimal counted ++ codes ", \"interleavings\": "
+
+abbrev pub first_object : (counted : ℕ) → HowMany → List ℕ
+first_object counted known = first_head counted ++ known_number known ++ codes "}\n"
+
 abbrev pub more_object : (counted : ℕ) → Option HowMany → List ℕ
 more_object counted None = []
-more_object counted (Some known) =
-    codes "{\"first\": " ++ decimal counted ++ codes ", \"interleavings\": " ++ known_number known
-    ++ codes "}\n"
+more_object counted (Some known) = first_object counted known
 
 abbrev pub all_objects_text : (names : List (List ℕ)) → Setting → List Ending → Option HowMany → List ℕ
 all_objects_text names g ends more =

@@ -77,7 +77,7 @@ impl fmt::Display for LabFault {
             }
             LabFault::TooMany { limit } => write!(
                 f,
-                "more than {limit} interleavings; none of the first {limit} ends so"
+                "none of the first {limit} interleavings ends so, and there are more"
             ),
             LabFault::HistoryFull { needed } => match needed {
                 Some(needed) => write!(

@@ -4,7 +4,7 @@ ghost use Rattle.hp_explore.specs.Faults.{IsCause};
 ghost use Rattle.hp_explore.specs.Schedules.{plays, setting};
 ghost use Rattle.hp_spelling.specs.Separated.{separated};
 ghost use Rattle.hp_text.specs.State.{state_words, zone_word};
-ghost use Rattle.hp_lab.specs.Objects.{absent_object, answer_list, answer_lists, block_list, block_string, call_list, counted_head, end_object, found_object, known_number, more_object, objects_text, outcome_lists, played_list, reply_string};
+ghost use Rattle.hp_lab.specs.Objects.{absent_object, answer_list, answer_lists, block_list, block_string, call_list, counted_head, end_object, first_head, first_object, found_object, known_number, more_object, objects_text, outcome_lists, played_list, reply_string};
 
 use hp_explore::{Answers, Ending, ExploreFault, HowMany, Outcome, Script, play};
 use hp_find::changes_of;
@@ -47,13 +47,26 @@ pub(crate) fn write_more(
     ensures { OnOk result (string_bytes out.new ≡ string_bytes out.old ++ more_object counted more) }
 {
     match more {
-        Some(known) => {
-            write!(out, "{{\"first\": {counted}, \"interleavings\": ")?;
-            write_known(out, known)?;
-            out.push_str("}\n")
-        }
+        Some(known) => write_first(out, counted, known),
         None => Ok(()),
     }
+}
+
+/// Writes an object that says that so many interleavings were counted, and how many there are.
+fn write_first(out: &mut String, counted: u128, known: HowMany) -> Result<(), AllocError>
+    ensures { OnOk result (string_bytes out.new ≡ string_bytes out.old ++ first_object counted known) }
+{
+    write_first_head(out, counted)?;
+    write_known(out, known)?;
+    out.push_str("}\n")?;
+    Ok(())
+}
+
+/// Writes how many interleavings were counted.
+fn write_first_head(out: &mut String, counted: u128) -> Result<(), AllocError>
+    ensures { OnOk result (string_bytes out.new ≡ string_bytes out.old ++ first_head counted) }
+{
+    write!(out, "{{\"first\": {counted}, \"interleavings\": ")
 }
 
 /// Writes how many interleavings there are, where that is known.

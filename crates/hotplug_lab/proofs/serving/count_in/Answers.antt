@@ -12,7 +12,7 @@ returns-in-Ok c =
     c.as_slice.result.now c.in-Ok.ensures c.cpus-cpus.ensures.is c.as_slice.ensures h)
     c.interleavings_line.ensures
 
-pub returns : goal.returns
-returns c =
+pub returns-in-Err : goal.returns-in-Err
+returns-in-Err c =
     counted_none (λ text. string_bytes text) c.no_count.result c.args.setup c.args.input.now c.in-Err.fault c.in-Err.ensures
     c.no_count.ensures.none c.no_count.ensures.read

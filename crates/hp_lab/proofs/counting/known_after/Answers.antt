@@ -7,7 +7,7 @@ returns-in_ok-known-in-Ok c =
     known_there c.args.cpus c.args.setup c.args.limit c.args.lines.now c.rest_of-after.result.now
     c.in_ok-known-in-Ok.known c.rest_of-after.ensures c.in-Ok.ensures.ok c.in_ok-known-in-Ok.ensures
 
-pub returns : goal.returns
-returns c =
+pub returns-in-Err : goal.returns-in-Err
+returns-in-Err c =
     unscripted c.args.cpus c.args.setup _ c.args.lines.now c.rest_of-after.result.now _
     c.rest_of-after.ensures c.in-Err.ensures.err

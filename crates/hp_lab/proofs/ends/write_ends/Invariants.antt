@@ -6,5 +6,5 @@ use Rattle.hp_lab.proofs.ends.write_ends.Given as goal
 
 abbrev pub invariant-loop-index : goal.invariant-loop-index
 invariant-loop-index l =
-    string_bytes l.out ≡ (string_bytes l.fn.out ++ counts_text l.ends l.more)
+    string_bytes l.out ≡ (string_bytes l.fn.out ++ counts_text l.ends l.fn.more)
     ++ texts_below (end_at_text l.names.keys (setting l.machine l.scripts) l.ends) l.index

@@ -28,8 +28,7 @@ returns-clause-ok g c = record {
 pub returns-in_err-explored-clause-err : goal.returns-in_err-explored-clause-err
 returns-in_err-explored-clause-err g c =
     let p =
-    err_from_is_err_and c.from_residual-in_err-explored.result
-    c.from_residual-in_err-explored.ensures.1 in
+    err_from_is_err_and c.from_residual.result c.from_residual.ensures.1 in
     rw (p.1, p.2)
     (ends_cause (setting c.args.machine.now c.args.scripts.now) _ c.in_err-explored.ensures.err)
 
