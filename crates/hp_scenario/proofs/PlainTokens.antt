@@ -128,7 +128,8 @@ unfolding lex
 inside_byte x xs is =
     let tests = plain_tests x is in
     let rest : Class = cond (is_operator x) operator (cond (is_space x) space other) in
-    ap (λ (b : Bool). lex_byte in_string (cond b quote (cond (x == 92) backslash rest)) x xs (λ next. lex next xs)) tests.0
+    ap (λ (b : Bool).
+    lex_byte in_string (cond b quote (cond (x == 92) backslash rest)) x xs (λ next. lex next xs)) tests.0
     ∙ ap (λ (b : Bool). lex_byte in_string (cond b backslash rest) x xs (λ next. lex next xs)) tests.1
     ∙ stays_inside (is_operator x) (is_space x) x xs (λ next. lex next xs)
 
@@ -138,7 +139,8 @@ unfolding content
 content_byte x xs is =
     let tests = plain_tests x is in
     let more : Option (List ℕ) = prepend (x ∷ []) (content plain xs) in
-    ap (λ (b : Bool). cond b (Some []) (cond (x == 92) (content after_backslash xs) (cond (nat_lt x 32) None more))) tests.0
+    ap (λ (b : Bool).
+    cond b (Some []) (cond (x == 92) (content after_backslash xs) (cond (nat_lt x 32) None more))) tests.0
     ∙ ap (λ (b : Bool). cond b (content after_backslash xs) (cond (nat_lt x 32) None more)) tests.1
     ∙ ap (λ (b : Bool). cond b None more) tests.2
 
@@ -150,7 +152,8 @@ inside_run [] e = absurd (let no : 0 ≡ 34 = e in omega arith)
 inside_run (x ∷ xs) e = step (is_plain x) refl e (inside_run xs)
   where
     step : (p : Bool) → is_plain x ≡ p → get_or (x ∷ xs) (cond p (1 + prefix_len is_plain xs) 0) 0 ≡ 34
-        → (get_or xs (prefix_len is_plain xs) 0 ≡ 34 → lex in_string xs ≡ lex between (drop (prefix_len is_plain xs + 1) xs))
+        → (get_or xs (prefix_len is_plain xs) 0 ≡ 34
+        → lex in_string xs ≡ lex between (drop (prefix_len is_plain xs + 1) xs))
         → lex in_string (x ∷ xs) ≡ lex between (drop (cond p (1 + prefix_len is_plain xs) 0 + 1) (x ∷ xs))
     step false is e ih = ap (λ (n : ℕ). lex in_string (n ∷ xs)) e
     step true is e ih =
@@ -166,7 +169,8 @@ content_run [] e = absurd (let no : 0 ≡ 34 = e in omega arith)
 content_run (x ∷ xs) e = step (is_plain x) refl e (content_run xs)
   where
     step : (p : Bool) → is_plain x ≡ p → get_or (x ∷ xs) (cond p (1 + prefix_len is_plain xs) 0) 0 ≡ 34
-        → (get_or xs (prefix_len is_plain xs) 0 ≡ 34 → content plain xs ≡ Some (take (prefix_len is_plain xs) xs))
+        → (get_or xs (prefix_len is_plain xs) 0 ≡ 34
+        → content plain xs ≡ Some (take (prefix_len is_plain xs) xs))
         → content plain (x ∷ xs) ≡ Some (take (cond p (1 + prefix_len is_plain xs) 0) (x ∷ xs))
     step false is e ih = ap (λ (n : ℕ). content plain (n ∷ xs)) e
     step true is e ih =
@@ -199,12 +203,14 @@ pub as_key : (p : Place) (t s rest after : List ℕ) → lex between t ≡ token
     → tokens_at p t ≡ Token.key s ∷ tokens_at Fresh after
 unfolding lex punctuate
 as_key Fresh t s rest after is colon may same =
-    ap (λ (ls : List Lexeme). punctuate (place_of Fresh) ls) (is ∙ ap (λ (u : List ℕ). token (Token.string s) ∷ lex between u)
+    ap (λ (ls : List Lexeme). punctuate (place_of Fresh) ls)
+    (is ∙ ap (λ (u : List ℕ). token (Token.string s) ∷ lex between u)
     (front rest 58 colon (λ z. omega arith)))
     ∙ ap (λ (u : List ℕ). Token.key s ∷ tokens_at Fresh u) (sym same)
 as_key AfterValue t s rest after is colon may same = absurd cc
 as_key AfterComma t s rest after is colon may same =
-    ap (λ (ls : List Lexeme). punctuate (place_of AfterComma) ls) (is ∙ ap (λ (u : List ℕ). token (Token.string s) ∷ lex between u)
+    ap (λ (ls : List Lexeme). punctuate (place_of AfterComma) ls)
+    (is ∙ ap (λ (u : List ℕ). token (Token.string s) ∷ lex between u)
     (front rest 58 colon (λ z. omega arith)))
     ∙ ap (λ (u : List ℕ). Token.key s ∷ tokens_at Fresh u) (sym same)
 
@@ -212,13 +218,17 @@ as_key AfterComma t s rest after is colon may same =
 no_colon : (t : List ℕ) (x : ℕ) → head t ≡ x → (x ≡ 44) ⊎ ((x ≡ 93) ⊎ (x ≡ 125))
     → begins_colon (lex between t) ≡ false
 unfolding lex
-no_colon t x e (inl is) = ap (λ (u : List ℕ). begins_colon (lex between u)) (front t 44 (e ∙ is) (λ z. omega arith))
-no_colon t x e (inr (inl is)) = ap (λ (u : List ℕ). begins_colon (lex between u)) (front t 93 (e ∙ is) (λ z. omega arith))
-no_colon t x e (inr (inr is)) = ap (λ (u : List ℕ). begins_colon (lex between u)) (front t 125 (e ∙ is) (λ z. omega arith))
+no_colon t x e (inl is) =
+    ap (λ (u : List ℕ). begins_colon (lex between u)) (front t 44 (e ∙ is) (λ z. omega arith))
+no_colon t x e (inr (inl is)) =
+    ap (λ (u : List ℕ). begins_colon (lex between u)) (front t 93 (e ∙ is) (λ z. omega arith))
+no_colon t x e (inr (inr is)) =
+    ap (λ (u : List ℕ). begins_colon (lex between u)) (front t 125 (e ∙ is) (λ z. omega arith))
 
 text_first : (p : Place) (s : List ℕ) (ls : List Lexeme) → begins_colon ls ≡ false
     → may_begin (place_of p) ≡ true
-    → punctuate (place_of p) (token (Token.string s) ∷ ls) ≡ Token.string s ∷ punctuate (place_of AfterValue) ls
+    → punctuate (place_of p) (token (Token.string s) ∷ ls)
+    ≡ Token.string s ∷ punctuate (place_of AfterValue) ls
 unfolding punctuate
 text_first Fresh s ls none may = rw none refl
 text_first AfterValue s ls none may = absurd cc
@@ -235,7 +245,8 @@ as_string p t s rest x is e sign may =
 -- ---- numbers
 
 number_first : (p : Place) (s : List ℕ) (ls : List Lexeme) → may_begin (place_of p) ≡ true
-    → punctuate (place_of p) (token (Token.number s) ∷ ls) ≡ Token.number s ∷ punctuate (place_of AfterValue) ls
+    → punctuate (place_of p) (token (Token.number s) ∷ ls)
+    ≡ Token.number s ∷ punctuate (place_of AfterValue) ls
 unfolding punctuate
 number_first Fresh s ls may = refl
 number_first AfterValue s ls may = absurd cc
@@ -281,7 +292,8 @@ digits_run (x ∷ xs) e = step (is_ascii_digit x) refl e (digits_run xs)
   where
     step : (p : Bool) → is_ascii_digit x ≡ p
         → get_or (x ∷ xs) (cond p (1 + prefix_len is_ascii_digit xs) 0) 0 ≡ 44
-        → (get_or xs (prefix_len is_ascii_digit xs) 0 ≡ 44 → lex in_word xs ≡ lex between (drop (prefix_len is_ascii_digit xs) xs))
+        → (get_or xs (prefix_len is_ascii_digit xs) 0 ≡ 44
+        → lex in_word xs ≡ lex between (drop (prefix_len is_ascii_digit xs) xs))
         → lex in_word (x ∷ xs) ≡ lex between (drop (cond p (1 + prefix_len is_ascii_digit xs) 0) (x ∷ xs))
     step false is e ih =
         ap (λ (n : ℕ). lex in_word (n ∷ xs)) e ∙ sym (ap (λ (n : ℕ). lex between (n ∷ xs)) e)
@@ -297,7 +309,8 @@ number_word : (t : List ℕ) (end : ℕ) → end ≡ prefix_len is_ascii_digit t
     → head t ≤ 57 → get_or t end 0 ≡ 44 → word t ≡ Token.number (take end t)
 unfolding word after_number
 number_word t end is some low high comma =
-    let within : end < length t = lt_of_not-le (λ past. let no : 0 ≡ 44 = sym (get_or_past t end 0 past) ∙ comma in omega arith) in
+    let within : end < length t =
+    lt_of_not-le (λ past. let no : 0 ≡ 44 = sym (get_or_past t end 0 past) ∙ comma in omega arith) in
     let there : head (drop end t) ≡ 44 =
     get_or-drop end t 0 32 ∙ ap (λ (k : ℕ). get_or t k 32) (let sum : end + 0 ≡ end = omega arith in sum)
     ∙ get_or_default t end 32 0 within ∙ comma in
@@ -337,7 +350,8 @@ number_cut (x ∷ xs) end is some nonzero comma =
         let next : suc (prefix_len is_ascii_digit xs) ≡ end = omega (arith, is_end) in
         ap (λ (k : Class). lex_byte between k x xs (λ mode. lex mode xs)) (digit_class x range.0 range.1)
         ∙ ap (λ (w : Token). token w ∷ lex in_word xs)
-        (number_word (x ∷ xs) end is some (let ne : x ≢ 48 = nonzero in omega (arith, range.0, ne)) range.1 comma)
+        (number_word (x ∷ xs) end is some (let ne : x ≢ 48 = nonzero in omega (arith, range.0, ne)) range.1
+        comma)
         ∙ ap (λ (ls : List Lexeme). token (Token.number (take end (x ∷ xs))) ∷ ls)
         (digits_run xs (ap (λ (k : ℕ). get_or (x ∷ xs) k 0) next ∙ comma)
         ∙ ap (λ (k : ℕ). lex between (drop k (x ∷ xs))) next)

@@ -21,7 +21,8 @@ returns-then-found-ne0-clause-bound c =
 
 pub loop-i-preserved : goal.loop-i-preserved
 loop-i-preserved c =
-    let run = run_through c.args.text.now c.loop-i.i 16 (omega arith) (omega (arith, c.stops-found.ensures)) in
+    let run =
+    run_through c.args.text.now c.loop-i.i 16 (omega arith) (omega (arith, c.stops-found.ensures)) in
     (omega (arith, run, c.loop-i.invariant.0), omega arith)
 
 pub returns-clause-bound : goal.returns-clause-bound
