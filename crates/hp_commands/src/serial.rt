@@ -16,7 +16,6 @@ use hp_machine::Machine;
 use hp_scenario::{Calls, Line, Next, Scenario, ScenarioFault, Work};
 use hp_text::write_state;
 use hp_units::Layout;
-use json::Scratch;
 use std::alloc::{AllocError, Global};
 use std::mem::forget;
 
@@ -39,19 +38,7 @@ pub fn serial(alloc: Global, input: Vec<u8>) -> Result<String, ScenarioFault>
 fn usual_text(alloc: Global, input: &[u8]) -> Result<Option<String>, AllocError>
     ensures { IfOk result (λ out. IfSome out (λ out. IsTextOf input.now (string_bytes out))) }
 {
-    let mut scratch = Scratch::new(alloc);
-    text_with(alloc, input, &mut scratch)
-}
-
-/// The same with room for the reader.
-fn text_with(
-    alloc: Global,
-    input: &[u8],
-    scratch: &mut Scratch,
-) -> Result<Option<String>, AllocError>
-    ensures { IfOk result (λ out. IfSome out (λ out. IsTextOf input.now (string_bytes out))) }
-{
-    let Some(mut calls) = Calls::open(alloc, input, scratch)? else {
+    let Some(mut calls) = Calls::open(alloc, input)? else {
         return Ok(None);
     };
     let count = input.len() / 16;

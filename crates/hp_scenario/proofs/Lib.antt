@@ -7,6 +7,8 @@ pub mod LineLoop
 pub mod LinesRead
 pub mod LinesSpelled
 mod PlainNumbers
+mod PlainRuns
+mod PlainTokens
 pub mod PlanItems
 pub mod ScriptLists
 mod SpelledParts

@@ -4,6 +4,7 @@ pub mod Form
 pub mod Gives
 pub mod Lines
 pub mod Names
+pub mod PlainReader
 pub mod Scenario
 pub mod Scripts
 pub mod Seen

@@ -8,11 +8,12 @@ ghost use Rattle.hp_scenario.specs.Calls.{AreAll, Goes, IsFront, IsOpened};
 
 use crate::lines::{Line, Lines};
 use crate::names::line_from;
+use crate::plain_reader::PlainReader;
 use crate::scenario::Scenario;
 use crate::usual::{is_over, layout_after, takes_array, takes_key, takes_object};
 use hp_units::{Layout, Text};
 use indexmap::IndexSet;
-use json::{Reader, Scratch, Token};
+use json::Token;
 use std::alloc::{AllocError, Global};
 
 /// The layout of a scenario, the owners' names so far, and the lines that are still to come.
@@ -21,7 +22,7 @@ pub struct Calls<'a> {
     layout: Layout,
     names: IndexSet<Text>,
     words: Vec<&'a str>,
-    reader: Reader<'a>,
+    reader: PlainReader<'a>,
 }
 
 /// What comes next.
@@ -41,19 +42,7 @@ pub enum Next {
 pub(crate) fn read_usual(alloc: Global, bytes: &[u8]) -> Result<Option<Scenario>, AllocError>
     ensures { IfOk result (λ s. IfSome s (λ s. scenario_in bytes.now ≡ Ok (scenario_seen s))) }
 {
-    let mut scratch = Scratch::new(alloc);
-    read_with(alloc, bytes, &mut scratch)
-}
-
-/// The same with room for the reader.
-fn read_with(
-    alloc: Global,
-    bytes: &[u8],
-    scratch: &mut Scratch,
-) -> Result<Option<Scenario>, AllocError>
-    ensures { IfOk result (λ s. IfSome s (λ s. scenario_in bytes.now ≡ Ok (scenario_seen s))) }
-{
-    let Some(mut calls) = Calls::open(alloc, bytes, scratch)? else {
+    let Some(mut calls) = Calls::open(alloc, bytes)? else {
         return Ok(None);
     };
     let mut lines = Vec::new(alloc);
@@ -64,7 +53,7 @@ fn read_with(
 }
 
 /// The layout that comes next in a scenario, up to the first of its lines.
-fn front_after(alloc: Global, reader: &mut Reader<'_>) -> Result<Option<Layout>, AllocError>
+fn front_after(alloc: Global, reader: &mut PlainReader<'_>) -> Result<Option<Layout>, AllocError>
     ensures { IfOk result (λ l. IfSome l (λ l. IsFront l reader.old reader.new)) }
 {
     if !takes_object(reader) || !takes_key(reader, "layout") {
@@ -81,17 +70,13 @@ fn front_after(alloc: Global, reader: &mut Reader<'_>) -> Result<Option<Layout>,
 
 impl<'a> Calls<'a> {
     /// Reads a scenario up to its first line. None says nothing: it may still be one.
-    pub fn open(
-        alloc: Global,
-        bytes: &'a [u8],
-        scratch: &'a mut Scratch,
-    ) -> Result<Option<Calls<'a>>, AllocError>
+    pub fn open(alloc: Global, bytes: &'a [u8]) -> Result<Option<Calls<'a>>, AllocError>
         ensures { IfOk result (λ c. IfSome c (λ c. IsOpened bytes.now c)) }
     {
         let Ok(text) = simdutf8::basic::from_utf8(bytes) else {
             return Ok(None);
         };
-        let mut reader = Reader::new(text, scratch)?;
+        let mut reader = PlainReader::new(text);
         let Some(layout) = front_after(alloc, &mut reader)? else {
             return Ok(None);
         };

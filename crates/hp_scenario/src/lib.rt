@@ -9,6 +9,8 @@ mod laws;
 mod lines;
 mod names;
 mod numbers;
+mod plain_reader;
+mod plain_runs;
 mod plans;
 mod requests;
 mod scenario;

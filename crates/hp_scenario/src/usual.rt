@@ -8,9 +8,10 @@ ghost use Rattle.hp_units.specs.LayoutParts.{layout_fault};
 ghost use Rattle.hp_scenario.specs.Usual.{AreBoots, AreRows, EndsWithBoots, IsLayoutAt, IsRow, parts_from, rows_of};
 
 use crate::form::boot_from;
+use crate::plain_reader::PlainReader;
 use fast_float::Numeral;
 use hp_units::{Boot, Layout, LayoutFault, Parts};
-use json::{Reader, Token};
+use json::Token;
 use std::alloc::{AllocError, Global};
 
 /// The numbers of a layout.
@@ -31,7 +32,7 @@ pub(crate) struct Numbers {
 /// The layout that comes next, where it has no fault.
 pub(crate) fn layout_after(
     alloc: Global,
-    reader: &mut Reader<'_>,
+    reader: &mut PlainReader<'_>,
 ) -> Result<Option<Layout>, AllocError>
     ensures { IfOk result (λ l. IfSome l (λ l. IsLayoutAt l reader.old reader.new)) }
 {
@@ -73,7 +74,7 @@ fn layout_of(alloc: Global, numbers: &Numbers, boot: &[Boot]) -> Result<Option<L
 }
 
 /// The numbers of a layout that come next, in their usual order.
-fn numbers_after(reader: &mut Reader<'_>) -> Option<Numbers>
+fn numbers_after(reader: &mut PlainReader<'_>) -> Option<Numbers>
     ensures { IfSome result (λ n. AreRows (rows_of n) reader.old reader.new) }
 {
     let order = number_after(reader, "order")?;
@@ -101,7 +102,7 @@ fn numbers_after(reader: &mut Reader<'_>) -> Option<Numbers>
 }
 
 /// The number at a key that comes next.
-fn number_after(reader: &mut Reader<'_>, key: &str) -> Option<u64>
+fn number_after(reader: &mut PlainReader<'_>, key: &str) -> Option<u64>
     ensures { IfSome result (λ n. IsRow key.now n reader.old reader.new) }
 {
     if !takes_key(reader, key) {
@@ -126,7 +127,7 @@ fn whole_number(text: &str) -> Option<u64>
 }
 
 /// What the blocks are at boot, where this comes next and then the layout's end.
-fn boot_after(alloc: Global, reader: &mut Reader<'_>) -> Result<Option<Vec<Boot>>, AllocError>
+fn boot_after(alloc: Global, reader: &mut PlainReader<'_>) -> Result<Option<Vec<Boot>>, AllocError>
     ensures { IfOk result (λ b. IfSome b (λ b. EndsWithBoots b.items reader.old reader.new)) }
 {
     if !takes_array(reader, "boot") {
@@ -142,7 +143,7 @@ fn boot_after(alloc: Global, reader: &mut Reader<'_>) -> Result<Option<Vec<Boot>
 }
 
 /// What the blocks are at boot by the words up to the end of an array.
-fn boots_after(alloc: Global, reader: &mut Reader<'_>) -> Result<Option<Vec<Boot>>, AllocError>
+fn boots_after(alloc: Global, reader: &mut PlainReader<'_>) -> Result<Option<Vec<Boot>>, AllocError>
     ensures { IfOk result (λ b. IfSome b (λ b. AreBoots b.items reader.old reader.new)) }
 {
     let mut boots = Vec::new(alloc);
@@ -159,7 +160,7 @@ fn boots_after(alloc: Global, reader: &mut Reader<'_>) -> Result<Option<Vec<Boot
 }
 
 /// Whether this key comes next.
-pub(crate) fn takes_key(reader: &mut Reader<'_>, key: &str) -> bool
+pub(crate) fn takes_key(reader: &mut PlainReader<'_>, key: &str) -> bool
     ensures { IsTrue result → reader.old ≡ key_token key.now ∷ reader.new }
 {
     match reader.next() {
@@ -169,7 +170,7 @@ pub(crate) fn takes_key(reader: &mut Reader<'_>, key: &str) -> bool
 }
 
 /// Whether this key comes next, and then an array.
-pub(crate) fn takes_array(reader: &mut Reader<'_>, key: &str) -> bool
+pub(crate) fn takes_array(reader: &mut PlainReader<'_>, key: &str) -> bool
     ensures { IsTrue result → reader.old ≡ key_token key.now ∷ begin_array ∷ reader.new }
 {
     if !takes_key(reader, key) {
@@ -179,25 +180,25 @@ pub(crate) fn takes_array(reader: &mut Reader<'_>, key: &str) -> bool
 }
 
 /// Whether an object begins next.
-pub(crate) fn takes_object(reader: &mut Reader<'_>) -> bool
+pub(crate) fn takes_object(reader: &mut PlainReader<'_>) -> bool
     ensures { IsTrue result → reader.old ≡ begin_object ∷ reader.new }
 {
     matches!(reader.next(), Some(Token::BeginObject))
 }
 
 /// Whether an object ends next.
-fn takes_end(reader: &mut Reader<'_>) -> bool
+fn takes_end(reader: &mut PlainReader<'_>) -> bool
     ensures { IsTrue result → reader.old ≡ end_object ∷ reader.new }
 {
     matches!(reader.next(), Some(Token::EndObject))
 }
 
 /// Whether an object ends next, and with it the text.
-pub(crate) fn is_over(reader: &mut Reader<'_>) -> bool
+pub(crate) fn is_over(reader: &mut PlainReader<'_>) -> bool
     ensures { IsTrue result → reader.old ≡ end_object ∷ [] }
 {
     if !takes_end(reader) {
         return false;
     }
-    reader.next().is_none()
+    reader.is_at_end()
 }

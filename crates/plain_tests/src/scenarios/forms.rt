@@ -1,7 +1,6 @@
 //! Texts of an unusual form. Those that are refused stand in refusals/hostile.py.
 use super::{LAYOUT, text_of};
 use hp_scenario::{Calls, Next, Scenario, ScenarioFault};
-use json::Scratch;
 use std::alloc::{AllocError, Global};
 use std::test::Fail;
 
@@ -56,8 +55,8 @@ fn reads_other_forms(rt: HostRuntime) -> Result<(), Fail> {
 }
 
 /// Whether a text is a scenario in its usual form of one line and one name.
-fn is_one_line(alloc: Global, text: &str, scratch: &mut Scratch) -> Result<bool, AllocError> {
-    let Some(mut calls) = Calls::open(alloc, text.as_bytes(), scratch)? else {
+fn is_one_line(alloc: Global, text: &str) -> Result<bool, AllocError> {
+    let Some(mut calls) = Calls::open(alloc, text.as_bytes())? else {
         return Ok(false);
     };
     let first = calls.next(alloc)?;
@@ -69,7 +68,6 @@ fn is_one_line(alloc: Global, text: &str, scratch: &mut Scratch) -> Result<bool,
 #[test]
 fn takes_line_by_line(rt: HostRuntime) -> Result<(), Fail> {
     let text = text_of(rt.alloc(), LAYOUT, "\"0 map db 3\"")?;
-    let mut scratch = Scratch::new(rt.alloc());
-    assert!(rt; is_one_line(rt.alloc(), text.as_str(), &mut scratch)?);
+    assert!(rt; is_one_line(rt.alloc(), text.as_str())?);
     Ok(())
 }

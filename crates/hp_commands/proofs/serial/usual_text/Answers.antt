@@ -2,7 +2,7 @@ use Rattle.std.proofs.Common.{◌≡◌, refl}
 use Rattle.hp_scenario.specs.Calls.{IsOpened}
 use Rattle.hp_scenario.proofs.UsualForm.{there}
 use Rattle.hp_commands.proofs.Called.{called_text}
-use Rattle.hp_commands.proofs.serial.text_with.Goals as goal
+use Rattle.hp_commands.proofs.serial.usual_text.Goals as goal
 
 pub returns : goal.returns
 returns c =

@@ -2,7 +2,7 @@ use Rattle.hp_scenario.specs.Calls.{IsOpened}
 use Rattle.hp_scenario.specs.Seen.{scenario_seen}
 use Rattle.hp_scenario.proofs.CallsPassed.{all_seen}
 use Rattle.hp_scenario.proofs.UsualForm.{there}
-use Rattle.hp_scenario.proofs.calls.read_with.Goals as goal
+use Rattle.hp_scenario.proofs.calls.read_usual.Goals as goal
 
 pub returns : goal.returns
 returns c =
