@@ -6,14 +6,14 @@ alone it takes the folder of the crates:
     python3 docs/check_find.py [CRATES [SEED [COUNT]]]        without them: crates, 34 and 400
 
 On so many scenarios that are drawn at random, with events of all kinds and plans, where 0 may stand
-for an operation of the setup, and at most 120 orders each: `explore` tells the ends of the orders,
-each with its count and its first order, in the order of these; past a limit, those of the first
-orders. Of one in ten: an interleaving is found where an order has an end with the lines; it is one
-of those orders, with the fewest changes of processor; and where there is none, as many
-interleavings are told as there are orders; past a limit a search finds what has few changes or is
-among the first. `--never` prints the same with the other status, `--scenario 1` writes what is
-found as a scenario with the setup's lines before the calls, `--json` the same as an object, scripts
-that use 0 before a begin are told, and a text that no end has as a line ends with status 2.
+for an operation of the setup, with at most 120 orders each that all have room: `explore` tells the
+ends of the orders, each with its count and its first order, in the order of these; past a limit,
+those of the first orders. Of one in ten: an interleaving is found where an order has an end with
+the lines; it is one of those orders, with the fewest changes of processor; and where there is none,
+as many interleavings are told as there are orders; past a limit a search finds what has few changes
+or is among the first. `--never` prints the same with the other status, `--scenario 1` writes what
+is found as a scenario with the setup's lines before the calls, `--json` the same as an object,
+scripts that use 0 before a begin are told, and a text that no end has as a line ends with status 2.
 The last line is 'find: N passed, M failed'; the exit status is 0 where nothing failed, else 1.
 """
 import json
@@ -112,6 +112,10 @@ def next_call(script, cpus, begun, receipts):
     return None
 
 
+class NoRoom(Exception):
+    """The history has no room for a call of an order."""
+
+
 class Orders:
     """Every order of the lines after a setup, each played by `hotplug serial`."""
 
@@ -145,6 +149,8 @@ class Orders:
         for call, line in zip(calls, lines, strict=True):
             cpu, _, asked = call.partition(" ")
             serial, _, reply = line.partition(": ")
+            if reply == "fault HistoryFull":
+                raise NoRoom
             receipts[int(cpu)].append((asked, int(serial), reply))
         return receipts
 
@@ -301,14 +307,17 @@ def check_ends(checks, programs, scenario, setup, orders):
 
 def check_drawn(checks, programs, draw, is_searched):
     """Checks a scenario that is drawn, and searches of it where it is to be searched; it answers
-    whether it has few enough orders."""
+    whether it has few enough orders, with room for each."""
     cpus = draw.choice((1, 2, 2, 2, 3))
     layout = dict(LAYOUT, cpus=cpus, history=200)
     setup = draw.randrange(3)
     calls = [drawn_call(draw, draw.randrange(cpus), cpus)
              for _ in range(setup + draw.randrange(2, 6))]
     scenario = {"layout": layout, "calls": calls}
-    orders = Orders(programs, scenario, setup).all_from([], MOST_ORDERS)
+    try:
+        orders = Orders(programs, scenario, setup).all_from([], MOST_ORDERS)
+    except NoRoom:
+        return False
     if len(orders) > MOST_ORDERS:
         return False
     limit = draw.randrange(len(orders))
