@@ -1,0 +1,67 @@
+-- The parts of a state as bytes. Where the layout says how many there are, no count stands in front of them.
+use Rattle.std.specs.Prelude.{ℕ, ◌+◌, Bool, true, false, List, [], ◌∷◌, ◌++◌, Option, None, Some, length}
+use Rattle.std.specs.List.{flat_map}
+use Rattle.hp_units.specs.declared.rows.Auto.{Auto}
+use Rattle.hp_units.specs.declared.rows.Auto.TheVariants.{Offline as OfflineAuto, Online as OnlineAuto, OnlineKernel as KernelAuto, OnlineMovable as MovableAuto}
+use Rattle.hp_units.specs.declared.rows.Claim.{Claim}
+use Rattle.hp_units.specs.declared.rows.Kind.{Kind}
+use Rattle.hp_units.specs.declared.rows.Mobility.{Mobility}
+use Rattle.hp_units.specs.declared.rows.Mobility.TheVariants.{Unmovable, Movable}
+use Rattle.hp_units.specs.declared.rows.Row.{Row}
+use Rattle.hp_units.specs.declared.rows.State.{State}
+use Rattle.hp_units.specs.declared.rows.State.TheVariants.{Offline as OfflineState, Online as OnlineState, Going as GoingState, Absent as AbsentState}
+use Rattle.hp_units.specs.declared.rows.Wish.{Wish}
+use Rattle.hp_units.specs.declared.rows.Wish.TheVariants.{Off as OffWish, Normal as NormalWish, Movable as MovableWish}
+use Rattle.hp_units.specs.declared.rows.Zone.{Zone}
+use Rattle.hp_units.specs.declared.rows.Zone.TheVariants.{Normal as NormalZone, Movable as MovableZone}
+use Rattle.hp_codes.specs.Numbers.{number_code}
+
+-- numbers whose count the layout doesn't say, as a list of frames
+abbrev pub counted_code : List ℕ → List ℕ
+counted_code numbers = number_code (length numbers) ++ flat_map number_code numbers
+
+-- the words of a page: 0 where it isn't mapped, and else one more than their count in front of them
+abbrev pub words_code : Option (List ℕ) → List ℕ
+words_code None = number_code 0
+words_code (Some words) = number_code (length words + 1) ++ flat_map number_code words
+
+-- the kind of a pageblock
+abbrev pub kind_number : Mobility → (isolated : Bool) → ℕ
+kind_number Unmovable false = 0
+kind_number Movable false = 1
+kind_number Unmovable true = 2
+kind_number Movable true = 3
+
+abbrev pub kind_code : Kind → List ℕ
+kind_code kind = kind_number kind.mobility kind.isolated ∷ []
+
+-- the row of a memory block: its state, its zone and its claim
+abbrev pub state_number : State → ℕ
+state_number OfflineState = 0
+state_number OnlineState = 1
+state_number GoingState = 2
+state_number AbsentState = 3
+
+abbrev pub zone_number : Option Zone → ℕ
+zone_number None = 0
+zone_number (Some NormalZone) = 1
+zone_number (Some MovableZone) = 2
+
+abbrev pub wish_number : Wish → ℕ
+wish_number OffWish = 1
+wish_number NormalWish = 2
+wish_number MovableWish = 3
+
+abbrev pub claim_code : Option Claim → List ℕ
+claim_code None = 0 ∷ []
+claim_code (Some claim) = wish_number claim.wish ∷ number_code claim.op
+
+abbrev pub row_code : Row → List ℕ
+row_code row = state_number row.state ∷ zone_number row.zone ∷ claim_code row.claim
+
+-- what a block that is added becomes
+abbrev pub auto_number : Auto → ℕ
+auto_number OfflineAuto = 0
+auto_number OnlineAuto = 1
+auto_number KernelAuto = 2
+auto_number MovableAuto = 3

@@ -1,0 +1,11 @@
+//! What the codes say of states, as contracts of functions with empty bodies.
+ghost use Rattle.std.specs.Prelude.{◌≡◌, ℕ, List};
+ghost use Rattle.hp_units.specs.LayoutParts.{LayoutParts};
+ghost use Rattle.hp_units.specs.Memory.{Memory};
+ghost use Rattle.hp_codes.specs.Codes.{IsCoded};
+
+/// A number means one state of a layout: where it means two, they are the same (own rule).
+pub fn codes_tell_states_apart()
+    ensures { (l : LayoutParts) (codes : List (List ℕ)) (n : ℕ) (a b : Memory) → IsCoded l codes n a
+        → IsCoded l codes n b → a ≡ b }
+{}

@@ -1,0 +1,269 @@
+//! The code of a memory's state, part by part.
+ghost use Rattle.std.specs.Prelude.{◌≡◌, ◌<◌, ◌≤◌, [], ◌++◌, OnOk, length, option_map, slice_index_or};
+ghost use Rattle.std.specs.List.{flat_map};
+ghost use Rattle.hp_units.specs.Memory.{cached_list, free_list};
+ghost use Rattle.hp_units.specs.Pages.{words_at};
+ghost use Rattle.hp_units.specs.Placement.{IsShaped};
+ghost use Rattle.hp_codes.specs.Codes.{state_code};
+ghost use Rattle.hp_codes.specs.Numbers.{option_code};
+ghost use Rattle.hp_codes.specs.Parts.{auto_number, claim_code, counted_code, kind_code, kind_number, row_code, state_number, wish_number, words_code, zone_number};
+
+use crate::code::Code;
+use hp_memory::Memory;
+use hp_units::{
+    Auto, Block, Claim, Class, Cpu, Frame, Kind, Mobility, Order, Owner, Page, Pageblock, Pool,
+    Row, State, Wish, Zone,
+};
+use std::alloc::AllocError;
+
+/// The code of the state comes after the bytes that are there. An error is out of memory.
+#[tactic(auto, unfolding(crate::specs::Codes::state_code))]
+pub(crate) fn put_memory(code: &mut Code, memory: &Memory) -> Result<(), AllocError>
+    ensures { OnOk result (code.new ≡ code.old ++ state_code memory.now.layout memory.now.state) }
+{
+    memory.is_placed();
+    put_areas(code, memory)?;
+    put_kinds(code, memory)?;
+    put_cached(code, memory)?;
+    put_table(code, memory)?;
+    put_contents(code, memory)?;
+    put_kernel(code, memory)?;
+    put_rows(code, memory)?;
+    code.byte(auto_number(memory.auto()))
+}
+
+/// The free lists.
+fn put_areas(code: &mut Code, memory: &Memory) -> Result<(), AllocError>
+    requires { IsShaped memory.now.layout memory.now.state }
+    ensures { OnOk result (code.new ≡ code.old ++ flat_map counted_code memory.now.state.free.areas.lists) }
+{
+    for number in 0..5 * (memory.layout().order() + 1) {
+        let class = Class::numbered(number % 5);
+        put_area(code, memory, class, Order(number / 5))?;
+    }
+    Ok(())
+}
+
+/// The free list of a class and an order of the layout.
+fn put_area(code: &mut Code, memory: &Memory, class: Class, order: Order) -> Result<(), AllocError>
+    requires { order ≤ memory.now.layout.order }
+    ensures { OnOk result
+        (code.new ≡ code.old ++ counted_code (free_list memory.now.state.free.areas class order)) }
+{
+    memory.is_placed();
+    let areas = memory.buddy();
+    let count = areas.len(class, order);
+    code.number(u64::from(count))?;
+    let mut ahead = areas.front(class, order);
+    for _number in 0..count {
+        let frame = ahead.unwrap();
+        code.number(u64::from(frame.0))?;
+        ahead = areas.next(frame);
+    }
+    Ok(())
+}
+
+/// The kinds of the pageblocks.
+fn put_kinds(code: &mut Code, memory: &Memory) -> Result<(), AllocError>
+    requires { IsShaped memory.now.layout memory.now.state }
+    ensures { OnOk result (code.new ≡ code.old ++ flat_map kind_code memory.now.state.free.areas.kinds) }
+{
+    for number in 0..memory.layout().blocks() * memory.layout().pageblocks() {
+        code.byte(kind_number(memory.buddy().kind(Pageblock(number))))?;
+    }
+    Ok(())
+}
+
+/// The number of a kind.
+fn kind_number(kind: Kind) -> u8
+    ensures { result ≡ kind_number kind.mobility kind.isolated }
+{
+    match (kind.mobility, kind.isolated) {
+        (Mobility::Unmovable, false) => 0,
+        (Mobility::Movable, false) => 1,
+        (Mobility::Unmovable, true) => 2,
+        (Mobility::Movable, true) => 3,
+    }
+}
+
+/// The processors' lists.
+fn put_cached(code: &mut Code, memory: &Memory) -> Result<(), AllocError>
+    requires { IsShaped memory.now.layout memory.now.state }
+    ensures { OnOk result (code.new ≡ code.old ++ flat_map counted_code memory.now.state.free.cached) }
+{
+    for number in 0..memory.layout().cpus() {
+        put_list(code, memory, Cpu(number), Pool::Nu)?;
+        put_list(code, memory, Cpu(number), Pool::Nm)?;
+        put_list(code, memory, Cpu(number), Pool::Mm)?;
+    }
+    Ok(())
+}
+
+/// A processor's list of a pool.
+fn put_list(code: &mut Code, memory: &Memory, cpu: Cpu, pool: Pool) -> Result<(), AllocError>
+    requires { cpu < memory.now.layout.cpus }
+    ensures { OnOk result (code.new ≡ code.old ++ counted_code (cached_list memory.now.state.free cpu pool)) }
+{
+    memory.is_placed();
+    let lists = memory.cpus();
+    let count = lists.len(cpu, pool);
+    code.number(u64::from(count))?;
+    let mut ahead = lists.front(cpu, pool);
+    for _number in 0..count {
+        let frame = ahead.unwrap();
+        code.number(u64::from(frame.0))?;
+        ahead = lists.next(frame);
+    }
+    Ok(())
+}
+
+/// The frames of all owners' pages.
+fn put_table(code: &mut Code, memory: &Memory) -> Result<(), AllocError>
+    requires { IsShaped memory.now.layout memory.now.state }
+    ensures { OnOk result
+        (code.new ≡ code.old ++ flat_map (flat_map option_code) memory.now.state.pages.table) }
+{
+    for number in 0..memory.layout().owners() {
+        put_frames(code, memory, Owner(number))?;
+    }
+    Ok(())
+}
+
+/// The frames of an owner's pages.
+fn put_frames(code: &mut Code, memory: &Memory, owner: Owner) -> Result<(), AllocError>
+    requires shaped { IsShaped memory.now.layout memory.now.state }
+    requires owner { owner < memory.now.layout.owners }
+    ensures { OnOk result
+        (code.new ≡ code.old ++ flat_map option_code (slice_index_or memory.now.state.pages.table owner [])) }
+{
+    for number in 0..memory.layout().pages() {
+        code.frame_or_none(memory.frame_at(owner, Page(number)))?;
+    }
+    Ok(())
+}
+
+/// The words of all owners' pages.
+fn put_contents(code: &mut Code, memory: &Memory) -> Result<(), AllocError>
+    requires { IsShaped memory.now.layout memory.now.state }
+    ensures { OnOk result
+        (code.new ≡ code.old ++ flat_map (flat_map words_code) memory.now.state.pages.contents) }
+{
+    for number in 0..memory.layout().owners() {
+        put_words(code, memory, Owner(number))?;
+    }
+    Ok(())
+}
+
+/// The words of an owner's pages.
+fn put_words(code: &mut Code, memory: &Memory, owner: Owner) -> Result<(), AllocError>
+    requires shaped { IsShaped memory.now.layout memory.now.state }
+    requires owner { owner < memory.now.layout.owners }
+    ensures { OnOk result
+        (code.new ≡ code.old
+        ++ flat_map words_code (slice_index_or memory.now.state.pages.contents owner [])) }
+{
+    for number in 0..memory.layout().pages() {
+        code.words(page_words(memory, owner, Page(number)))?;
+    }
+    Ok(())
+}
+
+/// The words of a page of the layout, if it is mapped.
+fn page_words(memory: &Memory, owner: Owner, page: Page) -> Option<&[u64]>
+    requires owner { owner < memory.now.layout.owners }
+    requires page { page < memory.now.layout.pages }
+    ensures { option_map (λ words. words.now) result ≡ words_at memory.now.state.pages owner page }
+{
+    memory.is_placed();
+    memory.pages().words(owner, page)
+}
+
+/// The orders of the kernel's blocks.
+fn put_kernel(code: &mut Code, memory: &Memory) -> Result<(), AllocError>
+    requires { IsShaped memory.now.layout memory.now.state }
+    ensures { OnOk result (code.new ≡ code.old ++ flat_map option_code memory.now.state.kernel) }
+{
+    for number in 0..memory.layout().frames() {
+        code.order_or_none(memory.kernel_at(Frame(number)))?;
+    }
+    Ok(())
+}
+
+/// The rows of the memory blocks.
+fn put_rows(code: &mut Code, memory: &Memory) -> Result<(), AllocError>
+    requires { IsShaped memory.now.layout memory.now.state }
+    ensures { OnOk result (code.new ≡ code.old ++ flat_map row_code memory.now.state.blocks.rows) }
+{
+    for number in 0..memory.layout().blocks() {
+        put_row(code, memory.blocks().row(Block(number)))?;
+    }
+    Ok(())
+}
+
+/// One row.
+fn put_row(code: &mut Code, row: Row) -> Result<(), AllocError>
+    ensures { OnOk result (code.new ≡ code.old ++ row_code row) }
+{
+    code.byte(state_number(row.state))?;
+    code.byte(zone_number(row.zone))?;
+    put_claim(code, row.claim)
+}
+
+/// A claim, if there is one.
+fn put_claim(code: &mut Code, claim: Option<Claim>) -> Result<(), AllocError>
+    ensures { OnOk result (code.new ≡ code.old ++ claim_code claim) }
+{
+    match claim {
+        None => code.byte(0),
+        Some(claim) => {
+            code.byte(wish_number(claim.wish))?;
+            code.number(claim.op.0)
+        }
+    }
+}
+
+/// The number of a state.
+fn state_number(state: State) -> u8
+    ensures { result ≡ state_number state }
+{
+    match state {
+        State::Offline => 0,
+        State::Online => 1,
+        State::Going => 2,
+        State::Absent => 3,
+    }
+}
+
+/// The number of a zone, if there is one.
+fn zone_number(zone: Option<Zone>) -> u8
+    ensures { result ≡ zone_number zone }
+{
+    match zone {
+        None => 0,
+        Some(Zone::Normal) => 1,
+        Some(Zone::Movable) => 2,
+    }
+}
+
+/// The number of a wish.
+fn wish_number(wish: Wish) -> u8
+    ensures { result ≡ wish_number wish }
+{
+    match wish {
+        Wish::Off => 1,
+        Wish::Normal => 2,
+        Wish::Movable => 3,
+    }
+}
+
+/// The number of what a block that is added becomes.
+fn auto_number(auto: Auto) -> u8
+    ensures { result ≡ auto_number auto }
+{
+    match auto {
+        Auto::Offline => 0,
+        Auto::Online => 1,
+        Auto::OnlineKernel => 2,
+        Auto::OnlineMovable => 3,
+    }
+}
