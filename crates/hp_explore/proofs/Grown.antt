@@ -10,7 +10,7 @@ use Rattle.hp_explore.specs.Notes.{AddsEnd, AddsOne, HasNoEnd, IsNoted}
 use Rattle.hp_explore.specs.Orders.{HasCount}
 use Rattle.hp_explore.specs.Outcomes.{OutcomeValue}
 use Rattle.hp_explore.specs.Schedules.{EndsWith, Setting, outcome_after, schedule_of}
-use Rattle.hp_explore.specs.Seen.{AddsCounts, AllSeen, GoesOn, Grow, IsSeen, SeenValue}
+use Rattle.hp_explore.specs.Seen.{AddsCounts, GoesOn, Grow, IsSeen, SeenValue}
 use Rattle.hp_explore.specs.declared.tally.Ending.{Ending}
 use Rattle.hp_explore.proofs.Counting.{either_listed, get_longer, none_listed, same_count}
 use Rattle.hp_explore.proofs.Counts.{get_set_cases}
@@ -125,11 +125,10 @@ grow_added old new counts adds = record {
 -- ---- places that are kept
 
 -- while the ends grow
-seen_grows : (g : Setting) (old new : List Ending) (seen : SeenValue) → Grow old new → IsSeen g old seen
+pub seen_grows : (g : Setting) (old new : List Ending) (seen : SeenValue) → Grow old new → IsSeen g old seen
     → IsSeen g new seen
 seen_grows g old new seen grow is = record {
   played = is.played;
-  state = is.state;
   few = omega (arith, is.few, grow.longer);
   counted = counted;
   every = every;
@@ -161,17 +160,6 @@ seen_grows g old new seen grow is = record {
         (let l = slice_get_within old at.0 at.1 at.2 in omega (arith, l, grow.longer)) in
         let f = get_some new at.0 less in
         (at.0, f.0, f.1, (grow.kept at.0 at.1 f.0 at.2 f.1).0 ∙ at.3)
-
-pub all_grow : (g : Setting) (old new : List Ending) (all : List SeenValue) → Grow old new → AllSeen g old all
-    → AllSeen g new all
-all_grow g old new all grow are i seen h = seen_grows g old new seen grow (are i seen h)
-
--- with one more
-pub all_more : (g : Setting) (ends : List Ending) (all : List SeenValue) (seen : SeenValue)
-    → AllSeen g ends all → IsSeen g ends seen → AllSeen g ends (all ++ seen ∷ [])
-all_more g ends all seen are is i one h =
-    elim (get_push_cases all seen one i h)
-    [ inl there ↦ are i one there | inr here ↦ subst (IsSeen g ends) here.1 is ]
 
 -- ---- the total
 

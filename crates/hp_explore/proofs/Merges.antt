@@ -3,30 +3,26 @@ use Rattle.std.proofs.Common.{◌≡◌, ℕ, ◌+◌, ◌<◌, ◌≤◌, List,
 use Rattle.std.specs.Prelude.{◌⊎◌, sum_by}
 use Rattle.std.proofs.lemmas.Bool.{cases_lt}
 use Rattle.std.proofs.lemmas.List.{append-nil}
-use Rattle.std.proofs.lemmas.Option.{same_Some, slice_get_within}
+use Rattle.std.proofs.lemmas.Option.{slice_get_within}
 use Rattle.hp_laws.proofs.Lists.{get_some}
-use Rattle.hp_units.specs.History.{net_of, value_of}
+use Rattle.hp_units.specs.History.{value_of}
 use Rattle.hp_units.specs.LayoutParts.{LayoutParts}
 use Rattle.hp_units.specs.Memory.{Memory}
-use Rattle.hp_units.specs.Receipts.{receipts_of}
 use Rattle.hp_units.specs.declared.replies.Record.{Record}
 use Rattle.hp_machine.specs.Machine.{MachineValue}
-use Rattle.hp_steps.specs.Steps.{StepsValue}
-use Rattle.hp_explore.specs.Alike.{AreAlike, UndoNothing, exchanges}
+use Rattle.hp_explore.specs.Alike.{AreAlike, UndoNothing}
 use Rattle.hp_explore.specs.Ends.{AreCounted}
-use Rattle.hp_explore.specs.Numbers.{IsNumbered}
-use Rattle.hp_explore.specs.Openings.{AreOpen, Opening}
 use Rattle.hp_explore.specs.Orders.{HasCount, IsBefore, IsFirst}
 use Rattle.hp_explore.specs.Outcomes.{OutcomeValue}
+use Rattle.hp_explore.specs.Parts.{AllOfPart, PartValue}
 use Rattle.hp_explore.specs.Schedules.{EndsWith, Setting, plays, schedule_of}
-use Rattle.hp_explore.specs.Scripts.{own_operation}
-use Rattle.hp_explore.specs.Seen.{AddsCounts, GoesOn, Grow, IsLike, IsSeen, SeenValue}
-use Rattle.hp_explore.specs.Walks.{Before, IsAt, IsReached, Through, news_in}
+use Rattle.hp_explore.specs.Seen.{AddsCounts, GoesOn, Grow, IsSeen, SeenValue}
+use Rattle.hp_explore.specs.Walks.{BeforeInPart, IsReached, ThroughInPart, news_in}
 use Rattle.hp_explore.specs.declared.tally.Ending.{Ending}
 use Rattle.hp_explore.proofs.Alike.{ends_alike}
 use Rattle.hp_explore.proofs.Counting.{either_listed, none_listed, same_count}
 use Rattle.hp_explore.proofs.Grown.{counts_add_up, one_outcome}
-use Rattle.hp_explore.proofs.Parts.{difference, moved}
+use Rattle.hp_explore.proofs.Apart.{difference, moved}
 use Rattle.hp_explore.proofs.Regions.{before_longer, not_before_longer}
 
 -- ---- a place that goes on like another
@@ -44,30 +40,6 @@ turned g h k alike = record {
   };
 }
 
--- where the numbers are the same, Cancels lead back to the same states
-alike_numbered : (g : Setting) (lists : List (List Opening)) (h k : List Record) (n m : ℕ)
-    → length h ≡ length k
-    → ((cpu : ℕ) → cpu < length g.scripts → exchanges cpu h ≡ exchanges cpu k)
-    → ((cpu : ℕ) → cpu < length g.scripts
-    → own_operation (receipts_of cpu h) ≡ own_operation (receipts_of cpu k))
-    → IsNumbered g lists h (Some n) → IsNumbered g lists k (Some m) → n ≡ m
-    → value_of g.layout g.base (g.start ++ h) ≡ value_of g.layout g.base (g.start ++ k) → AreAlike g h k
-unfolding value_of
-alike_numbered g lists h k n m calls exchanged begun first second same state = record {
-  calls = calls;
-  exchanged = exchanged;
-  begun = begun;
-  nets = record {
-    openings = second.0;
-    first_open = subst (AreOpen g.layout g.base (net_of (g.start ++ h))) as_many first.2;
-    second_open = second.2;
-    state = state;
-  };
-}
-  where
-    as_many : first.0 ≡ second.0
-    as_many = same_Some first.0 second.0 (sym first.1 ∙ (ap (slice_get lists) same ∙ second.1))
-
 -- as many schedules go on from there to each end
 moved_count : (g : Setting) (p q : List ℕ) (h k : List Record) (x : OutcomeValue) (n : ℕ)
     → UndoNothing g.scripts → plays g p ≡ Some h → plays g q ≡ Some k → AreAlike g h k
@@ -79,8 +51,9 @@ moved_count g p q h k x n all first second alike counted =
 
 -- ---- the ends, with those that go on from there
 
-apart_regions : (g : Setting) (q s : List ℕ) (x y : OutcomeValue) → Before g q s x → GoesOn g q y s → ⊥
-apart_regions g q s x y before on =
+apart_regions : (g : Setting) (part : PartValue) (q s : List ℕ) (x y : OutcomeValue)
+    → BeforeInPart g part q s x → GoesOn g q y s → ⊥
+apart_regions g part q s x y before on =
     not_before_longer (q ++ on.0.0) []
     (subst (λ (t : List ℕ). IsBefore (q ++ on.0.0) t) (sym (append-nil (q ++ on.0.0))) here)
   where
@@ -90,20 +63,26 @@ apart_regions g q s x y before on =
     here : IsBefore (q ++ on.0.0) (q ++ on.0.0)
     here = subst (λ (t : List ℕ). IsBefore t (q ++ on.0.0)) on.0.1 longer
 
--- those up to the last continuation are those before the place, and those that go on from it
-through_to : (g : Setting) (q s : List ℕ) (x : OutcomeValue) → Before g q s x ⊎ GoesOn g q x s
-    → Through g q s x
-through_to g q s x h = elim h [ inl b ↦ (inl b.0, b.1) | inr on ↦ (inr on.0, on.1) ]
+-- where all that go on from a place belong to a part, those of it up to the last continuation are those
+-- before the place, and those that go on from it
+through_to : (g : Setting) (part : PartValue) (q s : List ℕ) (x : OutcomeValue)
+    → AllOfPart (length g.scripts) part q → BeforeInPart g part q s x ⊎ GoesOn g q x s
+    → ThroughInPart g part q s x
+through_to g part q s x all h =
+    elim h [ inl b ↦ (inl b.0, b.1) | inr on ↦ (inr on.0, (on.1, all s on.0)) ]
 
-through_from : (g : Setting) (q s : List ℕ) (x : OutcomeValue) → Through g q s x
-    → Before g q s x ⊎ GoesOn g q x s
-through_from g q s x h = elim h.0 [ inl b ↦ inl (b, h.1) | inr e ↦ inr (e, h.1) ]
+through_from : (g : Setting) (part : PartValue) (q s : List ℕ) (x : OutcomeValue)
+    → ThroughInPart g part q s x → BeforeInPart g part q s x ⊎ GoesOn g q x s
+through_from g part q s x h = elim h.0 [ inl b ↦ inl (b, h.1) | inr e ↦ inr (e, h.1.0) ]
 
 -- the kept counts are those of the place, each added to its end
-pub merged : (g : Setting) (q : List ℕ) (k : List Record) (seen : SeenValue) (old new : List Ending)
+pub merged : (g : Setting) (part : PartValue) (q : List ℕ) (k : List Record) (seen : SeenValue)
+    (old new : List Ending)
+    → AllOfPart (length g.scripts) part q
     → UndoNothing g.scripts → plays g q ≡ Some k → AreAlike g seen.news k → IsSeen g old seen
-    → AreCounted (Before g q) old → AddsCounts old seen.counts new → AreCounted (Through g q) new
-merged g q k seen old new all second alike is ok adds =
+    → AreCounted (BeforeInPart g part q) old → AddsCounts old seen.counts new
+    → AreCounted (ThroughInPart g part q) new
+merged g part q k seen old new within all second alike is ok adds =
     record { counts = counts; firsts = firsts; every = every; apart = apart; total = total }
   where
     place : List ℕ
@@ -125,47 +104,49 @@ merged g q k seen old new all second alike is ok adds =
         let f = get_some new i less in
         (f.0, f.1, (adds.more i e f.0 h f.1).0)
 
-    counts : (i : ℕ) (f : Ending) → slice_get new i ≡ Some f → HasCount (λ s. Through g q s f.outcome) f.count
+    counts : (i : ℕ) (f : Ending) → slice_get new i ≡ Some f
+        → HasCount (λ s. ThroughInPart g part q s f.outcome) f.count
     counts i f h =
         let e = was i f h in
-        subst (HasCount (λ s. Through g q s f.outcome)) (sym e.4)
-        (subst (λ (x : OutcomeValue). HasCount (λ s. Through g q s x) (e.0.count + get_or seen.counts i 0))
+        subst (HasCount (λ s. ThroughInPart g part q s f.outcome)) (sym e.4)
+        (subst (λ (x : OutcomeValue). HasCount (λ s. ThroughInPart g part q s x)
+        (e.0.count + get_or seen.counts i 0))
         (sym e.2)
-        (same_count (λ s. Before g q s e.0.outcome ⊎ GoesOn g q e.0.outcome s)
-        (λ s. Through g q s e.0.outcome) (e.0.count + get_or seen.counts i 0)
-        (λ s. through_to g q s e.0.outcome) (λ s. through_from g q s e.0.outcome)
-        (either_listed (λ s. Before g q s e.0.outcome) (GoesOn g q e.0.outcome) e.0.count
-        (get_or seen.counts i 0) (λ s. apart_regions g q s e.0.outcome e.0.outcome) (ok.counts i e.0 e.1)
+        (same_count (λ s. BeforeInPart g part q s e.0.outcome ⊎ GoesOn g q e.0.outcome s)
+        (λ s. ThroughInPart g part q s e.0.outcome) (e.0.count + get_or seen.counts i 0)
+        (λ s. through_to g part q s e.0.outcome within) (λ s. through_from g part q s e.0.outcome)
+        (either_listed (λ s. BeforeInPart g part q s e.0.outcome) (GoesOn g q e.0.outcome) e.0.count
+        (get_or seen.counts i 0) (λ s. apart_regions g part q s e.0.outcome e.0.outcome) (ok.counts i e.0 e.1)
         (moved_count g place q seen.news k e.0.outcome (get_or seen.counts i 0) all is.played second alike
         (is.counted i e.0 e.1)))))
 
-    first_of : (x : OutcomeValue) (f : List ℕ) → IsFirst (λ s. Before g q s x) f
-        → IsFirst (λ s. Through g q s x) f
+    first_of : (x : OutcomeValue) (f : List ℕ) → IsFirst (λ s. BeforeInPart g part q s x) f
+        → IsFirst (λ s. ThroughInPart g part q s x) f
     first_of x f first = record {
       holds = (inl first.holds.0, first.holds.1);
       earliest =
-          λ t h. elim (through_from g q t x h) [
+          λ t h. elim (through_from g part q t x h) [
             | inl b ↦ first.earliest t b
             | inr on ↦ inr (subst (IsBefore f) (sym on.0.1) (before_longer f q on.0.0 first.holds.0))
           ];
     }
 
     firsts : (i : ℕ) (f : Ending) → slice_get new i ≡ Some f
-        → IsFirst (λ s. Through g q s f.outcome) f.first.items
+        → IsFirst (λ s. ThroughInPart g part q s f.outcome) f.first.items
     firsts i f h =
         let e = was i f h in
-        subst (IsFirst (λ s. Through g q s f.outcome)) (sym e.3)
-        (subst (λ (x : OutcomeValue). IsFirst (λ s. Through g q s x) e.0.first.items) (sym e.2)
+        subst (IsFirst (λ s. ThroughInPart g part q s f.outcome)) (sym e.3)
+        (subst (λ (x : OutcomeValue). IsFirst (λ s. ThroughInPart g part q s x) e.0.first.items) (sym e.2)
         (first_of e.0.outcome e.0.first.items (ok.firsts i e.0 e.1)))
 
     shown : (x : OutcomeValue) → (i : ℕ) × (e : Ending) × (slice_get old i ≡ Some e) × (e.outcome ≡ x)
         → (i : ℕ) × (f : Ending) × (slice_get new i ≡ Some f) × (f.outcome ≡ x)
     shown x at = let f = now at.0 at.1 at.2 in (at.0, f.0, f.1, f.2 ∙ at.3)
 
-    every : (s : List ℕ) (x : OutcomeValue) → Through g q s x
+    every : (s : List ℕ) (x : OutcomeValue) → ThroughInPart g part q s x
         → (i : ℕ) × (f : Ending) × (slice_get new i ≡ Some f) × (f.outcome ≡ x)
     every s x h =
-        elim (through_from g q s x h) [
+        elim (through_from g part q s x h) [
           | inl b ↦ shown x (ok.every s x b)
           | inr on ↦
               shown x (is.every (place ++ on.0.0) x (
@@ -183,43 +164,46 @@ merged g q k seen old new all second alike is ok adds =
         let b = was j f m in
         ok.apart i j a.0 b.0 a.1 b.1 (sym a.2 ∙ (same ∙ b.2))
 
-    total : HasCount (λ s. (x : OutcomeValue) × Through g q s x) (sum_by (λ e. e.count) new)
-    total = counts_add_up (Through g q) new (λ s x y a b. one_outcome g s x y a.1 b.1) counts every apart
+    total : HasCount (λ s. (x : OutcomeValue) × ThroughInPart g part q s x) (sum_by (λ e. e.count) new)
+    total =
+        counts_add_up (ThroughInPart g part q) new (λ s x y a b. one_outcome g s x y a.1.0 b.1.0) counts every
+        apart
 
 -- ---- what is kept of a place that was walked
 
 -- its ends are known, and their counts are what came while it was walked
-pub walked_seen : (g : Setting) (seen : SeenValue) (old new : List Ending)
+pub walked_seen : (g : Setting) (part : PartValue) (seen : SeenValue) (old new : List Ending)
+    → AllOfPart (length g.scripts) part (schedule_of seen.news)
     → plays g (schedule_of seen.news) ≡ Some seen.news
-    → seen.memory ≡ value_of g.layout g.base (g.start ++ seen.news)
     → length seen.counts ≤ length new
     → ((i : ℕ) (e f : Ending) → slice_get old i ≡ Some e → slice_get new i ≡ Some f
     → e.count + get_or seen.counts i 0 ≡ f.count)
     → ((i : ℕ) (f : Ending) → slice_get new i ≡ Some f → length old ≤ i → get_or seen.counts i 0 ≡ f.count)
-    → Grow old new → AreCounted (Before g (schedule_of seen.news)) old
-    → AreCounted (Through g (schedule_of seen.news)) new → IsSeen g new seen
-walked_seen g seen old new played state few more all grow before through = record {
+    → Grow old new → AreCounted (BeforeInPart g part (schedule_of seen.news)) old
+    → AreCounted (ThroughInPart g part (schedule_of seen.news)) new → IsSeen g new seen
+walked_seen g part seen old new within played few more all grow before through = record {
   played = played;
-  state = state;
   few = few;
   counted = counted;
-  every = λ s x on. through.every s x (inr on.0, on.1);
+  every = λ s x on. through.every s x (inr on.0, (on.1, within s on.0));
 }
   where
     p : List ℕ
     p = schedule_of seen.news
 
-    both : (x : OutcomeValue) (t : ℕ) → HasCount (λ s. Through g p s x) t
-        → HasCount (λ s. Before g p s x ⊎ GoesOn g p x s) t
+    both : (x : OutcomeValue) (t : ℕ) → HasCount (λ s. ThroughInPart g part p s x) t
+        → HasCount (λ s. BeforeInPart g part p s x ⊎ GoesOn g p x s) t
     both x t counted =
-        same_count (λ s. Through g p s x) (λ s. Before g p s x ⊎ GoesOn g p x s) t (λ s. through_from g p s x)
-        (λ s. through_to g p s x) counted
+        same_count (λ s. ThroughInPart g part p s x) (λ s. BeforeInPart g part p s x ⊎ GoesOn g p x s) t
+        (λ s. through_from g part p s x)
+        (λ s. through_to g part p s x within) counted
 
-    left : (x : OutcomeValue) (m t c : ℕ) → m + c ≡ t → HasCount (λ s. Before g p s x) m
-        → HasCount (λ s. Through g p s x) t → HasCount (GoesOn g p x) c
+    left : (x : OutcomeValue) (m t c : ℕ) → m + c ≡ t → HasCount (λ s. BeforeInPart g part p s x) m
+        → HasCount (λ s. ThroughInPart g part p s x) t → HasCount (GoesOn g p x) c
     left x m t c sum some whole =
         let rest =
-        difference (λ s. Before g p s x) (GoesOn g p x) m t (λ s. apart_regions g p s x x) some
+        difference (λ s. BeforeInPart g part p s x) (GoesOn g p x) m t
+        (λ s. apart_regions g part p s x x) some
         (both x t whole) in
         let same : rest.0 ≡ c = omega (arith, rest.2, sum) in
         subst (HasCount (GoesOn g p x)) same rest.1
@@ -230,14 +214,15 @@ walked_seen g seen old new played state few more all grow before through = recor
         elim (cases_lt i (length old)) [
           | inl less ↦ (let e = get_some old i less in
               left f.outcome e.0.count f.count (get_or seen.counts i 0) (more i e.0 f e.1 h) (subst
-              (λ (x : OutcomeValue). HasCount (λ s. Before g p s x) e.0.count)
+              (λ (x : OutcomeValue). HasCount (λ s. BeforeInPart g part p s x) e.0.count)
               (sym (grow.kept i e.0 f e.1 h).0) (before.counts i e.0 e.1)) (through.counts i f h))
           | inr past ↦
               left f.outcome 0 f.count (get_or seen.counts i 0) (omega (
                 arith,
                 all i f h
                     past,
-              )) (none_listed (λ s. Before g p s f.outcome) (λ s b. let at = before.every s f.outcome
+              )) (none_listed (λ s. BeforeInPart g part p s f.outcome)
+              (λ s b. let at = before.every s f.outcome
               b in grow.fresh i f h past at.0 at.1 at.2 at.3)) (through.counts i f h)
         ]
 
@@ -252,14 +237,3 @@ state_here g m here state =
     ∙ (ap (λ (l : LayoutParts). value_of l m.base m.history) here.layout
     ∙ (ap (λ (s : Memory). value_of g.layout s m.history) here.base
     ∙ ap (λ (h : List Record). value_of g.layout g.base h) here.history))
-
--- a kept place with the same state, number of openings and exchanges goes on like it
-pub like_alike : (g : Setting) (p : StepsValue) (lists : List (List Opening)) (ends : List Ending)
-    (seen : SeenValue) (number : ℕ)
-    → IsAt g p → IsSeen g ends seen → IsNumbered g lists seen.news (Some seen.openings)
-    → IsNumbered g lists p.records (Some number)
-    → IsLike seen p.state number p.records (length g.scripts) → AreAlike g seen.news p.records
-like_alike g p lists ends seen number here is first second like =
-    alike_numbered g lists seen.news p.records seen.openings number like.calls
-    (λ cpu within. (like.exchanges cpu within).exchanged) (λ cpu within. (like.exchanges cpu within).begun)
-    first second like.openings (sym is.state ∙ (like.state ∙ here.state))

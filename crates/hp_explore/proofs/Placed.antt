@@ -1,15 +1,17 @@
 -- Where all processors are in their scripts, after a call and back over it.
-use Rattle.std.proofs.Common.{◌≡◌, ℕ, zero, suc, ◌<◌, ◌≤◌, Bool, true, false, List, [], ◌∷◌, ◌++◌, length, set, eqb, Option, Some, None, slice_get, refl, ap, sym, subst, ◌∙◌, inl, inr, map}
+use Rattle.std.proofs.Common.{◌≡◌, ℕ, zero, suc, ◌<◌, ◌≤◌, Bool, true, false, List, [], ◌∷◌, ◌++◌, length, set, eqb, Option, Some, None, slice_get, refl, ap, sym, subst, ◌∙◌, arith, inl, inr, map}
 use Rattle.std.specs.Prelude.{◌⊎◌}
 use Rattle.std.proofs.lemmas.Bool.{cases_lt, eq-eqb, eqb-true}
 use Rattle.std.proofs.lemmas.List.{append-nil, length-map, length-set}
-use Rattle.std.proofs.lemmas.Option.{none-some, same_Some}
+use Rattle.std.proofs.lemmas.Option.{none-some, same_Some, slice_get_within}
+use Rattle.hp_laws.proofs.Lists.{get_some}
 use Rattle.hp_units.specs.Receipts.{receipt_of, receipts_of}
 use Rattle.hp_units.specs.declared.events.Event.{Event}
 use Rattle.hp_units.specs.declared.replies.Receipt.{Receipt}
 use Rattle.hp_units.specs.declared.replies.Record.{Record}
 use Rattle.hp_explore.specs.Cursors.{AreCursors, IsCalledFor, IsCursor, IsRequested, asks_at, cursor_at}
 use Rattle.hp_explore.specs.Schedules.{Setting, next_call}
+use Rattle.hp_explore.specs.Scripts.{own_operation}
 use Rattle.hp_explore.specs.declared.cursors.Cursor.{Cursor}
 use Rattle.hp_explore.specs.declared.cursors.Request.{Request}
 use Rattle.hp_explore.specs.declared.scripts.Line.{Line}
@@ -178,3 +180,13 @@ went_on g news r cpus cpu scripts lines shown old new later request scripts_is c
   where
     within : slice_get g.scripts cpu ≡ Some lines
     within = ap (λ (xs : List (List Line)). slice_get xs cpu) scripts_is ∙ here
+
+-- ---- the operation that a processor began last
+
+pub operation_at : (g : Setting) (news : List Record) (cursors : List Cursor) (cursor : Cursor) (cpu : ℕ)
+    → slice_get cursors cpu ≡ Some cursor → AreCursors g news cursors
+    → cursor.op ≡ own_operation (receipts_of cpu news)
+operation_at g news cursors cursor cpu here all =
+    let less = slice_get_within cursors cpu cursor here in
+    let lines = get_some g.scripts cpu (omega (arith, less, all.many)) in
+    (all.each cpu lines.0 cursor lines.1 here).begun

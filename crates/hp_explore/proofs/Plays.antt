@@ -16,9 +16,10 @@ use Rattle.hp_explore.specs.Ends.{AreCounted}
 use Rattle.hp_explore.specs.Faults.{HasMoreThan}
 use Rattle.hp_explore.specs.Notes.{IsNoted}
 use Rattle.hp_explore.specs.Orders.{Extends, IsBefore}
-use Rattle.hp_explore.specs.Schedules.{EndsWith, IsComplete, Setting, outcome_after, next_call, play_one, plays, record_of_call}
+use Rattle.hp_explore.specs.Parts.{EndsInPart, IsCompleteInPart, IsOfPart, PartValue}
+use Rattle.hp_explore.specs.Schedules.{EndsWith, Setting, outcome_after, next_call, play_one, plays, record_of_call}
 use Rattle.hp_explore.specs.Scripts.{next_of}
-use Rattle.hp_explore.specs.Walks.{Before, Through, IsOverBelow}
+use Rattle.hp_explore.specs.Walks.{BeforeInPart, IsOverBelow, ThroughInPart}
 use Rattle.hp_explore.proofs.Counts.{With, more_than, none_counted, noted, same_counted}
 use Rattle.hp_explore.proofs.Regions.{before_all, before_first, before_later, before_longer, before_next, extends_before, not_before_itself, not_before_longer}
 
@@ -129,30 +130,32 @@ goes_on g p news cpu event s x played asked extends ends = by_rest extends.0 ext
         (sym (subst (λ (h : List Record). next_call g cpu h ≡ None) news_same (ends.over cpu)) ∙ asked))
     by_rest (c ∷ rest) is = by_next c rest is (next_call g c news) refl
 
--- ---- the walk
+-- ---- the walk, for a part
 
 -- before the first place there is none
-pub walk_begins : (g : Setting) → AreCounted (Before g []) []
-walk_begins g = none_counted (Before g []) (λ s x h. h.0)
+pub walk_begins : (g : Setting) (part : PartValue) → AreCounted (BeforeInPart g part []) []
+walk_begins g part = none_counted (BeforeInPart g part []) (λ s x h. h.0)
 
 -- all are up to the last continuation of the first place
-pub walk_ends : (g : Setting) (ends : List Ending) → AreCounted (Through g []) ends
-    → AreCounted (EndsWith g) ends
-walk_ends g ends ok =
-    same_counted (Through g []) (EndsWith g) ends (λ s x h. h.1) (λ s x h. (inr (s, refl), h)) ok
+pub walk_ends : (g : Setting) (part : PartValue) (ends : List Ending)
+    → AreCounted (ThroughInPart g part []) ends → AreCounted (EndsInPart g part) ends
+walk_ends g part ends ok =
+    same_counted (ThroughInPart g part []) (EndsInPart g part) ends (λ s x h. h.1)
+    (λ s x h. (inr (s, refl), h)) ok
 
 -- from a place to its first continuation
-pub walk_down : (g : Setting) (p : List ℕ) (ends : List Ending) → AreCounted (Before g p) ends
-    → AreCounted (Before g (p ++ 0 ∷ [])) ends
-walk_down g p ends ok =
-    same_counted (Before g p) (Before g (p ++ 0 ∷ [])) ends (λ s x h. (before_longer s p (0 ∷ []) h.0, h.1))
-    (λ s x h. (before_first s p h.0, h.1)) ok
+pub walk_down : (g : Setting) (part : PartValue) (p : List ℕ) (ends : List Ending)
+    → AreCounted (BeforeInPart g part p) ends → AreCounted (BeforeInPart g part (p ++ 0 ∷ [])) ends
+walk_down g part p ends ok =
+    same_counted (BeforeInPart g part p) (BeforeInPart g part (p ++ 0 ∷ [])) ends
+    (λ s x h. (before_longer s p (0 ∷ []) h.0, h.1)) (λ s x h. (before_first s p h.0, h.1)) ok
 
 -- past a continuation that was walked
-pub walk_past : (g : Setting) (p : List ℕ) (cpu : ℕ) (ends : List Ending)
-    → AreCounted (Through g (p ++ cpu ∷ [])) ends → AreCounted (Before g (p ++ (cpu + 1) ∷ [])) ends
-walk_past g p cpu ends ok =
-    same_counted (Through g (p ++ cpu ∷ [])) (Before g (p ++ (cpu + 1) ∷ [])) ends
+pub walk_past : (g : Setting) (part : PartValue) (p : List ℕ) (cpu : ℕ) (ends : List Ending)
+    → AreCounted (ThroughInPart g part (p ++ cpu ∷ [])) ends
+    → AreCounted (BeforeInPart g part (p ++ (cpu + 1) ∷ [])) ends
+walk_past g part p cpu ends ok =
+    same_counted (ThroughInPart g part (p ++ cpu ∷ [])) (BeforeInPart g part (p ++ (cpu + 1) ∷ [])) ends
     (λ s x h. (
       elim h.0 [
         | inl b ↦ before_later s p cpu (cpu + 1) (omega arith) b
@@ -163,29 +166,33 @@ walk_past g p cpu ends ok =
     (λ s x h. (before_next s p cpu h.0, h.1)) ok
 
 -- past a continuation that there is not
-pub walk_over : (g : Setting) (p : List ℕ) (news : List Record) (cpu : ℕ) (ends : List Ending)
-    → plays g p ≡ Some news → next_call g cpu news ≡ None → AreCounted (Before g (p ++ cpu ∷ [])) ends
-    → AreCounted (Before g (p ++ (cpu + 1) ∷ [])) ends
-walk_over g p news cpu ends played over ok =
-    same_counted (Before g (p ++ cpu ∷ [])) (Before g (p ++ (cpu + 1) ∷ [])) ends
+pub walk_over : (g : Setting) (part : PartValue) (p : List ℕ) (news : List Record) (cpu : ℕ)
+    (ends : List Ending)
+    → plays g p ≡ Some news → next_call g cpu news ≡ None
+    → AreCounted (BeforeInPart g part (p ++ cpu ∷ [])) ends
+    → AreCounted (BeforeInPart g part (p ++ (cpu + 1) ∷ [])) ends
+walk_over g part p news cpu ends played over ok =
+    same_counted (BeforeInPart g part (p ++ cpu ∷ [])) (BeforeInPart g part (p ++ (cpu + 1) ∷ [])) ends
     (λ s x h. (before_later s p cpu (cpu + 1) (omega arith) h.0, h.1))
     (λ s x h. (
       elim (before_next s p cpu h.0)
-          [ inl b ↦ b | inr e ↦ absurd (none_through g p news cpu s x played over e h.1) ],
+          [ inl b ↦ b | inr e ↦ absurd (none_through g p news cpu s x played over e h.1.0) ],
       h.1,
     )) ok
 
 -- after the last continuation, where there was one
-pub walk_up : (g : Setting) (p : List ℕ) (news : List Record) (cpu : ℕ) (event : Event) (ends : List Ending)
+pub walk_up : (g : Setting) (part : PartValue) (p : List ℕ) (news : List Record) (cpu : ℕ) (event : Event)
+    (ends : List Ending)
     → plays g p ≡ Some news → next_call g cpu news ≡ Some event
-    → AreCounted (Before g (p ++ length g.scripts ∷ [])) ends → AreCounted (Through g p) ends
-walk_up g p news cpu event ends played asked ok =
-    same_counted (Before g (p ++ length g.scripts ∷ [])) (Through g p) ends
+    → AreCounted (BeforeInPart g part (p ++ length g.scripts ∷ [])) ends
+    → AreCounted (ThroughInPart g part p) ends
+walk_up g part p news cpu event ends played asked ok =
+    same_counted (BeforeInPart g part (p ++ length g.scripts ∷ [])) (ThroughInPart g part p) ends
     (λ s x h. (before_all s p (length g.scripts) h.0, h.1))
     (λ s x h. (
       elim h.0 [
         | inl b ↦ before_longer s p (length g.scripts ∷ []) b
-        | inr e ↦ below s (goes_on g p news cpu event s x played asked e h.1)
+        | inr e ↦ below s (goes_on g p news cpu event s x played asked e h.1.0)
       ],
       h.1,
     ))
@@ -196,17 +203,18 @@ walk_up g p news cpu event ends played asked ok =
     below s on = extends_before s p on.0 (length g.scripts) on.1 on.2
 
 -- where no script asks for anything those before the last continuation are those before the place
-pub walk_here : (g : Setting) (p : List ℕ) (news : List Record) (ends : List Ending) → plays g p ≡ Some news
-    → ((cpu : ℕ) → next_call g cpu news ≡ None) → AreCounted (Before g (p ++ length g.scripts ∷ [])) ends
-    → AreCounted (Before g p) ends
-walk_here g p news ends played over ok =
-    same_counted (Before g (p ++ length g.scripts ∷ [])) (Before g p) ends
+pub walk_here : (g : Setting) (part : PartValue) (p : List ℕ) (news : List Record) (ends : List Ending)
+    → plays g p ≡ Some news → ((cpu : ℕ) → next_call g cpu news ≡ None)
+    → AreCounted (BeforeInPart g part (p ++ length g.scripts ∷ [])) ends
+    → AreCounted (BeforeInPart g part p) ends
+walk_here g part p news ends played over ok =
+    same_counted (BeforeInPart g part (p ++ length g.scripts ∷ [])) (BeforeInPart g part p) ends
     (λ s x h. (
       elim (before_all s p (length g.scripts) h.0) [
         | inl b ↦ b
         | inr e ↦ absurd
             (not_before_longer p (length g.scripts ∷ []) (subst (λ (t : List ℕ).
-            IsBefore t (p ++ length g.scripts ∷ [])) (only_this g p news s x played over e h.1).0 h.0))
+            IsBefore t (p ++ length g.scripts ∷ [])) (only_this g p news s x played over e h.1.0).0 h.0))
       ],
       h.1,
     ))
@@ -217,36 +225,60 @@ pub complete : (g : Setting) (p : List ℕ) (news : List Record) → plays g p �
     → ((cpu : ℕ) → next_call g cpu news ≡ None) → EndsWith g p (outcome_after g news)
 complete g p news played over = record { news = news; played = played; over = over; ends = refl }
 
--- and one more
-pub walk_notes : (g : Setting) (p : List ℕ) (news : List Record) (old new : List Ending)
+-- and one more, where it is the part's
+pub walk_notes : (g : Setting) (part : PartValue) (p : List ℕ) (news : List Record) (old new : List Ending)
     → plays g p ≡ Some news → ((cpu : ℕ) → next_call g cpu news ≡ None)
-    → AreCounted (Before g (p ++ length g.scripts ∷ [])) old
-    → IsNoted old (outcome_after g news) p new → AreCounted (Through g p) new
-walk_notes g p news old new played over ok adds =
-    same_counted (With (Before g p) p (outcome_after g news)) (Through g p) new to from (noted (Before g p) p
-    (outcome_after g news) old new (walk_here g p news old played over ok) (λ s x h. h.0) adds)
+    → IsOfPart (length g.scripts) part p
+    → AreCounted (BeforeInPart g part (p ++ length g.scripts ∷ [])) old
+    → IsNoted old (outcome_after g news) p new → AreCounted (ThroughInPart g part p) new
+walk_notes g part p news old new played over of ok adds =
+    same_counted (With (BeforeInPart g part p) p (outcome_after g news)) (ThroughInPart g part p) new to from
+    (noted (BeforeInPart g part p) p (outcome_after g news) old new
+    (walk_here g part p news old played over ok) (λ s x h. h.0) adds)
   where
-    to : (s : List ℕ) (x : OutcomeValue) → With (Before g p) p (outcome_after g news) s x → Through g p s x
+    to : (s : List ℕ) (x : OutcomeValue) → With (BeforeInPart g part p) p (outcome_after g news) s x
+        → ThroughInPart g part p s x
     to s x h =
         elim h [
           | inl b ↦ (inl b.0, b.1)
           | inr at ↦ (
             inr ([], at.0 ∙ sym (append-nil p)),
-            subst (λ (t : List ℕ). EndsWith g t x) (sym at.0)
-                (subst (EndsWith g p) (sym at.1) (complete g p news played over)),
+            subst (λ (t : List ℕ). EndsInPart g part t x) (sym at.0)
+                (subst (EndsWith g p) (sym at.1) (complete g p news played over), of),
           )
         ]
 
-    from : (s : List ℕ) (x : OutcomeValue) → Through g p s x → With (Before g p) p (outcome_after g news) s x
-    from s x h = elim h.0 [ inl b ↦ inl (b, h.1) | inr e ↦ inr (only_this g p news s x played over e h.1) ]
+    from : (s : List ℕ) (x : OutcomeValue) → ThroughInPart g part p s x
+        → With (BeforeInPart g part p) p (outcome_after g news) s x
+    from s x h =
+        elim h.0 [ inl b ↦ inl (b, h.1) | inr e ↦ inr (only_this g p news s x played over e h.1.0) ]
+
+-- or none more, where it is another part's
+pub walk_apart : (g : Setting) (part : PartValue) (p : List ℕ) (news : List Record) (ends : List Ending)
+    → plays g p ≡ Some news → ((cpu : ℕ) → next_call g cpu news ≡ None)
+    → (IsOfPart (length g.scripts) part p → ⊥)
+    → AreCounted (BeforeInPart g part (p ++ length g.scripts ∷ [])) ends
+    → AreCounted (ThroughInPart g part p) ends
+walk_apart g part p news ends played over apart ok =
+    same_counted (BeforeInPart g part p) (ThroughInPart g part p) ends (λ s x h. (inl h.0, h.1))
+    (λ s x h. (
+      elim h.0 [
+        | inl b ↦ b
+        | inr e ↦
+            absurd (apart (subst (λ (t : List ℕ). IsOfPart (length g.scripts) part t)
+            (only_this g p news s x played over e h.1.0).0 h.1.1))
+      ],
+      h.1,
+    ))
+    (walk_here g part p news ends played over ok)
 
 -- so there are more than those before a complete one
-pub walk_exceeds : (g : Setting) (p : List ℕ) (ends : List Ending) (limit : ℕ) → IsComplete g p
-    → AreCounted (Before g p) ends → sum_by (λ (e : Ending). e.count) ends ≡ limit
-    → HasMoreThan (IsComplete g) limit
-walk_exceeds g p ends limit next ok sum =
-    subst (HasMoreThan (IsComplete g)) sum
-    (more_than (λ s. (x : OutcomeValue) × Before g p s x) (IsComplete g)
+pub walk_exceeds : (g : Setting) (part : PartValue) (p : List ℕ) (ends : List Ending) (limit : ℕ)
+    → IsCompleteInPart g part p → AreCounted (BeforeInPart g part p) ends
+    → sum_by (λ (e : Ending). e.count) ends ≡ limit → HasMoreThan (IsCompleteInPart g part) limit
+walk_exceeds g part p ends limit next ok sum =
+    subst (HasMoreThan (IsCompleteInPart g part)) sum
+    (more_than (λ s. (x : OutcomeValue) × BeforeInPart g part p s x) (IsCompleteInPart g part)
     (sum_by (λ (e : Ending). e.count) ends) p (λ h. not_before_itself p h.1.0) (λ s h. (h.0, h.1.1)) next
     ok.total)
 

@@ -8,16 +8,17 @@ use Rattle.hp_units.specs.declared.events.Event.{Event}
 use Rattle.hp_units.specs.declared.replies.Record.{Record}
 use Rattle.hp_explore.specs.Alike.{AreAlike, UndoNothing}
 use Rattle.hp_explore.specs.Ends.{AreCounted, AreInOrder}
-use Rattle.hp_explore.specs.Faults.{FillsHistory, HasNoRoom, is_full_after}
+use Rattle.hp_explore.specs.Faults.{HasNoRoom, is_full_after}
 use Rattle.hp_explore.specs.Notes.{AddsEnd, AddsOne, IsNoted}
 use Rattle.hp_explore.specs.Orders.{Extends, IsBefore}
 use Rattle.hp_explore.specs.Outcomes.{OutcomeValue}
+use Rattle.hp_explore.specs.Parts.{ComesTo, FillsPart, NoneOfPart, PartValue}
 use Rattle.hp_explore.specs.Schedules.{Setting, next_call, play_one, plays, record_of_call}
 use Rattle.hp_explore.specs.Seen.{AddsCounts}
-use Rattle.hp_explore.specs.Walks.{Before, HasRoomBefore, HasRoomFrom, IsWalkedBefore, IsWalkedThrough, Through}
+use Rattle.hp_explore.specs.Walks.{BeforeInPart, HasPartRoomBefore, HasPartRoomFrom, HasRoomFrom, IsPartWalkedBefore, IsPartWalkedThrough, ThroughInPart}
 use Rattle.hp_explore.specs.declared.tally.Ending.{Ending}
 use Rattle.hp_explore.proofs.Alike.{PlaysAlike, all_calls, call_same, played_alike}
-use Rattle.hp_explore.proofs.Counts.{get_set_cases}
+use Rattle.hp_explore.proofs.Counts.{get_set_cases, same_counted}
 use Rattle.hp_explore.proofs.Merges.{turned}
 use Rattle.hp_explore.proofs.Plays.{asks_within, plays_on, plays_push, stops, walk_begins, walk_down, walk_over, walk_past}
 use Rattle.hp_explore.proofs.Regions.{before_first, before_longer, before_next, extends_before, extends_cons}
@@ -25,7 +26,7 @@ use Rattle.hp_explore.proofs.Regions.{before_first, before_longer, before_next, 
 -- ---- one call
 
 -- a schedule with one call more is another, or goes on from it before that call
-push_extends : (s q rest : List ℕ) (c : ℕ) → s ++ c ∷ [] ≡ q ++ rest → (s ++ c ∷ [] ≡ q) ⊎ Extends s q
+pub push_extends : (s q rest : List ℕ) (c : ℕ) → s ++ c ∷ [] ≡ q ++ rest → (s ++ c ∷ [] ≡ q) ⊎ Extends s q
 push_extends s [] rest c is = inr (s, refl)
 push_extends [] (d ∷ []) rest c is = inl (let same : c ≡ d = cc in ap (λ (n : ℕ). n ∷ []) same)
 push_extends [] (d ∷ e ∷ q) rest c is = absurd cc
@@ -38,7 +39,7 @@ push_extends (a ∷ s) (d ∷ q) rest c is =
     ]
 
 -- a call that is made leaves none that has no room there
-was_room : (g : Setting) (p : List ℕ) (news : List Record) (s : List ℕ) → plays g p ≡ Some news
+pub was_room : (g : Setting) (p : List ℕ) (news : List Record) (s : List ℕ) → plays g p ≡ Some news
     → is_full_after g news ≡ false → s ≡ p → HasNoRoom g s → ⊥
 was_room g p news s played room same h =
     let news_same : h.news ≡ news = same_Some h.news news (sym h.played ∙ (ap (plays g) same ∙ played)) in
@@ -55,13 +56,13 @@ none_over g p news cpu s h played over on =
     ∙ plays_push g s h.news h.cpu h.event h.played h.asked)
 
 -- those of a place stand before the turn after all processors
-room_from : (g : Setting) (p : List ℕ) (news : List Record) → plays g p ≡ Some news
-    → HasRoomBefore g (p ++ length g.scripts ∷ []) → HasRoomFrom g p
-room_from g p news played room s h on = by_rest on.0 on.1
+room_from : (g : Setting) (part : PartValue) (p : List ℕ) (news : List Record) → plays g p ≡ Some news
+    → HasPartRoomBefore g part (p ++ length g.scripts ∷ []) → HasPartRoomFrom g part p
+room_from g part p news played room s h comes on = by_rest on.0 on.1
   where
     here : s ≡ p → ⊥
     here is =
-        room s h (extends_before (s ++ h.cpu ∷ []) p h.cpu (length g.scripts)
+        room s h comes (extends_before (s ++ h.cpu ∷ []) p h.cpu (length g.scripts)
         (asks_within g h.news h.cpu h.event h.asked)
         ([], ap (λ (t : List ℕ). t ++ h.cpu ∷ []) is ∙ sym (append-nil (p ++ h.cpu ∷ []))))
 
@@ -69,7 +70,8 @@ room_from g p news played room s h on = by_rest on.0 on.1
     by_next c rest is None over =
         none-some h.news (sym (ap (plays g) is ∙ stops g p rest news c played over) ∙ h.played)
     by_next c rest is (Some e) asks =
-        room s h (extends_before (s ++ h.cpu ∷ []) p c (length g.scripts) (asks_within g news c e asks) (
+        room s h comes
+        (extends_before (s ++ h.cpu ∷ []) p c (length g.scripts) (asks_within g news c e asks) (
           rest ++ h.cpu ∷ [],
           ap (λ (t : List ℕ). t ++ h.cpu ∷ []) is
               ∙ (append_assoc p (c ∷ rest) (h.cpu ∷ []) ∙ sym (append_assoc p (c ∷ []) (rest ++ h.cpu ∷ []))),
@@ -81,56 +83,74 @@ room_from g p news played room s h on = by_rest on.0 on.1
 
 -- ---- the turns
 
-pub done_begins : (g : Setting) → IsWalkedBefore g [] []
-done_begins g = record {
-  counted = walk_begins g;
+pub done_begins : (g : Setting) (part : PartValue) → IsPartWalkedBefore g part [] []
+done_begins g part = record {
+  counted = walk_begins g part;
   ordered = λ i j e f less h k. absurd cc;
-  room = λ s h b. b;
+  room = λ s h comes b. b;
 }
 
-pub done_down : (g : Setting) (p : List ℕ) (ends : List Ending) → IsWalkedBefore g p ends
-    → IsWalkedBefore g (p ++ 0 ∷ []) ends
-done_down g p ends w = record {
-  counted = walk_down g p ends w.counted;
+pub done_down : (g : Setting) (part : PartValue) (p : List ℕ) (ends : List Ending)
+    → IsPartWalkedBefore g part p ends → IsPartWalkedBefore g part (p ++ 0 ∷ []) ends
+done_down g part p ends w = record {
+  counted = walk_down g part p ends w.counted;
   ordered = w.ordered;
-  room = λ s h b. w.room s h (before_first (s ++ h.cpu ∷ []) p b);
+  room = λ s h comes b. w.room s h comes (before_first (s ++ h.cpu ∷ []) p b);
 }
 
-pub done_over : (g : Setting) (p : List ℕ) (news : List Record) (cpu : ℕ) (ends : List Ending)
-    → plays g p ≡ Some news → next_call g cpu news ≡ None → IsWalkedBefore g (p ++ cpu ∷ []) ends
-    → IsWalkedBefore g (p ++ (cpu + 1) ∷ []) ends
-done_over g p news cpu ends played over w = record {
-  counted = walk_over g p news cpu ends played over w.counted;
-  ordered = w.ordered;
-  room =
-      λ s h b. elim (before_next (s ++ h.cpu ∷ []) p cpu b)
-      [ inl l ↦ w.room s h l | inr e ↦ none_over g p news cpu s h played over e ];
-}
-
-pub done_past : (g : Setting) (p : List ℕ) (news : List Record) (cpu : ℕ) (ends : List Ending)
-    → plays g p ≡ Some news → is_full_after g news ≡ false → IsWalkedThrough g (p ++ cpu ∷ []) ends
-    → IsWalkedBefore g (p ++ (cpu + 1) ∷ []) ends
-done_past g p news cpu ends played roomy w = record {
-  counted = walk_past g p cpu ends w.counted;
+pub done_over : (g : Setting) (part : PartValue) (p : List ℕ) (news : List Record) (cpu : ℕ)
+    (ends : List Ending)
+    → plays g p ≡ Some news → next_call g cpu news ≡ None → IsPartWalkedBefore g part (p ++ cpu ∷ []) ends
+    → IsPartWalkedBefore g part (p ++ (cpu + 1) ∷ []) ends
+done_over g part p news cpu ends played over w = record {
+  counted = walk_over g part p news cpu ends played over w.counted;
   ordered = w.ordered;
   room =
-      λ s h b. elim (before_next (s ++ h.cpu ∷ []) p cpu b)
-      [ inl l ↦ w.room s h l | inr e ↦ by_place s h (push_extends s (p ++ cpu ∷ []) e.0 h.cpu e.1) ];
+      λ s h comes b. elim (before_next (s ++ h.cpu ∷ []) p cpu b)
+      [ inl l ↦ w.room s h comes l | inr e ↦ none_over g p news cpu s h played over e ];
+}
+
+pub done_past : (g : Setting) (part : PartValue) (p : List ℕ) (news : List Record) (cpu : ℕ)
+    (ends : List Ending)
+    → plays g p ≡ Some news → is_full_after g news ≡ false → IsPartWalkedThrough g part (p ++ cpu ∷ []) ends
+    → IsPartWalkedBefore g part (p ++ (cpu + 1) ∷ []) ends
+done_past g part p news cpu ends played roomy w = record {
+  counted = walk_past g part p cpu ends w.counted;
+  ordered = w.ordered;
+  room =
+      λ s h comes b. elim (before_next (s ++ h.cpu ∷ []) p cpu b) [
+        | inl l ↦ w.room s h comes l
+        | inr e ↦ by_place s h comes (push_extends s (p ++ cpu ∷ []) e.0 h.cpu e.1)
+      ];
 }
   where
-    by_place : (s : List ℕ) (h : HasNoRoom g s)
+    by_place : (s : List ℕ) (h : HasNoRoom g s) → ComesTo (length g.scripts) part s
         → (s ++ h.cpu ∷ [] ≡ p ++ cpu ∷ []) ⊎ Extends s (p ++ cpu ∷ []) → ⊥
-    by_place s h (inl same) = was_room g p news s played roomy (same_from_push s p h.cpu cpu same).0 h
-    by_place s h (inr on) = w.onward s h on
+    by_place s h comes (inl same) =
+        was_room g p news s played roomy (same_from_push s p h.cpu cpu same).0 h
+    by_place s h comes (inr on) = w.onward s h comes on
 
-pub done_up : (g : Setting) (p : List ℕ) (news : List Record) (old new : List Ending) → plays g p ≡ Some news
-    → IsWalkedBefore g (p ++ length g.scripts ∷ []) old
-    → AreCounted (Through g p) new → AreInOrder new → IsWalkedThrough g p new
-done_up g p news old new played w counted ordered = record {
+pub done_up : (g : Setting) (part : PartValue) (p : List ℕ) (news : List Record) (old new : List Ending)
+    → plays g p ≡ Some news → IsPartWalkedBefore g part (p ++ length g.scripts ∷ []) old
+    → AreCounted (ThroughInPart g part p) new → AreInOrder new → IsPartWalkedThrough g part p new
+done_up g part p news old new played w counted ordered = record {
   counted = counted;
   ordered = ordered;
-  room = λ s h b. w.room s h (before_longer (s ++ h.cpu ∷ []) p (length g.scripts ∷ []) b);
-  onward = room_from g p news played w.room;
+  room = λ s h comes b. w.room s h comes (before_longer (s ++ h.cpu ∷ []) p (length g.scripts ∷ []) b);
+  onward = room_from g part p news played w.room;
+}
+
+-- a place from which no schedule of the part goes on
+pub done_apart : (g : Setting) (part : PartValue) (p : List ℕ) (ends : List Ending)
+    → NoneOfPart (length g.scripts) part p → IsPartWalkedBefore g part p ends
+    → IsPartWalkedThrough g part p ends
+done_apart g part p ends none w = record {
+  counted =
+      same_counted (BeforeInPart g part p) (ThroughInPart g part p) ends (λ s x h. (inl h.0, h.1))
+      (λ s x h. (elim h.0 [ inl b ↦ b | inr e ↦ absurd (none s e (inr h.1.1)) ], h.1)) w.counted;
+  ordered = w.ordered;
+  room = w.room;
+  onward = λ s h comes on. none s on comes;
 }
 
 -- ---- the order of the ends
@@ -177,9 +197,9 @@ ordered_again old new x ordered adds = subst AreInOrder (sym adds.new_is) (order
         by_place (inr there) = (f, there.1, refl)
 
 -- or under one of its own, after all that stand before it
-ordered_end : (g : Setting) (p : List ℕ) (old new : List Ending) (x : OutcomeValue) → AreInOrder old
-    → AreCounted (Before g p) old → AddsEnd old x p new → AreInOrder new
-ordered_end g p old new x ordered counted adds =
+ordered_end : (g : Setting) (part : PartValue) (p : List ℕ) (old new : List Ending) (x : OutcomeValue)
+    → AreInOrder old → AreCounted (BeforeInPart g part p) old → AddsEnd old x p new → AreInOrder new
+ordered_end g part p old new x ordered counted adds =
     subst AreInOrder (sym adds.new_is) (λ i j e f less h k.
     by_places i j e f less (get_push_cases old adds.entry e i h) (get_push_cases old adds.entry f j k))
   where
@@ -195,12 +215,12 @@ ordered_end g p old new x ordered counted adds =
         absurd (let l = slice_get_within old j f k in omega (arith, l, less, h.0))
     by_places i j e f less (inr h) (inr k) = absurd (omega (arith, less, h.0, k.0))
 
-pub ordered_noted : (g : Setting) (p : List ℕ) (old new : List Ending) (x : OutcomeValue) → AreInOrder old
-    → AreCounted (Before g p) old → IsNoted old x p new → AreInOrder new
-ordered_noted g p old new x ordered counted noted =
+pub ordered_noted : (g : Setting) (part : PartValue) (p : List ℕ) (old new : List Ending) (x : OutcomeValue)
+    → AreInOrder old → AreCounted (BeforeInPart g part p) old → IsNoted old x p new → AreInOrder new
+ordered_noted g part p old new x ordered counted noted =
     elim noted [
       | inl one ↦ ordered_again old new x ordered one
-      | inr first ↦ ordered_end g p old new x ordered counted first
+      | inr first ↦ ordered_end g part p old new x ordered counted first
     ]
 
 -- ---- a place that goes on like another
@@ -231,5 +251,6 @@ room_alike g p q h k all first second alike room s full on = room (p ++ on.0) mo
 
 -- ---- all
 
-pub none_fills : (g : Setting) (ends : List Ending) → IsWalkedThrough g [] ends → FillsHistory g → ⊥
-none_fills g ends w fills = w.onward fills.0 fills.1 (fills.0, refl)
+pub none_fills : (g : Setting) (part : PartValue) (ends : List Ending) → IsPartWalkedThrough g part [] ends
+    → FillsPart g part → ⊥
+none_fills g part ends w fills = w.onward fills.0 fills.1 fills.2 (fills.0, refl)

@@ -1,11 +1,11 @@
 -- A turn is what the schedule makes of the call, and has a way back.
-use Rattle.std.proofs.Common.{◌≡◌, ℕ, ◌+◌, false, true, [], ◌∷◌, ◌++◌, length, Some, ap, sym, subst, ◌∙◌}
+use Rattle.std.proofs.Common.{◌≡◌, ℕ, ◌+◌, false, [], ◌∷◌, ◌++◌, length, Some, ap, sym, subst, ◌∙◌}
 use Rattle.std.proofs.lemmas.Option.{same_Some}
 use Rattle.hp_units.specs.History.{effect_of}
 use Rattle.hp_units.specs.declared.events.Event.{Event}
 use Rattle.hp_units.specs.declared.replies.Record.{Record}
 use Rattle.hp_steps.specs.Steps.{IsLater, IsStepped, StepsValue, record_of_step}
-use Rattle.hp_explore.specs.Faults.{FillsHistory, is_full_after}
+use Rattle.hp_explore.specs.Faults.{is_full_after}
 use Rattle.hp_explore.specs.Paths.{IsTurned, IsWayOver}
 use Rattle.hp_explore.specs.Schedules.{Setting, next_call, plays, record_of_call, schedule_of}
 use Rattle.hp_explore.specs.Walks.{IsAt, LeadsTo, may_go_back}
@@ -44,11 +44,3 @@ turned_kept g p n now cpu event way here asked leads room over now_is =
         same_Some n.records (p.records ++ record_of_call g p.records cpu event ∷ [])
         (sym leads.0.played ∙ (ap (plays g) leads.1
         ∙ plays_push g (schedule_of p.records) p.records cpu event here.played asked))
-
--- where there is no room for it the history is full
-pub turned_full : (g : Setting) (p : StepsValue) (cpu : ℕ) (event : Event) → IsAt g p
-    → next_call g cpu p.records ≡ Some event → is_full_after g p.records ≡ true → FillsHistory g
-turned_full g p cpu event here asked full = (
-  schedule_of p.records,
-  record { news = p.records; cpu = cpu; event = event; played = here.played; asked = asked; full = full },
-)

@@ -1,83 +1,74 @@
 -- What a turn of the walk leaves, by what the path did.
-use Rattle.std.proofs.Common.{◌≡◌, ℕ, ◌+◌, ◌<◌, ◌≤◌, Bool, true, false, List, [], ◌∷◌, ◌++◌, length, reverse, Option, Some, None, refl, ap, sym, subst, ◌∙◌, arith, inl, inr}
-use Rattle.std.specs.Prelude.{◌||◌, nat_le, option_map}
+use Rattle.std.proofs.Common.{◌≡◌, ℕ, ◌+◌, ◌<◌, ◌≤◌, Bool, true, false, List, [], ◌∷◌, ◌++◌, length, Option, Some, None, refl, ap, sym, subst, ◌∙◌, arith, inl, inr}
+use Rattle.std.specs.Prelude.{◌||◌, nat_le}
 use Rattle.std.proofs.lemmas.Bool.{cases_lt, le-leb}
 use Rattle.std.proofs.lemmas.List.{length-append, length_push}
 use Rattle.hp_units.specs.declared.replies.Record.{Record}
 use Rattle.hp_units.specs.History.{effect_of}
-use Rattle.hp_units.specs.Memory.{Memory}
 use Rattle.hp_units.specs.declared.events.Event.{Event}
 use Rattle.hp_explore.specs.Alike.{leaves_steps}
 use Rattle.hp_explore.specs.Faults.{is_full_after}
-use Rattle.hp_explore.specs.Frames.{AreBelow, AreWalked, IsFrame, kept_of, path_of}
-use Rattle.hp_explore.specs.Numbers.{AreNumbered, IsStateAt}
+use Rattle.hp_explore.specs.Frames.{AreBelow, AreWalked, path_of}
+use Rattle.hp_explore.specs.Parts.{IsOn, PartValue}
 use Rattle.hp_explore.specs.Paths.{IsBack, IsForth, PathValue}
 use Rattle.hp_explore.specs.Schedules.{Setting, plays, record_of_call, schedule_of}
-use Rattle.hp_explore.specs.Seen.{Grow, IsMemo, MemoValue}
-use Rattle.hp_explore.specs.Walks.{IsWalkedBefore, IsWalkedThrough}
+use Rattle.hp_explore.specs.Seen.{Grow, IsMemo, IsOnWay, MemoValue}
+use Rattle.hp_explore.specs.Walks.{IsPartWalkedBefore, IsPartWalkedThrough}
 use Rattle.hp_explore.specs.declared.frames.Frame.{Frame}
-use Rattle.hp_explore.specs.declared.frames.Kept.{Kept}
 use Rattle.hp_explore.proofs.Alike.{call_leaves, event_kept}
 use Rattle.hp_explore.specs.declared.tally.Ending.{Ending}
 use Rattle.hp_explore.proofs.Framing.{back_setting, back_shorter, walk_back, walk_leads, walk_passes}
 
 -- a processor asked for nothing
-pub passed_on : (p q : PathValue) (ends : List Ending) (frame later : Frame) (frames all : List Frame)
+pub passed_on : (p q : PathValue) (part : PartValue) (ends : List Ending) (frame later : Frame)
+    (frames all : List Frame)
     → plays p.setting (schedule_of p.news) ≡ Some p.news → IsForth p frame.next false q
     → frame.next < length p.setting.scripts → later ≡ record frame { next = frame.next + 1 }
-    → all ≡ later ∷ frames → AreWalked p.setting ends p.news (frame ∷ frames)
-    → AreWalked q.setting ends q.news all
-passed_on p q ends frame later frames all played forth less is all_is w =
-    subst (λ (x : PathValue). AreWalked x.setting ends x.news all) (sym forth.1)
-    (subst (AreWalked p.setting ends p.news) (sym (all_is ∙ ap (λ (f : Frame). f ∷ frames) is))
-    (walk_passes p.setting ends p.news frame frames played forth.0 less w))
+    → all ≡ later ∷ frames → AreWalked p.setting part ends p.news (frame ∷ frames)
+    → AreWalked q.setting part ends q.news all
+passed_on p q part ends frame later frames all played forth less is all_is w =
+    subst (λ (x : PathValue). AreWalked x.setting part ends x.news all) (sym forth.1)
+    (subst (AreWalked p.setting part ends p.news) (sym (all_is ∙ ap (λ (f : Frame). f ∷ frames) is))
+    (walk_passes p.setting part ends p.news frame frames played forth.0 less w))
 
 -- a processor made its call
-pub led_on : (p q : PathValue) (ends : List Ending) (frame later : Frame) (frames all : List Frame)
+pub led_on : (p q : PathValue) (part : PartValue) (ends : List Ending) (frame later : Frame)
+    (frames all : List Frame)
     → plays p.setting (schedule_of p.news) ≡ Some p.news → IsForth p frame.next true q
     → frame.next < length p.setting.scripts
     → later ≡ record frame { next = frame.next + 1; is_over = false }
-    → all ≡ later ∷ frames → AreWalked p.setting ends p.news (frame ∷ frames)
-    → IsWalkedBefore q.setting (schedule_of q.news) ends × AreBelow q.setting ends q.news all
-led_on p q ends frame later frames all played forth less is all_is w =
-    subst (λ (x : PathValue).
-    IsWalkedBefore x.setting (schedule_of x.news) ends × AreBelow x.setting ends x.news all)
+    → all ≡ later ∷ frames → AreWalked p.setting part ends p.news (frame ∷ frames)
+    → IsPartWalkedBefore q.setting part (schedule_of q.news) ends
+    × IsOn (length q.setting.scripts) part (schedule_of q.news) × AreBelow q.setting part ends q.news all
+led_on p q part ends frame later frames all played forth less is all_is w =
+    subst (λ (x : PathValue). IsPartWalkedBefore x.setting part (schedule_of x.news) ends
+    × IsOn (length x.setting.scripts) part (schedule_of x.news) × AreBelow x.setting part ends x.news all)
     (sym forth.3)
-    (subst (λ (fs : List Frame). IsWalkedBefore p.setting (schedule_of longer) ends
-    × AreBelow p.setting ends longer fs)
+    (subst (λ (fs : List Frame). IsPartWalkedBefore p.setting part (schedule_of longer) ends
+    × IsOn (length p.setting.scripts) part (schedule_of longer) × AreBelow p.setting part ends longer fs)
     (sym (all_is ∙ ap (λ (f : Frame). f ∷ frames) is))
-    (walk_leads p.setting ends p.news longer frame frames forth.0 played forth.1 forth.2 less refl w))
+    (walk_leads p.setting part ends p.news longer frame frames forth.0 played forth.1 forth.2 less refl w))
   where
     longer : List Record
     longer = p.news ++ record_of_call p.setting p.news frame.next forth.0 ∷ []
 
--- what Cancels can take back after it
-pub numbered_on : (p q : PathValue) (cpu : ℕ) (latest : Record) (memo later : MemoValue) (frame : Frame)
-    (ends : List Ending) (from : Option Memory)
-    → IsForth p cpu true q → IsMemo p.setting ends memo → IsFrame p.setting p.news ends frame
-    → from ≡ option_map (λ (k : Kept). k.snapshot) (kept_of frame)
+-- where it leads to, in numbers
+pub way_on : (p q : PathValue) (cpu : ℕ) (latest : Record) (memo later : MemoValue) (ends : List Ending)
+    → IsForth p cpu true q → IsMemo p.setting ends memo
     → ((before : List Record) (r : Record) → q.news ≡ before ++ r ∷ [] → latest ≡ r)
-    → AreNumbered p.setting memo.lists p.news (reverse memo.numbers)
-    → ((g : Setting) (news : List Record) → AreNumbered g memo.lists news (reverse memo.numbers)
-    → IsStateAt g news from → (memo.is_on ≡ true → leaves_steps (effect_of latest.event) ≡ true)
-    → AreNumbered g later.lists (news ++ latest ∷ []) (reverse later.numbers))
-    → AreNumbered q.setting later.lists q.news (reverse later.numbers)
-numbered_on p q cpu latest memo later frame ends from forth kept is from_is last numbered on =
-    subst (λ (x : PathValue). AreNumbered x.setting later.lists x.news (reverse later.numbers))
+    → IsOnWay p.setting p.news memo
+    → ((g : Setting) (news : List Record) → IsOnWay g news memo
+    → (memo.is_on ≡ true → leaves_steps (effect_of latest.event) ≡ true)
+    → IsOnWay g (news ++ latest ∷ []) later)
+    → IsOnWay q.setting q.news later
+way_on p q cpu latest memo later ends forth kept last way on =
+    subst (λ (x : PathValue). IsOnWay x.setting x.news later)
     (sym (forth.3 ∙ ap (λ (s : Record). path_of p.setting (p.news ++ s ∷ [])) (sym latest_is)))
-    (on p.setting p.news numbered state leaves)
+    (on p.setting p.news way leaves)
   where
     latest_is : latest ≡ record_of_call p.setting p.news cpu forth.0
     latest_is =
         last p.news (record_of_call p.setting p.news cpu forth.0) (ap (λ (x : PathValue). x.news) forth.3)
-
-    by_kept : (o : Option Kept) → kept_of frame ≡ o
-        → IsStateAt p.setting p.news (option_map (λ (k : Kept). k.snapshot) o)
-    by_kept None there = tt
-    by_kept (Some k) there = (is.kept k there).memory
-
-    state : IsStateAt p.setting p.news from
-    state = subst (IsStateAt p.setting p.news) (sym from_is) (by_kept (kept_of frame) refl)
 
     leaves : memo.is_on ≡ true → leaves_steps (effect_of latest.event) ≡ true
     leaves set =
@@ -86,21 +77,17 @@ numbered_on p q cpu latest memo later frame ends from forth kept is from_is last
         (call_leaves p.setting p.news cpu forth.0 (kept.undo set) forth.1)
 
 -- and after a call was taken back
-pub numbers_taken : (p q : PathValue) (cpu : ℕ) (memo later : MemoValue) → IsBack p (Some cpu) q
-    → ((g : Setting) (news : List Record) (r : Record)
-    → AreNumbered g memo.lists (news ++ r ∷ []) (reverse memo.numbers)
-    → AreNumbered g later.lists news (reverse later.numbers))
-    → AreNumbered p.setting memo.lists p.news (reverse memo.numbers)
-    → AreNumbered q.setting later.lists q.news (reverse later.numbers)
-numbers_taken p q cpu memo later back led are =
-    led q.setting q.news back.0
-    (subst (λ (x : PathValue). AreNumbered x.setting memo.lists x.news (reverse memo.numbers)) back.2 are)
+pub way_taken : (p q : PathValue) (cpu : ℕ) (memo later : MemoValue) → IsBack p (Some cpu) q
+    → ((g : Setting) (news : List Record) (r : Record) → r.cpu ≡ cpu → IsOnWay g (news ++ r ∷ []) memo
+    → IsOnWay g news later)
+    → IsOnWay p.setting p.news memo → IsOnWay q.setting q.news later
+way_taken p q cpu memo later back led way =
+    led q.setting q.news back.0 back.1
+    (subst (λ (x : PathValue). IsOnWay x.setting x.news memo) back.2 way)
 
-pub numbers_stay : (p q : PathValue) (memo : MemoValue) → IsBack p None q
-    → AreNumbered p.setting memo.lists p.news (reverse memo.numbers)
-    → AreNumbered q.setting memo.lists q.news (reverse memo.numbers)
-numbers_stay p q memo back are =
-    subst (λ (x : PathValue). AreNumbered x.setting memo.lists x.news (reverse memo.numbers)) (sym back.1) are
+pub way_stays : (p q : PathValue) (memo : MemoValue) → IsBack p None q → IsOnWay p.setting p.news memo
+    → IsOnWay q.setting q.news memo
+way_stays p q memo back way = subst (λ (x : PathValue). IsOnWay x.setting x.news memo) (sym back.1) way
 
 -- the history has room for it
 has_room : (g : Setting) (news : List Record) → is_full_after g news ≡ false
@@ -143,17 +130,18 @@ forth_setting p q cpu true forth = ap (λ (x : PathValue). x.setting) forth.3
 forth_setting p q cpu false forth = ap (λ (x : PathValue). x.setting) forth.1
 
 -- a place is left
-pub gone_back : (g : Setting) (old ends : List Ending) (news : List Record) (frames all : List Frame)
-    (cpu : Option ℕ) (q : PathValue) (memo : MemoValue) (n : ℕ)
-    → all ≡ frames → Grow old ends → AreBelow g old news frames → IsWalkedThrough g (schedule_of news) ends
+pub gone_back : (g : Setting) (part : PartValue) (old ends : List Ending) (news : List Record)
+    (frames all : List Frame) (cpu : Option ℕ) (q : PathValue) (memo : MemoValue) (n : ℕ)
+    → all ≡ frames → Grow old ends → AreBelow g part old news frames
+    → IsPartWalkedThrough g part (schedule_of news) ends
     → IsBack (path_of g news) cpu q → IsMemo g ends memo → n ≡ length g.scripts
     → length news ≤ g.layout.history
-    → AreWalked q.setting ends q.news all × IsMemo q.setting ends memo × (n ≡ length q.setting.scripts)
+    → AreWalked q.setting part ends q.news all × IsMemo q.setting ends memo × (n ≡ length q.setting.scripts)
     × (length q.news ≤ q.setting.layout.history)
-gone_back g old ends news frames all cpu q memo n all_is grow below walked back kept many short = (
-  subst (λ (h : Setting). AreWalked h ends q.news all) (sym same)
-      (subst (AreWalked g ends q.news) (sym all_is)
-      (walk_back g old ends news frames cpu (path_of g news) q grow below walked refl back)),
+gone_back g part old ends news frames all cpu q memo n all_is grow below walked back kept many short = (
+  subst (λ (h : Setting). AreWalked h part ends q.news all) (sym same)
+      (subst (AreWalked g part ends q.news) (sym all_is)
+      (walk_back g part old ends news frames cpu (path_of g news) q grow below walked refl back)),
   subst (λ (h : Setting). IsMemo h ends memo) (sym same) kept,
   many ∙ ap (λ (h : Setting). length h.scripts) (sym same),
   subst (λ (h : Setting). length q.news ≤ h.layout.history) (sym same)

@@ -9,13 +9,16 @@ use Rattle.hp_machine.specs.Machine.{MachineValue}
 use Rattle.hp_explore.specs.declared.tally.Ending.{Ending}
 use Rattle.hp_explore.specs.Frames.{path_of, standing}
 use Rattle.hp_explore.specs.Faults.{FillsAlong, HasMoreThan}
-use Rattle.hp_explore.specs.Fronts.{AreFirst}
+use Rattle.hp_explore.specs.Fronts.{AreFirstInPart}
 use Rattle.hp_explore.specs.declared.scripts.Line.{Line}
-use Rattle.hp_explore.specs.Schedules.{IsComplete, Setting, next_call, outcome_after, plays, schedule_of, setting}
-use Rattle.hp_explore.specs.Walks.{FillsAt, IsEndNoted, IsFurther, IsOverBelow, IsPlayed, IsReached, IsWalkedBefore, IsWalkedThrough, news_in, place_of}
+use Rattle.hp_explore.specs.Parts.{IsCompleteInPart, IsOfPart, PartValue}
+use Rattle.hp_explore.specs.Schedules.{Setting, next_call, outcome_after, plays, schedule_of, setting}
+use Rattle.hp_explore.specs.Walks.{FillsAt, IsEndHere, IsEndNoted, IsFurther, IsNotedAtEnd, IsOverBelow, IsPartWalkedBefore, IsPartWalkedThrough, IsPlayed, IsReached, news_in, place_of}
 use Rattle.hp_laws.proofs.Replays.{take_one}
+use Rattle.hp_explore.specs.Seen.{Grow}
+use Rattle.hp_explore.proofs.Grown.{grow_none, grow_noted}
 use Rattle.hp_explore.proofs.Machines.{reached_start, start_place}
-use Rattle.hp_explore.proofs.Plays.{complete, over_all, stops, walk_exceeds, walk_here, walk_notes, walk_up}
+use Rattle.hp_explore.proofs.Plays.{complete, over_all, stops, walk_apart, walk_exceeds, walk_here, walk_notes, walk_up}
 use Rattle.hp_explore.proofs.Regions.{before_longer}
 use Rattle.hp_explore.proofs.Rooms.{done_up, ordered_noted}
 
@@ -32,70 +35,96 @@ over_next g news cpu true over before =
     same k less at = omega arith
 over_next g news cpu false over before = before
 
--- after the last of them, where one made a call
-pub walked : (g : Setting) (news : List Record) (n : ℕ) (is_over : Bool) (ends : List Ending)
-    → n ≡ length g.scripts → is_over ≡ false → plays g (schedule_of news) ≡ Some news
-    → IsWalkedBefore g (schedule_of news ++ n ∷ []) ends → IsOverBelow g news n is_over
-    → IsWalkedThrough g (schedule_of news) ends
-walked g news n is_over ends all some played done so_far =
-    let over : IsOverBelow g news n false = subst (IsOverBelow g news n) some so_far in
-    let before : IsWalkedBefore g (schedule_of news ++ length g.scripts ∷ []) ends =
-    subst (λ (k : ℕ). IsWalkedBefore g (schedule_of news ++ k ∷ []) ends) all done in
-    done_up g (schedule_of news) news ends ends played before
-    (walk_up g (schedule_of news) news over.0 over.1 ends played over.2 before.counted) before.ordered
+-- ---- after the last of them
 
--- no script asks for anything
-over_here : (g : Setting) (news : List Record) (n : ℕ) (is_over : Bool) → n ≡ length g.scripts
-    → is_over ≡ true → IsOverBelow g news n is_over → (k : ℕ) → next_call g k news ≡ None
-over_here g news n is_over all none over =
-    over_all g news
-    (subst (λ (k : ℕ). IsOverBelow g news k true) all (subst (IsOverBelow g news n) none over))
+-- whether a schedule of a part ends there
+pub end_here : (g : Setting) (part : PartValue) (news : List Record) (n : ℕ) (is_over is_of : Bool)
+    → n ≡ length g.scripts → is_over ≡ true → IsOverBelow g news n is_over
+    → (is_of ≡ true → IsOfPart n part (schedule_of news))
+    → (IsOfPart n part (schedule_of news) → is_of ≡ true) → IsEndHere g part news is_of
+end_here g part news n is_over true all none over of from = (
+  subst (λ (k : ℕ). IsOverBelow g news k true) all (subst (IsOverBelow g news n) none over),
+  subst (λ (k : ℕ). IsOfPart k part (schedule_of news)) all (of refl),
+)
+end_here g part news n is_over false all none over of from =
+    inr (
+      subst (λ (k : ℕ). IsOverBelow g news k true) all (subst (IsOverBelow g news n) none over),
+      λ apart.
+          let told : false ≡ true =
+          from (subst (λ (k : ℕ). IsOfPart k part (schedule_of news)) (sym all) apart) in
+          cc,
+    )
 
--- where all scripts are at their ends
-pub leaf : (g : Setting) (news : List Record) (n : ℕ) (is_over : Bool) (ends new : List Ending)
-    → n ≡ length g.scripts → is_over ≡ true → plays g (schedule_of news) ≡ Some news
-    → IsWalkedBefore g (schedule_of news ++ n ∷ []) ends → IsOverBelow g news n is_over
-    → IsEndNoted n (standing (path_of g news)) ends new → IsWalkedThrough g (schedule_of news) new
+pub no_end_here : (g : Setting) (part : PartValue) (news : List Record) (n : ℕ) (is_over : Bool)
+    → n ≡ length g.scripts → is_over ≡ false → IsOverBelow g news n is_over → IsEndHere g part news false
+no_end_here g part news n is_over all some over =
+    inl (subst (λ (k : ℕ). IsOverBelow g news k false) all (subst (IsOverBelow g news n) some over))
+
+-- all that go on from there were walked, once it is noted
+pub walked_on : (g : Setting) (part : PartValue) (news : List Record) (n : ℕ) (is_end : Bool)
+    (ends new : List Ending)
+    → n ≡ length g.scripts → plays g (schedule_of news) ≡ Some news → IsEndHere g part news is_end
+    → IsPartWalkedBefore g part (schedule_of news ++ n ∷ []) ends
+    → IsNotedAtEnd is_end n (standing (path_of g news)) ends new
+    → IsPartWalkedThrough g part (schedule_of news) new
 unfolding outcome_after
-leaf g news n is_over ends new all none played done over adds =
-    let before : IsWalkedBefore g (schedule_of news ++ length g.scripts ∷ []) ends =
-    subst (λ (k : ℕ). IsWalkedBefore g (schedule_of news ++ k ∷ []) ends) all done in
+walked_on g part news n true ends new all played end done adds =
+    let before : IsPartWalkedBefore g part (schedule_of news ++ length g.scripts ∷ []) ends =
+    subst (λ (k : ℕ). IsPartWalkedBefore g part (schedule_of news ++ k ∷ []) ends) all done in
     let noted : IsEndNoted (length g.scripts) (standing (path_of g news)) ends new =
     subst (λ (k : ℕ). IsEndNoted k (standing (path_of g news)) ends new) all adds in
-    done_up g (schedule_of news) news ends new played before
-    (walk_notes g (schedule_of news) news ends new played (over_here g news n is_over all none over)
-    before.counted noted)
-    (ordered_noted g (schedule_of news) ends new _ before.ordered
-    (walk_here g (schedule_of news) news ends played (over_here g news n is_over all none over)
-    before.counted) noted)
+    done_up g part (schedule_of news) news ends new played before
+    (walk_notes g part (schedule_of news) news ends new played (over_all g news end.0) end.1 before.counted
+    noted)
+    (ordered_noted g part (schedule_of news) ends new _ before.ordered
+    (walk_here g part (schedule_of news) news ends played (over_all g news end.0) before.counted) noted)
+walked_on g part news n false ends new all played end done same =
+    let before : IsPartWalkedBefore g part (schedule_of news ++ length g.scripts ∷ []) ends =
+    subst (λ (k : ℕ). IsPartWalkedBefore g part (schedule_of news ++ k ∷ []) ends) all done in
+    subst (IsPartWalkedThrough g part (schedule_of news)) (sym same)
+    (elim end [
+      | inl asks ↦ done_up g part (schedule_of news) news ends ends played before
+          (walk_up g part (schedule_of news) news asks.0 asks.1 ends played asks.2 before.counted)
+          before.ordered
+      | inr apart ↦ done_up g part (schedule_of news) news ends ends played before
+          (walk_apart g part (schedule_of news) news ends played (over_all g news apart.0) apart.1
+          before.counted) before.ordered
+    ])
+
+pub noted_grows : (n : ℕ) (news : List Record) (g : Setting) (is_end : Bool) (ends new : List Ending)
+    → IsNotedAtEnd is_end n (standing (path_of g news)) ends new → Grow ends new
+noted_grows n news g true ends new adds = grow_noted ends new _ _ adds
+noted_grows n news g false ends new same = subst (Grow ends) (sym same) (grow_none ends)
 
 -- which are as many as the limit
-pub full_here : (g : Setting) (news : List Record) (n : ℕ) (is_over : Bool) (ends : List Ending) (limit : ℕ)
-    → n ≡ length g.scripts → is_over ≡ true → plays g (schedule_of news) ≡ Some news
-    → IsWalkedBefore g (schedule_of news ++ n ∷ []) ends → IsOverBelow g news n is_over
-    → sum_by (λ (e : Ending). e.count) ends ≡ limit → AreFirst g limit ends
-full_here g news n is_over ends limit all none played done over sum =
-    let before : IsWalkedBefore g (schedule_of news ++ length g.scripts ∷ []) ends =
-    subst (λ (k : ℕ). IsWalkedBefore g (schedule_of news ++ k ∷ []) ends) all done in
-    let ended = over_here g news n is_over all none over in
+pub full_here : (g : Setting) (part : PartValue) (news : List Record) (n : ℕ) (is_end : Bool)
+    (ends : List Ending) (limit : ℕ)
+    → n ≡ length g.scripts → is_end ≡ true → plays g (schedule_of news) ≡ Some news
+    → IsPartWalkedBefore g part (schedule_of news ++ n ∷ []) ends → IsEndHere g part news is_end
+    → sum_by (λ (e : Ending). e.count) ends ≡ limit → AreFirstInPart g part limit ends
+full_here g part news n false ends limit all here played done end sum = absurd cc
+full_here g part news n true ends limit all here played done end sum =
+    let before : IsPartWalkedBefore g part (schedule_of news ++ length g.scripts ∷ []) ends =
+    subst (λ (k : ℕ). IsPartWalkedBefore g part (schedule_of news ++ k ∷ []) ends) all done in
+    let ended = over_all g news end.0 in
     record {
       place = schedule_of news;
-      next = (outcome_after g news, complete g (schedule_of news) news played ended);
+      next = (outcome_after g news, (complete g (schedule_of news) news played ended, end.1));
       walked = record {
-        counted = walk_here g (schedule_of news) news ends played ended before.counted;
+        counted = walk_here g part (schedule_of news) news ends played ended before.counted;
         ordered = before.ordered;
         room =
-            λ s h b. before.room s h
+            λ s h comes b. before.room s h comes
             (before_longer (s ++ h.cpu ∷ []) (schedule_of news) (length g.scripts ∷ []) b);
       };
       full = sum;
     }
 
 -- so there is a further one
-pub first_exceed : (g : Setting) (limit : ℕ) (ends : List Ending) → AreFirst g limit ends
-    → HasMoreThan (IsComplete g) limit
-first_exceed g limit ends first =
-    walk_exceeds g first.place ends limit first.next first.walked.counted first.full
+pub first_exceed : (g : Setting) (part : PartValue) (limit : ℕ) (ends : List Ending)
+    → AreFirstInPart g part limit ends → HasMoreThan (IsCompleteInPart g part) limit
+first_exceed g part limit ends first =
+    walk_exceeds g part first.place ends limit first.next first.walked.counted first.full
 
 -- ---- one schedule
 

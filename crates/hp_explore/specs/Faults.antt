@@ -37,6 +37,16 @@ FillsHistory g = (s : List ℕ) × HasNoRoom g s
 abbrev pub FillsAlong : Setting → List ℕ → Type 0
 FillsAlong g schedule = (s : List ℕ) × (h : HasNoRoom g s) × Extends schedule (s ++ h.cpu ∷ [])
 
+-- the history has no room for the call that a processor has to make after new records
+abbrev pub FillsHere : Setting → List Record → (cpu : ℕ) → Type 0
+FillsHere g news cpu =
+    (event : Event) × (next_call g cpu news ≡ Some event) × (is_full_after g news ≡ true)
+
+-- the cause of a fault of that call
+abbrev pub IsCauseHere : Setting → List Record → (cpu : ℕ) → ExploreFault → Type 0
+IsCauseHere g news cpu HistoryFull = FillsHere g news cpu
+IsCauseHere g news cpu OutOfMemory = Unit {0}
+
 -- the cause of a fault
 abbrev pub IsCause : Setting → ExploreFault → Type 0
 IsCause g HistoryFull = FillsHistory g

@@ -1,19 +1,17 @@
 -- The stack of a walk: what it knows of each place between where the scripts begin and where it stands.
 use Rattle.std.specs.Prelude.{◌≡◌, ℕ, ◌+◌, ◌-◌, ◌*◌, ◌^◌, ◌<◌, ◌≤◌, Bool, true, false, List, [], ◌∷◌, ◌++◌, Option, None, Some, length, map, option_map, reverse, Box}
 use Rattle.std.specs.declared.alloc.Global.{Global}
-use Rattle.hp_units.specs.History.{value_of}
-use Rattle.hp_units.specs.Memory.{Memory}
 use Rattle.hp_units.specs.declared.events.Event.{Event}
 use Rattle.hp_units.specs.declared.replies.Record.{Record}
 use Rattle.hp_steps.specs.Steps.{StepsValue}
 use Rattle.hp_explore.specs.Ends.{AreCounted}
 use Rattle.hp_explore.specs.Faults.{is_full_after}
-use Rattle.hp_explore.specs.Numbers.{AreNumbered}
+use Rattle.hp_explore.specs.Parts.{AllOfPart, ComesTo, IsOn, PartValue}
 use Rattle.hp_explore.specs.Paths.{PathValue, state_at}
 use Rattle.hp_explore.specs.Schedules.{Setting, next_call, plays, schedule_of}
-use Rattle.hp_explore.specs.Fronts.{AreFirst}
-use Rattle.hp_explore.specs.Seen.{AddsCounts, Grow, IsMemo}
-use Rattle.hp_explore.specs.Walks.{Before, IsOverBelow, IsWalkedBefore, IsWalkedThrough}
+use Rattle.hp_explore.specs.Fronts.{AreFirstInPart}
+use Rattle.hp_explore.specs.Seen.{AddsCounts, Grow, IsMemo, IsOnWay}
+use Rattle.hp_explore.specs.Walks.{BeforeInPart, IsOverBelow, IsPartWalkedBefore, IsPartWalkedThrough}
 use Rattle.hp_explore.specs.declared.frames.Entry.{Entry}
 use Rattle.hp_explore.specs.declared.frames.Entry.TheVariants.{Counted, Open}
 use Rattle.hp_explore.specs.declared.frames.Frame.{Frame}
@@ -30,60 +28,69 @@ standing p = record { layout = p.setting.layout; state = state_at p; deltas = []
 abbrev pub path_of : Setting → List Record → PathValue
 path_of g news = record { setting = g; news = news }
 
--- what is kept of a place until all that go on from it are counted: its state, and how much each end
--- counted when the walk came there
-pub record IsPlaceKept (g : Setting) (news : List Record) (ends : List Ending) (kept : Kept) : Type 0 where
+-- what is kept of a place until all that go on from it are counted: how much each end counted when the
+-- walk came there
+pub record IsPlaceKept (g : Setting) (part : PartValue) (news : List Record) (ends : List Ending)
+    (kept : Kept) : Type 0 where
   pub old : List Ending
-  pub memory : kept.snapshot ≡ value_of g.layout g.base (g.start ++ news)
   pub earlier : kept.earlier.items ≡ map (λ e. e.count) old
-  pub before : AreCounted (Before g (schedule_of news)) old
+  pub before : AreCounted (BeforeInPart g part (schedule_of news)) old
   pub grown : Grow old ends
 
 abbrev pub kept_of : Frame → Option Kept
 kept_of frame = option_map (λ (boxed : Box Kept Global). boxed.value) frame.kept
 
--- a frame whose turns are all to come; what it keeps is this state, and how much each end counts
-abbrev pub IsFresh : Memory → List Ending → Frame → Type 0
-IsFresh memory ends frame =
+-- a frame whose turns are all to come; what it keeps is how much each end counts
+abbrev pub IsFresh : List Ending → Frame → Type 0
+IsFresh ends frame =
     (frame.next ≡ 0) × (frame.is_over ≡ true)
-    × ((k : Kept) → kept_of frame ≡ Some k
-    → (k.snapshot ≡ memory) × (k.earlier.items ≡ map (λ e. e.count) ends))
+    × ((k : Kept) → kept_of frame ≡ Some k → k.earlier.items ≡ map (λ e. e.count) ends)
 
--- the frame of a place
-pub record IsFrame (g : Setting) (news : List Record) (ends : List Ending) (frame : Frame) : Type 0 where
-  pub kept : (k : Kept) → kept_of frame ≡ Some k → IsPlaceKept g news ends k
+-- the frame of a place that the search of a part has come to
+pub record IsFrame (g : Setting) (part : PartValue) (news : List Record) (ends : List Ending)
+    (frame : Frame) : Type 0 where
+  pub comes : ComesTo (length g.scripts) part (schedule_of news)
+  pub kept : (k : Kept) → kept_of frame ≡ Some k → IsPlaceKept g part news ends k
+
+-- all that goes on from a place belongs to a part and was walked, and this is kept of it
+pub record IsPlaceWalked (g : Setting) (news : List Record) (ends : List Ending) (kept : Kept) : Type 0 where
+  pub part : PartValue
+  pub all : AllOfPart (length g.scripts) part (schedule_of news)
+  pub place : IsPlaceKept g part news ends kept
+  pub through : IsPartWalkedThrough g part (schedule_of news) ends
 
 -- the turns of a place whose next processor is this: all before it was walked, and whether a script
 -- asked for anything so far is known
-pub record AreTurns (g : Setting) (news : List Record) (ends : List Ending) (frame : Frame) : Type 0 where
-  pub walked : IsWalkedBefore g (schedule_of news ++ frame.next ∷ []) ends
+pub record AreTurns (g : Setting) (part : PartValue) (news : List Record) (ends : List Ending)
+    (frame : Frame) : Type 0 where
+  pub walked : IsPartWalkedBefore g part (schedule_of news ++ frame.next ∷ []) ends
   pub over : IsOverBelow g news frame.next frame.is_over
   pub within : frame.next ≤ length g.scripts
 
 -- the places below one, latest first: each led on by the turn before its next processor, for whose
 -- call there was room
-abbrev pub AreBelow : Setting → List Ending → List Record → List Frame → Type 0
-AreBelow g ends news [] = news ≡ []
-AreBelow g ends news (frame ∷ frames) =
+abbrev pub AreBelow : Setting → PartValue → List Ending → List Record → List Frame → Type 0
+AreBelow g part ends news [] = news ≡ []
+AreBelow g part ends news (frame ∷ frames) =
     (before : List Record) × (r : Record) × (event : Event) × (news ≡ before ++ r ∷ [])
     × (frame.next ≡ r.cpu + 1) × (frame.is_over ≡ false) × (next_call g r.cpu before ≡ Some event)
     × (r.cpu < length g.scripts) × (plays g (schedule_of before) ≡ Some before)
-    × (is_full_after g before ≡ false) × IsFrame g before ends frame
-    × AreBelow g ends before frames
+    × (is_full_after g before ≡ false) × IsFrame g part before ends frame
+    × AreBelow g part ends before frames
 
 -- the places of a walk, latest first; without any all is walked
-abbrev pub AreWalked : Setting → List Ending → List Record → List Frame → Type 0
-AreWalked g ends news [] = IsWalkedThrough g [] ends
-AreWalked g ends news (frame ∷ frames) =
-    AreTurns g news ends frame × IsFrame g news ends frame × AreBelow g ends news frames
+abbrev pub AreWalked : Setting → PartValue → List Ending → List Record → List Frame → Type 0
+AreWalked g part ends news [] = IsPartWalkedThrough g part [] ends
+AreWalked g part ends news (frame ∷ frames) =
+    AreTurns g part news ends frame × IsFrame g part news ends frame × AreBelow g part ends news frames
 
 -- ---- the walk
 
 -- what a walk keeps, where these are its frames, latest first
 pub record IsWalking (w : Walk) (frames : List Frame) : Type 0 where
-  pub walked : AreWalked w.path.setting w.tally.ends w.path.news frames
+  pub walked : AreWalked w.path.setting w.part w.tally.ends w.path.news frames
   pub memo : IsMemo w.path.setting w.tally.ends w.memo
-  pub numbered : AreNumbered w.path.setting w.memo.lists w.path.news (reverse w.memo.numbers)
+  pub way : IsOnWay w.path.setting w.path.news w.memo
   pub processors : w.processors ≡ length w.path.setting.scripts
   pub few : w.processors < 2 ^ 32
   pub short : length w.path.news ≤ w.path.setting.layout.history
@@ -108,17 +115,19 @@ left_before w frames =
     (digits w.processors frames + 1)
     * (w.processors + 2) ^ (w.path.setting.layout.history + 1 - length frames)
 
--- a walk stays that of its scripts and its limit
+-- a walk stays that of its scripts, its part and its limit
 abbrev pub IsSameWalk : Walk → Walk → Type 0
-IsSameWalk old new = (new.path.setting ≡ old.path.setting) × (new.tally.limit ≡ old.tally.limit)
+IsSameWalk old new =
+    (new.path.setting ≡ old.path.setting) × (new.tally.limit ≡ old.tally.limit) × (new.part ≡ old.part)
 
--- a walk has come to a place by a call: all before it was walked, and where these are its frames,
--- latest first, they are those of the places below
+-- a walk has come to a place by a call, or begins: all before it was walked, and where these are its
+-- frames, latest first, they are those of the places below
 pub record IsComing (w : Walk) (frames : List Frame) : Type 0 where
-  pub walked : IsWalkedBefore w.path.setting (schedule_of w.path.news) w.tally.ends
-  pub below : AreBelow w.path.setting w.tally.ends w.path.news frames
+  pub walked : IsPartWalkedBefore w.path.setting w.part (schedule_of w.path.news) w.tally.ends
+  pub on : IsOn (length w.path.setting.scripts) w.part (schedule_of w.path.news)
+  pub below : AreBelow w.path.setting w.part w.tally.ends w.path.news frames
   pub memo : IsMemo w.path.setting w.tally.ends w.memo
-  pub numbered : AreNumbered w.path.setting w.memo.lists w.path.news (reverse w.memo.numbers)
+  pub way : IsOnWay w.path.setting w.path.news w.memo
   pub processors : w.processors ≡ length w.path.setting.scripts
   pub few : w.processors < 2 ^ 32
   pub short : length w.path.news ≤ w.path.setting.layout.history
@@ -135,16 +144,24 @@ IsAdded old counts new (Open frame) =
 abbrev pub IsTurnedTo : (old new : Walk) → Turned → Type 0
 IsTurnedTo old new On =
     IsWalking new (frames_of new) × (left new (frames_of new) < left old (frames_of old))
-IsTurnedTo old new Over = IsWalkedThrough new.path.setting [] new.tally.ends
-IsTurnedTo old new Full = AreFirst new.path.setting new.tally.limit new.tally.ends
+IsTurnedTo old new Over = IsPartWalkedThrough new.path.setting new.part [] new.tally.ends
+IsTurnedTo old new Full = AreFirstInPart new.path.setting new.part new.tally.limit new.tally.ends
 
 -- what a walk came to in the end
 abbrev pub IsDone : Walk → (is_whole : Bool) → Type 0
-IsDone w true = IsWalkedThrough w.path.setting [] w.tally.ends
-IsDone w false = AreFirst w.path.setting w.tally.limit w.tally.ends
+IsDone w true = IsPartWalkedThrough w.path.setting w.part [] w.tally.ends
+IsDone w false = AreFirstInPart w.path.setting w.part w.tally.limit w.tally.ends
 
--- what was done at a place: what goes on from there was counted, or it has a frame with all to come
-abbrev pub IsEntered : PathValue → (old new : List Ending) → Entry → Type 0
-IsEntered p old new Counted = IsWalkedThrough p.setting (schedule_of p.news) new × Grow old new
-IsEntered p old new (Open frame) =
-    (new ≡ old) × (frame.next ≡ 0) × (frame.is_over ≡ true) × IsFrame p.setting p.news new frame
+-- what was done at a place for the search of a part: what goes on from there was counted, or it has a
+-- frame with all to come
+abbrev pub IsEntered : PathValue → PartValue → (old new : List Ending) → Entry → Type 0
+IsEntered p part old new Counted =
+    IsPartWalkedThrough p.setting part (schedule_of p.news) new × Grow old new
+IsEntered p part old new (Open frame) =
+    (new ≡ old) × (frame.next ≡ 0) × (frame.is_over ≡ true) × IsFrame p.setting part p.news new frame
+
+-- for each part to which all belong that go on from there, where all of it before the place was walked
+abbrev pub IsEnteredWithin : PathValue → (old new : List Ending) → Entry → Type 0
+IsEnteredWithin p old new entry =
+    (part : PartValue) → AllOfPart (length p.setting.scripts) part (schedule_of p.news)
+    → IsPartWalkedBefore p.setting part (schedule_of p.news) old → IsEntered p part old new entry

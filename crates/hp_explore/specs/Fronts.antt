@@ -1,7 +1,8 @@
 -- An exploration that ends with the limit: the first schedules in the order of the walk.
 use Rattle.std.specs.Prelude.{◌≡◌, ℕ, true, false, List, sum_by}
+use Rattle.hp_explore.specs.Parts.{IsCompleteInPart, PartValue}
 use Rattle.hp_explore.specs.Schedules.{IsComplete, Setting}
-use Rattle.hp_explore.specs.Walks.{IsWalkedBefore}
+use Rattle.hp_explore.specs.Walks.{IsPartWalkedBefore, IsWalkedBefore}
 use Rattle.hp_explore.specs.declared.exploring.Exploration.{Exploration}
 use Rattle.hp_explore.specs.declared.tally.Ending.{Ending}
 
@@ -11,6 +12,13 @@ pub record AreFirst (g : Setting) (limit : ℕ) (ends : List Ending) : Type 0 wh
   pub place : List ℕ
   pub next : IsComplete g place
   pub walked : IsWalkedBefore g place ends
+  pub full : sum_by (λ e. e.count) ends ≡ limit
+
+-- the same of a part: the ends are those of its schedules before a further one of them
+pub record AreFirstInPart (g : Setting) (part : PartValue) (limit : ℕ) (ends : List Ending) : Type 0 where
+  pub place : List ℕ
+  pub next : IsCompleteInPart g part place
+  pub walked : IsPartWalkedBefore g part place ends
   pub full : sum_by (λ e. e.count) ends ≡ limit
 
 -- this holds of the ends where all schedules were counted, and where the first ones were

@@ -2,6 +2,7 @@ pub mod Alike
 pub mod Cursors
 pub mod Digests
 pub mod Ends
+pub mod Exchanges
 pub mod Faults
 pub mod Frames
 pub mod Fronts
@@ -12,8 +13,11 @@ pub mod Numbers
 pub mod Openings
 pub mod Orders
 pub mod Outcomes
+pub mod Parts
 pub mod Paths
+pub mod Rows
 pub mod Schedules
 pub mod Scripts
 pub mod Seen
+pub mod Standing
 pub mod Walks

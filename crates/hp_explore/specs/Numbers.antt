@@ -1,83 +1,113 @@
--- The numbers that lists of openings have, and those of the places on a walk's way.
+-- Lists by their numbers: those of openings, of exchanges, and what they mean where a walk stands.
 use Rattle.std.specs.Prelude.{◌≡◌, ℕ, ◌≤◌, true, List, [], ◌∷◌, ◌++◌, Option, Some, None, fold, slice_get, slice_index_or}
+use Rattle.hp_codes.specs.Codes.{IsCoded}
 use Rattle.hp_units.specs.History.{effect_of, net_of, value_of}
-use Rattle.hp_units.specs.Memory.{Memory}
+use Rattle.hp_units.specs.LayoutParts.{LayoutParts}
 use Rattle.hp_units.specs.declared.replies.Record.{Record}
 use Rattle.hp_explore.specs.Alike.{leaves_steps}
-use Rattle.hp_explore.specs.Openings.{AreOpen, Opening}
+use Rattle.hp_explore.specs.Openings.{AreOpen, NumberedOpening, Opening}
 use Rattle.hp_explore.specs.Schedules.{Setting}
 use Rattle.hp_explore.specs.declared.openings.Entry.{Entry}
+use Rattle.hp_explore.specs.declared.standing.Stop.{Stop}
 
--- the lists that entries make: first the empty one, and of each entry one with an opening more
-abbrev pub list_of : List (List Opening) → Entry → List Opening
-list_of lists entry =
-    record { op = entry.op; memory = entry.snapshot } ∷ slice_index_or lists entry.below []
+-- ---- lists that entries make
 
-abbrev pub with_entry : List (List Opening) → Entry → List (List Opening)
-with_entry lists entry = lists ++ list_of lists entry ∷ []
+-- first the empty one, and of each entry one more: made by the entry from the list of an earlier number
+abbrev pub with_entry : {E X : Type 0} → (below : E → ℕ) → (put : E → List X → List X)
+    → List (List X) → E → List (List X)
+with_entry below put lists e = lists ++ put e (slice_index_or lists (below e) []) ∷ []
 
-abbrev pub lists_of : List Entry → List (List Opening)
-lists_of entries = fold with_entry ([] ∷ []) entries
+abbrev pub lists_from : {E X : Type 0} → (below : E → ℕ) → (put : E → List X → List X) → List E
+    → List (List X)
+lists_from below put entries = fold (with_entry below put) ([] ∷ []) entries
 
--- each entry stands in front of an earlier list
-abbrev pub StandOnEarlier : List Entry → Type 0
-StandOnEarlier entries = (i : ℕ) (entry : Entry) → slice_get entries i ≡ Some entry → entry.below ≤ i
+-- each entry stands on an earlier list
+abbrev pub StandOnEarlier : {E : Type 0} → (below : E → ℕ) → List E → Type 0
+StandOnEarlier {E = E} below entries = (i : ℕ) (e : E) → slice_get entries i ≡ Some e → below e ≤ i
 
 -- each number means the list that it meant
-abbrev pub KeepNumbers : (old new : List (List Opening)) → Type 0
-KeepNumbers old new = (n : ℕ) (os : List Opening) → slice_get old n ≡ Some os → slice_get new n ≡ Some os
+abbrev pub KeepNumbers : {X : Type 0} → (old new : List (List X)) → Type 0
+KeepNumbers {X = X} old new = (n : ℕ) (xs : List X) → slice_get old n ≡ Some xs → slice_get new n ≡ Some xs
 
 -- an entry made the list of a number
-abbrev pub IsEntryOf : List (List Opening) → (number : ℕ) → Entry → Type 0
-IsEntryOf lists number entry =
-    (os : List Opening) × (slice_get lists entry.below ≡ Some os)
-    × (slice_get lists number ≡ Some (record { op = entry.op; memory = entry.snapshot } ∷ os))
+abbrev pub IsMadeOf : {E X : Type 0} → (below : E → ℕ) → (put : E → List X → List X) → List (List X)
+    → (number : ℕ) → E → Type 0
+IsMadeOf {X = X} below put lists number e =
+    (xs : List X) × (slice_get lists (below e) ≡ Some xs) × (slice_get lists number ≡ Some (put e xs))
+
+-- ---- lists of openings
+
+abbrev pub opening_of : Entry → NumberedOpening
+opening_of e = record { op = e.op; memory = e.state }
+
+abbrev pub in_front : Entry → List NumberedOpening → List NumberedOpening
+in_front e os = opening_of e ∷ os
+
+abbrev pub entry_below : Entry → ℕ
+entry_below e = e.below
+
+abbrev pub openings_of : List Entry → List (List NumberedOpening)
+openings_of entries = lists_from entry_below in_front entries
+
+-- an entry made the list of a number
+abbrev pub IsEntryOf : List (List NumberedOpening) → (number : ℕ) → Entry → Type 0
+IsEntryOf lists number entry = IsMadeOf entry_below in_front lists number entry
 
 -- a number means an operation in front of the list of an earlier number
-abbrev pub IsInFront : (old new : List (List Opening)) → (op : ℕ) → Memory → (below number : ℕ) → Type 0
-IsInFront old new op memory below number =
-    (os : List Opening) → slice_get old below ≡ Some os
-    → slice_get new number ≡ Some (record { op = op; memory = memory } ∷ os)
+abbrev pub IsInFront : (old new : List (List NumberedOpening)) → (op state below number : ℕ) → Type 0
+IsInFront old new op state below number =
+    (os : List NumberedOpening) → slice_get old below ≡ Some os
+    → slice_get new number ≡ Some (record { op = op; memory = state } ∷ os)
 
-abbrev pub IsBegun : (old new : List (List Opening)) → (op : ℕ) → (from : Option Memory)
-    → (was number : Option ℕ) → Type 0
+abbrev pub IsBegun : (old new : List (List NumberedOpening)) → (op : ℕ)
+    → (from was number : Option ℕ) → Type 0
 IsBegun old new op from was None = Unit {0}
 IsBegun old new op from was (Some n) =
-    (below : ℕ) × (memory : Memory) × (was ≡ Some below) × (from ≡ Some memory)
-    × IsInFront old new op memory below n
+    (below : ℕ) × (state : ℕ) × (was ≡ Some below) × (from ≡ Some state) × IsInFront old new op state below n
 
 -- a number means what is made of the list of another; where that is not known it is none
-abbrev pub IsMadeBy : (List Opening → List Opening) → List (List Opening) → (was number : Option ℕ) → Type 0
+abbrev pub IsMadeBy : (List NumberedOpening → List NumberedOpening) → List (List NumberedOpening)
+    → (was number : Option ℕ) → Type 0
 IsMadeBy f lists None number = number ≡ None
 IsMadeBy f lists (Some n) number =
-    (os : List Opening) → slice_get lists n ≡ Some os
+    (os : List NumberedOpening) → slice_get lists n ≡ Some os
     → (m : ℕ) × (number ≡ Some m) × (slice_get lists m ≡ Some (f os))
 
 -- ---- the places of a walk
 
--- a state that is known is the one after new records
-abbrev pub IsStateAt : Setting → (news : List Record) → Option Memory → Type 0
-IsStateAt g news None = Unit {0}
-IsStateAt g news (Some memory) = memory ≡ value_of g.layout g.base (g.start ++ news)
+-- openings whose states have these numbers
+abbrev pub AreNamed : LayoutParts → (codes : List (List ℕ)) → List NumberedOpening → List Opening → Type 0
+AreNamed l codes [] [] = Unit {0}
+AreNamed l codes [] (o ∷ os) = ⊥
+AreNamed l codes (n ∷ ns) [] = ⊥
+AreNamed l codes (n ∷ ns) (o ∷ os) =
+    (n.op ≡ o.op) × IsCoded l codes n.memory o.memory × AreNamed l codes ns os
+
+-- a number that is known is that of the state after new records
+abbrev pub IsStateAt : Setting → (codes : List (List ℕ)) → (news : List Record) → Option ℕ → Type 0
+IsStateAt g codes news None = Unit {0}
+IsStateAt g codes news (Some n) = IsCoded g.layout codes n (value_of g.layout g.base (g.start ++ news))
 
 -- a number means what Cancels can take back after new records; where there is none nothing is known
-abbrev pub IsNumbered : Setting → List (List Opening) → (news : List Record) → Option ℕ → Type 0
-IsNumbered g lists news None = Unit {0}
-IsNumbered g lists news (Some n) =
-    (os : List Opening) × (slice_get lists n ≡ Some os)
-    × AreOpen g.layout g.base (net_of (g.start ++ news)) os
+abbrev pub IsNumbered : Setting → (codes : List (List ℕ)) → List (List NumberedOpening) → (news : List Record)
+    → Option ℕ → Type 0
+IsNumbered g codes lists news None = Unit {0}
+IsNumbered g codes lists news (Some n) =
+    (ns : List NumberedOpening) × (os : List Opening) × (slice_get lists n ≡ Some ns)
+    × AreNamed g.layout codes ns os × AreOpen g.layout g.base (net_of (g.start ++ news)) os
 
 -- where a number means that, another does after one record more that leaves earlier steps
-abbrev pub NumbersOn : (old new : List (List Opening)) → (from : Option Memory) → (latest : Record)
+abbrev pub NumbersOn : (old new : List (List NumberedOpening)) → (from : Option ℕ) → (latest : Record)
     → (was number : Option ℕ) → Type 0
 NumbersOn old new from latest was number =
-    (g : Setting) (news : List Record) → IsStateAt g news from
-    → leaves_steps (effect_of latest.event) ≡ true → IsNumbered g old news was
-    → IsNumbered g new (news ++ latest ∷ []) number
+    (g : Setting) (codes : List (List ℕ)) (news : List Record) → IsStateAt g codes news from
+    → leaves_steps (effect_of latest.event) ≡ true → IsNumbered g codes old news was
+    → IsNumbered g codes new (news ++ latest ∷ []) number
 
 -- these are the numbers of the places on a way, the latest first
-abbrev pub AreNumbered : Setting → List (List Opening) → (news : List Record) → List (Option ℕ) → Type 0
-AreNumbered g lists news [] = Unit {0}
-AreNumbered g lists news (number ∷ numbers) =
-    IsNumbered g lists news number
-    × ((before : List Record) (r : Record) → news ≡ before ++ r ∷ [] → AreNumbered g lists before numbers)
+abbrev pub AreStops : Setting → (codes : List (List ℕ)) → List (List NumberedOpening) → (news : List Record)
+    → List Stop → Type 0
+AreStops g codes lists news [] = Unit {0}
+AreStops g codes lists news (stop ∷ stops) =
+    IsNumbered g codes lists news stop.openings × IsStateAt g codes news stop.state
+    × ((before : List Record) (r : Record) → news ≡ before ++ r ∷ [] → AreStops g codes lists before stops)

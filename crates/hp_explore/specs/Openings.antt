@@ -10,10 +10,17 @@ use Rattle.hp_units.specs.declared.replies.Record.{Record}
 use Rattle.hp_explore.specs.declared.openings.Change.{Change}
 use Rattle.hp_explore.specs.declared.openings.Change.TheVariants.{Stays, Begins, Works, Cancels, Ends}
 
--- an operation, and the state from before its Begin
-pub record Opening : Type 0 where
+-- an operation, with what tells the state from before its Begin
+pub record OpeningWith (S : Type 0) : Type 0 where
   pub op : ℕ
-  pub memory : Memory
+  pub memory : S
+
+-- the state itself, or the number of its code
+abbrev pub Opening : Type 0
+Opening = OpeningWith Memory
+
+abbrev pub NumberedOpening : Type 0
+NumberedOpening = OpeningWith ℕ
 
 -- the operations that Cancels can take back whole, latest first: the first is the only sole one; its
 -- Cancel leads back to the state from before its Begin, where the others are so (own rule)
@@ -25,11 +32,11 @@ AreOpen l base net (o ∷ os) =
     × (o.memory ≡ run l base (take place net)) × AreOpen l base (take place net) os
 
 -- those that are left after an operation's own work, and after its Cancel: none where another is first
-abbrev pub after_work : (op : ℕ) → List Opening → List Opening
+abbrev pub after_work : {S : Type 0} → (op : ℕ) → List (OpeningWith S) → List (OpeningWith S)
 after_work op [] = []
 after_work op (o ∷ os) = if o.op == op then o ∷ os else []
 
-abbrev pub after_cancel : (op : ℕ) → List Opening → List Opening
+abbrev pub after_cancel : {S : Type 0} → (op : ℕ) → List (OpeningWith S) → List (OpeningWith S)
 after_cancel op [] = []
 after_cancel op (o ∷ os) = if o.op == op then os else []
 

@@ -1,27 +1,19 @@
 -- Places that were walked, and how many schedules go on from each.
-use Rattle.std.specs.Prelude.{◌≡◌, ℕ, ◌+◌, ◌<◌, ◌≤◌, Bool, true, List, ◌++◌, Option, Some, length, slice_get, slice_index_or, slice_set, sum, sum_by}
-use Rattle.hp_units.specs.History.{value_of}
-use Rattle.hp_units.specs.Memory.{Memory}
+use Rattle.std.specs.Prelude.{◌≡◌, ℕ, ◌+◌, ◌≤◌, Bool, true, List, ◌++◌, Some, length, slice_get, slice_index_or, slice_set, sum, sum_by}
 use Rattle.hp_units.specs.declared.replies.Record.{Record}
-use Rattle.hp_units.specs.Receipts.{receipts_of}
-use Rattle.hp_explore.specs.Alike.{UndoNothing, exchanges}
+use Rattle.hp_explore.specs.Alike.{UndoNothing}
 use Rattle.hp_explore.specs.Notes.{HasNoEnd, TallyValue}
-use Rattle.hp_explore.specs.Numbers.{IsNumbered}
-use Rattle.hp_explore.specs.Openings.{Opening}
 use Rattle.hp_explore.specs.Orders.{Extends, HasCount}
 use Rattle.hp_explore.specs.Outcomes.{OutcomeValue}
 use Rattle.hp_explore.specs.Schedules.{EndsWith, Setting, plays, schedule_of}
-use Rattle.hp_explore.specs.Scripts.{own_operation}
+use Rattle.hp_explore.specs.Standing.{IsKey, IsStanding, StandingValue}
 use Rattle.hp_explore.specs.Walks.{HasRoomFrom}
 use Rattle.hp_explore.specs.declared.tally.Ending.{Ending}
 
--- a place: the new records that lead there, the state, the number of what Cancels can take back, and
--- how many complete schedules go on from there to each end, by the end's place; none where the list
--- has no number
+-- a place: the new records that lead there, and how many complete schedules go on from there to each
+-- end, by the end's place; none where the list has no number
 pub record SeenValue : Type 0 where
-  pub memory : Memory
   pub news : List Record
-  pub openings : ℕ
   pub counts : List ℕ
 
 -- a schedule goes on from a place, with this outcome
@@ -31,7 +23,6 @@ GoesOn g place x s = Extends s place × EndsWith g s x
 -- what is kept of a place, where the ends are these
 pub record IsSeen (g : Setting) (ends : List Ending) (seen : SeenValue) : Type 0 where
   pub played : plays g (schedule_of seen.news) ≡ Some seen.news
-  pub state : seen.memory ≡ value_of g.layout g.base (g.start ++ seen.news)
   pub few : length seen.counts ≤ length ends
   pub counted : (k : ℕ) (e : Ending) → slice_get ends k ≡ Some e
       → HasCount (GoesOn g (schedule_of seen.news) e.outcome) (slice_index_or seen.counts k 0)
@@ -55,33 +46,25 @@ pub record AddsCounts (old : List Ending) (counts : List ℕ) (new : List Ending
       → (f.outcome ≡ e.outcome) × (f.first.items ≡ e.first.items)
       × (f.count ≡ e.count + slice_index_or counts k 0)
 
--- whether places are kept, and those that are; what each number of openings means, and the numbers of
--- the places on the way
+-- whether places are kept, the rows of those that are, and where the walk stands
 pub record MemoValue : Type 0 where
   pub is_on : Bool
-  pub seen : List SeenValue
-  pub lists : List (List Opening)
-  pub numbers : List (Option ℕ)
+  pub rows : List (List ℕ)
+  pub standing : StandingValue
 
--- a processor had the same answers to the same requests, and began its last operation with the same number
-pub record AreExchangesAlike (cpu : ℕ) (news others : List Record) : Type 0 where
-  pub exchanged : exchanges cpu news ≡ exchanges cpu others
-  pub begun : own_operation (receipts_of cpu news) ≡ own_operation (receipts_of cpu others)
+-- the row of a place is its key and then its counts, where the ends are these; and the history has
+-- room for what goes on from there
+pub record IsRow (g : Setting) (ends : List Ending) (s : StandingValue) (row : List ℕ) : Type 0 where
+  pub seen : SeenValue
+  pub key : List ℕ
+  pub is : row ≡ key ++ seen.counts
+  pub key_is : IsKey g s seen.news key
+  pub seen_is : IsSeen g ends seen
+  pub room : HasRoomFrom g (schedule_of seen.news)
 
--- a place has this state and this number of openings, after as many records, and each of so many
--- processors had such exchanges
-pub record IsLike (seen : SeenValue) (memory : Memory) (number : ℕ) (news : List Record)
-    (cpus : ℕ) : Type 0 where
-  pub state : seen.memory ≡ memory
-  pub openings : seen.openings ≡ number
-  pub calls : length seen.news ≡ length news
-  pub exchanges : (cpu : ℕ) → cpu < cpus → AreExchangesAlike cpu seen.news news
-
-abbrev pub IsLikeAmong : List SeenValue → Memory → (number : ℕ) → List Record → (cpus : ℕ)
-    → (counts : List ℕ) → Type 0
-IsLikeAmong all memory number news cpus counts =
-    (i : ℕ) × (seen : SeenValue) × (slice_get all i ≡ Some seen) × IsLike seen memory number news cpus
-    × (counts ≡ seen.counts)
+-- a place with this key is kept, with these counts
+abbrev pub IsRowAmong : (rows : List (List ℕ)) → (key counts : List ℕ) → Type 0
+IsRowAmong rows key counts = (i : ℕ) × (slice_get rows i ≡ Some (key ++ counts))
 
 -- ends count no less than they did, and more by so many
 abbrev pub AreNoMore : List ℕ → List Ending → Type 0
@@ -107,13 +90,12 @@ pub record AddsAt (old : List Ending) (at count : ℕ) (new : List Ending) : Typ
 abbrev pub HasRoomFor : TallyValue → List ℕ → Type 0
 HasRoomFor t counts = sum_by (λ e. e.count) t.ends + sum counts ≤ t.limit
 
--- the places that are kept, where the ends are these: the history has room for what goes on from them,
--- and their numbers mean what Cancels can take back there; and where any are to be kept no script
--- undoes steps by their serials
+-- the places that are kept, where the ends are these; and where any are to be kept no script undoes
+-- steps by their serials
 pub record IsMemo (g : Setting) (ends : List Ending) (memo : MemoValue) : Type 0 where
-  pub all : AllSeen g ends memo.seen
-  pub room : (i : ℕ) (seen : SeenValue) → slice_get memo.seen i ≡ Some seen
-      → HasRoomFrom g (schedule_of seen.news)
-  pub numbered : (i : ℕ) (seen : SeenValue) → slice_get memo.seen i ≡ Some seen
-      → IsNumbered g memo.lists seen.news (Some seen.openings)
+  pub all : (i : ℕ) (row : List ℕ) → slice_get memo.rows i ≡ Some row → IsRow g ends memo.standing row
   pub undo : memo.is_on ≡ true → UndoNothing g.scripts
+
+-- where places are kept, the numbers are those of the place after new records
+abbrev pub IsOnWay : Setting → List Record → MemoValue → Type 0
+IsOnWay g news memo = memo.is_on ≡ true → IsStanding g news memo.standing

@@ -12,6 +12,7 @@ use Rattle.hp_explore.specs.Faults.{HasNoRoom}
 use Rattle.hp_explore.specs.Notes.{IsNoted}
 use Rattle.hp_explore.specs.Orders.{Extends, IsBefore}
 use Rattle.hp_explore.specs.Outcomes.{OutcomeValue, outcome}
+use Rattle.hp_explore.specs.Parts.{ComesTo, EndsInPart, IsOfPart, PartValue}
 use Rattle.hp_explore.specs.Schedules.{EndsWith, Setting, next_call, plays, schedule_of}
 
 -- the records of a machine since another, and since the scripts began; and the schedule that the
@@ -83,25 +84,58 @@ pub record IsWalkedBefore (g : Setting) (place : List ℕ) (ends : List Ending) 
   pub ordered : AreInOrder ends
   pub room : HasRoomBefore g place
 
--- and all that goes on from there
-pub record IsWalkedThrough (g : Setting) (place : List ℕ) (ends : List Ending) : Type 0 where
-  pub counted : AreCounted (Through g place) ends
+-- ---- of one part
+
+-- its complete schedules that stand before a place of the walk, and those up to its last continuation
+abbrev pub BeforeInPart : Setting → PartValue → List ℕ → List ℕ → OutcomeValue → Type 0
+BeforeInPart g part place s x = IsBefore s place × EndsInPart g part s x
+
+abbrev pub ThroughInPart : Setting → PartValue → List ℕ → List ℕ → OutcomeValue → Type 0
+ThroughInPart g part place s x = (IsBefore s place ⊎ Extends s place) × EndsInPart g part s x
+
+-- the history has room for each call of its search that stands before a place, and for each that is
+-- made there or later
+abbrev pub HasPartRoomBefore : Setting → PartValue → List ℕ → Type 0
+HasPartRoomBefore g part place =
+    (s : List ℕ) (h : HasNoRoom g s) → ComesTo (length g.scripts) part s
+    → IsBefore (s ++ h.cpu ∷ []) place → ⊥
+
+abbrev pub HasPartRoomFrom : Setting → PartValue → List ℕ → Type 0
+HasPartRoomFrom g part place =
+    (s : List ℕ) → HasNoRoom g s → ComesTo (length g.scripts) part s → Extends s place → ⊥
+
+-- all of it before a place was walked
+pub record IsPartWalkedBefore (g : Setting) (part : PartValue) (place : List ℕ)
+    (ends : List Ending) : Type 0 where
+  pub counted : AreCounted (BeforeInPart g part place) ends
   pub ordered : AreInOrder ends
-  pub room : HasRoomBefore g place
-  pub onward : HasRoomFrom g place
+  pub room : HasPartRoomBefore g part place
 
--- the ends are those of the schedules before where the walk stands, and up to the last one that
--- goes on from there
-abbrev pub CountsBefore : Setting → StepsValue → List Ending → Type 0
-CountsBefore g p ends = AreCounted (Before g (schedule_of p.records)) ends
+-- and all that goes on from there
+pub record IsPartWalkedThrough (g : Setting) (part : PartValue) (place : List ℕ)
+    (ends : List Ending) : Type 0 where
+  pub counted : AreCounted (ThroughInPart g part place) ends
+  pub ordered : AreInOrder ends
+  pub room : HasPartRoomBefore g part place
+  pub onward : HasPartRoomFrom g part place
 
-abbrev pub CountsThrough : Setting → StepsValue → List Ending → Type 0
-CountsThrough g p ends = AreCounted (Through g (schedule_of p.records)) ends
+-- the ends are those of its schedules before where the walk stands, and up to the last one that goes
+-- on from there
+abbrev pub CountsBefore : Setting → PartValue → StepsValue → List Ending → Type 0
+CountsBefore g part p ends = AreCounted (BeforeInPart g part (schedule_of p.records)) ends
+
+abbrev pub CountsThrough : Setting → PartValue → StepsValue → List Ending → Type 0
+CountsThrough g part p ends = AreCounted (ThroughInPart g part (schedule_of p.records)) ends
 
 -- the schedule that led to where the walk stands is noted, with the outcome there for so many processors
 abbrev pub IsEndNoted : (processors : ℕ) → StepsValue → List Ending → List Ending → Type 0
 IsEndNoted processors p old new =
     IsNoted old (outcome processors p.records p.layout p.state) (schedule_of p.records) new
+
+-- where it ends there; else the ends stay
+abbrev pub IsNotedAtEnd : (is_end : Bool) → (processors : ℕ) → StepsValue → List Ending → List Ending → Type 0
+IsNotedAtEnd true processors p old new = IsEndNoted processors p old new
+IsNotedAtEnd false processors p old new = new ≡ old
 
 -- the serial of the next record after the new ones of a machine, whose history has room for it
 abbrev pub IsNextSerial : (start : MachineValue) → List Record → (serial : ℕ) → Type 0
@@ -131,6 +165,16 @@ may_go_back Acts = false
 abbrev pub IsOverBelow : Setting → List Record → (below : ℕ) → Bool → Type 0
 IsOverBelow g news below true = (cpu : ℕ) → cpu < below → next_call g cpu news ≡ None
 IsOverBelow g news below false = (cpu : ℕ) × (event : Event) × (next_call g cpu news ≡ Some event)
+
+-- whether a schedule of a part ends after the new records; else a script asks for an event there, or
+-- the schedule is another part's
+abbrev pub IsEndHere : Setting → PartValue → List Record → (is_end : Bool) → Type 0
+IsEndHere g part news true =
+    IsOverBelow g news (length g.scripts) true × IsOfPart (length g.scripts) part (schedule_of news)
+IsEndHere g part news false =
+    IsOverBelow g news (length g.scripts) false
+    ⊎ (IsOverBelow g news (length g.scripts) true
+    × (IsOfPart (length g.scripts) part (schedule_of news) → ⊥))
 
 -- where a schedule leads to
 abbrev pub IsPlayed : Setting → List ℕ → Option MachineValue → Type 0

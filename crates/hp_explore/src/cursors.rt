@@ -47,6 +47,13 @@ impl Cursor {
         }
     }
 
+    /// The operation that the processor began last, and 0 where it began none.
+    pub(crate) fn operation(&self) -> Serial
+        ensures { result ≡ self.now.op }
+    {
+        self.op
+    }
+
     /// The call that a script asks for next; none at its end. An error is out of memory.
     pub(crate) fn request(
         &self,

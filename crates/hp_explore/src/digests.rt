@@ -5,26 +5,15 @@ ghost use Rattle.hp_explore.specs.Digests.{digest_of, mixed, mixed_reply, refusa
 ghost use Rattle.hp_explore.specs.Outcomes.{outcome_with, replies_below, replies_to};
 
 use crate::outcomes::told;
-use crate::snapshots::Snapshot;
 use hp_units::{Cpu, Record, Refusal, Reply, Row, State, Zone};
 
-/// A digest of a state and of each processor's replies among records.
-pub(crate) fn place_digest(snapshot: &Snapshot, records: &[Record]) -> u64 {
-    let mut digest = snapshot.digest();
-    for part in &processor_digests(records) {
-        digest = mixed(digest, *part);
+/// A digest of a place's key.
+pub(crate) fn key_digest(key: &[u64]) -> u64 {
+    let mut digest = 0;
+    for number in key {
+        digest = mixed(digest, *number);
     }
     digest
-}
-
-/// A digest for each processor's replies, those of 64 processors apart.
-fn processor_digests(records: &[Record]) -> [u64; 64] {
-    let mut parts = [0u64; 64];
-    for record in records {
-        let at = (record.cpu.0 % 64) as usize;
-        parts[at] = mixed(parts[at], reply_number(&record.reply));
-    }
-    parts
 }
 
 /// A digest of how a schedule ends: of the replies of so many processors among records, and of the
@@ -75,7 +64,7 @@ pub(crate) fn mixed(digest: u64, number: u64) -> u64
 }
 
 /// A number for a reply, not of it alone.
-fn reply_number(reply: &Reply) -> u64
+pub(crate) fn reply_number(reply: &Reply) -> u64
     ensures { result ≡ reply_number reply.now }
 {
     match reply {
@@ -123,7 +112,7 @@ fn refusal_number(refusal: &Refusal) -> u64
 }
 
 /// A number for a block's row, not of it alone.
-fn row_number(row: &Row) -> u64
+pub(crate) fn row_number(row: &Row) -> u64
     ensures { result ≡ row_number row.now }
 {
     4 * zone_number(row.zone) + state_number(row.state)

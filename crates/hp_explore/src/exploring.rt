@@ -1,10 +1,12 @@
 //! The exploration of scripts on a machine.
 ghost use Rattle.std.specs.Prelude.{◌^◌, ◌<◌, ◌≤◌, IfErr, IfOk, length, sum_by};
-ghost use Rattle.hp_explore.specs.Ends.{AreEnds, AreInOrder};
+ghost use Rattle.hp_explore.specs.Ends.{AreCounted, AreEnds, AreInOrder};
 ghost use Rattle.hp_explore.specs.Faults.{FillsHistory, HasMoreThan, IsCause};
-ghost use Rattle.hp_explore.specs.Fronts.{AreFirst, IfFirst, IfWhole};
+ghost use Rattle.hp_explore.specs.Fronts.{AreFirst, AreFirstInPart, IfFirst, IfWhole};
+ghost use Rattle.hp_explore.specs.Parts.{EndsInPart, FillsPart, IsCausePart, IsCompleteInPart};
 ghost use Rattle.hp_explore.specs.Schedules.{IsComplete, setting};
 
+use crate::parts::Part;
 use crate::scripts::Script;
 use crate::tally::Ending;
 use crate::walk::Walk;
@@ -93,7 +95,44 @@ pub fn explore<W: Watch>(
     ensures ordered { IfOk result (λ x. AreInOrder x.ends.items) }
     ensures err { IfErr result (IsCause (setting machine.now scripts.now)) }
 {
-    let mut walk = Walk::start(alloc, machine, scripts, limit)?;
+    explore_part(alloc, machine, scripts, Part::whole(), limit, watch)
+}
+
+/// The ends of the complete schedules that belong to a part (own rule), as `explore` gives those of
+/// all: so the parts can be searched side by side, and the counts of their ends add up to all. Where
+/// more schedules belong to the part than the limit, they are the ends of the first of these.
+///
+/// An error is `HistoryFull` where the search of the part comes to a call for which the layout's
+/// history has no room: that of a schedule with fewer calls than the parts go by, or of one that
+/// belongs to the part; or `OutOfMemory`. Where neither holds, there is no error.
+pub fn explore_part<W: Watch>(
+    alloc: Global,
+    machine: &Machine,
+    scripts: &[Script],
+    part: Part,
+    limit: u64,
+    watch: &mut W,
+) -> Result<Exploration, ExploreFault>
+    requires { length scripts.now < 2 ^ 32 }
+
+    // Where all schedules of the part were counted.
+    ensures ok { IfOk result
+        (λ x. IfWhole x (AreCounted (EndsInPart (setting machine.now scripts.now) part))) }
+    ensures few { IfOk result (λ x. IfWhole x
+        (λ _. HasMoreThan (IsCompleteInPart (setting machine.now scripts.now) part) limit → ⊥)) }
+    ensures room { IfOk result
+        (λ x. IfWhole x (λ _. FillsPart (setting machine.now scripts.now) part → ⊥)) }
+    // Where the first ones were.
+    ensures first { IfOk result
+        (λ x. IfFirst x (AreFirstInPart (setting machine.now scripts.now) part limit)) }
+    ensures many { IfOk result (λ x. IfFirst x
+        (λ _. HasMoreThan (IsCompleteInPart (setting machine.now scripts.now) part) limit)) }
+    // In both cases.
+    ensures within { IfOk result (λ x. sum_by (λ e. e.count) x.ends.items ≤ limit) }
+    ensures ordered { IfOk result (λ x. AreInOrder x.ends.items) }
+    ensures err { IfErr result (IsCausePart (setting machine.now scripts.now) part) }
+{
+    let mut walk = Walk::start(alloc, machine, scripts, part, limit)?;
     let is_whole = walk.run(alloc, watch)?;
     Ok(Exploration {
         ends: walk.into_ends(),

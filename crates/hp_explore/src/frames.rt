@@ -1,17 +1,14 @@
 //! What a walk knows of the places on its way.
-ghost use Rattle.std.specs.Prelude.{◌≡◌, ◌+◌, ◌-◌, ◌^◌, ◌<◌, IfOk, option_map, true, false};
-ghost use Rattle.hp_explore.specs.Frames.{IsFresh, kept_of};
+ghost use Rattle.std.specs.Prelude.{◌≡◌, ◌+◌, ◌-◌, ◌^◌, ◌<◌, IfOk, true, false};
+ghost use Rattle.hp_explore.specs.Frames.{IsFresh};
 
-use crate::snapshots::Snapshot;
 use crate::tally::Tally;
 use std::alloc::{AllocError, Global};
 
-/// What is kept of a place until all that go on from it are counted: its digest and state, and how
-/// much each end counted when the walk came there.
+/// What is kept of a place until all that go on from it are counted: how much each end counted when
+/// the walk came there.
 #[derive(Drop)]
 pub(crate) struct Kept {
-    pub digest: u64,
-    pub snapshot: Snapshot,
     pub earlier: Vec<u64>,
 }
 
@@ -60,39 +57,19 @@ impl Frame {
 
     /// The same, which is kept as long as there are few ends, since what is kept holds a count for each
     /// end. An error is out of memory.
-    pub(crate) fn keeping(
-        alloc: Global,
-        tally: &Tally,
-        digest: u64,
-        snapshot: Snapshot,
-    ) -> Result<Frame, AllocError>
-        ensures { IfOk result (IsFresh snapshot tally.now.ends) }
+    pub(crate) fn keeping(alloc: Global, tally: &Tally) -> Result<Frame, AllocError>
+        ensures { IfOk result (IsFresh tally.now.ends) }
     {
         if tally.has_many_ends() {
             return Ok(Frame::new(None));
         }
         let earlier = tally.counts(alloc)?;
-        let kept = Kept {
-            digest,
-            snapshot,
-            earlier,
-        };
-        match Box::new(alloc, kept) {
+        match Box::new(alloc, Kept { earlier }) {
             Ok(kept) => {
                 let held = Frame::new(Some(kept));
                 Ok(held)
             }
             Err(_failed) => Err(AllocError),
-        }
-    }
-
-    /// The state of the place, where it is kept.
-    pub(crate) fn snapshot(&self) -> Option<&Snapshot>
-        ensures { option_map (λ s. s.now) result ≡ option_map (λ k. k.snapshot) (kept_of self.now) }
-    {
-        match &self.kept {
-            Some(kept) => Some(&kept.snapshot),
-            None => None,
         }
     }
 

@@ -1,11 +1,10 @@
 //! The operations that Cancels can take back whole at a place, with the states that they lead back to.
 //! Equal lists of them have one number each, mostly, so that places are compared by numbers.
-ghost use Rattle.std.specs.Prelude.{◌≡◌, ◌∷◌, ◌<◌, ◌≤◌, [], IfNone, IfOk, IfSome, List, Some, length, option_map, slice_get};
+ghost use Rattle.std.specs.Prelude.{◌≡◌, ◌∷◌, ◌<◌, ◌≤◌, [], IfNone, IfOk, IfSome, List, Some, length, slice_get};
 ghost use Rattle.hp_explore.specs.Numbers.{IsBegun, IsEntryOf, IsInFront, IsMadeBy, KeepNumbers, NumbersOn};
-ghost use Rattle.hp_explore.specs.Openings.{Opening, after_cancel, after_work, change_by, change_of};
+ghost use Rattle.hp_explore.specs.Openings.{NumberedOpening, after_cancel, after_work, change_by, change_of};
 
 use crate::digests::mixed;
-use crate::snapshots::Snapshot;
 use hp_units::{Event, Record, Reply, Serial};
 use indexmap::IndexMap;
 use std::alloc::{AllocError, Global};
@@ -26,11 +25,11 @@ pub(crate) enum Change {
     Ends,
 }
 
-/// An operation in front of an earlier list, with the state from before its Begin.
-#[derive(Drop)]
+/// An operation in front of an earlier list, with the number of the state from before its Begin.
+#[derive(Clone, Copy, Drop)]
 pub(crate) struct Entry {
     op: Serial,
-    snapshot: Snapshot,
+    state: usize,
     /// The number of the earlier list.
     below: usize,
 }
@@ -44,14 +43,14 @@ pub(crate) struct Openings {
 
 impl Model for Openings {
     ghost use Rattle.std.specs.Prelude.{List};
-    ghost use Rattle.hp_explore.specs.Numbers.{StandOnEarlier, lists_of};
-    ghost use Rattle.hp_explore.specs.Openings.{Opening};
+    ghost use Rattle.hp_explore.specs.Numbers.{StandOnEarlier, entry_below, openings_of};
+    ghost use Rattle.hp_explore.specs.Openings.{NumberedOpening};
 
-    ghost Value = { List (List Opening) };
+    ghost Value = { List (List NumberedOpening) };
 
-    ghost view = { λ o. lists_of o.entries.items };
+    ghost view = { λ o. openings_of o.entries.items };
 
-    ghost invariant = { λ o. StandOnEarlier o.entries.items };
+    ghost invariant = { λ o. StandOnEarlier entry_below o.entries.items };
 }
 
 /// A function of its own, so that no proof of a caller takes the fields apart.
@@ -75,23 +74,21 @@ impl Openings {
         }
     }
 
-    /// The number after one call more, where it was this one in a state; none where it is not known.
-    /// An error is out of memory.
+    /// The number after one call more, where it was this one in a state of this number; none where it
+    /// is not known. An error is out of memory.
     pub(crate) fn after(
         &mut self,
-        alloc: Global,
         was: Option<usize>,
-        from: Option<&Snapshot>,
+        from: Option<usize>,
         latest: &Record,
     ) -> Result<Option<usize>, AllocError>
         requires { IfSome was (λ number. number < length self.old) }
         ensures kept { KeepNumbers self.old self.new }
-        ensures ok { IfOk result
-            (NumbersOn self.old self.new (option_map (λ s. s.now) from.entry) latest.now was) }
+        ensures ok { IfOk result (NumbersOn self.old self.new from latest.now was) }
     {
         match change_of(latest) {
             Change::Stays => Ok(was),
-            Change::Begins => self.after_begin(alloc, was, from, latest.serial),
+            Change::Begins => self.after_begin(was, from, latest.serial),
             Change::Works { op } => Ok(self.after_work(was, op)),
             Change::Cancels { op } => Ok(self.after_cancel(was, op)),
             Change::Ends => Ok(Some(self.empty())),
@@ -102,14 +99,13 @@ impl Openings {
     /// out of memory.
     fn after_begin(
         &mut self,
-        alloc: Global,
         was: Option<usize>,
-        from: Option<&Snapshot>,
+        from: Option<usize>,
         op: Serial,
     ) -> Result<Option<usize>, AllocError>
         requires { IfSome was (λ number. number < length self.old) }
         ensures kept { KeepNumbers self.old self.new }
-        ensures ok { IfOk result (IsBegun self.old self.new op (option_map (λ s. s.now) from.entry) was) }
+        ensures ok { IfOk result (IsBegun self.old self.new op from was) }
     {
         let Some(below) = was else {
             return Ok(None);
@@ -117,37 +113,26 @@ impl Openings {
         let Some(from) = from else {
             return Ok(None);
         };
-        let number = self.in_front(alloc, op, from, below)?;
+        let number = self.in_front(op, from, below)?;
         Ok(Some(number))
     }
 
     /// The number of the list of an operation in front of an earlier list: one that it has, or a new
     /// one. An error is out of memory.
-    fn in_front(
-        &mut self,
-        alloc: Global,
-        op: Serial,
-        from: &Snapshot,
-        below: usize,
-    ) -> Result<usize, AllocError>
+    fn in_front(&mut self, op: Serial, state: usize, below: usize) -> Result<usize, AllocError>
         requires { below < length self.old }
         ensures kept { KeepNumbers self.old self.new }
-        ensures ok { IfOk result (IsInFront self.old self.new op from.now below) }
+        ensures ok { IfOk result (IsInFront self.old self.new op state below) }
     {
-        let digest = mixed(mixed(from.digest(), op.0), below as u64);
-        if let Some(number) = self.found(digest, op, from, below) {
+        let digest = mixed(mixed(state as u64, op.0), below as u64);
+        if let Some(number) = self.found(digest, op, state, below) {
             return Ok(number);
         }
-        let snapshot = from.copy(alloc)?;
         self.entries.reserve(1)?;
         let number = self.entries.len() + 1;
         match self.latest.insert(digest, number) {
             Ok(_earlier) => {
-                self.entries.push_reserved(Entry {
-                    op,
-                    snapshot,
-                    below,
-                });
+                self.entries.push_reserved(Entry { op, state, below });
                 Ok(number)
             }
             Err(_failed) => Err(AllocError),
@@ -155,8 +140,8 @@ impl Openings {
     }
 
     /// The number of such a list, where the latest of its digest is one.
-    fn found(&self, digest: u64, op: Serial, from: &Snapshot, below: usize) -> Option<usize>
-        ensures { IfSome result (IsInFront self.now self.now op from.now below) }
+    fn found(&self, digest: u64, op: Serial, state: usize, below: usize) -> Option<usize>
+        ensures { IfSome result (IsInFront self.now self.now op state below) }
     {
         let Some(number) = self.latest.get(&digest) else {
             return None;
@@ -164,7 +149,7 @@ impl Openings {
         let Some(entry) = self.entry(*number) else {
             return None;
         };
-        if entry.op == op && entry.below == below && entry.snapshot.same(from) {
+        if entry.op == op && entry.below == below && entry.state == state {
             Some(*number)
         } else {
             None
@@ -216,7 +201,8 @@ impl Openings {
     /// The entry that made the list of a number; none where the list is empty, or there is no such number.
     fn entry(&self, number: usize) -> Option<&Entry>
         ensures some { IfSome result (λ entry. IsEntryOf self.now number entry.now) }
-        ensures none { IfNone result ((os : List Opening) → slice_get self.now number ≡ Some os → os ≡ []) }
+        ensures none { IfNone result ((os : List NumberedOpening)
+            → slice_get self.now number ≡ Some os → os ≡ []) }
     {
         let entries = self.entries.as_slice();
         if number == 0 {

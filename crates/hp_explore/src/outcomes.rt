@@ -1,7 +1,9 @@
 //! How a schedule ends.
 ghost use Rattle.std.specs.Prelude.{◌≡◌, ◌↔◌, IfOk, IsTrue, None, Some, slice_get};
+ghost use Rattle.hp_explore.specs.Digests.{digest_of};
 ghost use Rattle.hp_explore.specs.Outcomes.{ended_row, ended_rows_below, outcome, outcome_with, replies_below, replies_to, told};
 
+use crate::likeness::{copies_of, outcome_digest, same_answers};
 use hp_memory::Memory;
 use hp_steps::Steps;
 use hp_units::{Block, Claim, Cpu, Record, Reply, Row, Serial, State};
@@ -46,6 +48,13 @@ impl Answers {
         let Answers { replies } = self;
         replies.as_slice()
     }
+
+    /// These replies, with no memory taken.
+    pub(crate) fn new(replies: Vec<Reply>) -> Answers
+        ensures { result ≡ replies.items }
+    {
+        Answers { replies }
+    }
 }
 
 impl Outcome {
@@ -71,6 +80,30 @@ impl Outcome {
     {
         let rows = &self.blocks;
         rows.as_slice()
+    }
+
+    /// Whether both are the same.
+    pub fn same(&self, other: &Outcome) -> bool
+        ensures { IsTrue result ↔ (self.now ≡ other.now) }
+    {
+        same_answers(self.replies.as_slice(), other.replies.as_slice())
+            && same_rows(self.blocks.as_slice(), other.blocks.as_slice())
+    }
+
+    /// A digest: that of the same outcome is the same.
+    pub fn digest(&self) -> u64
+        ensures { result ≡ digest_of self.now }
+    {
+        outcome_digest(self)
+    }
+
+    /// A copy. An error is out of memory.
+    pub fn copy(&self, alloc: Global) -> Result<Outcome, AllocError>
+        ensures { IfOk result (λ x. x ≡ self.now) }
+    {
+        let replies = copies_of(alloc, self.replies.as_slice())?;
+        let blocks = self.blocks.iter().copied().collect(alloc)?;
+        Ok(Outcome { replies, blocks })
     }
 
     /// Whether it is the outcome of records, for so many processors, with these rows.

@@ -1,9 +1,11 @@
 //! Where a walk over the schedules stands, with its way back.
-ghost use Rattle.std.specs.Prelude.{◌≡◌, [], Some, IfErr, IfOk, OnErr};
-ghost use Rattle.hp_explore.specs.Faults.{IsCause};
+ghost use Rattle.std.specs.Prelude.{◌≡◌, ◌<◌, [], Some, IfErr, IfOk, OnErr, length};
+ghost use Rattle.hp_units.specs.Receipts.{receipts_of};
+ghost use Rattle.hp_explore.specs.Faults.{IsCauseHere};
 ghost use Rattle.hp_explore.specs.Outcomes.{outcome};
 ghost use Rattle.hp_explore.specs.Paths.{IsBack, IsForth, state_at};
 ghost use Rattle.hp_explore.specs.Schedules.{next_call, plays, schedule_of, setting};
+ghost use Rattle.hp_explore.specs.Scripts.{own_operation};
 
 use crate::exploring::ExploreFault;
 use crate::outcomes::{Outcome, outcome_at};
@@ -14,7 +16,7 @@ use crate::ways::Turn;
 use hp_machine::Machine;
 use hp_memory::Memory;
 use hp_steps::Steps;
-use hp_units::{Cpu, Event, Record};
+use hp_units::{Cpu, Event, Record, Serial};
 use std::alloc::{AllocError, Global};
 use std::marker::Model;
 
@@ -109,6 +111,14 @@ impl<'a> Path<'a> {
         }
     }
 
+    /// The operation that a processor began last among the new records, and 0 where it began none.
+    pub(crate) fn operation(&self, cpu: u32) -> Serial
+        requires { cpu < length self.now.setting.scripts }
+        ensures { result ≡ own_operation (receipts_of cpu self.now.news) }
+    {
+        self.positions.operation(cpu)
+    }
+
     /// How the schedule ends here, if it is complete, for so many processors. An error is out of memory.
     pub fn outcome(&self, alloc: Global, processors: u32) -> Result<Outcome, AllocError>
         ensures { IfOk result (λ x.
@@ -123,7 +133,7 @@ impl<'a> Path<'a> {
     pub fn forward(&mut self, alloc: Global, cpu: u32) -> Result<bool, ExploreFault>
         ensures ok { IfOk result (λ went. IsForth self.old cpu went self.new) }
         ensures err { OnErr result (self.new ≡ self.old) }
-        ensures cause { IfErr result (IsCause self.old.setting) }
+        ensures cause { IfErr result (IsCauseHere self.old.setting self.old.news cpu) }
     {
         advance(
             alloc,

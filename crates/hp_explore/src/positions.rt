@@ -1,12 +1,14 @@
 //! Where all processors are in their scripts.
 ghost use Rattle.std.specs.Prelude.{◌≡◌, ◌<◌, ◌++◌, ◌∷◌, [], IfOk, List, Some, length, map, slice_set};
+ghost use Rattle.hp_units.specs.Receipts.{receipts_of};
 ghost use Rattle.hp_units.specs.declared.replies.Record.{Record as NewRecord};
 ghost use Rattle.hp_explore.specs.Cursors.{AreCursors, IsCalledFor, cursor_at};
 ghost use Rattle.hp_explore.specs.Schedules.{Setting};
+ghost use Rattle.hp_explore.specs.Scripts.{own_operation};
 
 use crate::cursors::{Cursor, Request};
 use crate::scripts::Script;
-use hp_units::{Cpu, Record};
+use hp_units::{Cpu, Record, Serial};
 use std::alloc::{AllocError, Global};
 
 /// Where each processor is in its script, from processor 0 on.
@@ -48,6 +50,16 @@ impl Positions {
             return Ok(None);
         }
         self.cursors[place].request(alloc, cpus, scripts[place].lines())
+    }
+
+    /// The operation that a processor began last, and 0 where it began none.
+    pub(crate) fn operation(&self, cpu: u32) -> Serial
+        requires { cpu < length self.now.cursors.items }
+        ensures { (g : Setting) (news : List NewRecord) → AreCursors g news self.now.cursors.items
+            → result ≡ own_operation (receipts_of cpu news) }
+    {
+        let cursor = &self.cursors[cpu as usize];
+        cursor.operation()
     }
 
     /// Goes on by the call that a processor's script asked for, with its record, and answers where

@@ -1,15 +1,13 @@
 //! Scripts: what each processor asks for, one line after another.
-ghost use Rattle.std.specs.Prelude.{◌≡◌, IfOk, cond, length};
+ghost use Rattle.std.specs.Prelude.{◌≡◌, cond, length};
 ghost use Rattle.std.specs.List.{list_all};
 ghost use Rattle.hp_units.specs.History.{effect_of};
 ghost use Rattle.hp_units.specs.Marks.{is_opening, mark_of};
-ghost use Rattle.hp_units.specs.Receipts.{receipts_of};
 ghost use Rattle.hp_explore.specs.Alike.{leaves_lines, leaves_script, leaves_steps};
 ghost use Rattle.hp_explore.specs.Interleavings.{holds_no_plan, is_one_call};
-ghost use Rattle.hp_explore.specs.Scripts.{own_operation, work_of};
+ghost use Rattle.hp_explore.specs.Scripts.{work_of};
 
-use hp_units::{Cpu, Event, Plan, Receipt, Record, Serial, mark_of};
-use std::alloc::{AllocError, Global};
+use hp_units::{Cpu, Event, Plan, Serial, mark_of};
 use std::marker::Model;
 
 /// What is asked of the operation that the processor itself began last.
@@ -121,40 +119,6 @@ impl Script {
     {
         self.lines.iter().all(|line| line.leaves_steps())
     }
-}
-
-/// The receipts that a processor has of records. An error is out of memory.
-pub(crate) fn receipts_to(
-    alloc: Global,
-    cpu: Cpu,
-    records: &[Record],
-) -> Result<Vec<Receipt>, AllocError>
-    ensures { IfOk result (λ receipts. receipts.items ≡ receipts_of cpu records.now) }
-{
-    let mut receipts = Vec::new(alloc);
-    for record in records {
-        if record.cpu == cpu {
-            let event = record.event.copy(alloc)?;
-            receipts.reserve(1)?;
-            receipts.push_reserved(Receipt {
-                serial: record.serial,
-                event,
-                reply: record.reply,
-            });
-        }
-    }
-    Ok(receipts)
-}
-
-/// The serial of the last Begin, and 0 where there is none.
-pub(crate) fn own_operation(receipts: &[Receipt]) -> Serial
-    ensures { result ≡ own_operation receipts.now }
-{
-    let mut op = Serial(0);
-    for receipt in receipts {
-        op = later_operation(op, receipt.serial, &receipt.event);
-    }
-    op
 }
 
 /// The operation that a processor began last, after a call with this serial more.

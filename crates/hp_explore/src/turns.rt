@@ -5,7 +5,7 @@ ghost use Rattle.hp_units.specs.declared.replies.Record.{Record as NewRecord};
 ghost use Rattle.hp_machine.specs.Machine.{IsHistory};
 ghost use Rattle.hp_steps.specs.Steps.{StepsValue};
 ghost use Rattle.hp_explore.specs.Cursors.{AreCursors};
-ghost use Rattle.hp_explore.specs.Faults.{IsCause, is_full_after};
+ghost use Rattle.hp_explore.specs.Faults.{FillsAlong, IsCauseHere, is_full_after};
 ghost use Rattle.hp_explore.specs.Paths.{IsAdvanced, IsPath, IsTakenBack, IsTurned};
 ghost use Rattle.hp_explore.specs.Schedules.{Setting, next_call, schedule_of, setting};
 ghost use Rattle.hp_explore.specs.Walks.{IsAt, IsGone, IsNextSerial, LeadsTo, may_go_back, news_since, with_record};
@@ -41,7 +41,7 @@ pub(crate) fn advance(
         here.new positions.new.cursors.items turns.new.items) }
     ensures err { OnErr result ((here.new ≡ here.old)
         × (positions.new.cursors.items ≡ positions.old.cursors.items) × (turns.new.items ≡ turns.old.items)) }
-    ensures cause { IfErr result (IsCause (setting start.now scripts.now)) }
+    ensures cause { IfErr result (IsCauseHere (setting start.now scripts.now) here.old.records cpu) }
 {
     turns.reserve(1)?;
     let cpus = start.layout().cpus();
@@ -93,7 +93,7 @@ fn make_turn(
     ensures ok { IfOk result (λ way.
         IsTurned (setting start.now scripts.now) here.old cpu event.now way here.new) }
     ensures err { OnErr result (here.new ≡ here.old) }
-    ensures cause { IfErr result (IsCause (setting start.now scripts.now)) }
+    ensures cause { IfErr result (IsCauseHere (setting start.now scripts.now) here.old.records cpu) }
 {
     let serial = next_serial(start, here.records())?;
     if may_go_back(event) {
@@ -147,7 +147,7 @@ fn steps_after(
     requires serial { IsNextSerial start.now here.now.records serial }
     ensures ok { IfOk result
         (LeadsTo (setting start.now scripts.now) (schedule_of here.now.records ++ cpu ∷ [])) }
-    ensures err { IfErr result (IsCause (setting start.now scripts.now)) }
+    ensures err { IfErr result (IsCauseHere (setting start.now scripts.now) here.now.records cpu) }
 {
     if !is_gone(start, cpu, serial, event) {
         return replayed(alloc, start, scripts, here.records(), cpu);
@@ -196,7 +196,8 @@ fn replayed(
     cpu: u32,
 ) -> Result<Option<Steps>, ExploreFault>
     ensures ok { IfOk result (LeadsTo (setting start.now scripts.now) (schedule_of news.now ++ cpu ∷ [])) }
-    ensures err { IfErr result (IsCause (setting start.now scripts.now)) }
+    ensures along { IfErr result (λ fault. fault ≡ HistoryFull
+        → FillsAlong (setting start.now scripts.now) (schedule_of news.now ++ cpu ∷ [])) }
 {
     let mut schedule = schedule_of(alloc, news)?;
     schedule.reserve(1)?;
@@ -230,7 +231,7 @@ pub(crate) fn steps_of(
 }
 
 /// Copies of records. An error is out of memory.
-pub(crate) fn copies(alloc: Global, records: &[Record]) -> Result<Vec<Record>, AllocError>
+fn copies(alloc: Global, records: &[Record]) -> Result<Vec<Record>, AllocError>
     ensures { IfOk result (λ copies. copies.items ≡ records.now) }
 {
     let mut copies = Vec::with_capacity(alloc, records.len())?;

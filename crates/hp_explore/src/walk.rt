@@ -1,34 +1,36 @@
 //! The walk over all schedules, depth first and processor 0 first, on a stack of its own.
-ghost use Rattle.std.specs.Prelude.{◌≡◌, ◌∷◌, ◌++◌, [], ◌<◌, ◌≤◌, ◌^◌, ℕ, List, Option, true, false, IfErr, IfOk, IsTrue, OnOk, length, reverse, sum_by};
-ghost use Rattle.hp_explore.specs.Faults.{IsCause};
-ghost use Rattle.hp_explore.specs.Frames.{AreTurns, IsAdded, IsComing, IsDone, IsEntered, IsFrame, IsPlaceKept, IsSameWalk, IsTurnedTo, IsWalking, frames_of, left, left_before, standing};
-ghost use Rattle.hp_explore.specs.Fronts.{AreFirst};
+ghost use Rattle.std.specs.Prelude.{◌≡◌, ◌∷◌, ◌++◌, [], ◌<◌, ◌≤◌, ◌^◌, ℕ, List, Option, true, false, IfErr, IfOk, IsTrue, OnOk, length, sum_by};
+ghost use Rattle.hp_explore.specs.Alike.{UndoNothing};
+ghost use Rattle.hp_explore.specs.Frames.{IsAdded, IsComing, IsDone, IsEntered, IsEnteredWithin, IsFrame, IsFresh, IsPlaceWalked, IsSameWalk, IsTurnedTo, IsWalking, frames_of, left, left_before, standing};
+ghost use Rattle.hp_explore.specs.Fronts.{AreFirstInPart};
 ghost use Rattle.hp_explore.specs.Notes.{HasRoom};
-ghost use Rattle.hp_explore.specs.Numbers.{AreNumbered};
+ghost use Rattle.hp_explore.specs.Parts.{IsCausePart, IsOn};
 ghost use Rattle.hp_explore.specs.Paths.{IsBack};
 ghost use Rattle.hp_explore.specs.Schedules.{schedule_of, setting};
-ghost use Rattle.hp_explore.specs.Seen.{Grow, IsMemo};
-ghost use Rattle.hp_explore.specs.Walks.{IsEndNoted, IsOverBelow, IsWalkedBefore, IsWalkedThrough};
+ghost use Rattle.hp_explore.specs.Seen.{IsMemo, IsOnWay};
+ghost use Rattle.hp_explore.specs.Standing.{AreSameNumbers};
+ghost use Rattle.hp_explore.specs.Walks.{IsEndHere, IsEndNoted, IsNotedAtEnd, IsPartWalkedBefore, IsPartWalkedThrough};
+ghost use Rattle.hp_explore.specs.declared.tally.Ending.{Ending};
 
 use crate::closed::is_closed;
-use crate::digests::place_digest;
 use crate::exploring::ExploreFault;
 use crate::frames::{Entry, Frame, Kept, Turned};
-use crate::memo::{Memo, Seen};
+use crate::memo::Memo;
 use crate::outcomes::ended_rows;
+use crate::parts::Part;
 use crate::path::Path;
 use crate::scripts::{Script, undo_nothing};
-use crate::snapshots::Snapshot;
 use crate::tally::{Ending, Tally, fit_in};
-use crate::turns::{copies, latest};
+use crate::turns::latest;
 use crate::watch::Watch;
 use hp_machine::Machine;
 use std::alloc::{AllocError, Global};
 
-/// A walk over the schedules of scripts, and what it counted so far.
+/// A walk over the schedules of scripts that belong to a part, and what it counted so far.
 pub(crate) struct Walk<'a> {
     path: Path<'a>,
     processors: u32,
+    part: Part,
     tally: Tally,
     memo: Memo,
     frames: Vec<Frame>,
@@ -40,6 +42,7 @@ impl<'a> Drop for Walk<'a> {
         let Walk {
             path: _path,
             processors: _,
+            part: _,
             tally: _tally,
             memo: _memo,
             frames: _frames,
@@ -53,27 +56,25 @@ impl<'a> Walk<'a> {
         alloc: Global,
         machine: &'a Machine,
         scripts: &'a [Script],
+        part: Part,
         limit: u64,
     ) -> Result<Walk<'a>, AllocError>
         requires { length scripts.now < 2 ^ 32 }
-        ensures kept { IfOk result (λ walk. IsWalking walk (frames_of walk)) }
+        ensures coming { IfOk result (λ walk. IsComing walk (frames_of walk)) }
         ensures setting { IfOk result (λ walk. walk.path.setting ≡ setting machine.now scripts.now) }
+        ensures part { IfOk result (λ walk. walk.part ≡ part) }
         ensures limit { IfOk result (λ walk. walk.tally.limit ≡ limit) }
     {
         let path = Path::start(alloc, machine, scripts)?;
         let tally = Tally::new(alloc, limit);
-        let memo = Memo::start(alloc, undo_nothing(scripts), is_closed(machine.history()))?;
-        let snapshot = Snapshot::of(alloc, path.memory())?;
-        let first = Frame::keeping(alloc, &tally, 0, snapshot)?;
-        let mut frames = Vec::new(alloc);
-        frames.reserve(1)?;
-        frames.push_reserved(first);
+        let memo = memo_at(alloc, machine, scripts)?;
         Ok(Walk {
             path,
             processors: scripts.len() as u32,
+            part,
             tally,
             memo,
-            frames,
+            frames: Vec::new(alloc),
         })
     }
 
@@ -84,11 +85,12 @@ impl<'a> Walk<'a> {
         alloc: Global,
         watch: &mut W,
     ) -> Result<bool, ExploreFault>
-        requires { IsWalking self.old (frames_of self.old) }
+        requires { IsComing self.old (frames_of self.old) }
         ensures same { OnOk result (IsSameWalk self.old self.new) }
         ensures done { IfOk result (IsDone self.new) }
-        ensures err { IfErr result (IsCause self.old.path.setting) }
+        ensures err { IfErr result (IsCausePart self.old.path.setting self.old.part) }
     {
+        self.come_to(alloc, watch)?;
         'turns: loop {
             match self.step(alloc, watch)? {
                 Turned::On => {}
@@ -103,7 +105,7 @@ impl<'a> Walk<'a> {
         requires { IsWalking self.old (frames_of self.old) }
         ensures same { OnOk result (IsSameWalk self.old self.new) }
         ensures ok { IfOk result (IsTurnedTo self.old self.new) }
-        ensures err { IfErr result (IsCause self.old.path.setting) }
+        ensures err { IfErr result (IsCausePart self.old.path.setting self.old.part) }
     {
         let Some(frame) = self.frames.pop() else {
             return Ok(Turned::Over);
@@ -112,23 +114,38 @@ impl<'a> Walk<'a> {
             self.go_on(alloc, frame, watch)?;
             return Ok(Turned::On);
         }
-        if self.is_full(&frame) {
+        let is_end = self.is_end(&frame);
+        if self.is_full(is_end) {
             return Ok(Turned::Full);
         }
-        self.go_back(alloc, frame, watch)?;
+        self.go_back(alloc, frame, is_end, watch)?;
         Ok(Turned::On)
     }
 
-    /// Whether a schedule ends at a place where all processors had their turn, and as many are counted
-    /// as the limit says.
-    fn is_full(&self, frame: &Frame) -> bool
+    /// Whether a schedule of the part ends at a place where all processors had their turn.
+    fn is_end(&self, frame: &Frame) -> bool
         requires kept { IsWalking self.now (frame.now ∷ frames_of self.now) }
         requires all { self.now.processors ≤ frame.now.next }
-        ensures full { IsTrue result
-            → AreFirst self.now.path.setting self.now.tally.limit self.now.tally.ends }
-        ensures room { result ≡ false → frame.now.is_over ≡ true → HasRoom self.now.tally }
+        ensures { IsEndHere self.now.path.setting self.now.part self.now.path.news result }
     {
         if !frame.is_over {
+            return false;
+        }
+        self.part.is_of(self.processors, self.path.records())
+    }
+
+    /// Whether a schedule of the part ends where all before the walk's place was walked, and as many are
+    /// counted as the limit says.
+    fn is_full(&self, is_end: bool) -> bool
+        requires walked { IsPartWalkedBefore self.now.path.setting self.now.part
+            (schedule_of self.now.path.news ++ self.now.processors ∷ []) self.now.tally.ends }
+        requires processors { self.now.processors ≡ length self.now.path.setting.scripts }
+        requires end { IsEndHere self.now.path.setting self.now.part self.now.path.news is_end }
+        ensures full { IsTrue result
+            → AreFirstInPart self.now.path.setting self.now.part self.now.tally.limit self.now.tally.ends }
+        ensures room { result ≡ false → is_end ≡ true → HasRoom self.now.tally }
+    {
+        if !is_end {
             return false;
         }
         self.path.is_played();
@@ -148,7 +165,7 @@ impl<'a> Walk<'a> {
         ensures same { OnOk result (IsSameWalk self.old self.new) }
         ensures less { OnOk result
             (left self.new (frames_of self.new) < left self.old (frame ∷ frames_of self.old)) }
-        ensures err { IfErr result (IsCause self.old.path.setting) }
+        ensures err { IfErr result (IsCausePart self.old.path.setting self.old.part) }
     {
         self.frames.reserve(1)?;
         self.path.is_played();
@@ -156,15 +173,14 @@ impl<'a> Walk<'a> {
             self.frames.push_reserved(frame.passed());
             return Ok(());
         }
-        self.memo
-            .go_on(alloc, frame.snapshot(), latest(self.path.records()))?;
+        self.memo.go_on(alloc, latest(self.path.records()))?;
         self.frames.push_reserved(frame.led_on());
         self.come_to(alloc, watch)?;
         Ok(())
     }
 
-    /// Comes to a place by a call: it gets a frame of its own, or is left at once where what goes on
-    /// from there is known.
+    /// Comes to a place by a call, or begins: the place gets a frame of its own, or is left at once
+    /// where what goes on from there is known, or is another part's.
     fn come_to<W: Watch>(&mut self, alloc: Global, watch: &mut W) -> Result<(), AllocError>
         requires { IsComing self.old (frames_of self.old) }
         ensures kept { OnOk result (IsWalking self.new (frames_of self.new)) }
@@ -173,12 +189,13 @@ impl<'a> Walk<'a> {
             (left self.new (frames_of self.new) < left_before self.old (frames_of self.old)) }
     {
         self.frames.reserve(1)?;
-        let entry = enter(
+        let entry = arrive(
             alloc,
             &self.path,
+            self.part,
             self.processors,
             &mut self.tally,
-            &self.memo,
+            &mut self.memo,
             watch,
         )?;
         match entry {
@@ -195,24 +212,35 @@ impl<'a> Walk<'a> {
         &mut self,
         alloc: Global,
         frame: Frame,
+        is_end: bool,
         watch: &mut W,
     ) -> Result<(), AllocError>
         requires kept { IsWalking self.old (frame ∷ frames_of self.old) }
         requires all { self.old.processors ≤ frame.next }
-        requires room { frame.is_over ≡ true → HasRoom self.old.tally }
+        requires end { IsEndHere self.old.path.setting self.old.part self.old.path.news is_end }
+        requires room { is_end ≡ true → HasRoom self.old.tally }
         ensures kept { OnOk result (IsWalking self.new (frames_of self.new)) }
         ensures same { OnOk result (IsSameWalk self.old self.new) }
         ensures less { OnOk result
             (left self.new (frames_of self.new) < left self.old (frame ∷ frames_of self.old)) }
     {
-        finish(
+        self.path.is_played();
+        note(
             alloc,
             &self.path,
             self.processors,
-            frame,
+            is_end,
             &mut self.tally,
-            &mut self.memo,
             watch,
+        )?;
+        leave(
+            alloc,
+            &self.path,
+            self.part,
+            self.processors,
+            frame,
+            &self.tally,
+            &mut self.memo,
         )?;
         take_back(&mut self.path, &mut self.memo);
         Ok(())
@@ -226,6 +254,7 @@ impl<'a> Walk<'a> {
         let Walk {
             path: _path,
             processors: _,
+            part: _,
             tally,
             memo: _memo,
             frames: _frames,
@@ -234,51 +263,118 @@ impl<'a> Walk<'a> {
     }
 }
 
+/// No place is kept before any call. An error is out of memory.
+fn memo_at(alloc: Global, machine: &Machine, scripts: &[Script]) -> Result<Memo, AllocError>
+    ensures memo { IfOk result
+        (λ memo. (ends : List Ending) → IsMemo (setting machine.now scripts.now) ends memo) }
+    ensures way { IfOk result (IsOnWay (setting machine.now scripts.now) []) }
+{
+    let is_on = keeps_places(scripts);
+    let memo = Memo::start(alloc, is_on, scripts.len(), is_closed(machine.history()))?;
+    Ok(memo)
+}
+
+/// Whether places are kept: none is where a script undoes steps by their serials, or there is one
+/// script alone.
+fn keeps_places(scripts: &[Script]) -> bool
+    ensures { result ≡ true → UndoNothing scripts.now }
+{
+    if scripts.len() < 2 {
+        return false;
+    }
+    undo_nothing(scripts)
+}
+
 /// Takes the latest call back, where there is one.
 fn take_back(path: &mut Path, memo: &mut Memo)
     ensures back { (cpu : Option ℕ) × IsBack path.old cpu path.new }
-    ensures same { (memo.new.is_on ≡ memo.old.is_on) × (memo.new.seen ≡ memo.old.seen)
-        × (memo.new.lists ≡ memo.old.lists) }
-    ensures numbered { AreNumbered path.old.setting memo.old.lists path.old.news (reverse memo.old.numbers)
-        → AreNumbered path.new.setting memo.new.lists path.new.news (reverse memo.new.numbers) }
+    ensures same { (memo.new.is_on ≡ memo.old.is_on) × (memo.new.rows ≡ memo.old.rows)
+        × AreSameNumbers memo.old.standing memo.new.standing }
+    ensures way { IsOnWay path.old.setting path.old.news memo.old
+        → IsOnWay path.new.setting path.new.news memo.new }
 {
     match path.back() {
-        Some(_cpu) => memo.go_back(),
+        Some(cpu) => memo.go_back(cpu),
         None => {}
     }
 }
 
-/// What a place that the walk comes to is: where all goes on as from a place that was walked before,
-/// what was counted there is counted once more. No place is kept where one processor has all calls.
+/// What a place that the walk comes to is, for a part: another part's is left at once. One with fewer
+/// calls than the parts go by is compared with no other, since schedules of other parts go on from there.
+fn arrive<W: Watch>(
+    alloc: Global,
+    path: &Path,
+    part: Part,
+    processors: u32,
+    tally: &mut Tally,
+    memo: &mut Memo,
+    watch: &mut W,
+) -> Result<Entry, AllocError>
+    requires processors { processors ≡ length path.now.setting.scripts }
+    requires walked { IsPartWalkedBefore path.now.setting part (schedule_of path.now.news) tally.old.ends }
+    requires on { IsOn (length path.now.setting.scripts) part (schedule_of path.now.news) }
+    requires memo { IsMemo path.now.setting tally.old.ends memo.old }
+    requires way { IsOnWay path.now.setting path.now.news memo.old }
+    ensures ok { IfOk result (λ entry. IsEntered path.now part tally.old.ends tally.new.ends entry) }
+    ensures memo { IsMemo path.now.setting tally.old.ends memo.new }
+    ensures way { IsOnWay path.now.setting path.now.news memo.new }
+    ensures limit { tally.new.limit ≡ tally.old.limit }
+{
+    if path.records().len() < part.calls() as usize {
+        let frame = uncompared(alloc, path, processors, memo)?;
+        return Ok(Entry::Open(frame));
+    }
+    if part.leaves_out(processors, path.records()) {
+        return Ok(Entry::Counted);
+    }
+    enter(alloc, path, processors, tally, memo, watch)
+}
+
+/// The frame of a place that is compared with no other. Its state gets a number, since operations that
+/// begin there go back to it. An error is out of memory.
+fn uncompared(
+    alloc: Global,
+    path: &Path,
+    processors: u32,
+    memo: &mut Memo,
+) -> Result<Frame, AllocError>
+    requires processors { processors ≡ length path.now.setting.scripts }
+    requires way { IsOnWay path.now.setting path.now.news memo.old }
+    ensures fresh { IfOk result (λ frame. (ends : List Ending) → IsFresh ends frame) }
+    ensures memo { (ends : List Ending) → IsMemo path.now.setting ends memo.old
+        → IsMemo path.now.setting ends memo.new }
+    ensures way { IsOnWay path.now.setting path.now.news memo.new }
+{
+    let _key = memo.come_to(alloc, path, processors)?;
+    Ok(Frame::new(None))
+}
+
+/// What a place is from which only schedules of one part go on: where all goes on as from a place that
+/// was walked before, what was counted there is counted once more.
 fn enter<W: Watch>(
     alloc: Global,
     path: &Path,
     processors: u32,
     tally: &mut Tally,
-    memo: &Memo,
+    memo: &mut Memo,
     watch: &mut W,
 ) -> Result<Entry, AllocError>
     requires processors { processors ≡ length path.now.setting.scripts }
-    requires walked { IsWalkedBefore path.now.setting (schedule_of path.now.news) tally.old.ends }
-    requires memo { IsMemo path.now.setting tally.old.ends memo.now }
-    requires numbered { AreNumbered path.now.setting memo.now.lists path.now.news (reverse memo.now.numbers) }
-    ensures ok { IfOk result (λ entry. IsEntered path.now tally.old.ends tally.new.ends entry) }
+    requires memo { IsMemo path.now.setting tally.old.ends memo.old }
+    requires way { IsOnWay path.now.setting path.now.news memo.old }
+    ensures ok { IfOk result (IsEnteredWithin path.now tally.old.ends tally.new.ends) }
+    ensures memo { IsMemo path.now.setting tally.old.ends memo.new }
+    ensures way { IsOnWay path.now.setting path.now.news memo.new }
     ensures limit { tally.new.limit ≡ tally.old.limit }
 {
-    let Some(openings) = memo.number() else {
+    let Some(key) = memo.come_to(alloc, path, processors)? else {
         return Ok(Entry::Open(Frame::new(None)));
     };
-    if !memo.is_on() || processors < 2 {
-        return Ok(Entry::Open(Frame::new(None)));
-    }
     path.is_played();
-    let snapshot = Snapshot::of(alloc, path.memory())?;
-    let digest = place_digest(&snapshot, path.records());
-    let news = path.records();
-    if let Some(counts) = memo.counts_like(alloc, digest, &snapshot, openings, news, processors)? {
+    if let Some(counts) = memo.counts_at(key.as_slice()) {
         return Ok(add_counts(tally, counts, watch));
     }
-    let frame = Frame::keeping(alloc, tally, digest, snapshot)?;
+    let frame = Frame::keeping(alloc, tally)?;
     Ok(Entry::Open(frame))
 }
 
@@ -297,60 +393,21 @@ fn add_counts<W: Watch>(tally: &mut Tally, counts: &[u64], watch: &mut W) -> Ent
     Entry::Counted
 }
 
-/// Counts the schedule that led to a place where no script asked for anything, and keeps the place
-/// where it is to be kept.
-fn finish<W: Watch>(
-    alloc: Global,
-    path: &Path,
-    processors: u32,
-    frame: Frame,
-    tally: &mut Tally,
-    memo: &mut Memo,
-    watch: &mut W,
-) -> Result<(), AllocError>
-    requires processors { processors ≡ length path.now.setting.scripts }
-    requires all { processors ≤ frame.next }
-    requires turns { AreTurns path.now.setting path.now.news tally.old.ends frame }
-    requires frame { IsFrame path.now.setting path.now.news tally.old.ends frame }
-    requires memo { IsMemo path.now.setting tally.old.ends memo.old }
-    requires numbered { AreNumbered path.now.setting memo.old.lists path.now.news (reverse memo.old.numbers) }
-    requires room { frame.is_over ≡ true → HasRoom tally.old }
-    ensures ok { OnOk result
-        (IsWalkedThrough path.now.setting (schedule_of path.now.news) tally.new.ends) }
-    ensures grows { OnOk result (Grow tally.old.ends tally.new.ends) }
-    ensures memo { OnOk result (IsMemo path.now.setting tally.new.ends memo.new) }
-    ensures way { (memo.new.lists ≡ memo.old.lists) × (memo.new.numbers ≡ memo.old.numbers) }
-    ensures limit { tally.new.limit ≡ tally.old.limit }
-{
-    note(alloc, path, processors, frame.is_over, tally, watch)?;
-    let held = frame.kept;
-    if let Some(kept) = held {
-        keep(alloc, path, Box::into_inner(kept), tally, memo)?;
-    }
-    Ok(())
-}
-
-/// Counts the schedule that led to a place, where no script asked for anything there.
+/// Counts the schedule that led to a place where one of the part ends.
 fn note<W: Watch>(
     alloc: Global,
     path: &Path,
     processors: u32,
-    is_over: bool,
+    is_end: bool,
     tally: &mut Tally,
     watch: &mut W,
 ) -> Result<(), AllocError>
-    requires processors { processors ≡ length path.now.setting.scripts }
-    requires walked { IsWalkedBefore path.now.setting (schedule_of path.now.news ++ processors ∷ [])
-        tally.old.ends }
-    requires over { IsOverBelow path.now.setting path.now.news processors is_over }
-    requires room { is_over ≡ true → HasRoom tally.old }
+    requires { is_end ≡ true → HasRoom tally.old }
     ensures ok { OnOk result
-        (IsWalkedThrough path.now.setting (schedule_of path.now.news) tally.new.ends) }
-    ensures grows { OnOk result (Grow tally.old.ends tally.new.ends) }
+        (IsNotedAtEnd is_end processors (standing path.now) tally.old.ends tally.new.ends) }
     ensures limit { tally.new.limit ≡ tally.old.limit }
 {
-    path.is_played();
-    if is_over {
+    if is_end {
         note_end(alloc, processors, path, tally, watch)
     } else {
         Ok(())
@@ -375,32 +432,57 @@ fn note_end<W: Watch>(
     noted
 }
 
+/// Keeps a place from which all is counted, where it is to be kept, and only schedules of the part go
+/// on from there. An error is out of memory.
+fn leave(
+    alloc: Global,
+    path: &Path,
+    part: Part,
+    processors: u32,
+    frame: Frame,
+    tally: &Tally,
+    memo: &mut Memo,
+) -> Result<(), AllocError>
+    requires processors { processors ≡ length path.now.setting.scripts }
+    requires frame { IsFrame path.now.setting part path.now.news tally.now.ends frame }
+    requires through { IsPartWalkedThrough path.now.setting part (schedule_of path.now.news) tally.now.ends }
+    requires memo { IsMemo path.now.setting tally.now.ends memo.old }
+    requires way { IsOnWay path.now.setting path.now.news memo.old }
+    ensures memo { OnOk result (IsMemo path.now.setting tally.now.ends memo.new) }
+    ensures same { (memo.new.is_on ≡ memo.old.is_on) × (memo.new.standing ≡ memo.old.standing) }
+{
+    if path.records().len() < part.calls() as usize {
+        return Ok(());
+    }
+    let held = frame.kept;
+    if let Some(kept) = held {
+        keep(alloc, path, processors, Box::into_inner(kept), tally, memo)?;
+    }
+    Ok(())
+}
+
 /// Keeps a place from which all is counted, with what each end counts more since the walk came
 /// there. An error is out of memory.
 fn keep(
     alloc: Global,
     path: &Path,
+    processors: u32,
     kept: Kept,
     tally: &Tally,
     memo: &mut Memo,
 ) -> Result<(), AllocError>
-    requires kept { IsPlaceKept path.now.setting path.now.news tally.now.ends kept }
-    requires through { IsWalkedThrough path.now.setting (schedule_of path.now.news) tally.now.ends }
+    requires processors { processors ≡ length path.now.setting.scripts }
+    requires walked { IsPlaceWalked path.now.setting path.now.news tally.now.ends kept }
     requires memo { IsMemo path.now.setting tally.now.ends memo.old }
-    requires numbered { AreNumbered path.now.setting memo.old.lists path.now.news (reverse memo.old.numbers) }
+    requires way { IsOnWay path.now.setting path.now.news memo.old }
     ensures memo { OnOk result (IsMemo path.now.setting tally.now.ends memo.new) }
-    ensures way { (memo.new.lists ≡ memo.old.lists) × (memo.new.numbers ≡ memo.old.numbers) }
+    ensures same { (memo.new.is_on ≡ memo.old.is_on) × (memo.new.standing ≡ memo.old.standing) }
 {
-    let Some(openings) = memo.number() else {
+    let Some(key) = memo.key(alloc, path, processors)? else {
         return Ok(());
     };
     path.is_played();
-    let Kept {
-        digest,
-        snapshot,
-        earlier,
-    } = kept;
+    let Kept { earlier } = kept;
     let counts = tally.since(alloc, earlier.as_slice())?;
-    let news = copies(alloc, path.records())?;
-    memo.add(digest, Seen::new(snapshot, news, openings, counts))
+    memo.keep(key, counts.as_slice())
 }

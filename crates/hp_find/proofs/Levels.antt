@@ -1,5 +1,5 @@
 -- From level to level of a search, and what all ends say.
-use Rattle.std.proofs.Common.{◌≡◌, ℕ, ◌+◌, ◌<◌, ◌≤◌, Bool, true, false, List, Some, slice_get, sum_by, refl, sym, subst, arith, inl, inr}
+use Rattle.std.proofs.Common.{◌≡◌, ℕ, ◌<◌, ◌≤◌, Bool, true, false, List, Some, sum_by, refl, sym, subst, arith, inl, inr}
 use Rattle.std.specs.Prelude.{◌⊎◌}
 use Rattle.hp_explore.specs.Ends.{AreEnds}
 use Rattle.hp_explore.specs.Faults.{FillsHistory, HasMoreThan, IsCause}

@@ -4,7 +4,7 @@ use Rattle.std.proofs.lemmas.List.{append_assoc, append-nil}
 use Rattle.std.proofs.lemmas.Option.{none-some}
 use Rattle.hp_units.specs.declared.events.Event.{Event}
 use Rattle.hp_units.specs.declared.replies.Record.{Record}
-use Rattle.hp_explore.specs.Orders.{Extends, IsBefore}
+use Rattle.hp_explore.specs.Orders.{Extends}
 use Rattle.hp_explore.specs.Schedules.{Setting, next_call, plays}
 use Rattle.hp_explore.proofs.Plays.{asks_within, none_through, stops}
 use Rattle.hp_explore.proofs.Regions.{before_first, before_longer, before_next, extends_before}

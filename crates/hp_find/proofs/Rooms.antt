@@ -1,36 +1,11 @@
 -- The room for the calls of a schedule that grows and is taken back.
-use Rattle.std.proofs.Common.{◌≡◌, ℕ, ◌+◌, true, false, List, [], ◌∷◌, ◌++◌, length, Some, refl, ap, sym, ◌∙◌, arith, inl, inr}
-use Rattle.std.specs.Prelude.{◌⊎◌}
+use Rattle.std.proofs.Common.{◌≡◌, ℕ, ◌+◌, false, List, [], ◌∷◌, ◌++◌, length, Some, ap, sym, ◌∙◌, arith, inl, inr}
 use Rattle.std.proofs.lemmas.List.{append_assoc, length-append, length_push, same_from_push}
-use Rattle.std.proofs.lemmas.Option.{same_Some}
 use Rattle.hp_units.specs.declared.replies.Record.{Record}
-use Rattle.hp_explore.specs.Faults.{HasNoRoom, is_full_after}
-use Rattle.hp_explore.specs.Orders.{Extends}
+use Rattle.hp_explore.specs.Faults.{is_full_after}
 use Rattle.hp_explore.specs.Schedules.{Setting, plays}
-use Rattle.hp_explore.proofs.Regions.{extends_cons}
+use Rattle.hp_explore.proofs.Rooms.{push_extends, was_room}
 use Rattle.hp_find.specs.Reaching.{HasRoomAlong}
-
--- a schedule with one call more is another, or goes on from it before that call
-push_extends : (s q rest : List ℕ) (c : ℕ) → s ++ c ∷ [] ≡ q ++ rest → (s ++ c ∷ [] ≡ q) ⊎ Extends s q
-push_extends s [] rest c is = inr (s, refl)
-push_extends [] (d ∷ []) rest c is = inl (let same : c ≡ d = cc in ap (λ (n : ℕ). n ∷ []) same)
-push_extends [] (d ∷ e ∷ q) rest c is = absurd cc
-push_extends (a ∷ s) (d ∷ q) rest c is =
-    let first : a ≡ d = cc in
-    let others : s ++ c ∷ [] ≡ q ++ rest = cc in
-    elim (push_extends s q rest c others) [
-      | inl same ↦ inl (ap (λ (n : ℕ). n ∷ (s ++ c ∷ [])) first ∙ ap (λ (t : List ℕ). d ∷ t) same)
-      | inr on ↦ inr (extends_cons d a s q first on)
-    ]
-
--- a call that was made had room
-was_room : (g : Setting) (p : List ℕ) (news : List Record) (s : List ℕ) → plays g p ≡ Some news
-    → is_full_after g news ≡ false → s ≡ p → HasNoRoom g s → ⊥
-was_room g p news s played room same h =
-    let news_same : h.news ≡ news = same_Some h.news news (sym h.played ∙ (ap (plays g) same ∙ played)) in
-    let both : true ≡ false =
-    sym h.full ∙ (ap (λ (xs : List Record). is_full_after g xs) news_same ∙ room) in
-    cc
 
 -- no call has room
 pub room_none : (g : Setting) → HasRoomAlong g []

@@ -1,7 +1,7 @@
 //! The search of the schedules that change the processor only so often, depth first and processor 0
 //! first.
 ghost use Rattle.std.specs.Prelude.{◌≡◌, ◌<◌, ◌+◌, ◌^◌, ◌↔◌, [], IfErr, IfOk, IsTrue, OnOk, option_map, length};
-ghost use Rattle.hp_explore.specs.Faults.{IsCause};
+ghost use Rattle.hp_explore.specs.Faults.{IsCause, IsCauseHere};
 ghost use Rattle.hp_explore.specs.Schedules.{schedule_of, setting};
 ghost use Rattle.hp_find.specs.Reaching.{IsFirstWithin, Reaches};
 ghost use Rattle.hp_find.specs.Searches.{IsDown, IsOver, IsSearching, IsTurned, IsUp};
@@ -116,7 +116,8 @@ impl<'a> Search<'a> {
     fn down(&mut self, alloc: Global, budget: u64) -> Result<(), ExploreFault>
         requires { self.old.next + 1 < 2 ^ 32 }
         ensures ok { OnOk result (IsDown budget self.old self.new) }
-        ensures err { IfErr result (IsCause self.old.path.setting) }
+        ensures err { IfErr result
+            (IsCauseHere self.old.path.setting self.old.path.news self.old.next) }
     {
         let cpu = Cpu(self.next);
         if changes_with(self.schedule.as_slice(), cpu) > u128::from(budget) {

@@ -1,10 +1,11 @@
 //! Two scripts on a small machine. What an exploration finds is compared with every order of random
 //! scripts by docs/check_find.py.
-ghost use Rattle.std.specs.Prelude.{◌≡◌, IfOk, length};
+ghost use Rattle.std.specs.Prelude.{◌≡◌, ◌<◌, ◌^◌, IfOk, length};
 
 use hp_explore::{
-    Answers, Ending, Line, Script, Silent, alike_places_go_on_alike, counts_are_unique, explore,
-    interleavings_are_counted, kept_counts_are_added, play, schedules_are_interleavings,
+    Answers, Ending, Line, Part, Script, Silent, alike_places_go_on_alike, counts_are_unique,
+    explore, explore_part, interleavings_are_counted, kept_counts_are_added, play,
+    schedules_are_interleavings,
 };
 use hp_machine::Machine;
 use hp_units::{Boot, Cpu, Event, Frame, Layout, Order, Parts, Refusal, Reply};
@@ -115,6 +116,99 @@ fn a_block_goes_to_the_first(rt: HostRuntime) -> Result<(), Fail> {
     let served = goes_to_the_first(rt.alloc(), &machine);
     drop(machine);
     assert!(rt; served?);
+    Ok(())
+}
+
+/// Three lines that ask for a frame each.
+fn three_lines(alloc: Global) -> Result<Vec<Line>, AllocError> {
+    let lines = vec![in alloc;
+        Line::Ask(Event::KernelAlloc { order: Order(0) }),
+        Line::Ask(Event::KernelAlloc { order: Order(0) }),
+        Line::Ask(Event::KernelAlloc { order: Order(0) }),
+    ]?;
+    Ok(lines)
+}
+
+/// The scripts of two processors with three such lines each.
+fn three_asks(alloc: Global) -> Result<Vec<Script>, AllocError>
+    ensures { IfOk result (λ scripts. length scripts.items ≡ 2) }
+{
+    let zero = three_lines(alloc)?;
+    let one = three_lines(alloc)?;
+    scripts(zero, one, alloc)
+}
+
+/// How many schedules ends count.
+fn total(ends: &[Ending]) -> u64 {
+    let mut sum: u64 = 0;
+    for end in ends {
+        sum = sum.wrapping_add(end.count);
+    }
+    sum
+}
+
+/// How many schedules of scripts belong to a part that goes by two calls; none where there is no such
+/// part, or they are not all counted.
+fn count_in_part(
+    alloc: Global,
+    machine: &Machine,
+    scripts: &[Script],
+    index: u32,
+    of: u32,
+) -> Option<u64>
+    requires { length scripts.now < 2 ^ 32 }
+{
+    let part = Part::new(index, of, 2)?;
+    match explore_part(alloc, machine, scripts, part, 100, &mut Silent) {
+        Ok(explored) => Some(total(explored.ends.as_slice())),
+        Err(_fault) => None,
+    }
+}
+
+/// How many schedules so many parts count in all.
+fn count_in_parts(alloc: Global, machine: &Machine, scripts: &[Script], of: u32) -> Option<u64>
+    requires { length scripts.now < 2 ^ 32 }
+{
+    let mut sum: u64 = 0;
+    for index in 0..of {
+        let count = count_in_part(alloc, machine, scripts, index, of)?;
+        sum = sum.wrapping_add(count);
+    }
+    Some(sum)
+}
+
+/// Whether so many parts count the 20 orders of three calls and three, as `explore` does.
+fn parts_count_all(alloc: Global, machine: &Machine, of: u32) -> Result<bool, AllocError> {
+    let scripts = three_asks(alloc)?;
+    let all = match explore(alloc, machine, scripts.as_slice(), 100, &mut Silent) {
+        Ok(explored) => total(explored.ends.as_slice()),
+        Err(_fault) => 0,
+    };
+    Ok(all == 20 && count_in_parts(alloc, machine, scripts.as_slice(), of) == Some(all))
+}
+
+/// Whether a part shows these numbers.
+fn shows(part: &Part, index: u32, of: u32, calls: u32) -> bool {
+    part.index() == index && part.of() == of && part.calls() == calls
+}
+
+#[test]
+fn a_part_shows_its_numbers(rt: HostRuntime) {
+    assert!(rt; shows(&Part::whole(), 0, 1, 0));
+    assert!(rt; Part::new(1, 3, 2).is_some_and(|part| shows(&part, 1, 3, 2)));
+    assert!(rt; Part::new(3, 3, 2).is_none());
+}
+
+#[test]
+fn parts_add_up(rt: HostRuntime) -> Result<(), Fail> {
+    let machine = booted(rt.alloc())?;
+    let one = parts_count_all(rt.alloc(), &machine, 1);
+    let three = parts_count_all(rt.alloc(), &machine, 3);
+    let seven = parts_count_all(rt.alloc(), &machine, 7);
+    drop(machine);
+    assert!(rt; one?);
+    assert!(rt; three?);
+    assert!(rt; seven?);
     Ok(())
 }
 

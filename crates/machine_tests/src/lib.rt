@@ -1,8 +1,9 @@
 //! Tests of the machine: each public function once, on small layouts.
 //!
-//! Each module tests one crate through what it makes public: `memories` tests hp_memory, `histories`
-//! hp_history, `machines` hp_machine, `explorations` hp_explore; `layouts` are the layouts that they
-//! share. The crate has nothing but tests: run them by `rt test` in this folder.
+//! Each module tests a crate through what it makes public: `memories` tests hp_memory, and below it
+//! `codes` hp_codes, `histories` hp_history, `machines` hp_machine, `explorations` hp_explore;
+//! `layouts` are the layouts that they share. The crate has nothing but tests: run them by `rt test` in
+//! this folder.
 #![tactic(auto)]
 
 #[cfg(test)]

@@ -1,6 +1,7 @@
 //! Worked steps of a memory in layers.
 ghost use Rattle.std.specs.Prelude.{◌≡◌};
 
+mod codes;
 mod image_steps;
 
 use crate::layouts::four_blocks;

@@ -1,5 +1,5 @@
 use Rattle.hp_explore.proofs.ClosedNets.{closed_told}
-use Rattle.hp_explore.proofs.Merges.{merged}
+use Rattle.hp_explore.proofs.OfPart.{merged_all}
 use Rattle.hp_explore.proofs.laws.kept_counts_are_added.Goals as goal
 
 pub returns-clause-closed : goal.returns-clause-closed
@@ -7,4 +7,5 @@ returns-clause-closed c = λ h told. closed_told h told
 
 pub returns-clause-merged : goal.returns-clause-merged
 returns-clause-merged c =
-    λ g q k seen old new all second alike is ok adds. merged g q k seen old new all second alike is ok adds
+    λ g q k seen old new all second alike is ok adds.
+    merged_all g q k seen old new all second alike is ok adds

@@ -2,11 +2,11 @@
 use Rattle.std.proofs.Common.{◌≡◌, false, true, ◌++◌, ◌∷◌, [], List, sym, subst, ◌∙◌}
 use Rattle.hp_units.specs.declared.replies.Record.{Record}
 use Rattle.std.proofs.lemmas.Result.{err_from_is_err_and}
-use Rattle.hp_explore.specs.Faults.{IsCause, is_full_after}
+use Rattle.hp_explore.specs.Faults.{IsCauseHere, is_full_after}
 use Rattle.hp_explore.specs.Schedules.{schedule_of, setting}
 use Rattle.hp_explore.specs.Walks.{IsNextSerial, LeadsTo}
 use Rattle.hp_explore.proofs.Stepped.{leads_on}
-use Rattle.hp_explore.proofs.Turning.{turned_full, turned_kept, turned_step}
+use Rattle.hp_explore.proofs.Turning.{turned_kept, turned_step}
 use Rattle.hp_explore.proofs.turns.make_turn.Goals as goal
 use Rattle.hp_explore.proofs.turns.make_turn.Goals.{In_ok-serial}
 
@@ -55,6 +55,8 @@ returns-in_err-serial-clause-cause c =
     let g = setting c.args.start.now c.args.scripts.now in
     let p = err_from_is_err_and c.from_residual.result c.from_residual.ensures.1 in
     rw (p.1, p.2)
-    (subst (IsCause g) (sym c.in_err-serial.ensures.err.0)
-    (turned_full g c.args.here.now c.args.cpu c.args.event.now c.requires.at c.requires.asked
-    (subst (λ (h : List Record). is_full_after g h ≡ true) c.records.ensures c.in_err-serial.ensures.err.1)))
+    (subst (IsCauseHere g c.args.here.now.records c.args.cpu) (sym c.in_err-serial.ensures.err.0) (
+      c.args.event.now,
+      c.requires.asked,
+      subst (λ (h : List Record). is_full_after g h ≡ true) c.records.ensures c.in_err-serial.ensures.err.1,
+    ))

@@ -1,13 +1,12 @@
--- What is kept is the state, and the counts of now.
-use Rattle.std.proofs.Common.{refl}
+-- What is kept is the counts of now.
 use Rattle.hp_explore.proofs.Framing.{bare_fresh, kept_fresh}
 use Rattle.hp_explore.proofs.frames.Frame.keeping.Goals as goal
 
 pub returns-then-has_many_ends : goal.returns-then-has_many_ends
-returns-then-has_many_ends c = bare_fresh c.args.snapshot c.args.tally.now.ends c.new.result c.new.ensures
+returns-then-has_many_ends c = bare_fresh c.args.tally.now.ends c.new.result c.new.ensures
 
 pub returns-in-Ok : goal.returns-in-Ok
 returns-in-Ok c =
-    kept_fresh c.args.snapshot c.args.tally.now.ends c.new-held.result c.in-Ok.kept
-    (record { digest = c.args.digest; snapshot = c.args.snapshot; earlier = c.in_ok-earlier.earlier })
-    c.new-held.ensures c.in-Ok.ensures.ok refl c.in_ok-earlier.ensures
+    kept_fresh c.args.tally.now.ends c.new-held.result c.in-Ok.kept
+    (record { earlier = c.in_ok-earlier.earlier }) c.new-held.ensures c.in-Ok.ensures.ok
+    c.in_ok-earlier.ensures

@@ -1,7 +1,7 @@
 -- Where another operation is the first, or the list is empty, nothing is left.
 use Rattle.std.proofs.Common.{◌≡◌, [], Bor, IfNone, IfSome, List, Option, Some, refl, slice_get, subst, sym, ◌∙◌}
 use Rattle.hp_explore.specs.Numbers.{IsEntryOf}
-use Rattle.hp_explore.specs.Openings.{Opening, after_work}
+use Rattle.hp_explore.specs.Openings.{NumberedOpening, after_work}
 use Rattle.hp_explore.specs.declared.openings.Entry.{Entry}
 use Rattle.hp_explore.proofs.Numbered.{made_empty, other_work, same_work}
 use Rattle.hp_explore.proofs.openings.Openings.after_work.Goals as goal
@@ -10,7 +10,7 @@ pub returns-in_default-entry : goal.returns-in_default-entry
 returns-in_default-entry c =
     made_empty (after_work c.args.worked) c.args.self.now c.args.was c.in-Some.number c.empty.result refl
     c.in-Some.is
-    (subst (λ (o : Option (Bor Entry)). IfNone o ((os : List Opening)
+    (subst (λ (o : Option (Bor Entry)). IfNone o ((os : List NumberedOpening)
     → slice_get c.args.self.now c.in-Some.number ≡ Some os → os ≡ [])) c.in_default-entry.is
     c.entry.ensures.none)
     c.empty.ensures

@@ -1,7 +1,7 @@
 -- One turn more, with its way back; or all stays.
 use Rattle.std.proofs.Common.{subst}
 use Rattle.std.proofs.lemmas.Result.{IfErr-weaker, IfOk-weaker}
-use Rattle.hp_explore.specs.Faults.{IsCause}
+use Rattle.hp_explore.specs.Faults.{IsCauseHere}
 use Rattle.hp_explore.specs.Paths.{PathValue}
 use Rattle.hp_explore.specs.Schedules.{setting}
 use Rattle.hp_explore.proofs.Paths.{forth_shown, path_advanced}
@@ -26,5 +26,5 @@ returns-clause-ok c =
 pub returns-clause-cause : goal.returns-clause-cause
 returns-clause-cause c =
     IfErr-weaker c.advance.result _ _
-    (λ fault cause. subst (λ (p : PathValue). IsCause p.setting fault) c.self.view_is cause)
+    (λ fault cause. subst (λ (p : PathValue). IsCauseHere p.setting p.news c.args.cpu fault) c.self.view_is cause)
     c.advance.ensures.cause

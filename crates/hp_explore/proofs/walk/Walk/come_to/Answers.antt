@@ -3,7 +3,7 @@ use Rattle.std.proofs.Common.{◌+◌, ◌*◌, ◌-◌, ◌^◌, ◌<◌, List,
 use Rattle.hp_explore.specs.Frames.{AreBelow, AreWalked, IsEntered, digits, frames_of, left_of}
 use Rattle.hp_explore.specs.Schedules.{Setting, schedule_of}
 use Rattle.hp_explore.specs.Seen.{IsMemo}
-use Rattle.hp_explore.specs.Walks.{IsWalkedBefore}
+use Rattle.hp_explore.specs.Walks.{IsPartWalkedBefore}
 use Rattle.hp_explore.specs.declared.frames.Frame.{Frame}
 use Rattle.hp_explore.specs.declared.tally.Ending.{Ending}
 use Rattle.hp_explore.proofs.Framing.{back_setting, below_many, frames_pushed, walk_opens}
@@ -16,20 +16,22 @@ pub returns-in-Counted-clause-kept : goal.returns-in-Counted-clause-kept
 returns-in-Counted-clause-kept o c =
     let w = c.args.self.now in
     let entered =
-    subst (IsEntered w.path w.tally.ends c.enter.new.tally.ends) c.in-Counted.is
+    subst (IsEntered w.path w.part w.tally.ends c.arrive.new.tally.ends) c.in-Counted.is
     c.in_ok-entry.ensures.ok in
     let all =
-    gone_back w.path.setting w.tally.ends c.enter.new.tally.ends w.path.news (frames_of w)
+    gone_back w.path.setting w.part w.tally.ends c.arrive.new.tally.ends w.path.news (frames_of w)
     (reverse c.reserve.new.self.items) c.take_back.ensures.back.0 c.take_back.new.path c.take_back.new.memo
     w.processors (ap reverse c.in_ok-reserve.ensures.items) entered.1 c.requires.below entered.0
     c.take_back.ensures.back.1
-    (memo_same w.path.setting c.enter.new.tally.ends w.memo c.take_back.new.memo c.take_back.ensures.same
-    (memo_added w.path.setting w.tally.ends c.enter.new.tally.ends w.memo entered.1 c.requires.memo))
+    (memo_same w.path.setting c.arrive.new.tally.ends c.arrive.new.memo c.take_back.new.memo
+    c.take_back.ensures.same
+    (memo_added w.path.setting w.tally.ends c.arrive.new.tally.ends c.arrive.new.memo entered.1
+    c.arrive.ensures.memo))
     c.requires.processors c.requires.short in
     record {
       walked = all.0;
       memo = all.1;
-      numbered = c.take_back.ensures.numbered c.requires.numbered;
+      way = c.take_back.ensures.way c.arrive.ensures.way;
       processors = all.2;
       few = c.requires.few;
       short = all.3;
@@ -54,28 +56,30 @@ returns-in-Counted-clause-same o c =
     let w = c.args.self.now in (
       back_setting w.path.setting w.path.news c.take_back.ensures.back.0 w.path c.take_back.new.path refl
           c.take_back.ensures.back.1,
-      c.enter.ensures.limit,
+      c.arrive.ensures.limit,
+      refl,
     )
 
 pub returns-in-Open-clause-kept : goal.returns-in-Open-clause-kept
 returns-in-Open-clause-kept o c =
     let w = c.args.self.now in
     let g = w.path.setting in
-    let ends = c.enter.new.tally.ends in
+    let ends = c.arrive.new.tally.ends in
     let entered =
-    subst (IsEntered w.path w.tally.ends ends) c.in-Open.is c.in_ok-entry.ensures.ok in
+    subst (IsEntered w.path w.part w.tally.ends ends) c.in-Open.is c.in_ok-entry.ensures.ok in
     let pushed =
     frames_pushed w.frames.items c.reserve.new.self.items c.push_reserved.new.self.items c.in-Open.frame
     c.in_ok-reserve.ensures.items c.push_reserved.ensures.items in
     record {
       walked =
-          subst (AreWalked g ends w.path.news) (sym pushed)
-          (walk_opens g ends w.path.news c.in-Open.frame (frames_of w) entered.1 entered.2 entered.3
-          (subst (IsWalkedBefore g (schedule_of w.path.news)) (sym entered.0) c.requires.walked)
-          (subst (λ (es : List Ending). AreBelow g es w.path.news (frames_of w)) (sym entered.0)
+          subst (AreWalked g w.part ends w.path.news) (sym pushed)
+          (walk_opens g w.part ends w.path.news c.in-Open.frame (frames_of w) entered.1 entered.2 entered.3
+          (subst (IsPartWalkedBefore g w.part (schedule_of w.path.news)) (sym entered.0) c.requires.walked)
+          (subst (λ (es : List Ending). AreBelow g w.part es w.path.news (frames_of w)) (sym entered.0)
           c.requires.below));
-      memo = subst (λ (es : List Ending). IsMemo g es w.memo) (sym entered.0) c.requires.memo;
-      numbered = c.requires.numbered;
+      memo = subst (λ (es : List Ending). IsMemo g es c.arrive.new.memo)
+          (sym entered.0) c.arrive.ensures.memo;
+      way = c.arrive.ensures.way;
       processors = c.requires.processors;
       few = c.requires.few;
       short = c.requires.short;
@@ -85,7 +89,8 @@ pub returns-in-Open-clause-less : goal.returns-in-Open-clause-less
 returns-in-Open-clause-less o c =
     let w = c.args.self.now in
     let entered =
-    subst (IsEntered w.path w.tally.ends c.enter.new.tally.ends) c.in-Open.is c.in_ok-entry.ensures.ok in
+    subst (IsEntered w.path w.part w.tally.ends c.arrive.new.tally.ends) c.in-Open.is
+    c.in_ok-entry.ensures.ok in
     let pushed =
     frames_pushed w.frames.items c.reserve.new.self.items c.push_reserved.new.self.items c.in-Open.frame
     c.in_ok-reserve.ensures.items c.push_reserved.ensures.items in
@@ -96,6 +101,6 @@ returns-in-Open-clause-less o c =
     (left_opened w.processors w.path.setting.layout.history (frames_of w) c.in-Open.frame entered.1
     (omega (
       arith,
-      below_many w.path.setting w.tally.ends w.path.news (frames_of w) c.requires.below,
+      below_many w.path.setting w.part w.tally.ends w.path.news (frames_of w) c.requires.below,
       c.requires.short,
     )))

@@ -1,29 +1,71 @@
 -- The place is counted, and the walk stands at the one before it.
-use Rattle.std.proofs.Common.{◌<◌, ◌∷◌, refl, sym, subst, arith}
+use Rattle.std.proofs.Common.{◌≡◌, ◌<◌, ◌∷◌, ◌++◌, [], ℕ, refl, sym, subst, arith}
 use Rattle.hp_explore.specs.Frames.{frames_of, left_of}
-use Rattle.hp_explore.specs.Schedules.{Setting}
-use Rattle.hp_explore.proofs.Framing.{back_setting, below_many}
-use Rattle.hp_explore.proofs.Kept.{memo_same, numbers_same}
+use Rattle.hp_explore.specs.Schedules.{Setting, schedule_of}
+use Rattle.hp_explore.specs.Seen.{Grow}
+use Rattle.hp_explore.specs.Walks.{IsPartWalkedBefore, IsPartWalkedThrough}
+use Rattle.hp_explore.proofs.Framing.{back_setting, below_many, frame_grows}
+use Rattle.hp_explore.proofs.Kept.{memo_added, memo_same, way_same}
 use Rattle.hp_explore.proofs.Walked.{gone_back}
+use Rattle.hp_explore.proofs.Walking.{noted_grows, walked_on}
 use Rattle.hp_explore.proofs.Weights.{left_back}
+use Rattle.hp_explore.proofs.walk.Walk.go_back.Given.{Over}
 use Rattle.hp_explore.proofs.walk.Walk.go_back.Goals as goal
+use Rattle.hp_explore.proofs.walk.Walk.go_back.Goals.{In_ok-note}
+
+-- the ends are those through the place
+through : (o : Over) (c : In_ok-note o)
+    → IsPartWalkedThrough c.args.self.now.path.setting c.args.self.now.part
+    (schedule_of c.args.self.now.path.news) c.note.new.tally.ends
+through o c =
+    let w = c.args.self.now in
+    let turns = c.requires.kept.walked.0 in
+    let same : c.args.frame.next ≡ w.processors =
+    omega (arith, turns.within, c.requires.all, c.requires.kept.processors) in
+    walked_on w.path.setting w.part w.path.news w.processors c.args.is_end w.tally.ends c.note.new.tally.ends
+    c.requires.kept.processors c.is_played.ensures c.requires.end
+    (subst (λ (n : ℕ). IsPartWalkedBefore w.path.setting w.part (schedule_of w.path.news ++ n ∷ [])
+    w.tally.ends) same turns.walked)
+    c.in_ok-note.ensures.ok
+
+grown : (o : Over) (c : In_ok-note o) → Grow c.args.self.now.tally.ends c.note.new.tally.ends
+grown o c =
+    let w = c.args.self.now in
+    noted_grows w.processors w.path.news w.path.setting c.args.is_end w.tally.ends c.note.new.tally.ends
+    c.in_ok-note.ensures.ok
+
+pub leave-requires-clause-frame : goal.leave-requires-clause-frame
+leave-requires-clause-frame o c =
+    let w = c.args.self.now in
+    frame_grows w.path.setting w.part w.tally.ends c.note.new.tally.ends w.path.news c.args.frame
+    (grown o (goal.at.leave-requires-clause-frame o c).In_ok-note) c.requires.kept.walked.1
+
+pub leave-requires-clause-through : goal.leave-requires-clause-through
+leave-requires-clause-through o c = through o (goal.at.leave-requires-clause-through o c).In_ok-note
+
+pub leave-requires-clause-memo : goal.leave-requires-clause-memo
+leave-requires-clause-memo o c =
+    let w = c.args.self.now in
+    memo_added w.path.setting w.tally.ends c.note.new.tally.ends w.memo
+    (grown o (goal.at.leave-requires-clause-memo o c).In_ok-note) c.requires.kept.memo
 
 pub returns-clause-kept : goal.returns-clause-kept
 returns-clause-kept o c =
     let w = c.args.self.now in
+    let here = (goal.at.returns-clause-kept o c).In_ok-note in
     let all =
-    gone_back w.path.setting w.tally.ends c.finish.new.tally.ends w.path.news (frames_of w) (frames_of w)
+    gone_back w.path.setting w.part w.tally.ends c.note.new.tally.ends w.path.news (frames_of w) (frames_of w)
     c.take_back.ensures.back.0 c.take_back.new.path c.take_back.new.memo w.processors refl
-    c.in_ok-finish.ensures.grows c.requires.kept.walked.2 c.in_ok-finish.ensures.ok c.take_back.ensures.back.1
-    (memo_same w.path.setting c.finish.new.tally.ends c.finish.new.memo c.take_back.new.memo
-    c.take_back.ensures.same c.in_ok-finish.ensures.memo)
+    (grown o here) c.requires.kept.walked.2 (through o here) c.take_back.ensures.back.1
+    (memo_same w.path.setting c.note.new.tally.ends c.leave.new.memo c.take_back.new.memo
+    c.take_back.ensures.same c.in_ok-leave.ensures.memo)
     c.requires.kept.processors c.requires.kept.short in
     record {
       walked = all.0;
       memo = all.1;
-      numbered =
-          c.take_back.ensures.numbered (numbers_same w.path.setting w.path.news w.memo c.finish.new.memo
-          c.finish.ensures.way c.requires.kept.numbered);
+      way =
+          c.take_back.ensures.way (way_same w.path.setting w.path.news w.memo c.leave.new.memo
+          c.leave.ensures.same c.requires.kept.way);
       processors = all.2;
       few = c.requires.kept.few;
       short = all.3;
@@ -40,7 +82,7 @@ returns-clause-less o c =
     (omega (arith, c.requires.kept.walked.0.within, c.requires.kept.processors))
     (omega (
       arith,
-      below_many w.path.setting w.tally.ends w.path.news (frames_of w) c.requires.kept.walked.2,
+      below_many w.path.setting w.part w.tally.ends w.path.news (frames_of w) c.requires.kept.walked.2,
       c.requires.kept.short,
     )))
 
@@ -49,5 +91,6 @@ returns-clause-same o c =
     let w = c.args.self.now in (
       back_setting w.path.setting w.path.news c.take_back.ensures.back.0 w.path c.take_back.new.path refl
           c.take_back.ensures.back.1,
-      c.finish.ensures.limit,
+      c.note.ensures.limit,
+      refl,
     )

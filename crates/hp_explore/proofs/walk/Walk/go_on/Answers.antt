@@ -1,16 +1,15 @@
 -- Where a call was made the walk comes to a place by it.
-use Rattle.std.proofs.Common.{◌<◌, ◌≤◌, ◌∷◌, Bool, Bor, true, false, List, length, reverse, ap, refl, sym, subst, ◌∙◌, arith}
+use Rattle.std.proofs.Common.{◌<◌, ◌≤◌, ◌∷◌, Bool, true, false, List, length, reverse, ap, refl, sym, subst, ◌∙◌, arith}
 use Rattle.hp_explore.specs.Frames.{frames_of, left_of}
-use Rattle.std.specs.Option.{option_map}
-use Rattle.hp_units.specs.Memory.{Memory}
-use Rattle.hp_explore.specs.Numbers.{AreNumbered}
 use Rattle.hp_explore.specs.Paths.{IsForth, PathValue}
 use Rattle.hp_explore.specs.Schedules.{Setting}
-use Rattle.hp_explore.specs.Seen.{IsMemo}
+use Rattle.hp_explore.specs.Seen.{IsMemo, IsOnWay}
 use Rattle.hp_explore.specs.declared.frames.Frame.{Frame}
 use Rattle.hp_explore.proofs.Framing.{frames_pushed}
 use Rattle.hp_explore.proofs.Kept.{memo_extended}
-use Rattle.hp_explore.proofs.Walked.{forth_setting, led_on, numbered_on, passed_on, short_on}
+use Rattle.std.proofs.lemmas.Result.{err_from_is_err_and}
+use Rattle.hp_explore.proofs.OfPart.{cause_part}
+use Rattle.hp_explore.proofs.Walked.{forth_setting, led_on, passed_on, short_on, way_on}
 use Rattle.hp_explore.proofs.Weights.{left_passed}
 use Rattle.hp_explore.proofs.walk.Walk.go_on.Goals as goal
 
@@ -32,14 +31,13 @@ returns-then-not-branch-clause-kept o c =
     c.in_ok-reserve.ensures.items c.push_reserved.ensures.items in
     record {
       walked =
-          passed_on w.path c.forward.new.self w.tally.ends c.args.frame c.passed.result (frames_of w)
+          passed_on w.path c.forward.new.self w.part w.tally.ends c.args.frame c.passed.result (frames_of w)
           (reverse c.push_reserved.new.self.items) c.is_played.ensures forth
           (omega (arith, c.requires.some, c.requires.kept.processors)) c.passed.ensures pushed
           c.requires.kept.walked;
       memo = subst (λ (g : Setting). IsMemo g w.tally.ends w.memo) (sym same) c.requires.kept.memo;
-      numbered =
-          subst (λ (p : PathValue). AreNumbered p.setting w.memo.lists p.news (reverse w.memo.numbers))
-          (sym forth.1) c.requires.kept.numbered;
+      way =
+          subst (λ (p : PathValue). IsOnWay p.setting p.news w.memo) (sym forth.1) c.requires.kept.way;
       processors = c.requires.kept.processors ∙ ap (λ (g : Setting). length g.scripts) (sym same);
       few = c.requires.kept.few;
       short =
@@ -70,6 +68,7 @@ returns-then-not-branch-clause-same o c = (
   forth_setting c.args.self.now.path c.forward.new.self c.args.frame.next c.in_ok-forward.field-0
       c.in_ok-forward.ensures.ok,
   refl,
+  refl,
 )
 
 pub come_to-requires : goal.come_to-requires
@@ -83,22 +82,22 @@ come_to-requires o c =
     frames_pushed w.frames.items c.reserve.new.self.items c.push_reserved-2.new.self.items c.led_on.result
     c.in_ok-reserve.ensures.items c.push_reserved-2.ensures.items in
     let led =
-    led_on w.path c.forward.new.self w.tally.ends c.args.frame c.led_on.result (frames_of w)
+    led_on w.path c.forward.new.self w.part w.tally.ends c.args.frame c.led_on.result (frames_of w)
     (reverse c.push_reserved-2.new.self.items) c.is_played.ensures forth
     (omega (arith, c.requires.some, c.requires.kept.processors)) c.led_on.ensures pushed
     c.requires.kept.walked in
     record {
       walked = led.0;
-      below = led.1;
+      on = led.1;
+      below = led.2;
       memo =
           subst (λ (g : Setting). IsMemo g w.tally.ends c.go_on.new.self) (sym same)
           (memo_extended w.path.setting w.tally.ends w.memo c.go_on.new.self c.go_on.ensures.same.0
           c.go_on.ensures.same.1 c.go_on.ensures.kept c.requires.kept.memo);
-      numbered =
-          numbered_on w.path c.forward.new.self c.args.frame.next c.latest.result.now w.memo c.go_on.new.self
-          c.args.frame w.tally.ends (option_map (λ (s : Bor Memory). s.now) c.snapshot.result) forth
-          c.requires.kept.memo c.requires.kept.walked.1 c.snapshot.ensures
-          (λ before r is. c.latest.ensures before r (c.records.ensures ∙ is)) c.requires.kept.numbered
+      way =
+          way_on w.path c.forward.new.self c.args.frame.next c.latest.result.now w.memo c.go_on.new.self
+          w.tally.ends forth c.requires.kept.memo
+          (λ before r is. c.latest.ensures before r (c.records.ensures ∙ is)) c.requires.kept.way
           c.in_ok-go_on.ensures.ok;
       processors = c.requires.kept.processors ∙ ap (λ (g : Setting). length g.scripts) (sym same);
       few = c.requires.kept.few;
@@ -108,4 +107,13 @@ come_to-requires o c =
 pub go_on-requires : goal.go_on-requires
 go_on-requires o c =
     let w = c.args.self.now in
-    (w.path.setting, w.path.news, c.requires.kept.numbered)
+    (w.path.setting, w.path.news, c.requires.kept.way)
+
+pub returns-in_err-forward-clause-err : goal.returns-in_err-forward-clause-err
+returns-in_err-forward-clause-err o c =
+    let w = c.args.self.now in
+    let p =
+    err_from_is_err_and c.from_residual-in_err-forward.result c.from_residual-in_err-forward.ensures.1 in
+    rw (p.1, p.2)
+    (cause_part w.path.setting w.part w.path.news c.args.frame.next c.in_err-forward.field-0.0
+    c.is_played.ensures c.requires.kept.walked.1.comes c.in_err-forward.ensures.cause)

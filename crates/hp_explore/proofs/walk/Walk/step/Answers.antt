@@ -1,6 +1,8 @@
 -- The latest place makes its turn; where there is none all is walked.
-use Rattle.std.proofs.Common.{◌≡◌, ◌+◌, ◌<◌, List, MatchOption, Option, sym, subst, vec_len, ◌∙◌}
+use Rattle.std.proofs.Common.{◌≡◌, ◌+◌, ◌<◌, ◌∷◌, ◌++◌, [], List, MatchOption, Option, arith, ℕ, sym, subst, vec_len, ◌∙◌}
 use Rattle.hp_explore.specs.Frames.{AreWalked, frames_of, left, left_of}
+use Rattle.hp_explore.specs.Schedules.{schedule_of}
+use Rattle.hp_explore.specs.Walks.{IsPartWalkedBefore}
 use Rattle.hp_explore.specs.declared.frames.Frame.{Frame}
 use Rattle.hp_explore.proofs.Framing.{frames_popped, no_frames, none_left}
 use Rattle.hp_explore.proofs.walk.Walk.step.Goals as goal
@@ -10,11 +12,11 @@ go_on-requires-clause-kept o c =
     let w = c.args.self.now in
     record {
       walked =
-          subst (AreWalked w.path.setting w.tally.ends w.path.news)
+          subst (AreWalked w.path.setting w.part w.tally.ends w.path.news)
           (frames_popped w.frames.items c.pop.new.self.items c.pop.result c.in-Some.frame c.pop.ensures.items
           c.in-Some.is) c.requires.walked;
       memo = c.requires.memo;
-      numbered = c.requires.numbered;
+      way = c.requires.way;
       processors = c.requires.processors;
       few = c.requires.few;
       short = c.requires.short;
@@ -25,30 +27,42 @@ go_back-requires-clause-kept o c =
     let w = c.args.self.now in
     record {
       walked =
-          subst (AreWalked w.path.setting w.tally.ends w.path.news)
+          subst (AreWalked w.path.setting w.part w.tally.ends w.path.news)
           (frames_popped w.frames.items c.pop.new.self.items c.pop.result c.in-Some.frame c.pop.ensures.items
           c.in-Some.is) c.requires.walked;
       memo = c.requires.memo;
-      numbered = c.requires.numbered;
+      way = c.requires.way;
       processors = c.requires.processors;
       few = c.requires.few;
       short = c.requires.short;
     }
 
-pub is_full-requires-clause-kept : goal.is_full-requires-clause-kept
-is_full-requires-clause-kept o c =
+pub is_end-is_end-requires-clause-kept : goal.is_end-is_end-requires-clause-kept
+is_end-is_end-requires-clause-kept o c =
     let w = c.args.self.now in
     record {
       walked =
-          subst (AreWalked w.path.setting w.tally.ends w.path.news)
+          subst (AreWalked w.path.setting w.part w.tally.ends w.path.news)
           (frames_popped w.frames.items c.pop.new.self.items c.pop.result c.in-Some.frame c.pop.ensures.items
           c.in-Some.is) c.requires.walked;
       memo = c.requires.memo;
-      numbered = c.requires.numbered;
+      way = c.requires.way;
       processors = c.requires.processors;
       few = c.requires.few;
       short = c.requires.short;
     }
+
+pub is_full-requires-clause-walked : goal.is_full-requires-clause-walked
+is_full-requires-clause-walked o c =
+    let w = c.args.self.now in
+    let all =
+    subst (AreWalked w.path.setting w.part w.tally.ends w.path.news)
+    (frames_popped w.frames.items c.pop.new.self.items c.pop.result c.in-Some.frame c.pop.ensures.items
+    c.in-Some.is) c.requires.walked in
+    let same : c.in-Some.frame.next ≡ w.processors =
+    omega (arith, all.0.within, c.if-frame-self.false, c.requires.processors) in
+    subst (λ (n : ℕ). IsPartWalkedBefore w.path.setting w.part (schedule_of w.path.news ++ n ∷ [])
+    w.tally.ends) same all.0.walked
 
 pub returns-in_default-clause-ok : goal.returns-in_default-clause-ok
 returns-in_default-clause-ok o c =
@@ -56,7 +70,7 @@ returns-in_default-clause-ok o c =
     let none =
     subst (λ (p : Option Frame). MatchOption p ((vec_len w.frames ≡ 0) × (vec_len c.pop.new.self ≡ 0))
     (λ _. vec_len c.pop.new.self + 1 ≡ vec_len w.frames)) c.in_default.is c.pop.ensures.cases in
-    subst (AreWalked w.path.setting w.tally.ends w.path.news)
+    subst (AreWalked w.path.setting w.part w.tally.ends w.path.news)
     (no_frames w.frames.items c.pop.new.self.items c.pop.result c.pop.ensures.items c.in_default.is
     ∙ none_left c.pop.new.self.items (sym c.pop.new.self.ok.0 ∙ none.1)) c.requires.walked
 

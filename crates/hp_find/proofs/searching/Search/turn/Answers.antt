@@ -1,7 +1,9 @@
 -- A turn down, and one up.
 use Rattle.std.proofs.Common.{◌≡◌, ◌<◌, Some, length, ap, subst, arith}
 use Rattle.std.proofs.lemmas.Bool.{iff_false}
+use Rattle.std.proofs.lemmas.Result.{err_from_is_err_and}
 use Rattle.hp_explore.specs.Schedules.{plays, schedule_of}
+use Rattle.hp_explore.proofs.Filled.{cause_of_call}
 use Rattle.hp_find.specs.Searches.{SearchValue}
 use Rattle.hp_find.proofs.SearchTurns.{gone_down, gone_up}
 use Rattle.hp_find.proofs.searching.Search.turn.Goals as goal
@@ -36,3 +38,13 @@ returns-clause-ok c =
     (subst (λ (w : SearchValue). plays w.path.setting (schedule_of w.path.news) ≡ Some w.path.news)
     c.self.view_is c.is_played.ensures)
     (iff_false c.in_ok-is_end.ensures c.if-branch.false) c.requires.searching c.up.ensures
+
+pub returns-in_err-down-clause-err : goal.returns-in_err-down-clause-err
+returns-in_err-down-clause-err c =
+    let v = c.args.self.now in
+    let p = err_from_is_err_and c.from_residual.result c.from_residual.ensures.1 in
+    rw (p.1, p.2)
+    (cause_of_call v.path.setting v.path.news v.next c.in_err-down.field-0.0
+    (subst (λ (w : SearchValue). plays w.path.setting (schedule_of w.path.news) ≡ Some w.path.news)
+    c.self.view_is c.is_played.ensures)
+    c.in_err-down.ensures.err)

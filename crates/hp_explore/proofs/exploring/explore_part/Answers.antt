@@ -1,0 +1,111 @@
+-- The walk begins where the machine stands with no ends, and ends with all, or with the first ones.
+use Rattle.std.proofs.Common.{[], ◌≡◌, ℕ, Bool, true, false, List, ap, sym, subst, ◌∙◌, arith}
+use Rattle.std.specs.Prelude.{sum_by}
+use Rattle.std.proofs.lemmas.Result.{err_from_is_err_and}
+use Rattle.hp_explore.specs.Ends.{AreCounted, AreInOrder}
+use Rattle.hp_explore.specs.Parts.{EndsInPart, IsCausePart, IsCompleteInPart, PartValue}
+use Rattle.hp_explore.specs.Frames.{IsDone}
+use Rattle.hp_explore.specs.Fronts.{AreFirstInPart}
+use Rattle.hp_explore.specs.Schedules.{Setting, setting}
+use Rattle.hp_explore.specs.Walks.{IsPartWalkedThrough}
+use Rattle.hp_explore.specs.declared.tally.Ending.{Ending}
+use Rattle.hp_explore.specs.declared.walk.Walk.{Walk}
+use Rattle.hp_explore.proofs.Plays.{walk_ends}
+use Rattle.hp_explore.proofs.Rooms.{none_fills}
+use Rattle.hp_explore.proofs.Uniqueness.{no_more}
+use Rattle.hp_explore.proofs.Walking.{first_exceed}
+use Rattle.hp_explore.proofs.exploring.explore_part.Goals as goal
+
+-- all is walked, from where the machine stands
+whole : (w : Walk) (g : Setting) (part : PartValue) (is_whole : Bool) → w.path.setting ≡ g → w.part ≡ part
+    → IsDone w is_whole → is_whole ≡ true → IsPartWalkedThrough g part [] w.tally.ends
+whole w g part true same this done all =
+    subst (λ (k : PartValue). IsPartWalkedThrough g k [] w.tally.ends) this
+    (subst (λ (h : Setting). IsPartWalkedThrough h w.part [] w.tally.ends) same done)
+whole w g part false same this done all = absurd cc
+
+-- or the first ones are counted
+first : (w : Walk) (g : Setting) (part : PartValue) (limit : ℕ) (is_whole : Bool) → w.path.setting ≡ g
+    → w.part ≡ part → w.tally.limit ≡ limit → IsDone w is_whole → is_whole ≡ false
+    → AreFirstInPart g part limit w.tally.ends
+first w g part limit true same this most done some = absurd cc
+first w g part limit false same this most done some =
+    subst (λ (n : ℕ). AreFirstInPart g part n w.tally.ends) most
+    (subst (λ (k : PartValue). AreFirstInPart g k w.tally.limit w.tally.ends) this
+    (subst (λ (h : Setting). AreFirstInPart h w.part w.tally.limit w.tally.ends) same done))
+
+ordered : (w : Walk) (is_whole : Bool) → IsDone w is_whole → AreInOrder w.tally.ends
+ordered w true done = done.ordered
+ordered w false done = done.walked.ordered
+
+pub returns-clause-ok : goal.returns-clause-ok
+returns-clause-ok o c =
+    let g = setting c.args.machine.now c.args.scripts.now in
+    λ all. subst (AreCounted (EndsInPart g c.args.part)) (sym c.into_ends.ensures.is)
+    (walk_ends g c.args.part c.run.new.self.tally.ends (whole c.run.new.self g c.args.part
+    c.in_ok-is_whole.is_whole
+    (c.in_ok-is_whole.ensures.same.0 ∙ c.in_ok-walk.ensures.setting)
+    (c.in_ok-is_whole.ensures.same.2 ∙ c.in_ok-walk.ensures.part) c.in_ok-is_whole.ensures.done all).counted)
+
+pub returns-clause-few : goal.returns-clause-few
+returns-clause-few o c =
+    let g = setting c.args.machine.now c.args.scripts.now in
+    λ all more. no_more (IsCompleteInPart g c.args.part)
+    (sum_by (λ (e : Ending). e.count) c.run.new.self.tally.ends) c.args.limit
+    (omega (arith, c.into_ends.ensures.within, c.in_ok-is_whole.ensures.same.1, c.in_ok-walk.ensures.limit))
+    (walk_ends g c.args.part c.run.new.self.tally.ends (whole c.run.new.self g c.args.part
+    c.in_ok-is_whole.is_whole
+    (c.in_ok-is_whole.ensures.same.0 ∙ c.in_ok-walk.ensures.setting)
+    (c.in_ok-is_whole.ensures.same.2 ∙ c.in_ok-walk.ensures.part) c.in_ok-is_whole.ensures.done
+    all).counted).total more
+
+pub returns-clause-room : goal.returns-clause-room
+returns-clause-room o c =
+    let g = setting c.args.machine.now c.args.scripts.now in
+    λ all fills. none_fills g c.args.part c.run.new.self.tally.ends (whole c.run.new.self g c.args.part
+    c.in_ok-is_whole.is_whole
+    (c.in_ok-is_whole.ensures.same.0 ∙ c.in_ok-walk.ensures.setting)
+    (c.in_ok-is_whole.ensures.same.2 ∙ c.in_ok-walk.ensures.part) c.in_ok-is_whole.ensures.done all) fills
+
+pub returns-clause-first : goal.returns-clause-first
+returns-clause-first o c =
+    let g = setting c.args.machine.now c.args.scripts.now in
+    λ some. subst (AreFirstInPart g c.args.part c.args.limit) (sym c.into_ends.ensures.is)
+    (first c.run.new.self g c.args.part c.args.limit c.in_ok-is_whole.is_whole
+    (c.in_ok-is_whole.ensures.same.0 ∙ c.in_ok-walk.ensures.setting)
+    (c.in_ok-is_whole.ensures.same.2 ∙ c.in_ok-walk.ensures.part)
+    (c.in_ok-is_whole.ensures.same.1 ∙ c.in_ok-walk.ensures.limit) c.in_ok-is_whole.ensures.done some)
+
+pub returns-clause-many : goal.returns-clause-many
+returns-clause-many o c =
+    let g = setting c.args.machine.now c.args.scripts.now in
+    λ some. first_exceed g c.args.part c.args.limit c.run.new.self.tally.ends
+    (first c.run.new.self g c.args.part c.args.limit c.in_ok-is_whole.is_whole
+    (c.in_ok-is_whole.ensures.same.0 ∙ c.in_ok-walk.ensures.setting)
+    (c.in_ok-is_whole.ensures.same.2 ∙ c.in_ok-walk.ensures.part)
+    (c.in_ok-is_whole.ensures.same.1 ∙ c.in_ok-walk.ensures.limit) c.in_ok-is_whole.ensures.done some)
+
+pub returns-clause-within : goal.returns-clause-within
+returns-clause-within o c =
+    omega (
+      arith,
+      c.into_ends.ensures.within,
+      c.in_ok-is_whole.ensures.same.1,
+      c.in_ok-walk.ensures.limit,
+      ap (λ (ends : List Ending). sum_by (λ (e : Ending). e.count) ends) c.into_ends.ensures.is,
+    )
+
+pub returns-clause-ordered : goal.returns-clause-ordered
+returns-clause-ordered o c =
+    subst AreInOrder (sym c.into_ends.ensures.is)
+    (ordered c.run.new.self c.in_ok-is_whole.is_whole c.in_ok-is_whole.ensures.done)
+
+pub returns-in_err-is_whole-clause-err : goal.returns-in_err-is_whole-clause-err
+returns-in_err-is_whole-clause-err o c =
+    let p =
+    err_from_is_err_and c.from_residual-in_err-is_whole.result c.from_residual-in_err-is_whole.ensures.1 in
+    rw (p.1, p.2)
+    (subst (λ (part : PartValue). IsCausePart (setting c.args.machine.now c.args.scripts.now) part
+    c.in_err-is_whole.field-0.0) c.in_ok-walk.ensures.part
+    (subst (λ (g : Setting). IsCausePart g c.in_ok-walk.walk.part c.in_err-is_whole.field-0.0)
+    c.in_ok-walk.ensures.setting c.in_err-is_whole.ensures.err))

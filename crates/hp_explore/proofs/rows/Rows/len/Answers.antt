@@ -1,0 +1,12 @@
+-- There is an end for each row.
+use Rattle.std.proofs.Common.{List, ap, arith, length, ℕ}
+use Rattle.hp_explore.proofs.InRows.{rows_many}
+use Rattle.hp_explore.proofs.rows.Rows.len.Goals as goal
+
+pub returns : goal.returns
+returns c =
+    omega (
+      arith,
+      rows_many 0 c.self.inside.numbers.items c.self.inside.ends.items,
+      ap (λ (rows : List (List ℕ)). length rows) c.self.view_is,
+    )

@@ -1,0 +1,32 @@
+-- One of another part is left at once.
+use Rattle.std.proofs.Common.{length, arith, ap, inl}
+use Rattle.std.proofs.lemmas.List.{length-map}
+use Rattle.hp_units.specs.declared.replies.Record.{Record}
+use Rattle.hp_explore.proofs.Framing.{entered_fresh, left_out}
+use Rattle.hp_explore.proofs.walk.arrive.Goals as goal
+
+pub returns-then-leaves_out-clause-ok : goal.returns-then-leaves_out-clause-ok
+returns-then-leaves_out-clause-ok o c =
+    let p = c.args.path.now in
+    left_out p.setting c.args.part p.news c.records-2.result.now c.args.processors c.args.tally.now.ends
+    c.records-2.ensures c.requires.processors
+    (omega (
+      arith,
+      c.if-records-calls.false,
+      c.calls.ensures,
+      ap length c.records.ensures,
+      ap length c.records-2.ensures,
+    ))
+    (c.leaves_out.ensures.out c.if-leaves_out.true) c.requires.walked
+
+pub returns-then-records-calls-clause-ok : goal.returns-then-records-calls-clause-ok
+returns-then-records-calls-clause-ok o c =
+    let p = c.args.path.now in
+    entered_fresh p c.args.part c.args.tally.now.ends c.in_ok-frame.frame
+    (inl (omega (
+      arith,
+      c.if-records-calls.true,
+      c.calls.ensures,
+      ap length c.records.ensures,
+      length-map p.news (λ (r : Record). r.cpu),
+    ))) c.requires.walked (c.in_ok-frame.ensures.fresh c.args.tally.now.ends)

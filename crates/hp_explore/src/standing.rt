@@ -1,0 +1,201 @@
+//! Where a walk stands, in numbers: of its state, of what Cancels can take back there, and of what each
+//! processor asked for and was answered. Equal numbers mean the same.
+ghost use Rattle.std.specs.Prelude.{◌≡◌, ◌++◌, ◌∷◌, [], IfOk, IfSome, List, None, OnOk, Some, cond, length, replicate, true, unwrap_or};
+ghost use Rattle.hp_memory.specs.Memory.{MemoryValue};
+ghost use Rattle.hp_units.specs.History.{effect_of, value_of};
+ghost use Rattle.hp_units.specs.declared.replies.Record.{Record as NewRecord};
+ghost use Rattle.hp_explore.specs.Alike.{leaves_steps};
+ghost use Rattle.hp_explore.specs.Schedules.{Setting};
+ghost use Rattle.hp_explore.specs.Standing.{AreSameNumbers, IsKey, IsStanding, KeepMeanings};
+
+use crate::exchanges::Exchanges;
+use crate::openings::Openings;
+use crate::path::Path;
+use hp_codes::Codes;
+use hp_memory::Memory;
+use hp_units::{Cpu, Record};
+use std::alloc::{AllocError, Global};
+use std::marker::Model;
+
+/// A place on the way: the numbers of what Cancels can take back there and of its state, where they
+/// are known.
+#[derive(Clone, Copy, Drop)]
+pub(crate) struct Stop {
+    openings: Option<usize>,
+    state: Option<usize>,
+}
+
+/// The numbers of where a walk stands, and of each place before it on its way, from where the scripts
+/// begin.
+pub(crate) struct Standing {
+    codes: Codes,
+    openings: Openings,
+    exchanges: Exchanges,
+    here: Stop,
+    before: Vec<Stop>,
+}
+
+impl Model for Standing {
+    ghost use Rattle.hp_explore.specs.Standing.{StandingValue};
+
+    ghost Value = { StandingValue };
+
+    ghost view = { λ s. record {
+      codes = s.codes;
+      lists = s.openings;
+      exchanged = s.exchanges;
+      here = s.here;
+      before = s.before.items;
+    } };
+}
+
+/// A function of its own, so that no proof of a caller takes the fields apart.
+impl Drop for Standing {
+    fn drop(self) {
+        let Standing {
+            codes: _codes,
+            openings: _openings,
+            exchanges: _exchanges,
+            here: _,
+            before: _,
+        } = self;
+    }
+}
+
+impl Standing {
+    /// Where the scripts of so many processors begin: whether no Cancel can drop a step that led there.
+    /// An error is out of memory.
+    pub(crate) fn start(
+        alloc: Global,
+        processors: usize,
+        is_closed: bool,
+    ) -> Result<Standing, AllocError>
+        ensures { IfOk result (λ s. s ≡ record {
+          codes = [];
+          lists = [] ∷ [];
+          exchanged = record { chains = [] ∷ []; here = replicate processors 0 };
+          here = record { openings = cond is_closed (Some 0) None; state = None };
+          before = [];
+        }) }
+    {
+        let exchanges = Exchanges::start(alloc, processors)?;
+        Ok(Standing {
+            codes: Codes::new(alloc),
+            openings: Openings::new(alloc),
+            exchanges,
+            here: Stop {
+                openings: first_number(is_closed),
+                state: None,
+            },
+            before: Vec::new(alloc),
+        })
+    }
+
+    /// Goes on by a call. An error is out of memory.
+    pub(crate) fn go_on(&mut self, alloc: Global, latest: &Record) -> Result<(), AllocError>
+        requires { (g : Setting) × (news : List NewRecord) × IsStanding g news self.old }
+        ensures kept { KeepMeanings self.old self.new }
+        ensures ok { OnOk result ((g : Setting) (news : List NewRecord) → IsStanding g news self.old
+            → leaves_steps (effect_of latest.now.event) ≡ true
+            → IsStanding g (news ++ latest.now ∷ []) self.new) }
+    {
+        self.before.reserve(1)?;
+        let was = self.here;
+        let openings = self.openings.after(was.openings, was.state, latest)?;
+        self.exchanges.go_on(alloc, latest.cpu, latest)?;
+        self.before.push_reserved(was);
+        self.here = Stop {
+            openings,
+            state: None,
+        };
+        Ok(())
+    }
+
+    /// Goes back over a processor's latest call.
+    pub(crate) fn go_back(&mut self, cpu: Cpu)
+        ensures same { AreSameNumbers self.old self.new }
+        ensures back { (g : Setting) (news : List NewRecord) (r : NewRecord) → r.cpu ≡ cpu
+            → IsStanding g (news ++ r ∷ []) self.old → IsStanding g news self.new }
+    {
+        let here = known_of(self.before.pop());
+        self.here = here;
+        self.exchanges.go_back(cpu);
+    }
+
+    /// Gives the state of where the walk stands a number, by its memory, where it is known what Cancels
+    /// can take back there. An error is out of memory.
+    pub(crate) fn number_state(&mut self, alloc: Global, memory: &Memory) -> Result<(), AllocError>
+        ensures kept { KeepMeanings self.old self.new }
+        ensures here { (g : Setting) (news : List NewRecord)
+            → memory.now ≡ record { layout = g.layout; state = value_of g.layout g.base (g.start ++ news) }
+            → IsStanding g news self.old → IsStanding g news self.new }
+    {
+        if self.here.openings.is_none() {
+            return Ok(());
+        }
+        let state = self.codes.number_of(alloc, memory)?;
+        self.here.state = Some(state);
+        Ok(())
+    }
+
+    /// The key of where the walk stands, which is where a path of so many processors does; none where
+    /// it is not known what Cancels can take back there, or the state has no number. An error is out
+    /// of memory.
+    pub(crate) fn key(
+        &self,
+        alloc: Global,
+        path: &Path,
+        processors: u32,
+    ) -> Result<Option<Vec<u64>>, AllocError>
+        requires processors { processors ≡ length path.now.setting.scripts }
+        requires standing { IsStanding path.now.setting path.now.news self.now }
+        ensures { IfOk result (λ key. IfSome key
+            (λ key. IsKey path.now.setting self.now path.now.news key.items)) }
+    {
+        let Some(state) = self.here.state else {
+            return Ok(None);
+        };
+        let Some(openings) = self.here.openings else {
+            return Ok(None);
+        };
+        let numbers = self.exchanges.numbers();
+        let mut key = Vec::with_capacity(alloc, 2 * processors as usize + 2)?;
+        push_two(&mut key, state as u64, openings as u64)?;
+        for cpu in 0..processors {
+            let number = numbers[cpu as usize];
+            let begun = path.operation(cpu);
+            push_two(&mut key, number as u64, begun.0)?;
+        }
+        Ok(Some(key))
+    }
+}
+
+/// The number of the openings where a way begins: that of the empty list where no Cancel can drop a
+/// step that led there.
+fn first_number(is_closed: bool) -> Option<usize>
+    ensures { result ≡ cond is_closed (Some 0) None }
+{
+    if is_closed { Some(0) } else { None }
+}
+
+/// A place; where there is none, one of which nothing is known.
+fn known_of(stop: Option<Stop>) -> Stop
+    ensures { result ≡ unwrap_or stop (record { openings = None; state = None }) }
+{
+    match stop {
+        Some(stop) => stop,
+        None => Stop {
+            openings: None,
+            state: None,
+        },
+    }
+}
+
+/// Two numbers more. An error is out of memory.
+fn push_two(numbers: &mut Vec<u64>, first: u64, second: u64) -> Result<(), AllocError>
+    ensures { OnOk result (numbers.new.items ≡ numbers.old.items ++ first ∷ second ∷ []) }
+{
+    numbers.push(first)?;
+    numbers.push(second)?;
+    Ok(())
+}
