@@ -1,0 +1,10 @@
+pub mod Added
+pub mod Adding
+pub mod Complete
+pub mod Joining
+pub mod Moved
+pub mod Ordered
+pub mod Orders
+pub mod Parts
+pub mod Searched
+pub mod Totals

@@ -1,0 +1,52 @@
+-- The ends of all lists are added to none, and sorted.
+use Rattle.std.proofs.Common.{◌<◌, [], List, Vec, Global, length, map, arith, subst}
+use Rattle.std.proofs.lemmas.List.{length-map}
+use Rattle.std.proofs.lemmas.List.Sorted.{sum_by-IsPermutation}
+use Rattle.hp_explore.specs.Ends.{AreCounted}
+use Rattle.hp_explore.specs.Schedules.{EndsWith, Setting}
+use Rattle.hp_explore.specs.declared.tally.Ending.{Ending}
+use Rattle.hp_parts.specs.Adding.{AddsLists}
+use Rattle.hp_parts.specs.Sums.{AreParts}
+use Rattle.hp_parts.proofs.Joining.{lists_apart, lists_sum}
+use Rattle.hp_parts.proofs.Moved.{apart_moved}
+use Rattle.hp_parts.proofs.Parts.{all_added, all_sorted, sorted_in_order}
+use Rattle.hp_parts.proofs.summing.sum.Goals as goal
+use Rattle.hp_parts.proofs.summing.sum.Goals.{After-into_sorted}
+
+abbrev items : Vec Ending Global → List Ending
+items v = v.items
+
+added : (c : After-into_sorted) → AddsLists [] (map items c.args.parts.now) c.add_lists.new.self
+added c =
+    subst (λ (old : List Ending). AddsLists old (map items c.args.parts.now) c.add_lists.new.self)
+    c.new-sums.ensures c.in_ok-add_lists.ensures
+
+-- those of all parts
+all : (c : After-into_sorted) (g : Setting) (calls : _) → 0 < length c.args.parts.now
+    → AreParts g calls (map items c.args.parts.now) → AreCounted (EndsWith g) c.into_sorted.result.items
+all c g calls some parts =
+    all_sorted g c.add_lists.new.self c.into_sorted.result.items c.into_sorted.ensures
+    (all_added g calls (map items c.args.parts.now) c.add_lists.new.self
+    (omega (arith, length-map c.args.parts.now items)) parts (added c))
+
+pub returns-clause-ends : goal.returns-clause-ends
+returns-clause-ends c = all c
+
+pub returns-clause-ordered : goal.returns-clause-ordered
+returns-clause-ordered c =
+    λ g calls some parts. sorted_in_order g c.add_lists.new.self c.into_sorted.result.items
+    c.into_sorted.ensures (all c g calls some parts)
+
+pub returns-clause-total : goal.returns-clause-total
+returns-clause-total c =
+    omega (
+      arith,
+      sum_by-IsPermutation (λ (e : Ending). e.count) c.add_lists.new.self c.into_sorted.result.items
+          c.into_sorted.ensures.moved,
+      lists_sum [] (map items c.args.parts.now) c.add_lists.new.self (added c),
+    )
+
+pub returns-clause-apart : goal.returns-clause-apart
+returns-clause-apart c =
+    apart_moved c.add_lists.new.self c.into_sorted.result.items c.into_sorted.ensures.moved
+    (lists_apart [] (map items c.args.parts.now) c.add_lists.new.self (added c) (λ i j e f h k same. absurd cc))

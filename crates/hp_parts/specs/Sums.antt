@@ -1,0 +1,32 @@
+-- The ends of all parts of a search.
+use Rattle.std.specs.Prelude.{◌≡◌, ℕ, ◌<◌, List, Some, length, slice_get, take}
+use Rattle.hp_explore.specs.Ends.{AreCounted}
+use Rattle.hp_explore.specs.Outcomes.{OutcomeValue}
+use Rattle.hp_explore.specs.Parts.{EndsInPart, FillsPart, PartValue, part_number}
+use Rattle.hp_explore.specs.Schedules.{EndsWith, Setting}
+use Rattle.hp_explore.specs.declared.tally.Ending.{Ending}
+
+-- the part with an index of so many, which go by so many first calls
+abbrev pub part : (of calls index : ℕ) → PartValue
+part of calls index = record { index = index; of = of; calls = calls }
+
+-- the lists have the ends of all parts that go by so many first calls, from the part with index 0 on
+abbrev pub AreParts : Setting → (calls : ℕ) → List (List Ending) → Type 0
+AreParts g calls lists =
+    (k : ℕ) (ends : List Ending) → slice_get lists k ≡ Some ends
+    → AreCounted (EndsInPart g (part (length lists) calls k)) ends
+
+-- no two ends have the same outcome
+abbrev pub AreApart : List Ending → Type 0
+AreApart ends =
+    (i j : ℕ) (e f : Ending) → slice_get ends i ≡ Some e → slice_get ends j ≡ Some f → e.outcome ≡ f.outcome
+    → i ≡ j
+
+-- the history has room for each call of each part
+abbrev pub HaveRoom : Setting → (of calls : ℕ) → Type 0
+HaveRoom g of calls = (k : ℕ) → k < of → FillsPart g (part of calls k) → ⊥
+
+-- a schedule of a part below a number is complete, with this outcome
+abbrev pub EndsBelow : Setting → (of calls below : ℕ) → List ℕ → OutcomeValue → Type 0
+EndsBelow g of calls below s x =
+    EndsWith g s x × (part_number (length g.scripts) of (take calls s) < below)

@@ -1,0 +1,60 @@
+//! The sum of all parts of a search.
+ghost use Rattle.std.specs.Prelude.{◌≡◌, ◌↔◌, ℕ, ◌<◌, ◌≤◌, ◌^◌, Err, IfOk, length, map, sum_by};
+ghost use Rattle.hp_explore.specs.Ends.{AreEnds, AreInOrder};
+ghost use Rattle.hp_explore.specs.Schedules.{Setting};
+ghost use Rattle.hp_parts.specs.Adding.{counted_by};
+ghost use Rattle.hp_parts.specs.Sums.{AreApart, AreParts};
+ghost use Rattle.hp_parts.specs.declared.summing.SumFault.TheVariants.{TooMany};
+
+use crate::rooms::fit_in;
+use crate::sums::Sums;
+use hp_explore::Ending;
+use std::alloc::{AllocError, Global};
+use thiserror::Error;
+
+/// Why parts were not added up.
+#[derive(Error, Clone, Copy, Debug, PartialEq, Eq, Drop)]
+pub enum SumFault {
+    /// They count 2^64 schedules or more.
+    #[error("2^64 schedules or more")]
+    TooMany,
+    /// Memory was refused.
+    #[error("out of memory")]
+    OutOfMemory,
+}
+
+impl From<AllocError> for SumFault {
+    ghost use Rattle.std.specs.Prelude.{◌≡◌};
+    ghost use Rattle.hp_parts.specs.declared.summing.SumFault.TheVariants.{OutOfMemory};
+
+    ghost from_gives = { λ _ e. e ≡ OutOfMemory };
+
+    fn from(_error: AllocError) -> SumFault {
+        SumFault::OutOfMemory
+    }
+}
+
+/// The ends of all parts of a search as those of the whole (own rule): equal outcomes are one end,
+/// with the sum of the counts and the earliest of the first schedules, in the order of these. The
+/// parts are in order, the one with index 0 first.
+///
+/// An error is `TooMany` where the counts add up to 2^64 or more, or `OutOfMemory`.
+pub fn sum(alloc: Global, parts: &[Vec<Ending>]) -> Result<Vec<Ending>, SumFault>
+    // Where the lists are those of all parts of a search.
+    ensures ends { IfOk result (λ ends. (g : Setting) (calls : ℕ) → 0 < length parts.now
+        → AreParts g calls (map (λ part. part.items) parts.now) → AreEnds g ends.items) }
+    ensures ordered { IfOk result (λ ends. (g : Setting) (calls : ℕ) → 0 < length parts.now
+        → AreParts g calls (map (λ part. part.items) parts.now) → AreInOrder ends.items) }
+    // Whatever they are.
+    ensures total { IfOk result
+        (λ ends. sum_by (λ e. e.count) ends.items ≡ counted_by (map (λ part. part.items) parts.now)) }
+    ensures apart { IfOk result (λ ends. AreApart ends.items) }
+    ensures many { (result ≡ Err TooMany) ↔ (2 ^ 64 ≤ counted_by (map (λ part. part.items) parts.now)) }
+{
+    if !fit_in(parts, u64::MAX) {
+        return Err(SumFault::TooMany);
+    }
+    let mut sums = Sums::new(alloc);
+    sums.add_lists(alloc, parts)?;
+    Ok(sums.into_sorted())
+}

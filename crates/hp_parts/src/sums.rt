@@ -1,0 +1,226 @@
+//! Ends that are added up.
+ghost use Rattle.std.specs.Prelude.{◌≡◌, ◌↔◌, ℕ, ◌+◌, ◌<◌, ◌^◌, [], IfNone, IfOk, IfSome, IsTrue, OnErr, OnOk, map, nat_eq, sum_by};
+ghost use Rattle.std.specs.Cmp.Lexicographic.{slice_cmp};
+ghost use Rattle.std.specs.Ordering.{nat_cmp};
+ghost use Rattle.indexmap.specs.IndexMap.{ContainsKey};
+ghost use Rattle.hp_explore.specs.Digests.{digest_of};
+ghost use Rattle.hp_explore.specs.Notes.{AreKnown, HasEndAt, HasNoEnd};
+ghost use Rattle.hp_parts.specs.Adding.{AddsEnd, AddsEnds, AddsLists, AddsMore, AddsOther, AreSorted, counted_by};
+
+use crate::earlier::{keep_earlier, order_of};
+use hp_explore::{Ending, Outcome};
+use hp_units::Cpu;
+use indexmap::IndexMap;
+use std::alloc::{AllocError, Global};
+use std::cmp::Ordering;
+use std::marker::Model;
+
+/// Ends that are added up, no two of the same outcome, with how many schedules they count, and by a
+/// digest of an outcome the latest place of one that has it. A contract sees the ends.
+pub(crate) struct Sums {
+    total: u64,
+    ends: Vec<Ending>,
+    latest: IndexMap<u64, usize>,
+}
+
+impl Model for Sums {
+    ghost use Rattle.std.specs.Prelude.{◌≡◌, List, sum_by};
+    ghost use Rattle.hp_explore.specs.Notes.{AreKnown};
+    ghost use Rattle.hp_explore.specs.declared.tally.Ending.{Ending};
+
+    ghost Value = { List Ending };
+
+    ghost view = { λ s. s.ends.items };
+
+    ghost invariant = { λ s. (s.total ≡ sum_by (λ e. e.count) s.ends.items)
+        × AreKnown s.ends.items s.latest };
+}
+
+/// A function of its own, so that no proof of a caller takes the fields apart.
+impl Drop for Sums {
+    fn drop(self) {
+        let Sums {
+            total: _,
+            ends: _ends,
+            latest: _latest,
+        } = self;
+    }
+}
+
+impl Sums {
+    /// No ends.
+    pub(crate) fn new(alloc: Global) -> Sums
+        ensures { result ≡ [] }
+    {
+        Sums {
+            total: 0,
+            ends: Vec::new(alloc),
+            latest: IndexMap::new(alloc),
+        }
+    }
+
+    /// Adds each end of each list. An error is out of memory.
+    pub(crate) fn add_lists(
+        &mut self,
+        alloc: Global,
+        lists: &[Vec<Ending>],
+    ) -> Result<(), AllocError>
+        requires { sum_by (λ e. e.count) self.old + counted_by (map (λ ends. ends.items) lists.now) < 2 ^ 64 }
+        ensures { OnOk result (AddsLists self.old (map (λ ends. ends.items) lists.now) self.new) }
+    {
+        for ends in lists {
+            self.add_ends(alloc, ends.as_slice())?;
+        }
+        Ok(())
+    }
+
+    /// Adds each of these ends. An error is out of memory.
+    fn add_ends(&mut self, alloc: Global, ends: &[Ending]) -> Result<(), AllocError>
+        requires { sum_by (λ e. e.count) self.old + sum_by (λ e. e.count) ends.now < 2 ^ 64 }
+        ensures { OnOk result (AddsEnds self.old ends.now self.new) }
+    {
+        for end in ends {
+            self.add_end(alloc, end)?;
+        }
+        Ok(())
+    }
+
+    /// Adds an end. An error is out of memory; then the ends are as they were.
+    fn add_end(&mut self, alloc: Global, end: &Ending) -> Result<(), AllocError>
+        requires { sum_by (λ e. e.count) self.old + end.now.count < 2 ^ 64 }
+        ensures ok { OnOk result (AddsEnd self.old end.now self.new) }
+        ensures err { OnErr result (self.new ≡ self.old) }
+    {
+        let digest = end.outcome.digest();
+        match place_of(self.ends.as_slice(), &self.latest, digest, &end.outcome) {
+            Some(place) => self.add_at(alloc, place, end),
+            None => self.push(alloc, digest, end),
+        }
+    }
+
+    /// Adds an end to the one at a place.
+    fn add_at(&mut self, alloc: Global, place: usize, end: &Ending) -> Result<(), AllocError>
+        requires at { HasEndAt self.old end.now.outcome place }
+        requires room { sum_by (λ e. e.count) self.old + end.now.count < 2 ^ 64 }
+        ensures ok { OnOk result (AddsMore self.old end.now self.new) }
+        ensures err { OnErr result (self.new ≡ self.old) }
+    {
+        let entry = &mut self.ends[place];
+        keep_earlier(alloc, &mut entry.first, end.first.as_slice())?;
+        entry.count += end.count;
+        self.total += end.count;
+        Ok(())
+    }
+
+    /// Adds an end whose outcome, of this digest, none of them has.
+    fn push(&mut self, alloc: Global, digest: u64, end: &Ending) -> Result<(), AllocError>
+        requires digest { digest ≡ digest_of end.now.outcome }
+        requires none { HasNoEnd self.old end.now.outcome }
+        requires room { sum_by (λ e. e.count) self.old + end.now.count < 2 ^ 64 }
+        ensures ok { OnOk result (AddsOther self.old end.now self.new) }
+        ensures err { OnErr result (self.new ≡ self.old) }
+    {
+        let copy = copy_of(alloc, end)?;
+        self.ends.reserve(1)?;
+        learn(&mut self.latest, digest, self.ends.len())?;
+        self.ends.push_reserved(copy);
+        self.total += end.count;
+        Ok(())
+    }
+
+    /// The ends by their first schedules.
+    pub(crate) fn into_sorted(self) -> Vec<Ending>
+        ensures { AreSorted self result.items }
+    {
+        let Sums {
+            total: _,
+            ends,
+            latest: _latest,
+        } = self;
+        sorted(ends)
+    }
+}
+
+/// Ends by their first schedules.
+fn sorted(ends: Vec<Ending>) -> Vec<Ending>
+    ensures { AreSorted ends.items result.items }
+{
+    let mut sorted = ends;
+    sorted.sort_unstable_by(
+        |end: &Ending, other: &Ending| -> Ordering
+            ensures { result ≡ slice_cmp nat_cmp end.now.first.items other.now.first.items }
+        { order_of(end.first.as_slice(), other.first.as_slice()) },
+    );
+    sorted
+}
+
+/// A copy of an end. An error is out of memory.
+fn copy_of(alloc: Global, end: &Ending) -> Result<Ending, AllocError>
+    ensures outcome { IfOk result (λ copy. copy.outcome ≡ end.now.outcome) }
+    ensures count { IfOk result (λ copy. copy.count ≡ end.now.count) }
+    ensures first { IfOk result (λ copy. copy.first.items ≡ end.now.first.items) }
+{
+    let outcome = end.outcome.copy(alloc)?;
+    let first: Vec<Cpu> = end.first.iter().copied().collect(alloc)?;
+    Ok(Ending {
+        outcome,
+        count: end.count,
+        first,
+    })
+}
+
+/// Notes the place of an outcome under its digest. An error is out of memory; what was known stays known.
+fn learn(latest: &mut IndexMap<u64, usize>, digest: u64, place: usize) -> Result<(), AllocError>
+    ensures kept { (d : ℕ) → ContainsKey nat_eq latest.old d → ContainsKey nat_eq latest.new d }
+    ensures ok { OnOk result (ContainsKey nat_eq latest.new digest) }
+{
+    match latest.insert(digest, place) {
+        Ok(_earlier) => Ok(()),
+        Err(_failed) => Err(AllocError),
+    }
+}
+
+/// The place of the end that has an outcome. It is mostly the latest with its digest; where it is
+/// not, all ends are compared.
+fn place_of(
+    ends: &[Ending],
+    latest: &IndexMap<u64, usize>,
+    digest: u64,
+    outcome: &Outcome,
+) -> Option<usize>
+    requires known { AreKnown ends.now latest.now }
+    requires digest { digest ≡ digest_of outcome.now }
+    ensures some { IfSome result (HasEndAt ends.now outcome.now) }
+    ensures none { IfNone result (HasNoEnd ends.now outcome.now) }
+{
+    let Some(place) = latest.get(&digest) else {
+        return None;
+    };
+    if is_end_at(ends, *place, outcome) {
+        return Some(*place);
+    }
+    first_place_of(ends, outcome)
+}
+
+/// Whether the end at a place has an outcome.
+fn is_end_at(ends: &[Ending], place: usize, outcome: &Outcome) -> bool
+    ensures { IsTrue result → HasEndAt ends.now outcome.now place }
+{
+    match ends.get(place) {
+        Some(end) => end.outcome.same(outcome),
+        None => false,
+    }
+}
+
+/// The place of the first end that has an outcome.
+fn first_place_of(ends: &[Ending], outcome: &Outcome) -> Option<usize>
+    ensures some { IfSome result (HasEndAt ends.now outcome.now) }
+    ensures none { IfNone result (HasNoEnd ends.now outcome.now) }
+{
+    for (place, end) in ends.iter().enumerate() {
+        if end.outcome.same(outcome) {
+            return Some(place);
+        }
+    }
+    None
+}
