@@ -14,13 +14,19 @@ as many interleavings are told as there are orders; past a limit a search finds 
 or is among the first. `--never` prints the same with the other status, `--scenario 1` writes what
 is found as a scenario with the setup's lines before the calls, `--json` the same as an object,
 scripts that use 0 before a begin are told, and a text that no end has as a line ends with status 2.
-The last line is 'find: N passed, M failed'; the exit status is 0 where nothing failed, else 1.
+
+Of each: the parts of 3, in any order, add up to what `explore` prints, in words and as JSON, and
+`--jobs 2` prints the same; of one in four the parts of 1 and 7 too, from files and with an end as a
+scenario. A sum is refused where a part is missing, comes twice, is of another scenario or stopped
+at its limit, and where a schedule or an answer was changed. That a count was changed is not found
+out. The last line is 'find: N passed, M failed'; the exit status is 0 where nothing failed, else 1.
 """
 import json
 import random
 import re
 import subprocess
 import sys
+import tempfile
 from pathlib import Path
 
 from check_lab import (LAYOUT, ROOT, SECONDS, Checks, Programs, answers_and_state, end_of,
@@ -29,6 +35,7 @@ from check_lab import (LAYOUT, ROOT, SECONDS, Checks, Programs, answers_and_stat
 SEED = 34
 COUNT = 400
 SEARCHED = 10
+SUMMED = 4
 MOST_ORDERS = 120
 NO_LINES = ("", "refused", "refused Nonsense", "refused NotFree x", "refused NotFree 01", "word",
             "opened 3", "block x", "block 1", "block 1 online", "block 1 offline normal", "cpu 0",
@@ -49,6 +56,17 @@ class Searches(Programs):
                              timeout=SECONDS)
         self.said = ran.stderr.decode()
         return ran.returncode, ran.stdout.decode()
+
+    def part(self, scenario, setup, number, of, *words):
+        """The exit status of one part, and what it prints."""
+        return self.search(scenario, setup, "--part", f"{number}/{of}", *words)
+
+    def sum(self, text, *words):
+        """The exit status of the sum of parts, and what is printed, or else what is said."""
+        ran = subprocess.run([self.lab, "sum", *words], input=text.encode(), capture_output=True,
+                             timeout=SECONDS)
+        out, said = ran.stdout.decode(), ran.stderr.decode()
+        return ran.returncode, said if ran.returncode == 1 else out
 
     def find(self, scenario, setup, option, texts, *more):
         """The exit status and what is printed of a search for an end with lines; what is said where
@@ -287,6 +305,115 @@ def check_object(checks, programs, scenario, setup, texts, expected):
                  f"says {status}, {text!r}")
 
 
+FORMS = ((), ("--json",))
+
+
+def check_sum(checks, programs, draw, scenario, setup, of):
+    """The parts add up to the whole, in any order; it answers their texts."""
+    where = f"sum of {of} --setup {setup} {json.dumps(scenario)}"
+    parts = [programs.part(scenario, setup, number, of) for number in range(1, of + 1)]
+    checks.holds(where, all(status == 0 for status, _ in parts), "a part is not whole")
+    texts = [text for _, text in parts]
+    for form in FORMS:
+        mixed = "".join(draw.sample(texts, of))
+        whole, told = programs.search(scenario, setup, *form), programs.sum(mixed, *form)
+        checks.holds(f"{where} {form}", told == whole, f"{told} in place of {whole}")
+    return texts
+
+
+def check_files(checks, programs, scenario, setup, texts, number):
+    """The same from files, with an end as a scenario."""
+    with tempfile.TemporaryDirectory() as folder:
+        files = [Path(folder) / f"part.{at}.json" for at in range(len(texts))]
+        for file, text in zip(files, texts, strict=True):
+            file.write_text(text)
+        words = ("--scenario", str(number))
+        whole, told = programs.search(scenario, setup, *words), programs.sum("", *words, *files)
+        checks.holds(f"sum of files --setup {setup} {json.dumps(scenario)}", told == whole,
+                     f"{told} in place of {whole}")
+
+
+def refused(text, scenario, setup):
+    """Texts of parts that have no sum, where the text is that of three parts in order, and what is
+    said of each."""
+    lines = text.splitlines(keepends=True)
+    heads = [at for at, line in enumerate(lines) if line.startswith('{"part": ')]
+    first, second = "".join(lines[:heads[1]]), "".join(lines[heads[1]:heads[2]])
+    third = "".join(lines[heads[2]:])
+    other = dict(scenario, calls=scenario["calls"] + ["0 drain 0"])
+    head = json.loads(lines[heads[1]])
+    moved = json.dumps({**head, "scenario": json.dumps(other)}) + "\n"
+    by = json.dumps({**head, "calls": head["calls"] + 1}) + "\n"
+    yield "", "line 1 is none of a part"
+    yield first + third, "part 2 is missing"
+    yield first + second, "part 3 is missing"
+    yield second + text, "part 2 comes twice"
+    yield first + moved + third, f"line {heads[1] + 1} begins a part of another search"
+    yield first + by + third, f"line {heads[1] + 1} begins a part of another search"
+    yield first + "x\n" + second + third, f"line {heads[1] + 1} is none of a part"
+    yield text + "{}\n", f"line {len(lines) + 1} is none of a part"
+    yield text[:-1], f"line {len(lines)} is none of a part"
+    yield (text + '{"first": 1, "interleavings": null}\n',
+           f"line {len(lines) + 1}: the part stopped at its limit")
+    ends = [at for at, line in enumerate(lines) if at not in heads]
+    at = ends[-1]
+    for changed, said in changed_lines(lines[at]):
+        yield "".join(lines[:at] + [changed] + lines[at + 1:]), f"line {at + 1}{said}"
+
+
+def changed_lines(line):
+    """The line of an end with its schedule changed, or its last answer, and what is said of each."""
+    front, _, schedule = line.rpartition('"processors": ')
+    processors = json.loads(schedule.rstrip("}\n"))
+    none = ": its processors are no interleaving of its part"
+    yield f'{front}"processors": {json.dumps(processors + [0])}}}\n', none
+    yield f'{front}"processors": {json.dumps(processors[:-1])}}}\n', none
+    yield line.replace('"blocks": ["', '"blocks": ["x'), " is not what its interleaving leads to"
+    yield line.replace('{"end": ', '{"end": 1'), " is not what its interleaving leads to"
+
+
+def check_refused(checks, programs, scenario, setup, texts):
+    """What is no text of all parts of one search is refused; but that a count was changed is not
+    found out."""
+    where = f"sum refused --setup {setup} {json.dumps(scenario)}"
+    text = "".join(texts)
+    for wrong, said in refused(text, scenario, setup):
+        told = programs.sum(wrong)
+        checks.holds(where, told == (1, f"hotplug_lab: {said}\n"), f"says {told} of {wrong!r}")
+    more = re.sub('"interleavings": ([0-9]+)', lambda found: found[0] + "0", text, count=1)
+    status, _ = programs.sum(more)
+    checks.holds(where, status == 0, "a count that was changed is refused")
+
+
+def check_parts(checks, programs, draw, scenario, setup, is_summed):
+    """What parts add up to, and what threads search."""
+    texts = check_sum(checks, programs, draw, scenario, setup, 3)
+    for form in FORMS:
+        whole = programs.search(scenario, setup, *form)
+        jobs = programs.search(scenario, setup, "--jobs", "2", *form)
+        checks.holds(f"--jobs 2 {form} --setup {setup} {json.dumps(scenario)}", jobs == whole,
+                     f"{jobs} in place of {whole}")
+    if is_summed:
+        check_files(checks, programs, scenario, setup, texts, draw.randrange(1, 4))
+        check_refused(checks, programs, scenario, setup, texts)
+        for of in (1, 7):
+            check_sum(checks, programs, draw, scenario, setup, of)
+
+
+def check_part_limit(checks, programs, scenario, setup, orders):
+    """A part that has more than the limit says so, and is refused by a sum."""
+    where = f"--part 1/1 --limit 1 --setup {setup} {json.dumps(scenario)}"
+    status, text = programs.part(scenario, setup, 1, 1, "--limit", "1")
+    if len(orders) < 2:
+        checks.holds(where, status == 0, f"ends with {status}")
+        return
+    lines = text.splitlines()
+    checks.holds(where, (status, len(lines)) == (3, 3), f"ends with {status} after {text!r}")
+    told = programs.sum(text)
+    stopped = (1, "hotplug_lab: line 3: the part stopped at its limit\n")
+    checks.holds(where, told == stopped, f"says {told}")
+
+
 def counted(orders):
     """The ends of orders in the order of their first ones: count, end and first order of each."""
     ends = {}
@@ -305,8 +432,8 @@ def check_ends(checks, programs, scenario, setup, orders):
     checks.holds(where, ends == counted(orders), f"{ends} in place of {counted(orders)}")
 
 
-def check_drawn(checks, programs, draw, is_searched):
-    """Checks a scenario that is drawn, and searches of it where it is to be searched; it answers
+def check_drawn(checks, programs, draw, drawn):
+    """Checks a scenario that is drawn, after so many, and of some searches and sums; it answers
     whether it has few enough orders, with room for each."""
     cpus = draw.choice((1, 2, 2, 2, 3))
     layout = dict(LAYOUT, cpus=cpus, history=200)
@@ -323,7 +450,10 @@ def check_drawn(checks, programs, draw, is_searched):
     limit = draw.randrange(len(orders))
     check_ends(checks, programs, scenario, setup, orders)
     check_first(checks, programs, scenario, setup, orders, limit)
-    if is_searched:
+    check_parts(checks, programs, draw, scenario, setup, drawn % SUMMED == 0)
+    if drawn % SUMMED == 0:
+        check_part_limit(checks, programs, scenario, setup, orders)
+    if drawn % SEARCHED == 0:
         for texts in drawn_texts(draw, [end for _, end in orders]):
             check_search(checks, programs, scenario, setup, orders, texts)
             check_within(checks, programs, scenario, setup, orders, texts, limit)
@@ -348,7 +478,7 @@ def main(words):
         check_no_lines(checks, programs)
         drawn = 0
         while drawn < int(count):
-            drawn += check_drawn(checks, programs, draw, drawn % SEARCHED == 0)
+            drawn += check_drawn(checks, programs, draw, drawn)
     except (ValueError, LookupError, OSError, subprocess.SubprocessError) as error:
         checks.holds("find", False, f"cannot be checked: {error!r}")
     for failure in checks.failures:

@@ -205,6 +205,37 @@ def check_replays(checks, lab, scripts):
         checks.same(f"explore {options}", twice, lab.call("explore", *options, scenario=scripts))
 
 
+def check_parts(checks, lab, scripts):
+    """Parts are summed from files and from standard input; other numbers are refused."""
+    plain = lab.call("explore", scenario=scripts)
+    parts = [lab.call("explore", "--part", f"{number}/2", scenario=scripts) for number in (1, 2)]
+    checks.same("explore --part", [(0, "")] * 2, [(status, error) for status, _, error in parts])
+    with tempfile.TemporaryDirectory() as folder:
+        files = [Path(folder) / "one.json", Path(folder) / "other.json"]
+        for file, (_, text, _) in zip(files, parts, strict=True):
+            file.write_text(text)
+        checks.same("sum FILE FILE", plain, lab.call("sum", *reversed(files)))
+        checks.same("sum FILE", (1, "", "hotplug_lab: part 2 is missing\n"),
+                    lab.call("sum", files[0]))
+        checks.same("sum --json", lab.call("explore", "--json", scenario=scripts),
+                    lab.call("sum", "--json", *files))
+        checks.same("sum --scenario 1", lab.call("explore", "--scenario", "1", scenario=scripts),
+                    lab.call("sum", "--scenario", "1", *files))
+        lost = (1, "", "hotplug_lab: file not opened\n")
+        checks.same("sum of no file", lost, lab.call("sum", files[0], Path(folder) / "none.json"))
+    checks.same("sum of nothing", (1, "", "hotplug_lab: line 1 is none of a part\n"),
+                lab.call("sum", "-"))
+    refused = ("hotplug_lab: --part may be I/N, with I from 1 to N, and N at most 1000000\n")
+    for part in ("", "1", "0/2", "3/2", "1/0", "x/2", "1/x", "1/1000001", "-1/2", "1/2/3"):
+        checks.same(f"explore --part {part!r}", (2, "", refused),
+                    lab.call("explore", f"--part={part}", scenario=scripts))
+    for jobs, expected in (("0", 2), ("1", 0), ("2", 0), ("256", 0), ("257", 2)):
+        status, out, error = lab.call("explore", "--jobs", jobs, scenario=scripts)
+        said = "hotplug_lab: --jobs may be 1 to 256\n" if expected else ""
+        checks.same(f"explore --jobs {jobs}", (expected, "" if expected else plain[1], said),
+                    (status, out, error))
+
+
 def check_trace(checks, lab):
     whole = scenario_of(CALLS)
     plain = lab.call("trace", scenario=whole)
@@ -255,12 +286,19 @@ def check_lab(checks, lab):
     checks.same("check of a fault", 1, lab.call("check", scenario=scenario_of(["0 walk"]))[0])
     check_counts(checks, lab)
     check_explore(checks, lab)
+    check_parts(checks, lab, scenario_of(CALLS[:6]))
     check_trace(checks, lab)
     check_picture(checks, lab)
     for words in ((), ("walk",), ("explore", "--setup", "x"), ("explore", "--setup", "-1"),
                   ("explore", "--every", "2"), ("trace", "--limit", "2"), ("check", "--svg"),
                   ("check", "--progress"), ("trace", "--progress"),
                   ("explore", "--orders"), ("explore", "--json", "--scenario", "1"),
+                  ("explore", "--part", "1/2", "--find", "done"),
+                  ("explore", "--part", "1/2", "--never", "done"),
+                  ("explore", "--part", "1/2", "--scenario", "1"),
+                  ("explore", "--part", "1/2", "--jobs", "2"),
+                  ("explore", "--jobs", "2", "--find", "done"),
+                  ("sum", "--json", "--scenario", "1"), ("sum", "--setup", "1"),
                   ("trace", "a", "b"), ("trace", "--width"), ("trace", "--to", str(2**64))):
         status, out, error = lab.call(*words, scenario=whole)
         checks.same(f"hotplug_lab {words}", (2, ""), (status, out))

@@ -4,9 +4,9 @@ use Rattle.hp_lab.specs.declared.fault.LabFault.TheVariants.{OutOfMemory}
 use Rattle.hp_scenario.specs.Scenario.{scenario_in}
 use Rattle.hotplug_lab.specs.Words.{HasLines, IsLabCause, IsPast, IsUnanswered, count_of, has_line, last_named}
 use Rattle.hotplug_lab.specs.declared.fault.ProgramFault.{ProgramFault}
-use Rattle.hotplug_lab.specs.declared.fault.ProgramFault.TheVariants.{Lab, NotOpened, PastEnd, ReadFailed, Scenario, TooLong, WriteFailed}
+use Rattle.hotplug_lab.specs.declared.fault.ProgramFault.TheVariants.{Lab, NoPart, NotOpened, Parts, PastEnd, ReadFailed, Scenario, TooLong, WriteFailed}
 use Rattle.hotplug_lab.specs.declared.words.Word.{Word}
-use Rattle.hotplug_lab.specs.declared.words.Word.TheVariants.{Check, Explore, Find, Never, Picture, Trace}
+use Rattle.hotplug_lab.specs.declared.words.Word.TheVariants.{Check, Explore, Find, Never, Part, Picture, Sum, Trace}
 
 any_has : (count : Option ℕ) → has_line 0 count ≡ true
 any_has None = refl
@@ -21,7 +21,9 @@ none_needed word input none =
 -- out of memory is a fault of each word
 pub no_memory : (word : Word) (input : List ℕ) → IsUnanswered word input (Lab OutOfMemory)
 no_memory (Check setup) input = refl
-no_memory (Explore asked form) input = tt
+no_memory (Explore asked form jobs) input = tt
+no_memory (Part asked number of) input = tt
+no_memory (Sum form) input = refl
 no_memory (Find asked wanted form) input = tt
 no_memory (Never asked wanted form) input = tt
 no_memory (Trace view) input = refl
@@ -34,6 +36,8 @@ past_is_fault word input asked count NotOpened named is h = absurd h
 past_is_fault word input asked count ReadFailed named is h = absurd h
 past_is_fault word input asked count TooLong named is h = absurd h
 past_is_fault word input asked count (Lab fault) named is h = absurd h
+past_is_fault word input asked count NoPart named is h = absurd h
+past_is_fault word input asked count (Parts fault) named is h = absurd h
 past_is_fault word input asked count (Scenario fault) named is h = absurd h
 past_is_fault word input asked count (PastEnd number lines) named is h =
     (h.0 ∙ named, sym is ∙ h.1, subst (λ (n : ℕ). lines < n) (sym h.0) h.2)

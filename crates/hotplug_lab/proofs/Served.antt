@@ -6,9 +6,9 @@ use Rattle.hp_streams.specs.declared.reading.ReadFault.{ReadFault}
 use Rattle.hp_streams.specs.declared.reading.ReadFault.TheVariants as reading
 use Rattle.hp_streams.proofs.Whole.{given}
 use Rattle.hotplug_lab.specs.Faults.{read_fault_from}
-use Rattle.hotplug_lab.specs.Words.{Answers, IsLabCause, IsPastEnd, IsScenarioCause, IsServeFault, IsUnanswered, Serves}
+use Rattle.hotplug_lab.specs.Words.{Answers, IsLabCause, IsPartCause, IsPastEnd, IsScenarioCause, IsServeFault, IsUnanswered, Serves}
 use Rattle.hotplug_lab.specs.declared.fault.ProgramFault.{ProgramFault}
-use Rattle.hotplug_lab.specs.declared.fault.ProgramFault.TheVariants.{Lab, NotOpened, PastEnd, ReadFailed, Scenario, TooLong, WriteFailed}
+use Rattle.hotplug_lab.specs.declared.fault.ProgramFault.TheVariants.{Lab, NoPart, NotOpened, Parts, PastEnd, ReadFailed, Scenario, TooLong, WriteFailed}
 use Rattle.hotplug_lab.specs.declared.words.Word.{Word}
 
 -- a fault of reading is one of the program
@@ -27,6 +27,9 @@ unanswered_of word a b input read written ReadFailed p end h = absurd h
 unanswered_of word a b input read written TooLong p end h = absurd h
 unanswered_of word a b input read written (Lab fault) p end h =
     inr (given a b input p end (λ i. IsLabCause word i fault) h)
+unanswered_of word a b input read written NoPart p end h = h
+unanswered_of word a b input read written (Parts fault) p end h =
+    given a b input p end (λ i. IsPartCause word i fault) h
 unanswered_of word a b input read written (Scenario fault) p end h =
     given a b input p end (λ i. IsScenarioCause word i fault) h
 unanswered_of word a b input read written (PastEnd asked lines) p end h =

@@ -1,5 +1,5 @@
 -- What a word writes of the bytes of a scenario, the exit status, and when each fault comes.
-use Rattle.std.specs.Prelude.{◌≡◌, ◌⊎◌, ℕ, ◌-◌, ◌^◌, ◌<◌, ◌==◌, Bool, true, false, List, [], ◌++◌, length, Option, Some, None, Result, Ok, Err, IfSome, count_by, nat_le, if◌then◌else◌}
+use Rattle.std.specs.Prelude.{◌≡◌, ◌⊎◌, ℕ, ◌-◌, ◌^◌, ◌<◌, ◌≤◌, ◌==◌, Bool, true, false, List, [], ◌++◌, length, Option, Some, None, Result, Ok, Err, IfSome, count_by, nat_le, if◌then◌else◌}
 use Rattle.std.specs.Io.KnownBytes.{Appends}
 use Rattle.hp_check.specs.Checking.{AreFindings}
 use Rattle.hp_check.specs.Findings.{is_fault}
@@ -18,16 +18,20 @@ use Rattle.hp_scenario.specs.Gives.{Fails}
 use Rattle.hp_scenario.specs.Scenario.{ScenarioValue, scenario_in}
 use Rattle.hp_scenario.specs.declared.fault.ScenarioFault.{ScenarioFault}
 use Rattle.hp_streams.specs.Reading.{limit}
+use Rattle.hp_part_files.specs.Faults.{IsSumFault}
+use Rattle.hp_part_files.specs.Parts.{IsPartOf}
+use Rattle.hp_part_files.specs.Sums.{IsSumOf}
+use Rattle.hp_part_files.specs.declared.fault.PartFault.{PartFault}
 use Rattle.hp_pictures.specs.Rows.{RowValue}
 use Rattle.hp_svg.specs.Pictures.{picture_of}
 use Rattle.hp_trace.specs.Traces.{AreRowsOf, IsTraceOf}
 use Rattle.hp_trace.specs.declared.view.View.{View}
 use Rattle.hotplug_lab.specs.declared.fault.ProgramFault.{ProgramFault}
-use Rattle.hotplug_lab.specs.declared.fault.ProgramFault.TheVariants.{Lab, NotOpened, PastEnd, ReadFailed, Scenario, TooLong, WriteFailed}
+use Rattle.hotplug_lab.specs.declared.fault.ProgramFault.TheVariants.{Lab, NoPart, NotOpened, Parts, PastEnd, ReadFailed, Scenario, TooLong, WriteFailed}
 use Rattle.hotplug_lab.specs.declared.words.Drawing.{Drawing}
 use Rattle.hotplug_lab.specs.declared.words.Exploration.{Exploration}
 use Rattle.hotplug_lab.specs.declared.words.Word.{Word}
-use Rattle.hotplug_lab.specs.declared.words.Word.TheVariants.{Check, Explore, Find, Never, Picture, Trace}
+use Rattle.hotplug_lab.specs.declared.words.Word.TheVariants.{Check, Explore, Find, Never, Part, Picture, Sum, Trace}
 
 -- the interleavings that are counted where no limit is given, the most
 abbrev pub usual_limit : ℕ
@@ -69,6 +73,16 @@ IsExploringOf asked form input text status =
     (found : Bool) × IsExplorationOf form input asked.setup asked.limit text found
     × (status ≡ (if found then 0 else 3))
 
+-- the text of one part; and of the sum of all
+abbrev pub IsPartialOf : Exploration → (number of : ℕ) → (input text : List ℕ) → (status : ℕ) → Type 0
+IsPartialOf asked number of input text status =
+    (found : Bool) × IsPartOf (record { number = number; of = of }) input asked.setup asked.limit text found
+    × (status ≡ (if found then 0 else 3))
+
+abbrev pub IsAddedOf : EndsForm → (input text : List ℕ) → (status : ℕ) → Type 0
+IsAddedOf form input text status =
+    (found : Bool) × IsSumOf form input text found × (status ≡ (if found then 0 else 3))
+
 -- the text of a search; the status is one where an interleaving is found, and another where none is
 abbrev pub IsSearchOf : Exploration → List Wanted → ScheduleForm → (found_status absent_status : ℕ)
     → (input text : List ℕ) → (status : ℕ) → Type 0
@@ -78,7 +92,9 @@ IsSearchOf asked wanted form found_status absent_status input text status =
 
 abbrev pub IsAnswerOf : Word → (input text : List ℕ) → (status : ℕ) → Type 0
 IsAnswerOf (Check setup) input text status = IsCheckOf setup input text status
-IsAnswerOf (Explore asked form) input text status = IsExploringOf asked form input text status
+IsAnswerOf (Explore asked form jobs) input text status = IsExploringOf asked form input text status
+IsAnswerOf (Part asked number of) input text status = IsPartialOf asked number of input text status
+IsAnswerOf (Sum form) input text status = IsAddedOf form input text status
 IsAnswerOf (Find asked wanted form) input text status = IsSearchOf asked wanted.now form 0 3 input text status
 IsAnswerOf (Never asked wanted form) input text status =
     IsSearchOf asked wanted.now form 3 0 input text status
@@ -93,7 +109,9 @@ unbegun_in setup (Err fault) = []
 -- of the scripts that a word searches
 abbrev pub unbegun_of : Word → Result ScenarioValue ScenarioFault → List Unbegun
 unbegun_of (Check setup) read = []
-unbegun_of (Explore asked form) read = unbegun_in asked.setup read
+unbegun_of (Explore asked form jobs) read = unbegun_in asked.setup read
+unbegun_of (Part asked number of) read = unbegun_in asked.setup read
+unbegun_of (Sum form) read = []
 unbegun_of (Find asked wanted form) read = unbegun_in asked.setup read
 unbegun_of (Never asked wanted form) read = unbegun_in asked.setup read
 unbegun_of (Trace view) read = []
@@ -109,7 +127,9 @@ setup_named setup = if setup == 2 ^ 64 - 1 then 0 else setup
 
 abbrev pub last_named : Word → ℕ
 last_named (Check setup) = setup_named setup
-last_named (Explore asked form) = asked.setup
+last_named (Explore asked form jobs) = asked.setup
+last_named (Part asked number of) = asked.setup
+last_named (Sum form) = 0
 last_named (Find asked wanted form) = asked.setup
 last_named (Never asked wanted form) = asked.setup
 last_named (Trace view) = first_shown view
@@ -147,7 +167,9 @@ IsPast asked count fault = ⊥
 -- to be traced; else out of memory alone
 abbrev pub IsLabCause : Word → (input : List ℕ) → LabFault → Type 0
 IsLabCause (Check setup) input fault = fault ≡ OutOfMemory
-IsLabCause (Explore asked form) input fault = IsFaultOf input asked.setup asked.limit fault
+IsLabCause (Explore asked form jobs) input fault = IsFaultOf input asked.setup asked.limit fault
+IsLabCause (Part asked number of) input fault = IsFaultOf input asked.setup asked.limit fault
+IsLabCause (Sum form) input fault = fault ≡ OutOfMemory
 IsLabCause (Find asked wanted form) input fault = IsFindFaultOf input asked.setup asked.limit wanted.now fault
 IsLabCause (Never asked wanted form) input fault =
     IsFindFaultOf input asked.setup asked.limit wanted.now fault
@@ -156,17 +178,31 @@ IsLabCause (Picture drawing) input fault = fault ≡ OutOfMemory
 
 abbrev pub IsScenarioCause : Word → (input : List ℕ) → ScenarioFault → Type 0
 IsScenarioCause (Check setup) input fault = ⊥
-IsScenarioCause (Explore asked form) input fault = ⊥
+IsScenarioCause (Explore asked form jobs) input fault = ⊥
+IsScenarioCause (Part asked number of) input fault = ⊥
+IsScenarioCause (Sum form) input fault = ⊥
 IsScenarioCause (Find asked wanted form) input fault = ⊥
 IsScenarioCause (Never asked wanted form) input fault = ⊥
 IsScenarioCause (Trace view) input fault = Fails fault (scenario_in input)
 IsScenarioCause (Picture drawing) input fault = Fails fault (scenario_in input)
+
+-- why parts have no sum
+abbrev pub IsPartCause : Word → (input : List ℕ) → PartFault → Type 0
+IsPartCause (Sum form) input fault = IsSumFault input fault
+IsPartCause word input fault = ⊥
+
+-- there is no such part
+abbrev pub IsNoPart : Word → Type 0
+IsNoPart (Part asked number of) = (1 ≤ number) × (number ≤ of) × (of ≤ 1000000) → ⊥
+IsNoPart word = ⊥
 
 abbrev pub IsUnanswered : Word → (input : List ℕ) → ProgramFault → Type 0
 IsUnanswered word input NotOpened = ⊥
 IsUnanswered word input ReadFailed = ⊥
 IsUnanswered word input TooLong = ⊥
 IsUnanswered word input (Lab fault) = IsLabCause word input fault
+IsUnanswered word input NoPart = IsNoPart word
+IsUnanswered word input (Parts fault) = IsPartCause word input fault
 IsUnanswered word input (Scenario fault) = IsScenarioCause word input fault
 IsUnanswered word input (PastEnd asked lines) = IsPastEnd word input asked lines
 IsUnanswered word input WriteFailed = ⊥
@@ -186,6 +222,8 @@ IsServeFault word known read written ReadFailed = read
 IsServeFault word known read written TooLong = IfSome known (λ input. limit < length input)
 IsServeFault word known read written (Lab fault) =
     (fault ≡ OutOfMemory) ⊎ IfSome known (λ input. IsLabCause word input fault)
+IsServeFault word known read written NoPart = IsNoPart word
+IsServeFault word known read written (Parts fault) = IfSome known (λ input. IsPartCause word input fault)
 IsServeFault word known read written (Scenario fault) =
     IfSome known (λ input. IsScenarioCause word input fault)
 IsServeFault word known read written (PastEnd asked lines) =

@@ -2,9 +2,10 @@
 ghost use Rattle.std.specs.Prelude.{◌≡◌};
 ghost use Rattle.hp_lab.specs.declared.fault.LabFault.TheVariants.{OutOfMemory};
 ghost use Rattle.hotplug_lab.specs.Faults.{read_fault_from};
-ghost use Rattle.hotplug_lab.specs.declared.fault.ProgramFault.TheVariants.{Lab, Scenario};
+ghost use Rattle.hotplug_lab.specs.declared.fault.ProgramFault.TheVariants.{Lab, Parts, Scenario};
 
 use hp_lab::LabFault;
+use hp_part_files::PartFault;
 use hp_scenario::ScenarioFault;
 use hp_streams::ReadFault;
 use std::alloc::AllocError;
@@ -23,6 +24,10 @@ pub enum ProgramFault {
     TooLong,
     /// The exploration failed.
     Lab(LabFault),
+    /// There is no part with the number, or there are more than 1,000,000.
+    NoPart,
+    /// The parts have no sum.
+    Parts(PartFault),
     /// The scenario is none.
     Scenario(ScenarioFault),
     /// A line was asked for by its number, counted from 1, and the scenario has only so many.
@@ -68,6 +73,8 @@ impl fmt::Display for ProgramFault {
             ProgramFault::ReadFailed => write!(f, "reading failed"),
             ProgramFault::TooLong => write!(f, "input too long"),
             ProgramFault::Lab(fault) => write!(f, "{fault}"),
+            ProgramFault::NoPart => write!(f, "there is no such part"),
+            ProgramFault::Parts(fault) => write!(f, "{fault}"),
             ProgramFault::Scenario(fault) => write!(f, "{fault}"),
             ProgramFault::PastEnd { asked, lines } => {
                 write!(f, "{asked} is past the last line, {lines}")
@@ -104,6 +111,14 @@ impl From<LabFault> for ProgramFault {
 
     fn from(fault: LabFault) -> ProgramFault {
         ProgramFault::Lab(fault)
+    }
+}
+
+impl From<PartFault> for ProgramFault {
+    ghost from_gives = { λ fault e. e ≡ Parts fault };
+
+    fn from(fault: PartFault) -> ProgramFault {
+        ProgramFault::Parts(fault)
     }
 }
 

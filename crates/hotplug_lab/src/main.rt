@@ -1,22 +1,26 @@
 //! Looks into scenarios of the memory machine: `hotplug_lab WORD`, a file or standard input to
 //! standard output.
 //!
-//! What a word writes stands in a library of its own: `check` in hp_check, `explore` in hp_lab,
-//! `trace` in hp_trace, its picture in hp_svg. The exit status is 0; or 1 after a fault, which
+//! What a word writes stands in a library of its own: `check` in hp_check, `explore` in hp_lab, its
+//! parts and their `sum` in hp_part_files, `trace` in hp_trace, its picture in hp_svg. The exit status is 0; or 1 after a fault, which
 //! standard error names, and after a check that finds faults; or 2 where the command line is wrong;
 //! or 3 where a search finds nothing, or what is never to be, where an end that is asked for is not
 //! there, and where there are more interleavings than the limit. It is the same where standard error takes no text. The help is a text like any other:
 //! where standard output does not take it, the status is 1.
 #![tactic(auto)]
 
+mod command;
 mod fault;
+mod files;
 mod progress;
 mod serving;
 mod words;
 
 use clap::ArgMatches;
 use clap::error::ErrorKind;
+use command::lab_command;
 use fault::ProgramFault;
+use files::bytes_of;
 use hp_escapes::{Brackets, write_escaped};
 use hp_find::Wanted;
 use hp_lab::{Unbegun, wanted_line};
@@ -26,19 +30,42 @@ use serving::serve;
 use std::alloc::{AllocError, Global};
 use std::io::{IsTerminal, Read};
 use std::process::ExitCode;
+use std::thread::Threads;
 use std::{env, fs, io};
 use words::{
-    Request, Word, contradiction, is_past_the_found, lab_command, request_from, texts_from,
+    Request, Word, contradiction, is_no_part, is_past_the_found, request_from, texts_from,
 };
 
-/// Does a word on the file that is named, or else on standard input, and answers the exit status.
-fn serve_request(rt: &HostRuntime, request: Request<'_, '_>) -> Result<u8, ProgramFault> {
+/// Does a word on the files that are named, or else on standard input, and answers the exit status.
+fn serve_request<T: Threads + Sync>(
+    rt: &HostRuntime,
+    threads: &T,
+    request: Request<'_, '_, '_>,
+) -> Result<u8, ProgramFault> {
     let shown = shown_on(rt.stderr().is_terminal(), request.progress);
-    let Some(path) = request.file else {
-        return serve_input(rt, request.word, rt.stdin(), shown);
-    };
-    match fs::open(rt, path) {
-        Ok(input) => serve_input(rt, request.word, input, shown),
+    match request.files {
+        [] => serve_input(rt, threads, request.word, rt.stdin(), shown),
+        [name] => serve_file(rt, threads, request.word, name, shown),
+        names => {
+            let bytes = bytes_of(rt, names)?;
+            serve_input(rt, threads, request.word, bytes.as_slice(), shown)
+        }
+    }
+}
+
+/// Does a word on the file with a name; `-` names standard input.
+fn serve_file<T: Threads + Sync>(
+    rt: &HostRuntime,
+    threads: &T,
+    word: Word<'_>,
+    name: &str,
+    shown: Shown,
+) -> Result<u8, ProgramFault> {
+    if name == "-" {
+        return serve_input(rt, threads, word, rt.stdin(), shown);
+    }
+    match fs::open(rt, name) {
+        Ok(input) => serve_input(rt, threads, word, input, shown),
         Err(_) => Err(ProgramFault::NotOpened),
     }
 }
@@ -55,8 +82,9 @@ fn shown_on(is_terminal: bool, is_wanted: bool) -> Shown {
 }
 
 /// Does a word on what the input has, and writes to standard output.
-fn serve_input<R: Read + Drop>(
+fn serve_input<T: Threads + Sync, R: Read + Drop>(
     rt: &HostRuntime,
+    threads: &T,
     word: Word<'_>,
     input: R,
     shown: Shown,
@@ -64,7 +92,14 @@ fn serve_input<R: Read + Drop>(
     let mut reader = Counted::new(input);
     let mut writer = Counted::new(rt.stdout());
     let progress = Progress::new(rt.stderr(), shown);
-    let served = serve(rt.alloc(), word, &mut reader, &mut writer, progress)?;
+    let served = serve(
+        threads,
+        rt.alloc(),
+        word,
+        &mut reader,
+        &mut writer,
+        progress,
+    )?;
     say_unbegun(rt, &served.unbegun);
     Ok(served.status)
 }
@@ -111,25 +146,43 @@ fn push_line(alloc: Global, wanted: &mut Vec<Wanted>, text: &str) -> Result<bool
 }
 
 /// Does what parsed words ask for, and answers the exit status.
-fn serve_matches(rt: &HostRuntime, matches: &ArgMatches<'_>) -> Result<u8, ProgramFault> {
+fn serve_matches<T: Threads + Sync>(
+    rt: &HostRuntime,
+    threads: &T,
+    matches: &ArgMatches<'_>,
+) -> Result<u8, ProgramFault> {
     if is_past_the_found(matches) {
         let _ = eprintln!(rt; "hotplug_lab: a search tells one interleaving: --scenario 1");
+        return Ok(2);
+    }
+    if is_no_part(matches) {
+        let _ = eprintln!(rt;
+            "hotplug_lab: --part may be I/N, with I from 1 to N, and N at most 1000000"
+        );
         return Ok(2);
     }
     let Some(wanted) = wanted_from(rt, matches)? else {
         return Ok(2);
     };
-    Ok(answered(rt, request_from(matches, &wanted)))
+    Ok(answered(rt, threads, request_from(matches, &wanted)))
 }
 
 /// Does what a request asks for, or says what failed, and answers the exit status.
-fn status_of(rt: &HostRuntime, request: Request<'_, '_>) -> u8 {
-    match serve_request(rt, request) {
+fn status_of<T: Threads + Sync>(rt: &HostRuntime, threads: &T, request: Request<'_, '_, '_>) -> u8 {
+    match serve_request(rt, threads, request) {
         Ok(status) => status,
         Err(fault) => {
-            say_fault(rt, request.file, fault);
+            say_fault(rt, only_name(request.files), fault);
             1
         }
+    }
+}
+
+/// The name of the file where only one is named, and it is not standard input.
+fn only_name<'a>(names: &[&'a str]) -> Option<&'a str> {
+    match names {
+        [name] if *name != "-" => Some(name),
+        _ => None,
     }
 }
 
@@ -167,17 +220,25 @@ fn say_words(rt: &HostRuntime, error: &clap::Error) -> Result<u8, ProgramFault> 
 }
 
 /// Does what the words ask for, or says what they may be, and answers the exit status.
-fn run(rt: &HostRuntime, words: &[String]) -> Result<u8, ProgramFault> {
+fn run<T: Threads + Sync>(
+    rt: &HostRuntime,
+    threads: &T,
+    words: &[String],
+) -> Result<u8, ProgramFault> {
     let command = lab_command(rt.alloc())?;
     match command.try_get_matches_from(words) {
-        Ok(matches) => serve_matches(rt, &matches),
+        Ok(matches) => serve_matches(rt, threads, &matches),
         Err(error) if error.kind() == ErrorKind::OutOfMemory => Err(ProgramFault::from(AllocError)),
         Err(error) => say_words(rt, &error),
     }
 }
 
 /// Does what the words ask for, where they ask for something and do not contradict one another.
-fn answered(rt: &HostRuntime, request: Option<Request<'_, '_>>) -> u8 {
+fn answered<T: Threads + Sync>(
+    rt: &HostRuntime,
+    threads: &T,
+    request: Option<Request<'_, '_, '_>>,
+) -> u8 {
     let Some(request) = request else {
         return 2;
     };
@@ -186,16 +247,16 @@ fn answered(rt: &HostRuntime, request: Option<Request<'_, '_>>) -> u8 {
             let _ = eprintln!(rt; "hotplug_lab: {text}");
             2
         }
-        None => status_of(rt, request),
+        None => status_of(rt, threads, request),
     }
 }
 
 /// Reads the words that the program was called with, and does what they ask for.
-fn run_words(rt: &HostRuntime) -> Result<u8, ProgramFault> {
+fn run_words<T: Threads + Sync>(rt: &HostRuntime, threads: &T) -> Result<u8, ProgramFault> {
     match env::args(rt) {
         Ok(arguments) => {
             let words: Vec<String> = arguments.collect(rt.alloc())?;
-            run(rt, &words)
+            run(rt, threads, &words)
         }
         Err(error) if error.kind() == io::ErrorKind::OutOfMemory => {
             Err(ProgramFault::from(AllocError))
@@ -205,7 +266,7 @@ fn run_words(rt: &HostRuntime) -> Result<u8, ProgramFault> {
 }
 
 fn main(rt: HostRuntime) -> ExitCode {
-    match run_words(&rt) {
+    match run_words(&rt, &rt) {
         Ok(status) => ExitCode::from(status),
         Err(fault) => {
             say_fault(&rt, None, fault);

@@ -3,20 +3,22 @@
 ghost use Rattle.std.specs.Prelude.{◌≡◌, ◌≢◌, ◌<◌, ◌-◌, ◌^◌, ◌==◌, [], if◌then◌else◌, IfErr, IfOk, IfSome, OnOk, string_bytes, true};
 ghost use Rattle.std.specs.Io.KnownBytes.{Appends, Keeps};
 ghost use Rattle.hp_streams.specs.Reading.{ReadsAll};
-ghost use Rattle.hotplug_lab.specs.Words.{Answers, HasLines, IsAnswerOf, IsCheckOf, IsCountIn, IsCountOf, IsPast, IsPictureOf, IsServeFault, IsUnanswered, Serves, count_of, first_shown, has_line, last_named, setup_named, unbegun_in, unbegun_of};
+ghost use Rattle.hotplug_lab.specs.Words.{Answers, HasLines, IsAnswerOf, IsCheckOf, IsCountIn, IsCountOf, IsPartialOf, IsPast, IsPictureOf, IsServeFault, IsUnanswered, Serves, count_of, first_shown, has_line, last_named, setup_named, unbegun_in, unbegun_of};
 ghost use Rattle.hp_scenario.specs.Scenario.{scenario_in};
-ghost use Rattle.hotplug_lab.specs.declared.words.Word.TheVariants.{Check, Picture};
+ghost use Rattle.hotplug_lab.specs.declared.words.Word.TheVariants.{Check, Part, Picture};
 
 use crate::fault::ProgramFault;
-use crate::words::{ALL, Drawing, LIMIT, Word};
+use crate::words::{ALL, Drawing, Exploration, LIMIT, Word};
 use hp_check::{check, fault_count, write_report};
 use hp_explore::Watch;
-use hp_lab::{Finding, Unbegun, explore_text, find_text, interleavings_line, unbegun_lines};
+use hp_lab::{Finding, Unbegun, find_text, interleavings_line, unbegun_lines};
+use hp_part_files::{PartNumber, explore_text_with_jobs, part_text, sum_text};
 use hp_scenario::{Scenario, ScenarioFault};
 use hp_streams::{Failed, Sink, Source, read_all, write_all};
 use hp_svg::picture_of;
 use hp_trace::{View, trace, trace_rows};
 use std::alloc::{AllocError, Global};
+use std::thread::Threads;
 
 /// What a word writes, and the exit status.
 #[derive(Debug, Drop)]
@@ -36,6 +38,7 @@ pub struct Served {
 /// Does a word on what the reader gives, writes its text, and answers what it came to. The watch is
 /// told how far a search has come, and is dropped before anything is written.
 pub fn serve<R: Source, W: Sink, P: Watch + Drop>(
+    rt: &(impl Threads + Sync),
     alloc: Global,
     word: Word<'_>,
     reader: &mut R,
@@ -61,7 +64,7 @@ pub fn serve<R: Source, W: Sink, P: Watch + Drop>(
         (R.failures reader.old < R.failures reader.new) (W.failures writer.old < W.failures writer.new)) }
 {
     let input = read_all(alloc, reader)?;
-    let answer = watched_answer(alloc, &input, word, watch)?;
+    let answer = watched_answer(rt, alloc, &input, word, watch)?;
     let unbegun = unbegun_of(alloc, &input, word)?;
     let status = write_answer(writer, &answer)?;
     Ok(Served { status, unbegun })
@@ -88,10 +91,12 @@ fn unbegun_of(alloc: Global, input: &[u8], word: Word<'_>) -> Result<Vec<Unbegun
     ensures { IfOk result (λ found. found.items ≡ unbegun_of word.entry (scenario_in input.now)) }
 {
     match word {
-        Word::Explore { asked, .. } | Word::Find { asked, .. } | Word::Never { asked, .. } => {
-            unbegun_in(alloc, input, asked.setup)
-        }
+        Word::Explore { asked, .. }
+        | Word::Part { asked, .. }
+        | Word::Find { asked, .. }
+        | Word::Never { asked, .. } => unbegun_in(alloc, input, asked.setup),
         Word::Check(_) => Ok(Vec::new(alloc)),
+        Word::Sum(_) => Ok(Vec::new(alloc)),
         Word::Trace(_) => Ok(Vec::new(alloc)),
         Word::Picture(_) => Ok(Vec::new(alloc)),
     }
@@ -113,6 +118,7 @@ fn unbegun_in(alloc: Global, input: &[u8], setup: u64) -> Result<Vec<Unbegun>, A
 
 /// What a word makes of the bytes of a scenario. The watch is told how far a search has come, and is dropped.
 fn watched_answer<P: Watch + Drop>(
+    rt: &(impl Threads + Sync),
     alloc: Global,
     input: &[u8],
     word: Word<'_>,
@@ -123,7 +129,7 @@ fn watched_answer<P: Watch + Drop>(
     ensures err { IfErr result (IsUnanswered word.entry input.now) }
 {
     look_for_line(alloc, input, word)?;
-    answer_to(alloc, input, word, &mut watch)
+    answer_to(rt, alloc, input, word, &mut watch)
 }
 
 /// Looks whether the scenario, where the bytes are one, has the line that a word names.
@@ -174,9 +180,11 @@ fn last_named(word: Word<'_>) -> u64
 {
     match word {
         Word::Check(setup) => setup_named(setup),
-        Word::Explore { asked, .. } | Word::Find { asked, .. } | Word::Never { asked, .. } => {
-            asked.setup
-        }
+        Word::Explore { asked, .. }
+        | Word::Part { asked, .. }
+        | Word::Find { asked, .. }
+        | Word::Never { asked, .. } => asked.setup,
+        Word::Sum(_) => 0,
         Word::Trace(view) => first_shown(view),
         Word::Picture(drawing) => first_shown(drawing.view),
     }
@@ -198,6 +206,7 @@ fn first_shown(view: View) -> u64
 
 /// What a word makes of the bytes of a scenario. The watch is told how far a search has come.
 fn answer_to<W: Watch>(
+    rt: &(impl Threads + Sync),
     alloc: Global,
     input: &[u8],
     word: Word<'_>,
@@ -209,8 +218,22 @@ fn answer_to<W: Watch>(
 {
     match word {
         Word::Check(setup) => checked(alloc, input, setup),
-        Word::Explore { asked, form } => {
-            let finding = explore_text(alloc, input, asked.setup, asked.limit, form, watch)?;
+        Word::Explore { asked, form, jobs } => {
+            let finding = explore_text_with_jobs(
+                rt,
+                alloc,
+                input,
+                asked.setup,
+                asked.limit,
+                form,
+                jobs,
+                watch,
+            )?;
+            Ok(answer_with(finding, 0, 3))
+        }
+        Word::Part { asked, number, of } => partial(alloc, input, asked, number, of, watch),
+        Word::Sum(form) => {
+            let finding = sum_text(alloc, input, form)?;
             Ok(answer_with(finding, 0, 3))
         }
         Word::Find {
@@ -238,6 +261,26 @@ fn answer_to<W: Watch>(
             status: 0,
         }),
     }
+}
+
+/// The part of an exploration with a number, of so many.
+fn partial<W: Watch>(
+    alloc: Global,
+    input: &[u8],
+    asked: Exploration,
+    number: u64,
+    of: u64,
+    watch: &mut W,
+) -> Result<Answer, ProgramFault>
+    ensures ok { IfOk result
+        (λ answer. IsPartialOf asked number of input.now (string_bytes answer.text) answer.status) }
+    ensures err { IfErr result (IsUnanswered (Part asked number of) input.now) }
+{
+    let Some(part) = PartNumber::new(number, of) else {
+        return Err(ProgramFault::NoPart);
+    };
+    let finding = part_text(alloc, input, asked.setup, asked.limit, part, watch)?;
+    Ok(answer_with(finding, 0, 3))
 }
 
 /// What a search found, with the status where it found an interleaving, and where there is none.

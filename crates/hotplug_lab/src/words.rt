@@ -1,10 +1,11 @@
 //! The words that the program is called with.
 
-use clap::{Arg, ArgAction, ArgMatches, Command, value_parser};
+use crate::command::{FILE, FIND, JOBS, JSON, NEVER, PART, PROGRESS, SCENARIO};
+use clap::ArgMatches;
 use hp_find::Wanted;
 use hp_lab::{EndsForm, ScheduleForm};
+use hp_part_files::PartNumber;
 use hp_trace::View;
-use std::alloc::{AllocError, Global};
 
 /// The most interleavings that are counted where no limit is given.
 pub const LIMIT: u64 = 10_000_000;
@@ -20,53 +21,8 @@ const WIDEST_CELL: u8 = 32;
 /// The columns of a trace's row where no width is given.
 const WIDTH: u64 = 200;
 
-/// The options that search an end, and that want none.
-const FIND: &str = "find";
-
-const NEVER: &str = "never";
-
-/// The option that writes an interleaving as a scenario.
-const SCENARIO: &str = "scenario";
-
-/// The option that tells how far a search has come.
-const PROGRESS: &str = "progress";
-
-/// The option that writes JSON, an object a line.
-const JSON: &str = "json";
-
-/// The options of `check` that take a number, each with its help.
-const CHECK_NUMBERS: [(&str, &str); 1] = [(
-    "setup",
-    "Takes the lines after so many for scripts, as explore does (all are the setup)",
-)];
-
-/// Those of `explore`.
-const EXPLORE_NUMBERS: [(&str, &str); 3] = [
-    ("setup", "Runs so many lines in order first (0)"),
-    (
-        "limit",
-        "Counts at most so many interleavings, the first ones (10000000)",
-    ),
-    (
-        SCENARIO,
-        "Writes the interleaving that is told of end N as a scenario; that of a search where N is 1",
-    ),
-];
-
-/// Those of `trace`.
-const TRACE_NUMBERS: [(&str, &str); 5] = [
-    ("from", "The first line that is shown (1)"),
-    ("to", "The last line that is shown (the last there is)"),
-    ("every", "Shows one line of so many, from the first on (1)"),
-    (
-        "width",
-        "Folds lines that take more columns, and shows only the memory blocks that changed (200)",
-    ),
-    (
-        "cell",
-        "Makes the cell of a frame so many pixels wide in the picture, 1 to 32 (8)",
-    ),
-];
+/// The most threads.
+const MOST_JOBS: u32 = 256;
 
 /// What is asked of an exploration: how many lines are run first, and the most interleavings that
 /// are counted.
@@ -89,11 +45,20 @@ pub enum Word<'a> {
     /// What is wrong with it and where, where so many lines are the setup, and the later ones stand in
     /// scripts.
     Check(u64),
-    /// Every interleaving of its scripts.
+    /// Every interleaving of its scripts, by so many threads.
     Explore {
         asked: Exploration,
         form: EndsForm,
+        jobs: u32,
     },
+    /// One part of these, by its number, of so many.
+    Part {
+        asked: Exploration,
+        number: u64,
+        of: u64,
+    },
+    /// All of these, in a form, where the text is no scenario, but those of all parts.
+    Sum(EndsForm),
     /// An interleaving whose end has each of these lines.
     Find {
         asked: Exploration,
@@ -112,161 +77,13 @@ pub enum Word<'a> {
     Picture(Drawing),
 }
 
-/// What the program is asked for, and the file that is named.
+/// What the program is asked for, and the files that are named.
 #[derive(Clone, Copy)]
-pub struct Request<'a, 'w> {
+pub struct Request<'m, 'a, 'w> {
     pub word: Word<'w>,
-    pub file: Option<&'a str>,
+    pub files: &'m [&'a str],
     /// Whether it is to be told how far a search has come, whatever standard error is.
     pub progress: bool,
-}
-
-/// The command line.
-pub fn lab_command<'a>(alloc: Global) -> Result<Command<'a>, AllocError> {
-    let program = Command::new(alloc, "hotplug_lab")
-        .version("1.0")
-        .about("Looks into scenarios of the memory machine")
-        .after_help(
-            "Exit status: 0; 1 after a fault, which standard error names, and after a check that \
-             finds faults (warnings alone: 0); 2 for a wrong command line; 3 where --find finds \
-             nothing, where --never finds something, and where explore stops at its limit.",
-        )
-        .subcommand_required(true);
-    with_trace(alloc, with_explore(alloc, with_check(alloc, program)?)?)
-}
-
-/// A command with the word `check`.
-fn with_check<'a>(alloc: Global, program: Command<'a>) -> Result<Command<'a>, AllocError> {
-    program.subcommand(check_command(alloc)?)
-}
-
-/// A command with the word `explore`.
-fn with_explore<'a>(alloc: Global, program: Command<'a>) -> Result<Command<'a>, AllocError> {
-    program.subcommand(explore_command(alloc)?)
-}
-
-/// A command with the word `trace`.
-fn with_trace<'a>(alloc: Global, program: Command<'a>) -> Result<Command<'a>, AllocError> {
-    program.subcommand(trace_command(alloc)?)
-}
-
-/// The words of `check`.
-fn check_command<'a>(alloc: Global) -> Result<Command<'a>, AllocError> {
-    let check = Command::new(alloc, "check").about(
-        "Writes what is wrong with a scenario and where; the status is 0 where there are no faults",
-    );
-    with_numbers(alloc, check, &CHECK_NUMBERS)?.arg(scenario(alloc))
-}
-
-/// The words of `explore`.
-fn explore_command<'a>(alloc: Global) -> Result<Command<'a>, AllocError> {
-    let explore = Command::new(alloc, "explore").about(
-        "Counts every interleaving of the processors' calls, and tells the ends apart",
-    );
-    let explore = with_numbers(alloc, explore, &EXPLORE_NUMBERS)?;
-    with_flags(alloc, with_searches(alloc, explore)?)?.arg(scenario(alloc))
-}
-
-/// A command with the options that search an end.
-fn with_searches<'a>(alloc: Global, command: Command<'a>) -> Result<Command<'a>, AllocError> {
-    let find = wanted(
-        alloc,
-        FIND,
-        "Searches an interleaving whose end has this line, with the fewest changes of processor",
-    );
-    let never = wanted(
-        alloc,
-        NEVER,
-        "The same, where none is to end so: the status is turned round",
-    );
-    command.arg(find)?.arg(never.conflicts_with(FIND)?)
-}
-
-/// A command with the flags that ask for JSON, and to be told how far a search has come.
-fn with_flags<'a>(alloc: Global, command: Command<'a>) -> Result<Command<'a>, AllocError> {
-    let json = json(alloc).conflicts_with(SCENARIO)?;
-    command.arg(json)?.arg(progress(alloc))
-}
-
-/// The words of `trace`.
-fn trace_command<'a>(alloc: Global) -> Result<Command<'a>, AllocError> {
-    let trace = Command::new(alloc, "trace").about(
-        "Writes what each line answers, with a picture of the memory after each call",
-    );
-    with_forms(alloc, with_numbers(alloc, trace, &TRACE_NUMBERS)?)?.arg(scenario(alloc))
-}
-
-/// A command with the flags that say how frames are shown.
-fn with_forms<'a>(alloc: Global, command: Command<'a>) -> Result<Command<'a>, AllocError> {
-    command.arg(orders(alloc))?.arg(svg(alloc))
-}
-
-/// A command with an option for each of these names and helps, which takes a number.
-fn with_numbers<'a>(
-    alloc: Global,
-    command: Command<'a>,
-    options: &[(&'a str, &'a str)],
-) -> Result<Command<'a>, AllocError> {
-    let mut command = command;
-    for (name, help) in options {
-        command = command.arg(number(alloc, name, help))?;
-    }
-    Ok(command)
-}
-
-/// The argument that names a scenario.
-fn scenario<'a>(alloc: Global) -> Arg<'a> {
-    Arg::new(alloc, "FILE").help("A scenario; standard input where none is named, or -")
-}
-
-/// The flag that asks for JSON.
-fn json<'a>(alloc: Global) -> Arg<'a> {
-    Arg::new(alloc, JSON)
-        .long(JSON)
-        .action(ArgAction::SetTrue)
-        .help("Writes an object of JSON a line: of each end, or of what a search finds")
-}
-
-/// The flag that asks to be told how far a search has come.
-fn progress<'a>(alloc: Global) -> Arg<'a> {
-    Arg::new(alloc, PROGRESS)
-        .long(PROGRESS)
-        .action(ArgAction::SetTrue)
-        .help("Tells on standard error how far a search has come, also where that is no terminal")
-}
-
-/// The flag that asks for a picture.
-fn svg<'a>(alloc: Global) -> Arg<'a> {
-    Arg::new(alloc, "svg")
-        .long("svg")
-        .action(ArgAction::SetTrue)
-        .help("Writes one SVG picture, with all memory blocks in each row")
-}
-
-/// The flag that asks for the orders of free blocks.
-fn orders<'a>(alloc: Global) -> Arg<'a> {
-    Arg::new(alloc, "orders")
-        .long("orders")
-        .action(ArgAction::SetTrue)
-        .help("Shows free frames by the orders of their blocks, as (3.....)")
-}
-
-/// An argument that takes a number.
-fn number<'a>(alloc: Global, name: &'a str, help: &'a str) -> Arg<'a> {
-    Arg::new(alloc, name)
-        .long(name)
-        .value_name("N")
-        .value_parser(value_parser!(u64))
-        .help(help)
-}
-
-/// An argument that takes a line of an end, and may stand several times.
-fn wanted<'a>(alloc: Global, name: &'a str, help: &'a str) -> Arg<'a> {
-    Arg::new(alloc, name)
-        .long(name)
-        .value_name("TEXT")
-        .action(ArgAction::Append)
-        .help(help)
 }
 
 /// The lines that parsed words want of an end, as texts; none where they want none.
@@ -283,25 +100,59 @@ pub fn is_past_the_found(matches: &ArgMatches<'_>) -> bool {
     texts_from(matches).is_some() && words.get_one::<u64>(SCENARIO).unwrap_or(1) != 1
 }
 
-/// What parsed words ask for, with the lines that they want of an end.
-pub fn request_from<'a, 'w>(
-    matches: &ArgMatches<'a>,
-    wanted: &'w [Wanted],
-) -> Option<Request<'a, 'w>> {
-    let (name, words) = matches.subcommand()?;
-    Some(Request {
-        word: word_from(name, words, wanted)?,
-        file: named_file(words.get_str("FILE")),
-        progress: name == "explore" && words.get_flag(PROGRESS),
+/// Whether parsed words ask for a part, and there is no such part.
+pub fn is_no_part(matches: &ArgMatches<'_>) -> bool {
+    let Some((_name, words)) = matches.subcommand() else {
+        return false;
+    };
+    words.get_str(PART).is_some() && part_from(words).is_none()
+}
+
+/// The part that is asked for as `I/N`.
+fn part_from(words: &ArgMatches<'_>) -> Option<PartNumber> {
+    let (number, of) = words.get_str(PART)?.split_once('/')?;
+    let number = number64(number)?;
+    let of = number64(of)?;
+    PartNumber::new(number, of)
+}
+
+/// The word that asks for it.
+fn part_word<'a>(asked: Exploration, words: &ArgMatches<'_>) -> Option<Word<'a>> {
+    let part = part_from(words)?;
+    Some(Word::Part {
+        asked,
+        number: u64::from(part.number()),
+        of: u64::from(part.of()),
     })
 }
 
-/// The file that is named: `-` names standard input.
-fn named_file(name: Option<&str>) -> Option<&str> {
-    match name {
-        Some("-") => None,
-        _ => name,
+/// The names of files; none where no file is named.
+fn files_of<'m, 'a>(names: Option<&'m [&'a str]>) -> &'m [&'a str] {
+    match names {
+        Some(names) => names,
+        None => &[],
     }
+}
+
+/// The number that a text is.
+fn number64(text: &str) -> Option<u64> {
+    match text.parse::<u64>() {
+        Ok(number) => Some(number),
+        Err(_error) => None,
+    }
+}
+
+/// What parsed words ask for, with the lines that they want of an end.
+pub fn request_from<'m, 'a, 'w>(
+    matches: &'m ArgMatches<'a>,
+    wanted: &'w [Wanted],
+) -> Option<Request<'m, 'a, 'w>> {
+    let (name, words) = matches.subcommand()?;
+    Some(Request {
+        word: word_from(name, words, wanted)?,
+        files: files_of(words.get_strs(FILE)),
+        progress: name == "explore" && words.get_flag(PROGRESS),
+    })
 }
 
 /// Why a word asks for nothing, whatever the scenario.
@@ -312,6 +163,9 @@ pub fn contradiction(word: Word<'_>) -> Option<&'static str> {
             Some("--cell may be 1 to 32")
         }
         Word::Picture(drawing) => empty_view(drawing.view),
+        Word::Explore { jobs, .. } if jobs == 0 || jobs > MOST_JOBS => {
+            Some("--jobs may be 1 to 256")
+        }
         _ => None,
     }
 }
@@ -340,10 +194,13 @@ fn word_from<'a>(name: &str, words: &ArgMatches<'_>, wanted: &'a [Wanted]) -> Op
             wanted,
             form: schedule_form_from(words),
         }),
+        "explore" if words.get_str(PART).is_some() => part_word(asked, words),
         "explore" => Some(Word::Explore {
             asked,
             form: ends_form_from(words),
+            jobs: jobs_from(words),
         }),
+        "sum" => Some(Word::Sum(ends_form_from(words))),
         "trace" if words.get_flag("svg") => Some(Word::Picture(drawing_from(words))),
         "trace" => Some(Word::Trace(view_from(words))),
         _ => None,
@@ -356,6 +213,12 @@ fn exploration_from(words: &ArgMatches<'_>) -> Exploration {
         setup: words.get_one::<u64>("setup").unwrap_or(0),
         limit: words.get_one::<u64>("limit").unwrap_or(LIMIT),
     }
+}
+
+/// By how many threads is searched; a number that does not fit is too many, too.
+fn jobs_from(words: &ArgMatches<'_>) -> u32 {
+    let jobs = words.get_one::<u64>(JOBS).unwrap_or(1);
+    jobs.min(u64::from(u32::MAX)) as u32
 }
 
 /// How the ends are to be written.

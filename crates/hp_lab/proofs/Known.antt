@@ -6,6 +6,7 @@ use Rattle.hp_units.specs.LayoutParts.{LayoutParts}
 use Rattle.hp_machine.specs.Machine.{MachineValue, booted}
 use Rattle.hp_scenario.specs.declared.lines.Line.{Line}
 use Rattle.hp_scenario.specs.Scenario.{ScenarioValue, scenario_in}
+use Rattle.hp_scenario.specs.Seen.{scenario_seen}
 use Rattle.hp_explore.specs.declared.exploring.Exploration.{Exploration}
 use Rattle.hp_explore.specs.declared.exploring.ExploreFault.{ExploreFault}
 use Rattle.hp_explore.specs.declared.exploring.ExploreFault.TheVariants as explore
@@ -24,11 +25,13 @@ use Rattle.hp_lab.specs.declared.fault.LabFault.{LabFault}
 use Rattle.hp_lab.specs.declared.fault.LabFault.TheVariants.{NotJson, BadShape, Layout, BadLine, NotForScript, TooMany, HistoryFull, OutOfMemory}
 use Rattle.hp_lab.specs.declared.fault.Unfit.{Unfit}
 use Rattle.hp_lab.specs.Checks.{AreFit, IsFirstUnfit, IsUnfit}
-use Rattle.hp_lab.specs.Explorations.{AreExplored, HoldsAfter, HoldsIn, IsEndsCause, IsFaultWith, IsFull, IsFullTold, IsMore, IsNumbered, IsStoppedAfter, IsToldAs, IsUnanswered, IsUnfitAfter, IsUntold}
+use Rattle.hp_lab.specs.Explorations.{AreExplored, HoldsAfter, HoldsIn, InScenario, IsEndsCause, IsFaultWith, IsFull, IsFullTold, IsMore, IsNumbered, IsStoppedAfter, IsToldAs, IsUnfitAfter, IsUntold}
+use Rattle.hp_lab.specs.Prepared.{IsPrepared, IsStart, IsUnprepared, before_of, names_of, setting_of}
 use Rattle.hp_lab.specs.Begins.{begins_in}
 use Rattle.hp_lab.specs.Scripts.{script_of, scripts_of}
 use Rattle.hp_lab.specs.Setup.{RunsLines}
 use Rattle.hp_lab.specs.declared.begins.Begin.{Begin}
+use Rattle.hp_lab.specs.declared.prepared.Prepared.{Prepared}
 
 -- the lines of a scenario in two parts, and the number of its processors
 pub record AreParts (s : ScenarioValue) (setup cpus : ℕ) (before after : List Line) : Type 0 where
@@ -108,6 +111,8 @@ untold C limit g search.HistoryFull told is cause = by_told told is
     by_told OutOfMemory is = tt
 untold C limit g search.OutOfMemory told is cause = subst (IsUntold C limit g) (sym is) tt
 
+-- ---- made ready for a search
+
 fit_after : (s : ScenarioValue) (setup cpus : ℕ) (before after : List Line)
     → AreParts s setup cpus before after → AreFit cpus after (length after)
     → AreFit s.layout.cpus (drop setup s.lines) (length (drop setup s.lines))
@@ -115,83 +120,103 @@ fit_after s setup cpus before after parts h =
     subst (λ (xs : List Line). AreFit s.layout.cpus xs (length xs)) parts.rest
     (subst (λ (k : ℕ). AreFit k after (length after)) parts.processors h)
 
--- the same of the lines of a scenario
-moved : (P : List Line → Setting → Type 0) (s : ScenarioValue) (setup cpus : ℕ) (before after : List Line)
-    → AreParts s setup cpus before after → HoldsAfter (P before) s.layout before after
-    → HoldsAfter (P (take setup s.lines)) s.layout (take setup s.lines) (drop setup s.lines)
-moved P s setup cpus before after parts h =
-    subst (λ (xs : List Line). HoldsAfter (P (take setup s.lines)) s.layout (take setup s.lines) xs)
-    parts.rest
-    (subst (λ (xs : List Line). HoldsAfter (P xs) s.layout xs after) parts.front h)
-
-stopped_after : (P : Setting → Type 0) (s : ScenarioValue) (setup cpus : ℕ) (before after : List Line)
-    → AreParts s setup cpus before after → AreFit cpus after (length after)
-    → HoldsAfter P s.layout before after → IsStoppedAfter P setup s
-stopped_after P s setup cpus before after parts fit h = (
-  fit_after s setup cpus before after parts fit,
-  moved (λ lines g. P g) s setup cpus before after parts h,
-)
-
-pub stopped_known : (C : Setting → FindFault → Type 0) (input : List ℕ) (s : ScenarioValue)
-    (setup limit cpus : ℕ)
-    (before after : List Line) (fault : LabFault)
-    → scenario_in input ≡ Ok s → AreParts s setup cpus before after → AreFit cpus after (length after)
-    → IsUnanswered C limit s.layout before after fault → IsFaultWith C input setup limit fault
-stopped_known C input s setup limit cpus before after NotJson read parts fit h = absurd h
-stopped_known C input s setup limit cpus before after BadShape read parts fit h = absurd h
-stopped_known C input s setup limit cpus before after (Layout f) read parts fit h = absurd h
-stopped_known C input s setup limit cpus before after (BadLine n) read parts fit h = absurd h
-stopped_known C input s setup limit cpus before after (NotForScript place why) read parts fit h = absurd h
-stopped_known C input s setup limit cpus before after (TooMany most) read parts fit h =
-    (h.0, (s, read, stopped_after (λ g. C g search.TooMany) s setup cpus before after parts fit h.1))
-stopped_known C input s setup limit cpus before after (HistoryFull needed) read parts fit h =
-    (s, read, stopped_after (IsFull C needed) s setup cpus before after parts fit h)
-stopped_known C input s setup limit cpus before after OutOfMemory read parts fit h = tt
-
-pub answer_known : (P : (names : List (List ℕ)) → (before : List Line) → Setting → Type 0) (input : List ℕ)
-    (s : ScenarioValue) (setup cpus : ℕ) (before after : List Line)
-    → scenario_in input ≡ Ok s → AreParts s setup cpus before after → AreFit cpus after (length after)
-    → HoldsAfter (P s.names before) s.layout before after → HoldsIn P input setup
-answer_known P input s setup cpus before after read parts fit h = record {
-  scenario = s;
-  read = read;
-  fit = fit_after s setup cpus before after parts fit;
-  after = moved (P s.names) s setup cpus before after parts h;
-}
-
--- ---- after lines that were run first
-
-pub answered_after : (P : Setting → Type 0) (l : LayoutParts) (cpus : ℕ) (before after : List Line)
-    (boot start : MachineValue) (none sealed all : List Begin) (scripts : List (List Step))
+pub started : (l : LayoutParts) (cpus : ℕ) (before after : List Line) (boot start : MachineValue)
+    (none sealed all : List Begin) (scripts : List (List Step))
     → boot ≡ booted l → none ≡ [] → RunsLines boot none before start sealed
     → all ≡ sealed ++ begins_in start.history → cpus ≡ l.cpus → scripts ≡ scripts_of cpus all after
-    → P (setting start scripts) → HoldsAfter P l before after
-answered_after P l cpus before after boot start none sealed all scripts at_boot at_first ran all_is count are
-    h =
+    → IsStart l before after start scripts
+started l cpus before after boot start none sealed all scripts at_boot at_first ran all_is count are =
     record {
-      start = start;
       sealed = sealed;
       run =
           subst (λ (b : List Begin). RunsLines (booted l) b before start sealed) at_first
           (subst (λ (m : MachineValue). RunsLines m none before start sealed) at_boot ran);
-      holds =
-          subst (λ (xs : List (List Step)). P (setting start xs))
-          (are ∙ (ap (λ (k : ℕ). scripts_of k all after) count
-          ∙ ap (λ (b : List Begin). scripts_of l.cpus b after) all_is)) h;
+      are =
+          are ∙ (ap (λ (k : ℕ). scripts_of k all after) count
+          ∙ ap (λ (b : List Begin). scripts_of l.cpus b after) all_is);
     }
 
-pub unanswered_after : (C : Setting → FindFault → Type 0) (limit : ℕ) (l : LayoutParts)
-    (before after : List Line)
-    (g : Setting) (fault : LabFault) → ((P : Setting → Type 0) → P g → HoldsAfter P l before after)
-    → IsUntold C limit g fault → IsUnanswered C limit l before after fault
-unanswered_after C limit l before after g NotJson hold h = absurd h
-unanswered_after C limit l before after g BadShape hold h = absurd h
-unanswered_after C limit l before after g (Layout f) hold h = absurd h
-unanswered_after C limit l before after g (BadLine n) hold h = absurd h
-unanswered_after C limit l before after g (NotForScript place why) hold h = absurd h
-unanswered_after C limit l before after g (TooMany most) hold h = (h.0, hold (λ x. C x search.TooMany) h.1)
-unanswered_after C limit l before after g (HistoryFull needed) hold h = hold (IsFull C needed) h
-unanswered_after C limit l before after g OutOfMemory hold h = tt
+-- the same of the lines of a scenario
+pub prepared_of : (input : List ℕ) (p : Prepared) (setup cpus : ℕ) (before after : List Line)
+    → p.setup ≡ setup → scenario_in input ≡ Ok (scenario_seen p.scenario)
+    → AreParts (scenario_seen p.scenario) setup cpus before after → AreFit cpus after (length after)
+    → IsStart p.scenario.layout before after p.start.machine p.start.scripts.items
+    → IsPrepared input setup p
+prepared_of input p setup cpus before after number read parts fit begun = record {
+  number = number;
+  read = read;
+  fit = fit_after (scenario_seen p.scenario) setup cpus before after parts fit;
+  begun =
+      subst (λ (xs : List Line). IsStart p.scenario.layout (take setup p.scenario.lines) xs p.start.machine
+      p.start.scripts.items) parts.rest
+      (subst (λ (xs : List Line). IsStart p.scenario.layout xs after p.start.machine p.start.scripts.items)
+      parts.front begun);
+}
+
+held_after : (P : Setting → Type 0) (l : LayoutParts) (before after : List Line) (start : MachineValue)
+    (scripts : List (List Step))
+    → IsStart l before after start scripts → P (setting start scripts) → HoldsAfter P l before after
+held_after P l before after start scripts begun h = record {
+  start = start;
+  sealed = begun.sealed;
+  run = begun.run;
+  holds = subst (λ (xs : List (List Step)). P (setting start xs)) begun.are h;
+}
+
+-- what holds on the machine where a search begins holds in the scenario
+pub held_in : (P : (names : List (List ℕ)) → (before : List Line) → Setting → Type 0) (input : List ℕ)
+    (setup : ℕ) (p : Prepared)
+    → IsPrepared input setup p → P (names_of p) (before_of p) (setting_of p) → HoldsIn P input setup
+held_in P input setup p ready h = record {
+  scenario = scenario_seen p.scenario;
+  read = ready.read;
+  fit = ready.fit;
+  after =
+      held_after (P (names_of p) (take setup p.scenario.lines)) p.scenario.layout
+      (take setup p.scenario.lines) (drop setup p.scenario.lines) p.start.machine p.start.scripts.items
+      ready.begun
+      (subst (λ (n : ℕ). P (names_of p) (take n p.scenario.lines) (setting_of p)) ready.number h);
+}
+
+stopped_in : (P : Setting → Type 0) (input : List ℕ) (setup : ℕ) (p : Prepared)
+    → IsPrepared input setup p → P (setting_of p) → InScenario input (IsStoppedAfter P setup)
+stopped_in P input setup p ready h = (
+  scenario_seen p.scenario,
+  ready.read,
+  (
+    ready.fit,
+    held_after P p.scenario.layout (take setup p.scenario.lines) (drop setup p.scenario.lines)
+        p.start.machine p.start.scripts.items ready.begun h,
+  ),
+)
+
+-- why there is no answer there
+pub untold_in : (C : Setting → FindFault → Type 0) (input : List ℕ) (setup limit : ℕ) (p : Prepared)
+    (fault : LabFault)
+    → IsPrepared input setup p → IsUntold C limit (setting_of p) fault → IsFaultWith C input setup limit fault
+untold_in C input setup limit p NotJson ready h = absurd h
+untold_in C input setup limit p BadShape ready h = absurd h
+untold_in C input setup limit p (Layout f) ready h = absurd h
+untold_in C input setup limit p (BadLine n) ready h = absurd h
+untold_in C input setup limit p (NotForScript place why) ready h = absurd h
+untold_in C input setup limit p (TooMany most) ready h =
+    (h.0, stopped_in (λ g. C g search.TooMany) input setup p ready h.1)
+untold_in C input setup limit p (HistoryFull needed) ready h =
+    stopped_in (IsFull C needed) input setup p ready h
+untold_in C input setup limit p OutOfMemory ready h = tt
+
+-- or why it was not made ready, which has nothing to do with the search
+pub unprepared_known : (C : Setting → FindFault → Type 0) (input : List ℕ) (setup limit : ℕ)
+    (fault : LabFault)
+    → IsUnprepared input setup fault → IsFaultWith C input setup limit fault
+unprepared_known C input setup limit NotJson h = h
+unprepared_known C input setup limit BadShape h = h
+unprepared_known C input setup limit (Layout f) h = h
+unprepared_known C input setup limit (BadLine n) h = h
+unprepared_known C input setup limit (NotForScript place why) h = h
+unprepared_known C input setup limit (TooMany most) h = absurd (h.1.2.1.holds)
+unprepared_known C input setup limit (HistoryFull needed) h = absurd (h.2.1.holds.0)
+unprepared_known C input setup limit OutOfMemory h = tt
 
 -- ---- the number of an end
 

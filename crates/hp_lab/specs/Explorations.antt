@@ -3,6 +3,7 @@ use Rattle.std.specs.Prelude.{◌≡◌, ◌⊎◌, ℕ, ◌+◌, ◌-◌, ◌^�
 use Rattle.std.specs.Option.{is_none}
 use Rattle.hp_units.specs.LayoutParts.{LayoutParts}
 use Rattle.hp_machine.specs.Machine.{MachineValue, booted}
+use Rattle.hp_explore.specs.declared.exploring.Exploration.{Exploration}
 use Rattle.hp_explore.specs.declared.multinomials.HowMany.{HowMany}
 use Rattle.hp_explore.specs.declared.scripts.Line.{Line as Step}
 use Rattle.hp_explore.specs.declared.tally.Ending.{Ending}
@@ -90,6 +91,13 @@ pub record IsExploredOn (form : EndsForm) (names : List (List ℕ)) (before : Li
   pub within : sum_by (λ e. e.count) ends ≤ limit
   pub told : AreEndsTold form names before g ends more text found
 
+-- an exploration told in a form
+abbrev pub IsTold : EndsForm → (names : List (List ℕ)) → (before : List Line) → Setting → Exploration
+    → (text : List ℕ) → (found : Bool) → Type 0
+IsTold form names before g x text found =
+    (more : Option HowMany) × IsMore g.scripts x.is_whole more
+    × AreEndsTold form names before g x.ends.items more text found
+
 -- the text is that of a schedule whose end has each of the wanted lines, with the fewest changes of
 -- processor, in a form; or that no schedule ends so, and of how many there are
 abbrev pub IsFoundOn : ScheduleForm → (names : List (List ℕ)) → (before : List Line) → Setting → List Wanted
@@ -172,15 +180,6 @@ IsUntold C limit g (TooMany most) = (most ≡ limit) × C g search.TooMany
 IsUntold C limit g (HistoryFull needed) = IsFull C needed g
 IsUntold C limit g OutOfMemory = Unit {0}
 IsUntold C limit g fault = ⊥
-
--- why there is no answer after lines that are run first; out of memory may come in place of any
-abbrev pub IsUnanswered : (C : Setting → FindFault → Type 0) → (limit : ℕ) → LayoutParts
-    → (before after : List Line) → LabFault → Type 0
-IsUnanswered C limit l before after (TooMany most) =
-    (most ≡ limit) × HoldsAfter (λ g. C g search.TooMany) l before after
-IsUnanswered C limit l before after (HistoryFull needed) = HoldsAfter (IsFull C needed) l before after
-IsUnanswered C limit l before after OutOfMemory = Unit {0}
-IsUnanswered C limit l before after fault = ⊥
 
 -- the bytes are a scenario, of which this holds
 abbrev pub InScenario : (input : List ℕ) → (ScenarioValue → Type 0) → Type 0

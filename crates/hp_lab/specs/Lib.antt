@@ -5,6 +5,7 @@ pub mod Explorations
 pub mod Faults
 pub mod FaultText
 pub mod Objects
+pub mod Prepared
 pub mod Scripts
 pub mod Setup
 pub mod Texts

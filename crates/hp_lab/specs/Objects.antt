@@ -45,9 +45,9 @@ abbrev pub played_list : (names : List (List ℕ)) → Option (List Record) → 
 played_list names None = []
 played_list names (Some news) = calls_text (codes ", ") names news
 
--- and the end of the object
+-- a list of them under its key
 abbrev pub call_list : (names : List (List ℕ)) → Setting → (schedule : List ℕ) → List ℕ
-call_list names g schedule = codes ", \"first\": [" ++ played_list names (plays g schedule) ++ codes "]}\n"
+call_list names g schedule = codes ", \"first\": [" ++ played_list names (plays g schedule) ++ codes "]"
 
 -- ---- the whole
 
@@ -56,9 +56,13 @@ unfoldable pub counted_head : (number count : ℕ) → List ℕ
 counted_head number count =
     codes "{\"end\": " ++ decimal number ++ codes ", \"interleavings\": " ++ decimal count
 
-abbrev pub end_object : (names : List (List ℕ)) → Setting → (number : ℕ) → Ending → List ℕ
-end_object names g number e =
+abbrev pub end_keys : (names : List (List ℕ)) → Setting → (number : ℕ) → Ending → List ℕ
+end_keys names g number e =
     counted_head number e.count ++ outcome_lists e.outcome ++ call_list names g e.first.items
+
+-- and the bracket at its end
+abbrev pub end_object : (names : List (List ℕ)) → Setting → (number : ℕ) → Ending → List ℕ
+end_object names g number e = end_keys names g number e ++ codes "}\n"
 
 -- the end at a place; ends are counted from 1
 abbrev pub numbered_object : (names : List (List ℕ)) → Setting → (number : ℕ) → Option Ending → List ℕ
@@ -97,6 +101,7 @@ all_objects_text names g ends more =
 abbrev pub found_object : (names : List (List ℕ)) → Setting → (schedule : List ℕ) → List ℕ
 found_object names g schedule =
     codes "{\"found\": true, \"changes\": " ++ decimal (changes schedule) ++ call_list names g schedule
+    ++ codes "}\n"
 
 abbrev pub absent_object : (schedules : ℕ) → List ℕ
 absent_object schedules = codes "{\"found\": false, \"interleavings\": " ++ decimal schedules ++ codes "}\n"

@@ -1,22 +1,19 @@
 //! What is asked of a scenario, answered on the machine after its setup.
 ghost use Rattle.std.specs.Prelude.{◌≡◌, ◌^◌, ◌<◌, IfErr, IfOk, drop, length, string_bytes, take};
 ghost use Rattle.hp_explore.specs.Schedules.{setting};
-ghost use Rattle.hp_lab.specs.Explorations.{HoldsAfter, HoldsIn, IsAnsweredOn, IsAskCause, IsFaultWith, IsUnanswered, IsUntold};
+ghost use Rattle.hp_lab.specs.Explorations.{HoldsIn, IsAnsweredOn, IsAskCause, IsFaultWith, IsUntold};
 
-use crate::begins::note_begins;
-use crate::checks::check_lines;
 use crate::exploring::explored_on;
 use crate::fault::LabFault;
 use crate::finding::{Finding, found_on};
 use crate::forms::{EndsForm, ScheduleForm};
-use crate::scripts::scripts_of;
-use crate::setup::run_lines;
+use crate::prepared::prepare;
 use crate::telling::told_fault;
 use hp_explore::{Script, Watch};
 use hp_find::{FindFault, Wanted};
 use hp_machine::Machine;
-use hp_scenario::{Line, Scenario};
-use hp_units::{Layout, Text};
+use hp_scenario::Line;
+use hp_units::Text;
 use indexmap::IndexSet;
 use std::alloc::Global;
 
@@ -46,18 +43,13 @@ pub(crate) fn answer_to<W: Watch>(
         HoldsIn (IsAnsweredOn ask.entry limit (string_bytes f.text) f.is_found) input.now setup) }
     ensures err { IfErr result (IsFaultWith (IsAskCause ask.entry limit) input.now setup limit) }
 {
-    let scenario = Scenario::read(alloc, input)?;
-    let cpus = scenario.layout.cpus();
-    let lines = scenario.lines.as_slice();
-    let before = front_of(lines, setup);
-    let after = rest_of(lines, setup);
-    check_lines(cpus, before.len() as u64, after)?;
-    answer_after(
+    let prepared = prepare(alloc, input, setup)?;
+    told_on(
         alloc,
-        &scenario.layout,
-        &scenario.names,
-        before,
-        after,
+        &prepared.scenario.names,
+        prepared.before(),
+        &prepared.start.machine,
+        &prepared.start.scripts,
         limit,
         ask,
         watch,
@@ -84,31 +76,6 @@ pub(crate) fn rest_of(lines: &[Line], count: u64) -> &[Line]
     } else {
         &lines[lines.len()..]
     }
-}
-
-/// The answer of the scripts of lines after lines that are run first.
-fn answer_after<W: Watch>(
-    alloc: Global,
-    layout: &Layout,
-    names: &IndexSet<Text>,
-    before: &[Line],
-    after: &[Line],
-    limit: u64,
-    ask: Ask<'_>,
-    watch: &mut W,
-) -> Result<Finding, LabFault>
-    ensures ok { IfOk result (λ f.
-        HoldsAfter (IsAnsweredOn ask.entry limit (string_bytes f.text) f.is_found names.now.keys before.now)
-        layout.now before.now after.now) }
-    ensures err { IfErr result
-        (IsUnanswered (IsAskCause ask.entry limit) limit layout.now before.now after.now) }
-{
-    let mut machine = Machine::boot(alloc, layout)?;
-    let mut begins = Vec::new(alloc);
-    run_lines(alloc, &mut machine, &mut begins, before)?;
-    note_begins(&mut begins, machine.history())?;
-    let scripts = scripts_of(alloc, layout.cpus(), &begins, after)?;
-    told_on(alloc, names, before, &machine, &scripts, limit, ask, watch)
 }
 
 /// The answer of scripts on a machine, on which these lines were run first; or why there is none, with

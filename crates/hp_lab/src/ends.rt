@@ -76,8 +76,8 @@ fn write_many(out: &mut String, counted: u128, known: HowMany) -> Result<(), All
     }
 }
 
-/// The sum of the counts.
-pub(crate) fn total_of(ends: &[Ending]) -> u128
+/// The sum of the counts of ends.
+pub fn total_of(ends: &[Ending]) -> u128
     ensures { result ≡ sum_by (λ e. e.count) ends.now }
 {
     let mut total: u128 = 0;

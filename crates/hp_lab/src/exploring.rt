@@ -2,7 +2,7 @@
 ghost use Rattle.std.specs.Prelude.{◌≡◌, ◌^◌, ◌<◌, IfErr, IfNone, IfOk, IfSome, length, string_bytes};
 ghost use Rattle.hp_explore.specs.Faults.{IsCause};
 ghost use Rattle.hp_explore.specs.Schedules.{setting};
-ghost use Rattle.hp_lab.specs.Explorations.{AreEndsTold, HasNoEnd, IsEndTold, IsEndsCause, IsExplorationOf, IsExploredOn, IsFaultOf, IsMore, IsNumbered};
+ghost use Rattle.hp_lab.specs.Explorations.{AreEndsTold, HasNoEnd, IsEndTold, IsEndsCause, IsExplorationOf, IsExploredOn, IsFaultOf, IsMore, IsNumbered, IsTold};
 
 use crate::answering::{Ask, answer_to};
 use crate::ends::{total_of, write_counts, write_ends};
@@ -11,7 +11,9 @@ use crate::finding::Finding;
 use crate::forms::EndsForm;
 use crate::objects::{write_more, write_objects};
 use crate::replays::replay_text;
-use hp_explore::{Ending, ExploreFault, HowMany, Script, Watch, explore, interleavings_of};
+use hp_explore::{
+    Ending, Exploration, ExploreFault, HowMany, Script, Watch, explore, interleavings_of,
+};
 use hp_find::FindFault;
 use hp_machine::Machine;
 use hp_scenario::Line;
@@ -69,15 +71,33 @@ pub(crate) fn explored_on<W: Watch>(
     ensures err { IfErr result (IsEndsCause (setting machine.now scripts.now)) }
 {
     let explored = explore(alloc, machine, scripts, limit, watch)?;
+    let finding = exploration_told(alloc, names, before, machine, scripts, &explored, form)?;
+    Ok(finding)
+}
+
+/// An exploration of scripts in a form.
+pub(crate) fn exploration_told(
+    alloc: Global,
+    names: &IndexSet<Text>,
+    before: &[Line],
+    machine: &Machine,
+    scripts: &[Script],
+    explored: &Exploration,
+    form: EndsForm,
+) -> Result<Finding, ExploreFault>
+    ensures ok { IfOk result
+        (λ f. IsTold form names.now.keys before.now (setting machine.now scripts.now) explored.now
+        (string_bytes f.text) f.is_found) }
+    ensures err { IfErr result (IsCause (setting machine.now scripts.now)) }
+{
     let more = more_than(alloc, scripts, explored.is_whole)?;
     let ends = &explored.ends;
-    let finding = ends_told(alloc, names, before, machine, scripts, ends, more, form)?;
-    Ok(finding)
+    ends_told(alloc, names, before, machine, scripts, ends, more, form)
 }
 
 /// What is known of how many interleavings there are, where not all were counted. An error is out of
 /// memory.
-fn more_than(
+pub(crate) fn more_than(
     alloc: Global,
     scripts: &[Script],
     is_whole: bool,
@@ -92,7 +112,7 @@ fn more_than(
 }
 
 /// Ends in a form.
-fn ends_told(
+pub(crate) fn ends_told(
     alloc: Global,
     names: &IndexSet<Text>,
     before: &[Line],

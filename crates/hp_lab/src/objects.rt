@@ -4,7 +4,7 @@ ghost use Rattle.hp_explore.specs.Faults.{IsCause};
 ghost use Rattle.hp_explore.specs.Schedules.{plays, setting};
 ghost use Rattle.hp_spelling.specs.Separated.{separated};
 ghost use Rattle.hp_text.specs.State.{state_words, zone_word};
-ghost use Rattle.hp_lab.specs.Objects.{absent_object, answer_list, answer_lists, block_list, block_string, call_list, counted_head, end_object, first_head, first_object, found_object, known_number, more_object, objects_text, outcome_lists, played_list, reply_string};
+ghost use Rattle.hp_lab.specs.Objects.{absent_object, answer_list, answer_lists, block_list, block_string, call_list, counted_head, end_keys, end_object, first_head, first_object, found_object, known_number, more_object, objects_text, outcome_lists, played_list, reply_string};
 
 use hp_explore::{Answers, Ending, ExploreFault, HowMany, Outcome, Script, play};
 use hp_find::changes_of;
@@ -38,12 +38,8 @@ pub(crate) fn write_objects(
 }
 
 /// Writes an object that says how many interleavings were counted and how many there are, where not
-/// all were counted.
-pub(crate) fn write_more(
-    out: &mut String,
-    counted: u128,
-    more: Option<HowMany>,
-) -> Result<(), AllocError>
+/// all were counted; else nothing. An error is out of memory.
+pub fn write_more(out: &mut String, counted: u128, more: Option<HowMany>) -> Result<(), AllocError>
     ensures { OnOk result (string_bytes out.new ≡ string_bytes out.old ++ more_object counted more) }
 {
     match more {
@@ -80,8 +76,7 @@ fn write_known(out: &mut String, known: HowMany) -> Result<(), AllocError>
     }
 }
 
-/// Writes the object of an end: its number, how many interleavings lead to it, what the processors
-/// were answered, what became of the memory blocks, and the calls of the first interleaving.
+/// Writes the object of an end.
 fn write_object(
     out: &mut String,
     alloc: Global,
@@ -93,6 +88,27 @@ fn write_object(
 ) -> Result<(), ExploreFault>
     ensures ok { OnOk result (string_bytes out.new ≡ string_bytes out.old
         ++ end_object names.now.keys (setting machine.now scripts.now) number end.now) }
+    ensures err { IfErr result (IsCause (setting machine.now scripts.now)) }
+{
+    write_end_keys(out, alloc, names, machine, scripts, number, end)?;
+    out.push_str("}\n")?;
+    Ok(())
+}
+
+/// Writes the object of an end up to the bracket at its end: its number, how many interleavings lead
+/// to it, what the processors were answered, what became of the memory blocks, and the calls of the
+/// first interleaving. A fault is that of a call: the first interleaving is played once more.
+pub(crate) fn write_end_keys(
+    out: &mut String,
+    alloc: Global,
+    names: &IndexSet<Text>,
+    machine: &Machine,
+    scripts: &[Script],
+    number: usize,
+    end: &Ending,
+) -> Result<(), ExploreFault>
+    ensures ok { OnOk result (string_bytes out.new ≡ string_bytes out.old
+        ++ end_keys names.now.keys (setting machine.now scripts.now) number end.now) }
     ensures err { IfErr result (IsCause (setting machine.now scripts.now)) }
 {
     write_counted(out, number, end.count)?;
@@ -235,8 +251,8 @@ fn write_zone(out: &mut String, zone: Option<Zone>) -> Result<(), AllocError>
     }
 }
 
-/// Writes a list of the calls that a schedule makes under its key, and the end of the object. A
-/// fault is that of a call: the schedule is played once more.
+/// Writes a list of the calls that a schedule makes under its key. A fault is that of a call: the
+/// schedule is played once more.
 fn write_call_list(
     out: &mut String,
     alloc: Global,
@@ -251,7 +267,7 @@ fn write_call_list(
 {
     out.push_str(", \"first\": [")?;
     write_played(out, alloc, names, machine, scripts, schedule)?;
-    out.push_str("]}\n")?;
+    out.push_str("]")?;
     Ok(())
 }
 
@@ -291,6 +307,7 @@ pub(crate) fn found_object(
     let changes = changes_of(schedule);
     write!(&mut text, "{{\"found\": true, \"changes\": {changes}")?;
     write_call_list(&mut text, alloc, names, machine, scripts, schedule)?;
+    text.push_str("}\n")?;
     Ok(text)
 }
 

@@ -1,29 +1,23 @@
 -- The ends are those of all complete schedules, or of the first ones.
-use Rattle.std.proofs.Common.{List, string_bytes, subst}
 use Rattle.std.proofs.lemmas.Result.{err_from_is_err_and}
 use Rattle.hp_explore.specs.Schedules.{setting}
-use Rattle.hp_explore.specs.declared.tally.Ending.{Ending}
-use Rattle.hp_lab.specs.Explorations.{AreEndsTold}
 use Rattle.hp_lab.proofs.Known.{ends_cause, explored_told}
 use Rattle.hp_lab.proofs.exploring.explored_on.Goals as goal
 
 pub returns-clause-ok : goal.returns-clause-ok
-returns-clause-ok g c = record {
-  ends = c.in_ok-explored.explored.ends.items;
-  more = c.in_ok-more.more;
-  are =
-      explored_told (setting c.args.machine.now c.args.scripts.now) c.args.limit c.in_ok-explored.explored
-      c.in_ok-more.more c.in_ok-explored.ensures.ok c.in_ok-explored.ensures.few
-      c.in_ok-explored.ensures.room c.in_ok-explored.ensures.first c.in_ok-explored.ensures.many
-      c.in_ok-more.ensures;
-  ordered = c.in_ok-explored.ensures.ordered;
-  within = c.in_ok-explored.ensures.within;
-  told =
-      subst (λ (ends : List Ending). AreEndsTold c.args.form c.args.names.now.keys c.args.before.now
-      (setting c.args.machine.now c.args.scripts.now) ends c.in_ok-more.more
-      (string_bytes c.in_ok-finding.finding.text) c.in_ok-finding.finding.is_found) c.deref.ensures.value
-      c.in_ok-finding.ensures.ok;
-}
+returns-clause-ok g c =
+    let told = c.in_ok-finding.ensures.ok in
+    record {
+      ends = c.in_ok-explored.explored.ends.items;
+      more = told.0;
+      are =
+          explored_told (setting c.args.machine.now c.args.scripts.now) c.args.limit c.in_ok-explored.explored
+          told.0 c.in_ok-explored.ensures.ok c.in_ok-explored.ensures.few c.in_ok-explored.ensures.room
+          c.in_ok-explored.ensures.first c.in_ok-explored.ensures.many told.1;
+      ordered = c.in_ok-explored.ensures.ordered;
+      within = c.in_ok-explored.ensures.within;
+      told = told.2;
+    }
 
 pub returns-in_err-explored-clause-err : goal.returns-in_err-explored-clause-err
 returns-in_err-explored-clause-err g c =

@@ -3,7 +3,7 @@ use Rattle.std.proofs.lemmas.Result.{on_ok_weaker}
 use Rattle.hp_explore.specs.Schedules.{setting}
 use Rattle.hp_spelling.proofs.Joined.{three}
 use Rattle.hp_lab.specs.Objects.{call_list, counted_head, outcome_lists}
-use Rattle.hp_lab.proofs.objects.write_object.Goals as goal
+use Rattle.hp_lab.proofs.objects.write_end_keys.Goals as goal
 
 pub returns-clause-ok : goal.returns-clause-ok
 returns-clause-ok c =

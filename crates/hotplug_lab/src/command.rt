@@ -1,0 +1,248 @@
+//! The command line.
+
+use clap::{Arg, ArgAction, Command, value_parser};
+use std::alloc::{AllocError, Global};
+
+/// The options that search an end, and that want none.
+pub(crate) const FIND: &str = "find";
+
+pub(crate) const NEVER: &str = "never";
+
+/// The option that writes an interleaving as a scenario.
+pub(crate) const SCENARIO: &str = "scenario";
+
+/// The option that tells how far a search has come.
+pub(crate) const PROGRESS: &str = "progress";
+
+/// The option that writes JSON, an object a line.
+pub(crate) const JSON: &str = "json";
+
+/// The option that searches one part, and the one that searches in threads.
+pub(crate) const PART: &str = "part";
+
+pub(crate) const JOBS: &str = "jobs";
+
+/// The argument that names files.
+pub(crate) const FILE: &str = "FILE";
+
+/// The options of `check` that take a number, each with its help.
+const CHECK_NUMBERS: [(&str, &str); 1] = [(
+    "setup",
+    "Takes the lines after so many for scripts, as explore does (all are the setup)",
+)];
+
+/// Those of `explore`.
+const EXPLORE_NUMBERS: [(&str, &str); 2] = [
+    ("setup", "Runs so many lines in order first (0)"),
+    (
+        "limit",
+        "Counts at most so many interleavings, the first ones (10000000)",
+    ),
+];
+
+/// What is said of the option that writes an interleaving as a scenario.
+const SCENARIO_HELP: &str =
+    "Writes the interleaving that is told of end N as a scenario; that of a search where N is 1";
+
+/// Those of `trace`.
+const TRACE_NUMBERS: [(&str, &str); 5] = [
+    ("from", "The first line that is shown (1)"),
+    ("to", "The last line that is shown (the last there is)"),
+    ("every", "Shows one line of so many, from the first on (1)"),
+    (
+        "width",
+        "Folds lines that take more columns, and shows only the memory blocks that changed (200)",
+    ),
+    (
+        "cell",
+        "Makes the cell of a frame so many pixels wide in the picture, 1 to 32 (8)",
+    ),
+];
+
+/// The command line.
+pub fn lab_command<'a>(alloc: Global) -> Result<Command<'a>, AllocError> {
+    let program = Command::new(alloc, "hotplug_lab")
+        .version("1.0")
+        .about("Looks into scenarios of the memory machine")
+        .after_help(
+            "Exit status: 0; 1 after a fault, which standard error names, and after a check that \
+             finds faults (warnings alone: 0); 2 for a wrong command line; 3 where --find finds \
+             nothing, where --never finds something, and where explore stops at its limit.",
+        )
+        .subcommand_required(true);
+    let program = with_explore(alloc, with_check(alloc, program)?)?;
+    with_trace(alloc, with_sum(alloc, program)?)
+}
+
+/// A command with the word `check`.
+fn with_check<'a>(alloc: Global, program: Command<'a>) -> Result<Command<'a>, AllocError> {
+    program.subcommand(check_command(alloc)?)
+}
+
+/// A command with the word `explore`.
+fn with_explore<'a>(alloc: Global, program: Command<'a>) -> Result<Command<'a>, AllocError> {
+    program.subcommand(explore_command(alloc)?)
+}
+
+/// A command with the word `sum`.
+fn with_sum<'a>(alloc: Global, program: Command<'a>) -> Result<Command<'a>, AllocError> {
+    program.subcommand(sum_command(alloc)?)
+}
+
+/// A command with the word `trace`.
+fn with_trace<'a>(alloc: Global, program: Command<'a>) -> Result<Command<'a>, AllocError> {
+    program.subcommand(trace_command(alloc)?)
+}
+
+/// The words of `check`.
+fn check_command<'a>(alloc: Global) -> Result<Command<'a>, AllocError> {
+    let check = Command::new(alloc, "check").about(
+        "Writes what is wrong with a scenario and where; the status is 0 where there are no faults",
+    );
+    with_numbers(alloc, check, &CHECK_NUMBERS)?.arg(scenario(alloc))
+}
+
+/// The words of `explore`.
+fn explore_command<'a>(alloc: Global) -> Result<Command<'a>, AllocError> {
+    let explore = Command::new(alloc, "explore").about(
+        "Counts every interleaving of the processors' calls, and tells the ends apart",
+    );
+    let explore = with_numbers(alloc, explore, &EXPLORE_NUMBERS)?;
+    let explore = with_shares(alloc, with_searches(alloc, explore)?)?;
+    with_progress(alloc, with_forms_of_ends(alloc, explore)?)?.arg(scenario(alloc))
+}
+
+/// The words of `sum`.
+fn sum_command<'a>(alloc: Global) -> Result<Command<'a>, AllocError> {
+    let sum = Command::new(alloc, "sum").about(
+        "Adds up the parts that explore --part wrote, and tells the whole as explore does",
+    );
+    with_forms_of_ends(alloc, sum)?.arg(part_files(alloc))
+}
+
+/// A command with the options that share the work out.
+fn with_shares<'a>(alloc: Global, command: Command<'a>) -> Result<Command<'a>, AllocError> {
+    let part = Arg::new(alloc, PART).long(PART).value_name("I/N").help(
+        "Searches the I-th of N parts alone, and writes it for `sum`",
+    );
+    let part = part.conflicts_with(FIND)?.conflicts_with(NEVER)?;
+    let part = part.conflicts_with(SCENARIO)?.conflicts_with(JOBS)?;
+    let jobs = number(alloc, JOBS, "Searches with so many threads, 1 to 256 (1)");
+    let jobs = jobs.conflicts_with(FIND)?.conflicts_with(NEVER)?;
+    command.arg(part)?.arg(jobs)
+}
+
+/// A command with the options that say how ends are written.
+fn with_forms_of_ends<'a>(alloc: Global, command: Command<'a>) -> Result<Command<'a>, AllocError> {
+    let scenario = number(alloc, SCENARIO, SCENARIO_HELP);
+    let json = json(alloc).conflicts_with(SCENARIO)?;
+    command.arg(scenario)?.arg(json)
+}
+
+/// A command with the options that search an end.
+fn with_searches<'a>(alloc: Global, command: Command<'a>) -> Result<Command<'a>, AllocError> {
+    let find = wanted(
+        alloc,
+        FIND,
+        "Searches an interleaving whose end has this line, with the fewest changes of processor",
+    );
+    let never = wanted(
+        alloc,
+        NEVER,
+        "The same, where none is to end so: the status is turned round",
+    );
+    command.arg(find)?.arg(never.conflicts_with(FIND)?)
+}
+
+/// A command with the flag that asks to be told how far a search has come.
+fn with_progress<'a>(alloc: Global, command: Command<'a>) -> Result<Command<'a>, AllocError> {
+    command.arg(progress(alloc))
+}
+
+/// The words of `trace`.
+fn trace_command<'a>(alloc: Global) -> Result<Command<'a>, AllocError> {
+    let trace = Command::new(alloc, "trace").about(
+        "Writes what each line answers, with a picture of the memory after each call",
+    );
+    with_forms(alloc, with_numbers(alloc, trace, &TRACE_NUMBERS)?)?.arg(scenario(alloc))
+}
+
+/// A command with the flags that say how frames are shown.
+fn with_forms<'a>(alloc: Global, command: Command<'a>) -> Result<Command<'a>, AllocError> {
+    command.arg(orders(alloc))?.arg(svg(alloc))
+}
+
+/// A command with an option for each of these names and helps, which takes a number.
+fn with_numbers<'a>(
+    alloc: Global,
+    command: Command<'a>,
+    options: &[(&'a str, &'a str)],
+) -> Result<Command<'a>, AllocError> {
+    let mut command = command;
+    for (name, help) in options {
+        command = command.arg(number(alloc, name, help))?;
+    }
+    Ok(command)
+}
+
+/// The argument that names a scenario.
+fn scenario<'a>(alloc: Global) -> Arg<'a> {
+    Arg::new(alloc, FILE).help("A scenario; standard input where none is named, or -")
+}
+
+/// The argument that names the files of parts.
+fn part_files<'a>(alloc: Global) -> Arg<'a> {
+    Arg::new(alloc, FILE).num_args(0..).help(
+        "The files of parts, in any order; standard input where none is named, or -",
+    )
+}
+
+/// The flag that asks for JSON.
+fn json<'a>(alloc: Global) -> Arg<'a> {
+    Arg::new(alloc, JSON)
+        .long(JSON)
+        .action(ArgAction::SetTrue)
+        .help("Writes an object of JSON a line: of each end, or of what a search finds")
+}
+
+/// The flag that asks to be told how far a search has come.
+fn progress<'a>(alloc: Global) -> Arg<'a> {
+    Arg::new(alloc, PROGRESS)
+        .long(PROGRESS)
+        .action(ArgAction::SetTrue)
+        .help("Tells on standard error how far a search has come, also where that is no terminal")
+}
+
+/// The flag that asks for a picture.
+fn svg<'a>(alloc: Global) -> Arg<'a> {
+    Arg::new(alloc, "svg")
+        .long("svg")
+        .action(ArgAction::SetTrue)
+        .help("Writes one SVG picture, with all memory blocks in each row")
+}
+
+/// The flag that asks for the orders of free blocks.
+fn orders<'a>(alloc: Global) -> Arg<'a> {
+    Arg::new(alloc, "orders")
+        .long("orders")
+        .action(ArgAction::SetTrue)
+        .help("Shows free frames by the orders of their blocks, as (3.....)")
+}
+
+/// An argument that takes a number.
+fn number<'a>(alloc: Global, name: &'a str, help: &'a str) -> Arg<'a> {
+    Arg::new(alloc, name)
+        .long(name)
+        .value_name("N")
+        .value_parser(value_parser!(u64))
+        .help(help)
+}
+
+/// An argument that takes a line of an end, and may stand several times.
+fn wanted<'a>(alloc: Global, name: &'a str, help: &'a str) -> Arg<'a> {
+    Arg::new(alloc, name)
+        .long(name)
+        .value_name("TEXT")
+        .action(ArgAction::Append)
+        .help(help)
+}

@@ -1,0 +1,237 @@
+-- The parts of a text, one more line after another.
+use Rattle.std.proofs.Common.{◌≡◌, ℕ, ◌+◌, ◌-◌, ◌<◌, ◌≤◌, ◌⊎◌, Option, Some, None, List, [], ◌∷◌, ◌++◌, length, take, drop, refl, ap, sym, subst, ◌∙◌, append_assoc, append-nil, arith, add-one, inl, inr}
+use Rattle.std.specs.List.{All, flat_map}
+use Rattle.std.proofs.lemmas.List.{flat_map_more, length-append, length-take-le, take-append-drop, take-append-le, take_all}
+use Rattle.std.proofs.lemmas.List.Elements.{All-append, All-nil, All-push, All-weaker}
+use Rattle.hp_explore.specs.declared.tally.Ending.{Ending}
+use Rattle.hp_explore.specs.Schedules.{Setting}
+use Rattle.hp_explore.specs.Parts.{EndsInPart}
+use Rattle.hp_text.specs.State.{newline}
+use Rattle.hp_part_files.specs.Gathered.{AreAll, AreOwn, AreWithin, GatheringValue, IsGathered, IsGathering, IsOwn, PartEndsValue, lines_of, lists_of, part_in}
+use Rattle.hp_explore.specs.Outcomes.{OutcomeValue}
+use Rattle.hp_part_files.specs.Ends.{IsEndOf}
+use Rattle.std.specs.Global.{Vec}
+use Rattle.hp_lab.specs.Explorations.{IsEndsCause, IsUntold}
+use Rattle.hp_lab.specs.Prepared.{IsPrepared, names_of, setting_of}
+use Rattle.hp_lab.specs.declared.fault.LabFault.{LabFault}
+use Rattle.hp_lab.specs.declared.prepared.Prepared.{Prepared}
+use Rattle.hp_lab.proofs.Known.{held_in, untold_in}
+use Rattle.hp_part_files.specs.Faults.{IsLineFault, IsTooMany, IsUnpushed, IsUnsummedIn, IsUntoldSum}
+use Rattle.hp_part_files.specs.declared.fault.PartFault.{PartFault}
+use Rattle.hp_part_files.specs.declared.fault.PartFault.TheVariants as part
+use Rattle.hp_part_files.specs.Lines.{IsLineAt}
+use Rattle.hp_part_files.specs.Reading.{IsLine}
+use Rattle.hp_part_files.specs.declared.line_fault.LineFault.{LineFault}
+use Rattle.hp_part_files.specs.declared.line_fault.LineFault.TheVariants.{NotPart, OtherSearch, NotOfPart, Changed, Stopped, Lab}
+use Rattle.hp_part_files.specs.declared.reading.PartLine.TheVariants.{End}
+use Rattle.hp_part_files.specs.Taking.{HasRead, IsNumber, IsPushed, IsTaken}
+use Rattle.hp_part_files.specs.Texts.{SearchValue, end_line, head_line, part_lines}
+use Rattle.hp_part_files.proofs.Written.{part_lines_push}
+
+-- a part more
+pub lines_more : (names : List (List ℕ)) (g : Setting) (s : SearchValue) (done : List PartEndsValue)
+    (p : PartEndsValue)
+    → lines_of names g s (done ++ p ∷ []) ≡ lines_of names g s done ++ part_lines names g s p.number p.ends
+lines_more names g s done p =
+    sym (flat_map_more (λ (q : PartEndsValue). part_lines names g s q.number q.ends) [] done p)
+
+own_bare : (g : Setting) (s : SearchValue) (number : ℕ) → IsNumber s number
+    → IsOwn g s (record { number = number; ends = [] })
+own_bare g s number is = record {
+  some = is.0;
+  within = is.1;
+  ends = All-nil (λ (e : Ending). EndsInPart g (part_in s number) e.first.items e.outcome);
+}
+
+-- a head was taken
+pub head_taken : (names : List (List ℕ)) (g : Setting) (s : SearchValue) (v w : GatheringValue) (number : ℕ)
+    (text : List ℕ)
+    → text ≡ head_line s number → IsNumber s number
+    → w ≡ record { done = v.done ++ v.last ∷ []; last = record { number = number; ends = [] } }
+    → IsTaken names g s v text w
+head_taken names g s v w number text is some begun = λ front h.
+    let line : List ℕ = text ++ newline in
+    let all : front ++ line ≡ lines_of names g s (v.done ++ v.last ∷ []) ++ part_lines names g s number [] =
+    ap (λ (l : List ℕ). l ++ line) h.is
+    ∙ (ap (λ (l : List ℕ). l ++ line) (sym (lines_more names g s v.done v.last))
+    ∙ (ap (λ (t : List ℕ). lines_of names g s (v.done ++ v.last ∷ []) ++ (t ++ newline)) is
+    ∙ ap (λ (l : List ℕ). lines_of names g s (v.done ++ v.last ∷ []) ++ l)
+    (sym (append-nil (head_line s number ++ newline))))) in
+    let new : IsGathering names g s (front ++ line)
+    (record { done = v.done ++ v.last ∷ []; last = record { number = number; ends = [] } }) =
+    record {
+      is = all;
+      done = All-push (IsOwn g s) v.done v.last h.done h.last;
+      last = own_bare g s number some;
+    } in
+    subst (λ (x : GatheringValue). IsGathering names g s (front ++ line) x) (sym begun) new
+
+-- an end was taken
+pub end_taken : (names : List (List ℕ)) (g : Setting) (s : SearchValue) (v w : GatheringValue) (e : Ending)
+    (text : List ℕ)
+    → IsPushed names g v text e w → EndsInPart g (part_in s v.last.number) e.first.items e.outcome
+    → IsTaken names g s v text w
+end_taken names g s v w e text pushed own = λ front h.
+    let line : List ℕ = text ++ newline in
+    let number : ℕ = v.last.number in
+    let done : List ℕ = lines_of names g s v.done in
+    let all : front ++ line ≡ done ++ part_lines names g s number (v.last.ends ++ e ∷ []) =
+    ap (λ (l : List ℕ). l ++ line) h.is
+    ∙ (append_assoc done (part_lines names g s number v.last.ends) line
+    ∙ (ap (λ (t : List ℕ). done ++ (part_lines names g s number v.last.ends ++ (t ++ newline))) pushed.line
+    ∙ ap (λ (l : List ℕ). done ++ l) (sym (part_lines_push names g s number v.last.ends e)))) in
+    let new : IsGathering names g s (front ++ line)
+    (record { done = v.done; last = record { number = number; ends = v.last.ends ++ e ∷ [] } }) =
+    record {
+      is = all;
+      done = h.done;
+      last = record {
+        some = h.last.some;
+        within = h.last.within;
+        ends =
+            All-push (λ (x : Ending). EndsInPart g (part_in s number) x.first.items x.outcome) v.last.ends e
+            h.last.ends own;
+      };
+    } in
+    subst (λ (x : GatheringValue). IsGathering names g s (front ++ line) x) (sym pushed.is) new
+
+-- the text up to the end of a line
+pub line_passed : (input : List ℕ) (place : ℕ) (text : List ℕ) → place ≤ length input
+    → IsLineAt input place text
+    → take (place + (length text + 1)) input ≡ take place input ++ (text ++ newline)
+line_passed input place text within here =
+    let rest : List ℕ = drop (place + length text + 1) input in
+    let front : List ℕ = take place input ++ (text ++ newline) in
+    let whole : front ++ rest ≡ input =
+    append_assoc (take place input) (text ++ newline) rest
+    ∙ (ap (λ (l : List ℕ). take place input ++ l) (append_assoc text newline rest ∙ sym here)
+    ∙ take-append-drop place input) in
+    let long : length front ≡ place + (length text + 1) =
+    omega (
+      arith,
+      length-append (take place input) (text ++ newline),
+      length-append text newline,
+      length-take-le place input within,
+    ) in
+    ap (take (place + (length text + 1))) (sym whole)
+    ∙ (take-append-le (place + (length text + 1)) front rest (omega (arith, long))
+    ∙ take_all (place + (length text + 1)) front (omega (arith, long)))
+
+-- the first head is read
+pub head_read : (names : List (List ℕ)) (g : Setting) (s : SearchValue) (input : List ℕ) (number start : ℕ)
+    → IsLineAt input 0 (head_line s number) → IsNumber s number → start ≡ length (head_line s number) + 1
+    → start ≤ length input → HasRead names g s input number start
+head_read names g s input number start here some is within = (
+  within,
+  record {
+    is =
+        ap (λ (n : ℕ). take n input) (is ∙ (omega arith))
+        ∙ (line_passed input 0 (head_line s number) (omega arith) here
+        ∙ sym (append-nil (head_line s number ++ newline)));
+    done = All-nil (IsOwn g s);
+    last = own_bare g s number some;
+  },
+)
+
+-- all of it is read
+pub all_read : (names : List (List ℕ)) (g : Setting) (s : SearchValue) (input : List ℕ) (place : ℕ)
+    (v : GatheringValue) (parts : List PartEndsValue)
+    → length input ≤ place → IsGathering names g s (take place input) v → parts ≡ v.done ++ v.last ∷ []
+    → IsGathered names g s input parts
+all_read names g s input place v parts past h are = record {
+  is =
+      sym (take_all place input past)
+      ∙ (h.is ∙ (sym (lines_more names g s v.done v.last)
+      ∙ ap (λ (ps : List PartEndsValue). lines_of names g s ps) (sym are)));
+  own =
+      subst (λ (ps : List PartEndsValue). All (IsOwn g s) ps) (sym are)
+      (All-push (IsOwn g s) v.done v.last h.done h.last);
+}
+
+-- their numbers are those of parts
+pub own_within : (g : Setting) (s : SearchValue) (parts : List PartEndsValue) → AreOwn g s parts
+    → AreWithin s.of parts
+own_within g s parts own =
+    All-weaker (IsOwn g s) (λ (p : PartEndsValue). (1 ≤ p.number) × (p.number ≤ s.of))
+    (λ p h. (h.some, h.within)) parts own
+
+-- what a schedule that was played ends with
+pub own_end : (g : Setting) (s : SearchValue) (v : GatheringValue) (number : ℕ) (schedule items : List ℕ)
+    (o : Option OutcomeValue) (x : OutcomeValue)
+    → IsEndOf g (part_in s number) schedule o → o ≡ Some x → number ≡ v.last.number → schedule ≡ items
+    → EndsInPart g (part_in s v.last.number) items x
+own_end g s v number schedule items o x h is same read =
+    subst (λ (n : ℕ). EndsInPart g (part_in s n) items x) same
+    (subst (λ (l : List ℕ). EndsInPart g (part_in s number) l x) read
+    (subst (λ (r : Option OutcomeValue). IsEndOf g (part_in s number) schedule r) is h))
+
+pub no_end : (g : Setting) (s : SearchValue) (v : GatheringValue) (number : ℕ) (schedule items : List ℕ)
+    (o : Option OutcomeValue)
+    → IsEndOf g (part_in s number) schedule o → o ≡ None → number ≡ v.last.number → schedule ≡ items
+    → (x : OutcomeValue) → EndsInPart g (part_in s v.last.number) items x → ⊥
+no_end g s v number schedule items o h is same read =
+    subst (λ (n : ℕ). (x : OutcomeValue) → EndsInPart g (part_in s n) items x → ⊥) same
+    (subst (λ (l : List ℕ). (x : OutcomeValue) → EndsInPart g (part_in s number) l x → ⊥) read
+    (subst (λ (r : Option OutcomeValue). IsEndOf g (part_in s number) schedule r) is h))
+
+-- why an end was not added
+pub not_pushed : (names : List (List ℕ)) (g : Setting) (s : SearchValue) (v : GatheringValue) (text : List ℕ)
+    (e : Ending) (fault : LineFault)
+    → IsLine text (End e.count e.first) → EndsInPart g (part_in s v.last.number) e.first.items e.outcome
+    → IsUnpushed names g v text e fault → IsLineFault names g s v text fault
+not_pushed names g s v text e NotPart line own h = absurd h
+not_pushed names g s v text e OtherSearch line own h = absurd h
+not_pushed names g s v text e NotOfPart line own h = absurd h
+not_pushed names g s v text e Changed line own h = record { end = e; line = line; own = own; other = h }
+not_pushed names g s v text e Stopped line own h = absurd h
+not_pushed names g s v text e (Lab fault) line own h = h
+
+pub some_lists : (lists : List (Vec Ending)) → 0 < length (lists_of lists) → 0 < length lists
+some_lists [] some = some
+some_lists (l ∷ lists) some = omega arith
+
+-- a line at the beginning is within the text
+pub line_within : (input text : List ℕ) → IsLineAt input 0 text → length text + 1 ≤ length input
+line_within input text here =
+    let rest : List ℕ = drop (0 + length text + 1) input in
+    omega (arith, ap (λ (l : List ℕ). length l) here, length-append text (10 ∷ rest))
+
+-- there are too many
+pub too_many : (input : List ℕ) (names : List (List ℕ)) (g : Setting) (s : SearchValue)
+    (parts : List PartEndsValue) (lists : List (List Ending)) (fault : PartFault)
+    → IsGathered names g s input parts → AreAll parts s.of lists → IsTooMany lists fault
+    → IsUntoldSum input names g s fault
+too_many input names g s parts lists (part.NotPart n) read all h = absurd h
+too_many input names g s parts lists (part.OtherSearch n) read all h = absurd h
+too_many input names g s parts lists (part.NotOfPart n) read all h = absurd h
+too_many input names g s parts lists (part.Changed n) read all h = absurd h
+too_many input names g s parts lists (part.Stopped n) read all h = absurd h
+too_many input names g s parts lists (part.Missing n) read all h = absurd h
+too_many input names g s parts lists (part.Twice n) read all h = absurd h
+too_many input names g s parts lists part.TooMany read all h =
+    inr (inr (record { parts = parts; read = read; cause = inr (lists, all, h) }))
+too_many input names g s parts lists (part.Lab fault) read all h =
+    subst (λ (f : LabFault). IsUntold IsEndsCause 0 g f) (sym h) tt
+
+-- the sum has no answer after a scenario was made ready
+pub unsummed_in : (input : List ℕ) (s : SearchValue) (p : Prepared) (fault : PartFault)
+    → IsPrepared s.scenario s.setup p → IsUntoldSum input (names_of p) (setting_of p) s fault
+    → IsUnsummedIn input s fault
+unsummed_in input s p (part.NotPart n) ready h =
+    held_in (λ names before g. IsUntoldSum input names g s (part.NotPart n)) s.scenario s.setup p ready h
+unsummed_in input s p (part.OtherSearch n) ready h =
+    held_in (λ names before g. IsUntoldSum input names g s (part.OtherSearch n)) s.scenario s.setup p ready h
+unsummed_in input s p (part.NotOfPart n) ready h =
+    held_in (λ names before g. IsUntoldSum input names g s (part.NotOfPart n)) s.scenario s.setup p ready h
+unsummed_in input s p (part.Changed n) ready h =
+    held_in (λ names before g. IsUntoldSum input names g s (part.Changed n)) s.scenario s.setup p ready h
+unsummed_in input s p (part.Stopped n) ready h =
+    held_in (λ names before g. IsUntoldSum input names g s (part.Stopped n)) s.scenario s.setup p ready h
+unsummed_in input s p (part.Missing n) ready h =
+    held_in (λ names before g. IsUntoldSum input names g s (part.Missing n)) s.scenario s.setup p ready h
+unsummed_in input s p (part.Twice n) ready h =
+    held_in (λ names before g. IsUntoldSum input names g s (part.Twice n)) s.scenario s.setup p ready h
+unsummed_in input s p part.TooMany ready h =
+    held_in (λ names before g. IsUntoldSum input names g s part.TooMany) s.scenario s.setup p ready h
+unsummed_in input s p (part.Lab fault) ready h =
+    untold_in IsEndsCause s.scenario s.setup 0 p fault ready h

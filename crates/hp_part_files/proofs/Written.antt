@@ -1,0 +1,56 @@
+-- The lines of parts, one more after another.
+use Rattle.std.proofs.Common.{◌≡◌, ℕ, ◌+◌, ◌<◌, List, [], ◌∷◌, ◌++◌, length, get_or, take, drop, refl, ap, sym, ◌∙◌, append_assoc, append-nil, add-zero, arith, add-one, drop-cons}
+use Rattle.hp_explore.specs.declared.tally.Ending.{Ending}
+use Rattle.hp_explore.specs.Schedules.{Setting}
+use Rattle.hp_text.specs.State.{newline}
+use Rattle.hp_part_files.specs.Texts.{SearchValue, end_line, end_lines, head_line, part_lines}
+
+-- an end more after others
+pub end_lines_push : (names : List (List ℕ)) (g : Setting) (number : ℕ) (ends : List Ending) (e : Ending)
+    → end_lines names g number (ends ++ e ∷ [])
+    ≡ end_lines names g number ends ++ (end_line names g (number + length ends) e ++ newline)
+end_lines_push names g number [] e =
+    append-nil (end_line names g number e ++ newline)
+    ∙ ap (λ (n : ℕ). end_line names g n e ++ newline) (sym (add-zero number))
+end_lines_push names g number (x ∷ ends) e =
+    let front : List ℕ = end_line names g number x ++ newline in
+    let next : number + 1 + length ends ≡ number + length (x ∷ ends) = omega arith in
+    ap (λ (l : List ℕ). front ++ l) (end_lines_push names g (number + 1) ends e)
+    ∙ (sym (append_assoc front (end_lines names g (number + 1) ends)
+    (end_line names g (number + 1 + length ends) e ++ newline))
+    ∙ ap (λ (n : ℕ). (front ++ end_lines names g (number + 1) ends) ++ (end_line names g n e ++ newline))
+    next)
+
+-- a list from a place on
+pub drop_next : {X : Type 0} (xs : List X) (i : ℕ) (d : X) → i < length xs
+    → drop i xs ≡ get_or xs i d ∷ drop (i + 1) xs
+drop_next {X = X} xs i d lt =
+    drop-cons xs i d lt ∙ ap (λ (n : ℕ). get_or xs i d ∷ drop n xs) (sym (add-one i))
+
+-- an end is written, and others are still to be
+pub end_written : (names : List (List ℕ)) (g : Setting) (ends : List Ending) (index : ℕ) (e : Ending)
+    (now new whole : List ℕ)
+    → index < length ends → e ≡ get_or ends index e
+    → now ++ end_lines names g (index + 1) (drop index ends) ≡ whole
+    → new ≡ now ++ (end_line names g (index + 1) e ++ newline)
+    → new ++ end_lines names g (index + 1 + 1) (drop (index + 1) ends) ≡ whole
+end_written names g ends index e now new whole lt is so_far more =
+    let line : List ℕ = end_line names g (index + 1) e ++ newline in
+    let rest : List ℕ = end_lines names g (index + 1 + 1) (drop (index + 1) ends) in
+    let front : drop index ends ≡ e ∷ drop (index + 1) ends =
+    drop_next ends index e lt ∙ (ap (λ (x : Ending). x ∷ drop (index + 1) ends) (sym is)) in
+    ap (λ (l : List ℕ). l ++ rest) more
+    ∙ (append_assoc now line rest
+    ∙ (ap (λ (es : List Ending). now ++ end_lines names g (index + 1) es) (sym front) ∙ so_far))
+
+-- an end more in a part
+pub part_lines_push : (names : List (List ℕ)) (g : Setting) (s : SearchValue) (number : ℕ)
+    (ends : List Ending) (e : Ending)
+    → part_lines names g s number (ends ++ e ∷ [])
+    ≡ part_lines names g s number ends ++ (end_line names g (length ends + 1) e ++ newline)
+part_lines_push names g s number ends e =
+    let head : List ℕ = head_line s number ++ newline in
+    let next : 1 + length ends ≡ length ends + 1 = omega arith in
+    ap (λ (l : List ℕ). head ++ l) (end_lines_push names g 1 ends e)
+    ∙ (sym (append_assoc head (end_lines names g 1 ends) (end_line names g (1 + length ends) e ++ newline))
+    ∙ ap (λ (n : ℕ). (head ++ end_lines names g 1 ends) ++ (end_line names g n e ++ newline)) next)

@@ -1,0 +1,48 @@
+use Rattle.std.proofs.Common.{ℕ, List, length, ap, sym, subst, ◌∙◌}
+use Rattle.hp_explore.specs.declared.scripts.Line.{Line as Step}
+use Rattle.hp_explore.specs.Schedules.{setting}
+use Rattle.hp_lab.specs.Explorations.{IsMore}
+use Rattle.hp_lab.specs.Prepared.{names_of, setting_of}
+use Rattle.hp_explore.specs.Parts.{PartValue}
+use Rattle.hp_part_files.specs.Parts.{ArePartEnds, search_of}
+use Rattle.hp_part_files.specs.Texts.{part_text}
+use Rattle.hp_part_files.proofs.Parted.{calls_known, part_explored}
+use Rattle.hp_part_files.proofs.parts.part_on.Goals as goal
+
+pub returns-clause-ok : goal.returns-clause-ok
+returns-clause-ok g c =
+    let p = c.args.prepared.now in
+    let n = c.args.number in
+    let calls = c.calls_for-calls.result in
+    let x = c.in_ok-explored.explored in
+    let seen = c.as_slice-scripts.result.now in
+    let told = c.in_ok-finding.ensures.ok in
+    record {
+      calls = calls;
+      ends = x.ends.items;
+      more = told.0;
+      by =
+          calls_known (length seen) (length p.start.scripts.items) c.of.result n.of calls
+          (ap (λ (l : List (List Step)). length l) c.as_slice-scripts.ensures.value) c.of.ensures
+          c.calls_for-calls.ensures.one c.calls_for-calls.ensures.alone c.calls_for-calls.ensures.enough
+          c.calls_for-calls.ensures.fewest;
+      are =
+          subst (λ (q : PartValue). ArePartEnds (setting_of p) q c.args.limit x.ends.items told.0) c.part.ensures
+          (subst (λ (ss : List (List Step)). ArePartEnds (setting p.start.machine ss) c.part.result c.args.limit
+          x.ends.items told.0) c.as_slice-scripts.ensures.value
+          (part_explored (setting p.start.machine seen) c.part.result c.args.limit x told.0
+          c.in_ok-explored.ensures.ok c.in_ok-explored.ensures.few c.in_ok-explored.ensures.room
+          c.in_ok-explored.ensures.first c.in_ok-explored.ensures.many
+          (subst (λ (ss : List (List Step)). IsMore ss x.is_whole told.0) (sym c.as_slice-scripts.ensures.value)
+          told.1)));
+      ordered = c.in_ok-explored.ensures.ordered;
+      within = c.in_ok-explored.ensures.within;
+      told =
+          told.2
+          ∙ (ap (λ (of : ℕ). part_text (names_of p) (setting_of p)
+          (record { of = of; calls = calls; setup = p.setup; scenario = c.args.scenario.now }) c.number.result
+          x.ends.items told.0) c.of-2.ensures
+          ∙ ap (λ (k : ℕ). part_text (names_of p) (setting_of p)
+          (search_of n calls p.setup c.args.scenario.now) k x.ends.items told.0) c.number.ensures);
+      is_found = told.3;
+    }

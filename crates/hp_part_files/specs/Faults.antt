@@ -1,0 +1,164 @@
+-- Why parts have no sum: each fault only where it has this cause.
+use Rattle.std.specs.Prelude.{◌≡◌, ◌⊎◌, ℕ, ◌+◌, ◌≤◌, ◌<◌, ◌^◌, List, length, slice_index_or, take}
+use Rattle.std.specs.List.{All}
+use Rattle.std.specs.List.Sorted.{IsPermutation}
+use Rattle.hp_explore.specs.declared.tally.Ending.{Ending}
+use Rattle.hp_explore.specs.Outcomes.{OutcomeValue}
+use Rattle.hp_explore.specs.Schedules.{Setting}
+use Rattle.hp_lab.specs.Explorations.{HoldsIn, IsEndsCause, IsFaultOf, IsUntold}
+use Rattle.hp_lab.specs.declared.fault.LabFault.{LabFault}
+use Rattle.hp_lab.specs.declared.fault.LabFault.TheVariants.{OutOfMemory}
+use Rattle.hp_explore.specs.Parts.{EndsInPart}
+use Rattle.hp_parts.specs.Adding.{counted_by}
+use Rattle.hp_part_files.specs.Gathered.{AreAll, GatheringValue, IsGathered, IsGathering, PartEndsValue, part_in}
+use Rattle.hp_part_files.specs.Lines.{HasNoNewline, IsLineAt, line_number}
+use Rattle.hp_part_files.specs.Reading.{HeadValue, IsHead, IsLine}
+use Rattle.hp_part_files.specs.Texts.{SearchValue, end_line, head_line}
+use Rattle.hp_part_files.specs.declared.fault.PartFault.{PartFault}
+use Rattle.hp_part_files.specs.declared.fault.PartFault.TheVariants as part
+use Rattle.hp_part_files.specs.declared.line_fault.LineFault.{LineFault}
+use Rattle.hp_part_files.specs.declared.line_fault.LineFault.TheVariants.{NotPart, OtherSearch, NotOfPart, Changed, Stopped, Lab}
+use Rattle.hp_part_files.specs.declared.reading.PartLine.TheVariants.{Head, End, Stop, Other}
+use Rattle.std.specs.Global.{Vec}
+
+-- ---- a line
+
+abbrev pub fault_of_line : LineFault → (line : ℕ) → PartFault
+fault_of_line NotPart line = part.NotPart line
+fault_of_line OtherSearch line = part.OtherSearch line
+fault_of_line NotOfPart line = part.NotOfPart line
+fault_of_line Changed line = part.Changed line
+fault_of_line Stopped line = part.Stopped line
+fault_of_line (Lab fault) line = part.Lab fault
+
+-- a head with the number of no part
+abbrev pub IsHeadOfNone : SearchValue → (text : List ℕ) → Type 0
+IsHeadOfNone s text = (number : ℕ) × IsLine text (Head number) × ((1 ≤ number) × (number ≤ s.of) × (s.of ≤ 1000000) → ⊥)
+
+-- a head of another search
+abbrev pub IsOtherHead : SearchValue → (text : List ℕ) → Type 0
+IsOtherHead s text = (number : ℕ) × IsLine text (Head number) × (text ≡ head_line s number → ⊥)
+
+-- an end whose schedule is no complete one of the part
+pub record IsOfNoPart (g : Setting) (s : SearchValue) (v : GatheringValue) (text : List ℕ) : Type 0 where
+  pub count : ℕ
+  pub schedule : Vec ℕ
+  pub line : IsLine text (End count schedule)
+  pub none : (x : OutcomeValue) → EndsInPart g (part_in s v.last.number) schedule.items x → ⊥
+
+-- an end that is not written so
+pub record IsChanged (names : List (List ℕ)) (g : Setting) (s : SearchValue) (v : GatheringValue)
+    (text : List ℕ) : Type 0 where
+  pub end : Ending
+  pub line : IsLine text (End end.count end.first)
+  pub own : EndsInPart g (part_in s v.last.number) end.first.items end.outcome
+  pub other : text ≡ end_line names g (length v.last.ends + 1) end → ⊥
+
+-- its schedule is not played
+abbrev pub IsUnplayed : Setting → LineFault → Type 0
+IsUnplayed g (Lab fault) = IsUntold IsEndsCause 0 g fault
+IsUnplayed g fault = ⊥
+
+-- an end is not added to a part
+abbrev pub IsUnpushed : (names : List (List ℕ)) → Setting → GatheringValue → (text : List ℕ) → Ending
+    → LineFault → Type 0
+IsUnpushed names g v text end Changed = text ≡ end_line names g (length v.last.ends + 1) end → ⊥
+IsUnpushed names g v text end fault = IsUnplayed g fault
+
+-- why a line is not taken after the lines before it
+abbrev pub IsLineFault : (names : List (List ℕ)) → Setting → SearchValue → GatheringValue → (text : List ℕ)
+    → LineFault → Type 0
+IsLineFault names g s v text NotPart = IsLine text Other ⊎ IsHeadOfNone s text
+IsLineFault names g s v text OtherSearch = IsOtherHead s text
+IsLineFault names g s v text NotOfPart = IsOfNoPart g s v text
+IsLineFault names g s v text Changed = IsChanged names g s v text
+IsLineFault names g s v text Stopped = IsLine text Stop
+IsLineFault names g s v text (Lab fault) = IsUntold IsEndsCause 0 g fault
+
+-- ---- the parts
+
+abbrev pub IsMissing : List PartEndsValue → (of number : ℕ) → Type 0
+IsMissing parts of number =
+    (1 ≤ number) × (number ≤ of)
+    × All (λ p. p.number ≡ number → ⊥) parts
+
+pub record IsTwice (parts : List PartEndsValue) (number : ℕ) : Type 0 where
+  pub i : ℕ
+  pub j : ℕ
+  pub apart : i < j
+  pub within : j < length parts
+  pub one : (d : PartEndsValue) → (slice_index_or parts i d).number ≡ number
+  pub other : (d : PartEndsValue) → (slice_index_or parts j d).number ≡ number
+
+abbrev pub IsMisplaced : List PartEndsValue → (of : ℕ) → PartFault → Type 0
+IsMisplaced parts of (part.Missing number) = IsMissing parts of number
+IsMisplaced parts of (part.Twice number) = IsTwice parts number
+IsMisplaced parts of fault = ⊥
+
+-- in another order
+abbrev pub IsOrderFault : List PartEndsValue → (of : ℕ) → PartFault → Type 0
+IsOrderFault parts of (part.Lab fault) = fault ≡ OutOfMemory
+IsOrderFault parts of fault =
+    (ordered : List PartEndsValue) × IsPermutation parts ordered × IsMisplaced ordered of fault
+
+-- ---- the whole
+
+-- why the parts after a first head have no sum
+abbrev pub IsUnread : (input : List ℕ) → (names : List (List ℕ)) → Setting → SearchValue → PartFault → Type 0
+IsUnread input names g s fault =
+    (place : ℕ) × (text : List ℕ) × (v : GatheringValue) × (cause : LineFault)
+    × (fault ≡ fault_of_line cause (line_number input place)) × IsLineAt input place text
+    × IsGathering names g s (take place input) v × IsLineFault names g s v text cause
+
+-- a line without a newline
+abbrev pub IsUnended : (input : List ℕ) → PartFault → Type 0
+IsUnended input fault =
+    (place : ℕ) × (fault ≡ part.NotPart (line_number input place)) × HasNoNewline input place
+
+-- the counts of all parts add up to too much
+abbrev pub IsTooMany : List (List Ending) → PartFault → Type 0
+IsTooMany lists part.TooMany = 2 ^ 64 ≤ counted_by lists
+IsTooMany lists (part.Lab fault) = fault ≡ OutOfMemory
+IsTooMany lists fault = ⊥
+
+-- the ends of all parts are not told
+abbrev pub IsUntoldEnds : Setting → PartFault → Type 0
+IsUntoldEnds g (part.Lab fault) = IsUntold IsEndsCause 0 g fault
+IsUntoldEnds g fault = ⊥
+
+-- the parts of a text are not all there once, or there are too many interleavings
+pub record IsUnsummed (input : List ℕ) (names : List (List ℕ)) (g : Setting) (s : SearchValue)
+    (fault : PartFault) : Type 0 where
+  pub parts : List PartEndsValue
+  pub read : IsGathered names g s input parts
+  pub cause : IsOrderFault parts s.of fault
+      ⊎ ((lists : List (List Ending)) × AreAll parts s.of lists × IsTooMany lists fault)
+
+-- after a first head, the parts of a search of a scenario that was made ready have no sum
+abbrev pub IsUntoldSum : (input : List ℕ) → (names : List (List ℕ)) → Setting → SearchValue → PartFault
+    → Type 0
+IsUntoldSum input names g s (part.Lab fault) = IsUntold IsEndsCause 0 g fault
+IsUntoldSum input names g s fault =
+    IsUnread input names g s fault ⊎ (IsUnended input fault ⊎ IsUnsummed input names g s fault)
+
+-- nor have they in a scenario that is not made ready
+abbrev pub IsUnsummedIn : (input : List ℕ) → SearchValue → PartFault → Type 0
+IsUnsummedIn input s (part.Lab fault) = IsFaultOf s.scenario s.setup 0 fault
+IsUnsummedIn input s fault =
+    HoldsIn (λ names before g. IsUntoldSum input names g s fault) s.scenario s.setup
+
+-- the text begins with a head
+abbrev pub BeginsWith : (input : List ℕ) → HeadValue → Type 0
+BeginsWith input h = (text : List ℕ) × IsLineAt input 0 text × IsHead text h
+
+-- it has no line, or its first line is no head
+abbrev pub BeginsWithNone : (input : List ℕ) → Type 0
+BeginsWithNone input =
+    HasNoNewline input 0
+    ⊎ ((text : List ℕ) × IsLineAt input 0 text × ((h : HeadValue) → IsHead text h → ⊥))
+
+-- when each fault comes
+abbrev pub IsSumFault : (input : List ℕ) → PartFault → Type 0
+IsSumFault input fault =
+    (((fault ≡ part.NotPart 1) × BeginsWithNone input) ⊎ (fault ≡ part.Lab OutOfMemory))
+    ⊎ ((h : HeadValue) × BeginsWith input h × IsUnsummedIn input h.search fault)

@@ -1,0 +1,15 @@
+-- The lines of a text, and the parts that they are of.
+use Rattle.std.specs.Prelude.{◌≡◌, ℕ, ◌+◌, ◌==◌, List, ◌∷◌, ◌++◌, count_by, drop, length, take, None}
+use Rattle.memchr.specs.Find.{IsFirstByte, is_byte}
+
+-- from a place on stands a text, and a newline after it
+abbrev pub IsLineAt : (input : List ℕ) → (place : ℕ) → (text : List ℕ) → Type 0
+IsLineAt input place text = drop place input ≡ text ++ 10 ∷ drop (place + length text + 1) input
+
+-- from a place on there is no newline (memchr)
+abbrev pub HasNoNewline : (input : List ℕ) → (place : ℕ) → Type 0
+HasNoNewline input place = IsFirstByte (is_byte 10) (drop place input) None
+
+-- the number of the line at a place, from 1 on: how many newlines stand before it
+abbrev pub line_number : (input : List ℕ) → (place : ℕ) → ℕ
+line_number input place = count_by (λ b. b == 10) (take place input) + 1

@@ -1,0 +1,64 @@
+-- What is promised of the search of one part.
+use Rattle.std.specs.Prelude.{◌≡◌, ℕ, ◌-◌, ◌*◌, ◌<◌, ◌≤◌, ◌^◌, Bool, List, Option, Some, None, length, sum_by}
+use Rattle.std.specs.Option.{is_none}
+use Rattle.hp_explore.specs.declared.exploring.Exploration.{Exploration}
+use Rattle.hp_explore.specs.declared.multinomials.HowMany.{HowMany}
+use Rattle.hp_explore.specs.declared.tally.Ending.{Ending}
+use Rattle.hp_explore.specs.Ends.{AreCounted, AreInOrder}
+use Rattle.hp_explore.specs.Faults.{HasMoreThan}
+use Rattle.hp_explore.specs.Interleavings.{IsKnown}
+use Rattle.hp_explore.specs.Schedules.{Setting}
+use Rattle.hp_lab.specs.Explorations.{HoldsIn, IsMore}
+use Rattle.hp_explore.specs.Fronts.{AreFirstInPart}
+use Rattle.hp_explore.specs.Parts.{EndsInPart, FillsPart, IsCompleteInPart, PartValue}
+use Rattle.hp_part_files.specs.Numbers.{NumberValue, part_by}
+use Rattle.hp_part_files.specs.Texts.{SearchValue, part_text}
+
+-- the ends are those of all complete schedules of a part, which are no more than the limit, and none
+-- of which fills the history; or of its first ones, which are as many as the limit, and it has more
+abbrev pub ArePartEnds : Setting → PartValue → (limit : ℕ) → List Ending → Option HowMany → Type 0
+ArePartEnds g part limit ends None =
+    AreCounted (EndsInPart g part) ends × (HasMoreThan (IsCompleteInPart g part) limit → ⊥)
+    × (FillsPart g part → ⊥)
+ArePartEnds g part limit ends (Some known) =
+    AreFirstInPart g part limit ends × HasMoreThan (IsCompleteInPart g part) limit
+    × IsKnown g.scripts (2 ^ 64 - 1) known
+
+-- by how many first calls so many parts go (hp_parts): the fewest with at least 64 schedules for each,
+-- where no script ends before them
+pub record IsCallsFor (processors parts calls : ℕ) : Type 0 where
+  pub one : parts < 2 → calls ≡ 0
+  pub alone : processors < 2 → calls ≡ 0
+  pub enough : 2 ≤ parts → 2 ≤ processors → 64 * parts ≤ processors ^ calls
+  pub fewest : (d : ℕ) → d < calls → processors ^ d < 64 * parts
+
+-- the search that parts are parts of
+abbrev pub search_of : NumberValue → (calls setup : ℕ) → (scenario : List ℕ) → SearchValue
+search_of n calls setup scenario =
+    record { of = n.of; calls = calls; setup = setup; scenario = scenario }
+
+-- the text is that of the ends of a part, in the order of their first schedules
+pub record IsPartOn (n : NumberValue) (setup : ℕ) (scenario : List ℕ) (limit : ℕ) (text : List ℕ) (found : Bool)
+    (names : List (List ℕ)) (g : Setting) : Type 0 where
+  pub calls : ℕ
+  pub ends : List Ending
+  pub more : Option HowMany
+  pub by : IsCallsFor (length g.scripts) n.of calls
+  pub are : ArePartEnds g (part_by n calls) limit ends more
+  pub ordered : AreInOrder ends
+  pub within : sum_by (λ e. e.count) ends ≤ limit
+  pub told : text ≡ part_text names g (search_of n calls setup scenario) n.number ends more
+  pub is_found : found ≡ is_none more
+
+-- an exploration of a part told
+abbrev pub IsToldPart : (names : List (List ℕ)) → Setting → SearchValue → (number : ℕ) → Exploration
+    → (text : List ℕ) → (found : Bool) → Type 0
+IsToldPart names g s number x text found =
+    (more : Option HowMany) × IsMore g.scripts x.is_whole more
+    × (text ≡ part_text names g s number x.ends.items more) × (found ≡ is_none more)
+
+-- in a scenario
+abbrev pub IsPartOf : NumberValue → (input : List ℕ) → (setup limit : ℕ) → (text : List ℕ) → (found : Bool)
+    → Type 0
+IsPartOf n input setup limit text found =
+    HoldsIn (λ names before g. IsPartOn n setup input limit text found names g) input setup

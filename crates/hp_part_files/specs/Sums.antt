@@ -1,0 +1,42 @@
+-- What is promised of the sum of parts.
+use Rattle.std.specs.Prelude.{◌≡◌, ℕ, ◌<◌, Bool, List, None, length, sum_by}
+use Rattle.hp_explore.specs.declared.tally.Ending.{Ending}
+use Rattle.hp_explore.specs.Ends.{AreEnds, AreInOrder}
+use Rattle.hp_explore.specs.Schedules.{Setting}
+use Rattle.hp_lab.specs.Explorations.{AreEndsTold, HoldsIn}
+use Rattle.hp_lab.specs.declared.forms.EndsForm.{EndsForm}
+use Rattle.hp_parts.specs.Adding.{counted_by}
+use Rattle.hp_parts.specs.Sums.{AreApart, AreParts}
+use Rattle.hp_scenario.specs.declared.lines.Line.{Line}
+use Rattle.hp_part_files.specs.Faults.{BeginsWith}
+use Rattle.hp_part_files.specs.Gathered.{AreAll, IsGathered, PartEndsValue}
+use Rattle.hp_part_files.specs.Reading.{HeadValue}
+use Rattle.hp_part_files.specs.Texts.{SearchValue}
+
+-- what adding ends up promises (hp_parts): where the lists are those of all parts of a search, the ends
+-- are those of the whole, in the order of their first schedules; and whatever they are, no two ends
+-- have the same outcome, and the counts add up
+pub record IsSum (lists : List (List Ending)) (ends : List Ending) : Type 0 where
+  pub are : (g : Setting) (calls : ℕ) → 0 < length lists → AreParts g calls lists → AreEnds g ends
+  pub ordered : (g : Setting) (calls : ℕ) → 0 < length lists → AreParts g calls lists → AreInOrder ends
+  pub apart : AreApart ends
+  pub total : sum_by (λ e. e.count) ends ≡ counted_by lists
+
+-- the input is, byte for byte, the text of parts as their search writes them, each end with the outcome
+-- of its own schedule, which is complete and its part's; each part is there once; and the text is
+-- that of the sum of their ends
+pub record IsSumOn (form : EndsForm) (input : List ℕ) (s : SearchValue) (text : List ℕ) (found : Bool)
+    (names : List (List ℕ)) (before : List Line) (g : Setting) : Type 0 where
+  pub parts : List PartEndsValue
+  pub lists : List (List Ending)
+  pub ends : List Ending
+  pub read : IsGathered names g s input parts
+  pub all : AreAll parts s.of lists
+  pub sum : IsSum lists ends
+  pub told : AreEndsTold form names before g ends None text found
+
+-- of the scenario that the first head names
+abbrev pub IsSumOf : EndsForm → (input text : List ℕ) → (found : Bool) → Type 0
+IsSumOf form input text found =
+    (h : HeadValue) × BeginsWith input h
+    × HoldsIn (IsSumOn form input h.search text found) h.search.scenario h.search.setup

@@ -1,0 +1,35 @@
+-- What taking a line does.
+use Rattle.std.specs.Prelude.{◌≡◌, ℕ, ◌+◌, ◌≤◌, List, [], ◌∷◌, ◌++◌, length, take}
+use Rattle.hp_explore.specs.declared.tally.Ending.{Ending}
+use Rattle.hp_explore.specs.Schedules.{Setting}
+use Rattle.hp_text.specs.State.{newline}
+use Rattle.hp_part_files.specs.Gathered.{GatheringValue, IsGathering}
+use Rattle.hp_part_files.specs.Texts.{SearchValue, end_line}
+
+-- a line was taken after the lines before it, and a newline
+abbrev pub IsTaken : (names : List (List ℕ)) → Setting → SearchValue → (old : GatheringValue)
+    → (text : List ℕ) → (new : GatheringValue) → Type 0
+IsTaken names g s old text new =
+    (front : List ℕ) → IsGathering names g s front old → IsGathering names g s (front ++ (text ++ newline)) new
+
+-- an end was added to the last part, of which the text is the line
+pub record IsPushed (names : List (List ℕ)) (g : Setting) (old : GatheringValue) (text : List ℕ) (end : Ending)
+    (new : GatheringValue) : Type 0 where
+  pub line : text ≡ end_line names g (length old.last.ends + 1) end
+  pub is : new
+      ≡ record {
+        done = old.done;
+        last = record { number = old.last.number; ends = old.last.ends ++ end ∷ [] };
+      }
+
+-- there is such a part
+abbrev pub IsNumber : SearchValue → (number : ℕ) → Type 0
+IsNumber s number = (1 ≤ number) × (number ≤ s.of)
+
+-- so many bytes are the head of the part with a number
+abbrev pub HasRead : (names : List (List ℕ)) → Setting → SearchValue → (input : List ℕ) → (number start : ℕ)
+    → Type 0
+HasRead names g s input number start =
+    (start ≤ length input)
+    × IsGathering names g s (take start input)
+    (record { done = []; last = record { number = number; ends = [] } })

@@ -1,0 +1,85 @@
+//! How one schedule ends.
+ghost use Rattle.std.specs.Prelude.{◌≡◌, ◌^◌, ◌<◌, ◌↔◌, [], IfErr, IfOk, IsTrue, length};
+ghost use Rattle.hp_explore.specs.Faults.{IsCause};
+ghost use Rattle.hp_explore.specs.Schedules.{schedule_of};
+ghost use Rattle.hp_find.specs.Searches.{IsOver};
+ghost use Rattle.hp_lab.specs.Prepared.{setting_of};
+ghost use Rattle.hp_part_files.specs.Ends.{IsEndOf, IsFollowed};
+
+use hp_explore::{ExploreFault, Outcome, Part, Path};
+use hp_lab::Prepared;
+use hp_units::Cpu;
+use std::alloc::{AllocError, Global};
+
+/// How a schedule of a part ends; none where it is no complete schedule of the part. An error is
+/// `HistoryFull` where the layout's history has no room for one of its calls, or `OutOfMemory`.
+pub(crate) fn end_of(
+    alloc: Global,
+    prepared: &Prepared,
+    part: Part,
+    schedule: &[Cpu],
+) -> Result<Option<Outcome>, ExploreFault>
+    requires { length prepared.now.start.scripts.items < 2 ^ 32 }
+    ensures ok { IfOk result (IsEndOf (setting_of prepared.now) part schedule.now) }
+    ensures err { IfErr result (IsCause (setting_of prepared.now)) }
+{
+    let scripts = prepared.start.scripts.as_slice();
+    let processors = scripts.len() as u32;
+    let mut path = Path::start(alloc, &prepared.start.machine, scripts)?;
+    if !follow(alloc, &mut path, schedule)? {
+        return Ok(None);
+    }
+    let outcome = end_at(alloc, &path, processors, part)?;
+    Ok(outcome)
+}
+
+/// Makes the calls of a schedule from where the scripts begin, and says whether each of its processors
+/// had a call to make in its turn. An error is as that of a call.
+fn follow(alloc: Global, path: &mut Path<'_>, schedule: &[Cpu]) -> Result<bool, ExploreFault>
+    requires { path.old.news ≡ [] }
+    ensures ok { IfOk result (λ led. IsFollowed path.old.setting schedule.now led path.new) }
+    ensures err { IfErr result (IsCause path.old.setting) }
+{
+    for cpu in schedule {
+        path.is_played();
+        if !path.forward(alloc, cpu.0)? {
+            return Ok(false);
+        }
+    }
+    Ok(true)
+}
+
+/// How the schedule ends that led to a path, for so many processors; none where it is no complete
+/// schedule of the part. An error is out of memory.
+fn end_at(
+    alloc: Global,
+    path: &Path<'_>,
+    processors: u32,
+    part: Part,
+) -> Result<Option<Outcome>, AllocError>
+    requires { processors ≡ length path.now.setting.scripts }
+    ensures { IfOk result (IsEndOf path.now.setting part (schedule_of path.now.news)) }
+{
+    path.is_played();
+    if !part.is_of(processors, path.records()) {
+        return Ok(None);
+    }
+    if !is_over(alloc, path, processors)? {
+        return Ok(None);
+    }
+    let outcome = path.outcome(alloc, processors)?;
+    Ok(Some(outcome))
+}
+
+/// Whether the scripts of all of so many processors are over. An error is out of memory.
+fn is_over(alloc: Global, path: &Path<'_>, processors: u32) -> Result<bool, AllocError>
+    requires { processors ≡ length path.now.setting.scripts }
+    ensures { IfOk result (λ over. IsTrue over ↔ IsOver path.now) }
+{
+    for cpu in 0..processors {
+        if path.next_call(alloc, cpu)?.is_some() {
+            return Ok(false);
+        }
+    }
+    Ok(true)
+}

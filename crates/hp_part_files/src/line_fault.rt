@@ -1,0 +1,52 @@
+//! Why a line is none of a part.
+ghost use Rattle.std.specs.Prelude.{◌≡◌};
+ghost use Rattle.hp_part_files.specs.Faults.{fault_of_line};
+
+use crate::fault::PartFault;
+use hp_lab::LabFault;
+use std::alloc::AllocError;
+
+/// Why a line is not taken after the lines before it.
+#[derive(Clone, Copy, Debug, PartialEq, Eq, Drop)]
+pub(crate) enum LineFault {
+    /// It is none of a part.
+    NotPart,
+    /// It is the head of a part of another search.
+    OtherSearch,
+    /// Its processors are no complete interleaving of its part.
+    NotOfPart,
+    /// It is not what the search writes of its interleaving.
+    Changed,
+    /// The part stopped at its limit.
+    Stopped,
+    /// Its interleaving is not played.
+    Lab(LabFault),
+}
+
+impl LineFault {
+    /// The same of the line with this number, from 1 on.
+    pub(crate) fn of_line(self, line: u64) -> PartFault
+        ensures { result ≡ fault_of_line self line }
+    {
+        match self {
+            LineFault::NotPart => PartFault::NotPart { line },
+            LineFault::OtherSearch => PartFault::OtherSearch { line },
+            LineFault::NotOfPart => PartFault::NotOfPart { line },
+            LineFault::Changed => PartFault::Changed { line },
+            LineFault::Stopped => PartFault::Stopped { line },
+            LineFault::Lab(fault) => PartFault::Lab(fault),
+        }
+    }
+}
+
+impl From<AllocError> for LineFault {
+    ghost use Rattle.std.specs.Prelude.{◌≡◌};
+    ghost use Rattle.hp_lab.specs.declared.fault.LabFault.TheVariants.{OutOfMemory};
+    ghost use Rattle.hp_part_files.specs.declared.line_fault.LineFault.TheVariants.{Lab};
+
+    ghost from_gives = { λ _ e. e ≡ Lab OutOfMemory };
+
+    fn from(_e: AllocError) -> LineFault {
+        LineFault::Lab(LabFault::OutOfMemory)
+    }
+}

@@ -1,0 +1,126 @@
+//! The sum of parts.
+ghost use Rattle.std.specs.Prelude.{◌≡◌, ◌+◌, ◌^◌, ◌<◌, IfErr, IfOk, length, string_bytes};
+ghost use Rattle.hp_lab.specs.Explorations.{AreEndsTold, HoldsIn};
+ghost use Rattle.hp_lab.specs.Prepared.{before_of, names_of, setting_of};
+ghost use Rattle.hp_part_files.specs.Faults.{IsSumFault, IsTooMany, IsUnsummedIn, IsUntoldEnds, IsUntoldSum};
+ghost use Rattle.hp_part_files.specs.Gathered.{lists_of};
+ghost use Rattle.hp_part_files.specs.Lines.{IsLineAt};
+ghost use Rattle.hp_part_files.specs.Sums.{IsSum, IsSumOf, IsSumOn};
+ghost use Rattle.hp_part_files.specs.Taking.{HasRead, IsNumber};
+ghost use Rattle.hp_part_files.specs.Texts.{head_line};
+
+use crate::cuts::line_at;
+use crate::fault::PartFault;
+use crate::heads::{Search, head_from, is_head};
+use crate::ordering::ends_by_number;
+use crate::reading::json_in;
+use crate::taking::gather;
+use crate::telling::told_fault;
+use hp_explore::Ending;
+use hp_lab::{EndsForm, Finding, LabFault, Prepared, prepare};
+use hp_parts::{SumFault, sum};
+use std::alloc::Global;
+
+/// The whole exploration that parts add up to, as `explore_text` tells it. The bytes are the text of
+/// all parts of one search, as `part_text` writes them, one after another in any order; the scenario
+/// is the one that the heads name. Of each end the count and the schedule are taken, and the schedule
+/// is played again on the scenario: so a line that was changed is found out, unless only a count was
+/// (own rule). With a limit in place of the parts' own, `explore_text` says the same of the scenario;
+/// that reading takes what `part_text` writes is tested, and not proved.
+///
+/// Errors: that of the first line that is none of a part, is changed, begins a part of another search,
+/// or says that a part stopped at its limit; Twice or Missing with a part's number, counted from 1;
+/// TooMany where there are 2^64 interleavings or more; those of the scenario, as `explore_text` has
+/// them; OutOfMemory, which may come in place of any answer.
+pub fn sum_text(alloc: Global, input: &[u8], form: EndsForm) -> Result<Finding, PartFault>
+    ensures ok { IfOk result (λ f. IsSumOf form input.now (string_bytes f.text) f.is_found) }
+    ensures err { IfErr result (IsSumFault input.now) }
+{
+    let Some(text) = line_at(input, 0) else {
+        return Err(PartFault::NotPart { line: 1 });
+    };
+    let Some(value) = json_in(alloc, text)? else {
+        return Err(PartFault::NotPart { line: 1 });
+    };
+    let Some(head) = head_from(&value) else {
+        return Err(PartFault::NotPart { line: 1 });
+    };
+    if !is_head(alloc, &head.search, head.number, text)? {
+        return Err(PartFault::NotPart { line: 1 });
+    }
+    let start = text.len() + 1;
+    sum_after(alloc, input, &head.search, head.number, start, form)
+}
+
+/// The sum of the parts of a search, where so many bytes are the head of the part with a number.
+fn sum_after(
+    alloc: Global,
+    input: &[u8],
+    search: &Search<'_>,
+    number: u32,
+    start: usize,
+    form: EndsForm,
+) -> Result<Finding, PartFault>
+    requires line { IsLineAt input.now 0 (head_line search.now number) }
+    requires start { start ≡ length (head_line search.now number) + 1 }
+    requires number { IsNumber search.now number }
+    ensures ok { IfOk result (λ f. HoldsIn (IsSumOn form input.now search.now (string_bytes f.text)
+        f.is_found) search.now.scenario search.now.setup) }
+    ensures err { IfErr result (IsUnsummedIn input.now search.now) }
+{
+    let prepared = prepare(alloc, search.scenario.as_bytes(), search.setup)?;
+    sum_on(alloc, input, &prepared, search, number, start, form)
+}
+
+/// The sum of parts of a search of a scenario that was made ready, where so many bytes are the head of
+/// the part with a number.
+fn sum_on(
+    alloc: Global,
+    input: &[u8],
+    prepared: &Prepared,
+    search: &Search<'_>,
+    number: u32,
+    start: usize,
+    form: EndsForm,
+) -> Result<Finding, PartFault>
+    requires few { length prepared.now.start.scripts.items < 2 ^ 32 }
+    requires read { HasRead (names_of prepared.now) (setting_of prepared.now) search.now input.now number start }
+    ensures ok { IfOk result (λ f. IsSumOn form input.now search.now (string_bytes f.text) f.is_found
+        (names_of prepared.now) (before_of prepared.now) (setting_of prepared.now)) }
+    ensures err { IfErr result
+        (IsUntoldSum input.now (names_of prepared.now) (setting_of prepared.now) search.now) }
+{
+    let parts = gather(alloc, input, prepared, search, number, start)?;
+    let lists = ends_by_number(alloc, parts, search.of)?;
+    let ends = summed(alloc, &lists)?;
+    told(alloc, prepared, &ends, form)
+}
+
+/// The sum of the ends of all parts. An error is TooMany, or out of memory.
+fn summed(alloc: Global, lists: &[Vec<Ending>]) -> Result<Vec<Ending>, PartFault>
+    ensures ok { IfOk result (λ ends. IsSum (lists_of lists.now) ends.items) }
+    ensures err { IfErr result (IsTooMany (lists_of lists.now)) }
+{
+    match sum(alloc, lists) {
+        Ok(ends) => Ok(ends),
+        Err(SumFault::TooMany) => Err(PartFault::TooMany),
+        Err(SumFault::OutOfMemory) => Err(PartFault::Lab(LabFault::OutOfMemory)),
+    }
+}
+
+/// All ends in a form. An error is that a schedule is not played.
+fn told(
+    alloc: Global,
+    prepared: &Prepared,
+    ends: &[Ending],
+    form: EndsForm,
+) -> Result<Finding, PartFault>
+    ensures ok { IfOk result (λ f. AreEndsTold form (names_of prepared.now) (before_of prepared.now)
+        (setting_of prepared.now) ends.now None (string_bytes f.text) f.is_found) }
+    ensures err { IfErr result (IsUntoldEnds (setting_of prepared.now)) }
+{
+    match prepared.ends_told(alloc, ends, None, form) {
+        Ok(finding) => Ok(finding),
+        Err(fault) => Err(PartFault::Lab(told_fault(alloc, prepared, fault))),
+    }
+}

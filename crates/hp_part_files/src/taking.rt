@@ -1,0 +1,212 @@
+//! The lines of parts, one after another.
+ghost use Rattle.std.specs.Prelude.{◌≡◌, ◌↔◌, ◌^◌, ◌<◌, IfErr, IfOk, IsTrue, OnOk, length};
+ghost use Rattle.hp_lab.specs.Prepared.{names_of, setting_of};
+ghost use Rattle.hp_part_files.specs.Faults.{IsLineFault, IsUnplayed, IsUnpushed, IsUntoldSum};
+ghost use Rattle.hp_part_files.specs.Gathered.{IsGathered, IsGathering, part_in};
+ghost use Rattle.hp_part_files.specs.Ends.{IsEndOf};
+ghost use Rattle.hp_part_files.specs.Reading.{IsLine};
+ghost use Rattle.hp_part_files.specs.declared.reading.PartLine.TheVariants as line;
+ghost use Rattle.hp_part_files.specs.Taking.{HasRead, IsNumber, IsPushed, IsTaken};
+ghost use Rattle.hp_part_files.specs.Texts.{end_line};
+
+use crate::cuts::{line_at, line_number};
+use crate::ends::end_of;
+use crate::fault::PartFault;
+use crate::gathering::{Gathering, PartEnds};
+use crate::heads::{Search, is_head};
+use crate::line_fault::LineFault;
+use crate::lines::write_end;
+use crate::numbers::PartNumber;
+use crate::reading::{PartLine, line_in};
+use crate::telling::told_fault;
+use hp_explore::{Ending, Outcome, Part};
+use hp_lab::Prepared;
+use hp_units::Cpu;
+use std::alloc::Global;
+
+/// The parts whose text the input is, where so many bytes are the head of the part with a number.
+pub(crate) fn gather(
+    alloc: Global,
+    input: &[u8],
+    prepared: &Prepared,
+    search: &Search<'_>,
+    number: u32,
+    start: usize,
+) -> Result<Vec<PartEnds>, PartFault>
+    requires few { length prepared.now.start.scripts.items < 2 ^ 32 }
+    requires read { HasRead (names_of prepared.now) (setting_of prepared.now) search.now input.now number start }
+    ensures ok { IfOk result (λ parts.
+        IsGathered (names_of prepared.now) (setting_of prepared.now) search.now input.now parts.items) }
+    ensures err { IfErr result
+        (IsUntoldSum input.now (names_of prepared.now) (setting_of prepared.now) search.now) }
+{
+    let mut gathered = Gathering::new(alloc, number);
+    let mut place = start;
+    while place < input.len() {
+        let Some(text) = line_at(input, place) else {
+            return Err(PartFault::NotPart {
+                line: line_number(input, place),
+            });
+        };
+        match take_line(alloc, prepared, search, &mut gathered, text) {
+            Ok(()) => place += text.len() + 1,
+            Err(fault) => return Err(fault.of_line(line_number(input, place))),
+        }
+    }
+    let parts = gathered.into_parts()?;
+    Ok(parts)
+}
+
+/// Takes a line after the lines before it.
+fn take_line(
+    alloc: Global,
+    prepared: &Prepared,
+    search: &Search<'_>,
+    gathered: &mut Gathering,
+    text: &[u8],
+) -> Result<(), LineFault>
+    requires few { length prepared.now.start.scripts.items < 2 ^ 32 }
+    requires number { IsNumber search.now gathered.old.last.number }
+    ensures ok { OnOk result (IsTaken (names_of prepared.now) (setting_of prepared.now) search.now
+        gathered.old text.now gathered.new) }
+    ensures err { IfErr result (IsLineFault (names_of prepared.now) (setting_of prepared.now) search.now
+        gathered.old text.now) }
+{
+    let line = line_in(alloc, text)?;
+    match line {
+        PartLine::Head { number } => take_head(alloc, prepared, search, gathered, text, number),
+        PartLine::End { count, schedule } => {
+            take_end(alloc, prepared, search, gathered, text, count, schedule)
+        }
+        PartLine::Stop => Err(LineFault::Stopped),
+        PartLine::Other => Err(LineFault::NotPart),
+    }
+}
+
+/// Takes the head of the part with a number.
+fn take_head(
+    alloc: Global,
+    prepared: &Prepared,
+    search: &Search<'_>,
+    gathered: &mut Gathering,
+    text: &[u8],
+    number: u64,
+) -> Result<(), LineFault>
+    requires { IsLine text.now (line.Head number) }
+    ensures ok { OnOk result (IsTaken (names_of prepared.now) (setting_of prepared.now) search.now
+        gathered.old text.now gathered.new) }
+    ensures err { IfErr result (IsLineFault (names_of prepared.now) (setting_of prepared.now) search.now
+        gathered.old text.now) }
+{
+    let _ = prepared;
+    let Some(part) = PartNumber::new(number, u64::from(search.of)) else {
+        return Err(LineFault::NotPart);
+    };
+    if !is_head(alloc, search, part.number(), text)? {
+        return Err(LineFault::OtherSearch);
+    }
+    gathered.begin(alloc, part.number())?;
+    Ok(())
+}
+
+/// Takes the end with a count and a first schedule.
+fn take_end(
+    alloc: Global,
+    prepared: &Prepared,
+    search: &Search<'_>,
+    gathered: &mut Gathering,
+    text: &[u8],
+    count: u64,
+    schedule: Vec<Cpu>,
+) -> Result<(), LineFault>
+    requires few { length prepared.now.start.scripts.items < 2 ^ 32 }
+    requires number { IsNumber search.now gathered.old.last.number }
+    requires line { IsLine text.now (line.End count schedule) }
+    ensures ok { OnOk result (IsTaken (names_of prepared.now) (setting_of prepared.now) search.now
+        gathered.old text.now gathered.new) }
+    ensures err { IfErr result (IsLineFault (names_of prepared.now) (setting_of prepared.now) search.now
+        gathered.old text.now) }
+{
+    match outcome_of(alloc, prepared, search, gathered.number(), &schedule)? {
+        Some(outcome) => {
+            let end = Ending {
+                outcome,
+                count,
+                first: schedule,
+            };
+            push_end(alloc, prepared, gathered, text, end)
+        }
+        None => Err(LineFault::NotOfPart),
+    }
+}
+
+/// How the schedule of a part ends; none where it is no complete schedule of the part. An error is
+/// that it is not played.
+fn outcome_of(
+    alloc: Global,
+    prepared: &Prepared,
+    search: &Search<'_>,
+    number: u32,
+    schedule: &[Cpu],
+) -> Result<Option<Outcome>, LineFault>
+    requires few { length prepared.now.start.scripts.items < 2 ^ 32 }
+    requires number { IsNumber search.now number }
+    ensures ok { IfOk result (IsEndOf (setting_of prepared.now) (part_in search.now number) schedule.now) }
+    ensures err { IfErr result (IsUnplayed (setting_of prepared.now)) }
+{
+    let part = part_in(search, number);
+    match end_of(alloc, prepared, part, schedule) {
+        Ok(outcome) => Ok(outcome),
+        Err(fault) => Err(LineFault::Lab(told_fault(alloc, prepared, fault))),
+    }
+}
+
+/// The part of a search with a number.
+fn part_in(search: &Search<'_>, number: u32) -> Part
+    requires { IsNumber search.now number }
+    ensures { result ≡ part_in search.now number }
+{
+    match Part::new(number - 1, search.of, search.calls) {
+        Some(part) => part,
+        None => unreachable!(),
+    }
+}
+
+/// Adds an end to the part that is read, where the text is its line.
+fn push_end(
+    alloc: Global,
+    prepared: &Prepared,
+    gathered: &mut Gathering,
+    text: &[u8],
+    end: Ending,
+) -> Result<(), LineFault>
+    ensures ok { OnOk result (IsPushed (names_of prepared.now) (setting_of prepared.now)
+        gathered.old text.now end gathered.new) }
+    ensures err { IfErr result (IsUnpushed (names_of prepared.now) (setting_of prepared.now)
+        gathered.old text.now end) }
+{
+    if !is_end(alloc, prepared, gathered.count() + 1, &end, text)? {
+        return Err(LineFault::Changed);
+    }
+    gathered.push(end)?;
+    Ok(())
+}
+
+/// Whether a text is the line of the end with a number. An error is that its schedule is not played.
+fn is_end(
+    alloc: Global,
+    prepared: &Prepared,
+    number: usize,
+    end: &Ending,
+    text: &[u8],
+) -> Result<bool, LineFault>
+    ensures ok { IfOk result (λ is. IsTrue is
+        ↔ (text.now ≡ end_line (names_of prepared.now) (setting_of prepared.now) number end.now)) }
+    ensures err { IfErr result (IsUnplayed (setting_of prepared.now)) }
+{
+    let mut written = String::new(alloc);
+    match write_end(&mut written, alloc, prepared, number, end) {
+        Ok(()) => Ok(text == written.as_bytes()),
+        Err(fault) => Err(LineFault::Lab(told_fault(alloc, prepared, fault))),
+    }
+}

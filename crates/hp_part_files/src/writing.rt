@@ -1,0 +1,73 @@
+//! The text of a part.
+ghost use Rattle.std.specs.Prelude.{◌≡◌, ◌++◌, IfErr, OnOk, string_bytes};
+ghost use Rattle.hp_explore.specs.Faults.{IsCause};
+ghost use Rattle.hp_lab.specs.Prepared.{names_of, setting_of};
+ghost use Rattle.hp_text.specs.State.{newline};
+ghost use Rattle.hp_part_files.specs.Texts.{end_line, end_lines, head_line, part_lines};
+
+use crate::heads::{Search, write_head};
+use crate::lines::write_end;
+use hp_explore::{Ending, ExploreFault};
+use hp_lab::Prepared;
+use std::alloc::{AllocError, Global};
+
+/// Writes the head and the ends of the part with a number, from 1 on. A fault is that of a call: the
+/// first schedule of each end is played once more.
+pub(crate) fn write_part(
+    out: &mut String,
+    alloc: Global,
+    prepared: &Prepared,
+    search: &Search<'_>,
+    number: u32,
+    ends: &[Ending],
+) -> Result<(), ExploreFault>
+    ensures ok { OnOk result (string_bytes out.new ≡ string_bytes out.old
+        ++ part_lines (names_of prepared.now) (setting_of prepared.now) search.now number ends.now) }
+    ensures err { IfErr result (IsCause (setting_of prepared.now)) }
+{
+    write_head_line(out, search, number)?;
+    write_ends(out, alloc, prepared, ends)
+}
+
+/// Writes the head of a part and a newline. An error is out of memory.
+fn write_head_line(out: &mut String, search: &Search<'_>, number: u32) -> Result<(), AllocError>
+    ensures { OnOk result
+        (string_bytes out.new ≡ string_bytes out.old ++ (head_line search.now number ++ newline)) }
+{
+    write_head(out, search, number)?;
+    out.push('\n')
+}
+
+/// Writes each end in a line.
+fn write_ends(
+    out: &mut String,
+    alloc: Global,
+    prepared: &Prepared,
+    ends: &[Ending],
+) -> Result<(), ExploreFault>
+    ensures ok { OnOk result (string_bytes out.new ≡ string_bytes out.old
+        ++ end_lines (names_of prepared.now) (setting_of prepared.now) 1 ends.now) }
+    ensures err { IfErr result (IsCause (setting_of prepared.now)) }
+{
+    for index in 0..ends.len() {
+        write_end_line(out, alloc, prepared, index + 1, &ends[index])?;
+    }
+    Ok(())
+}
+
+/// Writes an end and a newline.
+fn write_end_line(
+    out: &mut String,
+    alloc: Global,
+    prepared: &Prepared,
+    number: usize,
+    end: &Ending,
+) -> Result<(), ExploreFault>
+    ensures ok { OnOk result (string_bytes out.new ≡ string_bytes out.old
+        ++ (end_line (names_of prepared.now) (setting_of prepared.now) number end.now ++ newline)) }
+    ensures err { IfErr result (IsCause (setting_of prepared.now)) }
+{
+    write_end(out, alloc, prepared, number, end)?;
+    out.push('\n')?;
+    Ok(())
+}
