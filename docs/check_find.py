@@ -8,12 +8,12 @@ alone it takes the folder of the crates:
 On so many scenarios that are drawn at random, with events of all kinds and plans, where 0 may stand
 for an operation of the setup, with at most 120 orders each that all have room: `explore` tells the
 ends of the orders, each with its count and its first order, in the order of these; past a limit,
-those of the first orders. Of one in ten: an interleaving is found where an order has an end with
-the lines; it is one of those orders, with the fewest changes of processor; and where there is none,
-as many interleavings are told as there are orders; past a limit a search finds what has few changes
-or is among the first. `--never` prints the same with the other status, `--scenario 1` writes what
-is found as a scenario with the setup's lines before the calls, `--json` the same as an object,
-scripts that use 0 before a begin are told, and a text that no end has as a line ends with status 2.
+those of the first orders. An interleaving is found where an order has an end with the lines; it is
+one of those orders, with the fewest changes of processor; and where there is none, as many
+interleavings are told as there are orders; past a limit a search finds what has few changes or is
+among the first. `--never` prints the same with the other status, `--scenario 1` writes what is
+found as a scenario with the setup's lines before the calls, `--json` the same as an object, scripts
+that use 0 before a begin are told, and a text that no end has as a line ends with status 2.
 
 Of each: the parts of 3, in any order, add up to what `explore` prints, in words and as JSON, and
 `--jobs 2` prints the same; of one in four the parts of 1 and 7 too, from files and with an end as a
@@ -34,7 +34,6 @@ from check_lab import (LAYOUT, ROOT, SECONDS, Checks, Programs, answers_and_stat
 
 SEED = 34
 COUNT = 400
-SEARCHED = 10
 SUMMED = 4
 MOST_ORDERS = 120
 NO_LINES = ("", "refused", "refused Nonsense", "refused NotFree x", "refused NotFree 01", "word",
@@ -433,7 +432,7 @@ def check_ends(checks, programs, scenario, setup, orders):
 
 
 def check_drawn(checks, programs, draw, drawn):
-    """Checks a scenario that is drawn, after so many, and of some searches and sums; it answers
+    """Checks a scenario that is drawn, after so many, its searches and some of its sums; it answers
     whether it has few enough orders, with room for each."""
     cpus = draw.choice((1, 2, 2, 2, 3))
     layout = dict(LAYOUT, cpus=cpus, history=200)
@@ -453,10 +452,9 @@ def check_drawn(checks, programs, draw, drawn):
     check_parts(checks, programs, draw, scenario, setup, drawn % SUMMED == 0)
     if drawn % SUMMED == 0:
         check_part_limit(checks, programs, scenario, setup, orders)
-    if drawn % SEARCHED == 0:
-        for texts in drawn_texts(draw, [end for _, end in orders]):
-            check_search(checks, programs, scenario, setup, orders, texts)
-            check_within(checks, programs, scenario, setup, orders, texts, limit)
+    for texts in drawn_texts(draw, [end for _, end in orders]):
+        check_search(checks, programs, scenario, setup, orders, texts)
+        check_within(checks, programs, scenario, setup, orders, texts, limit)
     return True
 
 
