@@ -47,7 +47,20 @@ impl Code {
     }
 
     /// One byte more. An error is out of memory.
+    #[inline(always)]
     pub(crate) fn byte(&mut self, byte: u8) -> Result<(), AllocError>
+        ensures { OnOk result (self.new ≡ self.old ++ byte ∷ []) }
+    {
+        if self.bytes.len() < self.bytes.capacity() {
+            self.bytes.push_reserved(byte);
+            return Ok(());
+        }
+        self.byte_past_room(byte)
+    }
+
+    /// One byte more than there is room for. An error is out of memory.
+    #[inline(never)]
+    fn byte_past_room(&mut self, byte: u8) -> Result<(), AllocError>
         ensures { OnOk result (self.new ≡ self.old ++ byte ∷ []) }
     {
         self.bytes.push(byte)?;

@@ -16,8 +16,16 @@ fn mixed(digest: u64, word: u64) -> u64 {
         .rotate_left(29)
 }
 
-/// The last eight bytes as one word.
+/// The first eight bytes as one word; where there are fewer, all of them.
 fn word_of(bytes: &[u8]) -> u64 {
+    match bytes.split_first_chunk::<8>() {
+        Some((first, _later)) => u64::from_le_bytes(*first),
+        None => short_word_of(bytes),
+    }
+}
+
+/// The last eight bytes as one word.
+fn short_word_of(bytes: &[u8]) -> u64 {
     let mut word = 0u64;
     for byte in bytes {
         word = (word << 8) | u64::from(*byte);

@@ -11,11 +11,12 @@ use Rattle.hp_explore.specs.declared.frames.Kept.{Kept}
 use Rattle.hp_explore.specs.Parts.{ComesTo, IsOfPart, IsOn, NoneOfPart, PartValue}
 use Rattle.hp_explore.specs.Paths.{IsBack, PathValue}
 use Rattle.hp_explore.specs.Schedules.{Setting, next_call, plays, record_of_call, schedule_of}
-use Rattle.hp_explore.specs.Seen.{AddsCounts, Grow}
+use Rattle.hp_explore.specs.Seen.{AddsShares, Grow}
 use Rattle.hp_explore.specs.Walks.{IsOverBelow, IsPartWalkedBefore, IsPartWalkedThrough}
 use Rattle.hp_explore.specs.declared.frames.Entry.{Entry}
 use Rattle.hp_explore.specs.declared.frames.Entry.TheVariants.{Counted, Open}
 use Rattle.hp_explore.specs.declared.frames.Frame.{Frame}
+use Rattle.hp_explore.specs.declared.rows.Share.{Share}
 use Rattle.hp_explore.specs.declared.tally.Ending.{Ending}
 use Rattle.hp_explore.proofs.Grown.{grow_none, grow_twice}
 use Rattle.hp_explore.proofs.OfPart.{comes_on, none_of}
@@ -198,11 +199,11 @@ kept_fresh ends frame boxed kept is same counted = (
 )
 
 -- or what was counted from another place is counted once more, as far as there is room
-pub entered_added : (p : PathValue) (old new : List Ending) (counts : List ℕ) (entry : Entry)
-    → (AddsCounts old counts new → IsEnteredWithin p old new Counted) → IsAdded old counts new entry
+pub entered_added : (p : PathValue) (old new : List Ending) (shares : List Share) (entry : Entry)
+    → (AddsShares old shares new → IsEnteredWithin p old new Counted) → IsAdded old shares new entry
     → IsEnteredWithin p old new entry
-entered_added p old new counts Counted walked added = walked added
-entered_added p old new counts (Open frame) walked added =
+entered_added p old new shares Counted walked added = walked added
+entered_added p old new shares (Open frame) walked added =
     subst (λ (ends : List Ending). IsEnteredWithin p old ends (Open frame)) (sym added.0)
     (entered_within p old frame (bare_fresh old frame added.1))
 

@@ -10,12 +10,13 @@ use Rattle.hp_explore.specs.Parts.{AllOfPart, ComesTo, IsOn, PartValue}
 use Rattle.hp_explore.specs.Paths.{PathValue, state_at}
 use Rattle.hp_explore.specs.Schedules.{Setting, next_call, plays, schedule_of}
 use Rattle.hp_explore.specs.Fronts.{AreFirstInPart}
-use Rattle.hp_explore.specs.Seen.{AddsCounts, Grow, IsMemo, IsOnWay}
+use Rattle.hp_explore.specs.Seen.{AddsShares, Grow, IsMemo, IsOnWay}
 use Rattle.hp_explore.specs.Walks.{BeforeInPart, IsOverBelow, IsPartWalkedBefore, IsPartWalkedThrough}
 use Rattle.hp_explore.specs.declared.frames.Entry.{Entry}
 use Rattle.hp_explore.specs.declared.frames.Entry.TheVariants.{Counted, Open}
 use Rattle.hp_explore.specs.declared.frames.Frame.{Frame}
 use Rattle.hp_explore.specs.declared.frames.Kept.{Kept}
+use Rattle.hp_explore.specs.declared.rows.Share.{Share}
 use Rattle.hp_explore.specs.declared.tally.Ending.{Ending}
 use Rattle.hp_explore.specs.declared.frames.Turned.{Turned}
 use Rattle.hp_explore.specs.declared.frames.Turned.TheVariants.{On, Over, Full}
@@ -132,11 +133,11 @@ pub record IsComing (w : Walk) (frames : List Frame) : Type 0 where
   pub few : w.processors < 2 ^ 32
   pub short : length w.path.news ≤ w.path.setting.layout.history
 
--- so many schedules more were counted under each end, or the place is to be walked since there is no
--- room for them
-abbrev pub IsAdded : (old : List Ending) → (counts : List ℕ) → (new : List Ending) → Entry → Type 0
-IsAdded old counts new Counted = AddsCounts old counts new
-IsAdded old counts new (Open frame) =
+-- its share more was counted under each end, or the place is to be walked since there is no room for
+-- all of them
+abbrev pub IsAdded : (old : List Ending) → (shares : List Share) → (new : List Ending) → Entry → Type 0
+IsAdded old shares new Counted = AddsShares old shares new
+IsAdded old shares new (Open frame) =
     (new ≡ old) × (frame ≡ record { next = 0; is_over = true; kept = None })
 
 -- what a turn of a walk came to: less of it is left; all is walked; or as many schedules are counted

@@ -1,13 +1,13 @@
--- Rows of numbers, one after another in one list.
+-- Rows of shares, one after another in one list.
 use Rattle.std.specs.Prelude.{◌≡◌, ℕ, zero, suc, ◌≤◌, List, [], ◌∷◌, length, slice_index, slice_range}
 
 -- the rows that end at these places, where the first begins at one
-abbrev pub rows_from : (start : ℕ) → List ℕ → (ends : List ℕ) → List (List ℕ)
+abbrev pub rows_from : {X : Type 0} → (start : ℕ) → List X → (ends : List ℕ) → List (List X)
 rows_from start all [] = []
 rows_from start all (end ∷ ends) = slice_range all start end ∷ rows_from end all ends
 
 -- each begins where the one before it ends, and the last ends with the list
-abbrev pub FillUp : (start : ℕ) → List ℕ → (ends : List ℕ) → Type 0
+abbrev pub FillUp : {X : Type 0} → (start : ℕ) → List X → (ends : List ℕ) → Type 0
 FillUp start all [] = start ≡ length all
 FillUp start all (end ∷ ends) = (start ≤ end) × (end ≤ length all) × FillUp end all ends
 

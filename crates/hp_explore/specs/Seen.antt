@@ -1,5 +1,5 @@
 -- Places that were walked, and how many schedules go on from each.
-use Rattle.std.specs.Prelude.{◌≡◌, ℕ, ◌+◌, ◌≤◌, Bool, true, List, ◌++◌, Some, length, slice_get, slice_index_or, slice_set, sum, sum_by}
+use Rattle.std.specs.Prelude.{◌≡◌, ℕ, ◌+◌, ◌*◌, ◌<◌, ◌≤◌, Bool, true, List, [], ◌∷◌, ◌++◌, Some, cond, length, nat_eq, slice_get, slice_index_or, slice_range, slice_set, sum, sum_by}
 use Rattle.hp_units.specs.declared.replies.Record.{Record}
 use Rattle.hp_explore.specs.Alike.{UndoNothing}
 use Rattle.hp_explore.specs.Notes.{HasNoEnd, TallyValue}
@@ -8,6 +8,7 @@ use Rattle.hp_explore.specs.Outcomes.{OutcomeValue}
 use Rattle.hp_explore.specs.Schedules.{EndsWith, Setting, plays, schedule_of}
 use Rattle.hp_explore.specs.Standing.{IsKey, IsStanding, StandingValue}
 use Rattle.hp_explore.specs.Walks.{HasRoomFrom}
+use Rattle.hp_explore.specs.declared.rows.Share.{Share}
 use Rattle.hp_explore.specs.declared.tally.Ending.{Ending}
 
 -- a place: the new records that lead there, and how many complete schedules go on from there to each
@@ -46,35 +47,72 @@ pub record AddsCounts (old : List Ending) (counts : List ℕ) (new : List Ending
       → (f.outcome ≡ e.outcome) × (f.first.items ≡ e.first.items)
       × (f.count ≡ e.count + slice_index_or counts k 0)
 
--- whether places are kept, the rows of those that are, and where the walk stands
+-- ---- shares: only the ends that a place leads to have one
+
+-- how many schedules of a share go to an end
+abbrev pub count_for : (end : ℕ) → Share → ℕ
+count_for end s = cond (nat_eq s.end end) s.count 0
+
+-- how many of all shares do
+abbrev pub amount_of : List Share → (end : ℕ) → ℕ
+amount_of shares end = sum_by (count_for end) shares
+
+-- each share is that of one of so many ends
+abbrev pub AreAtEnds : (many : ℕ) → List Share → Type 0
+AreAtEnds many shares = (i : ℕ) (s : Share) → slice_get shares i ≡ Some s → s.end < many
+
+-- each end counts its share more
+pub record AddsShares (old : List Ending) (shares : List Share) (new : List Ending) : Type 0 where
+  pub as_many : length new ≡ length old
+  pub more : (k : ℕ) (e f : Ending) → slice_get old k ≡ Some e → slice_get new k ≡ Some f
+      → (f.outcome ≡ e.outcome) × (f.first.items ≡ e.first.items)
+      × (f.count ≡ e.count + amount_of shares k)
+
+-- ---- the places that are kept
+
+-- whether places are kept, the keys of those that are, one after another, and their rows; the key that
+-- was written last; and where the walk stands
 pub record MemoValue : Type 0 where
   pub is_on : Bool
-  pub rows : List (List ℕ)
+  pub keys : List ℕ
+  pub rows : List (List Share)
+  pub key : List ℕ
   pub standing : StandingValue
 
--- the row of a place is its key and then its counts, where the ends are these; and the history has
--- room for what goes on from there
-pub record IsRow (g : Setting) (ends : List Ending) (s : StandingValue) (row : List ℕ) : Type 0 where
+-- the key at a place, where keys of so many numbers stand one after another
+abbrev pub key_in : (keys : List ℕ) → (width place : ℕ) → List ℕ
+key_in keys width place = slice_range keys (place * width) (place * width + width)
+
+-- so many numbers has a key
+abbrev pub width_of : Setting → ℕ
+width_of g = 2 * length g.scripts + 2
+
+-- the key of a place and its shares, where the ends are these; and the history has room for what goes
+-- on from there
+pub record IsRow (g : Setting) (ends : List Ending) (s : StandingValue) (key : List ℕ)
+    (shares : List Share) : Type 0 where
   pub seen : SeenValue
-  pub key : List ℕ
-  pub is : row ≡ key ++ seen.counts
+  pub told : (k : ℕ) → amount_of shares k ≡ slice_index_or seen.counts k 0
+  pub at_ends : AreAtEnds (length ends) shares
   pub key_is : IsKey g s seen.news key
   pub seen_is : IsSeen g ends seen
   pub room : HasRoomFrom g (schedule_of seen.news)
 
--- a place with this key is kept, with these counts
-abbrev pub IsRowAmong : (rows : List (List ℕ)) → (key counts : List ℕ) → Type 0
-IsRowAmong rows key counts = (i : ℕ) × (slice_get rows i ≡ Some (key ++ counts))
+-- a place with this key is kept, with these shares
+abbrev pub IsRowAmong : (keys : List ℕ) → (rows : List (List Share)) → (key : List ℕ)
+    → (shares : List Share) → Type 0
+IsRowAmong keys rows key shares =
+    (i : ℕ) × (slice_get rows i ≡ Some shares) × (key_in keys (length key) i ≡ key)
 
 -- ends count no less than they did, and more by so many
 abbrev pub AreNoMore : List ℕ → List Ending → Type 0
 AreNoMore earlier ends =
     (k : ℕ) (e : Ending) → slice_get ends k ≡ Some e → slice_index_or earlier k 0 ≤ e.count
 
-pub record AreSince (earlier : List ℕ) (ends : List Ending) (counts : List ℕ) : Type 0 where
-  pub as_many : length counts ≡ length ends
+pub record AreSince (earlier : List ℕ) (ends : List Ending) (shares : List Share) : Type 0 where
+  pub at_ends : AreAtEnds (length ends) shares
   pub each : (k : ℕ) (e : Ending) → slice_get ends k ≡ Some e
-      → slice_index_or earlier k 0 + slice_index_or counts k 0 ≡ e.count
+      → slice_index_or earlier k 0 + amount_of shares k ≡ e.count
 
 -- the end at a place counts so many more
 pub record AddsAt (old : List Ending) (at count : ℕ) (new : List Ending) : Type 0 where
@@ -90,11 +128,26 @@ pub record AddsAt (old : List Ending) (at count : ℕ) (new : List Ending) : Typ
 abbrev pub HasRoomFor : TallyValue → List ℕ → Type 0
 HasRoomFor t counts = sum_by (λ e. e.count) t.ends + sum counts ≤ t.limit
 
+abbrev pub HasRoomForShares : TallyValue → List Share → Type 0
+HasRoomForShares t shares = sum_by (λ e. e.count) t.ends + sum_by (λ s. s.count) shares ≤ t.limit
+
 -- the places that are kept, where the ends are these; and where any are to be kept no script undoes
 -- steps by their serials
 pub record IsMemo (g : Setting) (ends : List Ending) (memo : MemoValue) : Type 0 where
-  pub all : (i : ℕ) (row : List ℕ) → slice_get memo.rows i ≡ Some row → IsRow g ends memo.standing row
+  pub all : (i : ℕ) (shares : List Share) → slice_get memo.rows i ≡ Some shares
+      → IsRow g ends memo.standing (key_in memo.keys (width_of g) i) shares
+  pub many : length memo.keys ≡ length memo.rows * width_of g
   pub undo : memo.is_on ≡ true → UndoNothing g.scripts
+
+-- the same places are kept
+abbrev pub AreSamePlaces : MemoValue → MemoValue → Type 0
+AreSamePlaces old new = (new.is_on ≡ old.is_on) × (new.keys ≡ old.keys) × (new.rows ≡ old.rows)
+
+-- one place more is kept, with the key that was written last and with what each end counts more than it did
+abbrev pub IsKeptMore : (earlier : List ℕ) → List Ending → (old new : MemoValue) → Type 0
+IsKeptMore earlier ends old new =
+    (shares : List Share) × AreSince earlier ends shares
+    × (new ≡ record old { keys = old.keys ++ old.key; rows = old.rows ++ shares ∷ [] })
 
 -- where places are kept, the numbers are those of the place after new records
 abbrev pub IsOnWay : Setting → List Record → MemoValue → Type 0

@@ -8,10 +8,10 @@ use crate::outcomes::told;
 use hp_units::{Cpu, Record, Refusal, Reply, Row, State, Zone};
 
 /// A digest of a place's key.
-pub(crate) fn key_digest(key: &[u64]) -> u64 {
+pub(crate) fn key_digest(key: &[u32]) -> u64 {
     let mut digest = 0;
     for number in key {
-        digest = mixed(digest, *number);
+        digest = mixed(digest, u64::from(*number));
     }
     digest
 }

@@ -10,6 +10,7 @@
 //! Read specs/Scripts first, then specs/Schedules and specs/Ends, and `explore` in `exploring`.
 #![tactic(auto)]
 
+mod arrivals;
 mod closed;
 mod cursors;
 mod digests;

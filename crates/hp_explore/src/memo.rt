@@ -1,28 +1,33 @@
 //! The places that were walked so far, and how many schedules went on from each to each end.
-ghost use Rattle.std.specs.Prelude.{◌≡◌, ◌++◌, ◌∷◌, [], IfOk, IfSome, List, None, OnErr, OnOk, OnSome, Some, cond, length, replicate, true};
+ghost use Rattle.std.specs.Prelude.{◌≡◌, ◌++◌, ◌∷◌, [], IfOk, IfSome, IsTrue, List, None, OnOk, Some, cond, length, replicate, true};
 ghost use Rattle.hp_units.specs.History.{effect_of};
 ghost use Rattle.hp_units.specs.declared.replies.Record.{Record as NewRecord};
 ghost use Rattle.hp_explore.specs.Alike.{leaves_steps};
 ghost use Rattle.hp_explore.specs.Schedules.{Setting};
-ghost use Rattle.hp_explore.specs.Seen.{IsMemo, IsOnWay, IsRowAmong};
+ghost use Rattle.hp_explore.specs.Seen.{AreNoMore, AreSamePlaces, IsKeptMore, IsMemo, IsOnWay, IsRowAmong, key_in};
 ghost use Rattle.hp_explore.specs.Standing.{AreSameNumbers, IsKey, KeepMeanings};
 ghost use Rattle.hp_explore.specs.declared.tally.Ending.{Ending};
 
 use crate::digests::key_digest;
 use crate::path::Path;
-use crate::rows::Rows;
+use crate::rows::{Rows, Share};
 use crate::standing::Standing;
+use crate::tally::Tally;
 use hp_units::{Cpu, Record};
 use indexmap::IndexMap;
 use std::alloc::{AllocError, Global};
 use std::marker::Model;
 
-/// The places that were walked: each a row, of its key and of how many schedules go on from there to
-/// each end; by a digest of a key the latest row that has it; and where the walk stands.
+/// The places that were walked: the key of each, one after another, and a row of how many schedules go
+/// on from there to each end that they lead to; by a digest of a key the latest place that has it; the
+/// key that was written last; and where the walk stands.
 pub(crate) struct Memo {
     is_on: bool,
+    keys: Vec<u32>,
     rows: Rows,
     latest: IndexMap<u64, usize>,
+    key: Vec<u32>,
+    shares: Vec<Share>,
     standing: Standing,
 }
 
@@ -31,7 +36,13 @@ impl Model for Memo {
 
     ghost Value = { MemoValue };
 
-    ghost view = { λ m. record { is_on = m.is_on; rows = m.rows; standing = m.standing } };
+    ghost view = { λ m. record {
+      is_on = m.is_on;
+      keys = m.keys.items;
+      rows = m.rows;
+      key = m.key.items;
+      standing = m.standing;
+    } };
 }
 
 /// A function of its own, so that no proof of a caller takes the fields apart.
@@ -39,8 +50,11 @@ impl Drop for Memo {
     fn drop(self) {
         let Memo {
             is_on: _,
+            keys: _,
             rows: _rows,
             latest: _,
+            key: _,
+            shares: _,
             standing: _standing,
         } = self;
     }
@@ -56,7 +70,7 @@ impl Memo {
         is_closed: bool,
     ) -> Result<Memo, AllocError>
         ensures on { IfOk result (λ memo. memo.is_on ≡ is_on) }
-        ensures rows { IfOk result (λ memo. memo.rows ≡ []) }
+        ensures rows { IfOk result (λ memo. (memo.keys ≡ []) × (memo.rows ≡ [])) }
         ensures standing { IfOk result (λ memo. memo.standing ≡ record {
           codes = [];
           lists = [] ∷ [];
@@ -68,8 +82,11 @@ impl Memo {
         let standing = Standing::start(alloc, processors, is_closed)?;
         Ok(Memo {
             is_on,
+            keys: Vec::new(alloc),
             rows: Rows::new(alloc),
             latest: IndexMap::new(alloc),
+            key: Vec::new(alloc),
+            shares: Vec::new(alloc),
             standing,
         })
     }
@@ -78,7 +95,7 @@ impl Memo {
     pub(crate) fn go_on(&mut self, alloc: Global, latest: &Record) -> Result<(), AllocError>
         requires { (g : Setting) × (news : List NewRecord) × IsOnWay g news self.old }
         ensures kept { KeepMeanings self.old.standing self.new.standing }
-        ensures same { (self.new.is_on ≡ self.old.is_on) × (self.new.rows ≡ self.old.rows) }
+        ensures same { AreSamePlaces self.old self.new }
         ensures ok { OnOk result ((g : Setting) (news : List NewRecord) → IsOnWay g news self.old
             → (self.old.is_on ≡ true → leaves_steps (effect_of latest.now.event) ≡ true)
             → IsOnWay g (news ++ latest.now ∷ []) self.new) }
@@ -91,7 +108,7 @@ impl Memo {
 
     /// Goes back over a processor's latest call.
     pub(crate) fn go_back(&mut self, cpu: Cpu)
-        ensures same { (self.new.is_on ≡ self.old.is_on) × (self.new.rows ≡ self.old.rows)
+        ensures same { AreSamePlaces self.old self.new
             × AreSameNumbers self.old.standing self.new.standing }
         ensures back { (g : Setting) (news : List NewRecord) (r : NewRecord) → r.cpu ≡ cpu
             → IsOnWay g (news ++ r ∷ []) self.old → IsOnWay g news self.new }
@@ -101,85 +118,98 @@ impl Memo {
         }
     }
 
-    /// Comes to a place, where a path of so many processors stands, and answers its key; none where no
-    /// places are kept, or it is not known what Cancels can take back there. An error is out of memory.
+    /// Comes to a place, where a path of so many processors stands, writes its key, and says whether it
+    /// has one: it has none where no places are kept, or it is not known what Cancels can take back
+    /// there. An error is out of memory.
     pub(crate) fn come_to(
         &mut self,
         alloc: Global,
         path: &Path,
         processors: u32,
-    ) -> Result<Option<Vec<u64>>, AllocError>
+    ) -> Result<bool, AllocError>
         requires processors { processors ≡ length path.now.setting.scripts }
         requires way { IsOnWay path.now.setting path.now.news self.old }
         ensures kept { KeepMeanings self.old.standing self.new.standing }
-        ensures same { (self.new.is_on ≡ self.old.is_on) × (self.new.rows ≡ self.old.rows) }
+        ensures same { AreSamePlaces self.old self.new }
         ensures memo { (g : Setting) (ends : List Ending) → IsMemo g ends self.old → IsMemo g ends self.new }
         ensures way { IsOnWay path.now.setting path.now.news self.new }
-        ensures on { IfOk result (λ key. OnSome key (self.old.is_on ≡ true)) }
-        ensures ok { IfOk result (λ key. IfSome key
-            (λ key. IsKey path.now.setting self.new.standing path.now.news key.items)) }
+        ensures on { IfOk result (λ has. has ≡ true → self.old.is_on ≡ true) }
+        ensures ok { IfOk result (λ has. has ≡ true
+            → IsKey path.now.setting self.new.standing path.now.news self.new.key) }
     {
         if !self.is_on {
-            return Ok(None);
+            return Ok(false);
         }
         self.standing.number_state(alloc, path.memory())?;
-        self.standing.key(alloc, path, processors)
+        self.standing.key(path, processors, &mut self.key)
     }
 
-    /// The key of where the walk stands, once it has come there.
-    pub(crate) fn key(
-        &self,
-        alloc: Global,
-        path: &Path,
-        processors: u32,
-    ) -> Result<Option<Vec<u64>>, AllocError>
+    /// Writes the key of where the walk stands, once it has come there, and says whether it has one.
+    pub(crate) fn write_key(&mut self, path: &Path, processors: u32) -> Result<bool, AllocError>
         requires processors { processors ≡ length path.now.setting.scripts }
-        requires way { IsOnWay path.now.setting path.now.news self.now }
-        ensures { IfOk result (λ key. IfSome key
-            (λ key. IsKey path.now.setting self.now.standing path.now.news key.items)) }
+        requires way { IsOnWay path.now.setting path.now.news self.old }
+        ensures same { AreSamePlaces self.old self.new × (self.new.standing ≡ self.old.standing) }
+        ensures ok { IfOk result (λ has. has ≡ true
+            → IsKey path.now.setting self.new.standing path.now.news self.new.key) }
     {
         if !self.is_on {
-            return Ok(None);
+            return Ok(false);
         }
-        self.standing.key(alloc, path, processors)
+        self.standing.key(path, processors, &mut self.key)
     }
 
-    /// The counts of a place with this key, where the latest row of its digest is one.
-    pub(crate) fn counts_at(&self, key: &[u64]) -> Option<&[u64]>
-        ensures { IfSome result (λ counts. IsRowAmong self.now.rows key.now counts.now) }
+    /// The shares of a place with the key that was written last, where the latest place of its digest is one.
+    pub(crate) fn shares(&self) -> Option<&[Share]>
+        ensures { IfSome result (λ shares. IsRowAmong self.now.keys self.now.rows self.now.key shares.now) }
     {
+        let key = self.key.as_slice();
         let Some(place) = self.latest.get(&key_digest(key)) else {
             return None;
         };
-        let Some(row) = self.rows.row(*place) else {
+        if !is_key_at(self.keys.as_slice(), *place, key) {
             return None;
-        };
-        after_key(row, key)
+        }
+        self.rows.row(*place)
     }
 
-    /// One place more, with its counts. An error is out of memory; then there is none more.
-    pub(crate) fn keep(&mut self, key: Vec<u64>, counts: &[u64]) -> Result<(), AllocError>
-        ensures ok { OnOk result (self.new
-            ≡ record self.old { rows = self.old.rows ++ (key.items ++ counts.now) ∷ [] }) }
-        ensures err { OnErr result (self.new ≡ self.old) }
+    /// One place more, with the key that was written last: its shares are what each end counts more than
+    /// it did. An error is out of memory.
+    pub(crate) fn keep(&mut self, earlier: &[u64], tally: &Tally) -> Result<(), AllocError>
+        requires { AreNoMore earlier.now tally.now.ends }
+        ensures same { (self.new.is_on ≡ self.old.is_on) × (self.new.standing ≡ self.old.standing) }
+        ensures ok { OnOk result (IsKeptMore earlier.now tally.now.ends self.old self.new) }
     {
-        let digest = key_digest(key.as_slice());
-        let mut row = key;
-        row.extend_from_slice(counts)?;
-        match self.latest.insert(digest, self.rows.len()) {
-            Ok(_earlier) => self.rows.push(row.as_slice()),
+        tally.since(earlier, &mut self.shares)?;
+        let digest = key_digest(self.key.as_slice());
+        let place = self.rows.len();
+        self.keys.extend_from_slice(self.key.as_slice())?;
+        self.rows.push(self.shares.as_slice())?;
+        match self.latest.insert(digest, place) {
+            Ok(_earlier) => Ok(()),
             Err(_failed) => Err(AllocError),
         }
     }
 }
 
-/// What a row has after a key, where it begins with it.
-fn after_key<'a>(row: &'a [u64], key: &[u64]) -> Option<&'a [u64]>
-    ensures { IfSome result (λ counts. row.now ≡ key.now ++ counts.now) }
+/// Whether a key is the one at a place, where keys as long as it stand one after another.
+fn is_key_at(keys: &[u32], place: usize, key: &[u32]) -> bool
+    ensures { IsTrue result → key_in keys.now (length key.now) place ≡ key.now }
 {
-    if row.len() < key.len() {
-        return None;
+    match key_at(keys, place, key.len()) {
+        Some(there) => there == key,
+        None => false,
     }
-    let (first, counts) = row.split_at(key.len());
-    if first == key { Some(counts) } else { None }
+}
+
+/// The key at a place, where keys of so many numbers stand one after another.
+fn key_at(keys: &[u32], place: usize, width: usize) -> Option<&[u32]>
+    ensures { IfSome result (λ key. key.now ≡ key_in keys.now width place) }
+{
+    let Some(start) = place.checked_mul(width) else {
+        return None;
+    };
+    let Some(end) = start.checked_add(width) else {
+        return None;
+    };
+    keys.get(start..end)
 }

@@ -1,34 +1,39 @@
-//! Rows of numbers, kept one after another.
+//! Rows of shares, kept one after another.
 ghost use Rattle.std.specs.Prelude.{◌≡◌, ◌<◌, ◌++◌, ◌∷◌, [], IfSome, OnErr, OnOk, Some, length, slice_get};
 ghost use Rattle.hp_explore.specs.Rows.{start_in};
 
 use std::alloc::{AllocError, Global};
 use std::marker::Model;
 
-/// Rows of numbers by their places, from 0 on; the value is the rows.
+/// How many schedules go on from a place to an end, by the end's place.
+#[derive(Clone, Copy, Drop)]
+pub(crate) struct Share {
+    pub end: usize,
+    pub count: u64,
+}
+
+/// Rows of shares by their places, from 0 on; the value is the rows.
 pub(crate) struct Rows {
-    numbers: Vec<u64>,
+    shares: Vec<Share>,
     ends: Vec<usize>,
 }
 
 impl Model for Rows {
-    ghost use Rattle.std.specs.Prelude.{List, ℕ};
+    ghost use Rattle.std.specs.Prelude.{List};
+    ghost use Rattle.hp_explore.specs.declared.rows.Share.{Share};
     ghost use Rattle.hp_explore.specs.Rows.{FillUp, rows_from};
 
-    ghost Value = { List (List ℕ) };
+    ghost Value = { List (List Share) };
 
-    ghost view = { λ r. rows_from 0 r.numbers.items r.ends.items };
+    ghost view = { λ r. rows_from 0 r.shares.items r.ends.items };
 
-    ghost invariant = { λ r. FillUp 0 r.numbers.items r.ends.items };
+    ghost invariant = { λ r. FillUp 0 r.shares.items r.ends.items };
 }
 
 /// A function of its own, so that no proof of a caller takes the fields apart.
 impl Drop for Rows {
     fn drop(self) {
-        let Rows {
-            numbers: _,
-            ends: _,
-        } = self;
+        let Rows { shares: _, ends: _ } = self;
     }
 }
 
@@ -38,7 +43,7 @@ impl Rows {
         ensures { result ≡ [] }
     {
         Rows {
-            numbers: Vec::new(alloc),
+            shares: Vec::new(alloc),
             ends: Vec::new(alloc),
         }
     }
@@ -51,7 +56,7 @@ impl Rows {
     }
 
     /// The row at a place; none where there is none.
-    pub(crate) fn row(&self, place: usize) -> Option<&[u64]>
+    pub(crate) fn row(&self, place: usize) -> Option<&[Share]>
         ensures { IfSome result (λ row. slice_get self.now place ≡ Some row.now) }
     {
         let ends = self.ends.as_slice();
@@ -59,18 +64,18 @@ impl Rows {
             return None;
         }
         let start = start_of(ends, place);
-        let numbers = self.numbers.as_slice();
-        numbers.get(start..ends[place])
+        let shares = self.shares.as_slice();
+        shares.get(start..ends[place])
     }
 
     /// One row more. An error is out of memory; then there is none more.
-    pub(crate) fn push(&mut self, row: &[u64]) -> Result<(), AllocError>
+    pub(crate) fn push(&mut self, row: &[Share]) -> Result<(), AllocError>
         ensures ok { OnOk result (self.new ≡ self.old ++ row.now ∷ []) }
         ensures err { OnErr result (self.new ≡ self.old) }
     {
         self.ends.reserve(1)?;
-        self.numbers.extend_from_slice(row)?;
-        let end = self.numbers.len();
+        self.shares.extend_from_slice(row)?;
+        let end = self.shares.len();
         self.ends.push_reserved(end);
         Ok(())
     }

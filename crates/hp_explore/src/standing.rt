@@ -1,6 +1,6 @@
 //! Where a walk stands, in numbers: of its state, of what Cancels can take back there, and of what each
 //! processor asked for and was answered. Equal numbers mean the same.
-ghost use Rattle.std.specs.Prelude.{◌≡◌, ◌++◌, ◌∷◌, [], IfOk, IfSome, List, None, OnOk, Some, cond, length, replicate, true, unwrap_or};
+ghost use Rattle.std.specs.Prelude.{◌≡◌, ◌++◌, ◌∷◌, [], IfOk, List, None, OnOk, Some, cond, length, replicate, true, unwrap_or};
 ghost use Rattle.hp_memory.specs.Memory.{MemoryValue};
 ghost use Rattle.hp_units.specs.History.{effect_of, value_of};
 ghost use Rattle.hp_units.specs.declared.replies.Record.{Record as NewRecord};
@@ -138,35 +138,42 @@ impl Standing {
         Ok(())
     }
 
-    /// The key of where the walk stands, which is where a path of so many processors does; none where
-    /// it is not known what Cancels can take back there, or the state has no number. An error is out
+    /// Writes the key of where the walk stands, which is where a path of so many processors does, in
+    /// place of what was there, and says whether there is one: there is none where it is not known what
+    /// Cancels can take back there, the state has no number, or a number is too great. An error is out
     /// of memory.
     pub(crate) fn key(
         &self,
-        alloc: Global,
         path: &Path,
         processors: u32,
-    ) -> Result<Option<Vec<u64>>, AllocError>
+        key: &mut Vec<u32>,
+    ) -> Result<bool, AllocError>
         requires processors { processors ≡ length path.now.setting.scripts }
         requires standing { IsStanding path.now.setting path.now.news self.now }
-        ensures { IfOk result (λ key. IfSome key
-            (λ key. IsKey path.now.setting self.now path.now.news key.items)) }
+        ensures { IfOk result (λ has. has ≡ true
+            → IsKey path.now.setting self.now path.now.news key.new.items) }
     {
         let Some(state) = self.here.state else {
-            return Ok(None);
+            return Ok(false);
         };
         let Some(openings) = self.here.openings else {
-            return Ok(None);
+            return Ok(false);
         };
         let numbers = self.exchanges.numbers();
-        let mut key = Vec::with_capacity(alloc, 2 * processors as usize + 2)?;
-        push_two(&mut key, state as u64, openings as u64)?;
+        key.clear();
+        let fit = push_two(key, state as u64, openings as u64)?;
+        if !fit {
+            return Ok(false);
+        }
         for cpu in 0..processors {
             let number = numbers[cpu as usize];
             let begun = path.operation(cpu);
-            push_two(&mut key, number as u64, begun.0)?;
+            let fit = push_two(key, number as u64, begun.0)?;
+            if !fit {
+                return Ok(false);
+            }
         }
-        Ok(Some(key))
+        Ok(true)
     }
 }
 
@@ -191,11 +198,19 @@ fn known_of(stop: Option<Stop>) -> Stop
     }
 }
 
-/// Two numbers more. An error is out of memory.
-fn push_two(numbers: &mut Vec<u64>, first: u64, second: u64) -> Result<(), AllocError>
-    ensures { OnOk result (numbers.new.items ≡ numbers.old.items ++ first ∷ second ∷ []) }
+/// Two numbers more, and whether they fit: else it is not known what was written. An error is out of
+/// memory.
+fn push_two(numbers: &mut Vec<u32>, first: u64, second: u64) -> Result<bool, AllocError>
+    ensures { IfOk result (λ fit. fit ≡ true
+        → numbers.new.items ≡ numbers.old.items ++ first ∷ second ∷ []) }
 {
+    let Ok(first) = u32::try_from(first) else {
+        return Ok(false);
+    };
+    let Ok(second) = u32::try_from(second) else {
+        return Ok(false);
+    };
     numbers.push(first)?;
     numbers.push(second)?;
-    Ok(())
+    Ok(true)
 }

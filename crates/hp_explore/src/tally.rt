@@ -1,14 +1,15 @@
 //! The ends so far, with their counts.
-ghost use Rattle.std.specs.Prelude.{◌≡◌, ◌↔◌, ◌<◌, ◌≤◌, ◌+◌, [], ◌∷◌, ℕ, IfOk, IfSome, IfNone, IsTrue, OnOk, length, map, nat_eq, slice_index_or, sum, sum_by};
+ghost use Rattle.std.specs.Prelude.{◌≡◌, ◌↔◌, ◌<◌, ◌≤◌, ◌+◌, [], ◌∷◌, ℕ, IfOk, IfSome, IfNone, IsTrue, OnOk, length, map, nat_eq, slice_index_or, sum_by};
 ghost use Rattle.indexmap.specs.IndexMap.{ContainsKey};
 ghost use Rattle.hp_explore.specs.Digests.{digest_of};
 ghost use Rattle.hp_explore.specs.Notes.{AreKnown, HasEndAt, HasNoEnd, HasRoom, IsNoted};
 ghost use Rattle.hp_explore.specs.Outcomes.{outcome_with};
 ghost use Rattle.hp_explore.specs.Schedules.{schedule_of};
-ghost use Rattle.hp_explore.specs.Seen.{AddsAt, AddsCounts, AreNoMore, AreSince, HasRoomFor};
+ghost use Rattle.hp_explore.specs.Seen.{AddsAt, AddsShares, AreAtEnds, AreNoMore, AreSince, HasRoomFor, HasRoomForShares};
 
 use crate::digests::digest_of;
 use crate::outcomes::{Outcome, all_answers};
+use crate::rows::Share;
 use hp_units::{Cpu, Record, Row};
 use indexmap::IndexMap;
 use std::alloc::{AllocError, Global};
@@ -137,30 +138,33 @@ impl Tally {
         self.ends.iter().map(|e| e.count).collect(alloc)
     }
 
-    /// What each end counts more than it did, by its place; an end that was not there did not
-    /// count. An error is out of memory.
-    pub(crate) fn since(&self, alloc: Global, earlier: &[u64]) -> Result<Vec<u64>, AllocError>
+    /// Writes what each end counts more than it did, in place of what was there; an end that was not
+    /// there did not count. An error is out of memory.
+    pub(crate) fn since(&self, earlier: &[u64], shares: &mut Vec<Share>) -> Result<(), AllocError>
         requires { AreNoMore earlier.now self.now.ends }
-        ensures { IfOk result (λ counts. AreSince earlier.now self.now.ends counts.items) }
+        ensures { OnOk result (AreSince earlier.now self.now.ends shares.new.items) }
     {
-        let mut counts = Vec::new(alloc);
+        shares.clear();
         for (place, end) in self.ends.iter().enumerate() {
-            counts.reserve(1)?;
             let was = count_at(earlier, place);
-            counts.push_reserved(end.count - was);
+            if end.count <= was {
+                continue;
+            }
+            let count = end.count - was;
+            shares.push(Share { end: place, count })?;
         }
-        Ok(counts)
+        Ok(())
     }
 
-    /// Counts so many schedules more under each end, by its place.
-    pub(crate) fn add(&mut self, counts: &[u64])
-        requires few { length counts.now ≤ length self.old.ends }
-        requires room { HasRoomFor self.old counts.now }
-        ensures added { AddsCounts self.old.ends counts.now self.new.ends }
+    /// Counts so many schedules more under each end that has a share.
+    pub(crate) fn add(&mut self, shares: &[Share])
+        requires ends { AreAtEnds (length self.old.ends) shares.now }
+        requires room { HasRoomForShares self.old shares.now }
+        ensures added { AddsShares self.old.ends shares.now self.new.ends }
         ensures limit { self.new.limit ≡ self.old.limit }
     {
-        for (place, count) in counts.iter().enumerate() {
-            self.add_at(place, *count);
+        for share in shares {
+            self.add_at(share.end, share.count);
         }
     }
 
@@ -208,13 +212,13 @@ fn new_end(
     })
 }
 
-/// Whether the sum of counts is no more than what there is room for.
-pub(crate) fn fit_in(counts: &[u64], room: u64) -> bool
-    ensures { IsTrue result ↔ (sum counts.now ≤ room) }
+/// Whether the sum of shares is no more than what there is room for.
+pub(crate) fn fit_in(shares: &[Share], room: u64) -> bool
+    ensures { IsTrue result ↔ (sum_by (λ s. s.count) shares.now ≤ room) }
 {
     let mut left = room;
-    for count in counts {
-        match left.checked_sub(*count) {
+    for share in shares {
+        match left.checked_sub(share.count) {
             Some(less) => left = less,
             None => return false,
         }

@@ -1,9 +1,9 @@
--- The counts so far leave so much.
+-- The shares so far leave so much.
 use Rattle.std.proofs.Common.{◌≡◌, ◌+◌, take}
-use Rattle.std.specs.Prelude.{sum}
+use Rattle.hp_explore.proofs.Shares.{shared}
 use Rattle.hp_explore.proofs.tally.fit_in.Given as goal
 
-abbrev pub invariant-loop-count : goal.invariant-loop-count
-invariant-loop-count l = record {
-  so_far : l.left + sum (take l.count-index l.counts) ≡ l.room;
+abbrev pub invariant-loop-share : goal.invariant-loop-share
+invariant-loop-share l = record {
+  so_far : l.left + shared (take l.share-index l.shares) ≡ l.room;
 }

@@ -15,4 +15,5 @@ returns-clause-way c =
 pub returns-clause-memo : goal.returns-clause-memo
 returns-clause-memo c =
     λ ends. memo_begun (setting c.args.machine.now c.args.scripts.now) ends c.in_ok-memo.memo
-    c.in_ok-memo.ensures.rows (λ set. c.keeps_places-is_on.ensures (sym c.in_ok-memo.ensures.on ∙ set))
+    c.in_ok-memo.ensures.rows.0 c.in_ok-memo.ensures.rows.1
+    (λ set. c.keeps_places-is_on.ensures (sym c.in_ok-memo.ensures.on ∙ set))

@@ -1,5 +1,6 @@
 -- There is an end for each row.
-use Rattle.std.proofs.Common.{List, ap, arith, length, ℕ}
+use Rattle.std.proofs.Common.{List, ap, arith, length}
+use Rattle.hp_explore.specs.declared.rows.Share.{Share}
 use Rattle.hp_explore.proofs.InRows.{rows_many}
 use Rattle.hp_explore.proofs.rows.Rows.len.Goals as goal
 
@@ -7,6 +8,6 @@ pub returns : goal.returns
 returns c =
     omega (
       arith,
-      rows_many 0 c.self.inside.numbers.items c.self.inside.ends.items,
-      ap (λ (rows : List (List ℕ)). length rows) c.self.view_is,
+      rows_many 0 c.self.inside.shares.items c.self.inside.ends.items,
+      ap (λ (rows : List (List Share)). length rows) c.self.view_is,
     )

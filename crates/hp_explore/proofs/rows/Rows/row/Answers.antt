@@ -1,12 +1,13 @@
 -- The part of the numbers between the ends is the row.
-use Rattle.std.proofs.Common.{Bor, List, ℕ}
+use Rattle.std.proofs.Common.{Bor, List}
+use Rattle.hp_explore.specs.declared.rows.Share.{Share}
 use Rattle.hp_explore.proofs.InRows.{row_shown}
 use Rattle.hp_explore.proofs.rows.Rows.row.Goals as goal
 
 pub returns : goal.returns
 returns c =
-    row_shown (λ (row : Bor (List ℕ)). row.now) c.get.result c.args.self.now c.args.place
-    c.start_of-start.result c.self.inside.numbers.items c.as_slice-numbers.result.now
+    row_shown (λ (row : Bor (List Share)). row.now) c.get.result c.args.self.now c.args.place
+    c.start_of-start.result c.self.inside.shares.items c.as_slice-shares.result.now
     c.self.inside.ends.items c.as_slice-ends.result.now c.self.view_is c.self.invariant
-    c.as_slice-numbers.ensures.value c.as_slice-ends.ensures.value c.if-place-ends.false
+    c.as_slice-shares.ensures.value c.as_slice-ends.ensures.value c.if-place-ends.false
     c.start_of-start.ensures c.get.ensures.lookup

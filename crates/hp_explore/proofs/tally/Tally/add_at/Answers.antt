@@ -6,7 +6,7 @@ use Rattle.std.proofs.lemmas.Option.{slice_get_read}
 use Rattle.hp_explore.specs.Notes.{TallyValue}
 use Rattle.hp_explore.specs.Seen.{AddsAt, HasRoomFor}
 use Rattle.hp_explore.specs.declared.tally.Ending.{Ending}
-use Rattle.hp_explore.proofs.Adding.{put_at}
+use Rattle.hp_explore.proofs.Shares.{put_at}
 use Rattle.hp_explore.proofs.Known.{known_set}
 use Rattle.hp_explore.proofs.tally.Tally.add_at.Goals as goal
 

@@ -92,8 +92,8 @@ come_to-requires o c =
       below = led.2;
       memo =
           subst (λ (g : Setting). IsMemo g w.tally.ends c.go_on.new.self) (sym same)
-          (memo_extended w.path.setting w.tally.ends w.memo c.go_on.new.self c.go_on.ensures.same.0
-          c.go_on.ensures.same.1 c.go_on.ensures.kept c.requires.kept.memo);
+          (memo_extended w.path.setting w.tally.ends w.memo c.go_on.new.self c.go_on.ensures.same
+          c.go_on.ensures.kept c.requires.kept.memo);
       way =
           way_on w.path c.forward.new.self c.args.frame.next c.latest.result.now w.memo c.go_on.new.self
           w.tally.ends forth c.requires.kept.memo

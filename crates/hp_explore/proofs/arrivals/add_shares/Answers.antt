@@ -1,6 +1,6 @@
--- The counts fit in the room that is left.
+-- The shares fit in the room that is left.
 use Rattle.std.proofs.Common.{arith}
-use Rattle.hp_explore.proofs.walk.add_counts.Goals as goal
+use Rattle.hp_explore.proofs.arrivals.add_shares.Goals as goal
 
 pub add-requires-clause-room : goal.add-requires-clause-room
 add-requires-clause-room o c =

@@ -8,7 +8,7 @@ use Rattle.hp_explore.specs.Frames.{IsPlaceKept}
 use Rattle.hp_explore.specs.Schedules.{schedule_of}
 use Rattle.hp_explore.specs.declared.frames.Kept.{Kept}
 use Rattle.hp_explore.proofs.OfPart.{comes_all}
-use Rattle.hp_explore.proofs.walk.leave.Goals as goal
+use Rattle.hp_explore.proofs.arrivals.leave.Goals as goal
 
 pub keep-requires-clause-walked : goal.keep-requires-clause-walked
 keep-requires-clause-walked c =

@@ -3,7 +3,7 @@ use Rattle.std.proofs.Common.{length, arith, ap, inl}
 use Rattle.std.proofs.lemmas.List.{length-map}
 use Rattle.hp_units.specs.declared.replies.Record.{Record}
 use Rattle.hp_explore.proofs.Framing.{entered_fresh, left_out}
-use Rattle.hp_explore.proofs.walk.arrive.Goals as goal
+use Rattle.hp_explore.proofs.arrivals.arrive.Goals as goal
 
 pub returns-then-leaves_out-clause-ok : goal.returns-then-leaves_out-clause-ok
 returns-then-leaves_out-clause-ok o c =
@@ -30,3 +30,9 @@ returns-then-records-calls-clause-ok o c =
       ap length c.records.ensures,
       length-map p.news (λ (r : Record). r.cpu),
     ))) c.requires.walked (c.in_ok-frame.ensures.fresh c.args.tally.now.ends)
+
+pub returns-then-records-calls-clause-memo : goal.returns-then-records-calls-clause-memo
+returns-then-records-calls-clause-memo o c = c.uncompared.ensures.memo c.args.tally.now.ends c.requires.memo
+
+pub returns-in_err-frame-clause-memo : goal.returns-in_err-frame-clause-memo
+returns-in_err-frame-clause-memo o c = c.uncompared.ensures.memo c.args.tally.now.ends c.requires.memo
