@@ -15,11 +15,11 @@ among the first. `--never` prints the same with the other status, `--scenario 1`
 found as a scenario with the setup's lines before the calls, `--json` the same as an object, scripts
 that use 0 before a begin are told, and a text that no end has as a line ends with status 2.
 
-Of each: the parts of 3, in any order, add up to what `explore` prints, in words and as JSON, and
-`--jobs 2` prints the same; of one in four the parts of 1 and 7 too, from files and with an end as a
-scenario. A sum is refused where a part is missing, comes twice, is of another scenario or stopped
-at its limit, and where a schedule or an answer was changed. That a count was changed is not found
-out. The last line is 'find: N passed, M failed'; the exit status is 0 where nothing failed, else 1.
+Of each: the parts of 1, of 3 and of 7, in any order, add up to what `explore` prints, in words and
+as JSON, and `--jobs 2` prints the same; of one in four also from files and with an end as a
+scenario. There a sum is refused where a part is missing, comes twice, was cut off, is of another
+scenario or stopped at its limit, and where a schedule or an answer was changed. That a count was
+changed is not found out. The last line is 'find: N passed, M failed'; the exit status is 0 where nothing failed, else 1.
 """
 import json
 import random
@@ -34,7 +34,7 @@ from check_lab import (LAYOUT, ROOT, SECONDS, Checks, Programs, answers_and_stat
 
 SEED = 34
 COUNT = 400
-SUMMED = 4
+SPOILED = 4
 MOST_ORDERS = 120
 NO_LINES = ("", "refused", "refused Nonsense", "refused NotFree x", "refused NotFree 01", "word",
             "opened 3", "block x", "block 1", "block 1 online", "block 1 offline normal", "cpu 0",
@@ -344,6 +344,11 @@ def refused(text, scenario, setup):
     moved = json.dumps({**head, "scenario": json.dumps(other)}) + "\n"
     by = json.dumps({**head, "calls": head["calls"] + 1}) + "\n"
     yield "", "line 1 is none of a part"
+    for number, part in ((2, second), (3, third)):
+        if part.count("\n") > 1:
+            cut = part[:part.rstrip("\n").rindex("\n") + 1]
+            yield (text.replace(part, cut),
+                   f"part {number} has another number of ends than its first line says")
     yield first + third, "part 2 is missing"
     yield first + second, "part 3 is missing"
     yield second + text, "part 2 comes twice"
@@ -384,19 +389,19 @@ def check_refused(checks, programs, scenario, setup, texts):
     checks.holds(where, status == 0, "a count that was changed is refused")
 
 
-def check_parts(checks, programs, draw, scenario, setup, is_summed):
-    """What parts add up to, and what threads search."""
+def check_parts(checks, programs, draw, scenario, setup, is_spoiled):
+    """What parts add up to, and what threads search; and what is said of parts that are spoiled."""
     texts = check_sum(checks, programs, draw, scenario, setup, 3)
+    for of in (1, 7):
+        check_sum(checks, programs, draw, scenario, setup, of)
     for form in FORMS:
         whole = programs.search(scenario, setup, *form)
         jobs = programs.search(scenario, setup, "--jobs", "2", *form)
         checks.holds(f"--jobs 2 {form} --setup {setup} {json.dumps(scenario)}", jobs == whole,
                      f"{jobs} in place of {whole}")
-    if is_summed:
+    if is_spoiled:
         check_files(checks, programs, scenario, setup, texts, draw.randrange(1, 4))
         check_refused(checks, programs, scenario, setup, texts)
-        for of in (1, 7):
-            check_sum(checks, programs, draw, scenario, setup, of)
 
 
 def check_part_limit(checks, programs, scenario, setup, orders):
@@ -449,8 +454,8 @@ def check_drawn(checks, programs, draw, drawn):
     limit = draw.randrange(len(orders))
     check_ends(checks, programs, scenario, setup, orders)
     check_first(checks, programs, scenario, setup, orders, limit)
-    check_parts(checks, programs, draw, scenario, setup, drawn % SUMMED == 0)
-    if drawn % SUMMED == 0:
+    check_parts(checks, programs, draw, scenario, setup, drawn % SPOILED == 0)
+    if drawn % SPOILED == 0:
         check_part_limit(checks, programs, scenario, setup, orders)
     for texts in drawn_texts(draw, [end for _, end in orders]):
         check_search(checks, programs, scenario, setup, orders, texts)

@@ -205,6 +205,11 @@ def check_replays(checks, lab, scripts):
         checks.same(f"explore {options}", twice, lab.call("explore", *options, scenario=scripts))
 
 
+def cut_off(text):
+    """A text without its last line."""
+    return "".join(text.splitlines(keepends=True)[:-1])
+
+
 def check_parts(checks, lab, scripts):
     """Parts are summed from files and from standard input; other numbers are refused."""
     plain = lab.call("explore", scenario=scripts)
@@ -217,6 +222,10 @@ def check_parts(checks, lab, scripts):
         checks.same("sum FILE FILE", plain, lab.call("sum", *reversed(files)))
         checks.same("sum FILE", (1, "", "hotplug_lab: part 2 is missing\n"),
                     lab.call("sum", files[0]))
+        files[0].write_text(cut_off(parts[0][1]))
+        said = "hotplug_lab: part 1 has another number of ends than its first line says\n"
+        checks.same("sum of a part cut off", (1, "", said), lab.call("sum", *files))
+        files[0].write_text(parts[0][1])
         checks.same("sum --json", lab.call("explore", "--json", scenario=scripts),
                     lab.call("sum", "--json", *files))
         checks.same("sum --scenario 1", lab.call("explore", "--scenario", "1", scenario=scripts),

@@ -13,10 +13,12 @@
 mod changes;
 mod fault;
 mod finding;
+mod over;
 mod searching;
 mod wanted;
 
 pub use changes::changes_of;
 pub use fault::FindFault;
 pub use finding::{Found, find};
+pub use over::is_over;
 pub use wanted::{Pattern, Wanted};

@@ -4,9 +4,10 @@ ghost use Rattle.std.specs.Prelude.{◌≡◌, ◌<◌, ◌+◌, ◌^◌, ◌↔
 ghost use Rattle.hp_explore.specs.Faults.{IsCause, IsCauseHere};
 ghost use Rattle.hp_explore.specs.Schedules.{schedule_of, setting};
 ghost use Rattle.hp_find.specs.Reaching.{IsFirstWithin, Reaches};
-ghost use Rattle.hp_find.specs.Searches.{IsDown, IsOver, IsSearching, IsTurned, IsUp};
+ghost use Rattle.hp_find.specs.Searches.{IsDown, IsSearching, IsTurned, IsUp};
 
 use crate::changes::changes_with;
+use crate::over::is_over;
 use crate::wanted::{Wanted, are_met};
 use hp_explore::{ExploreFault, Path, Script};
 use hp_machine::Machine;
@@ -159,24 +160,11 @@ impl<'a> Search<'a> {
             IsTrue end ↔ Reaches self.now.path.setting wanted.now (schedule_of self.now.path.news)) }
     {
         self.path.is_played();
-        if !self.is_over(alloc, processors)? {
+        if !is_over(alloc, &self.path, processors)? {
             return Ok(false);
         }
         let outcome = self.path.outcome(alloc, processors)?;
         Ok(are_met(wanted, &outcome))
-    }
-
-    /// Whether all scripts are over. An error is out of memory.
-    fn is_over(&self, alloc: Global, processors: u32) -> Result<bool, AllocError>
-        requires { processors ≡ length self.now.path.setting.scripts }
-        ensures { IfOk result (λ over. IsTrue over ↔ IsOver self.now.path) }
-    {
-        for cpu in 0..processors {
-            if self.path.next_call(alloc, cpu)?.is_some() {
-                return Ok(false);
-            }
-        }
-        Ok(true)
     }
 
     /// The schedule, with no memory taken.

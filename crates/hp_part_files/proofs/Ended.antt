@@ -1,15 +1,15 @@
 -- How a schedule is followed, and how it ends.
-use Rattle.std.proofs.Common.{◌≡◌, ℕ, ◌+◌, ◌<◌, Bool, true, false, List, [], ◌∷◌, ◌++◌, length, get_or, map, take, drop, Option, Some, None, refl, ap, sym, subst, ◌∙◌, arith, drop-cons}
+use Rattle.std.proofs.Common.{◌≡◌, ℕ, ◌+◌, ◌<◌, true, false, List, [], ◌∷◌, ◌++◌, length, get_or, take, drop, Some, None, refl, ap, sym, subst, ◌∙◌}
 use Rattle.std.proofs.lemmas.List.{map-append, take-append-drop, take_more}
 use Rattle.std.proofs.lemmas.Option.{none-some, same_Some}
 use Rattle.hp_units.specs.declared.events.Event.{Event}
 use Rattle.hp_units.specs.declared.replies.Record.{Record}
 use Rattle.hp_explore.specs.Outcomes.{OutcomeValue, outcome}
 use Rattle.hp_explore.specs.Paths.{IsForth, PathValue, state_at}
-use Rattle.hp_explore.specs.Schedules.{EndsWith, Setting, next_call, outcome_after, plays, record_of_call, schedule_of}
+use Rattle.hp_explore.specs.Schedules.{Setting, next_call, outcome_after, plays, record_of_call, schedule_of}
 use Rattle.hp_explore.proofs.Plays.{stops}
 use Rattle.hp_find.specs.Searches.{IsOver}
-use Rattle.hp_explore.specs.Parts.{EndsInPart, IsOfPart, PartValue}
+use Rattle.hp_explore.specs.Parts.{IsOfPart, PartValue}
 use Rattle.hp_part_files.specs.Ends.{IsEndOf}
 use Rattle.hp_part_files.proofs.Written.{drop_next}
 

@@ -1,5 +1,5 @@
 -- From what the search of a part says to what its text promises.
-use Rattle.std.proofs.Common.{◌≡◌, ℕ, ◌<◌, ◌≤◌, ◌*◌, ◌^◌, List, Option, Some, None, Result, Ok, Err, length, refl, sym, subst, ap}
+use Rattle.std.proofs.Common.{◌≡◌, ℕ, ◌<◌, ◌≤◌, ◌*◌, ◌^◌, List, Option, Some, None, Result, Err, drop, length, take, refl, subst, ap}
 use Rattle.std.specs.Str.{IsUtf8}
 use Rattle.hp_explore.specs.declared.exploring.Exploration.{Exploration}
 use Rattle.hp_explore.specs.declared.multinomials.HowMany.{HowMany}
@@ -7,17 +7,24 @@ use Rattle.hp_explore.specs.Ends.{AreCounted}
 use Rattle.hp_explore.specs.Faults.{HasMoreThan}
 use Rattle.hp_explore.specs.Fronts.{IfFirst, IfWhole}
 use Rattle.hp_explore.specs.Schedules.{Setting}
-use Rattle.hp_lab.specs.Explorations.{IsFaultOf, IsMore}
+use Rattle.hp_units.specs.LayoutParts.{LayoutParts}
+use Rattle.hp_find.specs.Faults.{find_fault_from}
+use Rattle.hp_explore.specs.declared.exploring.ExploreFault.{ExploreFault}
+use Rattle.hp_explore.specs.declared.exploring.ExploreFault.TheVariants as explore
+use Rattle.hp_lab.specs.Explorations.{HoldsAfter, InScenario, IsEndsCause, IsFaultOf, IsFaultWith, IsFull, IsMore, IsStoppedAfter}
+use Rattle.hp_lab.specs.declared.fault.LabFault.{LabFault}
+use Rattle.hp_scenario.specs.declared.lines.Line.{Line}
 use Rattle.hp_lab.specs.declared.fault.LabFault.TheVariants as lab
 use Rattle.hp_explore.specs.Fronts.{AreFirstInPart}
-use Rattle.hp_explore.specs.Parts.{EndsInPart, FillsPart, IsCompleteInPart, PartValue}
-use Rattle.hp_scenario.specs.Gives.{◌>>=◌, or_fault}
-use Rattle.hp_scenario.specs.Scenario.{ScenarioValue, json_of, scenario_in, scenario_of}
+use Rattle.hp_explore.specs.Parts.{EndsInPart, FillsPart, IsCausePart, IsCompleteInPart, PartValue}
+use Rattle.hp_scenario.specs.Gives.{◌>>=◌}
+use Rattle.hp_scenario.specs.Scenario.{scenario_in, scenario_of}
 use Rattle.hp_scenario.specs.declared.fault.ScenarioFault.{ScenarioFault}
 use Rattle.hp_scenario.specs.declared.fault.ScenarioFault.TheVariants.{NotJson}
 use Rattle.hp_scenario.proofs.Json.{json_refused}
 use Rattle.serde_json.specs.Data.{Data}
-use Rattle.hp_part_files.specs.Parts.{ArePartEnds, IsCallsFor}
+use Rattle.hp_part_files.specs.Numbers.{NumberValue, part_by}
+use Rattle.hp_part_files.specs.Parts.{ArePartEnds, FillsPartOf, IsCallsFor, IsFullPart, IsPartCause}
 
 -- the ends are all of the part, or its first ones
 pub part_explored : (g : Setting) (part : PartValue) (limit : ℕ) (x : Exploration) (more : Option HowMany)
@@ -39,11 +46,58 @@ calls_known processors scripts parts of calls all is one alone enough fewest =
     (subst (λ (n : ℕ). IsCallsFor processors n calls) is
     (record { one = one; alone = alone; enough = enough; fewest = fewest }))
 
--- bytes that are no text are no scenario
 refused : (input : List ℕ) → (IsUtf8 input → ⊥) → scenario_in input ≡ Err NotJson
 unfolding scenario_in
 refused input none =
     ap (λ (r : Result Data ScenarioFault). r >>= scenario_of) (json_refused input (λ text. absurd (none text)))
 
+after_weaker : (P Q : Setting → Type 0) (l : LayoutParts) (before after : List Line)
+    → ((g : Setting) → P g → Q g) → HoldsAfter P l before after → HoldsAfter Q l before after
+after_weaker P Q l before after f h =
+    record { start = h.start; sealed = h.sealed; run = h.run; holds = f _ h.holds }
+
+stopped_weaker : (P Q : Setting → Type 0) (input : List ℕ) (setup : ℕ) → ((g : Setting) → P g → Q g)
+    → InScenario input (IsStoppedAfter P setup) → InScenario input (IsStoppedAfter Q setup)
+stopped_weaker P Q input setup f h = (
+  h.0,
+  h.1,
+  (h.2.0, after_weaker P Q h.0.layout (take setup h.0.lines) (drop setup h.0.lines) f h.2.1),
+)
+
+-- what fills the history in a part's search fills it in that of all
+pub part_fault : (n : NumberValue) (input : List ℕ) (setup limit : ℕ) (fault : LabFault)
+    → IsFaultWith (IsPartCause n) input setup limit fault → IsFaultOf input setup limit fault
+part_fault n input setup limit lab.NotJson h = h
+part_fault n input setup limit lab.BadShape h = h
+part_fault n input setup limit (lab.Layout f) h = h
+part_fault n input setup limit (lab.BadLine line) h = h
+part_fault n input setup limit (lab.NotForScript line why) h = h
+part_fault n input setup limit (lab.TooMany most) h = absurd (h.1.2.1.holds)
+part_fault n input setup limit (lab.HistoryFull needed) h =
+    stopped_weaker (IsFull (IsPartCause n) needed) (IsFull IsEndsCause needed) input setup
+    (λ g x. ((x.0.2.0, x.0.2.1), x.1)) h
+part_fault n input setup limit lab.OutOfMemory h = tt
+
+-- and a schedule of the part does
+pub full_part : (n : NumberValue) (input : List ℕ) (setup limit : ℕ) (fault : LabFault)
+    → IsFaultWith (IsPartCause n) input setup limit fault → IsFullPart n input setup fault
+full_part n input setup limit lab.NotJson h = tt
+full_part n input setup limit lab.BadShape h = tt
+full_part n input setup limit (lab.Layout f) h = tt
+full_part n input setup limit (lab.BadLine line) h = tt
+full_part n input setup limit (lab.NotForScript line why) h = tt
+full_part n input setup limit (lab.TooMany most) h = tt
+full_part n input setup limit (lab.HistoryFull needed) h =
+    stopped_weaker (IsFull (IsPartCause n) needed) (FillsPartOf n) input setup (λ g x. x.0) h
+full_part n input setup limit lab.OutOfMemory h = tt
+
+-- the cause of a fault of the part's search
+pub part_cause : (n : NumberValue) (g : Setting) (calls : ℕ) (fault : ExploreFault)
+    → IsCallsFor (length g.scripts) n.of calls → IsCausePart g (part_by n calls) fault
+    → IsPartCause n g (find_fault_from fault)
+part_cause n g calls explore.HistoryFull by h = (calls, by, h)
+part_cause n g calls explore.OutOfMemory by h = tt
+
+-- bytes that are no text are no scenario
 pub no_text : (input : List ℕ) (setup limit : ℕ) → (IsUtf8 input → ⊥) → IsFaultOf input setup limit lab.NotJson
 no_text input setup limit none = (NotJson, refused input none, refl)

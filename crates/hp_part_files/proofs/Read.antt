@@ -1,8 +1,8 @@
 -- The parts of a text, one more line after another.
-use Rattle.std.proofs.Common.{◌≡◌, ℕ, ◌+◌, ◌-◌, ◌<◌, ◌≤◌, ◌⊎◌, Option, Some, None, List, [], ◌∷◌, ◌++◌, length, take, drop, refl, ap, sym, subst, ◌∙◌, append_assoc, append-nil, arith, add-one, inl, inr}
-use Rattle.std.specs.List.{All, flat_map}
+use Rattle.std.proofs.Common.{◌≡◌, ℕ, ◌+◌, ◌<◌, ◌≤◌, Option, Some, None, List, [], ◌∷◌, ◌++◌, length, take, drop, refl, ap, sym, subst, ◌∙◌, append_assoc, append-nil, arith, inl, inr}
+use Rattle.std.specs.List.{All}
 use Rattle.std.proofs.lemmas.List.{flat_map_more, length-append, length-take-le, take-append-drop, take-append-le, take_all}
-use Rattle.std.proofs.lemmas.List.Elements.{All-append, All-nil, All-push, All-weaker}
+use Rattle.std.proofs.lemmas.List.Elements.{All-nil, All-push, All-weaker}
 use Rattle.hp_explore.specs.declared.tally.Ending.{Ending}
 use Rattle.hp_explore.specs.Schedules.{Setting}
 use Rattle.hp_explore.specs.Parts.{EndsInPart}
@@ -20,13 +20,13 @@ use Rattle.hp_part_files.specs.Faults.{IsLineFault, IsTooMany, IsUnpushed, IsUns
 use Rattle.hp_part_files.specs.declared.fault.PartFault.{PartFault}
 use Rattle.hp_part_files.specs.declared.fault.PartFault.TheVariants as part
 use Rattle.hp_part_files.specs.Lines.{IsLineAt}
-use Rattle.hp_part_files.specs.Reading.{IsLine}
+use Rattle.hp_part_files.specs.Reading.{HeadValue, IsLine}
 use Rattle.hp_part_files.specs.declared.line_fault.LineFault.{LineFault}
-use Rattle.hp_part_files.specs.declared.line_fault.LineFault.TheVariants.{NotPart, OtherSearch, NotOfPart, Changed, Stopped, Lab}
+use Rattle.hp_part_files.specs.declared.line_fault.LineFault.TheVariants.{NotPart, OtherSearch, NotOfPart, Changed, Stopped, OtherCount, Lab}
 use Rattle.hp_part_files.specs.declared.reading.PartLine.TheVariants.{End}
 use Rattle.hp_part_files.specs.Taking.{HasRead, IsNumber, IsPushed, IsTaken}
-use Rattle.hp_part_files.specs.Texts.{SearchValue, end_line, head_line, part_lines}
-use Rattle.hp_part_files.proofs.Written.{part_lines_push}
+use Rattle.hp_part_files.specs.Texts.{SearchValue, begun_lines, head_line, part_lines}
+use Rattle.hp_part_files.proofs.Written.{begun_lines_push}
 
 -- a part more
 pub lines_more : (names : List (List ℕ)) (g : Setting) (s : SearchValue) (done : List PartEndsValue)
@@ -43,22 +43,31 @@ own_bare g s number is = record {
   ends = All-nil (λ (e : Ending). EndsInPart g (part_in s number) e.first.items e.outcome);
 }
 
+-- the last part is whole
+last_whole : (names : List (List ℕ)) (g : Setting) (s : SearchValue) (v : GatheringValue)
+    → v.named ≡ length v.last.ends
+    → lines_of names g s v.done ++ begun_lines names g s v.last.number v.named v.last.ends
+    ≡ lines_of names g s (v.done ++ v.last ∷ [])
+last_whole names g s v whole =
+    ap (λ (n : ℕ). lines_of names g s v.done ++ begun_lines names g s v.last.number n v.last.ends) whole
+    ∙ sym (lines_more names g s v.done v.last)
+
 -- a head was taken
-pub head_taken : (names : List (List ℕ)) (g : Setting) (s : SearchValue) (v w : GatheringValue) (number : ℕ)
-    (text : List ℕ)
-    → text ≡ head_line s number → IsNumber s number
-    → w ≡ record { done = v.done ++ v.last ∷ []; last = record { number = number; ends = [] } }
+pub head_taken : (names : List (List ℕ)) (g : Setting) (s : SearchValue) (v w : GatheringValue)
+    (number named : ℕ) (text : List ℕ)
+    → text ≡ head_line s number named → IsNumber s number → v.named ≡ length v.last.ends
+    → w
+    ≡ record { done = v.done ++ v.last ∷ []; last = record { number = number; ends = [] }; named = named }
     → IsTaken names g s v text w
-head_taken names g s v w number text is some begun = λ front h.
+head_taken names g s v w number named text is some whole begun = λ front h.
     let line : List ℕ = text ++ newline in
-    let all : front ++ line ≡ lines_of names g s (v.done ++ v.last ∷ []) ++ part_lines names g s number [] =
-    ap (λ (l : List ℕ). l ++ line) h.is
-    ∙ (ap (λ (l : List ℕ). l ++ line) (sym (lines_more names g s v.done v.last))
-    ∙ (ap (λ (t : List ℕ). lines_of names g s (v.done ++ v.last ∷ []) ++ (t ++ newline)) is
-    ∙ ap (λ (l : List ℕ). lines_of names g s (v.done ++ v.last ∷ []) ++ l)
-    (sym (append-nil (head_line s number ++ newline))))) in
+    let done : List ℕ = lines_of names g s (v.done ++ v.last ∷ []) in
+    let all : front ++ line ≡ done ++ begun_lines names g s number named [] =
+    ap (λ (l : List ℕ). l ++ line) (h.is ∙ last_whole names g s v whole)
+    ∙ (ap (λ (t : List ℕ). done ++ (t ++ newline)) is
+    ∙ ap (λ (l : List ℕ). done ++ l) (sym (append-nil (head_line s number named ++ newline)))) in
     let new : IsGathering names g s (front ++ line)
-    (record { done = v.done ++ v.last ∷ []; last = record { number = number; ends = [] } }) =
+    (record { done = v.done ++ v.last ∷ []; last = record { number = number; ends = [] }; named = named }) =
     record {
       is = all;
       done = All-push (IsOwn g s) v.done v.last h.done h.last;
@@ -75,13 +84,14 @@ end_taken names g s v w e text pushed own = λ front h.
     let line : List ℕ = text ++ newline in
     let number : ℕ = v.last.number in
     let done : List ℕ = lines_of names g s v.done in
-    let all : front ++ line ≡ done ++ part_lines names g s number (v.last.ends ++ e ∷ []) =
+    let begun : List ℕ = begun_lines names g s number v.named v.last.ends in
+    let all : front ++ line ≡ done ++ begun_lines names g s number v.named (v.last.ends ++ e ∷ []) =
     ap (λ (l : List ℕ). l ++ line) h.is
-    ∙ (append_assoc done (part_lines names g s number v.last.ends) line
-    ∙ (ap (λ (t : List ℕ). done ++ (part_lines names g s number v.last.ends ++ (t ++ newline))) pushed.line
-    ∙ ap (λ (l : List ℕ). done ++ l) (sym (part_lines_push names g s number v.last.ends e)))) in
+    ∙ (append_assoc done begun line
+    ∙ (ap (λ (t : List ℕ). done ++ (begun ++ (t ++ newline))) pushed.line
+    ∙ ap (λ (l : List ℕ). done ++ l) (sym (begun_lines_push names g s number v.named v.last.ends e)))) in
     let new : IsGathering names g s (front ++ line)
-    (record { done = v.done; last = record { number = number; ends = v.last.ends ++ e ∷ [] } }) =
+    (record { done = v.done; last = record { number = number; ends = v.last.ends ++ e ∷ [] }; named = v.named }) =
     record {
       is = all;
       done = h.done;
@@ -118,30 +128,31 @@ line_passed input place text within here =
     ∙ take_all (place + (length text + 1)) front (omega (arith, long)))
 
 -- the first head is read
-pub head_read : (names : List (List ℕ)) (g : Setting) (s : SearchValue) (input : List ℕ) (number start : ℕ)
-    → IsLineAt input 0 (head_line s number) → IsNumber s number → start ≡ length (head_line s number) + 1
-    → start ≤ length input → HasRead names g s input number start
-head_read names g s input number start here some is within = (
+pub head_read : (names : List (List ℕ)) (g : Setting) (h : HeadValue) (input : List ℕ) (start : ℕ)
+    → IsLineAt input 0 (head_line h.search h.number h.ends) → IsNumber h.search h.number
+    → start ≡ length (head_line h.search h.number h.ends) + 1 → start ≤ length input
+    → HasRead names g h input start
+head_read names g h input start here some is within = (
   within,
   record {
     is =
         ap (λ (n : ℕ). take n input) (is ∙ (omega arith))
-        ∙ (line_passed input 0 (head_line s number) (omega arith) here
-        ∙ sym (append-nil (head_line s number ++ newline)));
-    done = All-nil (IsOwn g s);
-    last = own_bare g s number some;
+        ∙ (line_passed input 0 (head_line h.search h.number h.ends) (omega arith) here
+        ∙ sym (append-nil (head_line h.search h.number h.ends ++ newline)));
+    done = All-nil (IsOwn g h.search);
+    last = own_bare g h.search h.number some;
   },
 )
 
 -- all of it is read
 pub all_read : (names : List (List ℕ)) (g : Setting) (s : SearchValue) (input : List ℕ) (place : ℕ)
     (v : GatheringValue) (parts : List PartEndsValue)
-    → length input ≤ place → IsGathering names g s (take place input) v → parts ≡ v.done ++ v.last ∷ []
-    → IsGathered names g s input parts
-all_read names g s input place v parts past h are = record {
+    → length input ≤ place → IsGathering names g s (take place input) v → v.named ≡ length v.last.ends
+    → parts ≡ v.done ++ v.last ∷ [] → IsGathered names g s input parts
+all_read names g s input place v parts past h whole are = record {
   is =
       sym (take_all place input past)
-      ∙ (h.is ∙ (sym (lines_more names g s v.done v.last)
+      ∙ (h.is ∙ (last_whole names g s v whole
       ∙ ap (λ (ps : List PartEndsValue). lines_of names g s ps) (sym are)));
   own =
       subst (λ (ps : List PartEndsValue). All (IsOwn g s) ps) (sym are)
@@ -184,7 +195,21 @@ not_pushed names g s v text e OtherSearch line own h = absurd h
 not_pushed names g s v text e NotOfPart line own h = absurd h
 not_pushed names g s v text e Changed line own h = record { end = e; line = line; own = own; other = h }
 not_pushed names g s v text e Stopped line own h = absurd h
+not_pushed names g s v text e (OtherCount number) line own h = absurd h
 not_pushed names g s v text e (Lab fault) line own h = h
+
+-- the last part of a text has another number of ends than its head names
+pub last_cut : (input : List ℕ) (names : List (List ℕ)) (g : Setting) (s : SearchValue) (place number : ℕ)
+    (v : GatheringValue)
+    → length input ≤ place → IsGathering names g s (take place input) v → number ≡ v.last.number
+    → (v.named ≡ length v.last.ends → ⊥) → IsUntoldSum input names g s (part.OtherCount number)
+last_cut input names g s place number v past h is other = inr (inr (inl (
+  number,
+  v,
+  refl,
+  subst (λ (l : List ℕ). IsGathering names g s l v) (take_all place input past) h,
+  (is, other),
+)))
 
 pub some_lists : (lists : List (Vec Ending)) → 0 < length (lists_of lists) → 0 < length lists
 some_lists [] some = some
@@ -206,10 +231,11 @@ too_many input names g s parts lists (part.OtherSearch n) read all h = absurd h
 too_many input names g s parts lists (part.NotOfPart n) read all h = absurd h
 too_many input names g s parts lists (part.Changed n) read all h = absurd h
 too_many input names g s parts lists (part.Stopped n) read all h = absurd h
+too_many input names g s parts lists (part.OtherCount n) read all h = absurd h
 too_many input names g s parts lists (part.Missing n) read all h = absurd h
 too_many input names g s parts lists (part.Twice n) read all h = absurd h
 too_many input names g s parts lists part.TooMany read all h =
-    inr (inr (record { parts = parts; read = read; cause = inr (lists, all, h) }))
+    inr (inr (inr (record { parts = parts; read = read; cause = inr (lists, all, h) })))
 too_many input names g s parts lists (part.Lab fault) read all h =
     subst (λ (f : LabFault). IsUntold IsEndsCause 0 g f) (sym h) tt
 
@@ -227,6 +253,8 @@ unsummed_in input s p (part.Changed n) ready h =
     held_in (λ names before g. IsUntoldSum input names g s (part.Changed n)) s.scenario s.setup p ready h
 unsummed_in input s p (part.Stopped n) ready h =
     held_in (λ names before g. IsUntoldSum input names g s (part.Stopped n)) s.scenario s.setup p ready h
+unsummed_in input s p (part.OtherCount n) ready h =
+    held_in (λ names before g. IsUntoldSum input names g s (part.OtherCount n)) s.scenario s.setup p ready h
 unsummed_in input s p (part.Missing n) ready h =
     held_in (λ names before g. IsUntoldSum input names g s (part.Missing n)) s.scenario s.setup p ready h
 unsummed_in input s p (part.Twice n) ready h =

@@ -1,9 +1,18 @@
 -- The lines of parts, one more after another.
-use Rattle.std.proofs.Common.{◌≡◌, ℕ, ◌+◌, ◌<◌, List, [], ◌∷◌, ◌++◌, length, get_or, take, drop, refl, ap, sym, ◌∙◌, append_assoc, append-nil, add-zero, arith, add-one, drop-cons}
+use Rattle.std.proofs.Common.{◌≡◌, ℕ, ◌+◌, ◌<◌, List, [], ◌∷◌, ◌++◌, length, get_or, drop, ap, sym, ◌∙◌, append_assoc, append-nil, add-zero, arith, add-one, drop-cons}
 use Rattle.hp_explore.specs.declared.tally.Ending.{Ending}
 use Rattle.hp_explore.specs.Schedules.{Setting}
 use Rattle.hp_text.specs.State.{newline}
-use Rattle.hp_part_files.specs.Texts.{SearchValue, end_line, end_lines, head_line, part_lines}
+use Rattle.hp_part_files.specs.Texts.{SearchValue, begun_lines, end_line, end_lines, head_line}
+
+-- four texts one after another
+pub four_written : (old a b c d one two three four : List ℕ) → one ≡ old ++ a → two ≡ one ++ b
+    → three ≡ two ++ c → four ≡ three ++ d → four ≡ old ++ (a ++ b ++ c ++ d)
+four_written old a b c d one two three four at_one at_two at_three at_four =
+    let first : two ≡ old ++ (a ++ b) = at_two ∙ (ap (λ (l : List ℕ). l ++ b) at_one ∙ append_assoc old a b) in
+    let second : three ≡ old ++ (a ++ b ++ c) =
+    at_three ∙ (ap (λ (l : List ℕ). l ++ c) first ∙ append_assoc old (a ++ b) c) in
+    at_four ∙ (ap (λ (l : List ℕ). l ++ d) second ∙ append_assoc old (a ++ b ++ c) d)
 
 -- an end more after others
 pub end_lines_push : (names : List (List ℕ)) (g : Setting) (number : ℕ) (ends : List Ending) (e : Ending)
@@ -44,12 +53,12 @@ end_written names g ends index e now new whole lt is so_far more =
     ∙ (ap (λ (es : List Ending). now ++ end_lines names g (index + 1) es) (sym front) ∙ so_far))
 
 -- an end more in a part
-pub part_lines_push : (names : List (List ℕ)) (g : Setting) (s : SearchValue) (number : ℕ)
+pub begun_lines_push : (names : List (List ℕ)) (g : Setting) (s : SearchValue) (number named : ℕ)
     (ends : List Ending) (e : Ending)
-    → part_lines names g s number (ends ++ e ∷ [])
-    ≡ part_lines names g s number ends ++ (end_line names g (length ends + 1) e ++ newline)
-part_lines_push names g s number ends e =
-    let head : List ℕ = head_line s number ++ newline in
+    → begun_lines names g s number named (ends ++ e ∷ [])
+    ≡ begun_lines names g s number named ends ++ (end_line names g (length ends + 1) e ++ newline)
+begun_lines_push names g s number named ends e =
+    let head : List ℕ = head_line s number named ++ newline in
     let next : 1 + length ends ≡ length ends + 1 = omega arith in
     ap (λ (l : List ℕ). head ++ l) (end_lines_push names g 1 ends e)
     ∙ (sym (append_assoc head (end_lines names g 1 ends) (end_line names g (1 + length ends) e ++ newline))

@@ -6,18 +6,17 @@ use Rattle.hp_explore.specs.declared.tally.Ending.{Ending}
 use Rattle.hp_explore.specs.Outcomes.{OutcomeValue}
 use Rattle.hp_explore.specs.Schedules.{Setting}
 use Rattle.hp_lab.specs.Explorations.{HoldsIn, IsEndsCause, IsFaultOf, IsUntold}
-use Rattle.hp_lab.specs.declared.fault.LabFault.{LabFault}
 use Rattle.hp_lab.specs.declared.fault.LabFault.TheVariants.{OutOfMemory}
 use Rattle.hp_explore.specs.Parts.{EndsInPart}
 use Rattle.hp_parts.specs.Adding.{counted_by}
-use Rattle.hp_part_files.specs.Gathered.{AreAll, GatheringValue, IsGathered, IsGathering, PartEndsValue, part_in}
+use Rattle.hp_part_files.specs.Gathered.{AreAll, GatheringValue, IsGathered, IsGathering, IsLastOther, PartEndsValue, part_in}
 use Rattle.hp_part_files.specs.Lines.{HasNoNewline, IsLineAt, line_number}
 use Rattle.hp_part_files.specs.Reading.{HeadValue, IsHead, IsLine}
 use Rattle.hp_part_files.specs.Texts.{SearchValue, end_line, head_line}
 use Rattle.hp_part_files.specs.declared.fault.PartFault.{PartFault}
 use Rattle.hp_part_files.specs.declared.fault.PartFault.TheVariants as part
 use Rattle.hp_part_files.specs.declared.line_fault.LineFault.{LineFault}
-use Rattle.hp_part_files.specs.declared.line_fault.LineFault.TheVariants.{NotPart, OtherSearch, NotOfPart, Changed, Stopped, Lab}
+use Rattle.hp_part_files.specs.declared.line_fault.LineFault.TheVariants.{NotPart, OtherSearch, NotOfPart, Changed, Stopped, OtherCount, Lab}
 use Rattle.hp_part_files.specs.declared.reading.PartLine.TheVariants.{Head, End, Stop, Other}
 use Rattle.std.specs.Global.{Vec}
 
@@ -29,15 +28,24 @@ fault_of_line OtherSearch line = part.OtherSearch line
 fault_of_line NotOfPart line = part.NotOfPart line
 fault_of_line Changed line = part.Changed line
 fault_of_line Stopped line = part.Stopped line
+fault_of_line (OtherCount number) line = part.OtherCount number
 fault_of_line (Lab fault) line = part.Lab fault
 
 -- a head with the number of no part
 abbrev pub IsHeadOfNone : SearchValue → (text : List ℕ) → Type 0
-IsHeadOfNone s text = (number : ℕ) × IsLine text (Head number) × ((1 ≤ number) × (number ≤ s.of) × (s.of ≤ 1000000) → ⊥)
+IsHeadOfNone s text =
+    (number : ℕ) × (ends : ℕ) × IsLine text (Head number ends)
+    × ((1 ≤ number) × (number ≤ s.of) × (s.of ≤ 1000000) → ⊥)
 
 -- a head of another search
 abbrev pub IsOtherHead : SearchValue → (text : List ℕ) → Type 0
-IsOtherHead s text = (number : ℕ) × IsLine text (Head number) × (text ≡ head_line s number → ⊥)
+IsOtherHead s text =
+    (number : ℕ) × (ends : ℕ) × IsLine text (Head number ends) × (text ≡ head_line s number ends → ⊥)
+
+-- a head of the search, and the part before it has another number of ends than its own head names
+abbrev pub IsAfterOther : SearchValue → GatheringValue → (text : List ℕ) → (before : ℕ) → Type 0
+IsAfterOther s v text before =
+    IsLastOther v before × (number : ℕ) × (ends : ℕ) × (text ≡ head_line s number ends)
 
 -- an end whose schedule is no complete one of the part
 pub record IsOfNoPart (g : Setting) (s : SearchValue) (v : GatheringValue) (text : List ℕ) : Type 0 where
@@ -73,6 +81,7 @@ IsLineFault names g s v text OtherSearch = IsOtherHead s text
 IsLineFault names g s v text NotOfPart = IsOfNoPart g s v text
 IsLineFault names g s v text Changed = IsChanged names g s v text
 IsLineFault names g s v text Stopped = IsLine text Stop
+IsLineFault names g s v text (OtherCount number) = IsAfterOther s v text number
 IsLineFault names g s v text (Lab fault) = IsUntold IsEndsCause 0 g fault
 
 -- ---- the parts
@@ -115,6 +124,13 @@ abbrev pub IsUnended : (input : List ℕ) → PartFault → Type 0
 IsUnended input fault =
     (place : ℕ) × (fault ≡ part.NotPart (line_number input place)) × HasNoNewline input place
 
+-- the last part has another number of ends than its head names
+abbrev pub IsLastCut : (input : List ℕ) → (names : List (List ℕ)) → Setting → SearchValue → PartFault
+    → Type 0
+IsLastCut input names g s fault =
+    (number : ℕ) × (v : GatheringValue) × (fault ≡ part.OtherCount number) × IsGathering names g s input v
+    × IsLastOther v number
+
 -- the counts of all parts add up to too much
 abbrev pub IsTooMany : List (List Ending) → PartFault → Type 0
 IsTooMany lists part.TooMany = 2 ^ 64 ≤ counted_by lists
@@ -139,7 +155,8 @@ abbrev pub IsUntoldSum : (input : List ℕ) → (names : List (List ℕ)) → Se
     → Type 0
 IsUntoldSum input names g s (part.Lab fault) = IsUntold IsEndsCause 0 g fault
 IsUntoldSum input names g s fault =
-    IsUnread input names g s fault ⊎ (IsUnended input fault ⊎ IsUnsummed input names g s fault)
+    IsUnread input names g s fault
+    ⊎ (IsUnended input fault ⊎ (IsLastCut input names g s fault ⊎ IsUnsummed input names g s fault))
 
 -- nor have they in a scenario that is not made ready
 abbrev pub IsUnsummedIn : (input : List ℕ) → SearchValue → PartFault → Type 0

@@ -7,17 +7,18 @@ use Rattle.hp_explore.specs.declared.tally.Ending.{Ending}
 use Rattle.hp_explore.specs.Schedules.{Setting}
 use Rattle.hp_explore.specs.Parts.{EndsInPart, PartValue}
 use Rattle.hp_part_files.specs.Numbers.{part_by}
-use Rattle.hp_part_files.specs.Texts.{SearchValue, part_lines}
+use Rattle.hp_part_files.specs.Texts.{SearchValue, begun_lines, part_lines}
 
 -- a part: its number, from 1 on, and the ends that its lines name
 pub record PartEndsValue : Type 0 where
   pub number : ℕ
   pub ends : List Ending
 
--- parts, of which the last is not known to be over
+-- parts, of which the last is not known to be over; its head names so many ends
 pub record GatheringValue : Type 0 where
   pub done : List PartEndsValue
   pub last : PartEndsValue
+  pub named : ℕ
 
 -- which part of the search it is
 abbrev pub part_in : SearchValue → (number : ℕ) → PartValue
@@ -40,11 +41,15 @@ lines_of names g s parts = flat_map (λ p. part_lines names g s p.number p.ends)
 -- so far the text is that of parts
 pub record IsGathering (names : List (List ℕ)) (g : Setting) (s : SearchValue) (text : List ℕ)
     (v : GatheringValue) : Type 0 where
-  pub is : text ≡ lines_of names g s v.done ++ part_lines names g s v.last.number v.last.ends
+  pub is : text ≡ lines_of names g s v.done ++ begun_lines names g s v.last.number v.named v.last.ends
   pub done : AreOwn g s v.done
   pub last : IsOwn g s v.last
 
--- and all of it is
+-- the last part, which has this number, has another number of ends than its head names
+abbrev pub IsLastOther : GatheringValue → (number : ℕ) → Type 0
+IsLastOther v number = (number ≡ v.last.number) × (v.named ≡ length v.last.ends → ⊥)
+
+-- all of the text is that of parts
 pub record IsGathered (names : List (List ℕ)) (g : Setting) (s : SearchValue) (text : List ℕ)
     (parts : List PartEndsValue) : Type 0 where
   pub is : text ≡ lines_of names g s parts

@@ -8,7 +8,11 @@ use Rattle.hp_explore.specs.Ends.{AreCounted, AreInOrder}
 use Rattle.hp_explore.specs.Faults.{HasMoreThan}
 use Rattle.hp_explore.specs.Interleavings.{IsKnown}
 use Rattle.hp_explore.specs.Schedules.{Setting}
-use Rattle.hp_lab.specs.Explorations.{HoldsIn, IsMore}
+use Rattle.hp_find.specs.declared.fault.FindFault.{FindFault}
+use Rattle.hp_find.specs.declared.fault.FindFault.TheVariants as search
+use Rattle.hp_lab.specs.Explorations.{HoldsIn, InScenario, IsMore, IsStoppedAfter}
+use Rattle.hp_lab.specs.declared.fault.LabFault.{LabFault}
+use Rattle.hp_lab.specs.declared.fault.LabFault.TheVariants.{HistoryFull}
 use Rattle.hp_explore.specs.Fronts.{AreFirstInPart}
 use Rattle.hp_explore.specs.Parts.{EndsInPart, FillsPart, IsCompleteInPart, PartValue}
 use Rattle.hp_part_files.specs.Numbers.{NumberValue, part_by}
@@ -57,8 +61,23 @@ IsToldPart names g s number x text found =
     (more : Option HowMany) × IsMore g.scripts x.is_whole more
     × (text ≡ part_text names g s number x.ends.items more) × (found ≡ is_none more)
 
+-- a schedule of the part fills the history
+abbrev pub FillsPartOf : NumberValue → Setting → Type 0
+FillsPartOf n g = (calls : ℕ) × IsCallsFor (length g.scripts) n.of calls × FillsPart g (part_by n calls)
+
+-- why a part is not told
+abbrev pub IsPartCause : NumberValue → Setting → FindFault → Type 0
+IsPartCause n g search.TooMany = ⊥
+IsPartCause n g search.HistoryFull = FillsPartOf n g
+IsPartCause n g search.OutOfMemory = Unit {0}
+
 -- in a scenario
 abbrev pub IsPartOf : NumberValue → (input : List ℕ) → (setup limit : ℕ) → (text : List ℕ) → (found : Bool)
     → Type 0
 IsPartOf n input setup limit text found =
     HoldsIn (λ names before g. IsPartOn n setup input limit text found names g) input setup
+
+-- and of a full history there is said that a schedule of the part fills it
+abbrev pub IsFullPart : NumberValue → (input : List ℕ) → (setup : ℕ) → LabFault → Type 0
+IsFullPart n input setup (HistoryFull needed) = InScenario input (IsStoppedAfter (FillsPartOf n) setup)
+IsFullPart n input setup fault = Unit {0}

@@ -1,5 +1,5 @@
 -- How the lines of parts are read, over the values that serde_json reads (own rule).
-use Rattle.std.specs.Prelude.{◌≡◌, ◌⊎◌, ℕ, ◌^◌, ◌<◌, List, codes, Option, Some, None, nat_le, nat_lt, ◌&&◌, Bool, if◌then◌else◌, option_and_then}
+use Rattle.std.specs.Prelude.{◌≡◌, ◌⊎◌, ℕ, ◌^◌, List, codes, Option, Some, None, nat_le, nat_lt, ◌&&◌, Bool, if◌then◌else◌, option_and_then}
 use Rattle.serde_json.specs.Data.{Data}
 use Rattle.serde_json.specs.Find.{get, as_number, as_u64, as_str, as_array}
 use Rattle.hp_scenario.specs.Form.{◌>>=◌, each_in, number_at}
@@ -35,15 +35,21 @@ IsNoEnd d =
     (number_at (codes "part") d ≡ None)
     × ((number_at (codes "interleavings") d ≡ None) ⊎ (schedule_in d ≡ None))
 
--- what a line is: a head with its number, or an end with its count and its schedule, or that a part
--- stopped at its limit
+-- it has the number of a part, and does not say how many ends that has
+abbrev pub IsNoHead : Data → Type 0
+IsNoHead d =
+    ((n : ℕ) × (number_at (codes "part") d ≡ Some n)) × (number_at (codes "ends") d ≡ None)
+
+-- what a line is: a head with its number and how many ends it names, or an end with its count and its
+-- schedule, or that a part stopped at its limit
 abbrev pub IsLineOf : Data → PartLine → Type 0
-IsLineOf d (Head number) = number_at (codes "part") d ≡ Some number
+IsLineOf d (Head number ends) =
+    (number_at (codes "part") d ≡ Some number) × (number_at (codes "ends") d ≡ Some ends)
 IsLineOf d (End count schedule) =
     (number_at (codes "part") d ≡ None) × (number_at (codes "interleavings") d ≡ Some count)
     × (schedule_in d ≡ Some schedule.items)
 IsLineOf d Stop = IsNoEnd d × IsRest d Stop
-IsLineOf d Other = IsNoEnd d × IsRest d Other
+IsLineOf d Other = IsNoHead d ⊎ (IsNoEnd d × IsRest d Other)
 
 -- what the bytes of a line are; what is no JSON is nothing
 abbrev pub IsLineIn : Option Data → PartLine → Type 0
@@ -59,17 +65,19 @@ IsLine text line = IsLineIn (json_of text) line
 -- what it says
 pub record HeadValue : Type 0 where
   pub number : ℕ
+  pub ends : ℕ
   pub search : SearchValue
 
 -- there is a part with the number
 abbrev pub is_number : (number of : ℕ) → Bool
 is_number number of = nat_le 1 number && (nat_le number of && nat_le of 1000000)
 
-abbrev pub head_with : (number of calls setup : ℕ) → (scenario : List ℕ) → Option HeadValue
-head_with number of calls setup scenario =
+abbrev pub head_with : (number of calls setup ends : ℕ) → (scenario : List ℕ) → Option HeadValue
+head_with number of calls setup ends scenario =
     if is_number number of
     then Some (record {
       number = number;
+      ends = ends;
       search = record { of = of; calls = calls; setup = setup; scenario = scenario };
     })
     else None
@@ -81,9 +89,10 @@ head_from d = do
   wide ← number_at (codes "calls") d
   calls ← narrow wide
   setup ← number_at (codes "setup") d
+  ends ← number_at (codes "ends") d
   scenario ← text_at (codes "scenario") d
-  head_with number of calls setup scenario
+  head_with number of calls setup ends scenario
 
 -- that of a text; what is no JSON is none
 abbrev pub IsHead : (text : List ℕ) → HeadValue → Type 0
-IsHead text h = (option_and_then head_from (json_of text) ≡ Some h) × (text ≡ head_line h.search h.number)
+IsHead text h = (option_and_then head_from (json_of text) ≡ Some h) × (text ≡ head_line h.search h.number h.ends)

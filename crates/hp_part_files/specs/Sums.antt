@@ -5,7 +5,7 @@ use Rattle.hp_explore.specs.Ends.{AreEnds, AreInOrder}
 use Rattle.hp_explore.specs.Schedules.{Setting}
 use Rattle.hp_lab.specs.Explorations.{AreEndsTold, HoldsIn}
 use Rattle.hp_lab.specs.declared.forms.EndsForm.{EndsForm}
-use Rattle.hp_parts.specs.Adding.{counted_by}
+use Rattle.hp_parts.specs.Adding.{AreAdded, counted_by}
 use Rattle.hp_parts.specs.Sums.{AreApart, AreParts}
 use Rattle.hp_scenario.specs.declared.lines.Line.{Line}
 use Rattle.hp_part_files.specs.Faults.{BeginsWith}
@@ -14,11 +14,12 @@ use Rattle.hp_part_files.specs.Reading.{HeadValue}
 use Rattle.hp_part_files.specs.Texts.{SearchValue}
 
 -- what adding ends up promises (hp_parts): where the lists are those of all parts of a search, the ends
--- are those of the whole, in the order of their first schedules; and whatever they are, no two ends
--- have the same outcome, and the counts add up
+-- are those of the whole, in the order of their first schedules; and whatever they are, the ends are
+-- the lists' added up and sorted, no two have the same outcome, and the counts add up
 pub record IsSum (lists : List (List Ending)) (ends : List Ending) : Type 0 where
   pub are : (g : Setting) (calls : ℕ) → 0 < length lists → AreParts g calls lists → AreEnds g ends
   pub ordered : (g : Setting) (calls : ℕ) → 0 < length lists → AreParts g calls lists → AreInOrder ends
+  pub adds : AreAdded lists ends
   pub apart : AreApart ends
   pub total : sum_by (λ e. e.count) ends ≡ counted_by lists
 

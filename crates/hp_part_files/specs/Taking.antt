@@ -4,6 +4,7 @@ use Rattle.hp_explore.specs.declared.tally.Ending.{Ending}
 use Rattle.hp_explore.specs.Schedules.{Setting}
 use Rattle.hp_text.specs.State.{newline}
 use Rattle.hp_part_files.specs.Gathered.{GatheringValue, IsGathering}
+use Rattle.hp_part_files.specs.Reading.{HeadValue}
 use Rattle.hp_part_files.specs.Texts.{SearchValue, end_line}
 
 -- a line was taken after the lines before it, and a newline
@@ -20,16 +21,16 @@ pub record IsPushed (names : List (List ℕ)) (g : Setting) (old : GatheringValu
       ≡ record {
         done = old.done;
         last = record { number = old.last.number; ends = old.last.ends ++ end ∷ [] };
+        named = old.named;
       }
 
 -- there is such a part
 abbrev pub IsNumber : SearchValue → (number : ℕ) → Type 0
 IsNumber s number = (1 ≤ number) × (number ≤ s.of)
 
--- so many bytes are the head of the part with a number
-abbrev pub HasRead : (names : List (List ℕ)) → Setting → SearchValue → (input : List ℕ) → (number start : ℕ)
-    → Type 0
-HasRead names g s input number start =
+-- so many bytes are the head of a part
+abbrev pub HasRead : (names : List (List ℕ)) → Setting → HeadValue → (input : List ℕ) → (start : ℕ) → Type 0
+HasRead names g h input start =
     (start ≤ length input)
-    × IsGathering names g s (take start input)
-    (record { done = []; last = record { number = number; ends = [] } })
+    × IsGathering names g h.search (take start input)
+    (record { done = []; last = record { number = h.number; ends = [] }; named = h.ends })

@@ -1,5 +1,5 @@
 -- How a part is written: JSON, an object a line (own rule).
-use Rattle.std.specs.Prelude.{ℕ, ◌+◌, true, List, [], ◌∷◌, ◌++◌, codes, Option, sum_by}
+use Rattle.std.specs.Prelude.{ℕ, ◌+◌, true, List, [], ◌∷◌, ◌++◌, codes, length, Option, sum_by}
 use Rattle.std.specs.Fmt.{decimal}
 use Rattle.hp_text.specs.State.{newline}
 use Rattle.hp_escapes.specs.Escapes.{escaped_text}
@@ -32,13 +32,19 @@ head_calls calls = codes ", \"calls\": " ++ decimal calls
 abbrev pub head_numbers : SearchValue → (number : ℕ) → List ℕ
 head_numbers s number = head_part number ++ head_of s.of ++ head_calls s.calls
 
-abbrev pub head_setup : SearchValue → List ℕ
-head_setup s = codes ", \"setup\": " ++ decimal s.setup ++ codes ", \"scenario\": \""
+abbrev pub head_setup : (setup : ℕ) → List ℕ
+head_setup setup = codes ", \"setup\": " ++ decimal setup
 
--- that of the part with a number, from 1 on
-abbrev pub head_line : SearchValue → (number : ℕ) → List ℕ
-head_line s number =
-    head_numbers s number ++ head_setup s ++ escaped_text Kept s.scenario ++ codes "\"}"
+abbrev pub head_ends : (ends : ℕ) → List ℕ
+head_ends ends = codes ", \"ends\": " ++ decimal ends
+
+abbrev pub head_counts : (setup ends : ℕ) → List ℕ
+head_counts setup ends = head_setup setup ++ head_ends ends ++ codes ", \"scenario\": \""
+
+-- that of the part with a number, from 1 on, and with so many ends
+abbrev pub head_line : SearchValue → (number ends : ℕ) → List ℕ
+head_line s number ends =
+    head_numbers s number ++ head_counts s.setup ends ++ escaped_text Kept s.scenario ++ codes "\"}"
 
 -- ---- an end
 
@@ -59,9 +65,14 @@ end_lines names g number (e ∷ ends) =
 
 -- ---- a part
 
--- its head and its ends
+-- its head, which names so many ends, and ends
+abbrev pub begun_lines : (names : List (List ℕ)) → Setting → SearchValue → (number named : ℕ) → List Ending
+    → List ℕ
+begun_lines names g s number named ends = head_line s number named ++ newline ++ end_lines names g 1 ends
+
+-- its head, and as many ends as that names
 abbrev pub part_lines : (names : List (List ℕ)) → Setting → SearchValue → (number : ℕ) → List Ending → List ℕ
-part_lines names g s number ends = head_line s number ++ newline ++ end_lines names g 1 ends
+part_lines names g s number ends = begun_lines names g s number (length ends) ends
 
 -- and how many interleavings were counted, where not all of them were
 abbrev pub part_text : (names : List (List ℕ)) → Setting → SearchValue → (number : ℕ) → List Ending

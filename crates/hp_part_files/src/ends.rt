@@ -1,12 +1,12 @@
 //! How one schedule ends.
-ghost use Rattle.std.specs.Prelude.{◌≡◌, ◌^◌, ◌<◌, ◌↔◌, [], IfErr, IfOk, IsTrue, length};
+ghost use Rattle.std.specs.Prelude.{◌≡◌, ◌^◌, ◌<◌, [], IfErr, IfOk, length};
 ghost use Rattle.hp_explore.specs.Faults.{IsCause};
 ghost use Rattle.hp_explore.specs.Schedules.{schedule_of};
-ghost use Rattle.hp_find.specs.Searches.{IsOver};
 ghost use Rattle.hp_lab.specs.Prepared.{setting_of};
 ghost use Rattle.hp_part_files.specs.Ends.{IsEndOf, IsFollowed};
 
 use hp_explore::{ExploreFault, Outcome, Part, Path};
+use hp_find::is_over;
 use hp_lab::Prepared;
 use hp_units::Cpu;
 use std::alloc::{AllocError, Global};
@@ -69,17 +69,4 @@ fn end_at(
     }
     let outcome = path.outcome(alloc, processors)?;
     Ok(Some(outcome))
-}
-
-/// Whether the scripts of all of so many processors are over. An error is out of memory.
-fn is_over(alloc: Global, path: &Path<'_>, processors: u32) -> Result<bool, AllocError>
-    requires { processors ≡ length path.now.setting.scripts }
-    ensures { IfOk result (λ over. IsTrue over ↔ IsOver path.now) }
-{
-    for cpu in 0..processors {
-        if path.next_call(alloc, cpu)?.is_some() {
-            return Ok(false);
-        }
-    }
-    Ok(true)
 }

@@ -22,6 +22,8 @@ pub enum PartFault {
     Changed { line: u64 },
     /// A part stopped at its limit, as the line says.
     Stopped { line: u64 },
+    /// A part has another number of ends than its head names: its file was cut off, or has lines too many.
+    OtherCount { part: u32 },
     /// A part is missing.
     Missing { part: u64 },
     /// A part comes twice.
@@ -49,6 +51,12 @@ impl fmt::Display for PartFault {
                 write!(f, "line {line} is not what its interleaving leads to")
             }
             PartFault::Stopped { line } => write!(f, "line {line}: the part stopped at its limit"),
+            PartFault::OtherCount { part } => {
+                write!(
+                    f,
+                    "part {part} has another number of ends than its first line says"
+                )
+            }
             PartFault::Missing { part } => write!(f, "part {part} is missing"),
             PartFault::Twice { part } => write!(f, "part {part} comes twice"),
             PartFault::TooMany => write!(f, "more than 2^64-1 interleavings"),

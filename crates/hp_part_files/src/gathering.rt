@@ -1,5 +1,5 @@
 //! The parts that are read.
-ghost use Rattle.std.specs.Prelude.{◌≡◌, ◌++◌, ◌∷◌, [], IfOk, OnOk, length, ◌^◌, ◌<◌};
+ghost use Rattle.std.specs.Prelude.{◌≡◌, ◌++◌, ◌∷◌, ◌^◌, ◌<◌, ◌↔◌, [], IfOk, IsTrue, OnOk, length};
 
 use hp_explore::Ending;
 use std::alloc::{AllocError, Global};
@@ -38,11 +38,13 @@ impl PartEnds {
     }
 }
 
-/// Parts that are read one after another; of the last, lines may be still to come.
+/// Parts that are read one after another; of the last, whose head names how many ends it has, lines may
+/// be still to come.
 #[derive(Drop)]
 pub(crate) struct Gathering {
     done: Vec<PartEnds>,
     number: u32,
+    named: u64,
     ends: Vec<Ending>,
 }
 
@@ -51,17 +53,26 @@ impl Model for Gathering {
 
     ghost Value = { GatheringValue };
 
-    ghost view = { λ g. record { done = g.done.items; last = record { number = g.number; ends = g.ends.items } } };
+    ghost view = { λ g. record {
+      done = g.done.items;
+      last = record { number = g.number; ends = g.ends.items };
+      named = g.named;
+    } };
 }
 
 impl Gathering {
-    /// The part with a number, without any end so far.
-    pub(crate) fn new(alloc: Global, number: u32) -> Gathering
-        ensures { result ≡ record { done = []; last = record { number = number; ends = [] } } }
+    /// The part with a number, whose head names so many ends, without any end so far.
+    pub(crate) fn new(alloc: Global, number: u32, named: u64) -> Gathering
+        ensures { result ≡ record {
+          done = [];
+          last = record { number = number; ends = [] };
+          named = named;
+        } }
     {
         Gathering {
             done: Vec::new(alloc),
             number,
+            named,
             ends: Vec::new(alloc),
         }
     }
@@ -81,16 +92,26 @@ impl Gathering {
         self.ends.len()
     }
 
-    /// Begins the part with a number. An error is out of memory; then nothing changes.
-    pub(crate) fn begin(&mut self, alloc: Global, number: u32) -> Result<(), AllocError>
+    /// Whether the last part has as many ends as its head names.
+    pub(crate) fn is_whole(&self) -> bool
+        ensures { IsTrue result ↔ (self.now.named ≡ length self.now.last.ends) }
+    {
+        self.named == self.ends.len() as u64
+    }
+
+    /// Begins the part with a number, whose head names so many ends. An error is out of memory; then
+    /// nothing changes.
+    pub(crate) fn begin(&mut self, alloc: Global, number: u32, named: u64) -> Result<(), AllocError>
         ensures ok { OnOk result (self.new ≡ record {
           done = self.old.done ++ self.old.last ∷ [];
           last = record { number = number; ends = [] };
+          named = named;
         }) }
     {
         self.done.reserve(1)?;
         let ends = replace(&mut self.ends, Vec::new(alloc));
         let number = replace(&mut self.number, number);
+        self.named = named;
         self.done.push_reserved(PartEnds { number, ends });
         Ok(())
     }
@@ -100,6 +121,7 @@ impl Gathering {
         ensures ok { OnOk result (self.new ≡ record {
           done = self.old.done;
           last = record { number = self.old.last.number; ends = self.old.last.ends ++ end ∷ [] };
+          named = self.old.named;
         }) }
     {
         self.ends.reserve(1)?;
@@ -114,6 +136,7 @@ impl Gathering {
         let Gathering {
             mut done,
             number,
+            named: _,
             ends,
         } = self;
         done.reserve(1)?;

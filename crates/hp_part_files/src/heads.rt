@@ -3,7 +3,7 @@ ghost use Rattle.std.specs.Prelude.{◌≡◌, ◌++◌, ◌↔◌, IfOk, IfSome
 ghost use Rattle.serde_json.specs.View.{view};
 ghost use Rattle.hp_part_files.specs.Reading.{head_from as head, head_with as with_numbers};
 ghost use Rattle.hp_part_files.specs.Taking.{IsNumber};
-ghost use Rattle.hp_part_files.specs.Texts.{head_calls, head_line, head_numbers, head_of, head_part, head_setup};
+ghost use Rattle.hp_part_files.specs.Texts.{head_calls, head_counts, head_ends, head_line, head_numbers, head_of, head_part, head_setup};
 
 use crate::numbers::PartNumber;
 use crate::reading::{narrow, number_at, text_at};
@@ -39,6 +39,8 @@ impl<'a> Model for Search<'a> {
 pub(crate) struct Head<'a> {
     /// The part's number, from 1 on.
     pub(crate) number: u32,
+    /// How many ends the part has.
+    pub(crate) ends: u64,
     /// What it is a part of.
     pub(crate) search: Search<'a>,
 }
@@ -48,7 +50,7 @@ impl<'a> Model for Head<'a> {
 
     ghost Value = { HeadValue };
 
-    ghost view = { λ h. record { number = h.number; search = h.search } };
+    ghost view = { λ h. record { number = h.number; ends = h.ends; search = h.search } };
 }
 
 /// The head that a value is.
@@ -62,8 +64,9 @@ pub(crate) fn head_from<'a>(value: &'a Value) -> Option<Head<'a>>
     let wide = number_at(value, "calls")?;
     let calls = narrow(wide)?;
     let setup = number_at(value, "setup")?;
+    let ends = number_at(value, "ends")?;
     let scenario = text_at(value, "scenario")?;
-    head_with(number, of, calls, setup, scenario)
+    head_with(number, of, calls, setup, ends, scenario)
 }
 
 /// The head with these numbers and this scenario; none where there is no such part.
@@ -72,14 +75,16 @@ fn head_with<'a>(
     of: u64,
     calls: u32,
     setup: u64,
+    ends: u64,
     scenario: &'a str,
 ) -> Option<Head<'a>>
-    ensures is { option_map (λ h. h) result ≡ with_numbers number of calls setup scenario.now }
+    ensures is { option_map (λ h. h) result ≡ with_numbers number of calls setup ends scenario.now }
     ensures number { IfSome result (λ h. IsNumber h.search h.number) }
 {
     let number = PartNumber::new(number, of)?;
     Some(Head {
         number: number.number(),
+        ends,
         search: Search {
             of: number.of(),
             calls,
@@ -89,31 +94,37 @@ fn head_with<'a>(
     })
 }
 
-/// Writes the head of the part with a number, from 1 on. An error is out of memory.
+/// Writes the head of the part with a number, from 1 on, and with so many ends. An error is out of
+/// memory.
 pub(crate) fn write_head(
     out: &mut String,
     search: &Search<'_>,
     number: u32,
+    ends: u64,
 ) -> Result<(), AllocError>
-    ensures { OnOk result (string_bytes out.new ≡ string_bytes out.old ++ head_line search.now number) }
+    ensures { OnOk result
+        (string_bytes out.new ≡ string_bytes out.old ++ head_line search.now number ends) }
 {
     write_numbers(out, search, number)?;
-    write_setup(out, search)?;
+    write_counts(out, search.setup, ends)?;
     write_escaped(out, search.scenario, Brackets::Kept)?;
-    out.push_str("\"}")
+    out.push_str("\"}")?;
+    Ok(())
 }
 
-/// Whether a text is the head of the part with a number. An error is out of memory.
+/// Whether a text is the head of the part with a number and with so many ends. An error is out of
+/// memory.
 pub(crate) fn is_head(
     alloc: Global,
     search: &Search<'_>,
     number: u32,
+    ends: u64,
     text: &[u8],
 ) -> Result<bool, AllocError>
-    ensures { IfOk result (λ is. IsTrue is ↔ (text.now ≡ head_line search.now number)) }
+    ensures { IfOk result (λ is. IsTrue is ↔ (text.now ≡ head_line search.now number ends)) }
 {
     let mut written = String::new(alloc);
-    write_head(&mut written, search, number)?;
+    write_head(&mut written, search, number, ends)?;
     Ok(text == written.as_bytes())
 }
 
@@ -147,10 +158,26 @@ fn write_calls(out: &mut String, calls: u32) -> Result<(), AllocError>
     write!(out, ", \"calls\": {calls}")
 }
 
-/// Writes how many lines of the scenario are its setup, and the key of the scenario.
-fn write_setup(out: &mut String, search: &Search<'_>) -> Result<(), AllocError>
-    ensures { OnOk result (string_bytes out.new ≡ string_bytes out.old ++ head_setup search.now) }
+/// Writes how many lines of the scenario are its setup, how many ends the part has, and the key of the
+/// scenario.
+fn write_counts(out: &mut String, setup: u64, ends: u64) -> Result<(), AllocError>
+    ensures { OnOk result (string_bytes out.new ≡ string_bytes out.old ++ head_counts setup ends) }
 {
-    let setup = search.setup;
-    write!(out, ", \"setup\": {setup}, \"scenario\": \"")
+    write_setup(out, setup)?;
+    write_ends(out, ends)?;
+    out.push_str(", \"scenario\": \"")
+}
+
+/// Writes how many lines of the scenario are its setup.
+fn write_setup(out: &mut String, setup: u64) -> Result<(), AllocError>
+    ensures { OnOk result (string_bytes out.new ≡ string_bytes out.old ++ head_setup setup) }
+{
+    write!(out, ", \"setup\": {setup}")
+}
+
+/// Writes how many ends the part has.
+fn write_ends(out: &mut String, ends: u64) -> Result<(), AllocError>
+    ensures { OnOk result (string_bytes out.new ≡ string_bytes out.old ++ head_ends ends) }
+{
+    write!(out, ", \"ends\": {ends}")
 }

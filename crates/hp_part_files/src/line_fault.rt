@@ -19,6 +19,8 @@ pub(crate) enum LineFault {
     Changed,
     /// The part stopped at its limit.
     Stopped,
+    /// It begins a part, and the part before it has another number of ends than its head names.
+    OtherCount { part: u32 },
     /// Its interleaving is not played.
     Lab(LabFault),
 }
@@ -34,6 +36,7 @@ impl LineFault {
             LineFault::NotOfPart => PartFault::NotOfPart { line },
             LineFault::Changed => PartFault::Changed { line },
             LineFault::Stopped => PartFault::Stopped { line },
+            LineFault::OtherCount { part } => PartFault::OtherCount { part },
             LineFault::Lab(fault) => PartFault::Lab(fault),
         }
     }

@@ -1,9 +1,9 @@
 //! A search of one part.
 ghost use Rattle.std.specs.Prelude.{◌≡◌, ◌^◌, ◌<◌, IfErr, IfOk, length, string_bytes};
 ghost use Rattle.hp_explore.specs.Faults.{IsCause};
-ghost use Rattle.hp_lab.specs.Explorations.{IsEndsCause, IsFaultOf};
+ghost use Rattle.hp_lab.specs.Explorations.{IsFaultOf};
 ghost use Rattle.hp_lab.specs.Prepared.{names_of, setting_of};
-ghost use Rattle.hp_part_files.specs.Parts.{IsPartOf, IsPartOn, IsToldPart};
+ghost use Rattle.hp_part_files.specs.Parts.{IsFullPart, IsPartCause, IsPartOf, IsPartOn, IsToldPart};
 
 use crate::heads::Search;
 use crate::numbers::PartNumber;
@@ -24,7 +24,8 @@ use std::alloc::Global;
 ///
 /// The watch is told while the search runs how many interleavings are counted so far.
 ///
-/// Errors: those of `explore_text`.
+/// Errors: those of `explore_text`; HistoryFull where the history has no room for a call to which this
+/// part's search comes.
 pub fn part_text<W: Watch>(
     alloc: Global,
     input: &[u8],
@@ -36,6 +37,7 @@ pub fn part_text<W: Watch>(
     ensures ok { IfOk result
         (λ f. IsPartOf number input.now setup limit (string_bytes f.text) f.is_found) }
     ensures err { IfErr result (IsFaultOf input.now setup limit) }
+    ensures full { IfErr result (IsFullPart number input.now setup) }
 {
     let Ok(scenario) = from_utf8(input) else {
         return Err(LabFault::NotJson);
@@ -59,7 +61,7 @@ fn part_on<W: Watch>(
     requires { length prepared.now.start.scripts.items < 2 ^ 32 }
     ensures ok { IfOk result (λ f. IsPartOn number prepared.now.setup scenario.now limit
         (string_bytes f.text) f.is_found (names_of prepared.now) (setting_of prepared.now)) }
-    ensures err { IfErr result (IsEndsCause (setting_of prepared.now)) }
+    ensures err { IfErr result (IsPartCause number (setting_of prepared.now)) }
 {
     let machine = &prepared.start.machine;
     let scripts = prepared.start.scripts.as_slice();
@@ -71,7 +73,10 @@ fn part_on<W: Watch>(
         setup: prepared.setup,
         scenario,
     };
-    let finding = told(alloc, prepared, &search, number.number(), &explored)?;
+    // The search has made the calls of each first interleaving, so that only memory can be lacking.
+    let Ok(finding) = told(alloc, prepared, &search, number.number(), &explored) else {
+        return Err(FindFault::OutOfMemory);
+    };
     Ok(finding)
 }
 

@@ -1,5 +1,5 @@
 //! How the lines of parts are read.
-ghost use Rattle.std.specs.Prelude.{◌≡◌, codes, IfOk, option_map};
+ghost use Rattle.std.specs.Prelude.{◌≡◌, Some, codes, IfOk, option_map};
 ghost use Rattle.serde_json.specs.View.{items_view, view};
 ghost use Rattle.hp_scenario.specs.Scenario.{json_of};
 ghost use Rattle.hp_scenario.specs.Form.{each_in, number_at as number};
@@ -12,8 +12,8 @@ use std::alloc::{AllocError, Global};
 /// What a line of a part is.
 #[derive(Drop)]
 pub(crate) enum PartLine {
-    /// The head of the part with this number.
-    Head { number: u64 },
+    /// The head of the part with this number, and how many ends it names.
+    Head { number: u64, ends: u64 },
     /// An end: how many interleavings lead to it, and the first of them.
     End { count: u64, schedule: Vec<Cpu> },
     /// That the part stopped at its limit.
@@ -56,7 +56,7 @@ pub(crate) fn line_of(alloc: Global, value: &Value) -> Result<PartLine, AllocErr
     ensures { IfOk result (IsLineOf (view value.now)) }
 {
     if let Some(number) = number_at(value, "part") {
-        return Ok(PartLine::Head { number });
+        return Ok(head_of(value, number));
     }
     let schedule = schedule_in(alloc, value)?;
     match number_at(value, "interleavings") {
@@ -65,6 +65,17 @@ pub(crate) fn line_of(alloc: Global, value: &Value) -> Result<PartLine, AllocErr
             None => Ok(rest_of(value)),
         },
         None => Ok(rest_of(value)),
+    }
+}
+
+/// What the line is of a value that has the number of a part.
+fn head_of(value: &Value, part: u64) -> PartLine
+    requires { number (codes "part") (view value.now) ≡ Some part }
+    ensures { IsLineOf (view value.now) result }
+{
+    match number_at(value, "ends") {
+        Some(ends) => PartLine::Head { number: part, ends },
+        None => PartLine::Other,
     }
 }
 

@@ -11,7 +11,7 @@ ghost use Rattle.hp_part_files.specs.Texts.{head_line};
 
 use crate::cuts::line_at;
 use crate::fault::PartFault;
-use crate::heads::{Search, head_from, is_head};
+use crate::heads::{Head, head_from, is_head};
 use crate::ordering::ends_by_number;
 use crate::reading::json_in;
 use crate::taking::gather;
@@ -29,9 +29,10 @@ use std::alloc::Global;
 /// that reading takes what `part_text` writes is tested, and not proved.
 ///
 /// Errors: that of the first line that is none of a part, is changed, begins a part of another search,
-/// or says that a part stopped at its limit; Twice or Missing with a part's number, counted from 1;
-/// TooMany where there are 2^64 interleavings or more; those of the scenario, as `explore_text` has
-/// them; OutOfMemory, which may come in place of any answer.
+/// or says that a part stopped at its limit; OtherCount with the number of a part, counted from 1, that
+/// has fewer ends than its head names, or more; Twice or Missing with a part's number; TooMany where
+/// there are 2^64 interleavings or more; those of the scenario, as `explore_text` has them; OutOfMemory,
+/// which may come in place of any answer.
 pub fn sum_text(alloc: Global, input: &[u8], form: EndsForm) -> Result<Finding, PartFault>
     ensures ok { IfOk result (λ f. IsSumOf form input.now (string_bytes f.text) f.is_found) }
     ensures err { IfErr result (IsSumFault input.now) }
@@ -45,52 +46,52 @@ pub fn sum_text(alloc: Global, input: &[u8], form: EndsForm) -> Result<Finding, 
     let Some(head) = head_from(&value) else {
         return Err(PartFault::NotPart { line: 1 });
     };
-    if !is_head(alloc, &head.search, head.number, text)? {
+    if !is_head(alloc, &head.search, head.number, head.ends, text)? {
         return Err(PartFault::NotPart { line: 1 });
     }
     let start = text.len() + 1;
-    sum_after(alloc, input, &head.search, head.number, start, form)
+    sum_after(alloc, input, &head, start, form)
 }
 
-/// The sum of the parts of a search, where so many bytes are the head of the part with a number.
+/// The sum of the parts of a search, where so many bytes are the head of the first.
 fn sum_after(
     alloc: Global,
     input: &[u8],
-    search: &Search<'_>,
-    number: u32,
+    head: &Head<'_>,
     start: usize,
     form: EndsForm,
 ) -> Result<Finding, PartFault>
-    requires line { IsLineAt input.now 0 (head_line search.now number) }
-    requires start { start ≡ length (head_line search.now number) + 1 }
-    requires number { IsNumber search.now number }
-    ensures ok { IfOk result (λ f. HoldsIn (IsSumOn form input.now search.now (string_bytes f.text)
-        f.is_found) search.now.scenario search.now.setup) }
-    ensures err { IfErr result (IsUnsummedIn input.now search.now) }
+    requires line { IsLineAt input.now 0 (head_line head.now.search head.now.number head.now.ends) }
+    requires start { start ≡ length (head_line head.now.search head.now.number head.now.ends) + 1 }
+    requires number { IsNumber head.now.search head.now.number }
+    ensures ok { IfOk result (λ f. HoldsIn (IsSumOn form input.now head.now.search (string_bytes f.text)
+        f.is_found) head.now.search.scenario head.now.search.setup) }
+    ensures err { IfErr result (IsUnsummedIn input.now head.now.search) }
 {
+    let search = &head.search;
     let prepared = prepare(alloc, search.scenario.as_bytes(), search.setup)?;
-    sum_on(alloc, input, &prepared, search, number, start, form)
+    sum_on(alloc, input, &prepared, head, start, form)
 }
 
 /// The sum of parts of a search of a scenario that was made ready, where so many bytes are the head of
-/// the part with a number.
+/// the first.
 fn sum_on(
     alloc: Global,
     input: &[u8],
     prepared: &Prepared,
-    search: &Search<'_>,
-    number: u32,
+    head: &Head<'_>,
     start: usize,
     form: EndsForm,
 ) -> Result<Finding, PartFault>
     requires few { length prepared.now.start.scripts.items < 2 ^ 32 }
-    requires read { HasRead (names_of prepared.now) (setting_of prepared.now) search.now input.now number start }
-    ensures ok { IfOk result (λ f. IsSumOn form input.now search.now (string_bytes f.text) f.is_found
+    requires read { HasRead (names_of prepared.now) (setting_of prepared.now) head.now input.now start }
+    ensures ok { IfOk result (λ f. IsSumOn form input.now head.now.search (string_bytes f.text) f.is_found
         (names_of prepared.now) (before_of prepared.now) (setting_of prepared.now)) }
     ensures err { IfErr result
-        (IsUntoldSum input.now (names_of prepared.now) (setting_of prepared.now) search.now) }
+        (IsUntoldSum input.now (names_of prepared.now) (setting_of prepared.now) head.now.search) }
 {
-    let parts = gather(alloc, input, prepared, search, number, start)?;
+    let parts = gather(alloc, input, prepared, head, start)?;
+    let search = &head.search;
     let lists = ends_by_number(alloc, parts, search.of)?;
     let ends = summed(alloc, &lists)?;
     told(alloc, prepared, &ends, form)

@@ -13,7 +13,7 @@ use crate::cuts::{line_at, line_number};
 use crate::ends::end_of;
 use crate::fault::PartFault;
 use crate::gathering::{Gathering, PartEnds};
-use crate::heads::{Search, is_head};
+use crate::heads::{Head, Search, is_head};
 use crate::line_fault::LineFault;
 use crate::lines::write_end;
 use crate::numbers::PartNumber;
@@ -24,23 +24,22 @@ use hp_lab::Prepared;
 use hp_units::Cpu;
 use std::alloc::Global;
 
-/// The parts whose text the input is, where so many bytes are the head of the part with a number.
+/// The parts whose text the input is, where so many bytes are the head of the first.
 pub(crate) fn gather(
     alloc: Global,
     input: &[u8],
     prepared: &Prepared,
-    search: &Search<'_>,
-    number: u32,
+    head: &Head<'_>,
     start: usize,
 ) -> Result<Vec<PartEnds>, PartFault>
     requires few { length prepared.now.start.scripts.items < 2 ^ 32 }
-    requires read { HasRead (names_of prepared.now) (setting_of prepared.now) search.now input.now number start }
+    requires read { HasRead (names_of prepared.now) (setting_of prepared.now) head.now input.now start }
     ensures ok { IfOk result (λ parts.
-        IsGathered (names_of prepared.now) (setting_of prepared.now) search.now input.now parts.items) }
+        IsGathered (names_of prepared.now) (setting_of prepared.now) head.now.search input.now parts.items) }
     ensures err { IfErr result
-        (IsUntoldSum input.now (names_of prepared.now) (setting_of prepared.now) search.now) }
+        (IsUntoldSum input.now (names_of prepared.now) (setting_of prepared.now) head.now.search) }
 {
-    let mut gathered = Gathering::new(alloc, number);
+    let mut gathered = Gathering::new(alloc, head.number, head.ends);
     let mut place = start;
     while place < input.len() {
         let Some(text) = line_at(input, place) else {
@@ -48,10 +47,15 @@ pub(crate) fn gather(
                 line: line_number(input, place),
             });
         };
-        match take_line(alloc, prepared, search, &mut gathered, text) {
+        match take_line(alloc, prepared, &head.search, &mut gathered, text) {
             Ok(()) => place += text.len() + 1,
             Err(fault) => return Err(fault.of_line(line_number(input, place))),
         }
+    }
+    if !gathered.is_whole() {
+        return Err(PartFault::OtherCount {
+            part: gathered.number(),
+        });
     }
     let parts = gathered.into_parts()?;
     Ok(parts)
@@ -74,7 +78,9 @@ fn take_line(
 {
     let line = line_in(alloc, text)?;
     match line {
-        PartLine::Head { number } => take_head(alloc, prepared, search, gathered, text, number),
+        PartLine::Head { number, ends } => {
+            take_head(alloc, prepared, search, gathered, text, number, ends)
+        }
         PartLine::End { count, schedule } => {
             take_end(alloc, prepared, search, gathered, text, count, schedule)
         }
@@ -83,7 +89,7 @@ fn take_line(
     }
 }
 
-/// Takes the head of the part with a number.
+/// Takes the head of the part with a number, which names so many ends.
 fn take_head(
     alloc: Global,
     prepared: &Prepared,
@@ -91,8 +97,9 @@ fn take_head(
     gathered: &mut Gathering,
     text: &[u8],
     number: u64,
+    ends: u64,
 ) -> Result<(), LineFault>
-    requires { IsLine text.now (line.Head number) }
+    requires { IsLine text.now (line.Head number ends) }
     ensures ok { OnOk result (IsTaken (names_of prepared.now) (setting_of prepared.now) search.now
         gathered.old text.now gathered.new) }
     ensures err { IfErr result (IsLineFault (names_of prepared.now) (setting_of prepared.now) search.now
@@ -102,10 +109,15 @@ fn take_head(
     let Some(part) = PartNumber::new(number, u64::from(search.of)) else {
         return Err(LineFault::NotPart);
     };
-    if !is_head(alloc, search, part.number(), text)? {
+    if !is_head(alloc, search, part.number(), ends, text)? {
         return Err(LineFault::OtherSearch);
     }
-    gathered.begin(alloc, part.number())?;
+    if !gathered.is_whole() {
+        return Err(LineFault::OtherCount {
+            part: gathered.number(),
+        });
+    }
+    gathered.begin(alloc, part.number(), ends)?;
     Ok(())
 }
 

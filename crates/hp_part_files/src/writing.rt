@@ -25,16 +25,21 @@ pub(crate) fn write_part(
         ++ part_lines (names_of prepared.now) (setting_of prepared.now) search.now number ends.now) }
     ensures err { IfErr result (IsCause (setting_of prepared.now)) }
 {
-    write_head_line(out, search, number)?;
+    write_head_line(out, search, number, ends.len() as u64)?;
     write_ends(out, alloc, prepared, ends)
 }
 
 /// Writes the head of a part and a newline. An error is out of memory.
-fn write_head_line(out: &mut String, search: &Search<'_>, number: u32) -> Result<(), AllocError>
+fn write_head_line(
+    out: &mut String,
+    search: &Search<'_>,
+    number: u32,
+    ends: u64,
+) -> Result<(), AllocError>
     ensures { OnOk result
-        (string_bytes out.new ≡ string_bytes out.old ++ (head_line search.now number ++ newline)) }
+        (string_bytes out.new ≡ string_bytes out.old ++ (head_line search.now number ends ++ newline)) }
 {
-    write_head(out, search, number)?;
+    write_head(out, search, number, ends)?;
     out.push('\n')
 }
 

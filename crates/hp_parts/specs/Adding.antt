@@ -54,3 +54,7 @@ counted_by lists = sum_by (λ ends. sum_by (λ e. e.count) ends) lists
 pub record AreSorted (old new : List Ending) : Type 0 where
   pub moved : IsPermutation old new
   pub sorted : IsSortedBy (λ e f. is_lt (slice_cmp nat_cmp e.first.items f.first.items)) new
+
+-- ends are those of lists, added up one after another and sorted
+abbrev pub AreAdded : List (List Ending) → List Ending → Type 0
+AreAdded lists ends = (added : List Ending) × AddsLists [] lists added × AreSorted added ends

@@ -2,7 +2,7 @@
 ghost use Rattle.std.specs.Prelude.{◌≡◌, ◌↔◌, ℕ, ◌<◌, ◌≤◌, ◌^◌, Err, IfOk, length, map, sum_by};
 ghost use Rattle.hp_explore.specs.Ends.{AreEnds, AreInOrder};
 ghost use Rattle.hp_explore.specs.Schedules.{Setting};
-ghost use Rattle.hp_parts.specs.Adding.{counted_by};
+ghost use Rattle.hp_parts.specs.Adding.{AreAdded, counted_by};
 ghost use Rattle.hp_parts.specs.Sums.{AreApart, AreParts};
 ghost use Rattle.hp_parts.specs.declared.summing.SumFault.TheVariants.{TooMany};
 
@@ -46,6 +46,7 @@ pub fn sum(alloc: Global, parts: &[Vec<Ending>]) -> Result<Vec<Ending>, SumFault
     ensures ordered { IfOk result (λ ends. (g : Setting) (calls : ℕ) → 0 < length parts.now
         → AreParts g calls (map (λ part. part.items) parts.now) → AreInOrder ends.items) }
     // Whatever they are.
+    ensures adds { IfOk result (λ ends. AreAdded (map (λ part. part.items) parts.now) ends.items) }
     ensures total { IfOk result
         (λ ends. sum_by (λ e. e.count) ends.items ≡ counted_by (map (λ part. part.items) parts.now)) }
     ensures apart { IfOk result (λ ends. AreApart ends.items) }

@@ -1,4 +1,4 @@
-use Rattle.std.proofs.Common.{sym, ◌∙◌}
+use Rattle.std.proofs.Common.{◌∙◌}
 use Rattle.hp_part_files.proofs.Ordered.{comes_twice, is_missing}
 use Rattle.hp_part_files.proofs.ordering.check_number.Goals as goal
 

@@ -16,7 +16,7 @@ returns-clause-ok g c =
     let calls = c.calls_for-calls.result in
     let x = c.in_ok-explored.explored in
     let seen = c.as_slice-scripts.result.now in
-    let told = c.in_ok-finding.ensures.ok in
+    let told = c.in-Ok.ensures.ok in
     record {
       calls = calls;
       ends = x.ends.items;

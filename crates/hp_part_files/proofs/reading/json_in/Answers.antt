@@ -1,4 +1,4 @@
-use Rattle.std.proofs.Common.{◌≡◌, true, false, sym}
+use Rattle.std.proofs.Common.{◌≡◌, true, false}
 use Rattle.hp_scenario.proofs.Json.{json_read, json_refused}
 use Rattle.hp_scenario.specs.declared.fault.ScenarioFault.TheVariants.{NotJson}
 use Rattle.hp_part_files.proofs.Texts.{none_of, some_of}

@@ -2,6 +2,7 @@ use Rattle.std.proofs.Common.{ℕ, List, ap, arith, subst, string_bytes, ◌∙�
 use Rattle.std.proofs.lemmas.Result.{IfErr-weaker, IfOk-weaker}
 use Rattle.hp_lab.specs.Prepared.{IsPrepared, names_of, setting_of}
 use Rattle.hp_lab.proofs.Known.{held_in}
+use Rattle.hp_part_files.specs.Reading.{HeadValue}
 use Rattle.hp_part_files.specs.Sums.{IsSumOn}
 use Rattle.hp_part_files.specs.Texts.{SearchValue, head_line}
 use Rattle.hp_part_files.proofs.Read.{head_read, line_within, unsummed_in}
@@ -10,19 +11,25 @@ use Rattle.hp_part_files.proofs.summing.sum_after.Goals as goal
 pub sum_on-requires-clause-read : goal.sum_on-requires-clause-read
 sum_on-requires-clause-read c =
     let p = c.in_ok-prepared.prepared in
-    let s = c.args.search.now in
-    head_read (names_of p) (setting_of p) s c.args.input.now c.args.number c.args.start c.requires.line
-    c.requires.number c.requires.start
-    (omega (arith, c.requires.start, line_within c.args.input.now (head_line s c.args.number) c.requires.line))
+    let h = c.args.head.now in
+    head_read (names_of p) (setting_of p) h c.args.input.now c.args.start c.requires.line c.requires.number
+    c.requires.start
+    (omega (
+      arith,
+      c.requires.start,
+      line_within c.args.input.now (head_line h.search h.number h.ends)
+          c.requires.line,
+    ))
 
 pub returns-clause-ok : goal.returns-clause-ok
 returns-clause-ok c =
     let p = c.in_ok-prepared.prepared in
-    let s = c.args.search.now in
+    let s = c.args.head.now.search in
+    let same = c.search.view_is ∙ ap (λ (h : HeadValue). h.search) c.head.view_is in
     let ready =
-    subst (λ (n : ℕ). IsPrepared s.scenario n p) (ap (λ (v : SearchValue). v.setup) c.search.view_is)
+    subst (λ (n : ℕ). IsPrepared s.scenario n p) (ap (λ (v : SearchValue). v.setup) same)
     (subst (λ (t : List ℕ). IsPrepared t c.search.inside.setup p)
-    (c.as_bytes.ensures.value ∙ ap (λ (v : SearchValue). v.scenario) c.search.view_is)
+    (c.as_bytes.ensures.value ∙ ap (λ (v : SearchValue). v.scenario) same)
     c.in_ok-prepared.ensures.ok) in
     IfOk-weaker c.sum_on.result _ _
     (λ f h. held_in (IsSumOn c.args.form c.args.input.now s (string_bytes f.text) f.is_found) s.scenario s.setup p
@@ -31,11 +38,12 @@ returns-clause-ok c =
 pub returns-clause-err : goal.returns-clause-err
 returns-clause-err c =
     let p = c.in_ok-prepared.prepared in
-    let s = c.args.search.now in
+    let s = c.args.head.now.search in
+    let same = c.search.view_is ∙ ap (λ (h : HeadValue). h.search) c.head.view_is in
     let ready =
-    subst (λ (n : ℕ). IsPrepared s.scenario n p) (ap (λ (v : SearchValue). v.setup) c.search.view_is)
+    subst (λ (n : ℕ). IsPrepared s.scenario n p) (ap (λ (v : SearchValue). v.setup) same)
     (subst (λ (t : List ℕ). IsPrepared t c.search.inside.setup p)
-    (c.as_bytes.ensures.value ∙ ap (λ (v : SearchValue). v.scenario) c.search.view_is)
+    (c.as_bytes.ensures.value ∙ ap (λ (v : SearchValue). v.scenario) same)
     c.in_ok-prepared.ensures.ok) in
     IfErr-weaker c.sum_on.result _ _
     (λ fault h. unsummed_in c.args.input.now s p fault ready h) c.sum_on.ensures.err

@@ -6,5 +6,6 @@ returns-in-Ok-clause-ok c = record {
   are = λ g calls some parts. c.in-Ok.ensures.ends g calls (some_lists c.args.lists.now some) parts;
   ordered = λ g calls some parts. c.in-Ok.ensures.ordered g calls (some_lists c.args.lists.now some) parts;
   apart = c.in-Ok.ensures.apart;
+  adds = c.in-Ok.ensures.adds;
   total = c.in-Ok.ensures.total;
 }

@@ -1,4 +1,4 @@
-use Rattle.std.proofs.Common.{◌≡◌, ℕ, ◌≤◌, false, true, ap, sym, ◌∙◌, arith, inr, refl}
+use Rattle.std.proofs.Common.{◌≡◌, ℕ, false, true, ap, sym, ◌∙◌, arith, inr, refl}
 use Rattle.hp_lab.specs.Prepared.{names_of, setting_of}
 use Rattle.hp_part_files.specs.Numbers.{NumberValue}
 use Rattle.hp_part_files.specs.Texts.{SearchValue, head_line}
@@ -11,11 +11,25 @@ returns-in_default-clause-err c =
     c.from.ensures ∙ ap (λ (s : SearchValue). s.of) c.search.view_is in
     inr (
       c.args.number,
+      c.args.ends,
       c.requires,
       λ h.
           let bad : false ≡ true = c.in_default.ensures.some.1 (h.0, omega (arith, h.1, of), omega (arith, h.2, of)) in
           absurd cc,
     )
+
+pub returns-then-not-is_whole-clause-err : goal.returns-then-not-is_whole-clause-err
+returns-then-not-is_whole-clause-err c = (
+  (
+    c.number-then-not-is_whole.ensures,
+    λ whole.
+        let bad : false ≡ true = sym c.if-not-is_whole.true ∙ c.is_whole.ensures.1 whole in
+        absurd cc,
+  ),
+  c.number.result,
+  c.args.ends,
+  c.in_ok-is_head.ensures.0 c.if-not-branch.false,
+)
 
 pub returns-clause-ok : goal.returns-clause-ok
 returns-clause-ok c =
@@ -25,7 +39,8 @@ returns-clause-ok c =
     let number : c.number-2.result ≡ c.args.number =
     c.number-2.ensures ∙ ap (λ (n : NumberValue). n.number) c.in-Some.ensures.is in
     head_taken (names_of c.args.prepared.now) (setting_of c.args.prepared.now) s c.args.gathered.now
-    c.begin.new.self c.number-2.result c.args.text.now
+    c.begin.new.self c.number-2.result c.args.ends c.args.text.now
     (c.in_ok-is_head.ensures.0 c.if-not-branch.false
-    ∙ ap (λ (n : ℕ). head_line s n) (c.number.ensures ∙ sym c.number-2.ensures))
-    (omega (arith, number, there.0), omega (arith, number, there.1, of)) c.in_ok-begin.ensures.ok
+    ∙ ap (λ (n : ℕ). head_line s n c.args.ends) (c.number.ensures ∙ sym c.number-2.ensures))
+    (omega (arith, number, there.0), omega (arith, number, there.1, of))
+    (c.is_whole.ensures.0 c.if-not-is_whole.false) c.in_ok-begin.ensures.ok

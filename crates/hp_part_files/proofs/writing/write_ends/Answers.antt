@@ -1,4 +1,4 @@
-use Rattle.std.proofs.Common.{◌≡◌, ◌+◌, ◌++◌, ℕ, List, [], drop, length, ap, sym, arith, ◌∙◌, string_bytes, append-nil}
+use Rattle.std.proofs.Common.{◌≡◌, ◌+◌, ◌++◌, List, [], drop, ap, sym, arith, ◌∙◌, string_bytes, append-nil}
 use Rattle.std.proofs.lemmas.List.{drop_all}
 use Rattle.hp_explore.specs.declared.tally.Ending.{Ending}
 use Rattle.hp_lab.specs.Prepared.{names_of, setting_of}

@@ -2,7 +2,7 @@
 use Rattle.std.proofs.Common.{◌≡◌, ℕ, true, length, refl, subst, arith}
 use Rattle.hp_explore.specs.Walks.{IsOverBelow}
 use Rattle.hp_explore.proofs.Plays.{over_all}
-use Rattle.hp_part_files.proofs.ends.is_over.Goals as goal
+use Rattle.hp_find.proofs.over.is_over.Goals as goal
 
 pub returns : goal.returns
 returns c =
