@@ -67,6 +67,11 @@ pub record IsPictureOf (drawing : Drawing) (input text : List ℕ) : Type 0 wher
   pub traced : AreRowsOf drawing.view input rows
   pub drawn : text ≡ picture_of scenario.names drawing.cell rows
 
+-- the same of these names
+abbrev pub IsDrawnWith : (names : List (List ℕ)) → (drawing : Drawing) → (input text : List ℕ) → Type 0
+IsDrawnWith names drawing input text =
+    (rows : List RowValue) × AreRowsOf drawing.view input rows × (text ≡ picture_of names drawing.cell rows)
+
 -- the text of an exploration; the status is 0 where what is asked for is found, and 3 where it is not
 abbrev pub IsExploringOf : Exploration → EndsForm → (input text : List ℕ) → (status : ℕ) → Type 0
 IsExploringOf asked form input text status =
@@ -87,7 +92,7 @@ IsAddedOf form input text status =
 abbrev pub IsSearchOf : Exploration → List Wanted → ScheduleForm → (found_status absent_status : ℕ)
     → (input text : List ℕ) → (status : ℕ) → Type 0
 IsSearchOf asked wanted form found_status absent_status input text status =
-    (found : Bool) × IsFindingOf form input asked.setup wanted text found
+    (found : Bool) × IsFindingOf form input asked.setup asked.limit wanted text found
     × (status ≡ (if found then found_status else absent_status))
 
 abbrev pub IsAnswerOf : Word → (input text : List ℕ) → (status : ℕ) → Type 0

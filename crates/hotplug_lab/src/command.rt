@@ -70,28 +70,26 @@ pub fn lab_command<'a>(alloc: Global) -> Result<Command<'a>, AllocError> {
              nothing, where --never finds something, and where explore stops at its limit.",
         )
         .subcommand_required(true);
-    let program = with_explore(alloc, with_check(alloc, program)?)?;
-    with_trace(alloc, with_sum(alloc, program)?)
+    let program = with_word(program, check_command(alloc))?;
+    let program = with_word(program, explore_command(alloc))?;
+    let program = with_word(program, sum_command(alloc))?;
+    with_word(program, trace_command(alloc))
 }
 
-/// A command with the word `check`.
-fn with_check<'a>(alloc: Global, program: Command<'a>) -> Result<Command<'a>, AllocError> {
-    program.subcommand(check_command(alloc)?)
+/// A command with one more word, unless that was out of memory. So no caller owns both at an exit.
+fn with_word<'a>(
+    program: Command<'a>,
+    word: Result<Command<'a>, AllocError>,
+) -> Result<Command<'a>, AllocError> {
+    program.subcommand(word?)
 }
 
-/// A command with the word `explore`.
-fn with_explore<'a>(alloc: Global, program: Command<'a>) -> Result<Command<'a>, AllocError> {
-    program.subcommand(explore_command(alloc)?)
-}
-
-/// A command with the word `sum`.
-fn with_sum<'a>(alloc: Global, program: Command<'a>) -> Result<Command<'a>, AllocError> {
-    program.subcommand(sum_command(alloc)?)
-}
-
-/// A command with the word `trace`.
-fn with_trace<'a>(alloc: Global, program: Command<'a>) -> Result<Command<'a>, AllocError> {
-    program.subcommand(trace_command(alloc)?)
+/// A command with one more argument, in the same way.
+fn with_arg<'a>(
+    command: Command<'a>,
+    arg: Result<Arg<'a>, AllocError>,
+) -> Result<Command<'a>, AllocError> {
+    command.arg(arg?)
 }
 
 /// The words of `check`.
@@ -108,8 +106,10 @@ fn explore_command<'a>(alloc: Global) -> Result<Command<'a>, AllocError> {
         "Counts every interleaving of the processors' calls, and tells the ends apart",
     );
     let explore = with_numbers(alloc, explore, &EXPLORE_NUMBERS)?;
-    let explore = with_shares(alloc, with_searches(alloc, explore)?)?;
-    with_progress(alloc, with_forms_of_ends(alloc, explore)?)?.arg(scenario(alloc))
+    let explore = with_searches(alloc, explore)?;
+    let explore = with_shares(alloc, explore)?;
+    let explore = with_forms_of_ends(alloc, explore)?;
+    explore.arg(progress(alloc))?.arg(scenario(alloc))
 }
 
 /// The words of `sum`.
@@ -122,41 +122,20 @@ fn sum_command<'a>(alloc: Global) -> Result<Command<'a>, AllocError> {
 
 /// A command with the options that share the work out.
 fn with_shares<'a>(alloc: Global, command: Command<'a>) -> Result<Command<'a>, AllocError> {
-    let part = Arg::new(alloc, PART).long(PART).value_name("I/N").help(
-        "Searches the I-th of N parts alone, and writes it for `sum`",
-    );
-    let part = part.conflicts_with(FIND)?.conflicts_with(NEVER)?;
-    let part = part.conflicts_with(SCENARIO)?.conflicts_with(JOBS)?;
-    let jobs = number(alloc, JOBS, "Searches with so many threads, 1 to 256 (1)");
-    let jobs = jobs.conflicts_with(FIND)?.conflicts_with(NEVER)?;
-    command.arg(part)?.arg(jobs)
+    let command = with_arg(command, part(alloc))?;
+    with_arg(command, jobs(alloc))
 }
 
 /// A command with the options that say how ends are written.
 fn with_forms_of_ends<'a>(alloc: Global, command: Command<'a>) -> Result<Command<'a>, AllocError> {
-    let scenario = number(alloc, SCENARIO, SCENARIO_HELP);
-    let json = json(alloc).conflicts_with(SCENARIO)?;
-    command.arg(scenario)?.arg(json)
+    let command = command.arg(number(alloc, SCENARIO, SCENARIO_HELP))?;
+    with_arg(command, json(alloc))
 }
 
 /// A command with the options that search an end.
 fn with_searches<'a>(alloc: Global, command: Command<'a>) -> Result<Command<'a>, AllocError> {
-    let find = wanted(
-        alloc,
-        FIND,
-        "Searches an interleaving whose end has this line, with the fewest changes of processor",
-    );
-    let never = wanted(
-        alloc,
-        NEVER,
-        "The same, where none is to end so: the status is turned round",
-    );
-    command.arg(find)?.arg(never.conflicts_with(FIND)?)
-}
-
-/// A command with the flag that asks to be told how far a search has come.
-fn with_progress<'a>(alloc: Global, command: Command<'a>) -> Result<Command<'a>, AllocError> {
-    command.arg(progress(alloc))
+    let command = command.arg(find(alloc))?;
+    with_arg(command, never(alloc))
 }
 
 /// The words of `trace`.
@@ -197,12 +176,51 @@ fn part_files<'a>(alloc: Global) -> Arg<'a> {
     )
 }
 
+/// The option that searches one part.
+fn part<'a>(alloc: Global) -> Result<Arg<'a>, AllocError> {
+    Arg::new(alloc, PART)
+        .long(PART)
+        .value_name("I/N")
+        .help("Searches the I-th of N parts alone, and writes it for `sum`")
+        .conflicts_with(FIND)?
+        .conflicts_with(NEVER)?
+        .conflicts_with(SCENARIO)?
+        .conflicts_with(JOBS)
+}
+
+/// The option that searches in threads.
+fn jobs<'a>(alloc: Global) -> Result<Arg<'a>, AllocError> {
+    number(alloc, JOBS, "Searches with so many threads, 1 to 256 (1)")
+        .conflicts_with(FIND)?
+        .conflicts_with(NEVER)
+}
+
+/// The option that searches an end.
+fn find<'a>(alloc: Global) -> Arg<'a> {
+    wanted(
+        alloc,
+        FIND,
+        "Searches an interleaving whose end has this line, with the fewest changes of processor",
+    )
+}
+
+/// The option that wants no such end.
+fn never<'a>(alloc: Global) -> Result<Arg<'a>, AllocError> {
+    let never = wanted(
+        alloc,
+        NEVER,
+        "The same, where none is to end so: the status is turned round",
+    );
+    never.conflicts_with(FIND)
+}
+
 /// The flag that asks for JSON.
-fn json<'a>(alloc: Global) -> Arg<'a> {
+fn json<'a>(alloc: Global) -> Result<Arg<'a>, AllocError> {
     Arg::new(alloc, JSON)
         .long(JSON)
         .action(ArgAction::SetTrue)
         .help("Writes an object of JSON a line: of each end, or of what a search finds")
+        .conflicts_with(SCENARIO)
 }
 
 /// The flag that asks to be told how far a search has come.

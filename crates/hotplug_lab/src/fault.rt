@@ -14,7 +14,7 @@ use std::fmt;
 
 /// Why the program failed. But for `WriteFailed`, after which some of the text may be out, nothing
 /// was written.
-#[derive(Clone, Copy, Debug, PartialEq, Eq, Drop)]
+#[derive(Clone, Copy, Debug, Drop)]
 pub enum ProgramFault {
     /// The file could not be opened.
     NotOpened,

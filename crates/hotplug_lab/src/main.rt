@@ -9,6 +9,7 @@
 //! where standard output does not take it, the status is 1.
 #![tactic(auto)]
 
+mod answering;
 mod command;
 mod fault;
 mod files;

@@ -8,7 +8,7 @@ use std::io::Write;
 const SILENT: u32 = 1024;
 
 /// Where it is shown how far a search has come.
-#[derive(Clone, Copy, Debug, PartialEq, Eq, Drop)]
+#[derive(Clone, Copy, Drop)]
 pub enum Shown {
     /// Nowhere.
     Nowhere,
@@ -19,7 +19,6 @@ pub enum Shown {
 }
 
 /// Shows how far a search has come.
-#[derive(Debug)]
 pub struct Progress<W: Write + Drop> {
     out: W,
     shown: Shown,

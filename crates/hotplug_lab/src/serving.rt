@@ -1,34 +1,24 @@
 //! Bytes in to bytes out.
 
-ghost use Rattle.std.specs.Prelude.{◌≡◌, ◌≢◌, ◌<◌, ◌-◌, ◌^◌, ◌==◌, [], if◌then◌else◌, IfErr, IfOk, IfSome, OnOk, string_bytes, true};
+ghost use Rattle.std.specs.Prelude.{◌≡◌, ◌≢◌, ◌<◌, ◌-◌, ◌^◌, IfErr, IfOk, IfSome, OnOk, string_bytes, true};
 ghost use Rattle.std.specs.Io.KnownBytes.{Appends, Keeps};
 ghost use Rattle.hp_streams.specs.Reading.{ReadsAll};
-ghost use Rattle.hotplug_lab.specs.Words.{Answers, HasLines, IsAnswerOf, IsCheckOf, IsCountIn, IsCountOf, IsPartialOf, IsPast, IsPictureOf, IsServeFault, IsUnanswered, Serves, count_of, first_shown, has_line, last_named, setup_named, unbegun_in, unbegun_of};
+ghost use Rattle.hotplug_lab.specs.Words.{Answers, HasLines, IsPast, IsServeFault, IsUnanswered, Serves, count_of, first_shown, has_line, last_named, setup_named, unbegun_in, unbegun_of};
 ghost use Rattle.hp_scenario.specs.Scenario.{scenario_in};
-ghost use Rattle.hotplug_lab.specs.declared.words.Word.TheVariants.{Check, Part, Picture};
 
+use crate::answering::{Answer, answer_to};
 use crate::fault::ProgramFault;
-use crate::words::{ALL, Drawing, Exploration, LIMIT, Word};
-use hp_check::{check, fault_count, write_report};
+use crate::words::{ALL, Word};
 use hp_explore::Watch;
-use hp_lab::{Finding, Unbegun, find_text, interleavings_line, unbegun_lines};
-use hp_part_files::{PartNumber, explore_text_with_jobs, part_text, sum_text};
+use hp_lab::{Unbegun, unbegun_lines};
 use hp_scenario::{Scenario, ScenarioFault};
 use hp_streams::{Failed, Sink, Source, read_all, write_all};
-use hp_svg::picture_of;
-use hp_trace::{View, trace, trace_rows};
+use hp_trace::View;
 use std::alloc::{AllocError, Global};
 use std::thread::Threads;
 
-/// What a word writes, and the exit status.
-#[derive(Debug, Drop)]
-struct Answer {
-    text: String,
-    status: u8,
-}
-
 /// What a word came to: the exit status, and what is worth a warning.
-#[derive(Debug, Drop)]
+#[derive(Drop)]
 pub struct Served {
     pub status: u8,
     /// The lines of scripts that work on operation 0 where their processor has begun none.
@@ -202,158 +192,4 @@ fn first_shown(view: View) -> u64
     ensures { result ≡ first_shown view }
 {
     if view.from <= 1 { 0 } else { view.from }
-}
-
-/// What a word makes of the bytes of a scenario. The watch is told how far a search has come.
-fn answer_to<W: Watch>(
-    rt: &(impl Threads + Sync),
-    alloc: Global,
-    input: &[u8],
-    word: Word<'_>,
-    watch: &mut W,
-) -> Result<Answer, ProgramFault>
-    ensures ok { IfOk result
-        (λ answer. IsAnswerOf word.entry input.now (string_bytes answer.text) answer.status) }
-    ensures err { IfErr result (IsUnanswered word.entry input.now) }
-{
-    match word {
-        Word::Check(setup) => checked(alloc, input, setup),
-        Word::Explore { asked, form, jobs } => {
-            let finding = explore_text_with_jobs(
-                rt,
-                alloc,
-                input,
-                asked.setup,
-                asked.limit,
-                form,
-                jobs,
-                watch,
-            )?;
-            Ok(answer_with(finding, 0, 3))
-        }
-        Word::Part { asked, number, of } => partial(alloc, input, asked, number, of, watch),
-        Word::Sum(form) => {
-            let finding = sum_text(alloc, input, form)?;
-            Ok(answer_with(finding, 0, 3))
-        }
-        Word::Find {
-            asked,
-            wanted,
-            form,
-        } => {
-            let finding = find_text(alloc, input, asked.setup, asked.limit, wanted, form, watch)?;
-            Ok(answer_with(finding, 0, 3))
-        }
-        Word::Never {
-            asked,
-            wanted,
-            form,
-        } => {
-            let finding = find_text(alloc, input, asked.setup, asked.limit, wanted, form, watch)?;
-            Ok(answer_with(finding, 3, 0))
-        }
-        Word::Trace(view) => Ok(Answer {
-            text: trace(alloc, input, view)?,
-            status: 0,
-        }),
-        Word::Picture(drawing) => Ok(Answer {
-            text: picture_text(alloc, input, drawing)?,
-            status: 0,
-        }),
-    }
-}
-
-/// The part of an exploration with a number, of so many.
-fn partial<W: Watch>(
-    alloc: Global,
-    input: &[u8],
-    asked: Exploration,
-    number: u64,
-    of: u64,
-    watch: &mut W,
-) -> Result<Answer, ProgramFault>
-    ensures ok { IfOk result
-        (λ answer. IsPartialOf asked number of input.now (string_bytes answer.text) answer.status) }
-    ensures err { IfErr result (IsUnanswered (Part asked number of) input.now) }
-{
-    let Some(part) = PartNumber::new(number, of) else {
-        return Err(ProgramFault::NoPart);
-    };
-    let finding = part_text(alloc, input, asked.setup, asked.limit, part, watch)?;
-    Ok(answer_with(finding, 0, 3))
-}
-
-/// What a search found, with the status where it found an interleaving, and where there is none.
-fn answer_with(finding: Finding, found: u8, absent: u8) -> Answer
-    ensures text { string_bytes result.text ≡ string_bytes finding.text }
-    ensures status { result.status ≡ (if finding.is_found then found else absent) }
-{
-    let status = if finding.is_found { found } else { absent };
-    Answer {
-        text: finding.text,
-        status,
-    }
-}
-
-/// What is wrong with the scenario that the bytes are to be, of whose lines so many are the setup, and
-/// how many interleavings the scripts after it have. The status is 0 where nothing is wrong but
-/// warnings.
-fn checked(alloc: Global, input: &[u8], setup: u64) -> Result<Answer, ProgramFault>
-    ensures ok { IfOk result (λ answer. IsCheckOf setup input.now (string_bytes answer.text) answer.status) }
-    ensures err { IfErr result (IsUnanswered (Check setup) input.now) }
-{
-    let found = check(alloc, input, setup)?;
-    let mut text = String::new(alloc);
-    write_report(&mut text, alloc, input, &found)?;
-    let counted = count_line(alloc, input, setup)?;
-    text.push_str(&counted)?;
-    let status = if fault_count(&found) == 0 { 0 } else { 1 };
-    Ok(Answer { text, status })
-}
-
-/// The line that says how many interleavings the scripts after so many lines of setup have; none
-/// where all lines are the setup, and where the bytes are no scenario. An error is out of memory.
-#[tactic(auto, using(crate::proofs::Counted::none_asked, crate::proofs::Counted::some_asked))]
-fn count_line(alloc: Global, input: &[u8], setup: u64) -> Result<String, AllocError>
-    ensures { IfOk result (λ text. IsCountOf (setup == 2 ^ 64 - 1) setup input.now (string_bytes text)) }
-{
-    if setup == ALL {
-        return Ok(String::new(alloc));
-    }
-    count_in(alloc, input, setup)
-}
-
-/// The same, where not all lines are the setup.
-fn count_in(alloc: Global, input: &[u8], setup: u64) -> Result<String, AllocError>
-    ensures { IfOk result (λ text. IsCountIn setup (scenario_in input.now) (string_bytes text)) }
-{
-    match Scenario::read(alloc, input) {
-        Ok(scenario) => {
-            let cpus = scenario.layout.cpus();
-            interleavings_line(alloc, cpus, setup, scenario.lines.as_slice(), LIMIT)
-        }
-        Err(fault) => no_count(alloc, fault),
-    }
-}
-
-/// No line, where the bytes are no scenario. An error is out of memory.
-fn no_count(alloc: Global, fault: ScenarioFault) -> Result<String, AllocError>
-    ensures none { IfOk result (λ text. string_bytes text ≡ []) }
-    ensures read { OnOk result (fault ≢ ScenarioFault.OutOfMemory) }
-{
-    match fault {
-        ScenarioFault::OutOfMemory => Err(AllocError),
-        _ => Ok(String::new(alloc)),
-    }
-}
-
-/// The rows of the scenario that the bytes are, with all memory blocks in each, as a picture, with the
-/// owners' names in its legend.
-fn picture_text(alloc: Global, input: &[u8], drawing: Drawing) -> Result<String, ProgramFault>
-    ensures ok { IfOk result (λ text. IsPictureOf drawing input.now (string_bytes text)) }
-    ensures err { IfErr result (IsUnanswered (Picture drawing) input.now) }
-{
-    let scenario = Scenario::read(alloc, input)?;
-    let rows = trace_rows(alloc, input, drawing.view)?;
-    Ok(picture_of(alloc, &scenario.names, drawing.cell, &rows)?)
 }

@@ -33,7 +33,7 @@ pub struct Exploration {
 }
 
 /// What is asked of a picture: what it shows, and how many pixels wide the cell of a frame is.
-#[derive(Clone, Copy, PartialEq, Eq)]
+#[derive(Clone, Copy)]
 pub struct Drawing {
     pub view: View,
     pub cell: u8,

@@ -7,6 +7,7 @@ mod RangesAgree
 mod Reported
 mod ShapeParts
 mod Shapes
+mod Slipped
 mod Spaces
 mod Values
 mod Warned

@@ -17,7 +17,6 @@ use Rattle.hp_check.specs.declared.finding.Finding.TheVariants as finding
 use Rattle.hp_check.specs.declared.finding.Key.{Key}
 use Rattle.hp_check.specs.declared.finding.Key.TheVariants as key
 use Rattle.hp_check.specs.declared.finding.Place.{Place}
-use Rattle.hp_check.specs.declared.finding.Place.TheVariants as place
 use Rattle.hp_check.specs.declared.finding.Shape.{Shape}
 use Rattle.hp_check.specs.declared.finding.Shape.TheVariants.{KeyCount, UnknownKey, MissingKey, NotNumber, NotBoot, NotText}
 use Rattle.hp_check.proofs.Fronts.{Says, all_flat, all_unless, begins_after, begins_left, begins_of_three, begins_right, both_empty, entries_fine, entries_lack, by_number, unless_not, unless_so}

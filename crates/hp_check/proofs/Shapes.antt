@@ -14,7 +14,6 @@ use Rattle.hp_check.specs.Laws.{Begins}
 use Rattle.hp_check.specs.Ranges.{parts_in}
 use Rattle.hp_check.specs.Shape.{boot_faults, text_faults, is_there, has_its_keys, key_faults, number_fault, list_faults, layout_faults, layout_faults_of, whole_faults, shape_faults}
 use Rattle.hp_check.specs.declared.finding.Finding.{Finding}
-use Rattle.hp_check.specs.declared.finding.Finding.TheVariants as finding
 use Rattle.hp_check.specs.declared.finding.Key.TheVariants as key
 use Rattle.hp_check.specs.declared.finding.Place.TheVariants as place
 use Rattle.hp_check.proofs.Fronts.{begins_after, begins_left, begins_of_three, both_empty, empty_of_three}

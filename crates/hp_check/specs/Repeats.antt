@@ -1,5 +1,5 @@
 -- Which keys stand twice in a scenario's text (own rule).
-use Rattle.std.specs.Prelude.{ℕ, List, [], ◌∷◌, ◌++◌, codes, nat_lt, if◌then◌else◌}
+use Rattle.std.specs.Prelude.{ℕ, List, [], ◌∷◌, ◌++◌, nat_lt, if◌then◌else◌}
 use Rattle.std.specs.List.{flat_map}
 use Rattle.hp_call_lines.specs.Looks.{texts_at}
 use Rattle.hp_check.specs.Findings.{key_quoted, keys_of}

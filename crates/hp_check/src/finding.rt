@@ -32,7 +32,7 @@ impl Finding {
 }
 
 /// Why a text is likely to be no JSON.
-#[derive(Clone, Copy, PartialEq, Eq, Drop)]
+#[derive(Clone, Copy, Drop)]
 pub enum Hint {
     /// It has nothing but white space.
     NoText,
@@ -47,7 +47,7 @@ pub enum Hint {
 }
 
 /// An object of a scenario.
-#[derive(Clone, Copy, PartialEq, Eq, Drop)]
+#[derive(Clone, Copy, Drop)]
 pub enum Place {
     /// The whole.
     Whole,
@@ -56,7 +56,7 @@ pub enum Place {
 }
 
 /// A key that a scenario has.
-#[derive(Clone, Copy, PartialEq, Eq, Drop)]
+#[derive(Clone, Copy, Drop)]
 pub enum Key {
     /// `layout`: the machine that the calls run on.
     Layout,
@@ -152,7 +152,7 @@ pub enum Shape {
 }
 
 /// A part of a layout that is out of its range, with its value.
-#[derive(Clone, Copy, PartialEq, Eq, Drop)]
+#[derive(Clone, Copy, Drop)]
 pub enum OutOfRange {
     /// The order, above 10.
     Order(u64),
@@ -181,7 +181,7 @@ pub enum OutOfRange {
 }
 
 /// What a layout has a number of.
-#[derive(Clone, Copy, PartialEq, Eq, Drop)]
+#[derive(Clone, Copy, Drop)]
 pub enum What {
     /// Processors.
     Processor,
@@ -200,7 +200,7 @@ pub enum What {
 }
 
 /// Why a line makes no call, and so cannot stand in a script.
-#[derive(Clone, Copy, PartialEq, Eq, Drop)]
+#[derive(Clone, Copy, Drop)]
 pub enum Unfit {
     /// Its processor is not in the layout.
     Processor,
@@ -213,7 +213,7 @@ pub enum Unfit {
 }
 
 /// Why a line hardly does what is wanted.
-#[derive(Clone, Copy, PartialEq, Eq, Drop)]
+#[derive(Clone, Copy, Drop)]
 pub enum Warning {
     /// A number past the layout, which has so many, counted from 0: the call is refused.
     Past { what: What, number: u64, count: u64 },

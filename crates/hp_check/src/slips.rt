@@ -10,7 +10,7 @@ use hp_units::{number32, number64};
 use std::alloc::AllocError;
 
 /// What a word of a line may be.
-#[derive(Clone, Copy, PartialEq, Eq)]
+#[derive(Clone, Copy)]
 pub(crate) enum Kind {
     /// A number below 2^32.
     Narrow,
@@ -23,7 +23,7 @@ pub(crate) enum Kind {
 }
 
 /// Why a word is not of its kind.
-#[derive(Clone, Copy, PartialEq, Eq)]
+#[derive(Clone, Copy)]
 pub(crate) enum Why {
     /// Digits with a zero in front.
     Zero,
@@ -112,17 +112,20 @@ fn slip_of(kind: Kind, word: &str) -> Option<(&str, Why)>
 }
 
 /// The first of the words of a text that is not of the kind at its place, and why.
-#[tactic(auto, unfolding(crate::specs::Slips::first_slip))]
 fn first_slip<'a>(kinds: &[Kind], text: &'a str) -> Option<(&'a str, Why)>
     ensures { option_map (λ p. (p.0.now, p.1)) result ≡ means.first_slip kinds.now text.now }
 {
-    let [kind, kinds @ ..] = kinds else {
-        return None;
-    };
-    match halves(text) {
-        Some((word, rest)) => slip_of(*kind, word).or(first_slip(kinds, rest)),
-        None => slip_of(*kind, text),
+    let mut rest = text;
+    for kind in kinds {
+        match halves(rest) {
+            Some((word, later)) => match slip_of(*kind, word) {
+                Some(slip) => return Some(slip),
+                None => rest = later,
+            },
+            None => return slip_of(*kind, rest),
+        }
     }
+    None
 }
 
 /// What the words after a verb are, up to the last that is a number or a name.

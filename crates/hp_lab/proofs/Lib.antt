@@ -1,4 +1,5 @@
 pub mod Known
 pub mod Lists
+pub mod Played
 pub mod Scripted
 pub mod Written

@@ -12,10 +12,12 @@ use Rattle.hp_explore.specs.Faults.{FillsHistory, HasMoreThan}
 use Rattle.hp_explore.specs.Fronts.{AreFirst}
 use Rattle.hp_explore.specs.Interleavings.{IsKnown, IsRoomNeeded}
 use Rattle.hp_explore.specs.Schedules.{IsComplete, Setting, setting}
-use Rattle.hp_find.specs.Faults.{IsFindCause}
-use Rattle.hp_find.specs.Reaching.{IsAbsent, IsNearest}
+use Rattle.hp_find.specs.Faults.{IsFindCause, IsRecorded, IsWithin, SparesHistory}
+use Rattle.hp_find.specs.Reaching.{IsFound}
 use Rattle.hp_find.specs.declared.fault.FindFault.{FindFault}
 use Rattle.hp_find.specs.declared.fault.FindFault.TheVariants as search
+use Rattle.hp_find.specs.declared.finding.Found.{Found}
+use Rattle.hp_find.specs.declared.finding.Found.TheVariants.{Nearest, Absent}
 use Rattle.hp_find.specs.declared.wanted.Wanted.{Wanted}
 use Rattle.hp_scenario.specs.declared.fault.ScenarioFault.{ScenarioFault}
 use Rattle.hp_scenario.specs.declared.lines.Line.{Line}
@@ -98,21 +100,31 @@ IsTold form names before g x text found =
     (more : Option HowMany) × IsMore g.scripts x.is_whole more
     × AreEndsTold form names before g x.ends.items more text found
 
--- the text is that of a schedule whose end has each of the wanted lines, with the fewest changes of
--- processor, in a form; or that no schedule ends so, and of how many there are
-abbrev pub IsFoundOn : ScheduleForm → (names : List (List ℕ)) → (before : List Line) → Setting → List Wanted
+-- the text is that of a schedule that was found, in a form; or that none ends so, and of how many
+abbrev pub IsFoundTold : ScheduleForm → (names : List (List ℕ)) → (before : List Line) → Setting → Found
     → (text : List ℕ) → (found : Bool) → Type 0
-IsFoundOn form names before g wanted text true =
-    (schedule : List ℕ) × IsNearest g wanted schedule × (text ≡ found_text form names before g schedule)
-IsFoundOn form names before g wanted text false =
-    (schedules : ℕ) × IsAbsent g wanted schedules × (text ≡ absent_told form schedules)
+IsFoundTold form names before g (Nearest schedule) text found =
+    (text ≡ found_text form names before g schedule.items) × (found ≡ true)
+IsFoundTold form names before g (Absent schedules) text found =
+    (text ≡ absent_told form schedules) × (found ≡ false)
+
+-- of one whose end has each of the wanted lines, with the fewest changes of processor, or of none;
+-- as far as the limit and the history allow it to be told
+pub record IsFoundOn (form : ScheduleForm) (names : List (List ℕ)) (before : List Line) (g : Setting)
+    (wanted : List Wanted) (limit : ℕ) (text : List ℕ) (found : Bool) : Type 0 where
+  pub what : Found
+  pub is : IsFound g wanted what
+  pub few : IsWithin g wanted limit what
+  pub room : SparesHistory g what
+  pub along : IsRecorded g limit what
+  pub told : IsFoundTold form names before g what text found
 
 -- what is asked: all ends, or one with lines
 abbrev pub IsAnsweredOn : Ask → (limit : ℕ) → (text : List ℕ) → (found : Bool) → (names : List (List ℕ))
     → (before : List Line) → Setting → Type 0
 IsAnsweredOn (Ends form) limit text found names before g = IsExploredOn form names before g limit text found
 IsAnsweredOn (Find wanted form) limit text found names before g =
-    IsFoundOn form names before g wanted.now text found
+    IsFoundOn form names before g wanted.now limit text found
 
 -- why there is no answer: the ends are told whatever the limit
 abbrev pub IsEndsCause : Setting → FindFault → Type 0
@@ -151,10 +163,10 @@ abbrev pub IsExplorationOf : EndsForm → (input : List ℕ) → (setup limit : 
 IsExplorationOf form input setup limit text found =
     HoldsIn (λ names before g. IsExploredOn form names before g limit text found) input setup
 
-abbrev pub IsFindingOf : ScheduleForm → (input : List ℕ) → (setup : ℕ) → List Wanted → (text : List ℕ)
-    → (found : Bool) → Type 0
-IsFindingOf form input setup wanted text found =
-    HoldsIn (λ names before g. IsFoundOn form names before g wanted text found) input setup
+abbrev pub IsFindingOf : ScheduleForm → (input : List ℕ) → (setup limit : ℕ) → List Wanted
+    → (text : List ℕ) → (found : Bool) → Type 0
+IsFindingOf form input setup limit wanted text found =
+    HoldsIn (λ names before g. IsFoundOn form names before g wanted limit text found) input setup
 
 -- ---- faults
 

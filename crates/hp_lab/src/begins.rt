@@ -8,7 +8,7 @@ use hp_units::{Cpu, Record, Serial, mark_of};
 use std::alloc::AllocError;
 
 /// A Begin that the setup made, refused or not.
-#[derive(Clone, Copy, PartialEq, Eq, Drop)]
+#[derive(Clone, Copy, Drop)]
 pub(crate) struct Begin {
     pub cpu: Cpu,
     pub serial: Serial,

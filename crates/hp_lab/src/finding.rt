@@ -21,7 +21,7 @@ use indexmap::IndexSet;
 use std::alloc::{AllocError, Global};
 
 /// What an exploration or a search says, and whether it found what was asked for.
-#[derive(Debug, Drop)]
+#[derive(Drop)]
 pub struct Finding {
     /// The ends or the schedule, or that there is none.
     pub text: String,
@@ -52,7 +52,7 @@ pub fn find_text<W: Watch>(
     watch: &mut W,
 ) -> Result<Finding, LabFault>
     ensures ok { IfOk result (λ f.
-        IsFindingOf form input.now setup wanted.now (string_bytes f.text) f.is_found) }
+        IsFindingOf form input.now setup limit wanted.now (string_bytes f.text) f.is_found) }
     ensures err { IfErr result (IsFindFaultOf input.now setup limit wanted.now) }
 {
     let ask = Ask::Find { wanted, form };
@@ -74,7 +74,7 @@ pub(crate) fn found_on<W: Watch>(
 ) -> Result<Finding, FindFault>
     requires { length scripts.now < 2 ^ 32 }
     ensures ok { IfOk result (λ f. IsFoundOn form names.now.keys before.now
-        (setting machine.now scripts.now) wanted.now (string_bytes f.text) f.is_found) }
+        (setting machine.now scripts.now) wanted.now limit (string_bytes f.text) f.is_found) }
     ensures err { IfErr result (IsFindCause (setting machine.now scripts.now) wanted.now limit) }
 {
     let found = find(alloc, machine, scripts, wanted, limit, watch)?;

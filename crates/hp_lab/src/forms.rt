@@ -1,7 +1,7 @@
 //! How an answer is written.
 
 /// How the ends of an exploration are written.
-#[derive(Clone, Copy, PartialEq, Eq, Drop)]
+#[derive(Clone, Copy, Drop)]
 pub enum EndsForm {
     /// All of them, as words.
     Words,
@@ -12,7 +12,7 @@ pub enum EndsForm {
 }
 
 /// How a schedule that was found is written.
-#[derive(Clone, Copy, PartialEq, Eq, Drop)]
+#[derive(Clone, Copy, Drop)]
 pub enum ScheduleForm {
     /// How often it changes the processor, and its calls, as words.
     Words,

@@ -1,5 +1,5 @@
 //! A schedule as a scenario.
-ghost use Rattle.std.specs.Prelude.{◌≡◌, IfErr, IfOk, string_bytes};
+ghost use Rattle.std.specs.Prelude.{◌≡◌, ◌++◌, IfErr, IfOk, OnOk, string_bytes};
 ghost use Rattle.hp_explore.specs.Faults.{IsCause};
 ghost use Rattle.hp_explore.specs.Schedules.{setting};
 ghost use Rattle.hp_lab.specs.Texts.{replay_text};
@@ -27,10 +27,28 @@ pub(crate) fn replay_text(
     ensures err { IfErr result (IsCause (setting machine.now scripts.now)) }
 {
     let mut text = String::new(alloc);
+    write_replay(&mut text, alloc, names, before, machine, scripts, schedule)?;
+    Ok(text)
+}
+
+/// Writes a schedule as a scenario, with the lines that were run first before its calls.
+fn write_replay(
+    out: &mut String,
+    alloc: Global,
+    names: &IndexSet<Text>,
+    before: &[Line],
+    machine: &Machine,
+    scripts: &[Script],
+    schedule: &[Cpu],
+) -> Result<(), ExploreFault>
+    ensures ok { OnOk result (string_bytes out.new ≡ string_bytes out.old
+        ++ replay_text names.now.keys before.now (setting machine.now scripts.now) schedule.now) }
+    ensures err { IfErr result (IsCause (setting machine.now scripts.now)) }
+{
     if let Some(played) = play(alloc, machine, scripts, schedule)? {
         let start = machine.history().len();
         let calls = &played.history()[start..];
-        write_scenario(&mut text, machine.layout(), names, before, calls)?;
+        write_scenario(out, machine.layout(), names, before, calls)?;
     }
-    Ok(text)
+    Ok(())
 }

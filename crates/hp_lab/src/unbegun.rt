@@ -11,7 +11,7 @@ use std::alloc::{AllocError, Global};
 
 /// A line of a script that works on operation 0, where no line of its processor before it begins an
 /// operation.
-#[derive(Clone, Copy, Debug, PartialEq, Eq, Drop)]
+#[derive(Clone, Copy, Drop)]
 pub struct Unbegun {
     /// The processor.
     pub cpu: Cpu,

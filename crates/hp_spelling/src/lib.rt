@@ -11,6 +11,6 @@ mod scenarios;
 mod separated;
 
 pub use entries::write_calls;
-pub use lines::write_line;
+pub use lines::{write_line, write_shown_line};
 pub use scenarios::write_scenario;
 pub use separated::write_mark;

@@ -1,6 +1,6 @@
 //! Lines as a scenario has them.
 ghost use Rattle.std.specs.Prelude.{◌≡◌, ◌++◌, OnOk, string_bytes};
-ghost use Rattle.hp_spelling.specs.Lines.{line_text, work_text};
+ghost use Rattle.hp_spelling.specs.Lines.{line_text, shown_line, shown_work};
 
 use hp_escapes::{Brackets, write_escaped};
 use hp_scenario::{Line, Work};
@@ -15,27 +15,47 @@ use std::alloc::AllocError;
 pub fn write_line(out: &mut String, names: &IndexSet<Text>, line: &Line) -> Result<(), AllocError>
     ensures { OnOk result (string_bytes out.new ≡ string_bytes out.old ++ line_text names.now.keys line.now) }
 {
+    write_shown_line(out, names, line, Brackets::Kept)
+}
+
+/// Writes a line in the same way, with the brackets of its own texts as they are or escaped. An error
+/// is out of memory.
+pub fn write_shown_line(
+    out: &mut String,
+    names: &IndexSet<Text>,
+    line: &Line,
+    brackets: Brackets,
+) -> Result<(), AllocError>
+    ensures { OnOk result
+        (string_bytes out.new ≡ string_bytes out.old ++ shown_line brackets names.now.keys line.now) }
+{
     let cpu = line.cpu;
     write!(out, "{cpu} ")?;
-    write_work(out, names, &line.work)
+    write_work(out, names, &line.work, brackets)
 }
 
 /// Writes what a line asks for.
-fn write_work(out: &mut String, names: &IndexSet<Text>, work: &Work) -> Result<(), AllocError>
-    ensures { OnOk result (string_bytes out.new ≡ string_bytes out.old ++ work_text names.now.keys work.now) }
+fn write_work(
+    out: &mut String,
+    names: &IndexSet<Text>,
+    work: &Work,
+    brackets: Brackets,
+) -> Result<(), AllocError>
+    ensures { OnOk result
+        (string_bytes out.new ≡ string_bytes out.old ++ shown_work brackets names.now.keys work.now) }
 {
     match work {
         Work::Event(event) => write_event(out, names, event),
         Work::Plan { plan, turns } => write_plan(out, plan, *turns),
         Work::Echo(echo) => {
             out.push_str("echo ")?;
-            write_escaped(out, echo.word(), Brackets::Kept)?;
+            write_escaped(out, echo.word(), brackets)?;
             out.push_str(" ")?;
-            write_escaped(out, echo.path(), Brackets::Kept)
+            write_escaped(out, echo.path(), brackets)
         }
         Work::Cat { path } => {
             out.push_str("cat ")?;
-            write_escaped(out, path.as_str(), Brackets::Kept)
+            write_escaped(out, path.as_str(), brackets)
         }
         Work::Seal => out.push_str("seal"),
     }

@@ -3,6 +3,5 @@ pub mod Columns
 pub mod Folds
 pub mod Ports
 pub mod Rows
-pub mod Spelling
 pub mod Traces
 pub mod Views

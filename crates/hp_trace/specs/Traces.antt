@@ -1,13 +1,14 @@
 -- A scenario traced (own rule).
 use Rattle.std.specs.Prelude.{ℕ, ◌≡◌, ◌+◌, ◌-◌, ◌^◌, Bool, List, [], ◌∷◌, ◌++◌, codes, None, Ok, if◌then◌else◌}
 use Rattle.std.specs.Fmt.{format_spec, styled_decimal}
+use Rattle.hp_escapes.specs.declared.escapes.Brackets.TheVariants.{Escaped}
 use Rattle.hp_machine.specs.Machine.{MachineValue, booted}
 use Rattle.hp_scenario.specs.Scenario.{ScenarioValue, scenario_in}
 use Rattle.hp_scenario.specs.declared.lines.Line.{Line}
 use Rattle.hp_pictures.specs.Rows.{RowValue}
 use Rattle.hp_trace.specs.Calls.{MakesWork}
 use Rattle.hp_trace.specs.Rows.{AreDrawn, DrawsIf, Row, RowsValue, fitted, no_rows}
-use Rattle.hp_trace.specs.Spelling.{line_text}
+use Rattle.hp_spelling.specs.Lines.{shown_line}
 use Rattle.hp_trace.specs.Views.{shows}
 use Rattle.hp_trace.specs.declared.rows.Form.{Form}
 use Rattle.hp_trace.specs.declared.rows.Form.TheVariants.{Kept, Written}
@@ -16,7 +17,7 @@ use Rattle.hp_trace.specs.declared.view.View.{View}
 -- a line's number and the line
 abbrev pub numbered_text : (names : List (List ℕ)) → (number : ℕ) → Line → List ℕ
 numbered_text names number line =
-    styled_decimal (format_spec 32 3 0 4 (2 ^ 64 - 1)) number ++ codes " " ++ line_text names line
+    styled_decimal (format_spec 32 3 0 4 (2 ^ 64 - 1)) number ++ codes " " ++ shown_line Escaped names line
 
 -- the rows that lines make, one list a line; the first line has this number
 abbrev pub MakesLines : (names : List (List ℕ)) → (number : ℕ) → MachineValue → List Line

@@ -12,7 +12,6 @@ mod folds;
 mod lines;
 mod plans;
 mod rows;
-mod spelling;
 mod view;
 
 pub use lines::{trace, trace_rows};

@@ -8,11 +8,12 @@ ghost use Rattle.hp_trace.specs.Traces.{AreRowsOf, IsScenarioTraced, IsStart, Is
 
 use crate::calls::trace_work;
 use crate::rows::{Form, Rows};
-use crate::spelling::write_line;
 use crate::view::View;
+use hp_escapes::Brackets;
 use hp_machine::Machine;
 use hp_pictures::RowPicture;
 use hp_scenario::{Line, Scenario, ScenarioFault};
+use hp_spelling::write_shown_line;
 use hp_units::Text;
 use indexmap::IndexSet;
 use std::alloc::{AllocError, Global};
@@ -137,6 +138,6 @@ fn numbered_text(
 {
     let mut out = String::new(alloc);
     write!(&mut out, "{number:>4} ")?;
-    write_line(&mut out, names, line)?;
+    write_shown_line(&mut out, names, line, Brackets::Escaped)?;
     Ok(out)
 }

@@ -4,7 +4,7 @@ ghost use Rattle.hp_trace.specs.Views.{shows};
 
 /// Which lines are shown, counted from 1, how wide a row may be, and whether free frames are shown
 /// by the orders of their blocks.
-#[derive(Clone, Copy, PartialEq, Eq)]
+#[derive(Clone, Copy)]
 pub struct View {
     /// The first line that is shown.
     pub from: u64,

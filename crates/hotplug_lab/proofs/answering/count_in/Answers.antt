@@ -3,7 +3,7 @@ use Rattle.std.proofs.Common.{string_bytes}
 use Rattle.std.proofs.lemmas.Result.{IfOk-weaker}
 use Rattle.hp_scenario.specs.Seen.{scenario_seen}
 use Rattle.hotplug_lab.proofs.Counted.{counted_none, read_count}
-use Rattle.hotplug_lab.proofs.serving.count_in.Goals as goal
+use Rattle.hotplug_lab.proofs.answering.count_in.Goals as goal
 
 pub returns-in-Ok : goal.returns-in-Ok
 returns-in-Ok c =
