@@ -3,27 +3,23 @@ use super::streams::{Collected, SCENARIO, Scripted};
 use hp_commands::{ProgramFault, serve_serial};
 use hp_streams::{Counted, read_all, write_all};
 use std::alloc::Global;
-use std::test::Fail;
 
 const WRITTEN: &[u8] =
     b"1: frame 0\n2: done\n3: undone 2\nstate\nblock 0 online normal\nblock 1 offline\nNM 2: 0\n";
 
-/// What `serial` answers, and what it writes, where its streams move so many bytes a call.
-fn served(alloc: Global, read: usize, written: usize) -> (Result<(), ProgramFault>, Vec<u8>) {
+/// Whether `serial` writes its text where its streams move so many bytes a call.
+fn is_joined(alloc: Global, read: usize, written: usize) -> bool {
     let mut reader = Scripted::new(SCENARIO, read, 0);
     let mut writer = Collected::new(alloc, written, 0);
     let result = serve_serial(alloc, &mut reader, &mut writer);
-    (result, writer.bytes)
+    result == Ok(()) && writer.bytes.as_slice() == WRITTEN
 }
 
 #[test]
-fn pieces_are_joined(rt: HostRuntime) -> Result<(), Fail> {
-    for (read, written) in [(1, 4096), (5, 30), (4096, 1)] {
-        let (result, bytes) = served(rt.alloc(), read, written);
-        assert!(rt; result == Ok(()), "{read} {written}");
-        assert!(rt; bytes.as_slice() == WRITTEN, "{read} {written}");
-    }
-    Ok(())
+fn pieces_are_joined(rt: HostRuntime) {
+    assert!(rt; is_joined(rt.alloc(), 1, 4096));
+    assert!(rt; is_joined(rt.alloc(), 5, 30));
+    assert!(rt; is_joined(rt.alloc(), 4096, 1));
 }
 
 /// Whether a counted reader of the standard library gives these bytes, and a counted writer takes them.
@@ -38,31 +34,36 @@ fn is_copied(alloc: Global, bytes: &[u8]) -> bool {
 }
 
 #[test]
-fn readers_and_writers_are_streams(rt: HostRuntime) -> Result<(), Fail> {
+fn readers_and_writers_are_streams(rt: HostRuntime) {
     assert!(rt; is_copied(rt.alloc(), b""));
     assert!(rt; is_copied(rt.alloc(), WRITTEN));
-    Ok(())
+}
+
+/// Whether nothing is written where a call of the reader fails.
+fn writes_nothing(alloc: Global, fails_at: u64) -> bool {
+    let mut reader = Scripted::new(SCENARIO, 100, fails_at);
+    let mut writer = Collected::new(alloc, 4096, 0);
+    let result = serve_serial(alloc, &mut reader, &mut writer);
+    result == Err(ProgramFault::ReadFailed) && writer.bytes.is_empty()
 }
 
 #[test]
-fn failed_reads_write_nothing(rt: HostRuntime) -> Result<(), Fail> {
-    for fails_at in [1, 2, 3] {
-        let mut reader = Scripted::new(SCENARIO, 100, fails_at);
-        let mut writer = Collected::new(rt.alloc(), 4096, 0);
-        let result = serve_serial(rt.alloc(), &mut reader, &mut writer);
-        assert!(rt; result == Err(ProgramFault::ReadFailed), "{fails_at}");
-        assert!(rt; writer.bytes.is_empty(), "{fails_at}");
-    }
-    Ok(())
+fn failed_reads_write_nothing(rt: HostRuntime) {
+    assert!(rt; writes_nothing(rt.alloc(), 1));
+    assert!(rt; writes_nothing(rt.alloc(), 2));
+    assert!(rt; writes_nothing(rt.alloc(), 3));
+}
+
+/// Whether a call of the writer that fails is named.
+fn is_named(alloc: Global, fails_at: u64) -> bool {
+    let mut reader = Scripted::new(SCENARIO, 4096, 0);
+    let mut writer = Collected::new(alloc, 30, fails_at);
+    serve_serial(alloc, &mut reader, &mut writer) == Err(ProgramFault::WriteFailed)
 }
 
 #[test]
-fn failed_writes_are_named(rt: HostRuntime) -> Result<(), Fail> {
-    for fails_at in [1, 2, 3] {
-        let mut reader = Scripted::new(SCENARIO, 4096, 0);
-        let mut writer = Collected::new(rt.alloc(), 30, fails_at);
-        let result = serve_serial(rt.alloc(), &mut reader, &mut writer);
-        assert!(rt; result == Err(ProgramFault::WriteFailed), "{fails_at}");
-    }
-    Ok(())
+fn failed_writes_are_named(rt: HostRuntime) {
+    assert!(rt; is_named(rt.alloc(), 1));
+    assert!(rt; is_named(rt.alloc(), 2));
+    assert!(rt; is_named(rt.alloc(), 3));
 }

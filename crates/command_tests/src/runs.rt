@@ -3,7 +3,6 @@ use super::streams::{Collected, SCENARIO, Scripted};
 use hp_commands::{Command, ProgramFault, serve};
 use std::alloc::Global;
 use std::sync::Wait;
-use std::test::Fail;
 use std::thread::Threads;
 
 /// What a command answers to the scenario, and what it writes, where its streams fail at one of
@@ -21,34 +20,40 @@ fn served<R: Threads + Wait + Sync>(
     (result, writer.bytes)
 }
 
+/// Whether a command writes this text.
+fn is_written<R: Threads + Wait + Sync>(
+    rt: &R,
+    alloc: Global,
+    command: Command,
+    text: &str,
+) -> bool {
+    let (result, bytes) = served(rt, command, alloc, 0, 0);
+    result == Ok(()) && bytes.as_slice() == text.as_bytes()
+}
+
+const SERIAL: &str =
+    "1: frame 0\n2: done\n3: undone 2\nstate\nblock 0 online normal\nblock 1 offline\nNM 2: 0\n";
+
+const RUN: &str = "cpu 0\nframe 0\ndone\nundone 2\ncpu 1\n3 records\n";
+
 #[test]
-fn each_command_writes_its_text(rt: HostRuntime) -> Result<(), Fail> {
-    for (command, text) in [
-        (
-            Command::Serial,
-            "1: frame 0\n2: done\n3: undone 2\nstate\nblock 0 online normal\nblock 1 offline\nNM 2: 0\n",
-        ),
-        (
-            Command::Run,
-            "cpu 0\nframe 0\ndone\nundone 2\ncpu 1\n3 records\n",
-        ),
-        (Command::Audit, "3 records\naudit ok\n"),
-    ] {
-        let (result, bytes) = served(&rt, command, rt.alloc(), 0, 0);
-        assert!(rt; result == Ok(()));
-        assert!(rt; bytes.as_slice() == text.as_bytes(), "{text}");
-    }
-    Ok(())
+fn each_command_writes_its_text(rt: HostRuntime) {
+    assert!(rt; is_written(&rt, rt.alloc(), Command::Serial, SERIAL));
+    assert!(rt; is_written(&rt, rt.alloc(), Command::Run, RUN));
+    assert!(rt; is_written(&rt, rt.alloc(), Command::Audit, "3 records\naudit ok\n"));
+}
+
+/// Whether a read that fails and a write that fails are named, the one with nothing written.
+fn are_named<R: Threads + Wait + Sync>(rt: &R, alloc: Global, command: Command) -> bool {
+    let (read, bytes) = served(rt, command, alloc, 2, 0);
+    let (written, _) = served(rt, command, alloc, 0, 2);
+    read == Err(ProgramFault::ReadFailed)
+        && bytes.is_empty()
+        && written == Err(ProgramFault::WriteFailed)
 }
 
 #[test]
-fn failed_streams_are_named(rt: HostRuntime) -> Result<(), Fail> {
-    for command in [Command::Run, Command::Audit] {
-        let (result, bytes) = served(&rt, command, rt.alloc(), 2, 0);
-        assert!(rt; result == Err(ProgramFault::ReadFailed));
-        assert!(rt; bytes.is_empty());
-        let (result, _) = served(&rt, command, rt.alloc(), 0, 2);
-        assert!(rt; result == Err(ProgramFault::WriteFailed));
-    }
-    Ok(())
+fn failed_streams_are_named(rt: HostRuntime) {
+    assert!(rt; are_named(&rt, rt.alloc(), Command::Run));
+    assert!(rt; are_named(&rt, rt.alloc(), Command::Audit));
 }

@@ -116,8 +116,7 @@ fn splits_and_joins(rt: HostRuntime) -> Result<(), Fail> {
     let mut tape = Tape::with_room(rt.alloc(), 10)?;
     let was_whole = is_whole(&buddy);
     take_and_give(&mut buddy, Class::Nm, Order(0), &mut tape);
-    assert!(rt; was_whole && is_whole(&buddy));
-    assert_eq!(rt; tape.len(), 10);
+    assert!(rt; was_whole && is_whole(&buddy) && tape.len() == 10);
     Ok(())
 }
 
@@ -144,8 +143,7 @@ fn is_isolated_and_removed(buddy: &mut Buddy, tape: &mut Tape) -> bool
 fn isolates_and_removes(rt: HostRuntime) -> Result<(), Fail> {
     let mut buddy = small_buddy(rt.alloc())?;
     let mut tape = Tape::with_room(rt.alloc(), 35)?;
-    assert!(rt; is_isolated_and_removed(&mut buddy, &mut tape));
-    assert_eq!(rt; tape.len(), 5);
+    assert!(rt; is_isolated_and_removed(&mut buddy, &mut tape) && tape.len() == 5);
     Ok(())
 }
 
@@ -153,7 +151,7 @@ fn isolates_and_removes(rt: HostRuntime) -> Result<(), Fail> {
 fn made_at_the_least_order(rt: HostRuntime) -> Result<(), Fail> {
     let layout = one_pageblock(rt.alloc(), 0, 1, 1)?;
     let buddy = Buddy::new(rt.alloc(), &layout)?;
-    assert_eq!(rt; buddy.len(Class::Nm, Order(0)), 0);
+    assert!(rt; buddy.len(Class::Nm, Order(0)) == 0);
     Ok(())
 }
 
@@ -162,6 +160,6 @@ fn made_at_the_least_order(rt: HostRuntime) -> Result<(), Fail> {
 fn made_at_the_greatest_order(rt: HostRuntime) -> Result<(), Fail> {
     let layout = one_pageblock(rt.alloc(), 10, 1, 1)?;
     let buddy = Buddy::new(rt.alloc(), &layout)?;
-    assert_eq!(rt; buddy.len(Class::Nm, Order(10)), 0);
+    assert!(rt; buddy.len(Class::Nm, Order(10)) == 0);
     Ok(())
 }

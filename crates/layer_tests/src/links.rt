@@ -32,7 +32,7 @@ fn three_listed(alloc: Global) -> Result<Links, AllocError>
     Ok(copy)
 }
 
-/// Whether the three frames stand one after another.
+/// Whether the three frames stand one after another, and there are no more.
 fn are_in_order(links: &Links) -> bool
     requires { links.now ≡ three_listed }
 {
@@ -41,16 +41,16 @@ fn are_in_order(links: &Links) -> bool
         && links.next(f3) == Some(f2)
         && links.next(f2) == Some(f0)
         && links.next(f0).is_none()
+        && links.last(ListNumber(0)) == Some(f0)
+        && links.len(ListNumber(0)) == 3
 }
 
 #[test]
 fn keeps_order(rt: HostRuntime) -> Result<(), Fail> {
-    let list = ListNumber(0);
     let links = three_listed(rt.alloc())?;
-    assert!(rt; are_in_order(&links));
-    assert!(rt; links.last(list) == Some(Frame(0)) && links.len(list) == 3);
-    let frames = links.list(rt.alloc(), list)?;
-    assert!(rt; frames.as_slice() == [Frame(3), Frame(2), Frame(0)].as_slice());
+    let frames = links.list(rt.alloc(), ListNumber(0))?;
+    let are_listed = frames.as_slice() == [Frame(3), Frame(2), Frame(0)].as_slice();
+    assert!(rt; are_listed && are_in_order(&links));
     Ok(())
 }
 

@@ -85,12 +85,23 @@ fn serve_the_first(alloc: Global, machine: &Machine, scripts: &[Script], ends: &
     }
 }
 
+/// So many lines that ask for memory of an order.
+fn asks(alloc: Global, order: u32, count: u32) -> Result<Vec<Line>, AllocError> {
+    let mut lines = Vec::new(alloc);
+    for _line in 0..count {
+        lines.push(Line::Ask(Event::KernelAlloc {
+            order: Order(order),
+        }))?;
+    }
+    Ok(lines)
+}
+
 /// The scripts of two processors that ask for the only block.
 fn two_asks(alloc: Global) -> Result<Vec<Script>, AllocError>
     ensures { IfOk result (λ scripts. length scripts.items ≡ 2) }
 {
-    let zero = vec![in alloc; Line::Ask(Event::KernelAlloc { order: Order(2) })]?;
-    let one = vec![in alloc; Line::Ask(Event::KernelAlloc { order: Order(2) })]?;
+    let zero = asks(alloc, 2, 1)?;
+    let one = asks(alloc, 2, 1)?;
     scripts(zero, one, alloc)
 }
 
@@ -119,22 +130,12 @@ fn a_block_goes_to_the_first(rt: HostRuntime) -> Result<(), Fail> {
     Ok(())
 }
 
-/// Three lines that ask for a frame each.
-fn three_lines(alloc: Global) -> Result<Vec<Line>, AllocError> {
-    let lines = vec![in alloc;
-        Line::Ask(Event::KernelAlloc { order: Order(0) }),
-        Line::Ask(Event::KernelAlloc { order: Order(0) }),
-        Line::Ask(Event::KernelAlloc { order: Order(0) }),
-    ]?;
-    Ok(lines)
-}
-
-/// The scripts of two processors with three such lines each.
+/// The scripts of two processors that ask for a frame three times each.
 fn three_asks(alloc: Global) -> Result<Vec<Script>, AllocError>
     ensures { IfOk result (λ scripts. length scripts.items ≡ 2) }
 {
-    let zero = three_lines(alloc)?;
-    let one = three_lines(alloc)?;
+    let zero = asks(alloc, 0, 3)?;
+    let one = asks(alloc, 0, 3)?;
     scripts(zero, one, alloc)
 }
 

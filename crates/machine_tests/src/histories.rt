@@ -44,27 +44,18 @@ fn worked(alloc: Global) -> Result<Vec<Record>, AllocError> {
     Ok(records)
 }
 
-/// Whether a state is that at boot.
-fn is_at_boot(alloc: Global, layout: &Layout, image: &Image) -> Result<bool, AllocError> {
-    let boot = Image::boot(alloc, layout)?;
-    let is_same = image.same(&boot);
-    drop(boot);
-    Ok(is_same)
-}
-
 /// Whether a replay of the records leads back to the state at boot.
-fn leads_back(alloc: Global, records: &[Record]) -> Result<bool, Fail> {
-    let layout = one_block(alloc, 9)?;
-    let image = replay(alloc, &layout, records)?;
-    let is_back = is_at_boot(alloc, &layout, &image);
-    drop(image);
-    Ok(is_back?)
+fn leads_back(alloc: Global, layout: &Layout) -> Result<bool, Fail> {
+    let records = worked(alloc)?;
+    let boot = Image::boot(alloc, layout)?;
+    let image = replay(alloc, layout, &records)?;
+    Ok(image.same(&boot))
 }
 
 #[test]
 fn a_history_leads_back_to_boot(rt: HostRuntime) -> Result<(), Fail> {
-    let records = worked(rt.alloc())?;
-    assert!(rt; leads_back(rt.alloc(), &records)?);
+    let layout = one_block(rt.alloc(), 9)?;
+    assert!(rt; leads_back(rt.alloc(), &layout)?);
     Ok(())
 }
 
@@ -128,37 +119,23 @@ fn is_fresh(course: &Course) -> bool {
         && course.memory().layout().cpus() == 1
 }
 
-/// Whether the base of a course, shown and handed out, is this state.
-fn has_base(course: Course, image: &Image) -> bool {
-    let is_shown = course.base().same(image);
-    let base = course.into_base();
-    let is_handed_out = base.same(image);
-    drop(base);
-    is_shown && is_handed_out
+/// Whether the base of a course, handed out, is this state.
+fn hands_out(course: Course, image: &Image) -> bool {
+    course.into_base().same(image)
 }
 
-/// Whether the base of a course is its state.
+/// Whether the base of a course, shown and handed out, is its state.
 fn is_at_its_base(alloc: Global, course: Course) -> Result<bool, AllocError> {
-    match course.image(alloc) {
-        Ok(image) => {
-            let is_so = has_base(course, &image);
-            drop(image);
-            Ok(is_so)
-        }
-        Err(fault) => {
-            drop(course);
-            Err(fault)
-        }
-    }
+    let image = course.image(alloc)?;
+    let is_shown = course.base().same(&image);
+    Ok(hands_out(course, &image) && is_shown)
 }
 
 #[test]
 fn a_course_shows_what_it_keeps(rt: HostRuntime) -> Result<(), Fail> {
     let course = booted(rt.alloc())?;
     let fresh = is_fresh(&course);
-    let at_base = is_at_its_base(rt.alloc(), course);
-    assert!(rt; fresh);
-    assert!(rt; at_base?);
+    assert!(rt; is_at_its_base(rt.alloc(), course)? && fresh);
     Ok(())
 }
 
@@ -202,9 +179,7 @@ fn makes_two_steps(alloc: Global, course: &mut Course) -> Result<bool, AllocErro
 #[test]
 fn an_entry_holds_what_its_step_did(rt: HostRuntime) -> Result<(), Fail> {
     let mut course = booted(rt.alloc())?;
-    let shown = makes_two_steps(rt.alloc(), &mut course);
-    drop(course);
-    assert!(rt; shown?);
+    assert!(rt; makes_two_steps(rt.alloc(), &mut course)?);
     Ok(())
 }
 
@@ -240,8 +215,6 @@ fn goes_on(alloc: Global, course: &mut Course) -> Result<bool, AllocError> {
 #[test]
 fn a_sealed_course_goes_on_from_its_state(rt: HostRuntime) -> Result<(), Fail> {
     let mut course = booted(rt.alloc())?;
-    let went_on = goes_on(rt.alloc(), &mut course);
-    drop(course);
-    assert!(rt; went_on?);
+    assert!(rt; goes_on(rt.alloc(), &mut course)?);
     Ok(())
 }

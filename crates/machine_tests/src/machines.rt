@@ -2,17 +2,49 @@
 use crate::layouts::{four_blocks, one_block};
 use hp_machine::Machine;
 use hp_units::{
-    Auto, Block, CallFault, Class, Cpu, Event, Frame, Item, Kind, OpEnd, Order, Owner, Page,
-    Pageblock, Plan, Reply, Row, Serial, State, Wish, Zone,
+    Auto, Block, CallFault, Class, Cpu, Event, Frame, Item, Kind, Layout, LayoutFault, OpEnd,
+    Order, Owner, Page, Pageblock, Plan, Reply, Row, Serial, State, Wish, Zone,
 };
 use std::alloc::{AllocError, Global};
-use std::test::Fail;
 
-/// A machine with one block of one pageblock, online in zone Normal, and a limit of records.
-fn booted(alloc: Global, history: u64) -> Result<Machine, Fail> {
-    let layout = one_block(alloc, history)?;
-    let machine = Machine::boot(alloc, &layout)?;
-    Ok(machine)
+/// What a test looks for in a machine.
+#[derive(Clone, Copy)]
+enum Scene {
+    StolenBlock,
+    FullHistory,
+    Seals,
+    Boot,
+    Offline,
+}
+
+/// Whether a machine at boot shows a scene. Out of memory it does not.
+fn shows(alloc: Global, machine: &mut Machine, scene: Scene) -> bool {
+    match scene {
+        Scene::StolenBlock => returns_a_block(alloc, machine),
+        Scene::FullHistory => takes_one_call(alloc, machine),
+        Scene::Seals => copy_shows_seals(alloc, machine) == Ok(true),
+        Scene::Boot => shows_boot(machine) && image_has(alloc, machine, 1) == Ok(true),
+        Scene::Offline => goes_offline(alloc, machine) == Ok(true) && has_moved(machine),
+    }
+}
+
+/// Whether a machine of a layout shows a scene.
+fn plays(alloc: Global, layout: Result<Layout, LayoutFault>, scene: Scene) -> bool {
+    match layout {
+        Ok(layout) => plays_on(alloc, &layout, scene),
+        Err(_fault) => false,
+    }
+}
+
+/// Whether a machine of a layout, made here, shows a scene.
+fn plays_on(alloc: Global, layout: &Layout, scene: Scene) -> bool {
+    match Machine::boot(alloc, layout) {
+        Ok(booted) => {
+            let mut machine = booted;
+            shows(alloc, &mut machine, scene)
+        }
+        Err(AllocError) => false,
+    }
 }
 
 /// Whether an event of processor 0 gets this reply.
@@ -54,12 +86,9 @@ fn returns_a_block(alloc: Global, machine: &mut Machine) -> bool {
 }
 
 #[test]
-fn undo_returns_a_stolen_pageblock(rt: HostRuntime) -> Result<(), Fail> {
-    let mut machine = booted(rt.alloc(), 9)?;
-    let returned = returns_a_block(rt.alloc(), &mut machine);
-    drop(machine);
-    assert!(rt; returned);
-    Ok(())
+fn undo_returns_a_stolen_pageblock(rt: HostRuntime) {
+    let layout = one_block(rt.alloc(), 9);
+    assert!(rt; plays(rt.alloc(), layout, Scene::StolenBlock));
 }
 
 /// Whether a call's receipt has its serial, its event and its reply.
@@ -88,12 +117,9 @@ fn takes_one_call(alloc: Global, machine: &mut Machine) -> bool {
 }
 
 #[test]
-fn a_full_history_takes_no_call(rt: HostRuntime) -> Result<(), Fail> {
-    let mut machine = booted(rt.alloc(), 1)?;
-    let took = takes_one_call(rt.alloc(), &mut machine);
-    drop(machine);
-    assert!(rt; took);
-    Ok(())
+fn a_full_history_takes_no_call(rt: HostRuntime) {
+    let layout = one_block(rt.alloc(), 1);
+    assert!(rt; plays(rt.alloc(), layout, Scene::FullHistory));
 }
 
 /// Whether a block is taken and given back, and a seal hands out both records.
@@ -103,23 +129,17 @@ fn seals_two(alloc: Global, machine: &mut Machine) -> Result<bool, AllocError> {
     Ok(two && volume.before == 0 && volume.records.as_slice().len() == 2)
 }
 
-/// Whether a copy has two sealed records, and a free block in its base.
-fn copy_shows_seals(alloc: Global, machine: &Machine) -> Result<bool, AllocError> {
+/// Whether a copy then has two sealed records, and a free block in its base.
+fn copy_shows_seals(alloc: Global, machine: &mut Machine) -> Result<bool, AllocError> {
+    let sealed = seals_two(alloc, machine)?;
     let copy = machine.copy(alloc)?;
-    let shows = copy.sealed() == 2 && copy.base().list(Class::Nu, Order(2)).len() == 1;
-    drop(copy);
-    Ok(shows)
+    Ok(sealed && copy.sealed() == 2 && copy.base().list(Class::Nu, Order(2)).len() == 1)
 }
 
 #[test]
-fn a_copy_shows_what_was_sealed(rt: HostRuntime) -> Result<(), Fail> {
-    let mut machine = booted(rt.alloc(), 3)?;
-    let sealed = seals_two(rt.alloc(), &mut machine);
-    let shown = copy_shows_seals(rt.alloc(), &machine);
-    drop(machine);
-    assert!(rt; sealed?);
-    assert!(rt; shown?);
-    Ok(())
+fn a_copy_shows_what_was_sealed(rt: HostRuntime) {
+    let layout = one_block(rt.alloc(), 3);
+    assert!(rt; plays(rt.alloc(), layout, Scene::Seals));
 }
 
 /// Whether the queries show the state at boot.
@@ -140,37 +160,22 @@ fn shows_boot(machine: &Machine) -> bool {
 /// Whether the Image of the state has so many free blocks of order 2.
 fn image_has(alloc: Global, machine: &Machine, count: usize) -> Result<bool, AllocError> {
     let image = machine.image(alloc)?;
-    let has = image.list(Class::Nm, Order(2)).len() == count;
-    drop(image);
-    Ok(has)
+    Ok(image.list(Class::Nm, Order(2)).len() == count)
 }
 
 #[test]
-fn queries_show_the_state_at_boot(rt: HostRuntime) -> Result<(), Fail> {
-    let machine = booted(rt.alloc(), 1)?;
-    let shown = shows_boot(&machine);
-    let in_image = image_has(rt.alloc(), &machine, 1);
-    drop(machine);
-    assert!(rt; shown);
-    assert!(rt; in_image?);
-    Ok(())
-}
-
-/// A machine with four blocks, of which the third is movable and the fourth offline.
-fn wide(alloc: Global) -> Result<Machine, Fail> {
-    let layout = four_blocks(alloc)?;
-    let machine = Machine::boot(alloc, &layout)?;
-    Ok(machine)
+fn queries_show_the_state_at_boot(rt: HostRuntime) {
+    let layout = one_block(rt.alloc(), 1);
+    assert!(rt; plays(rt.alloc(), layout, Scene::Boot));
 }
 
 /// The plan that takes block 2 offline.
 fn offline(alloc: Global) -> Result<Plan, AllocError> {
-    let items = vec![in alloc;
-        Item {
-            block: Block(2),
-            wish: Wish::Off
-        },
-    ]?;
+    let mut items = Vec::new(alloc);
+    items.push(Item {
+        block: Block(2),
+        wish: Wish::Off,
+    })?;
     Plan::new(alloc, items)
 }
 
@@ -196,12 +201,7 @@ fn has_moved(machine: &Machine) -> bool {
 }
 
 #[test]
-fn a_mapped_block_goes_offline(rt: HostRuntime) -> Result<(), Fail> {
-    let mut machine = wide(rt.alloc())?;
-    let gone = goes_offline(rt.alloc(), &mut machine);
-    let moved = has_moved(&machine);
-    drop(machine);
-    assert!(rt; gone?);
-    assert!(rt; moved);
-    Ok(())
+fn a_mapped_block_goes_offline(rt: HostRuntime) {
+    let layout = four_blocks(rt.alloc());
+    assert!(rt; plays(rt.alloc(), layout, Scene::Offline));
 }

@@ -79,6 +79,6 @@ fn offline_becomes_a_plan(rt: HostRuntime) -> Result<(), Fail> {
 fn faults_have_names(rt: HostRuntime) -> Result<(), Fail> {
     let fault = ControlFault::WriteOnly;
     let text = format!(in rt.alloc(); "echo: fault {fault}")?;
-    assert_eq!(rt; text.as_str(), "echo: fault WriteOnly");
+    assert!(rt; text.as_str() == "echo: fault WriteOnly");
     Ok(())
 }

@@ -1,6 +1,7 @@
-//! Worked examples of the crates that stand beside a machine: of a state as a value (`images`), of a plan's driver (`plans`), and of what is read and written (`controls`,
-//! `control_writes`, `scenarios`, `texts`, `maps`, `traces`). What several of them work on stands
-//! in `layouts` and `machines`.
+//! Worked examples of the crates that stand beside a machine: of a state as a value (`images`), of a
+//! plan's driver (`plans`), and of what is read and written (`controls`, `control_writes`,
+//! `scenarios`, `texts`, `maps`, `traces`). What several of them work on stands in `layouts` and
+//! `machines`.
 //!
 //! `rt test` in this folder runs them.
 #![tactic(auto)]

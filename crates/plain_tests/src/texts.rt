@@ -19,36 +19,35 @@ const ANSWERS: &str =
     "3: frame 8\nrefused Busy 2\n-: fault HistoryFull\nfault OutOfMemory\ncat: fault NoFile\n\
      echo: fault BadText\nplan: cancelled NoFrame restored\nplan: left - HistoryFull\nsealed 7\n";
 
-/// The text of an answer of each kind.
-fn answers(alloc: Global) -> Result<String, AllocError> {
-    let mut out = String::new(alloc);
-    write_answer(&mut out, Serial(3), Reply::Frame(Frame(8)))?;
-    write_reply(&mut out, Reply::Refused(Refusal::Busy { block: Block(2) }))?;
-    write_unrecorded(&mut out, CallFault::HistoryFull)?;
-    write_call_fault(&mut out, CallFault::OutOfMemory)?;
-    write_read_fault(&mut out, ControlFault::NoFile)?;
-    write_echo_fault(&mut out, ControlFault::BadText)?;
+/// Writes an answer of each kind.
+fn write_answers(out: &mut String) -> Result<(), AllocError> {
+    write_answer(out, Serial(3), Reply::Frame(Frame(8)))?;
+    write_reply(out, Reply::Refused(Refusal::Busy { block: Block(2) }))?;
+    write_unrecorded(out, CallFault::HistoryFull)?;
+    write_call_fault(out, CallFault::OutOfMemory)?;
+    write_read_fault(out, ControlFault::NoFile)?;
+    write_echo_fault(out, ControlFault::BadText)?;
     write_plan_end(
-        &mut out,
+        out,
         OpEnd::Cancelled {
             why: Some(Refusal::NoFrame),
             restored: true,
         },
     )?;
     write_plan_end(
-        &mut out,
+        out,
         OpEnd::Left {
             op: None,
             fault: CallFault::HistoryFull,
         },
     )?;
-    write_sealed(&mut out, 7)?;
-    Ok(out)
+    write_sealed(out, 7)
 }
 
 #[test]
 fn answers_have_their_texts(rt: HostRuntime) -> Result<(), Fail> {
-    let text = answers(rt.alloc())?;
+    let mut text = String::new(rt.alloc());
+    write_answers(&mut text)?;
     assert!(rt; text.as_str() == ANSWERS);
     Ok(())
 }
@@ -76,21 +75,26 @@ fn maps_once(alloc: Global, machine: &mut Machine) -> bool {
         && is_answered(alloc, machine, &event, &refused)
 }
 
-/// The text of a state whose only owner is called `db`.
-fn text_of(alloc: Global, image: &Image) -> Result<String, AllocError> {
-    let mut names = IndexSet::new(alloc);
+/// The names of owners, of which `db` is the only one.
+fn one_name(alloc: Global) -> Result<IndexSet<Text>, AllocError> {
     let name = Text::new(String::from_str(alloc, "db")?);
+    let mut names = IndexSet::new(alloc);
     let _ = names.insert_full(name)?;
+    Ok(names)
+}
+
+/// Whether a state whose only owner is called `db` has the text of the mapped page.
+fn has_the_page(alloc: Global, image: &Image, names: &IndexSet<Text>) -> Result<bool, AllocError> {
     let mut out = String::new(alloc);
-    write_state(&mut out, alloc, image, &names)?;
-    Ok(out)
+    write_state(&mut out, alloc, image, names)?;
+    Ok(out.as_str() == MAPPED)
 }
 
 /// Whether the text of a machine's state is that of the mapped page.
 fn shows_the_page(alloc: Global, machine: &Machine) -> Result<bool, AllocError> {
+    let names = one_name(alloc)?;
     let image = machine.image(alloc)?;
-    let text = text_of(alloc, &image)?;
-    Ok(text.as_str() == MAPPED)
+    has_the_page(alloc, &image, &names)
 }
 
 /// The text of a state with a page.

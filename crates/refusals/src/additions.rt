@@ -3,83 +3,98 @@
 ghost use Rattle.std.specs.Prelude.{◌≡◌};
 ghost use Rattle.hp_units.specs.Arithmetic.{frame_count};
 
-use crate::trouble::{Case, Outcome, answer_of};
+use crate::trouble::{Case, Outcome, Trouble, expect};
 use crate::values::{layout_of, two_words};
 use hp_plain::{Image, Part};
 use hp_units::{Class, Cpu, Frame, Order, Owner, Page, Pool};
 use std::alloc::{AllocError, Global};
 
-/// Adds a free block, a frame of a processor's list and a page to a state that has none.
+/// A part that is added.
+#[derive(Clone, Copy)]
+enum Addition {
+    /// A free block.
+    Free,
+    /// A frame of a processor's list.
+    Cached,
+    /// A page.
+    Page,
+}
+
+/// Adds a part of each kind to a state that has none.
 pub fn run(case: &mut Case<'_>) -> Outcome {
     let layout = layout_of(case.alloc, 10)?;
     let mut image = Image::empty(case.alloc, &layout)?;
-    Ok(
-        add(case, &mut image, is_free_put)?
-            && add(case, &mut image, is_cached_put)?
-            && add(case, &mut image, is_page_put)?,
-    )
+    add_all(case, &mut image)
 }
 
-/// Whether a part is there after it was added.
-fn add<P: Fn(Global, &mut Image) -> Outcome>(
-    case: &mut Case<'_>,
-    image: &mut Image,
-    put: P,
-) -> Outcome
-    requires { P.IsAlwaysCallable put }
-{
+/// Adds a part of each kind.
+fn add_all(case: &mut Case<'_>, image: &mut Image) -> Outcome {
+    add(case, image, Addition::Free)?;
+    add(case, image, Addition::Cached)?;
+    add(case, image, Addition::Page)
+}
+
+/// Adds a part. Where it is out of memory, the state has to be as it was, and the part is added
+/// again.
+fn add(case: &mut Case<'_>, image: &mut Image, addition: Addition) -> Outcome {
     let before = image.copy(case.alloc)?;
-    answer_of(case, image, put, |_, image, _| Ok(image.same(&before)))
-}
-
-/// Whether a free block is there after it was put there.
-fn is_free_put(_alloc: Global, image: &mut Image) -> Outcome {
-    if image.layout().order() != 2 || image.layout().frames() != 16 {
-        return Ok(false);
+    match put(case.alloc, image, addition) {
+        Ok(()) => Ok(()),
+        Err(trouble) => {
+            let is_kept = expect(image.same(&before));
+            case.refused(trouble, is_kept)?;
+            put(case.alloc, image, addition)
+        }
     }
-    image.add(Part::Free {
-        class: Class::Nm,
-        order: Order(1),
-        frame: Frame(4),
-    })?;
-    Ok(image.list(Class::Nm, Order(1)) == [Frame(4)].as_slice())
 }
 
-/// Whether a frame of a processor's list is there after it was put there.
-fn is_cached_put(_alloc: Global, image: &mut Image) -> Outcome {
-    if image.layout().cpus() != 2 || image.layout().frames() != 16 {
-        return Ok(false);
-    }
-    image.add(Part::Cached {
-        cpu: Cpu(1),
-        pool: Pool::Nm,
-        frame: Frame(6),
-    })?;
-    Ok(image.cpu_list(Cpu(1), Pool::Nm) == [Frame(6)].as_slice())
-}
-
-/// Whether a page is there after it was put there.
-fn is_page_put(alloc: Global, image: &mut Image) -> Outcome {
+/// Puts a part there, which then has to be there.
+fn put(alloc: Global, image: &mut Image, addition: Addition) -> Outcome {
     let layout = image.layout();
-    if layout.owners() != 2 || layout.pages() != 8 || layout.words() != 2 || layout.frames() != 16 {
-        return Ok(false);
+    if layout.order() != 2 || layout.frames() != 16 || layout.cpus() != 2 {
+        return Err(Trouble::Wrong);
     }
-    put_page(alloc, image)?;
-    Ok(image.words(Owner(1), Page(3)) == Some([7, 9].as_slice()))
+    if layout.owners() != 2 || layout.pages() != 8 || layout.words() != 2 {
+        return Err(Trouble::Wrong);
+    }
+    put_small(alloc, image, addition)?;
+    expect(is_there(image, addition))
 }
 
-/// Puts a page of two words there.
-fn put_page(alloc: Global, image: &mut Image) -> Result<(), AllocError>
+/// Puts a part in a state of sixteen frames.
+fn put_small(alloc: Global, image: &mut Image, addition: Addition) -> Result<(), AllocError>
+    requires order { image.old.layout.order ≡ 2 }
+    requires frames { frame_count image.old.layout ≡ 16 }
+    requires cpus { image.old.layout.cpus ≡ 2 }
     requires owners { image.old.layout.owners ≡ 2 }
     requires pages { image.old.layout.pages ≡ 8 }
     requires words { image.old.layout.words ≡ 2 }
-    requires frames { frame_count image.old.layout ≡ 16 }
 {
-    let words = two_words(alloc)?;
-    image.add(Part::Mapped {
-        owner: Owner(1),
-        page: Page(3),
-        frame: Frame(5),
-        words,
-    })
+    match addition {
+        Addition::Free => image.add(Part::Free {
+            class: Class::Nm,
+            order: Order(1),
+            frame: Frame(4),
+        }),
+        Addition::Cached => image.add(Part::Cached {
+            cpu: Cpu(1),
+            pool: Pool::Nm,
+            frame: Frame(6),
+        }),
+        Addition::Page => image.add(Part::Mapped {
+            owner: Owner(1),
+            page: Page(3),
+            frame: Frame(5),
+            words: two_words(alloc)?,
+        }),
+    }
+}
+
+/// Whether a part is there.
+fn is_there(image: &Image, addition: Addition) -> bool {
+    match addition {
+        Addition::Free => image.list(Class::Nm, Order(1)) == [Frame(4)].as_slice(),
+        Addition::Cached => image.cpu_list(Cpu(1), Pool::Nm) == [Frame(6)].as_slice(),
+        Addition::Page => image.words(Owner(1), Page(3)) == Some([7, 9].as_slice()),
+    }
 }

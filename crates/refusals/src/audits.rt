@@ -1,7 +1,7 @@
 //! Records that are replayed, and sealed records that follow one another.
 use crate::calls::make_call;
-use crate::same::same_machines;
-use crate::trouble::{Case, Outcome};
+use crate::same::expect_same_machines;
+use crate::trouble::{Case, Outcome, Trouble, expect};
 use hp_history::{Course, Volume, audit_chain, replay, replay_from};
 use hp_machine::Machine;
 use hp_plain::Image;
@@ -16,76 +16,61 @@ pub const CALLS: &str =
 /// Runs the lines of a scenario on a machine, and replays what they left.
 pub fn run(case: &mut Case<'_>, scenario: &Scenario) -> Outcome {
     let mut machine = Machine::boot(case.alloc, &scenario.layout)?;
-    let mut volumes = Vec::new(case.alloc);
-    run_all(
-        case.alloc,
-        &mut machine,
-        &mut volumes,
-        scenario.lines.as_slice(),
-    )?;
-    is_audited(case.alloc, &machine, &volumes)
+    run_audited(case.alloc, &mut machine, scenario.lines.as_slice())
 }
 
-/// Runs the lines, and keeps what the seals hand out.
-fn run_all(
-    alloc: Global,
-    machine: &mut Machine,
-    volumes: &mut Vec<Volume>,
-    lines: &[Line],
-) -> Outcome<()> {
+/// Runs the lines, and replays what they left.
+fn run_audited(alloc: Global, machine: &mut Machine, lines: &[Line]) -> Outcome {
+    let mut volumes = Vec::new(alloc);
     for line in lines {
         match &line.work {
             Work::Event(event) => make_call(alloc, machine, line.cpu, event)?,
-            _ => make_seal(alloc, machine, volumes)?,
+            _ => make_seal(alloc, machine, &mut volumes)?,
         }
     }
-    Ok(())
+    audit(alloc, machine, &volumes)
 }
 
 /// Seals the history, and keeps what that hands out.
-fn make_seal(alloc: Global, machine: &mut Machine, volumes: &mut Vec<Volume>) -> Outcome<()> {
+fn make_seal(alloc: Global, machine: &mut Machine, volumes: &mut Vec<Volume>) -> Outcome {
     volumes.reserve(1)?;
     let volume = machine.seal(alloc)?;
     volumes.push_reserved(volume);
     Ok(())
 }
 
-/// Whether all records lead to the machine's state, and the machine is as its copy after that.
-fn is_audited(alloc: Global, machine: &Machine, volumes: &[Volume]) -> Outcome {
+/// Wants all records to lead to the machine's state, and the machine to be as its copy after that.
+fn audit(alloc: Global, machine: &Machine, volumes: &[Volume]) -> Outcome {
     let copy = machine.copy(alloc)?;
-    Ok(
-        is_led_to(alloc, machine, volumes)?
-            && starts_anew(alloc, machine.layout())?
-            && is_replayed(alloc, volumes)?
-            && same_machines(alloc, machine, &copy)?,
-    )
+    lead_on(alloc, machine, volumes)?;
+    start_anew(alloc, machine.layout())?;
+    replay_first(alloc, volumes)?;
+    expect_same_machines(alloc, machine, &copy)
 }
 
-/// Whether the volumes lead to the machine's base, and its records from there to its state.
-fn is_led_to(alloc: Global, machine: &Machine, volumes: &[Volume]) -> Outcome {
+/// Wants the volumes to lead to the machine's base, and its records from there to its state.
+fn lead_on(alloc: Global, machine: &Machine, volumes: &[Volume]) -> Outcome {
     let base = audit_chain(alloc, machine.layout(), volumes)?;
     machine.stays_sound();
     let end = replay_from(alloc, &base, machine.sealed(), machine.history())?;
     let image = machine.image(alloc)?;
-    Ok(base.same(machine.base()) && end.same(&image))
+    expect(base.same(machine.base()) && end.same(&image))
 }
 
-/// Whether the records of the first volume lead to the base of the second.
-fn is_replayed(alloc: Global, volumes: &[Volume]) -> Outcome {
-    match volumes {
-        [first, second] => {
-            let layout = first.base.layout();
-            let image = replay(alloc, layout, first.records.as_slice())?;
-            Ok(image.same(&second.base))
-        }
-        _ => Ok(false),
-    }
+/// Wants the records of the first volume to lead to the base of the second.
+fn replay_first(alloc: Global, volumes: &[Volume]) -> Outcome {
+    let [first, second] = volumes else {
+        return Err(Trouble::Wrong);
+    };
+    let layout = first.base.layout();
+    let image = replay(alloc, layout, first.records.as_slice())?;
+    expect(image.same(&second.base))
 }
 
-/// Whether a course at boot has the state of an Image at boot, and began with it.
-fn starts_anew(alloc: Global, layout: &Layout) -> Outcome {
+/// Wants a course at boot to have the state of an Image at boot, and to have begun with it.
+fn start_anew(alloc: Global, layout: &Layout) -> Outcome {
     let boot = Image::boot(alloc, layout)?;
     let course = Course::boot(alloc, layout)?;
     let image = course.image(alloc)?;
-    Ok(image.same(&boot) && course.base().same(&boot))
+    expect(image.same(&boot) && course.base().same(&boot))
 }

@@ -3,41 +3,40 @@
 ghost use Rattle.std.specs.Prelude.{◌<◌, length};
 
 use crate::calls::{is_full, make_call};
-use crate::trouble::{Case, Outcome};
-use crate::values::{begin, layout_of, note, two_words};
+use crate::trouble::{Case, Outcome, expect};
+use crate::values::{begin, machine_of, note, two_words};
 use hp_machine::{Machine, MachinePort};
 use hp_ops::Port;
 use hp_plain::Image;
 use hp_tape::{Delta, Tape};
 use hp_units::{
     Auto, Block, Class, Cpu, Event, Frame, Layout, Order, Owner, Page, Pageblock, Pool, Serial,
-    Words, block_of, buddy, pageblock_of,
+    block_of, buddy, pageblock_of,
 };
 use std::alloc::Global;
 
 /// Makes a machine that two owners have a page of, after which its history is full, and goes on.
 pub fn run(case: &Case<'_>) -> Outcome {
-    let layout = layout_of(case.alloc, 2)?;
-    let mut machine = Machine::boot(case.alloc, &layout)?;
-    map_page(case.alloc, &mut machine, Cpu(0), Owner(0))?;
-    map_page(case.alloc, &mut machine, Cpu(1), Owner(1))?;
-    with_state(case, &mut machine)
+    let mut machine = machine_of(case.alloc, 2)?;
+    with_pages(case, &mut machine)
+}
+
+/// Maps the pages, makes the machine's state and a tape that has room for a delta, and goes on.
+fn with_pages(case: &Case<'_>, machine: &mut Machine) -> Outcome {
+    map_page(case.alloc, machine, Cpu(0), Owner(0))?;
+    map_page(case.alloc, machine, Cpu(1), Owner(1))?;
+    let image = machine.image(case.alloc)?;
+    let mut tape = Tape::with_room(case.alloc, 1)?;
+    with_event(case, machine, &image, &mut tape)
 }
 
 /// Maps the first page of an owner.
-fn map_page(alloc: Global, machine: &mut Machine, cpu: Cpu, owner: Owner) -> Outcome<()> {
+fn map_page(alloc: Global, machine: &mut Machine, cpu: Cpu, owner: Owner) -> Outcome {
     let event = Event::Map {
         owner,
         page: Page(0),
     };
     make_call(alloc, machine, cpu, &event)
-}
-
-/// Makes the machine's state and a tape that has room for a delta, and goes on.
-fn with_state(case: &Case<'_>, machine: &mut Machine) -> Outcome {
-    let image = machine.image(case.alloc)?;
-    let mut tape = Tape::with_room(case.alloc, 1)?;
-    with_event(case, machine, &image, &mut tape)
 }
 
 /// Makes an event that holds a plan, and words, says so, and makes the calls.
@@ -47,12 +46,14 @@ fn with_event(case: &Case<'_>, machine: &mut Machine, image: &Image, tape: &mut 
     let event = begin(case.alloc)?;
     let words = two_words(case.alloc)?;
     case.say_set_up();
-    Ok(
+    expect(
         is_counted(machine.layout())
             && is_read(machine)
             && is_image(image)
             && is_noted(tape)
-            && is_listed(&event, &words)
+            && event.same(&event)
+            && words.same(&words)
+            && words.as_slice() == [7, 9].as_slice()
             && is_refused(case.alloc, machine),
     )
 }
@@ -105,11 +106,6 @@ fn is_noted(tape: &mut Tape) -> bool
         && tape.len() == 1
         && matches!(tape.latest(), Some(Delta::Auto { .. }))
         && tape.len() == 0
-}
-
-/// Lists that were made of vectors.
-fn is_listed(event: &Event, words: &Words) -> bool {
-    event.same(event) && words.same(words) && words.as_slice() == [7, 9].as_slice()
 }
 
 /// A call where the history is full, by the machine and by a port.

@@ -1,6 +1,6 @@
 //! The lines of a situation, each of them a call that may be out of memory.
 use crate::calls::{call, plan, seal};
-use crate::trouble::{Case, Outcome, Trouble};
+use crate::trouble::{Case, Outcome, Trouble, expect};
 use hp_control::{buddyinfo, read_file, read_text};
 use hp_machine::Machine;
 use hp_requests::{CONTROL_TURNS, Request, echo_answer, parse_write};
@@ -8,21 +8,21 @@ use hp_scenario::{Echo, Line, Scenario, Work};
 use hp_units::{Cpu, Event, Serial};
 use std::alloc::Global;
 
-/// Runs the lines of a scenario on a machine, and undoes all of them since the last seal, which
-/// leads to the base.
+/// Runs the lines of a scenario on a machine, and goes back.
 pub fn run(case: &mut Case<'_>, scenario: &Scenario) -> Outcome {
     let mut machine = Machine::boot(case.alloc, &scenario.layout)?;
     for line in scenario.lines.as_slice() {
-        if !run_line(case, &mut machine, line)? {
-            return Ok(false);
-        }
+        run_line(case, &mut machine, line)?;
     }
+    go_back(case, &mut machine)
+}
+
+/// Undoes all calls since the last seal, which leads to the base.
+fn go_back(case: &mut Case<'_>, machine: &mut Machine) -> Outcome {
     let serial = Serial(machine.sealed());
-    if !call(case, &mut machine, Cpu(0), &Event::UndoAfter { serial })? {
-        return Ok(false);
-    }
+    call(case, machine, Cpu(0), &Event::UndoAfter { serial })?;
     let image = machine.image(case.alloc)?;
-    Ok(image.same(machine.base()))
+    expect(image.same(machine.base()))
 }
 
 /// Runs a line.
@@ -39,36 +39,25 @@ fn run_line(case: &mut Case<'_>, machine: &mut Machine, line: &Line) -> Outcome 
 /// Writes to a control file.
 fn echo(case: &mut Case<'_>, machine: &mut Machine, cpu: Cpu, asked: &Echo) -> Outcome {
     match asked.request() {
-        Ok(request) => write_request(case, machine, cpu, asked, request),
+        Ok(request) => {
+            expect_written(case.alloc, asked, request)?;
+            expect_echoed(case.alloc, asked, request)?;
+            ask(case, machine, cpu, request)
+        }
         Err(fault) => Err(Trouble::from(*fault)),
     }
 }
 
-/// Asks for what was read from a word that is written to a control file.
-fn write_request(
-    case: &mut Case<'_>,
-    machine: &mut Machine,
-    cpu: Cpu,
-    asked: &Echo,
-    request: &Request,
-) -> Outcome {
-    Ok(
-        is_written(case.alloc, asked, request)?
-            && is_echoed(case.alloc, asked, request)?
-            && ask(case, machine, cpu, request)?,
-    )
-}
-
-/// Whether a write of a word's bytes is read as this request.
-fn is_written(alloc: Global, asked: &Echo, request: &Request) -> Outcome {
+/// Wrong, unless a write of a word's bytes is read as this request.
+fn expect_written(alloc: Global, asked: &Echo, request: &Request) -> Outcome {
     let other = parse_write(alloc, asked.path(), asked.word().as_bytes())?;
-    Ok(same_requests(request, &other))
+    expect(same_requests(request, &other))
 }
 
-/// Whether an echo of a word is read as this request.
-fn is_echoed(alloc: Global, asked: &Echo, request: &Request) -> Outcome {
+/// Wrong, unless an echo of a word is read as this request.
+fn expect_echoed(alloc: Global, asked: &Echo, request: &Request) -> Outcome {
     match echo_answer(alloc, asked.path(), asked.word())? {
-        Ok(other) => Ok(same_requests(request, &other)),
+        Ok(other) => expect(same_requests(request, &other)),
         Err(fault) => Err(Trouble::from(fault)),
     }
 }
@@ -93,20 +82,23 @@ fn same_requests(one: &Request, other: &Request) -> bool {
 /// Reads a control file, in each way that there is.
 fn cat(alloc: Global, machine: &Machine, path: &str) -> Outcome {
     let bytes = read_file(alloc, machine, path)?;
-    let text = read_text(alloc, machine, path)?;
-    Ok(
-        !bytes.is_empty()
-            && text.as_str().as_bytes() == bytes.as_slice()
-            && is_shown(alloc, machine, path, &bytes)?,
-    )
+    expect_text(alloc, machine, path, &bytes)?;
+    expect(!bytes.is_empty())?;
+    expect_bytes(alloc, machine, path, &bytes)
 }
 
-/// Whether a control file has these bytes once more; `buddyinfo` in its own reader.
-fn is_shown(alloc: Global, machine: &Machine, path: &str, bytes: &[u8]) -> Outcome {
+/// Wrong, unless the text of a control file has these bytes.
+fn expect_text(alloc: Global, machine: &Machine, path: &str, bytes: &[u8]) -> Outcome {
+    let text = read_text(alloc, machine, path)?;
+    expect(text.as_str().as_bytes() == bytes)
+}
+
+/// Wrong, unless a control file has these bytes once more; `buddyinfo` in its own reader.
+fn expect_bytes(alloc: Global, machine: &Machine, path: &str, bytes: &[u8]) -> Outcome {
     let shown = if path == "buddyinfo" {
         buddyinfo(alloc, machine)?
     } else {
         read_file(alloc, machine, path)?
     };
-    Ok(shown.as_slice() == bytes)
+    expect(shown.as_slice() == bytes)
 }

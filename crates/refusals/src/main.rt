@@ -22,6 +22,7 @@ mod trouble;
 mod values;
 mod workers;
 
+use hp_scenario::Scenario;
 use situations::{calls_of, cases, scenario_of};
 use std::env;
 use std::process::ExitCode;
@@ -48,39 +49,46 @@ fn run_case<R: Threads + Wait + Sync>(rt: &R, case: &mut Case<'_>, name: &str) -
     }
 }
 
-/// Runs a situation.
+/// Reads the scenario of a situation, and runs it.
 fn run_situation<R: Threads + Wait + Sync>(rt: &R, case: &mut Case<'_>, name: &str) -> Outcome {
     let Some(calls) = calls_of(name) else {
-        return Ok(false);
+        return Err(Trouble::Wrong);
     };
     let scenario = scenario_of(case.alloc, calls)?;
+    run_scenario(rt, case, name, &scenario)
+}
+
+/// Runs the scenario of a situation.
+fn run_scenario<R: Threads + Wait + Sync>(
+    rt: &R,
+    case: &mut Case<'_>,
+    name: &str,
+    scenario: &Scenario,
+) -> Outcome {
     match name {
-        "memories" => memories::run(case, &scenario),
-        "audits" => audits::run(case, &scenario),
-        "seats" => seats::run(rt, case, &scenario),
-        "steps-in-room" => rooms::steps(case, &scenario),
-        "undo-in-room" => rooms::undo(case, &scenario),
-        "undo-after-map" | "cancel-after-map" => rooms::go_back(case, &scenario),
-        _ => lines::run(case, &scenario),
+        "memories" => memories::run(case, scenario),
+        "audits" => audits::run(case, scenario),
+        "seats" => seats::run(rt, case, scenario),
+        "steps-in-room" => rooms::steps(case, scenario),
+        "undo-in-room" => rooms::undo(case, scenario),
+        "undo-after-map" | "cancel-after-map" => rooms::go_back(case, scenario),
+        _ => lines::run(case, scenario),
     }
 }
 
 /// Runs all cases.
 fn run_each<R: Threads + Wait + Sync>(rt: &R, case: &mut Case<'_>) -> Outcome {
     for (name, _calls) in cases() {
-        if !run_case(rt, case, *name)? {
-            return Ok(false);
-        }
+        run_case(rt, case, *name)?;
     }
-    Ok(true)
+    Ok(())
 }
 
 /// Prints the names of all cases.
-fn print_names(rt: &HostRuntime) -> Outcome {
+fn print_names(rt: &HostRuntime) {
     for (name, _calls) in cases() {
         let _said = println!(rt; "{name}");
     }
-    Ok(true)
 }
 
 /// Does what the words ask for, the first of which is the program's name.
@@ -90,7 +98,10 @@ fn run<R: Threads + Wait + Sync>(rt: &R, host: &HostRuntime, case: &mut Case<'_>
     };
     let words: Vec<String> = words.collect(case.alloc)?;
     match words.as_slice() {
-        [_, word] if word.as_str() == "names" => print_names(host),
+        [_, word] if word.as_str() == "names" => {
+            print_names(host);
+            Ok(())
+        }
         [_, word] => run_case(rt, case, word.as_str()),
         _ => run_each(rt, case),
     }
@@ -100,7 +111,7 @@ fn run<R: Threads + Wait + Sync>(rt: &R, host: &HostRuntime, case: &mut Case<'_>
 fn run_again<R: Threads + Wait + Sync>(rt: &R, host: &HostRuntime, case: &mut Case<'_>) -> Outcome {
     for _turn in 0..TURNS {
         match run(rt, host, case) {
-            Ok(is_right) => return Ok(is_right),
+            Ok(()) => return Ok(()),
             Err(Trouble::Wrong) => return Err(Trouble::Wrong),
             Err(_) => case.note(),
         }
@@ -112,7 +123,7 @@ fn main(rt: HostRuntime) -> ExitCode {
     let mut case = Case::new(&rt);
     let ending = run_again(&rt, &rt, &mut case);
     let _said = eprintln!(rt; "{}", case.refusals);
-    if matches!(ending, Ok(true)) {
+    if ending.is_ok() {
         let _said = println!(rt; "as with ample memory");
         ExitCode::from(0)
     } else {

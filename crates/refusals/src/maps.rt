@@ -1,29 +1,22 @@
 //! The places of a machine's frames, and their picture.
-use crate::trouble::Outcome;
-use crate::values::layout_of;
+use crate::trouble::{Outcome, expect};
+use crate::values::machine_of;
 use hp_machine::Machine;
 use hp_map::{Place, picture_of, places_of};
+use hp_pictures::BlockPicture;
 use std::alloc::Global;
-
-/// The heads and the cells of the memory blocks at boot.
-const DRAWN: &[(&str, &str)] = &[
-    ("0:N", "(2.)"),
-    ("1:N", "(2.)"),
-    ("2:M", "(2.)"),
-    ("3:off", "----"),
-];
 
 /// Looks for the places of all frames at boot, and for their picture.
 pub fn run(alloc: Global) -> Outcome {
-    let layout = layout_of(alloc, 10)?;
-    let machine = Machine::boot(alloc, &layout)?;
-    Ok(are_placed(alloc, &machine)? && is_drawn(alloc, &machine)?)
+    let machine = machine_of(alloc, 10)?;
+    expect_places(alloc, &machine)?;
+    expect_picture(alloc, &machine)
 }
 
-/// Whether twelve frames are free, and four offline.
-fn are_placed(alloc: Global, machine: &Machine) -> Outcome {
+/// Wrong, unless twelve frames are free, and four offline.
+fn expect_places(alloc: Global, machine: &Machine) -> Outcome {
     let places = places_of(alloc, machine)?;
-    Ok(
+    expect(
         places.len() == 16
             && count_of(&places, Place::Free) == 12
             && count_of(&places, Place::Offline) == 4,
@@ -41,16 +34,21 @@ fn count_of(places: &[Place], wanted: Place) -> u32 {
     count
 }
 
-/// Whether the memory blocks are drawn as at boot.
-fn is_drawn(alloc: Global, machine: &Machine) -> Outcome {
+/// Wrong, unless the memory blocks are drawn as at boot.
+fn expect_picture(alloc: Global, machine: &Machine) -> Outcome {
     let blocks = picture_of(alloc, machine, true)?;
-    if blocks.len() != DRAWN.len() {
-        return Ok(false);
-    }
-    for (block, wanted) in blocks.iter().zip(DRAWN) {
-        if block.head() != wanted.0 || block.ordered() != wanted.1 {
-            return Ok(false);
+    expect(match blocks.as_slice() {
+        [first, second, third, fourth] => {
+            is_drawn(first, "0:N", "(2.)")
+                && is_drawn(second, "1:N", "(2.)")
+                && is_drawn(third, "2:M", "(2.)")
+                && is_drawn(fourth, "3:off", "----")
         }
-    }
-    Ok(true)
+        _ => false,
+    })
+}
+
+/// Whether a memory block is drawn with this head and these cells.
+fn is_drawn(block: &BlockPicture, head: &str, cells: &str) -> bool {
+    block.head() == head && block.ordered() == cells
 }

@@ -1,6 +1,6 @@
 //! Steps of a memory. Where one is out of memory, the memory and its tape have to be as they were,
 //! and the step is made again.
-use crate::trouble::{Case, Outcome, Trouble, answer_of};
+use crate::trouble::{Case, Outcome, Trouble, expect};
 use hp_memory::{ImageStep, Memory, step_of_image};
 use hp_plain::Image;
 use hp_scenario::{Line, Scenario, Work};
@@ -16,16 +16,23 @@ pub const CALLS: &str =
 const LAST: Serial = Serial(100);
 
 /// A memory, and the tape on which its steps are noted.
-#[derive(Drop)]
 pub struct Noted {
-    /// The memory.
-    pub memory: Memory,
-    /// The tape.
-    pub tape: Tape,
+    memory: Memory,
+    tape: Tape,
+}
+
+/// A function of its own, so that no proof of a caller takes the fields apart.
+impl Drop for Noted {
+    fn drop(self) {
+        let Noted {
+            memory: _memory,
+            tape: _tape,
+        } = self;
+    }
 }
 
 /// What a step answered, and how much it noted.
-#[derive(Drop)]
+#[derive(Clone, Copy, Drop)]
 struct Made {
     reply: Reply,
     noted: Option<usize>,
@@ -58,17 +65,17 @@ impl Noted {
         }
     }
 
-    /// Whether a step answers and notes as much as another.
-    fn makes(
+    /// Wrong, unless a step answers and notes as much as another.
+    fn expect_step(
         &mut self,
         alloc: Global,
         serial: Serial,
         cpu: Cpu,
         event: &Event,
-        made: &Made,
+        made: Made,
     ) -> Outcome {
         match self.step(alloc, serial, cpu, event) {
-            Ok(wanted) => Ok(made.reply.same(&wanted.reply) && made.noted == wanted.noted),
+            Ok(wanted) => expect(made.reply.same(&wanted.reply) && made.noted == wanted.noted),
             Err(trouble) => Err(trouble),
         }
     }
@@ -88,70 +95,75 @@ impl Noted {
         Ok(self.tape.len())
     }
 
-    /// Whether two memories have the same state.
-    fn is_at_same(&self, alloc: Global, other: &Noted) -> Outcome {
+    /// Wrong, unless two memories have the same state.
+    fn expect_same(&self, alloc: Global, other: &Noted) -> Outcome {
         let image = other.memory.image(alloc)?;
-        is_at(alloc, &self.memory, &image)
+        expect_at(alloc, &self.memory, &image)
     }
 }
 
-/// Whether a memory has this state.
-fn is_at(alloc: Global, memory: &Memory, wanted: &Image) -> Outcome {
+/// Wrong, unless a memory has this state.
+fn expect_at(alloc: Global, memory: &Memory, wanted: &Image) -> Outcome {
     let image = memory.image(alloc)?;
-    Ok(image.same(wanted))
+    expect(image.same(wanted))
 }
 
 /// Makes the steps of a scenario, a memory anew from the state that they lead to, and one more step.
 pub fn run(case: &mut Case<'_>, scenario: &Scenario) -> Outcome {
     let mut noted = Noted::boot(case.alloc, &scenario.layout, 0)?;
-    Ok(
-        make_steps(case, &mut noted, scenario.lines.as_slice())?
-            && is_made_anew(case.alloc, &noted.memory)?
-            && is_stepped(case.alloc, &mut noted)?,
-    )
-}
-
-/// Makes a step for each line.
-fn make_steps(case: &mut Case<'_>, noted: &mut Noted, lines: &[Line]) -> Outcome {
     let mut serial = 0u64;
-    for line in lines {
+    for line in scenario.lines.as_slice() {
         serial = serial.saturating_add(1);
-        if !make_step(case, noted, Serial(serial), line)? {
-            return Ok(false);
-        }
+        make_step(case, &mut noted, Serial(serial), line)?;
     }
-    Ok(true)
+    make_anew(case.alloc, &noted.memory)?;
+    step_image(case.alloc, &mut noted)
 }
 
 /// Makes the step of a line, and wants what another memory makes of it.
 fn make_step(case: &mut Case<'_>, noted: &mut Noted, serial: Serial, line: &Line) -> Outcome {
     let Work::Event(event) = &line.work else {
-        return Ok(false);
+        return Err(Trouble::Wrong);
     };
     let mut twin = noted.copy(case.alloc)?;
+    match made_by(case, noted, &twin, serial, line.cpu, event) {
+        Ok(made) => twin.expect_step(case.alloc, serial, line.cpu, event, made)?,
+        Err(trouble) => return Err(trouble),
+    }
+    noted.expect_same(case.alloc, &twin)
+}
+
+/// What a step answers and notes. Where it is out of memory, the memory and its tape have to be as
+/// they were.
+fn made_by(
+    case: &mut Case<'_>,
+    noted: &mut Noted,
+    before: &Noted,
+    serial: Serial,
+    cpu: Cpu,
+    event: &Event,
+) -> Outcome<Made> {
     let count = noted.tape.len();
-    match answer_of(
-        case,
-        noted,
-        |alloc, noted| noted.step(alloc, serial, line.cpu, event),
-        |alloc, noted, _| Ok(noted.tape.len() == count && noted.is_at_same(alloc, &twin)?),
-    ) {
-        Ok(made) => Ok(
-            twin.makes(case.alloc, serial, line.cpu, event, &made)?
-                && noted.is_at_same(case.alloc, &twin)?,
-        ),
-        Err(trouble) => Err(trouble),
+    match noted.step(case.alloc, serial, cpu, event) {
+        Ok(made) => Ok(made),
+        Err(trouble) => {
+            expect(noted.tape.len() == count)?;
+            let is_kept = noted.expect_same(case.alloc, before);
+            case.refused(trouble, is_kept)?;
+            noted.step(case.alloc, serial, cpu, event)
+        }
     }
 }
 
-/// Whether a step of the memory's state, as a value, is that of the memory.
-fn is_stepped(alloc: Global, noted: &mut Noted) -> Outcome {
+/// Wants a step of the memory's state, as a value, to be that of the memory.
+fn step_image(alloc: Global, noted: &mut Noted) -> Outcome {
     let event = Event::KernelAlloc { order: Order(1) };
     let made = step_of(alloc, &noted.memory, &event)?;
     match noted.step(alloc, LAST, Cpu(0), &event) {
-        Ok(wanted) => Ok(
-            made.reply.same(&wanted.reply) && is_at(alloc, &noted.memory, &made.image)?,
-        ),
+        Ok(wanted) => {
+            expect(made.reply.same(&wanted.reply))?;
+            expect_at(alloc, &noted.memory, &made.image)
+        }
         Err(trouble) => Err(trouble),
     }
 }
@@ -164,11 +176,11 @@ fn step_of(alloc: Global, memory: &Memory, event: &Event) -> Outcome<ImageStep> 
     Ok(step_of_image(alloc, &image, LAST, Cpu(0), event)?)
 }
 
-/// Whether a memory that is made of a memory's state has this state too.
-fn is_made_anew(alloc: Global, memory: &Memory) -> Outcome {
+/// Wants a memory that is made of a memory's state to have this state too.
+fn make_anew(alloc: Global, memory: &Memory) -> Outcome {
     memory.is_placed();
     let image = memory.image(alloc)?;
     let _frames = image.layout().frames(); // it shows the layout's limits
     let anew = Memory::from_image(alloc, &image)?;
-    is_at(alloc, &anew, &image)
+    expect_at(alloc, &anew, &image)
 }

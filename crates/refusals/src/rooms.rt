@@ -4,7 +4,7 @@
 //! may be refused.
 use crate::calls::call_all;
 use crate::memories::Noted;
-use crate::trouble::{Case, Outcome, Trouble};
+use crate::trouble::{Case, Outcome, Trouble, expect};
 use hp_machine::Machine;
 use hp_scenario::{Line, Scenario, Work};
 use hp_units::{Class, Cpu, Event, Frame, Layout, Order, Reply, Serial};
@@ -40,16 +40,16 @@ const ROOM: usize = 500;
 pub fn steps(case: &Case<'_>, scenario: &Scenario) -> Outcome {
     let lines = scenario.lines.as_slice();
     if lines.len() < FIRST {
-        return Ok(false);
+        return Err(Trouble::Wrong);
     }
-    let (first, last) = lines.split_at(FIRST);
     let wanted = noted_of(case.alloc, &scenario.layout, lines)?;
+    let (first, last) = lines.split_at(FIRST);
     let mut noted = Noted::boot(case.alloc, &scenario.layout, ROOM)?;
     let _count = noted.step_all(case.alloc, 0, first)?;
     case.say_set_up();
     match noted.step_all(case.alloc, FIRST as u64, last) {
-        Ok(count) => Ok(count == wanted),
-        Err(_) => Ok(false),
+        Ok(count) => expect(count == wanted),
+        Err(_) => Err(Trouble::Wrong),
     }
 }
 
@@ -65,13 +65,16 @@ pub fn undo(case: &Case<'_>, scenario: &Scenario) -> Outcome {
     let mut machine = Machine::boot(case.alloc, &scenario.layout)?;
     call_all(case.alloc, &mut machine, scenario.lines.as_slice())?;
     case.say_set_up();
+    expect(is_undone(case.alloc, &mut machine))
+}
+
+/// Whether all records of a machine are undone.
+fn is_undone(alloc: Global, machine: &mut Machine) -> bool {
     let all = Event::UndoAfter { serial: Serial(0) };
-    Ok(
-        machine.answer(case.alloc, Cpu(0), &all).is_ok()
-            && machine.journal_len() == 0
-            && machine.front(Class::Nm, Order(2)) == Some(Frame(0))
-            && machine.front(Class::Mm, Order(2)) == Some(Frame(8)),
-    )
+    machine.answer(alloc, Cpu(0), &all).is_ok()
+        && machine.journal_len() == 0
+        && machine.front(Class::Nm, Order(2)) == Some(Frame(0))
+        && machine.front(Class::Mm, Order(2)) == Some(Frame(8))
 }
 
 /// Makes the calls of a scenario, the last of which goes back, on a copy of the machine: there is
@@ -84,18 +87,18 @@ pub fn go_back(case: &Case<'_>, scenario: &Scenario) -> Outcome {
     call_all(case.alloc, &mut machine, first)?;
     let mut copy = machine.copy(case.alloc)?;
     case.say_set_up();
-    goes_back(case.alloc, &mut copy, last)
+    expect_back(case.alloc, &mut copy, last)
 }
 
-/// Whether the call of a line goes back to the steps that are to be left.
-fn goes_back(alloc: Global, machine: &mut Machine, line: &Line) -> Outcome {
+/// Wrong, unless the call of a line goes back to the steps that are to be left.
+fn expect_back(alloc: Global, machine: &mut Machine, line: &Line) -> Outcome {
     let Work::Event(event) = &line.work else {
         return Err(Trouble::Wrong);
     };
     match machine.answer(alloc, line.cpu, event) {
         Ok((_, reply)) => {
-            let went_back = matches!(reply, Reply::Undone { .. } | Reply::Restored);
-            Ok(went_back && machine.journal_len() == LEFT)
+            expect(matches!(reply, Reply::Undone { .. } | Reply::Restored))?;
+            expect(machine.journal_len() == LEFT)
         }
         Err(fault) => Err(Trouble::from(fault)),
     }

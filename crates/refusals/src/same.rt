@@ -1,26 +1,27 @@
 //! Whether two machines, records or volumes are the same.
-use crate::trouble::Outcome;
+use crate::trouble::{Outcome, expect};
 use hp_history::Volume;
 use hp_machine::Machine;
 use hp_units::{Receipt, Record};
 use std::alloc::Global;
 
-/// Whether two machines have the same state, base, records and number of steps that may be undone.
-pub fn same_machines(alloc: Global, one: &Machine, other: &Machine) -> Outcome {
-    Ok(
-        same_states(alloc, one, other)?
-            && one.base().same(other.base())
+/// Wrong, unless two machines have the same state, base, records and number of steps that may be
+/// undone.
+pub fn expect_same_machines(alloc: Global, one: &Machine, other: &Machine) -> Outcome {
+    expect_same_states(alloc, one, other)?;
+    expect(
+        one.base().same(other.base())
             && one.sealed() == other.sealed()
             && one.journal_len() == other.journal_len()
             && same_records(one.history(), other.history()),
     )
 }
 
-/// Whether two machines have the same state.
-pub fn same_states(alloc: Global, one: &Machine, other: &Machine) -> Outcome {
+/// Wrong, unless two machines have the same state.
+pub fn expect_same_states(alloc: Global, one: &Machine, other: &Machine) -> Outcome {
     let left = one.image(alloc)?;
     let right = other.image(alloc)?;
-    Ok(left.same(&right))
+    expect(left.same(&right))
 }
 
 /// Whether records are the same, in the same order.

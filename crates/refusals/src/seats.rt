@@ -3,14 +3,15 @@
 ghost use Rattle.std.specs.Prelude.{◌≡◌};
 ghost use Rattle.hp_shared.specs.Shared.{IsFresh};
 
-use crate::calls::is_answered;
-use crate::same::{same_machines, same_volumes};
-use crate::trouble::{Case, Outcome, Trouble, answer_of, holds};
+use crate::calls::expect_receipt;
+use crate::same::{expect_same_machines, same_volumes};
+use crate::trouble::{Case, Outcome, Trouble, expect};
 use hp_history::Volume;
 use hp_machine::Machine;
 use hp_scenario::{Line, Scenario, Work};
 use hp_shared::{CloseFault, CloseRefused, Closed, Job, Seat, Shared, close};
-use hp_units::Event;
+use hp_units::{Event, Reply};
+use std::alloc::Global;
 use std::marker::Brand;
 use std::sync::Wait;
 use std::sync::ledger::Blank;
@@ -58,13 +59,9 @@ fn share<L: Job, R: Wait>(
         Err(back) => back,
     };
     case.note();
-    let is_kept = same_machines(case.alloc, &machine, twin);
+    expect_same_machines(case.alloc, &machine, twin)?;
     match Shared::<L>::new(case.alloc, records, sealed, machine) {
-        Ok((shared, seats)) => {
-            let is_right = run_all(rt, case, shared, seats, twin, lines);
-            holds(is_kept?)?;
-            is_right
-        }
+        Ok((shared, seats)) => run_all(rt, case, shared, seats, twin, lines),
         Err(_) => Err(Trouble::OutOfMemory),
     }
 }
@@ -80,9 +77,9 @@ fn run_all<L: Job, R: Wait>(
 ) -> Outcome {
     let mut volumes = Vec::new(case.alloc);
     let ran = run_lines(rt, case, &shared, &mut seats, twin, &mut volumes, lines);
-    let is_right = closes(case, shared, seats, volumes, twin);
+    let is_closed = closes(case, shared, seats, volumes, twin);
     ran?;
-    is_right
+    is_closed
 }
 
 /// Has each line run by the seat of its processor, and by the other machine.
@@ -94,7 +91,7 @@ fn run_lines<L: Job, R: Wait>(
     twin: &mut Machine,
     volumes: &mut Vec<Volume>,
     lines: &[Line],
-) -> Outcome<()> {
+) -> Outcome {
     for line in lines {
         let Some(seat) = seats.get_mut(line.cpu.0 as usize) else {
             return Err(Trouble::Wrong);
@@ -107,8 +104,7 @@ fn run_lines<L: Job, R: Wait>(
     Ok(())
 }
 
-/// A call of a seat, which keeps the receipt that the other machine gives, and none where it is out
-/// of memory.
+/// A call of a seat, which keeps the receipt that the other machine gives.
 fn run_call<L: Job, R: Wait>(
     rt: &R,
     case: &mut Case<'_>,
@@ -116,18 +112,33 @@ fn run_call<L: Job, R: Wait>(
     seat: &mut Seat<L>,
     twin: &mut Machine,
     event: &Event,
-) -> Outcome<()> {
+) -> Outcome {
     let count = seat.receipts().len();
-    let reply = answer_of(
-        case,
-        seat,
-        |alloc, seat| Ok(seat.call(rt, alloc, shared, event)?),
-        |_, seat, _| Ok(seat.receipts().len() == count),
-    )?;
+    let reply = reply_of(rt, case, shared, seat, event)?;
     let Some(kept) = seat.receipts().get(count) else {
         return Err(Trouble::Wrong);
     };
-    holds(kept.reply.same(&reply) && is_answered(case.alloc, twin, seat.cpu(), event, kept)?)
+    expect(kept.reply.same(&reply))?;
+    expect_receipt(case.alloc, twin, seat.cpu(), event, kept)
+}
+
+/// The reply to a call of a seat, which keeps no receipt where it is out of memory.
+fn reply_of<L: Job, R: Wait>(
+    rt: &R,
+    case: &mut Case<'_>,
+    shared: &Shared<L>,
+    seat: &mut Seat<L>,
+    event: &Event,
+) -> Outcome<Reply> {
+    let count = seat.receipts().len();
+    match seat.call(rt, case.alloc, shared, event) {
+        Ok(reply) => Ok(reply),
+        Err(fault) => {
+            let is_kept = expect(seat.receipts().len() == count);
+            case.refused(Trouble::from(fault), is_kept)?;
+            Ok(seat.call(rt, case.alloc, shared, event)?)
+        }
+    }
 }
 
 /// A seal of a seat, whose volume is that of the other machine, and is kept.
@@ -138,19 +149,34 @@ fn run_seal<L: Job, R: Wait>(
     seat: &mut Seat<L>,
     twin: &mut Machine,
     volumes: &mut Vec<Volume>,
-) -> Outcome<()> {
+) -> Outcome {
     volumes.reserve(1)?;
-    let volume = answer_of(
-        case,
-        seat,
-        |alloc, seat| Ok(seat.seal(rt, alloc, shared)?),
-        |_, _, _| Ok(true),
-    )?;
-    let is_right = twin
-        .seal(case.alloc)
-        .map(|wanted| same_volumes(&volume, &wanted));
+    let volume = volume_of(rt, case, shared, seat)?;
+    let is_same = expect_volume(case.alloc, twin, &volume);
     volumes.push_reserved(volume);
-    holds(is_right?)
+    is_same
+}
+
+/// What a seal of a seat hands out, made again where it is out of memory.
+fn volume_of<L: Job, R: Wait>(
+    rt: &R,
+    case: &mut Case<'_>,
+    shared: &Shared<L>,
+    seat: &mut Seat<L>,
+) -> Outcome<Volume> {
+    match seat.seal(rt, case.alloc, shared) {
+        Ok(volume) => Ok(volume),
+        Err(fault) => {
+            case.refused(Trouble::from(fault), Ok(()))?;
+            Ok(seat.seal(rt, case.alloc, shared)?)
+        }
+    }
+}
+
+/// Wrong, unless a seal of a machine hands out this volume.
+fn expect_volume(alloc: Global, machine: &mut Machine, volume: &Volume) -> Outcome {
+    let wanted = machine.seal(alloc)?;
+    expect(same_volumes(volume, &wanted))
 }
 
 /// Closes the machine. Out of memory, all comes back and it is closed again.
@@ -162,7 +188,7 @@ fn closes<L: Job>(
     twin: &Machine,
 ) -> Outcome {
     match close(case.alloc, shared, seats, volumes) {
-        Ok(closed) => is_closed(case, &closed, twin),
+        Ok(closed) => expect_closed(case.alloc, &closed, twin),
         Err(refused) => closes_again(case, refused, twin),
     }
 }
@@ -178,16 +204,16 @@ fn closes_again<L: Job>(case: &mut Case<'_>, refused: CloseRefused<L>, twin: &Ma
     } = refused;
     let is_whole = fault == CloseFault::OutOfMemory && seats.len() == 2 && volumes.len() == 2;
     match close(case.alloc, shared, seats, volumes) {
-        Ok(closed) => Ok(is_whole && is_closed(case, &closed, twin)?),
+        Ok(closed) => {
+            expect(is_whole)?;
+            expect_closed(case.alloc, &closed, twin)
+        }
         Err(_refused) => Err(Trouble::Wrong),
     }
 }
 
-/// Whether a closed machine is as one that made the same calls.
-fn is_closed(case: &mut Case<'_>, closed: &Closed, twin: &Machine) -> Outcome {
-    Ok(
-        closed.records == twin.last_serial()
-            && closed.volumes.len() == 2
-            && same_machines(case.alloc, &closed.machine, twin)?,
-    )
+/// Wrong, unless a closed machine is as one that made the same calls.
+fn expect_closed(alloc: Global, closed: &Closed, twin: &Machine) -> Outcome {
+    expect(closed.records == twin.last_serial() && closed.volumes.len() == 2)?;
+    expect_same_machines(alloc, &closed.machine, twin)
 }

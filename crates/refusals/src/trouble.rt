@@ -1,8 +1,8 @@
-//! Why a case did not end, and how a call is tried that may be out of memory.
+//! Why a case did not end, and how often calls were out of memory.
 use hp_history::{ChainFault, ReplayFault};
 use hp_requests::ControlFault;
 use hp_scenario::ScenarioFault;
-use hp_units::{CallFault, LayoutFault, Serial};
+use hp_units::{CallFault, Serial};
 use std::alloc::{AllocError, AllocFailed, Global};
 
 /// Why a case did not end.
@@ -16,8 +16,8 @@ pub enum Trouble {
     Wrong,
 }
 
-/// Whether all was as with ample memory, or another answer; or why that is not known.
-pub type Outcome<T = bool> = Result<T, Trouble>;
+/// What was made, or, where that is nothing, that all is as with ample memory; or why it is not.
+pub type Outcome<T = ()> = Result<T, Trouble>;
 
 /// What a case is run with.
 #[derive(Drop)]
@@ -44,51 +44,27 @@ impl<'a> Case<'a> {
         self.refusals = self.refusals.saturating_add(1);
     }
 
+    /// Notes a call that was out of memory, after which what it was made on has to be as before. A
+    /// call that had another fault is wrong.
+    pub fn refused(&mut self, trouble: Trouble, is_kept: Outcome) -> Outcome {
+        match trouble {
+            Trouble::Wrong => Err(Trouble::Wrong),
+            _ => {
+                self.note();
+                is_kept
+            }
+        }
+    }
+
     /// Says that all is made that the calls need, after which requests for memory may be refused.
     pub fn say_set_up(&self) {
         let _said = eprintln!(self.host; "set up");
     }
 }
 
-/// The answer of a call. Where it is out of memory, what it was made on has to be as before, and
-/// the call is made again.
-pub fn answer_of<S, T: Drop, C, K>(
-    case: &mut Case<'_>,
-    subject: &mut S,
-    call: C,
-    is_kept: K,
-) -> Outcome<T>
-where
-    C: Fn(Global, &mut S) -> Outcome<T>,
-    K: FnOnce(Global, &mut S, Trouble) -> Outcome,
-    requires call { C.IsAlwaysCallable call }
-    requires is_kept { K.IsAlwaysCallable is_kept }
-{
-    match call(case.alloc, subject) {
-        Ok(answer) => Ok(answer),
-        Err(Trouble::Wrong) => Err(Trouble::Wrong),
-        Err(trouble) => {
-            case.note();
-            holds(is_kept(case.alloc, subject, trouble)?)?;
-            call(case.alloc, subject)
-        }
-    }
-}
-
 /// Wrong, unless something holds.
-pub fn holds(is_so: bool) -> Outcome<()> {
+pub fn expect(is_so: bool) -> Outcome {
     if is_so { Ok(()) } else { Err(Trouble::Wrong) }
-}
-
-impl Trouble {
-    /// That of a fault.
-    fn of(is_out_of_memory: bool) -> Trouble {
-        if is_out_of_memory {
-            Trouble::OutOfMemory
-        } else {
-            Trouble::Wrong
-        }
-    }
 }
 
 impl From<AllocError> for Trouble {
@@ -103,38 +79,47 @@ impl<T: Drop> From<AllocFailed<T>> for Trouble {
     }
 }
 
-impl From<LayoutFault> for Trouble {
-    fn from(fault: LayoutFault) -> Trouble {
-        Trouble::of(matches!(fault, LayoutFault::OutOfMemory))
-    }
-}
-
 impl From<CallFault> for Trouble {
     fn from(fault: CallFault) -> Trouble {
-        Trouble::of(matches!(fault, CallFault::OutOfMemory))
+        match fault {
+            CallFault::OutOfMemory => Trouble::OutOfMemory,
+            _ => Trouble::Wrong,
+        }
     }
 }
 
 impl From<ControlFault> for Trouble {
     fn from(fault: ControlFault) -> Trouble {
-        Trouble::of(matches!(fault, ControlFault::OutOfMemory))
+        match fault {
+            ControlFault::OutOfMemory => Trouble::OutOfMemory,
+            _ => Trouble::Wrong,
+        }
     }
 }
 
 impl From<ScenarioFault> for Trouble {
     fn from(fault: ScenarioFault) -> Trouble {
-        Trouble::of(matches!(fault, ScenarioFault::OutOfMemory))
+        match fault {
+            ScenarioFault::OutOfMemory => Trouble::OutOfMemory,
+            _ => Trouble::Wrong,
+        }
     }
 }
 
 impl From<ReplayFault> for Trouble {
     fn from(fault: ReplayFault) -> Trouble {
-        Trouble::of(matches!(fault, ReplayFault::OutOfMemory))
+        match fault {
+            ReplayFault::OutOfMemory => Trouble::OutOfMemory,
+            _ => Trouble::Wrong,
+        }
     }
 }
 
 impl From<ChainFault> for Trouble {
     fn from(fault: ChainFault) -> Trouble {
-        Trouble::of(matches!(fault, ChainFault::OutOfMemory))
+        match fault {
+            ChainFault::OutOfMemory => Trouble::OutOfMemory,
+            _ => Trouble::Wrong,
+        }
     }
 }

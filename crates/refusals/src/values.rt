@@ -1,16 +1,18 @@
 //! Layouts, copies, empty layers, and states as values.
 ghost use Rattle.std.specs.Prelude.{◌≡◌, ◌<◌, IfOk, length};
 
-use crate::trouble::{Outcome, holds};
+use crate::trouble::{Outcome, Trouble, expect};
 use hp_blocks::Blocks;
 use hp_buddy::Buddy;
 use hp_cpus::Cpus;
 use hp_links::Links;
+use hp_machine::Machine;
 use hp_pages::Pages;
 use hp_plain::Image;
 use hp_tape::{Delta, Tape};
 use hp_units::{
-    Auto, Block, Boot, Class, Event, Frame, Item, Layout, Order, Parts, Plan, Text, Wish, Words,
+    Auto, Block, Boot, Class, Event, Frame, Item, Layout, LayoutFault, Order, Parts, Plan, Text,
+    Wish, Words,
 };
 use std::alloc::{AllocError, Global};
 
@@ -31,14 +33,24 @@ pub fn layout_of(alloc: Global, history: u64) -> Outcome<Layout> {
         history,
         boot: BOOT,
     };
-    Ok(Layout::new(alloc, &parts)?)
+    match Layout::new(alloc, &parts) {
+        Ok(layout) => Ok(layout),
+        Err(LayoutFault::OutOfMemory) => Err(Trouble::OutOfMemory),
+        Err(_) => Err(Trouble::Wrong),
+    }
+}
+
+/// A machine of that layout.
+pub fn machine_of(alloc: Global, history: u64) -> Outcome<Machine> {
+    let layout = layout_of(alloc, history)?;
+    Ok(Machine::boot(alloc, &layout)?)
 }
 
 /// A layout, and its copy.
 pub fn layouts(alloc: Global) -> Outcome {
     let layout = layout_of(alloc, 10)?;
     let copy = layout.copy(alloc)?;
-    Ok(is_small(&layout) && is_small(&copy))
+    expect(is_small(&layout) && is_small(&copy))
 }
 
 /// Whether a layout is that of four memory blocks and ten records.
@@ -48,12 +60,10 @@ fn is_small(layout: &Layout) -> bool {
 
 /// Copies of what a call can hold.
 pub fn copies(alloc: Global) -> Outcome {
-    Ok(
-        is_plan_copied(alloc)?
-            && is_event_copied(alloc)?
-            && are_words_copied(alloc)?
-            && is_text_copied(alloc)?,
-    )
+    copy_plan(alloc)?;
+    copy_event(alloc)?;
+    copy_words(alloc)?;
+    copy_text(alloc)
 }
 
 /// A plan that takes the third block offline.
@@ -65,11 +75,11 @@ fn offline(alloc: Global) -> Outcome<Plan> {
     Ok(Plan::new(alloc, vec![in alloc; item]?)?)
 }
 
-/// Whether a copy of a plan is the same.
-fn is_plan_copied(alloc: Global) -> Outcome {
+/// Wants a copy of a plan to be the same.
+fn copy_plan(alloc: Global) -> Outcome {
     let plan = offline(alloc)?;
     let copy = plan.copy(alloc)?;
-    Ok(copy.same(&plan))
+    expect(copy.same(&plan))
 }
 
 /// The event that begins to take the third block offline.
@@ -78,11 +88,11 @@ pub fn begin(alloc: Global) -> Outcome<Event> {
     Ok(Event::Begin { plan })
 }
 
-/// Whether a copy of an event is the same.
-fn is_event_copied(alloc: Global) -> Outcome {
+/// Wants a copy of an event to be the same.
+fn copy_event(alloc: Global) -> Outcome {
     let event = begin(alloc)?;
     let copy = event.copy(alloc)?;
-    Ok(event.same(&copy))
+    expect(event.same(&copy))
 }
 
 /// Two words.
@@ -92,18 +102,18 @@ pub fn two_words(alloc: Global) -> Result<Words, AllocError>
     Words::new(alloc, vec![in alloc; 7, 9]?)
 }
 
-/// Whether a copy of a page's words has them.
-fn are_words_copied(alloc: Global) -> Outcome {
+/// Wants a copy of a page's words to have them.
+fn copy_words(alloc: Global) -> Outcome {
     let words = two_words(alloc)?;
     let copy = words.copy(alloc)?;
-    Ok(copy.as_slice() == [7, 9].as_slice())
+    expect(copy.as_slice() == [7, 9].as_slice())
 }
 
-/// Whether a copy of a text has its bytes.
-fn is_text_copied(alloc: Global) -> Outcome {
+/// Wants a copy of a text to have its bytes.
+fn copy_text(alloc: Global) -> Outcome {
     let text = Text::new(String::from_str(alloc, "memory2/state")?);
     let copy = text.copy(alloc)?;
-    Ok(copy.as_str() == "memory2/state")
+    expect(copy.as_str() == "memory2/state")
 }
 
 /// A tape with more room each time; what is noted stays where there is none to be had.
@@ -111,9 +121,8 @@ pub fn tapes(alloc: Global) -> Outcome {
     let mut tape = Tape::with_room(alloc, 1)?;
     note(&mut tape);
     let reserved = tape.reserve(100);
-    holds(tape.len() == 1)?;
-    reserved?;
-    Ok(true)
+    expect(tape.len() == 1)?;
+    Ok(reserved?)
 }
 
 /// Notes a delta.
@@ -129,33 +138,39 @@ pub fn note(tape: &mut Tape)
 /// The layers of an empty machine, one after another.
 pub fn layers(alloc: Global) -> Outcome {
     let layout = layout_of(alloc, 10)?;
-    drop(Buddy::new(alloc, &layout)?);
-    drop(Cpus::new(alloc, &layout)?);
-    drop(Pages::new(alloc, &layout)?);
-    drop(Blocks::new(alloc, &layout)?);
+    make_layers(alloc, &layout)
+}
+
+/// Makes the layers of a layout.
+fn make_layers(alloc: Global, layout: &Layout) -> Outcome {
+    drop(Buddy::new(alloc, layout)?);
+    drop(Cpus::new(alloc, layout)?);
+    drop(Pages::new(alloc, layout)?);
+    drop(Blocks::new(alloc, layout)?);
     drop(Links::new(alloc, 16, 3)?);
-    Ok(true)
+    Ok(())
 }
 
 /// States as values: that at boot is that of its copy, and not the empty one.
 pub fn images(alloc: Global) -> Outcome {
     let layout = layout_of(alloc, 10)?;
     let image = Image::boot(alloc, &layout)?;
-    Ok(is_image_copied(alloc, &image)? && is_not_empty(alloc, &layout, &image)?)
+    copy_image(alloc, &image)?;
+    expect_not_empty(alloc, &layout, &image)
 }
 
-/// Whether a copy of a state is the same, with the free lists of boot.
-fn is_image_copied(alloc: Global, image: &Image) -> Outcome {
+/// Wants a copy of a state to be the same, with the free lists of boot.
+fn copy_image(alloc: Global, image: &Image) -> Outcome {
     let copy = image.copy(alloc)?;
-    Ok(
+    expect(
         image.same(&copy)
             && copy.list(Class::Nm, Order(2)) == [Frame(0), Frame(4)].as_slice()
             && copy.list(Class::Mm, Order(2)) == [Frame(8)].as_slice(),
     )
 }
 
-/// Whether the empty state is another one, with no free block.
-fn is_not_empty(alloc: Global, layout: &Layout, image: &Image) -> Outcome {
+/// Wants the empty state to be another one, with no free block.
+fn expect_not_empty(alloc: Global, layout: &Layout, image: &Image) -> Outcome {
     let empty = Image::empty(alloc, layout)?;
-    Ok(!image.same(&empty) && empty.list(Class::Nm, Order(2)).is_empty())
+    expect(!image.same(&empty) && empty.list(Class::Nm, Order(2)).is_empty())
 }

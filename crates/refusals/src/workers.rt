@@ -5,7 +5,7 @@ ghost use Rattle.hp_scenario.specs.Scripts.{AreForRun};
 ghost use Rattle.hp_shared.specs.Shared.{IsFresh};
 
 use crate::situations::scenario_of;
-use crate::trouble::{Outcome, Trouble, holds};
+use crate::trouble::{Outcome, Trouble, expect};
 use hp_history::Volume;
 use hp_machine::Machine;
 use hp_requests::ControlFault;
@@ -30,9 +30,10 @@ const DONE: LineEnd = LineEnd::Reply(Reply::Done);
 pub fn run<R: Threads + Wait + Sync>(rt: &R, alloc: Global) -> Outcome {
     let scenario = scenario_of(alloc, CALLS)?;
     let machine = Machine::boot(alloc, &scenario.layout)?;
-    let records = Blank::new(scenario.layout.cpus() as u64);
-    let sealed = Blank::new(scenario.layout.cpus() as u64);
+    let cpus = scenario.layout.cpus() as u64;
     let scripts = scenario.scripts(alloc)?;
+    let records = Blank::new(cpus);
+    let sealed = Blank::new(cpus);
     run_scripts::<Brand, R>(rt, alloc, records, sealed, machine, scripts)
 }
 
@@ -58,8 +59,7 @@ fn run_scripts<L: Job + Send + Sync, R: Threads + Wait + Sync>(
     }
 }
 
-/// Has workers run a script for each seat, and closes: with as many records as receipts, whether a
-/// line was out of memory or not.
+/// Has workers run a script for each seat, and closes.
 fn run_seats<L: Job + Send + Sync, R: Threads + Wait + Sync>(
     rt: &R,
     alloc: Global,
@@ -70,24 +70,31 @@ fn run_seats<L: Job + Send + Sync, R: Threads + Wait + Sync>(
     requires run { AreForRun scripts.items }
 {
     if seats.len() != scripts.len() {
-        return Ok(false);
+        return Err(Trouble::Wrong);
     }
+    let end = run_workers(rt, alloc, &shared, seats, scripts, &OpenGate);
+    close_after(alloc, shared, end)
+}
+
+/// Closes after a run: with as many records as receipts, whether a line was out of memory or not.
+fn close_after<L: Job>(alloc: Global, shared: Shared<L>, end: RunEnd<L>) -> Outcome {
     let RunEnd {
         seats,
         volumes,
         ends,
         fault,
-    } = run_workers(rt, alloc, &shared, seats, scripts, &OpenGate);
+    } = end;
     let receipts = count_receipts(&seats);
     let is_whole = seats.len() == 2;
     let is_short = fault.is_some() || is_any_refused(&ends);
-    let is_right = are_right(&ends);
-    let records = close_all(alloc, shared, seats, volumes);
-    holds(records? == receipts && is_whole)?;
+    let is_right = expect(are_right(&ends));
+    drop(ends);
+    let records = close_all(alloc, shared, seats, volumes)?;
+    expect(records == receipts && is_whole)?;
     if is_short {
         return Err(Trouble::OutOfMemory);
     }
-    Ok(is_right)
+    is_right
 }
 
 /// The number of all seats' receipts.
@@ -109,7 +116,7 @@ fn close_all<L: Job>(
     match close(alloc, shared, seats, volumes) {
         Ok(closed) => Ok(closed.records),
         Err(refused) => {
-            holds(refused.fault == CloseFault::OutOfMemory)?;
+            expect(refused.fault == CloseFault::OutOfMemory)?;
             Err(Trouble::OutOfMemory)
         }
     }

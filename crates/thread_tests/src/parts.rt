@@ -31,17 +31,12 @@ fn booted(alloc: Global) -> Result<Machine, Fail> {
 
 /// A script of three calls that ask for memory of an order.
 fn asks(alloc: Global, order: u32) -> Result<Script, AllocError> {
-    let lines = vec![in alloc;
-        Line::Ask(Event::KernelAlloc {
-            order: Order(order)
-        }),
-        Line::Ask(Event::KernelAlloc {
-            order: Order(order)
-        }),
-        Line::Ask(Event::KernelAlloc {
-            order: Order(order)
-        }),
-    ]?;
+    let mut lines = Vec::new(alloc);
+    for _line in 0..3 {
+        lines.push(Line::Ask(Event::KernelAlloc {
+            order: Order(order),
+        }))?;
+    }
     Ok(Script::new(lines))
 }
 
@@ -57,7 +52,7 @@ fn scripts(alloc: Global) -> Result<Vec<Script>, AllocError>
 
 /// Whether two schedules are the same.
 fn same_schedules(first: &[Cpu], other: &[Cpu]) -> bool {
-    first.len() == other.len() && first.iter().zip(other).all(|(a, b)| a.0 == b.0)
+    first == other
 }
 
 /// Whether two ends are the same.

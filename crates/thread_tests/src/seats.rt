@@ -89,6 +89,14 @@ fn mapped_by_two<L: Job + Send + Sync, R: Threads + Wait + Sync>(
     Some((seats, receipts))
 }
 
+/// How many records a close finds.
+fn closed_records<L: Job>(alloc: Global, shared: Shared<L>, seats: Vec<Seat<L>>) -> Option<u64> {
+    match close(alloc, shared, seats, Vec::new(alloc)) {
+        Ok(closed) => Some(closed.records),
+        Err(_refused) => None,
+    }
+}
+
 /// Two threads map a page each: how many receipts each seat has, and how many records a close finds.
 fn two_maps<L: Job + Send + Sync, R: Threads + Wait + Sync>(
     rt: &R,
@@ -97,8 +105,8 @@ fn two_maps<L: Job + Send + Sync, R: Threads + Wait + Sync>(
     seats: Vec<Seat<L>>,
 ) -> Option<((usize, usize), u64)> {
     let (seats, receipts) = mapped_by_two(rt, alloc, &shared, seats)?;
-    let closed = close(alloc, shared, seats, Vec::new(alloc)).ok()?;
-    Some((receipts, closed.records))
+    let records = closed_records(alloc, shared, seats)?;
+    Some((receipts, records))
 }
 
 /// A plan that takes the third memory block offline.
@@ -116,11 +124,11 @@ fn planned<L: Job, R: Wait>(
     alloc: Global,
     shared: &Shared<L>,
     seat: &mut Seat<L>,
-    plan: Plan,
-) -> OpEnd {
+) -> Option<OpEnd> {
     map(rt, alloc, shared, seat, 0);
+    let plan = offline(alloc).ok()?;
     let mut port = SeatPort::new(rt, seat, shared);
-    run_plan(alloc, &mut port, plan, 1024)
+    Some(run_plan(alloc, &mut port, plan, 1024))
 }
 
 /// A seat maps a page and takes its block offline. The plan's end, and how many records a close
@@ -131,11 +139,10 @@ fn page_moved<L: Job, R: Wait>(
     shared: Shared<L>,
     mut seats: Vec<Seat<L>>,
 ) -> Option<(OpEnd, u64)> {
-    let plan = offline(alloc).ok()?;
-    let end = planned(rt, alloc, &shared, seats.get_mut(0)?, plan);
+    let end = planned(rt, alloc, &shared, seats.get_mut(0)?)?;
     seats.reverse();
-    let closed = close(alloc, shared, seats, Vec::new(alloc)).ok()?;
-    Some((end, closed.records))
+    let records = closed_records(alloc, shared, seats)?;
+    Some((end, records))
 }
 
 /// What the seats of a machine do.

@@ -26,7 +26,6 @@ const LAYOUT: &str =
 const DONE: LineEnd = LineEnd::Reply(Reply::Done);
 
 /// What two processors did.
-#[derive(Drop)]
 struct Outcome {
     ends: Vec<Ends>,
     records: u64,
@@ -36,6 +35,19 @@ struct Outcome {
     ended: Option<Serial>,
     /// The state at the end.
     state: Option<Image>,
+}
+
+/// A function of its own, so that no proof of a test takes the fields apart.
+impl Drop for Outcome {
+    fn drop(self) {
+        let Outcome {
+            ends: _ends,
+            records: _records,
+            frame: _frame,
+            ended: _ended,
+            state: _state,
+        } = self;
+    }
 }
 
 impl Outcome {
@@ -141,6 +153,12 @@ fn run_scripts<L: Job + Send + Sync, G: Gate + Sync, R: Threads + Wait + Sync>(
     close_after(alloc, shared, end)
 }
 
+/// The scenario of lines.
+fn scenario_of(alloc: Global, calls: &str) -> Result<Scenario, Fail> {
+    let text = format!(in alloc; "{{\"layout\":{LAYOUT},\"calls\":[{calls}]}}")?;
+    Ok(Scenario::read(alloc, text.as_bytes())?)
+}
+
 /// Runs lines on two processors, with a gate round their calls.
 fn run_lines<G: Gate + Sync, R: Threads + Wait + Sync>(
     rt: &R,
@@ -148,14 +166,16 @@ fn run_lines<G: Gate + Sync, R: Threads + Wait + Sync>(
     calls: &str,
     gate: &G,
 ) -> Result<Outcome, Fail> {
-    let text = format!(in alloc; "{{\"layout\":{LAYOUT},\"calls\":[{calls}]}}")?;
-    let scenario = Scenario::read(alloc, text.as_bytes())?;
+    let scenario = scenario_of(alloc, calls)?;
     let machine = Machine::boot(alloc, &scenario.layout)?;
-    let records = Blank::new(scenario.layout.cpus() as u64);
-    let sealed = Blank::new(scenario.layout.cpus() as u64);
+    let cpus = scenario.layout.cpus() as u64;
     let scripts = scenario.scripts(alloc)?;
-    let outcome = run_scripts::<Brand, _, _>(rt, alloc, records, sealed, machine, scripts, gate);
-    Ok(outcome.ok_or("no outcome")?)
+    let records = Blank::new(cpus);
+    let sealed = Blank::new(cpus);
+    match run_scripts::<Brand, _, _>(rt, alloc, records, sealed, machine, scripts, gate) {
+        Some(outcome) => Ok(outcome),
+        None => Err(Fail::from("no outcome")),
+    }
 }
 
 #[test]
@@ -190,7 +210,11 @@ fn interrupted<R: Threads + Wait + Sync>(
     let gate = Before::new(nth.saturating_add(1));
     let calls = format!(in alloc; "\"0 map db 0\",\"0 plan 4 off 2\",\"1 {call}\"")?;
     let outcome = run_lines(rt, alloc, calls.as_str(), &gate)?;
-    Ok(gate.was_met().then_some(outcome).ok_or("not met")?)
+    if gate.was_met() {
+        Ok(outcome)
+    } else {
+        Err(Fail::from("not met"))
+    }
 }
 
 /// Whether a call of processor 1 just before the plan's `nth` call answers so and ends the plan's

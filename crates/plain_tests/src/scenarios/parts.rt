@@ -33,8 +33,8 @@ fn is_boot_read(value: &Value, boot: Option<Boot>) -> bool {
 fn parts_are_read(rt: HostRuntime) -> Result<(), Fail> {
     let layout = Value::from_str(rt.alloc(), LAYOUT)?;
     let one = Value::from_str(rt.alloc(), r#"{"boot":"absent"}"#)?;
-    assert!(rt; are_parts_read(rt.alloc(), &layout));
-    assert!(rt; is_boot_read(&one, Some(Boot::Absent)) && is_boot_read(&layout, None));
+    let is_word_read = is_boot_read(&one, Some(Boot::Absent)) && is_boot_read(&layout, None);
+    assert!(rt; is_word_read && are_parts_read(rt.alloc(), &layout));
     Ok(())
 }
 
