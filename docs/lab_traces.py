@@ -247,7 +247,7 @@ def check_wide(checks, programs):
             drawn = sum(cells.values())
             checks.holds(where, drawn == WIDE_ROWS * blocks * frames, f"cells: {cells}")
             check_lines(checks, where, trace, svg)
-            check_frame(checks, where, svg, 336 + 48 + cell * (frames + pageblocks - 1))
+            check_frame(checks, where, svg, 384 + 48 + cell * (frames + pageblocks - 1))
 
 
 def check_frame(checks, where, svg, block):

@@ -43,7 +43,7 @@ block_width s = 48 + cells_width s
 
 -- how many blocks stand side by side: as many as have room in a picture of 1,600, and at least one
 abbrev pub per_strip : Sheet → ℕ
-per_strip s = (1264 - block_width s) / block_width s + 1
+per_strip s = (1216 - block_width s) / block_width s + 1
 
 -- how many strips of blocks a row has, one below another; in which of them a block stands, and how many
 -- stand before it there
@@ -67,8 +67,9 @@ cells_at s block = head_at s block + 48
 abbrev pub first_frame : Sheet → (block : ℕ) → ℕ
 first_frame s block = block * s.frames
 
+-- after the last block of a strip there is room for what is written above it, which is wider than few cells
 abbrev pub width_of : Sheet → ℕ
-width_of s = max (336 + min s.blocks (per_strip s) * block_width s) 820
+width_of s = max (384 + min s.blocks (per_strip s) * block_width s) 820
 
 -- ---- down: the legend, the numbers of the blocks, the rows
 

@@ -113,11 +113,11 @@ impl Sheet {
     /// How many blocks stand side by side: as many as have room in a picture of 1,600, and at least one.
     fn per_strip(&self) -> u128
         ensures is { result ≡ per_strip self.now }
-        ensures low { result ≤ 1264 }
+        ensures low { result ≤ 1216 }
         ensures some { 0 < result }
     {
         let width = self.block_width();
-        1264u128.saturating_sub(width) / width + 1
+        1216u128.saturating_sub(width) / width + 1
     }
 
     /// How many strips of blocks a row has, one below another.
@@ -142,7 +142,7 @@ impl Sheet {
     /// How many blocks stand before a block in its strip.
     fn place_of(&self, block: usize) -> u128
         ensures is { result ≡ place_of self.now block }
-        ensures low { result < 1264 }
+        ensures low { result < 1216 }
     {
         let per_strip = self.per_strip();
         block as u128 % per_strip
@@ -235,7 +235,7 @@ impl Sheet {
         ensures { result ≡ width_of self.now }
     {
         let blocks = (self.blocks as u128).min(self.per_strip());
-        let end = 336 + self.blocks_width(blocks);
+        let end = 384 + self.blocks_width(blocks);
         end.max(820)
     }
 
