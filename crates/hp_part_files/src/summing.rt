@@ -24,9 +24,10 @@ use std::alloc::Global;
 /// The whole exploration that parts add up to, as `explore_text` tells it. The bytes are the text of
 /// all parts of one search, as `part_text` writes them, one after another in any order; the scenario
 /// is the one that the heads name. Of each end the count and the schedule are taken, and the schedule
-/// is played again on the scenario: so a line that was changed is found out, unless only a count was
-/// (own rule). With a limit in place of the parts' own, `explore_text` says the same of the scenario;
-/// that reading takes what `part_text` writes is tested, and not proved.
+/// is played again on the scenario: so a line that does not say what its own schedule leads to is found
+/// out, and a count that was changed is not (own rule). With a limit in place of the parts' own,
+/// `explore_text` says the same of the scenario; that reading takes what `part_text` writes is tested,
+/// and not proved.
 ///
 /// Errors: that of the first line that is none of a part, is changed, begins a part of another search,
 /// or says that a part stopped at its limit; OtherCount with the number of a part, counted from 1, that
