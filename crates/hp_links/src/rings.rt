@@ -1,6 +1,7 @@
 //! The table of the rings: each list is closed to a ring by a place of its own, its head.
 
-ghost use Rattle.std.specs.Prelude.{◌≡◌, ◌<◌, ◌+◌, ◌^◌, vec_len};
+ghost use Rattle.std.specs.Prelude.{◌≡◌, ◌<◌, ◌+◌, ◌^◌, Some, vec_len};
+ghost use Rattle.hp_links.specs.Rings.{list_of_code};
 
 use crate::list_number::ListNumber;
 use hp_units::Frame;
@@ -19,8 +20,27 @@ pub fn place_of(frame: Frame) -> u32
 pub struct Node {
     pub next: u32,
     pub prev: u32,
-    /// The list that the frame is on; none at a head.
-    pub list: Option<ListNumber>,
+    /// One more than the number of the list that the frame is on; 0 at a head, and on no list.
+    pub list: u32,
+}
+
+/// The list that a place's code tells.
+fn list_of_code(code: u32) -> Option<ListNumber>
+    ensures { result ≡ list_of_code code }
+{
+    if code == 0 {
+        None
+    } else {
+        Some(ListNumber(code - 1))
+    }
+}
+
+/// The code of a list.
+fn code_of(list: ListNumber) -> u32
+    requires { list + 1 < 2 ^ 32 }
+    ensures { list_of_code result ≡ Some list }
+{
+    list.0 + 1
 }
 
 /// The frames' places, and after them the heads.
@@ -41,17 +61,17 @@ impl Node {
     fn alone(place: u32) -> Self
         ensures { result ≡ alone_at place }
     {
-        Node::ring(place, None)
+        Node::ring(place)
     }
 
     /// A ring of one place.
-    fn ring(place: u32, list: Option<ListNumber>) -> Self
-        ensures { result ≡ record { next = place; prev = place; list = list } }
+    fn ring(place: u32) -> Self
+        ensures { result ≡ alone_at place }
     {
         Node {
             next: place,
             prev: place,
-            list,
+            list: 0,
         }
     }
 
@@ -60,7 +80,7 @@ impl Node {
     {
         let mut nodes = Vec::with_capacity(alloc, count as usize)?;
         for place in 0..count {
-            nodes.push_reserved(Node::ring(place, None));
+            nodes.push_reserved(Node::ring(place));
         }
         Ok(nodes)
     }
@@ -128,7 +148,7 @@ impl Rings {
         requires { place < vec_len self.now.nodes }
         ensures { result ≡ (table self.now.nodes.items).list place }
     {
-        self.nodes[place as usize].list
+        list_of_code(self.nodes[place as usize].list)
     }
 
     /// The frame at a place, and none at a head.
@@ -169,7 +189,7 @@ impl Rings {
         self.nodes[frame as usize] = Node {
             next: after,
             prev: before,
-            list: Some(list),
+            list: code_of(list),
         };
         self.lens[list.0 as usize] += 1;
     }

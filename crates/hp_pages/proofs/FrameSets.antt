@@ -118,6 +118,17 @@ found_in_word words first at bit from before lowest past within = record {
 
 -- ---- the lowest number of a range
 
+-- by another test with the same answers
+pub finds_same : (p q : ℕ → Bool) (first past : ℕ) (found : Option ℕ) → ((n : ℕ) → n < past → p n ≡ q n)
+    → FindsLowest p first past found → FindsLowest q first past found
+finds_same p q first past None same none = λ n low high. sym (same n high) ∙ none n low high
+finds_same p q first past (Some found) same lowest = record {
+  low = lowest.low;
+  high = lowest.high;
+  passes = sym (same found lowest.high) ∙ lowest.passes;
+  below = λ n low high. sym (same n (omega (arith, lowest.high))) ∙ lowest.below n low high;
+}
+
 -- from the next number on
 next_lowest : (p : ℕ → Bool) (first count : ℕ) (found : Option ℕ) → p first ≡ false
     → FindsLowest p first (first + suc count) found → FindsLowest p (first + 1) (first + 1 + count) found

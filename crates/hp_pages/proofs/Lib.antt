@@ -1,5 +1,5 @@
 pub mod Blanks
-mod FrameSets
+pub mod FrameSets
 pub mod FrameViews
 mod PageCalls
 pub mod PageParts

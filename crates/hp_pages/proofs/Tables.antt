@@ -1,5 +1,5 @@
 -- What the calls of the table keep and answer.
-use Rattle.std.proofs.Common.{◌≡◌, ℕ, zero, suc, ◌<◌, ◌≤◌, ◌+◌, ◌-◌, ◌*◌, ◌/◌, ◌%◌, ◌^◌, Bool, false, ltb, List, [], ◌∷◌, length, get_or, set, replicate, Option, Some, None, refl, sym, ap, ◌∙◌, subst, inl, inr, arith}
+use Rattle.std.proofs.Common.{◌≡◌, ℕ, zero, suc, map, ◌<◌, ◌≤◌, ◌+◌, ◌-◌, ◌*◌, ◌/◌, ◌%◌, ◌^◌, Bool, false, ltb, List, [], ◌∷◌, length, get_or, set, replicate, Option, Some, None, refl, sym, ap, ◌∙◌, subst, inl, inr, arith}
 use Rattle.std.specs.Prelude.{IfSome, find, is_some}
 use Rattle.std.specs.List.{AllByRecursion, range_with_len}
 use Rattle.std.proofs.lemmas.Bool.{cases_eq, eq-eqb, ne_eqb, le-ltb}
@@ -9,8 +9,8 @@ use Rattle.std.proofs.lemmas.Nat.{div-mul-add, mod-mul-add, mul-le}
 use Rattle.hp_units.specs.Memory.{entry_of, with_entry}
 use Rattle.hp_units.specs.Pages.{page_from}
 use Rattle.hp_pages.specs.FrameSets.{FindsLowest}
-use Rattle.hp_pages.specs.Places.{AreSumsOf, CanJoin, CanLeave, IsTable, TableValue, held, holders, joined, left, place_of, row_sum, table_sum}
-use Rattle.hp_pages.proofs.FrameSets.{found_is}
+use Rattle.hp_pages.specs.Places.{AreSumsOf, CanJoin, CanLeave, IsTable, TableValue, frame_of_code, held, holders, joined, left, place_of, row_sum, table_sum}
+use Rattle.hp_pages.proofs.FrameSets.{finds_same, found_is}
 use Rattle.hp_pages.proofs.Places.{IsIn, entry-other, entry-same, page_from-None, page_from-Some, sum_marks, sum_none, sum_one, sum_without, table_sum-entry, table_sum-le}
 
 -- a table, by its parts
@@ -20,6 +20,17 @@ table_of sums pages rows = record { frames = length sums; pages = pages; rows = 
 -- no frame
 abbrev no_frame : Option ℕ
 no_frame = None
+
+-- a frame of at most 2^20
+pub below_most : (now : Option ℕ) (frames : ℕ) → IfSome now (λ frame. frame < frames) → frames ≤ 2 ^ 20
+    → IfSome now (λ frame. frame < 2 ^ 20)
+below_most None frames below le = tt
+below_most (Some frame) frames below le = omega (arith, below, le)
+
+-- codes of no frame
+pub codes_of_none : (n : ℕ) → map frame_of_code (replicate n 0) ≡ replicate n no_frame
+codes_of_none zero = refl
+codes_of_none (suc n) = ap (λ (row : List (Option ℕ)). no_frame ∷ row) (codes_of_none n)
 
 -- each row of a table
 pub row_length : {A : Type 0} (pages : ℕ) (rows : List (List A)) (owner : ℕ)
@@ -46,16 +57,6 @@ page_in pages rows owner page all in_owners in_pages = record {
 }
 
 -- ---- the lowest frame
-
-finds_same : (p q : ℕ → Bool) (first past : ℕ) (found : Option ℕ) → ((n : ℕ) → n < past → p n ≡ q n)
-    → FindsLowest p first past found → FindsLowest q first past found
-finds_same p q first past None same none = λ n low high. sym (same n high) ∙ none n low high
-finds_same p q first past (Some found) same lowest = record {
-  low = lowest.low;
-  high = lowest.high;
-  passes = sym (same found lowest.high) ∙ lowest.passes;
-  below = λ n low high. sym (same n (omega (arith, lowest.high))) ∙ lowest.below n low high;
-}
 
 -- by the sums, and by the table
 pub lowest_of : (t : TableValue) (sums : List ℕ) (first count : ℕ) (found : Option ℕ) → AreSumsOf t sums

@@ -1,8 +1,7 @@
 -- The calls of the layer and the definitions of the rules: the frame view of the pages after a rule
 -- is what the call makes of the frame view before, where no frame holds two pages.
-use Rattle.std.proofs.Common.{◌≡◌, ℕ, ◌<◌, ◌≤◌, true, false, List, [], length, get_or, set, map, Option, Some, None, refl, sym, ap, ◌∙◌, subst, inl, inr, arith}
+use Rattle.std.proofs.Common.{◌≡◌, ℕ, ◌<◌, ◌≤◌, true, false, List, [], length, set, Option, Some, None, refl, sym, ap, ◌∙◌, subst, inl, inr, arith}
 use Rattle.std.specs.Prelude.{IfSome, is_some, option_map, slice_index, unwrap_or}
-use Rattle.std.specs.List.{range_with_len}
 use Rattle.std.specs.Option.{option_and_then, option_map_or}
 use Rattle.std.proofs.lemmas.Bool.{cases_lt, cases_Bool}
 use Rattle.std.proofs.lemmas.List.{set-get_or}
@@ -15,7 +14,7 @@ use Rattle.hp_units.specs.Pages.{frame_at, fresh_words, map_page, move_page, pag
 use Rattle.hp_units.specs.Placement.{IsPage, IsWellPlaced, mapped_places}
 use Rattle.hp_tape.specs.Deltas.{PageFrames, buffer_for, buffer_of, is_blank, page_frames_of}
 use Rattle.hp_pages.specs.Pages.{ArePageFramesOf, AreSettled, IsNeeded, map_frame, move_entry, move_frame, unmap_frame, unmap_from, words_in, words_of, write_at, write_frame}
-use Rattle.hp_pages.specs.Places.{held, holders}
+use Rattle.hp_pages.specs.Places.{holders}
 use Rattle.hp_pages.proofs.Blanks.{none-needed, some-needed, buffer-words}
 use Rattle.hp_pages.proofs.Places.{IsIn, entry-other, entry-same, entry_in, holders-entry, holds_some, only_page}
 use Rattle.hp_pages.proofs.PageParts.{same_frames}

@@ -1,5 +1,5 @@
 -- A write of a word: what the call changes and notes is what the rule says.
-use Rattle.std.proofs.Common.{◌≡◌, ℕ, ◌<◌, ◌+◌, Bool, true, false, List, [], ◌∷◌, ◌++◌, length, get_or, set, replicate, Option, Some, None, refl, sym, ap, ◌∙◌, subst, inl, inr, arith}
+use Rattle.std.proofs.Common.{◌≡◌, ℕ, ◌<◌, Bool, true, false, List, [], ◌∷◌, ◌++◌, length, get_or, set, replicate, Option, Some, None, refl, sym, ap, ◌∙◌, subst, inl, inr, arith}
 use Rattle.std.specs.Prelude.{IfSome, option_map, slice_get, slice_index, unwrap_or}
 use Rattle.std.proofs.lemmas.Bool.{cases_Bool, cases_eq}
 use Rattle.std.proofs.lemmas.List.{get_or-set_same, get_or-set_other, length-replicate, length-set, set-set, set-get_or}
@@ -12,7 +12,7 @@ use Rattle.hp_tape.specs.declared.deltas.Delta.TheVariants.{Word as WordDelta, F
 use Rattle.hp_tape.specs.Deltas.{HasOneWord, PageFrames, buffer_for, buffer_of, is_blank, with_buffer}
 use Rattle.hp_tape.specs.Tapes.{TapeValue, NotesPages}
 use Rattle.hp_pages.specs.Pages.{ArePageFramesOf, AreSettled, IsNeeded, words_in, write_at}
-use Rattle.hp_pages.specs.Places.{held, holders}
+use Rattle.hp_pages.specs.Places.{holders}
 use Rattle.hp_pages.proofs.Blanks.{none-needed, some-needed, set-some, set-zero, zeros-blank}
 use Rattle.hp_pages.proofs.Places.{holds_some}
 use Rattle.hp_lemmas.proofs.Tables.{get_set}

@@ -1,5 +1,5 @@
 -- How many pages a frame holds, and which, told by a sum.
-use Rattle.std.specs.Prelude.{◌≡◌, ℕ, ◌+◌, ◌-◌, ◌*◌, ◌^◌, ◌<◌, ◌≤◌, List, [], ◌∷◌, Option, Some, None, IfSome, length, count_by, nat_lt, slice_index, slice_set, sum_by, if◌then◌else◌}
+use Rattle.std.specs.Prelude.{◌≡◌, ℕ, zero, suc, ◌+◌, ◌-◌, ◌*◌, ◌^◌, ◌<◌, ◌≤◌, List, [], ◌∷◌, Option, Some, None, IfSome, length, count_by, nat_lt, slice_index, slice_set, sum_by, if◌then◌else◌}
 use Rattle.std.specs.List.{AllByRecursion}
 use Rattle.hp_units.specs.Memory.{entry_of}
 use Rattle.hp_units.specs.Pages.{holds}
@@ -8,6 +8,11 @@ use Rattle.hp_pages.specs.FrameSets.{has}
 -- how many pages of a table a frame holds (own rule)
 abbrev pub holders : List (List (Option ℕ)) → ℕ → ℕ
 holders table frame = sum_by (λ row. count_by (holds frame) row) table
+
+-- the frame that an entry's code tells: 0 is none, and any other one more than the frame
+abbrev pub frame_of_code : ℕ → Option ℕ
+frame_of_code zero = None
+frame_of_code (suc frame) = Some frame
 
 -- ---- the place of a page: counted from 1, an owner's pages in a row (own rule)
 

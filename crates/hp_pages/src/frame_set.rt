@@ -7,9 +7,11 @@ use hp_units::Frame;
 use std::alloc::{AllocError, Global};
 use std::marker::Model;
 
-/// A set of frames: 64 frames a word, the lowest bit first.
+/// A set of frames: 64 frames a word, the lowest bit first. Its value is the list of its words;
+/// `has` of the definitions tells whether a frame is in it. No call but `none` and `copy` takes
+/// memory.
 #[derive(Drop)]
-pub(crate) struct FrameSet {
+pub struct FrameSet {
     words: Vec<u64>,
 }
 
@@ -22,17 +24,16 @@ impl Model for FrameSet {
 }
 
 impl FrameSet {
-    /// No frame of so many, at most 2^20.
-    pub(crate) fn none(alloc: Global, frames: u32) -> Result<FrameSet, AllocError>
-        requires { frames ≤ 2 ^ 20 }
+    /// No frame of so many. An error is out of memory.
+    pub fn none(alloc: Global, frames: u32) -> Result<FrameSet, AllocError>
         ensures none { IfOk result (λ set. set ≡ replicate (frames / 64 + 1) 0) }
     {
         let words = vec![in alloc; 0; (frames / 64 + 1) as usize]?;
         Ok(FrameSet { words })
     }
 
-    /// An equal set.
-    pub(crate) fn copy(&self, alloc: Global) -> Result<FrameSet, AllocError>
+    /// An equal set. An error is out of memory.
+    pub fn copy(&self, alloc: Global) -> Result<FrameSet, AllocError>
         ensures { IfOk result (λ set. set ≡ self.now) }
     {
         let words = Vec::from_slice(alloc, self.words.as_slice())?;
@@ -40,7 +41,7 @@ impl FrameSet {
     }
 
     /// Puts a frame in or takes it out.
-    pub(crate) fn set(&mut self, frame: Frame, is_in: bool)
+    pub fn set(&mut self, frame: Frame, is_in: bool)
         requires { frame < 64 * length self.old }
         ensures len { length self.new ≡ length self.old }
         ensures has { (n : ℕ) → has self.new n ≡ (if n == frame then is_in else has self.old n) }
@@ -50,7 +51,7 @@ impl FrameSet {
     }
 
     /// The lowest frame of the set from one frame on and before another. A step for 64 frames.
-    pub(crate) fn lowest(&self, first: u32, past: u32) -> Option<Frame>
+    pub fn lowest(&self, first: u32, past: u32) -> Option<Frame>
         requires within { past ≤ 64 * length self.now }
         requires small { past ≤ 2 ^ 20 }
         ensures { FindsLowest (has self.now) first past result }

@@ -10,5 +10,6 @@ mod place_sums;
 mod table;
 
 pub use buffers::is_blank;
+pub use frame_set::FrameSet;
 pub use laws::well_placed_pages_are_settled;
 pub use pages::Pages;

@@ -166,7 +166,7 @@ impl Pages {
         ensures settled { AreSettled self.new.pages }
         ensures notes { NotesPages self.old.layout 1 tape.old tape.new self.new.pages self.old.pages }
     {
-        self.table.set(owner, page, Some(frame));
+        self.table.set(owner, page, None, Some(frame));
         let change = FrameChange::Mapped(frame);
         tape.note(Delta::Map {
             owner,
@@ -220,7 +220,7 @@ impl Pages {
         ensures layout { self.new.layout ≡ self.old.layout }
         ensures notes { NotesPages self.old.layout 1 tape.old tape.new self.new.pages self.old.pages }
     {
-        self.table.set(owner, page, None);
+        self.table.set(owner, page, Some(frame), None);
         let change = FrameChange::Unmapped(frame);
         tape.note(Delta::Map {
             owner,
@@ -373,7 +373,7 @@ impl Pages {
         let (owner, page) = self.page_at(from).unwrap();
         self.buffers.swap(from, to);
         tape.note(Delta::Swap { a: from, b: to });
-        self.table.set(owner, page, Some(to));
+        self.table.set(owner, page, Some(from), Some(to));
         let change = FrameChange::Moved { was: from, now: to };
         tape.note(Delta::Map {
             owner,

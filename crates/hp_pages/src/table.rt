@@ -1,5 +1,6 @@
 //! The table of pages, both ways.
 ghost use Rattle.std.specs.Prelude.{◌≡◌, ◌+◌, ◌*◌, ◌<◌, ◌≤◌, ◌^◌, IfOk, IfSome, None, find, is_some, length, replicate, slice_index_or, slice_set};
+ghost use Rattle.hp_pages.specs.Places.{frame_of_code};
 ghost use Rattle.hp_units.specs.Memory.{entry_of, with_entry};
 ghost use Rattle.hp_units.specs.Pages.{page_from};
 ghost use Rattle.std.specs.List.{range_with_len};
@@ -10,18 +11,20 @@ use hp_units::{Frame, Owner, Page};
 use std::alloc::{AllocError, Global};
 use std::marker::Model;
 
-/// The frames of one owner's pages.
+/// The frames of one owner's pages: each is 0 where the page is not mapped, and else one more than
+/// the number of its frame. Four bytes a page, since most calls wait for this table.
 #[derive(Drop)]
 struct PageRow {
-    frames: Vec<Option<Frame>>,
+    codes: Vec<u32>,
 }
 
 impl Model for PageRow {
-    ghost use Rattle.std.specs.Prelude.{List, ℕ, Option};
+    ghost use Rattle.std.specs.Prelude.{List, ℕ, Option, map};
+    ghost use Rattle.hp_pages.specs.Places.{frame_of_code};
 
     ghost Value = { List (Option ℕ) };
 
-    ghost view = { λ r. r.frames.items };
+    ghost view = { λ r. map frame_of_code r.codes.items };
 }
 
 impl PageRow {
@@ -29,16 +32,16 @@ impl PageRow {
     fn empty(alloc: Global, pages: u32) -> Result<PageRow, AllocError>
         ensures { IfOk result (λ row. row ≡ replicate pages None) }
     {
-        let frames = vec![in alloc; None; pages as usize]?;
-        Ok(PageRow { frames })
+        let codes = no_codes(alloc, pages)?;
+        Ok(PageRow { codes })
     }
 
     /// An equal row.
     fn copy(&self, alloc: Global) -> Result<PageRow, AllocError>
         ensures { IfOk result (λ row. row ≡ self.now) }
     {
-        let frames = Vec::from_slice(alloc, self.frames.as_slice())?;
-        Ok(PageRow { frames })
+        let codes = Vec::from_slice(alloc, self.codes.as_slice())?;
+        Ok(PageRow { codes })
     }
 
     /// The frame of a page, if it is mapped.
@@ -46,15 +49,46 @@ impl PageRow {
         requires { page < length self.now }
         ensures { result ≡ slice_index_or self.now page None }
     {
-        self.frames[page.0 as usize]
+        frame_of_code(self.codes[page.0 as usize])
     }
 
     /// Sets the frame of a page.
     fn set(&mut self, page: Page, frame: Option<Frame>)
-        requires { page < length self.old }
+        requires page { page < length self.old }
+        requires small { IfSome frame (λ frame. frame < 2 ^ 20) }
         ensures { self.new ≡ slice_set self.old page frame }
     {
-        self.frames[page.0 as usize] = frame;
+        self.codes[page.0 as usize] = code_of(frame);
+    }
+}
+
+/// The codes of so many pages, none mapped.
+fn no_codes(alloc: Global, pages: u32) -> Result<Vec<u32>, AllocError>
+    ensures { IfOk result (λ codes. codes.items ≡ replicate pages 0) }
+{
+    let codes = vec![in alloc; 0; pages as usize]?;
+    Ok(codes)
+}
+
+/// The frame that a page's code tells.
+fn frame_of_code(code: u32) -> Option<Frame>
+    ensures { result ≡ frame_of_code code }
+{
+    if code == 0 {
+        None
+    } else {
+        Some(Frame(code - 1))
+    }
+}
+
+/// The code of a page's frame.
+fn code_of(frame: Option<Frame>) -> u32
+    requires { IfSome frame (λ frame. frame < 2 ^ 20) }
+    ensures { frame_of_code result ≡ frame }
+{
+    match frame {
+        Some(frame) => frame.0 + 1,
+        None => 0,
     }
 }
 
@@ -141,17 +175,18 @@ impl Table {
         ))
     }
 
-    /// Gives a page a frame, or none.
-    pub(crate) fn set(&mut self, owner: Owner, page: Page, now: Option<Frame>)
+    /// Gives a page a frame, or none, in place of the one that it has, or none. It reads no entry: the
+    /// place of one is seldom in a cache.
+    pub(crate) fn set(&mut self, owner: Owner, page: Page, was: Option<Frame>, now: Option<Frame>)
         requires owner { owner < length self.old.rows }
         requires page { page < self.old.pages }
+        requires was { entry_of self.old.rows owner page ≡ was }
         requires frame { IfSome now (λ frame. frame < self.old.frames) }
         ensures set { self.new ≡ record self.old { rows = with_entry self.old.rows owner page now } }
         ensures was_table { IsTable self.old }
     {
         let entry = now; // a copy, since two calls take the entry
         let place = self.place(owner, page);
-        let was = self.frame_at(owner, page);
         self.sums.leave(was, place);
         let row = &mut self.rows[owner.0 as usize];
         row.set(page, entry);

@@ -182,23 +182,7 @@ impl Layers {
             (frames_of_block self.now.layout block) }
     {
         let size = self.layout.block_size();
-        let first = block.0 * size;
-        for number in 0..size {
-            let frame = Frame(first + number);
-            if self.starts_kernel_block(frame) {
-                return Some(frame);
-            }
-        }
-        None
-    }
-
-    /// Whether a kernel's block starts at a frame.
-    fn starts_kernel_block(&self, frame: Frame) -> bool
-        requires one { AreOfOneLayout self.now }
-        requires frame { IsFrame self.now.layout frame }
-        ensures { result ≡ is_some (kernel_order (state_of self.now) frame) }
-    {
-        self.kernel.order_at(frame).is_some()
+        self.kernel.lowest(block.0 * size, size)
     }
 }
 

@@ -1,10 +1,12 @@
 //! The way back: the opposites of deltas.
 ghost use Rattle.std.specs.Prelude.{◌≡◌};
+ghost use Rattle.hp_tape.specs.FrameChanges.{frame_after};
 ghost use Rattle.hp_tape.specs.Deltas.{FitsPages, IsDeltaOf, pages_undo};
 ghost use Rattle.hp_pages.specs.Pages.{IsInPlace};
 
 use crate::pages::Pages;
-use hp_tape::Delta;
+use hp_tape::{Delta, FrameChange};
+use hp_units::Frame;
 
 impl Pages {
     /// Does the opposite of a delta of the layout that fits; one of another layer changes nothing.
@@ -33,7 +35,10 @@ impl Pages {
                 owner,
                 page,
                 change,
-            } => self.table.set(*owner, *page, change.before()),
+            } => {
+                let was = frame_after(*change);
+                self.table.set(*owner, *page, was, change.before());
+            }
             Delta::Swap { a, b } => self.buffers.swap(*a, *b),
             Delta::Word {
                 index,
@@ -44,5 +49,16 @@ impl Pages {
             Delta::Filled { frame, .. } => self.buffers.clear(*frame),
             _ => {}
         }
+    }
+}
+
+/// The frame of a page after a change, if it has one then.
+fn frame_after(change: FrameChange) -> Option<Frame>
+    ensures { result ≡ frame_after change }
+{
+    match change {
+        FrameChange::Mapped(frame) => Some(frame),
+        FrameChange::Unmapped(_) => None,
+        FrameChange::Moved { now, .. } => Some(now),
     }
 }

@@ -1,1 +1,0 @@
-use Rattle.hp_links.proofs.links.Links.len.Goals as goal

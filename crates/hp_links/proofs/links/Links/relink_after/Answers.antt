@@ -1,1 +1,0 @@
-use Rattle.hp_links.proofs.links.Links.relink_after.Goals as goal

@@ -1,4 +1,5 @@
 use Rattle.std.proofs.Common.{◌≡◌, ◌<◌, Some, ap, subst, sym, ◌∙◌, arith}
+use Rattle.hp_units.specs.Memory.{entry_of}
 use Rattle.hp_units.specs.Pages.{page_from}
 use Rattle.hp_tape.specs.Tapes.{NotesPages}
 use Rattle.hp_pages.specs.Pages.{AreSettled, PagesValue, move_entry}
@@ -28,6 +29,17 @@ set-requires-clause-page c =
     first in
     let in_pages = subst (λ (v : PagesValue). page.1 < v.layout.pages) (sym c.self.view_is) is.in_pages in
     omega (arith, in_pages, c.self.invariant.pages)
+
+pub set-requires-clause-was : goal.set-requires-clause-was
+set-requires-clause-was c =
+    let page = c.unwrap-owner.result in
+    let first : page_from 0 c.args.self.now.pages.table c.args.from ≡ Some page =
+    sym c.page_at.ensures.page ∙ c.unwrap-owner.ensures in
+    let is =
+    first_page c.args.self.now.layout c.args.self.now.pages c.args.from page c.page_at.ensures.pages
+    first in
+    subst (λ (v : PagesValue). entry_of v.pages.table page.0 page.1 ≡ Some c.args.from) (sym c.self.view_is)
+    is.entry
 
 pub returns-clause-settled : goal.returns-clause-settled
 returns-clause-settled c =

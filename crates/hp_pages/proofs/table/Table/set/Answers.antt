@@ -1,8 +1,8 @@
-use Rattle.std.proofs.Common.{◌≡◌, ◌<◌, [], length, get_or, subst, sym, refl}
+use Rattle.std.proofs.Common.{◌≡◌, ◌<◌, ◌≤◌, ◌^◌, [], length, get_or, subst, sym, refl}
 use Rattle.std.proofs.lemmas.List.{get_or_read}
 use Rattle.std.specs.Prelude.{IfSome}
 use Rattle.hp_pages.specs.Places.{TableValue}
-use Rattle.hp_pages.proofs.Tables.{can_leave, can_join, are_sums-set}
+use Rattle.hp_pages.proofs.Tables.{are_sums-set, below_most, can_join, can_leave}
 use Rattle.hp_pages.proofs.table.Table.set.Goals as goal
 
 pub leave-requires : goal.leave-requires
@@ -13,7 +13,7 @@ leave-requires c =
       pages = c.self.inside.pages;
       rows = c.self.inside.rows.items;
     } in
-    rw (c.frame_at-was.ensures.frame, c.place-place.ensures, ← c.self.view_is)
+    rw (sym c.requires.was, c.place-place.ensures, ← c.self.view_is)
     (can_leave t c.self.inside.sums c.args.owner c.args.page c.self.invariant refl)
 
 pub join-requires : goal.join-requires
@@ -30,9 +30,14 @@ join-requires c =
     let in_frames =
     subst (λ (v : TableValue). IfSome c.args.now (λ frame. frame < v.frames)) (sym c.self.view_is)
     c.requires.frame in
-    rw (c.leave.ensures, c.frame_at-was.ensures.frame, c.place-place.ensures, ← c.self.view_is)
+    rw (c.leave.ensures, sym c.requires.was, c.place-place.ensures, ← c.self.view_is)
     (can_join t c.self.inside.sums c.args.owner c.args.page c.args.now c.self.invariant refl in_owners
     in_pages in_frames)
+
+pub set-requires-clause-small : goal.set-requires-clause-small
+set-requires-clause-small c =
+    below_most c.args.now c.args.self.now.frames c.requires.frame
+    (subst (λ (v : TableValue). v.frames ≤ 2 ^ 20) c.self.view_is c.self.invariant.table.frames)
 
 pub invariant_of-self : goal.invariant_of-self
 invariant_of-self c =
@@ -53,7 +58,7 @@ invariant_of-self c =
       c.set.ensures,
       read,
       c.owner.view_is,
-      c.frame_at-was.ensures.frame,
+      sym c.requires.was,
       c.place-place.ensures,
       ← c.self.view_is,
     )
