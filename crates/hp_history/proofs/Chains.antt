@@ -110,6 +110,20 @@ pub ends_none : (l : LayoutParts) (volumes : List Volume) (end : CourseValue)
 ends_none l volumes end is =
     rw is (record { start = refl; layout = refl; count = refl; state = refl; chain = λ at v e. absurd cc })
 
+-- the journal of no records over an Image of the state at boot
+pub begun_at_boot : (l : LayoutParts) (image : Pictured) (end : CourseValue) → image.layout ≡ l
+    → image.memory ≡ boot_memory l → end ≡ started image.layout image.memory 0
+    → end ≡ started l (boot_memory l) 0
+begun_at_boot l image end layout memory is =
+    is ∙ (ap (λ (m : LayoutParts). started m image.memory 0) layout
+    ∙ ap (λ (s : Memory). started l s 0) memory)
+
+-- the Image is its base
+pub begins_with : (image : Pictured) (end : CourseValue) → end ≡ started image.layout image.memory 0
+    → image ≡ pictured end.layout end.base
+begins_with image end is =
+    subst (λ (c : CourseValue). image ≡ pictured c.layout c.base) (sym is) refl
+
 -- what it shows
 pub end_shown : (l : LayoutParts) (volumes : List Volume) (end : CourseValue) → EndsVolumes l volumes end
     → pictured end.layout end.base ≡ pictured l (state_after l volumes)

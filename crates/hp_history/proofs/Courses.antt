@@ -6,6 +6,7 @@ use Rattle.std.proofs.lemmas.Bool.{leb-false, and_cases, not-false}
 use Rattle.hp_units.specs.Memory.{Memory}
 use Rattle.hp_units.specs.LayoutParts.{IsLayout, LayoutParts}
 use Rattle.hp_units.specs.Placement.{IsWellPlaced}
+use Rattle.hp_units.specs.Marks.{tag_of}
 use Rattle.hp_units.specs.Step.{step}
 use Rattle.hp_units.specs.History.{is_look, is_refused, net_of, run, value_of, reply_of, IsLegal}
 use Rattle.hp_units.specs.declared.replies.Receipt.{Receipt}
@@ -14,16 +15,15 @@ use Rattle.hp_tape.specs.declared.deltas.Delta.{Delta}
 use Rattle.hp_tape.specs.Deltas.{frame_view_of}
 use Rattle.hp_memory.specs.Layers.{AreNoted}
 use Rattle.hp_memory.specs.Memory.{MemoryValue}
-use Rattle.hp_plain.specs.Image.{Pictured}
 use Rattle.hp_laws.proofs.EventSteps.{value-placed}
 use Rattle.hp_laws.proofs.Net.{net-push, run-push, legal_push}
 use Rattle.hp_laws.proofs.Steps.{steps, is_look_effect}
-use Rattle.hp_history.specs.declared.journal.Entry.{Entry}
-use Rattle.hp_history.specs.Course.{CourseValue, IsAnswered, IsHistory, is_spent, last_serial, record_of}
-use Rattle.hp_history.specs.Entries.{start_of}
-use Rattle.hp_history.specs.Kept.{IsCourse, IsCut, IsStep, pictured, remembered}
+use Rattle.hp_history.specs.declared.entries.Entry.{Entry}
+use Rattle.hp_history.specs.Course.{CourseValue, IsAnswered, IsHistory, is_spent, last_serial, record_of, started}
+use Rattle.hp_history.specs.Entries.{start_of, tag_in}
+use Rattle.hp_history.specs.Kept.{IsCourse, IsCut, IsStep, remembered}
 use Rattle.hp_history.proofs.Names.{Record}
-use Rattle.hp_history.proofs.Journals.{journal_grown, journal_none, journal_take}
+use Rattle.hp_history.proofs.Journals.{journal_none, journal_take}
 
 -- where there is a further serial
 pub room : (m : CourseValue) → is_spent m ≡ false → m.before + length m.history < 18446744073709551615
@@ -52,6 +52,11 @@ pub memory_is : (v : MemoryValue) (l : LayoutParts) (s : Memory) → v.layout �
     → v ≡ remembered l s
 memory_is v l s layout state = ap (λ (k : LayoutParts). remembered k v.state) layout ∙ ap (remembered l) state
 
+-- the count of one record more
+pub one_more : (h : List Record) (r : Record) (count : ℕ) → count ≡ length h
+    → count + 1 ≡ length (h ++ r ∷ [])
+one_more h r count is = ap (λ (n : ℕ). n + 1) is ∙ sym (length_push h r)
+
 -- a course with no records
 pub new_course : (l : LayoutParts) (s : Memory) (before : ℕ) (v : MemoryValue) (h : List Record)
     (es : List Entry) (ds : List Delta)
@@ -63,7 +68,7 @@ new_course l s before v h es ds limits placed is none empty clear fits =
       limits = limits;
       placed = placed;
       history = record { legal = λ n r e. absurd cc; state = refl };
-      journal = journal_none l s placed;
+      journal = journal_none l s before placed;
       fits = omega arith;
     })
 
@@ -75,25 +80,13 @@ state_placed m es ds ok =
     (value-placed m.layout m.base m.history ok.limits ok.placed)
 
 -- a course that was sealed
-pub sealed_course : (m : CourseValue) (es : List Entry) (ds : List Delta) (now : Pictured) (before : ℕ)
-    (h : List Record) (left : List Entry) (kept : List Delta)
-    → IsCourse m es ds → now ≡ pictured m.layout m.state → before ≡ last_serial m → h ≡ [] → left ≡ []
-    → kept ≡ []
-    → IsCourse (record {
-      layout = m.layout;
-      before = before;
-      base = now.memory;
-      history = h;
-      state = m.state;
-    }) left kept
-sealed_course m es ds now before h left kept ok is last none empty clear =
-    let base : now.memory ≡ m.state = ap (λ (i : Pictured). i.memory) is in
-    let fits : before < 2 ^ 64 = omega (arith, last, ok.fits) in
-    subst (λ (s : Memory). IsCourse
-    (record { layout = m.layout; before = before; base = s; history = h; state = m.state }) left kept) (sym
-    base)
-    (new_course m.layout m.state before (remembered m.layout m.state) h left kept ok.limits
-    (state_placed m es ds ok) refl none empty clear fits)
+pub sealed_course : (m : CourseValue) (es : List Entry) (ds : List Delta) (before : ℕ) (left : List Entry)
+    (kept : List Delta)
+    → IsCourse m es ds → before ≡ last_serial m → left ≡ [] → kept ≡ []
+    → IsCourse (started m.layout m.state before) left kept
+sealed_course m es ds before left kept ok last empty clear =
+    new_course m.layout m.state before (remembered m.layout m.state) [] left kept ok.limits
+    (state_placed m es ds ok) refl refl empty clear (omega (arith, last, ok.fits))
 
 -- ---- going back
 
@@ -121,9 +114,7 @@ cut_course m es ds cpu keep r ok free cut serial =
       placed = ok.placed;
       history = record { legal = follows m cpu r serial cut.answers ok.history.legal; state = refl };
       journal =
-          rw (cut_net m cpu keep r cut) (journal_grown m.layout m.base m.history (take keep
-          (net_of m.history)) (take keep es) (take (start_of es (length ds) keep) ds) (record_of cpu r)
-          (journal_take m.layout m.base m.history (net_of m.history) es ds keep ok.journal cut.within));
+          rw (cut_net m cpu keep r cut) (journal_take m.layout m.base m.before (net_of m.history) es ds keep ok.journal cut.within);
       fits = omega (arith, space, length_push m.history (record_of cpu r));
     }
 
@@ -194,7 +185,7 @@ pub record IsMade (m : CourseValue) (es : List Entry) (ds : List Delta) (cpu : �
   pub layout : v.layout ≡ m.layout
   pub noted : AreNoted m.layout (delta_bound m.layout m.state r.event) ds now (frame_view_of m.layout v.state)
       (frame_view_of m.layout m.state)
-  pub place : e.place ≡ length m.history
+  pub tag : tag_in m.before e ≡ tag_of (record_of cpu r)
   pub start : e.start ≡ length ds
 
 -- whether the answer makes the event part of the net

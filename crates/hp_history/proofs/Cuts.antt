@@ -4,7 +4,7 @@ use Rattle.std.specs.Prelude.{◌&&◌, ◌⊎◌, not, IfSome, IfNone, if◌the
 use Rattle.std.specs.Bool.{then_some}
 use Rattle.std.specs.Option.{option_map, option_or}
 use Rattle.std.proofs.lemmas.List.{take_all}
-use Rattle.std.proofs.lemmas.Option.{slice_get-map, same_Some}
+use Rattle.std.proofs.lemmas.Option.{slice_get-map, slice_get_within, same_Some}
 use Rattle.std.proofs.lemmas.Bool.{lt-ltb, le-ltb, lt-leb, le-leb, cases_lt}
 use Rattle.hp_units.specs.Memory.{Memory}
 use Rattle.hp_units.specs.LayoutParts.{LayoutParts}
@@ -19,8 +19,8 @@ use Rattle.hp_laws.proofs.Lists.{get_some}
 use Rattle.hp_laws.proofs.Undo.{steps_until_at, count_above_at, sole_within}
 use Rattle.hp_laws.proofs.Net.{Numbered}
 use Rattle.hp_laws.proofs.Earlier.{numbered_net}
-use Rattle.hp_history.specs.Entries.{tags_of}
-use Rattle.hp_history.specs.declared.journal.Entry.{Entry}
+use Rattle.hp_history.specs.Entries.{AreNumbered, tag_in, tags_of}
+use Rattle.hp_history.specs.declared.entries.Entry.{Entry}
 use Rattle.hp_history.specs.Course.{CourseValue, IsHistory, last_serial}
 use Rattle.hp_history.specs.Kept.{IsCourse, IsCut, IsStep, is_gone, may_cancel}
 use Rattle.hp_history.proofs.Journals.{entry_count}
@@ -118,14 +118,14 @@ net_undo n r s count asked reply = rw (ap is_refused reply, asked) refl
 pub undo_done : (m : CourseValue) (es : List Entry) (ds : List Delta) (cpu s keep count : ℕ)
     → IsCourse m es ds → cpu < m.layout.cpus → is_gone m s ≡ false
     → keep ≤ length es → count + keep ≡ length es
-    → ((i : ℕ) (t : Tag) → keep ≤ i → slice_get (tags_of m.history es) i ≡ Some t → s < t.serial)
-    → ((t : Tag) → 0 < keep → slice_get (tags_of m.history es) (keep - 1) ≡ Some t → t.serial ≤ s)
+    → ((i : ℕ) (t : Tag) → keep ≤ i → slice_get (tags_of m.before es) i ≡ Some t → s < t.serial)
+    → ((t : Tag) → 0 < keep → slice_get (tags_of m.before es) (keep - 1) ≡ Some t → t.serial ≤ s)
     → IsCut m cpu (UndoAfter s) keep (Undone count)
 undo_done m es ds cpu s keep count ok inside there within counted above below =
     let len : length es ≡ length (net_of m.history) =
-    entry_count m.layout m.base m.history (net_of m.history) es ds ok.journal in
+    entry_count m.layout m.base m.before (net_of m.history) es ds ok.journal in
     let place =
-    kept_place m.before (last_serial m) s (net_of m.history) (tags_of m.history es) keep
+    kept_place m.before (last_serial m) s (net_of m.history) (tags_of m.before es) keep
     (numbered_net m.layout m.base m.before m.history ok.history.legal) ok.journal.tagged
     (omega (arith, within, len)) above below in
     record {
@@ -267,7 +267,26 @@ acts m cpu (SetAuto auto) undo cancel = act_step m cpu (SetAuto auto) refl refl
 -- the journal has an entry for each step
 pub all_steps : (m : CourseValue) (es : List Entry) (ds : List Delta) (keep : ℕ) → IsCourse m es ds
     → keep ≡ length es → keep ≡ length (net_of m.history)
-all_steps m es ds keep ok is = is ∙ entry_count m.layout m.base m.history (net_of m.history) es ds ok.journal
+all_steps m es ds keep ok is = is ∙ entry_count m.layout m.base m.before (net_of m.history) es ds ok.journal
+
+-- the serials of its entries are those of records
+pub entries_numbered : (m : CourseValue) (es : List Entry) (ds : List Delta) → IsCourse m es ds
+    → AreNumbered m.before es
+entries_numbered m es ds ok j e at =
+    let net = net_of m.history in
+    let below : j < length es = slice_get_within es j e at in
+    let count = entry_count m.layout m.base m.before net es ds ok.journal in
+    let here = get_some net j (omega (arith, below, count)) in
+    let same : Some (tag_in m.before e) ≡ Some (tag_of here.0) =
+    sym (slice_get-map (tag_in m.before) es j ∙ ap (option_map (tag_in m.before)) at)
+    ∙ tag_of_place net (tags_of m.before es) j here.0 ok.journal.tagged here.1 in
+    let numbered = numbered_net m.layout m.base m.before m.history ok.history.legal in
+    omega (
+      arith,
+      ap (λ (t : Tag). t.serial) (same_Some (tag_in m.before e) (tag_of here.0) same),
+      numbered.under j here.0 here.1,
+      ok.fits,
+    )
 
 -- ---- whether a Cancel is refused
 

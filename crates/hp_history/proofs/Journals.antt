@@ -14,13 +14,13 @@ use Rattle.hp_tape.specs.Bounds.{delta_bound}
 use Rattle.hp_tape.specs.declared.deltas.Delta.{Delta}
 use Rattle.hp_memory.specs.Memory.{LeadsBack}
 use Rattle.hp_laws.proofs.Lists.{get_push_cases, get_some, get_take}
-use Rattle.hp_history.specs.declared.journal.Entry.{Entry}
+use Rattle.hp_history.specs.declared.entries.Entry.{Entry}
 use Rattle.hp_history.specs.Course.{CourseValue}
-use Rattle.hp_history.specs.Entries.{IsEntry, IsWayBack, start_of, tag_at}
+use Rattle.hp_history.specs.Entries.{IsEntry, IsWayBack, start_of, tag_in}
 use Rattle.hp_history.specs.Kept.{IsCourse, IsJournal}
 use Rattle.hp_history.proofs.Deltas.{between-length, leads-append, leads-left, leads-none, past-split}
 use Rattle.hp_history.proofs.Names.{Record, Tag}
-use Rattle.hp_history.proofs.Starts.{start-past, start-push, start-take, tags-grown}
+use Rattle.hp_history.proofs.Starts.{start-past, start-push, start-take}
 
 -- the same bound, between places that are equal to others
 moved : (a b c d n : ℕ) → a ≡ b → c ≡ d → b ≤ d + n → a ≤ c + n
@@ -45,24 +45,24 @@ few_between n from to bound is le = omega arith
 -- ---- what a journal's places are
 
 -- as many entries as steps
-pub entry_count : (l : LayoutParts) (base : Memory) (h net : List Record) (es : List Entry) (ds : List Delta)
-    → IsJournal l base h net es ds → length es ≡ length net
-entry_count l base h net es ds ok =
-    sym (length-map es (λ (e : Entry). tag_at h e.place))
+pub entry_count : (l : LayoutParts) (base : Memory) (before : ℕ) (net : List Record) (es : List Entry) (ds : List Delta)
+    → IsJournal l base before net es ds → length es ≡ length net
+entry_count l base before net es ds ok =
+    sym (length-map es (tag_in before))
     ∙ (ap (λ (ts : List Tag). length ts) ok.tagged ∙ length-map net tag_of)
 
 -- the deltas of a step begin on the tape
-pub start_within : (l : LayoutParts) (base : Memory) (h net : List Record) (es : List Entry) (ds : List Delta)
+pub start_within : (l : LayoutParts) (base : Memory) (before : ℕ) (net : List Record) (es : List Entry) (ds : List Delta)
     (j : ℕ)
-    → IsJournal l base h net es ds → start_of es (length ds) j ≤ length ds
-start_within l base h net es ds j ok =
+    → IsJournal l base before net es ds → start_of es (length ds) j ≤ length ds
+start_within l base before net es ds j ok =
     let far : start_of es (length ds) (length es + j) ≡ length ds =
     start-past es (length ds) (length es + j) (omega arith) in
     let later : start_of es (length ds) j ≤ start_of es (length ds) (length es + j) =
     ok.rising j (length es + j) (omega arith) in
     subst (λ (n : ℕ). start_of es (length ds) j ≤ n) far later
 
--- ---- no steps, and one record more in the history
+-- ---- no steps
 
 none_leads : (l : LayoutParts) (base : Memory) (j : ℕ) → IsWellPlaced l base → 0 ≡ j
     → LeadsBack l (drop (start_of [] 0 j) []) (run l base []) (run l base (take j []))
@@ -72,10 +72,10 @@ none_leads l base j placed is =
     (leads-none l base placed)
 
 -- the journal of no steps
-pub journal_none : (l : LayoutParts) (base : Memory) → IsWellPlaced l base → IsJournal l base [] [] [] []
-journal_none l base placed = record {
+pub journal_none : (l : LayoutParts) (base : Memory) (before : ℕ) → IsWellPlaced l base
+    → IsJournal l base before [] [] []
+journal_none l base before placed = record {
   tagged = refl;
-  within = λ j e at. absurd cc;
   rising =
       λ i j le. placed_up (start_of [] 0 i) (start_of [] 0 j) 0 0 (start-past [] 0 i (omega arith))
       (start-past [] 0 j (omega arith)) (omega arith);
@@ -83,74 +83,62 @@ journal_none l base placed = record {
   leads = λ j le. none_leads l base j placed (omega arith);
 }
 
--- a record that is no step
-pub journal_grown : (l : LayoutParts) (base : Memory) (h net : List Record) (es : List Entry)
-    (ds : List Delta) (r : Record)
-    → IsJournal l base h net es ds → IsJournal l base (h ++ r ∷ []) net es ds
-journal_grown l base h net es ds r ok = record {
-  tagged = tags-grown h r es ok.within ∙ ok.tagged;
-  within = λ j e at. omega (arith, ok.within j e at, length_push h r);
-  rising = ok.rising;
-  few = ok.few;
-  leads = ok.leads;
-}
-
 -- ---- the first steps
 
 -- where they begin on the tape that is cut: as before, and past the cut at its end
-cut_start : (l : LayoutParts) (base : Memory) (h net : List Record) (es : List Entry) (ds : List Delta)
+cut_start : (l : LayoutParts) (base : Memory) (before : ℕ) (net : List Record) (es : List Entry) (ds : List Delta)
     (k j : ℕ)
-    → IsJournal l base h net es ds → k ≤ length net → j ≤ k
+    → IsJournal l base before net es ds → k ≤ length net → j ≤ k
     → start_of (take k es) (length (take (start_of es (length ds) k) ds)) j ≡ start_of es (length ds) j
-cut_start l base h net es ds k j ok le low =
+cut_start l base before net es ds k j ok le low =
     let long : length (take (start_of es (length ds) k) ds) ≡ start_of es (length ds) k =
-    length-take-le (start_of es (length ds) k) ds (start_within l base h net es ds k ok) in
-    let reach : k ≤ length es = omega (arith, le, entry_count l base h net es ds ok) in
+    length-take-le (start_of es (length ds) k) ds (start_within l base before net es ds k ok) in
+    let reach : k ≤ length es = omega (arith, le, entry_count l base before net es ds ok) in
     ap (λ (n : ℕ). start_of (take k es) n j) long ∙ start-take es (length ds) j k low reach
 
-cut_past : (l : LayoutParts) (base : Memory) (h net : List Record) (es : List Entry) (ds : List Delta)
+cut_past : (l : LayoutParts) (base : Memory) (before : ℕ) (net : List Record) (es : List Entry) (ds : List Delta)
     (k j : ℕ)
-    → IsJournal l base h net es ds → k ≤ length net → k ≤ j
+    → IsJournal l base before net es ds → k ≤ length net → k ≤ j
     → start_of (take k es) (length (take (start_of es (length ds) k) ds)) j ≡ start_of es (length ds) k
-cut_past l base h net es ds k j ok le high =
+cut_past l base before net es ds k j ok le high =
     let long : length (take (start_of es (length ds) k) ds) ≡ start_of es (length ds) k =
-    length-take-le (start_of es (length ds) k) ds (start_within l base h net es ds k ok) in
-    let reach : k ≤ length es = omega (arith, le, entry_count l base h net es ds ok) in
+    length-take-le (start_of es (length ds) k) ds (start_within l base before net es ds k ok) in
+    let reach : k ≤ length es = omega (arith, le, entry_count l base before net es ds ok) in
     let few : length (take k es) ≤ j = omega (arith, high, length-take-le k es reach) in
     start-past (take k es) (length (take (start_of es (length ds) k) ds)) j few ∙ long
 
-cut_rising : (l : LayoutParts) (base : Memory) (h net : List Record) (es : List Entry) (ds : List Delta)
+cut_rising : (l : LayoutParts) (base : Memory) (before : ℕ) (net : List Record) (es : List Entry) (ds : List Delta)
     (k : ℕ)
-    → IsJournal l base h net es ds → k ≤ length net → (i j : ℕ) → i ≤ j
+    → IsJournal l base before net es ds → k ≤ length net → (i j : ℕ) → i ≤ j
     → start_of (take k es) (length (take (start_of es (length ds) k) ds)) i
     ≤ start_of (take k es) (length (take (start_of es (length ds) k) ds)) j
-cut_rising l base h net es ds k ok le i j less =
+cut_rising l base before net es ds k ok le i j less =
     let mark = start_of es (length ds) k in
     let kept = length (take mark ds) in
     elim (cases_lt j k) [
       | inl below ↦ (let low : j ≤ k = omega arith in
           let first : i ≤ k = omega arith in
           placed_up (start_of (take k es) kept i) (start_of (take k es) kept j) (start_of es (length ds) i)
-          (start_of es (length ds) j) (cut_start l base h net es ds k i ok le first)
-          (cut_start l base h net es ds k j ok le low)
+          (start_of es (length ds) j) (cut_start l base before net es ds k i ok le first)
+          (cut_start l base before net es ds k j ok le low)
           (ok.rising i j less))
       | inr past ↦ elim (cases_lt i k) [
         | inl below ↦ (let first : i ≤ k = omega arith in
             placed_up (start_of (take k es) kept i) (start_of (take k es) kept j) (start_of es (length ds) i)
-            mark (cut_start l base h net es ds k i ok le first) (cut_past l base h net es ds k j ok le past)
+            mark (cut_start l base before net es ds k i ok le first) (cut_past l base before net es ds k j ok le past)
             (ok.rising i k first))
         | inr also ↦
-            placed_up (start_of (take k es) kept i) (start_of (take k es) kept j) mark mark (cut_past l base h
-            net es ds k i ok le also) (cut_past l base h net es ds k j ok le past) (omega arith)
+            placed_up (start_of (take k es) kept i) (start_of (take k es) kept j) mark mark (cut_past l base
+            before net es ds k i ok le also) (cut_past l base before net es ds k j ok le past) (omega arith)
       ]
     ]
 
-cut_few : (l : LayoutParts) (base : Memory) (h net : List Record) (es : List Entry) (ds : List Delta) (k : ℕ)
-    → IsJournal l base h net es ds → k ≤ length net → (j : ℕ) (r : Record) → slice_get (take k net) j ≡ Some r
+cut_few : (l : LayoutParts) (base : Memory) (before : ℕ) (net : List Record) (es : List Entry) (ds : List Delta) (k : ℕ)
+    → IsJournal l base before net es ds → k ≤ length net → (j : ℕ) (r : Record) → slice_get (take k net) j ≡ Some r
     → start_of (take k es) (length (take (start_of es (length ds) k) ds)) (j + 1) ≤ start_of (take k es)
     (length (take (start_of es (length ds) k) ds)) j + delta_bound l (run l base (take j (take k net)))
     r.event
-cut_few l base h net es ds k ok le j r at =
+cut_few l base before net es ds k ok le j r at =
     let here = get_take k net r j at in
     let low : j ≤ k = omega (arith, here.0) in
     let next : j + 1 ≤ k = omega (arith, here.0) in
@@ -162,20 +150,20 @@ cut_few l base h net es ds k ok le j r at =
     (moved (start_of (take k es) (length (take (start_of es (length ds) k) ds)) (j + 1))
     (start_of es (length ds) (j + 1))
     (start_of (take k es) (length (take (start_of es (length ds) k) ds)) j) (start_of es (length ds) j)
-    (delta_bound l (run l base (take j net)) r.event) (cut_start l base h net es ds k (j + 1) ok le next)
-    (cut_start l base h net es ds k j ok le low) (ok.few j r here.1))
+    (delta_bound l (run l base (take j net)) r.event) (cut_start l base before net es ds k (j + 1) ok le next)
+    (cut_start l base before net es ds k j ok le low) (ok.few j r here.1))
 
-cut_leads : (l : LayoutParts) (base : Memory) (h net : List Record) (es : List Entry) (ds : List Delta)
+cut_leads : (l : LayoutParts) (base : Memory) (before : ℕ) (net : List Record) (es : List Entry) (ds : List Delta)
     (k : ℕ)
-    → IsJournal l base h net es ds → k ≤ length net → (j : ℕ) → j ≤ k
+    → IsJournal l base before net es ds → k ≤ length net → (j : ℕ) → j ≤ k
     → LeadsBack l (drop (start_of (take k es) (length (take (start_of es (length ds) k) ds)) j)
     (take (start_of es (length ds) k) ds)) (run l base (take k net)) (run l base (take j (take k net)))
-cut_leads l base h net es ds k ok le j low =
+cut_leads l base before net es ds k ok le j low =
     let mark = start_of es (length ds) k in
     let from = start_of es (length ds) j in
     let reach : j ≤ length net = omega (arith, low, le) in
     let split : drop from ds ≡ drop from (take mark ds) ++ drop mark ds =
-    past-split from mark ds (ok.rising j k low) (start_within l base h net es ds k ok) in
+    past-split from mark ds (ok.rising j k low) (start_within l base before net es ds k ok) in
     let whole : LeadsBack l (drop from (take mark ds) ++ drop mark ds) (run l base net)
     (run l base (take j net)) =
     subst (λ (xs : List Delta). LeadsBack l xs (run l base net) (run l base (take j net))) split
@@ -184,54 +172,52 @@ cut_leads l base h net es ds k ok le j low =
     leads-left l (drop from (take mark ds)) (drop mark ds) (run l base net) (run l base (take k net))
     (run l base (take j net)) whole (ok.leads k le) in
     subst (λ (n : ℕ). LeadsBack l (drop n (take mark ds)) (run l base (take k net))
-    (run l base (take j (take k net)))) (sym (cut_start l base h net es ds k j ok le low))
+    (run l base (take j (take k net)))) (sym (cut_start l base before net es ds k j ok le low))
     (subst (λ (g : List Record). LeadsBack l (drop from (take mark ds)) (run l base (take k net))
     (run l base g)) (sym (take-take j k net low)) first)
 
 -- the journal of the first steps
-pub journal_take : (l : LayoutParts) (base : Memory) (h net : List Record) (es : List Entry) (ds : List Delta)
+pub journal_take : (l : LayoutParts) (base : Memory) (before : ℕ) (net : List Record) (es : List Entry) (ds : List Delta)
     (k : ℕ)
-    → IsJournal l base h net es ds → k ≤ length net
-    → IsJournal l base h (take k net) (take k es) (take (start_of es (length ds) k) ds)
-journal_take l base h net es ds k ok le = record {
+    → IsJournal l base before net es ds → k ≤ length net
+    → IsJournal l base before (take k net) (take k es) (take (start_of es (length ds) k) ds)
+journal_take l base before net es ds k ok le = record {
   tagged =
-      sym (take-map (λ (e : Entry). tag_at h e.place) k es)
+      sym (take-map (tag_in before) k es)
       ∙ (ap (λ (ts : List Tag). take k ts) ok.tagged ∙ take-map tag_of k net);
-  within = λ j e at. ok.within j e (get_take k es e j at).1;
-  rising = cut_rising l base h net es ds k ok le;
-  few = cut_few l base h net es ds k ok le;
-  leads = λ j less. cut_leads l base h net es ds k ok le j (omega (arith, less, length-take-le k net le));
+  rising = cut_rising l base before net es ds k ok le;
+  few = cut_few l base before net es ds k ok le;
+  leads = λ j less. cut_leads l base before net es ds k ok le j (omega (arith, less, length-take-le k net le));
 }
 
 -- ---- one step more
 
 -- what is known of it: its entry, its record, and the deltas that it noted
-pub record IsNext (l : LayoutParts) (base : Memory) (h net : List Record) (ds : List Delta) (r : Record)
+pub record IsNext (l : LayoutParts) (base : Memory) (before : ℕ) (net : List Record) (ds : List Delta) (r : Record)
     (e : Entry) (new : List Delta) : Type 0 where
-  pub place : e.place < length h
-  pub tag : tag_at h e.place ≡ tag_of r
+  pub tag : tag_in before e ≡ tag_of r
   pub start : e.start ≡ length ds
   pub few : length new ≤ delta_bound l (run l base net) r.event
   pub leads : LeadsBack l new (run l base (net ++ r ∷ [])) (run l base net)
   pub placed : IsWellPlaced l (run l base (net ++ r ∷ []))
 
 -- where the deltas of each step begin now
-next_start : (l : LayoutParts) (base : Memory) (h net : List Record) (es : List Entry) (ds : List Delta)
+next_start : (l : LayoutParts) (base : Memory) (before : ℕ) (net : List Record) (es : List Entry) (ds : List Delta)
     (r : Record) (e : Entry) (new : List Delta) (j : ℕ)
-    → IsNext l base h net ds r e new → j ≤ length es
+    → IsNext l base before net ds r e new → j ≤ length es
     → start_of (es ++ e ∷ []) (length (ds ++ new)) j ≡ start_of es (length ds) j
-next_start l base h net es ds r e new j next low =
+next_start l base before net es ds r e new j next low =
     start-push es e (length ds) (length (ds ++ new)) j next.start low
 
 next_past : (es : List Entry) (e : Entry) (end j : ℕ) → length es < j → start_of (es ++ e ∷ []) end j ≡ end
 next_past es e end j high = start-past (es ++ e ∷ []) end j (omega (arith, high, length_push es e))
 
-next_rising : (l : LayoutParts) (base : Memory) (h net : List Record) (es : List Entry) (ds : List Delta)
+next_rising : (l : LayoutParts) (base : Memory) (before : ℕ) (net : List Record) (es : List Entry) (ds : List Delta)
     (r : Record) (e : Entry) (new : List Delta)
-    → IsJournal l base h net es ds → IsNext l base h net ds r e new
+    → IsJournal l base before net es ds → IsNext l base before net ds r e new
     → (i j : ℕ) → i ≤ j
     → start_of (es ++ e ∷ []) (length (ds ++ new)) i ≤ start_of (es ++ e ∷ []) (length (ds ++ new)) j
-next_rising l base h net es ds r e new ok next i j less =
+next_rising l base before net es ds r e new ok next i j less =
     let all = length (ds ++ new) in
     elim (cases_lt (length es) j) [
       | inl past ↦ elim (cases_lt (length es) i) [
@@ -240,24 +226,24 @@ next_rising l base h net es ds r e new ok next i j less =
             (next_past es e all i also) (next_past es e all j past) (omega arith)
         | inr low ↦
             placed_up (start_of (es ++ e ∷ []) all i) (start_of (es ++ e ∷ []) all j) (start_of es (length ds)
-            i) all (next_start l base h net es ds r e new i next low) (next_past es e all j past)
+            i) all (next_start l base before net es ds r e new i next low) (next_past es e all j past)
             (within_whole (start_of es (length ds) i) (length ds) (length new) all
-            (start_within l base h net es ds i ok) (length-append ds new))
+            (start_within l base before net es ds i ok) (length-append ds new))
       ]
       | inr low ↦ (let first : i ≤ length es = omega arith in
           placed_up (start_of (es ++ e ∷ []) all i) (start_of (es ++ e ∷ []) all j) (start_of es (length ds)
-          i) (start_of es (length ds) j) (next_start l base h net es ds r e new i next first)
-          (next_start l base h net es ds r e new j next low) (ok.rising i j less))
+          i) (start_of es (length ds) j) (next_start l base before net es ds r e new i next first)
+          (next_start l base before net es ds r e new j next low) (ok.rising i j less))
     ]
 
-next_few : (l : LayoutParts) (base : Memory) (h net : List Record) (es : List Entry) (ds : List Delta)
+next_few : (l : LayoutParts) (base : Memory) (before : ℕ) (net : List Record) (es : List Entry) (ds : List Delta)
     (r : Record) (e : Entry) (new : List Delta)
-    → IsJournal l base h net es ds → IsNext l base h net ds r e new
+    → IsJournal l base before net es ds → IsNext l base before net ds r e new
     → (j : ℕ) (x : Record) → slice_get (net ++ r ∷ []) j ≡ Some x
     → start_of (es ++ e ∷ []) (length (ds ++ new)) (j + 1) ≤ start_of (es ++ e ∷ []) (length (ds ++ new)) j
     + delta_bound l (run l base (take j (net ++ r ∷ []))) x.event
-next_few l base h net es ds r e new ok next j x at =
-    let count = entry_count l base h net es ds ok in
+next_few l base before net es ds r e new ok next j x at =
+    let count = entry_count l base before net es ds ok in
     let begins = start_of (es ++ e ∷ []) (length (ds ++ new)) j in
     let ends = start_of (es ++ e ∷ []) (length (ds ++ new)) (j + 1) in
     elim (get_push_cases net r x j at) [
@@ -268,8 +254,8 @@ next_few l base h net es ds r e new ok next j x at =
           subst (λ (g : List Record). ends ≤ begins + delta_bound l (run l base g) x.event)
           (sym (take-append-le j net (r ∷ []) inside))
           (moved ends (start_of es (length ds) (j + 1)) begins (start_of es (length ds) j) (delta_bound l
-          (run l base (take j net)) x.event) (next_start l base h net es ds r e new (j + 1) next
-          after) (next_start l base h net es ds r e new j next low) (ok.few j x old)))
+          (run l base (take j net)) x.event) (next_start l base before net es ds r e new (j + 1) next
+          after) (next_start l base before net es ds r e new j next low) (ok.few j x old)))
       | inr last ↦ (let inside : j ≤ length net = omega (arith, last.0) in
           let low : j ≤ length es = omega (arith, last.0, count) in
           let past : length es < j + 1 = omega (arith, last.0, count) in
@@ -277,7 +263,7 @@ next_few l base h net es ds r e new ok next j x at =
           let front : take j (net ++ r ∷ []) ≡ net =
           take-append-le j net (r ∷ []) inside ∙ take_all j net (omega (arith, last.0)) in
           let start : begins ≡ length ds =
-          next_start l base h net es ds r e new j next low ∙ start-past es (length ds) j all in
+          next_start l base before net es ds r e new j next low ∙ start-past es (length ds) j all in
           let end : ends ≡ length ds + length new =
           next_past es e (length (ds ++ new)) (j + 1) past ∙ length-append ds new in
           subst (λ (g : List Record). ends ≤ begins + delta_bound l (run l base g) x.event) (sym front)
@@ -286,14 +272,14 @@ next_few l base h net es ds r e new ok next j x at =
           next.few)))
     ]
 
-next_leads : (l : LayoutParts) (base : Memory) (h net : List Record) (es : List Entry) (ds : List Delta)
+next_leads : (l : LayoutParts) (base : Memory) (before : ℕ) (net : List Record) (es : List Entry) (ds : List Delta)
     (r : Record) (e : Entry) (new : List Delta)
-    → IsJournal l base h net es ds → IsNext l base h net ds r e new
+    → IsJournal l base before net es ds → IsNext l base before net ds r e new
     → (j : ℕ) → j ≤ length net + 1
     → LeadsBack l (drop (start_of (es ++ e ∷ []) (length (ds ++ new)) j) (ds ++ new))
     (run l base (net ++ r ∷ [])) (run l base (take j (net ++ r ∷ [])))
-next_leads l base h net es ds r e new ok next j le =
-    let count = entry_count l base h net es ds ok in
+next_leads l base before net es ds r e new ok next j le =
+    let count = entry_count l base before net es ds ok in
     let now = run l base (net ++ r ∷ []) in
     elim (cases_lt (length net) j) [
       | inl past ↦ (let beyond : length es < j = omega (arith, past, count) in
@@ -311,31 +297,26 @@ next_leads l base h net es ds r e new ok next j le =
           leads-append l (drop from ds) new now (run l base net) (run l base (take j net)) (ok.leads j inside)
           next.leads in
           subst (λ (n : ℕ). LeadsBack l (drop n (ds ++ new)) now (run l base (take j (net ++ r ∷ []))))
-          (sym (next_start l base h net es ds r e new j next low))
+          (sym (next_start l base before net es ds r e new j next low))
           (subst (λ (g : List Record). LeadsBack l (drop from (ds ++ new)) now (run l base g))
           (sym (take-append-le j net (r ∷ []) inside))
           (subst (λ (xs : List Delta). LeadsBack l xs now (run l base (take j net)))
-          (sym (drop-append-le from ds new (start_within l base h net es ds j ok))) joined)))
+          (sym (drop-append-le from ds new (start_within l base before net es ds j ok))) joined)))
     ]
 
 -- the journal of one step more
-pub journal_push : (l : LayoutParts) (base : Memory) (h net : List Record) (es : List Entry) (ds : List Delta)
+pub journal_push : (l : LayoutParts) (base : Memory) (before : ℕ) (net : List Record) (es : List Entry) (ds : List Delta)
     (r : Record) (e : Entry) (new : List Delta)
-    → IsJournal l base h net es ds → IsNext l base h net ds r e new
-    → IsJournal l base h (net ++ r ∷ []) (es ++ e ∷ []) (ds ++ new)
-journal_push l base h net es ds r e new ok next = record {
+    → IsJournal l base before net es ds → IsNext l base before net ds r e new
+    → IsJournal l base before (net ++ r ∷ []) (es ++ e ∷ []) (ds ++ new)
+journal_push l base before net es ds r e new ok next = record {
   tagged =
-      map_push (λ (x : Entry). tag_at h x.place) es e
-      ∙ (ap (λ (ts : List Tag). ts ++ tag_at h e.place ∷ []) ok.tagged
+      map_push (tag_in before) es e
+      ∙ (ap (λ (ts : List Tag). ts ++ tag_in before e ∷ []) ok.tagged
       ∙ (ap (λ (t : Tag). map tag_of net ++ t ∷ []) next.tag ∙ sym (map_push tag_of net r)));
-  within =
-      λ j x at. elim (get_push_cases es e x j at) [
-        | inl old ↦ ok.within j x old
-        | inr last ↦ subst (λ (y : Entry). y.place < length h) last.1 next.place
-      ];
-  rising = next_rising l base h net es ds r e new ok next;
-  few = next_few l base h net es ds r e new ok next;
-  leads = λ j less. next_leads l base h net es ds r e new ok next j (omega (arith, less, length_push net r));
+  rising = next_rising l base before net es ds r e new ok next;
+  few = next_few l base before net es ds r e new ok next;
+  leads = λ j less. next_leads l base before net es ds r e new ok next j (omega (arith, less, length_push net r));
 }
 
 -- ---- what the journal shows
@@ -360,7 +341,7 @@ entry_shown m es ds at ok below =
     let to = start_of es (length ds) (at + 1) in
     let here = get_some net at below in
     let rises : from ≤ to = ok.journal.rising at (at + 1) (omega arith) in
-    let reach : to ≤ length ds = start_within l base m.history net es ds (at + 1) ok.journal in
+    let reach : to ≤ length ds = start_within l base m.before net es ds (at + 1) ok.journal in
     let inside : at ≤ length net = omega arith in
     let next : at + 1 ≤ length net = omega arith in
     record {

@@ -9,3 +9,4 @@ pub mod Places
 pub mod Replays
 mod SameLayouts
 pub mod Starts
+pub mod Walks

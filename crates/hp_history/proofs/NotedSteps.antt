@@ -1,7 +1,8 @@
--- What a step notes, and the copy of its event in the record.
-use Rattle.std.proofs.Common.{◌≡◌, ℕ, ◌≤◌, Bool, true, false, List, [], ◌∷◌, ◌++◌, drop, length, take, refl, ap, sym, subst, ◌∙◌, arith}
+-- What a step notes.
+use Rattle.std.proofs.Common.{◌≡◌, ℕ, ◌+◌, ◌≤◌, Bool, true, false, List, [], ◌∷◌, ◌++◌, drop, length, take, refl, ap, sym, subst, ◌∙◌, arith}
 use Rattle.std.specs.Prelude.{if◌then◌else◌}
 use Rattle.std.proofs.lemmas.List.{drop_at, length-append, length_push, take_at}
+use Rattle.hp_units.specs.Marks.{mark_of}
 use Rattle.hp_units.specs.Memory.{Memory}
 use Rattle.hp_units.specs.LayoutParts.{LayoutParts}
 use Rattle.hp_units.specs.History.{net_of, run, value_of}
@@ -12,13 +13,17 @@ use Rattle.hp_tape.specs.Deltas.{FrameView, frame_view_of}
 use Rattle.hp_memory.specs.Layers.{AreNoted}
 use Rattle.hp_memory.specs.Memory.{LeadsBack, MemoryValue}
 use Rattle.hp_laws.proofs.EventSteps.{run-placed}
-use Rattle.hp_history.specs.declared.journal.Entry.{Entry}
-use Rattle.hp_history.specs.Course.{CourseValue, IsAnswered, record_of}
+use Rattle.hp_history.specs.declared.entries.Entry.{Entry}
+use Rattle.hp_history.specs.Course.{CourseValue, IsAnswered, last_serial, record_of}
+use Rattle.hp_history.specs.Entries.{tag_in}
 use Rattle.hp_history.specs.Kept.{IsCourse, IsJournal}
-use Rattle.hp_history.proofs.Names.{Event, Record}
-use Rattle.hp_history.proofs.Journals.{IsNext, journal_grown, journal_push}
-use Rattle.hp_history.proofs.Starts.{tag-last}
+use Rattle.hp_history.proofs.Names.{Event, Mark, Record, Tag}
+use Rattle.hp_history.proofs.Journals.{IsNext, journal_push}
 use Rattle.hp_history.proofs.Courses.{room, follows, answered_value, value_with, memory_is, state_placed, answered, IsMade, is_kept, made_reply, made_net, made_same, made_next, made_shown}
+
+-- a tag of its parts
+abbrev tag_with : (serial : ℕ) → Mark → Tag
+tag_with serial mark = record { serial = serial; mark = mark }
 
 -- ---- what the step noted
 
@@ -71,8 +76,7 @@ made_start m es ds cpu r e v now made =
 -- the step as the next one of the journal
 made_entry : (m : CourseValue) (es : List Entry) (ds : List Delta) (cpu : ℕ) (r : Receipt) (e : Entry)
     (v : MemoryValue) (now : List Delta) (made : IsMade m es ds cpu r e v now)
-    → IsNext m.layout m.base (m.history ++ record_of cpu r ∷ []) (net_of m.history) ds (record_of cpu r) e
-    made.noted.deltas
+    → IsNext m.layout m.base m.before (net_of m.history) ds (record_of cpu r) e made.noted.deltas
 unfolding value_of
 made_entry m es ds cpu r e v now made =
     let l = m.layout in
@@ -80,8 +84,7 @@ made_entry m es ds cpu r e v now made =
     let longer = net ++ record_of cpu r ∷ [] in
     let was : m.state ≡ run l m.base net = made.course.history.state in
     record {
-      place = omega (arith, made.place, length_push m.history (record_of cpu r));
-      tag = tag-last m.history (record_of cpu r) e.place made.place;
+      tag = made.tag;
       start = made.start;
       few = subst (λ (s : Memory). length made.noted.deltas ≤ delta_bound l s r.event) was made.noted.few;
       leads =
@@ -96,23 +99,20 @@ made_entry m es ds cpu r e v now made =
 made_journal : (m : CourseValue) (es : List Entry) (ds : List Delta) (cpu : ℕ) (r : Receipt) (e : Entry)
     (v : MemoryValue) (now : List Delta)
     → IsMade m es ds cpu r e v now → (b : Bool)
-    → IsJournal m.layout m.base (m.history ++ record_of cpu r ∷ []) (if b then net_of m.history ++ record_of
-    cpu r ∷ [] else net_of m.history) (if b then es ++ e ∷ [] else es) (if b then now else take e.start now)
+    → IsJournal m.layout m.base m.before (if b then net_of m.history ++ record_of cpu r ∷ [] else net_of
+    m.history) (if b then es ++ e ∷ [] else es) (if b then now else take e.start now)
 made_journal m es ds cpu r e v now made true =
-    let longer = m.history ++ record_of cpu r ∷ [] in
     let net = net_of m.history in
-    let grown = journal_grown m.layout m.base m.history net es ds (record_of cpu r) made.course.journal in
     subst (λ (xs : List Delta).
-    IsJournal m.layout m.base longer (net ++ record_of cpu r ∷ []) (es ++ e ∷ []) xs) (sym made.noted.after)
-    (journal_push m.layout m.base longer net es ds (record_of cpu r) e made.noted.deltas grown
-    (made_entry m es ds cpu r e v now made))
+    IsJournal m.layout m.base m.before (net ++ record_of cpu r ∷ []) (es ++ e ∷ []) xs) (sym made.noted.after)
+    (journal_push m.layout m.base m.before net es ds (record_of cpu r) e made.noted.deltas
+    made.course.journal (made_entry m es ds cpu r e v now made))
 made_journal m es ds cpu r e v now made false =
-    let longer = m.history ++ record_of cpu r ∷ [] in
-    let before =
+    let earlier =
     noted_before m.layout (delta_bound m.layout m.state r.event) ds now (frame_view_of m.layout v.state)
     (frame_view_of m.layout m.state) e.start made.noted made.start in
-    subst (λ (xs : List Delta). IsJournal m.layout m.base longer (net_of m.history) es xs) (sym before)
-    (journal_grown m.layout m.base m.history (net_of m.history) es ds (record_of cpu r) made.course.journal)
+    subst (λ (xs : List Delta). IsJournal m.layout m.base m.before (net_of m.history) es xs) (sym earlier)
+    made.course.journal
 
 -- what the course keeps after the step
 made_course : (m : CourseValue) (es : List Entry) (ds : List Delta) (cpu : ℕ) (r : Receipt) (e : Entry)
@@ -176,16 +176,12 @@ made_answered m es ds cpu r e v now b last h left kept made fields =
     rw (fields.history, shown)
     (answered m cpu r made.course.history made.serial (made_reply m es ds cpu r e v now made))
 
--- ---- the copy of the event in the record
-
--- the record with it is the receipt's
-pub pushed : (old reserved new : List Record) (cpu : ℕ) (r : Receipt) (event : Event) → reserved ≡ old
-    → new ≡ reserved ++ record { serial = r.serial; cpu = cpu; event = event; reply = r.reply } ∷ []
-    → event ≡ r.event
-    → new ≡ old ++ record_of cpu r ∷ []
-pushed old reserved new cpu r event same is copied =
-    is
-    ∙ (ap (λ (h : List Record).
-    h ++ record { serial = r.serial; cpu = cpu; event = event; reply = r.reply } ∷ []) same
-    ∙ ap (λ (e : Event). old ++ record { serial = r.serial; cpu = cpu; event = e; reply = r.reply } ∷ [])
-    copied)
+-- the tag of the entry that is made for the next record
+pub tag-next : (m : CourseValue) (count serial : ℕ) (event : Event) (mark : Mark) (e : Entry)
+    → serial ≡ last_serial m + 1 → count ≡ length m.history → mark ≡ mark_of event
+    → tag_in m.before e ≡ record { serial = m.before + count + 1; mark = mark }
+    → tag_in m.before e ≡ record { serial = serial; mark = mark_of event }
+tag-next m count serial event mark e is counted marked tag =
+    tag
+    ∙ (ap (λ (n : ℕ). tag_with (m.before + n + 1) mark) counted
+    ∙ (ap (λ (n : ℕ). tag_with n mark) (sym is) ∙ ap (λ (k : Mark). tag_with serial k) marked))

@@ -1,58 +1,12 @@
--- Where the deltas of a step begin, and the tags of the records that entries stand for, as a
--- journal or a history changes.
-use Rattle.std.proofs.Common.{◌≡◌, ℕ, zero, suc, ◌<◌, ◌≤◌, List, [], ◌∷◌, ◌++◌, length, take, Option, Some, get_or, slice_get, refl, ap, sym, ◌∙◌, arith, inl, inr}
-use Rattle.std.specs.Option.{option_map, option_map_or}
+-- Where the deltas of a step begin, as a journal changes.
+use Rattle.std.proofs.Common.{◌≡◌, ℕ, ◌<◌, ◌≤◌, List, [], ◌∷◌, ◌++◌, length, take, Option, ap, sym, ◌∙◌, arith, inl, inr}
+use Rattle.std.specs.Option.{option_map_or}
 use Rattle.std.proofs.lemmas.List.{length-take-le}
-use Rattle.std.proofs.lemmas.Option.{slice_get-map, slice_get_past, slice_get_read}
+use Rattle.std.proofs.lemmas.Option.{slice_get_past}
 use Rattle.std.proofs.lemmas.Bool.{cases_lt}
-use Rattle.hp_units.specs.Marks.{mark_of, tag_of}
 use Rattle.hp_laws.proofs.Lists.{get_end, get_left, get_some, get_take}
-use Rattle.hp_history.specs.declared.journal.Entry.{Entry}
-use Rattle.hp_history.specs.Entries.{AreWithin, no_tag, start_of, tag_at, tags_of}
-use Rattle.hp_history.proofs.Names.{Mark, Record, Tag}
-
--- ---- the records
-
--- a tag of its parts
-abbrev tag_with : (serial : ℕ) → Mark → Tag
-tag_with serial mark = record { serial = serial; mark = mark }
-
--- the tag that is read off a record
-pub tag_read : (h : List Record) (place : ℕ) (r : Record) (mark : Mark) → place < length h
-    → r ≡ get_or h place r → mark ≡ mark_of r.event
-    → record { serial = r.serial; mark = mark } ≡ tag_at h place
-tag_read h place r mark below is marked =
-    ap (λ (m : Mark). tag_with r.serial m) marked ∙ sym (ap (λ (o : Option Record).
-    option_map_or tag_of o no_tag) (slice_get_read h (length h) place r refl below is))
-
--- the tag of an entry's record
-pub step_read : (h : List Record) (es : List Entry) (place : ℕ) (e : Entry) (t : Tag)
-    → slice_get es place ≡ Some e → t ≡ tag_at h e.place → slice_get (tags_of h es) place ≡ Some t
-step_read h es place e t here is =
-    slice_get-map (λ (x : Entry). tag_at h x.place) es place
-    ∙ (ap (λ (o : Option Entry). option_map (λ (x : Entry). tag_at h x.place) o) here ∙ ap Some (sym is))
-
--- one record more leaves the tags of those before it
-tag-grown : (h : List Record) (r : Record) (place : ℕ) → place < length h
-    → tag_at (h ++ r ∷ []) place ≡ tag_at h place
-tag-grown h r place below =
-    ap (λ (o : Option Record). option_map_or tag_of o no_tag) (get_left h (r ∷ []) place below)
-
--- and its own is the last
-pub tag-last : (h : List Record) (r : Record) (place : ℕ) → place ≡ length h
-    → tag_at (h ++ r ∷ []) place ≡ tag_of r
-tag-last h r place is =
-    ap (λ (n : ℕ). tag_at (h ++ r ∷ []) n) is
-    ∙ ap (λ (o : Option Record). option_map_or tag_of o no_tag) (get_end h r)
-
-pub tags-grown : (h : List Record) (r : Record) (es : List Entry) → AreWithin (length h) es
-    → tags_of (h ++ r ∷ []) es ≡ tags_of h es
-tags-grown h r [] within = refl
-tags-grown h r (e ∷ es) within =
-    ap (λ (t : Tag). t ∷ tags_of (h ++ r ∷ []) es) (tag-grown h r e.place (within zero e refl))
-    ∙ ap (λ (ts : List Tag). tag_at h e.place ∷ ts) (tags-grown h r es (λ j x at. within (suc j) x at))
-
--- ---- where the deltas of a step begin
+use Rattle.hp_history.specs.declared.entries.Entry.{Entry}
+use Rattle.hp_history.specs.Entries.{start_of}
 
 -- past the last step: at the end
 pub start-past : (es : List Entry) (end j : ℕ) → length es ≤ j → start_of es end j ≡ end

@@ -1,4 +1,4 @@
--- What a contract sees of a course, what every course keeps, and what answering an event does.
+-- What a contract sees of a journal and of a course, what both keep, and what answering an event does.
 use Rattle.std.specs.Prelude.{ℕ, ◌≡◌, ◌+◌, Bool, List, [], ◌∷◌, ◌++◌, length, nat_le}
 use Rattle.hp_units.specs.LayoutParts.{LayoutParts}
 use Rattle.hp_units.specs.Memory.{Memory}

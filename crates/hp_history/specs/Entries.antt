@@ -1,35 +1,38 @@
--- The journal's entries: the records that they stand for, where their deltas begin on the tape, and
+-- The journal's entries: the steps that they stand for, where their deltas begin on the tape, and
 -- what they show.
-use Rattle.std.specs.Prelude.{ℕ, ◌≡◌, ◌+◌, ◌<◌, ◌≤◌, List, Some, length, map, slice_get, take}
+use Rattle.std.specs.Prelude.{ℕ, zero, suc, ◌≡◌, ◌+◌, ◌/◌, ◌%◌, ◌^◌, ◌<◌, ◌≤◌, List, Some, length, map, slice_get, take}
 use Rattle.std.specs.Option.{option_map_or}
-use Rattle.hp_units.specs.Marks.{tag_of}
 use Rattle.hp_units.specs.History.{net_of, run}
-use Rattle.hp_units.specs.declared.marks.Mark.TheVariants.{Other}
+use Rattle.hp_units.specs.declared.marks.Mark.{Mark}
+use Rattle.hp_units.specs.declared.marks.Mark.TheVariants.{Opens, Works, Other}
 use Rattle.hp_units.specs.declared.marks.Tag.{Tag}
 use Rattle.hp_units.specs.declared.replies.Record.{Record}
 use Rattle.hp_tape.specs.Bounds.{delta_bound}
 use Rattle.hp_tape.specs.declared.deltas.Delta.{Delta}
 use Rattle.hp_memory.specs.Memory.{LeadsBack}
 use Rattle.hp_history.specs.Course.{CourseValue}
-use Rattle.hp_history.specs.declared.journal.Entry.{Entry}
+use Rattle.hp_history.specs.declared.entries.Entry.{Entry}
 
--- ---- the records that entries stand for
+-- ---- what they stand for
 
--- the tag of no step
-abbrev pub no_tag : Tag
-no_tag = record { serial = 0; mark = Other }
+-- the mark of an entry's kind and operation
+abbrev pub mark_coded : (kind op : ℕ) → Mark
+mark_coded zero op = Other
+mark_coded (suc zero) op = Opens
+mark_coded (suc (suc n)) op = Works op
 
--- the tag of the record at a place of a history; past the last, that of no step
-abbrev pub tag_at : List Record → (place : ℕ) → Tag
-tag_at h place = option_map_or tag_of (slice_get h place) no_tag
+-- the tag of an entry's step, whose record stands at its place after so many earlier records
+abbrev pub tag_in : (before : ℕ) → Entry → Tag
+tag_in before e = record { serial = before + e.code / 4 + 1; mark = mark_coded (e.code % 4) e.op }
 
 -- the tags, in the order of the steps
-abbrev pub tags_of : List Record → List Entry → List Tag
-tags_of h entries = map (λ e. tag_at h e.place) entries
+abbrev pub tags_of : (before : ℕ) → List Entry → List Tag
+tags_of before entries = map (tag_in before) entries
 
--- the entries' places are those of so many records
-abbrev pub AreWithin : (count : ℕ) → List Entry → Type 0
-AreWithin count entries = (j : ℕ) (e : Entry) → slice_get entries j ≡ Some e → e.place < count
+-- the entries' serials are all below 2^64
+abbrev pub AreNumbered : (before : ℕ) → List Entry → Type 0
+AreNumbered before entries = (j : ℕ) (e : Entry) → slice_get entries j ≡ Some e
+    → before + e.code / 4 + 1 < 2 ^ 64
 
 -- ---- where their deltas stand
 

@@ -1,4 +1,4 @@
--- What a course keeps beside its value, and what the parts of an answer are to each other.
+-- What a journal keeps beside its value, and what the parts of an answer are to each other.
 use Rattle.std.specs.Prelude.{ℕ, ◌≡◌, ◌+◌, ◌^◌, ◌<◌, ◌≤◌, Bool, ◌||◌, ◌&&◌, not, nat_lt, if◌then◌else◌, List, [], ◌∷◌, ◌++◌, Some, drop, length, take, map, slice_get}
 use Rattle.hp_units.specs.LayoutParts.{IsLayout, LayoutParts}
 use Rattle.hp_units.specs.Memory.{Memory}
@@ -15,8 +15,8 @@ use Rattle.hp_tape.specs.Bounds.{delta_bound}
 use Rattle.hp_tape.specs.declared.deltas.Delta.{Delta}
 use Rattle.hp_memory.specs.Memory.{LeadsBack, MemoryValue}
 use Rattle.hp_history.specs.Course.{IsHistory, CourseValue, last_serial}
-use Rattle.hp_history.specs.Entries.{AreWithin, start_of, tags_of}
-use Rattle.hp_history.specs.declared.journal.Entry.{Entry}
+use Rattle.hp_history.specs.Entries.{start_of, tags_of}
+use Rattle.hp_history.specs.declared.entries.Entry.{Entry}
 
 -- a layout and a state together, as an Image and as a memory
 abbrev pub pictured : LayoutParts → Memory → Pictured
@@ -25,13 +25,12 @@ pictured l s = record { layout = l; memory = s }
 abbrev pub remembered : LayoutParts → Memory → MemoryValue
 remembered l s = record { layout = l; state = s }
 
--- one entry for each step of the net, in the net's order. From where the deltas of a step begin,
+-- one entry for each step of the net, in the net's order, and with its tag. From where the deltas of a step begin,
 -- all that stand on the tape lead back from the state of the whole net to the state before that
 -- step; those of the step alone are no more than its bound.
-pub record IsJournal (l : LayoutParts) (base : Memory) (h net : List Record) (entries : List Entry)
-    (deltas : List Delta) : Type 0 where
-  pub tagged : tags_of h entries ≡ map tag_of net
-  pub within : AreWithin (length h) entries
+pub record IsJournal (l : LayoutParts) (base : Memory) (before : ℕ) (net : List Record)
+    (entries : List Entry) (deltas : List Delta) : Type 0 where
+  pub tagged : tags_of before entries ≡ map tag_of net
   pub rising : (i j : ℕ) → i ≤ j → start_of entries (length deltas) i ≤ start_of entries (length deltas) j
   pub few : (j : ℕ) (r : Record) → slice_get net j ≡ Some r
       → start_of entries (length deltas) (j + 1)
@@ -40,12 +39,12 @@ pub record IsJournal (l : LayoutParts) (base : Memory) (h net : List Record) (en
       → LeadsBack l (drop (start_of entries (length deltas) j) deltas) (run l base net)
       (run l base (take j net))
 
--- what every course keeps
+-- what every journal keeps, and so every course
 pub record IsCourse (m : CourseValue) (entries : List Entry) (deltas : List Delta) : Type 0 where
   pub limits : IsLayout m.layout
   pub placed : IsWellPlaced m.layout m.base
   pub history : IsHistory m
-  pub journal : IsJournal m.layout m.base m.history (net_of m.history) entries deltas
+  pub journal : IsJournal m.layout m.base m.before (net_of m.history) entries deltas
   pub fits : m.before + length m.history < 2 ^ 64
 
 -- an undo to the serial is refused: no record has it, or the record was sealed

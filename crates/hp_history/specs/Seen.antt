@@ -1,13 +1,14 @@
--- A course's fields as its value.
+-- A journal's fields as its value.
 use Rattle.hp_history.specs.Course.{CourseValue}
-use Rattle.hp_history.specs.declared.course.Course.TheInside.{Inside}
+use Rattle.hp_history.specs.declared.journal.Journal.TheInside.{Inside}
 
--- the course's value: its layout and its state are those of its memory
+-- a journal's value: its layout and its state are those of its memory, its base state and its
+-- records those that its proofs remember
 abbrev pub seen : Inside → CourseValue
 seen m = record {
   layout = m.memory.layout;
   before = m.before;
-  base = m.base.memory;
-  history = m.history.items;
+  base = m.past.base;
+  history = m.past.history;
   state = m.memory.state;
 }

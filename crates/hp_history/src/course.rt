@@ -1,50 +1,41 @@
-//! The course of a history: the memory that its records lead to, and a journal of its steps, kept
-//! from record to record.
-ghost use Rattle.std.specs.Prelude.{◌≡◌, ◌≢◌, ◌↔◌, ◌+◌, ◌<◌, false, true, MatchBool, IfOk, IfNone, IfSome, OnErr, OnOk, IsTrue};
+//! The course of a history: a journal with its base state and its records.
+ghost use Rattle.std.specs.Prelude.{◌≡◌, ◌↔◌, ◌+◌, ◌<◌, ◌≤◌, false, true, length, MatchOption, IfOk, OnErr, OnOk, IsTrue};
 ghost use Rattle.hp_units.specs.Boot.{boot_memory};
+ghost use Rattle.hp_units.specs.History.{net_of};
 ghost use Rattle.hp_units.specs.LayoutParts.{IsLayout};
 ghost use Rattle.hp_units.specs.Placement.{IsWellPlaced};
-ghost use Rattle.hp_units.specs.declared.events.Event.TheVariants.{Cancel, UndoAfter};
-ghost use Rattle.hp_units.specs.declared.replies.Reply.TheVariants.{Restored};
 ghost use Rattle.hp_history.specs.Course.{IsAnswered, IsHistory, is_spent, last_serial, receipt_for, started};
-ghost use Rattle.hp_history.specs.Kept.{IsCut, IsStep, is_gone, may_cancel, pictured};
+ghost use Rattle.hp_history.specs.Entries.{IsEntry, IsWayBack};
+ghost use Rattle.hp_history.specs.Kept.{pictured};
 ghost use Rattle.hp_history.specs.Volumes.{volume_of};
 
-use crate::journal::{Entry, keep_step, kept_len, sole_place, start_of};
+use crate::journal::Journal;
 use crate::records::{Records, copy_records};
-use crate::same_layouts::same_layout;
 use crate::volumes::Volume;
 use hp_memory::Memory;
 use hp_plain::Image;
-use hp_tape::Tape;
-use hp_units::{Cpu, Event, Layout, Record, Refusal, Reply, Serial, is_step};
+use hp_tape::Delta;
+use hp_units::{Cpu, Event, Layout, Record, Reply, Serial};
 use std::alloc::{AllocError, Global};
 use std::marker::Model;
 use std::mem::replace;
 
-mod entries;
-
 /// A memory with its history and its journal. Every course keeps its history legal, its state that
-/// of the history, and a way back over each step that is not undone.
+/// of the history, and a way back over each step that is not undone. It has room for as many records
+/// and deltas as its `Journal`.
 pub struct Course {
-    before: u64,
+    journal: Journal,
     base: Image,
-    memory: Memory,
     history: Vec<Record>,
-    entries: Vec<Entry>,
-    deltas: Tape,
 }
 
 /// A function of its own, so that no proof of a caller takes the fields apart.
 impl Drop for Course {
     fn drop(self) {
         let Course {
-            before: _before,
+            journal: _journal,
             base: _base,
-            memory: _memory,
             history: _history,
-            entries: _entries,
-            deltas: _deltas,
         } = self;
     }
 }
@@ -52,15 +43,14 @@ impl Drop for Course {
 impl Model for Course {
     ghost use Rattle.std.specs.Prelude.{◌≡◌};
     ghost use Rattle.hp_history.specs.Course.{CourseValue};
-    ghost use Rattle.hp_history.specs.Kept.{IsCourse};
-    ghost use Rattle.hp_history.specs.Seen.{seen};
+    ghost use Rattle.hp_history.specs.Kept.{pictured};
 
     ghost Value = { CourseValue };
 
-    ghost view = { seen };
+    ghost view = { λ m. m.journal };
 
-    ghost invariant = { λ m.
-        IsCourse (seen m) m.entries.items m.deltas.deltas × (m.base.layout ≡ m.memory.layout) };
+    ghost invariant = { λ m. (m.base ≡ pictured m.journal.layout m.journal.base)
+        × (m.history.items ≡ m.journal.history) };
 }
 
 impl Course {
@@ -71,8 +61,12 @@ impl Course {
         ensures { IfOk result (λ course. course ≡ started base.now.layout base.now.memory before) }
     {
         let own = base.copy(alloc)?;
-        let memory = Memory::from_image(alloc, base)?;
-        Course::starting(alloc, own, memory, before)
+        let journal = Journal::from_image(alloc, base, before)?;
+        Ok(Course {
+            journal,
+            base: own,
+            history: Vec::new(alloc),
+        })
     }
 
     /// The course of no records over the state at boot. An error is out of memory.
@@ -81,8 +75,12 @@ impl Course {
         ensures limits { IfOk result (λ _. IsLayout layout.now) }
     {
         let base = Image::boot(alloc, layout)?;
-        let memory = Memory::from_image(alloc, &base)?;
-        Course::starting(alloc, base, memory, 0)
+        let journal = Journal::from_image(alloc, &base, 0)?;
+        Ok(Course {
+            journal,
+            base,
+            history: Vec::new(alloc),
+        })
     }
 
     /// An equal course. An error is out of memory.
@@ -90,17 +88,12 @@ impl Course {
         ensures { IfOk result (λ course. course ≡ self.now) }
     {
         let base = self.base.copy(alloc)?;
-        let memory = self.memory.copy(alloc)?;
+        let journal = self.journal.copy(alloc)?;
         let history = copy_records(alloc, &self.history)?;
-        let entries = Vec::from_slice(alloc, self.entries.as_slice())?;
-        let deltas = self.deltas.copy(alloc)?;
         Ok(Course {
-            before: self.before,
+            journal,
             base,
-            memory,
             history,
-            entries,
-            deltas,
         })
     }
 
@@ -120,17 +113,16 @@ impl Course {
         ensures ok { IfOk result
             (λ answer. IsAnswered self.old cpu event.now (receipt_for event.now answer) self.new) }
     {
-        match event {
-            Event::UndoAfter { serial } => {
-                let (keep, reply) = self.undo_cut(cpu, *serial);
-                self.go_back(alloc, cpu, event, keep, &reply)
-            }
-            Event::Cancel { op } => match self.cancel_cut(cpu, *op) {
-                Some(keep) => self.go_back(alloc, cpu, event, keep, &Reply::Restored),
-                None => self.act(alloc, cpu, event),
-            },
-            _ => self.act(alloc, cpu, event),
-        }
+        let recorded = event.copy(alloc)?;
+        self.history.reserve(1)?;
+        let answer = self.journal.answer(alloc, cpu, event)?;
+        self.history.push_reserved(Record {
+            serial: answer.0,
+            cpu,
+            event: recorded,
+            reply: answer.1,
+        });
+        Ok(answer)
     }
 
     /// Hands out the base and the records, and goes on from the present state without them: it
@@ -142,15 +134,11 @@ impl Course {
         ensures goes_on { OnOk result
             (self.new ≡ started self.old.layout self.old.state (last_serial self.old)) }
     {
-        let last = self.last_serial();
-        let now = self.memory.image(alloc)?;
-        let deltas = Tape::with_room(alloc, 0)?;
-        let before = self.before;
-        self.before = last;
+        let now = self.journal.image(alloc)?;
+        let before = self.journal.before();
+        let _count = self.journal.seal();
         let base = replace(&mut self.base, now);
         let history = replace(&mut self.history, Vec::new(alloc));
-        self.entries = Vec::new(alloc);
-        self.deltas = deltas;
         let records = Records::new(history);
         Ok(Volume {
             before,
@@ -163,7 +151,7 @@ impl Course {
     pub fn is_spent(&self) -> bool
         ensures { result ≡ is_spent self.now }
     {
-        self.last_serial() >= u64::MAX
+        self.journal.is_spent()
     }
 
     /// Whether a serial is the next one.
@@ -171,21 +159,21 @@ impl Course {
         ensures next { IsTrue result ↔ (serial ≡ last_serial self.now + 1) }
         ensures free { result ≡ true → is_spent self.now ≡ false }
     {
-        !self.is_spent() && serial == self.next_serial()
+        self.journal.expects(serial)
     }
 
     /// The last serial so far, which is the number of all records, earlier ones included.
     pub fn last_serial(&self) -> u64
         ensures { result ≡ last_serial self.now }
     {
-        self.before + self.history.len() as u64
+        self.journal.last_serial()
     }
 
     /// How many earlier records there are, before those of the history.
     pub fn before(&self) -> u64
         ensures { result ≡ self.now.before }
     {
-        self.before
+        self.journal.before()
     }
 
     /// The base state, which the history began with.
@@ -195,25 +183,14 @@ impl Course {
         &self.base
     }
 
-    /// Whether an Image is of this layout, and the base state is its own.
-    pub(crate) fn begins_at(&self, image: &Image) -> bool
-        ensures { MatchBool result (image.now ≡ pictured self.now.layout self.now.base)
-            (image.now ≢ pictured self.now.layout self.now.base) }
-    {
-        same_layout(image.layout(), self.base.layout()) && image.same(&self.base)
-    }
-
     /// The base state alone.
     pub fn into_base(self) -> Image
         ensures { result ≡ record { layout = self.layout; memory = self.base } }
     {
         let Course {
-            before: _,
+            journal: _journal,
             base,
-            memory: _memory,
             history: _history,
-            entries: _entries,
-            deltas: _deltas,
         } = self;
         base
     }
@@ -222,7 +199,7 @@ impl Course {
     pub fn memory(&self) -> &Memory
         ensures { result.now ≡ record { layout = self.now.layout; state = self.now.state } }
     {
-        &self.memory
+        self.journal.memory()
     }
 
     /// The present state, as an Image of its own. An error is out of memory.
@@ -230,7 +207,7 @@ impl Course {
         ensures { IfOk result
             (λ image. image ≡ record { layout = self.now.layout; memory = self.now.state }) }
     {
-        self.memory.image(alloc)
+        self.journal.image(alloc)
     }
 
     /// The records, oldest first. Every course keeps its history legal, and its state that of the history.
@@ -238,150 +215,42 @@ impl Course {
         ensures records { result.now ≡ self.now.history }
         ensures kept { IsHistory self.now }
     {
+        self.journal.keeps_history();
         self.history.as_slice()
     }
 
-    /// The course of no records over a base state of its own.
-    fn starting(
-        alloc: Global,
-        base: Image,
-        memory: Memory,
-        before: u64,
-    ) -> Result<Course, AllocError>
-        requires { memory ≡ record { layout = base.layout; state = base.memory } }
-        ensures { IfOk result (λ course. course ≡ started base.layout base.memory before) }
+    /// Makes room for so many further records and steps, so that they need not be moved as more
+    /// come. An error is out of memory; the course is as before, with or without it.
+    pub fn reserve(&mut self, records: usize) -> Result<(), AllocError>
+        ensures { self.new ≡ self.old }
     {
-        memory.is_placed();
-        let deltas = Tape::with_room(alloc, 0)?;
-        Ok(Course {
-            before,
-            base,
-            memory,
-            history: Vec::new(alloc),
-            entries: Vec::new(alloc),
-            deltas,
-        })
+        self.history.reserve(records)?;
+        self.journal.reserve(records)
     }
 
-    /// The serial of the next record.
-    fn next_serial(&self) -> Serial
-        requires { is_spent self.now ≡ false }
-        ensures { result ≡ last_serial self.now + 1 }
+    /// The number of steps that are not undone (own rule).
+    pub fn journal_len(&self) -> u64
+        ensures { result ≡ length (net_of self.now.history) }
     {
-        Serial(self.last_serial() + 1)
+        self.journal.journal_len()
     }
 
-    /// How many steps an undo to a serial keeps, and its reply.
-    fn undo_cut(&self, cpu: Cpu, serial: Serial) -> (usize, Reply)
-        ensures { IsCut self.now cpu (UndoAfter serial) result.0 result.1 }
+    /// What a step that is not undone did, counted from 0; None past the last. Its deltas, latest
+    /// first, lead back from the state after the step to the state before it (own rule).
+    pub fn entry(&self, at: u64) -> Option<&[Delta]>
+        ensures { MatchOption result (length (net_of self.now.history) ≤ at)
+            (λ deltas. IsEntry self.now at deltas.now) }
     {
-        let entries = self.entries.as_slice();
-        let history = self.history.as_slice();
-        if cpu.0 >= self.memory.layout().cpus() {
-            (entries.len(), Reply::Refused(Refusal::NoCpu))
-        } else if self.is_gone(serial) {
-            (entries.len(), Reply::Refused(Refusal::Gone))
-        } else {
-            let keep = kept_len(entries, history, serial);
-            let count = (entries.len() - keep) as u64;
-            (keep, Reply::Undone { count })
-        }
+        self.journal.entry(at)
     }
 
-    /// Whether an undo to a serial is refused: no record has it, or the record was sealed.
-    fn is_gone(&self, serial: Serial) -> bool
-        ensures { result ≡ is_gone self.now serial }
+    /// What the steps from one on did, counted from 0; None past the end of the journal. Their
+    /// deltas, latest first, lead back from the present state to the state before the first of
+    /// them: an undo that drops these steps takes these deltas off.
+    pub fn way_back(&self, at: u64) -> Option<&[Delta]>
+        ensures { MatchOption result (length (net_of self.now.history) < at)
+            (λ deltas. IsWayBack self.now at deltas.now) }
     {
-        serial.0 > self.last_serial() || serial.0 < self.before
-    }
-
-    /// How many steps a Cancel keeps that goes back to before its operation began; None where it
-    /// makes a step.
-    fn cancel_cut(&self, cpu: Cpu, op: Serial) -> Option<usize>
-        ensures back { IfSome result (λ keep. IsCut self.now cpu (Cancel op) keep Restored) }
-        ensures step { IfNone result (IsStep self.now cpu (Cancel op)) }
-    {
-        if self.may_cancel(cpu, op) {
-            let entries = self.entries.as_slice();
-            let history = self.history.as_slice();
-            sole_place(entries, history, op)
-        } else {
-            None
-        }
-    }
-
-    /// Whether a Cancel is not refused: the layout has its processor, and its operation is live.
-    fn may_cancel(&self, cpu: Cpu, op: Serial) -> bool
-        ensures { result ≡ may_cancel self.now.layout self.now.state cpu op }
-    {
-        cpu.0 < self.memory.layout().cpus() && self.memory.is_live(op)
-    }
-
-    /// Goes back to the first steps, and records the answer. It takes its memory before it changes anything.
-    #[inline(always)]
-    fn go_back(
-        &mut self,
-        alloc: Global,
-        cpu: Cpu,
-        event: &Event,
-        keep: usize,
-        reply: &Reply,
-    ) -> Result<(Serial, Reply), AllocError>
-        requires free { is_spent self.old ≡ false }
-        requires cut { IsCut self.old cpu event.now keep reply.now }
-        ensures err { OnErr result (self.new ≡ self.old) }
-        ensures ok { IfOk result
-            (λ answer. IsAnswered self.old cpu event.now (receipt_for event.now answer) self.new) }
-    {
-        let recorded = event.copy(alloc)?;
-        let serial = self.next_serial();
-        self.history.reserve(1)?;
-        let count = self.deltas.len();
-        let start = start_of(self.entries.as_slice(), count, keep);
-        self.memory.back(&mut self.deltas, start);
-        self.entries.truncate(keep);
-        self.history.push_reserved(Record {
-            serial,
-            cpu,
-            event: recorded,
-            reply: *reply,
-        });
-        Ok((serial, *reply))
-    }
-
-    /// Makes a step of the event, and records the answer. It takes its memory before it changes anything.
-    #[inline(always)]
-    fn act(&mut self, alloc: Global, cpu: Cpu, event: &Event) -> Result<(Serial, Reply), AllocError>
-        requires free { is_spent self.old ≡ false }
-        requires step { IsStep self.old cpu event.now }
-        ensures err { OnErr result (self.new ≡ self.old) }
-        ensures ok { IfOk result
-            (λ answer. IsAnswered self.old cpu event.now (receipt_for event.now answer) self.new) }
-    {
-        let recorded = event.copy(alloc)?;
-        let serial = self.next_serial();
-        let entry = Entry {
-            place: self.history.len(),
-            start: self.deltas.len(),
-        };
-        self.history.reserve(1)?;
-        self.entries.reserve(1)?;
-        let reply = self
-            .memory
-            .step(alloc, serial, cpu, event, &mut self.deltas)?;
-        keep_step(
-            &mut self.entries,
-            &mut self.memory,
-            &mut self.deltas,
-            entry,
-            is_step(event, &reply),
-        );
-        self.history.push_reserved(Record {
-            serial,
-            cpu,
-            event: recorded,
-            reply,
-        });
-        Ok((serial, reply))
+        self.journal.way_back(at)
     }
 }

@@ -1,148 +1,327 @@
-//! The journal: an entry for each step that is not undone, and one tape with the deltas of all of them.
-ghost use Rattle.std.specs.Prelude.{◌≡◌, ℕ, ◌-◌, ◌<◌, ◌≤◌, ◌∷◌, ◌++◌, [], Some, false, drop, if◌then◌else◌, length, slice_get, take, vec_capacity, vec_len};
-ghost use Rattle.std.specs.List.{slice_range};
-ghost use Rattle.hp_units.specs.Marks.{is_opening, is_work_of, sole_at};
-ghost use Rattle.hp_units.specs.declared.marks.Tag.{Tag};
-ghost use Rattle.hp_memory.specs.Memory.{LeadsBack};
-ghost use Rattle.hp_history.specs.Entries.{AreWithin, start_of, tag_at, tags_of};
+//! A memory and the journal of its steps, which keeps no records.
+ghost use Rattle.std.specs.Prelude.{◌≡◌, ◌↔◌, ◌+◌, [], false, true, length, IfOk, IfNone, IfSome, OnErr, IsTrue};
+ghost use Rattle.hp_units.specs.Boot.{boot_memory};
+ghost use Rattle.hp_units.specs.LayoutParts.{IsLayout};
+ghost use Rattle.hp_units.specs.Placement.{IsWellPlaced};
+ghost use Rattle.hp_units.specs.declared.events.Event.TheVariants.{Cancel, UndoAfter};
+ghost use Rattle.hp_units.specs.declared.replies.Reply.TheVariants.{Restored};
+ghost use Rattle.hp_history.specs.Course.{IsAnswered, IsHistory, is_spent, last_serial, receipt_for, started};
+ghost use Rattle.hp_history.specs.Kept.{IsCut, IsStep, is_gone, may_cancel};
 
+use crate::entries::{Entry, keep_step, kept_len, sole_place, start_of};
+use crate::remembered::Remembered;
 use hp_memory::Memory;
-use hp_tape::{Delta, Tape};
-use hp_units::{Mark, Record, Serial, Tag, mark_of};
-use std::mem::size_of;
+use hp_plain::Image;
+use hp_tape::Tape;
+use hp_units::{Cpu, Event, Layout, Refusal, Reply, Serial, is_step, mark_of};
+use std::alloc::{AllocError, Global};
+use std::marker::Model;
 
-/// A step that is not undone: its record's place in the history, counted from 0, and how many
-/// deltas stand on the tape before its own. Its deltas end where those of the next step begin.
-#[derive(Clone, Copy, PartialEq, Eq, Drop)]
-pub(crate) struct Entry {
-    pub(crate) place: usize,
-    pub(crate) start: usize,
+mod steps;
+
+/// A memory and the journal of its steps, which keeps no records (own rule): it answers as a
+/// `Course` does. The base state and the records are a matter of its proofs alone, and take no
+/// bytes. It has room for no step that comes after 2^30 records since the base, or after 2^32
+/// deltas on its tape: the answer there is out of memory.
+pub struct Journal {
+    before: u64,
+    count: u64,
+    memory: Memory,
+    entries: Vec<Entry>,
+    deltas: Tape,
+    past: Remembered,
 }
 
-/// Bytes of an entry decide what a journal costs (own rule).
-const _: () = prove!(size_of::<Entry>() <= 16);
+/// A function of its own, so that no proof of a caller takes the fields apart.
+impl Drop for Journal {
+    fn drop(self) {
+        let Journal {
+            before: _before,
+            count: _count,
+            memory: _memory,
+            entries: _entries,
+            deltas: _deltas,
+            past: _past,
+        } = self;
+    }
+}
 
-impl Entry {
-    /// The serial and the mark of the step.
-    #[tactic(auto, using(crate::proofs::Starts::tag_read))]
-    fn tag(&self, history: &[Record]) -> Tag
-        requires { self.now.place < length history.now }
-        ensures { result ≡ tag_at history.now self.now.place }
+impl Model for Journal {
+    ghost use Rattle.std.specs.Prelude.{◌≡◌, length};
+    ghost use Rattle.hp_history.specs.Course.{CourseValue};
+    ghost use Rattle.hp_history.specs.Kept.{IsCourse};
+    ghost use Rattle.hp_history.specs.Seen.{seen};
+
+    ghost Value = { CourseValue };
+
+    ghost view = { seen };
+
+    ghost invariant = { λ m.
+        IsCourse (seen m) m.entries.items m.deltas.deltas × (m.count ≡ length m.past.history) };
+}
+
+impl Journal {
+    /// The journal of no records over the state at boot. An error is out of memory.
+    pub fn boot(alloc: Global, layout: &Layout) -> Result<Journal, AllocError>
+        ensures start { IfOk result (λ journal. journal ≡ started layout.now (boot_memory layout.now) 0) }
+        ensures limits { IfOk result (λ _. IsLayout layout.now) }
     {
-        let record = &history[self.place];
-        Tag {
-            serial: record.serial,
-            mark: mark_of(&record.event),
+        let memory = Memory::boot(alloc, layout)?;
+        Journal::start(alloc, memory, 0)
+    }
+
+    /// The journal of no records over a base state, after `before` earlier records. An error is out
+    /// of memory.
+    pub(crate) fn from_image(
+        alloc: Global,
+        base: &Image,
+        before: u64,
+    ) -> Result<Journal, AllocError>
+        requires limits { IsLayout base.now.layout }
+        requires placed { IsWellPlaced base.now.layout base.now.memory }
+        ensures { IfOk result (λ journal. journal ≡ started base.now.layout base.now.memory before) }
+    {
+        let memory = Memory::from_image(alloc, base)?;
+        Journal::start(alloc, memory, before)
+    }
+
+    /// The journal of no records over a memory's state, after `before` earlier records. An error is
+    /// out of memory.
+    fn start(alloc: Global, memory: Memory, before: u64) -> Result<Journal, AllocError>
+        ensures start { IfOk result (λ journal. journal ≡ started memory.layout memory.state before) }
+        ensures limits { IfOk result (λ _. IsLayout memory.layout) }
+    {
+        memory.is_placed();
+        let deltas = Tape::with_room(alloc, 0)?;
+        let past = Remembered::start(&memory);
+        Ok(Journal {
+            before,
+            count: 0,
+            memory,
+            entries: Vec::new(alloc),
+            deltas,
+            past,
+        })
+    }
+
+    /// An equal journal. An error is out of memory.
+    pub(crate) fn copy(&self, alloc: Global) -> Result<Journal, AllocError>
+        ensures { IfOk result (λ journal. journal ≡ self.now) }
+    {
+        let memory = self.memory.copy(alloc)?;
+        let entries = Vec::from_slice(alloc, self.entries.as_slice())?;
+        let deltas = self.deltas.copy(alloc)?;
+        Ok(Journal {
+            before: self.before,
+            count: self.count,
+            memory,
+            entries,
+            deltas,
+            past: self.past.again(),
+        })
+    }
+
+    /// Answers an event of a processor, where there is a further serial: the answer is the serial of
+    /// the event's record and the reply. An undo goes back, and so does a Cancel where nothing but
+    /// its operation's own work stands after its Begin; any other event makes a step. An error is
+    /// out of memory; then all is as before.
+    #[inline(always)]
+    pub fn answer(
+        &mut self,
+        alloc: Global,
+        cpu: Cpu,
+        event: &Event,
+    ) -> Result<(Serial, Reply), AllocError>
+        requires free { is_spent self.old ≡ false }
+        ensures err { OnErr result (self.new ≡ self.old) }
+        ensures ok { IfOk result
+            (λ answer. IsAnswered self.old cpu event.now (receipt_for event.now answer) self.new) }
+    {
+        match event {
+            Event::UndoAfter { serial } => {
+                let (keep, reply) = self.undo_cut(cpu, *serial);
+                Ok(self.go_back(cpu, event, keep, &reply))
+            }
+            Event::Cancel { op } => match self.cancel_cut(cpu, *op) {
+                Some(keep) => Ok(self.go_back(cpu, event, keep, &Reply::Restored)),
+                None => self.act(alloc, cpu, event),
+            },
+            _ => self.act(alloc, cpu, event),
         }
     }
-}
 
-/// The tag of the step at a place of the journal.
-fn step_tag(entries: &[Entry], history: &[Record], place: usize) -> Tag
-    requires place { place < length entries.now }
-    requires within { AreWithin (length history.now) entries.now }
-    ensures { slice_get (tags_of history.now entries.now) place ≡ Some result }
-{
-    let entry = &entries[place];
-    entry.tag(history)
-}
-
-/// How many of the steps an undo to a serial keeps: those down to the latest whose serial is not above it.
-pub(crate) fn kept_len(entries: &[Entry], history: &[Record], serial: Serial) -> usize
-    requires { AreWithin (length history.now) entries.now }
-    ensures within { result ≤ length entries.now }
-    ensures above { (i : ℕ) (t : Tag) → result ≤ i → slice_get (tags_of history.now entries.now) i ≡ Some t
-        → serial < t.serial }
-    ensures below { (t : Tag) → 0 < result → slice_get (tags_of history.now entries.now) (result - 1) ≡ Some t
-        → t.serial ≤ serial }
-{
-    let mut keep = entries.len();
-    while keep > 0 && step_tag(entries, history, keep - 1).serial > serial {
-        keep -= 1;
+    /// Goes on from the present state as a base without records: no step from before can be undone
+    /// (own rule). The result is the number of the records that were. It makes no record and takes
+    /// no memory.
+    pub fn seal(&mut self) -> u64
+        ensures count { result ≡ length self.old.history }
+        ensures goes_on { self.new ≡ started self.old.layout self.old.state (last_serial self.old) }
+    {
+        let count = self.count;
+        self.before += count;
+        self.count = 0;
+        let past = Remembered::start(&self.memory);
+        self.past = past;
+        self.entries.clear();
+        self.entries.shrink_to_fit();
+        emptied(&mut self.deltas);
+        count
     }
-    keep
-}
 
-/// Whether a step begins an operation.
-fn is_opening(mark: Mark) -> bool
-    ensures { result ≡ is_opening mark }
-{
-    matches!(mark, Mark::Opens)
-}
-
-/// Whether a step is an operation's own work.
-fn is_work_of(mark: Mark, op: Serial) -> bool
-    ensures { result ≡ is_work_of op mark }
-{
-    match mark {
-        Mark::Works { op: own } => own == op,
-        _ => false,
+    /// Whether there is no further serial: the last one is 2^64 - 1.
+    pub fn is_spent(&self) -> bool
+        ensures { result ≡ is_spent self.now }
+    {
+        self.last_serial() >= u64::MAX
     }
-}
 
-/// The place where an operation begins, if nothing but its own work stands after it.
-pub(crate) fn sole_place(entries: &[Entry], history: &[Record], op: Serial) -> Option<usize>
-    requires { AreWithin (length history.now) entries.now }
-    ensures { result ≡ sole_at op (tags_of history.now entries.now) }
-{
-    let mut place = entries.len();
-    while place > 0 {
-        place -= 1;
-        let tag = step_tag(entries, history, place);
-        if is_opening(tag.mark) {
-            return if tag.serial == op { Some(place) } else { None };
+    /// Whether a serial is the next one.
+    pub fn expects(&self, serial: Serial) -> bool
+        ensures next { IsTrue result ↔ (serial ≡ last_serial self.now + 1) }
+        ensures free { result ≡ true → is_spent self.now ≡ false }
+    {
+        !self.is_spent() && serial == self.next_serial()
+    }
+
+    /// The last serial so far, which is the number of all records, earlier ones included.
+    pub fn last_serial(&self) -> u64
+        ensures { result ≡ last_serial self.now }
+    {
+        self.before + self.count
+    }
+
+    /// How many earlier records there are, before those since the base.
+    pub fn before(&self) -> u64
+        ensures { result ≡ self.now.before }
+    {
+        self.before
+    }
+
+    /// The present state, in layers.
+    pub fn memory(&self) -> &Memory
+        ensures { result.now ≡ record { layout = self.now.layout; state = self.now.state } }
+    {
+        &self.memory
+    }
+
+    /// The present state, as an Image of its own. An error is out of memory.
+    pub fn image(&self, alloc: Global) -> Result<Image, AllocError>
+        ensures { IfOk result
+            (λ image. image ≡ record { layout = self.now.layout; memory = self.now.state }) }
+    {
+        self.memory.image(alloc)
+    }
+
+    /// Every journal keeps its history legal, and its state that of the history.
+    pub fn keeps_history(&self)
+        ensures { IsHistory self.now }
+    {
+        let _ = &self.memory;
+    }
+
+    /// The serial of the next record.
+    fn next_serial(&self) -> Serial
+        requires { is_spent self.now ≡ false }
+        ensures { result ≡ last_serial self.now + 1 }
+    {
+        Serial(self.last_serial() + 1)
+    }
+
+    /// How many steps an undo to a serial keeps, and its reply.
+    fn undo_cut(&self, cpu: Cpu, serial: Serial) -> (usize, Reply)
+        ensures { IsCut self.now cpu (UndoAfter serial) result.0 result.1 }
+    {
+        let entries = self.entries.as_slice();
+        if cpu.0 >= self.memory.layout().cpus() {
+            (entries.len(), Reply::Refused(Refusal::NoCpu))
+        } else if self.is_gone(serial) {
+            (entries.len(), Reply::Refused(Refusal::Gone))
+        } else {
+            let keep = kept_len(entries, self.before, serial);
+            let count = (entries.len() - keep) as u64;
+            (keep, Reply::Undone { count })
         }
-        if !is_work_of(tag.mark, op) {
-            return None;
+    }
+
+    /// Whether an undo to a serial is refused: no record has it, or the record was sealed.
+    fn is_gone(&self, serial: Serial) -> bool
+        ensures { result ≡ is_gone self.now serial }
+    {
+        serial.0 > self.last_serial() || serial.0 < self.before
+    }
+
+    /// How many steps a Cancel keeps that goes back to before its operation began; None where it
+    /// makes a step.
+    fn cancel_cut(&self, cpu: Cpu, op: Serial) -> Option<usize>
+        ensures back { IfSome result (λ keep. IsCut self.now cpu (Cancel op) keep Restored) }
+        ensures step { IfNone result (IsStep self.now cpu (Cancel op)) }
+    {
+        if self.may_cancel(cpu, op) {
+            let entries = self.entries.as_slice();
+            sole_place(entries, self.before, op)
+        } else {
+            None
         }
     }
-    None
-}
 
-/// How many of so many deltas stand on the tape before those of a step, which are all of them where
-/// there is no such step.
-pub(crate) fn start_of(entries: &[Entry], deltas: usize, step: usize) -> usize
-    ensures { result ≡ start_of entries.now deltas step }
-{
-    match entries.get(step) {
-        Some(entry) => entry.start,
-        None => deltas,
+    /// Whether a Cancel is not refused: the layout has its processor, and its operation is live.
+    fn may_cancel(&self, cpu: Cpu, op: Serial) -> bool
+        ensures { result ≡ may_cancel self.now.layout self.now.state cpu op }
+    {
+        cpu.0 < self.memory.layout().cpus() && self.memory.is_live(op)
+    }
+
+    /// Goes back to the first steps, as the answer to an event. It takes no memory.
+    #[inline(always)]
+    fn go_back(&mut self, cpu: Cpu, event: &Event, keep: usize, reply: &Reply) -> (Serial, Reply)
+        requires free { is_spent self.old ≡ false }
+        requires cut { IsCut self.old cpu event.now keep reply.now }
+        ensures { IsAnswered self.old cpu event.now (receipt_for event.now result) self.new }
+    {
+        let serial = self.next_serial();
+        let count = self.deltas.len();
+        let start = start_of(self.entries.as_slice(), count, keep);
+        self.memory.back(&mut self.deltas, start);
+        self.entries.truncate(keep);
+        self.count += 1;
+        let past = self.past.and(&serial, &cpu, event, reply);
+        self.past = past;
+        (serial, *reply)
+    }
+
+    /// Makes a step of the event. It takes its memory before it changes anything.
+    #[inline(always)]
+    fn act(&mut self, alloc: Global, cpu: Cpu, event: &Event) -> Result<(Serial, Reply), AllocError>
+        requires free { is_spent self.old ≡ false }
+        requires step { IsStep self.old cpu event.now }
+        ensures err { OnErr result (self.new ≡ self.old) }
+        ensures ok { IfOk result
+            (λ answer. IsAnswered self.old cpu event.now (receipt_for event.now answer) self.new) }
+    {
+        let serial = self.next_serial();
+        let entry = Entry::new(self.count, self.deltas.len(), mark_of(event))?;
+        self.entries.reserve(1)?;
+        let reply = self
+            .memory
+            .step(alloc, serial, cpu, event, &mut self.deltas)?;
+        keep_step(
+            &mut self.entries,
+            &mut self.memory,
+            &mut self.deltas,
+            entry,
+            is_step(event, &reply),
+        );
+        self.count += 1;
+        let past = self.past.and(&serial, &cpu, event, &reply);
+        self.past = past;
+        Ok((serial, reply))
     }
 }
 
-/// The deltas of a tape between two places.
-pub(crate) fn between(deltas: &[Delta], start: usize, end: usize) -> &[Delta]
-    requires order { start ≤ end }
-    requires within { end ≤ length deltas.now }
-    ensures { result.now ≡ slice_range deltas.now start end }
+/// Takes all deltas off a tape, and lets its memory go.
+fn emptied(tape: &mut Tape)
+    ensures { tape.new.deltas ≡ [] }
 {
-    &deltas[start..end]
-}
-
-/// Keeps the entry of what is a step, for which there is room. What is none changed nothing, and
-/// what it noted is taken off the tape.
-#[inline(always)]
-pub(crate) fn keep_step(
-    entries: &mut Vec<Entry>,
-    memory: &mut Memory,
-    deltas: &mut Tape,
-    entry: Entry,
-    is_step: bool,
-)
-    requires room { vec_len entries.old < vec_capacity entries.old }
-    requires start { entry.start ≤ length deltas.old.deltas }
-    requires same { is_step ≡ false
-        → LeadsBack memory.old.layout (drop entry.start deltas.old.deltas) memory.old.state memory.old.state }
-    ensures entries { entries.new.items
-        ≡ (if is_step then entries.old.items ++ entry ∷ [] else entries.old.items) }
-    ensures deltas { deltas.new.deltas
-        ≡ (if is_step then deltas.old.deltas else take entry.start deltas.old.deltas) }
-    ensures state { memory.new.state ≡ memory.old.state }
-    ensures layout { memory.new.layout ≡ memory.old.layout }
-{
-    if is_step {
-        entries.push_reserved(entry);
-    } else {
-        memory.back(deltas, entry.start);
-    }
+    while tape.latest().is_some() {}
+    tape.trim();
 }

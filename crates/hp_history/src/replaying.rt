@@ -1,4 +1,4 @@
-//! A replay: a list of records is read again, each answer against that of a course.
+//! A replay: a list of records is read again, each answer against that of a journal.
 ghost use Rattle.std.specs.Prelude.{◌≡◌, IfErr, IfOk, OnOk};
 ghost use Rattle.hp_units.specs.Boot.{boot_memory};
 ghost use Rattle.hp_units.specs.History.{IsLegal, value_of};
@@ -7,7 +7,7 @@ ghost use Rattle.hp_units.specs.Placement.{IsWellPlaced};
 ghost use Rattle.hp_history.specs.Course.{started};
 ghost use Rattle.hp_history.specs.Replay.{IsCourseOf, IsFault, IsFaultHere, IsFollowed, Refutes};
 
-use crate::course::Course;
+use crate::journal::Journal;
 use hp_plain::Image;
 use hp_units::{Layout, Record, Serial};
 use std::alloc::{AllocError, Global};
@@ -45,9 +45,9 @@ pub fn replay(alloc: Global, layout: &Layout, records: &[Record]) -> Result<Imag
     ensures fault { IfErr result (IsFault layout.now (boot_memory layout.now) 0 records.now) }
     ensures only { IfErr result (Refutes layout.now (boot_memory layout.now) 0 records.now) }
 {
-    let mut course = Course::boot(alloc, layout)?;
-    followed(alloc, &mut course, records)?;
-    let image = course.image(alloc)?;
+    let mut journal = Journal::boot(alloc, layout)?;
+    followed(alloc, &mut journal, records)?;
+    let image = journal.image(alloc)?;
     Ok(image)
 }
 
@@ -70,39 +70,39 @@ pub fn replay_from(
     ensures fault { IfErr result (IsFault base.now.layout base.now.memory before records.now) }
     ensures only { IfErr result (Refutes base.now.layout base.now.memory before records.now) }
 {
-    let mut course = Course::start(alloc, base, before)?;
-    followed(alloc, &mut course, records)?;
-    let image = course.image(alloc)?;
+    let mut journal = Journal::from_image(alloc, base, before)?;
+    followed(alloc, &mut journal, records)?;
+    let image = journal.image(alloc)?;
     Ok(image)
 }
 
-/// Makes the course of no records the course of these, if they are a legal history over its base.
+/// Makes the journal of no records the journal of these, if they are a legal history over its base.
 pub(crate) fn followed(
     alloc: Global,
-    course: &mut Course,
+    journal: &mut Journal,
     records: &[Record],
 ) -> Result<(), ReplayFault>
-    requires { course.old ≡ started course.old.layout course.old.base course.old.before }
+    requires { journal.old ≡ started journal.old.layout journal.old.base journal.old.before }
     ensures course { OnOk result
-        (IsCourseOf course.old.layout course.old.base course.old.before records.now course.new) }
-    ensures fault { IfErr result (IsFault course.old.layout course.old.base course.old.before records.now) }
-    ensures only { IfErr result (Refutes course.old.layout course.old.base course.old.before records.now) }
+        (IsCourseOf journal.old.layout journal.old.base journal.old.before records.now journal.new) }
+    ensures fault { IfErr result (IsFault journal.old.layout journal.old.base journal.old.before records.now) }
+    ensures only { IfErr result (Refutes journal.old.layout journal.old.base journal.old.before records.now) }
 {
     for (place, record) in records.iter().enumerate() {
-        follow(alloc, course, place as u64, record)?;
+        follow(alloc, journal, place as u64, record)?;
     }
     Ok(())
 }
 
-/// Goes on by the record at a place, if it may stand after those of the course.
-fn follow(alloc: Global, course: &mut Course, at: u64, next: &Record) -> Result<(), ReplayFault>
-    ensures ok { OnOk result (IsFollowed course.old next.now course.new) }
-    ensures err { IfErr result (IsFaultHere course.old at next.now) }
+/// Goes on by the record at a place, if it may stand after those of the journal.
+fn follow(alloc: Global, journal: &mut Journal, at: u64, next: &Record) -> Result<(), ReplayFault>
+    ensures ok { OnOk result (IsFollowed journal.old next.now journal.new) }
+    ensures err { IfErr result (IsFaultHere journal.old at next.now) }
 {
-    if !course.expects(next.serial) {
+    if !journal.expects(next.serial) {
         return Err(ReplayFault::WrongSerial { at });
     }
-    match course.answer(alloc, next.cpu, &next.event) {
+    match journal.answer(alloc, next.cpu, &next.event) {
         Ok((_, reply)) => {
             if reply.same(&next.reply) {
                 Ok(())

@@ -1,13 +1,15 @@
 //! Volumes of sealed records, and whether they follow one another.
-ghost use Rattle.std.specs.Prelude.{◌≡◌, IfErr, IfOk, OnOk};
+ghost use Rattle.std.specs.Prelude.{◌≡◌, ◌≢◌, IfErr, IfOk, MatchBool, OnOk};
 ghost use Rattle.hp_units.specs.History.{IsLegal};
 ghost use Rattle.hp_units.specs.Placement.{IsWellPlaced};
 ghost use Rattle.hp_history.specs.Course.{last_serial, started};
+ghost use Rattle.hp_history.specs.Kept.{pictured};
 ghost use Rattle.hp_history.specs.Volumes.{FollowsEnd, IsChain, IsChainFault, IsFaultAfter, RefutesChain, chain_fault, sealed_after, state_after};
 
-use crate::course::Course;
+use crate::journal::Journal;
 use crate::records::Records;
 use crate::replaying::{ReplayFault, followed};
+use crate::same_layouts::same_layout;
 use hp_plain::Image;
 use hp_units::Layout;
 use std::alloc::{AllocError, Global};
@@ -63,52 +65,79 @@ pub fn audit_chain(alloc: Global, layout: &Layout, volumes: &[Volume]) -> Result
     ensures fault { IfErr result (IsChainFault layout.now volumes.now) }
     ensures only { IfErr result (RefutesChain layout.now volumes.now) }
 {
-    let mut end = Course::boot(alloc, layout)?;
+    let mut base = Image::boot(alloc, layout)?;
+    let mut end = Journal::from_image(alloc, &base, 0)?;
     for (place, volume) in volumes.iter().enumerate() {
-        after_volume(alloc, &mut end, place as u64, volume)?;
+        after_volume(alloc, &mut end, &mut base, place as u64, volume)?;
     }
-    Ok(end.into_base())
+    Ok(base)
 }
 
-/// Goes on from a sealed course to the one after a volume's records, sealed again, if the volume follows.
-fn after_volume(alloc: Global, end: &mut Course, at: u64, volume: &Volume) -> Result<(), ChainFault>
-    requires { end.old ≡ started end.old.layout end.old.base end.old.before }
+/// Goes on from a sealed journal to the one after a volume's records, sealed again, if the volume
+/// follows; its base goes on with it.
+fn after_volume(
+    alloc: Global,
+    end: &mut Journal,
+    base: &mut Image,
+    at: u64,
+    volume: &Volume,
+) -> Result<(), ChainFault>
+    requires start { end.old ≡ started end.old.layout end.old.base end.old.before }
+    requires base { base.old ≡ pictured end.old.layout end.old.base }
     ensures follows { OnOk result (FollowsEnd end.old volume.now) }
     ensures legal { OnOk result (IsLegal end.old.layout end.old.base end.old.before volume.now.records) }
     ensures next { OnOk result (end.new ≡ sealed_after end.old volume.now) }
+    ensures base { OnOk result (base.new ≡ pictured end.new.layout end.new.base) }
     ensures err { IfErr result (IsFaultAfter end.old at volume.now) }
 {
     if volume.before != end.before() {
         return Err(ChainFault::WrongCount { at });
     }
-    if !end.begins_at(&volume.base) {
+    if !same_image(&volume.base, base) {
         return Err(ChainFault::WrongBase { at });
     }
-    replayed(alloc, end, at, volume)
+    replayed(alloc, end, base, at, volume)
 }
 
-/// Goes on by the records of a volume that follows a sealed course, and seals them.
-fn replayed(alloc: Global, end: &mut Course, at: u64, volume: &Volume) -> Result<(), ChainFault>
+/// Goes on by the records of a volume that follows a sealed journal, and seals them.
+fn replayed(
+    alloc: Global,
+    end: &mut Journal,
+    base: &mut Image,
+    at: u64,
+    volume: &Volume,
+) -> Result<(), ChainFault>
     requires start { end.old ≡ started end.old.layout end.old.base end.old.before }
     requires follows { FollowsEnd end.old volume.now }
     ensures legal { OnOk result (IsLegal end.old.layout end.old.base end.old.before volume.now.records) }
     ensures next { OnOk result (end.new ≡ sealed_after end.old volume.now) }
+    ensures base { OnOk result (base.new ≡ pictured end.new.layout end.new.base) }
     ensures err { IfErr result (IsFaultAfter end.old at volume.now) }
 {
     let records = volume.records.as_slice();
     match followed(alloc, end, records) {
-        Ok(_) => seal_off(alloc, end),
+        Ok(_) => seal_off(alloc, end, base),
         Err(fault) => Err(chain_fault(at, fault)),
     }
 }
 
-/// Seals a course, and lets go of what was sealed.
-fn seal_off(alloc: Global, end: &mut Course) -> Result<(), ChainFault>
+/// Seals a journal, and makes the state that it begins again with its base.
+fn seal_off(alloc: Global, end: &mut Journal, base: &mut Image) -> Result<(), ChainFault>
     ensures next { OnOk result (end.new ≡ started end.old.layout end.old.state (last_serial end.old)) }
+    ensures base { OnOk result (base.new ≡ pictured end.new.layout end.new.base) }
     ensures err { IfErr result (λ fault. fault ≡ ChainFault.OutOfMemory) }
 {
-    let _sealed = end.seal(alloc)?;
+    let now = end.image(alloc)?;
+    let _count = end.seal();
+    *base = now;
     Ok(())
+}
+
+/// Whether two Images are the same: of the same layout, and of the same state.
+fn same_image(image: &Image, other: &Image) -> bool
+    ensures { MatchBool result (image.now ≡ other.now) (image.now ≢ other.now) }
+{
+    same_layout(image.layout(), other.layout()) && image.same(other)
 }
 
 /// The fault of a volume whose records are at fault.

@@ -6,13 +6,13 @@ use Rattle.hp_history.proofs.replaying.follow.Goals as goal
 
 pub returns-then-same-clause-ok : goal.returns-then-same-clause-ok
 returns-then-same-clause-ok c =
-    followed c.args.course.now c.answer.new.self c.args.next.now _
+    followed c.args.journal.now c.answer.new.self c.args.next.now _
     (c.expects.ensures.next.0 c.if-not-expects.false) c.in-Ok.ensures.ok
     (c.same.ensures.0 c.if-same.true)
 
 pub returns-else-same-clause-err : goal.returns-else-same-clause-err
 returns-else-same-clause-err c =
-    another_reply c.args.course.now c.answer.new.self c.args.next.now _ c.args.at
+    another_reply c.args.journal.now c.answer.new.self c.args.next.now _ c.args.at
     (c.expects.ensures.next.0 c.if-not-expects.false) c.in-Ok.ensures.ok
     (iff_false c.same.ensures c.if-same.false)
 

@@ -1,4 +1,4 @@
--- The course goes on by each record that is not at fault; in the end it is that of all records.
+-- The journal goes on by each record that is not at fault; in the end it is that of all records.
 use Rattle.std.proofs.lemmas.Option.{slice_get_read}
 use Rattle.std.proofs.lemmas.Result.{err_from_is_err_and}
 use Rattle.std.proofs.Common.{length, refl, rules}
@@ -6,13 +6,13 @@ use Rattle.hp_history.proofs.Replays.{fault_at, follow_one, refutes, starts, who
 use Rattle.hp_history.proofs.replaying.followed.Goals as goal
 
 pub loop-place-init : goal.loop-place-init
-loop-place-init c = record { course = starts c.args.course.now c.args.records.now c.requires }
+loop-place-init c = record { course = starts c.args.journal.now c.args.records.now c.requires }
 
 pub loop-place-preserved : goal.loop-place-preserved
 loop-place-preserved c = record {
   course =
-      follow_one c.args.course.now.layout c.args.course.now.base c.args.course.now.before c.args.records.now
-      c.loop-place.place c.index-records-place.result c.loop-place.course c.follow.new.course
+      follow_one c.args.journal.now.layout c.args.journal.now.base c.args.journal.now.before c.args.records.now
+      c.loop-place.place c.index-records-place.result c.loop-place.journal c.follow.new.journal
       (slice_get_read c.args.records.now (length c.args.records.now) c.loop-place.place
       c.index-records-place.result refl c.loop-place-test.true
       c.index-records-place.is) c.loop-place.invariant.course c.in_ok-follow.ensures.ok;
@@ -20,14 +20,14 @@ loop-place-preserved c = record {
 
 pub returns-clause-course : goal.returns-clause-course
 returns-clause-course c =
-    whole c.args.course.now.layout c.args.course.now.base c.args.course.now.before c.args.records.now
-    c.loop-place.place c.loop-place.course c.loop-place-test.false c.loop-place.invariant.course
+    whole c.args.journal.now.layout c.args.journal.now.base c.args.journal.now.before c.args.records.now
+    c.loop-place.place c.loop-place.journal c.loop-place-test.false c.loop-place.invariant.course
 
 pub returns-in_err-follow-clause-fault : goal.returns-in_err-follow-clause-fault
 returns-in_err-follow-clause-fault c =
     let p = err_from_is_err_and c.from_residual.result c.from_residual.ensures.1 in
-    rw (p.1, p.2) (fault_at c.args.course.now.layout c.args.course.now.base c.args.course.now.before
-    c.args.records.now c.loop-place.place c.index-records-place.result c.loop-place.course _
+    rw (p.1, p.2) (fault_at c.args.journal.now.layout c.args.journal.now.base c.args.journal.now.before
+    c.args.records.now c.loop-place.place c.index-records-place.result c.loop-place.journal _
     (slice_get_read c.args.records.now (length c.args.records.now) c.loop-place.place
     c.index-records-place.result refl c.loop-place-test.true
     c.index-records-place.is) c.loop-place.invariant.course c.in_err-follow.ensures.err)
@@ -36,9 +36,9 @@ pub returns-in_err-follow-clause-only : goal.returns-in_err-follow-clause-only
 returns-in_err-follow-clause-only c =
     let p = err_from_is_err_and c.from_residual.result c.from_residual.ensures.1 in
     rw (p.1, p.2)
-    (refutes c.args.course.now.layout c.args.course.now.base c.args.course.now.before c.args.records.now _
-    (fault_at c.args.course.now.layout c.args.course.now.base c.args.course.now.before c.args.records.now
-    c.loop-place.place c.index-records-place.result c.loop-place.course _
+    (refutes c.args.journal.now.layout c.args.journal.now.base c.args.journal.now.before c.args.records.now _
+    (fault_at c.args.journal.now.layout c.args.journal.now.base c.args.journal.now.before c.args.records.now
+    c.loop-place.place c.index-records-place.result c.loop-place.journal _
     (slice_get_read c.args.records.now (length c.args.records.now) c.loop-place.place
     c.index-records-place.result refl c.loop-place-test.true
     c.index-records-place.is) c.loop-place.invariant.course c.in_err-follow.ensures.err))

@@ -1,10 +1,10 @@
--- The course is that of the records so far.
+-- The journal is that of the records so far.
 use Rattle.std.proofs.Common.{take}
 use Rattle.hp_history.specs.Replay.{IsCourseOf}
 use Rattle.hp_history.proofs.replaying.followed.Given as goal
 
 abbrev pub invariant-loop-place : goal.invariant-loop-place
 invariant-loop-place l = record {
-  course : IsCourseOf l.initial.course.layout l.initial.course.base l.initial.course.before
-      (take l.place l.records) l.course;
+  course : IsCourseOf l.initial.journal.layout l.initial.journal.base l.initial.journal.before
+      (take l.place l.records) l.journal;
 }

@@ -1,4 +1,4 @@
--- The course begins at the base; that of all records shows the state that they lead to.
+-- The journal begins at the base; that of all records shows the state that they lead to.
 use Rattle.std.proofs.Common.{◌∙◌, rules}
 use Rattle.std.proofs.lemmas.Result.{err_from_is_err_and}
 use Rattle.hp_history.specs.Replay.{IsCourseOf}
@@ -8,16 +8,16 @@ use Rattle.hp_history.proofs.replaying.replay_from.Goals.{After-image}
 
 pub followed-requires : goal.followed-requires
 followed-requires c =
-    started_again c.args.base.now.layout c.args.base.now.memory c.args.before c.in_ok-course.course
-    c.in_ok-course.ensures
+    started_again c.args.base.now.layout c.args.base.now.memory c.args.before c.in_ok-journal.journal
+    c.in_ok-journal.ensures
 
 -- what was found of the records, by the base itself
 followed_so : (c : After-image)
     → IsCourseOf c.args.base.now.layout c.args.base.now.memory c.args.before c.args.records.now
-    c.followed.new.course
+    c.followed.new.journal
 followed_so c =
     course_again c.args.base.now.layout c.args.base.now.memory c.args.before c.args.records.now
-    c.in_ok-course.course c.followed.new.course c.in_ok-course.ensures c.in_ok-followed.ensures.course
+    c.in_ok-journal.journal c.followed.new.journal c.in_ok-journal.ensures c.in_ok-followed.ensures.course
 
 pub returns-clause-legal : goal.returns-clause-legal
 returns-clause-legal c = (followed_so (goal.at.returns-clause-legal c).After-image).legal
@@ -25,7 +25,7 @@ returns-clause-legal c = (followed_so (goal.at.returns-clause-legal c).After-ima
 pub returns-clause-value : goal.returns-clause-value
 returns-clause-value c =
     c.in_ok-image.ensures ∙ shown c.args.base.now.layout c.args.base.now.memory c.args.before
-    c.args.records.now c.followed.new.course (followed_so (goal.at.returns-clause-value c).After-image)
+    c.args.records.now c.followed.new.journal (followed_so (goal.at.returns-clause-value c).After-image)
 
 pub returns-clause-placed : goal.returns-clause-placed
 returns-clause-placed c =
@@ -37,29 +37,29 @@ returns-in_err-followed-clause-fault c =
     let p =
     err_from_is_err_and c.from_residual-in_err-followed.result c.from_residual-in_err-followed.ensures.1 in
     rw (p.1, p.2) (fault_again c.args.base.now.layout c.args.base.now.memory c.args.before c.args.records.now
-    c.in_ok-course.course _ c.in_ok-course.ensures c.in_err-followed.ensures.fault)
+    c.in_ok-journal.journal _ c.in_ok-journal.ensures c.in_err-followed.ensures.fault)
 
 pub returns-in_err-followed-clause-only : goal.returns-in_err-followed-clause-only
 returns-in_err-followed-clause-only c =
     let p =
     err_from_is_err_and c.from_residual-in_err-followed.result c.from_residual-in_err-followed.ensures.1 in
     rw (p.1, p.2) (refutes_again c.args.base.now.layout c.args.base.now.memory c.args.before
-    c.args.records.now c.in_ok-course.course _ c.in_ok-course.ensures c.in_err-followed.ensures.only)
+    c.args.records.now c.in_ok-journal.journal _ c.in_ok-journal.ensures c.in_err-followed.ensures.only)
 
-pub returns-in_err-course-clause-legal : goal.returns-in_err-course-clause-legal
-returns-in_err-course-clause-legal c = search rules
+pub returns-in_err-journal-clause-legal : goal.returns-in_err-journal-clause-legal
+returns-in_err-journal-clause-legal c = search rules
 
-pub returns-in_err-course-clause-value : goal.returns-in_err-course-clause-value
-returns-in_err-course-clause-value c = search rules
+pub returns-in_err-journal-clause-value : goal.returns-in_err-journal-clause-value
+returns-in_err-journal-clause-value c = search rules
 
-pub returns-in_err-course-clause-placed : goal.returns-in_err-course-clause-placed
-returns-in_err-course-clause-placed c = search rules
+pub returns-in_err-journal-clause-placed : goal.returns-in_err-journal-clause-placed
+returns-in_err-journal-clause-placed c = search rules
 
-pub returns-in_err-course-clause-fault : goal.returns-in_err-course-clause-fault
-returns-in_err-course-clause-fault c = search rules
+pub returns-in_err-journal-clause-fault : goal.returns-in_err-journal-clause-fault
+returns-in_err-journal-clause-fault c = search rules
 
-pub returns-in_err-course-clause-only : goal.returns-in_err-course-clause-only
-returns-in_err-course-clause-only c = search rules
+pub returns-in_err-journal-clause-only : goal.returns-in_err-journal-clause-only
+returns-in_err-journal-clause-only c = search rules
 
 pub returns-in_err-followed-clause-legal : goal.returns-in_err-followed-clause-legal
 returns-in_err-followed-clause-legal c = search rules

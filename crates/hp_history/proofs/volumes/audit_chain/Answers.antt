@@ -1,16 +1,36 @@
--- Each volume that is not at fault leads on; in the end the course begins at the state after all of them.
+-- Each volume that is not at fault leads on; in the end the journal begins at the state after all of them.
 use Rattle.std.proofs.lemmas.Option.{slice_get_read}
 use Rattle.std.proofs.lemmas.Result.{err_from_is_err_and}
-use Rattle.std.proofs.Common.{◌∙◌, length, refl}
-use Rattle.hp_history.proofs.Chains.{chain_refuted, end_placed, end_shown, ends_all, ends_more, ends_none, fault_after}
+use Rattle.std.proofs.Common.{◌∙◌, length, refl, sym, subst}
+use Rattle.hp_units.specs.LayoutParts.{IsLayout}
+use Rattle.hp_laws.proofs.Boots.{boot-placed}
+use Rattle.hp_history.proofs.Chains.{begins_with, begun_at_boot, chain_refuted, end_placed, end_shown, ends_all, ends_more, ends_none, fault_after}
 use Rattle.hp_history.proofs.volumes.audit_chain.Goals as goal
+
+pub from_image-requires-clause-limits : goal.from_image-requires-clause-limits
+from_image-requires-clause-limits c =
+    subst IsLayout (sym c.in_ok-base.ensures.layout) c.in_ok-base.ensures.limits
+
+pub from_image-requires-clause-placed : goal.from_image-requires-clause-placed
+from_image-requires-clause-placed c =
+    rw (c.in_ok-base.ensures.layout, c.in_ok-base.ensures.memory)
+    (boot-placed c.args.layout.now c.in_ok-base.ensures.limits)
 
 pub loop-place-init : goal.loop-place-init
 loop-place-init c =
-    record { end = ends_none c.args.layout.now c.args.volumes.now c.in_ok-end.end c.in_ok-end.ensures.start }
+    record {
+      end =
+          ends_none c.args.layout.now c.args.volumes.now c.in_ok-end.end (begun_at_boot c.args.layout.now
+          c.in_ok-base.base c.in_ok-end.end c.in_ok-base.ensures.layout c.in_ok-base.ensures.memory
+          c.in_ok-end.ensures);
+      base = begins_with c.in_ok-base.base c.in_ok-end.end c.in_ok-end.ensures;
+    }
 
-pub after_volume-requires : goal.after_volume-requires
-after_volume-requires c = c.loop-place.invariant.end.start
+pub after_volume-requires-clause-start : goal.after_volume-requires-clause-start
+after_volume-requires-clause-start c = c.loop-place.invariant.end.start
+
+pub after_volume-requires-clause-base : goal.after_volume-requires-clause-base
+after_volume-requires-clause-base c = c.loop-place.invariant.base
 
 pub loop-place-preserved : goal.loop-place-preserved
 loop-place-preserved c = record {
@@ -22,6 +42,7 @@ loop-place-preserved c = record {
       c.index-volumes-place.is) c.loop-place.invariant.end
       c.in_ok-after_volume.ensures.follows c.in_ok-after_volume.ensures.legal
       c.in_ok-after_volume.ensures.next;
+  base = c.in_ok-after_volume.ensures.base;
 }
 
 pub returns-clause-chain : goal.returns-clause-chain
@@ -31,13 +52,13 @@ returns-clause-chain c =
 
 pub returns-clause-value : goal.returns-clause-value
 returns-clause-value c =
-    c.into_base.ensures ∙ end_shown c.args.layout.now c.args.volumes.now c.loop-place.end
+    c.loop-place.invariant.base ∙ end_shown c.args.layout.now c.args.volumes.now c.loop-place.end
     (ends_all c.args.layout.now c.args.volumes.now c.loop-place.place c.loop-place.end c.loop-place-test.false
     c.loop-place.invariant.end)
 
 pub returns-clause-placed : goal.returns-clause-placed
 returns-clause-placed c =
-    end_placed c.args.layout.now c.args.volumes.now c.into_base.result c.in_ok-end.ensures.limits
+    end_placed c.args.layout.now c.args.volumes.now c.loop-place.base c.in_ok-base.ensures.limits
     (returns-clause-value c)
 
 pub returns-in_err-after_volume-clause-fault : goal.returns-in_err-after_volume-clause-fault

@@ -1,9 +1,11 @@
--- The course is sealed, and begins where the volumes so far lead to.
-use Rattle.std.proofs.Common.{take}
+-- The journal is sealed, and begins where the volumes so far lead to, as the base does.
+use Rattle.std.proofs.Common.{◌≡◌, take}
+use Rattle.hp_history.specs.Kept.{pictured}
 use Rattle.hp_history.specs.Volumes.{EndsVolumes}
 use Rattle.hp_history.proofs.volumes.audit_chain.Given as goal
 
 abbrev pub invariant-loop-place : goal.invariant-loop-place
 invariant-loop-place l = record {
   end : EndsVolumes l.layout (take l.place l.volumes) l.end;
+  base : l.base ≡ pictured l.end.layout l.end.base;
 }

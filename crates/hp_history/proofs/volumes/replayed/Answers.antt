@@ -18,7 +18,7 @@ returns-in-Ok-clause-legal c =
 pub returns-in-Ok-clause-next : goal.returns-in-Ok-clause-next
 returns-in-Ok-clause-next c =
     subst (λ (d : CourseValue). OnOk c.seal_off.result (c.seal_off.new.end ≡ d))
-    (sealed_so c.args.end.now c.followed.new.course c.args.volume.now c.as_slice-records.result.now
+    (sealed_so c.args.end.now c.followed.new.journal c.args.volume.now c.as_slice-records.result.now
     c.as_slice-records.ensures c.in-Ok.ensures.course) c.seal_off.ensures.next
 
 pub returns-in-Ok-clause-err : goal.returns-in-Ok-clause-err

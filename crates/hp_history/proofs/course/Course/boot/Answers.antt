@@ -19,11 +19,11 @@ returns-in_err-base-clause-start c = search rules
 pub returns-in_err-base-clause-limits : goal.returns-in_err-base-clause-limits
 returns-in_err-base-clause-limits c = search rules
 
-pub returns-in_err-memory-clause-start : goal.returns-in_err-memory-clause-start
-returns-in_err-memory-clause-start c = search rules
+pub returns-in_err-journal-clause-start : goal.returns-in_err-journal-clause-start
+returns-in_err-journal-clause-start c = search rules
 
-pub returns-in_err-memory-clause-limits : goal.returns-in_err-memory-clause-limits
-returns-in_err-memory-clause-limits c = search rules
+pub returns-in_err-journal-clause-limits : goal.returns-in_err-journal-clause-limits
+returns-in_err-journal-clause-limits c = search rules
 
 pub returns-clause-start : goal.returns-clause-start
 returns-clause-start c = search rules

@@ -1,0 +1,51 @@
+-- A Cancel goes back where it is not refused and its operation is sole.
+use Rattle.std.proofs.Common.{◌≡◌, true, false, List, ap, map, sym, subst, ◌∙◌, rules}
+use Rattle.hp_units.specs.History.{net_of}
+use Rattle.hp_units.specs.Marks.{sole_at, tag_of}
+use Rattle.hp_units.specs.declared.marks.Tag.{Tag}
+use Rattle.hp_history.specs.declared.entries.Entry.{Entry}
+use Rattle.hp_history.specs.Entries.{AreNumbered, tags_of}
+use Rattle.hp_history.specs.Course.{CourseValue}
+use Rattle.hp_history.specs.Kept.{may_cancel}
+use Rattle.hp_history.specs.Seen.{seen}
+use Rattle.hp_history.proofs.Cuts.{cancel_sole, cancel_other, cancel_refused, entries_numbered}
+use Rattle.hp_history.proofs.journal.Journal.cancel_cut.Goals as goal
+use Rattle.hp_history.proofs.journal.Journal.cancel_cut.Goals.{After-sole_place}
+
+pub sole_place-requires : goal.sole_place-requires
+sole_place-requires c =
+    subst (λ (es : List Entry). AreNumbered c.self.inside.before es) (sym c.as_slice-entries.ensures.value)
+    (entries_numbered (seen c.self.inside) c.self.inside.entries.items c.self.inside.deltas.deltas
+    c.self.invariant.0)
+
+-- the place by the net of the history
+place : (c : After-sole_place)
+    → c.sole_place.result ≡ sole_at c.args.op (map tag_of (net_of c.self.inside.past.history))
+place c =
+    c.sole_place.ensures
+    ∙ (ap (λ (es : List Entry). sole_at c.args.op (tags_of c.self.inside.before es))
+    c.as_slice-entries.ensures.value
+    ∙ ap (λ (ts : List Tag). sole_at c.args.op ts) c.self.invariant.0.journal.tagged)
+
+pub returns-then-may_cancel-clause-back : goal.returns-then-may_cancel-clause-back
+returns-then-may_cancel-clause-back c =
+    let here = (goal.at.returns-then-may_cancel-clause-back c).After-sole_place in
+    rw (← c.self.view_is)
+    (cancel_sole (seen c.self.inside) c.args.cpu c.args.op c.sole_place.result c.self.invariant.0.history
+    (subst (λ (m : CourseValue). may_cancel m.layout m.state c.args.cpu c.args.op ≡ true) (sym c.self.view_is)
+    (sym c.may_cancel.ensures ∙ c.if-may_cancel.true)) (place here))
+
+pub returns-then-may_cancel-clause-step : goal.returns-then-may_cancel-clause-step
+returns-then-may_cancel-clause-step c =
+    let here = (goal.at.returns-then-may_cancel-clause-step c).After-sole_place in
+    rw (← c.self.view_is)
+    (cancel_other (seen c.self.inside) c.args.cpu c.args.op c.sole_place.result (place here))
+
+pub returns-else-may_cancel-clause-step : goal.returns-else-may_cancel-clause-step
+returns-else-may_cancel-clause-step c =
+    rw (← c.self.view_is) (cancel_refused (seen c.self.inside) c.args.cpu c.args.op c.self.invariant.0.history
+    (subst (λ (m : CourseValue). may_cancel m.layout m.state c.args.cpu c.args.op ≡ false)
+    (sym c.self.view_is) (sym c.may_cancel.ensures ∙ c.if-may_cancel.false)))
+
+pub returns-else-may_cancel-clause-back : goal.returns-else-may_cancel-clause-back
+returns-else-may_cancel-clause-back c = search rules

@@ -1,0 +1,60 @@
+//! What the proofs of a journal remember: the state that it began with, and its records.
+ghost use Rattle.std.specs.Prelude.{◌≡◌, List, [], ◌∷◌, ◌++◌};
+ghost use Rattle.std.specs.Borrow.{ftrue};
+ghost use Rattle.hp_units.specs.Memory.{Memory as State};
+ghost use Rattle.hp_units.specs.declared.replies.Record.{Record};
+
+use hp_memory::Memory;
+use hp_units::{Cpu, Event, Reply, Serial};
+use std::marker::Model;
+use std::mem::size_of;
+
+/// A base state and the records since, oldest first. It is for proofs alone: its methods do nothing
+/// when they run.
+#[derive(Drop)]
+pub(crate) struct Remembered {
+    pub(crate) ghost base: { State },
+    pub(crate) ghost history: { List Record },
+}
+
+/// It takes no bytes.
+const _: () = prove!(size_of::<Remembered>() == 0);
+
+impl Model for Remembered {
+    ghost also_owns = { λ _. ftrue };
+}
+
+// It owns nothing.
+unsafe impl Send for Remembered {}
+
+unsafe impl Sync for Remembered {}
+
+impl Remembered {
+    /// No records since a memory's state.
+    #[inline(always)]
+    pub(crate) fn start(memory: &Memory) -> Remembered
+        ensures { result ≡ record { base = memory.now.state; history = [] } }
+    {
+        Remembered {}
+    }
+
+    /// One record more.
+    #[inline(always)]
+    pub(crate) fn and(&self, serial: &Serial, cpu: &Cpu, event: &Event, reply: &Reply) -> Remembered
+        ensures { result ≡ record {
+          base = self.now.base;
+          history = self.now.history
+              ++ record { serial = serial.now; cpu = cpu.now; event = event.now; reply = reply.now } ∷ [];
+        } }
+    {
+        Remembered {}
+    }
+
+    /// The same once more.
+    #[inline(always)]
+    pub(crate) fn again(&self) -> Remembered
+        ensures { result ≡ self.now }
+    {
+        Remembered {}
+    }
+}
