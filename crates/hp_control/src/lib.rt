@@ -1,4 +1,4 @@
-//! The control files of memory hotplug: texts of a machine's state.
+//! The control files of memory hotplug: texts of the state of a machine, or of a memory alone.
 #![tactic(auto)]
 
 mod laws;
@@ -6,5 +6,5 @@ mod reads;
 mod zones;
 
 pub use laws::auto_is_written_back;
-pub use reads::{read_file, read_text};
+pub use reads::{read_file, read_text, text_in};
 pub use zones::buddyinfo;

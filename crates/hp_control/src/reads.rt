@@ -8,6 +8,7 @@ ghost use Rattle.std.specs.Fmt.{digits};
 
 use crate::zones::zones_text;
 use hp_machine::Machine;
+use hp_memory::Memory;
 use hp_requests::{BlockFile, ControlFault, File, file_at};
 use hp_units::{Block, Layout, Row, State, Zone};
 use std::alloc::{AllocError, Global};
@@ -34,29 +35,38 @@ pub fn read_file(alloc: Global, machine: &Machine, path: &str) -> Result<Vec<u8>
 }
 
 /// The text of the control file at a path, as [`read_file`] gives it, as a string. The errors are the same.
-#[tactic(auto, unfolding(crate::specs::Reads::file_text))]
 pub fn read_text(alloc: Global, machine: &Machine, path: &str) -> Result<String, ControlFault>
     ensures { Gives (λ text. string_bytes text) result
         (means.file_text machine.now.layout machine.now.state path.now) }
 {
+    text_in(alloc, machine.memory(), path)
+}
+
+/// The text of the control file at a path, as [`read_text`] gives it, from a memory that need not
+/// be a machine's. The errors are the same.
+#[tactic(auto, unfolding(crate::specs::Reads::file_text))]
+pub fn text_in(alloc: Global, memory: &Memory, path: &str) -> Result<String, ControlFault>
+    ensures { Gives (λ text. string_bytes text) result
+        (means.file_text memory.now.layout memory.now.state path.now) }
+{
     match file_at(path) {
-        Some(file) => text_of(alloc, machine, file),
+        Some(file) => text_of(alloc, memory, file),
         None => Err(ControlFault::NoFile),
     }
 }
 
 /// The text of a file.
 #[tactic(auto, unfolding(crate::specs::Reads::text_of))]
-fn text_of(alloc: Global, machine: &Machine, file: File) -> Result<String, ControlFault>
+fn text_of(alloc: Global, memory: &Memory, file: File) -> Result<String, ControlFault>
     ensures { Gives (λ text. string_bytes text) result
-        (means.text_of machine.now.layout machine.now.state file) }
+        (means.text_of memory.now.layout memory.now.state file) }
 {
     match file {
-        File::BlockSizeBytes => Ok(block_size_text(alloc, machine.layout())?),
-        File::Buddyinfo => Ok(zones_text(alloc, machine)?),
+        File::BlockSizeBytes => Ok(block_size_text(alloc, memory.layout())?),
+        File::Buddyinfo => Ok(zones_text(alloc, memory)?),
         File::Probe => Err(ControlFault::WriteOnly),
-        File::AutoOnlineBlocks => Ok(auto_line(alloc, machine)?),
-        File::OfBlock { block, file } => block_text(alloc, machine, block, file),
+        File::AutoOnlineBlocks => Ok(auto_line(alloc, memory)?),
+        File::OfBlock { block, file } => block_text(alloc, memory, block, file),
     }
 }
 
@@ -78,24 +88,24 @@ fn block_bytes(layout: &Layout) -> u64
 }
 
 /// What a block that is added becomes.
-fn auto_line(alloc: Global, machine: &Machine) -> Result<String, AllocError>
-    ensures { IfOk result (λ text. string_bytes text ≡ means.line (auto_text machine.now.state.blocks.auto)) }
+fn auto_line(alloc: Global, memory: &Memory) -> Result<String, AllocError>
+    ensures { IfOk result (λ text. string_bytes text ≡ means.line (auto_text memory.now.state.blocks.auto)) }
 {
-    let auto = machine.auto();
+    let auto = memory.auto();
     format!(in alloc; "{auto}\n")
 }
 
 /// The text of a file of a memory block.
 fn block_text(
     alloc: Global,
-    machine: &Machine,
+    memory: &Memory,
     block: Block,
     file: BlockFile,
 ) -> Result<String, ControlFault>
     ensures { Gives (λ text. string_bytes text) result (or_fault ControlFault.NoFile
-        (option_map means.line (means.word_at machine.now.state.blocks.rows block file))) }
+        (option_map means.line (means.word_at memory.now.state.blocks.rows block file))) }
 {
-    match word_at(machine, block, file) {
+    match word_at(memory, block, file) {
         Some(word) => Ok(line(alloc, word)?),
         None => Err(ControlFault::NoFile),
     }
@@ -109,10 +119,10 @@ fn line(alloc: Global, word: &str) -> Result<String, AllocError>
 }
 
 /// What a file of a memory block shows, where the block is there.
-fn word_at(machine: &Machine, block: Block, file: BlockFile) -> Option<&'static str>
-    ensures { option_map (λ word. word.now) result ≡ means.word_at machine.now.state.blocks.rows block file }
+fn word_at(memory: &Memory, block: Block, file: BlockFile) -> Option<&'static str>
+    ensures { option_map (λ word. word.now) result ≡ means.word_at memory.now.state.blocks.rows block file }
 {
-    match machine.row(block) {
+    match memory.row(block) {
         Some(row) => block_word(file, row),
         None => None,
     }

@@ -3,6 +3,7 @@ ghost use Rattle.std.specs.Prelude.{◌≡◌, ◌+◌, ◌++◌, IfOk, OnOk, st
 ghost use Rattle.hp_control.specs.Zones as means;
 
 use hp_machine::Machine;
+use hp_memory::Memory;
 use hp_units::{Class, Order, Zone};
 use std::alloc::{AllocError, Global};
 
@@ -13,41 +14,41 @@ pub fn buddyinfo(alloc: Global, machine: &Machine) -> Result<Vec<u8>, AllocError
     ensures { IfOk result
         (λ text. text.items ≡ means.buddyinfo_text machine.now.layout machine.now.state.free.areas) }
 {
-    let text = zones_text(alloc, machine)?;
+    let text = zones_text(alloc, machine.memory())?;
     Ok(text.into_bytes())
 }
 
 /// The line of each zone.
 #[tactic(auto, unfolding(crate::specs::Zones::buddyinfo_text))]
-pub(crate) fn zones_text(alloc: Global, machine: &Machine) -> Result<String, AllocError>
+pub(crate) fn zones_text(alloc: Global, memory: &Memory) -> Result<String, AllocError>
     ensures { IfOk result
-        (λ text. string_bytes text ≡ means.buddyinfo_text machine.now.layout machine.now.state.free.areas) }
+        (λ text. string_bytes text ≡ means.buddyinfo_text memory.now.layout memory.now.state.free.areas) }
 {
     let mut text = String::new(alloc);
-    write_zone(&mut text, machine, Zone::Normal)?;
-    write_zone(&mut text, machine, Zone::Movable)?;
+    write_zone(&mut text, memory, Zone::Normal)?;
+    write_zone(&mut text, memory, Zone::Movable)?;
     Ok(text)
 }
 
 /// One zone's line.
 #[tactic(auto, unfolding(crate::specs::Zones::zone_line))]
-fn write_zone(text: &mut String, machine: &Machine, zone: Zone) -> Result<(), AllocError>
+fn write_zone(text: &mut String, memory: &Memory, zone: Zone) -> Result<(), AllocError>
     ensures { OnOk result (string_bytes text.new
-        ≡ string_bytes text.old ++ means.zone_line machine.now.layout machine.now.state.free.areas zone) }
+        ≡ string_bytes text.old ++ means.zone_line memory.now.layout memory.now.state.free.areas zone) }
 {
     text.push_str(zone_head(zone))?;
-    write_counts(text, machine, zone)?;
+    write_counts(text, memory, zone)?;
     text.push('\n')?;
     Ok(())
 }
 
 /// The counts of the orders from 0 to the greatest.
-fn write_counts(text: &mut String, machine: &Machine, zone: Zone) -> Result<(), AllocError>
+fn write_counts(text: &mut String, memory: &Memory, zone: Zone) -> Result<(), AllocError>
     ensures { OnOk result (string_bytes text.new ≡ string_bytes text.old
-        ++ means.counts_below machine.now.state.free.areas zone (machine.now.layout.order + 1)) }
+        ++ means.counts_below memory.now.state.free.areas zone (memory.now.layout.order + 1)) }
 {
-    for order in 0..machine.layout().order() + 1 {
-        write_count(text, zone_count(machine, zone, Order(order)))?;
+    for order in 0..memory.layout().order() + 1 {
+        write_count(text, zone_count(memory, zone, Order(order)))?;
     }
     Ok(())
 }
@@ -71,10 +72,10 @@ fn zone_head(zone: Zone) -> &'static str
 }
 
 /// How many free blocks of 2^order frames a zone has, isolated ones too.
-fn zone_count(machine: &Machine, zone: Zone, order: Order) -> u64
-    ensures { result ≡ means.zone_count machine.now.state.free.areas zone order }
+fn zone_count(memory: &Memory, zone: Zone, order: Order) -> u64
+    ensures { result ≡ means.zone_count memory.now.state.free.areas zone order }
 {
-    let count = |class| u64::from(machine.list_len(class, order));
+    let count = |class| u64::from(memory.list_len(class, order));
     match zone {
         Zone::Normal => count(Class::Nu) + count(Class::Nm) + count(Class::IsoN),
         Zone::Movable => count(Class::Mm) + count(Class::IsoM),

@@ -126,7 +126,7 @@ at_boot m ok none =
     ∙ (no_records m.layout m.base m.history (omega (arith, none)) ∙ ok.boots (omega (arith, none)))
 
 -- a seal keeps it
-sealed_machine : (m new : MachineValue) → IsMachine m → new ≡ sealed m → IsMachine new
+pub sealed_machine : (m new : MachineValue) → IsMachine m → new ≡ sealed m → IsMachine new
 unfolding value_of net_of run
 sealed_machine m new ok is =
     rw is (record {

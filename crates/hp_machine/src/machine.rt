@@ -17,6 +17,7 @@ use hp_blocks::Blocks;
 use hp_buddy::Buddy;
 use hp_cpus::Cpus;
 use hp_history::{Course, Volume};
+use hp_memory::Memory;
 use hp_pages::Pages;
 use hp_plain::Image;
 use hp_tape::Delta;
@@ -198,6 +199,13 @@ impl Machine {
             (λ image. image ≡ record { layout = self.now.layout; memory = self.now.state }) }
     {
         self.course.image(alloc)
+    }
+
+    /// The present state, in layers.
+    pub fn memory(&self) -> &Memory
+        ensures { result.now ≡ record { layout = self.now.layout; state = self.now.state } }
+    {
+        self.course.memory()
     }
 
     /// The front block of the free list of a class and an order (Gorman, chapter 6: free_area).

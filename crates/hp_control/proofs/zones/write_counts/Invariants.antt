@@ -6,4 +6,4 @@ use Rattle.hp_control.proofs.zones.write_counts.Given as goal
 abbrev pub invariant-loop-order : goal.invariant-loop-order
 invariant-loop-order l =
     string_bytes l.text
-    ≡ string_bytes l.fn.text ++ means.counts_below l.machine.state.free.areas l.zone l.order
+    ≡ string_bytes l.fn.text ++ means.counts_below l.memory.state.free.areas l.zone l.order

@@ -1,6 +1,6 @@
 use Rattle.std.proofs.Common.{rules}
 use Rattle.hp_control.specs.Reads.{file_text}
-use Rattle.hp_control.proofs.reads.read_text.Goals as goal
+use Rattle.hp_control.proofs.reads.text_in.Goals as goal
 
 pub returns-in-Some : goal.returns-in-Some
 unfolding file_text

@@ -1,0 +1,43 @@
+use Rattle.std.proofs.Common.{ℕ, refl, rules}
+use Rattle.hp_history.specs.Course.{receipt_for}
+use Rattle.hp_machine.specs.Names.{Reply}
+use Rattle.hp_machine.proofs.MachineCalls.{called_is_given, called_once, cause_of}
+use Rattle.hp_machine.proofs.unrecorded_port.UnrecordedPortPort.call.Goals as goal
+
+pub returns-in-Ok-clause-ok : goal.returns-in-Ok-clause-ok
+returns-in-Ok-clause-ok c =
+    let answer : ℕ × Reply = (c.in-Ok.field-0-0, c.in-Ok.reply) in
+    record {
+      receipt = receipt_for c.args.event.now answer;
+      replied = refl;
+      given =
+          called_is_given c.args.self.now.machine.now c.answer.new.self c.args.self.now.cpu c.args.event.now
+          (receipt_for c.args.event.now answer) c.args.self.now.fault c.in-Ok.ensures.ok;
+      made = (
+        search rules,
+        search rules,
+        called_once c.args.self.now.machine.now c.answer.new.self c.args.self.now.cpu
+            c.args.event.now (receipt_for c.args.event.now answer) answer c.in-Ok.ensures.full
+            c.in-Ok.ensures.ok,
+      );
+    }
+
+pub returns-in-Err-clause-leaves : goal.returns-in-Err-clause-leaves
+returns-in-Err-clause-leaves c = (
+  search rules,
+  search rules,
+  c.in-Err.ensures.err,
+  cause_of c.args.self.now.machine.now c.in-Err.fault c.in-Err.ensures.full,
+)
+
+pub returns-in-Ok-clause-err : goal.returns-in-Ok-clause-err
+returns-in-Ok-clause-err c = search rules
+
+pub returns-in-Ok-clause-leaves : goal.returns-in-Ok-clause-leaves
+returns-in-Ok-clause-leaves c = search rules
+
+pub returns-in-Err-clause-ok : goal.returns-in-Err-clause-ok
+returns-in-Err-clause-ok c = search rules
+
+pub returns-in-Err-clause-err : goal.returns-in-Err-clause-err
+returns-in-Err-clause-err c = search rules

@@ -1,0 +1,111 @@
+//! A machine that keeps no records.
+ghost use Rattle.std.specs.Prelude.{◌≡◌, ◌↔◌, Err, IfOk, OnErr, IsTrue, length};
+ghost use Rattle.hp_history.specs.Course.{receipt_for};
+ghost use Rattle.hp_machine.specs.Machine.{IsCalled, booted, is_full, sealed};
+
+use hp_history::Journal;
+use hp_memory::Memory;
+use hp_plain::Image;
+use hp_units::{CallFault, Cpu, Event, Layout, Reply, Serial};
+use std::alloc::{AllocError, Global};
+use std::marker::Model;
+
+/// A machine whose records nobody reads (own rule): a journal whose history has the layout's limit.
+/// It answers each call as a `Machine` does, and its value is a machine's, with the base and the
+/// records; they are a matter of its proofs alone, and take no bytes.
+#[derive(Drop)]
+pub struct UnrecordedMachine {
+    journal: Journal,
+}
+
+impl Model for UnrecordedMachine {
+    ghost use Rattle.hp_machine.specs.Kept.{IsMachine};
+    ghost use Rattle.hp_machine.specs.Machine.{MachineValue};
+
+    ghost Value = { MachineValue };
+
+    ghost view = { λ m. m.journal };
+
+    ghost invariant = { λ m. IsMachine m.journal };
+}
+
+impl UnrecordedMachine {
+    /// The machine of a layout at its start: no records, and the state at boot. An error is out of memory.
+    pub fn boot(alloc: Global, layout: &Layout) -> Result<UnrecordedMachine, AllocError>
+        ensures { IfOk result (λ machine. machine ≡ booted layout.now) }
+    {
+        let journal = Journal::boot(alloc, layout)?;
+        Ok(UnrecordedMachine { journal })
+    }
+
+    /// One call: the event of a processor is answered, with the serial of its record and the reply
+    /// (own rule). It answers `HistoryFull` where the history holds its limit of records or the
+    /// last serial is 2^64 - 1, and otherwise `OutOfMemory` where it is out of memory; then all is
+    /// as before.
+    pub fn answer(
+        &mut self,
+        alloc: Global,
+        cpu: Cpu,
+        event: &Event,
+    ) -> Result<(Serial, Reply), CallFault>
+        ensures full { (result ≡ Err CallFault.HistoryFull) ↔ IsTrue (is_full self.old) }
+        ensures err { OnErr result (self.new ≡ self.old) }
+        ensures ok { IfOk result
+            (λ answer. IsCalled self.old cpu event.now (receipt_for event.now answer) self.new) }
+    {
+        if self.is_full() {
+            return Err(CallFault::HistoryFull);
+        }
+        match self.journal.answer(alloc, cpu, event) {
+            Ok(answer) => Ok(answer),
+            Err(AllocError) => Err(CallFault::OutOfMemory),
+        }
+    }
+
+    /// Makes room for so many further steps, so that they need not be moved as more come. An error
+    /// is out of memory; the machine is as before, with or without it.
+    pub fn reserve(&mut self, steps: usize) -> Result<(), AllocError>
+        ensures { self.new ≡ self.old }
+    {
+        self.journal.reserve(steps)
+    }
+
+    /// Goes on without the records, and answers how many there were: the present state becomes the
+    /// base, and no step from before can be undone (own rule). It makes no record, and takes no
+    /// memory.
+    pub fn seal(&mut self) -> u64
+        ensures count { result ≡ length self.old.history }
+        ensures goes_on { self.new ≡ sealed self.old }
+    {
+        self.journal.seal()
+    }
+
+    /// The layout.
+    pub fn layout(&self) -> &Layout
+        ensures { result.now ≡ self.now.layout }
+    {
+        self.journal.memory().layout()
+    }
+
+    /// The present state, in layers.
+    pub fn memory(&self) -> &Memory
+        ensures { result.now ≡ record { layout = self.now.layout; state = self.now.state } }
+    {
+        self.journal.memory()
+    }
+
+    /// The present state, as an `Image` of its own. An error is out of memory.
+    pub fn image(&self, alloc: Global) -> Result<Image, AllocError>
+        ensures { IfOk result
+            (λ image. image ≡ record { layout = self.now.layout; memory = self.now.state }) }
+    {
+        self.journal.image(alloc)
+    }
+
+    /// Whether there is no room for a further record.
+    fn is_full(&self) -> bool
+        ensures { result ≡ is_full self.now }
+    {
+        self.journal.len() >= self.journal.memory().layout().history() || self.journal.is_spent()
+    }
+}
