@@ -3,8 +3,7 @@ use crate::checksum::mix;
 use anyhow::{Result, anyhow};
 use hp_history::Volume;
 use hp_machine::Machine;
-use hp_requests::Request;
-use hp_scenario::{Line, Lines, Work};
+use hp_scenario::{Asked, Line, Lines};
 use hp_units::{Cpu, Event, Layout};
 use std::alloc::{AllocError, Global};
 use std::time::{Duration, Instant};
@@ -134,21 +133,13 @@ pub fn calls_of(alloc: Global, lines: Lines) -> Result<Vec<Call>> {
     Ok(calls)
 }
 
-/// The call of a line that asks for one event.
+/// The call of a line that asks for one event, maybe by a control file.
 fn call_of(alloc: Global, line: Line) -> Result<Call> {
-    let Line { cpu, work } = line;
-    let event = event_of(alloc, work)?;
-    Ok(Call { cpu, event })
-}
-
-/// The one event that a line asks for, maybe by a control file.
-fn event_of(alloc: Global, work: Work) -> Result<Event> {
-    match work {
-        Work::Event(event) => Ok(event),
-        Work::Echo(echo) => match echo.request() {
-            Ok(Request::Event(event)) => Ok(event.copy(alloc)?),
-            _ => Err(anyhow!("an echo asks for no event")),
-        },
+    match line.work.asked() {
+        Asked::Event(event) => Ok(Call {
+            cpu: line.cpu,
+            event: event.copy(alloc)?,
+        }),
         _ => Err(anyhow!("a line asks for no event")),
     }
 }

@@ -1,19 +1,15 @@
 -- The warnings of lines, one line more after another.
-use Rattle.std.proofs.Common.{◌≡◌, ℕ, ◌+◌, ◌<◌, ◌≤◌, List, [], ◌∷◌, ◌++◌, length, get_or, slice_get, take, Result, Ok, Err, refl, sym, ap, ◌∙◌, arith}
+use Rattle.std.proofs.Common.{◌≡◌, ℕ, ◌+◌, ◌<◌, ◌≤◌, List, [], ◌∷◌, ◌++◌, length, get_or, slice_get, take, refl, sym, ap, ◌∙◌, arith}
 use Rattle.std.specs.Bool.{nat_lt}
 use Rattle.std.proofs.lemmas.List.{take_more}
 use Rattle.std.proofs.lemmas.List.Sums.{fold_push}
 use Rattle.std.proofs.lemmas.Option.{slice_get_read}
 use Rattle.hp_units.specs.LayoutParts.{LayoutParts}
-use Rattle.hp_requests.specs.declared.fault.ControlFault.{ControlFault}
-use Rattle.hp_requests.specs.declared.writes.Request.{Request}
-use Rattle.hp_requests.specs.declared.writes.Request.TheVariants as request
-use Rattle.hp_requests.specs.Writes.{echo_request}
+use Rattle.hp_scenario.specs.Asked as asks
 use Rattle.hp_scenario.specs.declared.lines.Line.{Line}
 use Rattle.hp_scenario.specs.declared.lines.Work.{Work}
-use Rattle.hp_scenario.specs.declared.lines.Work.TheVariants as work
 use Rattle.hp_check.specs.Each.{each_below}
-use Rattle.hp_check.specs.Tally.{TallyValue, after_line, after_request, after_work, no_lines, tally_of}
+use Rattle.hp_check.specs.Tally.{TallyValue, after_asked, after_line, no_lines, tally_of}
 use Rattle.hp_check.specs.Warnings.{line_warning, warned, warned_at}
 use Rattle.hp_check.specs.declared.finding.Finding.{Finding}
 use Rattle.hp_check.proofs.Each.{each_more, each_none}
@@ -41,28 +37,24 @@ one_warned l setup lines i line t old found new lt at tallied so_far more =
     (warned (i + 1) (line_warning l t (nat_lt i setup) line)) so_far more here
 
 pub one_tallied : (lines : List Line) (i : ℕ) (line : Line) (t after : TallyValue) → i < length lines
-    → line ≡ get_or lines i line → t ≡ tally_of (take i lines) → after ≡ after_work t line.work
+    → line ≡ get_or lines i line → t ≡ tally_of (take i lines)
+    → after ≡ after_asked t (asks.asked_by line.work)
     → after ≡ tally_of (take (i + 1) lines)
 one_tallied lines i line t after lt at so_far is =
     is ∙ ap (λ (u : TallyValue). after_line u line) so_far
     ∙ sym (ap tally_of (take_more lines i line lt ∙ ap (λ (x : Line). take i lines ++ x ∷ []) (sym at))
     ∙ fold_push after_line no_lines (take i lines) line)
 
-request_used : (t : TallyValue) (r : Result Request ControlFault) → (after_request t r).used ≤ t.used + 1
-request_used t (Ok (request.Event e)) = omega arith
-request_used t (Ok (request.Plan plan)) = omega arith
-request_used t (Err fault) = omega arith
-
 -- a line makes at least one record or none
-pub work_used : (t : TallyValue) (w : Work) → (after_work t w).used ≤ t.used + 1
-work_used t (work.Event e) = omega arith
-work_used t (work.Plan plan turns) = omega arith
-work_used t (work.Echo echo) = request_used t (echo_request echo.path echo.word)
-work_used t (work.Cat path) = omega arith
-work_used t work.Seal = omega arith
+asked_used : (t : TallyValue) (m : asks.Meaning) → (after_asked t m).used ≤ t.used + 1
+asked_used t (asks.event e) = omega arith
+asked_used t (asks.plan items turns) = omega arith
+asked_used t (asks.not_taken fault) = omega arith
+asked_used t (asks.cat path) = omega arith
+asked_used t asks.seal = omega arith
 
-pub used_more : (t after : TallyValue) (w : Work) (i : ℕ) → t.used ≤ i → after ≡ after_work t w
-    → after.used ≤ i + 1
+pub used_more : (t after : TallyValue) (w : Work) (i : ℕ) → t.used ≤ i
+    → after ≡ after_asked t (asks.asked_by w) → after.used ≤ i + 1
 used_more t after w i so_far is =
-    let used : after.used ≡ (after_work t w).used = ap (λ (u : TallyValue). u.used) is in
-    omega (arith, so_far, used, work_used t w)
+    let used : after.used ≡ (after_asked t (asks.asked_by w)).used = ap (λ (u : TallyValue). u.used) is in
+    omega (arith, so_far, used, asked_used t (asks.asked_by w))

@@ -1,13 +1,8 @@
 -- What the lines before a line make of the serials and of the history (own rule).
-use Rattle.std.specs.Prelude.{ℕ, ◌+◌, ◌-◌, ◌==◌, Bool, true, false, List, [], ◌∷◌, ◌++◌, fold, Option, Some, None, Result, Ok, Err, slice_get, if◌then◌else◌}
+use Rattle.std.specs.Prelude.{ℕ, ◌+◌, ◌-◌, ◌==◌, Bool, true, false, List, [], ◌∷◌, ◌++◌, fold, Option, Some, None, slice_get, if◌then◌else◌}
 use Rattle.hp_units.specs.Marks.{is_opening, mark_of}
-use Rattle.hp_requests.specs.declared.fault.ControlFault.{ControlFault}
-use Rattle.hp_requests.specs.declared.writes.Request.{Request}
-use Rattle.hp_requests.specs.declared.writes.Request.TheVariants as request
-use Rattle.hp_requests.specs.Writes.{echo_request}
+use Rattle.hp_scenario.specs.Asked as asks
 use Rattle.hp_scenario.specs.declared.lines.Line.{Line}
-use Rattle.hp_scenario.specs.declared.lines.Work.{Work}
-use Rattle.hp_scenario.specs.declared.lines.Work.TheVariants as work
 
 -- which of the records begin an operation, up to the first plan; whether there was a plan, of which
 -- nobody knows how many records it makes; and how many records there are since the last seal, one
@@ -36,22 +31,16 @@ after_plan t = record { begins = t.begins; has_plan = true; used = t.used + 1 }
 abbrev pub after_seal : TallyValue → TallyValue
 after_seal t = record { begins = t.begins; has_plan = t.has_plan; used = 0 }
 
--- a text that a control file does not take makes no record
-abbrev pub after_request : TallyValue → Result Request ControlFault → TallyValue
-after_request t (Ok (request.Event e)) = after_record t (is_opening (mark_of e))
-after_request t (Ok (request.Plan plan)) = after_plan t
-after_request t (Err fault) = t
-
--- a line more
-abbrev pub after_work : TallyValue → Work → TallyValue
-after_work t (work.Event e) = after_record t (is_opening (mark_of e))
-after_work t (work.Plan plan turns) = after_plan t
-after_work t (work.Echo echo) = after_request t (echo_request echo.path echo.word)
-after_work t (work.Cat path) = t
-after_work t work.Seal = after_seal t
+-- what a line asks for more; a text that a control file does not take makes no record
+abbrev pub after_asked : TallyValue → asks.Meaning → TallyValue
+after_asked t (asks.event e) = after_record t (is_opening (mark_of e))
+after_asked t (asks.plan items turns) = after_plan t
+after_asked t (asks.not_taken fault) = t
+after_asked t (asks.cat path) = t
+after_asked t asks.seal = after_seal t
 
 abbrev pub after_line : TallyValue → Line → TallyValue
-after_line t line = after_work t line.work
+after_line t line = after_asked t (asks.asked_by line.work)
 
 -- what lines make, one after another
 abbrev pub tally_of : List Line → TallyValue

@@ -3,6 +3,7 @@ use Rattle.std.specs.Prelude.{ℕ, ◌-◌, ◌==◌, Bool, not, List, [], ◌�
 use Rattle.std.specs.Fmt.{decimal}
 use Rattle.std.specs.List.{flat_map}
 use Rattle.hp_requests.specs.FaultName.{fault_name}
+use Rattle.hp_scenario.specs.Unfit.{unfit_text}
 use Rattle.hp_check.specs.Expected.{expected}
 use Rattle.hp_check.specs.Findings.{is_fault, key_name, keys_of}
 use Rattle.hp_check.specs.Hints.{hint_text}
@@ -18,8 +19,6 @@ use Rattle.hp_check.specs.declared.finding.Place.{Place}
 use Rattle.hp_check.specs.declared.finding.Place.TheVariants as place
 use Rattle.hp_check.specs.declared.finding.Shape.{Shape}
 use Rattle.hp_check.specs.declared.finding.Shape.TheVariants.{NotObject, KeyCount, UnknownKey, MissingKey, NotNumber, NotList, NotBoot, NotText}
-use Rattle.hp_check.specs.declared.finding.Unfit.{Unfit}
-use Rattle.hp_check.specs.declared.finding.Unfit.TheVariants as unfit
 use Rattle.hp_check.specs.declared.finding.Warning.{Warning}
 use Rattle.hp_check.specs.declared.finding.Warning.TheVariants as warning
 use Rattle.hp_check.specs.declared.finding.What.{What}
@@ -98,14 +97,6 @@ past_text w number count =
     codes "warning: " ++ what_text w ++ numbers_text (codes " ") number
     (codes " is past the layout, which has ") count (codes ", counted from 0")
 
-abbrev pub unfit_text : Unfit → List ℕ
-unfit_text unfit.Processor =
-    codes "warning: not for a script: its processor is not in the layout" ++ newline
-unfit_text unfit.Cat = codes "warning: not for a script: cat makes no call" ++ newline
-unfit_text unfit.Seal = codes "warning: not for a script: seal makes no call" ++ newline
-unfit_text (unfit.Echo fault) =
-    codes "warning: not for a script: echo: fault " ++ fault_name fault ++ newline
-
 abbrev pub warning_text : Warning → List ℕ
 warning_text (warning.Past w number count) = past_text w number count
 warning_text (warning.NoBegin op) = number_text (codes "warning: no line before begins operation ") op []
@@ -116,7 +107,7 @@ warning_text (warning.Full history) =
     number_text (codes "warning: the lines before fill the history of ") history (codes " records")
 warning_text (warning.Echo fault) = codes "warning: echo: fault " ++ fault_name fault ++ newline
 warning_text warning.NoFile = codes "warning: cat: fault NoFile" ++ newline
-warning_text (warning.NotForScript why) = unfit_text why
+warning_text (warning.NotForScript why) = codes "warning: not for a script: " ++ unfit_text why ++ newline
 
 abbrev pub key_count_text : Place → (count : ℕ) → List ℕ
 key_count_text p n =

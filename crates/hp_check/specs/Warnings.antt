@@ -1,5 +1,5 @@
 -- When a line hardly does what is wanted (own rule): the first that applies.
-use Rattle.std.specs.Prelude.{ℕ, ◌+◌, ◌==◌, not, Bool, List, [], ◌∷◌, length, find, take, Option, Some, None, Result, Ok, Err, nat_lt, nat_le, slice_get, is_some, if◌then◌else◌}
+use Rattle.std.specs.Prelude.{ℕ, ◌+◌, ◌==◌, not, Bool, List, [], ◌∷◌, length, find, take, Option, Some, None, nat_lt, nat_le, slice_get, is_some, if◌then◌else◌}
 use Rattle.std.specs.Bool.{then_some}
 use Rattle.std.specs.Option.{option_map, option_or}
 use Rattle.hp_units.specs.Arithmetic.{frame_count}
@@ -7,11 +7,8 @@ use Rattle.hp_units.specs.LayoutParts.{LayoutParts}
 use Rattle.hp_units.specs.declared.events.Event.{Event}
 use Rattle.hp_units.specs.declared.events.Event.TheVariants as event
 use Rattle.hp_units.specs.declared.plans.Item.{Item}
-use Rattle.hp_requests.specs.declared.fault.ControlFault.{ControlFault}
-use Rattle.hp_requests.specs.declared.writes.Request.{Request}
-use Rattle.hp_requests.specs.declared.writes.Request.TheVariants as request
 use Rattle.hp_requests.specs.Files.{file_at}
-use Rattle.hp_requests.specs.Writes.{echo_request}
+use Rattle.hp_scenario.specs.Asked as asks
 use Rattle.hp_scenario.specs.declared.lines.Line.{Line}
 use Rattle.hp_scenario.specs.declared.lines.Work.{Work}
 use Rattle.hp_scenario.specs.declared.lines.Work.TheVariants as work
@@ -88,26 +85,27 @@ call_warning l t cpu e = option_or (caller_warning l t cpu) (event_warning l t e
 abbrev pub carried_warning : LayoutParts → TallyValue → (cpu : ℕ) → List Item → Option Warning
 carried_warning l t cpu plan = option_or (caller_warning l t cpu) (plan_past l plan)
 
--- what a control file is asked for; a fault is a warning itself
-abbrev pub request_warning : LayoutParts → TallyValue → (cpu : ℕ) → Result Request ControlFault
-    → Option Warning
-request_warning l t cpu (Ok (request.Event e)) = call_warning l t cpu e
-request_warning l t cpu (Ok (request.Plan plan)) = carried_warning l t cpu plan
-request_warning l t cpu (Err fault) = Some (Echo fault)
-
 -- there is no control file at a path that is read
 abbrev pub cat_warning : (path : List ℕ) → Option Warning
 cat_warning path = then_some (not (is_some (file_at path))) NoFile
 
 -- ---- lines
 
+-- what a line asks for; that a control file does not take a text is a warning itself
+abbrev pub asked_warning : LayoutParts → TallyValue → (cpu : ℕ) → asks.Meaning → Option Warning
+asked_warning l t cpu (asks.event e) = call_warning l t cpu e
+asked_warning l t cpu (asks.plan items turns) = carried_warning l t cpu items
+asked_warning l t cpu (asks.not_taken fault) = Some (Echo fault)
+asked_warning l t cpu (asks.cat path) = cat_warning path
+asked_warning l t cpu asks.seal = None
+
+-- the turns that a line names; those of a control file's plan are nobody's choice
+abbrev pub turns_warning : LayoutParts → Work → Option Warning
+turns_warning l (work.Plan plan turns) = too_many_turns l turns
+turns_warning l w = None
+
 abbrev pub work_warning : LayoutParts → TallyValue → (cpu : ℕ) → Work → Option Warning
-work_warning l t cpu (work.Event e) = call_warning l t cpu e
-work_warning l t cpu (work.Plan plan turns) =
-    option_or (carried_warning l t cpu plan) (too_many_turns l turns)
-work_warning l t cpu (work.Echo echo) = request_warning l t cpu (echo_request echo.path echo.word)
-work_warning l t cpu (work.Cat path) = cat_warning path
-work_warning l t cpu work.Seal = None
+work_warning l t cpu w = option_or (asked_warning l t cpu (asks.asked_by w)) (turns_warning l w)
 
 -- the warning of a line, after what the lines before it make; the lines after the setup stand in scripts
 abbrev pub line_warning : LayoutParts → TallyValue → (is_setup : Bool) → Line → Option Warning

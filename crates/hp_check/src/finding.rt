@@ -3,6 +3,7 @@ ghost use Rattle.std.specs.Prelude.{◌≡◌};
 ghost use Rattle.hp_check.specs.Findings.{is_fault, key_name, key_quoted};
 
 use hp_requests::ControlFault;
+use hp_scenario::Unfit;
 use hp_units::{Serial, Text};
 
 /// One thing that is wrong with a scenario, or that is likely to be. Texts of `calls` are counted from 1.
@@ -197,19 +198,6 @@ pub enum What {
     Frame,
     /// Memory blocks.
     Block,
-}
-
-/// Why a line makes no call, and so cannot stand in a script.
-#[derive(Clone, Copy, Drop)]
-pub enum Unfit {
-    /// Its processor is not in the layout.
-    Processor,
-    /// It reads a control file.
-    Cat,
-    /// It seals.
-    Seal,
-    /// It writes to a control file what that does not take.
-    Echo(ControlFault),
 }
 
 /// Why a line hardly does what is wanted.

@@ -27,6 +27,6 @@ mod unfit;
 mod warnings;
 
 pub use checking::{check, fault_count};
-pub use finding::{Finding, Hint, Key, OutOfRange, Place, Shape, Unfit, Warning, What};
+pub use finding::{Finding, Hint, Key, OutOfRange, Place, Shape, Warning, What};
 pub use laws::first_findings_agree;
 pub use report::write_report;

@@ -7,11 +7,12 @@ ghost use Rattle.hp_check.specs.Texts as says;
 
 use crate::checking::fault_count;
 use crate::expected::write_expected;
-use crate::finding::{Finding, Hint, Key, OutOfRange, Place, Shape, Unfit, Warning, What};
+use crate::finding::{Finding, Hint, Key, OutOfRange, Place, Shape, Warning, What};
 use crate::quotes::write_quoted;
 use crate::shape::keys_of;
 use hp_call_lines::call_lines;
 use hp_requests::ControlFault;
+use hp_scenario::Unfit;
 use std::alloc::{AllocError, Global};
 
 /// Writes findings on a scenario, one a line, and how many faults and warnings there are (own
@@ -349,15 +350,8 @@ fn write_echo_fault(out: &mut String, fault: ControlFault) -> Result<(), AllocEr
 
 /// Writes why a line cannot stand in a script.
 fn write_unfit(out: &mut String, why: Unfit) -> Result<(), AllocError>
-    ensures { OnOk result (string_bytes out.new ≡ string_bytes out.old ++ says.unfit_text why) }
+    ensures { OnOk result
+        (string_bytes out.new ≡ string_bytes out.old ++ says.warning_text (Warning.NotForScript why)) }
 {
-    match why {
-        Unfit::Processor => write_line(
-            out,
-            "warning: not for a script: its processor is not in the layout",
-        ),
-        Unfit::Cat => write_line(out, "warning: not for a script: cat makes no call"),
-        Unfit::Seal => write_line(out, "warning: not for a script: seal makes no call"),
-        Unfit::Echo(fault) => writeln!(out, "warning: not for a script: echo: fault {fault}"),
-    }
+    writeln!(out, "warning: not for a script: {why}")
 }

@@ -1,9 +1,9 @@
 //! What the lines before a line make of the serials and of the history.
 ghost use Rattle.std.specs.Prelude.{◌≡◌, ◌+◌, ◌^◌, ◌<◌, OnOk, slice_get};
+ghost use Rattle.hp_scenario.specs.Asked.{asked_by};
 ghost use Rattle.hp_check.specs.Tally as means;
 
-use hp_requests::{ControlFault, Request};
-use hp_scenario::Work;
+use hp_scenario::{Asked, Work};
 use hp_units::{Serial, mark_of};
 use std::alloc::{AllocError, Global};
 use std::marker::Model;
@@ -39,35 +39,20 @@ impl Tally {
     /// Adds a line. An error is out of memory.
     pub(crate) fn add(&mut self, work: &Work) -> Result<(), AllocError>
         requires { self.old.used + 1 < 2 ^ 64 }
-        ensures { OnOk result (self.new ≡ means.after_work self.old work.now) }
+        ensures { OnOk result (self.new ≡ means.after_asked self.old (asked_by work.now)) }
     {
-        match work {
-            Work::Event(event) => self.add_record(mark_of(event).is_opening()),
-            Work::Plan { plan: _, turns: _ } => {
+        match work.asked() {
+            Asked::Event(event) => self.add_record(mark_of(event).is_opening()),
+            Asked::Plan { plan: _, turns: _ } => {
                 self.add_plan();
                 Ok(())
             }
-            Work::Echo(echo) => self.add_request(echo.request()),
-            Work::Cat { path: _ } => Ok(()),
-            Work::Seal => {
+            Asked::NotTaken(_fault) => Ok(()),
+            Asked::Cat { path: _ } => Ok(()),
+            Asked::Seal => {
                 self.used = 0;
                 Ok(())
             }
-        }
-    }
-
-    /// Adds what a control file was asked for, if it takes the word. An error is out of memory.
-    fn add_request(&mut self, request: &Result<Request, ControlFault>) -> Result<(), AllocError>
-        requires { self.old.used + 1 < 2 ^ 64 }
-        ensures { OnOk result (self.new ≡ means.after_request self.old request.now) }
-    {
-        match request {
-            Ok(Request::Event(event)) => self.add_record(mark_of(event).is_opening()),
-            Ok(Request::Plan(_plan)) => {
-                self.add_plan();
-                Ok(())
-            }
-            Err(_fault) => Ok(()),
         }
     }
 

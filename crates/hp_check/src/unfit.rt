@@ -2,43 +2,16 @@
 ghost use Rattle.std.specs.Prelude.{◌≡◌};
 ghost use Rattle.hp_check.specs.Unfit as means;
 
-use crate::finding::{Unfit, Warning};
-use hp_requests::{ControlFault, Request};
-use hp_scenario::{Line, Work};
+use crate::finding::Warning;
+use hp_scenario::Line;
 
 /// The warning that a line cannot stand in a script, with so many processors.
 pub(crate) fn unfit_warning(cpus: u32, line: &Line) -> Option<Warning>
     ensures { result ≡ means.unfit_warning cpus line.now }
 {
-    match unfit(cpus, line) {
+    match line.unfit(cpus) {
         Some(why) => Some(Warning::NotForScript(why)),
         None => None,
-    }
-}
-
-/// Why a line cannot stand in a script; none where it can.
-fn unfit(cpus: u32, line: &Line) -> Option<Unfit>
-    ensures { result ≡ means.unfit cpus line.now }
-{
-    if line.cpu.0 >= cpus {
-        return Some(Unfit::Processor);
-    }
-    match &line.work {
-        Work::Event(_event) => None,
-        Work::Plan { plan: _, turns: _ } => None,
-        Work::Echo(echo) => untaken(echo.request()),
-        Work::Cat { path: _ } => Some(Unfit::Cat),
-        Work::Seal => Some(Unfit::Seal),
-    }
-}
-
-/// Why a control file does not take what it was asked for; none where it does.
-fn untaken(request: &Result<Request, ControlFault>) -> Option<Unfit>
-    ensures { result ≡ means.untaken request.now }
-{
-    match request {
-        Ok(_request) => None,
-        Err(fault) => Some(Unfit::Echo(*fault)),
     }
 }
 

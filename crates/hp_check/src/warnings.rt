@@ -1,12 +1,13 @@
 //! Lines that hardly do what is wanted.
 ghost use Rattle.std.specs.Prelude.{◌≡◌, ◌++◌, OnOk};
+ghost use Rattle.hp_scenario.specs.Asked.{asked_by};
 ghost use Rattle.hp_check.specs.Warnings as means;
 
 use crate::finding::{Finding, Warning, What};
 use crate::tally::Tally;
 use crate::unfit::{unfit_warning, unless_last};
-use hp_requests::{ControlFault, Request, file_at};
-use hp_scenario::{Line, Work};
+use hp_requests::file_at;
+use hp_scenario::{Asked, Line, Work};
 use hp_units::{Block, Cpu, Event, Layout, Owner, Page, Plan, Serial};
 use std::alloc::{AllocError, Global};
 
@@ -58,34 +59,33 @@ fn push_warning(
     Ok(())
 }
 
-/// The warning of what a line asks for, if there is one.
+/// The warning of a line's work, if there is one.
 fn work_warning(layout: &Layout, tally: &Tally, cpu: Cpu, work: &Work) -> Option<Warning>
     ensures { result ≡ means.work_warning layout.now tally.now cpu work.now }
 {
-    match work {
-        Work::Event(event) => call_warning(layout, tally, cpu, event),
-        Work::Plan { plan, turns } => {
-            carried_warning(layout, tally, cpu, plan).or(too_many_turns(layout, *turns))
-        }
-        Work::Echo(echo) => request_warning(layout, tally, cpu, echo.request()),
-        Work::Cat { path } => cat_warning(path.as_str()),
-        Work::Seal => None,
+    asked_warning(layout, tally, cpu, work).or(turns_warning(layout, work))
+}
+
+/// The warning of what a line asks for, if there is one.
+fn asked_warning(layout: &Layout, tally: &Tally, cpu: Cpu, work: &Work) -> Option<Warning>
+    ensures { result ≡ means.asked_warning layout.now tally.now cpu (asked_by work.now) }
+{
+    match work.asked() {
+        Asked::Event(event) => call_warning(layout, tally, cpu, event),
+        Asked::Plan { plan, turns: _ } => carried_warning(layout, tally, cpu, plan),
+        Asked::NotTaken(fault) => Some(Warning::Echo(fault)),
+        Asked::Cat { path } => cat_warning(path),
+        Asked::Seal => None,
     }
 }
 
-/// The warning of what a control file was asked for, if there is one.
-fn request_warning(
-    layout: &Layout,
-    tally: &Tally,
-    cpu: Cpu,
-    request: &Result<Request, ControlFault>,
-) -> Option<Warning>
-    ensures { result ≡ means.request_warning layout.now tally.now cpu request.now }
+/// The warning of the turns that a line names for its plan, if there is one.
+fn turns_warning(layout: &Layout, work: &Work) -> Option<Warning>
+    ensures { result ≡ means.turns_warning layout.now work.now }
 {
-    match request {
-        Ok(Request::Event(event)) => call_warning(layout, tally, cpu, event),
-        Ok(Request::Plan(plan)) => carried_warning(layout, tally, cpu, plan),
-        Err(fault) => Some(Warning::Echo(*fault)),
+    match work {
+        Work::Plan { plan: _, turns } => too_many_turns(layout, *turns),
+        _ => None,
     }
 }
 

@@ -5,6 +5,7 @@ use Rattle.std.proofs.lemmas.Option.{slice_get_read}
 use Rattle.hp_units.specs.LayoutParts.{LayoutParts}
 use Rattle.hp_machine.specs.Machine.{MachineValue, booted}
 use Rattle.hp_scenario.specs.declared.lines.Line.{Line}
+use Rattle.hp_scenario.specs.declared.unfit.Unfit.{Unfit}
 use Rattle.hp_scenario.specs.Scenario.{ScenarioValue, scenario_in}
 use Rattle.hp_scenario.specs.Seen.{scenario_seen}
 use Rattle.hp_explore.specs.declared.exploring.Exploration.{Exploration}
@@ -23,7 +24,6 @@ use Rattle.hp_find.specs.declared.fault.FindFault.TheVariants as search
 use Rattle.hp_find.specs.declared.wanted.Wanted.{Wanted}
 use Rattle.hp_lab.specs.declared.fault.LabFault.{LabFault}
 use Rattle.hp_lab.specs.declared.fault.LabFault.TheVariants.{NotJson, BadShape, Layout, BadLine, NotForScript, TooMany, HistoryFull, OutOfMemory}
-use Rattle.hp_lab.specs.declared.fault.Unfit.{Unfit}
 use Rattle.hp_lab.specs.Checks.{AreFit, IsFirstUnfit, IsUnfit}
 use Rattle.hp_lab.specs.Explorations.{AreExplored, HoldsAfter, HoldsIn, InScenario, IsEndsCause, IsFaultWith, IsFull, IsFullTold, IsMore, IsNumbered, IsStoppedAfter, IsToldAs, IsUnfitAfter, IsUntold}
 use Rattle.hp_lab.specs.Prepared.{IsPrepared, IsStart, IsUnprepared, before_of, names_of, setting_of}

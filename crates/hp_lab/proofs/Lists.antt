@@ -4,18 +4,19 @@ use Rattle.std.proofs.lemmas.List.{take_more}
 use Rattle.std.proofs.lemmas.List.FromFn.{map-range_with_len_more}
 use Rattle.hp_machine.specs.Machine.{MachineValue}
 use Rattle.hp_explore.specs.declared.scripts.Line as step
+use Rattle.hp_scenario.specs.Asked.{asked_by}
 use Rattle.hp_scenario.specs.declared.lines.Line.{Line}
 use Rattle.hp_lab.specs.Scripts.{script_of, scripts_of}
-use Rattle.hp_lab.specs.Setup.{RunsLines, RunsWork, begins_sealed}
+use Rattle.hp_lab.specs.Setup.{RunsAsked, RunsLines, begins_sealed}
 use Rattle.hp_lab.specs.declared.begins.Begin.{Begin}
 
 -- one more line is run
 one_more : (xs : List Line) (line : Line) (m mid new : MachineValue) (before so_far after : List Begin)
-    → RunsLines m before xs mid so_far → RunsWork mid line.cpu line.work new
+    → RunsLines m before xs mid so_far → RunsAsked mid line.cpu (asked_by line.work) new
     → after ≡ so_far ++ begins_sealed mid line.work → RunsLines m before (xs ++ line ∷ []) new after
 one_more [] line m mid new before so_far after ran w is = (
   new,
-  subst (λ (k : MachineValue). RunsWork k line.cpu line.work new) ran.0 w,
+  subst (λ (k : MachineValue). RunsAsked k line.cpu (asked_by line.work) new) ran.0 w,
   (
     refl,
     is ∙ (ap (λ (l : List Begin). l ++ begins_sealed mid line.work) ran.1
@@ -28,7 +29,7 @@ one_more (x ∷ xs) line m mid new before so_far after ran w is =
 pub lines_more : (xs : List Line) (i : ℕ) (line : Line) (m mid next : MachineValue)
     (before so_far after : List Begin)
     → i < length xs → RunsLines m before (take i xs) mid so_far → line ≡ get_or xs i line
-    → after ≡ so_far ++ begins_sealed mid line.work → RunsWork mid line.cpu line.work next
+    → after ≡ so_far ++ begins_sealed mid line.work → RunsAsked mid line.cpu (asked_by line.work) next
     → RunsLines m before (take (i + 1) xs) next after
 lines_more xs i line m mid next before so_far after lt ran is_at sealed one =
     subst (λ (l : List Line). RunsLines m before l next after) (sym (take_more xs i line lt

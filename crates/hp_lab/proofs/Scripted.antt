@@ -1,15 +1,11 @@
 -- How many interleavings scripts have does not depend on the operations that were begun before them.
-use Rattle.std.proofs.Common.{◌≡◌, ℕ, ◌≤◌, ◌^◌, ◌==◌, Bool, true, false, if◌then◌else◌, List, [], ◌∷◌, ◌++◌, drop, length, map, Option, Some, None, Result, Ok, Err, refl, ap, sym, subst, ◌∙◌}
+use Rattle.std.proofs.Common.{◌≡◌, ℕ, ◌≤◌, ◌^◌, ◌==◌, Bool, true, false, if◌then◌else◌, List, [], ◌∷◌, ◌++◌, drop, length, map, Option, Some, None, refl, ap, sym, subst, ◌∙◌}
 use Rattle.std.specs.Prelude.{◌&&◌, ◌||◌}
 use Rattle.std.specs.List.{list_all, range_with_len}
 use Rattle.std.specs.Option.{option_map_or}
 use Rattle.std.proofs.lemmas.List.{length-map, map-append}
 use Rattle.std.proofs.lemmas.Option.{none-some, slice_get_within}
 use Rattle.hp_units.specs.declared.events.Event.{Event}
-use Rattle.hp_requests.specs.declared.fault.ControlFault.{ControlFault}
-use Rattle.hp_requests.specs.declared.writes.Request.{Request}
-use Rattle.hp_requests.specs.declared.writes.Request.TheVariants as request
-use Rattle.hp_requests.specs.Writes.{echo_request}
 use Rattle.hp_explore.specs.Interleavings.{IsKnown, holds_no_plan, is_one_call, script_lengths}
 use Rattle.hp_explore.specs.Multinomials.{IsMultinomial, sum}
 use Rattle.hp_explore.specs.declared.multinomials.HowMany.{HowMany}
@@ -17,13 +13,12 @@ use Rattle.hp_explore.specs.declared.multinomials.HowMany.TheVariants.{Exactly, 
 use Rattle.hp_explore.specs.declared.scripts.Line.{Line as Step}
 use Rattle.hp_explore.specs.declared.scripts.Line.TheVariants.{Ask}
 use Rattle.hp_explore.specs.declared.scripts.Work as own
+use Rattle.hp_scenario.specs.Asked as asks
 use Rattle.hp_scenario.specs.declared.lines.Line.{Line}
-use Rattle.hp_scenario.specs.declared.lines.Work.{Work}
-use Rattle.hp_scenario.specs.declared.lines.Work.TheVariants as work
 use Rattle.hp_lab.specs.Begins.{last_begun, line_begins}
 use Rattle.hp_lab.specs.Checks.{AreFit, IsUnfit}
 use Rattle.hp_lab.specs.Counting.{AreKnownAs, AreScripts, IsKnownAfter}
-use Rattle.hp_lab.specs.Scripts.{answered, asked, explored, line_for, own_step, own_work, requested, script_of, scripts_of, steps_in, steps_of}
+use Rattle.hp_lab.specs.Scripts.{called, explored, line_for, own_step, own_work, script_of, scripts_of, steps_in, steps_of}
 use Rattle.hp_lab.specs.declared.begins.Begin.{Begin}
 use Rattle.hp_lab.specs.declared.fault.LabFault.{LabFault}
 use Rattle.hp_lab.specs.declared.fault.LabFault.TheVariants.{NotJson, BadShape, Layout, BadLine, NotForScript, TooMany, HistoryFull, OutOfMemory}
@@ -38,41 +33,30 @@ own_one : (op : ℕ) (begun : Bool) (w : own.Work) → is_one_call (own_step op 
 own_one op true w = refl
 own_one op false w = refl
 
-asked_one : (op : ℕ) (begun : Bool) (e : Event) → is_one_call (asked op begun e) ≡ true
-asked_one op begun e = by_work (own_work e)
+called_one : (op : ℕ) (begun : Bool) (e : Event) → is_one_call (called op begun e) ≡ true
+called_one op begun e = by_work (own_work e)
   where
     by_work : (o : Option own.Work) → is_one_call (option_map_or (own_step op begun) o (Ask e)) ≡ true
     by_work None = refl
     by_work (Some w) = own_one op begun w
 
-asked_alike : (op other : ℕ) (begun : Bool) (e : Event)
-    → is_one_call (asked op begun e) ≡ is_one_call (asked other begun e)
-asked_alike op other begun e = asked_one op begun e ∙ sym (asked_one other begun e)
+called_alike : (op other : ℕ) (begun : Bool) (e : Event)
+    → is_one_call (called op begun e) ≡ is_one_call (called other begun e)
+called_alike op other begun e = called_one op begun e ∙ sym (called_one other begun e)
 
-requested_alike : (op other : ℕ) (begun : Bool) (r : Request)
-    → is_one_call (requested op begun r) ≡ is_one_call (requested other begun r)
-requested_alike op other begun (request.Event e) = asked_alike op other begun e
-requested_alike op other begun (request.Plan plan) = refl
+explored_alike : (op other : ℕ) (begun : Bool) (m : asks.Meaning)
+    → shape (steps_of (explored op begun m)) ≡ shape (steps_of (explored other begun m))
+explored_alike op other begun (asks.event e) = ap (λ (b : Bool). b ∷ []) (called_alike op other begun e)
+explored_alike op other begun (asks.plan items turns) = refl
+explored_alike op other begun (asks.not_taken fault) = refl
+explored_alike op other begun (asks.cat path) = refl
+explored_alike op other begun asks.seal = refl
 
-answered_alike : (op other : ℕ) (begun : Bool) (r : Result Request ControlFault)
-    → shape (steps_of (answered op begun r)) ≡ shape (steps_of (answered other begun r))
-answered_alike op other begun (Ok r) = ap (λ (b : Bool). b ∷ []) (requested_alike op other begun r)
-answered_alike op other begun (Err fault) = refl
-
-explored_alike : (op other : ℕ) (begun : Bool) (w : Work)
-    → shape (steps_of (explored op begun w)) ≡ shape (steps_of (explored other begun w))
-explored_alike op other begun (work.Event e) = ap (λ (b : Bool). b ∷ []) (asked_alike op other begun e)
-explored_alike op other begun (work.Plan plan turns) = refl
-explored_alike op other begun (work.Echo echo) =
-    answered_alike op other begun (echo_request echo.path echo.word)
-explored_alike op other begun (work.Cat path) = refl
-explored_alike op other begun work.Seal = refl
-
-line_alike : (op other : ℕ) (begun : Bool) (w : Work) (own : Bool)
-    → shape (if own then steps_of (explored op begun w) else [])
-    ≡ shape (if own then steps_of (explored other begun w) else [])
-line_alike op other begun w true = explored_alike op other begun w
-line_alike op other begun w false = refl
+line_alike : (op other : ℕ) (begun : Bool) (m : asks.Meaning) (own : Bool)
+    → shape (if own then steps_of (explored op begun m) else [])
+    ≡ shape (if own then steps_of (explored other begun m) else [])
+line_alike op other begun m true = explored_alike op other begun m
+line_alike op other begun m false = refl
 
 -- ---- all lines
 
@@ -82,7 +66,7 @@ steps_alike cpu op other begun [] = refl
 steps_alike cpu op other begun (line ∷ lines) =
     map-append is_one_call (line_for cpu op begun line) (steps_in cpu op (later line) lines)
     ∙ (ap (λ (bs : List Bool). bs ++ shape (steps_in cpu op (later line) lines))
-    (line_alike op other begun line.work (line.cpu == cpu))
+    (line_alike op other begun (asks.asked_by line.work) (line.cpu == cpu))
     ∙ (ap (λ (bs : List Bool). shape (line_for cpu other begun line) ++ bs)
     (steps_alike cpu op other (later line) lines)
     ∙ sym (map-append is_one_call (line_for cpu other begun line) (steps_in cpu other (later line) lines))))

@@ -1,16 +1,11 @@
 -- The operation that a processor began last before the scripts: what 0 stands for in its script until the
 -- script itself begins one (own rule).
-use Rattle.std.specs.Prelude.{ℕ, ◌==◌, Bool, true, false, if◌then◌else◌, List, [], ◌∷◌, Result, Ok, Err, ◌&&◌, fold}
+use Rattle.std.specs.Prelude.{ℕ, ◌==◌, Bool, true, false, if◌then◌else◌, List, [], ◌∷◌, ◌&&◌, fold}
 use Rattle.std.specs.List.{flat_map}
 use Rattle.hp_units.specs.Marks.{is_opening, mark_of}
 use Rattle.hp_units.specs.declared.replies.Record.{Record}
-use Rattle.hp_requests.specs.declared.fault.ControlFault.{ControlFault}
-use Rattle.hp_requests.specs.declared.writes.Request.{Request}
-use Rattle.hp_requests.specs.declared.writes.Request.TheVariants as request
-use Rattle.hp_requests.specs.Writes.{echo_request}
+use Rattle.hp_scenario.specs.Asked as asks
 use Rattle.hp_scenario.specs.declared.lines.Line.{Line}
-use Rattle.hp_scenario.specs.declared.lines.Work.{Work}
-use Rattle.hp_scenario.specs.declared.lines.Work.TheVariants as work
 use Rattle.hp_lab.specs.declared.begins.Begin.{Begin}
 
 -- ---- in records
@@ -31,20 +26,14 @@ last_begun cpu begins = fold (later_begun cpu) 0 begins
 
 -- ---- in lines
 
--- what a control file is asked for begins an operation
-abbrev pub request_begins : Result Request ControlFault → Bool
-request_begins (Ok (request.Event e)) = is_opening (mark_of e)
-request_begins (Ok (request.Plan plan)) = true
-request_begins (Err fault) = false
-
--- a line's work does
-abbrev pub work_begins : Work → Bool
-work_begins (work.Event e) = is_opening (mark_of e)
-work_begins (work.Plan plan turns) = true
-work_begins (work.Echo echo) = request_begins (echo_request echo.path echo.word)
-work_begins (work.Cat path) = false
-work_begins work.Seal = false
+-- what a line asks for begins an operation
+abbrev pub asked_begins : asks.Meaning → Bool
+asked_begins (asks.event e) = is_opening (mark_of e)
+asked_begins (asks.plan items turns) = true
+asked_begins (asks.not_taken fault) = false
+asked_begins (asks.cat path) = false
+asked_begins asks.seal = false
 
 -- a line is a processor's and begins an operation
 abbrev pub line_begins : (cpu : ℕ) → Line → Bool
-line_begins cpu line = (line.cpu == cpu) && work_begins line.work
+line_begins cpu line = (line.cpu == cpu) && asked_begins (asks.asked_by line.work)

@@ -21,6 +21,7 @@ use Rattle.hp_find.specs.declared.finding.Found.TheVariants.{Nearest, Absent}
 use Rattle.hp_find.specs.declared.wanted.Wanted.{Wanted}
 use Rattle.hp_scenario.specs.declared.fault.ScenarioFault.{ScenarioFault}
 use Rattle.hp_scenario.specs.declared.lines.Line.{Line}
+use Rattle.hp_scenario.specs.declared.unfit.Unfit.{Unfit}
 use Rattle.hp_scenario.specs.Scenario.{ScenarioValue, scenario_in}
 use Rattle.hp_lab.specs.declared.answering.Ask.{Ask}
 use Rattle.hp_lab.specs.declared.answering.Ask.TheVariants.{Ends, Find}
@@ -30,7 +31,6 @@ use Rattle.hp_lab.specs.Objects.{all_objects_text}
 use Rattle.hp_lab.specs.declared.forms.ScheduleForm.{ScheduleForm}
 use Rattle.hp_lab.specs.declared.fault.LabFault.{LabFault}
 use Rattle.hp_lab.specs.declared.fault.LabFault.TheVariants.{NotJson, BadShape, Layout, BadLine, NotForScript, TooMany, HistoryFull, OutOfMemory}
-use Rattle.hp_lab.specs.declared.fault.Unfit.{Unfit}
 use Rattle.hp_lab.specs.Begins.{begins_in}
 use Rattle.hp_lab.specs.Checks.{AreFit, IsFirstUnfit}
 use Rattle.hp_lab.specs.declared.begins.Begin.{Begin}

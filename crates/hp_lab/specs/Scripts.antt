@@ -1,21 +1,16 @@
 -- The lines after the setup as scripts (own rule).
-use Rattle.std.specs.Prelude.{ℕ, ◌==◌, ◌||◌, Bool, false, if◌then◌else◌, List, [], ◌∷◌, ◌++◌, Option, Some, None, Result, Ok, Err, map}
+use Rattle.std.specs.Prelude.{ℕ, ◌==◌, ◌||◌, Bool, false, if◌then◌else◌, List, [], ◌∷◌, ◌++◌, Option, Some, None, map}
 use Rattle.std.specs.List.{range_with_len}
 use Rattle.std.specs.Option.{option_map_or}
 use Rattle.hp_units.specs.declared.events.Event.{Event}
 use Rattle.hp_units.specs.declared.events.Event.TheVariants as event
 use Rattle.hp_explore.specs.Scripts.{work_of}
-use Rattle.hp_requests.specs.declared.fault.ControlFault.{ControlFault}
-use Rattle.hp_requests.specs.declared.writes.Request.{Request}
-use Rattle.hp_requests.specs.declared.writes.Request.TheVariants as request
-use Rattle.hp_requests.specs.Writes.{control_turns, echo_request}
 use Rattle.hp_explore.specs.declared.scripts.Line as step
 use Rattle.hp_explore.specs.declared.scripts.Line.TheVariants.{Ask, Own, Carry}
 use Rattle.hp_explore.specs.declared.scripts.Work as own
 use Rattle.hp_explore.specs.declared.scripts.Work.TheVariants.{DrainFor, Migrate, Commit, Cancel}
+use Rattle.hp_scenario.specs.Asked as asks
 use Rattle.hp_scenario.specs.declared.lines.Line.{Line}
-use Rattle.hp_scenario.specs.declared.lines.Work.{Work}
-use Rattle.hp_scenario.specs.declared.lines.Work.TheVariants as work
 use Rattle.hp_lab.specs.Begins.{last_begun, line_begins}
 use Rattle.hp_lab.specs.declared.begins.Begin.{Begin}
 
@@ -35,25 +30,16 @@ abbrev pub own_step : (op : ℕ) → (begun : Bool) → own.Work → step.Line
 own_step op begun w = if begun then Own w else Ask (work_of op w)
 
 -- an event as a step of a script
-abbrev pub asked : (op : ℕ) → (begun : Bool) → Event → step.Line
-asked op begun e = option_map_or (own_step op begun) (own_work e) (Ask e)
-
--- what a control file is asked for as a step
-abbrev pub requested : (op : ℕ) → (begun : Bool) → Request → step.Line
-requested op begun (request.Event e) = asked op begun e
-requested op begun (request.Plan plan) = Carry plan control_turns
-
-abbrev pub answered : (op : ℕ) → (begun : Bool) → Result Request ControlFault → Option step.Line
-answered op begun (Ok r) = Some (requested op begun r)
-answered op begun (Err fault) = None
+abbrev pub called : (op : ℕ) → (begun : Bool) → Event → step.Line
+called op begun e = option_map_or (own_step op begun) (own_work e) (Ask e)
 
 -- what a line asks for as a step; reading a file, a seal, and a text that a file does not take make no call
-abbrev pub explored : (op : ℕ) → (begun : Bool) → Work → Option step.Line
-explored op begun (work.Event e) = Some (asked op begun e)
-explored op begun (work.Plan plan turns) = Some (Carry plan turns)
-explored op begun (work.Echo echo) = answered op begun (echo_request echo.path echo.word)
-explored op begun (work.Cat path) = None
-explored op begun work.Seal = None
+abbrev pub explored : (op : ℕ) → (begun : Bool) → asks.Meaning → Option step.Line
+explored op begun (asks.event e) = Some (called op begun e)
+explored op begun (asks.plan items turns) = Some (Carry items turns)
+explored op begun (asks.not_taken fault) = None
+explored op begun (asks.cat path) = None
+explored op begun asks.seal = None
 
 -- the step of a processor that a line is, if it is one
 abbrev pub steps_of : Option step.Line → List step.Line
@@ -61,7 +47,8 @@ steps_of None = []
 steps_of (Some s) = s ∷ []
 
 abbrev pub line_for : (cpu : ℕ) → (op : ℕ) → (begun : Bool) → Line → List step.Line
-line_for cpu op begun line = if line.cpu == cpu then steps_of (explored op begun line.work) else []
+line_for cpu op begun line =
+    if line.cpu == cpu then steps_of (explored op begun (asks.asked_by line.work)) else []
 
 -- the steps of a processor that lines are
 abbrev pub steps_in : (cpu : ℕ) → (op : ℕ) → (begun : Bool) → List Line → List step.Line

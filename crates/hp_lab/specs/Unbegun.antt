@@ -1,32 +1,19 @@
 -- Scripts that work on operation 0 where their processor has begun none (own rule).
-use Rattle.std.specs.Prelude.{ℕ, zero, suc, ◌+◌, ◌==◌, ◌&&◌, nat_le, Bool, false, if◌then◌else◌, List, [], ◌∷◌, ◌++◌, Option, Some, None, Result, Ok, Err}
+use Rattle.std.specs.Prelude.{ℕ, zero, suc, ◌+◌, ◌==◌, ◌&&◌, nat_le, Bool, false, if◌then◌else◌, List, [], ◌∷◌, ◌++◌, Option, Some, None}
 use Rattle.std.specs.Option.{is_some, option_map_or}
-use Rattle.hp_requests.specs.declared.fault.ControlFault.{ControlFault}
-use Rattle.hp_requests.specs.declared.writes.Request.{Request}
-use Rattle.hp_requests.specs.declared.writes.Request.TheVariants as request
-use Rattle.hp_requests.specs.Writes.{echo_request}
+use Rattle.hp_scenario.specs.Asked as asks
 use Rattle.hp_scenario.specs.declared.lines.Line.{Line}
-use Rattle.hp_scenario.specs.declared.lines.Work.{Work}
-use Rattle.hp_scenario.specs.declared.lines.Work.TheVariants as work
 use Rattle.hp_lab.specs.Begins.{line_begins}
 use Rattle.hp_lab.specs.Scripts.{own_work}
 use Rattle.hp_lab.specs.declared.unbegun.Unbegun.{Unbegun}
 
--- what a control file is asked for, a line's work, and a line of a processor that works on operation 0
-abbrev pub request_names_last : Result Request ControlFault → Bool
-request_names_last (Ok (request.Event e)) = is_some (own_work e)
-request_names_last (Ok (request.Plan plan)) = false
-request_names_last (Err fault) = false
-
-abbrev pub work_names_last : Work → Bool
-work_names_last (work.Event e) = is_some (own_work e)
-work_names_last (work.Plan plan turns) = false
-work_names_last (work.Echo echo) = request_names_last (echo_request echo.path echo.word)
-work_names_last (work.Cat path) = false
-work_names_last work.Seal = false
+-- what a line asks for, and a line of a processor that works on operation 0
+abbrev pub asked_names_last : asks.Meaning → Bool
+asked_names_last (asks.event e) = is_some (own_work e)
+asked_names_last m = false
 
 abbrev pub line_names_last : (cpu : ℕ) → Line → Bool
-line_names_last cpu line = (line.cpu == cpu) && work_names_last line.work
+line_names_last cpu line = (line.cpu == cpu) && asked_names_last (asks.asked_by line.work)
 
 -- the number of a processor's first line after the setup that works on operation 0, where no line of
 -- it before that one begins an operation; so many lines stand before these, and lines are counted from 1

@@ -1,9 +1,9 @@
 //! Which operation each processor began last, before the scripts and in them.
 ghost use Rattle.std.specs.Prelude.{◌≡◌, ◌++◌, OnOk};
-ghost use Rattle.hp_lab.specs.Begins.{begins_in, last_begun, line_begins, request_begins, work_begins};
+ghost use Rattle.hp_scenario.specs.Asked.{asked_by};
+ghost use Rattle.hp_lab.specs.Begins.{asked_begins, begins_in, last_begun, line_begins};
 
-use hp_requests::{ControlFault, Request};
-use hp_scenario::{Line, Work};
+use hp_scenario::{Asked, Line, Work};
 use hp_units::{Cpu, Record, Serial, mark_of};
 use std::alloc::AllocError;
 
@@ -49,26 +49,15 @@ pub(crate) fn line_begins(cpu: Cpu, line: &Line) -> bool
     line.cpu == cpu && work_begins(&line.work)
 }
 
-/// Whether a line's work begins an operation.
+/// Whether what a line asks for begins an operation.
 fn work_begins(work: &Work) -> bool
-    ensures { result ≡ work_begins work.now }
+    ensures { result ≡ asked_begins (asked_by work.now) }
 {
-    match work {
-        Work::Event(event) => mark_of(event).is_opening(),
-        Work::Plan { plan: _, turns: _ } => true,
-        Work::Echo(echo) => request_begins(echo.request()),
-        Work::Cat { path: _ } => false,
-        Work::Seal => false,
-    }
-}
-
-/// Whether what a control file is asked for begins an operation.
-fn request_begins(request: &Result<Request, ControlFault>) -> bool
-    ensures { result ≡ request_begins request.now }
-{
-    match request {
-        Ok(Request::Event(event)) => mark_of(event).is_opening(),
-        Ok(Request::Plan(_plan)) => true,
-        Err(_fault) => false,
+    match work.asked() {
+        Asked::Event(event) => mark_of(event).is_opening(),
+        Asked::Plan { plan: _, turns: _ } => true,
+        Asked::NotTaken(_fault) => false,
+        Asked::Cat { path: _ } => false,
+        Asked::Seal => false,
     }
 }

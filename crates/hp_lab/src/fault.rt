@@ -2,40 +2,11 @@
 ghost use Rattle.std.specs.Prelude.{◌≡◌, Some};
 ghost use Rattle.hp_lab.specs.declared.fault.LabFault.TheVariants.{OutOfMemory};
 
-use hp_requests::ControlFault;
-use hp_scenario::ScenarioFault;
+use hp_scenario::{ScenarioFault, Unfit};
 use hp_units::LayoutFault;
 use std::alloc::AllocError;
 use std::error::Error;
 use std::fmt;
-
-/// Why a line cannot stand in a script.
-#[derive(Clone, Copy, Debug, PartialEq, Eq, Drop)]
-pub enum Unfit {
-    /// Its processor is not in the layout.
-    Processor,
-    /// It reads a control file, which is no call.
-    Cat,
-    /// It seals, which is no call.
-    Seal,
-    /// It writes to a control file a text that the file does not take, which is no call.
-    Echo(ControlFault),
-}
-
-impl fmt::Display for Unfit {
-    ghost use Rattle.hp_lab.specs.FaultText.{unfit_text};
-
-    ghost output = { λ why. Some (unfit_text why) };
-
-    fn fmt<W: fmt::Write>(&self, f: &mut fmt::Formatter<W>) -> fmt::Result {
-        match self {
-            Unfit::Processor => write!(f, "its processor is not in the layout"),
-            Unfit::Cat => write!(f, "cat makes no call"),
-            Unfit::Seal => write!(f, "seal makes no call"),
-            Unfit::Echo(fault) => write!(f, "echo: fault {fault}"),
-        }
-    }
-}
 
 /// Why a scenario is not explored. Out of memory may come in place of any.
 #[derive(Clone, Copy, Debug, PartialEq, Eq, Drop)]

@@ -31,7 +31,7 @@ mod wanted_lines;
 pub use counting::interleavings_line;
 pub use ends::total_of;
 pub use exploring::explore_text;
-pub use fault::{LabFault, Unfit};
+pub use fault::LabFault;
 pub use finding::{Finding, find_text};
 pub use forms::{EndsForm, ScheduleForm};
 pub use objects::write_more;

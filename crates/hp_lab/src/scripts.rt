@@ -1,12 +1,12 @@
 //! The lines after the setup, as a script for each processor.
 ghost use Rattle.std.specs.Prelude.{◌≡◌, ◌++◌, IfOk, OnOk};
 ghost use Rattle.hp_explore.specs.Scripts.{work_of};
-ghost use Rattle.hp_lab.specs.Scripts.{answered, asked, explored, line_for, own_if_last, own_step, own_work, requested, script_of, scripts_of};
+ghost use Rattle.hp_scenario.specs.Asked.{asked_by};
+ghost use Rattle.hp_lab.specs.Scripts.{called, explored, line_for, own_if_last, own_step, own_work, script_of, scripts_of};
 
 use crate::begins::{Begin, last_begun, line_begins};
 use hp_explore::{Line as Step, Script, Work as OwnWork};
-use hp_requests::{CONTROL_TURNS, ControlFault, Request};
-use hp_scenario::{Line, Work};
+use hp_scenario::{Asked, Line, Work};
 use hp_units::{Cpu, Event, Plan, Serial};
 use std::alloc::{AllocError, Global};
 
@@ -75,51 +75,21 @@ fn explored(
     has_begun: bool,
     work: &Work,
 ) -> Result<Option<Step>, AllocError>
-    ensures { IfOk result (λ step. step ≡ explored op has_begun work.now) }
+    ensures { IfOk result (λ step. step ≡ explored op has_begun (asked_by work.now)) }
 {
-    match work {
-        Work::Event(event) => Ok(Some(asked(alloc, op, has_begun, event)?)),
-        Work::Plan { plan, turns } => Ok(Some(carried(alloc, plan, *turns)?)),
-        Work::Echo(echo) => answered(alloc, op, has_begun, echo.request()),
-        Work::Cat { path: _ } => Ok(None),
-        Work::Seal => Ok(None),
-    }
-}
-
-/// What a control file was asked for as a step, if the file takes it. An error is out of memory.
-fn answered(
-    alloc: Global,
-    op: Serial,
-    has_begun: bool,
-    request: &Result<Request, ControlFault>,
-) -> Result<Option<Step>, AllocError>
-    ensures { IfOk result (λ step. step ≡ answered op has_begun request.now) }
-{
-    match request {
-        Ok(request) => Ok(Some(requested(alloc, op, has_begun, request)?)),
-        Err(_fault) => Ok(None),
-    }
-}
-
-/// What a control file asks for as a step. An error is out of memory.
-fn requested(
-    alloc: Global,
-    op: Serial,
-    has_begun: bool,
-    request: &Request,
-) -> Result<Step, AllocError>
-    ensures { IfOk result (λ step. step ≡ requested op has_begun request.now) }
-{
-    match request {
-        Request::Event(event) => asked(alloc, op, has_begun, event),
-        Request::Plan(plan) => carried(alloc, plan, CONTROL_TURNS),
+    match work.asked() {
+        Asked::Event(event) => Ok(Some(called(alloc, op, has_begun, event)?)),
+        Asked::Plan { plan, turns } => Ok(Some(carried(alloc, plan, turns)?)),
+        Asked::NotTaken(_fault) => Ok(None),
+        Asked::Cat { path: _ } => Ok(None),
+        Asked::Seal => Ok(None),
     }
 }
 
 /// An event as a step. Where it works on operation 0, that is the one that the processor began
 /// last. An error is out of memory.
-fn asked(alloc: Global, op: Serial, has_begun: bool, event: &Event) -> Result<Step, AllocError>
-    ensures { IfOk result (λ step. step ≡ asked op has_begun event.now) }
+fn called(alloc: Global, op: Serial, has_begun: bool, event: &Event) -> Result<Step, AllocError>
+    ensures { IfOk result (λ step. step ≡ called op has_begun event.now) }
 {
     match own_work(event) {
         Some(work) => Ok(own_step(op, has_begun, work)),

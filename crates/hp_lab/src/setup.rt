@@ -1,11 +1,11 @@
 //! The setup: lines that are run in order on one machine, as `hotplug serial` runs them.
 ghost use Rattle.std.specs.Prelude.{◌≡◌, ◌++◌, OnOk};
-ghost use Rattle.hp_lab.specs.Setup.{RunsEvent, RunsLines, RunsPlan, RunsRequest, RunsSeal, RunsWork, begins_sealed, is_out_of_memory};
+ghost use Rattle.hp_scenario.specs.Asked.{asked_by};
+ghost use Rattle.hp_lab.specs.Setup.{RunsAsked, RunsEvent, RunsLines, RunsPlan, RunsSeal, begins_sealed, is_out_of_memory};
 
 use crate::begins::{Begin, note_begins};
 use hp_machine::Machine;
-use hp_requests::{CONTROL_TURNS, ControlFault, Request};
-use hp_scenario::{Line, Work};
+use hp_scenario::{Asked, Line, Work};
 use hp_units::{CallFault, Cpu, Event, OpEnd, Plan};
 use std::alloc::{AllocError, Global};
 
@@ -37,32 +37,16 @@ fn note_sealed(begins: &mut Vec<Begin>, machine: &Machine, work: &Work) -> Resul
     Ok(())
 }
 
-/// Does what a line asks for.
+/// Does what a line asks for; a text that a control file does not take does nothing.
 fn run_work(alloc: Global, machine: &mut Machine, cpu: Cpu, work: &Work) -> Result<(), AllocError>
-    ensures { OnOk result (RunsWork machine.old cpu work.now machine.new) }
+    ensures { OnOk result (RunsAsked machine.old cpu (asked_by work.now) machine.new) }
 {
-    match work {
-        Work::Event(event) => run_event(alloc, machine, cpu, event),
-        Work::Plan { plan, turns } => carry_out(alloc, machine, cpu, plan, *turns),
-        Work::Echo(echo) => run_request(alloc, machine, cpu, echo.request()),
-        Work::Cat { path: _ } => Ok(()),
-        Work::Seal => seal(alloc, machine),
-    }
-}
-
-/// Does what a control file was asked for; a text that it does not take does nothing.
-fn run_request(
-    alloc: Global,
-    machine: &mut Machine,
-    cpu: Cpu,
-    request: &Result<Request, ControlFault>,
-) -> Result<(), AllocError>
-    ensures { OnOk result (RunsRequest machine.old cpu request.now machine.new) }
-{
-    match request {
-        Ok(Request::Event(event)) => run_event(alloc, machine, cpu, event),
-        Ok(Request::Plan(plan)) => carry_out(alloc, machine, cpu, plan, CONTROL_TURNS),
-        Err(_fault) => Ok(()),
+    match work.asked() {
+        Asked::Event(event) => run_event(alloc, machine, cpu, event),
+        Asked::Plan { plan, turns } => carry_out(alloc, machine, cpu, plan, turns),
+        Asked::NotTaken(_fault) => Ok(()),
+        Asked::Cat { path: _ } => Ok(()),
+        Asked::Seal => seal(alloc, machine),
     }
 }
 

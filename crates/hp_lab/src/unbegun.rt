@@ -1,11 +1,11 @@
 //! Scripts that work on operation 0 where their processor has begun none.
 ghost use Rattle.std.specs.Prelude.{◌≡◌, ◌++◌, IfOk, OnOk};
-ghost use Rattle.hp_lab.specs.Unbegun.{line_names_last, request_names_last, unbegun_at, unbegun_lines, unbegun_of, work_names_last};
+ghost use Rattle.hp_scenario.specs.Asked.{asked_by};
+ghost use Rattle.hp_lab.specs.Unbegun.{asked_names_last, line_names_last, unbegun_at, unbegun_lines, unbegun_of};
 
 use crate::begins::line_begins;
 use crate::scripts::own_work;
-use hp_requests::{ControlFault, Request};
-use hp_scenario::{Line, Work};
+use hp_scenario::{Asked, Line, Work};
 use hp_units::Cpu;
 use std::alloc::{AllocError, Global};
 
@@ -74,26 +74,12 @@ fn line_names_last(cpu: Cpu, line: &Line) -> bool
     line.cpu == cpu && work_names_last(&line.work)
 }
 
-/// Whether a line's work is on operation 0.
+/// Whether what a line asks for is work on operation 0.
 fn work_names_last(work: &Work) -> bool
-    ensures { result ≡ work_names_last work.now }
+    ensures { result ≡ asked_names_last (asked_by work.now) }
 {
-    match work {
-        Work::Event(event) => own_work(event).is_some(),
-        Work::Plan { plan: _, turns: _ } => false,
-        Work::Echo(echo) => request_names_last(echo.request()),
-        Work::Cat { path: _ } => false,
-        Work::Seal => false,
-    }
-}
-
-/// Whether what a control file is asked for is work on operation 0.
-fn request_names_last(request: &Result<Request, ControlFault>) -> bool
-    ensures { result ≡ request_names_last request.now }
-{
-    match request {
-        Ok(Request::Event(event)) => own_work(event).is_some(),
-        Ok(Request::Plan(_plan)) => false,
-        Err(_fault) => false,
+    match work.asked() {
+        Asked::Event(event) => own_work(event).is_some(),
+        _ => false,
     }
 }

@@ -1,10 +1,10 @@
 -- Lines that were taken one after another are those of the scenario.
-use Rattle.std.proofs.Common.{◌≡◌, ℕ, ◌<◌, List, [], ◌∷◌, ◌++◌, length, codes, Ok, Some, refl, sym, ap, subst, ◌∙◌, arith}
+use Rattle.std.proofs.Common.{◌≡◌, ℕ, ◌<◌, List, [], ◌∷◌, ◌++◌, length, codes, Ok, refl, sym, ap, subst, ◌∙◌, arith}
 use Rattle.json.specs.Token.{Token}
 use Rattle.json.specs.Lex.{tokens}
-use Rattle.hp_scenario.specs.Calls.{AreAll, Ends, HasPassed, IsFront, IsOpened, Passes}
+use Rattle.hp_scenario.specs.Calls.{AreAll, Ends, HasPassed, IsOpened, Passes}
 use Rattle.hp_scenario.specs.Scenario.{ScenarioValue, Script, lines_from, scenario_in}
-use Rattle.hp_scenario.specs.Usual.{AreScenario, AreTexts, IsLayoutAt, strings_then}
+use Rattle.hp_scenario.specs.Usual.{AreTexts, strings_then}
 use Rattle.hp_scenario.specs.declared.calls.Calls.{Calls}
 use Rattle.hp_scenario.specs.declared.lines.Line.{Line}
 use Rattle.hp_scenario.proofs.LineLoop.{with_names}

@@ -9,7 +9,8 @@ use Rattle.std.proofs.lemmas.List.FromFn.{get_or-map-range_with_len, length-map-
 use Rattle.std.proofs.lemmas.List.Sums.{AllPass-from_list_all, fails_before_first, list_all-from_AllPass}
 use Rattle.std.proofs.lemmas.Bool.{eqb-false, eqb-true, ltb-false, ltb-true, ne_eqb}
 use Rattle.std.proofs.lemmas.Grind.{get_or-set_at}
-use Rattle.hp_scenario.specs.Scripts.{AreAllOf, AreForRun, IsForRun, first_unfit, is_cat, is_for_run, script_of}
+use Rattle.hp_scenario.specs.Asked.{is_cat}
+use Rattle.hp_scenario.specs.Scripts.{AreAllOf, AreForRun, IsForRun, first_unfit, is_for_run, script_of}
 use Rattle.hp_scenario.specs.declared.lines.Line.{Line}
 
 -- what the lines that are left, of which the last goes next, add to the scripts so far, makes the

@@ -1,14 +1,10 @@
 -- The parts of a line: what each says where it is read as it is spelled.
-use Rattle.std.proofs.Common.{◌≡◌, ℕ, ◌^◌, ◌<◌, ◌≤◌, Bool, true, false, cond, List, [], ◌∷◌, Option, Some, None, refl, subst, arith, lit≤, option_map, option_and_then}
+use Rattle.std.proofs.Common.{◌≡◌, ℕ, ◌^◌, ◌<◌, Bool, true, false, cond, List, [], ◌∷◌, Option, Some, None, refl, subst, arith, lit≤, option_map, option_and_then}
 use Rattle.std.specs.Fmt.{decimal}
-use Rattle.hp_units.specs.declared.rows.Wish.TheVariants as wish
-use Rattle.hp_units.specs.declared.rows.Zone.TheVariants as zone
 use Rattle.hp_scenario.specs.Lines.{Request, text_of}
 use Rattle.hp_scenario.specs.Spelling.{request_words, FitsRequest, IsText, is_spaceless}
 use Rattle.hp_numbers.specs.NumberWords.{number_of}
 use Rattle.hp_scenario.specs.Words.{name_of, is_name}
-use Rattle.hp_scenario.specs.declared.lines.Work.TheVariants as work
-use Rattle.hp_scenario.specs.declared.requests.Access.TheVariants as access
 use Rattle.hp_numbers.proofs.NumbersSpelled.{is_spelled}
 
 -- the words are those of the request, and it can be said (but for spaces in its texts)

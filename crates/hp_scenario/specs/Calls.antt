@@ -1,9 +1,9 @@
 -- The lines of a scenario in its usual form, taken one after another (own rule).
-use Rattle.std.specs.Prelude.{◌≡◌, ℕ, List, [], ◌∷◌, ◌++◌, codes, Ok, Some, IsUtf8}
+use Rattle.std.specs.Prelude.{◌≡◌, ℕ, List, [], ◌∷◌, codes, Ok, Some, IsUtf8}
 use Rattle.json.specs.Token.{Token, key, string, begin_object, begin_array, end_array, end_object}
 use Rattle.json.specs.Lex.{tokens}
 use Rattle.hp_units.specs.LayoutParts.{LayoutParts}
-use Rattle.hp_scenario.specs.Names.{Numbered, line_in}
+use Rattle.hp_scenario.specs.Names.{line_in}
 use Rattle.hp_scenario.specs.Scenario.{lines_from}
 use Rattle.hp_scenario.specs.Usual.{IsLayoutAt, strings_then}
 use Rattle.hp_scenario.specs.declared.calls.Calls.{Calls}

@@ -1,3 +1,4 @@
+pub mod Asked
 pub mod Calls
 pub mod Echoes
 pub mod Form
@@ -9,5 +10,6 @@ pub mod Scenario
 pub mod Scripts
 pub mod Seen
 pub mod Spelling
+pub mod Unfit
 pub mod Usual
 pub mod Words

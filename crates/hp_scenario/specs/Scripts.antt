@@ -1,28 +1,11 @@
 -- The lines of a scenario by processor (own rule).
 use Rattle.std.specs.Prelude.{◌≡◌, ℕ, ◌+◌, ◌<◌, ◌==◌, Bool, true, false, ◌&&◌, not, List, filter, length, map, nat_lt, Option, Some, None, Result, Ok, Err}
 use Rattle.std.specs.List.{All, list_all, position, range_with_len}
+use Rattle.hp_scenario.specs.Asked.{is_cat}
 use Rattle.hp_scenario.specs.Scenario.{ScenarioValue}
 use Rattle.hp_scenario.specs.declared.fault.ScenarioFault.{ScenarioFault}
 use Rattle.hp_scenario.specs.declared.fault.ScenarioFault.TheVariants.{NotForRun}
 use Rattle.hp_scenario.specs.declared.lines.Line.{Line}
-use Rattle.hp_scenario.specs.declared.lines.Work.{Work}
-use Rattle.hp_scenario.specs.declared.lines.Work.TheVariants as work
-
--- whether it reads a control file
-abbrev pub is_cat : Work → Bool
-is_cat (work.Event event) = false
-is_cat (work.Plan plan turns) = false
-is_cat (work.Echo echo) = false
-is_cat (work.Cat path) = true
-is_cat work.Seal = false
-
--- whether it seals
-abbrev pub is_seal : Work → Bool
-is_seal (work.Event event) = false
-is_seal (work.Plan plan turns) = false
-is_seal (work.Echo echo) = false
-is_seal (work.Cat path) = false
-is_seal work.Seal = true
 
 -- no line of any script reads a control file
 abbrev pub IsForRun : Line → Type 0

@@ -1,6 +1,7 @@
 //! Scenarios: a layout and the lines that run on it, read from JSON.
 #![tactic(auto)]
 
+mod asked;
 mod calls;
 mod echo;
 mod fault;
@@ -16,10 +17,12 @@ mod requests;
 mod scenario;
 mod scripts;
 mod texts;
+mod unfit;
 mod usual;
 mod verbs;
 mod words;
 
+pub use asked::Asked;
 pub use calls::{Calls, Next};
 pub use echo::Echo;
 pub use fault::ScenarioFault;
@@ -29,3 +32,4 @@ pub use lines::{Line, Lines, Work};
 pub use requests::is_line;
 pub use scenario::Scenario;
 pub use scripts::Script;
+pub use unfit::Unfit;

@@ -1,6 +1,5 @@
 //! The lines of a scenario.
 ghost use Rattle.std.specs.Prelude.{◌≡◌};
-ghost use Rattle.hp_scenario.specs.Scripts.{is_seal};
 
 use crate::echo::Echo;
 use hp_units::{Cpu, Event, Plan, Text};
@@ -20,15 +19,6 @@ pub enum Work {
     Cat { path: Text },
     /// The records since the last seal handed out.
     Seal,
-}
-
-impl Work {
-    /// Whether it seals.
-    pub fn is_seal(&self) -> bool
-        ensures { result ≡ is_seal self.now }
-    {
-        matches!(self, Work::Seal)
-    }
 }
 
 /// One line: a processor and what it asks for.

@@ -5,8 +5,9 @@ ghost use Rattle.hp_scenario.specs.Gives.{Gives};
 ghost use Rattle.hp_scenario.specs.Scripts.{AreAllOf, AreForRun, first_unfit as unfit, is_for_run, script_of, scripts_of};
 ghost use Rattle.hp_scenario.specs.Seen.{scenario_seen};
 
+use crate::asked::Asked;
 use crate::fault::ScenarioFault;
-use crate::lines::{Line, Lines, Work};
+use crate::lines::{Line, Lines};
 use crate::scenario::Scenario;
 use std::alloc::{AllocError, Global};
 use std::marker::Model;
@@ -165,6 +166,6 @@ impl Line {
     fn is_for_run(&self, cpus: u32) -> bool
         ensures { result ≡ is_for_run cpus self.now }
     {
-        self.cpu.0 < cpus && !matches!(&self.work, Work::Cat { .. })
+        self.cpu.0 < cpus && !matches!(self.work.asked(), Asked::Cat { .. })
     }
 }

@@ -2,6 +2,7 @@
 use Rattle.std.proofs.Common.{◌≡◌, ℕ, ◌+◌, ◌<◌, List, [], ◌∷◌, ◌++◌, length, get_or, take, refl, sym, ap, subst, ◌∙◌, append_assoc, append-nil, arith}
 use Rattle.std.proofs.lemmas.List.{length-take-le, take_more}
 use Rattle.hp_machine.specs.Machine.{MachineValue}
+use Rattle.hp_scenario.specs.Asked.{asked_by}
 use Rattle.hp_scenario.specs.declared.lines.Line.{Line}
 use Rattle.hp_trace.specs.Calls.{MakesWork}
 use Rattle.hp_trace.specs.Rows.{AreDrawn, Row, RowsValue, drawn_joined}
@@ -22,14 +23,14 @@ made_more : (names : List (List ℕ)) (first last : ℕ) (xs : List Line) (line 
     (m mid after : MachineValue) (lists : List (List Row)) (rows : List Row)
     → last ≡ first + length xs
     → MakesLines names first m xs lists mid
-    → MakesWork mid line.cpu line.work (numbered_text names last line) rows after
+    → MakesWork mid line.cpu (asked_by line.work) (numbered_text names last line) rows after
     → MakesLines names first m (xs ++ line ∷ []) (lists ++ rows ∷ []) after
 made_more names first last [] line m mid after lists rows at made one =
     let here : last ≡ first = omega (arith, at) in
     let work =
-    subst (λ (n : ℕ). MakesWork m line.cpu line.work (numbered_text names n line) rows after) here (subst
-    (λ (k : MachineValue). MakesWork k line.cpu line.work (numbered_text names last line) rows after)
-    made.0 one) in
+    subst (λ (n : ℕ). MakesWork m line.cpu (asked_by line.work) (numbered_text names n line) rows after) here
+    (subst (λ (k : MachineValue). MakesWork k line.cpu (asked_by line.work) (numbered_text names last line)
+    rows after) made.0 one) in
     (after, rows, [], work, ap (λ (l : List (List Row)). l ++ rows ∷ []) made.1, (refl, refl))
 made_more names first last (x ∷ xs) line m mid after lists rows at made one =
     let here : last ≡ (first + 1) + length xs = omega (arith, at) in (

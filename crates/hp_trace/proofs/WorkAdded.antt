@@ -1,5 +1,5 @@
 -- Rows that were drawn are those that a line's work makes.
-use Rattle.std.proofs.Common.{◌≡◌, ℕ, true, List, [], ◌∷◌, length, Err, inl, inr, refl, ap, subst, ◌∙◌}
+use Rattle.std.proofs.Common.{◌≡◌, ℕ, true, List, [], ◌∷◌, length, inl, inr, refl, ap, subst, ◌∙◌}
 use Rattle.hp_units.specs.declared.events.Event.{Event}
 use Rattle.hp_units.specs.declared.replies.CallFault.TheVariants.{HistoryFull}
 use Rattle.hp_units.specs.declared.replies.Receipt.{Receipt}
@@ -7,9 +7,10 @@ use Rattle.hp_units.specs.declared.replies.Record.{Record}
 use Rattle.hp_requests.specs.declared.fault.ControlFault.{ControlFault}
 use Rattle.hp_machine.specs.Machine.{IsCalled, MachineValue, is_full, sealed}
 use Rattle.hp_machine.specs.MachinePorts.{AreCalls}
+use Rattle.hp_scenario.specs.Asked as asks
 use Rattle.hp_text.specs.Answers.{sealed_line, unrecorded_line}
 use Rattle.hp_text.specs.Files.{write_fault_line}
-use Rattle.hp_trace.specs.Calls.{MakesEvent, MakesRequest, MakesSeal, answer_text, moved_of}
+use Rattle.hp_trace.specs.Calls.{MakesEvent, MakesSeal, MakesWork, answer_text, moved_of}
 use Rattle.hp_trace.specs.Rows.{Adds, AreDrawn, DrawsIf, RowsValue, drawing, noted}
 
 -- ---- an event
@@ -40,7 +41,7 @@ full_added m after cpu event asked old new full same drawn = record {
 
 pub untaken_added : (m : MachineValue) (cpu : ℕ) (fault : ControlFault) (asked : List ℕ) (old new : RowsValue)
     → AreDrawn (noted m asked (write_fault_line fault)) old new
-    → Adds old new (λ rows. MakesRequest m cpu (Err fault) asked rows m)
+    → Adds old new (λ rows. MakesWork m cpu (asks.not_taken fault) asked rows m)
 untaken_added m cpu fault asked old new drawn =
     record { rows = noted m asked (write_fault_line fault); drawn = drawn; is = (refl, refl) }
 

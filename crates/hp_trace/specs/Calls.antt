@@ -12,13 +12,9 @@ use Rattle.hp_units.specs.declared.replies.Receipt.{Receipt}
 use Rattle.hp_units.specs.declared.replies.Reply.{Reply}
 use Rattle.hp_units.specs.declared.replies.Reply.TheVariants.{Moved}
 use Rattle.hp_requests.specs.declared.fault.ControlFault.{ControlFault}
-use Rattle.hp_requests.specs.declared.writes.Request.{Request}
-use Rattle.hp_requests.specs.declared.writes.Request.TheVariants as request
 use Rattle.hp_control.specs.Reads.{file_text}
-use Rattle.hp_requests.specs.Writes.{control_turns, echo_request}
 use Rattle.hp_machine.specs.Machine.{MachineValue, IsCalled, is_full, sealed}
-use Rattle.hp_scenario.specs.declared.lines.Work.{Work}
-use Rattle.hp_scenario.specs.declared.lines.Work.TheVariants as work
+use Rattle.hp_scenario.specs.Asked as asks
 use Rattle.hp_pictures.specs.declared.row_picture.Move.{Move}
 use Rattle.hp_text.specs.Answers.{sealed_line, unrecorded_line}
 use Rattle.hp_text.specs.Files.{read_fault_line, write_fault_line}
@@ -85,15 +81,6 @@ pub record MakesPlan (m : MachineValue) (cpu turns : ℕ) (plan : List Item) (as
 
 -- ---- control files
 
--- what a control file was asked for was done, or why it does not take the word is said
-abbrev pub MakesRequest : MachineValue → (cpu : ℕ) → Result Request ControlFault → (asked : List ℕ)
-    → (rows : List Row) → (after : MachineValue) → Type 0
-MakesRequest m cpu (Ok (request.Event event)) asked rows after = MakesEvent m cpu event asked rows after
-MakesRequest m cpu (Ok (request.Plan plan)) asked rows after =
-    MakesPlan m cpu control_turns plan asked rows after
-MakesRequest m cpu (Err fault) asked rows after =
-    (after ≡ m) × (rows ≡ noted m asked (write_fault_line fault))
-
 -- a control file's text as it is, or why there is none
 abbrev pub file_rows : MachineValue → Result (List ℕ) ControlFault → (asked : List ℕ) → List Row
 file_rows m (Ok text) asked = noted m asked text
@@ -106,14 +93,15 @@ abbrev pub MakesSeal : MachineValue → (asked : List ℕ) → (rows : List Row)
 MakesSeal m asked rows after =
     (after ≡ sealed m) × (rows ≡ noted after asked (sealed_line (length m.history)))
 
--- ---- the work of a line
+-- ---- what a line asks for
 
-abbrev pub MakesWork : MachineValue → (cpu : ℕ) → Work → (asked : List ℕ) → (rows : List Row)
+-- it was done; where a control file does not take the word that is said
+abbrev pub MakesWork : MachineValue → (cpu : ℕ) → asks.Meaning → (asked : List ℕ) → (rows : List Row)
     → (after : MachineValue) → Type 0
-MakesWork m cpu (work.Event event) asked rows after = MakesEvent m cpu event asked rows after
-MakesWork m cpu (work.Plan plan turns) asked rows after = MakesPlan m cpu turns plan asked rows after
-MakesWork m cpu (work.Echo echo) asked rows after =
-    MakesRequest m cpu (echo_request echo.path echo.word) asked rows after
-MakesWork m cpu (work.Cat path) asked rows after =
+MakesWork m cpu (asks.event e) asked rows after = MakesEvent m cpu e asked rows after
+MakesWork m cpu (asks.plan items turns) asked rows after = MakesPlan m cpu turns items asked rows after
+MakesWork m cpu (asks.not_taken fault) asked rows after =
+    (after ≡ m) × (rows ≡ noted m asked (write_fault_line fault))
+MakesWork m cpu (asks.cat path) asked rows after =
     (after ≡ m) × (rows ≡ file_rows m (file_text m.layout m.state path) asked)
-MakesWork m cpu work.Seal asked rows after = MakesSeal m asked rows after
+MakesWork m cpu asks.seal asked rows after = MakesSeal m asked rows after

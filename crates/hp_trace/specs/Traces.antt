@@ -4,6 +4,7 @@ use Rattle.std.specs.Fmt.{format_spec, styled_decimal}
 use Rattle.hp_escapes.specs.declared.escapes.Brackets.TheVariants.{Escaped}
 use Rattle.hp_machine.specs.Machine.{MachineValue, booted}
 use Rattle.hp_scenario.specs.Scenario.{ScenarioValue, scenario_in}
+use Rattle.hp_scenario.specs.Asked.{asked_by}
 use Rattle.hp_scenario.specs.declared.lines.Line.{Line}
 use Rattle.hp_pictures.specs.Rows.{RowValue}
 use Rattle.hp_trace.specs.Calls.{MakesWork}
@@ -25,7 +26,8 @@ abbrev pub MakesLines : (names : List (List ℕ)) → (number : ℕ) → Machine
 MakesLines names number m [] lists after = (after ≡ m) × (lists ≡ [])
 MakesLines names number m (line ∷ lines) lists after =
     (next : MachineValue) × (rows : List Row) × (rest : List (List Row))
-    × MakesWork m line.cpu line.work (numbered_text names number line) rows next × (lists ≡ rows ∷ rest)
+    × MakesWork m line.cpu (asked_by line.work) (numbered_text names number line) rows next
+    × (lists ≡ rows ∷ rest)
     × MakesLines names (number + 1) next lines rest after
 
 -- the rows of a line, where it is shown
@@ -48,7 +50,7 @@ pub record IsStart (form : Form) (v : View) (m : MachineValue) (rows : RowsValue
 pub record TracesLine (v : View) (names : List (List ℕ)) (number : ℕ) (m : MachineValue) (line : Line)
     (old new : RowsValue) (after : MachineValue) : Type 0 where
   pub rows : List Row
-  pub made : MakesWork m line.cpu line.work (numbered_text names number line) rows after
+  pub made : MakesWork m line.cpu (asked_by line.work) (numbered_text names number line) rows after
   pub drawn : AreDrawn (rows_if (shows v number) rows) old new
 
 -- lines were done, and the rows of those that are shown drawn

@@ -1,20 +1,21 @@
 //! What a line asks for, done and drawn.
 ghost use Rattle.std.specs.Prelude.{◌≡◌, ◌≢◌, IfOk, OnOk};
 ghost use Rattle.hp_requests.specs.declared.fault.ControlFault.TheVariants.{OutOfMemory};
+ghost use Rattle.hp_scenario.specs.Asked.{asked_by};
 ghost use Rattle.hp_text.specs.Answers.{sealed_line, unrecorded_line};
 ghost use Rattle.hp_text.specs.Files.{read_fault_line, write_fault_line};
 ghost use Rattle.hp_control.specs.Reads.{file_text};
-ghost use Rattle.hp_trace.specs.Calls.{MakesEvent, MakesRequest, MakesSeal, MakesWork, file_rows};
+ghost use Rattle.hp_trace.specs.Calls.{MakesEvent, MakesSeal, MakesWork, file_rows};
 ghost use Rattle.hp_trace.specs.Rows.{Adds, AreDrawn, noted};
 
 use crate::plans::{draw_receipt, trace_plan};
 use crate::rows::Rows;
 use hp_control::read_text;
 use hp_machine::Machine;
-use hp_requests::{CONTROL_TURNS, ControlFault, Request};
-use hp_scenario::Work;
+use hp_requests::ControlFault;
+use hp_scenario::{Asked, Work};
 use hp_text::{write_echo_fault, write_read_fault, write_sealed, write_unrecorded};
-use hp_units::{CallFault, Cpu, Event, Text};
+use hp_units::{CallFault, Cpu, Event};
 use std::alloc::{AllocError, Global};
 
 /// Does what a line asks for, and draws it. An error is out of memory.
@@ -26,15 +27,15 @@ pub(crate) fn trace_work(
     work: &Work,
     asked: &str,
 ) -> Result<(), AllocError>
-    ensures { OnOk result
-        (Adds rows.old rows.new (λ list. MakesWork machine.old cpu work.now asked.now list machine.new)) }
+    ensures { OnOk result (Adds rows.old rows.new
+        (λ list. MakesWork machine.old cpu (asked_by work.now) asked.now list machine.new)) }
 {
-    match work {
-        Work::Event(event) => trace_event(rows, alloc, machine, cpu, event, asked),
-        Work::Plan { plan, turns } => trace_plan(rows, alloc, machine, cpu, plan, *turns, asked),
-        Work::Echo(echo) => trace_request(rows, alloc, machine, cpu, echo.request(), asked),
-        Work::Cat { path } => trace_file(rows, alloc, machine, path, asked),
-        Work::Seal => trace_seal(rows, alloc, machine, asked),
+    match work.asked() {
+        Asked::Event(event) => trace_event(rows, alloc, machine, cpu, event, asked),
+        Asked::Plan { plan, turns } => trace_plan(rows, alloc, machine, cpu, plan, turns, asked),
+        Asked::NotTaken(fault) => note_untaken(rows, alloc, machine, fault, asked),
+        Asked::Cat { path } => trace_file(rows, alloc, machine, path, asked),
+        Asked::Seal => trace_seal(rows, alloc, machine, asked),
     }
 }
 
@@ -72,33 +73,6 @@ fn note_full(
     rows.note(alloc, machine, asked, out.as_str())
 }
 
-/// Does what a control file was asked for, or notes why it does not take the word.
-fn trace_request(
-    rows: &mut Rows,
-    alloc: Global,
-    machine: &mut Machine,
-    cpu: Cpu,
-    request: &Result<Request, ControlFault>,
-    asked: &str,
-) -> Result<(), AllocError>
-    ensures { OnOk result (Adds rows.old rows.new
-        (λ list. MakesRequest machine.old cpu request.now asked.now list machine.new)) }
-{
-    match request {
-        Ok(Request::Event(event)) => trace_event(rows, alloc, machine, cpu, event, asked),
-        Ok(Request::Plan(plan)) => trace_plan(
-            rows,
-            alloc,
-            machine,
-            cpu,
-            plan,
-            CONTROL_TURNS,
-            asked,
-        ),
-        Err(fault) => note_untaken(rows, alloc, machine, *fault, asked),
-    }
-}
-
 /// Notes why a control file does not take a word.
 fn note_untaken(
     rows: &mut Rows,
@@ -120,14 +94,14 @@ fn trace_file(
     rows: &mut Rows,
     alloc: Global,
     machine: &Machine,
-    path: &Text,
+    path: &str,
     asked: &str,
 ) -> Result<(), AllocError>
     ensures { OnOk result (AreDrawn
         (file_rows machine.now (file_text machine.now.layout machine.now.state path.now) asked.now) rows.old
         rows.new) }
 {
-    match read_text(alloc, machine, path.as_str()) {
+    match read_text(alloc, machine, path) {
         Ok(text) => rows.note(alloc, machine, asked, text.as_str()),
         Err(fault) => note_unread(rows, alloc, machine, unless_memory(fault)?, asked),
     }

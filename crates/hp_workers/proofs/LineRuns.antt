@@ -9,14 +9,14 @@ use Rattle.hp_units.specs.declared.replies.CallFault.TheVariants.{HistoryFull}
 use Rattle.hp_units.specs.declared.replies.Receipt.{Receipt}
 use Rattle.hp_ops.specs.Ports.{AreMade}
 use Rattle.hp_laws.proofs.Lists.{take_next}
+use Rattle.hp_scenario.specs.Asked.{Meaning, asked_by}
 use Rattle.hp_scenario.specs.declared.lines.Line.{Line}
-use Rattle.hp_scenario.specs.declared.lines.Work.{Work}
 use Rattle.hp_history.specs.declared.volumes.Volume.{Volume}
 use Rattle.hp_shared.specs.Shared.{MayBeFull, SeatValue}
 use Rattle.hp_shared.specs.SeatPorts.{AreTurns}
 use Rattle.hp_workers.specs.declared.lines.LineEnd.{LineEnd}
 use Rattle.hp_workers.specs.declared.lines.LineEnd.TheVariants.{Reply as Replied, Fault as Faulted, Plan as Planned, Control as Untaken, Sealed}
-use Rattle.hp_workers.specs.Lines.{AreLines, IsCallsRun, IsLine, IsLineRun, IsSealRun, IsWorkRun, IsWorked}
+use Rattle.hp_workers.specs.Lines.{AreLines, IsAskedRun, IsCallsRun, IsLine, IsLineRun, IsSealRun, IsWorked}
 
 -- the last call's fault has its cause
 abbrev pub FaultCaused : LayoutParts → SeatValue → CallFault → Type 0
@@ -51,9 +51,9 @@ caused_by l seat fault caused named =
     subst (λ (o : Option CallFault). IfSome o (FaultCaused l seat)) named caused in here refl
 
 -- a line was run by the seat that a port had
-pub line_run : (l : LayoutParts) (old first last new : SeatValue) (asked : Work) (gained : List Receipt)
+pub line_run : (l : LayoutParts) (old first last new : SeatValue) (asked : Meaning) (gained : List Receipt)
     (fault : Option CallFault) (end : LineEnd)
-    → first ≡ old → new ≡ last → AreTurns l first gained last → IsWorkRun l.cpus asked gained fault end
+    → first ≡ old → new ≡ last → AreTurns l first gained last → IsAskedRun l.cpus asked gained fault end
     → IfSome fault (FaultCaused l last) → IsCallsRun l old asked end new
 line_run l old first last new asked gained fault end first_is new_is turns ran caused =
     subst (λ (s : SeatValue). IsCallsRun l s asked end new) first_is
@@ -65,17 +65,10 @@ line_run l old first last new asked gained fault end first_is new_is turns ran c
       caused = caused_by l last fault caused;
     }))
 
--- what calls did hands nothing out
-pub line_called : (l : LayoutParts) (old new : SeatValue) (before after : List Volume) (asked : Work)
-    (end : LineEnd)
-    → after ≡ before → IsCallsRun l old asked end new → IsLineRun l old before asked end new after
-line_called l old new before after asked end same run =
-    record { handed = []; line = inl (refl, run); kept = same ∙ sym (append-nil before) }
-
 -- one more line
 lines_more : (l : LayoutParts) (lines : List Line) (line : Line) (old mid new : SeatValue)
     (handed out : List Volume) (ends : List LineEnd) (end : LineEnd)
-    → AreLines l old lines handed ends mid → IsLine l mid line.work out end new
+    → AreLines l old lines handed ends mid → IsLine l mid (asked_by line.work) out end new
     → AreLines l old (lines ++ line ∷ []) (handed ++ out) (ends ++ end ∷ []) new
 lines_more l [] line old mid new handed out ends end none ran = (
   new,
@@ -85,7 +78,7 @@ lines_more l [] line old mid new handed out ends end none ran = (
   [],
   ap (λ (vs : List Volume). vs ++ out) none.0 ∙ sym (append-nil out),
   ap (λ (es : List LineEnd). es ++ end ∷ []) none.1,
-  (subst (λ (s : SeatValue). IsLine l s line.work out end new) none.2 ran, (refl, refl, refl)),
+  (subst (λ (s : SeatValue). IsLine l s (asked_by line.work) out end new) none.2 ran, (refl, refl, refl)),
 )
 lines_more l (x ∷ lines) line old mid new handed out ends end before ran =
     let later = lines_more l lines line before.0 mid new before.3 out before.4 end before.7.1 ran in (
@@ -103,7 +96,7 @@ lines_more l (x ∷ lines) line old mid new handed out ends end before ran =
 pub worked_next : (l : LayoutParts) (old mid new : SeatValue) (lines : List Line) (line : Line)
     (before after : List Volume) (ends more : List LineEnd) (end : LineEnd)
     → slice_get lines (length ends) ≡ Some line → more ≡ ends ++ end ∷ []
-    → IsWorked l old lines mid before ends → IsLineRun l mid before line.work end new after
+    → IsWorked l old lines mid before ends → IsLineRun l mid before (asked_by line.work) end new after
     → IsWorked l old lines new after more
 worked_next l old mid new lines line before after ends more end here is worked run =
     subst (λ (vs : List Volume). IsWorked l old lines new vs more) (sym run.kept)
@@ -138,7 +131,7 @@ seal_cpu l old new handed (Planned end) ran = absurd ran
 seal_cpu l old new handed (Untaken why) ran = absurd ran
 seal_cpu l old new handed (Sealed count) ran = ap (λ (s : SeatValue). s.cpu) ran.4
 
-line_cpu : (l : LayoutParts) (old new : SeatValue) (asked : Work) (handed : List Volume) (end : LineEnd)
+line_cpu : (l : LayoutParts) (old new : SeatValue) (asked : Meaning) (handed : List Volume) (end : LineEnd)
     → IsLine l old asked handed end new → new.cpu ≡ old.cpu
 line_cpu l old new asked handed end (inl ran) = turns_cpu l ran.1.gained old new ran.1.turns
 line_cpu l old new asked handed end (inr ran) = seal_cpu l old new handed end ran.1
@@ -149,7 +142,7 @@ lines_cpu : (l : LayoutParts) (lines : List Line) (old new : SeatValue) (handed 
 lines_cpu l [] old new handed ends none = ap (λ (s : SeatValue). s.cpu) none.2
 lines_cpu l (line ∷ lines) old new handed ends ran =
     lines_cpu l lines ran.0 new ran.3 ran.4 ran.7.1
-    ∙ line_cpu l old ran.0 line.work ran.1 ran.2 ran.7.0
+    ∙ line_cpu l old ran.0 (asked_by line.work) ran.1 ran.2 ran.7.0
 
 -- lines don't change a seat's processor
 pub worked_cpu : (l : LayoutParts) (old : SeatValue) (lines : List Line) (new : SeatValue)

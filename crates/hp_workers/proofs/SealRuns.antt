@@ -9,9 +9,8 @@ use Rattle.std.proofs.lemmas.List.Sums.{sum_by-append, sum_by-cons, sum_by-take-
 use Rattle.hp_laws.proofs.Lists.{take_next}
 use Rattle.hp_units.specs.LayoutParts.{LayoutParts}
 use Rattle.hp_history.specs.declared.volumes.Volume.{Volume}
-use Rattle.hp_scenario.specs.Scripts.{is_seal}
+use Rattle.hp_scenario.specs.Asked.{Meaning, asked_by, asks_seal, is_seal}
 use Rattle.hp_scenario.specs.declared.lines.Line.{Line}
-use Rattle.hp_scenario.specs.declared.lines.Work.{Work}
 use Rattle.hp_shared.specs.Shared.{SeatValue}
 use Rattle.hp_shared.specs.Volumes.{IsSealOf}
 use Rattle.hp_workers.specs.declared.lines.LineEnd.{LineEnd}
@@ -33,12 +32,12 @@ handed_few l old new handed (Untaken why) ran = absurd ran
 handed_few l old new handed (Sealed count) ran =
     omega (arith, ap (λ (vs : List Volume). length vs) ran.1)
 
-seal_few : (l : LayoutParts) (old new : SeatValue) (asked : Work) (handed : List Volume) (end : LineEnd)
-    → IsLine l old asked handed end new → length handed ≤ one_if (is_seal asked)
+seal_few : (l : LayoutParts) (old new : SeatValue) (asked : Meaning) (handed : List Volume) (end : LineEnd)
+    → IsLine l old asked handed end new → length handed ≤ one_if (asks_seal asked)
 seal_few l old new asked handed end (inl ran) = omega (arith, ap (λ (vs : List Volume). length vs) ran.0)
 seal_few l old new asked handed end (inr ran) =
     omega
-    (arith, handed_few l old new handed end ran.1, ap (λ (asked : Work). one_if (is_seal asked)) ran.0)
+    (arith, handed_few l old new handed end ran.1, ap (λ (m : Meaning). one_if (asks_seal m)) ran.0)
 
 lines_few : (l : LayoutParts) (lines : List Line) (old new : SeatValue) (handed : List Volume)
     (ends : List LineEnd)
@@ -47,7 +46,7 @@ lines_few l [] old new handed ends none = omega (arith, ap (λ (vs : List Volume
 lines_few l (line ∷ lines) old new handed ends ran =
     omega (
       arith,
-      seal_few l old ran.0 line.work ran.1 ran.2 ran.7.0,
+      seal_few l old ran.0 (asked_by line.work) ran.1 ran.2 ran.7.0,
       lines_few l lines ran.0 new ran.3 ran.4 ran.7.1,
       ap (λ (vs : List Volume). length vs) ran.5,
       length-append ran.1 ran.3,
@@ -82,7 +81,7 @@ seal_seals l old new handed (Sealed count) ran =
     (record { seen = ran.2.seen; shared = ran.2.shared; is = ran.2.is; within = omega arith })
     (none_sealed l [] refl))
 
-line_seals : (l : LayoutParts) (old new : SeatValue) (asked : Work) (handed : List Volume) (end : LineEnd)
+line_seals : (l : LayoutParts) (old new : SeatValue) (asked : Meaning) (handed : List Volume) (end : LineEnd)
     → IsLine l old asked handed end new → AreSealed l handed
 line_seals l old new asked handed end (inl ran) = none_sealed l handed ran.0
 line_seals l old new asked handed end (inr ran) = seal_seals l old new handed end ran.1
@@ -93,7 +92,7 @@ lines_seal : (l : LayoutParts) (lines : List Line) (old new : SeatValue) (handed
 lines_seal l [] old new handed ends none = none_sealed l handed none.0
 lines_seal l (line ∷ lines) old new handed ends ran =
     subst (AreSealed l) (sym ran.5) (All-append (λ (v : Volume). IsSealOf l v 0) ran.1 ran.3
-    (line_seals l old ran.0 line.work ran.1 ran.2 ran.7.0)
+    (line_seals l old ran.0 (asked_by line.work) ran.1 ran.2 ran.7.0)
     (lines_seal l lines ran.0 new ran.3 ran.4 ran.7.1))
 
 pub worker_seals : (l : LayoutParts) (old : SeatValue) (lines : List Line) (new : SeatValue)

@@ -1,5 +1,5 @@
 -- What running lines makes of a seat, and how the lines end (own rule).
-use Rattle.std.specs.Prelude.{◌≡◌, ◌⊎◌, ℕ, ◌≤◌, List, [], ◌∷◌, ◌++◌, Option, Some, None, Result, Ok, Err, length, take}
+use Rattle.std.specs.Prelude.{◌≡◌, ◌⊎◌, ℕ, ◌≤◌, List, [], ◌∷◌, ◌++◌, Option, Some, None, length, take}
 use Rattle.hp_units.specs.Driver.{IsDriverRun}
 use Rattle.hp_units.specs.LayoutParts.{LayoutParts}
 use Rattle.hp_units.specs.declared.events.Event.{Event}
@@ -11,13 +11,9 @@ use Rattle.hp_units.specs.declared.replies.OpEnd.TheVariants.{Left}
 use Rattle.hp_units.specs.declared.replies.Receipt.{Receipt}
 use Rattle.hp_ops.specs.Ports.{AreMade, PortValue}
 use Rattle.hp_history.specs.declared.volumes.Volume.{Volume}
-use Rattle.hp_requests.specs.Writes.{control_turns, echo_request}
 use Rattle.hp_requests.specs.declared.fault.ControlFault.{ControlFault}
-use Rattle.hp_requests.specs.declared.writes.Request.{Request}
-use Rattle.hp_requests.specs.declared.writes.Request.TheVariants as request
+use Rattle.hp_scenario.specs.Asked as asks
 use Rattle.hp_scenario.specs.declared.lines.Line.{Line}
-use Rattle.hp_scenario.specs.declared.lines.Work.{Work}
-use Rattle.hp_scenario.specs.declared.lines.Work.TheVariants as work
 use Rattle.hp_shared.specs.Shared.{MayBeFull, SeatValue}
 use Rattle.hp_shared.specs.SeatPorts.{AreTurns}
 use Rattle.hp_shared.specs.Volumes.{IsSealOf, sealed_by}
@@ -59,23 +55,17 @@ IsPlanRun cpus turns plan gained fault (Sealed count) = ⊥
 abbrev pub IsUntaken : ControlFault → Run
 IsUntaken why gained fault end = (gained ≡ []) × (fault ≡ None) × (end ≡ Untaken why)
 
--- what a control file was asked for was done
-abbrev pub IsRequestRun : (cpus : ℕ) → Result Request ControlFault → Run
-IsRequestRun cpus (Ok (request.Event event)) = IsEventRun event
-IsRequestRun cpus (Ok (request.Plan plan)) = IsPlanRun cpus control_turns plan
-IsRequestRun cpus (Err why) = IsUntaken why
-
 -- no call is made for a line that reads a control file, or seals
 abbrev pub IsNoRun : Run
 IsNoRun gained fault end = ⊥
 
--- a line's work was done by calls
-abbrev pub IsWorkRun : (cpus : ℕ) → Work → Run
-IsWorkRun cpus (work.Event event) = IsEventRun event
-IsWorkRun cpus (work.Plan plan turns) = IsPlanRun cpus turns plan
-IsWorkRun cpus (work.Echo echo) = IsRequestRun cpus (echo_request echo.path echo.word)
-IsWorkRun cpus (work.Cat path) = IsNoRun
-IsWorkRun cpus work.Seal = IsNoRun
+-- what a line asks for was done by calls
+abbrev pub IsAskedRun : (cpus : ℕ) → asks.Meaning → Run
+IsAskedRun cpus (asks.event e) = IsEventRun e
+IsAskedRun cpus (asks.plan items turns) = IsPlanRun cpus turns items
+IsAskedRun cpus (asks.not_taken why) = IsUntaken why
+IsAskedRun cpus (asks.cat path) = IsNoRun
+IsAskedRun cpus asks.seal = IsNoRun
 
 -- it was run through a port, of whose calls at most the last left a fault
 pub record IsPortRun {S : Type 0} (shows : S → PortValue) (makes : S → List Receipt → S → Type 0)
@@ -85,14 +75,14 @@ pub record IsPortRun {S : Type 0} (shows : S → PortValue) (makes : S → List 
   pub made : AreMade makes leaves old gained fault new
   pub ran : Ran gained fault end
 
--- a line's work was done by calls of a seat, which keeps the receipts that it gained; the last call
+-- what a line asks for was done by calls of a seat, which keeps the receipts that it gained; the last call
 -- left HistoryFull only where the seat may find the history full then
-pub record IsCallsRun (l : LayoutParts) (old : SeatValue) (asked : Work) (end : LineEnd)
+pub record IsCallsRun (l : LayoutParts) (old : SeatValue) (asked : asks.Meaning) (end : LineEnd)
     (new : SeatValue) : Type 0 where
   pub gained : List Receipt
   pub fault : Option CallFault
   pub turns : AreTurns l old gained new
-  pub line : IsWorkRun l.cpus asked gained fault end
+  pub line : IsAskedRun l.cpus asked gained fault end
   pub caused : fault ≡ Some call.HistoryFull → MayBeFull l new
 
 -- a seat made no call: it handed out one volume, whose number of records is the end; or none, since
@@ -107,14 +97,14 @@ IsSealRun l old handed (Sealed count) new =
     × (new ≡ sealed_by old v)
 
 -- a line was run by a seat, by calls or by a seal, which handed out these volumes
-abbrev pub IsLine : LayoutParts → SeatValue → Work → List Volume → LineEnd → SeatValue → Type 0
+abbrev pub IsLine : LayoutParts → SeatValue → asks.Meaning → List Volume → LineEnd → SeatValue → Type 0
 IsLine l old asked handed end new =
     ((handed ≡ []) × IsCallsRun l old asked end new)
-    ⊎ ((asked ≡ work.Seal) × IsSealRun l old handed end new)
+    ⊎ ((asked ≡ asks.seal) × IsSealRun l old handed end new)
 
 -- a line was run by a seat; what it handed out stands after the volumes before it
-pub record IsLineRun (l : LayoutParts) (old : SeatValue) (before : List Volume) (asked : Work) (end : LineEnd)
-    (new : SeatValue) (after : List Volume) : Type 0 where
+pub record IsLineRun (l : LayoutParts) (old : SeatValue) (before : List Volume) (asked : asks.Meaning)
+    (end : LineEnd) (new : SeatValue) (after : List Volume) : Type 0 where
   pub handed : List Volume
   pub line : IsLine l old asked handed end new
   pub kept : after ≡ before ++ handed
@@ -125,7 +115,7 @@ AreLines l old [] handed ends new = (handed ≡ []) × (ends ≡ []) × (new ≡
 AreLines l old (line ∷ lines) handed ends new =
     (mid : SeatValue) × (out : List Volume) × (end : LineEnd) × (more : List Volume)
     × (others : List LineEnd) × (handed ≡ out ++ more) × (ends ≡ end ∷ others)
-    × (IsLine l old line.work out end mid × AreLines l mid lines more others new)
+    × (IsLine l old (asks.asked_by line.work) out end mid × AreLines l mid lines more others new)
 
 -- a seat ran a beginning of the lines, with an end for each, and its seals handed out these volumes
 pub record IsWorked (l : LayoutParts) (old : SeatValue) (lines : List Line) (new : SeatValue)

@@ -4,7 +4,7 @@ use Rattle.std.specs.List.{All}
 use Rattle.std.specs.List.Sorted.{IsNonDecreasingBy}
 use Rattle.hp_units.specs.LayoutParts.{LayoutParts}
 use Rattle.hp_history.specs.declared.volumes.Volume.{Volume}
-use Rattle.hp_scenario.specs.Scripts.{is_seal}
+use Rattle.hp_scenario.specs.Asked.{is_seal}
 use Rattle.hp_scenario.specs.declared.lines.Line.{Line}
 use Rattle.hp_shared.specs.Volumes.{IsSealOf}
 

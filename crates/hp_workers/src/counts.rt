@@ -1,7 +1,7 @@
 //! How many lines seal, so that there is room for all volumes before the first thread.
 ghost use Rattle.std.specs.Prelude.{◌≡◌, ◌+◌, IfSome};
 ghost use Rattle.hp_workers.specs.Seals.{one_if, seals_in, seals_in_all};
-ghost use Rattle.hp_scenario.specs.Scripts.{is_seal};
+ghost use Rattle.hp_scenario.specs.Asked.{is_seal};
 
 use hp_scenario::{Line, Script};
 

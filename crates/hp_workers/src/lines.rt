@@ -1,14 +1,16 @@
 //! One line of a worker, and what became of it.
 ghost use Rattle.std.specs.Prelude.{◌≡◌, false, None};
-ghost use Rattle.hp_scenario.specs.Scripts.{IsForRun, is_cat, is_seal};
-ghost use Rattle.hp_workers.specs.Lines.{IsCallsRun, IsEventRun, IsLineRun, IsPlanRun, IsPortRun, IsRequestRun, IsWorkRun};
+ghost use Rattle.hp_scenario.specs.Asked as asks;
+ghost use Rattle.hp_scenario.specs.Scripts.{IsForRun};
+ghost use Rattle.hp_scenario.specs.Seen.{asked_seen};
+ghost use Rattle.hp_workers.specs.Lines.{IsAskedRun, IsCallsRun, IsEventRun, IsLineRun, IsPlanRun, IsPortRun};
 
 use crate::gate::Gate;
 use crate::port::GatedPort;
 use hp_history::Volume;
 use hp_ops::{Port, run_plan};
-use hp_requests::{CONTROL_TURNS, ControlFault, Request};
-use hp_scenario::{Line, Work};
+use hp_requests::ControlFault;
+use hp_scenario::{Asked, Line};
 use hp_shared::{Job, Seat, Shared};
 use hp_units::{CallFault, Event, OpEnd, Plan, Reply};
 use std::alloc::{AllocError, Global};
@@ -74,12 +76,12 @@ pub(crate) fn run_line<'a, L: Job, G: Gate, R: Wait>(
     line: &Line,
 ) -> LineEnd
     requires { IsForRun line.now }
-    ensures { IsLineRun L.layout seat.old volumes.old.items line.now.work result seat.new volumes.new.items }
+    ensures { IsLineRun L.layout seat.old volumes.old.items (asks.asked_by line.now.work) result seat.new
+        volumes.new.items }
 {
-    if line.work.is_seal() {
-        seal(rt, alloc, shared, gate, seat, calls, volumes)
-    } else {
-        run_calls(rt, alloc, shared, gate, seat, calls, &line.work)
+    match line.work.asked() {
+        Asked::Seal => seal(rt, alloc, shared, gate, seat, calls, volumes),
+        asked => run_calls(rt, alloc, shared, gate, seat, calls, asked),
     }
 }
 
@@ -93,7 +95,7 @@ fn seal<L: Job, G: Gate, R: Wait>(
     calls: &mut u64,
     volumes: &mut Vec<Volume>,
 ) -> LineEnd
-    ensures { IsLineRun L.layout seat.old volumes.old.items Work.Seal result seat.new volumes.new.items }
+    ensures { IsLineRun L.layout seat.old volumes.old.items asks.seal result seat.new volumes.new.items }
 {
     let cpu = seat.cpu();
     *calls = calls.saturating_add(1);
@@ -111,7 +113,7 @@ fn take_volume<L: Job, R: Wait>(
     seat: &mut Seat<L>,
     volumes: &mut Vec<Volume>,
 ) -> LineEnd
-    ensures { IsLineRun L.layout seat.old volumes.old.items Work.Seal result seat.new volumes.new.items }
+    ensures { IsLineRun L.layout seat.old volumes.old.items asks.seal result seat.new volumes.new.items }
 {
     let Ok(()) = volumes.reserve(1) else {
         return LineEnd::Fault(CallFault::OutOfMemory);
@@ -134,32 +136,32 @@ fn run_calls<'a, L: Job, G: Gate, R: Wait>(
     gate: &'a G,
     seat: &'a mut Seat<L>,
     calls: &'a mut u64,
-    work: &Work,
+    asked: Asked<'_>,
 ) -> LineEnd
-    requires run { is_cat work.now ≡ false }
-    requires calls { is_seal work.now ≡ false }
-    ensures { IsCallsRun L.layout seat.old work.now result seat.new }
+    requires run { asks.asks_text (asked_seen asked) ≡ false }
+    requires calls { asks.asks_seal (asked_seen asked) ≡ false }
+    ensures { IsCallsRun L.layout seat.old (asked_seen asked.entry) result seat.new }
 {
     let mut port = GatedPort::new(rt, seat, shared, gate, calls);
-    let end = run_work(alloc, &mut port, work);
+    let end = run_asked(alloc, &mut port, asked);
     // No effect at run time: the proof reads what the seat is from this use.
     let _ = &*port.seat;
     end
 }
 
 /// Does through a port what a line asks for.
-fn run_work<P: Port>(alloc: Global, port: &mut P, work: &Work) -> LineEnd
+fn run_asked<P: Port>(alloc: Global, port: &mut P, asked: Asked<'_>) -> LineEnd
     requires clear { (P.shows port.old).fault ≡ None }
-    requires run { is_cat work.now ≡ false }
-    requires calls { is_seal work.now ≡ false }
-    ensures { IsPortRun P.shows P.makes P.leaves port.old (IsWorkRun (P.shows port.old).cpus work.now) result
-        port.new }
+    requires run { asks.asks_text (asked_seen asked) ≡ false }
+    requires calls { asks.asks_seal (asked_seen asked) ≡ false }
+    ensures { IsPortRun P.shows P.makes P.leaves port.old
+        (IsAskedRun (P.shows port.old).cpus (asked_seen asked.entry)) result port.new }
 {
-    match work {
-        Work::Event(event) => ask(alloc, port, event),
-        Work::Plan { plan, turns } => carry_out(alloc, port, plan, *turns),
-        Work::Echo(echo) => write(alloc, port, echo.request()),
-        Work::Cat { path: _ } | Work::Seal => unreachable!(),
+    match asked {
+        Asked::Event(event) => ask(alloc, port, event),
+        Asked::Plan { plan, turns } => carry_out(alloc, port, plan, turns),
+        Asked::NotTaken(fault) => LineEnd::Control(fault),
+        Asked::Cat { path: _ } | Asked::Seal => unreachable!(),
     }
 }
 
@@ -185,18 +187,5 @@ fn carry_out<P: Port>(alloc: Global, port: &mut P, plan: &Plan, turns: u32) -> L
             op: None,
             fault: CallFault::OutOfMemory,
         }),
-    }
-}
-
-/// Does through a port what a control file was asked for.
-fn write<P: Port>(alloc: Global, port: &mut P, request: &Result<Request, ControlFault>) -> LineEnd
-    requires { (P.shows port.old).fault ≡ None }
-    ensures { IsPortRun P.shows P.makes P.leaves port.old
-        (IsRequestRun (P.shows port.old).cpus request.now) result port.new }
-{
-    match request {
-        Ok(Request::Event(event)) => ask(alloc, port, event),
-        Ok(Request::Plan(plan)) => carry_out(alloc, port, plan, CONTROL_TURNS),
-        Err(fault) => LineEnd::Control(*fault),
     }
 }

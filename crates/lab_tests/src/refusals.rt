@@ -1,8 +1,9 @@
 //! Scenarios that are not explored, and why.
 use super::explorations::scenario;
 use hp_explore::Silent;
-use hp_lab::{EndsForm, LabFault, Unfit, explore_text};
+use hp_lab::{EndsForm, LabFault, explore_text};
 use hp_requests::ControlFault;
+use hp_scenario::Unfit;
 use std::alloc::{AllocError, Global};
 use std::test::Fail;
 

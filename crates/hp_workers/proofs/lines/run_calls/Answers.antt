@@ -1,14 +1,15 @@
 use Rattle.std.proofs.Common.{rules, ◌∙◌}
+use Rattle.hp_scenario.specs.Seen.{asked_seen}
 use Rattle.hp_workers.proofs.LineRuns.{line_run, seat_made}
 use Rattle.hp_workers.proofs.lines.run_calls.Goals as goal
 
 pub returns : goal.returns
 returns g c =
-    let ran = c.run_work-end.ensures in
+    let ran = c.run_asked-end.ensures in
     let made =
-    seat_made g.L.Job.layout _ _ c.new-port.result c.run_work-end.new.port ran.gained ran.fault ran.made
+    seat_made g.L.Job.layout _ _ c.new-port.result c.run_asked-end.new.port ran.gained ran.fault ran.made
     (λ p. p.seat.ghost_name) (λ p. p.seat.now) (λ p q gained turns. turns) (λ p q fault left. left) in
     let name = made.0 ∙ c.new-port.ensures.same_reference in
-    line_run g.L.Job.layout c.args.seat.now c.new-port.result.seat.now c.run_work-end.new.port.seat.now _
-    c.args.work.now ran.gained ran.fault c.run_work-end.result c.new-port.ensures.seat (search rules) made.1
-    ran.ran made.2
+    line_run g.L.Job.layout c.args.seat.now c.new-port.result.seat.now c.run_asked-end.new.port.seat.now _
+    (asked_seen c.args.asked) ran.gained ran.fault c.run_asked-end.result c.new-port.ensures.seat
+    (search rules) made.1 ran.ran made.2
