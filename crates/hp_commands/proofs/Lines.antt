@@ -4,15 +4,13 @@ use Rattle.std.proofs.lemmas.List.{take_more}
 use Rattle.hp_units.specs.LayoutParts.{LayoutParts}
 use Rattle.hp_units.specs.History.{value_of, net_of, run}
 use Rattle.hp_machine.specs.Machine.{MachineValue, booted}
-use Rattle.hp_requests.specs.Writes.{echo_request}
 use Rattle.hp_scenario.specs.declared.lines.Line.{Line}
-use Rattle.hp_scenario.specs.declared.lines.Work.{Work}
-use Rattle.hp_scenario.specs.declared.lines.Work.TheVariants as work
-use Rattle.hp_commands.specs.Serial.{GrowsBy, IsWhole, WritesLine, WritesLines, WritesWork, lines_text, line_text, machine_after, machine_after_lines, machine_after_work, work_text}
+use Rattle.hp_scenario.specs.Asked as asks
+use Rattle.hp_commands.specs.Serial.{GrowsBy, IsWhole, WritesAsked, WritesLine, WritesLines, asked_text, lines_text, line_text, machine_after, machine_after_asked, machine_after_lines}
 use Rattle.hp_commands.proofs.EventsDue.{IsUpToDate, event_due, event_is}
-use Rattle.hp_commands.proofs.FilesDue.{cat_due, request_due, request_is}
+use Rattle.hp_commands.proofs.FilesDue.{cat_due}
 use Rattle.hp_commands.proofs.PlansDue.{plan_due, plan_is}
-use Rattle.hp_commands.proofs.SealsDue.{seal_due, seal_is}
+use Rattle.hp_commands.proofs.SealsDue.{seal_is}
 use Rattle.hp_commands.proofs.Whole.{whole_back}
 
 -- no line yet
@@ -66,21 +64,21 @@ unfolding value_of net_of run
 booted_is l = refl
 
 -- one more line, or list of lines
-work_is : (m : MachineValue) (cpu : ℕ) (w : Work) (text : List ℕ) (new : MachineValue) → IsUpToDate m
-    → WritesWork m cpu w text new → IsUpToDate new
-work_is m cpu (work.Event event) text new h ran = event_is m cpu event text new h ran
-work_is m cpu (work.Plan plan turns) text new h ran = plan_is m cpu turns plan text new h ran
-work_is m cpu (work.Echo echo) text new h ran =
-    request_is m cpu (echo_request echo.path echo.word) text new h ran
-work_is m cpu (work.Cat path) text new h ran = subst IsUpToDate (sym ran.1) h
-work_is m cpu work.Seal text new h ran = seal_is m text new h ran
+asked_is : (m : MachineValue) (cpu : ℕ) (w : asks.Meaning) (text : List ℕ) (new : MachineValue)
+    → IsUpToDate m
+    → WritesAsked m cpu w text new → IsUpToDate new
+asked_is m cpu (asks.event event) text new h ran = event_is m cpu event text new h ran
+asked_is m cpu (asks.plan items turns) text new h ran = plan_is m cpu turns items text new h ran
+asked_is m cpu (asks.not_taken fault) text new h ran = subst IsUpToDate (sym ran.1) h
+asked_is m cpu (asks.cat path) text new h ran = subst IsUpToDate (sym ran.1) h
+asked_is m cpu asks.seal text new h ran = seal_is m text new ran
 
 lines_are : (xs : List Line) (m new : MachineValue) (text : List ℕ) → IsUpToDate m → WritesLines m xs text new
     → IsUpToDate new
 unfolding WritesLines
 lines_are [] m new text h ran = subst IsUpToDate (sym ran.1) h
 lines_are (x ∷ xs) m new text h ran =
-    lines_are xs ran.1 new ran.2 (work_is m x.cpu x.work ran.0 ran.1 h ran.3) ran.5
+    lines_are xs ran.1 new ran.2 (asked_is m x.cpu (asks.asked_by x.work) ran.0 ran.1 h ran.3) ran.5
 
 -- a run from the start keeps the state that of the history
 pub run_is : (l : LayoutParts) (xs : List Line) (text : List ℕ) (new : MachineValue)
@@ -105,23 +103,23 @@ due_more x xs m next new text written rest e w n due = (
 )
 
 -- in a whole text a line wrote what is due
-work_due : (m : MachineValue) (cpu : ℕ) (w : Work) (text : List ℕ) (new : MachineValue) (rest : List ℕ)
-    → WritesWork m cpu w text new → IsWhole (text ++ rest)
-    → (text ≡ work_text m cpu w) × (new ≡ machine_after_work m cpu w)
-work_due m cpu (work.Event event) text new rest ran whole = event_due m cpu event text new rest ran whole
-work_due m cpu (work.Plan plan turns) text new rest ran whole =
-    plan_due m cpu turns plan text new rest ran whole
-work_due m cpu (work.Echo echo) text new rest ran whole =
-    request_due m cpu (echo_request echo.path echo.word) text new rest ran whole
-work_due m cpu (work.Cat path) text new rest ran whole = (cat_due m path text rest ran.0 whole, ran.1)
-work_due m cpu work.Seal text new rest ran whole = seal_due m text new rest ran whole
+asked_due : (m : MachineValue) (cpu : ℕ) (w : asks.Meaning) (text : List ℕ) (new : MachineValue)
+    (rest : List ℕ)
+    → WritesAsked m cpu w text new → IsWhole (text ++ rest)
+    → (text ≡ asked_text m cpu w) × (new ≡ machine_after_asked m cpu w)
+asked_due m cpu (asks.event event) text new rest ran whole = event_due m cpu event text new rest ran whole
+asked_due m cpu (asks.plan items turns) text new rest ran whole =
+    plan_due m cpu turns items text new rest ran whole
+asked_due m cpu (asks.not_taken fault) text new rest ran whole = ran
+asked_due m cpu (asks.cat path) text new rest ran whole = (cat_due m path text rest ran.0 whole, ran.1)
+asked_due m cpu asks.seal text new rest ran whole = ran
 
 -- a line in front that wrote what is due, since the text is whole
 line_due : (x : Line) (xs : List Line) (m next new : MachineValue) (text written rest end : List ℕ)
     → WritesLine m x written next → text ≡ written ++ rest → (IsWhole (rest ++ end) → AreDue next xs rest new)
     → IsWhole (written ++ (rest ++ end)) → AreDue m (x ∷ xs) text new
 line_due x xs m next new text written rest end ran e due whole =
-    let one = work_due m x.cpu x.work written next (rest ++ end) ran whole in
+    let one = asked_due m x.cpu (asks.asked_by x.work) written next (rest ++ end) ran whole in
     due_more x xs m next new text written rest e one.0 one.1 (due (whole_back written (rest ++ end) whole))
 
 -- the text of a run in which no line wanted memory is the one that is due

@@ -1,7 +1,8 @@
 -- What the functions that write a line did, said as their contracts say it.
-use Rattle.std.proofs.Common.{◌≡◌, ℕ, List, ◌++◌, Ok, refl, sym, ap, subst, ◌∙◌, inl, inr}
+use Rattle.std.proofs.Common.{◌≡◌, ℕ, List, ◌++◌, Result, Ok, refl, sym, ap, subst, ◌∙◌, inl, inr}
 use Rattle.hp_units.specs.declared.plans.Item.{Item}
 use Rattle.hp_units.specs.declared.replies.OpEnd.{OpEnd}
+use Rattle.hp_memory.specs.Memory.{MemoryValue}
 use Rattle.hp_machine.specs.Machine.{MachineValue}
 use Rattle.hp_machine.specs.MachinePorts.{IsPlanRun}
 use Rattle.hp_requests.specs.declared.fault.ControlFault.{ControlFault}
@@ -34,14 +35,23 @@ plan_written m new cpu turns plan copied end old out same ran grown =
 
 -- ---- a file read
 
-pub file_written : (m : MachineValue) (path asked text old out : List ℕ) → asked ≡ path
-    → file_text m.layout m.state asked ≡ Ok text → out ≡ old ++ text
-    → GrowsBy old out (λ (t : List ℕ). WritesFile m path t)
-file_written m path asked text old out same read grown =
+-- the machine's memory, of which a text is read
+abbrev pub IsMemoryOf : MemoryValue → MachineValue → Type 0
+IsMemoryOf memory m = memory ≡ record { layout = m.layout; state = m.state }
+
+-- what is read of the memory is read of the machine
+same_file : (memory : MemoryValue) (m : MachineValue) (path : List ℕ) → IsMemoryOf memory m
+    → file_text m.layout m.state path ≡ file_text memory.layout memory.state path
+same_file memory m path is = ap (λ (k : MemoryValue). file_text k.layout k.state path) (sym is)
+
+pub file_written : (memory : MemoryValue) (m : MachineValue) (path text old out : List ℕ)
+    → IsMemoryOf memory m → file_text memory.layout memory.state path ≡ Ok text
+    → out ≡ old ++ text → GrowsBy old out (λ (t : List ℕ). WritesFile m path t)
+file_written memory m path text old out is read grown =
     record {
       text = text;
       grown = grown;
-      is = inl (sym (ap read_answer (ap (file_text m.layout m.state) (sym same) ∙ read)));
+      is = inl (sym (ap read_answer (same_file memory m path is ∙ read)));
     }
 
 read_refused : (m : MachineValue) (path : List ℕ) (fault : ControlFault)
@@ -52,13 +62,14 @@ read_refused m path BadText h = inl (sym (ap read_answer h))
 read_refused m path OutOfMemory h = inr refl
 read_refused m path WriteOnly h = inl (sym (ap read_answer h))
 
-pub file_fault_written : (m : MachineValue) (path asked : List ℕ) (fault : ControlFault) (old out : List ℕ)
-    → asked ≡ path → Fails fault (file_text m.layout m.state asked) → out ≡ old ++ read_fault_line fault
-    → GrowsBy old out (λ (t : List ℕ). WritesFile m path t)
-file_fault_written m path asked fault old out same refused grown = record {
+pub file_fault_written : (memory : MemoryValue) (m : MachineValue) (path : List ℕ) (fault : ControlFault)
+    (old out : List ℕ)
+    → IsMemoryOf memory m → Fails fault (file_text memory.layout memory.state path)
+    → out ≡ old ++ read_fault_line fault → GrowsBy old out (λ (t : List ℕ). WritesFile m path t)
+file_fault_written memory m path fault old out is refused grown = record {
   text = read_fault_line fault;
   grown = grown;
   is =
       read_refused m path fault
-      (subst (λ (p : List ℕ). Fails fault (file_text m.layout m.state p)) same refused);
+      (subst (λ (r : Result (List ℕ) ControlFault). Fails fault r) (sym (same_file memory m path is)) refused);
 }

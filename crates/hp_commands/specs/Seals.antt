@@ -1,15 +1,12 @@
 -- What a seal writes, and what it makes of the machine.
-use Rattle.std.specs.Prelude.{◌≡◌, ◌⊎◌, ℕ, List, length}
-use Rattle.hp_units.specs.declared.replies.CallFault.TheVariants.{OutOfMemory}
+use Rattle.std.specs.Prelude.{◌≡◌, ℕ, List, length}
 use Rattle.hp_machine.specs.Machine.{MachineValue, sealed}
-use Rattle.hp_text.specs.Answers.{sealed_line, unrecorded_line}
+use Rattle.hp_text.specs.Answers.{sealed_line}
 
 -- how many records there were since the last seal
 abbrev pub seal_text : MachineValue → List ℕ
 seal_text m = sealed_line (length m.history)
 
--- a seal handed the records out, and the machine goes on with none; or it was out of memory, which
--- is said in place of the number, and the machine is as it was
+-- a seal says how many records there were, and the machine goes on with none
 abbrev pub WritesSeal : MachineValue → (text : List ℕ) → (new : MachineValue) → Type 0
-WritesSeal m text new =
-    ((text ≡ seal_text m) × (new ≡ sealed m)) ⊎ ((text ≡ unrecorded_line OutOfMemory) × (new ≡ m))
+WritesSeal m text new = (text ≡ seal_text m) × (new ≡ sealed m)

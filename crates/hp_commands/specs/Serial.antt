@@ -2,41 +2,40 @@
 use Rattle.std.specs.Prelude.{◌≡◌, ℕ, List, [], ◌∷◌, ◌++◌, codes, Result, Ok}
 use Rattle.hp_units.specs.History.{value_of}
 use Rattle.hp_machine.specs.Machine.{MachineValue, booted, sealed}
-use Rattle.hp_requests.specs.Writes.{echo_request}
 use Rattle.hp_scenario.specs.declared.fault.ScenarioFault.{ScenarioFault}
 use Rattle.hp_scenario.specs.declared.lines.Line.{Line}
-use Rattle.hp_scenario.specs.declared.lines.Work.{Work}
-use Rattle.hp_scenario.specs.declared.lines.Work.TheVariants as work
+use Rattle.hp_scenario.specs.Asked as asks
 use Rattle.hp_scenario.specs.Gives.{◌>>=◌}
 use Rattle.hp_scenario.specs.Scenario.{ScenarioValue, scenario_in}
 use Rattle.hp_commands.specs.Events.{WritesEvent, event_text, machine_after_event}
-use Rattle.hp_commands.specs.Files.{WritesFile, WritesRequest, cat_text, machine_after_request, request_text}
+use Rattle.hp_commands.specs.Files.{WritesFile, cat_text}
 use Rattle.hp_commands.specs.Plans.{WritesPlan, plan_run, plan_text}
 use Rattle.hp_commands.specs.Seals.{WritesSeal, seal_text}
+use Rattle.hp_text.specs.Files.{write_fault_line}
 use Rattle.hp_text.specs.State.{state_text}
 
 -- ---- one line
 
--- what a line's work writes, and the machine after it
-abbrev pub work_text : MachineValue → (cpu : ℕ) → Work → List ℕ
-work_text m cpu (work.Event event) = event_text m cpu event
-work_text m cpu (work.Plan plan turns) = plan_text m cpu turns plan
-work_text m cpu (work.Echo echo) = request_text m cpu (echo_request echo.path echo.word)
-work_text m cpu (work.Cat path) = cat_text m path
-work_text m cpu work.Seal = seal_text m
+-- what is written for what a line asks for, and the machine after it
+abbrev pub asked_text : MachineValue → (cpu : ℕ) → asks.Meaning → List ℕ
+asked_text m cpu (asks.event event) = event_text m cpu event
+asked_text m cpu (asks.plan items turns) = plan_text m cpu turns items
+asked_text m cpu (asks.not_taken fault) = write_fault_line fault
+asked_text m cpu (asks.cat path) = cat_text m path
+asked_text m cpu asks.seal = seal_text m
 
-abbrev pub machine_after_work : MachineValue → (cpu : ℕ) → Work → MachineValue
-machine_after_work m cpu (work.Event event) = machine_after_event m cpu event
-machine_after_work m cpu (work.Plan plan turns) = (plan_run m cpu turns plan).machine
-machine_after_work m cpu (work.Echo echo) = machine_after_request m cpu (echo_request echo.path echo.word)
-machine_after_work m cpu (work.Cat path) = m
-machine_after_work m cpu work.Seal = sealed m
+abbrev pub machine_after_asked : MachineValue → (cpu : ℕ) → asks.Meaning → MachineValue
+machine_after_asked m cpu (asks.event event) = machine_after_event m cpu event
+machine_after_asked m cpu (asks.plan items turns) = (plan_run m cpu turns items).machine
+machine_after_asked m cpu (asks.not_taken fault) = m
+machine_after_asked m cpu (asks.cat path) = m
+machine_after_asked m cpu asks.seal = sealed m
 
 abbrev pub line_text : MachineValue → Line → List ℕ
-line_text m line = work_text m line.cpu line.work
+line_text m line = asked_text m line.cpu (asks.asked_by line.work)
 
 abbrev pub machine_after : MachineValue → Line → MachineValue
-machine_after m line = machine_after_work m line.cpu line.work
+machine_after m line = machine_after_asked m line.cpu (asks.asked_by line.work)
 
 -- ---- the whole text
 
@@ -68,17 +67,17 @@ IsWhole text = (front rest : List ℕ) → text ≡ front ++ (codes "OutOfMemory
 
 -- ---- lines as they are run
 
--- a line's work was done
-abbrev pub WritesWork : MachineValue → (cpu : ℕ) → Work → (text : List ℕ) → (new : MachineValue) → Type 0
-WritesWork m cpu (work.Event event) text new = WritesEvent m cpu event text new
-WritesWork m cpu (work.Plan plan turns) text new = WritesPlan m cpu turns plan text new
-WritesWork m cpu (work.Echo echo) text new = WritesRequest m cpu (echo_request echo.path echo.word) text new
-WritesWork m cpu (work.Cat path) text new = WritesFile m path text × (new ≡ m)
-WritesWork m cpu work.Seal text new = WritesSeal m text new
+-- what a line asks for was done, or said why not
+abbrev pub WritesAsked : MachineValue → (cpu : ℕ) → asks.Meaning → (text : List ℕ) → (new : MachineValue) → Type 0
+WritesAsked m cpu (asks.event event) text new = WritesEvent m cpu event text new
+WritesAsked m cpu (asks.plan items turns) text new = WritesPlan m cpu turns items text new
+WritesAsked m cpu (asks.not_taken fault) text new = (text ≡ write_fault_line fault) × (new ≡ m)
+WritesAsked m cpu (asks.cat path) text new = WritesFile m path text × (new ≡ m)
+WritesAsked m cpu asks.seal text new = WritesSeal m text new
 
 -- a line was run
 abbrev pub WritesLine : MachineValue → Line → (text : List ℕ) → (new : MachineValue) → Type 0
-WritesLine m line text new = WritesWork m line.cpu line.work text new
+WritesLine m line text new = WritesAsked m line.cpu (asks.asked_by line.work) text new
 
 -- the lines were run one after another: each wrote its text and led to the machine after it
 unfoldable pub WritesLines : MachineValue → List Line → (text : List ℕ) → (new : MachineValue) → Type 0

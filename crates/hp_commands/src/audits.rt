@@ -10,6 +10,7 @@ use crate::runs::{work_off, write_records};
 use hp_history::{Volume, audit_chain, replay_from};
 use hp_machine::Machine;
 use std::alloc::Global;
+use std::mem::forget;
 use std::sync::Wait;
 use std::thread::Threads;
 
@@ -28,6 +29,8 @@ pub fn audit<R: Threads + Wait + Sync>(
     let mut out = String::new(alloc);
     write_records(&mut out, worked.closed.records)?;
     out.push_str("audit ok\n")?;
+    // The program ends after this text, as in `run`.
+    forget(worked);
     Ok(out)
 }
 

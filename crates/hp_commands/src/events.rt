@@ -3,7 +3,7 @@ ghost use Rattle.std.specs.Prelude.{OnOk, string_bytes};
 ghost use Rattle.hp_commands.specs.Events.{WritesEvent};
 ghost use Rattle.hp_commands.specs.Serial.{GrowsBy};
 
-use hp_machine::Machine;
+use hp_machine::UnrecordedMachine;
 use hp_text::{write_answer, write_unrecorded};
 use hp_units::{CallFault, Cpu, Event};
 use std::alloc::{AllocError, Global};
@@ -14,7 +14,7 @@ use std::alloc::{AllocError, Global};
 pub fn write_event(
     out: &mut String,
     alloc: Global,
-    machine: &mut Machine,
+    machine: &mut UnrecordedMachine,
     cpu: Cpu,
     event: &Event,
 ) -> Result<(), AllocError>

@@ -3,7 +3,7 @@ ghost use Rattle.std.specs.Prelude.{OnOk, string_bytes};
 ghost use Rattle.hp_commands.specs.Plans.{WritesPlan};
 ghost use Rattle.hp_commands.specs.Serial.{GrowsBy};
 
-use hp_machine::Machine;
+use hp_machine::UnrecordedMachine;
 use hp_text::write_plan_end;
 use hp_units::{Cpu, Plan};
 use std::alloc::{AllocError, Global};
@@ -12,7 +12,7 @@ use std::alloc::{AllocError, Global};
 pub fn write_plan(
     out: &mut String,
     alloc: Global,
-    machine: &mut Machine,
+    machine: &mut UnrecordedMachine,
     cpu: Cpu,
     plan: &Plan,
     turns: u32,

@@ -1,6 +1,7 @@
 //! A scenario that workers run: a thread for each processor, on one machine that they share.
 ghost use Rattle.std.specs.Prelude.{◌≡◌, ◌++◌, Some, IfErr, IfOk, OnOk, length, string_bytes};
 ghost use Rattle.std.specs.List.{flat_map};
+ghost use Rattle.hp_machine.specs.Machine.{booted};
 ghost use Rattle.hp_shared.specs.Shared.{IsFresh};
 ghost use Rattle.hp_scenario.specs.Scripts.{AreForRun};
 ghost use Rattle.hp_commands.specs.Faults.{IsFaultOf, IsWorkFault};
@@ -8,14 +9,15 @@ ghost use Rattle.hp_commands.specs.Runs.{IsRunOf, IsRunTextOf, IsWorkedOff, line
 ghost use Rattle.hp_commands.specs.declared.commands.Command.TheVariants.{Run};
 
 use crate::fault::ProgramFault;
-use crate::serial::boot;
 use hp_machine::Machine;
 use hp_scenario::{Scenario, Script};
 use hp_shared::{Closed, Job, Shared, close};
 use hp_text::{write_call_fault, write_echo_fault, write_plan_end, write_reply, write_sealed};
+use hp_units::Layout;
 use hp_workers::{Ends, LineEnd, OpenGate, RunEnd, run_workers};
 use std::alloc::{AllocError, Global};
 use std::marker::Brand;
+use std::mem::forget;
 use std::sync::Wait;
 use std::sync::ledger::Blank;
 use std::thread::Threads;
@@ -43,6 +45,8 @@ pub fn run<R: Threads + Wait + Sync>(
     let mut out = String::new(alloc);
     write_processors(&mut out, &worked.ends)?;
     write_records(&mut out, worked.closed.records)?;
+    // The program ends after this text: what is held in many pieces is not given back one by one.
+    forget(worked);
     Ok(out)
 }
 
@@ -62,6 +66,16 @@ pub fn work_off<R: Threads + Wait + Sync>(
     let sealed = Blank::new(scenario.layout.cpus() as u64);
     let scripts = scenario.scripts(alloc)?;
     run_scripts::<Brand, R>(rt, alloc, records, sealed, machine, scripts)
+}
+
+/// The machine of a layout at its start, with room for two records for each of so many lines, of which a plan
+/// makes several, where it can be had: without it they find theirs as they come. An error is out of memory.
+fn boot(alloc: Global, layout: &Layout, lines: usize) -> Result<Machine, AllocError>
+    ensures { IfOk result (λ machine. machine ≡ booted layout.now) }
+{
+    let mut machine = Machine::boot(alloc, layout)?;
+    let _ = machine.reserve(lines.saturating_mul(2));
+    Ok(machine)
 }
 
 /// Runs a script for each processor of a machine at its start, each in a thread of its own, and

@@ -3,19 +3,19 @@ ghost use Rattle.std.specs.Prelude.{◌≡◌, [], OnOk, IfOk, IfErr, IfSome, Is
 ghost use Rattle.hp_machine.specs.Machine.{booted};
 ghost use Rattle.hp_scenario.specs.Gives.{Fails, Gives};
 ghost use Rattle.hp_scenario.specs.Scenario.{scenario_in};
-ghost use Rattle.hp_scenario.specs.Seen.{scenario_seen};
+ghost use Rattle.hp_scenario.specs.Seen.{asked_seen, scenario_seen};
 ghost use Rattle.hp_commands.specs.Called.{WritesAll};
-ghost use Rattle.hp_commands.specs.Serial.{GrowsBy, WritesLine, WritesLines, serial_text};
+ghost use Rattle.hp_commands.specs.Serial.{GrowsBy, WritesAsked, WritesLine, WritesLines, serial_text};
 ghost use Rattle.hp_commands.specs.Served.{IsTextOf};
 
 use crate::events::write_event;
-use crate::files::{write_file, write_request};
+use crate::files::write_file;
 use crate::plans::write_plan;
 use crate::seals::write_seal;
-use hp_machine::Machine;
-use hp_scenario::{Calls, Line, Next, Scenario, ScenarioFault, Work};
-use hp_text::write_state;
-use hp_units::Layout;
+use hp_machine::UnrecordedMachine;
+use hp_scenario::{Asked, Calls, Line, Next, Scenario, ScenarioFault};
+use hp_text::{write_echo_fault, write_state};
+use hp_units::{Cpu, Layout};
 use std::alloc::{AllocError, Global};
 use std::mem::forget;
 
@@ -60,7 +60,7 @@ fn usual_text(alloc: Global, input: &[u8]) -> Result<Option<String>, AllocError>
 fn write_calls(
     out: &mut String,
     alloc: Global,
-    machine: &mut Machine,
+    machine: &mut UnrecordedMachine,
     calls: &mut Calls<'_>,
 ) -> Result<bool, AllocError>
     ensures { IfOk result (λ sure. IsTrue sure → WritesAll calls.old calls.new
@@ -80,7 +80,7 @@ fn write_calls(
 fn write_taken(
     out: &mut String,
     alloc: Global,
-    machine: &mut Machine,
+    machine: &mut UnrecordedMachine,
     line: Line,
 ) -> Result<(), AllocError>
     ensures { OnOk result (GrowsBy (string_bytes out.old) (string_bytes out.new)
@@ -109,12 +109,13 @@ fn any_text(alloc: Global, input: Vec<u8>) -> Result<String, ScenarioFault>
     Ok(out)
 }
 
-/// The machine of a layout at its start, with room for two records for each of so many lines, of which a plan
-/// makes several, where it can be had: without it they find theirs as they come. An error is out of memory.
-pub(crate) fn boot(alloc: Global, layout: &Layout, lines: usize) -> Result<Machine, AllocError>
+/// The machine of a layout at its start, which keeps no records since no line shows one, with room for two
+/// steps for each of so many lines, of which a plan makes several, where it can be had: without it they find
+/// theirs as they come. An error is out of memory.
+fn boot(alloc: Global, layout: &Layout, lines: usize) -> Result<UnrecordedMachine, AllocError>
     ensures { IfOk result (λ machine. machine ≡ booted layout.now) }
 {
-    let mut machine = Machine::boot(alloc, layout)?;
+    let mut machine = UnrecordedMachine::boot(alloc, layout)?;
     let _ = machine.reserve(lines.saturating_mul(2));
     Ok(machine)
 }
@@ -137,7 +138,7 @@ fn room_for(alloc: Global, lines: usize) -> Result<String, AllocError>
 fn write_lines(
     out: &mut String,
     alloc: Global,
-    machine: &mut Machine,
+    machine: &mut UnrecordedMachine,
     lines: &[Line],
 ) -> Result<(), AllocError>
     ensures { OnOk result (GrowsBy (string_bytes out.old) (string_bytes out.new)
@@ -154,17 +155,32 @@ fn write_lines(
 fn write_line(
     out: &mut String,
     alloc: Global,
-    machine: &mut Machine,
+    machine: &mut UnrecordedMachine,
     line: &Line,
 ) -> Result<(), AllocError>
     ensures { OnOk result (GrowsBy (string_bytes out.old) (string_bytes out.new)
         (λ text. WritesLine machine.old line.now text machine.new)) }
 {
-    match &line.work {
-        Work::Event(event) => write_event(out, alloc, machine, line.cpu, event),
-        Work::Plan { plan, turns } => write_plan(out, alloc, machine, line.cpu, plan, *turns),
-        Work::Echo(echo) => write_request(out, alloc, machine, line.cpu, echo.request()),
-        Work::Cat { path } => write_file(out, alloc, machine, path),
-        Work::Seal => write_seal(out, alloc, machine),
+    write_asked(out, alloc, machine, line.cpu, line.work.asked())
+}
+
+/// Does what a line asks for, and writes what that answers, or why a control file does not take it.
+#[inline(always)]
+fn write_asked(
+    out: &mut String,
+    alloc: Global,
+    machine: &mut UnrecordedMachine,
+    cpu: Cpu,
+    asked: Asked<'_>,
+) -> Result<(), AllocError>
+    ensures { OnOk result (GrowsBy (string_bytes out.old) (string_bytes out.new)
+        (λ text. WritesAsked machine.old cpu (asked_seen asked.entry) text machine.new)) }
+{
+    match asked {
+        Asked::Event(event) => write_event(out, alloc, machine, cpu, event),
+        Asked::Plan { plan, turns } => write_plan(out, alloc, machine, cpu, plan, turns),
+        Asked::NotTaken(fault) => write_echo_fault(out, fault),
+        Asked::Cat { path } => write_file(out, alloc, machine, path),
+        Asked::Seal => write_seal(out, machine),
     }
 }

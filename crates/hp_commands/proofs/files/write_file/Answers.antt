@@ -9,11 +9,11 @@ returns-in-Ok c =
     let pushed : OnOk c.push_str.result
     (string_bytes c.push_str.new.self ≡ string_bytes c.args.out.now ++ string_bytes c.in-Ok.text) =
     search rules in
-    on_ok_weaker c.push_str.result (λ grown. file_written c.args.machine.now c.args.path.now
-    c.as_str.result.now (string_bytes c.in-Ok.text) _ _ c.as_str.ensures c.in-Ok.ensures grown) pushed
+    on_ok_weaker c.push_str.result (λ grown. file_written c.memory.result.now c.args.machine.now
+    c.args.path.now (string_bytes c.in-Ok.text) _ _ c.memory.ensures c.in-Ok.ensures grown) pushed
 
 pub returns-in-Err : goal.returns-in-Err
 returns-in-Err c =
-    on_ok_weaker c.write_read_fault.result (λ grown. file_fault_written c.args.machine.now c.args.path.now
-    c.as_str.result.now c.in-Err.fault _ _ c.as_str.ensures c.in-Err.ensures
-    grown) c.write_read_fault.ensures
+    on_ok_weaker c.write_read_fault.result (λ grown. file_fault_written c.memory.result.now
+    c.args.machine.now c.args.path.now c.in-Err.fault _ _ c.memory.ensures c.in-Err.ensures grown)
+    c.write_read_fault.ensures
