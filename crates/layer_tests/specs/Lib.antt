@@ -1,4 +1,3 @@
-pub mod FrameScripts
 pub mod SmallLayouts
 pub mod SmallLinks
 pub mod SmallPages

@@ -1,32 +1,14 @@
-use crate::layouts::layout_of;
+use crate::layouts::{BOOT, two_blocks};
 use hp_units::{
-    Auto, Block, Boot, CallFault, Class, Cpu, Event, Frame, Kind, Layout, LayoutFault, Mark,
-    Mobility, Order, Page, Pageblock, Parts, Pool, Refusal, Reply, Row, Serial, State, Wish, Words,
-    Zone, block_of, buddy, is_step, mark_of, number32, number64, pageblock_of,
+    Auto, Block, CallFault, Class, Cpu, Event, Frame, Kind, Layout, LayoutFault, Mark, Mobility,
+    Order, Page, Pageblock, Pool, Refusal, Reply, Row, Serial, State, Wish, Words, Zone, block_of,
+    buddy, is_step, mark_of, number32, number64, pageblock_of,
 };
 use std::alloc::{AllocError, Global};
 use std::test::Fail;
 
-const BOOT: &[Boot] = &[Boot::Normal, Boot::Normal, Boot::Movable, Boot::Offline];
-
-fn small() -> Parts<'static> {
-    Parts {
-        order: 2,
-        pageblocks: 1,
-        blocks: 4,
-        cpus: 2,
-        batch: 3,
-        high: 5,
-        owners: 6,
-        pages: 8,
-        words: 7,
-        history: 1000,
-        boot: BOOT,
-    }
-}
-
-/// Whether a layout has the parts of `small`.
-fn is_small(layout: &Layout) -> bool {
+/// Whether a layout has the parts of two memory blocks.
+fn has_parts(layout: &Layout) -> bool {
     let parts = [
         layout.order(),
         layout.pageblocks(),
@@ -38,27 +20,27 @@ fn is_small(layout: &Layout) -> bool {
         layout.pages(),
         layout.words(),
         layout.frames(),
+        layout.pageblock_size(),
+        layout.block_size(),
     ];
-    parts.as_slice() == [2, 1, 4, 2, 3, 5, 6, 8, 7, 16].as_slice()
-        && layout.history() == 1000
+    parts.as_slice() == [1, 1, 2, 1, 1, 1, 1, 2, 2, 4, 2, 2].as_slice()
+        && layout.history() == 1
         && layout.boot() == BOOT
+        && layout.block_bytes() == 2 * 2 * 8
 }
 
-/// Whether frames have their numbers, pageblocks and memory blocks by a layout of `small`.
+/// Whether frames have their buddies, pageblocks and memory blocks.
 fn has_numbers(layout: &Layout) -> bool {
     buddy(Frame(4), Order(1)) == Frame(6)
-        && pageblock_of(layout, Frame(11)) == Pageblock(2)
-        && block_of(layout, Frame(12)) == Block(3)
         && Frame(13).ancestor(Order(2)) == Frame(12)
-        && layout.pageblock_size() == 4
-        && layout.block_size() == 4
-        && layout.block_bytes() == 4 * 7 * 8
+        && pageblock_of(layout, Frame(3)) == Pageblock(1)
+        && block_of(layout, Frame(2)) == Block(1)
 }
 
 #[test]
 fn layout_has_its_parts(rt: HostRuntime) -> Result<(), Fail> {
-    let layout = layout_of(rt.alloc(), &small())?;
-    assert!(rt; is_small(&layout) && has_numbers(&layout));
+    let layout = two_blocks(rt.alloc())?;
+    assert!(rt; has_parts(&layout) && has_numbers(&layout));
     Ok(())
 }
 
@@ -68,20 +50,6 @@ fn go_by_zone(pool: Pool, isolated: Kind) -> bool {
         && pool.index() == 2
         && Class::of_kind(Zone::Movable, isolated) == Class::isolated(Zone::Movable)
         && Class::numbered(Class::isolated(Zone::Movable).index()) == Class::IsoM
-}
-
-#[test]
-fn classes_and_pools_by_zone(rt: HostRuntime) {
-    let isolated = Kind {
-        isolated: true,
-        ..Kind::plain()
-    };
-    assert!(rt;
-        go_by_zone(
-            Pool::of_mobility(Zone::Movable, Mobility::Movable),
-            isolated
-        )
-    );
 }
 
 /// The row of a block that operation 5 takes offline.
@@ -101,8 +69,13 @@ fn are_shown() -> bool {
 }
 
 #[test]
-fn rows_show_their_state_and_claim(rt: HostRuntime) {
-    assert!(rt; are_shown());
+fn classes_pools_and_rows(rt: HostRuntime) {
+    let isolated = Kind {
+        isolated: true,
+        ..Kind::plain()
+    };
+    let pool = Pool::of_mobility(Zone::Movable, Mobility::Movable);
+    assert!(rt; go_by_zone(pool, isolated) && are_shown());
 }
 
 /// Whether a word is changed.
@@ -112,47 +85,35 @@ fn is_changed(alloc: Global) -> Result<bool, AllocError> {
     Ok(matches!(words.as_slice(), [7, 8]))
 }
 
-#[test]
-fn words_are_changed(rt: HostRuntime) -> Result<(), Fail> {
-    assert!(rt; is_changed(rt.alloc())?);
-    Ok(())
-}
-
-#[test]
-fn replies_are_compared(rt: HostRuntime) {
-    assert!(rt; busy(2).same(busy(2)) && !busy(2).same(busy(3)));
-    assert!(rt; are_same(Reply::Refused(busy(2)), Reply::Refused(busy(2))));
-    assert!(rt; !are_same(Reply::Refused(busy(2)), Reply::Done));
-}
-
-fn busy(block: u32) -> Refusal {
-    Refusal::Busy {
-        block: Block(block),
-    }
-}
-
-fn are_same(reply: Reply, other: Reply) -> bool {
-    reply.same(&other)
-}
-
 /// Whether a migration works for its operation, and a commit is a step only where it was done.
 fn are_marked(op: Serial, migrate: &Event, commit: &Event) -> bool {
     mark_of(migrate) == Mark::Works { op }
         && mark_of(commit) == Mark::Other
         && Mark::Opens.is_opening()
-        && !mark_of(migrate).is_opening()
         && is_step(commit, &Reply::Done)
         && !is_step(commit, &Reply::Refused(Refusal::NoOp))
 }
 
-#[test]
-fn marks_of_events(rt: HostRuntime) {
-    let op = Serial(7);
-    assert!(rt; are_marked(op, &Event::Migrate { op }, &Event::Commit { op }));
+/// A block is claimed.
+fn busy() -> Refusal {
+    Refusal::Busy { block: Block(2) }
+}
+
+/// Whether refusals and replies are told apart.
+fn are_told() -> bool {
+    !busy().same(Refusal::NoOp) && Reply::Refused(busy()).same(&Reply::Refused(busy()))
 }
 
 #[test]
-fn words_are_written(rt: HostRuntime) -> Result<(), Fail> {
+fn words_marks_and_replies(rt: HostRuntime) -> Result<(), Fail> {
+    let op = Serial(7);
+    assert!(rt; is_changed(rt.alloc())? && are_told());
+    assert!(rt; are_marked(op, &Event::Migrate { op }, &Event::Commit { op }));
+    Ok(())
+}
+
+#[test]
+fn values_are_written(rt: HostRuntime) -> Result<(), Fail> {
     let refused = Reply::Refused(Refusal::NotFree { frame: Frame(9) });
     let (class, pool, zone, auto) = (Class::IsoN, Pool::Mm, Zone::Movable, Auto::OnlineKernel);
     let text = format!(in rt.alloc(); "{refused}, {class}, {pool}, {zone}, {auto}")?;
@@ -161,19 +122,14 @@ fn words_are_written(rt: HostRuntime) -> Result<(), Fail> {
 }
 
 #[test]
-fn numbers_are_written(rt: HostRuntime) -> Result<(), Fail> {
+fn numbers_and_faults_are_written(rt: HostRuntime) -> Result<(), Fail> {
     let (block, cpu, order, page) = (Block(1), Cpu(2), Order(3), Page(4));
     let (pageblock, serial) = (Pageblock(5), Serial(6));
-    let text = format!(in rt.alloc(); "{block}{cpu}{order}{page}{pageblock}{serial}")?;
-    assert!(rt; text.as_str() == "123456");
-    Ok(())
-}
-
-#[test]
-fn faults_are_written(rt: HostRuntime) -> Result<(), Fail> {
     let (call, layout) = (CallFault::HistoryFull, LayoutFault::BadMarks);
-    let text = format!(in rt.alloc(); "{call} {layout}")?;
-    assert!(rt; text.as_str() == "HistoryFull BadMarks");
+    let text = format!(in rt.alloc();
+        "{block}{cpu}{order}{page}{pageblock}{serial} {call} {layout}"
+    )?;
+    assert!(rt; text.as_str() == "123456 HistoryFull BadMarks");
     Ok(())
 }
 

@@ -1,18 +1,18 @@
-//! Tests of the machine: each public function once, on small layouts.
+//! Tests of the machine: each public function once, on a small layout.
 //!
-//! Each module tests a crate through what it makes public: `memories` tests hp_memory, and below it
-//! `codes` hp_codes, `histories` hp_history, `machines` hp_machine, `explorations` hp_explore;
-//! `layouts` are the layouts that they share. The crate has nothing but tests: run them by `rt test` in
-//! this folder.
+//! Each module tests a crate or two through what they make public: `memories` tests hp_memory and
+//! hp_codes, `courses` hp_history, `machines` hp_machine; `layouts` is the layout that they share.
+//! `sealed` has what the laws of histories say of a machine, sealed or not, proved from what
+//! hp_laws, hp_history and hp_machine make public alone; `machines` calls it. Run the tests by
+//! `rt test` in this folder.
 #![tactic(auto)]
 
 #[cfg(test)]
-mod explorations;
-#[cfg(test)]
-mod histories;
+mod courses;
 #[cfg(test)]
 mod layouts;
 #[cfg(test)]
 mod machines;
 #[cfg(test)]
 mod memories;
+pub mod sealed;

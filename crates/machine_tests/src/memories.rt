@@ -1,10 +1,6 @@
-//! Worked steps of a memory in layers.
-ghost use Rattle.std.specs.Prelude.{◌≡◌};
-
-mod codes;
-mod image_steps;
-
+//! A step of a memory in layers that is taken back, and the numbers of the states.
 use crate::layouts::four_blocks;
+use hp_codes::Codes;
 use hp_memory::Memory;
 use hp_tape::Tape;
 use hp_units::{Cpu, Event, Frame, Order, Reply, Serial};
@@ -13,68 +9,54 @@ use std::test::Fail;
 
 /// A memory of the four blocks.
 fn booted(alloc: Global) -> Result<Memory, Fail> {
-    let layout = four_blocks(alloc)?;
+    let layout = four_blocks(alloc, 9)?;
     Ok(Memory::boot(alloc, &layout)?)
 }
 
-/// A step that is taken back at once leaves all as it was, as the contracts of both calls alone show.
+/// Takes a block, and takes that back.
 fn stepped_and_back(
     alloc: Global,
     memory: &mut Memory,
     tape: &mut Tape,
-    serial: Serial,
-    event: &Event,
-) -> Result<Reply, AllocError>
-    ensures memory { memory.new ≡ memory.old }
-    ensures tape { tape.new.deltas ≡ tape.old.deltas }
-{
+) -> Result<Reply, AllocError> {
     memory.is_placed();
+    let take = Event::KernelAlloc { order: Order(1) };
     let mark = tape.len();
-    let reply = memory.step(alloc, serial, Cpu(0), event, tape)?;
+    let reply = memory.step(alloc, Serial(1), Cpu(0), &take, tape)?;
     memory.back(tape, mark);
     Ok(reply)
 }
 
-/// Whether a step that is taken back is answered so.
-fn is_answered_and_back(
-    alloc: Global,
-    memory: &mut Memory,
-    tape: &mut Tape,
-    event: &Event,
-    wanted: &Reply,
-) -> bool {
-    match stepped_and_back(alloc, memory, tape, Serial(1), event) {
-        Ok(answer) => answer.same(wanted),
+/// Whether the first block is what a step answered.
+fn is_first(answered: Result<Reply, AllocError>) -> bool {
+    match answered {
+        Ok(reply) => reply.same(&Reply::Frame(Frame(0))),
         Err(AllocError) => false,
     }
 }
 
-/// Whether a step is answered so.
-fn is_answered(
+/// Whether the state after a step that was taken back has the number 0, as before, and that after a
+/// step the number 1.
+fn are_numbered(
     alloc: Global,
+    codes: &mut Codes,
     memory: &mut Memory,
     tape: &mut Tape,
-    event: &Event,
-    wanted: &Reply,
-) -> bool {
-    match memory.step(alloc, Serial(1), Cpu(0), event, tape) {
-        Ok(answer) => answer.same(wanted),
-        Err(AllocError) => false,
-    }
-}
-
-/// Whether a block is taken alike before and after a step that took it and was taken back.
-fn takes_twice(alloc: Global, memory: &mut Memory, tape: &mut Tape) -> bool {
+) -> Result<bool, AllocError> {
+    let before = codes.number_of(alloc, memory)?;
+    let was_first = is_first(stepped_and_back(alloc, memory, tape));
+    let again = codes.number_of(alloc, memory)?;
     let take = Event::KernelAlloc { order: Order(1) };
-    let frame = Reply::Frame(Frame(0));
-    is_answered_and_back(alloc, memory, tape, &take, &frame)
-        && is_answered(alloc, memory, tape, &take, &frame)
+    let is_first = is_first(memory.step(alloc, Serial(1), Cpu(0), &take, tape));
+    let after = codes.number_of(alloc, memory)?;
+    Ok(was_first && is_first && before == 0 && again == 0 && after == 1)
 }
 
-/// Whether that holds on a tape of its own.
+/// Whether that holds with codes and a tape of its own.
 fn goes_back(alloc: Global, memory: &mut Memory) -> Result<bool, AllocError> {
     let mut tape = Tape::with_room(alloc, 0)?;
-    Ok(takes_twice(alloc, memory, &mut tape))
+    let mut codes = Codes::new(alloc);
+    are_numbered(alloc, &mut codes, memory, &mut tape)
 }
 
 #[test]

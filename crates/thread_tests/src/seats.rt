@@ -1,4 +1,4 @@
-//! Two threads that share a machine, and a plan through a seat.
+//! Two threads that share a machine, and a plan through a seat after that.
 ghost use Rattle.std.specs.Prelude.{◌≡◌};
 ghost use Rattle.hp_shared.specs.Shared.{IsFresh};
 
@@ -33,16 +33,6 @@ fn layout(alloc: Global) -> Result<Layout, Fail> {
     Ok(layout)
 }
 
-/// A seat maps an owner's first page.
-fn map<L: Job, R: Wait>(rt: &R, alloc: Global, shared: &Shared<L>, seat: &mut Seat<L>, owner: u32) {
-    let event = Event::Map {
-        owner: Owner(owner),
-        page: Page(0),
-    };
-    let _ = seat.reserve(1);
-    let _ = seat.call(rt, alloc, shared, &event);
-}
-
 /// A seat that mapped an owner's first page.
 fn mapped<L: Job, R: Wait>(
     rt: &R,
@@ -52,7 +42,12 @@ fn mapped<L: Job, R: Wait>(
     owner: u32,
 ) -> Seat<L> {
     let mut seat = seat;
-    map(rt, alloc, shared, &mut seat, owner);
+    let event = Event::Map {
+        owner: Owner(owner),
+        page: Page(0),
+    };
+    let _ = seat.reserve(1);
+    let _ = seat.call(rt, alloc, shared, &event);
     seat
 }
 
@@ -74,19 +69,17 @@ fn both_mapped<L: Job + Send + Sync, R: Threads + Wait + Sync>(
     })
 }
 
-/// Two threads map a page each, each by a seat of its own: the seats, and how many receipts each has.
+/// Two threads map a page each, each by a seat of its own: the seats after that, in another order.
 fn mapped_by_two<L: Job + Send + Sync, R: Threads + Wait + Sync>(
     rt: &R,
     alloc: Global,
     shared: &Shared<L>,
     mut seats: Vec<Seat<L>>,
-) -> Option<(Vec<Seat<L>>, (usize, usize))> {
+) -> Option<Vec<Seat<L>>> {
     let second = seats.pop()?;
     let first = seats.pop()?;
     let (first, second) = both_mapped(rt, alloc, shared, first, second);
-    let receipts = (first.receipts().len(), second.receipts().len());
-    let seats = vec![in alloc; first, second].ok()?;
-    Some((seats, receipts))
+    vec![in alloc; second, first].ok()
 }
 
 /// How many records a close finds.
@@ -95,18 +88,6 @@ fn closed_records<L: Job>(alloc: Global, shared: Shared<L>, seats: Vec<Seat<L>>)
         Ok(closed) => Some(closed.records),
         Err(_refused) => None,
     }
-}
-
-/// Two threads map a page each: how many receipts each seat has, and how many records a close finds.
-fn two_maps<L: Job + Send + Sync, R: Threads + Wait + Sync>(
-    rt: &R,
-    alloc: Global,
-    shared: Shared<L>,
-    seats: Vec<Seat<L>>,
-) -> Option<((usize, usize), u64)> {
-    let (seats, receipts) = mapped_by_two(rt, alloc, &shared, seats)?;
-    let records = closed_records(alloc, shared, seats)?;
-    Some((receipts, records))
 }
 
 /// A plan that takes the third memory block offline.
@@ -118,81 +99,62 @@ fn offline(alloc: Global) -> Result<Plan, AllocError> {
     Plan::new(alloc, vec![in alloc; item]?)
 }
 
-/// The end of a plan that a seat carries out after it mapped a page.
+/// The end of a plan that a seat carries out.
 fn planned<L: Job, R: Wait>(
     rt: &R,
     alloc: Global,
     shared: &Shared<L>,
     seat: &mut Seat<L>,
 ) -> Option<OpEnd> {
-    map(rt, alloc, shared, seat, 0);
     let plan = offline(alloc).ok()?;
     let mut port = SeatPort::new(rt, seat, shared);
     Some(run_plan(alloc, &mut port, plan, 1024))
 }
 
-/// A seat maps a page and takes its block offline. The plan's end, and how many records a close
-/// finds, with the seats in another order.
-fn page_moved<L: Job, R: Wait>(
+/// Two threads map a page each, and then a seat takes the pages' block offline: the plan's end, and
+/// how many records a close finds.
+fn mapped_and_moved<L: Job + Send + Sync, R: Threads + Wait + Sync>(
     rt: &R,
     alloc: Global,
     shared: Shared<L>,
-    mut seats: Vec<Seat<L>>,
+    seats: Vec<Seat<L>>,
 ) -> Option<(OpEnd, u64)> {
+    let mut seats = mapped_by_two(rt, alloc, &shared, seats)?;
     let end = planned(rt, alloc, &shared, seats.get_mut(0)?)?;
-    seats.reverse();
     let records = closed_records(alloc, shared, seats)?;
     Some((end, records))
 }
 
-/// What the seats of a machine do.
-#[derive(Clone, Copy, Drop)]
-enum Scene {
-    TwoMaps,
-    PageMoved,
-}
-
-/// Whether a scene ends as it should on a machine.
+/// What that is on a machine.
 fn plays_on<L: Job + Send + Sync, R: Threads + Wait + Sync>(
     rt: &R,
     alloc: Global,
     records: Blank,
     sealed: Blank,
     machine: Machine,
-    scene: Scene,
-) -> bool
+) -> Option<(OpEnd, u64)>
     requires machine { IsFresh L.layout machine }
     requires name { records.name ≡ L.name }
     requires parts { records.parts ≡ L.parts }
     requires one_each { records.parts ≡ L.layout.cpus }
     requires sealed { (sealed.name ≡ L.sealed) × (sealed.parts ≡ L.layout.cpus) }
 {
-    let Ok((shared, seats)) = Shared::<L>::new(alloc, records, sealed, machine) else {
-        return false;
-    };
-    match scene {
-        Scene::TwoMaps => matches!(two_maps(rt, alloc, shared, seats), Some(((1, 1), 2))),
-        Scene::PageMoved => matches!(page_moved(rt, alloc, shared, seats), Some((OpEnd::Done, 7))),
-    }
+    let (shared, seats) = Shared::<L>::new(alloc, records, sealed, machine).ok()?;
+    mapped_and_moved(rt, alloc, shared, seats)
 }
 
-/// Whether a scene ends as it should on a machine at its start.
-fn plays<R: Threads + Wait + Sync>(rt: &R, alloc: Global, scene: Scene) -> Result<bool, Fail> {
+/// What that is on a machine at its start.
+fn plays<R: Threads + Wait + Sync>(rt: &R, alloc: Global) -> Result<Option<(OpEnd, u64)>, Fail> {
     let layout = layout(alloc)?;
     let machine = Machine::boot(alloc, &layout)?;
     let records = Blank::new(layout.cpus() as u64);
     let sealed = Blank::new(layout.cpus() as u64);
-    Ok(plays_on::<Brand, _>(rt, alloc, records, sealed, machine, scene))
+    Ok(plays_on::<Brand, _>(rt, alloc, records, sealed, machine))
 }
 
 #[test]
 fn two_threads_map_a_page_each(rt: HostRuntime) -> Result<(), Fail> {
-    assert!(rt; plays(&rt, rt.alloc(), Scene::TwoMaps)?);
-    Ok(())
-}
-
-#[test]
-fn a_mapped_block_goes_offline(rt: HostRuntime) -> Result<(), Fail> {
-    assert!(rt; plays(&rt, rt.alloc(), Scene::PageMoved)?);
+    let played = plays(&rt, rt.alloc())?;
+    assert!(rt; matches!(played, Some((OpEnd::Done, 9))));
     Ok(())
 }

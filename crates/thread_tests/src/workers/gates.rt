@@ -1,34 +1,38 @@
-//! Gates that hold workers until others have come as far. A gate waits for a limit of turns at
-//! most, and then notes that it did.
+//! A gate that lets workers pass points in one order. It waits for a limit of turns at most, and
+//! then notes that it did.
 use hp_units::Cpu;
 use hp_workers::Gate;
 use std::sync::atomic::{AtomicBool, AtomicU64, Ordering};
 use std::thread;
 
-/// How far workers have come together.
+/// What a worker passes before or after one of its calls, which are counted from 1.
+#[derive(Clone, Copy, PartialEq, Eq, Drop)]
+pub enum Point {
+    Before(u32, u64),
+    After(u32, u64),
+}
+
+/// Holds a worker at each of these points until all points in front of it were passed.
 #[derive(Drop)]
-struct Progress {
-    steps: AtomicU64,
+pub struct InOrder<'a> {
+    points: &'a [Point],
+    passed: AtomicU64,
     missed: AtomicBool,
 }
 
-impl Progress {
-    fn new() -> Progress {
-        Progress {
-            steps: AtomicU64::new(0),
+impl<'a> InOrder<'a> {
+    pub fn new(points: &'a [Point]) -> InOrder<'a> {
+        InOrder {
+            points,
+            passed: AtomicU64::new(0),
             missed: AtomicBool::new(false),
         }
     }
 
-    /// One step more.
-    fn step(&self) {
-        self.steps.fetch_add(1, Ordering::SeqCst);
-    }
-
-    /// Waits until so many steps were made.
-    fn wait_for(&self, steps: u64) {
+    /// Waits until so many points were passed.
+    fn wait_for(&self, passed: u64) {
         for turn in 0..100_000_000u32 {
-            if self.steps.load(Ordering::SeqCst) >= steps {
+            if self.passed.load(Ordering::SeqCst) >= passed {
                 return;
             }
             if turn % 100 == 0 {
@@ -38,121 +42,29 @@ impl Progress {
         self.missed.store(true, Ordering::SeqCst);
     }
 
-    /// Whether so many steps were made, and each wait ended before its limit.
-    fn was_met(&self, steps: u64) -> bool {
-        self.steps.load(Ordering::SeqCst) == steps && !self.missed.load(Ordering::SeqCst)
-    }
-}
-
-/// Holds each of two workers after its first call until the other's first call was answered too.
-#[derive(Drop)]
-pub struct Meeting {
-    answered: Progress,
-}
-
-impl Meeting {
-    pub fn new() -> Meeting {
-        Meeting {
-            answered: Progress::new(),
-        }
-    }
-
-    pub fn was_met(&self) -> bool {
-        self.answered.was_met(2)
-    }
-}
-
-impl Gate for Meeting {
-    fn before(&self, cpu: Cpu, nth: u64) {
-        let _ = (cpu, nth);
-    }
-
-    fn after(&self, cpu: Cpu, nth: u64) {
-        let _ = cpu;
-        if nth == 1 {
-            self.answered.step();
-            self.answered.wait_for(2);
-        }
-    }
-}
-
-/// Holds worker 0 before one of its calls until worker 1's first call was answered, and holds worker
-/// 1 before that call until worker 0 stands there.
-#[derive(Drop)]
-pub struct Before {
-    nth: u64,
-    done: Progress,
-}
-
-impl Before {
-    /// A gate before worker 0's `nth` call, from 1.
-    pub fn new(nth: u64) -> Before {
-        Before {
-            nth,
-            done: Progress::new(),
-        }
-    }
-
-    pub fn was_met(&self) -> bool {
-        self.done.was_met(2)
-    }
-}
-
-impl Gate for Before {
-    fn before(&self, cpu: Cpu, nth: u64) {
-        if cpu.0 == 0 && nth == self.nth {
-            self.done.step();
-            self.done.wait_for(2);
-        }
-        if cpu.0 == 1 && nth == 1 {
-            self.done.wait_for(1);
-        }
-    }
-
-    fn after(&self, cpu: Cpu, nth: u64) {
-        if cpu.0 == 1 && nth == 1 {
-            self.done.step();
-        }
-    }
-}
-
-/// Lets worker 1 map a page first, then holds worker 0 after its fourth call, the first migration
-/// of its plan, until worker 1's second call was answered, and holds worker 1 before that call
-/// until worker 0 stands there.
-#[derive(Drop)]
-pub struct Between {
-    done: Progress,
-}
-
-impl Between {
-    pub fn new() -> Between {
-        Between {
-            done: Progress::new(),
-        }
-    }
-
-    pub fn was_met(&self) -> bool {
-        self.done.was_met(3)
-    }
-}
-
-impl Gate for Between {
-    fn before(&self, cpu: Cpu, nth: u64) {
-        match (cpu.0, nth) {
-            (0, 1) => self.done.wait_for(1),
-            (1, 2) => self.done.wait_for(2),
-            _ => {}
-        }
-    }
-
-    fn after(&self, cpu: Cpu, nth: u64) {
-        match (cpu.0, nth) {
-            (0, 4) => {
-                self.done.step();
-                self.done.wait_for(3);
+    /// Passes a point each time that it stands in the order.
+    fn pass(&self, here: Point) {
+        for (place, point) in self.points.iter().enumerate() {
+            if *point == here {
+                self.wait_for(place as u64);
+                self.passed.fetch_add(1, Ordering::SeqCst);
             }
-            (1, 1) | (1, 2) => self.done.step(),
-            _ => {}
         }
+    }
+
+    /// Whether all points were passed, and each wait ended before its limit.
+    pub fn was_met(&self) -> bool {
+        let passed = self.passed.load(Ordering::SeqCst);
+        passed == self.points.len() as u64 && !self.missed.load(Ordering::SeqCst)
+    }
+}
+
+impl Gate for InOrder<'_> {
+    fn before(&self, cpu: Cpu, nth: u64) {
+        self.pass(Point::Before(cpu.0, nth));
+    }
+
+    fn after(&self, cpu: Cpu, nth: u64) {
+        self.pass(Point::After(cpu.0, nth));
     }
 }

@@ -9,4 +9,4 @@ pub add_pageblock-requires-clause-block : goal.add_pageblock-requires-clause-blo
 add_pageblock-requires-clause-block c =
     subst (λ (b : BuddyValue). MayBeGiven b.layout b.areas b.layout.order (0 * pageblock_size b.layout))
     (sym c.in_ok-buddy.ensures.value)
-    (first_block c.args.layout.now (omega (arith, c.requires.blocks)) (omega (arith, c.requires.pageblocks)))
+    (first_block c.args.layout.now (rw c.requires (omega arith)) (rw c.requires (omega arith)))

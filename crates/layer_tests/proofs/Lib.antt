@@ -1,4 +1,0 @@
-mod AreaUndoes
-mod FrameScripts
-mod FrameUndoes
-mod PageUndoes

@@ -1,0 +1,226 @@
+//! Searches on a small machine, in one thread, in several, and in parts. What an exploration finds
+//! is compared with every order of random scripts by docs/check_find.py.
+ghost use Rattle.std.specs.Prelude.{◌≡◌, IfOk, length};
+
+use hp_explore::{
+    Answers, Ending, ExploreFault, Line, Part, Script, Silent, alike_places_go_on_alike,
+    counts_are_unique, explore, explore_part, interleavings_are_counted, kept_counts_are_added,
+    play, schedules_are_interleavings,
+};
+use hp_machine::Machine;
+use hp_parts::{calls_for, explore_with_jobs, sum};
+use hp_units::{Boot, Cpu, Event, Frame, Layout, Order, Parts, Refusal, Reply};
+use std::alloc::{AllocError, Global};
+use std::test::Fail;
+use std::thread::Threads;
+
+/// A machine of three blocks of four frames, of which the last two are movable, and two processors.
+fn booted(alloc: Global) -> Result<Machine, Fail> {
+    let parts = Parts {
+        order: 2,
+        pageblocks: 1,
+        blocks: 3,
+        cpus: 2,
+        batch: 2,
+        high: 2,
+        owners: 2,
+        pages: 2,
+        words: 1,
+        history: 20,
+        boot: &[Boot::Normal, Boot::Movable, Boot::Movable],
+    };
+    let layout = Layout::new(alloc, &parts)?;
+    let machine = Machine::boot(alloc, &layout)?;
+    Ok(machine)
+}
+
+/// A script of so many calls that ask for memory of an order.
+fn asks(alloc: Global, order: u32, count: u32) -> Result<Script, AllocError> {
+    let mut lines = Vec::new(alloc);
+    for _line in 0..count {
+        lines.push(Line::Ask(Event::KernelAlloc {
+            order: Order(order),
+        }))?;
+    }
+    Ok(Script::new(lines))
+}
+
+/// Two scripts of so many calls, of which the second asks for all memory that the kernel can have.
+fn scripts(alloc: Global, order: u32, count: u32) -> Result<Vec<Script>, AllocError>
+    ensures { IfOk result (λ scripts. length scripts.items ≡ 2) }
+{
+    let mut scripts = Vec::with_capacity(alloc, 2)?;
+    scripts.push(asks(alloc, order, count)?)?;
+    scripts.push(asks(alloc, 2, count)?)?;
+    Ok(scripts)
+}
+
+/// Whether a processor had one reply, this one.
+fn is_sole(answers: &Answers, reply: &Reply) -> bool {
+    match answers.as_slice() {
+        [sole] => sole.same(reply),
+        _ => false,
+    }
+}
+
+/// Whether one schedule ends so: the processors were answered one reply each, and in this order.
+fn is_sole_end(end: &Ending, replies: (&Reply, &Reply), first: u32) -> bool {
+    let answered = match end.outcome.replies() {
+        [zero, one] => is_sole(zero, replies.0) && is_sole(one, replies.1),
+        _ => false,
+    };
+    let started = match end.first.as_slice() {
+        [cpu, _] => *cpu == Cpu(first),
+        _ => false,
+    };
+    answered && started && end.count == 1
+}
+
+/// Whether an end's schedule can be played, in two calls, and the end has the rows of three blocks.
+fn is_played(alloc: Global, machine: &Machine, scripts: &[Script], end: &Ending) -> bool {
+    match play(alloc, machine, scripts, end.first.as_slice()) {
+        Ok(Some(played)) => played.history().len() == 2 && end.outcome.blocks().len() == 3,
+        _ => false,
+    }
+}
+
+/// Whether the ends are two, in each of which the processor that came first got the block.
+fn serve_the_first(alloc: Global, machine: &Machine, scripts: &[Script], ends: &[Ending]) -> bool {
+    let got = Reply::Frame(Frame(0));
+    let refused = Reply::Refused(Refusal::NoFrame);
+    match ends {
+        [end, other] => {
+            is_sole_end(end, (&got, &refused), 0)
+                && is_sole_end(other, (&refused, &got), 1)
+                && is_played(alloc, machine, scripts, other)
+        }
+        _ => false,
+    }
+}
+
+/// Whether of two processors that ask for the only block the one gets it that comes first.
+fn goes_to_the_first(alloc: Global, machine: &Machine) -> Result<bool, AllocError> {
+    let scripts = scripts(alloc, 2, 1)?;
+    Ok(
+        match explore(alloc, machine, scripts.as_slice(), 2, &mut Silent) {
+            Ok(explored) => serve_the_first(
+                alloc,
+                machine,
+                scripts.as_slice(),
+                explored.ends.as_slice(),
+            ),
+            Err(_fault) => false,
+        },
+    )
+}
+
+#[test]
+fn a_block_goes_to_the_first(rt: HostRuntime) -> Result<(), Fail> {
+    let machine = booted(rt.alloc())?;
+    let served = goes_to_the_first(rt.alloc(), &machine);
+    drop(machine);
+    assert!(rt; served?);
+    Ok(())
+}
+
+/// How many schedules ends count.
+fn total(ends: &[Ending]) -> u64 {
+    let mut sum: u64 = 0;
+    for end in ends {
+        sum = sum.wrapping_add(end.count);
+    }
+    sum
+}
+
+/// Whether two schedules are the same.
+fn same_schedules(first: &[Cpu], other: &[Cpu]) -> bool {
+    first == other
+}
+
+/// Whether two ends are the same.
+fn same_end(end: &Ending, other: &Ending) -> bool {
+    end.outcome.same(&other.outcome)
+        && end.count == other.count
+        && same_schedules(end.first.as_slice(), other.first.as_slice())
+}
+
+/// Whether the same ends stand at the same places, of the 20 orders of three calls and three.
+fn same_ends(ends: &[Ending], others: &[Ending]) -> bool {
+    total(ends) == 20
+        && ends.len() == others.len()
+        && ends
+            .iter()
+            .zip(others)
+            .all(|(end, other)| same_end(end, other))
+}
+
+/// The ends of each of three parts.
+fn three_parts(
+    alloc: Global,
+    machine: &Machine,
+    scripts: &[Script],
+) -> Result<Vec<Vec<Ending>>, ExploreFault>
+    requires { length scripts.now ≡ 2 }
+{
+    let mut lists = Vec::new(alloc);
+    for index in 0..3 {
+        lists.reserve(1)?;
+        if let Some(part) = Part::new(index, 3, 2) {
+            let explored = explore_part(alloc, machine, scripts, part, 100, &mut Silent)?;
+            lists.push_reserved(explored.ends);
+        }
+    }
+    Ok(lists)
+}
+
+/// Whether three jobs find the ends that the sum of three parts has.
+fn jobs_and_parts_find_the_same<R: Threads + Sync>(
+    rt: &R,
+    alloc: Global,
+    machine: &Machine,
+    scripts: &[Script],
+) -> Result<bool, ExploreFault>
+    requires { length scripts.now ≡ 2 }
+{
+    let found = explore_with_jobs(rt, alloc, machine, scripts, 100, 3, &mut Silent)?;
+    let lists = three_parts(alloc, machine, scripts)?;
+    match sum(alloc, lists.as_slice()) {
+        Ok(ends) => Ok(found.is_whole && same_ends(found.ends.as_slice(), ends.as_slice())),
+        Err(_fault) => Ok(false),
+    }
+}
+
+/// Whether that is so of two scripts of three calls.
+fn all_find_the_same<R: Threads + Sync>(
+    rt: &R,
+    alloc: Global,
+    machine: &Machine,
+) -> Result<bool, AllocError> {
+    let scripts = scripts(alloc, 0, 3)?;
+    let found = jobs_and_parts_find_the_same(rt, alloc, machine, scripts.as_slice());
+    Ok(matches!(found, Ok(true)))
+}
+
+#[test]
+fn a_search_in_threads_finds_the_same(rt: HostRuntime) -> Result<(), Fail> {
+    let machine = booted(rt.alloc())?;
+    let found = all_find_the_same(&rt, rt.alloc(), &machine);
+    drop(machine);
+    assert!(rt; found?);
+    Ok(())
+}
+
+/// Whether a part shows these numbers.
+fn shows(part: &Part, index: u32, of: u32, calls: u32) -> bool {
+    part.index() == index && part.of() == of && part.calls() == calls
+}
+
+#[test]
+fn parts_and_laws(rt: HostRuntime) {
+    assert!(rt; shows(&Part::whole(), 0, 1, 0) && calls_for(2, 3) == 8);
+    counts_are_unique();
+    interleavings_are_counted();
+    schedules_are_interleavings();
+    alike_places_go_on_alike();
+    kept_counts_are_added();
+}
