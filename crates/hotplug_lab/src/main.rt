@@ -10,7 +10,6 @@
 #![tactic(auto)]
 
 mod answering;
-mod command;
 mod fault;
 mod files;
 mod progress;
@@ -19,12 +18,12 @@ mod words;
 
 use clap::ArgMatches;
 use clap::error::ErrorKind;
-use command::lab_command;
 use fault::ProgramFault;
 use files::bytes_of;
 use hp_escapes::{Brackets, write_escaped};
 use hp_find::Wanted;
 use hp_lab::{Unbegun, wanted_line};
+use hp_lab_command::lab_command;
 use hp_streams::Counted;
 use progress::{Progress, Shown};
 use serving::serve;

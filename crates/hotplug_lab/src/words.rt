@@ -1,9 +1,9 @@
 //! The words that the program is called with.
 
-use crate::command::{FILE, FIND, JOBS, JSON, NEVER, PART, PROGRESS, SCENARIO};
 use clap::ArgMatches;
 use hp_find::Wanted;
 use hp_lab::{EndsForm, ScheduleForm};
+use hp_lab_command::{FILE, FIND, JOBS, JSON, NEVER, PART, PROGRESS, SCENARIO};
 use hp_part_files::PartNumber;
 use hp_trace::View;
 

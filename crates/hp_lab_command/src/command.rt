@@ -3,27 +3,29 @@
 use clap::{Arg, ArgAction, Command, value_parser};
 use std::alloc::{AllocError, Global};
 
-/// The options that search an end, and that want none.
-pub(crate) const FIND: &str = "find";
+/// The option that searches an end.
+pub const FIND: &str = "find";
 
-pub(crate) const NEVER: &str = "never";
+/// The option that wants no such end.
+pub const NEVER: &str = "never";
 
 /// The option that writes an interleaving as a scenario.
-pub(crate) const SCENARIO: &str = "scenario";
+pub const SCENARIO: &str = "scenario";
 
 /// The option that tells how far a search has come.
-pub(crate) const PROGRESS: &str = "progress";
+pub const PROGRESS: &str = "progress";
 
 /// The option that writes JSON, an object a line.
-pub(crate) const JSON: &str = "json";
+pub const JSON: &str = "json";
 
-/// The option that searches one part, and the one that searches in threads.
-pub(crate) const PART: &str = "part";
+/// The option that searches one part.
+pub const PART: &str = "part";
 
-pub(crate) const JOBS: &str = "jobs";
+/// The option that searches in threads.
+pub const JOBS: &str = "jobs";
 
 /// The argument that names files.
-pub(crate) const FILE: &str = "FILE";
+pub const FILE: &str = "FILE";
 
 /// The options of `check` that take a number, each with its help.
 const CHECK_NUMBERS: [(&str, &str); 1] = [(
@@ -59,7 +61,8 @@ const TRACE_NUMBERS: [(&str, &str); 5] = [
     ),
 ];
 
-/// The command line.
+/// The command line of `hotplug_lab`: a word for each thing it does, with its options and their help.
+/// An error is out of memory.
 pub fn lab_command<'a>(alloc: Global) -> Result<Command<'a>, AllocError> {
     let program = Command::new(alloc, "hotplug_lab")
         .version("1.0")
