@@ -10,8 +10,10 @@ times each, and every answer is compared. Of each the least time counts, and the
 run.
 
 - calls: the calls of each mix on each layout (--layouts, else small and medium), history kept; plans
-  as the single events that they make. Instructions are those of one time more that the calls are
-  made, so neither the reading of the scenario nor its generation is in them.
+  as the single events that they make. For both programs the size is fixed from which the C library
+  gives a block pages of its own: else it hangs on what was given back before, and decides whether a
+  growing table is copied. Instructions are those of one time more that the calls are made, so neither
+  the reading of the scenario nor its generation is in them.
 - sealed: the mixes that undo nothing, sealed after every 100,000 calls, without the seals' time;
   the peer keeps no records.
 - serial: `hotplug serial` on scenarios of 16 MiB of each mix, on the medium layout; and the
@@ -28,6 +30,7 @@ Instructions are counted where valgrind is there, in millions. They hardly move 
 import argparse
 import hashlib
 import json
+import os
 import re
 import resource
 import shutil
@@ -41,6 +44,8 @@ PEER = HERE / "peer" / "target" / "release"
 MIXES = ["kernel", "pages", "offline", "undo", "mixed"]
 SEED = "1"
 GIB = 1 << 30
+# A block of 128 KiB or more has pages of its own, whatever was given back before.
+OWN_PAGES = {"GLIBC_TUNABLES": "glibc.malloc.mmap_threshold=131072"}
 
 
 def limit():
@@ -51,11 +56,11 @@ def limit():
 class Run:
     """One run of a command: seconds by the clock and of processor, MiB at most, and what it wrote."""
 
-    def __init__(self, command, stdin=None):
+    def __init__(self, command, stdin=None, more=None):
         with tempfile.NamedTemporaryFile("r") as said, tempfile.TemporaryFile() as out:
             source = open(stdin, "rb") if stdin else subprocess.DEVNULL
             subprocess.run([PEER / "peak", said.name, *map(str, command)], stdin=source, stdout=out,
-                           preexec_fn=limit, check=True)
+                           preexec_fn=limit, check=True, env={**os.environ, **(more or {})})
             if stdin:
                 source.close()
             wall, busy, peak, status = map(int, said.read().split())
@@ -67,9 +72,9 @@ class Run:
         self.hash = hashlib.sha256(self.out).hexdigest()
 
 
-def in_turn(runs, ours, peer, stdin=None):
-    """The runs of both commands, made in turn."""
-    pairs = [(Run(ours, stdin), Run(peer, stdin)) for _ in range(runs)]
+def in_turn(runs, ours, peer, stdin=None, more=None):
+    """The runs of both commands, made in turn, with more in their environment."""
+    pairs = [(Run(ours, stdin, more), Run(peer, stdin, more)) for _ in range(runs)]
     return [a for a, _ in pairs], [b for _, b in pairs]
 
 
@@ -143,7 +148,7 @@ def calls(choice, folder, layouts, count, part=None):
                 return [PEER / "bench_calls", mix, layout, made, SEED, "--reps", runs,
                         *(["--no-history"] if part else [])]
 
-            ours, peer = in_turn(choice.runs, ours_of(3), peer_of(3), events)
+            ours, peer = in_turn(choice.runs, ours_of(3), peer_of(3), events, OWN_PAGES)
             if {checksum(run) for run in ours} != {checksum(run) for run in peer}:
                 sys.exit(f"{mix}: the replies differ")
             ours, peer = least(ours, nanoseconds), least(peer, nanoseconds)
