@@ -13,6 +13,8 @@ mod blocks;
 #[cfg(test)]
 mod layouts;
 #[cfg(test)]
+mod limits;
+#[cfg(test)]
 mod links;
 #[cfg(test)]
 mod pages;
