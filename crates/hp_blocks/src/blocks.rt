@@ -1,9 +1,10 @@
 //! Rows of memory blocks.
-ghost use Rattle.std.specs.Prelude.{◌≡◌, ◌<◌, IfOk};
+ghost use Rattle.std.specs.Prelude.{◌≡◌, ◌<◌, IfNone, IfOk, IfSome};
 ghost use Rattle.hp_units.specs.Boot.{empty_blocks};
 ghost use Rattle.hp_units.specs.InLayout.{AreBlocksOf};
 ghost use Rattle.hp_units.specs.Memory.{row_of, with_row};
 ghost use Rattle.hp_units.specs.Rows.{claimed_row, is_live};
+ghost use Rattle.hp_blocks.specs.Blocks.{AreUnclaimed, IsNextClaimed};
 ghost use Rattle.hp_tape.specs.Deltas.{FitsBlocks, IsDeltaOf, blocks_undo};
 ghost use Rattle.hp_tape.specs.Tapes.{HasRoom, NotesBlocks};
 
@@ -106,10 +107,25 @@ impl Blocks {
         ensures layout { self.new.layout ≡ self.old.layout }
         ensures notes { NotesBlocks self.old.layout 1 tape.old tape.new self.new.blocks self.old.blocks }
     {
-        let stored = row; // a copy, since the row is packed too
-        let change = RowChange::new(block, self.row(block), row);
+        let change = RowChange::new(block, self.row(block));
         tape.note(Delta::Row(change));
-        self.rows[block.0 as usize] = stored;
+        self.rows[block.0 as usize] = row;
+    }
+
+    /// The lowest memory block, from one on, that an operation holds, if there is one (own rule).
+    pub fn next_claimed(&self, op: Serial, first: Block) -> Option<Block>
+        ensures some { IfSome result (IsNextClaimed self.now op first) }
+        ensures none { IfNone result (AreUnclaimed self.now op first self.now.layout.blocks) }
+    {
+        let rows = self.rows.as_slice();
+        let mut at = first.0 as usize;
+        while at < rows.len() {
+            if rows[at].is_claimed_by(op) {
+                return Some(Block(at as u32));
+            }
+            at += 1;
+        }
+        None
     }
 
     /// Whether an operation is live: whether it holds a memory block (own rule).

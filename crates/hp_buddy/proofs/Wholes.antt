@@ -30,9 +30,11 @@ lower-off l a class pageblock order f low h whole from below =
     let out = taken_out l a class l.order first (omega arith) whole h in
     let same : free_list gone class order ≡ free_list a class order =
     get_or-set_other a.lists (5 * l.order + class_index class) (5 * order + class_index class)
-    (without first (free_list a class l.order)) [] (other-order class class l.order order (λ e. omega arith)) in
+    (without first (free_list a class l.order)) []
+    (other-order class class l.order order (λ e. omega arith)) in
     subst (λ (xs : List ℕ). is_on f xs ≡ false) same
-    (off-free gone class order f (has_order l gone order out.apart (omega arith)) (out.block.unfree f from below))
+    (off-free gone class order f (has_order l gone order out.apart (omega arith))
+    (out.block.unfree f from below))
 
 -- so nothing of a lower order moves
 lower-stays : (l : LayoutParts) (a : FreeAreas) (from to : Class) (pageblock order : ℕ) → order < l.order

@@ -323,7 +323,7 @@ impl Buddy {
             }
             Delta::Unlink { list, frame, after } => {
                 if let ListId::Area { class, order } = list {
-                    let number = list_number(*class, *order);
+                    let number = list_number(*class, Order(u32::from(*order)));
                     self.links.relink_after(number, *frame, *after);
                 }
             }

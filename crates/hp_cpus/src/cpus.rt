@@ -21,7 +21,8 @@ use hp_units::{Cpu, Frame, Layout, Pool, Zone, pageblock_of};
 use std::alloc::{AllocError, Global};
 use std::marker::Model;
 
-/// Each processor's lists of single frames, one for each pool. No call but `new`, `copy` and `list` takes memory.
+/// Each processor's lists of single frames, one for each pool. No call but `new`, `copy` and `list`
+/// takes memory.
 pub struct Cpus {
     layout: Layout,
     links: Links,
@@ -220,8 +221,8 @@ impl Cpus {
             }
             Delta::Unlink { list, frame, after } => {
                 if let ListId::Cpu { pool, cpu } = list {
-                    self.links
-                        .relink_after(list_number(*cpu, *pool), *frame, *after);
+                    let number = list_number(Cpu(u32::from(*cpu)), *pool);
+                    self.links.relink_after(number, *frame, *after);
                 }
             }
             _ => {}

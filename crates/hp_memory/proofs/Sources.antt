@@ -34,6 +34,38 @@ pub source-past : (l : LayoutParts) (s : Memory) (op number count : ℕ) → cou
 source-past l s op number count past =
     let none : count - number ≡ 0 = omega arith in ap (λ (n : ℕ). source_from l s op number n) none
 
+-- a block that the operation does not hold
+source-unclaimed : (l : LayoutParts) (s : Memory) (op block : ℕ) → is_claimed_by op (row_of s.blocks block) ≡ false
+    → source_of l s op block ≡ None
+source-unclaimed l s op block none =
+    ap (λ (claimed : Bool). cond (claimed && is_going (row_of s.blocks block))
+    (find (λ frame. is_some (page_at s.pages frame)) (frames_of_block l block)) None) none
+
+-- many of them
+pub source-skipped : (l : LayoutParts) (s : Memory) (op first more count : ℕ) → first + more ≤ count
+    → ((block : ℕ) → first ≤ block → block < first + more → is_claimed_by op (row_of s.blocks block) ≡ false)
+    → source_from l s op first (count - first) ≡ source_from l s op (first + more) (count - (first + more))
+source-skipped l s op first zero count low none =
+    let same : first + 0 ≡ first = omega arith in
+    ap (λ (n : ℕ). source_from l s op n (count - n)) (sym same)
+source-skipped l s op first (suc more) count low none =
+    let next : first + 1 + more ≡ first + suc more = omega arith in
+    source-further l s op first count (omega (arith, low))
+    (source-unclaimed l s op first (none first (omega arith) (omega arith)))
+    ∙ (source-skipped l s op (first + 1) more count (omega (arith, low))
+    (λ block from to. none block (omega (arith, from)) (omega (arith, to)))
+    ∙ ap (λ (n : ℕ). source_from l s op n (count - n)) next)
+
+-- all from one on to another
+pub source-between : (l : LayoutParts) (s : Memory) (op first past count : ℕ) → first ≤ past → past ≤ count
+    → ((block : ℕ) → first ≤ block → block < past → is_claimed_by op (row_of s.blocks block) ≡ false)
+    → source_from l s op first (count - first) ≡ source_from l s op past (count - past)
+source-between l s op first past count from to none =
+    let same : first + (past - first) ≡ past = omega (arith, from) in
+    source-skipped l s op first (past - first) count (omega (arith, from, to))
+    (λ block low high. none block low (omega (arith, high, from)))
+    ∙ ap (λ (n : ℕ). source_from l s op n (count - n)) same
+
 -- a block more, by whether it is claimed and whether it is going
 with_block : (p : ℕ → Bool) (f : ℕ → List ℕ) (g : ℕ → Bool) (block : ℕ) (xs : List ℕ) (later : Option ℕ)
     (claimed going : Bool)

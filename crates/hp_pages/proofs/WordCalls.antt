@@ -1,6 +1,6 @@
 -- A write of a word: what the call changes and notes is what the rule says.
 use Rattle.std.proofs.Common.{◌≡◌, ℕ, ◌<◌, Bool, true, false, List, [], ◌∷◌, ◌++◌, length, get_or, set, replicate, Option, Some, None, refl, sym, ap, ◌∙◌, subst, inl, inr, arith}
-use Rattle.std.specs.Prelude.{IfSome, option_map, slice_get, slice_index, unwrap_or}
+use Rattle.std.specs.Prelude.{IfSome, IsSome, option_map, slice_get, slice_index, unwrap_or}
 use Rattle.std.proofs.lemmas.Bool.{cases_Bool, cases_eq}
 use Rattle.std.proofs.lemmas.List.{get_or-set_same, get_or-set_other, length-replicate, length-set, set-set, set-get_or}
 use Rattle.std.proofs.lemmas.Option.{same_Some, slice_get-get_or}
@@ -36,7 +36,7 @@ written-fill l v frame index value in_words none some =
 pub notes-fill : (l : LayoutParts) (v : PageFrames) (frame index value : ℕ) (was now : TapeValue)
     → AreSized l v
     → IsFrame l frame → index < l.words → buffer_of v frame ≡ None
-    → now.room ≡ was.room → now.deltas ≡ was.deltas ++ Filled frame index value ∷ []
+    → now.room ≡ was.room → now.deltas ≡ was.deltas ++ Filled index frame value ∷ []
     → NotesPages l 1 was now (with_buffer v frame (Some (set (fresh_words l) index value))) v
 notes-fill l v frame index value was now are in_frames in_words none room noted =
     let within : frame < length v.buffers = omega (arith, are.frames, in_frames) in
@@ -44,7 +44,7 @@ notes-fill l v frame index value was now are in_frames in_words none room noted 
     let size : length words ≡ l.words =
     length-set (fresh_words l) index value ∙ length-replicate {A = ℕ} l.words 0 in
     record {
-      deltas = Filled frame index value ∷ [];
+      deltas = Filled index frame value ∷ [];
       tape = noted_one was now _ room noted;
       few = omega arith;
       own = (tt, tt);
@@ -109,7 +109,7 @@ pub notes-word : (l : LayoutParts) (v : PageFrames) (frame index before value : 
     (was now : TapeValue)
     → AreSized l v
     → IsFrame l frame → index < l.words → buffer_of v frame ≡ Some words → before ≡ slice_index words index
-    → now.room ≡ was.room → now.deltas ≡ was.deltas ++ WordDelta index frame before value ∷ []
+    → now.room ≡ was.room → now.deltas ≡ was.deltas ++ WordDelta index frame before ∷ []
     → NotesPages l 1 was now (with_buffer v frame (option_map (λ ws. set ws index value) (buffer_of v frame)))
     v
 notes-word l v frame index before value words was now are in_frames in_words there read room noted =
@@ -122,7 +122,7 @@ notes-word l v frame index before value words was now are in_frames in_words the
     get_or-set_same v.buffers frame (option_map (λ ws. set ws index value) (buffer_of v frame)) None within
     ∙ ap (option_map (λ ws. set ws index value)) there in
     record {
-      deltas = WordDelta index frame before value ∷ [];
+      deltas = WordDelta index frame before ∷ [];
       tape = noted_one was now _ room noted;
       few = omega arith;
       own = (tt, tt);
@@ -130,8 +130,9 @@ notes-word l v frame index before value words was now are in_frames in_words the
       lead = record {
         fit = (
           tt,
-          ap (λ (b : Option (List ℕ)). slice_get (unwrap_or b []) index) new
-              ∙ get_set words index value index_in,
+          subst (λ (o : Option ℕ). IsSome o) (sym (ap
+              (λ (b : Option (List ℕ)). slice_get (unwrap_or b []) index) new
+              ∙ get_set words index value index_in)) refl,
         );
         back = same_frames _ _ _ _ refl
             (ap (λ (b : Option (List ℕ)). set
@@ -151,7 +152,7 @@ pub notes-changed : (l : LayoutParts) (v : PageFrames) (frame index before value
     → AreSized l v
     → IsFrame l frame → index < l.words → buffer_of v frame ≡ b
     → slice_get (unwrap_or b []) index ≡ Some before
-    → now.room ≡ was.room → now.deltas ≡ was.deltas ++ WordDelta index frame before value ∷ []
+    → now.room ≡ was.room → now.deltas ≡ was.deltas ++ WordDelta index frame before ∷ []
     → NotesPages l 1 was now (with_buffer v frame (option_map (λ ws. set ws index value) (buffer_of v frame)))
     v
 notes-changed l v frame index before value None was now are in_frames in_words there read room noted =

@@ -168,11 +168,7 @@ impl Pages {
     {
         self.table.set(owner, page, None, Some(frame));
         let change = FrameChange::Mapped(frame);
-        tape.note(Delta::Map {
-            owner,
-            page,
-            change,
-        });
+        tape.note(Delta::of_page(owner, page, change));
     }
 
     /// Unmaps a mapped page of the layout; its frame is answered, and the frame's buffer, if it has
@@ -222,11 +218,7 @@ impl Pages {
     {
         self.table.set(owner, page, Some(frame), None);
         let change = FrameChange::Unmapped(frame);
-        tape.note(Delta::Map {
-            owner,
-            page,
-            change,
-        });
+        tape.note(Delta::of_page(owner, page, change));
     }
 
     /// The buffer that a write to a page of the layout asks for: zeros, where its frame has no buffer and the
@@ -307,11 +299,9 @@ impl Pages {
         let mut buffer = words;
         buffer.set(index, value);
         self.buffers.put(frame, buffer);
-        tape.note(Delta::Filled {
-            frame,
-            index,
-            now: value,
-        });
+        let index = index as u16;
+        let now = value;
+        tape.note(Delta::Filled { index, frame, now });
     }
 
     /// A word changes in a frame of the layout, which has a buffer unless the word stays 0. A
@@ -348,12 +338,8 @@ impl Pages {
         ensures notes { NotesPages self.old.layout 1 tape.old tape.new self.new.pages self.old.pages }
     {
         self.buffers.set_word(frame, index, now);
-        tape.note(Delta::Word {
-            index: index as u16,
-            frame,
-            was,
-            now,
-        });
+        let index = index as u16;
+        tape.note(Delta::Word { index, frame, was });
     }
 
     /// Moves the page at one frame of the layout to another that holds none; the buffers change
@@ -375,10 +361,6 @@ impl Pages {
         tape.note(Delta::Swap { a: from, b: to });
         self.table.set(owner, page, Some(from), Some(to));
         let change = FrameChange::Moved { was: from, now: to };
-        tape.note(Delta::Map {
-            owner,
-            page,
-            change,
-        });
+        tape.note(Delta::of_page(owner, page, change));
     }
 }

@@ -1,5 +1,7 @@
 //! What was done to the state, so that it can be undone.
-ghost use Rattle.std.specs.Prelude.{◌≡◌, IfOk};
+ghost use Rattle.std.specs.Prelude.{◌≡◌, ◌<◌, IfOk};
+ghost use Rattle.hp_tape.specs.declared.deltas.Delta.TheVariants.{Map as MapDelta};
+ghost use Rattle.hp_tape.specs.declared.deltas.ListId.TheVariants.{Area, Cpu as CpuList};
 
 use crate::frame_changes::FrameChange;
 use crate::row_changes::RowChange;
@@ -7,17 +9,37 @@ use hp_units::{Auto, Class, Cpu, Frame, Kind, Order, Owner, Page, Pageblock, Poo
 use std::alloc::{AllocError, Global};
 use std::mem::size_of;
 
-/// A list of frames.
+/// A list of frames, in three bytes.
 #[derive(Clone, Copy, PartialEq, Eq, Drop)]
 pub enum ListId {
-    /// The free blocks of a class and an order.
-    Area { class: Class, order: Order },
-    /// The single frames of a pool in a processor's list.
-    Cpu { pool: Pool, cpu: Cpu },
+    /// The free blocks of a class and an order, 0 to 10.
+    Area { class: Class, order: u8 },
+    /// The single frames of a pool in a processor's list; processors are 0 to 63.
+    Cpu { pool: Pool, cpu: u8 },
+}
+
+impl ListId {
+    /// The list of the free blocks of a class and an order.
+    pub fn of_area(class: Class, order: Order) -> ListId
+        requires { order < 256 }
+        ensures { result ≡ Area class order }
+    {
+        let order = order.0 as u8;
+        ListId::Area { class, order }
+    }
+
+    /// The list of a pool and a processor.
+    pub fn of_cpu(pool: Pool, cpu: Cpu) -> ListId
+        requires { cpu < 256 }
+        ensures { result ≡ CpuList pool cpu }
+    {
+        let cpu = cpu.0 as u8;
+        ListId::Cpu { pool, cpu }
+    }
 }
 
 /// One small change of the state, with what its opposite needs (own rule). None holds a list of
-/// frames or a state.
+/// frames or a state, and a number has as many bytes as the greatest of its kind in a layout.
 #[derive(Drop)]
 pub enum Delta {
     /// A frame was put after another, or at the front.
@@ -38,16 +60,16 @@ pub enum Delta {
         was: Kind,
         now: Kind,
     },
-    /// A kernel's block began or ended at a frame.
+    /// A kernel's block of an order, 0 to 10, began or ended at a frame.
     Kernel {
         frame: Frame,
-        was: Option<Order>,
-        now: Option<Order>,
+        was: Option<u8>,
+        now: Option<u8>,
     },
-    /// An owner's page got a frame, lost it or changed it.
+    /// A page, 0 to 65535, of an owner, 0 to 63, got a frame, lost it or changed it.
     Map {
-        owner: Owner,
-        page: Page,
+        owner: u8,
+        page: u16,
         change: FrameChange,
     },
     /// The buffers of two frames changed places.
@@ -55,18 +77,18 @@ pub enum Delta {
         a: Frame,
         b: Frame,
     },
-    /// One word in the buffer of a frame changed; words are counted from 0, and a frame has at most 512.
+    /// One word in the buffer of a frame changed, and was this one before; words are counted from 0, and a
+    /// frame has at most 512.
     Word {
         index: u16,
         frame: Frame,
         was: u64,
-        now: u64,
     },
     /// A frame without a buffer got one, with the first word of its page that is not 0 in it; words
     /// are counted from 0.
     Filled {
+        index: u16,
         frame: Frame,
-        index: u32,
         now: u64,
     },
     /// The buffer of a frame moved into the journal: its page was unmapped, or its last word that was not 0
@@ -85,9 +107,24 @@ pub enum Delta {
 }
 
 /// Bytes of a delta decide what a journal costs (own rule).
-const _: () = prove!(size_of::<Delta>() <= 24);
+const _: () = prove!(size_of::<Delta>() <= 16);
 
 impl Delta {
+    /// What became of an owner's page.
+    pub fn of_page(owner: Owner, page: Page, change: FrameChange) -> Delta
+        requires owner { owner < 256 }
+        requires page { page < 65536 }
+        ensures { result ≡ MapDelta owner page change }
+    {
+        let owner = owner.0 as u8;
+        let page = page.0 as u16;
+        Delta::Map {
+            owner,
+            page,
+            change,
+        }
+    }
+
     /// An equal delta. Takes memory for the words that it holds, if it holds any; an error is out of memory.
     pub fn copy(&self, alloc: Global) -> Result<Delta, AllocError>
         ensures { IfOk result (λ copy. copy ≡ self.now) }
@@ -127,20 +164,14 @@ impl Delta {
                 change: *change,
             },
             Delta::Swap { a, b } => Delta::Swap { a: *a, b: *b },
-            Delta::Word {
-                index,
-                frame,
-                was,
-                now,
-            } => Delta::Word {
+            Delta::Word { index, frame, was } => Delta::Word {
                 index: *index,
                 frame: *frame,
                 was: *was,
-                now: *now,
             },
-            Delta::Filled { frame, index, now } => Delta::Filled {
-                frame: *frame,
+            Delta::Filled { index, frame, now } => Delta::Filled {
                 index: *index,
+                frame: *frame,
                 now: *now,
             },
             Delta::Emptied { frame, words } => Delta::Emptied {

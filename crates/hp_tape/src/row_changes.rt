@@ -1,17 +1,16 @@
-//! Rows of memory blocks before and after a change, in a form short enough for a delta.
+//! The row of a memory block before a change, in a form short enough for a delta.
 ghost use Rattle.std.specs.Prelude.{◌≡◌, ◌<◌};
 ghost use Rattle.hp_tape.specs.RowChanges.{claim_in, op_in, row_in, zone_in};
 
 use hp_units::{Block, Claim, Row, Serial, State, Wish, Zone};
 use std::marker::Model;
 
-/// A memory block's row before a change and after it, in 23 bytes in place of 68 (own rule). A
-/// contract sees the rows themselves.
+/// A change of a memory block's row, with the row that was before it, in 12 bytes (own rule). A
+/// contract sees the row itself.
 #[derive(Drop)]
 pub struct RowChange {
     block: u8,
     before: PackedRow,
-    after: PackedRow,
 }
 
 impl Model for RowChange {
@@ -19,19 +18,18 @@ impl Model for RowChange {
 
     ghost Value = { RowChangeValue };
 
-    ghost view = { λ c. record { block = c.block; before = row_in c.before; after = row_in c.after } };
+    ghost view = { λ c. record { block = c.block; before = row_in c.before } };
 }
 
 impl RowChange {
-    /// A row of a memory block, of which there are at most 256, before a change and after it.
-    pub fn new(block: Block, before: Row, after: Row) -> RowChange
+    /// A change of a memory block, of which there are at most 256, from a row.
+    pub fn new(block: Block, before: Row) -> RowChange
         requires { block < 256 }
-        ensures { result ≡ record { block = block; before = before; after = after } }
+        ensures { result ≡ record { block = block; before = before } }
     {
         RowChange {
             block: block.0 as u8,
             before: PackedRow::new(before),
-            after: PackedRow::new(after),
         }
     }
 
@@ -42,7 +40,6 @@ impl RowChange {
         RowChange {
             block: self.block,
             before: self.before,
-            after: self.after,
         }
     }
 
@@ -58,13 +55,6 @@ impl RowChange {
         ensures { result ≡ self.now.before }
     {
         self.before.row()
-    }
-
-    /// The row after the change.
-    pub fn after(&self) -> Row
-        ensures { result ≡ self.now.after }
-    {
-        self.after.row()
     }
 }
 

@@ -100,7 +100,7 @@ fn is_back(buddy: &mut Buddy) -> bool
     buddy.back(Delta::Unlink {
         list: ListId::Area {
             class: Class::Nm,
-            order: Order(1),
+            order: 1,
         },
         frame: Frame(0),
         after: None,

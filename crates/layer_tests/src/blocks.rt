@@ -27,7 +27,10 @@ fn is_claimed_and_set(blocks: &mut Blocks, tape: &mut Tape) -> bool
     blocks.set(Block(1), Row::online(Zone::Movable), tape);
     blocks.claim(Block(1), Serial(5), Wish::Off, tape);
     blocks.set_auto(Auto::Online, tape);
-    let is_set = blocks.auto() == Auto::Online && blocks.is_live(Serial(5));
+    let is_set = blocks.auto() == Auto::Online
+        && blocks.is_live(Serial(5))
+        && blocks.next_claimed(Serial(5), Block(0)) == Some(Block(1))
+        && blocks.next_claimed(Serial(5), Block(2)).is_none();
     blocks.back(Delta::Auto {
         was: Auto::Offline,
         now: Auto::Online,

@@ -105,7 +105,7 @@ fn is_back(cpus: &mut Cpus) -> bool
     cpus.back(Delta::Unlink {
         list: ListId::Cpu {
             pool: Pool::Mm,
-            cpu: Cpu(0),
+            cpu: 0,
         },
         frame: Frame(3),
         after: None,

@@ -1,5 +1,7 @@
-use hp_tape::{Delta, FrameChange, RowChange, Tape};
-use hp_units::{Block, Claim, Frame, Row, Serial, State, Wish, Zone};
+use hp_tape::{Delta, FrameChange, ListId, RowChange, Tape};
+use hp_units::{
+    Block, Claim, Class, Cpu, Frame, Order, Owner, Page, Pool, Row, Serial, State, Wish, Zone,
+};
 use std::alloc::{AllocError, Global};
 use std::test::Fail;
 
@@ -19,8 +21,8 @@ fn is_copied_and_back(alloc: Global, tape: &mut Tape) -> Result<bool, AllocError
 fn notes_copies_and_takes_back(rt: HostRuntime) -> Result<(), Fail> {
     let mut tape = Tape::with_room(rt.alloc(), 1)?;
     let filled = Delta::Filled {
-        frame: Frame(1),
         index: 0,
+        frame: Frame(1),
         now: 7,
     };
     tape.note(filled.copy(rt.alloc())?);
@@ -38,12 +40,47 @@ const HELD: Row = Row {
 };
 
 #[test]
-fn changes_show_both_sides(rt: HostRuntime) {
-    let change = RowChange::new(Block(255), Row::bare(State::Absent), HELD);
+fn lists_have_short_names(rt: HostRuntime) {
+    let area = ListId::of_area(Class::Nm, Order(10));
+    let single = ListId::of_cpu(Pool::Mm, Cpu(63));
+    assert!(rt;
+        matches!(
+            area,
+            ListId::Area {
+                class: Class::Nm,
+                order: 10
+            }
+        )
+    );
+    assert!(rt;
+        matches!(
+            single,
+            ListId::Cpu {
+                pool: Pool::Mm,
+                cpu: 63
+            }
+        )
+    );
+}
+
+#[test]
+fn changes_show_what_was(rt: HostRuntime) {
+    let change = RowChange::new(Block(255), HELD);
     let moved = FrameChange::Moved {
         was: Frame(1),
         now: Frame(2),
     };
-    assert!(rt; change.block() == Block(255) && change.after() == HELD);
-    assert!(rt; change.before() == Row::bare(State::Absent) && moved.before() == Some(Frame(1)));
+    assert!(rt; change.block() == Block(255) && change.before() == HELD);
+    assert!(rt; moved.before() == Some(Frame(1)));
+    let page = Delta::of_page(Owner(63), Page(65535), moved);
+    assert!(rt;
+        matches!(
+            page,
+            Delta::Map {
+                owner: 63,
+                page: 65535,
+                ..
+            }
+        )
+    );
 }

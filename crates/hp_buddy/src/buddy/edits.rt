@@ -74,10 +74,11 @@ impl Buddy {
 
 /// The delta of a free block that was put after another one.
 fn link_delta(class: Class, order: Order, frame: Frame, after: Option<Frame>) -> Delta
+    requires { order < 256 }
     ensures { result ≡ Link (Area class order) frame after }
 {
     Delta::Link {
-        list: ListId::Area { class, order },
+        list: ListId::of_area(class, order),
         frame,
         after,
     }
@@ -85,10 +86,11 @@ fn link_delta(class: Class, order: Order, frame: Frame, after: Option<Frame>) ->
 
 /// The delta of a free block that left its place after another one.
 fn unlink_delta(class: Class, order: Order, frame: Frame, after: Option<Frame>) -> Delta
+    requires { order < 256 }
     ensures { result ≡ Unlink (Area class order) frame after }
 {
     Delta::Unlink {
-        list: ListId::Area { class, order },
+        list: ListId::of_area(class, order),
         frame,
         after,
     }

@@ -111,10 +111,11 @@ impl Cpus {
 
 /// The delta of a frame that was put after another one on a processor's list.
 fn link_delta(cpu: Cpu, pool: Pool, frame: Frame, after: Option<Frame>) -> Delta
+    requires { cpu < 256 }
     ensures { result ≡ Link (CpuList pool cpu) frame after }
 {
     Delta::Link {
-        list: ListId::Cpu { pool, cpu },
+        list: ListId::of_cpu(pool, cpu),
         frame,
         after,
     }
@@ -122,10 +123,11 @@ fn link_delta(cpu: Cpu, pool: Pool, frame: Frame, after: Option<Frame>) -> Delta
 
 /// The delta of a frame that left its place after another one on a processor's list.
 fn unlink_delta(cpu: Cpu, pool: Pool, frame: Frame, after: Option<Frame>) -> Delta
+    requires { cpu < 256 }
     ensures { result ≡ Unlink (CpuList pool cpu) frame after }
 {
     Delta::Unlink {
-        list: ListId::Cpu { pool, cpu },
+        list: ListId::of_cpu(pool, cpu),
         frame,
         after,
     }

@@ -55,7 +55,7 @@ fn load_list(buddy: &mut Buddy, image: &Image, class: Class, order: Order)
     for number in 0..frames.len() {
         let frame = frames[frames.len() - 1 - number];
         buddy.back(Delta::Unlink {
-            list: ListId::Area { class, order },
+            list: ListId::of_area(class, order),
             frame,
             after: None,
         });

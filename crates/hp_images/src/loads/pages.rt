@@ -78,11 +78,7 @@ fn load_entry(pages: &mut Pages, image: &Image, owner: Owner, page: Page)
 {
     if let Some(frame) = image.frame_at(owner, page) {
         let change = FrameChange::Unmapped(frame);
-        pages.back(Delta::Map {
-            owner,
-            page,
-            change,
-        });
+        pages.back(Delta::of_page(owner, page, change));
     }
 }
 

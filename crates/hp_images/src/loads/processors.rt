@@ -52,7 +52,7 @@ fn load_list(cpus: &mut Cpus, image: &Image, cpu: Cpu, pool: Pool)
     for number in 0..frames.len() {
         let frame = frames[frames.len() - 1 - number];
         cpus.back(Delta::Unlink {
-            list: ListId::Cpu { pool, cpu },
+            list: ListId::of_cpu(pool, cpu),
             frame,
             after: None,
         });

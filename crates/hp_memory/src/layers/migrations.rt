@@ -48,10 +48,12 @@ impl Layers {
         requires one { AreOfOneLayout self.now }
         ensures { result ≡ migration_source self.now.layout (state_of self.now) op }
     {
-        for number in 0..self.layout.blocks() {
-            if let Some(frame) = self.source_of(op, Block(number)) {
+        let mut first = Block(0);
+        while let Some(block) = self.blocks.next_claimed(op, first) {
+            if let Some(frame) = self.source_of(op, block) {
                 return Some(frame);
             }
+            first = Block(block.0 + 1);
         }
         None
     }

@@ -6,7 +6,7 @@ ghost use Rattle.hp_pages.specs.Pages.{IsInPlace};
 
 use crate::pages::Pages;
 use hp_tape::{Delta, FrameChange};
-use hp_units::Frame;
+use hp_units::{Frame, Owner, Page};
 
 impl Pages {
     /// Does the opposite of a delta of the layout that fits; one of another layer changes nothing.
@@ -36,16 +36,15 @@ impl Pages {
                 page,
                 change,
             } => {
-                let was = frame_after(*change);
-                self.table.set(*owner, *page, was, change.before());
+                let owner = Owner(u32::from(*owner));
+                let page = Page(u32::from(*page));
+                self.table
+                    .set(owner, page, frame_after(*change), change.before());
             }
             Delta::Swap { a, b } => self.buffers.swap(*a, *b),
-            Delta::Word {
-                index,
-                frame,
-                was,
-                ..
-            } => self.buffers.set_word(*frame, u32::from(*index), *was),
+            Delta::Word { index, frame, was } => {
+                self.buffers.set_word(*frame, u32::from(*index), *was)
+            }
             Delta::Filled { frame, .. } => self.buffers.clear(*frame),
             _ => {}
         }

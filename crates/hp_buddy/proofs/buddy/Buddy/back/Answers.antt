@@ -1,4 +1,6 @@
 -- Each delta by its own lemma.
+use Rattle.std.proofs.Common.{ℕ, ap, ◌∙◌, ◌+◌, ◌*◌}
+use Rattle.hp_units.specs.Memory.{class_index}
 use Rattle.hp_buddy.proofs.Notes.{seen-listed}
 use Rattle.hp_buddy.proofs.Backs.{linked-on, link-undone, unlinked-after, unlink-undone}
 use Rattle.hp_buddy.proofs.buddy.Buddy.back.Goals as goal
@@ -28,7 +30,8 @@ relink_after-requires-clause-after_on c =
     c.in-Area-list.class c.in-Area-list.order c.in-Unlink.frame c.list_number-number.result
     c.in-Unlink.after
     (record { is = c.self.view_is; kept = c.self.invariant }) c.in-Unlink.is c.in-Area-list.is c.requires.fits
-    c.list_number-number.ensures
+    (c.list_number-number.ensures
+    ∙ ap (λ (n : ℕ). 5 * n + class_index c.in-Area-list.class) c.from.ensures)
 
 pub returns-in-Area-list-clause-back : goal.returns-in-Area-list-clause-back
 returns-in-Area-list-clause-back c =
@@ -37,4 +40,5 @@ returns-in-Area-list-clause-back c =
     c.in-Unlink.list c.in-Area-list.class c.in-Area-list.order c.in-Unlink.frame c.list_number-number.result
     c.in-Unlink.after
     (record { is = c.self.view_is; kept = c.self.invariant }) c.in-Unlink.is c.in-Area-list.is
-    c.list_number-number.ensures c.relink_after.ensures
+    (c.list_number-number.ensures
+    ∙ ap (λ (n : ℕ). 5 * n + class_index c.in-Area-list.class) c.from.ensures) c.relink_after.ensures

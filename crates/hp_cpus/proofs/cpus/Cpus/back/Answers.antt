@@ -1,4 +1,6 @@
 -- Each delta by its own lemma.
+use Rattle.std.proofs.Common.{ℕ, ap, ◌∙◌, ◌+◌, ◌*◌}
+use Rattle.hp_units.specs.Memory.{pool_index}
 use Rattle.hp_cpus.proofs.Edits.{seen-listed}
 use Rattle.hp_cpus.proofs.Backs.{linked-on, link-undone, unlinked-after, unlink-undone}
 use Rattle.hp_cpus.proofs.cpus.Cpus.back.Goals as goal
@@ -25,14 +27,16 @@ pub relink_after-requires-clause-after_on : goal.relink_after-requires-clause-af
 relink_after-requires-clause-after_on c =
     let b = c.self.inside in
     unlinked-after c.args.self.now b.layout b.links c.args.delta c.in-Unlink.list c.in-Cpu-list.cpu
-    c.in-Cpu-list.pool c.in-Unlink.frame c.list_number.result c.in-Unlink.after c.requires.fits.0
+    c.in-Cpu-list.pool c.in-Unlink.frame c.list_number-number.result c.in-Unlink.after c.requires.fits.0
     (record { is = c.self.view_is; kept = c.self.invariant }) c.in-Unlink.is c.in-Cpu-list.is
-    c.requires.fits.1 c.list_number.ensures
+    c.requires.fits.1
+    (c.list_number-number.ensures ∙ ap (λ (n : ℕ). 3 * n + pool_index c.in-Cpu-list.pool) c.from.ensures)
 
 pub returns-in-Cpu-list-clause-back : goal.returns-in-Cpu-list-clause-back
 returns-in-Cpu-list-clause-back c =
     let b = c.self.inside in
     unlink-undone c.args.self.now b.layout b.links c.relink_after.new.self c.args.delta c.in-Unlink.list
-    c.in-Cpu-list.cpu c.in-Cpu-list.pool c.in-Unlink.frame c.list_number.result c.in-Unlink.after
+    c.in-Cpu-list.cpu c.in-Cpu-list.pool c.in-Unlink.frame c.list_number-number.result c.in-Unlink.after
     (record { is = c.self.view_is; kept = c.self.invariant }) c.in-Unlink.is c.in-Cpu-list.is
-    c.list_number.ensures c.relink_after.ensures
+    (c.list_number-number.ensures ∙ ap (λ (n : ℕ). 3 * n + pool_index c.in-Cpu-list.pool) c.from.ensures)
+    c.relink_after.ensures

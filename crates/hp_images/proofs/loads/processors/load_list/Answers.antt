@@ -8,21 +8,24 @@ use Rattle.hp_images.proofs.loads.processors.load_list.Goals as goal
 pub back-requires-clause-fits : goal.back-requires-clause-fits
 back-requires-clause-fits c = (
   c.args.image.now.memory.free.areas,
-  cached-fits c.args.image.now.layout c.args.image.now.memory c.args.cpu c.args.pool c.loop-number.number _
-      c.index-frames-frames.result c.cpu_list-frames.result.now c.args.cpus.now c.loop-number.cpus
-      c.requires.placed c.requires.cpu c.cpu_list-frames.ensures (next-of c.cpu_list-frames.result.now
+  rw c.of_cpu.ensures
+      (cached-fits c.args.image.now.layout c.args.image.now.memory c.args.cpu c.args.pool
+      c.loop-number.number _ c.index-frames-frames.result c.cpu_list-frames.result.now c.args.cpus.now
+      c.loop-number.cpus c.requires.placed c.requires.cpu c.cpu_list-frames.ensures
+      (next-of c.cpu_list-frames.result.now
       c.loop-number.number c.index-frames-frames.result (omega (arith, c.loop-number-test.true))
-      c.index-frames-frames.is) c.requires.partly c.loop-number.invariant.lists,
+      c.index-frames-frames.is) c.requires.partly c.loop-number.invariant.lists),
 )
 
 pub back-requires-clause-numbers : goal.back-requires-clause-numbers
 back-requires-clause-numbers c =
-    cached-numbers c.args.image.now.layout c.loop-number.cpus.layout c.args.image.now.memory c.args.cpu
+    rw c.of_cpu.ensures
+    (cached-numbers c.args.image.now.layout c.loop-number.cpus.layout c.args.image.now.memory c.args.cpu
     c.args.pool c.loop-number.number _ c.index-frames-frames.result c.cpu_list-frames.result.now
     c.requires.limits c.requires.placed (ap (λ v. v.layout)
     c.loop-number.invariant.lists ∙ c.requires.layout) c.requires.cpu c.cpu_list-frames.ensures (next-of
     c.cpu_list-frames.result.now c.loop-number.number c.index-frames-frames.result
-    (omega (arith, c.loop-number-test.true)) c.index-frames-frames.is)
+    (omega (arith, c.loop-number-test.true)) c.index-frames-frames.is))
 
 pub loop-number-preserved : goal.loop-number-preserved
 loop-number-preserved c = record {
@@ -38,5 +41,6 @@ loop-number-preserved c = record {
       )) (next-of c.cpu_list-frames.result.now c.loop-number.number
       c.index-frames-frames.result (omega (arith, c.loop-number-test.true))
       c.index-frames-frames.is) c.loop-number.invariant.lists c.back.ensures.layout
-      (ap (λ (fs : FreeFrames). fs.cached) (c.back.ensures.back c.args.image.now.memory.free.areas));
+      (ap (λ (fs : FreeFrames). fs.cached)
+      (rw c.of_cpu.ensures at (c.back.ensures.back c.args.image.now.memory.free.areas)));
 }

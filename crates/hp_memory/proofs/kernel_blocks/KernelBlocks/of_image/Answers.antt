@@ -8,17 +8,17 @@ loop-number-init c = record {
   blocks =
       copied-none None None c.frames.result c.args.image.now.memory.kernel c.in_ok-kernel.kernel
       c.in_ok-kernel.ensures
-      (omega (arith, c.requires, c.frames.ensures.is, ap (λ l. frame_count l) c.layout.ensures));
+      (omega (arith, c.requires.size, c.frames.ensures.is, ap (λ l. frame_count l) c.layout.ensures));
 }
 
-pub load-requires : goal.load-requires
-load-requires c =
+pub load-requires-clause-frame : goal.load-requires-clause-frame
+load-requires-clause-frame c =
     omega (
       arith,
       c.loop-number-test.true,
       c.frames-number-end.ensures.is,
       ap (λ l. frame_count l) c.layout-2.ensures,
-      c.requires,
+      c.requires.size,
       c.loop-number.invariant.blocks.size,
     )
 
@@ -30,5 +30,5 @@ returns c =
       c.loop-number-test.false,
       c.frames-number-end.ensures.is,
       ap (λ l. frame_count l) c.layout-2.ensures,
-      c.requires,
+      c.requires.size,
     )) c.loop-number.invariant.blocks

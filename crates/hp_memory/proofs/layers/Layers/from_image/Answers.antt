@@ -1,6 +1,11 @@
 use Rattle.std.proofs.Common.{◌∙◌}
+use Rattle.hp_memory.proofs.Kernel.{short-orders}
 use Rattle.hp_memory.proofs.OnlineBlocks.{loaded-led}
 use Rattle.hp_memory.proofs.layers.Layers.from_image.Goals as goal
+
+pub of_image-requires-clause-small : goal.of_image-requires-clause-small
+of_image-requires-clause-small c =
+    short-orders c.args.image.now.layout c.args.image.now.memory c.requires.limits c.requires.placed
 
 pub returns-clause-placed : goal.returns-clause-placed
 returns-clause-placed c =

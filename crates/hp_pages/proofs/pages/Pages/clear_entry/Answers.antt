@@ -1,3 +1,5 @@
+use Rattle.std.proofs.Common.{◌++◌, ◌∷◌, [], ◌∙◌}
+use Rattle.hp_tape.specs.declared.deltas.Delta.{Delta}
 use Rattle.std.proofs.Common.{None, ap, subst, sym}
 use Rattle.hp_units.specs.Memory.{with_entry}
 use Rattle.hp_tape.specs.Tapes.{NotesPages}
@@ -20,4 +22,5 @@ returns-clause-notes c =
     c.self.view_is)
     (notes-clear l v c.args.owner c.args.page c.args.frame c.args.tape.now c.note.new.self are
     c.requires.owner c.requires.page c.requires.frame c.requires.mapped
-    c.note.ensures.room c.note.ensures.noted))
+    c.note.ensures.room (c.note.ensures.noted
+    ∙ ap (λ (d : Delta). c.args.tape.now.deltas ++ d ∷ []) c.of_page.ensures)))

@@ -1,3 +1,5 @@
+use Rattle.std.proofs.Common.{◌++◌, ◌∷◌, [], ◌∙◌}
+use Rattle.hp_tape.specs.declared.deltas.Delta.{Delta}
 use Rattle.std.proofs.Common.{ap, subst, sym}
 use Rattle.hp_tape.specs.Tapes.{NotesPages}
 use Rattle.hp_pages.specs.Pages.{ArePageFramesOf, AreSettled, PagesValue, map_frame}
@@ -29,4 +31,5 @@ returns-clause-notes c =
     (notes-map c.args.self.now.layout c.args.self.now.pages c.args.owner c.args.page c.args.frame _ _ are
     c.requires.settled
     c.requires.owner c.requires.page c.requires.frame c.requires.unmapped c.requires.free c.note.ensures.room
-    c.note.ensures.noted))
+    (c.note.ensures.noted
+    ∙ ap (λ (d : Delta). c.args.tape.now.deltas ++ d ∷ []) c.of_page.ensures)))

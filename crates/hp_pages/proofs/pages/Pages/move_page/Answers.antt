@@ -1,3 +1,5 @@
+use Rattle.std.proofs.Common.{◌++◌, ◌∷◌, []}
+use Rattle.hp_tape.specs.declared.deltas.Delta.{Delta}
 use Rattle.std.proofs.Common.{◌≡◌, ◌<◌, Some, ap, subst, sym, ◌∙◌, arith}
 use Rattle.hp_units.specs.Memory.{entry_of}
 use Rattle.hp_units.specs.Pages.{page_from}
@@ -71,4 +73,27 @@ returns-clause-notes c =
     (notes-move c.args.self.now.layout c.args.self.now.pages page.0 page.1 c.args.from c.args.to _
     c.note.new.self _ c.page_at.ensures.pages c.requires.settled
     c.requires.from c.requires.to is.entry c.requires.free is.in_owners is.in_pages c.note.ensures.room
-    c.note.ensures.noted c.note-2.ensures.room c.note-2.ensures.noted))
+    c.note.ensures.noted c.note-2.ensures.room (c.note-2.ensures.noted
+    ∙ ap (λ (d : Delta). c.note.new.self.deltas ++ d ∷ []) c.of_page.ensures)))
+
+pub of_page-requires-clause-owner : goal.of_page-requires-clause-owner
+of_page-requires-clause-owner c =
+    let page = c.unwrap-owner.result in
+    let first : page_from 0 c.args.self.now.pages.table c.args.from ≡ Some page =
+    sym c.page_at.ensures.page ∙ c.unwrap-owner.ensures in
+    let is =
+    first_page c.args.self.now.layout c.args.self.now.pages c.args.from page c.page_at.ensures.pages
+    first in
+    let in_owners = subst (λ (v : PagesValue). page.0 < v.layout.owners) (sym c.self.view_is) is.in_owners in
+    omega (arith, in_owners, c.self.invariant.owners, c.set.ensures.was_table.owners)
+
+pub of_page-requires-clause-page : goal.of_page-requires-clause-page
+of_page-requires-clause-page c =
+    let page = c.unwrap-owner.result in
+    let first : page_from 0 c.args.self.now.pages.table c.args.from ≡ Some page =
+    sym c.page_at.ensures.page ∙ c.unwrap-owner.ensures in
+    let is =
+    first_page c.args.self.now.layout c.args.self.now.pages c.args.from page c.page_at.ensures.pages
+    first in
+    let in_pages = subst (λ (v : PagesValue). page.1 < v.layout.pages) (sym c.self.view_is) is.in_pages in
+    omega (arith, in_pages, c.self.invariant.pages, c.set.ensures.was_table.pages)
