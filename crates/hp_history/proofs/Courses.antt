@@ -114,7 +114,8 @@ cut_course m es ds cpu keep r ok free cut serial =
       placed = ok.placed;
       history = record { legal = follows m cpu r serial cut.answers ok.history.legal; state = refl };
       journal =
-          rw (cut_net m cpu keep r cut) (journal_take m.layout m.base m.before (net_of m.history) es ds keep ok.journal cut.within);
+          rw (cut_net m cpu keep r cut)
+          (journal_take m.layout m.base m.before (net_of m.history) es ds keep ok.journal cut.within);
       fits = omega (arith, space, length_push m.history (record_of cpu r));
     }
 

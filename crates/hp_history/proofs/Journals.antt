@@ -45,15 +45,16 @@ few_between n from to bound is le = omega arith
 -- ---- what a journal's places are
 
 -- as many entries as steps
-pub entry_count : (l : LayoutParts) (base : Memory) (before : ℕ) (net : List Record) (es : List Entry) (ds : List Delta)
+pub entry_count : (l : LayoutParts) (base : Memory) (before : ℕ) (net : List Record) (es : List Entry)
+    (ds : List Delta)
     → IsJournal l base before net es ds → length es ≡ length net
 entry_count l base before net es ds ok =
     sym (length-map es (tag_in before))
     ∙ (ap (λ (ts : List Tag). length ts) ok.tagged ∙ length-map net tag_of)
 
 -- the deltas of a step begin on the tape
-pub start_within : (l : LayoutParts) (base : Memory) (before : ℕ) (net : List Record) (es : List Entry) (ds : List Delta)
-    (j : ℕ)
+pub start_within : (l : LayoutParts) (base : Memory) (before : ℕ) (net : List Record) (es : List Entry)
+    (ds : List Delta) (j : ℕ)
     → IsJournal l base before net es ds → start_of es (length ds) j ≤ length ds
 start_within l base before net es ds j ok =
     let far : start_of es (length ds) (length es + j) ≡ length ds =
@@ -86,8 +87,8 @@ journal_none l base before placed = record {
 -- ---- the first steps
 
 -- where they begin on the tape that is cut: as before, and past the cut at its end
-cut_start : (l : LayoutParts) (base : Memory) (before : ℕ) (net : List Record) (es : List Entry) (ds : List Delta)
-    (k j : ℕ)
+cut_start : (l : LayoutParts) (base : Memory) (before : ℕ) (net : List Record) (es : List Entry)
+    (ds : List Delta) (k j : ℕ)
     → IsJournal l base before net es ds → k ≤ length net → j ≤ k
     → start_of (take k es) (length (take (start_of es (length ds) k) ds)) j ≡ start_of es (length ds) j
 cut_start l base before net es ds k j ok le low =
@@ -96,8 +97,8 @@ cut_start l base before net es ds k j ok le low =
     let reach : k ≤ length es = omega (arith, le, entry_count l base before net es ds ok) in
     ap (λ (n : ℕ). start_of (take k es) n j) long ∙ start-take es (length ds) j k low reach
 
-cut_past : (l : LayoutParts) (base : Memory) (before : ℕ) (net : List Record) (es : List Entry) (ds : List Delta)
-    (k j : ℕ)
+cut_past : (l : LayoutParts) (base : Memory) (before : ℕ) (net : List Record) (es : List Entry)
+    (ds : List Delta) (k j : ℕ)
     → IsJournal l base before net es ds → k ≤ length net → k ≤ j
     → start_of (take k es) (length (take (start_of es (length ds) k) ds)) j ≡ start_of es (length ds) k
 cut_past l base before net es ds k j ok le high =
@@ -107,8 +108,8 @@ cut_past l base before net es ds k j ok le high =
     let few : length (take k es) ≤ j = omega (arith, high, length-take-le k es reach) in
     start-past (take k es) (length (take (start_of es (length ds) k) ds)) j few ∙ long
 
-cut_rising : (l : LayoutParts) (base : Memory) (before : ℕ) (net : List Record) (es : List Entry) (ds : List Delta)
-    (k : ℕ)
+cut_rising : (l : LayoutParts) (base : Memory) (before : ℕ) (net : List Record) (es : List Entry)
+    (ds : List Delta) (k : ℕ)
     → IsJournal l base before net es ds → k ≤ length net → (i j : ℕ) → i ≤ j
     → start_of (take k es) (length (take (start_of es (length ds) k) ds)) i
     ≤ start_of (take k es) (length (take (start_of es (length ds) k) ds)) j
@@ -125,16 +126,18 @@ cut_rising l base before net es ds k ok le i j less =
       | inr past ↦ elim (cases_lt i k) [
         | inl below ↦ (let first : i ≤ k = omega arith in
             placed_up (start_of (take k es) kept i) (start_of (take k es) kept j) (start_of es (length ds) i)
-            mark (cut_start l base before net es ds k i ok le first) (cut_past l base before net es ds k j ok le past)
-            (ok.rising i k first))
+            mark (cut_start l base before net es ds k i ok le first)
+            (cut_past l base before net es ds k j ok le past) (ok.rising i k first))
         | inr also ↦
             placed_up (start_of (take k es) kept i) (start_of (take k es) kept j) mark mark (cut_past l base
             before net es ds k i ok le also) (cut_past l base before net es ds k j ok le past) (omega arith)
       ]
     ]
 
-cut_few : (l : LayoutParts) (base : Memory) (before : ℕ) (net : List Record) (es : List Entry) (ds : List Delta) (k : ℕ)
-    → IsJournal l base before net es ds → k ≤ length net → (j : ℕ) (r : Record) → slice_get (take k net) j ≡ Some r
+cut_few : (l : LayoutParts) (base : Memory) (before : ℕ) (net : List Record) (es : List Entry)
+    (ds : List Delta) (k : ℕ)
+    → IsJournal l base before net es ds → k ≤ length net → (j : ℕ) (r : Record)
+    → slice_get (take k net) j ≡ Some r
     → start_of (take k es) (length (take (start_of es (length ds) k) ds)) (j + 1) ≤ start_of (take k es)
     (length (take (start_of es (length ds) k) ds)) j + delta_bound l (run l base (take j (take k net)))
     r.event
@@ -153,8 +156,8 @@ cut_few l base before net es ds k ok le j r at =
     (delta_bound l (run l base (take j net)) r.event) (cut_start l base before net es ds k (j + 1) ok le next)
     (cut_start l base before net es ds k j ok le low) (ok.few j r here.1))
 
-cut_leads : (l : LayoutParts) (base : Memory) (before : ℕ) (net : List Record) (es : List Entry) (ds : List Delta)
-    (k : ℕ)
+cut_leads : (l : LayoutParts) (base : Memory) (before : ℕ) (net : List Record) (es : List Entry)
+    (ds : List Delta) (k : ℕ)
     → IsJournal l base before net es ds → k ≤ length net → (j : ℕ) → j ≤ k
     → LeadsBack l (drop (start_of (take k es) (length (take (start_of es (length ds) k) ds)) j)
     (take (start_of es (length ds) k) ds)) (run l base (take k net)) (run l base (take j (take k net)))
@@ -177,8 +180,8 @@ cut_leads l base before net es ds k ok le j low =
     (run l base g)) (sym (take-take j k net low)) first)
 
 -- the journal of the first steps
-pub journal_take : (l : LayoutParts) (base : Memory) (before : ℕ) (net : List Record) (es : List Entry) (ds : List Delta)
-    (k : ℕ)
+pub journal_take : (l : LayoutParts) (base : Memory) (before : ℕ) (net : List Record) (es : List Entry)
+    (ds : List Delta) (k : ℕ)
     → IsJournal l base before net es ds → k ≤ length net
     → IsJournal l base before (take k net) (take k es) (take (start_of es (length ds) k) ds)
 journal_take l base before net es ds k ok le = record {
@@ -187,14 +190,15 @@ journal_take l base before net es ds k ok le = record {
       ∙ (ap (λ (ts : List Tag). take k ts) ok.tagged ∙ take-map tag_of k net);
   rising = cut_rising l base before net es ds k ok le;
   few = cut_few l base before net es ds k ok le;
-  leads = λ j less. cut_leads l base before net es ds k ok le j (omega (arith, less, length-take-le k net le));
+  leads =
+      λ j less. cut_leads l base before net es ds k ok le j (omega (arith, less, length-take-le k net le));
 }
 
 -- ---- one step more
 
 -- what is known of it: its entry, its record, and the deltas that it noted
-pub record IsNext (l : LayoutParts) (base : Memory) (before : ℕ) (net : List Record) (ds : List Delta) (r : Record)
-    (e : Entry) (new : List Delta) : Type 0 where
+pub record IsNext (l : LayoutParts) (base : Memory) (before : ℕ) (net : List Record) (ds : List Delta)
+    (r : Record) (e : Entry) (new : List Delta) : Type 0 where
   pub tag : tag_in before e ≡ tag_of r
   pub start : e.start ≡ length ds
   pub few : length new ≤ delta_bound l (run l base net) r.event
@@ -202,8 +206,8 @@ pub record IsNext (l : LayoutParts) (base : Memory) (before : ℕ) (net : List R
   pub placed : IsWellPlaced l (run l base (net ++ r ∷ []))
 
 -- where the deltas of each step begin now
-next_start : (l : LayoutParts) (base : Memory) (before : ℕ) (net : List Record) (es : List Entry) (ds : List Delta)
-    (r : Record) (e : Entry) (new : List Delta) (j : ℕ)
+next_start : (l : LayoutParts) (base : Memory) (before : ℕ) (net : List Record) (es : List Entry)
+    (ds : List Delta) (r : Record) (e : Entry) (new : List Delta) (j : ℕ)
     → IsNext l base before net ds r e new → j ≤ length es
     → start_of (es ++ e ∷ []) (length (ds ++ new)) j ≡ start_of es (length ds) j
 next_start l base before net es ds r e new j next low =
@@ -212,8 +216,8 @@ next_start l base before net es ds r e new j next low =
 next_past : (es : List Entry) (e : Entry) (end j : ℕ) → length es < j → start_of (es ++ e ∷ []) end j ≡ end
 next_past es e end j high = start-past (es ++ e ∷ []) end j (omega (arith, high, length_push es e))
 
-next_rising : (l : LayoutParts) (base : Memory) (before : ℕ) (net : List Record) (es : List Entry) (ds : List Delta)
-    (r : Record) (e : Entry) (new : List Delta)
+next_rising : (l : LayoutParts) (base : Memory) (before : ℕ) (net : List Record) (es : List Entry)
+    (ds : List Delta) (r : Record) (e : Entry) (new : List Delta)
     → IsJournal l base before net es ds → IsNext l base before net ds r e new
     → (i j : ℕ) → i ≤ j
     → start_of (es ++ e ∷ []) (length (ds ++ new)) i ≤ start_of (es ++ e ∷ []) (length (ds ++ new)) j
@@ -236,8 +240,8 @@ next_rising l base before net es ds r e new ok next i j less =
           (next_start l base before net es ds r e new j next low) (ok.rising i j less))
     ]
 
-next_few : (l : LayoutParts) (base : Memory) (before : ℕ) (net : List Record) (es : List Entry) (ds : List Delta)
-    (r : Record) (e : Entry) (new : List Delta)
+next_few : (l : LayoutParts) (base : Memory) (before : ℕ) (net : List Record) (es : List Entry)
+    (ds : List Delta) (r : Record) (e : Entry) (new : List Delta)
     → IsJournal l base before net es ds → IsNext l base before net ds r e new
     → (j : ℕ) (x : Record) → slice_get (net ++ r ∷ []) j ≡ Some x
     → start_of (es ++ e ∷ []) (length (ds ++ new)) (j + 1) ≤ start_of (es ++ e ∷ []) (length (ds ++ new)) j
@@ -272,8 +276,8 @@ next_few l base before net es ds r e new ok next j x at =
           next.few)))
     ]
 
-next_leads : (l : LayoutParts) (base : Memory) (before : ℕ) (net : List Record) (es : List Entry) (ds : List Delta)
-    (r : Record) (e : Entry) (new : List Delta)
+next_leads : (l : LayoutParts) (base : Memory) (before : ℕ) (net : List Record) (es : List Entry)
+    (ds : List Delta) (r : Record) (e : Entry) (new : List Delta)
     → IsJournal l base before net es ds → IsNext l base before net ds r e new
     → (j : ℕ) → j ≤ length net + 1
     → LeadsBack l (drop (start_of (es ++ e ∷ []) (length (ds ++ new)) j) (ds ++ new))
@@ -305,8 +309,8 @@ next_leads l base before net es ds r e new ok next j le =
     ]
 
 -- the journal of one step more
-pub journal_push : (l : LayoutParts) (base : Memory) (before : ℕ) (net : List Record) (es : List Entry) (ds : List Delta)
-    (r : Record) (e : Entry) (new : List Delta)
+pub journal_push : (l : LayoutParts) (base : Memory) (before : ℕ) (net : List Record) (es : List Entry)
+    (ds : List Delta) (r : Record) (e : Entry) (new : List Delta)
     → IsJournal l base before net es ds → IsNext l base before net ds r e new
     → IsJournal l base before (net ++ r ∷ []) (es ++ e ∷ []) (ds ++ new)
 journal_push l base before net es ds r e new ok next = record {
@@ -316,7 +320,8 @@ journal_push l base before net es ds r e new ok next = record {
       ∙ (ap (λ (t : Tag). map tag_of net ++ t ∷ []) next.tag ∙ sym (map_push tag_of net r)));
   rising = next_rising l base before net es ds r e new ok next;
   few = next_few l base before net es ds r e new ok next;
-  leads = λ j less. next_leads l base before net es ds r e new ok next j (omega (arith, less, length_push net r));
+  leads =
+      λ j less. next_leads l base before net es ds r e new ok next j (omega (arith, less, length_push net r));
 }
 
 -- ---- what the journal shows

@@ -25,8 +25,8 @@ pictured l s = record { layout = l; memory = s }
 abbrev pub remembered : LayoutParts → Memory → MemoryValue
 remembered l s = record { layout = l; state = s }
 
--- one entry for each step of the net, in the net's order, and with its tag. From where the deltas of a step begin,
--- all that stand on the tape lead back from the state of the whole net to the state before that
+-- one entry for each step of the net, in the net's order, and with its tag. From where the deltas of a step
+-- begin, all that stand on the tape lead back from the state of the whole net to the state before that
 -- step; those of the step alone are no more than its bound.
 pub record IsJournal (l : LayoutParts) (base : Memory) (before : ℕ) (net : List Record)
     (entries : List Entry) (deltas : List Delta) : Type 0 where

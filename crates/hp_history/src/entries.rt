@@ -1,6 +1,6 @@
 //! The entries of a journal: one for each step that is not undone, with the step's tag, and one tape
 //! with the deltas of all of them.
-ghost use Rattle.std.specs.Prelude.{◌≡◌, ℕ, ◌+◌, ◌-◌, ◌*◌, ◌/◌, ◌%◌, ◌^◌, ◌<◌, ◌≤◌, ◌∷◌, ◌++◌, [], Some, false, drop, IfOk, if◌then◌else◌, length, slice_get, take, vec_capacity, vec_len};
+ghost use Rattle.std.specs.Prelude.{◌≡◌, ℕ, ◌+◌, ◌-◌, ◌*◌, ◌/◌, ◌%◌, ◌^◌, ◌<◌, ◌≤◌, ◌∷◌, ◌++◌, [], Some, true, false, ◌&&◌, drop, if◌then◌else◌, length, nat_le, nat_lt, slice_get, take, vec_capacity, vec_len};
 ghost use Rattle.std.specs.List.{slice_range};
 ghost use Rattle.hp_units.specs.Marks.{is_opening, is_work_of, sole_at};
 ghost use Rattle.hp_units.specs.declared.marks.Tag.{Tag};
@@ -10,7 +10,6 @@ ghost use Rattle.hp_history.specs.Entries.{AreNumbered, mark_coded, start_of, ta
 use hp_memory::Memory;
 use hp_tape::{Delta, Tape};
 use hp_units::{Mark, Serial, Tag};
-use std::alloc::AllocError;
 use std::mem::size_of;
 
 /// A step that is not undone. Its record's place among those since the base, counted from 0, and
@@ -34,29 +33,25 @@ const PLACES: u64 = 1_073_741_824;
 const DELTAS: usize = 4_294_967_295;
 
 impl Entry {
-    /// The entry of a step with so many records and deltas before it. An error is that they are more
-    /// than an entry can tell apart: then a journal has no room for the step.
+    /// Whether an entry can tell a step apart that has so many records and deltas before it. Where not, a
+    /// journal has no room for the step.
     #[inline(always)]
-    pub(crate) fn new(place: u64, start: usize, mark: Mark) -> Result<Entry, AllocError>
-        ensures tag { IfOk result (λ entry. (before : ℕ) → tag_in before entry
-            ≡ record { serial = before + place + 1; mark = mark }) }
-        ensures start { IfOk result (λ entry. entry.start ≡ start) }
+    pub(crate) fn has_room(place: u64, start: usize) -> bool
+        ensures { result ≡ (nat_lt place 1073741824 && nat_le start 4294967295) }
     {
-        if place >= PLACES || start > DELTAS {
-            return Err(AllocError);
-        }
-        Ok(Entry::coded(place as u32, start as u32, mark))
+        place < PLACES && start <= DELTAS
     }
 
-    /// The entry of a step at a place that has a code.
+    /// The entry of a step with so many records and deltas before it.
     #[inline(always)]
-    fn coded(place: u32, start: u32, mark: Mark) -> Entry
-        requires { place < 1073741824 }
+    pub(crate) fn new(place: u64, start: usize, mark: Mark) -> Entry
+        requires { (nat_lt place 1073741824 && nat_le start 4294967295) ≡ true }
         ensures tag { (before : ℕ) → tag_in before result
             ≡ record { serial = before + place + 1; mark = mark } }
         ensures start { result.start ≡ start }
     {
-        let code = place * 4;
+        let code = place as u32 * 4;
+        let start = start as u32;
         match mark {
             Mark::Other => Entry { code, start, op: 0 },
             Mark::Opens => Entry {

@@ -299,11 +299,16 @@ impl Journal {
             (λ answer. IsAnswered self.old cpu event.now (receipt_for event.now answer) self.new) }
     {
         let serial = self.next_serial();
-        let entry = Entry::new(self.count, self.deltas.len(), mark_of(event))?;
+        let start = self.deltas.len();
+        if !Entry::has_room(self.count, start) {
+            return Err(AllocError);
+        }
         self.entries.reserve(1)?;
         let reply = self
             .memory
             .step(alloc, serial, cpu, event, &mut self.deltas)?;
+        // After the step, where few things are held: most of what an entry has only a step needs.
+        let entry = Entry::new(self.count, start, mark_of(event));
         keep_step(
             &mut self.entries,
             &mut self.memory,

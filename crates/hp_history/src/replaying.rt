@@ -85,7 +85,8 @@ pub(crate) fn followed(
     requires { journal.old ≡ started journal.old.layout journal.old.base journal.old.before }
     ensures course { OnOk result
         (IsCourseOf journal.old.layout journal.old.base journal.old.before records.now journal.new) }
-    ensures fault { IfErr result (IsFault journal.old.layout journal.old.base journal.old.before records.now) }
+    ensures fault { IfErr result
+        (IsFault journal.old.layout journal.old.base journal.old.before records.now) }
     ensures only { IfErr result (Refutes journal.old.layout journal.old.base journal.old.before records.now) }
 {
     for (place, record) in records.iter().enumerate() {

@@ -11,7 +11,8 @@ loop-place-init c = record { course = starts c.args.journal.now c.args.records.n
 pub loop-place-preserved : goal.loop-place-preserved
 loop-place-preserved c = record {
   course =
-      follow_one c.args.journal.now.layout c.args.journal.now.base c.args.journal.now.before c.args.records.now
+      follow_one c.args.journal.now.layout c.args.journal.now.base c.args.journal.now.before
+      c.args.records.now
       c.loop-place.place c.index-records-place.result c.loop-place.journal c.follow.new.journal
       (slice_get_read c.args.records.now (length c.args.records.now) c.loop-place.place
       c.index-records-place.result refl c.loop-place-test.true

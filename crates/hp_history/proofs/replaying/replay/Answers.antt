@@ -17,8 +17,9 @@ followed-requires c =
 followed_so : (c : After-image)
     → IsCourseOf c.args.layout.now (boot_memory c.args.layout.now) 0 c.args.records.now c.followed.new.journal
 followed_so c =
-    course_again c.args.layout.now (boot_memory c.args.layout.now) 0 c.args.records.now c.in_ok-journal.journal
-    c.followed.new.journal c.in_ok-journal.ensures.start c.in_ok-followed.ensures.course
+    course_again c.args.layout.now (boot_memory c.args.layout.now) 0 c.args.records.now
+    c.in_ok-journal.journal c.followed.new.journal c.in_ok-journal.ensures.start
+    c.in_ok-followed.ensures.course
 
 pub returns-clause-legal : goal.returns-clause-legal
 returns-clause-legal c = (followed_so (goal.at.returns-clause-legal c).After-image).legal

@@ -19,7 +19,7 @@ receipt c =
 -- the journal made its step
 made : (c : After-is_step)
     → IsMade (seen c.self.inside) c.self.inside.entries.items c.self.inside.deltas.deltas c.args.cpu
-    (receipt c) c.in_ok-entry.entry c.step.new.self c.step.new.tape.deltas
+    (receipt c) c.new-entry.result c.step.new.self c.step.new.tape.deltas
 made c = record {
   course = c.self.invariant.0;
   free = rw (← c.self.view_is) at c.requires.free;
@@ -31,22 +31,22 @@ made c = record {
   noted = c.in_ok-reply.ensures.noted;
   tag =
       tag-next (seen c.self.inside) c.self.inside.count c.next_serial-serial.result c.args.event.now
-      c.mark_of.result c.in_ok-entry.entry (rw (← c.self.view_is) at c.next_serial-serial.ensures)
-      c.self.invariant.1 c.mark_of.ensures (c.in_ok-entry.ensures.tag c.self.inside.before);
-  start = c.in_ok-entry.ensures.start ∙ c.len.ensures;
+      c.mark_of.result c.new-entry.result (rw (← c.self.view_is) at c.next_serial-serial.ensures)
+      c.self.invariant.1 c.mark_of.ensures (c.new-entry.ensures.tag c.self.inside.before);
+  start = c.new-entry.ensures.start ∙ c.len-start.ensures;
 }
 
 pub keep_step-requires-clause-start : goal.keep_step-requires-clause-start
 keep_step-requires-clause-start c =
     let here = (goal.at.keep_step-requires-clause-start c).After-is_step in
     made_start (seen c.self.inside) c.self.inside.entries.items c.self.inside.deltas.deltas c.args.cpu
-    (receipt here) c.in_ok-entry.entry c.step.new.self c.step.new.tape.deltas (made here)
+    (receipt here) c.new-entry.result c.step.new.self c.step.new.tape.deltas (made here)
 
 pub keep_step-requires-clause-same : goal.keep_step-requires-clause-same
 keep_step-requires-clause-same c =
     let here = (goal.at.keep_step-requires-clause-same c).After-is_step in
     λ none. made_off (seen c.self.inside) c.self.inside.entries.items c.self.inside.deltas.deltas c.args.cpu
-    (receipt here) c.in_ok-entry.entry c.step.new.self c.step.new.tape.deltas (made here)
+    (receipt here) c.new-entry.result c.step.new.self c.step.new.tape.deltas (made here)
     (sym c.is_step.ensures ∙ none)
 
 -- the same where the journal has changed
@@ -61,7 +61,7 @@ longer c = c.self.inside.past.history ++ record_of c.args.cpu (last_receipt c) �
 -- what the step left
 left : (c : After-and-past)
     → IsLeft (seen c.self.inside) c.self.inside.entries.items c.args.cpu (last_receipt c)
-    c.in_ok-entry.entry c.step.new.self c.step.new.tape.deltas c.is_step.result c.keep_step.new.memory
+    c.new-entry.result c.step.new.self c.step.new.tape.deltas c.is_step.result c.keep_step.new.memory
     (longer c) c.keep_step.new.entries.items c.keep_step.new.deltas.deltas
 left c = record {
   steps = c.is_step.ensures;
@@ -81,7 +81,7 @@ invariant_of-self-2 c =
     × (c.self.inside.count + 1 ≡ length p.history))
     (sym c.and-past.ensures) (
       made_fields (seen c.self.inside) c.self.inside.entries.items c.self.inside.deltas.deltas c.args.cpu
-          (receipt step) c.in_ok-entry.entry c.step.new.self c.step.new.tape.deltas c.is_step.result
+          (receipt step) c.new-entry.result c.step.new.self c.step.new.tape.deltas c.is_step.result
           c.keep_step.new.memory (longer here) c.keep_step.new.entries.items c.keep_step.new.deltas.deltas
           (made step) (left here),
       one_more c.self.inside.past.history (record_of c.args.cpu (last_receipt here)) c.self.inside.count
@@ -96,15 +96,9 @@ returns-clause-ok c =
     (subst (λ (p : Remembered). IsAnswered (seen c.self.inside) c.args.cpu c.args.event.now (receipt step)
     (value_with c.self.inside.before p.base p.history c.keep_step.new.memory)) (sym c.and-past.ensures)
     (made_answered (seen c.self.inside) c.self.inside.entries.items c.self.inside.deltas.deltas c.args.cpu
-    (receipt step) c.in_ok-entry.entry c.step.new.self c.step.new.tape.deltas c.is_step.result
+    (receipt step) c.new-entry.result c.step.new.self c.step.new.tape.deltas c.is_step.result
     c.keep_step.new.memory (longer here) c.keep_step.new.entries.items c.keep_step.new.deltas.deltas
     (made step) (left here)))
-
-pub returns-in_err-entry-clause-err : goal.returns-in_err-entry-clause-err
-returns-in_err-entry-clause-err c = search rules
-
-pub returns-in_err-entry-clause-ok : goal.returns-in_err-entry-clause-ok
-returns-in_err-entry-clause-ok c = search rules
 
 pub returns-in_err-reserve-clause-err : goal.returns-in_err-reserve-clause-err
 returns-in_err-reserve-clause-err c = search rules

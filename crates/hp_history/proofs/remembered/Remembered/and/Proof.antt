@@ -70,7 +70,12 @@ module _ {M : Type 1} {𝓤 : Ura M} (𝓛 : Logic 𝓤) (at_mem : Memory → SP
         let y : Val = vptr a.1.1.1.1.0.ref_ptr.0 a.1.1.1.1.0.ref_ptr.1 in
         let made : (Remembered.the_row).Denot = record {
           base = a.0.now.base;
-          history = a.0.now.history ++ record { serial = a.1.0.now; cpu = a.1.1.0.now; event = a.1.1.1.0.now; reply = a.1.1.1.1.0.now } ∷ [];
+          history = a.0.now.history ++ record {
+            serial = a.1.0.now;
+            cpu = a.1.1.0.now;
+            event = a.1.1.1.0.now;
+            reply = a.1.1.1.1.0.now;
+          } ∷ [];
         } in
         qed 𝓛 ((raw toks ⊛ ‵ (owns (types_at ended.signature.params z.0.0) a vss))
         ∷ raw ((held z.0.0 a).requires z.1) ∷ []) ∵
@@ -95,7 +100,8 @@ module _ {M : Type 1} {𝓤 : Ura M} (𝓛 : Logic 𝓤) (at_mem : Memory → SP
         sets ! (agg ! (no_more !)) refl (tt, tt) $
         nothing ! $ none_made ! $ fjoin ! $
         returns ! (look_at ! 0 refl) $ free_all ! refl $
-        suffices ! _ (ends_at 𝓛 ended stayed held z none made (tt, (tt, (tt, (tt, (tt, tt))))) (tt, (tt, (tt, (tt, (tt, tt)))))) $
+        suffices ! _ (ends_at 𝓛 ended stayed held z none made (tt, (tt, (tt, (tt, (tt, tt)))))
+        (tt, (tt, (tt, (tt, (tt, tt)))))) $
         says ! refl $
         nothing ! $ nothing ! $ fjoin ! $ nothing ! $ fjoin ! $ nothing ! $ fjoin ! $
         nothing ! $ fjoin ! $ nothing ! $ fjoin ! $ move ! (2 ∷ 0 ∷ 1 ∷ []) $ done !))))))
@@ -109,7 +115,8 @@ module _ {M : Type 1} {𝓤 : Ura M} (𝓛 : Logic 𝓤) (at_mem : Memory → SP
           (
             Goes-dropped 𝓛 5 (RefOf (2 ∷ []) tt (plain (λ _. Cpu.the_row)) (λ _. tt)) yes (λ κs x f. refl),
             (
-              Goes-dropped 𝓛 5 (RefOf (3 ∷ []) tt (plain (λ _. Event.the_row)) (λ _. tt)) yes (λ κs x f. refl),
+              Goes-dropped 𝓛 5 (RefOf (3 ∷ []) tt (plain (λ _. Event.the_row)) (λ _. tt)) yes
+                  (λ κs x f. refl),
               (Goes-dropped 𝓛 5 (RefOf (4 ∷ []) tt (plain (λ _. Reply.the_row)) (λ _. tt)) yes (λ κs x f. refl), tt),
             ),
           ),

@@ -42,7 +42,8 @@ ended = F.ended
 abbrev stayed : Stays ended.signature.params ended.kept
 stayed = (stay_dropped _ yes, tt)
 
-module _ {M : Type 1} {𝓤 : Ura M} (𝓛 : Logic 𝓤) (at_mem : program.Memory → SProp 𝓤) (run : Routine → Fun 𝓤) where
+module _ {M : Type 1} {𝓤 : Ura M} (𝓛 : Logic 𝓤) (at_mem : program.Memory → SProp 𝓤)
+    (run : Routine → Fun 𝓤) where
   open 𝓛 use {H}
 
   abbrev held : Clauses 𝓤 ended
@@ -77,8 +78,8 @@ module _ {M : Type 1} {𝓤 : Ura M} (𝓛 : Logic 𝓤) (at_mem : program.Memor
   meets : (𝓣 : Tables 𝓤 H) → Meets 𝓛 ended.signature (WpFn 𝓤 H 𝓣.C 𝓣.Λ function) (closing 𝓛 ended held)
   meets 𝓣 =
       walk_Meets 𝓛 ended stayed
-      (Goes-dropped 𝓛 1 (RefOf (0 ∷ []) tt (plain (λ _. Memory.the_row)) (λ _. tt)) yes (λ κs x f. refl), tt) held
-      (WpFn 𝓤 H 𝓣.C 𝓣.Λ function) (WpFn-mono 𝓤 H 𝓛.laws 𝓣 function) (walks 𝓣.C 𝓣.Λ)
+      (Goes-dropped 𝓛 1 (RefOf (0 ∷ []) tt (plain (λ _. Memory.the_row)) (λ _. tt)) yes (λ κs x f. refl), tt)
+      held (WpFn 𝓤 H 𝓣.C 𝓣.Λ function) (WpFn-mono 𝓤 H 𝓛.laws 𝓣 function) (walks 𝓣.C 𝓣.Λ)
 
 pub start_spec : {M : Type 1} → stated.statement M
 unfolding tables_of
