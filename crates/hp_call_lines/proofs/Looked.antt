@@ -123,7 +123,8 @@ deep_not limit mode after nested next input i b found all lt at is unset n m so_
     ap (λ (k : Mode). deeper_from limit k next (drop (i + 1) input)) m
     ∙ ap (λ (k : ℕ). deeper_from limit (mode_after mode b) k (drop (i + 1) input)) n
     ∙ sym (either_false (nat_lt limit nested)
-    (deeper_from limit (mode_after mode b) (nested_after mode b nested) (drop (i + 1) input)) (sym is ∙ unset))
+    (deeper_from limit (mode_after mode b) (nested_after mode b nested) (drop (i + 1) input))
+    (sym is ∙ unset))
     ∙ sym (deep_here limit mode nested input i b lt at) ∙ so_far
 
 pub deep_ended : (limit : ℕ) (mode : Mode) (nested : ℕ) (input : List ℕ) (i : ℕ) (all : Bool)

@@ -119,7 +119,8 @@ counted f fs h =
 
 some_fault : (fault : ScenarioFault) (found : List Finding) → Begins fault found → 1 ≤ count_by is_fault found
 some_fault fault [] h = absurd h
-some_fault fault (finding.NotJson hint line column ∷ fs) h = counted (finding.NotJson hint line column) fs refl
+some_fault fault (finding.NotJson hint line column ∷ fs) h =
+    counted (finding.NotJson hint line column) fs refl
 some_fault fault (finding.Shape s ∷ fs) h = counted (finding.Shape s) fs refl
 some_fault fault (finding.Layout out ∷ fs) h = counted (finding.Layout out) fs refl
 some_fault fault (finding.BadCall number text ∷ fs) h = counted (finding.BadCall number text) fs refl

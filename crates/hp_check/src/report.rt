@@ -88,7 +88,8 @@ fn write_finding(out: &mut String, lines: &[u64], finding: &Finding) -> Result<(
 
 /// Writes that a text is no JSON, and what is likely to be the reason.
 fn write_no_json(out: &mut String, hint: Hint, line: u64, column: u64) -> Result<(), AllocError>
-    ensures { OnOk result (string_bytes out.new ≡ string_bytes out.old ++ says.no_json_text hint line column) }
+    ensures { OnOk result
+        (string_bytes out.new ≡ string_bytes out.old ++ says.no_json_text hint line column) }
 {
     let reason = hint_text(hint);
     write!(out, "line {line}, ")?;

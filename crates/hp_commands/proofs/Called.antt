@@ -29,7 +29,8 @@ called_none calls written m =
     ([], none_passed calls, record { text = []; grown = sym (append-nil written); is = (refl, refl) })
 
 -- one more line
-pub called_more : (start now next : Calls) (line : Line) (written grown new : List ℕ) (m mid after : MachineValue)
+pub called_more : (start now next : Calls) (line : Line) (written grown new : List ℕ)
+    (m mid after : MachineValue)
     → WritesSome start now written grown m mid → Passes now line next
     → GrowsBy grown new (λ (text : List ℕ). WritesLine mid line text after)
     → WritesSome start next written new m after
@@ -52,9 +53,11 @@ pub called_text : (input : List ℕ) (start new : Calls) (layout : LayoutParts) 
     → WritesAll start new old out first m
     → image ≡ record { layout = m.layout; memory = m.state }
     → text ≡ out ++ state_text image.layout names image.memory → IsTextOf input text
-called_text input start new layout names first m image old out text opened laid named boot none ran pictured e =
+called_text input start new layout names first m image old out text opened laid named boot none ran
+    pictured e =
     let lines = ran.0 in
     let same : layout ≡ new.layout = laid ∙ sym (ran.1.2.2 ∙ ran.1.1.3) in
-    ran_text input (record { layout = new.layout; names = new.names.keys; lines = lines }) first m lines image old
-    out text (all_read input start new lines opened ran.1) (boot ∙ ap booted same) refl none ran.2 pictured
+    ran_text input (record { layout = new.layout; names = new.names.keys; lines = lines }) first m
+    lines image old out text (all_read input start new lines opened ran.1) (boot ∙ ap booted same) refl
+    none ran.2 pictured
     (e ∙ ap (λ (ns : List (List ℕ)). out ++ state_text image.layout ns image.memory) named)

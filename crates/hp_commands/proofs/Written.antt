@@ -71,5 +71,6 @@ file_fault_written memory m path fault old out is refused grown = record {
   grown = grown;
   is =
       read_refused m path fault
-      (subst (λ (r : Result (List ℕ) ControlFault). Fails fault r) (sym (same_file memory m path is)) refused);
+      (subst (λ (r : Result (List ℕ) ControlFault). Fails fault r)
+      (sym (same_file memory m path is)) refused);
 }

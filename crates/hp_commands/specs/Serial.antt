@@ -68,7 +68,8 @@ IsWhole text = (front rest : List ℕ) → text ≡ front ++ (codes "OutOfMemory
 -- ---- lines as they are run
 
 -- what a line asks for was done, or said why not
-abbrev pub WritesAsked : MachineValue → (cpu : ℕ) → asks.Meaning → (text : List ℕ) → (new : MachineValue) → Type 0
+abbrev pub WritesAsked : MachineValue → (cpu : ℕ) → asks.Meaning → (text : List ℕ)
+    → (new : MachineValue) → Type 0
 WritesAsked m cpu (asks.event event) text new = WritesEvent m cpu event text new
 WritesAsked m cpu (asks.plan items turns) text new = WritesPlan m cpu turns items text new
 WritesAsked m cpu (asks.not_taken fault) text new = (text ≡ write_fault_line fault) × (new ≡ m)

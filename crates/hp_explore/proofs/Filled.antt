@@ -23,13 +23,15 @@ grows_by g cpu s news later None over on is =
 grows_by g cpu s news later (Some event) asked on is =
     let r = record_of_call g news cpu event in
     let longer =
-    on r (ap (λ (o : Option (List Record)). fold (play_one g) o s) (sym (plays_one g news cpu (Some event) asked))
+    on r (ap (λ (o : Option (List Record)). fold (play_one g) o s)
+    (sym (plays_one g news cpu (Some event) asked))
     ∙ is) in
     omega (arith, longer, length_push news r)
 
 grows : (g : Setting) (s : List ℕ) (news later : List Record) → from_news g news s ≡ Some later
     → length news ≤ length later
-grows g [] news later is = (let same : length news ≡ length later = ap length (same_Some news later is) in omega (arith, same))
+grows g [] news later is =
+    (let same : length news ≡ length later = ap length (same_Some news later is) in omega (arith, same))
 grows g (cpu ∷ s) news later is =
     grows_by g cpu s news later (next_call g cpu news) refl (λ r on. grows g s (news ++ r ∷ []) later on) is
 

@@ -6,7 +6,8 @@ use Rattle.std.proofs.lemmas.List.{drop-append-le, take-append-le, take_all, len
 use Rattle.hp_explore.specs.Rows.{FillUp, rows_from, start_in}
 
 -- what a row reads
-pub row_read : {X : Type 0} (start : ℕ) (all : List X) (ends : List ℕ) (place : ℕ) → FillUp start all ends → place < length ends
+pub row_read : {X : Type 0} (start : ℕ) (all : List X) (ends : List ℕ) (place : ℕ) → FillUp start all ends
+    → place < length ends
     → slice_get (rows_from start all ends) place
     ≡ Some (slice_range all (start_in start ends place) (get_or ends place 0))
 row_read start all [] place fill within = absurd (omega arith)
@@ -25,8 +26,8 @@ pub row_shown : {X R : Type 0} (now : R → List X) (o : Option R) (rows : List 
 row_shown {X} now None rows place start all numbers ends shown rows_are fill all_is ends_are within start_is
     part =
     tt
-row_shown {X} now (Some row) rows place start all numbers ends shown rows_are fill all_is ends_are within start_is
-    part =
+row_shown {X} now (Some row) rows place start all numbers ends shown rows_are fill all_is ends_are
+    within start_is part =
     ap (λ (rs : List (List X)). slice_get rs place) (sym rows_are)
     ∙ (row_read 0 all ends place fill (omega (arith, within, ap (λ (es : List ℕ). length es) ends_are))
     ∙ (ap (λ (es : List ℕ). Some (slice_range all (start_in 0 es place) (get_or es place 0))) (sym ends_are)
@@ -43,7 +44,8 @@ range_same all more from to le within =
     ap (take (to - from)) (drop-append-le from all more (omega arith))
     ∙ take-append-le (to - from) (drop from all) more (omega (arith, length-drop from all))
 
-pub last_range : {X : Type 0} (all row : List X) → slice_range (all ++ row) (length all) (length (all ++ row)) ≡ row
+pub last_range : {X : Type 0} (all row : List X)
+    → slice_range (all ++ row) (length all) (length (all ++ row)) ≡ row
 last_range {X} all row =
     ap (take (length (all ++ row) - length all)) (drop-append-le (length all) all row (omega arith))
     ∙ (ap (λ (xs : List X). take (length (all ++ row) - length all) (xs ++ row)) none
@@ -72,6 +74,7 @@ fill_added start all row [] fill = (omega (arith, length-append all row, fill), 
 fill_added start all row (end ∷ ends) fill =
     (fill.0, omega (arith, length-append all row, fill.1), fill_added end all row ends fill.2)
 
-pub rows_many : {X : Type 0} (start : ℕ) (all : List X) (ends : List ℕ) → length (rows_from start all ends) ≡ length ends
+pub rows_many : {X : Type 0} (start : ℕ) (all : List X) (ends : List ℕ)
+    → length (rows_from start all ends) ≡ length ends
 rows_many start all [] = refl
 rows_many start all (end ∷ ends) = omega (arith, rows_many end all ends)

@@ -172,8 +172,8 @@ memo_more g ends memo later news shares is kept key_is one =
               (slice_get_within memo.rows i other there)))
               (kept.all i other there)
           | inr here ↦
-              subst (λ (n : ℕ). IsRow g ends memo.standing (key_in (memo.keys ++ memo.key) (width_of g) n) other)
-              (sym here.0)
+              subst (λ (n : ℕ). IsRow g ends memo.standing
+              (key_in (memo.keys ++ memo.key) (width_of g) n) other) (sym here.0)
               (subst (λ (k : List ℕ). IsRow g ends memo.standing k other)
               (sym (key_last memo.keys memo.key (width_of g) (length memo.rows) kept.many key_is.long))
               (subst (λ (ss : List Share). IsRow g ends memo.standing memo.key ss) here.1 one))

@@ -181,7 +181,8 @@ ordered_added old new counts ordered adds = ordered_like old new ordered was
 -- a schedule is noted under an end
 ordered_again : (old new : List Ending) (x : OutcomeValue) → AreInOrder old → AddsOne old x new
     → AreInOrder new
-ordered_again old new x ordered adds = subst AreInOrder (sym adds.new_is) (ordered_like old (set old adds.at adds.more) ordered was)
+ordered_again old new x ordered adds =
+    subst AreInOrder (sym adds.new_is) (ordered_like old (set old adds.at adds.more) ordered was)
   where
     was : (i : ℕ) (f : Ending) → slice_get (set old adds.at adds.more) i ≡ Some f
         → (e : Ending) × (slice_get old i ≡ Some e) × (f.first.items ≡ e.first.items)

@@ -114,8 +114,8 @@ pub state_known : (g : Setting) (news : List Record) (old new : StandingValue) (
 state_known g news old new memory number codes lists exchanged here_is before_is coded memory_is stood =
     record {
       stops =
-          subst (λ (stop : Stop). AreStops g new.codes new.lists news (stop ∷ reverse new.before)) (sym here_is)
-          (subst (λ (stops : List Stop). AreStops g new.codes new.lists news
+          subst (λ (stop : Stop). AreStops g new.codes new.lists news (stop ∷ reverse new.before))
+          (sym here_is) (subst (λ (stops : List Stop). AreStops g new.codes new.lists news
           (record { openings = old.here.openings; state = Some number } ∷ reverse stops)) (sym before_is)
           (kept.0, here, kept.2));
       exchanged = subst (AreExchanged g news) (sym exchanged) stood.exchanged;

@@ -135,7 +135,8 @@ ArePlayed g played m = IsReached g m × (place_of g m ≡ played)
 pub played_none : (start m : MachineValue) (scripts : List (List Line)) (schedule : List ℕ) → m ≡ start
     → ArePlayed (setting start scripts) (take 0 schedule) m
 played_none start m scripts schedule is =
-    subst (ArePlayed (setting start scripts) []) (sym is) (reached_start start scripts, start_place start scripts)
+    subst (ArePlayed (setting start scripts) []) (sym is)
+    (reached_start start scripts, start_place start scripts)
 
 -- one call more
 pub played_more : (g : Setting) (m n : MachineValue) (schedule : List ℕ) (at cpu : ℕ) → at < length schedule

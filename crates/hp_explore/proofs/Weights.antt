@@ -34,7 +34,8 @@ back_plain d n e p x t some power is digit =
 pub left_passed : (n most : ℕ) (frames : List Frame) (frame later : Frame) → frame.next < n
     → later.next ≡ frame.next + 1 → left_of n most (later ∷ frames) < left_of n most (frame ∷ frames)
 left_passed n most frames frame later less is =
-    scaled (digits n (later ∷ frames)) (digits n (frame ∷ frames)) ((n + 2) ^ (most + 1 - suc (length frames)))
+    scaled (digits n (later ∷ frames)) (digits n (frame ∷ frames))
+    ((n + 2) ^ (most + 1 - suc (length frames)))
     (omega (arith, is, less)) (some_power n (most + 1 - suc (length frames)))
 
 -- a processor leads on: so much is left with its place still to come
@@ -53,7 +54,8 @@ pub left_opened : (n most : ℕ) (frames : List Frame) (frame : Frame) → frame
 left_opened n most frames frame zero le =
     opened_plain (digits n frames) n ((n + 2) ^ (most + 1 - suc (length frames)))
     ((n + 2) ^ (most + 1 - length frames)) (digits n (frame ∷ frames))
-    (some_power n (most + 1 - suc (length frames))) (next_power n most (length frames) le) (omega (arith, zero))
+    (some_power n (most + 1 - suc (length frames))) (next_power n most (length frames) le)
+    (omega (arith, zero))
 
 -- or is left at once
 pub left_counted : (n most : ℕ) (frames : List Frame)

@@ -63,7 +63,8 @@ impl<'a> Path<'a> {
         machine: &'a Machine,
         scripts: &'a [Script],
     ) -> Result<Path<'a>, AllocError>
-        ensures { IfOk result (λ path. path ≡ record { setting = setting machine.now scripts.now; news = [] }) }
+        ensures { IfOk result
+            (λ path. path ≡ record { setting = setting machine.now scripts.now; news = [] }) }
     {
         let here = steps_of(alloc, machine, machine)?;
         let positions = Positions::start(alloc, machine.layout().cpus(), scripts)?;

@@ -25,7 +25,8 @@ use Rattle.hp_find.proofs.Turns.{left_down, left_past, left_up}
 
 -- ---- schedules of records
 
-schedule_push : (news : List Record) (r : Record) → schedule_of (news ++ r ∷ []) ≡ schedule_of news ++ r.cpu ∷ []
+schedule_push : (news : List Record) (r : Record)
+    → schedule_of (news ++ r ∷ []) ≡ schedule_of news ++ r.cpu ∷ []
 schedule_push news r = map-append (λ (x : Record). x.cpu) news (r ∷ [])
 
 caller : (g : Setting) (news : List Record) (cpu : ℕ) (event : Event)
@@ -47,7 +48,8 @@ last_within g p cpu news played = by_before (plays g p) refl
     by_next before is None over =
         absurd (none-some news
         (sym (plays_on g p (cpu ∷ [])
-        ∙ (ap (λ (o : Option (List Record)). play_one g o cpu) is ∙ plays_one g before cpu None over)) ∙ played))
+        ∙ (ap (λ (o : Option (List Record)). play_one g o cpu) is ∙ plays_one g before cpu None over))
+        ∙ played))
     by_next before is (Some event) asks = asks_within g before cpu event asks
 
     by_before : (o : Option (List Record)) → plays g p ≡ o → cpu < length g.scripts
@@ -87,21 +89,25 @@ started g wanted budget = record {
 
 made : (wanted : List Wanted) (budget : ℕ) (v : SearchValue) (r : Record)
     → v.next < length v.path.setting.scripts
-    → plays v.path.setting (schedule_of v.path.news) ≡ Some v.path.news → IsSearching wanted budget v → is_full_after v.path.setting v.path.news ≡ false → r.cpu ≡ v.next
+    → plays v.path.setting (schedule_of v.path.news) ≡ Some v.path.news → IsSearching wanted budget v
+    → is_full_after v.path.setting v.path.news ≡ false → r.cpu ≡ v.next
     → changes (v.schedule ++ v.next ∷ []) ≤ budget
     → IsCloser wanted budget v
-    (search_at (record { setting = v.path.setting; news = v.path.news ++ r ∷ [] }) (v.schedule ++ v.next ∷ []) 0)
+    (search_at (record { setting = v.path.setting; news = v.path.news ++ r ∷ [] })
+    (v.schedule ++ v.next ∷ []) 0)
 made wanted budget v r less played here has_room cpu_is few = record {
   searching = record {
     schedule =
         ap (λ (s : List ℕ). s ++ v.next ∷ []) here.schedule
-        ∙ (ap (λ (c : ℕ). schedule_of v.path.news ++ c ∷ []) (sym cpu_is) ∙ sym (schedule_push v.path.news r));
+        ∙ (ap (λ (c : ℕ). schedule_of v.path.news ++ c ∷ []) (sym cpu_is)
+        ∙ sym (schedule_push v.path.news r));
     within = few;
     next = omega arith;
     room = omega (arith, length_push v.schedule v.next, shorter);
     along =
         room_push v.path.setting v.schedule v.path.news v.next here.along
-        (subst (λ (s : List ℕ). plays v.path.setting s ≡ Some v.path.news) (sym here.schedule) played) has_room;
+        (subst (λ (s : List ℕ). plays v.path.setting s ≡ Some v.path.news) (sym here.schedule) played)
+        has_room;
     passed = passed_down v.path.setting wanted budget v.schedule v.next here.passed;
   };
   same = refl;
@@ -110,7 +116,8 @@ made wanted budget v r less played here has_room cpu_is few = record {
   where
     shorter : length v.schedule < room_of v.path.setting
     shorter =
-        let all : length (v.path.setting.start ++ v.path.news) ≡ length v.path.setting.start + length v.path.news =
+        let all : length (v.path.setting.start ++ v.path.news)
+        ≡ length v.path.setting.start + length v.path.news =
         length-append v.path.setting.start v.path.news in
         let calls : length v.schedule ≡ length v.path.news =
         ap (λ (s : List ℕ). length s) here.schedule ∙ schedule_length v.path.news in
@@ -142,7 +149,8 @@ past wanted budget v less played here cause = record {
   fewer = left_past (length v.path.setting.scripts) (room_of v.path.setting) v.schedule v.next less;
 }
 
-pub gone_down : (wanted : List Wanted) (budget : ℕ) (v w : SearchValue) → v.next < length v.path.setting.scripts
+pub gone_down : (wanted : List Wanted) (budget : ℕ) (v w : SearchValue)
+    → v.next < length v.path.setting.scripts
     → plays v.path.setting (schedule_of v.path.news) ≡ Some v.path.news → IsSearching wanted budget v
     → IsDown budget v w → IsCloser wanted budget v w
 gone_down wanted budget v w less played here down =
@@ -151,8 +159,8 @@ gone_down wanted budget v w less played here down =
           subst (IsCloser wanted budget v) (sym m.is)
           (subst (λ (p : PathValue). IsCloser wanted budget v (search_at p (v.schedule ++ v.next ∷ []) 0))
           (sym m.forth.3)
-          (made wanted budget v (record_of_call v.path.setting v.path.news v.next m.forth.0) less played here m.forth.2
-          (caller v.path.setting v.path.news v.next m.forth.0) m.within))
+          (made wanted budget v (record_of_call v.path.setting v.path.news v.next m.forth.0) less played
+          here m.forth.2 (caller v.path.setting v.path.news v.next m.forth.0) m.within))
       | inr p ↦ subst (IsCloser wanted budget v) (sym p.is) (past wanted budget v less played here p.cause)
     ]
 
@@ -184,8 +192,8 @@ taken_back wanted budget path r next all played no_end here = record {
     along = room_back path.setting (schedule_of path.news) r.cpu here.along;
     passed =
         passed_up path.setting wanted budget (schedule_of path.news) r.cpu (path.news ++ r ∷ []) played no_end
-        (subst (λ (n : ℕ). IsPassed path.setting wanted budget ((schedule_of path.news ++ r.cpu ∷ []) ++ n ∷ []))
-        all here.passed);
+        (subst (λ (n : ℕ). IsPassed path.setting wanted budget
+        ((schedule_of path.news ++ r.cpu ∷ []) ++ n ∷ [])) all here.passed);
   };
   same = refl;
   fewer =
@@ -193,7 +201,8 @@ taken_back wanted budget path r next all played no_end here = record {
 }
 
 -- what a search keeps, by its parts, where it goes back to another
-abbrev GoesBack : (wanted : List Wanted) (budget : ℕ) (w : SearchValue) (next : ℕ) → PathValue → List ℕ → Type 0
+abbrev GoesBack : (wanted : List Wanted) (budget : ℕ) (w : SearchValue) (next : ℕ) → PathValue
+    → List ℕ → Type 0
 GoesBack wanted budget w next path s =
     next ≡ length path.setting.scripts → plays path.setting s ≡ Some path.news
     → (Reaches path.setting wanted s → ⊥) → IsSearching wanted budget (search_at path s next)
@@ -269,8 +278,8 @@ pub no_end : (g : Setting) (wanted : List Wanted) (news : List Record)
     → plays g (schedule_of news) ≡ Some news → (((cpu : ℕ) → next_call g cpu news ≡ None) → ⊥)
     → Reaches g wanted (schedule_of news) → ⊥
 no_end g wanted news played asks reaches =
-    asks (subst (λ (h : List Record). (cpu : ℕ) → next_call g cpu h ≡ None) (same reaches.1.news reaches.1.played)
-    reaches.1.over)
+    asks (subst (λ (h : List Record). (cpu : ℕ) → next_call g cpu h ≡ None)
+    (same reaches.1.news reaches.1.played) reaches.1.over)
   where
     same : (h : List Record) → plays g (schedule_of news) ≡ Some h → h ≡ news
     same h is = same_Some h news (sym is ∙ played)
@@ -287,8 +296,8 @@ end_meets : (g : Setting) (wanted : List Wanted) (news : List Record)
     → Reaches g wanted (schedule_of news) → Meets wanted (outcome_after g news)
 end_meets g wanted news played over reaches =
     subst (Meets wanted)
-    (only_this g (schedule_of news) news (schedule_of news) reaches.0 played over ([], sym (append-nil (schedule_of news)))
-    reaches.1).1 reaches.2
+    (only_this g (schedule_of news) news (schedule_of news) reaches.0 played over
+    ([], sym (append-nil (schedule_of news))) reaches.1).1 reaches.2
 
 -- the outcome at a place
 outcome_here : (p : PathValue) (processors : ℕ) (x : OutcomeValue)

@@ -33,7 +33,8 @@ IsAsWanted (AnyOf wanted) reply = IsKindOf wanted reply
 
 -- a processor had such a reply
 abbrev pub HasReply : Pattern → List Reply → Type 0
-HasReply wanted replies = (at : ℕ) × (reply : Reply) × (slice_get replies at ≡ Some reply) × IsAsWanted wanted reply
+HasReply wanted replies =
+    (at : ℕ) × (reply : Reply) × (slice_get replies at ≡ Some reply) × IsAsWanted wanted reply
 
 -- the processor with this number had; any, where none is named
 abbrev pub HasAnswer : Pattern → List (List Reply) → (cpu : Option ℕ) → Type 0

@@ -95,7 +95,8 @@ ends_cause g explore.HistoryFull h = h
 ends_cause g explore.OutOfMemory h = tt
 
 -- as it is told
-pub untold : (C : Setting → FindFault → Type 0) (limit : ℕ) (g : Setting) (fault : FindFault) (told : LabFault)
+pub untold : (C : Setting → FindFault → Type 0) (limit : ℕ) (g : Setting) (fault : FindFault)
+    (told : LabFault)
     → IsToldAs limit g fault told → C g fault → IsUntold C limit g told
 untold C limit g search.TooMany told is cause = subst (IsUntold C limit g) (sym is) (refl, cause)
 untold C limit g search.HistoryFull told is cause = by_told told is

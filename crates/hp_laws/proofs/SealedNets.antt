@@ -39,7 +39,8 @@ get_append_cases (y ∷ xs) ys (suc k) x e = elim (get_append_cases xs ys k x e)
 
 -- a place of the second list, in both
 pub get_right : {A : Type 0} (xs ys : List A) (k : ℕ) → slice_get (xs ++ ys) (length xs + k) ≡ slice_get ys k
-get_right {A} [] ys k = let same : length {A = A} [] + k ≡ k = omega arith in ap (λ (i : ℕ). slice_get ys i) same
+get_right {A} [] ys k =
+    let same : length {A = A} [] + k ≡ k = omega arith in ap (λ (i : ℕ). slice_get ys i) same
 get_right (y ∷ xs) ys k =
     let next : length (y ∷ xs) + k ≡ suc (length xs + k) = omega arith in
     ap (λ (i : ℕ). slice_get (y ∷ (xs ++ ys)) i) next ∙ get_right xs ys k
@@ -316,7 +317,8 @@ begin_past l base before h later place k b sum rest =
 
 pub begin_of_all : (l : LayoutParts) (base : Memory) (before : ℕ) (hs : List (List Record)) (place : ℕ)
     (b : Record) (plan : List Item)
-    → AreLegal l base before hs → BeginsAt (net_of_all hs) place b plan → IsBeginOfAll l base before hs place b
+    → AreLegal l base before hs → BeginsAt (net_of_all hs) place b plan
+    → IsBeginOfAll l base before hs place b
 begin_of_all l base before [] place b plan legal at = absurd (no_place at.here)
   where
     no_place : slice_get [] place ≡ Some b → ⊥

@@ -36,7 +36,8 @@ kind_cell is_later is_used kind = (if is_later then codes "|" else []) ++ kind_t
 
 abbrev pub kind_frame : LayoutParts → (is_used : Bool) → List Kind → (block number : ℕ) → List ℕ
 kind_frame l is_used kinds block number =
-    kind_cell (starts_later l number) is_used (slice_get kinds (pageblock_of l (block * block_size l + number)))
+    kind_cell (starts_later l number) is_used
+    (slice_get kinds (pageblock_of l (block * block_size l + number)))
 
 -- a letter for each frame of the block, by the kind of its pageblock
 abbrev pub kinds_text : LayoutParts → Option Row → List Kind → (block : ℕ) → List ℕ

@@ -51,7 +51,8 @@ row_text (Some row) = state_text row.state row.zone ++ claim_text row.claim
 abbrev pub head_text : Option Row → (block : ℕ) → List ℕ
 head_text row block = decimal block ++ codes ":" ++ row_text row
 
-abbrev pub block_picture : LayoutParts → Memory → List Place → (shows_orders : Bool) → (block : ℕ) → BlockValue
+abbrev pub block_picture : LayoutParts → Memory → List Place → (shows_orders : Bool) → (block : ℕ)
+    → BlockValue
 block_picture l s places shows_orders block =
     block_with (head_text (slice_get s.blocks.rows block) block) (frames_text l places block)
     (if shows_orders then ordered_text l s.free.areas places block else [])
@@ -59,7 +60,8 @@ block_picture l s places shows_orders block =
     (kinds_text l (slice_get s.blocks.rows block) s.free.areas.kinds block)
 
 -- a picture of each memory block by rising number, with each frame as it is placed
-pub record IsPicture (l : LayoutParts) (s : Memory) (shows_orders : Bool) (blocks : List BlockValue) : Type 0 where
+pub record IsPicture (l : LayoutParts) (s : Memory) (shows_orders : Bool)
+    (blocks : List BlockValue) : Type 0 where
   pub places : List Place
   pub placed : ArePlacesOf l s places
   pub drawn : blocks ≡ map (block_picture l s places shows_orders) (range_with_len 0 l.blocks)

@@ -2,7 +2,8 @@
 //!
 //! The crate owns places and pictures. It reads a machine and changes nothing; it knows nothing of
 //! scenarios, streams or command lines. Read specs/Places first: what it means that a frame is in a
-//! place; then specs/Pictures and specs/Orders. specs/Marks says what each turn of the walk over a state sets.
+//! place; then specs/Pictures and specs/Orders. specs/Marks says what each turn of the walk over a
+//! state sets.
 #![tactic(auto)]
 
 mod frames;

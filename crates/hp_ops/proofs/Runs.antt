@@ -29,7 +29,8 @@ operation_after (Begin plan) reply = opened_by reply
 operation_after event reply = operation_in event
 
 -- the event that is next after an answer
-record IsNext (cpus turns : ℕ) (rs : List Receipt) (event : Event) (reply : Reply) (next : Event) : Type 0 where
+record IsNext (cpus turns : ℕ) (rs : List Receipt) (event : Event) (reply : Reply)
+    (next : Event) : Type 0 where
   sound : IsSound cpus turns rs next
   operation : operation_after event reply ≡ operation_in next
   fewer : calls_to_turn cpus next < calls_to_turn cpus event + cond (is_migrate event) (cpus + 3) 0

@@ -115,7 +115,8 @@ impl Driver {
 
     /// What comes after a Begin: where it opened an operation, a round of drains.
     fn after_begin(&self, reply: &Reply) -> Stage
-        ensures next { (plan : List Item) → Follows self.now.cpus self.now.left (Begin plan) reply.now result }
+        ensures next { (plan : List Item)
+            → Follows self.now.cpus self.now.left (Begin plan) reply.now result }
         ensures end { (plan : List Item) → EndsAs self.now.why (Begin plan) reply.now result }
     {
         match reply {

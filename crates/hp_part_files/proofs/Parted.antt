@@ -49,7 +49,8 @@ calls_known processors scripts parts of calls all is one alone enough fewest =
 refused : (input : List ℕ) → (IsUtf8 input → ⊥) → scenario_in input ≡ Err NotJson
 unfolding scenario_in
 refused input none =
-    ap (λ (r : Result Data ScenarioFault). r >>= scenario_of) (json_refused input (λ text. absurd (none text)))
+    ap (λ (r : Result Data ScenarioFault). r >>= scenario_of)
+    (json_refused input (λ text. absurd (none text)))
 
 after_weaker : (P Q : Setting → Type 0) (l : LayoutParts) (before after : List Line)
     → ((g : Setting) → P g → Q g) → HoldsAfter P l before after → HoldsAfter Q l before after
@@ -99,5 +100,6 @@ part_cause n g calls explore.HistoryFull by h = (calls, by, h)
 part_cause n g calls explore.OutOfMemory by h = tt
 
 -- bytes that are no text are no scenario
-pub no_text : (input : List ℕ) (setup limit : ℕ) → (IsUtf8 input → ⊥) → IsFaultOf input setup limit lab.NotJson
+pub no_text : (input : List ℕ) (setup limit : ℕ) → (IsUtf8 input → ⊥)
+    → IsFaultOf input setup limit lab.NotJson
 no_text input setup limit none = (NotJson, refused input none, refl)

@@ -91,7 +91,11 @@ end_taken names g s v w e text pushed own = λ front h.
     ∙ (ap (λ (t : List ℕ). done ++ (begun ++ (t ++ newline))) pushed.line
     ∙ ap (λ (l : List ℕ). done ++ l) (sym (begun_lines_push names g s number v.named v.last.ends e)))) in
     let new : IsGathering names g s (front ++ line)
-    (record { done = v.done; last = record { number = number; ends = v.last.ends ++ e ∷ [] }; named = v.named }) =
+    (record {
+      done = v.done;
+      last = record { number = number; ends = v.last.ends ++ e ∷ [] };
+      named = v.named;
+    }) =
     record {
       is = all;
       done = h.done;

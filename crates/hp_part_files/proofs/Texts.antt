@@ -24,7 +24,8 @@ pub none_of : {A : Type 0} (fault : ScenarioFault) (o : Option A) → or_fault f
 none_of fault None is = refl
 none_of fault (Some x) is = cc
 
-pub some_of : {A : Type 0} (fault : ScenarioFault) (o : Option A) (x : A) → or_fault fault o ≡ Ok x → Some x ≡ o
+pub some_of : {A : Type 0} (fault : ScenarioFault) (o : Option A) (x : A) → or_fault fault o ≡ Ok x
+    → Some x ≡ o
 some_of fault None x is = cc
 some_of fault (Some y) x is = cc
 

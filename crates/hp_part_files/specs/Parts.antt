@@ -42,8 +42,8 @@ search_of n calls setup scenario =
     record { of = n.of; calls = calls; setup = setup; scenario = scenario }
 
 -- the text is that of the ends of a part, in the order of their first schedules
-pub record IsPartOn (n : NumberValue) (setup : ℕ) (scenario : List ℕ) (limit : ℕ) (text : List ℕ) (found : Bool)
-    (names : List (List ℕ)) (g : Setting) : Type 0 where
+pub record IsPartOn (n : NumberValue) (setup : ℕ) (scenario : List ℕ) (limit : ℕ) (text : List ℕ)
+    (found : Bool) (names : List (List ℕ)) (g : Setting) : Type 0 where
   pub calls : ℕ
   pub ends : List Ending
   pub more : Option HowMany

@@ -95,4 +95,5 @@ head_from d = do
 
 -- that of a text; what is no JSON is none
 abbrev pub IsHead : (text : List ℕ) → HeadValue → Type 0
-IsHead text h = (option_and_then head_from (json_of text) ≡ Some h) × (text ≡ head_line h.search h.number h.ends)
+IsHead text h =
+    (option_and_then head_from (json_of text) ≡ Some h) × (text ≡ head_line h.search h.number h.ends)

@@ -11,11 +11,12 @@ use Rattle.hp_part_files.specs.Texts.{SearchValue, end_line}
 abbrev pub IsTaken : (names : List (List ℕ)) → Setting → SearchValue → (old : GatheringValue)
     → (text : List ℕ) → (new : GatheringValue) → Type 0
 IsTaken names g s old text new =
-    (front : List ℕ) → IsGathering names g s front old → IsGathering names g s (front ++ (text ++ newline)) new
+    (front : List ℕ) → IsGathering names g s front old
+    → IsGathering names g s (front ++ (text ++ newline)) new
 
 -- an end was added to the last part, of which the text is the line
-pub record IsPushed (names : List (List ℕ)) (g : Setting) (old : GatheringValue) (text : List ℕ) (end : Ending)
-    (new : GatheringValue) : Type 0 where
+pub record IsPushed (names : List (List ℕ)) (g : Setting) (old : GatheringValue) (text : List ℕ)
+    (end : Ending) (new : GatheringValue) : Type 0 where
   pub line : text ≡ end_line names g (length old.last.ends + 1) end
   pub is : new
       ≡ record {

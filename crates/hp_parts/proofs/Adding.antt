@@ -17,8 +17,8 @@ use Rattle.hp_parts.proofs.Orders.{before_before, earlier_of}
 -- ---- one end
 
 -- schedules of a kind, and those of one outcome more
-abbrev pub WithAll : (List ℕ → OutcomeValue → Type 0) → (List ℕ → Type 0) → OutcomeValue → List ℕ → OutcomeValue
-    → Type 0
+abbrev pub WithAll : (List ℕ → OutcomeValue → Type 0) → (List ℕ → Type 0) → OutcomeValue → List ℕ
+    → OutcomeValue → Type 0
 WithAll E P x s y = E s y ⊎ (P s × (y ≡ x))
 
 -- each schedule of the one kind stands before each of the other, or after it
@@ -129,7 +129,8 @@ added_more E P e old new besides many first ok adds =
         → HasCount (λ s. WithAll E P e.outcome s f.outcome) f.count
     counts k f h =
         elim (get_set_cases old adds.at adds.more k f h) [
-          | inl here ↦ subst (λ (d : Ending). HasCount (λ s. WithAll E P e.outcome s d.outcome) d.count) here.1
+          | inl here ↦
+              subst (λ (d : Ending). HasCount (λ s. WithAll E P e.outcome s d.outcome) d.count) here.1
               (subst (λ (y : OutcomeValue). HasCount (λ s. WithAll E P e.outcome s y) adds.more.count)
               (sym adds.outcome_is)
               (subst (HasCount (λ s. WithAll E P e.outcome s adds.entry.outcome)) (sym adds.count)
@@ -211,7 +212,8 @@ added_other E P e old new besides many first ok adds =
         elim (get_push_cases old adds.entry f k h) [
           | inl there ↦
               count_other E P e.outcome f.outcome f.count (differs k f there) (ok.counts k f there)
-          | inr here ↦ subst (λ (d : Ending). HasCount (λ s. WithAll E P e.outcome s d.outcome) d.count) here.1
+          | inr here ↦
+              subst (λ (d : Ending). HasCount (λ s. WithAll E P e.outcome s d.outcome) d.count) here.1
               (subst (λ (y : OutcomeValue). HasCount (λ s. WithAll E P e.outcome s y) adds.entry.count)
               (sym adds.outcome_is)
               (subst (HasCount (λ s. WithAll E P e.outcome s e.outcome)) (sym adds.count)
@@ -251,10 +253,12 @@ added_other E P e old new besides many first ok adds =
     total : HasCount (λ s. (y : OutcomeValue) × WithAll E P e.outcome s y)
         (sum_by (λ (f : Ending). f.count) later)
     total =
-        subst (HasCount (λ s. (y : OutcomeValue) × WithAll E P e.outcome s y)) (sym (sum_other e old new adds))
+        subst (HasCount (λ s. (y : OutcomeValue) × WithAll E P e.outcome s y))
+        (sym (sum_other e old new adds))
         (total_both E P e.outcome (sum_by (λ (f : Ending). f.count) old) e.count besides ok.total many)
 
-pub added_end : (E : List ℕ → OutcomeValue → Type 0) (P : List ℕ → Type 0) (e : Ending) (old new : List Ending)
+pub added_end : (E : List ℕ → OutcomeValue → Type 0) (P : List ℕ → Type 0) (e : Ending)
+    (old new : List Ending)
     → AreBesides E P → HasCount P e.count → IsFirst P e.first.items → AreCounted E old → AddsEnd old e new
     → AreCounted (WithAll E P e.outcome) new
 added_end E P e old new besides many first ok adds =

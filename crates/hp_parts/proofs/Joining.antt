@@ -168,7 +168,8 @@ added_ends E F D old (e ∷ ends) new beside spread said others ok adds =
 
     by_place : (x : OutcomeValue) (k : ℕ) (f : Ending) → slice_get (e ∷ ends) k ≡ Some f → f.outcome ≡ x
         → (D x ⊎ (x ≡ e.outcome)) ⊎ IsAmong ends x
-    by_place x zero f h is = inl (inr (sym is ∙ (let same : f ≡ e = cc in ap (λ (d : Ending). d.outcome) same)))
+    by_place x zero f h is =
+        inl (inr (sym is ∙ (let same : f ≡ e = cc in ap (λ (d : Ending). d.outcome) same)))
     by_place x (suc k) f h is = inr (k, f, h, is)
 
     from : (s : List ℕ) (x : OutcomeValue) → WithSome E F (λ x. D x ⊎ IsAmong (e ∷ ends) x) s x

@@ -13,7 +13,8 @@ rest_at xs i within = rw (add-one, drop-cons xs i 0) refl
 -- the processors at the next place decide, or what is left after it
 pub order_at : (xs ys : List ℕ) (i : ℕ) → i < length xs → i < length ys
     → slice_cmp nat_cmp (drop i xs) (drop i ys)
-    ≡ ordering_then (nat_cmp (get_or xs i 0) (get_or ys i 0)) (slice_cmp nat_cmp (drop (i + 1) xs) (drop (i + 1) ys))
+    ≡ ordering_then (nat_cmp (get_or xs i 0) (get_or ys i 0))
+    (slice_cmp nat_cmp (drop (i + 1) xs) (drop (i + 1) ys))
 order_at xs ys i less more =
     ap (λ (zs : List ℕ). slice_cmp nat_cmp zs (drop i ys)) (rest_at xs i less)
     ∙ ap (λ (zs : List ℕ). slice_cmp nat_cmp (get_or xs i 0 ∷ drop (i + 1) xs) zs) (rest_at ys i more)

@@ -47,8 +47,8 @@ room_found {V} g of calls found lists is many each k less =
     subst (λ (o : Option V). IfSome o (λ _. FillsPart g (part of calls k) → ⊥)) at.1 (each k less)
 
 -- the ends of each part are the list at its place
-pub parts_found : {V : Type 0} (items : V → List Ending) (g : Setting) (of calls : ℕ) (found : List (Option V))
-    (lists : List V) → found ≡ map (λ v. Some v) lists → length found ≡ of
+pub parts_found : {V : Type 0} (items : V → List Ending) (g : Setting) (of calls : ℕ)
+    (found : List (Option V)) (lists : List V) → found ≡ map (λ v. Some v) lists → length found ≡ of
     → ((k : ℕ) → k < of → IfSome (get_or found k None)
     (λ v. AreCounted (EndsInPart g (part of calls k)) (items v)))
     → AreParts g calls (map items lists)

@@ -7,7 +7,8 @@ use Rattle.hp_explore.specs.declared.tally.Ending.{Ending}
 use Rattle.hp_parts.specs.Adding.{AddsEnd, AddsEnds, AddsLists, counted_by}
 use Rattle.hp_parts.proofs.Joining.{adds_push, ends_sum, lists_push, lists_sum}
 
-sum_mapped : {X Y : Type 0} (f : Y → ℕ) (g : X → Y) (xs : List X) → sum_by f (map g xs) ≡ sum_by (λ x. f (g x)) xs
+sum_mapped : {X Y : Type 0} (f : Y → ℕ) (g : X → Y) (xs : List X)
+    → sum_by f (map g xs) ≡ sum_by (λ x. f (g x)) xs
 sum_mapped f g [] = refl
 sum_mapped f g (x ∷ xs) =
     omega (
@@ -45,7 +46,8 @@ counted_in items x = sum_by (λ (e : Ending). e.count) (items x)
 
 pub counted_mapped : {X : Type 0} (items : X → List Ending) (lists : List X)
     → counted_by (map items lists) ≡ sum_by (counted_in items) lists
-counted_mapped items lists = sum_mapped (λ (ends : List Ending). sum_by (λ (e : Ending). e.count) ends) items lists
+counted_mapped items lists =
+    sum_mapped (λ (ends : List Ending). sum_by (λ (e : Ending). e.count) ends) items lists
 
 -- ---- one more
 
@@ -80,7 +82,8 @@ lists_more {X} items lists old mid new at x within here before last =
     ∙ map-append items (take at lists) (x ∷ [])))
     (lists_push old (map items (take at lists)) (items x) mid new before last)
 
-pub lists_room : {X : Type 0} (items : X → List Ending) (lists : List X) (old mid : List Ending) (at bound : ℕ)
+pub lists_room : {X : Type 0} (items : X → List Ending) (lists : List X) (old mid : List Ending)
+    (at bound : ℕ)
     (x : X) → at < length lists → x ≡ get_or lists at x → AddsLists old (map items (take at lists)) mid
     → sum_by (λ (f : Ending). f.count) old + counted_by (map items lists) < bound
     → sum_by (λ (f : Ending). f.count) mid + sum_by (λ (f : Ending). f.count) (items x) < bound

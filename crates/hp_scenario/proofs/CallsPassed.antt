@@ -52,13 +52,14 @@ all_read bytes start new lines opened all =
     opened.2 read in
     let whole =
     scenario_read start.layout script (tokens bytes) (Token.key (codes "layout") ∷ b) b
-    (Token.key (codes "calls") ∷ Token.begin_array ∷ f) f (Token.end_object ∷ []) opened.1.1 refl opened.1.2 refl
-    (passed.0, texts, from_none) refl in
-    scenario_is bytes bytes (record { layout = new.layout; names = new.names.keys; lines = lines }) opened.0 refl
-    (rw layout_is whole)
+    (Token.key (codes "calls") ∷ Token.begin_array ∷ f) f
+    (Token.end_object ∷ []) opened.1.1 refl opened.1.2 refl (passed.0, texts, from_none) refl in
+    scenario_is bytes bytes (record { layout = new.layout; names = new.names.keys; lines = lines })
+    opened.0 refl (rw layout_is whole)
 
 -- and so is what is made of them
 pub all_seen : (bytes : List ℕ) (start new : Calls) (lines : List Line) (made : ScenarioValue)
     → IsOpened bytes start → AreAll start lines new
-    → made ≡ record { layout = new.layout; names = new.names.keys; lines = lines } → scenario_in bytes ≡ Ok made
+    → made ≡ record { layout = new.layout; names = new.names.keys; lines = lines }
+    → scenario_in bytes ≡ Ok made
 all_seen bytes start new lines made opened all is = all_read bytes start new lines opened all ∙ ap Ok (sym is)

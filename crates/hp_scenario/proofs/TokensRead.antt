@@ -88,7 +88,8 @@ texts_read depth (text ∷ texts) new n enough =
     let one = value_is depth (Token.string text ∷ rest) in
     let some : 0 < n = omega arith in
     let left_over : length rest ≤ n - 1 = omega arith in
-    ap (converted of_items) (items_more (value depth) n (Token.string text ∷ rest) rest (json.string text) some refl one)
+    ap (converted of_items)
+    (items_more (value depth) n (Token.string text ∷ rest) rest (json.string text) some refl one)
     ∙ with_item (json.string text) (value_of.string text) refl (items (value depth) (n - 1) rest)
     ∙ ap (parse_map (item (value_of.string text))) (texts_read depth texts new (n - 1) left_over)
 

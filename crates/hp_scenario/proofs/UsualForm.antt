@@ -31,7 +31,8 @@ use Rattle.hp_scenario.proofs.TokensRead.{Adds, adds_none, adds_one, adds_rows, 
 pub one_more_string : (texts : List (List ℕ)) (text : List ℕ) (rest : List Token)
     → strings_then texts (Token.string text ∷ rest) ≡ strings_then (texts ++ text ∷ []) rest
 one_more_string [] text rest = refl
-one_more_string (t ∷ texts) text rest = ap (λ (ts : List Token). Token.string t ∷ ts) (one_more_string texts text rest)
+one_more_string (t ∷ texts) text rest =
+    ap (λ (ts : List Token). Token.string t ∷ ts) (one_more_string texts text rest)
 
 -- ---- blocks at boot
 
@@ -53,7 +54,8 @@ one_more_boot [] word bs b e h =
     let none : [] ≡ bs = cc in
     rw h (ap (λ (zs : List Boot). Some (zs ++ b ∷ [])) none)
 one_more_boot (w ∷ words) word bs b e h =
-    boot_then (boot_of w) (each_in boot_at (texts_data words)) (each_in boot_at (texts_data (words ++ word ∷ [])))
+    boot_then (boot_of w) (each_in boot_at (texts_data words))
+    (each_in boot_at (texts_data (words ++ word ∷ [])))
     bs b e (λ ys rest. one_more_boot words word ys b rest h)
 
 -- ---- lines
@@ -86,7 +88,8 @@ each_text (text ∷ texts) = rw (each_text texts) refl
 
 -- the members of a scenario
 pub form_read : (layout : Data) (texts : List (List ℕ)) (parts : LayoutParts) → parts_of layout ≡ Some parts
-    → form_of (object (put (codes "calls") (array (texts_data texts)) (put (codes "layout") layout no_members)))
+    → form_of
+    (object (put (codes "calls") (array (texts_data texts)) (put (codes "layout") layout no_members)))
     ≡ Some (record { parts = parts; calls = texts })
 unfolding form_of has_keys texts_at
 form_read layout texts parts e = rw (e, each_text texts) refl
@@ -109,7 +112,8 @@ layout_read n boot old start mid new opened rows ends sound =
     let list = array (texts_data words) in
     let one : Reads 125 list (Token.begin_array ∷ m) (Token.end_object ∷ new) =
     reads_texts 125 words m (Token.end_object ∷ new) (omega arith) ends.2.1 in
-    let last : Adds 125 (λ ms. put (codes "boot") list ms) (Token.key (codes "boot") ∷ Token.begin_array ∷ m) new =
+    let last : Adds 125 (λ ms. put (codes "boot") list ms)
+    (Token.key (codes "boot") ∷ Token.begin_array ∷ m) new =
     adds_one 125 (codes "boot") list (λ ms. ms) (Token.begin_array ∷ m) (Token.end_object ∷ new) new one
     (adds_none 125 new) in
     let rest : Adds 125 (λ ms. put (codes "boot") list ms) mid new =
@@ -140,22 +144,25 @@ scenario_read layout script old a b e f g opened named placed listed lines over 
     subst (λ (ts : List Token). AreTexts texts f ts) over lines.1 in
     let calls : Reads 126 dc (Token.begin_array ∷ f) (Token.end_object ∷ []) =
     reads_texts 126 texts f (Token.end_object ∷ []) (omega arith) are in
-    let last : Adds 126 (λ ms. put (codes "calls") dc ms) (Token.key (codes "calls") ∷ Token.begin_array ∷ f) [] =
+    let last : Adds 126 (λ ms. put (codes "calls") dc ms)
+    (Token.key (codes "calls") ∷ Token.begin_array ∷ f) [] =
     adds_one 126 (codes "calls") dc (λ ms. ms) (Token.begin_array ∷ f) (Token.end_object ∷ []) [] calls
     (adds_none 126 []) in
     let rest : Adds 126 (λ ms. put (codes "calls") dc ms) e [] =
     subst (λ (ts : List Token). Adds 126 (λ ms. put (codes "calls") dc ms) ts []) (sym listed) last in
-    let both : Adds 126 (λ ms. put (codes "calls") dc (put (codes "layout") dl ms)) (Token.key (codes "layout") ∷ b) [] =
+    let both : Adds 126 (λ ms. put (codes "calls") dc (put (codes "layout") dl ms))
+    (Token.key (codes "layout") ∷ b) [] =
     adds_one 126 (codes "layout") dl (λ ms. put (codes "calls") dc ms) b e [] placed.1 rest in
     let d = object (put (codes "calls") dc (put (codes "layout") dl no_members)) in
     let whole : Reads 127 d (Token.begin_object ∷ Token.key (codes "layout") ∷ b) [] =
-    reads_object 127 (λ ms. put (codes "calls") dc (put (codes "layout") dl ms)) (Token.key (codes "layout") ∷ b) []
-    (omega arith) both in
+    reads_object 127 (λ ms. put (codes "calls") dc (put (codes "layout") dl ms))
+    (Token.key (codes "layout") ∷ b) [] (omega arith) both in
     let same : Token.begin_object ∷ Token.key (codes "layout") ∷ b ≡ old =
     ap (λ (ts : List Token). Token.begin_object ∷ ts) (sym named) ∙ sym opened in (
       d,
       subst (λ (ts : List Token). Reads 127 d ts []) same whole,
-      of_form d (record { parts = layout; calls = texts }) script (form_read dl texts layout placed.2) placed.3 lines.2,
+      of_form d (record { parts = layout; calls = texts }) script
+          (form_read dl texts layout placed.2) placed.3 lines.2,
     )
 
 -- the bytes of a scenario
@@ -189,7 +196,8 @@ no_boots bs e = ap Some (sym e)
 pub boots_grow : (words : List (List ℕ)) (word : List ℕ) (bs now : List Boot) (b : Boot)
     → each_in boot_at (texts_data words) ≡ Some bs → Some b ≡ boot_of word → now ≡ bs ++ b ∷ []
     → each_in boot_at (texts_data (words ++ word ∷ [])) ≡ Some now
-boots_grow words word bs now b so_far is grown = one_more_boot words word bs b so_far (sym is) ∙ ap Some (sym grown)
+boots_grow words word bs now b so_far is grown =
+    one_more_boot words word bs b so_far (sym is) ∙ ap Some (sym grown)
 
 pub no_lines : (names : List (List ℕ)) (lines : List Line) → names ≡ [] → lines ≡ []
     → lines_from 1 nothing [] ≡ Ok (record { names = names; lines = lines })
@@ -240,7 +248,8 @@ scenario_made layout script lines old a b e f g same opened named placed listed 
     (sym same) (scenario_read layout script old a b e f g opened named placed listed are over)
 
 -- a scenario that is found in a text is that of the bytes
-pub scenario_found : (r : Result (Option Scenario) AllocError) (bytes text : List ℕ) → IsUtf8 bytes → text ≡ bytes
+pub scenario_found : (r : Result (Option Scenario) AllocError) (bytes text : List ℕ) → IsUtf8 bytes
+    → text ≡ bytes
     → IfOk r (λ o. IfSome o (λ s. AreScenario (scenario_seen s) (tokens text)))
     → IfOk r (λ o. IfSome o (λ s. scenario_in bytes ≡ Ok (scenario_seen s)))
 scenario_found (Err e) bytes text utf same h = h

@@ -187,7 +187,8 @@ take_all (suc n) (x ∷ xs) long = ap (λ ys. x ∷ ys) (take_all n xs (omega ar
 pub fresh_marks : (seats : List SeatValue) (n : ℕ) (m : Mark) → length seats ≤ n
     → m ≡ record { next = 0; lowest = None } → AreMarks [] seats (replicate n m)
 fresh_marks seats n m long is place seat there =
-    let inside : place < n = (let within = slice_get_within seats place seat there in omega (arith, long)) in (
+    let inside : place < n =
+    (let within = slice_get_within seats place seat there in omega (arith, long)) in (
       m,
       slice_get-get_or (replicate n m) place m (omega (arith, length-replicate n m, inside))
           ∙ ap (λ (x : Mark). Some x) (get_or-replicate n place m m inside),

@@ -38,7 +38,8 @@ height_all s rows i height all end so_far =
 
 text_here : (s : Sheet) (top : ℕ) (rows : List RowValue) (i : ℕ) (row : RowValue) → i < length rows
     → row ≡ get_or rows i row
-    → rows_from s top (drop i rows) ≡ row_text s top row ++ rows_from s (top + row_height s row) (drop (i + 1) rows)
+    → rows_from s top (drop i rows)
+    ≡ row_text s top row ++ rows_from s (top + row_height s row) (drop (i + 1) rows)
 unfolding rows_from
 text_here s top rows i row lt at = ap (rows_from s top) (next_row rows i row lt at)
 

@@ -113,7 +113,8 @@ list_label mark = codes "list of processor " ++ mark ∷ []
 
 unfoldable pub label_of : (names : List (List ℕ)) → (mark : ℕ) → List ℕ
 label_of names mark =
-    if is_letter mark then owner_label names mark else (if is_digit mark then list_label mark else plain_label mark)
+    if is_letter mark then owner_label names mark
+    else (if is_digit mark then list_label mark else plain_label mark)
 
 -- whether a character is one of the cells of a block, of a row, or of one of these rows
 abbrev pub has_mark : (mark : ℕ) → BlockValue → Bool

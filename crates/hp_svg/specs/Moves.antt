@@ -42,7 +42,8 @@ moves_opening top = codes "<defs><g id='moves' transform='translate(0 " ++ decim
 -- each line twice: the lower one is white, so that the other is seen on cells of any colour
 unfoldable pub moves_shown : List ℕ
 moves_shown =
-    codes "</g></defs><use href='#moves' stroke='#ffffff' stroke-width='3' stroke-opacity='0.6'/><use href='#moves'"
+    codes
+    "</g></defs><use href='#moves' stroke='#ffffff' stroke-width='3' stroke-opacity='0.6'/><use href='#moves'"
     ++ move_look
 
 unfoldable pub moves_text : Sheet → (top : ℕ) → (rows : List RowValue) → List ℕ

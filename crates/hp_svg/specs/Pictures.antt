@@ -108,7 +108,8 @@ unfoldable pub style : Sheet → List ℕ
 style s = title ++ hatching ++ grid s ++ ground ++ newline
 
 -- with so many entries in the legend
-unfoldable pub picture_with : Sheet → (names : List (List ℕ)) → (marks : List ℕ) → (rows : List RowValue) → List ℕ
+unfoldable pub picture_with : Sheet → (names : List (List ℕ)) → (marks : List ℕ)
+    → (rows : List RowValue) → List ℕ
 picture_with s names marks rows =
     opening (width_of s) (height_of s (length marks + 4) rows) ++ style s
     ++ flat_map (entry_text names) (enumerate_from 0 marks) ++ notes_text (length marks)

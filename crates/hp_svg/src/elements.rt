@@ -218,7 +218,8 @@ fn write_layer(
 ) -> Result<(), AllocError>
     requires x { x < 2 ^ 108 }
     requires top { top < 2 ^ 107 }
-    ensures { OnOk result (string_bytes out.new ≡ string_bytes out.old ++ layer_element layer x top width mark) }
+    ensures { OnOk result
+        (string_bytes out.new ≡ string_bytes out.old ++ layer_element layer x top width mark) }
 {
     match layer {
         Layer::Cells => write_cell(out, x, top, width, mark),

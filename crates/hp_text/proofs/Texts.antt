@@ -18,7 +18,8 @@ texts_more text n old now new piece p q r =
 
 -- words and a number after them
 pub numbered : {A B : Type 0} (r : Result A B) (old new words text : List ℕ) (n m : ℕ)
-    → OnOk r (new ≡ old ++ words ++ decimal n) → n ≡ m → text ≡ words ++ decimal m → OnOk r (new ≡ old ++ text)
+    → OnOk r (new ≡ old ++ words ++ decimal n) → n ≡ m → text ≡ words ++ decimal m
+    → OnOk r (new ≡ old ++ text)
 numbered (Ok x) old new words text n m h same is =
     h ∙ ap (λ (k : ℕ). old ++ words ++ decimal k) same ∙ append_assoc old words (decimal m)
     ∙ ap (λ (t : List ℕ). old ++ t) (sym is)

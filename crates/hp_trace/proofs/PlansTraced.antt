@@ -154,7 +154,8 @@ step_traced cpu m after r old new false is true lost calls row = λ none. (
       calls.1,
       calls.2,
       ap
-          (λ (k : MachineValue). drawing (step_text r.event) (answer_text r) (moved_of r.reply) k ∷ []) calls.3,
+          (λ (k : MachineValue). drawing (step_text r.event) (answer_text r) (moved_of r.reply) k ∷ [])
+          calls.3,
       (calls.3, refl),
     );
   },

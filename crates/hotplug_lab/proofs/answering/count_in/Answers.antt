@@ -14,5 +14,5 @@ returns-in-Ok c =
 
 pub returns-in-Err : goal.returns-in-Err
 returns-in-Err c =
-    counted_none (λ text. string_bytes text) c.no_count.result c.args.setup c.args.input.now c.in-Err.fault c.in-Err.ensures
-    c.no_count.ensures.none c.no_count.ensures.read
+    counted_none (λ text. string_bytes text) c.no_count.result c.args.setup c.args.input.now c.in-Err.fault
+    c.in-Err.ensures c.no_count.ensures.none c.no_count.ensures.read

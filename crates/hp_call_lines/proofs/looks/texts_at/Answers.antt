@@ -12,12 +12,15 @@ loop-place-preserved c =
     let mode = c.loop-place.mode in
     let nested = c.loop-place.nested in
     let one =
-    c.begun-count.ensures.is ∙ ap (λ (bs : List ℕ). begun mode (nested == c.args.depth) (get_or input place 0) bs
+    c.begun-count.ensures.is
+    ∙ ap (λ (bs : List ℕ). begun mode (nested == c.args.depth) (get_or input place 0) bs
     c.args.start.now) (whole_rest input place) in (
-      counted_more c.args.depth c.args.start.now mode c.mode_after-mode.result nested c.nested_after-nested.result input
+      counted_more c.args.depth c.args.start.now mode c.mode_after-mode.result nested
+          c.nested_after-nested.result input
           place _ c.loop-place.count c.begun-count.result _ _ c.loop-place-test.true refl i.0 one refl
           c.nested_after-nested.ensures c.mode_after-mode.ensures,
-      nested_more mode (get_or input place 0) nested c.nested_after-nested.result place i.1 c.nested_after-nested.ensures,
+      nested_more mode (get_or input place 0) nested c.nested_after-nested.result place i.1
+          c.nested_after-nested.ensures,
       omega (arith, i.2, c.begun-count.ensures.low),
     )
 

@@ -34,4 +34,5 @@ returns-clause-ok o c =
     (subst (λ (ls : List Line). IsAnsweredOn c.args.ask c.args.limit (string_bytes f.text) f.is_found
     (names_of p) ls (setting p.start.machine p.start.scripts.items)) c.before-2.ensures
     (subst (λ (ss : List (List Step)). IsAnsweredOn c.args.ask c.args.limit (string_bytes f.text) f.is_found
-    (names_of p) c.before-2.result.now (setting p.start.machine ss)) c.deref.ensures.value h))) c.told_on.ensures.ok
+    (names_of p) c.before-2.result.now (setting p.start.machine ss)) c.deref.ensures.value h)))
+    c.told_on.ensures.ok

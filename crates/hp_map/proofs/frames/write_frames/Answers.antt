@@ -8,5 +8,5 @@ loop-number-preserved c =
     let piece : cell_text c.starts_later.result c.place_at-place.result
     ≡ frame_text c.args.layout.now c.args.places.now.items c.args.block c.loop-number.number =
     rw (c.starts_later.ensures, c.place_at-place.ensures, c.first_of-first.ensures.is) refl in
-    items_more (frame_text c.args.layout.now c.args.places.now.items c.args.block) c.loop-number.number _ _ _ _
-    c.loop-number.invariant c.in_ok-write_cell.ensures piece
+    items_more (frame_text c.args.layout.now c.args.places.now.items c.args.block)
+    c.loop-number.number _ _ _ _ c.loop-number.invariant c.in_ok-write_cell.ensures piece

@@ -15,5 +15,5 @@ loop-number-preserved c =
       c.first_of-first.ensures.is,
       c.layout-layout.ensures,
     ) refl in
-    items_more (kind_frame c.args.machine.now.layout c.args.is_used kinds c.args.block) c.loop-number.number _ _
-    _ _ c.loop-number.invariant c.in_ok-write_cell.ensures piece
+    items_more (kind_frame c.args.machine.now.layout c.args.is_used kinds c.args.block)
+    c.loop-number.number _ _ _ _ c.loop-number.invariant c.in_ok-write_cell.ensures piece

@@ -14,7 +14,8 @@ returns c =
       setup = c.search.inside.setup;
       scenario = c.search.inside.scenario.now;
     } in
-    four_written _ numbers (head_counts here.setup c.args.ends) (escaped_text Kept here.scenario) (codes "\"}")
+    four_written _ numbers (head_counts here.setup c.args.ends) (escaped_text Kept here.scenario)
+    (codes "\"}")
     _ _ _ _ c.in_ok-write_numbers.ensures c.in_ok-write_counts.ensures c.in_ok-write_escaped.ensures
     c.in_ok-push_str.ensures.bytes
     ∙ ap (λ (s : SearchValue). string_bytes c.args.out.now

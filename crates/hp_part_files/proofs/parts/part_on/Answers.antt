@@ -27,14 +27,15 @@ returns-clause-ok g c =
           c.calls_for-calls.ensures.one c.calls_for-calls.ensures.alone c.calls_for-calls.ensures.enough
           c.calls_for-calls.ensures.fewest;
       are =
-          subst (λ (q : PartValue). ArePartEnds (setting_of p) q c.args.limit x.ends.items told.0) c.part.ensures
-          (subst (λ (ss : List (List Step)). ArePartEnds (setting p.start.machine ss) c.part.result c.args.limit
-          x.ends.items told.0) c.as_slice-scripts.ensures.value
+          subst (λ (q : PartValue). ArePartEnds (setting_of p) q c.args.limit x.ends.items told.0)
+          c.part.ensures
+          (subst (λ (ss : List (List Step)). ArePartEnds (setting p.start.machine ss) c.part.result
+          c.args.limit x.ends.items told.0) c.as_slice-scripts.ensures.value
           (part_explored (setting p.start.machine seen) c.part.result c.args.limit x told.0
           c.in_ok-explored.ensures.ok c.in_ok-explored.ensures.few c.in_ok-explored.ensures.room
           c.in_ok-explored.ensures.first c.in_ok-explored.ensures.many
-          (subst (λ (ss : List (List Step)). IsMore ss x.is_whole told.0) (sym c.as_slice-scripts.ensures.value)
-          told.1)));
+          (subst (λ (ss : List (List Step)). IsMore ss x.is_whole told.0)
+          (sym c.as_slice-scripts.ensures.value) told.1)));
       ordered = c.in_ok-explored.ensures.ordered;
       within = c.in_ok-explored.ensures.within;
       told =

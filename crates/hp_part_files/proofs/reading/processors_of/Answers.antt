@@ -9,8 +9,8 @@ pub returns-in_default : goal.returns-in_default
 returns-in_default c =
     none_of BadShape _
     (stops processor_of c.deref-value-items.result.now c.args.values.now.items c.loop-value.value-index
-    c.value-item.result c.loop-value.processors.items _ c.deref-value-items.ensures.value c.loop-value-test.true
-    c.value-item.is (sym c.in_default.ensures) c.loop-value.invariant)
+    c.value-item.result c.loop-value.processors.items _ c.deref-value-items.ensures.value
+    c.loop-value-test.true c.value-item.is (sym c.in_default.ensures) c.loop-value.invariant)
 
 pub loop-value-preserved : goal.loop-value-preserved
 loop-value-preserved c =

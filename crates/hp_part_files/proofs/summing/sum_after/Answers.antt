@@ -32,8 +32,8 @@ returns-clause-ok c =
     (c.as_bytes.ensures.value ∙ ap (λ (v : SearchValue). v.scenario) same)
     c.in_ok-prepared.ensures.ok) in
     IfOk-weaker c.sum_on.result _ _
-    (λ f h. held_in (IsSumOn c.args.form c.args.input.now s (string_bytes f.text) f.is_found) s.scenario s.setup p
-    ready h) c.sum_on.ensures.ok
+    (λ f h. held_in (IsSumOn c.args.form c.args.input.now s (string_bytes f.text) f.is_found)
+    s.scenario s.setup p ready h) c.sum_on.ensures.ok
 
 pub returns-clause-err : goal.returns-clause-err
 returns-clause-err c =

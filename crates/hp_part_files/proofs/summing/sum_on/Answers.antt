@@ -16,8 +16,10 @@ returns-in_err-ends-clause-err c =
     err_from_is_err_and c.from_residual-in_err-ends.result c.from_residual-in_err-ends.ensures.1 in
     rw (p.1, p.2)
     (too_many c.args.input.now (names_of c.args.prepared.now) (setting_of c.args.prepared.now)
-    c.args.head.now.search c.in_ok-parts.parts.items (lists_of c.in_ok-lists.lists.items) _ c.in_ok-parts.ensures.ok
+    c.args.head.now.search c.in_ok-parts.parts.items
+    (lists_of c.in_ok-lists.lists.items) _ c.in_ok-parts.ensures.ok
     (subst (λ (n : ℕ). AreAll c.in_ok-parts.parts.items n (lists_of c.in_ok-lists.lists.items))
-    (ap (λ (s : SearchValue). s.of) c.search.view_is ∙ ap (λ (h : HeadValue). h.search.of) c.head.view_is) c.in_ok-lists.ensures.ok)
+    (ap (λ (s : SearchValue). s.of) c.search.view_is ∙ ap (λ (h : HeadValue). h.search.of) c.head.view_is)
+    c.in_ok-lists.ensures.ok)
     (subst (λ (ls : List (Vec Ending)). IsTooMany (lists_of ls) c.in_err-ends.field-0.0) c.deref.ensures.value
     c.in_err-ends.ensures.err))

@@ -42,5 +42,5 @@ returns-clause-err c =
     let line : text ≡ head_line head.search head.number head.ends =
     subst (λ (h : HeadValue). text ≡ head_line h.search h.number h.ends) c.head.view_is
     (c.in_ok-is_head.ensures.0 c.if-not-branch.false) in
-    IfErr-weaker c.sum_after.result _ _ (λ fault h. inr (head, (text, c.in-Some.ensures.is, (known, line)), h))
-    c.sum_after.ensures.err
+    IfErr-weaker c.sum_after.result _ _
+    (λ fault h. inr (head, (text, c.in-Some.ensures.is, (known, line)), h)) c.sum_after.ensures.err

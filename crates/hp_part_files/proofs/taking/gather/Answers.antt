@@ -18,7 +18,8 @@ loop-place-preserved c =
       within = omega (arith, c.in-Some.ensures.within);
       so_far =
           subst (λ (t : List ℕ). IsGathering names g c.args.head.now.search t c.take_line.new.gathered)
-          (sym (line_passed input place c.in-Some.text.now c.loop-place.invariant.within c.in-Some.ensures.is))
+          (sym (line_passed input place c.in-Some.text.now c.loop-place.invariant.within
+          c.in-Some.ensures.is))
           (subst (λ (s : SearchValue). IsTaken names g s c.loop-place.gathered c.in-Some.text.now
           c.take_line.new.gathered) same c.in-Ok.ensures.ok (take place input) c.loop-place.invariant.so_far);
     }
@@ -26,5 +27,6 @@ loop-place-preserved c =
 pub returns-clause-ok : goal.returns-clause-ok
 returns-clause-ok c =
     all_read (names_of c.args.prepared.now) (setting_of c.args.prepared.now) c.args.head.now.search
-    c.args.input.now c.loop-place.place c.loop-place.gathered c.in_ok-parts.parts.items c.loop-place-test.false
+    c.args.input.now c.loop-place.place c.loop-place.gathered c.in_ok-parts.parts.items
+    c.loop-place-test.false
     c.loop-place.invariant.so_far (c.is_whole.ensures.0 c.if-not-is_whole.false) c.in_ok-parts.ensures

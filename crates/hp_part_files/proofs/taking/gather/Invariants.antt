@@ -6,7 +6,8 @@ use Rattle.hp_part_files.proofs.taking.gather.Given as goal
 abbrev pub invariant-loop-place : goal.invariant-loop-place
 invariant-loop-place l = record {
   within : l.place ≤ length l.input;
-  so_far : IsGathering (names_of l.prepared) (setting_of l.prepared) l.head.search (take l.place l.input) l.gathered;
+  so_far : IsGathering (names_of l.prepared) (setting_of l.prepared) l.head.search
+      (take l.place l.input) l.gathered;
 }
 
 abbrev pub decreases-loop-place : goal.decreases-loop-place

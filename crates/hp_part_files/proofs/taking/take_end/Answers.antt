@@ -11,8 +11,8 @@ returns-in-Some-clause-ok c =
     own_end g c.args.search.now c.args.gathered.now c.number.result c.deref.result.now c.args.schedule.items _
     c.in-Some.outcome c.in_ok-outcome.ensures.ok c.in-Some.is c.number.ensures c.deref.ensures.value in
     on_ok_weaker c.push_end.result
-    (λ p. end_taken names g c.args.search.now c.args.gathered.now c.push_end.new.gathered _ c.args.text.now p own)
-    c.push_end.ensures.ok
+    (λ p. end_taken names g c.args.search.now c.args.gathered.now c.push_end.new.gathered _
+    c.args.text.now p own) c.push_end.ensures.ok
 
 pub returns-in-Some-clause-err : goal.returns-in-Some-clause-err
 returns-in-Some-clause-err c =
@@ -22,8 +22,8 @@ returns-in-Some-clause-err c =
     own_end g c.args.search.now c.args.gathered.now c.number.result c.deref.result.now c.args.schedule.items _
     c.in-Some.outcome c.in_ok-outcome.ensures.ok c.in-Some.is c.number.ensures c.deref.ensures.value in
     IfErr-weaker c.push_end.result _ _
-    (λ fault h. not_pushed names g c.args.search.now c.args.gathered.now c.args.text.now _ fault c.requires.line
-    own h) c.push_end.ensures.err
+    (λ fault h. not_pushed names g c.args.search.now c.args.gathered.now c.args.text.now _ fault
+    c.requires.line own h) c.push_end.ensures.err
 
 pub returns-in-None-clause-err : goal.returns-in-None-clause-err
 returns-in-None-clause-err c = record {

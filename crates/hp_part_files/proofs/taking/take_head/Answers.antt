@@ -14,7 +14,8 @@ returns-in_default-clause-err c =
       c.args.ends,
       c.requires,
       λ h.
-          let bad : false ≡ true = c.in_default.ensures.some.1 (h.0, omega (arith, h.1, of), omega (arith, h.2, of)) in
+          let bad : false ≡ true =
+          c.in_default.ensures.some.1 (h.0, omega (arith, h.1, of), omega (arith, h.2, of)) in
           absurd cc,
     )
 

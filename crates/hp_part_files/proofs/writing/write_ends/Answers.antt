@@ -8,7 +8,8 @@ use Rattle.hp_part_files.proofs.writing.write_ends.Goals as goal
 
 pub loop-index-preserved : goal.loop-index-preserved
 loop-index-preserved c =
-    end_written (names_of c.args.prepared.now) (setting_of c.args.prepared.now) c.args.ends.now c.loop-index.index
+    end_written (names_of c.args.prepared.now)
+    (setting_of c.args.prepared.now) c.args.ends.now c.loop-index.index
     c.index-ends-index.result _ _ _ c.loop-index-test.true c.index-ends-index.is c.loop-index.invariant
     c.in_ok-write_end_line.ensures.ok
 
@@ -19,5 +20,5 @@ returns-clause-ok c =
     let none : drop c.loop-index.index c.args.ends.now ≡ [] =
     drop_all c.loop-index.index c.args.ends.now (omega (arith, c.loop-index-test.false)) in
     sym (append-nil (string_bytes c.loop-index.out))
-    ∙ (ap (λ (es : List Ending). string_bytes c.loop-index.out ++ end_lines names g (c.loop-index.index + 1) es)
-    (sym none) ∙ c.loop-index.invariant)
+    ∙ (ap (λ (es : List Ending). string_bytes c.loop-index.out
+    ++ end_lines names g (c.loop-index.index + 1) es) (sym none) ∙ c.loop-index.invariant)

@@ -5,5 +5,6 @@ use Rattle.hp_part_files.proofs.writing.write_ends.Given as goal
 
 abbrev pub invariant-loop-index : goal.invariant-loop-index
 invariant-loop-index l =
-    string_bytes l.out ++ end_lines (names_of l.prepared) (setting_of l.prepared) (l.index + 1) (drop l.index l.ends)
+    string_bytes l.out
+    ++ end_lines (names_of l.prepared) (setting_of l.prepared) (l.index + 1) (drop l.index l.ends)
     ≡ string_bytes l.fn.out ++ end_lines (names_of l.prepared) (setting_of l.prepared) 1 l.ends

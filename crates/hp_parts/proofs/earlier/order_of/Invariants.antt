@@ -7,5 +7,6 @@ use Rattle.hp_parts.proofs.earlier.order_of.Given as goal
 abbrev pub invariant-loop-place : goal.invariant-loop-place
 invariant-loop-place l = record {
   within : l.place ≤ length l.other;
-  same : slice_cmp nat_cmp l.schedule l.other ≡ slice_cmp nat_cmp (drop l.place l.schedule) (drop l.place l.other);
+  same : slice_cmp nat_cmp l.schedule l.other
+      ≡ slice_cmp nat_cmp (drop l.place l.schedule) (drop l.place l.other);
 }

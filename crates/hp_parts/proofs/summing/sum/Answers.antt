@@ -49,7 +49,8 @@ returns-clause-total c =
 pub returns-clause-apart : goal.returns-clause-apart
 returns-clause-apart c =
     apart_moved c.add_lists.new.self c.into_sorted.result.items c.into_sorted.ensures.moved
-    (lists_apart [] (map items c.args.parts.now) c.add_lists.new.self (added c) (λ i j e f h k same. absurd cc))
+    (lists_apart [] (map items c.args.parts.now) c.add_lists.new.self (added c)
+    (λ i j e f h k same. absurd cc))
 
 pub returns-clause-adds : goal.returns-clause-adds
 returns-clause-adds c = (c.add_lists.new.self, added c, c.into_sorted.ensures)

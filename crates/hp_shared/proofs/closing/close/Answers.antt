@@ -9,7 +9,11 @@ returns-in-Ok-clause-ok g c =
 
 pub returns-in-Err-clause-err : goal.returns-in-Err-clause-err
 returns-in-Err-clause-err g c =
-    record { seen = c.into_locked-locked.result; shared = c.check.ensures.shown; fault = c.in-Err.ensures.err }
+    record {
+      seen = c.into_locked-locked.result;
+      shared = c.check.ensures.shown;
+      fault = c.in-Err.ensures.err;
+    }
 
 pub returns-in-Ok-clause-volumes : goal.returns-in-Ok-clause-volumes
 returns-in-Ok-clause-volumes g c = search rules

@@ -6,4 +6,5 @@ use Rattle.hp_svg.proofs.pictures.write_legend.Given as goal
 abbrev pub invariant-loop-place : goal.invariant-loop-place
 invariant-loop-place l =
     string_bytes l.out
-    ≡ string_bytes l.initial.out ++ flat_map (entry_text l.names.keys) (enumerate_from 0 (take l.place l.marks))
+    ≡ string_bytes l.initial.out
+    ++ flat_map (entry_text l.names.keys) (enumerate_from 0 (take l.place l.marks))

@@ -6,7 +6,8 @@ use Rattle.hp_svg.proofs.runs.write_cells.Given as goal
 -- what is written, and what is left to write
 abbrev pub invariant-loop-mark : goal.invariant-loop-mark
 invariant-loop-mark l = record {
-  text : string_bytes l.out ++ flat_map (run_text l.cell l.layer l.left l.top) (runs_after l.run (drop l.mark-index l.rest))
+  text : string_bytes l.out
+      ++ flat_map (run_text l.cell l.layer l.left l.top) (runs_after l.run (drop l.mark-index l.rest))
       ≡ string_bytes l.fn.out ++ flat_map (run_text l.cell l.layer l.left l.top) (runs_of l.cells);
   place : l.run.at + l.run.count ≡ l.mark-index + 1;
 }

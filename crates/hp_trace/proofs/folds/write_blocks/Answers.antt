@@ -13,5 +13,6 @@ returns c =
     let all : c.loop-number.number ≡ length c.args.blocks.now = omega arith in
     sym (append-nil (string_bytes c.loop-number.out))
     ∙ ap (λ (t : List ℕ). string_bytes c.loop-number.out ++ t)
-    (sym (none_left c.args.paper c.args.before.now c.args.blocks.now c.loop-number.left c.loop-number.number all))
+    (sym (none_left c.args.paper c.args.before.now c.args.blocks.now c.loop-number.left
+    c.loop-number.number all))
     ∙ c.loop-number.invariant

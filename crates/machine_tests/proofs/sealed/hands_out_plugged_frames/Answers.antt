@@ -10,7 +10,8 @@ pub returns : goal.returns
 returns c h r frame is handed =
     let m = c.args.machine.now in
     let kept = c.history.ensures.kept in
-    c.handed_frames_are_plugged.ensures.plugged m.layout m.base m.before h r frame c.stays_sound.ensures.limits
+    c.handed_frames_are_plugged.ensures.plugged m.layout m.base m.before h r frame
+    c.stays_sound.ensures.limits
     c.stays_sound.ensures.base_placed (subst (λ (g : List Record). IsLegal m.layout m.base m.before g) is
     kept.legal)
     (ap (λ (s : Memory). handed_frame s r)

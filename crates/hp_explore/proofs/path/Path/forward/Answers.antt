@@ -26,5 +26,5 @@ returns-clause-ok c =
 pub returns-clause-cause : goal.returns-clause-cause
 returns-clause-cause c =
     IfErr-weaker c.advance.result _ _
-    (λ fault cause. subst (λ (p : PathValue). IsCauseHere p.setting p.news c.args.cpu fault) c.self.view_is cause)
-    c.advance.ensures.cause
+    (λ fault cause. subst (λ (p : PathValue). IsCauseHere p.setting p.news c.args.cpu fault)
+    c.self.view_is cause) c.advance.ensures.cause

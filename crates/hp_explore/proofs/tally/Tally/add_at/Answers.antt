@@ -21,8 +21,8 @@ pub overflow_add-end : goal.overflow_add-end
 overflow_add-end c =
     let ends = c.self.inside.ends.items in
     let within : c.args.place < length ends =
-    subst (λ (xs : List Ending). c.args.place < length xs) (sym (ap (λ (t : TallyValue). t.ends) c.self.view_is))
-    c.requires.place in
+    subst (λ (xs : List Ending). c.args.place < length xs)
+    (sym (ap (λ (t : TallyValue). t.ends) c.self.view_is)) c.requires.place in
     omega (
       arith,
       roomy ends c.self.inside.limit c.args.count c.args.self.now c.self.view_is c.requires.room,
@@ -50,7 +50,8 @@ invariant_of-self c =
     slice_get_read c.self.inside.ends.items (length c.self.inside.ends.items) c.args.place e refl within
     c.index_mut-end.ensures.value in
     let was = ap (λ (f : Ending). f.count) c.index_mut-end.ensures.value in
-    let room : sum_by (λ (f : Ending). f.count) c.self.inside.ends.items + c.args.count ≤ c.self.inside.limit =
+    let room : sum_by (λ (f : Ending). f.count) c.self.inside.ends.items + c.args.count
+    ≤ c.self.inside.limit =
     roomy c.self.inside.ends.items c.self.inside.limit c.args.count c.args.self.now c.self.view_is
     c.requires.room in (
       omega (

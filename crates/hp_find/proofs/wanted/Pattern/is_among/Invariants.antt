@@ -5,4 +5,5 @@ use Rattle.hp_find.proofs.Below.{Below}
 use Rattle.hp_find.proofs.wanted.Pattern.is_among.Given as goal
 
 abbrev pub invariant-loop-index : goal.invariant-loop-index
-invariant-loop-index l = record { none : Below (λ (reply : Reply). IsAsWanted l.self reply → ⊥) l.replies l.index }
+invariant-loop-index l =
+    record { none : Below (λ (reply : Reply). IsAsWanted l.self reply → ⊥) l.replies l.index }

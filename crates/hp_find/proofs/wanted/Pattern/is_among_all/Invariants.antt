@@ -6,4 +6,5 @@ use Rattle.hp_find.proofs.Below.{Below}
 use Rattle.hp_find.proofs.wanted.Pattern.is_among_all.Given as goal
 
 abbrev pub invariant-loop-index : goal.invariant-loop-index
-invariant-loop-index l = record { none : Below (λ (replies : List Reply). HasReply l.self replies → ⊥) l.all l.index }
+invariant-loop-index l =
+    record { none : Below (λ (replies : List Reply). HasReply l.self replies → ⊥) l.all l.index }

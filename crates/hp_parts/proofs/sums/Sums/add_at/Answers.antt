@@ -62,7 +62,8 @@ known : {S : Type 0} (ends old : List Ending) (x : OutcomeValue) (place : ℕ) (
 known ends old x place e more latest shown at is same ok =
     let here = read ends old x place e shown at is in
     known_set ends place e more latest
-    (subst (λ (xs : List Ending). slice_get xs place ≡ Some e) (sym shown) (at.1 ∙ ap Some (sym here))) same ok
+    (subst (λ (xs : List Ending). slice_get xs place ≡ Some e) (sym shown)
+    (at.1 ∙ ap Some (sym here))) same ok
 
 -- of an error a fact that holds at any rate
 at_err : {A E : Type 0} (r : Result A E) (P : Type 0) → P → OnErr r P

@@ -10,7 +10,8 @@ pub invariant_of-self-2 : goal.invariant_of-self-2
 invariant_of-self-2 c =
     let copy = c.in_ok-copy.copy in
     let pushed =
-    c.push_reserved.ensures.items ∙ ap (λ (xs : List Ending). xs ++ copy ∷ []) c.in_ok-reserve.ensures.items in
+    c.push_reserved.ensures.items
+    ∙ ap (λ (xs : List Ending). xs ++ copy ∷ []) c.in_ok-reserve.ensures.items in
     let all = ap (λ (xs : List Ending). sum_by (λ (e : Ending). e.count) xs) pushed in (
       omega (
         arith,
