@@ -16,9 +16,9 @@ What is checked, in each *.md file at the top, in docs/, examples/ and bench/:
 - a code block marked `json FILE` is that file, and one marked `state FILE` the state it prints;
 - docs/pictures/NAME.svg is what `hotplug_lab trace --svg` draws of examples/NAME.json, and a
   document shows it;
-- a table after `<!-- answers: FILE -->`: its first two columns are FILE's lines and their answers;
-  after `<!-- answers: FILE FIRST LAST FOLDER -->` they are some of FILE's lines, and the third is
-  what a real Linux answered the same step, by one of FOLDER's transcripts;
+- a table after `<!-- answers: FILE -->`: the first two code spans of its rows are FILE's lines and
+  their answers; after `<!-- answers: FILE FIRST LAST FOLDER -->` they are some of FILE's lines, and
+  the third is what a real Linux answered the same step, by one of FOLDER's transcripts;
 - no other kind of block stands there but `text` (a picture) and `sh` (commands to type);
 - no line has more than 100 columns, and each link has its target;
 - in docs/PROVED.md, each `function` (`clause`, ..) below the heading of some crates is in the source
@@ -175,7 +175,7 @@ def check_block(checks, where, kind, body, program):
 
 
 def check_table(checks, where, rows, file, program, first=1, last=None):
-    """A table's first two columns against some lines of a scenario, the first line being 1."""
+    """The first two code spans of a table's rows against some lines of a scenario, the first line being 1."""
     scenario = json.loads((ROOT / file).read_text())
     shown = [tuple(re.findall(r"`([^`]*)`", row)[:2]) for row in rows[2:]]
     printed = list(zip(scenario["calls"], answers(program, scenario["layout"], scenario["calls"])))
