@@ -10,6 +10,7 @@ use hp_explore::{Answers, Ending, ExploreFault, HowMany, Outcome, Script, play};
 use hp_find::changes_of;
 use hp_machine::Machine;
 use hp_spelling::{write_calls, write_mark};
+use hp_text::write_reply_words;
 use hp_units::{Cpu, Reply, Row, State, Text, Zone};
 use indexmap::IndexSet;
 use std::alloc::{AllocError, Global};
@@ -186,7 +187,9 @@ fn write_replies(out: &mut String, replies: &[Reply]) -> Result<(), AllocError>
 fn write_reply(out: &mut String, reply: Reply) -> Result<(), AllocError>
     ensures { OnOk result (string_bytes out.new ≡ string_bytes out.old ++ reply_string reply) }
 {
-    write!(out, "\"{reply}\"")
+    out.push('"')?;
+    write_reply_words(out, reply)?;
+    out.push('"')
 }
 
 /// Writes a list of what became of each memory block, from block 0 on, under its key.

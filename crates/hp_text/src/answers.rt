@@ -21,12 +21,12 @@ pub fn write_answer(out: &mut String, serial: Serial, reply: Reply) -> Result<()
 pub fn write_reply(out: &mut String, reply: Reply) -> Result<(), AllocError>
     ensures { OnOk result (string_bytes out.new ≡ string_bytes out.old ++ bare_reply_line reply) }
 {
-    write_words(out, reply)?;
+    write_reply_words(out, reply)?;
     out.push('\n')
 }
 
-/// Writes the words of a reply.
-fn write_words(out: &mut String, reply: Reply) -> Result<(), AllocError>
+/// Writes the words of a reply, as `write_reply` does, but not the end of the line (own rule).
+pub fn write_reply_words(out: &mut String, reply: Reply) -> Result<(), AllocError>
     ensures { OnOk result (string_bytes out.new ≡ string_bytes out.old ++ reply_text reply) }
 {
     match reply {

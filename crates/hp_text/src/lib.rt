@@ -15,7 +15,9 @@ mod refusals;
 mod spelling;
 mod state;
 
-pub use answers::{write_answer, write_call_fault, write_reply, write_sealed, write_unrecorded};
+pub use answers::{
+    write_answer, write_call_fault, write_reply, write_reply_words, write_sealed, write_unrecorded,
+};
 pub use files::{write_echo_fault, write_read_fault};
 pub use plans::write_plan_end;
 pub use spelling::{write_call, write_event, write_plan};

@@ -9,7 +9,7 @@ use crate::rows::Rows;
 use hp_machine::Machine;
 use hp_ops::{Port, run_plan};
 use hp_pictures::Move;
-use hp_text::{write_event, write_plan_end};
+use hp_text::{write_event, write_plan_end, write_reply_words};
 use hp_units::{CallFault, Cpu, Event, OpEnd, Plan, Receipt, Reply};
 use indexmap::IndexSet;
 use std::alloc::{AllocError, Global};
@@ -174,7 +174,8 @@ fn answer_text(alloc: Global, receipt: &Receipt) -> Result<String, AllocError>
     let serial = receipt.serial;
     let reply = receipt.reply;
     let mut out = String::new(alloc);
-    write!(&mut out, "{serial}: {reply}")?;
+    write!(&mut out, "{serial}: ")?;
+    write_reply_words(&mut out, reply)?;
     Ok(out)
 }
 

@@ -2,76 +2,8 @@
 ghost use Rattle.std.specs.Prelude.{Some};
 
 use crate::layouts::LayoutFault;
-use crate::replies::{CallFault, Refusal, Reply};
 use crate::rows::{Auto, Class, Pool, Zone};
 use std::fmt;
-
-impl fmt::Display for Refusal {
-    ghost use Rattle.hp_units.specs.Texts.{refusal_text};
-
-    ghost output = { λ x. Some (refusal_text x) };
-
-    fn fmt<W: fmt::Write>(&self, f: &mut fmt::Formatter<W>) -> fmt::Result {
-        match self {
-            Refusal::NoOwner => write!(f, "NoOwner"),
-            Refusal::NoPage => write!(f, "NoPage"),
-            Refusal::NoWord => write!(f, "NoWord"),
-            Refusal::AlreadyMapped => write!(f, "AlreadyMapped"),
-            Refusal::NotMapped => write!(f, "NotMapped"),
-            Refusal::BadOrder => write!(f, "BadOrder"),
-            Refusal::NoFrame => write!(f, "NoFrame"),
-            Refusal::NoSuchFrame => write!(f, "NoSuchFrame"),
-            Refusal::NotKernel => write!(f, "NotKernel"),
-            Refusal::NoCpu => write!(f, "NoCpu"),
-            Refusal::NoBlock => write!(f, "NoBlock"),
-            Refusal::EmptyPlan => write!(f, "EmptyPlan"),
-            Refusal::Twice { block } => write!(f, "Twice {block}"),
-            Refusal::Busy { block } => write!(f, "Busy {block}"),
-            Refusal::NotOnline { block } => write!(f, "NotOnline {block}"),
-            Refusal::NotOffline { block } => write!(f, "NotOffline {block}"),
-            Refusal::Unmovable { frame } => write!(f, "Unmovable {frame}"),
-            Refusal::NoOp => write!(f, "NoOp"),
-            Refusal::NothingToMove => write!(f, "NothingToMove"),
-            Refusal::NotFree { frame } => write!(f, "NotFree {frame}"),
-            Refusal::Gone => write!(f, "Gone"),
-            Refusal::BadAddress => write!(f, "BadAddress"),
-            Refusal::NotAbsent { block } => write!(f, "NotAbsent {block}"),
-        }
-    }
-}
-
-impl fmt::Display for Reply {
-    ghost use Rattle.hp_units.specs.Texts.{reply_text};
-
-    ghost output = { λ x. Some (reply_text x) };
-
-    fn fmt<W: fmt::Write>(&self, f: &mut fmt::Formatter<W>) -> fmt::Result {
-        match self {
-            Reply::Done => write!(f, "done"),
-            Reply::Frame(frame) => write!(f, "frame {frame}"),
-            Reply::Word(value) => write!(f, "word {value}"),
-            Reply::Moved { from, to } => write!(f, "moved {from} {to}"),
-            Reply::Opened { op } => write!(f, "opened {op}"),
-            Reply::Restored => write!(f, "restored"),
-            Reply::Released => write!(f, "released"),
-            Reply::Undone { count } => write!(f, "undone {count}"),
-            Reply::Refused(refusal) => write!(f, "refused {refusal}"),
-        }
-    }
-}
-
-impl fmt::Display for CallFault {
-    ghost use Rattle.hp_units.specs.Texts.{call_fault_text};
-
-    ghost output = { λ x. Some (call_fault_text x) };
-
-    fn fmt<W: fmt::Write>(&self, f: &mut fmt::Formatter<W>) -> fmt::Result {
-        f.write_str(match self {
-            CallFault::HistoryFull => "HistoryFull",
-            CallFault::OutOfMemory => "OutOfMemory",
-        })
-    }
-}
 
 impl fmt::Display for LayoutFault {
     ghost use Rattle.hp_units.specs.Texts.{layout_fault_text};

@@ -1,8 +1,8 @@
 use crate::layouts::{BOOT, two_blocks};
 use hp_units::{
-    Auto, Block, CallFault, Class, Cpu, Event, Frame, Kind, Layout, LayoutFault, Mark, Mobility,
-    Order, Page, Pageblock, Pool, Refusal, Reply, Row, Serial, State, Wish, Words, Zone, block_of,
-    buddy, is_step, mark_of, number32, number64, pageblock_of,
+    Auto, Block, Class, Cpu, Event, Frame, Kind, Layout, LayoutFault, Mark, Mobility, Order, Page,
+    Pageblock, Pool, Refusal, Reply, Row, Serial, State, Wish, Words, Zone, block_of, buddy,
+    is_step, mark_of, number32, number64, pageblock_of,
 };
 use std::alloc::{AllocError, Global};
 use std::test::Fail;
@@ -114,10 +114,9 @@ fn words_marks_and_replies(rt: HostRuntime) -> Result<(), Fail> {
 
 #[test]
 fn values_are_written(rt: HostRuntime) -> Result<(), Fail> {
-    let refused = Reply::Refused(Refusal::NotFree { frame: Frame(9) });
     let (class, pool, zone, auto) = (Class::IsoN, Pool::Mm, Zone::Movable, Auto::OnlineKernel);
-    let text = format!(in rt.alloc(); "{refused}, {class}, {pool}, {zone}, {auto}")?;
-    assert!(rt; text.as_str() == "refused NotFree 9, IN, MM, movable, online_kernel");
+    let text = format!(in rt.alloc(); "{class}, {pool}, {zone}, {auto}")?;
+    assert!(rt; text.as_str() == "IN, MM, movable, online_kernel");
     Ok(())
 }
 
@@ -125,11 +124,9 @@ fn values_are_written(rt: HostRuntime) -> Result<(), Fail> {
 fn numbers_and_faults_are_written(rt: HostRuntime) -> Result<(), Fail> {
     let (block, cpu, order, page) = (Block(1), Cpu(2), Order(3), Page(4));
     let (pageblock, serial) = (Pageblock(5), Serial(6));
-    let (call, layout) = (CallFault::HistoryFull, LayoutFault::BadMarks);
-    let text = format!(in rt.alloc();
-        "{block}{cpu}{order}{page}{pageblock}{serial} {call} {layout}"
-    )?;
-    assert!(rt; text.as_str() == "123456 HistoryFull BadMarks");
+    let layout = LayoutFault::BadMarks;
+    let text = format!(in rt.alloc(); "{block}{cpu}{order}{page}{pageblock}{serial} {layout}")?;
+    assert!(rt; text.as_str() == "123456 BadMarks");
     Ok(())
 }
 

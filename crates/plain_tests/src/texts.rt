@@ -6,7 +6,7 @@ use hp_plain::Image;
 use hp_requests::ControlFault;
 use hp_text::{
     write_answer, write_call_fault, write_echo_fault, write_plan_end, write_read_fault,
-    write_reply, write_sealed, write_state, write_unrecorded,
+    write_reply, write_reply_words, write_sealed, write_state, write_unrecorded,
 };
 use hp_units::{
     Block, CallFault, Cpu, Event, Frame, OpEnd, Owner, Page, Refusal, Reply, Serial, Text,
@@ -17,7 +17,7 @@ use std::test::Fail;
 
 const ANSWERS: &str =
     "3: frame 8\nrefused Busy 2\n-: fault HistoryFull\nfault OutOfMemory\ncat: fault NoFile\n\
-     echo: fault BadText\nplan: cancelled NoFrame restored\nplan: left - HistoryFull\nsealed 7\n";
+     echo: fault BadText\nplan: cancelled NoFrame restored\nplan: left - HistoryFull\nsealed 7\nmoved 8 3";
 
 /// Writes an answer of each kind.
 fn write_answers(out: &mut String) -> Result<(), AllocError> {
@@ -41,7 +41,14 @@ fn write_answers(out: &mut String) -> Result<(), AllocError> {
             fault: CallFault::HistoryFull,
         },
     )?;
-    write_sealed(out, 7)
+    write_sealed(out, 7)?;
+    write_reply_words(
+        out,
+        Reply::Moved {
+            from: Frame(8),
+            to: Frame(3),
+        },
+    )
 }
 
 #[test]
