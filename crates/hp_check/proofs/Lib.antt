@@ -3,6 +3,7 @@ mod CallsAgree
 mod Each
 mod Fronts
 mod Json
+mod Pieces
 mod RangesAgree
 mod Reported
 mod ShapeParts

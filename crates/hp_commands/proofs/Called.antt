@@ -1,5 +1,6 @@
 -- Lines that are run as they are read.
-use Rattle.std.proofs.Common.{◌≡◌, ℕ, List, [], ◌∷◌, ◌++◌, sym, ap, refl, ◌∙◌, append_assoc, append-nil}
+use Rattle.std.proofs.Common.{◌≡◌, ℕ, List, [], ◌∷◌, ◌++◌, IfOk, IfSome, Option, Some, None, Result, Ok, Err, String, string_bytes, sym, ap, refl, ◌∙◌, append_assoc, append-nil}
+use Rattle.std.specs.declared.alloc.Global.{Global}
 use Rattle.hp_units.specs.LayoutParts.{LayoutParts}
 use Rattle.hp_machine.specs.Machine.{MachineValue, booted}
 use Rattle.hp_plain.specs.Image.{Pictured}
@@ -61,3 +62,13 @@ called_text input start new layout names first m image old out text opened laid 
     lines image old out text (all_read input start new lines opened ran.1) (boot ∙ ap booted same) refl
     none ran.2 pictured
     (e ∙ ap (λ (ns : List (List ℕ)). out ++ state_text image.layout ns image.memory) named)
+
+-- what is a text for every input that was opened so, is one for this input
+pub text_of_opened : {E : Type 0} (input : List ℕ) (calls : Calls) (r : Result (Option (String Global)) E)
+    → IsOpened input calls
+    → IfOk r (λ out. IfSome out
+    (λ out. (i : List ℕ) → IsOpened i calls → IsTextOf i (string_bytes out)))
+    → IfOk r (λ out. IfSome out (λ out. IsTextOf input (string_bytes out)))
+text_of_opened input calls (Ok (Some out)) opened h = h input opened
+text_of_opened input calls (Ok None) opened h = tt
+text_of_opened input calls (Err e) opened h = tt

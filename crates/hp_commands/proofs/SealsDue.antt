@@ -1,5 +1,5 @@
 -- The line of a seal: the state after it.
-use Rattle.std.proofs.Common.{◌≡◌, ℕ, List, refl, sym, subst}
+use Rattle.std.proofs.Common.{ℕ, List, refl, sym, subst}
 use Rattle.hp_units.specs.History.{value_of, net_of, run}
 use Rattle.hp_machine.specs.Machine.{MachineValue, sealed}
 use Rattle.hp_commands.specs.Seals.{WritesSeal}

@@ -1,5 +1,5 @@
 -- From the parts to the whole: what was read, what was made of it, and what was written.
-use Rattle.std.proofs.Common.{◌≡◌, ℕ, ◌<◌, List, [], ◌++◌, length, Option, Some, Result, Ok, Err, sym, ap, subst, ◌∙◌}
+use Rattle.std.proofs.Common.{◌≡◌, ℕ, ◌<◌, List, [], ◌++◌, length, OnOk, Option, Some, Result, Ok, Err, refl, sym, ap, subst, ◌∙◌}
 use Rattle.std.specs.Prelude.{◌⊎◌}
 use Rattle.std.specs.Io.KnownBytes.{Appends, Consumes, IsAtEnd}
 use Rattle.hp_units.specs.Memory.{Memory}
@@ -15,7 +15,7 @@ use Rattle.hp_streams.proofs.Whole.{given}
 use Rattle.hp_streams.specs.declared.reading.ReadFault.{ReadFault}
 use Rattle.hp_streams.specs.declared.reading.ReadFault.TheVariants as reading
 use Rattle.hp_text.specs.State.{state_text}
-use Rattle.hp_commands.specs.Serial.{GrowsBy, IsWhole, WritesLines, end_text, lines_text, scenario_text, serial_text}
+use Rattle.hp_commands.specs.Serial.{GrowsBy, IsWhole, LeavesImage, WritesLines, end_text, lines_text, scenario_text, serial_text}
 use Rattle.hp_commands.proofs.Lines.{AreDue, lines_due, run_is}
 use Rattle.hp_commands.specs.Runs.{IsAuditTextOf, IsRunTextOf, SealsSome, scripts_in}
 use Rattle.hp_commands.specs.Served.{IsTextOf, Serves, WritesTextOf}
@@ -188,3 +188,22 @@ ran_text input s first m xs image old out text read start same none ran pictured
     (e ∙ ap (λ (p : Pictured). out ++ state_text p.layout s.names p.memory) pictured ∙ ap (λ (l : List ℕ). l
     ++ state_text m.layout s.names m.state) grown ∙ ap (λ (memory : Memory). ran.text
     ++ state_text m.layout s.names memory) (run_is s.layout s.lines ran.text m run))
+
+-- the same by the image that the lines leave
+pub image_text : (input : List ℕ) (s : ScenarioValue) (image : Pictured) (old out text : List ℕ)
+    → scenario_in input ≡ Ok s → old ≡ []
+    → GrowsBy old out (λ (lines : List ℕ). LeavesImage (booted s.layout) s.lines lines image)
+    → text ≡ out ++ state_text image.layout s.names image.memory → IsTextOf input text
+image_text input s image old out text read none ran e =
+    ran_text input s (booted s.layout) ran.is.0 s.lines image old out text read refl refl none
+    (record { text = ran.text; grown = ran.grown; is = ran.is.1 }) ran.is.2 e
+
+-- the same where the state's text may not be written
+pub image_text_on : {A E : Type 0} (s : ScenarioValue) (image : Pictured) (r : Result A E)
+    (old out text : List ℕ)
+    → GrowsBy old out (λ (lines : List ℕ). LeavesImage (booted s.layout) s.lines lines image)
+    → OnOk r (text ≡ out ++ state_text image.layout s.names image.memory)
+    → OnOk r (old ≡ [] → (input : List ℕ) → scenario_in input ≡ Ok s → IsTextOf input text)
+image_text_on s image (Ok x) old out text ran e =
+    λ none input read. image_text input s image old out text read none ran e
+image_text_on s image (Err x) old out text ran e = tt

@@ -2,6 +2,7 @@
 use Rattle.std.specs.Prelude.{◌≡◌, ℕ, List, [], ◌∷◌, ◌++◌, codes, Result, Ok}
 use Rattle.hp_units.specs.History.{value_of}
 use Rattle.hp_machine.specs.Machine.{MachineValue, booted, sealed}
+use Rattle.hp_plain.specs.Image.{Pictured}
 use Rattle.hp_scenario.specs.declared.fault.ScenarioFault.{ScenarioFault}
 use Rattle.hp_scenario.specs.declared.lines.Line.{Line}
 use Rattle.hp_scenario.specs.Asked as asks
@@ -92,3 +93,9 @@ pub record GrowsBy (old new : List ℕ) (P : List ℕ → Type 0) : Type 0 where
   pub text : List ℕ
   pub grown : new ≡ old ++ text
   pub is : P text
+
+-- the lines were run one after another, and the image is of the state after them
+abbrev pub LeavesImage : MachineValue → List Line → (text : List ℕ) → Pictured → Type 0
+LeavesImage m lines text image =
+    (new : MachineValue) × WritesLines m lines text new
+    × (image ≡ record { layout = new.layout; memory = new.state })

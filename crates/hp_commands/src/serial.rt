@@ -1,11 +1,13 @@
 //! The text of a scenario.
-ghost use Rattle.std.specs.Prelude.{◌≡◌, [], OnOk, IfOk, IfErr, IfSome, IsTrue, string_bytes};
+ghost use Rattle.std.specs.Prelude.{◌≡◌, ℕ, List, [], ◌++◌, Ok, OnOk, IfOk, IfErr, IfSome, IsTrue, string_bytes};
 ghost use Rattle.hp_machine.specs.Machine.{booted};
+ghost use Rattle.hp_scenario.specs.Calls.{IsOpened};
 ghost use Rattle.hp_scenario.specs.Gives.{Fails, Gives};
 ghost use Rattle.hp_scenario.specs.Scenario.{scenario_in};
 ghost use Rattle.hp_scenario.specs.Seen.{asked_seen, scenario_seen};
+ghost use Rattle.hp_text.specs.State.{state_text};
 ghost use Rattle.hp_commands.specs.Called.{WritesAll};
-ghost use Rattle.hp_commands.specs.Serial.{GrowsBy, WritesAsked, WritesLine, WritesLines, serial_text};
+ghost use Rattle.hp_commands.specs.Serial.{GrowsBy, LeavesImage, WritesAsked, WritesLine, WritesLines, serial_text};
 ghost use Rattle.hp_commands.specs.Served.{IsTextOf};
 
 use crate::events::write_event;
@@ -13,7 +15,8 @@ use crate::files::write_file;
 use crate::plans::write_plan;
 use crate::seals::write_seal;
 use hp_machine::UnrecordedMachine;
-use hp_scenario::{Asked, Calls, Line, Next, Scenario, ScenarioFault};
+use hp_plain::Image;
+use hp_scenario::{Asked, Calls, Line, Lines, Next, Scenario, ScenarioFault};
 use hp_text::{write_echo_fault, write_state};
 use hp_units::{Cpu, Layout};
 use std::alloc::{AllocError, Global};
@@ -41,18 +44,45 @@ fn usual_text(alloc: Global, input: &[u8]) -> Result<Option<String>, AllocError>
     let Some(mut calls) = Calls::open(alloc, input)? else {
         return Ok(None);
     };
-    let count = input.len() / 16;
+    calls_text(alloc, &mut calls, input.len() / 16)
+}
+
+/// The text of a scenario of which no line was taken yet, with no fault: its lines are run as they
+/// are read, on a machine with room for so many. None says nothing.
+fn calls_text(
+    alloc: Global,
+    calls: &mut Calls<'_>,
+    count: usize,
+) -> Result<Option<String>, AllocError>
+    ensures { IfOk result (λ out. IfSome out
+        (λ out. (input : List ℕ) → IsOpened input calls.old → IsTextOf input (string_bytes out))) }
+{
     let mut machine = boot(alloc, calls.layout(), count)?;
     let mut out = room_for(alloc, count)?;
-    if !write_calls(&mut out, alloc, &mut machine, &mut calls)? {
+    if !write_calls(&mut out, alloc, &mut machine, calls)? {
         return Ok(None);
     }
-    let end = machine.image(alloc)?;
-    write_state(&mut out, alloc, &end, calls.names())?;
-    // The program ends after this text: what these hold in many pieces is not given back one by one.
-    forget(end);
+    write_end(&mut out, alloc, &machine, calls)?;
+    // The program ends after this text: what this holds in many pieces is not given back one by one.
     forget(machine);
     Ok(Some(out))
+}
+
+/// Writes the state of a machine, with the names that the lines have.
+fn write_end(
+    out: &mut String,
+    alloc: Global,
+    machine: &UnrecordedMachine,
+    calls: &Calls<'_>,
+) -> Result<(), AllocError>
+    ensures { OnOk result (string_bytes out.new ≡ string_bytes out.old
+        ++ state_text machine.now.layout calls.now.names.keys machine.now.state) }
+{
+    let end = machine.image(alloc)?;
+    write_state(out, alloc, &end, calls.names())?;
+    // As the machine.
+    forget(end);
+    Ok(())
 }
 
 /// Runs lines as they are read, and writes what each answers; whether these were all, and there is
@@ -94,19 +124,50 @@ fn any_text(alloc: Global, input: Vec<u8>) -> Result<String, ScenarioFault>
     ensures ok { IfOk result (λ out. IsTextOf input.items (string_bytes out)) }
     ensures err { IfErr result (λ fault. Fails fault (serial_text input.items)) }
 {
+    let scenario = read_scenario(alloc, input)?;
+    Ok(scenario_text(alloc, scenario)?)
+}
+
+/// The text of a scenario that was read. Its lines are dropped once they are run.
+fn scenario_text(alloc: Global, scenario: Scenario) -> Result<String, AllocError>
+    ensures { IfOk result (λ out. (input : List ℕ) → scenario_in input ≡ Ok (scenario_seen scenario)
+        → IsTextOf input (string_bytes out)) }
+{
+    let mut out = room_for(alloc, scenario.lines.as_slice().len())?;
+    write_scenario(&mut out, alloc, scenario)?;
+    Ok(out)
+}
+
+/// Writes the text of a scenario that was read, as the first of all.
+fn write_scenario(out: &mut String, alloc: Global, scenario: Scenario) -> Result<(), AllocError>
+    ensures { OnOk result (string_bytes out.old ≡ [] → (input : List ℕ)
+        → scenario_in input ≡ Ok (scenario_seen scenario) → IsTextOf input (string_bytes out.new)) }
+{
     let Scenario {
         layout,
         names,
         lines,
-    } = read_scenario(alloc, input)?;
-    let count = lines.as_slice().len();
-    let mut machine = boot(alloc, &layout, count)?;
-    let mut out = room_for(alloc, count)?;
-    write_lines(&mut out, alloc, &mut machine, lines.as_slice())?;
+    } = scenario;
+    let image = run_lines(out, alloc, &layout, lines)?;
+    write_state(out, alloc, &image, &names)
+}
+
+/// Runs lines on the machine of a layout at its start, and writes what each answers. It answers
+/// the state after them.
+fn run_lines(
+    out: &mut String,
+    alloc: Global,
+    layout: &Layout,
+    lines: Lines,
+) -> Result<Image, AllocError>
+    ensures { IfOk result (λ image. GrowsBy (string_bytes out.old) (string_bytes out.new)
+        (λ text. LeavesImage (booted layout.now) lines text image)) }
+{
+    let mut machine = boot(alloc, layout, lines.as_slice().len())?;
+    write_lines(out, alloc, &mut machine, lines.as_slice())?;
     drop(lines);
     let image = machine.image(alloc)?;
-    write_state(&mut out, alloc, &image, &names)?;
-    Ok(out)
+    Ok(image)
 }
 
 /// The machine of a layout at its start, which keeps no records since no line shows one, with room for two

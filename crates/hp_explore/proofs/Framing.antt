@@ -8,7 +8,7 @@ use Rattle.hp_units.specs.declared.replies.Record.{Record}
 use Rattle.hp_explore.specs.Faults.{is_full_after}
 use Rattle.hp_explore.specs.Frames.{AreBelow, AreWalked, IsAdded, IsEntered, IsEnteredWithin, IsFrame, IsFresh, kept_of, path_of}
 use Rattle.hp_explore.specs.declared.frames.Kept.{Kept}
-use Rattle.hp_explore.specs.Parts.{ComesTo, IsOfPart, IsOn, NoneOfPart, PartValue}
+use Rattle.hp_explore.specs.Parts.{AllOfPart, ComesTo, IsOfPart, IsOn, NoneOfPart, PartValue}
 use Rattle.hp_explore.specs.Paths.{IsBack, PathValue}
 use Rattle.hp_explore.specs.Schedules.{Setting, next_call, plays, record_of_call, schedule_of}
 use Rattle.hp_explore.specs.Seen.{AddsShares, Grow}
@@ -19,7 +19,7 @@ use Rattle.hp_explore.specs.declared.frames.Frame.{Frame}
 use Rattle.hp_explore.specs.declared.rows.Share.{Share}
 use Rattle.hp_explore.specs.declared.tally.Ending.{Ending}
 use Rattle.hp_explore.proofs.Grown.{grow_none, grow_twice}
-use Rattle.hp_explore.proofs.OfPart.{comes_on, none_of}
+use Rattle.hp_explore.proofs.OfPart.{all_of, comes_on, none_of}
 use Rattle.hp_explore.proofs.Rooms.{done_apart, done_begins, done_down, done_over, done_past}
 use Rattle.hp_explore.proofs.Walking.{over_next}
 
@@ -177,6 +177,20 @@ left_out g part news records n ends is many long apart walked = (
       (λ of. apart (subst (λ (k : ℕ). IsOfPart k part (schedule_of records)) (sym many) of)))) walked,
   grow_none ends,
 )
+
+-- or all that go on from there do
+pub let_in : (p : PathValue) (part : PartValue) (records : List Record) (n : ℕ) (old new : List Ending)
+    (entry : Entry)
+    → records ≡ p.news → n ≡ length p.setting.scripts → part.calls ≤ length records
+    → IsOfPart n part (schedule_of records) → IsPartWalkedBefore p.setting part (schedule_of p.news) old
+    → IsEnteredWithin p old new entry → IsEntered p part old new entry
+let_in p part records n old new entry is many long of walked within =
+    within part
+    (subst (λ (h : List Record). AllOfPart (length p.setting.scripts) part (schedule_of h)) is
+    (all_of (length p.setting.scripts) part (schedule_of records)
+    (omega (arith, long, length-map records (λ (r : Record). r.cpu)))
+    (subst (λ (k : ℕ). IsOfPart k part (schedule_of records)) many of)))
+    walked
 
 -- or nothing is
 pub bare_fresh : (ends : List Ending) (frame : Frame)

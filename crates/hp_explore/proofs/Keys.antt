@@ -17,7 +17,7 @@ use Rattle.hp_explore.specs.Numbers.{AreNamed, IsNumbered, IsStateAt}
 use Rattle.hp_explore.specs.Openings.{AreOpen, NumberedOpening}
 use Rattle.hp_explore.specs.Schedules.{Setting, next_call, play_one, plays, record_of_call, schedule_of}
 use Rattle.hp_explore.specs.Scripts.{own_operation}
-use Rattle.hp_explore.specs.Standing.{IsKey, IsPart, KeepMeanings, StandingValue}
+use Rattle.hp_explore.specs.Standing.{AddsParts, IsBegunKey, IsKey, IsPart, IsStanding, KeepMeanings, StandingValue}
 use Rattle.hp_explore.proofs.Exchanged.{exchanges_other, exchanges_own}
 use Rattle.hp_explore.proofs.Numbered.{named_once, number_kept, state_kept}
 use Rattle.hp_explore.proofs.Plays.{asks_within, from_news, plays_one, stays_none}
@@ -45,14 +45,6 @@ key_kept g old new news key keep is = record {
 }
 
 -- ---- a key that is made
-
--- with the parts of the processors below a number
-pub record IsBegunKey (s : StandingValue) (news : List Record) (state openings cpus : ℕ)
-    (key : List ℕ) : Type 0 where
-  pub long : length key ≡ 2 * cpus + 2
-  pub state_first : slice_get key 0 ≡ Some state
-  pub openings_next : slice_get key 1 ≡ Some openings
-  pub parts : (cpu : ℕ) → cpu < cpus → IsPart s cpu news key
 
 pub key_begun : (s : StandingValue) (news : List Record) (state openings : ℕ) (old key : List ℕ)
     → old ≡ [] → key ≡ old ++ state ∷ openings ∷ [] → IsBegunKey s news state openings 0 key
@@ -145,6 +137,18 @@ key_whole g s news state openings cpus key many state_is openings_are begun = re
   parts = λ cpu within. begun.parts cpu (omega (arith, within, many));
   long = omega (arith, begun.long, many);
 }
+
+-- begun with the numbers of where a walk stands
+pub key_made : (g : Setting) (s : StandingValue) (news : List Record) (state openings cpus : ℕ)
+    (old first key : List ℕ)
+    → cpus ≡ length g.scripts → s.here.state ≡ Some state → s.here.openings ≡ Some openings
+    → IsStanding g news s → old ≡ [] → first ≡ old ++ state ∷ openings ∷ []
+    → AddsParts s news cpus first key → IsKey g s news key
+key_made g s news state openings cpus old first key many state_is openings_are stands none is more =
+    key_whole g s news state openings cpus key many
+    (subst (IsStateAt g s.codes news) state_is stands.stops.1)
+    (subst (IsNumbered g s.codes s.lists news) openings_are stands.stops.0)
+    (more state openings (key_begun s news state openings old first none is))
 
 -- ---- how many calls there were follows from the exchanges
 

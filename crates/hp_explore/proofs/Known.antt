@@ -1,5 +1,5 @@
 -- The digests of the ends have places.
-use Rattle.std.proofs.Common.{◌≡◌, ℕ, ◌+◌, true, false, List, [], ◌∷◌, ◌++◌, set, get_or, Some, None, slice_get, refl, ap, sym, subst, ◌∙◌, inl, inr, is_some}
+use Rattle.std.proofs.Common.{◌≡◌, ℕ, ◌+◌, true, false, List, [], ◌∷◌, ◌++◌, set, Some, None, slice_get, refl, ap, sym, subst, ◌∙◌, inl, inr, is_some}
 use Rattle.std.specs.Prelude.{fold, nat_eq}
 use Rattle.std.proofs.lemmas.List.Sums.{fold-append}
 use Rattle.indexmap.specs.IndexMap.{ContainsKey, IndexMap, get}
@@ -7,10 +7,10 @@ use Rattle.hp_units.specs.declared.replies.Record.{Record}
 use Rattle.hp_laws.proofs.Lists.{get_push_cases}
 use Rattle.hp_explore.specs.declared.tally.Ending.{Ending}
 use Rattle.hp_explore.specs.Digests.{digest_of, mixed, mixed_replies, mixed_reply, replies_digest}
-use Rattle.hp_explore.specs.Notes.{AreKnown, HasEndAt, HasNoEnd}
+use Rattle.hp_explore.specs.Notes.{AreKnown, HasNoEnd}
 use Rattle.hp_explore.specs.Outcomes.{OutcomeValue, replies_below, replies_to}
 use Rattle.hp_explore.proofs.Counts.{get_set_cases}
-use Rattle.hp_explore.proofs.Places.{bumped, replies_more, was_read}
+use Rattle.hp_explore.proofs.Places.{replies_more}
 
 -- the digest of one processor more
 pub digest_more : (news : List Record) (cpu digest part next : ℕ)
@@ -43,16 +43,6 @@ known_set ends place e more latest here same known k f h =
           (ap digest_of (sym same) ∙ ap (λ (g : Ending). digest_of g.outcome) now.1) (known place e here)
       | inr old ↦ known k f old.1
     ]
-
-pub known_again : {S : Type 0} (ends shown : List Ending) (place : ℕ) (e : Ending) (x : OutcomeValue)
-    (latest : IndexMap ℕ ℕ S)
-    → shown ≡ ends → HasEndAt shown x place → e ≡ get_or ends place e → AreKnown ends latest
-    → AreKnown (set ends place (bumped e)) latest
-known_again ends shown place e x latest same at read known =
-    let here : slice_get ends place ≡ Some at.0 =
-    subst (λ (xs : List Ending). slice_get xs place ≡ Some at.0) same at.1 in
-    known_set ends place at.0 (bumped e) latest here
-    (ap (λ (g : Ending). g.outcome) (was_read ends place e at.0 here read)) known
 
 -- and one that is added
 pub known_first : {S : Type 0} (ends new : List Ending) (entry : Ending) (x : OutcomeValue) (digest : ℕ)

@@ -1,26 +1,27 @@
 -- A machine that is a call further than another, and the one where the scripts begin.
-use Rattle.std.proofs.Common.{◌≡◌, ℕ, ◌+◌, Bool, true, false, List, [], ◌∷◌, ◌++◌, length, drop, Option, Some, slice_get, refl, ap, sym, subst, ◌∙◌, arith}
+use Rattle.std.proofs.Common.{◌≡◌, ℕ, ◌+◌, ◌≤◌, Bool, true, false, List, [], ◌∷◌, ◌++◌, length, drop, Option, Some, slice_get, refl, ap, sym, subst, ◌∙◌, arith}
 use Rattle.std.specs.Prelude.{◌||◌, Result, Ok, Err, IsTrue, nat_le, option_and_then}
-use Rattle.std.proofs.lemmas.List.{append-nil, append_assoc, length_push, map-append}
+use Rattle.std.proofs.lemmas.List.{append-nil, append_assoc, length-append, length_push, map-append}
 use Rattle.std.proofs.Math.Seq.{drop-length}
 use Rattle.hp_units.specs.LayoutParts.{LayoutParts}
 use Rattle.hp_units.specs.Memory.{Memory}
-use Rattle.hp_units.specs.History.{reply_of}
+use Rattle.hp_units.specs.History.{reply_of, value_of}
 use Rattle.hp_units.specs.Receipts.{receipts_of}
 use Rattle.hp_units.specs.declared.events.Event.{Event}
 use Rattle.hp_units.specs.declared.replies.CallFault.{CallFault}
 use Rattle.hp_units.specs.declared.replies.CallFault.TheVariants.{HistoryFull as CallFull, OutOfMemory as CallMemory}
 use Rattle.hp_units.specs.declared.replies.Receipt.{Receipt}
 use Rattle.hp_units.specs.declared.replies.Record.{Record}
-use Rattle.hp_machine.specs.Machine.{IsCalled, MachineValue, is_full, record_of}
+use Rattle.hp_machine.specs.Machine.{IsCalled, IsHistory, MachineValue, is_full, record_of}
 use Rattle.hp_machine.proofs.Machines.{room}
+use Rattle.hp_steps.specs.Steps.{StepsValue}
 use Rattle.hp_explore.specs.declared.exploring.ExploreFault.TheVariants.{HistoryFull}
 use Rattle.hp_explore.specs.declared.scripts.Line.{Line}
 use Rattle.hp_explore.specs.Faults.{IsCause, is_full_after}
 use Rattle.hp_explore.specs.Notes.{fault_of}
 use Rattle.hp_explore.specs.Schedules.{Setting, next_call, plays, record_of_call, schedule_of, setting}
 use Rattle.hp_explore.specs.Scripts.{next_of}
-use Rattle.hp_explore.specs.Walks.{FillsAt, IsFurther, IsReached, news_in, place_of}
+use Rattle.hp_explore.specs.Walks.{FillsAt, IsAt, IsFurther, IsReached, news_in, place_of}
 use Rattle.hp_explore.proofs.Plays.{plays_push, recorded}
 
 -- the event that a processor's script asks for
@@ -135,6 +136,24 @@ reached_start m scripts = record {
   where
     none : drop (length m.history) m.history ≡ []
     none = drop-length m.history
+
+-- a machine where a schedule leads to has no fewer records than the one where the scripts begin
+pub no_fewer : (g : Setting) (m : MachineValue) → IsReached g m → length g.start ≤ length m.history
+no_fewer g m here = omega (arith, ap length here.history, length-append g.start (news_in g m))
+
+-- and steps from it are there
+pub at_machine : (g : Setting) (m : MachineValue) (steps : StepsValue) → IsReached g m → IsHistory m
+    → steps ≡ record { layout = m.layout; state = m.state; deltas = []; records = news_in g m } → IsAt g steps
+at_machine g m steps here kept is =
+    subst (IsAt g) (sym is) (record {
+      layout = here.layout;
+      played = here.played;
+      state =
+          kept.state
+          ∙ (ap (λ (l : LayoutParts). value_of l m.base m.history) here.layout
+          ∙ (ap (λ (s : Memory). value_of g.layout s m.history) here.base
+          ∙ ap (λ (h : List Record). value_of g.layout g.base h) here.history));
+    })
 
 -- the place where they begin
 pub start_place : (m : MachineValue) (scripts : List (List Line)) → place_of (setting m scripts) m ≡ []

@@ -1,10 +1,10 @@
 -- The end with an outcome, in the ends up to a place.
-use Rattle.std.proofs.Common.{◌≡◌, ℕ, ◌+◌, ◌<◌, ◌≤◌, List, [], ◌∷◌, ◌++◌, length, take, set, get_or, Some, slice_get, refl, ap, sym, subst, ◌∙◌, arith, inl, inr}
+use Rattle.std.proofs.Common.{◌≡◌, ℕ, ◌+◌, ◌<◌, ◌≤◌, List, [], ◌∷◌, ◌++◌, length, take, Some, slice_get, ap, sym, subst, ◌∙◌, arith, inl, inr}
 use Rattle.std.specs.Prelude.{sum_by}
 use Rattle.std.proofs.lemmas.List.{take_all}
 use Rattle.std.proofs.lemmas.List.FromFn.{map-range_with_len_more}
-use Rattle.std.proofs.lemmas.List.Sums.{get_or-le-sum_by, sum_by-set, sum_by_push}
-use Rattle.std.proofs.lemmas.Option.{get_or_from_slice_get, slice_get_within}
+use Rattle.std.proofs.lemmas.List.Sums.{sum_by_push}
+use Rattle.std.proofs.lemmas.Option.{same_Some}
 use Rattle.hp_units.specs.Memory.{Memory}
 use Rattle.hp_units.specs.declared.replies.Record.{Record}
 use Rattle.hp_units.specs.declared.replies.Reply.{Reply}
@@ -12,7 +12,8 @@ use Rattle.hp_units.specs.declared.rows.Row.{Row}
 use Rattle.hp_laws.proofs.Lists.{get_push_cases}
 use Rattle.hp_laws.proofs.Replays.{take_one}
 use Rattle.hp_explore.specs.declared.tally.Ending.{Ending}
-use Rattle.hp_explore.specs.Notes.{HasEndAt, HasNoEnd, IsNoted}
+use Rattle.hp_explore.specs.Notes.{AddsEnd, AddsOne, HasEndAt, HasNoEnd}
+use Rattle.hp_explore.specs.Seen.{AddsAt}
 use Rattle.hp_explore.specs.Outcomes.{OutcomeValue, ended_row, ended_rows_below, outcome_with, replies_below, replies_to}
 
 -- no end up to the next place has the outcome
@@ -61,73 +62,39 @@ outcome_told all rows x processors news is replies = is ∙ ap (told_so rows) re
     told_so : List Row → List (List Reply) → OutcomeValue
     told_so rows all = record { replies = all; blocks = rows }
 
--- an end with one schedule more
-abbrev pub bumped : Ending → Ending
-bumped e = record { outcome = e.outcome; count = e.count + 1; first = e.first }
-
--- the end that was read is the one at the place
-pub was_read : (ends : List Ending) (place : ℕ) (e x : Ending) → slice_get ends place ≡ Some x
-    → e ≡ get_or ends place e → e ≡ x
-was_read ends place e x here read = read ∙ get_or_from_slice_get ends place x e here
+-- an end in a list that is shown
+pub end_shown : (shown ends : List Ending) (x : OutcomeValue) (place : ℕ) → shown ≡ ends
+    → HasEndAt shown x place → HasEndAt ends x place
+end_shown shown ends x place same at = subst (λ (es : List Ending). HasEndAt es x place) same at
 
 -- the end at a place counts one more
-pub added_again : (ends shown : List Ending) (place : ℕ) (e : Ending) (x : OutcomeValue) (schedule : List ℕ)
-    → shown ≡ ends → HasEndAt shown x place → e ≡ get_or ends place e
-    → IsNoted ends x schedule (set ends place (bumped e))
-added_again ends shown place e x schedule same at read =
-    let here : slice_get ends place ≡ Some at.0 =
-    subst (λ (xs : List Ending). slice_get xs place ≡ Some at.0) same at.1 in
-    let is : e ≡ at.0 = was_read ends place e at.0 here read in
-    inl (record {
-      at = place;
-      entry = at.0;
-      more = bumped e;
-      here = here;
-      same = at.2;
-      outcome_is = ap (λ (f : Ending). f.outcome) is;
-      count = ap (λ (f : Ending). f.count + 1) is;
-      first = ap (λ (f : Ending). f.first.items) is;
-      new_is = refl;
-    })
-
--- the total is one more, within the limit
-pub total_again : (ends shown : List Ending) (place total limit : ℕ) (e : Ending) (x : OutcomeValue)
-    → shown ≡ ends → HasEndAt shown x place → e ≡ get_or ends place e
-    → total ≡ sum_by (λ (f : Ending). f.count) ends → total < limit
-    → (total + 1 ≡ sum_by (λ (f : Ending). f.count) (set ends place (bumped e))) × (total + 1 ≤ limit)
-total_again ends shown place total limit e x same at read is less =
-    let here : slice_get ends place ≡ Some at.0 =
-    subst (λ (xs : List Ending). slice_get xs place ≡ Some at.0) same at.1 in
-    let within : place < length ends = slice_get_within ends place at.0 here in
-    let was = ap (λ (f : Ending). f.count) read in
-    (omega (arith, sum_by-set (λ (f : Ending). f.count) ends place (bumped e) e within, was, is), omega arith)
-
--- the end at a place counts no more than all
-pub count_below : (ends shown : List Ending) (place total limit : ℕ) (e : Ending) (x : OutcomeValue)
-    → shown ≡ ends → HasEndAt shown x place → e ≡ get_or ends place e
-    → total ≡ sum_by (λ (f : Ending). f.count) ends → total < limit → e.count + 1 ≤ limit
-count_below ends shown place total limit e x same at read is less =
-    let here : slice_get ends place ≡ Some at.0 =
-    subst (λ (xs : List Ending). slice_get xs place ≡ Some at.0) same at.1 in
-    let within : place < length ends = slice_get_within ends place at.0 here in
-    let was = ap (λ (f : Ending). f.count) read in
-    omega (arith, get_or-le-sum_by (λ (f : Ending). f.count) ends place e within, was, is)
+pub adds_one : (old new : List Ending) (x : OutcomeValue) (place : ℕ) → HasEndAt old x place
+    → AddsAt old place 1 new → AddsOne old x new
+adds_one old new x place at adds = record {
+  at = place;
+  entry = adds.entry;
+  more = adds.more;
+  here = adds.here;
+  same = ap (λ (f : Ending). f.outcome) (same_Some adds.entry at.0 (sym adds.here ∙ at.1)) ∙ at.2;
+  outcome_is = adds.outcome_is;
+  count = adds.count_is;
+  first = adds.first;
+  new_is = adds.new_is;
+}
 
 -- an end is added
-pub added_first : (ends shown : List Ending) (entry : Ending) (new : List Ending) (x shown_x : OutcomeValue)
+pub added_end : (ends : List Ending) (entry : Ending) (new : List Ending) (x : OutcomeValue)
     (schedule : List ℕ)
-    → shown ≡ ends → shown_x ≡ x → HasNoEnd shown shown_x → entry.outcome ≡ x → entry.count ≡ 1
-    → entry.first.items ≡ schedule
-    → new ≡ ends ++ entry ∷ [] → IsNoted ends x schedule new
-added_first ends shown entry new x shown_x schedule same same_x none outcome_is count first is =
-    inr (record {
-      entry = entry;
-      none = subst (λ (xs : List Ending). HasNoEnd xs x) same (subst (HasNoEnd shown) same_x none);
-      outcome_is = outcome_is;
-      count = count;
-      first = first;
-      new_is = is;
-    })
+    → HasNoEnd ends x → entry.outcome ≡ x → entry.count ≡ 1 → entry.first.items ≡ schedule
+    → new ≡ ends ++ entry ∷ [] → AddsEnd ends x schedule new
+added_end ends entry new x schedule none outcome_is count first is = record {
+  entry = entry;
+  none = none;
+  outcome_is = outcome_is;
+  count = count;
+  first = first;
+  new_is = is;
+}
 
 pub total_first : (ends new : List Ending) (entry : Ending) (total limit : ℕ) → entry.count ≡ 1
     → new ≡ ends ++ entry ∷ [] → total ≡ sum_by (λ (f : Ending). f.count) ends → total < limit

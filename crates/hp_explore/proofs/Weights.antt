@@ -1,7 +1,8 @@
 -- A turn leaves less of a walk.
-use Rattle.std.proofs.Common.{◌≡◌, ℕ, suc, ◌+◌, ◌-◌, ◌*◌, ◌^◌, ◌<◌, ◌≤◌, List, ◌∷◌, length, ap, sym, ◌∙◌, arith}
+use Rattle.std.proofs.Common.{◌≡◌, ℕ, suc, ◌+◌, ◌-◌, ◌*◌, ◌^◌, ◌<◌, ◌≤◌, List, ◌∷◌, length, ap, subst, sym, ◌∙◌, arith}
 use Rattle.std.proofs.Math.Nat.{mul-lt-mul_of_pos_right, one-le-pow, pow-suc}
 use Rattle.hp_explore.specs.Frames.{digits, left_of}
+use Rattle.hp_explore.specs.Schedules.{Setting}
 use Rattle.hp_explore.specs.declared.frames.Frame.{Frame}
 
 scaled : (a b e : ℕ) → a < b → 0 < e → a * e < b * e
@@ -46,6 +47,18 @@ pub led_left : (n most : ℕ) (frames : List Frame) (frame later : Frame) → fr
 led_left n most frames frame later less is =
     let digit : digits n (later ∷ frames) + 1 ≡ digits n (frame ∷ frames) = omega (arith, is, less) in
     ap (λ (d : ℕ). d * (n + 2) ^ (most + 1 - suc (length frames))) digit
+
+-- and less once its place was come to
+pub left_led : (n : ℕ) (g h : Setting) (frames all : List Frame) (frame later : Frame) (after : ℕ)
+    → h ≡ g → all ≡ later ∷ frames → frame.next < n → later.next ≡ frame.next + 1
+    → after < (digits n all + 1) * (n + 2) ^ (h.layout.history + 1 - length all)
+    → after < left_of n g.layout.history (frame ∷ frames)
+left_led n g h frames all frame later after same pushed less is so_far =
+    subst (λ (k : ℕ). after < k)
+    (ap (λ (x : Setting). (digits n all + 1) * (n + 2) ^ (x.layout.history + 1 - length all)) same
+    ∙ (ap (λ (fs : List Frame). (digits n fs + 1) * (n + 2) ^ (g.layout.history + 1 - length fs)) pushed
+    ∙ led_left n g.layout.history frames frame later less is))
+    so_far
 
 -- the place gets its frame
 pub left_opened : (n most : ℕ) (frames : List Frame) (frame : Frame) → frame.next ≡ 0

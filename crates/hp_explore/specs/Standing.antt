@@ -42,6 +42,19 @@ pub record IsPart (s : StandingValue) (cpu : ℕ) (news : List Record) (key : Li
   pub exchanged : IsExchanged s.exchanged.chains cpu news number
   pub second : slice_get key (2 * cpu + 3) ≡ Some (own_operation (receipts_of cpu news))
 
+-- a key that is begun: with the parts of the processors below a number
+pub record IsBegunKey (s : StandingValue) (news : List Record) (state openings cpus : ℕ)
+    (key : List ℕ) : Type 0 where
+  pub long : length key ≡ 2 * cpus + 2
+  pub state_first : slice_get key 0 ≡ Some state
+  pub openings_next : slice_get key 1 ≡ Some openings
+  pub parts : (cpu : ℕ) → cpu < cpus → IsPart s cpu news key
+
+-- what comes after a key that is begun makes it one with the parts of so many processors
+abbrev pub AddsParts : StandingValue → (news : List Record) → (cpus : ℕ) → (old new : List ℕ) → Type 0
+AddsParts s news cpus old new =
+    (state openings : ℕ) → IsBegunKey s news state openings 0 old → IsBegunKey s news state openings cpus new
+
 -- a key of the place after new records: the number of the state, that of what Cancels can take back,
 -- and a part for each of the scripts' processors
 pub record IsKey (g : Setting) (s : StandingValue) (news : List Record) (key : List ℕ) : Type 0 where

@@ -1,11 +1,14 @@
 //! Digests by which places and ends are found. What is found is compared; of ends it is proved that
 //! the same have the same digest.
-ghost use Rattle.std.specs.Prelude.{◌≡◌, fold};
+ghost use Rattle.std.specs.Prelude.{◌≡◌, ℕ, OnOk, fold, nat_eq};
+ghost use Rattle.indexmap.specs.IndexMap.{ContainsKey};
 ghost use Rattle.hp_explore.specs.Digests.{digest_of, mixed, mixed_reply, refusal_number, replies_digest, reply_number, row_number, state_number, zone_number};
 ghost use Rattle.hp_explore.specs.Outcomes.{outcome_with, replies_below, replies_to};
 
 use crate::outcomes::told;
 use hp_units::{Cpu, Record, Refusal, Reply, Row, State, Zone};
+use indexmap::IndexMap;
+use std::alloc::AllocError;
 
 /// A digest of a place's key.
 pub(crate) fn key_digest(key: &[u32]) -> u64 {
@@ -14,6 +17,22 @@ pub(crate) fn key_digest(key: &[u32]) -> u64 {
         digest = mixed(digest, u64::from(*number));
     }
     digest
+}
+
+/// Notes what has a digest, by its number. An error is out of memory; each digest that was known
+/// stays known.
+pub(crate) fn learn(
+    latest: &mut IndexMap<u64, usize>,
+    digest: u64,
+    number: usize,
+) -> Result<(), AllocError>
+    ensures kept { (d : ℕ) → ContainsKey nat_eq latest.old d → ContainsKey nat_eq latest.new d }
+    ensures ok { OnOk result (ContainsKey nat_eq latest.new digest) }
+{
+    match latest.insert(digest, number) {
+        Ok(_earlier) => Ok(()),
+        Err(_failed) => Err(AllocError),
+    }
 }
 
 /// A digest of how a schedule ends: of the replies of so many processors among records, and of the

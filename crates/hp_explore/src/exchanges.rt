@@ -7,7 +7,7 @@ ghost use Rattle.hp_explore.specs.Exchanges.{AreExchanged, IsBefore, IsChained, 
 ghost use Rattle.hp_explore.specs.Numbers.{IsMadeOf, KeepNumbers};
 ghost use Rattle.hp_explore.specs.Schedules.{Setting};
 
-use crate::digests::{mixed, reply_number};
+use crate::digests::{learn, mixed, reply_number};
 use hp_units::{Cpu, Event, Record, Reply};
 use indexmap::IndexMap;
 use std::alloc::{AllocError, Global};
@@ -99,20 +99,16 @@ impl Chains {
         if let Some(number) = self.found(digest, below, latest) {
             return Ok(number);
         }
-        let event = latest.event.copy(alloc)?;
         self.entries.reserve(1)?;
         let number = self.entries.len() + 1;
-        match self.latest.insert(digest, number) {
-            Ok(_earlier) => {
-                self.entries.push_reserved(Exchange {
-                    event,
-                    reply: latest.reply,
-                    below,
-                });
-                Ok(number)
-            }
-            Err(_failed) => Err(AllocError),
-        }
+        learn(&mut self.latest, digest, number)?;
+        let event = latest.event.copy(alloc)?;
+        self.entries.push_reserved(Exchange {
+            event,
+            reply: latest.reply,
+            below,
+        });
+        Ok(number)
     }
 
     /// The number of such a chain, where the latest of its digest is one.

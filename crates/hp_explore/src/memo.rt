@@ -8,7 +8,7 @@ ghost use Rattle.hp_explore.specs.Seen.{AreNoMore, AreSamePlaces, IsKeptMore, Is
 ghost use Rattle.hp_explore.specs.Standing.{AreSameNumbers, IsKey, KeepMeanings};
 ghost use Rattle.hp_explore.specs.declared.tally.Ending.{Ending};
 
-use crate::digests::key_digest;
+use crate::digests::{key_digest, learn};
 use crate::path::Path;
 use crate::rows::{Rows, Share};
 use crate::standing::Standing;
@@ -184,10 +184,7 @@ impl Memo {
         let place = self.rows.len();
         self.keys.extend_from_slice(self.key.as_slice())?;
         self.rows.push(self.shares.as_slice())?;
-        match self.latest.insert(digest, place) {
-            Ok(_earlier) => Ok(()),
-            Err(_failed) => Err(AllocError),
-        }
+        learn(&mut self.latest, digest, place)
     }
 }
 

@@ -4,7 +4,7 @@ ghost use Rattle.std.specs.Prelude.{◌≡◌, ◌∷◌, ◌<◌, ◌≤◌, []
 ghost use Rattle.hp_explore.specs.Numbers.{IsBegun, IsEntryOf, IsInFront, IsMadeBy, KeepNumbers, NumbersOn};
 ghost use Rattle.hp_explore.specs.Openings.{NumberedOpening, after_cancel, after_work, change_by, change_of};
 
-use crate::digests::mixed;
+use crate::digests::{learn, mixed};
 use hp_units::{Event, Record, Reply, Serial};
 use indexmap::IndexMap;
 use std::alloc::{AllocError, Global};
@@ -130,13 +130,9 @@ impl Openings {
         }
         self.entries.reserve(1)?;
         let number = self.entries.len() + 1;
-        match self.latest.insert(digest, number) {
-            Ok(_earlier) => {
-                self.entries.push_reserved(Entry { op, state, below });
-                Ok(number)
-            }
-            Err(_failed) => Err(AllocError),
-        }
+        learn(&mut self.latest, digest, number)?;
+        self.entries.push_reserved(Entry { op, state, below });
+        Ok(number)
     }
 
     /// The number of such a list, where the latest of its digest is one.

@@ -6,7 +6,7 @@ ghost use Rattle.hp_units.specs.History.{effect_of, value_of};
 ghost use Rattle.hp_units.specs.declared.replies.Record.{Record as NewRecord};
 ghost use Rattle.hp_explore.specs.Alike.{leaves_steps};
 ghost use Rattle.hp_explore.specs.Schedules.{Setting};
-ghost use Rattle.hp_explore.specs.Standing.{AreSameNumbers, IsKey, IsStanding, KeepMeanings};
+ghost use Rattle.hp_explore.specs.Standing.{AddsParts, AreSameNumbers, IsKey, IsStanding, KeepMeanings};
 
 use crate::exchanges::Exchanges;
 use crate::openings::Openings;
@@ -159,12 +159,29 @@ impl Standing {
         let Some(openings) = self.here.openings else {
             return Ok(false);
         };
-        let numbers = self.exchanges.numbers();
         key.clear();
         let fit = push_two(key, state as u64, openings as u64)?;
         if !fit {
             return Ok(false);
         }
+        self.push_parts(path, processors, key)
+    }
+
+    /// The part of each of so many processors after a key that is begun, and whether they fit: else
+    /// it is not known what was written. An error is out of memory.
+    #[inline(always)]
+    fn push_parts(
+        &self,
+        path: &Path,
+        processors: u32,
+        key: &mut Vec<u32>,
+    ) -> Result<bool, AllocError>
+        requires processors { processors ≡ length path.now.setting.scripts }
+        requires standing { IsStanding path.now.setting path.now.news self.now }
+        ensures { IfOk result (λ fit. fit ≡ true
+            → AddsParts self.now path.now.news processors key.old.items key.new.items) }
+    {
+        let numbers = self.exchanges.numbers();
         for cpu in 0..processors {
             let number = numbers[cpu as usize];
             let begun = path.operation(cpu);

@@ -1,13 +1,12 @@
 //! The ends so far, with their counts.
-ghost use Rattle.std.specs.Prelude.{◌≡◌, ◌↔◌, ◌<◌, ◌≤◌, ◌+◌, [], ◌∷◌, ℕ, IfOk, IfSome, IfNone, IsTrue, OnOk, length, map, nat_eq, slice_index_or, sum_by};
-ghost use Rattle.indexmap.specs.IndexMap.{ContainsKey};
+ghost use Rattle.std.specs.Prelude.{◌≡◌, ◌↔◌, ◌<◌, ◌≤◌, ◌+◌, [], ◌∷◌, IfOk, IfSome, IfNone, IsTrue, OnOk, length, map, slice_index_or, sum_by};
 ghost use Rattle.hp_explore.specs.Digests.{digest_of};
-ghost use Rattle.hp_explore.specs.Notes.{AreKnown, HasEndAt, HasNoEnd, HasRoom, IsNoted};
+ghost use Rattle.hp_explore.specs.Notes.{AddsEnd, HasEndAt, HasNoEnd, HasRoom, IsNoted};
 ghost use Rattle.hp_explore.specs.Outcomes.{outcome_with};
 ghost use Rattle.hp_explore.specs.Schedules.{schedule_of};
 ghost use Rattle.hp_explore.specs.Seen.{AddsAt, AddsShares, AreAtEnds, AreNoMore, AreSince, HasRoomFor, HasRoomForShares};
 
-use crate::digests::digest_of;
+use crate::digests::{digest_of, learn};
 use crate::outcomes::{Outcome, all_answers};
 use crate::rows::Share;
 use hp_units::{Cpu, Record, Row};
@@ -87,25 +86,61 @@ impl Tally {
         ensures limit { self.new.limit ≡ self.old.limit }
     {
         let digest = digest_of(processors, records, blocks.as_slice());
-        match place_of(
-            self.ends.as_slice(),
-            &self.latest,
-            digest,
-            processors,
-            records,
-            blocks.as_slice(),
-        ) {
+        match self.place_of(digest, processors, records, blocks.as_slice()) {
             Some(place) => {
-                let end = &mut self.ends[place];
-                end.count += 1;
+                self.add_at(place, 1);
+                Ok(())
             }
-            None => {
-                let entry = new_end(alloc, processors, records, blocks)?;
-                self.ends.reserve(1)?;
-                learn(&mut self.latest, digest, self.ends.len())?;
-                self.ends.push_reserved(entry);
-            }
+            None => self.add_end(alloc, digest, processors, records, blocks),
         }
+    }
+
+    /// The place of the end that is the outcome of records, for so many processors, with these
+    /// rows. It is mostly the latest with its digest; where it is not, all ends are compared.
+    fn place_of(
+        &self,
+        digest: u64,
+        processors: u32,
+        records: &[Record],
+        blocks: &[Row],
+    ) -> Option<usize>
+        requires { digest ≡ digest_of (outcome_with processors records.now blocks.now) }
+        ensures some { IfSome result
+            (HasEndAt self.now.ends (outcome_with processors records.now blocks.now)) }
+        ensures none { IfNone result
+            (HasNoEnd self.now.ends (outcome_with processors records.now blocks.now)) }
+    {
+        let ends = self.ends.as_slice();
+        let Some(place) = self.latest.get(&digest) else {
+            return None;
+        };
+        if is_end_at(ends, *place, processors, records, blocks) {
+            return Some(*place);
+        }
+        first_place_of(ends, processors, records, blocks)
+    }
+
+    /// Counts the schedule that records came from under an end of its own, which there is not yet.
+    /// An error is out of memory; then nothing is counted.
+    fn add_end(
+        &mut self,
+        alloc: Global,
+        digest: u64,
+        processors: u32,
+        records: &[Record],
+        blocks: Vec<Row>,
+    ) -> Result<(), AllocError>
+        requires room { HasRoom self.old }
+        requires none { HasNoEnd self.old.ends (outcome_with processors records.now blocks.items) }
+        requires digest { digest ≡ digest_of (outcome_with processors records.now blocks.items) }
+        ensures ok { OnOk result (AddsEnd self.old.ends (outcome_with processors records.now blocks.items)
+            (schedule_of records.now) self.new.ends) }
+        ensures limit { self.new.limit ≡ self.old.limit }
+    {
+        self.ends.reserve(1)?;
+        learn(&mut self.latest, digest, self.ends.len())?;
+        let entry = new_end(alloc, processors, records, blocks)?;
+        self.ends.push_reserved(entry);
         self.total += 1;
         Ok(())
     }
@@ -231,41 +266,6 @@ fn count_at(counts: &[u64], place: usize) -> u64
     ensures { result ≡ slice_index_or counts.now place 0 }
 {
     counts.get(place).copied().unwrap_or(0)
-}
-
-/// Notes the place of an end under its digest. An error is out of memory; what was known stays known.
-fn learn(latest: &mut IndexMap<u64, usize>, digest: u64, place: usize) -> Result<(), AllocError>
-    ensures kept { (d : ℕ) → ContainsKey nat_eq latest.old d → ContainsKey nat_eq latest.new d }
-    ensures ok { OnOk result (ContainsKey nat_eq latest.new digest) }
-{
-    match latest.insert(digest, place) {
-        Ok(_earlier) => Ok(()),
-        Err(_failed) => Err(AllocError),
-    }
-}
-
-/// The place of the end that is the outcome of records, for so many processors, with these rows. It
-/// is mostly the latest with its digest; where it is not, all ends are compared.
-fn place_of(
-    ends: &[Ending],
-    latest: &IndexMap<u64, usize>,
-    digest: u64,
-    processors: u32,
-    records: &[Record],
-    blocks: &[Row],
-) -> Option<usize>
-    requires known { AreKnown ends.now latest.now }
-    requires digest { digest ≡ digest_of (outcome_with processors records.now blocks.now) }
-    ensures some { IfSome result (HasEndAt ends.now (outcome_with processors records.now blocks.now)) }
-    ensures none { IfNone result (HasNoEnd ends.now (outcome_with processors records.now blocks.now)) }
-{
-    let Some(place) = latest.get(&digest) else {
-        return None;
-    };
-    if is_end_at(ends, *place, processors, records, blocks) {
-        return Some(*place);
-    }
-    first_place_of(ends, processors, records, blocks)
 }
 
 /// Whether the end at a place is this outcome.

@@ -173,8 +173,8 @@ impl<'a> Walk<'a> {
             self.frames.push_reserved(frame.passed());
             return Ok(());
         }
-        self.memo.go_on(alloc, latest(self.path.records()))?;
         self.frames.push_reserved(frame.led_on());
+        self.memo.go_on(alloc, latest(self.path.records()))?;
         self.come_to(alloc, watch)?;
         Ok(())
     }

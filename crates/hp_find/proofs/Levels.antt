@@ -1,6 +1,6 @@
 -- From level to level of a search, and what all ends say.
-use Rattle.std.proofs.Common.{◌≡◌, ℕ, ◌<◌, ◌≤◌, Bool, true, false, List, Some, sum_by, refl, sym, subst, arith, inl, inr}
-use Rattle.std.specs.Prelude.{◌⊎◌}
+use Rattle.std.proofs.Common.{◌≡◌, ℕ, ◌<◌, ◌≤◌, Bool, true, false, List, Option, Some, sum_by, refl, sym, subst, arith, inl, inr}
+use Rattle.std.specs.Prelude.{◌⊎◌, option_map}
 use Rattle.hp_explore.specs.Ends.{AreEnds}
 use Rattle.hp_explore.specs.Faults.{FillsHistory, HasMoreThan, IsCause}
 use Rattle.hp_explore.specs.Fronts.{AreFirst, IfFirst, IfWhole}
@@ -84,6 +84,14 @@ met_within g wanted limit x e few first such more = by_kind x.is_whole refl
           (e.outcome, holds.1, such.2),
           holds.0,
         )
+
+-- what was found from some number of changes on, where it is told
+pub nearest_at : {A : Type 0} (items : A → List ℕ) (g : Setting) (wanted : List Wanted) (below : ℕ)
+    (found told : Option A)
+    → found ≡ told → IsNearestBelow g wanted below (option_map items found)
+    → IsNearestBelow g wanted below (option_map items told)
+nearest_at {A} items g wanted below found told is near =
+    subst (λ (o : Option A). IsNearestBelow g wanted below (option_map items o)) is near
 
 -- a schedule of more changes has room for its calls, where there are no more schedules than the limit
 pub found_recorded : (g : Setting) (limit : ℕ) (x : Exploration) (s : List ℕ)

@@ -26,7 +26,7 @@ use Rattle.hp_lab.specs.declared.fault.LabFault.{LabFault}
 use Rattle.hp_lab.specs.declared.fault.LabFault.TheVariants.{NotJson, BadShape, Layout, BadLine, NotForScript, TooMany, HistoryFull, OutOfMemory}
 use Rattle.hp_lab.specs.Checks.{AreFit, IsFirstUnfit, IsUnfit}
 use Rattle.hp_lab.specs.Explorations.{AreExplored, HoldsAfter, HoldsIn, InScenario, IsEndsCause, IsFaultWith, IsFull, IsFullTold, IsMore, IsNumbered, IsStoppedAfter, IsToldAs, IsUnfitAfter, IsUntold}
-use Rattle.hp_lab.specs.Prepared.{IsPrepared, IsStart, IsUnprepared, before_of, names_of, setting_of}
+use Rattle.hp_lab.specs.Prepared.{HasNoStart, HasStart, IsPrepared, IsStart, IsUnprepared, before_of, names_of, setting_of}
 use Rattle.hp_lab.specs.Begins.{begins_in}
 use Rattle.hp_lab.specs.Scripts.{script_of, scripts_of}
 use Rattle.hp_lab.specs.Setup.{RunsLines}
@@ -56,20 +56,28 @@ unfit_at s setup cpus before after place why parts h =
     (subst (λ (xs : List Line). IsFirstUnfit s.layout.cpus (length xs) after place why) parts.front
     (subst (λ (k : ℕ). IsFirstUnfit k (length before) after place why) parts.processors h))
 
-pub unfit_known : (C : Setting → FindFault → Type 0) (input : List ℕ) (s : ScenarioValue)
-    (setup limit cpus : ℕ)
-    (before after : List Line) (fault : LabFault)
-    → scenario_in input ≡ Ok s → AreParts s setup cpus before after → IsUnfit cpus (length before) after fault
-    → IsFaultWith C input setup limit fault
-unfit_known C input s setup limit cpus before after NotJson read parts h = absurd h
-unfit_known C input s setup limit cpus before after BadShape read parts h = absurd h
-unfit_known C input s setup limit cpus before after (Layout f) read parts h = absurd h
-unfit_known C input s setup limit cpus before after (BadLine n) read parts h = absurd h
-unfit_known C input s setup limit cpus before after (NotForScript place why) read parts h =
-    (s, read, unfit_at s setup cpus before after place why parts h)
-unfit_known C input s setup limit cpus before after (TooMany n) read parts h = absurd h
-unfit_known C input s setup limit cpus before after (HistoryFull needed) read parts h = absurd h
-unfit_known C input s setup limit cpus before after OutOfMemory read parts h = absurd h
+pub no_start : (s : ScenarioValue) (setup cpus : ℕ) (before after : List Line) (fault : LabFault)
+    → AreParts s setup cpus before after → IsUnfit cpus (length before) after fault → HasNoStart s setup fault
+no_start s setup cpus before after NotJson parts h = absurd h
+no_start s setup cpus before after BadShape parts h = absurd h
+no_start s setup cpus before after (Layout f) parts h = absurd h
+no_start s setup cpus before after (BadLine n) parts h = absurd h
+no_start s setup cpus before after (NotForScript place why) parts h =
+    unfit_at s setup cpus before after place why parts h
+no_start s setup cpus before after (TooMany n) parts h = absurd h
+no_start s setup cpus before after (HistoryFull needed) parts h = absurd h
+no_start s setup cpus before after OutOfMemory parts h = absurd h
+
+pub unready : (input : List ℕ) (s : ScenarioValue) (setup : ℕ) (fault : LabFault)
+    → scenario_in input ≡ Ok s → HasNoStart s setup fault → IsUnprepared input setup fault
+unready input s setup NotJson read h = absurd h
+unready input s setup BadShape read h = absurd h
+unready input s setup (Layout f) read h = absurd h
+unready input s setup (BadLine n) read h = absurd h
+unready input s setup (NotForScript place why) read h = (s, read, h)
+unready input s setup (TooMany n) read h = absurd h
+unready input s setup (HistoryFull needed) read h = absurd h
+unready input s setup OutOfMemory read h = tt
 
 -- ---- the search
 
@@ -138,20 +146,15 @@ started l cpus before after boot start none sealed all scripts at_boot at_first 
     }
 
 -- the same of the lines of a scenario
-pub prepared_of : (input : List ℕ) (p : Prepared) (setup cpus : ℕ) (before after : List Line)
-    → p.setup ≡ setup → scenario_in input ≡ Ok (scenario_seen p.scenario)
-    → AreParts (scenario_seen p.scenario) setup cpus before after → AreFit cpus after (length after)
-    → IsStart p.scenario.layout before after p.start.machine p.start.scripts.items
-    → IsPrepared input setup p
-prepared_of input p setup cpus before after number read parts fit begun = record {
-  number = number;
-  read = read;
-  fit = fit_after (scenario_seen p.scenario) setup cpus before after parts fit;
+pub start_known : (s : ScenarioValue) (setup cpus : ℕ) (before after : List Line) (start : MachineValue)
+    (scripts : List (List Step))
+    → AreParts s setup cpus before after → AreFit cpus after (length after)
+    → IsStart s.layout before after start scripts → HasStart s setup start scripts
+start_known s setup cpus before after start scripts parts fit begun = record {
+  fit = fit_after s setup cpus before after parts fit;
   begun =
-      subst (λ (xs : List Line). IsStart p.scenario.layout (take setup p.scenario.lines) xs p.start.machine
-      p.start.scripts.items) parts.rest
-      (subst (λ (xs : List Line). IsStart p.scenario.layout xs after p.start.machine p.start.scripts.items)
-      parts.front begun);
+      subst (λ (xs : List Line). IsStart s.layout (take setup s.lines) xs start scripts) parts.rest
+      (subst (λ (xs : List Line). IsStart s.layout xs after start scripts) parts.front begun);
 }
 
 held_after : (P : Setting → Type 0) (l : LayoutParts) (before after : List Line) (start : MachineValue)

@@ -1,11 +1,16 @@
 -- Lists of lines, one more after another.
-use Rattle.std.proofs.Common.{◌≡◌, ℕ, ◌+◌, ◌<◌, List, [], ◌∷◌, ◌++◌, length, get_or, take, refl, sym, ap, subst, ◌∙◌, arith}
+use Rattle.std.proofs.Common.{◌≡◌, ℕ, ◌+◌, ◌<◌, List, [], ◌∷◌, ◌++◌, length, get_or, take, Some, None, refl, slice_get, sym, ap, subst, ◌∙◌, arith}
+use borrow.Author.Count.{below_more}
 use Rattle.std.proofs.lemmas.List.{take_more}
 use Rattle.std.proofs.lemmas.List.FromFn.{map-range_with_len_more}
 use Rattle.hp_machine.specs.Machine.{MachineValue}
 use Rattle.hp_explore.specs.declared.scripts.Line as step
 use Rattle.hp_scenario.specs.Asked.{asked_by}
 use Rattle.hp_scenario.specs.declared.lines.Line.{Line}
+use Rattle.hp_scenario.specs.Unfit.{unfit}
+use Rattle.hp_lab.specs.Checks.{AreFit, IsLineFault, IsUnfit}
+use Rattle.hp_lab.specs.declared.fault.LabFault.{LabFault}
+use Rattle.hp_lab.specs.declared.fault.LabFault.TheVariants.{NotJson, BadShape, Layout, BadLine, NotForScript, TooMany, HistoryFull, OutOfMemory}
 use Rattle.hp_lab.specs.Scripts.{script_of, scripts_of}
 use Rattle.hp_lab.specs.Setup.{RunsAsked, RunsLines, begins_sealed}
 use Rattle.hp_lab.specs.declared.begins.Begin.{Begin}
@@ -46,3 +51,35 @@ scripts_more all script begins lines cpu so_far is =
     ap (λ (xs : List (List step.Line)). xs ++ script ∷ []) so_far
     ∙ (ap (λ (x : List step.Line). scripts_of cpu begins lines ++ x ∷ []) is
     ∙ sym (map-range_with_len_more (script_of begins lines) 0 cpu cpu (omega arith)))
+
+-- one more line can stand in a script
+pub fit_more : (cpus : ℕ) (lines : List Line) (i : ℕ) (line : Line)
+    → AreFit cpus lines i → slice_get lines i ≡ Some line → unfit cpus line ≡ None → AreFit cpus lines (i + 1)
+fit_more cpus lines i line so_far here fits k other lt at =
+    below_more (λ (k : ℕ). (l : Line) → slice_get lines k ≡ Some l → unfit cpus l ≡ None) i
+    (λ j under l is. so_far j l under is) (λ l is. here_fits l is) k lt other at
+  where
+    here_fits : (l : Line) → slice_get lines i ≡ Some l → unfit cpus l ≡ None
+    here_fits l is =
+        let same : line ≡ l = cc (here, is) in
+        subst (λ (x : Line). unfit cpus x ≡ None) same fits
+
+-- or this one is the first that cannot
+pub first_unfit : (cpus before : ℕ) (lines : List Line) (i place : ℕ) (line : Line) (fault : LabFault)
+    → place ≡ before + i + 1 → slice_get lines i ≡ Some line → AreFit cpus lines i
+    → IsLineFault cpus place line fault → IsUnfit cpus before lines fault
+first_unfit cpus before lines i place line NotJson is here fit h = absurd h
+first_unfit cpus before lines i place line BadShape is here fit h = absurd h
+first_unfit cpus before lines i place line (Layout f) is here fit h = absurd h
+first_unfit cpus before lines i place line (BadLine n) is here fit h = absurd h
+first_unfit cpus before lines i place line (NotForScript at why) is here fit h = record {
+  at = i;
+  line = line;
+  here = here;
+  counted = h.0 ∙ is;
+  cause = h.1;
+  first = fit;
+}
+first_unfit cpus before lines i place line (TooMany n) is here fit h = absurd h
+first_unfit cpus before lines i place line (HistoryFull needed) is here fit h = absurd h
+first_unfit cpus before lines i place line OutOfMemory is here fit h = absurd h

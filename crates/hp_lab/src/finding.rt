@@ -3,7 +3,7 @@ ghost use Rattle.std.specs.Prelude.{◌≡◌, ◌++◌, ◌^◌, ◌<◌, IfErr
 ghost use Rattle.hp_explore.specs.Faults.{IsCause};
 ghost use Rattle.hp_explore.specs.Schedules.{setting};
 ghost use Rattle.hp_find.specs.Faults.{IsFindCause};
-ghost use Rattle.hp_lab.specs.Explorations.{IsFindFaultOf, IsFindingOf, IsFoundOn};
+ghost use Rattle.hp_lab.specs.Explorations.{IsFindFaultOf, IsFindingOf, IsFoundOn, IsFoundTold};
 ghost use Rattle.hp_lab.specs.Texts.{absent_text, absent_told, found_text, nearest_text};
 
 use crate::answering::{Ask, answer_to};
@@ -60,7 +60,6 @@ pub fn find_text<W: Watch>(
 }
 
 /// A search of scripts on a machine, on which these lines were run first.
-#[tactic(auto, using(crate::proofs::Known::found_cause))]
 pub(crate) fn found_on<W: Watch>(
     alloc: Global,
     names: &IndexSet<Text>,
@@ -78,23 +77,40 @@ pub(crate) fn found_on<W: Watch>(
     ensures err { IfErr result (IsFindCause (setting machine.now scripts.now) wanted.now limit) }
 {
     let found = find(alloc, machine, scripts, wanted, limit, watch)?;
-    match &found {
-        Found::Nearest(schedule) => Ok(Finding {
-            text: found_text(
-                alloc,
-                names,
-                before,
-                machine,
-                scripts,
-                schedule.as_slice(),
-                form,
-            )?,
-            is_found: true,
-        }),
-        Found::Absent(schedules) => Ok(Finding {
-            text: absent_told(alloc, *schedules, form)?,
-            is_found: false,
-        }),
+    let finding = found_told(alloc, names, before, machine, scripts, &found, form)?;
+    Ok(finding)
+}
+
+/// What a search found, in a form.
+fn found_told(
+    alloc: Global,
+    names: &IndexSet<Text>,
+    before: &[Line],
+    machine: &Machine,
+    scripts: &[Script],
+    found: &Found,
+    form: ScheduleForm,
+) -> Result<Finding, ExploreFault>
+    ensures ok { IfOk result (λ f. IsFoundTold form names.now.keys before.now
+        (setting machine.now scripts.now) found.now (string_bytes f.text) f.is_found) }
+    ensures err { IfErr result (IsCause (setting machine.now scripts.now)) }
+{
+    match found {
+        Found::Nearest(schedule) => {
+            let schedule = schedule.as_slice();
+            let text = found_text(alloc, names, before, machine, scripts, schedule, form)?;
+            Ok(Finding {
+                text,
+                is_found: true,
+            })
+        }
+        Found::Absent(schedules) => {
+            let text = absent_told(alloc, *schedules, form)?;
+            Ok(Finding {
+                text,
+                is_found: false,
+            })
+        }
     }
 }
 

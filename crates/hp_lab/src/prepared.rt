@@ -3,7 +3,8 @@ ghost use Rattle.std.specs.Prelude.{◌≡◌, ◌++◌, ◌^◌, ◌<◌, IfErr
 ghost use Rattle.hp_explore.specs.Faults.{IsCause};
 ghost use Rattle.hp_lab.specs.Explorations.{AreEndsTold, IsMore, IsTold, IsToldAs};
 ghost use Rattle.hp_lab.specs.Objects.{end_keys};
-ghost use Rattle.hp_lab.specs.Prepared.{IsPrepared, IsStart, IsUnprepared, before_of, names_of, setting_of};
+ghost use Rattle.hp_scenario.specs.Seen.{scenario_seen};
+ghost use Rattle.hp_lab.specs.Prepared.{HasNoStart, HasStart, IsPrepared, IsStart, IsUnprepared, before_of, names_of, setting_of};
 
 use crate::answering::{front_of, rest_of};
 use crate::begins::note_begins;
@@ -74,17 +75,29 @@ pub fn prepare(alloc: Global, input: &[u8], setup: u64) -> Result<Prepared, LabF
     ensures err { IfErr result (IsUnprepared input.now setup) }
 {
     let scenario = Scenario::read(alloc, input)?;
+    let start = start_of(alloc, &scenario, setup)?;
+    Ok(Prepared {
+        scenario,
+        setup,
+        start,
+    })
+}
+
+/// Where a search of a scenario begins, whose first `setup` lines are run in order first. Errors:
+/// NotForScript with the first later line that cannot stand in a script; OutOfMemory.
+fn start_of(alloc: Global, scenario: &Scenario, setup: u64) -> Result<Start, LabFault>
+    ensures ok { IfOk result
+        (λ start. HasStart (scenario_seen scenario.now) setup start.machine start.scripts.items) }
+    ensures few { IfOk result (λ start. length start.scripts.items < 2 ^ 32) }
+    ensures err { IfErr result (HasNoStart (scenario_seen scenario.now) setup) }
+{
     let cpus = scenario.layout.cpus();
     let lines = scenario.lines.as_slice();
     let before = front_of(lines, setup);
     let after = rest_of(lines, setup);
     check_lines(cpus, before.len() as u64, after)?;
     let start = start_after(alloc, &scenario.layout, before, after)?;
-    Ok(Prepared {
-        scenario,
-        setup,
-        start,
-    })
+    Ok(start)
 }
 
 /// The machine after lines that are run first, and the scripts of the lines after them. An error is

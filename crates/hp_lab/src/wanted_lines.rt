@@ -1,5 +1,6 @@
 //! A text as a line that an end is to have.
-ghost use Rattle.std.specs.Prelude.{◌≡◌, IfOk, OnOk, map};
+ghost use Rattle.std.specs.Prelude.{◌≡◌, IfOk, OnOk, Some, map, option_map};
+ghost use Rattle.hp_find.specs.declared.wanted.Wanted.TheVariants.{Answer};
 ghost use Rattle.hp_scenario.specs.Words.{words_of};
 ghost use Rattle.hp_lab.specs.WantedLines as says;
 
@@ -43,21 +44,32 @@ fn split_words<'a>(words: &mut Vec<&'a str>, text: &'a str) -> Result<(), AllocE
 fn line_in(alloc: Global, parts: &[&str]) -> Result<Option<Wanted>, AllocError>
     ensures { IfOk result (λ line. line ≡ says.line_in (map (λ w. w.now) parts.now)) }
 {
-    let mut words = Vec::new(alloc);
     match parts {
-        [line] => {
-            split_words(&mut words, line)?;
-            Ok(line_from(words.as_slice()))
-        }
-        [cpu, line] => {
-            let Some(cpu) = number32(cpu) else {
-                return Ok(None);
-            };
-            split_words(&mut words, line)?;
-            Ok(answer_from(Cpu(cpu), words.as_slice()))
-        }
+        [line] => lone_line(alloc, line),
+        [cpu, line] => match number32(cpu) {
+            Some(cpu) => line_of_cpu(alloc, Cpu(cpu), line),
+            None => Ok(None),
+        },
         _ => Ok(None),
     }
+}
+
+/// The line that a text with no colon is.
+fn lone_line(alloc: Global, text: &str) -> Result<Option<Wanted>, AllocError>
+    ensures { IfOk result (λ line. line ≡ says.line_of (words_of text.now)) }
+{
+    let mut words = Vec::new(alloc);
+    split_words(&mut words, text)?;
+    Ok(line_from(words.as_slice()))
+}
+
+/// The line of a processor that a text after the processor's colon is.
+fn line_of_cpu(alloc: Global, cpu: Cpu, text: &str) -> Result<Option<Wanted>, AllocError>
+    ensures { IfOk result (λ line. line ≡ says.answer_of cpu (words_of text.now)) }
+{
+    let mut words = Vec::new(alloc);
+    split_words(&mut words, text)?;
+    Ok(answer_from(cpu, words.as_slice()))
 }
 
 /// A reply of any processor, or a memory block.
@@ -96,12 +108,23 @@ fn any_answer(word: &str, args: &[&str]) -> Option<Wanted>
 fn answer_from(cpu: Cpu, words: &[&str]) -> Option<Wanted>
     ensures { result ≡ says.answer_of cpu (map (λ w. w.now) words.now) }
 {
-    let [space, word, args @ ..] = words else {
-        return None;
-    };
-    if !space.is_empty() {
-        return None;
+    match words {
+        [space, word, args @ ..] => {
+            if space.is_empty() {
+                cpu_answer(cpu, word, args)
+            } else {
+                None
+            }
+        }
+        _ => None,
     }
+}
+
+/// A reply of a processor by its first word and the words after it.
+fn cpu_answer(cpu: Cpu, word: &str, args: &[&str]) -> Option<Wanted>
+    ensures { result ≡ option_map (λ reply. Answer (Some cpu) reply)
+        (says.reply_of word.now (map (λ w. w.now) args.now)) }
+{
     let reply = reply_from(word, args)?;
     Some(Wanted::Answer {
         cpu: Some(cpu),

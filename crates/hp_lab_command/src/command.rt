@@ -63,8 +63,19 @@ const TRACE_NUMBERS: [(&str, &str); 5] = [
 
 /// The command line of `hotplug_lab`: a word for each thing it does, with its options and their help.
 /// An error is out of memory.
+///
+/// What may have failed is handed on as it is, so that only the functions that add one thing to
+/// another own a command where they can end early.
 pub fn lab_command<'a>(alloc: Global) -> Result<Command<'a>, AllocError> {
-    let program = Command::new(alloc, "hotplug_lab")
+    let program = with_word(Ok(without_words(alloc)), check_command(alloc));
+    let program = with_word(program, explore_command(alloc));
+    let program = with_word(program, sum_command(alloc));
+    with_word(program, trace_command(alloc))
+}
+
+/// The program, as yet without words.
+fn without_words<'a>(alloc: Global) -> Command<'a> {
+    Command::new(alloc, "hotplug_lab")
         .version("1.0")
         .about("Looks into scenarios of the memory machine")
         .after_help(
@@ -72,23 +83,41 @@ pub fn lab_command<'a>(alloc: Global) -> Result<Command<'a>, AllocError> {
              finds faults (warnings alone: 0); 2 for a wrong command line; 3 where --find finds \
              nothing, where --never finds something, and where explore stops at its limit.",
         )
-        .subcommand_required(true);
-    let program = with_word(program, check_command(alloc))?;
-    let program = with_word(program, explore_command(alloc))?;
-    let program = with_word(program, sum_command(alloc))?;
-    with_word(program, trace_command(alloc))
+        .subcommand_required(true)
 }
 
-/// A command with one more word, unless that was out of memory. So no caller owns both at an exit.
+/// A command with one more word, unless that or the command was out of memory.
 fn with_word<'a>(
+    program: Result<Command<'a>, AllocError>,
+    word: Result<Command<'a>, AllocError>,
+) -> Result<Command<'a>, AllocError> {
+    match program {
+        Ok(program) => word_added(program, word),
+        Err(AllocError) => Err(AllocError),
+    }
+}
+
+/// A command with one more word, unless that was out of memory.
+fn word_added<'a>(
     program: Command<'a>,
     word: Result<Command<'a>, AllocError>,
 ) -> Result<Command<'a>, AllocError> {
     program.subcommand(word?)
 }
 
-/// A command with one more argument, in the same way.
+/// A command with one more argument, unless that or the command was out of memory.
 fn with_arg<'a>(
+    command: Result<Command<'a>, AllocError>,
+    arg: Result<Arg<'a>, AllocError>,
+) -> Result<Command<'a>, AllocError> {
+    match command {
+        Ok(command) => arg_added(command, arg),
+        Err(AllocError) => Err(AllocError),
+    }
+}
+
+/// A command with one more argument, unless that was out of memory.
+fn arg_added<'a>(
     command: Command<'a>,
     arg: Result<Arg<'a>, AllocError>,
 ) -> Result<Command<'a>, AllocError> {
@@ -100,7 +129,8 @@ fn check_command<'a>(alloc: Global) -> Result<Command<'a>, AllocError> {
     let check = Command::new(alloc, "check").about(
         "Writes what is wrong with a scenario and where; the status is 0 where there are no faults",
     );
-    with_numbers(alloc, check, &CHECK_NUMBERS)?.arg(scenario(alloc))
+    let check = with_numbers(alloc, Ok(check), &CHECK_NUMBERS);
+    with_arg(check, Ok(scenario(alloc)))
 }
 
 /// The words of `explore`.
@@ -108,11 +138,20 @@ fn explore_command<'a>(alloc: Global) -> Result<Command<'a>, AllocError> {
     let explore = Command::new(alloc, "explore").about(
         "Counts every interleaving of the processors' calls, and tells the ends apart",
     );
-    let explore = with_numbers(alloc, explore, &EXPLORE_NUMBERS)?;
-    let explore = with_searches(alloc, explore)?;
-    let explore = with_shares(alloc, explore)?;
-    let explore = with_forms_of_ends(alloc, explore)?;
-    explore.arg(progress(alloc))?.arg(scenario(alloc))
+    let explore = with_explore_options(alloc, Ok(explore));
+    let explore = with_arg(explore, Ok(progress(alloc)));
+    with_arg(explore, Ok(scenario(alloc)))
+}
+
+/// A command with the options that say what is explored, and how it is told.
+fn with_explore_options<'a>(
+    alloc: Global,
+    command: Result<Command<'a>, AllocError>,
+) -> Result<Command<'a>, AllocError> {
+    let command = with_numbers(alloc, command, &EXPLORE_NUMBERS);
+    let command = with_searches(alloc, command);
+    let command = with_shares(alloc, command);
+    with_forms_of_ends(alloc, command)
 }
 
 /// The words of `sum`.
@@ -120,24 +159,34 @@ fn sum_command<'a>(alloc: Global) -> Result<Command<'a>, AllocError> {
     let sum = Command::new(alloc, "sum").about(
         "Adds up the parts that explore --part wrote, and tells the whole as explore does",
     );
-    with_forms_of_ends(alloc, sum)?.arg(part_files(alloc))
+    let sum = with_forms_of_ends(alloc, Ok(sum));
+    with_arg(sum, Ok(part_files(alloc)))
 }
 
 /// A command with the options that share the work out.
-fn with_shares<'a>(alloc: Global, command: Command<'a>) -> Result<Command<'a>, AllocError> {
-    let command = with_arg(command, part(alloc))?;
+fn with_shares<'a>(
+    alloc: Global,
+    command: Result<Command<'a>, AllocError>,
+) -> Result<Command<'a>, AllocError> {
+    let command = with_arg(command, part(alloc));
     with_arg(command, jobs(alloc))
 }
 
 /// A command with the options that say how ends are written.
-fn with_forms_of_ends<'a>(alloc: Global, command: Command<'a>) -> Result<Command<'a>, AllocError> {
-    let command = command.arg(number(alloc, SCENARIO, SCENARIO_HELP))?;
+fn with_forms_of_ends<'a>(
+    alloc: Global,
+    command: Result<Command<'a>, AllocError>,
+) -> Result<Command<'a>, AllocError> {
+    let command = with_arg(command, Ok(number(alloc, SCENARIO, SCENARIO_HELP)));
     with_arg(command, json(alloc))
 }
 
 /// A command with the options that search an end.
-fn with_searches<'a>(alloc: Global, command: Command<'a>) -> Result<Command<'a>, AllocError> {
-    let command = command.arg(find(alloc))?;
+fn with_searches<'a>(
+    alloc: Global,
+    command: Result<Command<'a>, AllocError>,
+) -> Result<Command<'a>, AllocError> {
+    let command = with_arg(command, Ok(find(alloc)));
     with_arg(command, never(alloc))
 }
 
@@ -146,25 +195,23 @@ fn trace_command<'a>(alloc: Global) -> Result<Command<'a>, AllocError> {
     let trace = Command::new(alloc, "trace").about(
         "Writes what each line answers, with a picture of the memory after each call",
     );
-    with_forms(alloc, with_numbers(alloc, trace, &TRACE_NUMBERS)?)?.arg(scenario(alloc))
-}
-
-/// A command with the flags that say how frames are shown.
-fn with_forms<'a>(alloc: Global, command: Command<'a>) -> Result<Command<'a>, AllocError> {
-    command.arg(orders(alloc))?.arg(svg(alloc))
+    let trace = with_numbers(alloc, Ok(trace), &TRACE_NUMBERS);
+    let trace = with_arg(trace, Ok(orders(alloc)));
+    let trace = with_arg(trace, Ok(svg(alloc)));
+    with_arg(trace, Ok(scenario(alloc)))
 }
 
 /// A command with an option for each of these names and helps, which takes a number.
 fn with_numbers<'a>(
     alloc: Global,
-    command: Command<'a>,
+    command: Result<Command<'a>, AllocError>,
     options: &[(&'a str, &'a str)],
 ) -> Result<Command<'a>, AllocError> {
     let mut command = command;
     for (name, help) in options {
-        command = command.arg(number(alloc, name, help))?;
+        command = with_arg(command, Ok(number(alloc, name, help)));
     }
-    Ok(command)
+    command
 }
 
 /// The argument that names a scenario.

@@ -11,7 +11,8 @@ use Rattle.hp_units.specs.KernelBlocks.{kernel_block}
 use Rattle.hp_units.specs.Rows.{zone_of}
 use Rattle.hp_units.specs.Step.{Answered, done, give_back, kernel_gives, kernel_takes, with_free}
 use Rattle.hp_units.specs.declared.events.Event.TheVariants.{KernelAlloc, KernelFree}
-use Rattle.hp_units.specs.declared.replies.Reply.TheVariants.{Done, Frame as GivesFrame}
+use Rattle.hp_units.specs.declared.replies.Refusal.TheVariants.{NoFrame}
+use Rattle.hp_units.specs.declared.replies.Reply.TheVariants.{Done, Frame as GivesFrame, Refused}
 use Rattle.hp_units.specs.declared.rows.Zone.{Zone}
 use Rattle.hp_units.specs.declared.rows.Pool.TheVariants.{Nu as NuPool}
 use Rattle.hp_tape.specs.declared.deltas.Delta.{Delta}
@@ -24,7 +25,7 @@ use Rattle.hp_memory.specs.declared.layers.Layers.{Layers}
 use Rattle.hp_memory.specs.Frames.{IsGiven, IsTaken, free_of, give_back_bound, given_back, kernel_block_bound}
 use Rattle.hp_memory.specs.Kernel.{NotesKernel}
 use Rattle.hp_memory.specs.Layers.{ArePlaced, IsAnswered, state_of, view_of}
-use Rattle.hp_memory.proofs.Answers.{frames-one, give_back-few, give_back-is, hands-some, noted, notes-then}
+use Rattle.hp_memory.proofs.Answers.{frames-one, give_back-few, give_back-is, hands-none, hands-some, noted, notes-then}
 use Rattle.hp_memory.proofs.Lifts.{notes-free, notes-kernel}
 
 -- ---- what a KernelAlloc answers
@@ -48,6 +49,11 @@ taken : (l : LayoutParts) (s : Memory) (cpu order : ℕ) (handed : Handed) → o
     }
 taken l s cpu order handed low is = rw (le-ltb l.order order low, is) (takes l s cpu order handed is)
 
+none-taken : (l : LayoutParts) (s : Memory) (cpu order : ℕ) → order ≤ l.order
+    → kernel_block l s.free cpu order ≡ None
+    → asked l s cpu (KernelAlloc order) ≡ record { memory = s; reply = Refused NoFrame }
+none-taken l s cpu order low none = rw (le-ltb l.order order low, none) refl
+
 -- ---- what the layers do
 
 kernel_few : (l : LayoutParts) (fs : FreeFrames) (cpu order : ℕ) → 1 ≤ l.batch
@@ -64,6 +70,27 @@ kernel_few l fs cpu (suc order) some =
     le_times : (n m : ℕ) → 1 ≤ n → m ≤ n * m
     le_times zero m some = omega arith
     le_times (suc n) m some = omega arith
+
+-- a block that was taken starts in the layout
+pub taken-low : (m : Layers) (wanted : Option Handed) (order most : ℕ) (f : Frames) (was now : TapeValue)
+    (frame : ℕ) → ArePlaced m → IsTaken wanted order most m.frames f was now (Some frame)
+    → frame < length m.kernel
+taken-low m wanted order most f was now frame p t =
+    subst (λ (n : ℕ). frame < n) (sym p.one.kernel)
+    (subst (λ (k : LayoutParts). frame < frame_count k) p.one.cpus
+    (let some = pow_pos order in omega (arith, t.block.within, some)))
+
+-- there is no block for the kernel
+pub kernel-refused : (m : Layers) (f : Frames) (cpu order most : ℕ) (was now : TapeValue) → ArePlaced m
+    → order ≤ m.layout.order
+    → IsTaken (kernel_block m.frames.cpus.layout (free_of m.frames) cpu order) order most m.frames f was now
+    None
+    → asked m.layout (state_of m) cpu (KernelAlloc order)
+    ≡ record { memory = state_of m; reply = Refused NoFrame }
+kernel-refused m f cpu order most was now p low t =
+    none-taken m.layout (state_of m) cpu order low
+    (subst (λ (k : LayoutParts). kernel_block k (free_of m.frames) cpu order ≡ None) p.one.cpus
+    (hands-none _ (free_of m.frames) (free_of f) t.handed))
 
 -- the kernel takes a block
 pub kernel-taken : {before : List Delta} (m : Layers) (f : Frames) (kernel : List (Option ℕ))

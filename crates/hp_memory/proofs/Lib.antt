@@ -8,9 +8,12 @@ mod Claims
 mod Migrated
 mod OnlineBlocks
 mod PageEvents
+mod Pageblocks
 mod Pictured
 mod Placed
+mod Refusals
 mod Releases
+mod Rooms
 mod SingleBlocks
 mod Sources
 mod States

@@ -15,7 +15,7 @@ use Rattle.hp_units.specs.Migrations.{migration_source, migration_target}
 use Rattle.hp_units.specs.Rows.{is_live, with_areas, zone_of}
 use Rattle.hp_units.specs.Step.{Answered, migrate_step, with_pages}
 use Rattle.hp_units.specs.declared.events.Event.TheVariants.{Migrate}
-use Rattle.hp_units.specs.declared.replies.Refusal.TheVariants.{NoFrame}
+use Rattle.hp_units.specs.declared.replies.Refusal.TheVariants.{NoFrame, NoOp, NothingToMove}
 use Rattle.hp_units.specs.declared.replies.Reply.TheVariants.{Moved, Refused}
 use Rattle.hp_lemmas.proofs.Placed.{in_frames}
 use Rattle.hp_tape.specs.declared.deltas.Delta.{Delta}
@@ -123,6 +123,17 @@ migrate-none : (l : LayoutParts) (s : Memory) (op from : ℕ) → is_live s.bloc
     → migration_source l s op ≡ Some from → migration_target l s.free.areas ≡ None
     → asked l s 0 (Migrate op) ≡ record { memory = s; reply = Refused NoFrame }
 migrate-none l s op from live source target = rw (live, source, target) refl
+
+-- nothing is left to move
+pub migrate-idle : (l : LayoutParts) (s : Memory) (op : ℕ) → is_live s.blocks op ≡ true
+    → migration_source l s op ≡ None
+    → asked l s 0 (Migrate op) ≡ record { memory = s; reply = Refused NothingToMove }
+migrate-idle l s op live none = rw (live, none) refl
+
+-- the operation holds no block
+pub migrate-over : (l : LayoutParts) (s : Memory) (op : ℕ) → is_live s.blocks op ≡ false
+    → asked l s 0 (Migrate op) ≡ record { memory = s; reply = Refused NoOp }
+migrate-over l s op over = rw over refl
 
 pub migrate-refused : (m : Layers) (f : Frames) (op from most : ℕ) (was now : TapeValue) → ArePlaced m
     → is_live m.blocks.blocks op ≡ true → migration_source m.layout (state_of m) op ≡ Some from

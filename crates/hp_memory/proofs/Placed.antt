@@ -1,5 +1,5 @@
 -- What the layers' calls need of the state, in a well placed one.
-use Rattle.std.proofs.Common.{◌≡◌, ℕ, ◌+◌, ◌^◌, ◌≤◌, Some, sym, subst}
+use Rattle.std.proofs.Common.{◌≡◌, ℕ, ◌+◌, ◌^◌, ◌<◌, ◌≤◌, Some, sym, subst, arith}
 use Rattle.hp_units.specs.LayoutParts.{LayoutParts}
 use Rattle.hp_units.specs.Arithmetic.{frame_count}
 use Rattle.hp_units.specs.Memory.{kernel_order}
@@ -43,3 +43,10 @@ pub page-returns : (m : Layers) (owner page frame : ℕ) → ArePlaced m
     → frame_at (state_of m).pages owner page ≡ Some frame → MayReturn m.frames 0 frame
 page-returns m owner page frame p is =
     used-returns m 0 frame p (page-in_use m.layout (state_of m) owner page frame p.one.layout p.placed is)
+
+-- and lies in the layout
+pub page-inside : (m : Layers) (owner page frame : ℕ) → ArePlaced m
+    → frame_at (state_of m).pages owner page ≡ Some frame → frame < frame_count m.layout
+page-inside m owner page frame p is =
+    subst (λ (l : LayoutParts). frame < frame_count l) p.one.cpus
+    (let within = (page-returns m owner page frame p is).within in omega (arith, within))

@@ -16,10 +16,10 @@ use Rattle.hp_lab.specs.Prepared.{IsPrepared, names_of, setting_of}
 use Rattle.hp_lab.specs.declared.fault.LabFault.{LabFault}
 use Rattle.hp_lab.specs.declared.prepared.Prepared.{Prepared}
 use Rattle.hp_lab.proofs.Known.{held_in, untold_in}
-use Rattle.hp_part_files.specs.Faults.{IsLineFault, IsTooMany, IsUnpushed, IsUnsummedIn, IsUntoldSum}
+use Rattle.hp_part_files.specs.Faults.{IsLineFault, IsOrderFault, IsTooMany, IsUnpushed, IsUnsummedIn, IsUntoldEnds, IsUntoldSum, fault_of_line}
 use Rattle.hp_part_files.specs.declared.fault.PartFault.{PartFault}
 use Rattle.hp_part_files.specs.declared.fault.PartFault.TheVariants as part
-use Rattle.hp_part_files.specs.Lines.{IsLineAt}
+use Rattle.hp_part_files.specs.Lines.{IsLineAt, line_number}
 use Rattle.hp_part_files.specs.Reading.{HeadValue, IsLine}
 use Rattle.hp_part_files.specs.declared.line_fault.LineFault.{LineFault}
 use Rattle.hp_part_files.specs.declared.line_fault.LineFault.TheVariants.{NotPart, OtherSearch, NotOfPart, Changed, Stopped, OtherCount, Lab}
@@ -214,6 +214,57 @@ last_cut input names g s place number v past h is other = inr (inr (inl (
   subst (λ (l : List ℕ). IsGathering names g s l v) (take_all place input past) h,
   (is, other),
 )))
+
+-- a line of the text is not taken
+pub unread : (input : List ℕ) (names : List (List ℕ)) (g : Setting) (s : SearchValue) (place n : ℕ)
+    (text : List ℕ) (v : GatheringValue) (cause : LineFault) (fault : PartFault)
+    → fault ≡ fault_of_line cause n → n ≡ line_number input place → IsLineAt input place text
+    → IsGathering names g s (take place input) v → IsLineFault names g s v text cause
+    → IsUntoldSum input names g s fault
+unread input names g s place n text v cause fault is at here so_far h =
+    subst (IsUntoldSum input names g s) (sym (is ∙ ap (fault_of_line cause) at)) (by_cause cause h)
+  where
+    by_cause : (c : LineFault) → IsLineFault names g s v text c
+        → IsUntoldSum input names g s (fault_of_line c (line_number input place))
+    by_cause NotPart h = inl (place, text, v, NotPart, refl, here, so_far, h)
+    by_cause OtherSearch h = inl (place, text, v, OtherSearch, refl, here, so_far, h)
+    by_cause NotOfPart h = inl (place, text, v, NotOfPart, refl, here, so_far, h)
+    by_cause Changed h = inl (place, text, v, Changed, refl, here, so_far, h)
+    by_cause Stopped h = inl (place, text, v, Stopped, refl, here, so_far, h)
+    by_cause (OtherCount m) h = inl (place, text, v, OtherCount m, refl, here, so_far, h)
+    by_cause (Lab f) h = h
+
+-- the parts are not all there once
+pub misplaced : (input : List ℕ) (names : List (List ℕ)) (g : Setting) (s : SearchValue)
+    (parts : List PartEndsValue) (fault : PartFault)
+    → IsGathered names g s input parts → IsOrderFault parts s.of fault → IsUntoldSum input names g s fault
+misplaced input names g s parts (part.NotPart n) read h = absurd h.2
+misplaced input names g s parts (part.OtherSearch n) read h = absurd h.2
+misplaced input names g s parts (part.NotOfPart n) read h = absurd h.2
+misplaced input names g s parts (part.Changed n) read h = absurd h.2
+misplaced input names g s parts (part.Stopped n) read h = absurd h.2
+misplaced input names g s parts (part.OtherCount n) read h = absurd h.2
+misplaced input names g s parts (part.Missing n) read h =
+    inr (inr (inr (record { parts = parts; read = read; cause = inl h })))
+misplaced input names g s parts (part.Twice n) read h =
+    inr (inr (inr (record { parts = parts; read = read; cause = inl h })))
+misplaced input names g s parts part.TooMany read h = absurd h.2
+misplaced input names g s parts (part.Lab fault) read h =
+    subst (λ (f : LabFault). IsUntold IsEndsCause 0 g f) (sym h) tt
+
+-- the sum of all parts is not told
+pub untold_ends : (input : List ℕ) (names : List (List ℕ)) (g : Setting) (s : SearchValue) (fault : PartFault)
+    → IsUntoldEnds g fault → IsUntoldSum input names g s fault
+untold_ends input names g s (part.NotPart n) h = absurd h
+untold_ends input names g s (part.OtherSearch n) h = absurd h
+untold_ends input names g s (part.NotOfPart n) h = absurd h
+untold_ends input names g s (part.Changed n) h = absurd h
+untold_ends input names g s (part.Stopped n) h = absurd h
+untold_ends input names g s (part.OtherCount n) h = absurd h
+untold_ends input names g s (part.Missing n) h = absurd h
+untold_ends input names g s (part.Twice n) h = absurd h
+untold_ends input names g s part.TooMany h = absurd h
+untold_ends input names g s (part.Lab fault) h = h
 
 pub some_lists : (lists : List (Vec Ending)) → 0 < length (lists_of lists) → 0 < length lists
 some_lists [] some = some

@@ -3,9 +3,11 @@ use Rattle.std.proofs.Common.{◌≡◌, ℕ, zero, suc, ◌+◌, ◌*◌, List,
 use Rattle.std.proofs.lemmas.List.{length-replicate}
 use Rattle.std.proofs.lemmas.Bool.{false≢true}
 use Rattle.hp_units.specs.LayoutParts.{LayoutParts}
-use Rattle.hp_units.specs.Memory.{FreeFrames, pool_index}
+use Rattle.hp_units.specs.declared.rows.Kind.{Kind}
+use Rattle.hp_units.specs.Arithmetic.{pageblock_count}
+use Rattle.hp_units.specs.Memory.{FreeAreas, FreeFrames, class_index, plain_kind, pool_index}
 use Rattle.hp_units.specs.FreeAreas.{is_on}
-use Rattle.hp_units.specs.Boot.{empty_cached}
+use Rattle.hp_units.specs.Boot.{empty_areas, empty_cached}
 use Rattle.hp_units.specs.InLayout.{AreFreeAreasOf, AreFreeFramesOf}
 
 -- every entry of copies of one value is that value
@@ -13,6 +15,26 @@ at_replicate : {A : Type 0} (n i : ℕ) (x : A) → get_or (replicate n x) i x �
 at_replicate zero i x = refl
 at_replicate (suc n) zero x = refl
 at_replicate (suc n) (suc i) x = at_replicate n i x
+
+-- areas of these lists and these kinds
+abbrev pub made : List (List ℕ) → List Kind → FreeAreas
+made lists kinds = record { lists = lists; kinds = kinds }
+
+-- areas of equal lists and equal kinds are equal
+pub empty-areas_are : (l : LayoutParts) (lists : List (List ℕ)) (kinds : List Kind)
+    → lists ≡ replicate (5 * (l.order + 1)) [] → kinds ≡ replicate (pageblock_count l) plain_kind
+    → made lists kinds ≡ empty_areas l
+empty-areas_are l lists kinds e f =
+    ap (λ (xs : List (List ℕ)). made xs kinds) e ∙ ap (made (replicate (5 * (l.order + 1)) [])) f
+
+-- areas with nothing free are within their layout
+pub empty-areas_of : (l : LayoutParts) → AreFreeAreasOf l (empty_areas l)
+empty-areas_of l = record {
+  lists = length-replicate (5 * (l.order + 1)) [];
+  kinds = length-replicate (pageblock_count l) plain_kind;
+  free = λ class order first on. absurd (false≢true (subst (λ (xs : List ℕ). is_on first xs ≡ true)
+      (at_replicate (5 * (l.order + 1)) (5 * order + class_index class) []) on));
+}
 
 -- with areas within the layout and the empty lists of its processors they are within it
 pub empty_of : (l : LayoutParts) (fs : FreeFrames) → AreFreeAreasOf l fs.areas → fs.cached ≡ empty_cached l

@@ -16,5 +16,6 @@ pub mod TextLists
 pub mod TokensRead
 pub mod UsualForm
 pub mod WholeNumber
+mod WordLists
 mod WordsCut
 pub mod WordsSpelled

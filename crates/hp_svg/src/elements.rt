@@ -1,6 +1,6 @@
 //! The elements of a picture: texts, and rectangles for cells. Lengths are in pixels.
 ghost use Rattle.std.specs.Prelude.{◌≡◌, ◌++◌, ◌*◌, ◌<◌, ◌^◌, OnOk, string_bytes};
-ghost use Rattle.hp_svg.specs.Elements.{box_element, cell_element, escaped, escaped_text, extent, grid_element, grid_start, ink, inked, is_unfit, layer_element, letter_element, move_element, move_look, narrowed, order_element, order_text, outline_element, outlined, path, point, position, run_text, strip_element, text_element};
+ghost use Rattle.hp_svg.specs.Elements.{box_element, cell_element, escaped, escaped_text, extent, grid_element, inked, is_unfit, layer_element, letter_element, move_element, move_look, narrowed, order_element, outline_element, path, point, position, run_text, strip_element, text_element};
 
 use crate::marks::{fill_of, ink_of, is_lettered, write_mark};
 use crate::runs::{Layer, Run};
@@ -93,14 +93,6 @@ fn write_inked(out: &mut String, mark: u8) -> Result<(), AllocError>
     ensures { OnOk result (string_bytes out.new ≡ string_bytes out.old ++ inked mark) }
 {
     out.push_str(" font-size='8' fill='")?;
-    write_ink(out, mark)
-}
-
-/// Writes the ink of a character.
-#[tactic(auto, unfolding(crate::specs::Elements::ink))]
-fn write_ink(out: &mut String, mark: u8) -> Result<(), AllocError>
-    ensures { OnOk result (string_bytes out.new ≡ string_bytes out.old ++ ink mark) }
-{
     out.push_str(ink_of(mark))?;
     out.push_str("'>")
 }
@@ -227,14 +219,6 @@ fn write_layer(
     }
 }
 
-/// Writes how outlines look.
-#[tactic(auto, unfolding(crate::specs::Elements::outlined))]
-fn write_outlined(out: &mut String) -> Result<(), AllocError>
-    ensures { OnOk result (string_bytes out.new ≡ string_bytes out.old ++ outlined) }
-{
-    out.push_str(" rx='3' fill='none' stroke='#14532d'/>")
-}
-
 /// Writes the outline of a free block, within its cells.
 #[tactic(auto, unfolding(crate::specs::Elements::outline_element))]
 pub(crate) fn write_outline(
@@ -248,18 +232,7 @@ pub(crate) fn write_outline(
     out.push_str("<rect")?;
     write_position(out, x, y)?;
     write_extent(out, width, 10)?;
-    write_outlined(out)
-}
-
-/// Writes an order as it looks in a free block, and the end of its text.
-#[tactic(auto, unfolding(crate::specs::Elements::order_text))]
-fn write_order_text(out: &mut String, order: u32) -> Result<(), AllocError>
-    ensures { OnOk result (string_bytes out.new ≡ string_bytes out.old ++ order_text order) }
-{
-    write!(
-        out,
-        " font-size='8' fill='#052e16' stroke='#ffffff' stroke-width='2' paint-order='stroke'>{order}</text>"
-    )
+    out.push_str(" rx='3' fill='none' stroke='#14532d'/>")
 }
 
 /// Writes the order of a free block in it.
@@ -269,7 +242,10 @@ pub(crate) fn write_order(out: &mut String, x: u128, y: u128, order: u32) -> Res
 {
     out.push_str("<text")?;
     write_position(out, x, y)?;
-    write_order_text(out, order)
+    write!(
+        out,
+        " font-size='8' fill='#052e16' stroke='#ffffff' stroke-width='2' paint-order='stroke'>{order}</text>"
+    )
 }
 
 /// Writes a point of a path.
@@ -321,20 +297,12 @@ pub(crate) fn write_move_element(
     write_move_look(out)
 }
 
-/// Writes what the lines between the cells of a block are.
-#[tactic(auto, unfolding(crate::specs::Elements::grid_start))]
-fn write_grid_start(out: &mut String) -> Result<(), AllocError>
-    ensures { OnOk result (string_bytes out.new ≡ string_bytes out.old ++ grid_start) }
-{
-    out.push_str("<use href='#lines'")
-}
-
 /// Writes lines between the cells of a block, as they stand in the picture's definitions.
 #[tactic(auto, unfolding(crate::specs::Elements::grid_element))]
 pub(crate) fn write_grid(out: &mut String, x: u128, y: u128) -> Result<(), AllocError>
     ensures { OnOk result (string_bytes out.new ≡ string_bytes out.old ++ grid_element x y) }
 {
-    write_grid_start(out)?;
+    out.push_str("<use href='#lines'")?;
     write_position(out, x, y)?;
     out.push_str("/>")
 }

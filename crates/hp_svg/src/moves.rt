@@ -1,6 +1,6 @@
 //! Pages that moved: a line from where each was, in the row above, to where it is.
 ghost use Rattle.std.specs.Prelude.{◌≡◌, ◌++◌, ◌+◌, ◌<◌, ◌≤◌, ◌^◌, OnOk, string_bytes};
-ghost use Rattle.hp_svg.specs.Moves.{arrow, last_blocks, move_text, moves_from, moves_opening, moves_shown, moves_text};
+ghost use Rattle.hp_svg.specs.Moves.{last_blocks, move_text, moves_from, moves_shown, moves_text};
 
 use crate::elements::{write_move_look, write_path};
 use crate::sheets::{Sheet, texts_height};
@@ -59,24 +59,6 @@ fn write_moves(out: &mut String, sheet: Sheet, rows: &[RowPicture]) -> Result<()
     Ok(())
 }
 
-/// Writes the head of an arrow.
-#[tactic(auto, unfolding(crate::specs::Moves::arrow))]
-fn write_arrow(out: &mut String) -> Result<(), AllocError>
-    ensures { OnOk result (string_bytes out.new ≡ string_bytes out.old ++ arrow) }
-{
-    out.push_str(
-        "<marker id='arrow' viewBox='0 0 6 6' refX='5' refY='3' markerWidth='5' markerHeight='5' orient='auto'><path d='M0 0L6 3L0 6Z' fill='#b91c1c'/></marker>",
-    )
-}
-
-/// Writes how the lines begin, for rows that begin here.
-#[tactic(auto, unfolding(crate::specs::Moves::moves_opening))]
-fn write_moves_opening(out: &mut String, top: u128) -> Result<(), AllocError>
-    ensures { OnOk result (string_bytes out.new ≡ string_bytes out.old ++ moves_opening top) }
-{
-    write!(out, "<defs><g id='moves' transform='translate(0 {top})'>")
-}
-
 /// Writes the end of the lines, and that they are shown.
 #[tactic(auto, unfolding(crate::specs::Moves::moves_shown))]
 fn write_moves_shown(out: &mut String) -> Result<(), AllocError>
@@ -98,8 +80,10 @@ pub(crate) fn write_all_moves(
 ) -> Result<(), AllocError>
     ensures { OnOk result (string_bytes out.new ≡ string_bytes out.old ++ moves_text sheet top rows.now) }
 {
-    write_arrow(out)?;
-    write_moves_opening(out, top)?;
+    out.push_str(
+        "<marker id='arrow' viewBox='0 0 6 6' refX='5' refY='3' markerWidth='5' markerHeight='5' orient='auto'><path d='M0 0L6 3L0 6Z' fill='#b91c1c'/></marker>",
+    )?;
+    write!(out, "<defs><g id='moves' transform='translate(0 {top})'>")?;
     write_moves(out, sheet, rows)?;
     write_moves_shown(out)?;
     out.push_str("\n")

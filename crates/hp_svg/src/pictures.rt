@@ -1,7 +1,7 @@
 //! Rows as one picture.
 ghost use Rattle.std.specs.Prelude.{◌≡◌, ◌++◌, ◌<◌, ◌≤◌, ◌^◌, IfOk, OnOk, string_bytes};
 ghost use Rattle.std.specs.List.{enumerate_from, flat_map, range_with_len};
-ghost use Rattle.hp_svg.specs.Pictures.{block_text, corner, entry_text, font, grid, ground, hatching, line_colour, line_end, line_path, line_size, move_note, namespace, note_text, notes_text, opening, outline_note, picture_of, picture_with, strip_note, strip_notes, style, title, view};
+ghost use Rattle.hp_svg.specs.Pictures.{block_text, entry_text, grid, line_path, line_size, move_note, note_text, notes_text, opening, outline_note, picture_of, picture_with, strip_note, strip_notes, style, view};
 
 use crate::elements::{
     write_cell, write_extent, write_move_element, write_outline, write_strip, write_text,
@@ -63,37 +63,12 @@ fn picture_with(
     Ok(out)
 }
 
-/// Writes what a picture is: SVG.
-#[tactic(auto, unfolding(crate::specs::Pictures::namespace))]
-fn write_namespace(out: &mut String) -> Result<(), AllocError>
-    ensures { OnOk result (string_bytes out.new ≡ string_bytes out.old ++ namespace) }
-{
-    out.push_str("<svg xmlns='http://www.w3.org/2000/svg'")
-}
-
 /// Writes which part of the plane is seen.
 #[tactic(auto, unfolding(crate::specs::Pictures::view))]
 fn write_view(out: &mut String, width: u128, height: u128) -> Result<(), AllocError>
     ensures { OnOk result (string_bytes out.new ≡ string_bytes out.old ++ view width height) }
 {
-    out.push_str(" viewBox='0 0 ")?;
-    write_corner(out, width, height)
-}
-
-/// Writes the far corner of the part that is seen.
-#[tactic(auto, unfolding(crate::specs::Pictures::corner))]
-fn write_corner(out: &mut String, width: u128, height: u128) -> Result<(), AllocError>
-    ensures { OnOk result (string_bytes out.new ≡ string_bytes out.old ++ corner width height) }
-{
-    write!(out, "{width} {height}'")
-}
-
-/// Writes the font of all texts.
-#[tactic(auto, unfolding(crate::specs::Pictures::font))]
-fn write_font(out: &mut String) -> Result<(), AllocError>
-    ensures { OnOk result (string_bytes out.new ≡ string_bytes out.old ++ font) }
-{
-    out.push_str(" font-family='monospace' font-size='10' xml:space='preserve'>")
+    write!(out, " viewBox='0 0 {width} {height}'")
 }
 
 /// Writes how the picture begins.
@@ -101,28 +76,10 @@ fn write_font(out: &mut String) -> Result<(), AllocError>
 fn write_opening(out: &mut String, width: u128, height: u128) -> Result<(), AllocError>
     ensures { OnOk result (string_bytes out.new ≡ string_bytes out.old ++ opening width height) }
 {
-    write_namespace(out)?;
+    out.push_str("<svg xmlns='http://www.w3.org/2000/svg'")?;
     write_extent(out, width, height)?;
     write_view(out, width, height)?;
-    write_font(out)
-}
-
-/// Writes the title, and that spaces count in texts.
-#[tactic(auto, unfolding(crate::specs::Pictures::title))]
-fn write_title(out: &mut String) -> Result<(), AllocError>
-    ensures { OnOk result (string_bytes out.new ≡ string_bytes out.old ++ title) }
-{
-    out.push_str("<title>Trace of a memory</title><style>text{white-space:pre}</style>")
-}
-
-/// Writes how isolated cells are hatched.
-#[tactic(auto, unfolding(crate::specs::Pictures::hatching))]
-fn write_hatching(out: &mut String) -> Result<(), AllocError>
-    ensures { OnOk result (string_bytes out.new ≡ string_bytes out.old ++ hatching) }
-{
-    out.push_str(
-        "<pattern id='isolated' width='4' height='4' patternUnits='userSpaceOnUse'><rect width='4' height='4' fill='#eef5ee'/><path d='M-1 1L1 -1M0 4L4 0M3 5L5 3' stroke='#4f9d69'/></pattern>",
-    )
+    out.push_str(" font-family='monospace' font-size='10' xml:space='preserve'>")
 }
 
 /// Writes where the lines between cells of this width begin anew.
@@ -144,22 +101,6 @@ fn write_line_path(out: &mut String, cell: u8) -> Result<(), AllocError>
     )
 }
 
-/// Writes the colour of lines between cells, and how their definition goes on.
-#[tactic(auto, unfolding(crate::specs::Pictures::line_colour))]
-fn write_line_colour(out: &mut String) -> Result<(), AllocError>
-    ensures { OnOk result (string_bytes out.new ≡ string_bytes out.old ++ line_colour) }
-{
-    out.push_str(" stroke='#ffffff'/></pattern><defs><rect id='lines'")
-}
-
-/// Writes the end of the definition of lines between cells.
-#[tactic(auto, unfolding(crate::specs::Pictures::line_end))]
-fn write_line_end(out: &mut String) -> Result<(), AllocError>
-    ensures { OnOk result (string_bytes out.new ≡ string_bytes out.old ++ line_end) }
-{
-    out.push_str(" fill='url(#grid)'/></defs>")
-}
-
 /// Writes the lines between the cells of a block, as its rows use them, where cells are wide enough.
 #[tactic(auto, unfolding(crate::specs::Pictures::grid))]
 fn write_grid_lines(out: &mut String, sheet: Sheet) -> Result<(), AllocError>
@@ -170,17 +111,9 @@ fn write_grid_lines(out: &mut String, sheet: Sheet) -> Result<(), AllocError>
     }
     write_line_size(out, sheet.cell)?;
     write_line_path(out, sheet.cell)?;
-    write_line_colour(out)?;
+    out.push_str(" stroke='#ffffff'/></pattern><defs><rect id='lines'")?;
     write_extent(out, sheet.cells_width(), 14)?;
-    write_line_end(out)
-}
-
-/// Writes a white ground.
-#[tactic(auto, unfolding(crate::specs::Pictures::ground))]
-fn write_ground(out: &mut String) -> Result<(), AllocError>
-    ensures { OnOk result (string_bytes out.new ≡ string_bytes out.old ++ ground) }
-{
-    out.push_str("<rect width='100%' height='100%' fill='#ffffff'/>")
+    out.push_str(" fill='url(#grid)'/></defs>")
 }
 
 /// Writes what all rows use: the title, how cells are hatched, lines between them, and a white ground.
@@ -188,10 +121,12 @@ fn write_ground(out: &mut String) -> Result<(), AllocError>
 fn write_style(out: &mut String, sheet: Sheet) -> Result<(), AllocError>
     ensures { OnOk result (string_bytes out.new ≡ string_bytes out.old ++ style sheet) }
 {
-    write_title(out)?;
-    write_hatching(out)?;
+    out.push_str("<title>Trace of a memory</title><style>text{white-space:pre}</style>")?;
+    out.push_str(
+        "<pattern id='isolated' width='4' height='4' patternUnits='userSpaceOnUse'><rect width='4' height='4' fill='#eef5ee'/><path d='M-1 1L1 -1M0 4L4 0M3 5L5 3' stroke='#4f9d69'/></pattern>",
+    )?;
     write_grid_lines(out, sheet)?;
-    write_ground(out)?;
+    out.push_str("<rect width='100%' height='100%' fill='#ffffff'/>")?;
     out.push_str("\n")
 }
 

@@ -1,21 +1,13 @@
 //! The rows of a picture.
 ghost use Rattle.std.specs.Prelude.{◌≡◌, ◌++◌, ◌<◌, ◌^◌, OnOk, string_bytes};
 ghost use Rattle.std.specs.List.{enumerate_from, flat_map};
-ghost use Rattle.hp_svg.specs.Rows.{block_text, blocks_text, column_text, frames_text, free_text, head_text, lines_text, row_text, rows_from, rows_opening, rows_text, size_of, words_text};
+ghost use Rattle.hp_svg.specs.Rows.{block_text, blocks_text, column_text, frames_text, free_text, head_text, lines_text, row_text, rows_from, rows_text, size_of, words_text};
 
 use crate::elements::{cells_of, write_grid, write_order, write_outline, write_text};
 use crate::runs::{Layer, write_cells};
 use crate::sheets::{ANSWER, ASKED, Sheet, lines_above};
 use hp_pictures::{BlockPicture, FreeBlock, RowPicture};
 use std::alloc::{AllocError, Global};
-
-/// Writes how the rows begin.
-#[tactic(auto, unfolding(crate::specs::Rows::rows_opening))]
-fn write_rows_opening(out: &mut String, top: u128) -> Result<(), AllocError>
-    ensures { OnOk result (string_bytes out.new ≡ string_bytes out.old ++ rows_opening top) }
-{
-    write!(out, "<g transform='translate(0 {top})'>")
-}
 
 /// Writes rows, one under another from some place on.
 #[tactic(auto, unfolding(crate::specs::Rows::rows_text))]
@@ -28,7 +20,7 @@ pub(crate) fn write_all_rows(
 ) -> Result<(), AllocError>
     ensures { OnOk result (string_bytes out.new ≡ string_bytes out.old ++ rows_text sheet top rows.now) }
 {
-    write_rows_opening(out, top)?;
+    write!(out, "<g transform='translate(0 {top})'>")?;
     write_rows(out, alloc, sheet, rows)?;
     out.push_str("\n</g>\n")
 }

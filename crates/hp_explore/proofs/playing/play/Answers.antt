@@ -1,14 +1,14 @@
 -- One call more in each turn of the loop, or one that is not asked for.
 use Rattle.hp_explore.specs.Schedules.{setting}
 use Rattle.hp_explore.specs.Walks.{IsMade, news_in}
-use Rattle.std.proofs.Common.{◌≡◌, ◌∙◌, [], Bool, List, ap, drop, length, refl, subst, sym}
+use Rattle.std.proofs.Common.{◌≡◌, ◌∙◌, [], Bool, List, ap, arith, drop, length, refl, subst, sym}
 use Rattle.std.proofs.Math.Seq.{drop-length}
 use Rattle.hp_machine.specs.Machine.{MachineValue}
 use Rattle.hp_units.specs.LayoutParts.{LayoutParts}
 use Rattle.hp_units.specs.declared.replies.Record.{Record}
 use Rattle.hp_explore.specs.Cursors.{AreCursors}
 use Rattle.std.proofs.lemmas.Result.{err_from_is_err_and}
-use Rattle.hp_explore.proofs.Walking.{filled_along, played_none, played_over}
+use Rattle.hp_explore.proofs.Walking.{filled_along, played_all, played_more, played_none, played_over}
 use Rattle.hp_explore.proofs.playing.play.Goals as goal
 
 pub loop-cpu-init : goal.loop-cpu-init
@@ -23,6 +23,28 @@ loop-cpu-init c =
           (c.in_ok-positions.ensures (setting c.args.machine.now c.args.scripts.now) refl
           (sym (c.cpus.ensures.is ∙ ap (λ (l : LayoutParts). l.cpus) c.layout.ensures))),
     )
+
+pub make_call-requires-clause-reached : goal.make_call-requires-clause-reached
+make_call-requires-clause-reached c = c.loop-cpu.invariant.0.0
+
+pub make_call-requires-clause-cursors : goal.make_call-requires-clause-cursors
+make_call-requires-clause-cursors c = c.loop-cpu.invariant.1
+
+pub loop-cpu-preserved : goal.loop-cpu-preserved
+loop-cpu-preserved c =
+    let made =
+    subst (λ (b : Bool). IsMade (setting c.args.machine.now c.args.scripts.now) c.loop-cpu.played
+    c.cpu-item.result b c.make_call.new.played) c.if-not-branch.false c.in_ok-make_call.ensures.ok in (
+      played_more (setting c.args.machine.now c.args.scripts.now) c.loop-cpu.played c.make_call.new.played
+          c.args.schedule.now c.loop-cpu.cpu-index c.cpu-item.result c.loop-cpu-test.true c.cpu-item.is
+          c.loop-cpu.invariant.0 made,
+      c.in_ok-make_call.ensures.cursors,
+    )
+
+pub returns-clause-ok : goal.returns-clause-ok
+returns-clause-ok c =
+    played_all (setting c.args.machine.now c.args.scripts.now) c.loop-cpu.played c.args.schedule.now
+    c.loop-cpu.cpu-index (omega (arith, c.loop-cpu-test.false)) c.loop-cpu.invariant.0
 
 pub returns-then-not-branch-clause-ok : goal.returns-then-not-branch-clause-ok
 returns-then-not-branch-clause-ok c =

@@ -1,9 +1,10 @@
 -- The search begins before any call; where it found a schedule, that is one.
-use Rattle.std.proofs.Common.{ap, sym, subst}
+use Rattle.std.proofs.Common.{ap, sym, subst, ◌∙◌}
 use Rattle.hp_explore.specs.Schedules.{setting}
-use Rattle.hp_find.specs.Searches.{IsSearching, SearchValue}
+use Rattle.hp_find.specs.Searches.{IsCloser, IsSearching, IsTurned, SearchValue}
 use Rattle.hp_find.proofs.SearchTurns.{found_here, started}
 use Rattle.hp_find.proofs.searching.first_within.Goals as goal
+use Rattle.hp_find.proofs.searching.first_within.Goals.{In-On}
 
 pub turns-init : goal.turns-init
 turns-init c =
@@ -20,3 +21,18 @@ returns-in-Found-clause-ok c =
     found_here (setting c.args.machine.now c.args.scripts.now) c.args.wanted.now c.args.budget
     c.turns.search c.turn.new.self c.in_ok-turn.field-0 c.into_schedule.result.items c.in_ok-turn.ensures.ok
     c.in-Found.is c.turns.invariant.same c.into_schedule.ensures
+
+-- a turn that goes on comes closer
+closer : (c : In-On) → IsCloser c.args.wanted.now c.args.budget c.turns.search c.turn.new.self
+closer c =
+    subst (IsTurned c.args.wanted.now c.args.budget c.turns.search c.turn.new.self) c.in-On.is
+    c.in_ok-turn.ensures.ok
+
+pub turns-preserved : goal.turns-preserved
+turns-preserved c = record {
+  searching = (closer c).searching;
+  same = (closer c).same ∙ c.turns.invariant.same;
+}
+
+pub turns-smaller : goal.turns-smaller
+turns-smaller c = (closer c).fewer

@@ -4,6 +4,12 @@ use Rattle.hp_lab.specs.Texts.{played_text}
 use Rattle.hp_lab.proofs.Played.{calls_written, has_start, none_written}
 use Rattle.hp_lab.proofs.ends.write_first.Goals as goal
 
+pub slice_bounds-write_listed-count : goal.slice_bounds-write_listed-count
+slice_bounds-write_listed-count c =
+    has_start (setting c.args.machine.now c.args.scripts.now) c.args.schedule.now c.in_ok-played.field-0
+    c.in-Some.played c.history-start.result.now c.history.result.now c.in-Some.is c.in_ok-played.ensures.ok
+    c.history-start.ensures.records c.history.ensures.records
+
 pub slice_bounds-write_listed-start : goal.slice_bounds-write_listed-start
 slice_bounds-write_listed-start c =
     let within =

@@ -4,6 +4,12 @@ use Rattle.hp_lab.specs.Objects.{played_list}
 use Rattle.hp_lab.proofs.Played.{calls_written, has_start, none_written}
 use Rattle.hp_lab.proofs.objects.write_played.Goals as goal
 
+pub slice_bounds-write_calls-count : goal.slice_bounds-write_calls-count
+slice_bounds-write_calls-count c =
+    has_start (setting c.args.machine.now c.args.scripts.now) c.args.schedule.now c.in_ok-played.field-0
+    c.in-Some.played c.history-start.result.now c.history.result.now c.in-Some.is c.in_ok-played.ensures.ok
+    c.history-start.ensures.records c.history.ensures.records
+
 pub slice_bounds-write_calls-start : goal.slice_bounds-write_calls-start
 slice_bounds-write_calls-start c =
     let within =

@@ -1,31 +1,21 @@
-use Rattle.std.proofs.lemmas.Result.{err_from_is_err_and}
 use Rattle.std.proofs.Common.{refl}
+use Rattle.std.proofs.lemmas.Result.{err_from_is_err_and}
 use Rattle.hp_scenario.specs.Seen.{scenario_seen}
-use Rattle.hp_lab.proofs.Known.{parted, prepared_of, unfit_known}
+use Rattle.hp_lab.proofs.Known.{unready}
 use Rattle.hp_lab.proofs.prepared.prepare.Goals as goal
 
-pub returns-in_err-check_lines-clause-err : goal.returns-in_err-check_lines-clause-err
-returns-in_err-check_lines-clause-err c =
+pub returns-in_err-start-clause-err : goal.returns-in_err-start-clause-err
+returns-in_err-start-clause-err c =
     let p =
-    err_from_is_err_and c.from_residual-in_err-check_lines.result
-    c.from_residual-in_err-check_lines.ensures.1 in
-    let s = scenario_seen c.in_ok-scenario.scenario in
-    let parts =
-    parted s c.args.setup c.cpus-cpus.result c.as_slice-lines.result.now c.front_of-before.result.now
-    c.rest_of-after.result.now c.cpus-cpus.ensures.is c.as_slice-lines.ensures c.front_of-before.ensures
-    c.rest_of-after.ensures in
+    err_from_is_err_and c.from_residual-in_err-start.result c.from_residual-in_err-start.ensures.1 in
     rw (p.1, p.2)
-    (unfit_known (λ g f. ⊥) c.args.input.now s c.args.setup 0 c.cpus-cpus.result
-    c.front_of-before.result.now c.rest_of-after.result.now _ c.in_ok-scenario.ensures parts
-    c.in_err-check_lines.ensures.err)
+    (unready c.args.input.now (scenario_seen c.in_ok-scenario.scenario) c.args.setup _
+    c.in_ok-scenario.ensures c.in_err-start.ensures.err)
 
 pub returns-clause-ok : goal.returns-clause-ok
-returns-clause-ok c =
-    let s = scenario_seen c.in_ok-scenario.scenario in
-    let parts =
-    parted s c.args.setup c.cpus-cpus.result c.as_slice-lines.result.now c.front_of-before.result.now
-    c.rest_of-after.result.now c.cpus-cpus.ensures.is c.as_slice-lines.ensures c.front_of-before.ensures
-    c.rest_of-after.ensures in
-    prepared_of c.args.input.now _ c.args.setup c.cpus-cpus.result c.front_of-before.result.now
-    c.rest_of-after.result.now refl c.in_ok-scenario.ensures parts c.in_ok-check_lines.ensures.ok
-    c.in_ok-start.ensures.is
+returns-clause-ok c = record {
+  number = refl;
+  read = c.in_ok-scenario.ensures;
+  fit = c.in_ok-start.ensures.ok.fit;
+  begun = c.in_ok-start.ensures.ok.begun;
+}

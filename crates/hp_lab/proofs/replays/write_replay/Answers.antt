@@ -6,6 +6,12 @@ use Rattle.hp_lab.specs.Texts.{replayed_text}
 use Rattle.hp_lab.proofs.Played.{calls_written, has_start, none_written}
 use Rattle.hp_lab.proofs.replays.write_replay.Goals as goal
 
+pub slice_bounds-calls-count : goal.slice_bounds-calls-count
+slice_bounds-calls-count c =
+    has_start (setting c.args.machine.now c.args.scripts.now) c.args.schedule.now c.in_ok-played.field-0
+    c.in-Some.played c.history-start.result.now c.history.result.now c.in-Some.is c.in_ok-played.ensures.ok
+    c.history-start.ensures.records c.history.ensures.records
+
 pub slice_bounds-calls-start : goal.slice_bounds-calls-start
 slice_bounds-calls-start c =
     let within =

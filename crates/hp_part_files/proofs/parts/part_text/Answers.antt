@@ -1,5 +1,64 @@
-use Rattle.hp_part_files.proofs.Parted.{no_text}
+-- What holds on the machine where the search begins holds in the scenario.
+use Rattle.std.proofs.Common.{List, string_bytes, subst, ℕ}
+use Rattle.std.proofs.lemmas.Result.{err_from_is_err_and}
+use Rattle.hp_lab.specs.Explorations.{IsEndsCause}
+use Rattle.hp_lab.specs.Prepared.{names_of, setting_of}
+use Rattle.hp_lab.proofs.Known.{held_in, unprepared_known, untold, untold_in}
+use Rattle.hp_part_files.specs.Parts.{IsPartCause, IsPartOn}
+use Rattle.hp_part_files.proofs.Parted.{full_part, no_text, part_fault}
 use Rattle.hp_part_files.proofs.parts.part_text.Goals as goal
 
 pub returns-in_default-clause-err : goal.returns-in_default-clause-err
 returns-in_default-clause-err g c = no_text c.args.input.now c.args.setup c.args.limit c.in_default.ensures
+
+pub returns-in_err-prepared-clause-err : goal.returns-in_err-prepared-clause-err
+returns-in_err-prepared-clause-err g c =
+    let p =
+    err_from_is_err_and c.from_residual.result c.from_residual.ensures.1 in
+    rw (p.1, p.2)
+    (unprepared_known IsEndsCause c.args.input.now c.args.setup c.args.limit _ c.in_err-prepared.ensures.err)
+
+pub returns-in_err-prepared-clause-full : goal.returns-in_err-prepared-clause-full
+returns-in_err-prepared-clause-full g c =
+    let p =
+    err_from_is_err_and c.from_residual.result c.from_residual.ensures.1 in
+    rw (p.1, p.2)
+    (full_part c.args.number c.args.input.now c.args.setup c.args.limit _
+    (unprepared_known (IsPartCause c.args.number) c.args.input.now c.args.setup c.args.limit _
+    c.in_err-prepared.ensures.err))
+
+pub returns-in-Ok-part_on-clause-ok : goal.returns-in-Ok-part_on-clause-ok
+returns-in-Ok-part_on-clause-ok g c =
+    let n = c.args.number in
+    let input = c.args.input.now in
+    let p = c.in_ok-prepared.prepared in
+    let f = c.in-Ok-part_on.finding in
+    held_in
+    (λ names before s. IsPartOn n c.args.setup input c.args.limit (string_bytes f.text) f.is_found names s)
+    input c.args.setup p c.in_ok-prepared.ensures.ok
+    (subst (λ (k : ℕ). IsPartOn n k input c.args.limit (string_bytes f.text) f.is_found (names_of p)
+    (setting_of p)) c.in_ok-prepared.ensures.ok.number
+    (subst (λ (t : List ℕ). IsPartOn n p.setup t c.args.limit (string_bytes f.text) f.is_found (names_of p)
+    (setting_of p)) c.in-Ok.ensures.0 c.in-Ok-part_on.ensures.ok))
+
+pub returns-clause-err : goal.returns-clause-err
+returns-clause-err g c =
+    let n = c.args.number in
+    let p = c.in_ok-prepared.prepared in
+    let told = c.told_fault.result in
+    part_fault n c.args.input.now c.args.setup c.args.limit told
+    (untold_in (IsPartCause n) c.args.input.now c.args.setup c.args.limit p told
+    c.in_ok-prepared.ensures.ok
+    (untold (IsPartCause n) c.args.limit (setting_of p) c.in-Err.fault told c.told_fault.ensures
+    c.in-Err.ensures.err))
+
+pub returns-clause-full : goal.returns-clause-full
+returns-clause-full g c =
+    let n = c.args.number in
+    let p = c.in_ok-prepared.prepared in
+    let told = c.told_fault.result in
+    full_part n c.args.input.now c.args.setup c.args.limit told
+    (untold_in (IsPartCause n) c.args.input.now c.args.setup c.args.limit p told
+    c.in_ok-prepared.ensures.ok
+    (untold (IsPartCause n) c.args.limit (setting_of p) c.in-Err.fault told c.told_fault.ensures
+    c.in-Err.ensures.err))

@@ -1,6 +1,13 @@
 -- Each delta by its own lemma.
-use Rattle.std.proofs.Common.{ℕ, ap, ◌∙◌, ◌+◌, ◌*◌}
-use Rattle.hp_units.specs.Memory.{class_index}
+use Rattle.std.proofs.Common.{ℕ, length, ap, sym, ◌∙◌, ◌+◌, ◌*◌}
+use Rattle.std.proofs.lemmas.List.{length-map, length-set}
+use Rattle.hp_units.specs.Memory.{class_index, with_kind}
+use Rattle.hp_tape.specs.declared.deltas.Delta.{Delta}
+use Rattle.hp_tape.specs.declared.deltas.Delta.TheVariants.{Link, Unlink}
+use Rattle.hp_tape.specs.declared.deltas.ListId.{ListId}
+use Rattle.hp_tape.specs.Deltas.{areas_undo}
+use Rattle.hp_links.specs.LinkedLists.{LinkedLists, without}
+use Rattle.hp_buddy.specs.Buddy.{BuddyValue}
 use Rattle.hp_buddy.proofs.Notes.{seen-listed}
 use Rattle.hp_buddy.proofs.Backs.{linked-on, link-undone, unlinked-after, unlink-undone}
 use Rattle.hp_buddy.proofs.buddy.Buddy.back.Goals as goal
@@ -42,3 +49,63 @@ returns-in-Area-list-clause-back c =
     (record { is = c.self.view_is; kept = c.self.invariant }) c.in-Unlink.is c.in-Area-list.is
     (c.list_number-number.ensures
     ∙ ap (λ (n : ℕ). 5 * n + class_index c.in-Area-list.class) c.from.ensures) c.relink_after.ensures
+
+pub invariant_of-self : goal.invariant_of-self
+invariant_of-self c =
+    let k = c.self.invariant in
+    record {
+      layout = k.layout;
+      frame_count = ap (λ (n : LinkedLists). n.frame_count) c.unlink.ensures.links ∙ k.frame_count;
+      list_count =
+          ap (λ (n : LinkedLists). length n.lists) c.unlink.ensures.links
+          ∙ length-map c.self.inside.links.lists (without c.in-Link.frame) ∙ k.list_count;
+      kind_count = k.kind_count;
+    }
+
+pub returns-in-Area-clause-layout : goal.returns-in-Area-clause-layout
+returns-in-Area-clause-layout c = ap (λ (v : BuddyValue). v.layout) c.self.view_is
+
+pub returns-in-Link-clause-back : goal.returns-in-Link-clause-back
+returns-in-Link-clause-back c =
+    ap (λ (d : Delta). areas_undo d c.args.self.now.areas) (sym (c.in-Link.is
+    ∙ ap (λ (k : ListId). Link k c.in-Link.frame c.in-Link.after) c.in_default-list.is))
+
+pub returns-in-Area-list-clause-layout : goal.returns-in-Area-list-clause-layout
+returns-in-Area-list-clause-layout c = ap (λ (v : BuddyValue). v.layout) c.self.view_is
+
+pub invariant_of-self-in-Area-list : goal.invariant_of-self-in-Area-list
+invariant_of-self-in-Area-list c =
+    let k = c.self.invariant in
+    record {
+      layout = k.layout;
+      frame_count = ap (λ (n : LinkedLists). n.frame_count) c.relink_after.ensures ∙ k.frame_count;
+      list_count =
+          ap (λ (n : LinkedLists). length n.lists) c.relink_after.ensures
+          ∙ (simp length-set) ∙ k.list_count;
+      kind_count = k.kind_count;
+    }
+
+pub returns-in-Unlink-clause-back : goal.returns-in-Unlink-clause-back
+returns-in-Unlink-clause-back c =
+    ap (λ (d : Delta). areas_undo d c.args.self.now.areas) (sym (c.in-Unlink.is
+    ∙ ap (λ (k : ListId). Unlink k c.in-Unlink.frame c.in-Unlink.after) c.in_default-list-2.is))
+
+pub returns-in-Kind-clause-layout : goal.returns-in-Kind-clause-layout
+returns-in-Kind-clause-layout c = ap (λ (v : BuddyValue). v.layout) c.self.view_is
+
+pub returns-in-Kind-clause-back : goal.returns-in-Kind-clause-back
+returns-in-Kind-clause-back c =
+    let a = c.args.self.now.areas in
+    ap (λ (v : BuddyValue). with_kind v.areas c.at.inside.0 c.in-Kind.was) c.self.view_is
+    ∙ ap (λ (n : ℕ). with_kind a n c.in-Kind.was) c.at.view_is
+    ∙ ap (λ (d : Delta). areas_undo d a) (sym c.in-Kind.is)
+
+pub invariant_of-self-in-Kind : goal.invariant_of-self-in-Kind
+invariant_of-self-in-Kind c =
+    let k = c.self.invariant in
+    record {
+      layout = k.layout;
+      frame_count = k.frame_count;
+      list_count = k.list_count;
+      kind_count = (simp length-set) ∙ k.kind_count;
+    }

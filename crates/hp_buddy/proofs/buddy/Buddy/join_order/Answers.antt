@@ -1,5 +1,6 @@
 -- An order whose buddy is free is joined.
-use Rattle.std.proofs.Common.{◌≡◌, ◌+◌, ◌-◌, ◌∙◌, Bool, cond, arith, ap, sym}
+use Rattle.std.proofs.Common.{◌≡◌, ℕ, ◌+◌, ◌-◌, ◌∙◌, Bool, cond, arith, ap, sym, subst}
+use Rattle.hp_units.specs.LayoutParts.{IsLayout}
 use Rattle.hp_units.specs.FreeAreas.{join_order}
 use Rattle.hp_buddy.specs.Buddy.{BuddyValue}
 use Rattle.hp_buddy.proofs.Calls.{frame_is_buddy}
@@ -39,3 +40,28 @@ loop-order-preserved c =
     c.ancestor-half.ensures c.buddy.ensures c.is_free.ensures
     ∙ ap (λ (b : Bool). cond b (join_order a c.args.class c.args.frame (order + 1) (last - (order + 1)))
     order) c.if-not-is_free.false
+
+pub ancestor-half-requires : goal.ancestor-half-requires
+ancestor-half-requires c = omega (arith, c.order-last.ensures.is, c.order-last.ensures.layout.order)
+
+pub buddy-requires : goal.buddy-requires
+buddy-requires c = omega (arith, c.order-last.ensures.is, c.order-last.ensures.layout.order)
+
+pub is_free-requires-clause-order : goal.is_free-requires-clause-order
+is_free-requires-clause-order c =
+    let same : c.self.inside.layout.order ≡ c.args.self.now.layout.order =
+    ap (λ (v : BuddyValue). v.layout.order) c.self.view_is in
+    omega (arith, c.order-last.ensures.is)
+
+pub loop-order-init : goal.loop-order-init
+loop-order-init c =
+    ap (λ (n : ℕ). join_order c.args.self.now.areas c.args.class c.args.frame n
+    (c.args.self.now.layout.order - n)) (sym c.first.view_is)
+
+pub returns-then-not-is_free-clause-layout : goal.returns-then-not-is_free-clause-layout
+returns-then-not-is_free-clause-layout c =
+    subst (λ (v : BuddyValue). IsLayout v.layout) c.self.view_is c.order-last.ensures.layout
+
+pub returns-clause-layout : goal.returns-clause-layout
+returns-clause-layout c =
+    subst (λ (v : BuddyValue). IsLayout v.layout) c.self.view_is c.order-last.ensures.layout

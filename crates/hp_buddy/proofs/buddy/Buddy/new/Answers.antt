@@ -1,4 +1,5 @@
-use Rattle.std.proofs.Common.{rules, ℕ, ◌+◌, ◌*◌, ap, ◌∙◌, [], replicate}
+use Rattle.std.proofs.Common.{rules, ℕ, ◌+◌, ◌*◌, ap, ◌∙◌, [], replicate, arith}
+use Rattle.std.proofs.lemmas.Result.{err_from_is_err_and}
 use Rattle.hp_links.specs.LinkedLists.{LinkedLists}
 use Rattle.hp_buddy.proofs.Standing.{empty-apart}
 use Rattle.hp_buddy.proofs.buddy.Buddy.new.Goals as goal
@@ -9,3 +10,39 @@ returns-clause-apart c =
     (ap (λ (k : LinkedLists). k.lists) c.in_ok-links.ensures
     ∙ ap (λ (n : ℕ). replicate (5 * (n + 1)) []) c.order.ensures.is)
     (search rules)
+
+pub returns-in_err-layout-clause-value : goal.returns-in_err-layout-clause-value
+returns-in_err-layout-clause-value c =
+    let p = err_from_is_err_and c.from_residual.result c.from_residual.ensures.1 in
+    rw p.1 tt
+
+pub returns-in_err-layout-clause-apart : goal.returns-in_err-layout-clause-apart
+returns-in_err-layout-clause-apart c =
+    let p = err_from_is_err_and c.from_residual.result c.from_residual.ensures.1 in
+    rw p.1 tt
+
+pub returns-in_err-links-clause-value : goal.returns-in_err-links-clause-value
+returns-in_err-links-clause-value c =
+    let p = err_from_is_err_and c.from_residual-in_err-links.result c.from_residual-in_err-links.ensures.1 in
+    rw p.1 tt
+
+pub returns-in_err-links-clause-apart : goal.returns-in_err-links-clause-apart
+returns-in_err-links-clause-apart c =
+    let p = err_from_is_err_and c.from_residual-in_err-links.result c.from_residual-in_err-links.ensures.1 in
+    rw p.1 tt
+
+pub returns-in_err-kinds-clause-value : goal.returns-in_err-kinds-clause-value
+returns-in_err-kinds-clause-value c =
+    let p = err_from_is_err_and c.from_residual-in_err-kinds.result c.from_residual-in_err-kinds.ensures.1 in
+    rw p.1 tt
+
+pub returns-in_err-kinds-clause-apart : goal.returns-in_err-kinds-clause-apart
+returns-in_err-kinds-clause-apart c =
+    let p = err_from_is_err_and c.from_residual-in_err-kinds.result c.from_residual-in_err-kinds.ensures.1 in
+    rw p.1 tt
+
+pub overflow_add-order : goal.overflow_add-order
+overflow_add-order c = omega (arith, c.order.ensures.is, c.layout.invariant.order)
+
+pub overflow_mul-order : goal.overflow_mul-order
+overflow_mul-order c = omega (arith, c.order.ensures.is, c.layout.invariant.order)

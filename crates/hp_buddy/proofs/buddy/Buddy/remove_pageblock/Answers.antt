@@ -1,12 +1,12 @@
-use Rattle.std.proofs.Common.{◌≡◌, subst, sym, ap, ◌∙◌, ◌*◌, arith, true}
+use Rattle.std.proofs.Common.{◌≡◌, ◌<◌, subst, sym, ap, ◌∙◌, ◌*◌, arith, true}
 use Rattle.hp_units.specs.LayoutParts.{LayoutParts}
-use Rattle.hp_units.specs.Arithmetic.{pageblock_size}
+use Rattle.hp_units.specs.Arithmetic.{pageblock_count, pageblock_size}
 use Rattle.hp_units.specs.declared.rows.Class.{Class}
 use Rattle.hp_units.specs.Memory.{free_list}
 use Rattle.hp_units.specs.FreeAreas.{is_on}
 use Rattle.hp_buddy.specs.Buddy.{BuddyValue, AreApart}
 use Rattle.hp_buddy.proofs.Blocks.{Removes, block_removed}
-use Rattle.hp_buddy.proofs.Calls.{notes-then}
+use Rattle.hp_buddy.proofs.Calls.{notes-then, room_left}
 use Rattle.hp_buddy.proofs.buddy.Buddy.remove_pageblock.Goals as goal
 use Rattle.hp_buddy.proofs.buddy.Buddy.remove_pageblock.Goals.{After-set_kind}
 
@@ -38,3 +38,22 @@ returns-clause-apart c =
 
 pub returns-clause-places : goal.returns-clause-places
 returns-clause-places c = (removes (goal.at.returns-clause-places c).After-set_kind).places
+
+pub unlink_free-requires-clause-order : goal.unlink_free-requires-clause-order
+unlink_free-requires-clause-order c =
+    let same : c.self.inside.layout.order ≡ c.args.self.now.layout.order =
+    ap (λ (v : BuddyValue). v.layout.order) c.self.view_is in
+    omega (arith, c.order.ensures.is)
+
+pub set_kind-requires-clause-pageblock : goal.set_kind-requires-clause-pageblock
+set_kind-requires-clause-pageblock c =
+    subst (λ (l : LayoutParts). c.args.pageblock < pageblock_count l) (sym c.unlink_free.ensures.layout)
+    c.requires.pageblock
+
+pub set_kind-requires-clause-room : goal.set_kind-requires-clause-room
+set_kind-requires-clause-room c =
+    room_left c.args.self.now.layout 1 1 c.args.tape.now c.unlink_free.new.tape c.args.self.now.areas
+    c.unlink_free.new.self.areas c.unlink_free.ensures.notes c.requires.room
+
+pub returns-clause-layout : goal.returns-clause-layout
+returns-clause-layout c = c.set_kind.ensures.layout ∙ c.unlink_free.ensures.layout

@@ -1,10 +1,11 @@
 -- The front block leaves its list, and its halves come to theirs.
-use Rattle.std.proofs.Common.{◌+◌, ◌-◌, arith, subst, sym}
-use Rattle.hp_units.specs.LayoutParts.{LayoutParts}
+use Rattle.std.proofs.Common.{◌≡◌, ◌+◌, ◌-◌, arith, ap, subst, sym, ◌∙◌}
+use Rattle.hp_units.specs.LayoutParts.{LayoutParts, IsLayout}
 use Rattle.hp_units.specs.Memory.{free_list}
-use Rattle.hp_buddy.specs.Buddy.{AreApart, MayBeGiven}
+use Rattle.hp_lemmas.proofs.Places.{class_index-lt}
+use Rattle.hp_buddy.specs.Buddy.{BuddyValue, AreApart, MayBeGiven}
 use Rattle.hp_buddy.proofs.Splits.{IsLeft}
-use Rattle.hp_buddy.proofs.Calls.{IsFront, seen-front_is, front_frame, front_free, front_taken, notes-then}
+use Rattle.hp_buddy.proofs.Calls.{IsFront, seen-front_is, front_frame, front_free, front_taken, notes-then, room_left}
 use Rattle.hp_buddy.proofs.buddy.Buddy.take_front.Goals as goal
 use Rattle.hp_buddy.proofs.buddy.Buddy.take_front.Goals.{In-Some, After-unlink_free}
 
@@ -54,3 +55,35 @@ returns-in-Some-clause-notes c =
     (c.args.order - c.args.wanted + 1) c.args.tape.now c.unlink_free.new.tape c.put_halves.new.tape
     c.args.self.now.areas c.unlink_free.new.self.areas c.put_halves.new.self.areas
     c.unlink_free.ensures.layout (omega arith) c.unlink_free.ensures.notes c.put_halves.ensures.notes
+
+pub list_number-requires : goal.list_number-requires
+list_number-requires c =
+    let same : c.self.inside.layout.order ≡ c.args.self.now.layout.order =
+    ap (λ (v : BuddyValue). v.layout.order) c.self.view_is in
+    omega (arith, c.requires.order, c.self.invariant.layout.order)
+
+pub front-requires : goal.front-requires
+front-requires c =
+    let same : c.self.inside.layout.order ≡ c.args.self.now.layout.order =
+    ap (λ (v : BuddyValue). v.layout.order) c.self.view_is in
+    omega (
+      arith,
+      c.requires.order,
+      c.self.invariant.list_count,
+      c.list_number.ensures,
+      class_index-lt c.args.class,
+    )
+
+pub put_halves-requires-clause-layout : goal.put_halves-requires-clause-layout
+put_halves-requires-clause-layout c =
+    subst (λ (l : LayoutParts). IsLayout l) (ap (λ (v : BuddyValue). v.layout) c.self.view_is
+    ∙ sym c.unlink_free.ensures.layout) c.self.invariant.layout
+
+pub put_halves-requires-clause-room : goal.put_halves-requires-clause-room
+put_halves-requires-clause-room c =
+    room_left c.args.self.now.layout 1 (c.args.order - c.args.wanted) c.args.tape.now
+    c.unlink_free.new.tape c.args.self.now.areas c.unlink_free.new.self.areas c.unlink_free.ensures.notes
+    (omega (arith, c.requires.room))
+
+pub returns-in-Some-clause-layout : goal.returns-in-Some-clause-layout
+returns-in-Some-clause-layout c = c.put_halves.ensures.layout ∙ c.unlink_free.ensures.layout

@@ -1,3 +1,7 @@
+use Rattle.std.proofs.Common.{length, ap, ◌∙◌}
+use Rattle.std.proofs.lemmas.List.{length-map}
+use Rattle.hp_links.specs.LinkedLists.{LinkedLists, without}
+use Rattle.hp_buddy.specs.Buddy.{BuddyValue}
 use Rattle.hp_buddy.proofs.Notes.{seen-listed, seen-unlink}
 use Rattle.hp_buddy.proofs.buddy.Buddy.unlink_free.Goals as goal
 
@@ -28,3 +32,18 @@ returns-clause-notes c =
     c.requires.free
     (record { free = u.free; one_list = u.one_list; before_on = u.before_on; undone = u.undone })
     c.note.ensures.room c.note.ensures.noted c.unlink_delta.ensures).notes
+
+pub invariant_of-self : goal.invariant_of-self
+invariant_of-self c =
+    let k = c.self.invariant in
+    record {
+      layout = k.layout;
+      frame_count = ap (λ (n : LinkedLists). n.frame_count) c.unlink-after.ensures.links ∙ k.frame_count;
+      list_count =
+          ap (λ (n : LinkedLists). length n.lists) c.unlink-after.ensures.links
+          ∙ length-map c.self.inside.links.lists (without c.args.frame) ∙ k.list_count;
+      kind_count = k.kind_count;
+    }
+
+pub returns-clause-layout : goal.returns-clause-layout
+returns-clause-layout c = ap (λ (v : BuddyValue). v.layout) c.self.view_is

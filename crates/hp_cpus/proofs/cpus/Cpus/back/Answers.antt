@@ -1,6 +1,13 @@
 -- Each delta by its own lemma.
-use Rattle.std.proofs.Common.{ℕ, ap, ◌∙◌, ◌+◌, ◌*◌}
+use Rattle.std.proofs.Common.{ℕ, length, ap, sym, ◌∙◌, ◌+◌, ◌*◌}
+use Rattle.std.proofs.lemmas.List.{length-map, length-set}
 use Rattle.hp_units.specs.Memory.{pool_index}
+use Rattle.hp_tape.specs.declared.deltas.Delta.{Delta}
+use Rattle.hp_tape.specs.declared.deltas.Delta.TheVariants.{Link, Unlink}
+use Rattle.hp_tape.specs.declared.deltas.ListId.{ListId}
+use Rattle.hp_tape.specs.Deltas.{cached_undo}
+use Rattle.hp_links.specs.LinkedLists.{LinkedLists, without}
+use Rattle.hp_cpus.specs.Cpus.{CpusValue, frames_of}
 use Rattle.hp_cpus.proofs.Edits.{seen-listed}
 use Rattle.hp_cpus.proofs.Backs.{linked-on, link-undone, unlinked-after, unlink-undone}
 use Rattle.hp_cpus.proofs.cpus.Cpus.back.Goals as goal
@@ -40,3 +47,41 @@ returns-in-Cpu-list-clause-back c =
     (record { is = c.self.view_is; kept = c.self.invariant }) c.in-Unlink.is c.in-Cpu-list.is
     (c.list_number-number.ensures ∙ ap (λ (n : ℕ). 3 * n + pool_index c.in-Cpu-list.pool) c.from.ensures)
     c.relink_after.ensures
+
+pub invariant_of-self : goal.invariant_of-self
+invariant_of-self c =
+    let k = c.self.invariant in
+    record {
+      layout = k.layout;
+      frame_count = ap (λ (n : LinkedLists). n.frame_count) c.unlink.ensures.links ∙ k.frame_count;
+      list_count =
+          ap (λ (n : LinkedLists). length n.lists) c.unlink.ensures.links
+          ∙ length-map c.self.inside.links.lists (without c.in-Link.frame) ∙ k.list_count;
+    }
+
+pub returns-in-Cpu-clause-layout : goal.returns-in-Cpu-clause-layout
+returns-in-Cpu-clause-layout c = ap (λ (v : CpusValue). v.layout) c.self.view_is
+
+pub returns-in-Link-clause-back : goal.returns-in-Link-clause-back
+returns-in-Link-clause-back c areas =
+    ap (λ (d : Delta). cached_undo d (frames_of areas c.args.self.now)) (sym (c.in-Link.is
+    ∙ ap (λ (k : ListId). Link k c.in-Link.frame c.in-Link.after) c.in_default-list.is))
+
+pub invariant_of-self-in-Cpu-list : goal.invariant_of-self-in-Cpu-list
+invariant_of-self-in-Cpu-list c =
+    let k = c.self.invariant in
+    record {
+      layout = k.layout;
+      frame_count = ap (λ (n : LinkedLists). n.frame_count) c.relink_after.ensures ∙ k.frame_count;
+      list_count =
+          ap (λ (n : LinkedLists). length n.lists) c.relink_after.ensures
+          ∙ (simp length-set) ∙ k.list_count;
+    }
+
+pub returns-in-Cpu-list-clause-layout : goal.returns-in-Cpu-list-clause-layout
+returns-in-Cpu-list-clause-layout c = ap (λ (v : CpusValue). v.layout) c.self.view_is
+
+pub returns-in-Unlink-clause-back : goal.returns-in-Unlink-clause-back
+returns-in-Unlink-clause-back c areas =
+    ap (λ (d : Delta). cached_undo d (frames_of areas c.args.self.now)) (sym (c.in-Unlink.is
+    ∙ ap (λ (k : ListId). Unlink k c.in-Unlink.frame c.in-Unlink.after) c.in_default-list-2.is))

@@ -1,4 +1,5 @@
 use Rattle.std.proofs.Common.{ℕ, ◌*◌, ap, ◌∙◌, [], replicate}
+use Rattle.std.proofs.lemmas.Result.{err_from_is_err_and}
 use Rattle.hp_links.specs.LinkedLists.{LinkedLists}
 use Rattle.hp_cpus.proofs.Together.{empty-together}
 use Rattle.hp_cpus.proofs.cpus.Cpus.new.Goals as goal
@@ -8,3 +9,23 @@ returns-clause-together c =
     empty-together c.in_ok-layout.layout c.in_ok-links.links.lists
     (ap (λ (k : LinkedLists). k.lists) c.in_ok-links.ensures
     ∙ ap (λ (n : ℕ). replicate (3 * n) []) c.cpus.ensures.is)
+
+pub returns-in_err-layout-clause-value : goal.returns-in_err-layout-clause-value
+returns-in_err-layout-clause-value c =
+    let p = err_from_is_err_and c.from_residual.result c.from_residual.ensures.1 in
+    rw p.1 tt
+
+pub returns-in_err-layout-clause-together : goal.returns-in_err-layout-clause-together
+returns-in_err-layout-clause-together c =
+    let p = err_from_is_err_and c.from_residual.result c.from_residual.ensures.1 in
+    rw p.1 tt
+
+pub returns-in_err-links-clause-value : goal.returns-in_err-links-clause-value
+returns-in_err-links-clause-value c =
+    let p = err_from_is_err_and c.from_residual-in_err-links.result c.from_residual-in_err-links.ensures.1 in
+    rw p.1 tt
+
+pub returns-in_err-links-clause-together : goal.returns-in_err-links-clause-together
+returns-in_err-links-clause-together c =
+    let p = err_from_is_err_and c.from_residual-in_err-links.result c.from_residual-in_err-links.ensures.1 in
+    rw p.1 tt

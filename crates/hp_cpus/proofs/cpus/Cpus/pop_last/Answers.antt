@@ -1,4 +1,6 @@
-use Rattle.hp_cpus.specs.Cpus.{list_of}
+use Rattle.std.proofs.Common.{◌≡◌, ap, arith}
+use Rattle.hp_lemmas.proofs.Pools.{pool_index-lt}
+use Rattle.hp_cpus.specs.Cpus.{CpusValue, list_of}
 use Rattle.hp_cpus.proofs.Counts.{HasLists}
 use Rattle.hp_cpus.proofs.Ends.{IsLast, seen-lists, seen-last, seen-no_last, last-left}
 use Rattle.hp_cpus.proofs.Together.{frame_of_list}
@@ -36,3 +38,21 @@ returns-in-None-clause-popped c =
     let b = c.self.inside in
     seen-no_last c.args.self.now b.layout b.links c.args.cpu c.args.pool c.list_number.result
     (record { is = c.self.view_is; kept = c.self.invariant }) c.list_number.ensures c.in-None.ensures
+
+pub list_number-requires : goal.list_number-requires
+list_number-requires c =
+    let same : c.self.inside.layout.cpus ≡ c.args.self.now.layout.cpus =
+    ap (λ (v : CpusValue). v.layout.cpus) c.self.view_is in
+    omega (arith, c.requires.cpu, c.self.invariant.layout.cpus)
+
+pub last-requires : goal.last-requires
+last-requires c =
+    let same : c.self.inside.layout.cpus ≡ c.args.self.now.layout.cpus =
+    ap (λ (v : CpusValue). v.layout.cpus) c.self.view_is in
+    omega (
+      arith,
+      c.requires.cpu,
+      c.self.invariant.list_count,
+      c.list_number.ensures,
+      pool_index-lt c.args.pool,
+    )

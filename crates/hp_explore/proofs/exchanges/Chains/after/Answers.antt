@@ -11,12 +11,16 @@ use Rattle.hp_explore.proofs.exchanges.Chains.after.Goals as goal
 pub invariant_of-self : goal.invariant_of-self
 invariant_of-self c = subst (StandOnEarlier exchange_below) (sym c.reserve.ensures.items) c.self.invariant
 
-pub invariant_of-self-in-Err : goal.invariant_of-self-in-Err
-invariant_of-self-in-Err c =
+pub invariant_of-self-in_err-learn : goal.invariant_of-self-in_err-learn
+invariant_of-self-in_err-learn c =
     subst (StandOnEarlier exchange_below) (sym c.reserve.ensures.items) c.self.invariant
 
-pub invariant_of-self-in-Ok : goal.invariant_of-self-in-Ok
-invariant_of-self-in-Ok c =
+pub invariant_of-self-in_err-event : goal.invariant_of-self-in_err-event
+invariant_of-self-in_err-event c =
+    subst (StandOnEarlier exchange_below) (sym c.reserve.ensures.items) c.self.invariant
+
+pub invariant_of-self-2 : goal.invariant_of-self-2
+invariant_of-self-2 c =
     let e : Exchange = record {
       event = c.in_ok-event.event;
       reply = c.args.latest.now.reply;
@@ -28,8 +32,8 @@ invariant_of-self-in-Ok c =
     c.self.invariant
     (subst (λ (chains : List (List Receipt)). c.args.below < length chains) (sym c.self.view_is) c.requires)
 
-pub returns-in-Ok-clause-kept : goal.returns-in-Ok-clause-kept
-returns-in-Ok-clause-kept c =
+pub returns-clause-kept : goal.returns-clause-kept
+returns-clause-kept c =
     let e : Exchange = record {
       event = c.in_ok-event.event;
       reply = c.args.latest.now.reply;
@@ -41,8 +45,8 @@ returns-in-Ok-clause-kept c =
     (c.push_reserved.ensures.items
     ∙ ap (λ (entries : List Exchange). entries ++ e ∷ []) c.reserve.ensures.items))
 
-pub returns-in-Ok-clause-ok : goal.returns-in-Ok-clause-ok
-returns-in-Ok-clause-ok c =
+pub returns-clause-ok : goal.returns-clause-ok
+returns-clause-ok c =
     let e : Exchange = record {
       event = c.in_ok-event.event;
       reply = c.args.latest.now.reply;

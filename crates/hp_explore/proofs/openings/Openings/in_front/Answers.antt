@@ -10,11 +10,12 @@ use Rattle.hp_explore.proofs.openings.Openings.in_front.Goals as goal
 pub invariant_of-self : goal.invariant_of-self
 invariant_of-self c = subst (StandOnEarlier entry_below) (sym c.reserve.ensures.items) c.self.invariant
 
-pub invariant_of-self-in-Err : goal.invariant_of-self-in-Err
-invariant_of-self-in-Err c = subst (StandOnEarlier entry_below) (sym c.reserve.ensures.items) c.self.invariant
+pub invariant_of-self-in_err-learn : goal.invariant_of-self-in_err-learn
+invariant_of-self-in_err-learn c =
+    subst (StandOnEarlier entry_below) (sym c.reserve.ensures.items) c.self.invariant
 
-pub invariant_of-self-in-Ok : goal.invariant_of-self-in-Ok
-invariant_of-self-in-Ok c =
+pub invariant_of-self-2 : goal.invariant_of-self-2
+invariant_of-self-2 c =
     let e : Entry = record { op = c.args.op; state = c.args.state; below = c.args.below } in
     stand_added entry_below in_front c.self.inside.entries.items c.push_reserved.new.self.items e
     (c.push_reserved.ensures.items ∙ ap (λ (entries : List Entry). entries ++ e ∷ []) c.reserve.ensures.items)
@@ -22,8 +23,8 @@ invariant_of-self-in-Ok c =
     (subst (λ (lists : List (List NumberedOpening)). c.args.below < length lists) (sym c.self.view_is)
     c.requires)
 
-pub returns-in-Ok-clause-kept : goal.returns-in-Ok-clause-kept
-returns-in-Ok-clause-kept c =
+pub returns-clause-kept : goal.returns-clause-kept
+returns-clause-kept c =
     let e : Entry = record { op = c.args.op; state = c.args.state; below = c.args.below } in
     subst (λ (lists : List (List NumberedOpening)). KeepNumbers lists
     (openings_of c.push_reserved.new.self.items))
@@ -32,8 +33,8 @@ returns-in-Ok-clause-kept c =
     (c.push_reserved.ensures.items
     ∙ ap (λ (entries : List Entry). entries ++ e ∷ []) c.reserve.ensures.items))
 
-pub returns-in-Ok-clause-ok : goal.returns-in-Ok-clause-ok
-returns-in-Ok-clause-ok c =
+pub returns-clause-ok : goal.returns-clause-ok
+returns-clause-ok c =
     let e : Entry = record { op = c.args.op; state = c.args.state; below = c.args.below } in
     subst (λ (lists : List (List NumberedOpening)).
     IsInFront lists (openings_of c.push_reserved.new.self.items) c.args.op

@@ -1,24 +1,24 @@
--- Each processor's part is added in its turn.
-use Rattle.std.proofs.Common.{ap, arith, get_or, ◌∙◌}
+-- A key that is begun gets the parts of all processors.
+use Rattle.std.proofs.Common.{ap, sym, ◌∙◌}
+use Rattle.std.proofs.lemmas.Result.{IfOk-weaker}
 use Rattle.hp_explore.specs.Standing.{StandingValue}
-use Rattle.hp_explore.proofs.Keys.{key_more}
-use Rattle.hp_explore.proofs.Stood.{number_inside, number_read}
+use Rattle.hp_explore.proofs.Keys.{key_made}
 use Rattle.hp_explore.proofs.standing.Standing.key.Goals as goal
 
-pub bounds-numbers-cpu : goal.bounds-numbers-cpu
-bounds-numbers-cpu c =
-    let p = c.args.path.now in
-    number_inside p.setting p.news c.args.self.now c.numbers-numbers.result.now c.loop-cpu.cpu
-    (c.numbers-numbers.ensures ∙ ap (λ (s : StandingValue). s.exchanged.here) c.self.view_is)
-    (omega (arith, c.loop-cpu-test.true, c.requires.processors)) c.requires.standing
+pub push_parts-requires-clause-processors : goal.push_parts-requires-clause-processors
+push_parts-requires-clause-processors c = c.requires.processors
 
-pub loop-cpu-preserved : goal.loop-cpu-preserved
-loop-cpu-preserved c =
+pub push_parts-requires-clause-standing : goal.push_parts-requires-clause-standing
+push_parts-requires-clause-standing c = c.requires.standing
+
+pub returns : goal.returns
+returns c =
     let p = c.args.path.now in
-    key_more c.args.self.now p.news c.in-Some.state c.in-Some-openings.openings c.loop-cpu.cpu
-    (get_or c.numbers-numbers.result.now c.loop-cpu.cpu 0) c.begun.inside.0 c.loop-cpu.key.items
-    c.push_two-in-loop-cpu.new.numbers.items c.loop-cpu.invariant (c.in_ok-fit-2.ensures c.if-not-fit-2.false)
-    (number_read p.setting p.news c.args.self.now c.numbers-numbers.result.now c.loop-cpu.cpu
-    (c.numbers-numbers.ensures ∙ ap (λ (s : StandingValue). s.exchanged.here) c.self.view_is)
-    (omega (arith, c.loop-cpu-test.true, c.requires.processors)) c.requires.standing)
-    (c.begun.view_is ∙ c.operation-begun.ensures)
+    IfOk-weaker c.push_parts.result _ _
+    (λ fit made whole. key_made p.setting c.args.self.now p.news c.in-Some.state c.in-Some-openings.openings
+    c.args.processors c.clear.new.self.items c.push_two.new.numbers.items c.push_parts.new.key.items
+    c.requires.processors
+    (sym (ap (λ (s : StandingValue). s.here.state) c.self.view_is) ∙ c.in-Some.is)
+    (sym (ap (λ (s : StandingValue). s.here.openings) c.self.view_is) ∙ c.in-Some-openings.is)
+    c.requires.standing c.clear.ensures.items (c.in_ok-fit.ensures c.if-not-fit.false) (made whole))
+    c.push_parts.ensures

@@ -9,8 +9,8 @@ use Rattle.hp_explore.proofs.Framing.{frames_pushed}
 use Rattle.hp_explore.proofs.Kept.{memo_extended}
 use Rattle.std.proofs.lemmas.Result.{err_from_is_err_and}
 use Rattle.hp_explore.proofs.OfPart.{cause_part}
-use Rattle.hp_explore.proofs.Walked.{forth_setting, led_on, passed_on, short_on, way_on}
-use Rattle.hp_explore.proofs.Weights.{left_passed}
+use Rattle.hp_explore.proofs.Walked.{forth_setting, led_on, passed_on, short_on, some_news, way_on}
+use Rattle.hp_explore.proofs.Weights.{left_led, left_passed}
 use Rattle.hp_explore.proofs.walk.Walk.go_on.Goals as goal
 
 pub passed-requires : goal.passed-requires
@@ -103,6 +103,42 @@ come_to-requires o c =
       few = c.requires.kept.few;
       short = short_on w.path c.forward.new.self c.args.frame.next forth;
     }
+
+pub latest-requires : goal.latest-requires
+latest-requires o c =
+    let w = c.args.self.now in
+    omega (
+      arith,
+      some_news w.path c.forward.new.self c.args.frame.next
+          (subst (λ (b : Bool). IsForth w.path c.args.frame.next b c.forward.new.self)
+          c.if-not-branch.false c.in_ok-forward.ensures.ok),
+      ap length c.records.ensures,
+    )
+
+pub returns-clause-kept : goal.returns-clause-kept
+returns-clause-kept o c = c.in_ok-come_to.ensures.kept
+
+pub returns-clause-less : goal.returns-clause-less
+returns-clause-less o c =
+    let w = c.args.self.now in
+    let same =
+    forth_setting w.path c.forward.new.self c.args.frame.next c.in_ok-forward.field-0
+    c.in_ok-forward.ensures.ok in
+    let pushed =
+    frames_pushed w.frames.items c.reserve.new.self.items c.push_reserved-2.new.self.items c.led_on.result
+    c.in_ok-reserve.ensures.items c.push_reserved-2.ensures.items in
+    left_led w.processors w.path.setting c.forward.new.self.setting (frames_of w)
+    (reverse c.push_reserved-2.new.self.items) c.args.frame c.led_on.result _ same pushed c.requires.some
+    (ap (λ (f : Frame). f.next) c.led_on.ensures) c.in_ok-come_to.ensures.less
+
+pub returns-clause-same : goal.returns-clause-same
+returns-clause-same o c =
+    let same = c.in_ok-come_to.ensures.same in (
+      same.0 ∙ forth_setting c.args.self.now.path c.forward.new.self c.args.frame.next
+          c.in_ok-forward.field-0 c.in_ok-forward.ensures.ok,
+      same.1,
+      same.2,
+    )
 
 pub go_on-requires : goal.go_on-requires
 go_on-requires o c =

@@ -1,4 +1,4 @@
-use Rattle.std.proofs.Common.{◌≡◌, ◌<◌, true, Some, refl, sym, ◌∙◌, subst}
+use Rattle.std.proofs.Common.{◌≡◌, ℕ, ◌+◌, ◌*◌, ◌<◌, ◌≤◌, arith, true, Some, refl, sym, ◌∙◌, subst}
 use Rattle.std.specs.Prelude.{is_some}
 use Rattle.hp_units.specs.Arithmetic.{frame_count}
 use Rattle.hp_units.specs.LayoutParts.{LayoutParts}
@@ -7,12 +7,15 @@ use Rattle.hp_units.specs.Migrations.{migration_source}
 use Rattle.hp_units.specs.Rows.{is_live}
 use Rattle.hp_memory.specs.Layers.{state_of}
 use Rattle.hp_units.specs.declared.events.Event.TheVariants.{Migrate}
-use Rattle.hp_units.specs.declared.replies.Refusal.TheVariants.{NoFrame}
-use Rattle.hp_memory.proofs.Answers.{refused_none}
-use Rattle.hp_memory.proofs.Migrated.{migrate-done, migrate-refused, source-holds, source-inside, source-returns}
-use Rattle.hp_memory.proofs.PageEvents.{settled}
+use Rattle.hp_units.specs.declared.replies.Refusal.TheVariants.{NoFrame, NoOp, NothingToMove}
+use Rattle.hp_memory.proofs.Answers.{refused, refused_none}
+use Rattle.hp_memory.proofs.Migrated.{migrate-done, migrate-idle, migrate-over, migrate-refused, source-holds, source-inside, source-returns}
+use Rattle.hp_memory.proofs.PageEvents.{settled, taken-free, taken-inside}
 use Rattle.hp_memory.proofs.Placed.{tidy-placed}
+use Rattle.hp_memory.proofs.Rooms.{room-free, room-less, room-pages}
 use Rattle.hp_memory.proofs.Sources.{source-live}
+use Rattle.hp_tape.specs.Bounds.{give_bound, steal_bound}
+use Rattle.hp_tape.specs.Tapes.{HasRoom, TapeValue}
 use Rattle.hp_memory.proofs.layers.Layers.migrate.Goals as goal
 use Rattle.hp_memory.proofs.layers.Layers.migrate.Goals.{In-Some}
 
@@ -73,3 +76,66 @@ returns-in-None-clause-ok c =
     c.reserve.ensures.deltas
     (migrate-refused m c.migration_target.new.self c.args.op c.in-Some.from _ c.reserve.new.self
     c.migration_target.new.tape c.requires.placed (live here) (found here) c.in-None.ensures)
+
+pub returns-then-is_live-clause-ok : goal.returns-then-is_live-clause-ok
+returns-then-is_live-clause-ok c =
+    let m = c.args.self.now in
+    refused m (Migrate c.args.op) _ c.args.tape.now.deltas c.args.tape.now.deltas NothingToMove
+    c.requires.placed
+    (migrate-idle m.layout (state_of m) c.args.op (sym c.is_live.ensures ∙ c.if-is_live.true)
+    (sym c.migration_source.ensures ∙ c.in_default.is)) refl
+
+pub returns-in_default-clause-ok : goal.returns-in_default-clause-ok
+returns-in_default-clause-ok c =
+    let m = c.args.self.now in
+    refused m (Migrate c.args.op) _ c.args.tape.now.deltas c.args.tape.now.deltas NoOp c.requires.placed
+    (migrate-over m.layout (state_of m) c.args.op (sym c.is_live.ensures ∙ c.if-is_live.false)) refl
+
+pub move_page-requires-clause-to : goal.move_page-requires-clause-to
+move_page-requires-clause-to c =
+    subst (λ (l : LayoutParts). c.in-Some-migration_target.to < frame_count l)
+    (sym c.requires.placed.one.pages)
+    (taken-inside c.args.self.now _ _ _ _ _ c.in-Some-migration_target.to c.requires.placed
+    c.in-Some-migration_target.ensures)
+
+pub move_page-requires-clause-free : goal.move_page-requires-clause-free
+move_page-requires-clause-free c =
+    taken-free c.args.self.now _ _ _ _ _ c.in-Some-migration_target.to c.requires.placed
+    c.in-Some-migration_target.ensures
+
+pub give-requires-clause-tidy : goal.give-requires-clause-tidy
+give-requires-clause-tidy c = c.migration_target.ensures.tidy
+
+-- what is left of the room that was reserved
+enough : (c : In-Some) (t : TapeValue) (order more : ℕ) → HasRoom t (2 * order + 5)
+    → order ≡ c.args.self.now.layout.order → more ≤ order + 3
+    → HasRoom t (steal_bound c.args.self.now.frames.cpus.layout + more)
+enough c t order more room is few =
+    subst (λ (l : LayoutParts). HasRoom t (steal_bound l + more)) (sym c.requires.placed.one.cpus)
+    (omega (arith, room, is, few))
+
+pub migration_target-requires-clause-room : goal.migration_target-requires-clause-room
+migration_target-requires-clause-room c =
+    room-less c.reserve.new.self (steal_bound c.args.self.now.frames.cpus.layout) 0
+    (enough (goal.at.migration_target-requires-clause-room c).In-Some c.reserve.new.self
+    c.order-order.result 0 c.in_ok-reserve.ensures.room c.order-order.ensures.is (omega arith))
+
+pub move_page-requires-clause-room : goal.move_page-requires-clause-room
+move_page-requires-clause-room c =
+    room-free _ (steal_bound c.args.self.now.frames.cpus.layout) 2 c.reserve.new.self
+    c.migration_target.new.tape _ _ c.migration_target.ensures.notes
+    (enough (goal.at.move_page-requires-clause-room c).In-Some c.reserve.new.self c.order-order.result 2
+    c.in_ok-reserve.ensures.room c.order-order.ensures.is (omega arith))
+
+pub give-requires-clause-room : goal.give-requires-clause-room
+give-requires-clause-room c =
+    let m = c.args.self.now in
+    let left : ℕ = 2 + give_bound m.layout in
+    subst (λ (l : LayoutParts). HasRoom c.move_page.new.tape (give_bound l))
+    (sym (c.migration_target.ensures.layout ∙ c.requires.placed.one.cpus))
+    (room-pages _ 2 (give_bound m.layout) c.migration_target.new.tape c.move_page.new.tape _ _
+    c.move_page.ensures.notes
+    (room-free _ (steal_bound m.frames.cpus.layout) left c.reserve.new.self c.migration_target.new.tape _ _
+    c.migration_target.ensures.notes
+    (enough (goal.at.give-requires-clause-room c).In-Some c.reserve.new.self c.order-order.result left
+    c.in_ok-reserve.ensures.room c.order-order.ensures.is (omega (arith, c.order-order.ensures.is)))))

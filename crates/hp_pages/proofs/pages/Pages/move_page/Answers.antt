@@ -1,10 +1,11 @@
 use Rattle.std.proofs.Common.{◌++◌, ◌∷◌, []}
 use Rattle.hp_tape.specs.declared.deltas.Delta.{Delta}
-use Rattle.std.proofs.Common.{◌≡◌, ◌<◌, Some, ap, subst, sym, ◌∙◌, arith}
+use Rattle.std.proofs.Common.{◌≡◌, ◌<◌, ℕ, Option, Some, ap, subst, sym, ◌∙◌, arith}
+use Rattle.std.specs.Option.{option_map_or}
 use Rattle.hp_units.specs.Memory.{entry_of}
 use Rattle.hp_units.specs.Pages.{page_from}
 use Rattle.hp_tape.specs.Tapes.{NotesPages}
-use Rattle.hp_pages.specs.Pages.{AreSettled, PagesValue, move_entry}
+use Rattle.hp_pages.specs.Pages.{AreSettled, PagesValue, move_entry, move_frame}
 use Rattle.hp_pages.specs.Places.{TableValue}
 use Rattle.hp_pages.proofs.PageCalls.{notes-move, settled-move}
 use Rattle.hp_pages.proofs.PageParts.{first_page}
@@ -97,3 +98,18 @@ of_page-requires-clause-page c =
     first in
     let in_pages = subst (λ (v : PagesValue). page.1 < v.layout.pages) (sym c.self.view_is) is.in_pages in
     omega (arith, in_pages, c.self.invariant.pages, c.set.ensures.was_table.pages)
+
+pub returns-clause-moved : goal.returns-clause-moved
+returns-clause-moved c =
+    let page = c.unwrap-owner.result in
+    let v = c.args.self.now.pages in
+    let first : page_from 0 v.table c.args.from ≡ Some page =
+    sym c.page_at.ensures.page ∙ c.unwrap-owner.ensures in
+    let rows = ap (λ (t : TableValue). t.rows) c.set.ensures.set in
+    rw (rows, c.swap.ensures) (subst (λ (w : PagesValue).
+    move_entry w.pages page.0 page.1 c.args.from c.args.to ≡ move_frame v c.args.from c.args.to)
+    (sym c.self.view_is) (sym (ap (λ (o : Option (ℕ × ℕ)).
+    option_map_or (λ p. move_entry v p.0 p.1 c.args.from c.args.to) o v) first)))
+
+pub returns-clause-layout : goal.returns-clause-layout
+returns-clause-layout c = ap (λ (w : PagesValue). w.layout) c.self.view_is

@@ -1,0 +1,36 @@
+-- Each processor's part is added in its turn.
+use Rattle.std.proofs.Common.{ℕ, ap, arith, get_or, subst, ◌∙◌}
+use Rattle.hp_explore.specs.Standing.{IsBegunKey, StandingValue}
+use Rattle.hp_explore.proofs.Keys.{key_more}
+use Rattle.hp_explore.proofs.Stood.{number_inside, number_read}
+use Rattle.hp_explore.proofs.standing.Standing.push_parts.Goals as goal
+
+pub bounds-numbers-cpu : goal.bounds-numbers-cpu
+bounds-numbers-cpu c =
+    let p = c.args.path.now in
+    number_inside p.setting p.news c.args.self.now c.numbers-numbers.result.now c.loop-cpu.cpu
+    (c.numbers-numbers.ensures ∙ ap (λ (s : StandingValue). s.exchanged.here) c.self.view_is)
+    (omega (arith, c.loop-cpu-test.true, c.requires.processors)) c.requires.standing
+
+pub loop-cpu-init : goal.loop-cpu-init
+loop-cpu-init c = λ state openings begun. begun
+
+pub loop-cpu-preserved : goal.loop-cpu-preserved
+loop-cpu-preserved c =
+    let p = c.args.path.now in
+    λ state openings begun. key_more c.args.self.now p.news state openings c.loop-cpu.cpu
+    (get_or c.numbers-numbers.result.now c.loop-cpu.cpu 0) c.begun.inside.0 c.loop-cpu.key.items
+    c.push_two.new.numbers.items (c.loop-cpu.invariant state openings begun)
+    (c.in_ok-fit.ensures c.if-not-fit.false)
+    (number_read p.setting p.news c.args.self.now c.numbers-numbers.result.now c.loop-cpu.cpu
+    (c.numbers-numbers.ensures ∙ ap (λ (s : StandingValue). s.exchanged.here) c.self.view_is)
+    (omega (arith, c.loop-cpu-test.true, c.requires.processors)) c.requires.standing)
+    (c.begun.view_is ∙ c.operation-begun.ensures)
+
+pub returns : goal.returns
+returns c =
+    let p = c.args.path.now in
+    λ whole state openings begun.
+    subst (λ (cpus : ℕ). IsBegunKey c.args.self.now p.news state openings cpus c.loop-cpu.key.items)
+    (omega (arith, c.loop-cpu-test.false, c.loop-cpu.auto.cpu-end))
+    (c.loop-cpu.invariant state openings begun)

@@ -1,0 +1,18 @@
+use Rattle.std.proofs.lemmas.Result.{err_from_is_err_and}
+use Rattle.hp_pages.proofs.table.copy_of_rows.Goals as goal
+
+pub returns-in_err-copy : goal.returns-in_err-copy
+returns-in_err-copy c =
+    let p = err_from_is_err_and c.from_residual.result c.from_residual.ensures.1 in
+    rw p.1 tt
+
+pub returns-in_err-copy-2 : goal.returns-in_err-copy-2
+returns-in_err-copy-2 c =
+    let p =
+    err_from_is_err_and c.from_residual-in_err-copy-2.result c.from_residual-in_err-copy-2.ensures.1 in
+    rw p.1 tt
+
+pub returns-in_err-push : goal.returns-in_err-push
+returns-in_err-push c =
+    let p = err_from_is_err_and c.from_residual-in_err-push.result c.from_residual-in_err-push.ensures.1 in
+    rw p.1 tt
