@@ -1,14 +1,13 @@
 -- Free blocks that lie apart: a shorter list keeps it, and so does one block more.
-use Rattle.std.proofs.Common.{◌≡◌, ℕ, ◌+◌, ◌*◌, ◌%◌, ◌^◌, ◌<◌, ◌≤◌, List, [], ◌∷◌, ◌++◌, true, refl, ◌∙◌, subst, arith, inl, inr}
-use Rattle.std.proofs.lemmas.Bool.{cases_lt, both_ways}
-use Rattle.std.proofs.lemmas.List.{get_or_past}
+use Rattle.std.proofs.Common.{◌≡◌, ℕ, ◌+◌, ◌%◌, ◌^◌, ◌<◌, ◌≤◌, List, [], ◌∷◌, ◌++◌, true, ◌∙◌, subst, arith, inl, inr}
+use Rattle.std.proofs.lemmas.Bool.{cases_lt}
 use Rattle.std.proofs.lemmas.Nat.{pow_pos}
 use Rattle.hp_units.specs.declared.rows.Class.{Class}
 use Rattle.hp_units.specs.declared.rows.Kind.{Kind}
 use Rattle.hp_units.specs.LayoutParts.{LayoutParts}
 use Rattle.hp_units.specs.Arithmetic.{frame_count}
 use Rattle.hp_units.specs.InLayout.{AreFreeAreasOf}
-use Rattle.hp_units.specs.Memory.{FreeAreas, free_list, with_free_list, with_kind, class_index}
+use Rattle.hp_units.specs.Memory.{FreeAreas, free_list, with_free_list, with_kind}
 use Rattle.hp_units.specs.FreeAreas.{is_on, with_front, with_back}
 use Rattle.hp_units.specs.Placement.{free_places, covered}
 use Rattle.hp_lemmas.proofs.Sizes.{with_free_list-size, with_kind-size}
@@ -21,17 +20,6 @@ use Rattle.hp_buddy.specs.Buddy.{AreApart, MayBeGiven}
 pub has_order : (l : LayoutParts) (a : FreeAreas) (order : ℕ) → AreApart l a → order ≤ l.order
     → HasOrder a order
 has_order l a order h low = omega (arith, h.areas.lists)
-
--- an order past the layout's has no free block
-pub on_order : (l : LayoutParts) (a : FreeAreas) (class : Class) (order first : ℕ) → AreFreeAreasOf l a
-    → is_on first (free_list a class order) ≡ true → order ≤ l.order
-on_order l a class order first h on = elim (cases_lt l.order order) [
-  | inl above ↦
-      let past : free_list a class order ≡ [] =
-      get_or_past a.lists (5 * order + class_index class) [] (omega (arith, h.lists)) in
-      absurd (both_ways (is_on first []) refl (subst (λ (xs : List ℕ). is_on first xs ≡ true) past on))
-  | inr low ↦ low
-]
 
 -- a free block's first frame is a frame
 pub on_frame : (l : LayoutParts) (a : FreeAreas) (class : Class) (order first : ℕ) → AreFreeAreasOf l a

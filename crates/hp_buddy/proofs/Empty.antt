@@ -1,16 +1,11 @@
 -- Of areas with nothing free, the first pageblock may be given.
-use Rattle.std.proofs.Common.{ℕ, ◌+◌, ◌*◌, ◌^◌, ◌≤◌, subst, sym, arith}
-use Rattle.std.proofs.lemmas.Nat.{pow_pos}
+use Rattle.std.proofs.Common.{◌+◌, ◌*◌, ◌^◌, ◌≤◌, arith}
 use Rattle.std.proofs.Math.Nat.{mul-le-mul_right}
-use Rattle.hp_units.specs.LayoutParts.{LayoutParts, IsLayout}
+use Rattle.hp_units.specs.LayoutParts.{LayoutParts}
 use Rattle.hp_units.specs.Arithmetic.{pageblock_size}
 use Rattle.hp_units.specs.Boot.{empty_areas}
 use Rattle.hp_buddy.specs.Buddy.{MayBeGiven}
 use Rattle.hp_buddy.proofs.Standing.{none-places}
-
--- a memory block has a pageblock
-pub some-pageblocks : (l : LayoutParts) → IsLayout l → 1 ≤ l.pageblocks
-some-pageblocks l h = subst (λ (n : ℕ). 1 ≤ n) (sym h.pageblocks.2) (pow_pos h.pageblocks.0)
 
 -- the first pageblock
 pub first_block : (l : LayoutParts) → 1 ≤ l.blocks → 1 ≤ l.pageblocks

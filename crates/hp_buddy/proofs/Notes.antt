@@ -2,7 +2,7 @@
 use Rattle.std.proofs.Common.{◌≡◌, ℕ, ◌+◌, ◌*◌, ◌<◌, ◌≤◌, List, [], ◌∷◌, ◌++◌, length, get_or, set, Bool, true, false, not, Option, Some, None, refl, sym, ◌∙◌, ap, subst, arith, ◌&&◌}
 use Rattle.std.specs.Option.{ForSome, option_map_or}
 use Rattle.std.specs.List.{list_all}
-use Rattle.std.proofs.lemmas.List.{get_or-set_same, set-set, set-get_or}
+use Rattle.std.proofs.lemmas.List.{get_or-set_same, length-map, length-set, set-set, set-get_or}
 use Rattle.std.proofs.lemmas.Bool.{eq-eqb, false_from_ne_true}
 use Rattle.hp_units.specs.declared.rows.Class.{Class}
 use Rattle.hp_units.specs.declared.rows.Kind.{Kind}
@@ -16,7 +16,7 @@ use Rattle.hp_tape.specs.declared.deltas.Delta.TheVariants.{Link, Unlink, Kind a
 use Rattle.hp_tape.specs.declared.deltas.ListId.TheVariants.{Area}
 use Rattle.hp_tape.specs.Deltas.{FitsAreas, IsDeltaOf, IsOfAreas, areas_undo, is_behind}
 use Rattle.hp_tape.specs.Tapes.{TapeValue, NotesAreas}
-use Rattle.hp_links.specs.LinkedLists.{LinkedLists, list_at, with_list, IsOn, IsListed, IsUnlisted, with_behind, last, without as without_first}
+use Rattle.hp_links.specs.LinkedLists.{LinkedLists, list_at, with_list, off_lists, IsOn, IsListed, IsUnlisted, with_behind, last, without as without_first}
 use Rattle.hp_buddy.specs.Buddy.{BuddyValue, IsBuddyOf}
 use Rattle.hp_lemmas.proofs.Places.{class_index-lt, list_places-cons, HasOrder}
 use Rattle.hp_lemmas.proofs.Tables.{get_set}
@@ -43,6 +43,56 @@ notes-one l delta was now later earlier room noted own numbers fits back = recor
 pub list_in : (l : LayoutParts) (links : LinkedLists) (kinds : List Kind) (class : Class) (order : ℕ)
     → IsBuddyOf l links kinds → order ≤ l.order → 5 * order + class_index class < length links.lists
 list_in l links kinds class order h low = omega (arith, h.list_count, class_index-lt class)
+
+-- ---- what calls of the tables need
+
+-- what contracts see of the tables
+abbrev pub buddy_of : LayoutParts → LinkedLists → List Kind → BuddyValue
+buddy_of l links kinds = record { layout = l; areas = areas_of links kinds }
+
+-- an order of the layout is small
+pub order-small : {v : BuddyValue} {l : LayoutParts} {links : LinkedLists} {kinds : List Kind} {order : ℕ}
+    → IsBuddyOf l links kinds → buddy_of l links kinds ≡ v → order ≤ v.layout.order → order < 32
+order-small {v} {l} kept is low =
+    let same : l.order ≡ v.layout.order = ap (λ (w : BuddyValue). w.layout.order) is in
+    omega (arith, low, kept.layout.order)
+
+-- its lists are in the table, and so is a frame of the layout
+pub list-there : {v : BuddyValue} {l : LayoutParts} {links : LinkedLists} {kinds : List Kind} {order n : ℕ}
+    (class : Class)
+    → IsBuddyOf l links kinds → buddy_of l links kinds ≡ v → order ≤ v.layout.order
+    → n ≡ 5 * order + class_index class → n < length links.lists
+list-there {v} {l} class kept is low place =
+    let same : l.order ≡ v.layout.order = ap (λ (w : BuddyValue). w.layout.order) is in
+    omega (arith, low, kept.list_count, place, class_index-lt class)
+
+pub frame-there : {v : BuddyValue} {l : LayoutParts} {links : LinkedLists} {kinds : List Kind} {f : ℕ}
+    → IsBuddyOf l links kinds → buddy_of l links kinds ≡ v → f < frame_count v.layout
+    → f < links.frame_count
+frame-there {f = f} kept is low =
+    subst (λ (n : ℕ). f < n) (sym (kept.frame_count ∙ ap (λ (w : BuddyValue). frame_count w.layout) is)) low
+
+-- the tables are those of the layout with another list in them, and with a frame on no list
+pub kept-with : {l : LayoutParts} {links new : LinkedLists} {kinds : List Kind} (n : ℕ) (frames : List ℕ)
+    → IsBuddyOf l links kinds → new ≡ with_list links n frames → IsBuddyOf l new kinds
+kept-with {links = links} n frames kept is = record {
+  layout = kept.layout;
+  frame_count = ap (λ (k : LinkedLists). k.frame_count) is ∙ kept.frame_count;
+  list_count =
+      ap (λ (k : LinkedLists). length k.lists) is ∙ length-set links.lists n frames ∙ kept.list_count;
+  kind_count = kept.kind_count;
+}
+
+pub kept-off : {l : LayoutParts} {links new : LinkedLists} {kinds : List Kind} (f : ℕ)
+    → IsBuddyOf l links kinds → new ≡ off_lists f links → IsBuddyOf l new kinds
+kept-off {links = links} f kept is = record {
+  layout = kept.layout;
+  frame_count = ap (λ (k : LinkedLists). k.frame_count) is ∙ kept.frame_count;
+  list_count =
+      ap (λ (k : LinkedLists). length k.lists) is ∙ length-map links.lists (without_first f)
+      ∙ kept.list_count;
+  kind_count = kept.kind_count;
+}
 
 -- two tests
 pub both : (a b : Bool) → a ≡ true → b ≡ true → (a && b) ≡ true
@@ -175,7 +225,7 @@ kind-notes l a pageblock kind was now delta lt size room noted is =
 
 -- what contracts see of the tables, which are those of the layout
 pub record Seen (v : BuddyValue) (l : LayoutParts) (links : LinkedLists) (kinds : List Kind) : Type 0 where
-  pub is : record { layout = l; areas = areas_of links kinds } ≡ v
+  pub is : buddy_of l links kinds ≡ v
   pub kept : IsBuddyOf l links kinds
 
 -- a frame of no free block is on no list

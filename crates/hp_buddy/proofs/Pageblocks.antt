@@ -17,7 +17,7 @@ use Rattle.hp_units.specs.FreeAreas.{is_on, class_of_kind}
 use Rattle.hp_units.specs.Isolation.{move_free, move_free_below, move_pageblock}
 use Rattle.hp_units.specs.Placement.{free_places}
 use Rattle.hp_buddy.specs.Buddy.{AreApart}
-use Rattle.hp_buddy.specs.Moves.{move_one, move_first, free_one, free_count, free_total}
+use Rattle.hp_buddy.specs.Moves.{move_first, free_one, free_count, free_total}
 use Rattle.hp_lemmas.proofs.Sizes.{with_free_list-size}
 use Rattle.hp_lemmas.proofs.Places.{HasOrder, class_index-lt, with_free_list-places}
 use Rattle.hp_lemmas.proofs.Lists.{on-places, off-free}
@@ -263,16 +263,6 @@ one-same a now from to order first at frame has is place =
     ap (λ (b : FreeAreas). free_one b from order frame) is
     ∙ ap (λ (n : ℕ). free_one (move_first a from to order first at) from order n) place
     ∙ ap (λ (b : Bool). cond b 1 0) (move_first-on a from to order first at has)
-
--- with one frame more
-pub moved_next : (a now new : FreeAreas) (from to : Class) (order first at frame : ℕ)
-    → now ≡ move_first a from to order first at → frame ≡ first + at
-    → new ≡ move_one now from to order frame → new ≡ move_first a from to order first (at + 1)
-moved_next a now new from to order first at frame is place moved =
-    let next : suc at ≡ at + 1 = omega arith in
-    moved ∙ ap (λ (n : ℕ). move_one now from to order n) place
-    ∙ ap (λ (b : FreeAreas). move_one b from to order (first + at)) is
-    ∙ ap (λ (n : ℕ). move_first a from to order first n) next
 
 -- with the next one
 pub count_next : (a : FreeAreas) (class : Class) (order first at : ℕ)

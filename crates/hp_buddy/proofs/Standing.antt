@@ -1,7 +1,7 @@
 -- Where a free block stands, by the list that links say it is on.
-use Rattle.std.proofs.Common.{◌≡◌, ℕ, zero, suc, ◌+◌, ◌*◌, ◌/◌, ◌%◌, ◌<◌, List, [], ◌∷◌, length, get_or, true, false, Option, Some, None, replicate, refl, sym, ◌∙◌, ap, subst, arith, inl, inr}
-use Rattle.std.proofs.lemmas.List.{get_or-replicate, get_or_past, length-replicate}
-use Rattle.std.proofs.lemmas.Bool.{cases_lt, both_ways, false_from_ne_true, cond-true, cond-false}
+use Rattle.std.proofs.Common.{◌≡◌, ℕ, zero, suc, ◌+◌, ◌*◌, ◌/◌, ◌%◌, ◌<◌, List, [], ◌∷◌, length, get_or, Bool, true, false, cond, Option, Some, None, replicate, refl, sym, ◌∙◌, ap, subst, arith}
+use Rattle.std.proofs.lemmas.List.{length-replicate}
+use Rattle.std.proofs.lemmas.Bool.{both_ways, false_from_ne_true, cond-true, cond-false}
 use Rattle.hp_units.specs.declared.rows.Class.{Class}
 use Rattle.hp_units.specs.declared.rows.Kind.{Kind}
 use Rattle.hp_units.specs.LayoutParts.{LayoutParts}
@@ -10,7 +10,8 @@ use Rattle.hp_units.specs.Memory.{free_list, class_index, class_numbered}
 use Rattle.hp_units.specs.FreeAreas.{is_on}
 use Rattle.hp_units.specs.Placement.{places_from}
 use Rattle.hp_links.specs.LinkedLists.{LinkedLists, list_at, IsOn, IsUnlisted, IsApart, successor}
-use Rattle.hp_buddy.specs.Buddy.{BuddyValue, AreApart, place_from, place_of, next_from, next_of}
+use Rattle.hp_buddy.specs.Buddy.{BuddyValue, AreApart, place_from, place_of, next_from}
+use Rattle.hp_units.proofs.Lists.{at_replicate}
 use Rattle.hp_lemmas.proofs.Places.{class_index-lt}
 use Rattle.hp_lemmas.proofs.Lists.{class_numbered-index}
 use Rattle.hp_buddy.proofs.Linked.{contains_on, on_contains, off_list}
@@ -73,26 +74,37 @@ place_from-none f number (frames ∷ lists) off =
     (place_from f (number + 1) lists) (off 0)
     ∙ place_from-none f (number + 1) lists (λ j. off (suc j))
 
--- the next one on the list of a number
-pub next_from-at : (f k : ℕ) (lists : List (List ℕ)) → is_on f (get_or lists k []) ≡ true
-    → ((j : ℕ) → is_on f (get_or lists j []) ≡ true → j ≡ k)
-    → next_from f lists ≡ successor f (get_or lists k [])
-next_from-at f k [] on one = absurd (both_ways (is_on f []) refl on)
-next_from-at f zero (frames ∷ lists) on one =
-    cond-true (is_on f frames) (successor f frames) (next_from f lists) on
-next_from-at f (suc k) (frames ∷ lists) on one =
-    let off : is_on f frames ≡ false =
-    false_from_ne_true (is_on f frames) (λ here. let same : 0 ≡ suc k = one 0 here in omega arith) in
-    cond-false (is_on f frames) (successor f frames) (next_from f lists) off
-    ∙ next_from-at f k lists on (λ j there. let same : suc j ≡ suc k = one (suc j) there in omega arith)
+-- a frame that is neither on the first list nor on the others
+off_first : (f : ℕ) (frames : List ℕ) (lists : List (List ℕ)) → is_on f frames ≡ false
+    → ((k : ℕ) → is_on f (get_or lists k []) ≡ false) → (k : ℕ)
+    → is_on f (get_or (frames ∷ lists) k []) ≡ false
+off_first f frames lists first others zero = first
+off_first f frames lists first others (suc k) = others k
 
--- no list, no next one
-pub next_from-none : (f : ℕ) (lists : List (List ℕ)) → ((j : ℕ) → is_on f (get_or lists j []) ≡ false)
-    → next_from f lists ≡ None
-next_from-none f [] off = refl
-next_from-none f (frames ∷ lists) off =
-    cond-false (is_on f frames) (successor f frames) (next_from f lists) (off 0)
-    ∙ next_from-none f lists (λ j. off (suc j))
+-- what is next on each list that has a frame, and none where no list has it, is the next one
+next_from-is : (f : ℕ) (lists : List (List ℕ)) (next : Option ℕ)
+    → ((k : ℕ) → is_on f (get_or lists k []) ≡ true → next ≡ successor f (get_or lists k []))
+    → (((k : ℕ) → is_on f (get_or lists k []) ≡ false) → next ≡ None) → next ≡ next_from f lists
+next_from-is f [] next on off = off (λ k. refl)
+next_from-is f (frames ∷ lists) next on off =
+    by_first (is_on f frames) f frames next (next_from f lists) refl (on 0)
+    (λ first. next_from-is f lists next (λ k. on (suc k))
+    (λ others. off (off_first f frames lists first others)))
+  where
+    by_first : (here : Bool) (f : ℕ) (frames : List ℕ) (next later : Option ℕ) → is_on f frames ≡ here
+        → (is_on f frames ≡ true → next ≡ successor f frames) → (is_on f frames ≡ false → next ≡ later)
+        → next ≡ cond (is_on f frames) (successor f frames) later
+    by_first true f frames next later e on off = on e ∙ sym (cond-true (is_on f frames) _ later e)
+    by_first false f frames next later e on off = off e ∙ sym (cond-false (is_on f frames) _ later e)
+
+-- so is what links say is next
+pub next-is : (links : LinkedLists) (f : ℕ) (next : Option ℕ)
+    → ((k : ℕ) → IsOn links k f → next ≡ successor f (list_at links k)) → (IsUnlisted links f → next ≡ None)
+    → next ≡ next_from f links.lists
+next-is links f next on off =
+    next_from-is f links.lists next (λ k there. on k (on_contains f (get_or links.lists k []) there))
+    (λ none. off (λ k there.
+    both_ways (is_on f (get_or links.lists k [])) (none k) (contains_on f (get_or links.lists k []) there)))
 
 -- ---- of the value that contracts see
 
@@ -143,35 +155,7 @@ seen-free v l links kinds f k n class s on same is =
     (subst (λ (m : ℕ). is_on f (get_or links.lists m []) ≡ true) (sym (number_back n ∙ same))
     (contains_on f (get_or links.lists k []) on)))
 
--- the frame after a frame on a list
-pub seen-next : (v : BuddyValue) (l : LayoutParts) (links : LinkedLists) (kinds : List Kind) (f k : ℕ)
-    (next : Option ℕ)
-    → Seen v l links kinds → IsOn links k f → IsApart links
-    → next ≡ successor f (list_at links k) → next ≡ next_of v.areas f
-seen-next v l links kinds f k next s on apart is =
-    subst (λ (w : BuddyValue). next ≡ next_of w.areas f) s.is
-    (is ∙ sym
-    (next_from-at f k links.lists (contains_on f (get_or links.lists k []) on) (one links f k on apart)))
-
--- nor a next one
-pub seen-no_next : (v : BuddyValue) (l : LayoutParts) (links : LinkedLists) (kinds : List Kind) (f : ℕ)
-    → Seen v l links kinds → IsUnlisted links f → None ≡ next_of v.areas f
-seen-no_next v l links kinds f s none =
-    subst (λ (w : BuddyValue). None ≡ next_of w.areas f) s.is
-    (sym (next_from-none f links.lists (λ j. off_list links f j none)))
-
 -- ---- nothing is free
-
--- the empty list
-abbrev none : List ℕ
-none = []
-
--- each list is empty
-get_none : (n i : ℕ) → get_or (replicate n none) i none ≡ none
-get_none n i = elim (cases_lt i n) [
-  | inl below ↦ get_or-replicate n i [] [] below
-  | inr past ↦ get_or_past (replicate n []) i [] (omega (arith, length-replicate n none))
-]
 
 -- no frame is in a free block
 pub none-places : (f number n : ℕ) → places_from f number (replicate n []) ≡ 0
@@ -198,4 +182,4 @@ empty-apart l lists kinds is size =
         → ⊥
     nothing class order first on =
         both_ways (is_on first []) refl (subst (λ (xs : List ℕ). is_on first xs ≡ true)
-        (get_none (5 * (l.order + 1)) (5 * order + class_index class)) on)
+        (at_replicate (5 * (l.order + 1)) (5 * order + class_index class) []) on)

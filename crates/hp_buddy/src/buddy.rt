@@ -141,10 +141,7 @@ impl Buddy {
         requires { frame < frame_count self.now.layout }
         ensures { result ≡ next_of self.now.areas frame }
     {
-        match self.links.list_of(frame) {
-            Some(_) => self.links.next(frame),
-            None => None,
-        }
+        self.links.next(frame)
     }
 
     /// The class and the order of the free block that starts at a frame of the layout.

@@ -1,6 +1,7 @@
 -- What is seen of a text, one byte further.
 use Rattle.std.proofs.Common.{◌≡◌, ℕ, ◌+◌, ◌-◌, ◌<◌, ◌≤◌, ◌==◌, ◌||◌, Bool, true, false, cond, List, ◌∷◌, length, get_or, drop, sym, ap, ◌∙◌, arith}
 use Rattle.std.specs.Bool.{nat_lt}
+use Rattle.std.proofs.lemmas.Bool.{or_left}
 use Rattle.std.proofs.lemmas.List.{drop_all, drop_more}
 use Rattle.hp_call_lines.specs.Lexemes.{begins, mode_after}
 use Rattle.hp_call_lines.specs.Looks.{begins_comment, begun, comment_from, nested_after, deeper_from, texts_from}
@@ -62,9 +63,6 @@ nested_more mode b nested next i so_far is =
 
 -- ---- a test that stops a walk
 
-either_true : (t x : Bool) → t ≡ true → (t || x) ≡ true
-either_true t x h = ap (λ (b : Bool). b || x) h
-
 either_false : (t x : Bool) → t ≡ false → (t || x) ≡ x
 either_false t x h = ap (λ (b : Bool). b || x) h
 
@@ -82,7 +80,7 @@ pub comment_found : (mode : Mode) (input : List ℕ) (i b : ℕ) (found all : Bo
     → b ≡ get_or input i 0 → found ≡ begins_comment mode b → found ≡ true
     → comment_from mode (drop i input) ≡ all → true ≡ all
 comment_found mode input i b found all lt at is set so_far =
-    sym (either_true (begins_comment mode b) (comment_from (mode_after mode b) (drop (i + 1) input))
+    sym (or_left (begins_comment mode b) (comment_from (mode_after mode b) (drop (i + 1) input))
     (sym is ∙ set)) ∙ sym (comment_here mode input i b lt at) ∙ so_far
 
 pub comment_not : (mode after : Mode) (input : List ℕ) (i b : ℕ) (found all : Bool) → i < length input
@@ -109,7 +107,7 @@ pub deep_found : (limit : ℕ) (mode : Mode) (nested : ℕ) (input : List ℕ) (
     → i < length input → b ≡ get_or input i 0 → found ≡ nat_lt limit nested → found ≡ true
     → deeper_from limit mode nested (drop i input) ≡ all → true ≡ all
 deep_found limit mode nested input i b found all lt at is set so_far =
-    sym (either_true (nat_lt limit nested)
+    sym (or_left (nat_lt limit nested)
     (deeper_from limit (mode_after mode b) (nested_after mode b nested) (drop (i + 1) input)) (sym is ∙ set))
     ∙ sym (deep_here limit mode nested input i b lt at) ∙ so_far
 

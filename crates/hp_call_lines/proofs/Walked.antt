@@ -1,6 +1,6 @@
 -- What the lexemes of a text say, one byte further.
-use Rattle.std.proofs.Common.{◌≡◌, ℕ, ◌+◌, ◌<◌, ◌≤◌, ◌-◌, Bool, true, false, cond, not, List, [], ◌∷◌, ◌++◌, length, length-drop, get_or, slice_get, drop, take, count_by, Option, Some, None, refl, sym, ap, subst, ◌∙◌, arith}
-use Rattle.std.proofs.lemmas.List.{drop_all, drop_more, get_or_default, take_all}
+use Rattle.std.proofs.Common.{◌≡◌, ℕ, ◌+◌, ◌<◌, ◌≤◌, Bool, true, false, cond, not, List, [], ◌∷◌, ◌++◌, length, get_or, slice_get, drop, take, count_by, Option, Some, None, refl, sym, ap, subst, ◌∙◌, arith}
+use Rattle.std.proofs.lemmas.List.{drop_all, drop_more, get_or_default}
 use Rattle.std.proofs.lemmas.List.Elements.{All-push}
 use Rattle.std.proofs.lemmas.Option.{slice_get_read}
 use Rattle.std.specs.Bool.{then_some}
@@ -78,10 +78,6 @@ pub ended : (w : WalkValue) (line : ℕ) (mode : Mode) (input : List ℕ) (i : �
 unfolding lexemes past_all
 ended w line mode input i all end so_far =
     subst (λ (bs : List ℕ). left w line mode bs ≡ all) (drop_all i input end) so_far
-
--- a slice up to the end is all that is left
-pub whole_rest : (input : List ℕ) (i : ℕ) → take (length input - i) (drop i input) ≡ drop i input
-whole_rest input i = take_all (length input - i) (drop i input) (omega (arith, length-drop i input))
 
 -- ---- a line that is noted has more than white space
 

@@ -3,7 +3,7 @@
 use Rattle.std.proofs.Common.{◌≡◌, ℕ, ◌+◌, ◌*◌, ◌<◌, List, [], ◌∷◌, ◌++◌, length, get_or, set, true, false, not, Option, None, refl, sym, ◌∙◌, ap, subst, arith, eq-eqb}
 use Rattle.std.specs.Option.{option_map_or}
 use Rattle.std.specs.List.{list_all}
-use Rattle.std.proofs.lemmas.List.{get_or-set_same, set-set, set-get_or}
+use Rattle.std.proofs.lemmas.List.{get_or-set_same, length-map, length-set, set-set, set-get_or}
 use Rattle.hp_units.specs.declared.rows.Pool.{Pool}
 use Rattle.hp_units.specs.LayoutParts.{LayoutParts}
 use Rattle.hp_units.specs.Arithmetic.{frame_count}
@@ -14,7 +14,8 @@ use Rattle.hp_tape.specs.declared.deltas.Delta.TheVariants.{Link, Unlink}
 use Rattle.hp_tape.specs.declared.deltas.ListId.TheVariants.{Cpu as CpuList}
 use Rattle.hp_tape.specs.Deltas.{FitsFree, IsDeltaOf, IsOfFree, free_undo, is_behind}
 use Rattle.hp_tape.specs.Tapes.{TapeValue, NotesFree}
-use Rattle.hp_links.specs.LinkedLists.{LinkedLists, list_at, with_list, IsListed, last, without as without_first}
+use Rattle.hp_links.specs.LinkedLists.{LinkedLists, list_at, with_list, off_lists, IsListed, last, without as without_first}
+use Rattle.hp_lemmas.proofs.Pools.{pool_index-lt}
 use Rattle.hp_buddy.proofs.Linked.{contains_on, on_contains, off_list, off_all, without-same, put_behind-same, AreDistinct, behind-last, without-front, without-back}
 use Rattle.hp_buddy.proofs.Notes.{IsUnlinked, after-on, both}
 use Rattle.hp_cpus.specs.Cpus.{CpusValue, IsCpusOf, frames_of, list_of, with_list_of}
@@ -53,6 +54,48 @@ notes-one l delta was now later earlier room noted own numbers fits back = recor
 number_in : (l : LayoutParts) (links : LinkedLists) (cpu : ℕ) (pool : Pool) → IsCpusOf l links → cpu < l.cpus
     → number cpu pool < length links.lists
 number_in l links cpu pool kept low = list_in l.cpus cpu (length links.lists) pool low kept.list_count
+
+-- ---- what calls of the table need
+
+-- a processor of the layout has a small number
+pub cpu-small : {v : CpusValue} {l : LayoutParts} {links : LinkedLists} {cpu : ℕ} → IsCpusOf l links
+    → cpus_of l links ≡ v → cpu < v.layout.cpus → cpu < 64
+cpu-small {v} {l} kept is low =
+    let same : l.cpus ≡ v.layout.cpus = ap (λ (w : CpusValue). w.layout.cpus) is in
+    omega (arith, low, kept.layout.cpus)
+
+-- its list is in the table, and so is a frame of the layout
+pub list-there : {v : CpusValue} {l : LayoutParts} {links : LinkedLists} {cpu n : ℕ} (pool : Pool)
+    → IsCpusOf l links → cpus_of l links ≡ v → cpu < v.layout.cpus → n ≡ number cpu pool
+    → n < length links.lists
+list-there {v} {l} pool kept is low place =
+    let same : l.cpus ≡ v.layout.cpus = ap (λ (w : CpusValue). w.layout.cpus) is in
+    omega (arith, low, kept.list_count, place, pool_index-lt pool)
+
+pub frame-there : {v : CpusValue} {l : LayoutParts} {links : LinkedLists} {f : ℕ} → IsCpusOf l links
+    → cpus_of l links ≡ v → f < frame_count v.layout → f < links.frame_count
+frame-there {f = f} kept is low =
+    subst (λ (n : ℕ). f < n) (sym (kept.frame_count ∙ ap (λ (w : CpusValue). frame_count w.layout) is)) low
+
+-- the table is that of the layout with another list in it, and with a frame on no list
+pub kept-with : {l : LayoutParts} {links new : LinkedLists} (n : ℕ) (frames : List ℕ) → IsCpusOf l links
+    → new ≡ with_list links n frames → IsCpusOf l new
+kept-with {links = links} n frames kept is = record {
+  layout = kept.layout;
+  frame_count = ap (λ (k : LinkedLists). k.frame_count) is ∙ kept.frame_count;
+  list_count =
+      ap (λ (k : LinkedLists). length k.lists) is ∙ length-set links.lists n frames ∙ kept.list_count;
+}
+
+pub kept-off : {l : LayoutParts} {links new : LinkedLists} (f : ℕ) → IsCpusOf l links
+    → new ≡ off_lists f links → IsCpusOf l new
+kept-off {links = links} f kept is = record {
+  layout = kept.layout;
+  frame_count = ap (λ (k : LinkedLists). k.frame_count) is ∙ kept.frame_count;
+  list_count =
+      ap (λ (k : LinkedLists). length k.lists) is ∙ length-map links.lists (without_first f)
+      ∙ kept.list_count;
+}
 
 -- ---- a frame leaves its list
 

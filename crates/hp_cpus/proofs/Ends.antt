@@ -8,9 +8,9 @@ use Rattle.hp_units.specs.FreeAreas.{is_on, without}
 use Rattle.hp_links.specs.LinkedLists.{LinkedLists, list_at, first, last, last_from}
 use Rattle.hp_lemmas.proofs.Lists.{on_tail}
 use Rattle.hp_buddy.proofs.Linked.{without-front, without-back}
-use Rattle.hp_cpus.specs.Cpus.{CpusValue, list_of, with_list_of, places_in}
+use Rattle.hp_cpus.specs.Cpus.{CpusValue, IsCpusOf, list_of, with_list_of, places_in}
 use Rattle.hp_cpus.proofs.Counts.{HasLists, times, times-on, times-cons, times-push, one-self, list_of-same, list_of-le}
-use Rattle.hp_cpus.proofs.Edits.{Seen}
+use Rattle.hp_cpus.proofs.Edits.{Seen, cpus_of}
 
 -- a list with a frame at its end, and the others
 pub record IsFirst (f : ℕ) (xs : List ℕ) : Type 0 where
@@ -64,8 +64,9 @@ last-none (x ∷ xs) e = last_from-none x xs e
 -- ---- of the value that contracts see
 
 -- there are lists for each processor
-pub seen-lists : (v : CpusValue) (l : LayoutParts) (links : LinkedLists) → Seen v l links → HasLists v
-seen-lists v l links s = subst (λ (w : CpusValue). HasLists w) s.is s.kept.list_count
+pub lists-there : {v : CpusValue} {l : LayoutParts} {links : LinkedLists} → IsCpusOf l links
+    → cpus_of l links ≡ v → HasLists v
+lists-there kept is = subst (λ (w : CpusValue). HasLists w) is kept.list_count
 
 -- the first frame that the table shows, and the last one
 pub seen-first : (v : CpusValue) (l : LayoutParts) (links : LinkedLists) (cpu : ℕ) (pool : Pool) (n f : ℕ)

@@ -8,6 +8,5 @@ pub mod Loops
 pub mod Placed
 pub mod Refills
 pub mod Spills
-pub mod Standing
 pub mod Together
 pub mod Undoes

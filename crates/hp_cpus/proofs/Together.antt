@@ -8,7 +8,7 @@ use Rattle.hp_units.specs.declared.rows.Pool.{Pool}
 use Rattle.hp_units.specs.LayoutParts.{LayoutParts}
 use Rattle.hp_units.specs.Arithmetic.{frame_count}
 use Rattle.hp_units.specs.FreeAreas.{is_on}
-use Rattle.hp_units.specs.Placement.{free_places, covered}
+use Rattle.hp_units.specs.Placement.{covered}
 use Rattle.hp_buddy.specs.Buddy.{BuddyValue, AreApart, MayBeGiven, HasBlockMore}
 use Rattle.hp_lemmas.proofs.Places.{covered-in, covered-out}
 use Rattle.hp_buddy.proofs.Linked.{AreDistinct}
@@ -101,26 +101,6 @@ list-in c d b cpu pool f xs h may low is parts =
       places = λ o. omega (arith, more o);
     })
 
--- it came to the free areas
-pub area-in : (c : CpusValue) (b e : BuddyValue) (f : ℕ) → AreTogether c b → MayBePut c b f
-    → e.layout ≡ b.layout → AreApart e.layout e.areas → HasBlockMore e.areas b.areas 0 f → IsIn c c b e f
-area-in c b e f h may same apart more = record {
-  together = record {
-    layout = same ∙ h.layout;
-    lists = h.lists;
-    areas = subst (λ (l : LayoutParts). AreApart l e.areas) (same ∙ h.layout) apart;
-    within = h.within;
-    once =
-        λ o. omega (
-          arith,
-          once-more (λ p. places_among b.areas c p) f o may.nowhere (h.once o),
-          more o,
-          covered-one o f,
-        );
-  };
-  places = λ o. omega (arith, more o, covered-one o f);
-}
-
 -- it left the free areas
 pub area-out : (c : CpusValue) (b e : BuddyValue) (f : ℕ) → AreTogether c b → e.layout ≡ b.layout
     → AreApart e.layout e.areas → MayBeGiven e.layout e.areas 0 f → HasBlockMore b.areas e.areas 0 f
@@ -141,21 +121,6 @@ area-out c b e f h same apart block more = record {
 }
 
 -- ---- what calls need
-
--- a frame that is nowhere may be given
-pub may_be_given : (c : CpusValue) (b : BuddyValue) (f : ℕ) → AreTogether c b → MayBePut c b f
-    → MayBeGiven b.layout b.areas 0 f
-may_be_given c b f h may =
-    let inside : f < frame_count b.layout =
-    subst (λ (l : LayoutParts). f < frame_count l) (sym h.layout) may.within in
-    record {
-      in_order = omega arith;
-      aligned = omega arith;
-      within = omega (arith, inside);
-      unfree =
-          λ o low high. let same : f ≡ o = omega arith in
-          subst (λ (p : ℕ). free_places b.areas p ≡ 0) same (omega (arith, may.nowhere));
-    }
 
 -- the free areas of one layout
 pub areas-apart : (c : CpusValue) (b : BuddyValue) → AreTogether c b → AreApart b.layout b.areas

@@ -99,10 +99,7 @@ impl Cpus {
         requires { frame < frame_count self.now.layout }
         ensures { result ≡ next_from frame self.now.cached }
     {
-        match self.links.list_of(frame) {
-            Some(_) => self.links.next(frame),
-            None => None,
-        }
+        self.links.next(frame)
     }
 
     /// Takes the front frame of a processor's list; a list that is empty is first refilled by a

@@ -1,9 +1,8 @@
 -- The lists of the free areas and of the processors, as they are filled from an Image.
-use Rattle.std.proofs.Common.{ℕ, zero, suc, ◌≡◌, ◌+◌, ◌-◌, ◌*◌, ◌/◌, ◌%◌, ◌<◌, ◌≤◌, List, [], ◌∷◌, true, length, get_or, set, take, ◌++◌, ◌^◌, refl, sym, ◌∙◌, ap, subst, arith, inl, inr}
+use Rattle.std.proofs.Common.{ℕ, ◌≡◌, ◌+◌, ◌-◌, ◌*◌, ◌<◌, ◌≤◌, List, [], ◌∷◌, true, length, get_or, set, take, ◌++◌, ◌^◌, refl, sym, ◌∙◌, ap, subst, arith, inl, inr}
 use Rattle.std.proofs.lemmas.Bool.{cases_lt}
-use Rattle.std.proofs.lemmas.List.{get_or_past, get_or_read, take_more, get_or-set_same, set-set}
+use Rattle.std.proofs.lemmas.List.{get_or_read, take_more, get_or-set_same, set-set}
 use Rattle.std.proofs.lemmas.List.Sums.{get_or-le-sum_by}
-use Rattle.std.specs.Prelude.{sum_by}
 use Rattle.hp_units.specs.declared.rows.Class.{Class}
 use Rattle.hp_units.specs.declared.rows.Kind.{Kind}
 use Rattle.hp_units.specs.Arithmetic.{IsFrame, frame_count}
@@ -11,72 +10,14 @@ use Rattle.std.proofs.lemmas.Nat.{pow_pos}
 use Rattle.hp_lemmas.proofs.Placed.{free-within, past-offline}
 use Rattle.hp_units.specs.declared.rows.Pool.{Pool}
 use Rattle.hp_units.specs.LayoutParts.{LayoutParts, IsLayout}
-use Rattle.hp_units.specs.Memory.{FreeAreas, Memory, cached_list, class_numbered, free_list, pool_index, with_free_list}
+use Rattle.hp_units.specs.Memory.{FreeAreas, Memory, cached_list, free_list, pool_index}
 use Rattle.hp_units.specs.FreeAreas.{is_on}
 use Rattle.hp_units.specs.Placement.{IsWellPlaced}
 use Rattle.hp_lemmas.proofs.Pools.{pool_index-lt}
-use Rattle.hp_buddy.proofs.Standing.{number_back}
 use Rattle.hp_cpus.proofs.Counts.{times, times-on}
-use Rattle.hp_images.specs.Pools.{pool_numbered}
-use Rattle.hp_images.specs.Tables.{AreCopied, ArePartly}
-use Rattle.hp_images.proofs.Tables.{copied-next}
 use Rattle.hp_images.proofs.Lists.{on-at, IsNext, next-on}
 
 -- ---- a list of many
-
--- lists that are copied up to one are partly there
-pub copied-partly : (number : ℕ) (wanted now : List (List ℕ)) → AreCopied [] [] number wanted now
-    → ArePartly wanted now
-copied-partly number wanted now c = record {
-  size = c.size;
-  each = λ at. elim (cases_lt at number) [
-    | inl done ↦ inl (c.done at done)
-    | inr rest ↦ elim (cases_lt at (length wanted)) [
-      | inl inside ↦ inr (c.later at (omega arith) inside)
-      | inr past ↦ inr (get_or_past now at [] (omega (arith, past, c.size)))
-    ]
-  ];
-}
-
--- the list of a number, by its class and its order
-pub areas-at : (a : FreeAreas) (n : ℕ) → free_list a (class_numbered (n % 5)) (n / 5) ≡ get_or a.lists n []
-areas-at a n = ap (λ (k : ℕ). get_or a.lists k []) (number_back n)
-
--- one list of the free areas more
-pub areas-more : (number : ℕ) (wanted a new : FreeAreas) → number < length wanted.lists
-    → AreCopied [] [] number wanted.lists a.lists
-    → new ≡ with_free_list a (class_numbered (number % 5)) (number / 5)
-    (free_list wanted (class_numbered (number % 5)) (number / 5))
-    → AreCopied [] [] (number + 1) wanted.lists new.lists
-areas-more number wanted a new low c e =
-    copied-next [] [] number wanted.lists a.lists new.lists low c
-    (ap (λ (v : FreeAreas). v.lists) e
-    ∙ (ap (λ (k : ℕ). set a.lists k (free_list wanted (class_numbered (number % 5)) (number / 5)))
-    (number_back number) ∙ ap (λ (xs : List ℕ). set a.lists number xs) (areas-at wanted number)))
-
--- pools by their numbers
-pool-numbered : (n : ℕ) → n < 3 → pool_index (pool_numbered n) ≡ n
-pool-numbered zero low = refl
-pool-numbered (suc zero) low = refl
-pool-numbered (suc (suc zero)) low = refl
-pool-numbered (suc (suc (suc n))) low = absurd (omega arith)
-
-pub pool_back : (n : ℕ) → 3 * (n / 3) + pool_index (pool_numbered (n % 3)) ≡ n
-pool_back n = let rest : n % 3 < 3 = omega arith in rw (pool-numbered (n % 3) rest) (omega arith)
-
--- the list of a number, by its processor and its pool
-pub cached-at : (lists : List (List ℕ)) (n : ℕ)
-    → get_or lists (3 * (n / 3) + pool_index (pool_numbered (n % 3))) [] ≡ get_or lists n []
-cached-at lists n = ap (λ (k : ℕ). get_or lists k []) (pool_back n)
-
-pub cached-more : (number : ℕ) (wanted lists new : List (List ℕ)) → number < length wanted
-    → AreCopied [] [] number wanted lists
-    → new ≡ set lists (3 * (number / 3) + pool_index (pool_numbered (number % 3)))
-    (get_or wanted (3 * (number / 3) + pool_index (pool_numbered (number % 3))) [])
-    → AreCopied [] [] (number + 1) wanted new
-cached-more number wanted lists new low c e =
-    copied-next [] [] number wanted lists new low c
-    (e ∙ ap (λ (k : ℕ). set lists k (get_or wanted k [])) (pool_back number))
 
 -- ---- the numbers of what comes onto a list
 

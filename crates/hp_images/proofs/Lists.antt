@@ -1,7 +1,7 @@
 -- A list that is filled from its back.
 use Rattle.std.proofs.Common.{ℕ, zero, suc, ◌≡◌, ◌+◌, ◌-◌, ◌*◌, ◌/◌, ◌%◌, ◌<◌, ◌≤◌, List, [], ◌∷◌, Bool, true, false, not, ◌&&◌, None, length, get_or, set, drop, refl, sym, ◌∙◌, ap, subst, arith, inl, inr, eq-eqb}
 use Rattle.std.proofs.lemmas.Bool.{cases_eq, cases_lt}
-use Rattle.std.proofs.lemmas.List.{drop_more, get_or_past, get_or-set_other, get_or-set_same, length-set, set-get_or, set-set}
+use Rattle.std.proofs.lemmas.List.{drop_more, get_or_past, get_or-set_other, get_or-set_same, length-set, set-set}
 use Rattle.std.proofs.lemmas.List.Sums.{get_or-le-sum_by, sum_by-set}
 use Rattle.std.specs.List.{list_all}
 use Rattle.std.specs.Prelude.{sum_by}
@@ -32,18 +32,6 @@ longer xs number at low is =
     sym (ap (λ (n : ℕ). drop n xs) here
     ∙ (drop_more xs at 0 (omega arith) ∙ ap (λ (n : ℕ). get_or xs at 0 ∷ drop n xs) (sym next)))
 
--- no entry
-pub none-yet : (xs : List ℕ) (lists : List (List ℕ)) (n : ℕ) → get_or lists n [] ≡ []
-    → set lists n (drop (length xs - 0) xs) ≡ lists
-none-yet xs lists n none =
-    let all : length xs - 0 ≡ length xs = omega arith in
-    ap (λ (ys : List ℕ). set lists n ys) (ap (λ (m : ℕ). drop m xs) all ∙ (past xs ∙ sym none))
-    ∙ set-get_or lists n []
-  where
-    past : (ys : List ℕ) → drop (length ys) ys ≡ []
-    past [] = refl
-    past (y ∷ ys) = past ys
-
 -- a list that has one entry more
 pub filled-more : (lists : List (List ℕ)) (n : ℕ) (xs : List ℕ) (number at frame : ℕ) → n < length lists
     → number < length xs → at ≡ length xs - 1 - number → frame ≡ get_or xs at 0
@@ -55,10 +43,6 @@ filled-more lists n xs number at frame inside low is e =
     ∙ ap (λ (ys : List ℕ). set lists n ys)
     (ap (λ (ys : List ℕ). frame ∷ ys) (get_or-set_same lists n rest [] inside)
     ∙ (ap (λ (f : ℕ). f ∷ rest) e ∙ longer xs number at low is))
-
--- all entries
-pub filled-all : (xs : List ℕ) (number : ℕ) → length xs ≤ number → drop (length xs - number) xs ≡ xs
-filled-all xs number all = let none : length xs - number ≡ 0 = omega arith in ap (λ (n : ℕ). drop n xs) none
 
 -- ---- a frame that stands on none of the lists
 

@@ -1,24 +1,18 @@
 -- Lists of frames, and one list of the free areas written.
-use Rattle.std.proofs.Common.{◌≡◌, ◌≢◌, ℕ, ◌+◌, ◌*◌, ◌^◌, ◌<◌, ◌≤◌, List, [], ◌∷◌, Bool, true, false, not, cond, ◌||◌, refl, sym, ◌∙◌, ap, subst, arith, ◌⊎◌, inl, inr, eqb-true, ◌==◌, ne_eqb}
+use Rattle.std.proofs.Common.{◌≡◌, ◌≢◌, ℕ, ◌+◌, ◌*◌, ◌^◌, ◌<◌, ◌≤◌, List, [], ◌∷◌, Bool, true, false, not, cond, ◌||◌, refl, sym, ◌∙◌, ap, subst, arith, inl, inr, ◌==◌}
 use Rattle.std.proofs.lemmas.List.{get_or-set_other, get_or-set_same}
 use Rattle.std.proofs.lemmas.Nat.{pow_pos}
-use Rattle.std.proofs.lemmas.Bool.{cases_eq, or_cases, or_from, false_from_ne_true}
+use Rattle.std.proofs.lemmas.Bool.{cases_eq, false_from_ne_true}
 use Rattle.std.proofs.lemmas.Bool.Decides.{nat_tests}
 use Rattle.hp_units.specs.declared.rows.Class.{Class}
 use Rattle.hp_units.specs.declared.rows.Class.TheVariants.{Nu, Nm, Mm, IsoN, IsoM}
 use Rattle.hp_units.specs.Memory.{FreeAreas, free_list, with_free_list, class_index, class_numbered}
 use Rattle.hp_units.specs.FreeAreas.{is_on, without}
 use Rattle.hp_units.specs.Placement.{list_places, free_places, covered}
+pub use Rattle.hp_units.proofs.Lists.{on_cases}
 use Rattle.hp_lemmas.proofs.Places.{list_places-cons, HasOrder, with_free_list-places, class_index-lt}
 
 -- ---- whether a frame is on a list
-
--- a frame on a list is its first one or on the rest
-pub on_cases : (frame x : ℕ) (xs : List ℕ) → is_on frame (x ∷ xs) ≡ true
-    → (x ≡ frame) ⊎ (is_on frame xs ≡ true)
-on_cases frame x xs e =
-    elim (or_cases (x == frame) (is_on frame xs) e)
-    [ inl same ↦ inl (eqb-true x frame same) | inr on ↦ inr on ]
 
 -- a frame on the rest is on the list
 pub on_tail : (frame x : ℕ) (xs : List ℕ) → is_on frame xs ≡ true → is_on frame (x ∷ xs) ≡ true
@@ -27,10 +21,6 @@ on_tail frame x xs e = on_or (x == frame) (is_on frame xs) e
     on_or : (a b : Bool) → b ≡ true → (a || b) ≡ true
     on_or true b h = refl
     on_or false b h = h
-
--- a frame that is neither is not
-pub off_cons : (frame x : ℕ) (xs : List ℕ) → x ≢ frame → is_on frame xs ≡ false → is_on frame (x ∷ xs) ≡ false
-off_cons frame x xs ne e = or_from (x == frame) (is_on frame xs) (ne_eqb x frame ne) e
 
 -- one frame of a list
 pub without-step : (same : Bool) (frame x : ℕ) (xs ys : List ℕ)

@@ -1,7 +1,7 @@
 -- What a table that keeps lists shows, and a new table, which keeps empty ones.
-use Rattle.std.proofs.Common.{ℕ, zero, suc, ◌≡◌, ◌<◌, ◌+◌, inl, inr, List, [], ◌∷◌, length, get_or, replicate, sym, ◌∙◌, ap, subst, arith}
-use Rattle.std.proofs.lemmas.List.{get_or-replicate, get_or_past, length-replicate}
-use Rattle.std.proofs.lemmas.Bool.{cases_lt}
+use Rattle.std.proofs.Common.{ℕ, zero, suc, ◌≡◌, ◌<◌, ◌+◌, List, [], ◌∷◌, length, get_or, replicate, sym, ◌∙◌, ap, subst, arith}
+use Rattle.std.proofs.lemmas.List.{length-replicate}
+use Rattle.hp_units.proofs.Lists.{at_replicate}
 use Rattle.hp_links.specs.Rings.{Table, IsAlone, Member, Linked, Keeps, shown}
 use Rattle.hp_links.proofs.Linking.{lists_are, Linked-empty}
 
@@ -22,19 +22,12 @@ listed_in [] l x m = absurd m
 listed_in (xs ∷ ls) zero x m = omega arith
 listed_in (xs ∷ ls) (suc l) x m = let lt = listed_in ls l x m in omega (arith, lt)
 
-get_or-replicate_same : {X : Type 0} (n i : ℕ) (d : X) → get_or (replicate n d) i d ≡ d
-get_or-replicate_same n i d =
-    elim (cases_lt i n) [
-      | inl lt ↦ get_or-replicate n i d d lt
-      | inr le ↦ get_or_past (replicate n d) i d (omega (arith, length-replicate n d, le))
-    ]
-
 -- a new table keeps empty lists
 pub Linked-new : (frames lists : ℕ) (t : Table) (lens : List ℕ) → IsAlone t (frames + lists)
     → lens ≡ replicate lists 0 → Linked frames t lens (replicate lists [])
 Linked-new frames lists t lens alone e =
     let n : length lens ≡ lists = ap length e ∙ length-replicate lists 0 in
     Linked-empty frames t lens (replicate lists []) (length-replicate lists [] ∙ sym n)
-    (λ l. get_or-replicate_same lists l [])
-    (λ l. ap (λ (ns : List ℕ). get_or ns l 0) e ∙ get_or-replicate_same lists l 0)
+    (λ l. at_replicate lists l [])
+    (λ l. ap (λ (ns : List ℕ). get_or ns l 0) e ∙ at_replicate lists l 0)
     (subst (λ (m : ℕ). IsAlone t (frames + m)) (sym n) alone)

@@ -3,6 +3,7 @@
 use Rattle.std.proofs.Common.{ℕ, ◌≡◌, ◌≢◌, ◌<◌, ◌≤◌, ◌+◌, ◌-◌, inl, inr, List, [], ◌∷◌, ◌++◌, Option, None, Some, IfSome, IfNone, true, is_some, length, get_or, map, set, refl, sym, ◌∙◌, ap, subst, arith}
 use Rattle.std.proofs.lemmas.List.{append-nil, append_assoc, length-append, get_or-set_same, get_or-set_other, set-set, set-get_or, ext_get_or, get_or-map, length-map, length-set}
 use Rattle.std.proofs.lemmas.Bool.{cases_eq, false≢true}
+use Rattle.std.proofs.lemmas.Option.{same_Some}
 use Rattle.hp_links.specs.LinkedLists.{LinkedLists, list_at, with_list, IsOn, IsListed, IsUnlisted, IsApart, first, last, last_from, without, predecessor_from, predecessor, successor, with_behind, off_lists}
 use Rattle.hp_links.specs.Rings.{Table, Inserts, Removes, Member, Absent, Distinct, Chain, Linked, Keeps, shown, frame_at}
 use Rattle.hp_links.proofs.Chains.{last_or, first_or, chain_first, chain_last, chain_list, chain_at, not_last, not_first, Distinct-append_right, absent_not, not_absent, Member-append_left, Member-append_right}
@@ -15,6 +16,10 @@ use Rattle.hp_links.proofs.Shown.{keeps, shows, listed_in}
 pub record Seen (v : LinkedLists) (frames : ℕ) (t : Table) (lens : List ℕ) : Type 0 where
   pub is : shown frames t lens ≡ v
   pub kept : Keeps frames t lens
+
+pub seen : {v : LinkedLists} {frames : ℕ} {t : Table} {lens : List ℕ} → Keeps frames t lens
+    → shown frames t lens ≡ v → Seen v frames t lens
+seen kept is = record { is = is; kept = kept }
 
 last_or-push : (d p : ℕ) (xs : List ℕ) → last_or d (xs ++ p ∷ []) ≡ p
 last_or-push d p [] = refl
@@ -37,6 +42,11 @@ module _ {v : LinkedLists} {frames : ℕ} {t : Table} {lens : List ℕ} (s : See
   -- a frame of a list shows that there is such a list
   pub on_in : (l x : ℕ) → Member x (list_at v l) → l < length v.lists
   on_in l x m = listed_in v.lists l x m
+
+  -- the list of a listed frame
+  pub list_on : (f : ℕ) → IsListed v f → (l : ℕ) × Member f (list_at v l) × (l < length v.lists)
+  list_on f on =
+      let m = Member-from_Contains f (list_at v on.0) on.1 in (on.0, m, on_in on.0 f m)
 
   pub free_absent : (f : ℕ) → IsUnlisted v f → (m : ℕ) → Absent f (list_at v m)
   free_absent f free m = not_absent f (list_at v m) (λ on. free m (Contains-from_Member f (list_at v m) on))
@@ -248,6 +258,10 @@ module _ {v : LinkedLists} {frames : ℕ} {t : Table} {lens : List ℕ} (s : See
 
   pub list_is : (l f : ℕ) → Member f (list_at v l) → t.list f ≡ Some l
   list_is l f on = chain_list t l (frames + l) (list_at v l) (frames + l) (linked.rings l (on_in l f on)) f on
+
+  -- so what is read there is that list
+  pub list_found : (l f n : ℕ) (o : Option ℕ) → o ≡ Some n → o ≡ t.list f → Member f (list_at v l) → n ≡ l
+  list_found l f n o some is on = same_Some n l (sym some ∙ is ∙ list_is l f on)
 
   pub on_list : (l f : ℕ) → f < v.frame_count → t.list f ≡ Some l → IsOn v l f
   on_list l f in_f is = Contains-from_Member f (list_at v l) (linked.owned l f (omega (arith, frames_are)) is)

@@ -1,11 +1,10 @@
 -- Operations that begin.
-use Rattle.std.proofs.Common.{◌≡◌, ℕ, ◌*◌, ◌≤◌, List, length, Some, None, sym, ap, subst, arith}
+use Rattle.std.proofs.Common.{◌≡◌, ℕ, ◌*◌, ◌≤◌, List, length, None, sym, ap, subst, arith}
 use Rattle.std.specs.Prelude.{min}
 use Rattle.std.proofs.Math.Nat.{le-min, mul-le-mul_right}
 use Rattle.hp_units.specs.declared.events.Event.TheVariants.{Begin}
 use Rattle.hp_units.specs.declared.plans.Item.{Item}
-use Rattle.hp_units.specs.declared.replies.Refusal.{Refusal}
-use Rattle.hp_units.specs.declared.replies.Reply.TheVariants.{Opened, Refused}
+use Rattle.hp_units.specs.declared.replies.Reply.TheVariants.{Opened}
 use Rattle.hp_units.specs.LayoutParts.{LayoutParts}
 use Rattle.hp_units.specs.Choices.{first_some}
 use Rattle.hp_units.specs.Memory.{Memory}
@@ -36,11 +35,6 @@ begun : (l : LayoutParts) (s : Memory) (op : ℕ) (plan : List Item)
     → first_some (plan_refusals l s plan) ≡ None
     → opened l s op plan ≡ record { memory = begin_plan l s op plan; reply = Opened op }
 begun l s op plan none = ap (answer l s op 0 (Begin plan)) none
-
-pub begin-refused : (l : LayoutParts) (s : Memory) (op : ℕ) (plan : List Item) (reason : Refusal)
-    → first_some (plan_refusals l s plan) ≡ Some reason
-    → opened l s op plan ≡ record { memory = s; reply = Refused reason }
-begin-refused l s op plan reason is = ap (answer l s op 0 (Begin plan)) is
 
 pub begin-done : {before : List Delta} (m new : Layers) (op : ℕ) (plan : List Item) (was now : TapeValue)
     → ArePlaced m → was.deltas ≡ before

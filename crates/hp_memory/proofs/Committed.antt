@@ -6,7 +6,7 @@ use Rattle.std.specs.Option.{option_map, option_map_or}
 use Rattle.std.proofs.lemmas.Option.{same_Some}
 use Rattle.std.proofs.lemmas.Bool.{or_left}
 use Rattle.hp_units.specs.declared.events.Event.TheVariants.{Commit}
-use Rattle.hp_units.specs.declared.replies.Refusal.TheVariants.{NoOp, NotFree}
+use Rattle.hp_units.specs.declared.replies.Refusal.TheVariants.{NotFree}
 use Rattle.hp_units.specs.declared.replies.Reply.TheVariants.{Done, Refused}
 use Rattle.hp_units.specs.declared.rows.Claim.{Claim}
 use Rattle.hp_units.specs.declared.rows.Row.{Row}
@@ -274,11 +274,6 @@ not-free : (l : LayoutParts) (s : Memory) (op : ℕ) → is_live s.blocks op ≡
     → asked l s 0 (Commit op)
     ≡ record { memory = s; reply = Refused (NotFree (unwrap_or (frame_in_use l s op) 0)) }
 not-free l s op live held = rw (live, held) refl
-
--- the operation holds no block
-pub commit-over : (l : LayoutParts) (s : Memory) (op : ℕ) → is_live s.blocks op ≡ false
-    → asked l s 0 (Commit op) ≡ record { memory = s; reply = Refused NoOp }
-commit-over l s op over = rw over refl
 
 pub commit-refused : (m : Layers) (op : ℕ) (blocks : List ℕ) (frame : ℕ) → is_live m.blocks.blocks op ≡ true
     → blocks ≡ blocks_of m.layout m.blocks.blocks op

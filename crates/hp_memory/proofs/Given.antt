@@ -12,7 +12,7 @@ use Rattle.hp_tape.specs.Tapes.{NotesAreas, TapeValue}
 use Rattle.hp_buddy.specs.Buddy.{AreApart, BuddyValue, HasBlockMore, MayBeGiven}
 use Rattle.hp_lemmas.proofs.Places.{covered-in, covered-out}
 use Rattle.hp_cpus.specs.Cpus.{frames_of}
-use Rattle.hp_cpus.proofs.Besides.{notes-beside, notes-then, nothing-noted}
+use Rattle.hp_cpus.proofs.Besides.{notes-beside, notes-then}
 use Rattle.hp_buddy.proofs.Scripts.{one_done}
 use Rattle.hp_memory.specs.declared.frames.Frames.{Frames}
 use Rattle.hp_memory.specs.Frames.{IsGiven, IsTidy, MayReturn, free_of, places_of}
@@ -102,17 +102,6 @@ area-moved rule bound f e was now h g =
     })
 
 -- ---- many calls
-
--- none
-pub given-none : (f : Frames) (tape : TapeValue) (most : ℕ) → IsTidy f
-    → IsGiven (free_of f) most f f tape tape
-given-none f tape most h =
-    record {
-      given = refl;
-      layout = refl;
-      tidy = h;
-      notes = nothing-noted f.cpus.layout most tape (free_of f);
-    }
 
 -- one more, which changes the areas by a rule of the layout
 pub given-then : (l : LayoutParts) (rule : LayoutParts → FreeAreas → FreeAreas) (bound : LayoutParts → ℕ)

@@ -213,9 +213,9 @@ migrate-done {before} m f g ps op from to zone was mid more now p none live sour
 -- ---- the frames of a block
 
 -- as they are computed
-pub block-last : (l : LayoutParts) (block at size : ℕ) → block < l.blocks → at ≡ block
+pub block-last : (l : LayoutParts) {block at size : ℕ} → block < l.blocks → at ≡ block
     → size ≡ l.pageblocks * 2 ^ l.order → at * size + size ≤ frame_count l
-block-last l block at size low here size_is =
+block-last l {block} {at} low here size_is =
     let more : suc block * (l.pageblocks * 2 ^ l.order) ≤ l.blocks * (l.pageblocks * 2 ^ l.order) =
     mul-le-mul_right (l.pageblocks * 2 ^ l.order) low in
     subst (λ (n : ℕ). at * n + n ≤ frame_count l) (sym size_is)

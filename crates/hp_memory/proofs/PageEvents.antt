@@ -32,7 +32,6 @@ use Rattle.hp_memory.specs.Frames.{IsGiven, IsTaken, free_of, give_back_bound, g
 use Rattle.hp_memory.specs.Layers.{AreOfOneLayout, ArePlaced, IsAnswered, state_of, view_of}
 use Rattle.hp_memory.proofs.Answers.{frames-one, give_back-few, give_back-is, hands-none, hands-some, noted, notes-then, unchanged}
 use Rattle.hp_memory.proofs.Lifts.{notes-free, notes-pages}
-use Rattle.hp_memory.proofs.Placed.{page-returns}
 
 -- ---- the pages of a well placed state
 
@@ -48,13 +47,6 @@ pages_seen m p = ap (λ (v : FrameView). v.pages) p.view
 pub settled : (m : Layers) → ArePlaced m → AreSettled m.pages.pages
 settled m p =
     subst AreSettled (sym (pages_seen m p)) (settled_placed m.layout (state_of m) p.placed (pages_fit m p))
-
--- a page's frame is one of the layout
-pub page-inside : (m : Layers) (owner page frame : ℕ) → ArePlaced m
-    → entry_of m.pages.pages.table owner page ≡ Some frame → frame < frame_count m.layout
-page-inside m owner page frame p is =
-    subst (λ (l : LayoutParts). frame < frame_count l) p.one.cpus
-    (let h = (page-returns m owner page frame p is).within in omega (arith, h))
 
 -- a frame that was handed out holds no page
 pub taken-free : (m : Layers) (wanted : Option Handed) (most : ℕ) (f : Frames) (was now : TapeValue)

@@ -1,17 +1,22 @@
 -- The pageblocks of a memory block lie in the layout, and their numbers are small.
-use Rattle.std.proofs.Common.{◌≡◌, ℕ, suc, ◌+◌, ◌*◌, ◌^◌, ◌<◌, ◌≤◌, Fits, w32, sym, subst, arith}
+use Rattle.std.proofs.Common.{◌≡◌, ℕ, suc, ◌+◌, ◌*◌, ◌^◌, ◌<◌, ◌≤◌, Fits, w32, sym, ◌∙◌, ap, subst, arith}
 use Rattle.std.proofs.Math.Nat.{mul-le-mul_left, mul-le-mul_right, one-le-pow, suc-mul}
 use Rattle.hp_units.specs.LayoutParts.{LayoutParts, IsLayout}
-use Rattle.hp_units.specs.Arithmetic.{frame_count, pageblock_count}
+use Rattle.hp_units.specs.Arithmetic.{pageblock_count}
 
 -- one of so many pageblocks from a block's first one on, by the numbers that the code read
-pub pageblock-inside : (l : LayoutParts) (block at count number : ℕ) → block < l.blocks → at ≡ block
+pub pageblock-is : {at block count many : ℕ} (number : ℕ) → at ≡ block → count ≡ many
+    → at * count + number ≡ block * many + number
+pageblock-is {at} {block} {count} number here all =
+    ap (λ (b : ℕ). b * count + number) here ∙ ap (λ (n : ℕ). block * n + number) all
+
+-- it lies in the layout
+pub pageblock-inside : (l : LayoutParts) {block at count number : ℕ} → block < l.blocks → at ≡ block
     → count ≡ l.pageblocks → number < count → at * count + number < pageblock_count l
-pageblock-inside l block at count number low here many less =
+pageblock-inside l {block} {at} {count} {number} low here many less =
     let more : suc block * l.pageblocks ≤ l.blocks * l.pageblocks = mul-le-mul_right l.pageblocks low in
-    subst (λ (b : ℕ). b * count + number < l.blocks * l.pageblocks) (sym here)
-    (subst (λ (n : ℕ). block * n + number < l.blocks * l.pageblocks) (sym many)
-    (omega (arith, more, suc-mul block l.pageblocks, many, less)))
+    subst (λ (n : ℕ). n < l.blocks * l.pageblocks) (sym (pageblock-is number here many))
+    (omega (arith, more, suc-mul block l.pageblocks, many, less))
 
 -- there are no more pageblocks than frames
 pub pageblocks-few : (l : LayoutParts) → IsLayout l → pageblock_count l ≤ 2 ^ 20
@@ -23,21 +28,17 @@ pageblocks-few l layout =
     mul-le-mul_left l.blocks more in
     omega (arith, all, layout.frames)
 
--- the number of a pageblock fits
-pub pageblock-fits : (l : LayoutParts) (number : ℕ) → IsLayout l → number < pageblock_count l
-    → Fits w32 number
-pageblock-fits l number layout low = omega (arith, pageblocks-few l layout, low)
+-- its number fits
+pub pageblock-fits : {l : LayoutParts} {block at count number : ℕ} → IsLayout l → block < l.blocks
+    → at ≡ block → count ≡ l.pageblocks → number < count → Fits w32 (at * count + number)
+pageblock-fits {l} layout low here many less =
+    omega (arith, pageblocks-few l layout, pageblock-inside l low here many less)
 
--- the number of a block's first pageblock fits
-pub first-fits : (l : LayoutParts) (block at count : ℕ) → IsLayout l → block < l.blocks → at ≡ block
+-- and that of a block's first one
+pub first-fits : {l : LayoutParts} {block at count : ℕ} → IsLayout l → block < l.blocks → at ≡ block
     → count ≡ l.pageblocks → Fits w32 (at * count)
-first-fits l block at count layout low here many =
+first-fits {l} {block} {at} {count} layout low here many =
     let most : block * l.pageblocks ≤ l.blocks * l.pageblocks =
     omega (arith, mul-le-mul_right l.pageblocks low, suc-mul block l.pageblocks) in
     subst (λ (b : ℕ). Fits w32 (b * count)) (sym here)
     (subst (λ (n : ℕ). Fits w32 (block * n)) (sym many) (omega (arith, most, pageblocks-few l layout)))
-
--- the number of a block's first frame fits
-pub frame-fits : (l : LayoutParts) (first size : ℕ) → IsLayout l → first + size ≤ frame_count l
-    → Fits w32 first
-frame-fits l first size layout last = omega (arith, layout.frames, last)

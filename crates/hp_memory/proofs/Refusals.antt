@@ -1,5 +1,5 @@
 -- Events that are refused before anything is taken, each for one reason.
-use Rattle.std.proofs.Common.{◌≡◌, ℕ, ◌<◌, ◌≤◌, Bool, true, false, List, [], ◌∷◌, Option, Some, None, refl, ◌∙◌, ap, arith}
+use Rattle.std.proofs.Common.{◌≡◌, ℕ, ◌<◌, ◌≤◌, Bool, true, false, List, [], ◌∷◌, Option, Some, None, refl, sym, ◌∙◌, ap, subst, arith}
 use Rattle.std.specs.Prelude.{is_some, nat_le}
 use Rattle.std.specs.Bool.{then_some}
 use Rattle.std.proofs.lemmas.Bool.{le-leb, lt-leb}
@@ -11,7 +11,7 @@ use Rattle.hp_units.specs.Refusals.{event_refusals, page_refusals}
 use Rattle.hp_units.specs.Step.{answer}
 use Rattle.hp_units.specs.declared.events.Event.{Event}
 use Rattle.hp_units.specs.declared.replies.Refusal.{Refusal}
-use Rattle.hp_units.specs.declared.replies.Refusal.TheVariants.{AlreadyMapped, NoFrame, NoOwner, NoPage, NoWord, NotMapped}
+use Rattle.hp_units.specs.declared.replies.Refusal.TheVariants.{AlreadyMapped, NoFrame, NoOwner, NoPage, NotMapped}
 use Rattle.hp_units.specs.declared.replies.Reply.TheVariants.{Refused}
 use Rattle.hp_tape.specs.declared.deltas.Delta.{Delta}
 use Rattle.hp_plain.specs.Asked.{asked}
@@ -82,10 +82,6 @@ map_others m cpu owner page =
 abbrev pub unmap_others : Layers → (owner page : ℕ) → List (Option Refusal)
 unmap_others m owner page = unless_some (frame_at (state_of m).pages owner page) NotMapped ∷ []
 
--- those of one that is to be read or written
-abbrev pub word_others : Layers → (owner page index : ℕ) → List (Option Refusal)
-word_others m owner page index = then_some (nat_le m.layout.words index) NoWord ∷ unmap_others m owner page
-
 -- a page that is mapped already
 pub is-mapped : (m : Layers) (cpu owner page : ℕ) → is_some (frame_at (state_of m).pages owner page) ≡ true
     → first_some (map_others m cpu owner page) ≡ Some AlreadyMapped
@@ -104,3 +100,14 @@ read-lt h e f = omega arith
 
 pub read-le : {a b c d : ℕ} → a ≤ b → a ≡ c → b ≡ d → c ≤ d
 read-le h e f = omega arith
+
+-- an owner, and a page, of the layout is one of the pages' own layout
+pub owner-there : {owner : ℕ} {m : Layers} {read most : ℕ} → ArePlaced m → read < most → read ≡ owner
+    → most ≡ m.layout.owners → owner < m.pages.layout.owners
+owner-there {owner} p low is all =
+    subst (λ (l : LayoutParts). owner < l.owners) (sym p.one.pages) (read-lt low is all)
+
+pub page-there : {page : ℕ} {m : Layers} {read most : ℕ} → ArePlaced m → read < most → read ≡ page
+    → most ≡ m.layout.pages → page < m.pages.layout.pages
+page-there {page} p low is all =
+    subst (λ (l : LayoutParts). page < l.pages) (sym p.one.pages) (read-lt low is all)

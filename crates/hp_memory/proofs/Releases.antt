@@ -4,8 +4,7 @@ use Rattle.std.specs.List.{fold}
 use Rattle.std.proofs.lemmas.List.{length-append, take_more}
 use Rattle.hp_plain.specs.Asked.{asked}
 use Rattle.hp_units.specs.declared.events.Event.TheVariants.{Cancel}
-use Rattle.hp_units.specs.declared.replies.Refusal.TheVariants.{NoOp}
-use Rattle.hp_units.specs.declared.replies.Reply.TheVariants.{Refused, Released}
+use Rattle.hp_units.specs.declared.replies.Reply.TheVariants.{Released}
 use Rattle.std.proofs.lemmas.List.Sums.{fold_push}
 use Rattle.hp_units.specs.declared.events.Event.{Event}
 use Rattle.hp_units.specs.declared.replies.Reply.{Reply}
@@ -181,11 +180,6 @@ released : (l : LayoutParts) (s : Memory) (op : ℕ) → is_live s.blocks op ≡
     ≡ record { memory = fold (release_block l) s (blocks_of l s.blocks op); reply = Released }
 unfolding release_blocks
 released l s op live = rw live refl
-
--- the operation holds no block
-pub cancel-over : (l : LayoutParts) (s : Memory) (op : ℕ) → is_live s.blocks op ≡ false
-    → asked l s 0 (Cancel op) ≡ record { memory = s; reply = Refused NoOp }
-cancel-over l s op over = rw over refl
 
 pub cancel-done : {before : List Delta} (m new : Layers) (op : ℕ) (blocks : List ℕ) (was now : TapeValue)
     → ArePlaced m → was.deltas ≡ before → is_live m.blocks.blocks op ≡ true

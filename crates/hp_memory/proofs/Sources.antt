@@ -35,8 +35,8 @@ source-past l s op number count past =
     let none : count - number ≡ 0 = omega arith in ap (λ (n : ℕ). source_from l s op number n) none
 
 -- a block that the operation does not hold
-source-unclaimed : (l : LayoutParts) (s : Memory) (op block : ℕ) → is_claimed_by op (row_of s.blocks block) ≡ false
-    → source_of l s op block ≡ None
+source-unclaimed : (l : LayoutParts) (s : Memory) (op block : ℕ)
+    → is_claimed_by op (row_of s.blocks block) ≡ false → source_of l s op block ≡ None
 source-unclaimed l s op block none =
     ap (λ (claimed : Bool). cond (claimed && is_going (row_of s.blocks block))
     (find (λ frame. is_some (page_at s.pages frame)) (frames_of_block l block)) None) none

@@ -13,7 +13,7 @@ use Rattle.hp_tape.specs.Deltas.{Fits, IsDeltaOf, frame_view_of, undo}
 use Rattle.hp_tape.specs.Tapes.{LeadBack}
 use Rattle.hp_units.specs.Placement.{IsWellPlaced}
 use Rattle.hp_memory.specs.Layers.{AreNoted, IsAnswered, state_of}
-use Rattle.hp_memory.specs.Memory.{LeadsBack, MemoryValue}
+use Rattle.hp_memory.specs.Memory.{LeadsBack}
 use Rattle.hp_units.specs.declared.replies.Refusal.{Refusal}
 use Rattle.hp_units.specs.declared.replies.Refusal.TheVariants.{NoCpu}
 use Rattle.hp_units.specs.declared.replies.Reply.TheVariants.{Refused}
@@ -88,9 +88,3 @@ step-leads l k most mark was now later earlier placed n at same =
     subst (λ (m : LayoutParts). LeadsBack m (drop mark now) later earlier) (sym same)
     (subst (λ (i : ℕ). LeadsBack l (drop i now) later earlier) (sym at)
     (noted-back l most was now later earlier placed n))
-
--- values of one layout and one state
-pub same_memory : (v w : MemoryValue) → v.layout ≡ w.layout → v.state ≡ w.state → v ≡ w
-same_memory v w layout state =
-    ap (λ (l : LayoutParts). record { layout = l; state = v.state }) layout
-    ∙ ap (λ (s : Memory). record { layout = w.layout; state = s }) state

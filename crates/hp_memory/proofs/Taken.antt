@@ -1,5 +1,5 @@
 -- Blocks that are taken, straight from the areas or by a processor's list, and from several sources in turn.
-use Rattle.std.proofs.Common.{◌≡◌, ℕ, ◌+◌, ◌^◌, ◌<◌, ◌≤◌, List, [], ◌∷◌, Option, Some, None, refl, sym, ◌∙◌, ap, subst, arith, inl, inr, IfSome}
+use Rattle.std.proofs.Common.{◌≡◌, ℕ, ◌+◌, ◌^◌, ◌≤◌, List, [], ◌∷◌, Option, Some, None, refl, sym, ◌∙◌, ap, subst, arith, IfSome}
 use Rattle.std.specs.Prelude.{MatchOption}
 use Rattle.std.specs.Option.{option_or}
 use Rattle.hp_units.specs.declared.rows.Pool.{Pool}
@@ -7,35 +7,19 @@ use Rattle.hp_units.specs.LayoutParts.{LayoutParts, IsLayout}
 use Rattle.hp_units.specs.Arithmetic.{frame_count}
 use Rattle.hp_units.specs.Memory.{FreeFrames, cached_list}
 use Rattle.hp_units.specs.FreeAreas.{Taken}
-use Rattle.hp_units.specs.Placement.{free_places, covered}
+use Rattle.hp_units.specs.Placement.{free_places}
 use Rattle.hp_units.specs.ProcessorLists.{Handed, handed_from, pop_cached, pop_from, refilled_from, take_one}
 use Rattle.hp_tape.specs.Bounds.{batch_bound, take_one_bound, take_one_from, steal_bound}
 use Rattle.hp_tape.specs.Tapes.{TapeValue, HasRoom, NotesAreas, NotesFree}
 use Rattle.hp_tape.specs.Deltas.{FitsFree, IsOfFree, free_undo}
 use Rattle.hp_tape.proofs.Leads.{notes-more}
 use Rattle.hp_buddy.specs.Buddy.{BuddyValue, AreApart, MayBeGiven, HasBlockMore}
-use Rattle.hp_cpus.specs.Cpus.{CpusValue, AreTogether, MayBePut, frames_of, one_at}
-use Rattle.std.proofs.lemmas.Bool.{cases_lt}
-use Rattle.hp_lemmas.proofs.Places.{covered-in, covered-out}
+use Rattle.hp_cpus.specs.Cpus.{CpusValue, AreTogether, frames_of}
 use Rattle.std.proofs.Math.Nat.{mul-le-mul_right}
 use Rattle.hp_cpus.proofs.Besides.{notes-beside, nothing-noted}
 use Rattle.hp_cpus.proofs.Undoes.{take-few}
-use Rattle.hp_cpus.proofs.Counts.{one-self}
-use Rattle.hp_cpus.proofs.Together.{one-other}
 use Rattle.hp_memory.specs.declared.frames.Frames.{Frames}
-use Rattle.hp_memory.specs.Frames.{HandsOut, IsTaken, IsTidy, free_of, places_of}
-
--- ---- one frame
-
--- a single frame is a block of order 0
-covered-one : (o f : ℕ) → covered o 0 f ≡ one_at f o
-covered-one o f = elim (cases_lt o f) [
-  | inl below ↦ omega (arith, covered-out o 0 f (inl below), one-other f o (λ same. omega arith))
-  | inr low ↦ elim (cases_lt f o) [
-    | inl above ↦ omega (arith, covered-out o 0 f (inr (omega arith)), one-other f o (λ same. omega arith))
-    | inr high ↦ omega (arith, covered-in o 0 f low (omega arith), one-self f o (omega arith))
-  ]
-]
+use Rattle.hp_memory.specs.Frames.{HandsOut, IsTaken, IsTidy, free_of}
 
 -- ---- straight from the areas
 
@@ -115,53 +99,6 @@ area-taken rule bound f e order was now answer h t =
 
 -- ---- by a processor's list
 
--- what a call of the processors' lists ensures
-pub record IsListTaken (wanted : Option Handed) (most : ℕ) (old new : Frames) (was now : TapeValue)
-    (answer : Option ℕ) : Type 0 where
-  pub taken : MatchOption answer (wanted ≡ None)
-      (λ frame. wanted ≡ Some (record { free = free_of new; frame = frame }))
-  pub none : MatchOption answer ((new.cpus ≡ old.cpus) × (new.buddy ≡ old.buddy) × (now ≡ was))
-      (λ _. Unit {0})
-  pub layout : new.cpus.layout ≡ old.cpus.layout
-  pub notes : NotesFree old.cpus.layout most was now (free_of new) (free_of old)
-  pub together : AreTogether new.cpus new.buddy
-  pub frame : IfSome answer (MayBePut new.cpus new.buddy)
-  pub places : IfSome answer
-      (λ frame. (other : ℕ) → places_of old other ≡ places_of new other + one_at frame other)
-
-pub list-taken : (wanted : Option Handed) (most : ℕ) (old new : Frames) (was now : TapeValue)
-    (answer : Option ℕ)
-    → IsListTaken wanted most old new was now answer
-    → IsTaken wanted 0 most old new was now answer
-list-taken wanted most old new was now None t = record {
-  handed =
-      subst (λ (w : Option Handed). HandsOut w (free_of old) (free_of new) None) (sym t.taken)
-      (refl, ap free_of (same old new t.none.0 t.none.1));
-  none = λ is. (same old new t.none.0 t.none.1, t.none.2);
-  layout = t.layout;
-  tidy = t.together;
-  block = tt;
-  notes = t.notes;
-}
-  where
-    same : (old new : Frames) → new.cpus ≡ old.cpus → new.buddy ≡ old.buddy → new ≡ old
-    same old new cpus buddy =
-        ap (λ (c : CpusValue). record { buddy = new.buddy; cpus = c }) cpus
-        ∙ ap (λ (b : BuddyValue). record { buddy = b; cpus = old.cpus }) buddy
-list-taken wanted most old new was now (Some frame) t = record {
-  handed =
-      subst (λ (w : Option Handed). HandsOut w (free_of old) (free_of new) (Some frame)) (sym t.taken)
-      (refl, refl);
-  none = λ is. absurd cc;
-  layout = t.layout;
-  tidy = t.together;
-  block = record {
-    within = omega (arith, subst (λ (l : LayoutParts). frame < frame_count l) t.layout t.frame.within);
-    places = λ o. omega (arith, t.places o, covered-one o frame);
-  };
-  notes = t.notes;
-}
-
 -- a list that has a frame hands one out
 list-hands : (fs : FreeFrames) (cpu : ℕ) (pool : Pool) (frame : ℕ) (frames xs : List ℕ) → xs ≡ frame ∷ frames
     → pop_from fs cpu pool xs ≡ None → ⊥
@@ -186,27 +123,6 @@ empty-bound l fs cpu pool none = empty_from l fs cpu pool (cached_list fs cpu po
 wanted-none : (wanted : Option Handed) (old new : FreeFrames) → HandsOut wanted old new None → wanted ≡ None
 wanted-none None old new h = refl
 wanted-none (Some handed) old new h = absurd (let e = h.0 in cc)
-
-wanted-some : (wanted other : Option Handed) (old new : FreeFrames) (frame : ℕ)
-    → HandsOut wanted old new (Some frame) → HandsOut (option_or wanted other) old new (Some frame)
-wanted-some None other old new frame h = absurd (let e = h.0 in cc)
-wanted-some (Some handed) other old new frame h = h
-
--- the first source hands one out
-pub first-taken : (wanted other : Option Handed) (order most more : ℕ) (old new : Frames)
-    (was now : TapeValue) (frame : ℕ)
-    → most ≤ more → IsTaken wanted order most old new was now (Some frame)
-    → IsTaken (option_or wanted other) order more old new was now (Some frame)
-first-taken wanted other order most more old new was now frame le t = record {
-  handed = wanted-some wanted other (free_of old) (free_of new) frame t.handed;
-  none = t.none;
-  layout = t.layout;
-  tidy = t.tidy;
-  block = t.block;
-  notes =
-      notes-more IsOfFree FitsFree free_undo old.cpus.layout most more was now (free_of new) (free_of old) le
-      t.notes;
-}
 
 -- it hands none out, and the other does or doesn't
 pub then-taken : (wanted : Option Handed) (other : Frames → Option Handed) (order most : ℕ)
@@ -242,12 +158,12 @@ pub record IsListEmpty (f mid : Frames) (was between : TapeValue) (cpu : ℕ) (p
   pub bound : take_one_bound f.cpus.layout (free_of f) cpu pool ≡ batch_bound f.cpus.layout
 
 -- deltas that were none
-pub list-empty : (f mid : Frames) (was between : TapeValue) (cpu : ℕ) (pool : Pool) (most : ℕ)
-    (answer : Option ℕ)
+pub list-empty : {f mid : Frames} {was between : TapeValue} {cpu : ℕ} {pool : Pool} {most : ℕ}
+    {answer : Option ℕ}
     → answer ≡ None
     → IsTaken (take_one f.cpus.layout (free_of f) cpu pool) 0 most f mid was between answer
     → IsListEmpty f mid was between cpu pool
-list-empty f mid was between cpu pool most answer none t =
+list-empty {f} {mid} {was} {between} {cpu} {pool} {most} none t =
     let h =
     subst (λ (a : Option ℕ).
     IsTaken (take_one f.cpus.layout (free_of f) cpu pool) 0 most f mid was between a) none t in
@@ -278,11 +194,11 @@ steal-few l layout =
     let more = mul-le-mul_right {m = 1} {n = l.batch} (l.order + 2) layout.some_batch in omega (arith, more)
 
 -- so there is still room for a steal, and for another list
-pub steal-room : (f mid : Frames) (was between : TapeValue) (cpu : ℕ) (pool : Pool) → IsLayout f.cpus.layout
+pub steal-room : {f mid : Frames} {was between : TapeValue} {cpu : ℕ} {pool : Pool} → IsLayout f.cpus.layout
     → IsListEmpty f mid was between cpu pool
     → HasRoom was (take_one_bound f.cpus.layout (free_of f) cpu pool)
     → HasRoom between (steal_bound mid.cpus.layout)
-steal-room f mid was between cpu pool layout e room =
+steal-room {f = f} {between = between} layout e room =
     subst (λ (g : Frames). HasRoom between (steal_bound g.cpus.layout)) (sym e.same)
     (subst (λ (t : TapeValue). HasRoom t (steal_bound f.cpus.layout)) (sym e.tape)
     (let few = steal-few f.cpus.layout layout in omega (arith, few, room, e.bound)))

@@ -1,30 +1,11 @@
 -- Deltas that are undone one after another, latest first.
-use Rattle.std.proofs.Common.{◌≡◌, ℕ, ◌<◌, ◌≤◌, List, [], ◌∷◌, ◌++◌, drop, length, take, refl, sym, ◌∙◌, ap, subst, arith}
-use Rattle.std.proofs.lemmas.List.{drop-append-le, drop_all, length-append, take-append-le}
+use Rattle.std.proofs.Common.{◌≡◌, ℕ, ◌<◌, ◌≤◌, List, [], ◌∷◌, ◌++◌, drop, length, take, sym, ◌∙◌, ap, subst, arith}
+use Rattle.std.proofs.lemmas.List.{drop-append-le, length-append, take-append-le}
 use Rattle.std.specs.List.{AllByRecursion}
 use Rattle.hp_units.specs.LayoutParts.{LayoutParts}
 use Rattle.hp_tape.specs.declared.deltas.Delta.{Delta}
-use Rattle.hp_tape.specs.declared.deltas.Delta.TheVariants.{Link, Unlink, Kind as KindDelta, Kernel as KernelDelta, Map as MapDelta, Swap, Word as WordDelta, Filled, Emptied, Row as RowDelta, Auto as AutoDelta}
-use Rattle.hp_tape.specs.declared.deltas.ListId.TheVariants.{Area, Cpu}
 use Rattle.hp_tape.specs.Deltas.{AllFit, Fits, FrameView, IsDeltaOf, undo, undo_all}
 use Rattle.hp_tape.proofs.Leads.{all-latest, all_fit-latest, undo_all-append}
-use Rattle.hp_memory.specs.Parts.{part_of, undo_part}
-
--- the opposite of a delta is that on its layer
-pub undo-part : (d : Delta) (v : FrameView) → undo d v ≡ undo_part (part_of d) d v
-undo-part (Link (Area class order) frame after) v = refl
-undo-part (Link (Cpu pool cpu) frame after) v = refl
-undo-part (Unlink (Area class order) frame after) v = refl
-undo-part (Unlink (Cpu pool cpu) frame after) v = refl
-undo-part (KindDelta pageblock was now) v = refl
-undo-part (KernelDelta frame was now) v = refl
-undo-part (MapDelta owner page change) v = refl
-undo-part (Swap a b) v = refl
-undo-part (WordDelta index frame was) v = refl
-undo-part (Filled index frame now) v = refl
-undo-part (Emptied frame words) v = refl
-undo-part (RowDelta change) v = refl
-undo-part (AutoDelta was now) v = refl
 
 -- what a step of undoing keeps
 pub record IsUnwound (l : LayoutParts) (deltas : List Delta) (now first : FrameView) : Type 0 where
@@ -84,9 +65,3 @@ pub past-take : (mark : ℕ) (all deltas : List Delta) (delta : Delta) → mark 
 past-take mark all deltas delta more is =
     sym (ap (λ (ds : List Delta). take mark ds) is
     ∙ take-append-le mark deltas (delta ∷ []) (past-length mark all deltas delta more is))
-
--- where nothing is past the mark, all is undone
-pub unwound-all : (l : LayoutParts) (mark : ℕ) (all : List Delta) (now first : FrameView)
-    → IsUnwound l (drop mark all) now first → length all ≤ mark → now ≡ first
-unwound-all l mark all now first u none =
-    ap (λ (ds : List Delta). undo_all undo ds now) (sym (drop_all mark all none)) ∙ u.ends

@@ -3,30 +3,11 @@ use Rattle.std.proofs.Common.{◌≡◌, ℕ, ◌^◌, ◌<◌, Bool, true, fals
 use Rattle.std.specs.Result.{result_ok}
 use Rattle.std.specs.Str.{all_ascii_digits}
 use Rattle.std.specs.Str.Parse.{digits_value, ParsesUnsigned}
-use Rattle.std.proofs.lemmas.Str.Parse.{IsNumeralModel, numerals_by_value, tells_all_ascii_digits, parse_plain}
-use Rattle.std.proofs.lemmas.Bool.{ltb-true, lt-ltb, eq-eqb}
+use Rattle.std.proofs.lemmas.Str.Parse.{parse_plain}
+use Rattle.std.proofs.lemmas.Bool.{and_from, and_parts, ltb-true, lt-ltb, eq-eqb}
 use Rattle.std.specs.Result.{OkIff}
+use Rattle.hp_numbers.proofs.NumbersSpelled.{own}
 use Rattle.hp_numbers.specs.NumberWords.{is_bare, is_digits, digits_in, number_of}
-
--- std's words for digits and their value
-own : IsNumeralModel (λ ds. all_ascii_digits ds ≡ true) (digits_value 10)
-own = numerals_by_value _ tells_all_ascii_digits
-
--- two tests that hold hold together
-both : (a b : Bool) → a ≡ true → b ≡ true → (a && b) ≡ true
-both true true p q = refl
-both true false p q = absurd cc
-both false b p q = absurd cc
-
--- the first of two tests
-first_of_both : (a b : Bool) → (a && b) ≡ true → a ≡ true
-first_of_both true b p = refl
-first_of_both false b p = absurd cc
-
--- the second of two tests
-second_of_both : (a b : Bool) → (a && b) ≡ true → b ≡ true
-second_of_both true b p = p
-second_of_both false b p = absurd cc
 
 -- a test whose denial holds fails
 first_fails : (a b : Bool) → (not a && b) ≡ true → a ≡ false
@@ -55,15 +36,13 @@ gives : {E : Type 0} (bits : ℕ) (word : List ℕ) (r : Result ℕ E)
 unfolding digits_in
 gives bits word (Ok x) h =
     let t : (is_digits word && ltb (digits_value 10 word) (2 ^ bits)) ≡ true =
-    both _ _ (both _ _ h.0.0 (lt-ltb _ _ h.0.1)) (lt-ltb _ _ h.0.2) in
+    and_from _ _ (and_from _ _ h.0.0 (lt-ltb _ _ h.0.1)) (lt-ltb _ _ h.0.2) in
     rw (t, h.1) refl
 gives bits word (Err e) h =
     chosen (is_digits word && ltb (digits_value 10 word) (2 ^ bits)) (digits_value 10 word) None
-    (λ t. absurd (h (
-      first_of_both _ _ (first_of_both _ _ t),
-      ltb-true _ _ (second_of_both _ _ (first_of_both _ _ t)),
-      ltb-true _ _ (second_of_both _ _ t),
-    )))
+    (λ t. let tests = and_parts _ _ t in
+    let digits = and_parts _ _ tests.0 in
+    absurd (h (digits.0, ltb-true _ _ digits.1, ltb-true _ _ tests.1)))
     (λ _. refl)
 
 -- what parsing a bare word gives is the number that it is

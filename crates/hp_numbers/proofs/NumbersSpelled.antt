@@ -1,6 +1,6 @@
 -- A word is a number just where it is the number in decimal, and the number fits.
 use Rattle.std.proofs.Common.{◌≡◌, ℕ, ◌^◌, ◌<◌, ◌≤◌, Bool, true, false, cond, not, ◌&&◌, ◌||◌, eqb, ltb, List, [], ◌∷◌, length, get_or, Option, Some, None, refl, sym, ap, subst, ◌∙◌, arith, inl, inr, ◌⊎◌, ◌↔◌}
-use Rattle.std.proofs.lemmas.Bool.{ltb-true, lt-ltb, eq-eqb, ne_eqb, cases_lt}
+use Rattle.std.proofs.lemmas.Bool.{and_from, and_parts, ltb-true, lt-ltb, eq-eqb, ne_eqb, cases_lt}
 use Rattle.std.proofs.lemmas.Fmt.{digits_decimal, digits_value-decimal, decimal-digits_value, decimal_nonempty, first_decimal, decimal_digit}
 use Rattle.std.proofs.lemmas.Str.Parse.{IsNumeralModel, numerals_by_value, tells_all_ascii_digits}
 use Rattle.std.proofs.Math.Pow.{pow_mono}
@@ -23,16 +23,11 @@ chosen false x y e = absurd cc
 some_is : (x y : ℕ) → Some x ≡ Some y → x ≡ y
 some_is x y e = cc
 
--- two tests that hold together hold each
-parts : (a b : Bool) → (a && b) ≡ true → (a ≡ true) × (b ≡ true)
-parts true b e = (refl, e)
-parts false b e = absurd cc
-
 -- a bare word that begins with 0 is one digit
 no_zero : (word : List ℕ) → is_bare word ≡ true → get_or word 0 0 ≡ 48 → length word < 2
 no_zero word h e =
     let p =
-    parts (not (eqb (get_or word 0 0) 43)) (ltb (length word) 2 || not (eqb (get_or word 0 0) 48)) h in
+    and_parts (not (eqb (get_or word 0 0) 43)) (ltb (length word) 2 || not (eqb (get_or word 0 0) 48)) h in
     let t : eqb (get_or word 0 0) 48 ≡ true = eq-eqb _ _ e in
     short (ltb (length word) 2) (eqb (get_or word 0 0) 48) (length word) p.1 t (ltb-true (length word) 2)
   where
@@ -53,8 +48,8 @@ is_spelled bits word n le e =
     let a = chosen (is_bare word) (digits_in bits word) n e in
     let b =
     chosen (is_digits word && ltb (digits_value 10 word) (2 ^ bits)) (Some (digits_value 10 word)) n a.1 in
-    let p = parts (is_digits word) (ltb (digits_value 10 word) (2 ^ bits)) b.0 in
-    let d = parts (all_ascii_digits word) (ltb 0 (length word)) p.0 in
+    let p = and_parts (is_digits word) (ltb (digits_value 10 word) (2 ^ bits)) b.0 in
+    let d = and_parts (all_ascii_digits word) (ltb 0 (length word)) p.0 in
     let v : digits_value 10 word ≡ n = some_is _ _ b.1 in
     let small : digits_value 10 word < 2 ^ bits = ltb-true _ _ p.1 in
     let some : 0 < length word = ltb-true _ _ d.1 in
@@ -92,11 +87,6 @@ bare_decimal n small =
     zero_is : (n : ℕ) → n ≤ 0 → n ≡ 0
     zero_is n h = omega arith
 
--- two tests that hold hold together
-both : (a b : Bool) → a ≡ true → b ≡ true → (a && b) ≡ true
-both true b p q = q
-both false b p q = absurd cc
-
 -- the decimal digits of a number that fits are that number
 pub spelled_is : (bits : ℕ) (word : List ℕ) (n : ℕ) → bits ≤ 64 → (word ≡ decimal n) × (n < 2 ^ bits)
     → number_of bits word ≡ Some n
@@ -105,7 +95,7 @@ spelled_is bits word n le p =
     let small = fits bits n le p.1 in
     let value : digits_value 10 (decimal n) ≡ n = digits_value-decimal own n small in
     let test : (is_digits (decimal n) && ltb (digits_value 10 (decimal n)) (2 ^ bits)) ≡ true =
-    both _ _ (both _ _ (digits_decimal own n small) (lt-ltb _ _ (decimal_nonempty n small)))
+    and_from _ _ (and_from _ _ (digits_decimal own n small) (lt-ltb _ _ (decimal_nonempty n small)))
     (rw value (lt-ltb _ _ p.1)) in
     ap (number_of bits) p.0 ∙ rw (bare_decimal n small, test, value) refl
 

@@ -11,7 +11,7 @@ use Rattle.hp_units.specs.Arithmetic.{IsFrame, frame_count}
 use Rattle.hp_units.specs.InLayout.{ArePagesOf}
 use Rattle.hp_units.specs.Memory.{Memory, Pages, entry_of, with_entry}
 use Rattle.hp_units.specs.Pages.{frame_at, fresh_words, map_page, move_page, page_at, read_word, unmap_page, words_at, write_word}
-use Rattle.hp_units.specs.Placement.{IsPage, IsWellPlaced, mapped_places}
+use Rattle.hp_units.specs.Placement.{IsPage, IsWellPlaced}
 use Rattle.hp_tape.specs.Deltas.{PageFrames, buffer_for, buffer_of, is_blank, page_frames_of}
 use Rattle.hp_pages.specs.Pages.{ArePageFramesOf, AreSettled, IsNeeded, map_frame, move_entry, move_frame, unmap_frame, unmap_from, words_in, words_of, write_at, write_frame}
 use Rattle.hp_pages.specs.Places.{holders}
@@ -304,10 +304,6 @@ settled_view l ps are = record {
 }
 
 -- ---- well placed states
-
--- how many pages a frame holds, as a well placed state counts them
-pub holders_placed : (ps : Pages) (frame : ℕ) → mapped_places ps frame ≡ holders ps.table frame
-holders_placed ps frame = refl
 
 page_words : (l : LayoutParts) (entry : Option ℕ) (words : Option (List ℕ)) → IsPage l entry words
     → is_some words ≡ is_some entry

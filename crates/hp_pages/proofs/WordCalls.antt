@@ -1,23 +1,20 @@
 -- A write of a word: what the call changes and notes is what the rule says.
-use Rattle.std.proofs.Common.{◌≡◌, ℕ, ◌<◌, Bool, true, false, List, [], ◌∷◌, ◌++◌, length, get_or, set, replicate, Option, Some, None, refl, sym, ap, ◌∙◌, subst, inl, inr, arith}
+use Rattle.std.proofs.Common.{◌≡◌, ℕ, ◌<◌, Bool, false, List, [], ◌∷◌, ◌++◌, length, get_or, set, replicate, Option, Some, None, refl, sym, ap, ◌∙◌, subst, inl, inr, arith}
 use Rattle.std.specs.Prelude.{IfSome, IsSome, option_map, slice_get, slice_index, unwrap_or}
-use Rattle.std.proofs.lemmas.Bool.{cases_Bool, cases_eq}
-use Rattle.std.proofs.lemmas.List.{get_or-set_same, get_or-set_other, length-replicate, length-set, set-set, set-get_or}
+use Rattle.std.proofs.lemmas.Bool.{cases_eq}
+use Rattle.std.proofs.lemmas.List.{get_or-set_same, length-replicate, length-set, set-set, set-get_or}
 use Rattle.std.proofs.lemmas.Option.{same_Some, slice_get-get_or}
 use Rattle.hp_units.specs.LayoutParts.{LayoutParts}
 use Rattle.hp_units.specs.Arithmetic.{IsFrame}
-use Rattle.hp_units.specs.Memory.{entry_of}
 use Rattle.hp_units.specs.Pages.{fresh_words}
 use Rattle.hp_tape.specs.declared.deltas.Delta.TheVariants.{Word as WordDelta, Filled}
 use Rattle.hp_tape.specs.Deltas.{HasOneWord, PageFrames, buffer_for, buffer_of, is_blank, with_buffer}
 use Rattle.hp_tape.specs.Tapes.{TapeValue, NotesPages}
-use Rattle.hp_pages.specs.Pages.{ArePageFramesOf, AreSettled, IsNeeded, words_in, write_at}
-use Rattle.hp_pages.specs.Places.{holders}
+use Rattle.hp_pages.specs.Pages.{write_at}
 use Rattle.hp_pages.proofs.Blanks.{none-needed, some-needed, set-some, set-zero, zeros-blank}
-use Rattle.hp_pages.proofs.Places.{holds_some}
 use Rattle.hp_lemmas.proofs.Tables.{get_set}
 use Rattle.hp_pages.proofs.PageParts.{AreSized, noted_one, same_frames}
-use Rattle.hp_pages.proofs.PageCalls.{needed_at, kept-none}
+use Rattle.hp_pages.proofs.PageCalls.{kept-none}
 
 -- ---- write
 
@@ -72,16 +69,6 @@ written-none l v frame index value none zero =
     ∙ (ap (λ (b : Option (List ℕ)). with_buffer v frame b)
     (ap (λ (ws : List ℕ). buffer_for ws) (set-zero l.words index) ∙ none-needed fresh (zeros-blank l.words))
     ∙ kept-none v frame none)))
-
--- the last word that is not 0 becomes 0
-pub written-blank : (l : LayoutParts) (v : PageFrames) (frame index value : ℕ) (words : List ℕ)
-    → buffer_of v frame ≡ Some words → value ≡ 0
-    → is_blank (set words index 0) ≡ true → with_buffer v frame None ≡ write_at l v frame index value
-written-blank l v frame index value words there zero blank =
-    sym (ap (λ (b : Option (List ℕ)).
-    with_buffer v frame (buffer_for (set (unwrap_or b (fresh_words l)) index value))) there
-    ∙ (ap (λ (n : ℕ). with_buffer v frame (buffer_for (set words index n))) zero
-    ∙ ap (λ (b : Option (List ℕ)). with_buffer v frame b) (none-needed (set words index 0) blank)))
 
 -- any other word changes in its buffer
 pub written-word : (l : LayoutParts) (v : PageFrames) (frame index value : ℕ) (words : List ℕ)
@@ -163,37 +150,3 @@ notes-changed l v frame index before value (Some words) was now are in_frames in
     notes-word l v frame index before value words was now are in_frames in_words there
     (same_Some before (slice_index words index)
     (sym read ∙ slice_get-get_or words index 0 (omega (arith, len, in_words)))) room noted
-
--- a view stays settled when a word of a page is written
-needed_for : (v : PageFrames) (frame : ℕ) (words : List ℕ) → holders v.table frame ≡ 1
-    → IfSome (buffer_for words) (IsNeeded v frame)
-needed_for v frame words one = elim (cases_Bool (is_blank words)) [
-  | inl blank ↦
-      subst (λ (b : Option (List ℕ)). IfSome b (IsNeeded v frame)) (sym (none-needed words blank)) tt
-  | inr some ↦
-      subst (λ (b : Option (List ℕ)). IfSome b (IsNeeded v frame)) (sym (some-needed words some))
-      (record { held = one; some = some })
-]
-
-pub settled-write : (l : LayoutParts) (v : PageFrames) (owner page frame index value : ℕ)
-    → ArePageFramesOf l v → AreSettled v → IsFrame l frame
-    → entry_of v.table owner page ≡ Some frame → AreSettled (write_at l v frame index value)
-settled-write l v owner page frame index value are settled in_frames mapped =
-    let within : frame < length v.buffers = omega (arith, are.frames, in_frames) in
-    let words = set (words_in l v frame) index value in
-    let new = write_at l v frame index value in
-    let one : holders v.table frame ≡ 1 =
-    omega (arith, settled.once frame, holds_some v.table owner page frame mapped) in
-    record {
-      once = settled.once;
-      buffers = λ f. elim (cases_eq frame f) [
-        | inl same ↦ subst (λ (n : ℕ). IfSome (buffer_of new n) (IsNeeded new n)) same
-            (subst (λ (b : Option (List ℕ)). IfSome b (IsNeeded new frame))
-            (sym (get_or-set_same v.buffers frame (buffer_for words) None within))
-            (needed_for new frame words one))
-        | inr other ↦
-            subst (λ (b : Option (List ℕ)). IfSome b (IsNeeded new f))
-            (sym (get_or-set_other v.buffers frame f (buffer_for words) None (λ e. other (sym e))))
-            (needed_at v new f f (buffer_of v f) (λ one. one) (settled.buffers f))
-      ];
-    }

@@ -40,7 +40,7 @@ impl Buffers {
     {
         let mut frames = Vec::with_capacity(alloc, self.frames.len())?;
         for words in &self.frames {
-            frames.push(copy_of(alloc, words)?)?;
+            frames.push(Words::copy_if_any(alloc, words)?)?;
         }
         Ok(Buffers { frames })
     }
@@ -101,16 +101,6 @@ impl Buffers {
         if let Some(words) = &mut self.frames[frame.0 as usize] {
             words.set(index, value);
         }
-    }
-}
-
-/// An equal buffer, if there is one.
-fn copy_of(alloc: Global, words: &Option<Words>) -> Result<Option<Words>, AllocError>
-    ensures { IfOk result (λ copy. copy ≡ words.now) }
-{
-    match words {
-        Some(words) => Ok(Some(words.copy(alloc)?)),
-        None => Ok(None),
     }
 }
 

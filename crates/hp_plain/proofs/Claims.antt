@@ -8,7 +8,8 @@ use Rattle.hp_units.specs.Arithmetic.{all_blocks}
 use Rattle.hp_units.specs.Memory.{Blocks, row_of}
 use Rattle.hp_units.specs.FreeAreas.{is_on}
 use Rattle.hp_units.specs.Rows.{blocks_of, is_claimed_by}
-use Rattle.hp_plain.proofs.Filters.{on_cases, on-filter, filter-range_more}
+use Rattle.hp_units.proofs.Lists.{on_cases}
+use Rattle.hp_plain.proofs.Filters.{on-filter, filter-range_more}
 
 -- a number on a list of numbers from one on is below their end
 range-below : (a n b : ℕ) → is_on b (range_with_len a n) ≡ true → b < a + n

@@ -1,5 +1,5 @@
 -- Free frames with nothing on the processors' lists are within their layout where their areas are.
-use Rattle.std.proofs.Common.{◌≡◌, ℕ, zero, suc, ◌+◌, ◌*◌, List, [], length, get_or, replicate, true, refl, ◌∙◌, ap, subst}
+use Rattle.std.proofs.Common.{◌≡◌, ℕ, ◌+◌, ◌*◌, List, [], length, get_or, replicate, true, ◌∙◌, ap, subst}
 use Rattle.std.proofs.lemmas.List.{length-replicate}
 use Rattle.std.proofs.lemmas.Bool.{false≢true}
 use Rattle.hp_units.specs.LayoutParts.{LayoutParts}
@@ -9,12 +9,7 @@ use Rattle.hp_units.specs.Memory.{FreeAreas, FreeFrames, class_index, plain_kind
 use Rattle.hp_units.specs.FreeAreas.{is_on}
 use Rattle.hp_units.specs.Boot.{empty_areas, empty_cached}
 use Rattle.hp_units.specs.InLayout.{AreFreeAreasOf, AreFreeFramesOf}
-
--- every entry of copies of one value is that value
-at_replicate : {A : Type 0} (n i : ℕ) (x : A) → get_or (replicate n x) i x ≡ x
-at_replicate zero i x = refl
-at_replicate (suc n) zero x = refl
-at_replicate (suc n) (suc i) x = at_replicate n i x
+use Rattle.hp_units.proofs.Lists.{at_replicate}
 
 -- areas of these lists and these kinds
 abbrev pub made : List (List ℕ) → List Kind → FreeAreas

@@ -1,5 +1,5 @@
 -- The empty state is within its layout.
-use Rattle.std.proofs.Common.{◌≡◌, ℕ, zero, suc, ◌≤◌, List, length, get_or, replicate, Option, None, refl, sym, subst, IfSome}
+use Rattle.std.proofs.Common.{◌≡◌, ℕ, zero, suc, ◌≤◌, List, length, replicate, Option, None, refl, sym, subst, IfSome}
 use Rattle.std.specs.List.{AllByRecursion}
 use Rattle.std.proofs.lemmas.List.{length-replicate}
 use Rattle.hp_units.specs.LayoutParts.{LayoutParts}
@@ -7,12 +7,7 @@ use Rattle.hp_units.specs.Arithmetic.{IsFrame, frame_count}
 use Rattle.hp_units.specs.Memory.{Memory, entry_of, offline_row}
 use Rattle.hp_units.specs.Boot.{empty_pages, empty_blocks}
 use Rattle.hp_units.specs.InLayout.{AreFreeFramesOf, ArePagesOf, AreKernelBlocksOf, AreBlocksOf, IsMemoryOf}
-
--- every entry of copies of one value is that value
-at_replicate : {A : Type 0} (n i : ℕ) (x : A) → get_or (replicate n x) i x ≡ x
-at_replicate zero i x = refl
-at_replicate (suc n) zero x = refl
-at_replicate (suc n) (suc i) x = at_replicate n i x
+use Rattle.hp_units.proofs.Lists.{at_replicate}
 
 -- what holds of a value holds of all its copies
 all_replicate : {A : Type 0} (P : A → Type 0) (n : ℕ) (x : A) → P x → AllByRecursion P (replicate n x)

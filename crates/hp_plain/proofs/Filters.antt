@@ -1,17 +1,9 @@
 -- Filtered lists of numbers.
-use Rattle.std.proofs.Common.{◌≡◌, ℕ, zero, suc, ◌+◌, List, [], ◌∷◌, ◌++◌, Bool, true, false, cond, ◌||◌, ◌==◌, refl, sym, ◌∙◌, ap, arith, ◌⊎◌, inl, inr, eqb-true, filter, add-one}
+use Rattle.std.proofs.Common.{◌≡◌, ℕ, ◌+◌, List, [], ◌∷◌, ◌++◌, Bool, true, false, cond, ◌||◌, ◌==◌, refl, sym, ◌∙◌, ap, filter, add-one}
 use Rattle.std.specs.List.{range_with_len}
-use Rattle.std.proofs.lemmas.Bool.{or_cases}
 use Rattle.std.proofs.lemmas.List.Elements.{filter-append}
 use Rattle.hp_units.specs.FreeAreas.{is_on}
 use Rattle.hp_plain.proofs.Ranges.{range_push}
-
--- a number on a list is its first one or on the rest
-pub on_cases : (number x : ℕ) (xs : List ℕ) → is_on number (x ∷ xs) ≡ true
-    → (x ≡ number) ⊎ (is_on number xs ≡ true)
-on_cases number x xs e =
-    elim (or_cases (x == number) (is_on number xs) e)
-    [ inl same ↦ inl (eqb-true x number same) | inr on ↦ inr on ]
 
 -- one more number that a filter keeps or leaves out
 filter-step : (keep same : Bool) (number x : ℕ) (xs ys : List ℕ) → (x == number) ≡ same

@@ -1,5 +1,5 @@
 -- What keeps the free frames within their layout.
-use Rattle.std.proofs.Common.{◌≡◌, ℕ, ◌+◌, ◌*◌, ◌^◌, ◌<◌, ◌≤◌, List, [], ◌∷◌, ◌++◌, length, get_or, set, true, sym, ◌∙◌, ap, subst, arith, inl, inr, ◌==◌, eqb-true}
+use Rattle.std.proofs.Common.{◌≡◌, ℕ, ◌+◌, ◌*◌, ◌^◌, ◌<◌, ◌≤◌, List, [], ◌∷◌, ◌++◌, length, get_or, set, true, sym, ◌∙◌, ap, subst, arith, inl, inr, ◌==◌}
 use Rattle.std.specs.Prelude.{◌⊎◌}
 use Rattle.std.proofs.lemmas.List.{get_or-set_other, get_or-set_same, length-set, set_past}
 use Rattle.std.proofs.lemmas.List.Folds.{list_any-append}
@@ -10,13 +10,7 @@ use Rattle.hp_units.specs.Arithmetic.{frame_count}
 use Rattle.hp_units.specs.Memory.{FreeAreas, FreeFrames, free_list, class_index}
 use Rattle.hp_units.specs.FreeAreas.{is_on, with_back}
 use Rattle.hp_units.specs.InLayout.{AreFreeAreasOf, AreFreeFramesOf}
-
--- a frame on a list with one more in front is that one, or was on the list
-pub on_cases : (frame x : ℕ) (xs : List ℕ) → is_on frame (x ∷ xs) ≡ true
-    → (x ≡ frame) ⊎ (is_on frame xs ≡ true)
-on_cases frame x xs e =
-    elim (or_cases (x == frame) (is_on frame xs) e)
-    [ inl same ↦ inl (eqb-true x frame same) | inr on ↦ inr on ]
+use Rattle.hp_units.proofs.Lists.{on_cases}
 
 -- a frame on two lists joined is on one of them
 pub on_append : (frame : ℕ) (xs ys : List ℕ) → is_on frame (xs ++ ys) ≡ true
@@ -50,12 +44,12 @@ pub of_areas : (l : LayoutParts) (fs : FreeFrames) (a : FreeAreas) → AreFreeFr
 of_areas l fs a of areas = record { areas = areas; lists = of.lists; cached = of.cached }
 
 -- the number of a class is low
-pub class_index_below : (class : Class) → class_index class < 5
-class_index_below Nu = omega arith
-class_index_below Nm = omega arith
-class_index_below Mm = omega arith
-class_index_below IsoN = omega arith
-class_index_below IsoM = omega arith
+pub class_below : (class : Class) → class_index class < 5
+class_below Nu = omega arith
+class_below Nm = omega arith
+class_below Mm = omega arith
+class_below IsoN = omega arith
+class_below IsoM = omega arith
 
 -- a free block added
 pub of_back : (l : LayoutParts) (a : FreeAreas) (class : Class) (order first : ℕ) → AreFreeAreasOf l a
@@ -69,8 +63,8 @@ of_back l a class order first of within = record {
       λ c o frame on. elim (on-set a.lists (5 * order + class_index class) (5 * o + class_index c)
       (free_list a class order ++ first ∷ []) frame on) [
         | inl new ↦
-            let low : class_index class < 5 = class_index_below class in
-            let lower : class_index c < 5 = class_index_below c in
+            let low : class_index class < 5 = class_below class in
+            let lower : class_index c < 5 = class_below c in
             let same : order ≡ o = omega (arith, new.0) in
             subst (λ (n : ℕ). frame + 2 ^ n ≤ frame_count l) same
             (elim (on_append frame (free_list a class order) (first ∷ []) new.1) [

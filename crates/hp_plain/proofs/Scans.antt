@@ -9,17 +9,9 @@ use Rattle.hp_units.specs.declared.plans.Item.{Item}
 use Rattle.hp_units.specs.FreeAreas.{is_on}
 use Rattle.hp_units.specs.Refusals.{first_repeated}
 use Rattle.hp_plain.specs.Plans.{blocks_in}
-use Rattle.hp_plain.proofs.Ranges.{range_step, fold-range_more}
+use Rattle.hp_plain.proofs.Ranges.{fold-range_more}
 
 -- ---- numbers from one on
-
--- a search for the first number
-pub find-range_step : (p : ℕ → Bool) (a n size : ℕ) (found : Bool) → n < size → p (a + n) ≡ found
-    → find p (range_with_len (a + n) (size - n))
-    ≡ cond found (Some (a + n)) (find p (range_with_len (a + (n + 1)) (size - (n + 1))))
-find-range_step p a n size found h e =
-    ap (find p) (range_step a n size h)
-    ∙ ap (λ (b : Bool). cond b (Some (a + n)) (find p (range_with_len (a + (n + 1)) (size - (n + 1))))) e
 
 -- a fold over the numbers below one, one number further
 pub fold-below_more : {B : Type 0} (f : B → ℕ → B) (b : B) (n : ℕ)

@@ -109,7 +109,7 @@ impl FreeFrames {
 
     /// One more free block of 2^order frames, which all lie in the layout, at the back of its
     /// class's list (own rule). After an error nothing has changed.
-    #[tactic(auto, using(crate::proofs::FramesInLayout::class_index_below, crate::proofs::FramesInLayout::of_back))]
+    #[tactic(auto, using(crate::proofs::FramesInLayout::class_below, crate::proofs::FramesInLayout::of_back))]
     pub(crate) fn add_free(
         &mut self,
         layout: &Layout,

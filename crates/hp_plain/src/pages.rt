@@ -101,7 +101,7 @@ impl OwnerWords {
     {
         let mut pages = Vec::new(alloc);
         for words in &self.pages {
-            pages.push(copy_of(alloc, words)?)?;
+            pages.push(Words::copy_if_any(alloc, words)?)?;
         }
         Ok(OwnerWords { pages })
     }
@@ -148,16 +148,6 @@ fn same_words(words: &Option<Words>, other: &Option<Words>) -> bool
         (Some(words), Some(other)) => words.as_slice() == other.as_slice(),
         (None, None) => true,
         _ => false,
-    }
-}
-
-/// An equal entry.
-fn copy_of(alloc: Global, words: &Option<Words>) -> Result<Option<Words>, AllocError>
-    ensures { IfOk result (λ copy. copy ≡ words.now) }
-{
-    match words {
-        Some(words) => Ok(Some(words.copy(alloc)?)),
-        None => Ok(None),
     }
 }
 

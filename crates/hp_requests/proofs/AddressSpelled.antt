@@ -5,7 +5,7 @@ use Rattle.std.specs.Char.{digit_value}
 use Rattle.std.specs.List.{starts_with}
 use Rattle.std.specs.Option.{option_and_then}
 use Rattle.std.specs.Str.Parse.{AllDigits, IsNumeral, digits_value, digits_value_after}
-use Rattle.std.proofs.lemmas.Bool.{le-leb, leb-true, lt-ltb, ltb-true}
+use Rattle.std.proofs.lemmas.Bool.{and_from, and_parts, le-leb, leb-true, lt-ltb, ltb-true}
 use Rattle.std.proofs.lemmas.Bool.Decides.{Decides-eqb}
 use Rattle.std.proofs.lemmas.Slice.Eq.{starts_is}
 use Rattle.hp_requests.specs.Words.{address_of, hex_after, hex_number}
@@ -38,23 +38,13 @@ made_of_digits number (byte ∷ bytes) made e =
     first_made (ltb (digit_value byte) 16) number byte bytes made (ltb-true (digit_value byte) 16)
     (made_of_digits (number * 16 + digit_value byte) bytes made) e
 
--- two tests that hold hold together
-both : (a b : Bool) → a ≡ true → b ≡ true → (a && b) ≡ true
-both true b p q = q
-both false b p q = absurd cc
-
--- two tests that hold together hold each
-parts : (a b : Bool) → (a && b) ≡ true → (a ≡ true) × (b ≡ true)
-parts true b e = (refl, e)
-parts false b e = absurd cc
-
 -- 1 to 16 hexadecimal digits are the number that they write
 number_is : (digits : List ℕ) → IsNumeral 16 digits → length digits ≤ 16
     → hex_number digits ≡ Some (digits_value 16 digits)
 unfolding hex_number
 number_is digits numeral few =
     let test : (ltb 0 (length digits) && nat_le (length digits) 16) ≡ true =
-    both _ _ (lt-ltb _ _ numeral.0) (le-leb _ _ few) in
+    and_from _ _ (lt-ltb _ _ numeral.0) (le-leb _ _ few) in
     rw test (digits_make 0 digits numeral.1)
 
 -- and what is a number is such digits
@@ -63,7 +53,7 @@ number_named : (digits : List ℕ) (number : ℕ) → hex_number digits ≡ Some
 unfolding hex_number
 number_named digits number e =
     let made = chosen (ltb 0 (length digits) && nat_le (length digits) 16) (hex_after 0 digits) number e in
-    let tests = parts (ltb 0 (length digits)) (nat_le (length digits) 16) made.0 in
+    let tests = and_parts (ltb 0 (length digits)) (nat_le (length digits) 16) made.0 in
     let written = made_of_digits 0 digits number made.1 in
     ((ltb-true _ _ tests.0, written.0), leb-true _ _ tests.1, written.1)
 

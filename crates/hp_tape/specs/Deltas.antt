@@ -1,7 +1,7 @@
 -- What a delta undoes, and the state as the journal sees it: with the words of a page in a buffer
 -- of its frame.
 use Rattle.std.specs.Prelude.{◌≡◌, ◌<◌, ◌≤◌, ℕ, length, IfSome, IsSome, Bool, true, false, not, ◌&&◌, List, [], ◌∷◌, Option, Some, None, ◌==◌, map, replicate, slice_get, slice_index_or, slice_set, unwrap_or, if◌then◌else◌}
-use Rattle.std.specs.List.{list_all, AllByRecursion}
+use Rattle.std.specs.List.{list_all}
 use Rattle.std.specs.Option.{option_map, option_map_or, option_and_then}
 use Rattle.hp_tape.specs.declared.deltas.Delta.{Delta}
 use Rattle.hp_tape.specs.declared.deltas.Delta.TheVariants.{Link, Unlink, Kind as KindDelta, Kernel as KernelDelta, Map as MapDelta, Swap, Word as WordDelta, Filled, Emptied, Row as RowDelta, Auto as AutoDelta}
@@ -237,9 +237,3 @@ abbrev pub IsOfBlocks : Delta → Type 0
 IsOfBlocks (RowDelta change) = Unit {0}
 IsOfBlocks (AutoDelta was now) = Unit {0}
 IsOfBlocks delta = ⊥
-
--- the deltas, done to a state, left another
-pub record LedTo (l : LayoutParts) (deltas : List Delta) (before after : FrameView) : Type 0 where
-  pub numbers : AllByRecursion (IsDeltaOf l) deltas
-  pub back : back deltas after ≡ before
-  pub fit : AllFit Fits undo deltas after

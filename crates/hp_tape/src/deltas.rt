@@ -39,7 +39,8 @@ impl ListId {
 }
 
 /// One small change of the state, with what its opposite needs (own rule). None holds a list of
-/// frames or a state, and a number has as many bytes as the greatest of its kind in a layout.
+/// frames or a state. Orders, processors, owners, pages and places of words take one or two bytes,
+/// frames and pageblocks four.
 #[derive(Drop)]
 pub enum Delta {
     /// A frame was put after another, or at the front.

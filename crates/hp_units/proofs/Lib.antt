@@ -1,5 +1,6 @@
 mod Limits
-mod Script
+pub mod Lists
+pub mod Script
 mod Worked
 mod WorkedBlocks
 mod WorkedHistories

@@ -24,6 +24,10 @@ use Rattle.hp_units.specs.History.{steps_until, count_above, net_with, net_of, r
 abbrev pub next_serial : (before : ℕ) → List Record → ℕ
 next_serial before earlier = before + length earlier + 1
 
+-- a plan: memory block 2 goes offline
+abbrev pub off_2 : List Item
+off_2 = record { block = 2; wish = OffWish } ∷ []
+
 -- opens every definition
 unfoldable pub everything : Unit {0}
 unfolding take_block give_block steal_block take_frames take_one put_one drain_lists move_pageblock

@@ -1,16 +1,13 @@
 -- Worked histories, computed: what an undo and a Cancel answer, and the state after them; and worked texts.
 use Rattle.std.proofs.Common.{◌≡◌, ℕ, List, [], ◌∷◌, ◌++◌, codes, refl}
 use Rattle.std.specs.Fmt.{decimal}
-use Rattle.hp_units.specs.Names.{Item, OffWish, MovableWish, IsoM, KernelAuto, KernelAlloc, Map, Write, Read, Begin, DrainFor, Cancel, UndoAfter, Done, GivesFrame, Word, Moved, Opened, Restored, Released, Undone, Refused, NoCpu, NoOp, NotMapped, NotFree, HoldsUnmovable, Gone}
+use Rattle.hp_units.specs.Names.{Item, MovableWish, IsoM, KernelAuto, KernelAlloc, Map, Write, Read, Begin, DrainFor, Cancel, UndoAfter, Done, GivesFrame, Word, Moved, Opened, Restored, Released, Undone, Refused, NoCpu, NoOp, NotMapped, NotFree, HoldsUnmovable, Gone}
 use Rattle.hp_units.specs.Boot.{boot_memory}
 use Rattle.hp_units.specs.Texts.{reply_text, class_text, auto_text}
-use Rattle.hp_units.proofs.Script.{everything, value_on, replies_on}
+use Rattle.hp_units.proofs.Script.{everything, off_2, value_on, replies_on}
 use Rattle.hp_units.proofs.Worked.{small}
 
--- plans for one block
-abbrev off_2 : List Item
-off_2 = record { block = 2; wish = OffWish } ∷ []
-
+-- a plan for one block
 abbrev coming_3 : List Item
 coming_3 = record { block = 3; wish = MovableWish } ∷ []
 

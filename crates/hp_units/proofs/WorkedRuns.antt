@@ -6,11 +6,8 @@ use Rattle.hp_units.specs.Boot.{boot_memory}
 use Rattle.hp_units.specs.History.{value_of, run}
 use Rattle.hp_units.specs.Contents.{contents_of_net}
 use Rattle.hp_units.specs.Driver.{end_of}
-use Rattle.hp_units.proofs.Script.{everything, played, driven, value_on, is_placed}
+use Rattle.hp_units.proofs.Script.{everything, off_2, played, driven, value_on, is_placed}
 use Rattle.hp_units.proofs.Worked.{small}
-
-abbrev off_2 : List Item
-off_2 = record { block = 2; wish = OffWish } ∷ []
 
 abbrev off_3 : List Item
 off_3 = record { block = 3; wish = OffWish } ∷ []

@@ -132,6 +132,16 @@ impl Words {
         Words::new(alloc, words)
     }
 
+    /// Equal words, if there are any. An error is out of memory.
+    pub fn copy_if_any(alloc: Global, words: &Option<Words>) -> Result<Option<Words>, AllocError>
+        ensures { IfOk result (λ copy. copy ≡ words.now) }
+    {
+        match words {
+            Some(words) => Ok(Some(words.copy(alloc)?)),
+            None => Ok(None),
+        }
+    }
+
     /// Whether the words are the same.
     pub fn same(&self, other: &Words) -> bool
         ensures { IsTrue result ↔ (self.now ≡ other.now) }

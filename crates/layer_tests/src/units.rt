@@ -78,11 +78,21 @@ fn classes_pools_and_rows(rt: HostRuntime) {
     assert!(rt; go_by_zone(pool, isolated) && are_shown());
 }
 
-/// Whether a word is changed.
+/// Whether a copy is made of the words 7 and 8.
+fn is_copied(alloc: Global, words: &Option<Words>) -> Result<bool, AllocError> {
+    let copy = Words::copy_if_any(alloc, words)?;
+    match &copy {
+        Some(words) => Ok(matches!(words.as_slice(), [7, 8])),
+        None => Ok(false),
+    }
+}
+
+/// Whether a word is changed, and the words are copied.
 fn is_changed(alloc: Global) -> Result<bool, AllocError> {
     let mut words = Words::new(alloc, vec![in alloc; 7, 9]?)?;
     words.set(1, 8);
-    Ok(matches!(words.as_slice(), [7, 8]))
+    let some = Some(words);
+    is_copied(alloc, &some)
 }
 
 /// Whether a migration works for its operation, and a commit is a step only where it was done.

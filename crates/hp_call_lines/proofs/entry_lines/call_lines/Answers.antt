@@ -1,8 +1,9 @@
 use Rattle.std.proofs.Common.{ℕ, List, drop, ap, get_or, refl, subst, sym, ◌∙◌}
+use Rattle.std.proofs.lemmas.List.{take_rest}
 use Rattle.hp_call_lines.specs.Lexemes.{lexeme_at}
 use Rattle.hp_call_lines.specs.EntryLines.{AreSignLines, WalkValue}
 use Rattle.hp_call_lines.proofs.Lines.{bound_more, line_counted}
-use Rattle.hp_call_lines.proofs.Walked.{depth_more, ended, signs_more, walked, whole_rest}
+use Rattle.hp_call_lines.proofs.Walked.{depth_more, ended, signs_more, walked}
 use Rattle.hp_call_lines.proofs.entry_lines.call_lines.Goals as goal
 
 pub loop-place-preserved : goal.loop-place-preserved
@@ -14,7 +15,7 @@ loop-place-preserved c =
     let walk = c.loop-place.walk in
     let lexeme =
     c.lexeme_at-lexeme.ensures ∙ ap (λ (bs : List ℕ). lexeme_at c.loop-place.mode (get_or input place 0) bs)
-    (whole_rest input place) in (
+    (take_rest input place) in (
       walked walk c.pass.new.self c.loop-place.line c.line_after-line.result c.loop-place.mode
           c.mode_after-mode.result c.lexeme_at-lexeme.result input place _ _ lt refl i.0 lexeme
           c.in_ok-pass.ensures c.line_after-line.ensures c.mode_after-mode.ensures,

@@ -1,7 +1,7 @@
 use Rattle.std.proofs.Common.{ℕ, List, ◌==◌, get_or, refl, ap, ◌∙◌, arith}
+use Rattle.std.proofs.lemmas.List.{take_rest}
 use Rattle.hp_call_lines.specs.Looks.{begun}
 use Rattle.hp_call_lines.proofs.Looked.{counted_all, counted_more, nested_more}
-use Rattle.hp_call_lines.proofs.Walked.{whole_rest}
 use Rattle.hp_call_lines.proofs.looks.texts_at.Goals as goal
 
 pub loop-place-preserved : goal.loop-place-preserved
@@ -14,7 +14,7 @@ loop-place-preserved c =
     let one =
     c.begun-count.ensures.is
     ∙ ap (λ (bs : List ℕ). begun mode (nested == c.args.depth) (get_or input place 0) bs
-    c.args.start.now) (whole_rest input place) in (
+    c.args.start.now) (take_rest input place) in (
       counted_more c.args.depth c.args.start.now mode c.mode_after-mode.result nested
           c.nested_after-nested.result input
           place _ c.loop-place.count c.begun-count.result _ _ c.loop-place-test.true refl i.0 one refl

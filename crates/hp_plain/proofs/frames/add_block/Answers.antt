@@ -2,13 +2,13 @@ use Rattle.std.proofs.Common.{◌≡◌, ◌<◌, ◌+◌, ◌*◌, ◌^◌, ◌
 use Rattle.hp_units.specs.Memory.{usable_class}
 use Rattle.hp_units.specs.FreeAreas.{with_back}
 use Rattle.hp_plain.specs.Names.{Movable}
-use Rattle.hp_plain.proofs.FramesInLayout.{class_index_below}
+use Rattle.hp_plain.proofs.FramesInLayout.{class_below}
 use Rattle.hp_plain.proofs.ListWalks.{adds_pageblock, keeps_pageblock}
 use Rattle.hp_plain.proofs.frames.add_block.Goals as goal
 
 pub add_back-requires : goal.add_back-requires
 add_back-requires c =
-    omega (arith, class_index_below c.usable.result, c.loop-number.invariant.layout.lists, c.order.ensures.is)
+    omega (arith, class_below c.usable.result, c.loop-number.invariant.layout.lists, c.order.ensures.is)
 
 pub loop-number-preserved : goal.loop-number-preserved
 loop-number-preserved c =

@@ -1,14 +1,13 @@
 -- Each delta by its own lemma.
-use Rattle.std.proofs.Common.{ℕ, length, ap, sym, ◌∙◌, ◌+◌, ◌*◌}
-use Rattle.std.proofs.lemmas.List.{length-map, length-set}
+use Rattle.std.proofs.Common.{ℕ, ap, sym, ◌∙◌, ◌+◌, ◌*◌}
+use Rattle.std.proofs.lemmas.List.{length-set}
 use Rattle.hp_units.specs.Memory.{class_index, with_kind}
 use Rattle.hp_tape.specs.declared.deltas.Delta.{Delta}
 use Rattle.hp_tape.specs.declared.deltas.Delta.TheVariants.{Link, Unlink}
 use Rattle.hp_tape.specs.declared.deltas.ListId.{ListId}
 use Rattle.hp_tape.specs.Deltas.{areas_undo}
-use Rattle.hp_links.specs.LinkedLists.{LinkedLists, without}
 use Rattle.hp_buddy.specs.Buddy.{BuddyValue}
-use Rattle.hp_buddy.proofs.Notes.{seen-listed}
+use Rattle.hp_buddy.proofs.Notes.{kept-off, kept-with, seen-listed}
 use Rattle.hp_buddy.proofs.Backs.{linked-on, link-undone, unlinked-after, unlink-undone}
 use Rattle.hp_buddy.proofs.buddy.Buddy.back.Goals as goal
 
@@ -51,16 +50,7 @@ returns-in-Area-list-clause-back c =
     ∙ ap (λ (n : ℕ). 5 * n + class_index c.in-Area-list.class) c.from.ensures) c.relink_after.ensures
 
 pub invariant_of-self : goal.invariant_of-self
-invariant_of-self c =
-    let k = c.self.invariant in
-    record {
-      layout = k.layout;
-      frame_count = ap (λ (n : LinkedLists). n.frame_count) c.unlink.ensures.links ∙ k.frame_count;
-      list_count =
-          ap (λ (n : LinkedLists). length n.lists) c.unlink.ensures.links
-          ∙ length-map c.self.inside.links.lists (without c.in-Link.frame) ∙ k.list_count;
-      kind_count = k.kind_count;
-    }
+invariant_of-self c = kept-off _ c.self.invariant c.unlink.ensures.links
 
 pub returns-in-Area-clause-layout : goal.returns-in-Area-clause-layout
 returns-in-Area-clause-layout c = ap (λ (v : BuddyValue). v.layout) c.self.view_is
@@ -74,16 +64,7 @@ pub returns-in-Area-list-clause-layout : goal.returns-in-Area-list-clause-layout
 returns-in-Area-list-clause-layout c = ap (λ (v : BuddyValue). v.layout) c.self.view_is
 
 pub invariant_of-self-in-Area-list : goal.invariant_of-self-in-Area-list
-invariant_of-self-in-Area-list c =
-    let k = c.self.invariant in
-    record {
-      layout = k.layout;
-      frame_count = ap (λ (n : LinkedLists). n.frame_count) c.relink_after.ensures ∙ k.frame_count;
-      list_count =
-          ap (λ (n : LinkedLists). length n.lists) c.relink_after.ensures
-          ∙ (simp length-set) ∙ k.list_count;
-      kind_count = k.kind_count;
-    }
+invariant_of-self-in-Area-list c = kept-with _ _ c.self.invariant c.relink_after.ensures
 
 pub returns-in-Unlink-clause-back : goal.returns-in-Unlink-clause-back
 returns-in-Unlink-clause-back c =

@@ -1,12 +1,9 @@
-use Rattle.std.proofs.Common.{◌≡◌, ℕ, ◌<◌, length, subst, sym, ap, ◌∙◌, arith}
-use Rattle.std.proofs.lemmas.List.{length-set}
-use Rattle.hp_units.specs.Arithmetic.{frame_count}
+use Rattle.std.proofs.Common.{ℕ, subst, sym, ap, ◌∙◌}
 use Rattle.hp_units.specs.Memory.{FreeAreas}
 use Rattle.hp_tape.specs.Tapes.{NotesAreas}
-use Rattle.hp_links.specs.LinkedLists.{LinkedLists, last, list_at}
-use Rattle.hp_lemmas.proofs.Places.{class_index-lt}
+use Rattle.hp_links.specs.LinkedLists.{last, list_at}
 use Rattle.hp_buddy.specs.Buddy.{BuddyValue}
-use Rattle.hp_buddy.proofs.Notes.{Seen, seen-unlisted, seen-back, back-areas}
+use Rattle.hp_buddy.proofs.Notes.{Seen, back-areas, frame-there, kept-with, list-there, order-small, seen-back, seen-unlisted}
 use Rattle.hp_buddy.proofs.buddy.Buddy.push_back.Goals as goal
 
 pub push_back-requires-clause-free : goal.push_back-requires-clause-free
@@ -31,56 +28,24 @@ returns-clause-notes c =
     c.note.ensures.room c.note.ensures.noted c.link_delta.ensures)
 
 pub list_number-requires : goal.list_number-requires
-list_number-requires c =
-    let same : c.self.inside.layout.order ≡ c.args.self.now.layout.order =
-    ap (λ (v : BuddyValue). v.layout.order) c.self.view_is in
-    omega (arith, c.requires.order, c.self.invariant.layout.order)
+list_number-requires c = order-small c.self.invariant c.self.view_is c.requires.order
 
 pub list_number-requires-2 : goal.list_number-requires-2
-list_number-requires-2 c =
-    let same : c.self.inside.layout.order ≡ c.args.self.now.layout.order =
-    ap (λ (v : BuddyValue). v.layout.order) c.self.view_is in
-    omega (arith, c.requires.order, c.self.invariant.layout.order)
+list_number-requires-2 c = order-small c.self.invariant c.self.view_is c.requires.order
 
 pub last-after-requires : goal.last-after-requires
 last-after-requires c =
-    let same : c.self.inside.layout.order ≡ c.args.self.now.layout.order =
-    ap (λ (v : BuddyValue). v.layout.order) c.self.view_is in
-    omega (
-      arith,
-      c.requires.order,
-      c.self.invariant.list_count,
-      c.list_number.ensures,
-      class_index-lt c.args.class,
-    )
+    list-there c.args.class c.self.invariant c.self.view_is c.requires.order c.list_number.ensures
 
 pub push_back-requires-clause-list_in : goal.push_back-requires-clause-list_in
 push_back-requires-clause-list_in c =
-    let same : c.self.inside.layout.order ≡ c.args.self.now.layout.order =
-    ap (λ (v : BuddyValue). v.layout.order) c.self.view_is in
-    omega (
-      arith,
-      c.requires.order,
-      c.self.invariant.list_count,
-      c.list_number-2.ensures,
-      class_index-lt c.args.class,
-    )
+    list-there c.args.class c.self.invariant c.self.view_is c.requires.order c.list_number-2.ensures
 
 pub push_back-requires-clause-frame_in : goal.push_back-requires-clause-frame_in
-push_back-requires-clause-frame_in c =
-    subst (λ (n : ℕ). c.args.frame < n) (sym (c.self.invariant.frame_count
-    ∙ ap (λ (v : BuddyValue). frame_count v.layout) c.self.view_is)) c.requires.frame
+push_back-requires-clause-frame_in c = frame-there c.self.invariant c.self.view_is c.requires.frame
 
 pub invariant_of-self : goal.invariant_of-self
-invariant_of-self c =
-    let k = c.self.invariant in
-    record {
-      layout = k.layout;
-      frame_count = ap (λ (n : LinkedLists). n.frame_count) c.push_back.ensures ∙ k.frame_count;
-      list_count =
-          ap (λ (n : LinkedLists). length n.lists) c.push_back.ensures ∙ (simp length-set) ∙ k.list_count;
-      kind_count = k.kind_count;
-    }
+invariant_of-self c = kept-with _ _ c.self.invariant c.push_back.ensures
 
 pub returns-clause-areas : goal.returns-clause-areas
 returns-clause-areas c =

@@ -1,12 +1,8 @@
-use Rattle.std.proofs.Common.{◌≡◌, ℕ, ◌<◌, length, subst, sym, ap, ◌∙◌, arith}
-use Rattle.std.proofs.lemmas.List.{length-set}
-use Rattle.hp_units.specs.Arithmetic.{frame_count}
+use Rattle.std.proofs.Common.{subst, sym, ap}
 use Rattle.hp_units.specs.Memory.{FreeAreas}
 use Rattle.hp_tape.specs.Tapes.{NotesAreas}
-use Rattle.hp_links.specs.LinkedLists.{LinkedLists}
-use Rattle.hp_lemmas.proofs.Places.{class_index-lt}
 use Rattle.hp_buddy.specs.Buddy.{BuddyValue}
-use Rattle.hp_buddy.proofs.Notes.{Seen, seen-unlisted, seen-front, front-areas}
+use Rattle.hp_buddy.proofs.Notes.{Seen, frame-there, front-areas, kept-with, list-there, order-small, seen-front, seen-unlisted}
 use Rattle.hp_buddy.proofs.buddy.Buddy.push_front.Goals as goal
 
 pub push_front-requires-clause-free : goal.push_front-requires-clause-free
@@ -30,38 +26,17 @@ returns-clause-notes c =
     c.link_delta.ensures)
 
 pub list_number-requires : goal.list_number-requires
-list_number-requires c =
-    let same : c.self.inside.layout.order ≡ c.args.self.now.layout.order =
-    ap (λ (v : BuddyValue). v.layout.order) c.self.view_is in
-    omega (arith, c.requires.order, c.self.invariant.layout.order)
+list_number-requires c = order-small c.self.invariant c.self.view_is c.requires.order
 
 pub push_front-requires-clause-list_in : goal.push_front-requires-clause-list_in
 push_front-requires-clause-list_in c =
-    let same : c.self.inside.layout.order ≡ c.args.self.now.layout.order =
-    ap (λ (v : BuddyValue). v.layout.order) c.self.view_is in
-    omega (
-      arith,
-      c.requires.order,
-      c.self.invariant.list_count,
-      c.list_number.ensures,
-      class_index-lt c.args.class,
-    )
+    list-there c.args.class c.self.invariant c.self.view_is c.requires.order c.list_number.ensures
 
 pub push_front-requires-clause-frame_in : goal.push_front-requires-clause-frame_in
-push_front-requires-clause-frame_in c =
-    subst (λ (n : ℕ). c.args.frame < n) (sym (c.self.invariant.frame_count
-    ∙ ap (λ (v : BuddyValue). frame_count v.layout) c.self.view_is)) c.requires.frame
+push_front-requires-clause-frame_in c = frame-there c.self.invariant c.self.view_is c.requires.frame
 
 pub invariant_of-self : goal.invariant_of-self
-invariant_of-self c =
-    let k = c.self.invariant in
-    record {
-      layout = k.layout;
-      frame_count = ap (λ (n : LinkedLists). n.frame_count) c.push_front.ensures ∙ k.frame_count;
-      list_count =
-          ap (λ (n : LinkedLists). length n.lists) c.push_front.ensures ∙ (simp length-set) ∙ k.list_count;
-      kind_count = k.kind_count;
-    }
+invariant_of-self c = kept-with _ _ c.self.invariant c.push_front.ensures
 
 pub returns-clause-areas : goal.returns-clause-areas
 returns-clause-areas c =

@@ -1,9 +1,9 @@
 -- The front block leaves its list, and its halves come to theirs.
-use Rattle.std.proofs.Common.{◌≡◌, ◌+◌, ◌-◌, arith, ap, subst, sym, ◌∙◌}
+use Rattle.std.proofs.Common.{◌+◌, ◌-◌, arith, ap, subst, sym, ◌∙◌}
 use Rattle.hp_units.specs.LayoutParts.{LayoutParts, IsLayout}
 use Rattle.hp_units.specs.Memory.{free_list}
-use Rattle.hp_lemmas.proofs.Places.{class_index-lt}
 use Rattle.hp_buddy.specs.Buddy.{BuddyValue, AreApart, MayBeGiven}
+use Rattle.hp_buddy.proofs.Notes.{list-there, order-small}
 use Rattle.hp_buddy.proofs.Splits.{IsLeft}
 use Rattle.hp_buddy.proofs.Calls.{IsFront, seen-front_is, front_frame, front_free, front_taken, notes-then, room_left}
 use Rattle.hp_buddy.proofs.buddy.Buddy.take_front.Goals as goal
@@ -57,22 +57,11 @@ returns-in-Some-clause-notes c =
     c.unlink_free.ensures.layout (omega arith) c.unlink_free.ensures.notes c.put_halves.ensures.notes
 
 pub list_number-requires : goal.list_number-requires
-list_number-requires c =
-    let same : c.self.inside.layout.order ≡ c.args.self.now.layout.order =
-    ap (λ (v : BuddyValue). v.layout.order) c.self.view_is in
-    omega (arith, c.requires.order, c.self.invariant.layout.order)
+list_number-requires c = order-small c.self.invariant c.self.view_is c.requires.order
 
 pub front-requires : goal.front-requires
 front-requires c =
-    let same : c.self.inside.layout.order ≡ c.args.self.now.layout.order =
-    ap (λ (v : BuddyValue). v.layout.order) c.self.view_is in
-    omega (
-      arith,
-      c.requires.order,
-      c.self.invariant.list_count,
-      c.list_number.ensures,
-      class_index-lt c.args.class,
-    )
+    list-there c.args.class c.self.invariant c.self.view_is c.requires.order c.list_number.ensures
 
 pub put_halves-requires-clause-layout : goal.put_halves-requires-clause-layout
 put_halves-requires-clause-layout c =

@@ -1,14 +1,12 @@
 -- Each delta by its own lemma.
-use Rattle.std.proofs.Common.{ℕ, length, ap, sym, ◌∙◌, ◌+◌, ◌*◌}
-use Rattle.std.proofs.lemmas.List.{length-map, length-set}
+use Rattle.std.proofs.Common.{ℕ, ap, sym, ◌∙◌, ◌+◌, ◌*◌}
 use Rattle.hp_units.specs.Memory.{pool_index}
 use Rattle.hp_tape.specs.declared.deltas.Delta.{Delta}
 use Rattle.hp_tape.specs.declared.deltas.Delta.TheVariants.{Link, Unlink}
 use Rattle.hp_tape.specs.declared.deltas.ListId.{ListId}
 use Rattle.hp_tape.specs.Deltas.{cached_undo}
-use Rattle.hp_links.specs.LinkedLists.{LinkedLists, without}
 use Rattle.hp_cpus.specs.Cpus.{CpusValue, frames_of}
-use Rattle.hp_cpus.proofs.Edits.{seen-listed}
+use Rattle.hp_cpus.proofs.Edits.{kept-off, kept-with, seen-listed}
 use Rattle.hp_cpus.proofs.Backs.{linked-on, link-undone, unlinked-after, unlink-undone}
 use Rattle.hp_cpus.proofs.cpus.Cpus.back.Goals as goal
 
@@ -49,15 +47,7 @@ returns-in-Cpu-list-clause-back c =
     c.relink_after.ensures
 
 pub invariant_of-self : goal.invariant_of-self
-invariant_of-self c =
-    let k = c.self.invariant in
-    record {
-      layout = k.layout;
-      frame_count = ap (λ (n : LinkedLists). n.frame_count) c.unlink.ensures.links ∙ k.frame_count;
-      list_count =
-          ap (λ (n : LinkedLists). length n.lists) c.unlink.ensures.links
-          ∙ length-map c.self.inside.links.lists (without c.in-Link.frame) ∙ k.list_count;
-    }
+invariant_of-self c = kept-off _ c.self.invariant c.unlink.ensures.links
 
 pub returns-in-Cpu-clause-layout : goal.returns-in-Cpu-clause-layout
 returns-in-Cpu-clause-layout c = ap (λ (v : CpusValue). v.layout) c.self.view_is
@@ -68,15 +58,7 @@ returns-in-Link-clause-back c areas =
     ∙ ap (λ (k : ListId). Link k c.in-Link.frame c.in-Link.after) c.in_default-list.is))
 
 pub invariant_of-self-in-Cpu-list : goal.invariant_of-self-in-Cpu-list
-invariant_of-self-in-Cpu-list c =
-    let k = c.self.invariant in
-    record {
-      layout = k.layout;
-      frame_count = ap (λ (n : LinkedLists). n.frame_count) c.relink_after.ensures ∙ k.frame_count;
-      list_count =
-          ap (λ (n : LinkedLists). length n.lists) c.relink_after.ensures
-          ∙ (simp length-set) ∙ k.list_count;
-    }
+invariant_of-self-in-Cpu-list c = kept-with _ _ c.self.invariant c.relink_after.ensures
 
 pub returns-in-Cpu-list-clause-layout : goal.returns-in-Cpu-list-clause-layout
 returns-in-Cpu-list-clause-layout c = ap (λ (v : CpusValue). v.layout) c.self.view_is

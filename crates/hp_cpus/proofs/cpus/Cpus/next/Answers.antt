@@ -1,14 +1,10 @@
-use Rattle.hp_cpus.proofs.Standing.{seen-next, seen-no_next}
+use Rattle.std.proofs.Common.{ap, ◌∙◌}
+use Rattle.hp_buddy.specs.Buddy.{next_from}
+use Rattle.hp_buddy.proofs.Standing.{next-is}
+use Rattle.hp_cpus.specs.Cpus.{CpusValue}
 use Rattle.hp_cpus.proofs.cpus.Cpus.next.Goals as goal
 
-pub returns-in-Some : goal.returns-in-Some
-returns-in-Some c =
-    let b = c.self.inside in
-    seen-next c.args.self.now b.layout b.links c.args.frame c.in-Some.field-0 c.next.result c.self.view_is
-    c.in-Some.ensures.listed c.in-Some.ensures.apart
-    (c.next.ensures.on c.in-Some.field-0 c.in-Some.ensures.listed)
-
-pub returns-in-None : goal.returns-in-None
-returns-in-None c =
-    let b = c.self.inside in
-    seen-no_next c.args.self.now b.layout b.links c.args.frame c.self.view_is c.in-None.ensures.free
+pub returns : goal.returns
+returns c =
+    next-is c.self.inside.links c.args.frame c.next.result c.next.ensures.on c.next.ensures.free
+    ∙ ap (λ (v : CpusValue). next_from c.args.frame v.cached) c.self.view_is

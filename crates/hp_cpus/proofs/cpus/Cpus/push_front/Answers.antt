@@ -1,68 +1,39 @@
-use Rattle.std.proofs.Common.{◌≡◌, ℕ, ◌<◌, length, sym, ap, ◌∙◌, subst, arith}
-use Rattle.std.proofs.lemmas.List.{length-set}
-use Rattle.hp_units.specs.Arithmetic.{frame_count}
-use Rattle.hp_links.specs.LinkedLists.{LinkedLists}
-use Rattle.hp_lemmas.proofs.Pools.{pool_index-lt}
-use Rattle.hp_cpus.specs.Cpus.{CpusValue}
-use Rattle.hp_cpus.proofs.Edits.{Seen, seen-front}
-use Rattle.hp_cpus.proofs.Ends.{seen-lists}
+use Rattle.std.proofs.Common.{◌∷◌}
+use Rattle.hp_cpus.specs.Cpus.{list_of}
+use Rattle.hp_cpus.proofs.Edits.{LinkSeen, cpu-small, cpus_of, frame-there, kept-with, list-there, seen-front}
+use Rattle.hp_cpus.proofs.Ends.{lists-there}
 use Rattle.hp_cpus.proofs.Together.{off_list_of}
 use Rattle.hp_cpus.proofs.cpus.Cpus.push_front.Goals as goal
+use Rattle.hp_cpus.proofs.cpus.Cpus.push_front.Goals.{After-note}
 
-pub returns-clause-notes : goal.returns-clause-notes
-returns-clause-notes c =
+pushed : (c : After-note)
+    → LinkSeen c.args.self.now (cpus_of c.self.inside.layout c.push_front.new.self) c.args.cpu c.args.pool
+    (c.args.frame ∷ list_of c.args.self.now c.args.cpu c.args.pool) c.args.tape.now c.note.new.self
+pushed c =
     let b = c.self.inside in
     let v = c.args.self.now in
-    let seen : Seen v b.layout b.links = record { is = c.self.view_is; kept = c.self.invariant } in
-    (seen-front v b.layout b.links c.push_front.new.self c.args.cpu c.args.pool c.args.frame
-    c.list_number.result c.args.tape.now c.note.new.self c.link_delta.result seen
-    c.requires.cpu c.requires.frame (off_list_of v c.args.cpu c.args.pool c.args.frame
-    (seen-lists v b.layout b.links seen) c.requires.cpu c.requires.nowhere)
-    c.list_number.ensures c.push_front.ensures c.note.ensures.room c.note.ensures.noted
-    c.link_delta.ensures).notes
+    seen-front v b.layout b.links c.push_front.new.self c.args.cpu c.args.pool c.args.frame
+    c.list_number.result c.args.tape.now c.note.new.self c.link_delta.result
+    (record { is = c.self.view_is; kept = c.self.invariant }) c.requires.cpu c.requires.frame
+    (off_list_of v c.args.cpu c.args.pool c.args.frame (lists-there c.self.invariant c.self.view_is)
+    c.requires.cpu c.requires.nowhere)
+    c.list_number.ensures c.push_front.ensures c.note.ensures.room c.note.ensures.noted c.link_delta.ensures
+
+pub returns-clause-notes : goal.returns-clause-notes
+returns-clause-notes c = (pushed (goal.at.returns-clause-notes c).After-note).notes
 
 pub list_number-requires : goal.list_number-requires
-list_number-requires c =
-    let same : c.self.inside.layout.cpus ≡ c.args.self.now.layout.cpus =
-    ap (λ (v : CpusValue). v.layout.cpus) c.self.view_is in
-    omega (arith, c.requires.cpu, c.self.invariant.layout.cpus)
+list_number-requires c = cpu-small c.self.invariant c.self.view_is c.requires.cpu
 
 pub push_front-requires-clause-list_in : goal.push_front-requires-clause-list_in
 push_front-requires-clause-list_in c =
-    let same : c.self.inside.layout.cpus ≡ c.args.self.now.layout.cpus =
-    ap (λ (v : CpusValue). v.layout.cpus) c.self.view_is in
-    omega (
-      arith,
-      c.requires.cpu,
-      c.self.invariant.list_count,
-      c.list_number.ensures,
-      pool_index-lt c.args.pool,
-    )
+    list-there c.args.pool c.self.invariant c.self.view_is c.requires.cpu c.list_number.ensures
 
 pub push_front-requires-clause-frame_in : goal.push_front-requires-clause-frame_in
-push_front-requires-clause-frame_in c =
-    subst (λ (n : ℕ). c.args.frame < n) (sym (c.self.invariant.frame_count
-    ∙ ap (λ (v : CpusValue). frame_count v.layout) c.self.view_is)) c.requires.frame
+push_front-requires-clause-frame_in c = frame-there c.self.invariant c.self.view_is c.requires.frame
 
 pub invariant_of-self : goal.invariant_of-self
-invariant_of-self c =
-    let k = c.self.invariant in
-    record {
-      layout = k.layout;
-      frame_count = ap (λ (n : LinkedLists). n.frame_count) c.push_front.ensures ∙ k.frame_count;
-      list_count =
-          ap (λ (n : LinkedLists). length n.lists) c.push_front.ensures
-          ∙ (simp length-set) ∙ k.list_count;
-    }
+invariant_of-self c = kept-with _ _ c.self.invariant c.push_front.ensures
 
 pub returns-clause-cached : goal.returns-clause-cached
-returns-clause-cached c =
-    let b = c.self.inside in
-    let v = c.args.self.now in
-    let seen : Seen v b.layout b.links = record { is = c.self.view_is; kept = c.self.invariant } in
-    (seen-front v b.layout b.links c.push_front.new.self c.args.cpu c.args.pool c.args.frame
-    c.list_number.result c.args.tape.now c.note.new.self c.link_delta.result seen
-    c.requires.cpu c.requires.frame (off_list_of v c.args.cpu c.args.pool c.args.frame
-    (seen-lists v b.layout b.links seen) c.requires.cpu c.requires.nowhere)
-    c.list_number.ensures c.push_front.ensures c.note.ensures.room c.note.ensures.noted
-    c.link_delta.ensures).cached
+returns-clause-cached c = (pushed (goal.at.returns-clause-cached c).After-note).cached

@@ -1,7 +1,4 @@
-use Rattle.std.proofs.Common.{length, ap, ◌∙◌}
-use Rattle.std.proofs.lemmas.List.{length-map}
-use Rattle.hp_links.specs.LinkedLists.{LinkedLists, without}
-use Rattle.hp_cpus.proofs.Edits.{UnlinkSeen, cpus_of, seen-listed, seen-unlink}
+use Rattle.hp_cpus.proofs.Edits.{UnlinkSeen, cpus_of, kept-off, seen-listed, seen-unlink}
 use Rattle.hp_cpus.proofs.cpus.Cpus.unlink.Goals as goal
 use Rattle.hp_cpus.proofs.cpus.Cpus.unlink.Goals.{After-note}
 
@@ -30,12 +27,4 @@ pub returns-clause-notes : goal.returns-clause-notes
 returns-clause-notes c = (seen (goal.at.returns-clause-notes c).After-note).notes
 
 pub invariant_of-self : goal.invariant_of-self
-invariant_of-self c =
-    let k = c.self.invariant in
-    record {
-      layout = k.layout;
-      frame_count = ap (λ (n : LinkedLists). n.frame_count) c.unlink-after.ensures.links ∙ k.frame_count;
-      list_count =
-          ap (λ (n : LinkedLists). length n.lists) c.unlink-after.ensures.links
-          ∙ length-map c.self.inside.links.lists (without c.args.frame) ∙ k.list_count;
-    }
+invariant_of-self c = kept-off _ c.self.invariant c.unlink-after.ensures.links

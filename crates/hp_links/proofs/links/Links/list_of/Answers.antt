@@ -1,42 +1,31 @@
 use Rattle.std.proofs.Common.{◌∙◌}
 use Rattle.hp_links.specs.LinkedLists.{list_at}
-use Rattle.hp_links.specs.Rings.{table}
-use Rattle.hp_links.proofs.Views.{Seen, list_is, found_on, found_in, found_none, apart}
+use Rattle.hp_links.proofs.Views.{list_is, found_on, found_in, found_none, apart, seen}
 use Rattle.hp_links.proofs.links.Links.list_of.Goals as goal
 use Rattle.hp_links.proofs.Members.{Member-from_Contains}
 
 pub returns-clause-on : goal.returns-clause-on
 returns-clause-on c =
-    let r = c.self.inside.rings in
-    let s : Seen c.args.self.now r.frames (table r.nodes.items) r.lens.items =
-    record { is = c.self.view_is; kept = c.self.invariant } in
+    let s = seen c.self.invariant c.self.view_is in
     λ l on. rw c.place_of.ensures at c.list.ensures
     ∙ list_is s l c.args.frame (Member-from_Contains c.args.frame (list_at c.args.self.now l) on)
 
 pub returns-clause-listed : goal.returns-clause-listed
 returns-clause-listed c =
-    let r = c.self.inside.rings in
-    let s : Seen c.args.self.now r.frames (table r.nodes.items) r.lens.items =
-    record { is = c.self.view_is; kept = c.self.invariant } in
+    let s = seen c.self.invariant c.self.view_is in
     found_on s c.list.result c.args.frame c.requires (rw c.place_of.ensures at c.list.ensures)
 
 pub returns-clause-in_range : goal.returns-clause-in_range
 returns-clause-in_range c =
-    let r = c.self.inside.rings in
-    let s : Seen c.args.self.now r.frames (table r.nodes.items) r.lens.items =
-    record { is = c.self.view_is; kept = c.self.invariant } in
+    let s = seen c.self.invariant c.self.view_is in
     found_in s c.list.result c.args.frame c.requires (rw c.place_of.ensures at c.list.ensures)
 
 pub returns-clause-free : goal.returns-clause-free
 returns-clause-free c =
-    let r = c.self.inside.rings in
-    let s : Seen c.args.self.now r.frames (table r.nodes.items) r.lens.items =
-    record { is = c.self.view_is; kept = c.self.invariant } in
+    let s = seen c.self.invariant c.self.view_is in
     found_none s c.list.result c.args.frame (rw c.place_of.ensures at c.list.ensures)
 
 pub returns-clause-apart : goal.returns-clause-apart
 returns-clause-apart c =
-    let r = c.self.inside.rings in
-    let s : Seen c.args.self.now r.frames (table r.nodes.items) r.lens.items =
-    record { is = c.self.view_is; kept = c.self.invariant } in
+    let s = seen c.self.invariant c.self.view_is in
     apart s

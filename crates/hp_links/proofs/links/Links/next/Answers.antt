@@ -1,16 +1,14 @@
 use Rattle.std.proofs.Common.{ℕ, Option, sym, ◌∙◌, ap, is_some}
 use Rattle.hp_links.specs.LinkedLists.{list_at}
-use Rattle.hp_links.specs.Rings.{table, frame_at}
-use Rattle.hp_links.proofs.Views.{Seen, found_some, found_listed, behind_is}
+use Rattle.hp_links.specs.Rings.{frame_at}
+use Rattle.hp_links.proofs.Views.{found_some, found_listed, behind_is, seen}
 use Rattle.hp_links.proofs.Members.{Member-from_Contains}
 use Rattle.std.proofs.lemmas.Bool.{false≢true}
 use Rattle.hp_links.proofs.links.Links.next.Goals as goal
 
 pub returns-then-is_none-clause-on : goal.returns-then-is_none-clause-on
 returns-then-is_none-clause-on c =
-    let r = c.self.inside.rings in
-    let s : Seen c.args.self.now r.frames (table r.nodes.items) r.lens.items =
-    record { is = c.self.view_is; kept = c.self.invariant } in
+    let s = seen c.self.invariant c.self.view_is in
     λ l on.
     let found =
     found_some s c.list.result l c.args.frame (rw c.place_of-place.ensures at c.list.ensures)
@@ -20,16 +18,13 @@ returns-then-is_none-clause-on c =
 pub returns-clause-on : goal.returns-clause-on
 returns-clause-on c =
     let r = c.self.inside.rings in
-    let s : Seen c.args.self.now r.frames (table r.nodes.items) r.lens.items =
-    record { is = c.self.view_is; kept = c.self.invariant } in
+    let s = seen c.self.invariant c.self.view_is in
     λ l on. c.frame_at.ensures ∙ ap (frame_at r.frames) (rw c.place_of-place.ensures at c.next.ensures)
     ∙ behind_is s l c.args.frame (Member-from_Contains c.args.frame (list_at c.args.self.now l) on)
 
 pub returns-clause-free : goal.returns-clause-free
 returns-clause-free c =
-    let r = c.self.inside.rings in
-    let s : Seen c.args.self.now r.frames (table r.nodes.items) r.lens.items =
-    record { is = c.self.view_is; kept = c.self.invariant } in
+    let s = seen c.self.invariant c.self.view_is in
     λ free.
     let on =
     found_listed s c.list.result c.args.frame c.requires (rw c.place_of-place.ensures at c.list.ensures)

@@ -22,21 +22,17 @@ loop-number-preserved c =
 
 pub overflow_mul-first : goal.overflow_mul-first
 overflow_mul-first c =
-    first-fits c.args.layout.now c.args.block c.block.inside.0 c.pageblocks-count.result
-    c.pageblocks-count.ensures.layout c.requires.block c.block.view_is c.pageblocks-count.ensures.is
+    first-fits c.pageblocks-count.ensures.layout c.requires.block c.block.view_is
+    c.pageblocks-count.ensures.is
 
 pub overflow_add-first : goal.overflow_add-first
 overflow_add-first c =
-    let l = c.args.layout.now in
-    pageblock-fits l (c.block.inside.0 * c.pageblocks-count.result + c.loop-number.number)
-    c.pageblocks-count.ensures.layout
-    (pageblock-inside l c.args.block c.block.inside.0 c.pageblocks-count.result c.loop-number.number
-    c.requires.block c.block.view_is c.pageblocks-count.ensures.is c.loop-number-test.true)
+    pageblock-fits c.pageblocks-count.ensures.layout c.requires.block c.block.view_is
+    c.pageblocks-count.ensures.is c.loop-number-test.true
 
 pub is_isolated_block-requires-clause-pageblock : goal.is_isolated_block-requires-clause-pageblock
 is_isolated_block-requires-clause-pageblock c =
-    pageblock-inside c.args.layout.now c.args.block c.block.inside.0 c.pageblocks-count.result
-    c.loop-number.number c.requires.block c.block.view_is c.pageblocks-count.ensures.is
+    pageblock-inside c.args.layout.now c.requires.block c.block.view_is c.pageblocks-count.ensures.is
     c.loop-number-test.true
 
 pub loop-number-init : goal.loop-number-init

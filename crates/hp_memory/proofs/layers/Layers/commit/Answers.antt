@@ -1,11 +1,11 @@
 use Rattle.std.proofs.Common.{◌≡◌, ℕ, ◌<◌, List, length, get_or, true, refl, sym, ◌∙◌, subst}
 use Rattle.std.specs.List.{list_all}
 use Rattle.hp_units.specs.declared.events.Event.TheVariants.{Commit}
-use Rattle.hp_units.specs.declared.replies.Refusal.TheVariants.{NoOp, NotFree}
+use Rattle.hp_units.specs.declared.replies.Refusal.TheVariants.{NotFree}
 use Rattle.hp_memory.specs.Commits.{is_ready}
 use Rattle.hp_memory.specs.Layers.{state_of}
 use Rattle.hp_memory.proofs.Answers.{refused}
-use Rattle.hp_memory.proofs.Committed.{blocks-grantable, blocks-rise, commit-done, commit-over, commit-refused}
+use Rattle.hp_memory.proofs.Committed.{blocks-grantable, blocks-rise, commit-done, commit-refused}
 use Rattle.hp_memory.proofs.layers.Layers.commit.Goals as goal
 
 pub commit_blocks-requires-clause-rise : goal.commit_blocks-requires-clause-rise
@@ -42,9 +42,3 @@ returns-clause-ok c =
     c.commit_blocks.new.tape c.requires.placed c.reserve.ensures.deltas
     (sym c.is_live.ensures ∙ c.if-not-is_live.false)
     (c.as_slice-blocks.ensures.value ∙ c.in_ok-held.ensures.blocks) ready c.commit_blocks.ensures
-
-pub returns-then-not-is_live-clause-ok : goal.returns-then-not-is_live-clause-ok
-returns-then-not-is_live-clause-ok c =
-    let m = c.args.self.now in
-    refused m (Commit c.args.op) _ c.args.tape.now.deltas c.args.tape.now.deltas NoOp c.requires.placed
-    (commit-over m.layout (state_of m) c.args.op (sym c.is_live.ensures ∙ c.if-not-is_live.true)) refl

@@ -10,7 +10,7 @@ use Rattle.hp_memory.specs.Frames.{free_of, page_frame_bound}
 use Rattle.hp_memory.proofs.Answers.{refused_none}
 use Rattle.hp_memory.proofs.PageEvents.{map-done, map-refused, settled, taken-free, taken-inside}
 use Rattle.hp_memory.proofs.Placed.{tidy-placed}
-use Rattle.hp_memory.proofs.Refusals.{is-mapped, map_others, no-owner, no-page, read-le, read-lt, refused_for, some-page}
+use Rattle.hp_memory.proofs.Refusals.{is-mapped, map_others, no-owner, no-page, owner-there, page-there, read-le, read-lt, refused_for, some-page}
 use Rattle.hp_memory.proofs.Rooms.{page-fits, room-free, room-less}
 use Rattle.hp_memory.proofs.layers.Layers.map.Goals as goal
 
@@ -75,23 +75,19 @@ returns-then-is_some-clause-ok c =
 
 pub frame_at-requires-clause-owner : goal.frame_at-requires-clause-owner
 frame_at-requires-clause-owner c =
-    subst (λ (l : LayoutParts). c.args.owner < l.owners) (sym c.requires.placed.one.pages)
-    (read-lt c.if-owner-owners.false c.owner.view_is c.owners.ensures.is)
+    owner-there c.requires.placed c.if-owner-owners.false c.owner.view_is c.owners.ensures.is
 
 pub frame_at-requires-clause-page : goal.frame_at-requires-clause-page
 frame_at-requires-clause-page c =
-    subst (λ (l : LayoutParts). c.args.page < l.pages) (sym c.requires.placed.one.pages)
-    (read-lt c.if-page-pages.false c.page.view_is c.pages.ensures.is)
+    page-there c.requires.placed c.if-page-pages.false c.page.view_is c.pages.ensures.is
 
 pub map-requires-clause-owner : goal.map-requires-clause-owner
 map-requires-clause-owner c =
-    subst (λ (l : LayoutParts). c.args.owner < l.owners) (sym c.requires.placed.one.pages)
-    (read-lt c.if-owner-owners.false c.owner.view_is c.owners.ensures.is)
+    owner-there c.requires.placed c.if-owner-owners.false c.owner.view_is c.owners.ensures.is
 
 pub map-requires-clause-page : goal.map-requires-clause-page
 map-requires-clause-page c =
-    subst (λ (l : LayoutParts). c.args.page < l.pages) (sym c.requires.placed.one.pages)
-    (read-lt c.if-page-pages.false c.page.view_is c.pages.ensures.is)
+    page-there c.requires.placed c.if-page-pages.false c.page.view_is c.pages.ensures.is
 
 pub page_frame-requires-clause-cpu : goal.page_frame-requires-clause-cpu
 page_frame-requires-clause-cpu c =

@@ -1,10 +1,10 @@
-use Rattle.std.proofs.Common.{ℕ, ◌<◌, sym, ◌∙◌, subst, arith}
+use Rattle.std.proofs.Common.{ℕ, sym, ◌∙◌, subst, arith}
 use Rattle.hp_units.specs.LayoutParts.{LayoutParts}
 use Rattle.hp_units.specs.declared.events.Event.TheVariants.{Unmap}
 use Rattle.hp_units.specs.declared.replies.Refusal.TheVariants.{NoOwner, NoPage, NotMapped}
 use Rattle.hp_memory.proofs.PageEvents.{settled, unmap-done}
 use Rattle.hp_memory.proofs.Placed.{page-inside, page-returns, tidy-placed}
-use Rattle.hp_memory.proofs.Refusals.{no-owner, no-page, not-mapped, read-le, read-lt, refused_for, some-page, unmap_others}
+use Rattle.hp_memory.proofs.Refusals.{no-owner, no-page, not-mapped, owner-there, page-there, read-le, read-lt, refused_for, some-page, unmap_others}
 use Rattle.hp_memory.proofs.Rooms.{room-pages, room-turn}
 use Rattle.hp_tape.specs.Tapes.{HasRoom}
 use Rattle.hp_memory.specs.Frames.{free_of, give_back_bound}
@@ -58,23 +58,19 @@ returns-in_default-clause-ok c =
 
 pub frame_at-requires-clause-owner : goal.frame_at-requires-clause-owner
 frame_at-requires-clause-owner c =
-    subst (λ (l : LayoutParts). c.args.owner < l.owners) (sym c.requires.placed.one.pages)
-    (read-lt c.if-owner-owners.false c.owner.view_is c.owners.ensures.is)
+    owner-there c.requires.placed c.if-owner-owners.false c.owner.view_is c.owners.ensures.is
 
 pub frame_at-requires-clause-page : goal.frame_at-requires-clause-page
 frame_at-requires-clause-page c =
-    subst (λ (l : LayoutParts). c.args.page < l.pages) (sym c.requires.placed.one.pages)
-    (read-lt c.if-page-pages.false c.page.view_is c.pages.ensures.is)
+    page-there c.requires.placed c.if-page-pages.false c.page.view_is c.pages.ensures.is
 
 pub unmap-requires-clause-owner : goal.unmap-requires-clause-owner
 unmap-requires-clause-owner c =
-    subst (λ (l : LayoutParts). c.args.owner < l.owners) (sym c.requires.placed.one.pages)
-    (read-lt c.if-owner-owners.false c.owner.view_is c.owners.ensures.is)
+    owner-there c.requires.placed c.if-owner-owners.false c.owner.view_is c.owners.ensures.is
 
 pub unmap-requires-clause-page : goal.unmap-requires-clause-page
 unmap-requires-clause-page c =
-    subst (λ (l : LayoutParts). c.args.page < l.pages) (sym c.requires.placed.one.pages)
-    (read-lt c.if-page-pages.false c.page.view_is c.pages.ensures.is)
+    page-there c.requires.placed c.if-page-pages.false c.page.view_is c.pages.ensures.is
 
 pub zone_of-zone-requires-clause-frame : goal.zone_of-zone-requires-clause-frame
 zone_of-zone-requires-clause-frame c =
