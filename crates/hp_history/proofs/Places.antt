@@ -7,17 +7,6 @@ use Rattle.hp_units.specs.Marks.{sole_at, is_opening, is_work_of, begins}
 use Rattle.hp_laws.proofs.Undo.{sole_complete, sole_none, no_opening_works}
 use Rattle.hp_history.proofs.Names.{Mark, Opens, Works, Other, Tag}
 
--- one place more, from the end down
-pub down_more : (P : Tag → Type 0) (ts : List Tag) (k : ℕ) (t : Tag) → 0 < k → slice_get ts (k - 1) ≡ Some t
-    → P t
-    → ((i : ℕ) (u : Tag) → k ≤ i → slice_get ts i ≡ Some u → P u) → (i : ℕ) (u : Tag) → k - 1 ≤ i
-    → slice_get ts i ≡ Some u → P u
-down_more P ts k t pos here holds above i u ge at =
-    elim (cases_order (k - 1) i) [
-      | inl same ↦ subst P (same_Some t u (sym here ∙ (ap (λ j. slice_get ts j) same ∙ at))) holds
-      | inr either ↦ elim either [ inl less ↦ above i u (omega arith) at | inr more ↦ absurd (omega arith) ]
-    ]
-
 -- the operation's Begin, with nothing but its own work after it
 pub sole_found : (op : ℕ) (ts : List Tag) (k : ℕ) (t : Tag) → 0 < k → slice_get ts (k - 1) ≡ Some t
     → is_opening t.mark ≡ true → (t.serial == op) ≡ true

@@ -3,14 +3,11 @@ use Rattle.std.proofs.Common.{◌≡◌, ℕ, ◌+◌, ◌≤◌, List, [], ◌�
 use Rattle.std.proofs.lemmas.List.{length-take-le, take_all}
 use Rattle.std.proofs.lemmas.Option.{slice_get_within}
 use Rattle.hp_units.specs.Memory.{Memory}
-use Rattle.hp_units.specs.LayoutParts.{IsLayout, LayoutParts}
-use Rattle.hp_units.specs.Placement.{IsWellPlaced}
+use Rattle.hp_units.specs.LayoutParts.{LayoutParts}
 use Rattle.hp_units.specs.History.{Follows, IsLegal, net_of, reply_of, run, value_of}
 use Rattle.hp_units.specs.declared.replies.Receipt.{Receipt}
-use Rattle.hp_laws.proofs.EventSteps.{value-placed}
 use Rattle.hp_laws.proofs.Net.{legal_push}
 use Rattle.hp_laws.proofs.Replays.{take_one}
-use Rattle.hp_plain.specs.Image.{Pictured}
 use Rattle.hp_history.specs.Course.{CourseValue, IsAnswered, last_serial, record_of, started}
 use Rattle.hp_history.specs.Kept.{pictured}
 use Rattle.hp_history.specs.Replay.{HasWrongReply, HasWrongSerial, IsCourseOf, IsFault, IsFaultHere, IsFollowed, Refutes}
@@ -59,24 +56,6 @@ pub started_again : (l : LayoutParts) (base : Memory) (before : ℕ) (c : Course
     → c ≡ started l base before → c ≡ started c.layout c.base c.before
 started_again l base before c is =
     subst (λ (d : CourseValue). d ≡ started d.layout d.base d.before) (sym is) refl
-
--- what is found of records over such a course is found of them over its base
-pub course_again : (l : LayoutParts) (base : Memory) (before : ℕ) (h : List Record) (c next : CourseValue)
-    → c ≡ started l base before → IsCourseOf c.layout c.base c.before h next → IsCourseOf l base before h next
-course_again l base before h c next is ok =
-    subst (λ (d : CourseValue). IsCourseOf d.layout d.base d.before h next) is ok
-
-pub fault_again : (l : LayoutParts) (base : Memory) (before : ℕ) (h : List Record) (c : CourseValue)
-    (fault : ReplayFault)
-    → c ≡ started l base before → IsFault c.layout c.base c.before h fault → IsFault l base before h fault
-fault_again l base before h c fault is wrong =
-    subst (λ (d : CourseValue). IsFault d.layout d.base d.before h fault) is wrong
-
-pub refutes_again : (l : LayoutParts) (base : Memory) (before : ℕ) (h : List Record) (c : CourseValue)
-    (fault : ReplayFault)
-    → c ≡ started l base before → Refutes c.layout c.base c.before h fault → Refutes l base before h fault
-refutes_again l base before h c fault is wrong =
-    subst (λ (d : CourseValue). Refutes d.layout d.base d.before h fault) is wrong
 
 -- the course of no records
 pub starts : (c : CourseValue) (h : List Record) → c ≡ started c.layout c.base c.before
@@ -193,9 +172,3 @@ whole l base before h at c le ok =
 pub shown : (l : LayoutParts) (base : Memory) (before : ℕ) (h : List Record) (c : CourseValue)
     → IsCourseOf l base before h c → pictured c.layout c.state ≡ pictured l (value_of l base h)
 shown l base before h c ok = ap (λ (m : LayoutParts). pictured m c.state) ok.layout ∙ ap (pictured l) ok.state
-
--- its state is well placed, where the base is
-pub placed : (l : LayoutParts) (base : Memory) (before : ℕ) (h : List Record) (image : Pictured)
-    → image ≡ pictured l (value_of l base h) → IsLayout l → IsWellPlaced l base
-    → IsWellPlaced image.layout image.memory
-placed l base before h image is limits start = rw is (value-placed l base h limits start)

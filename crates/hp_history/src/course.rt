@@ -1,5 +1,5 @@
 //! The course of a history: a journal with its base state and its records.
-ghost use Rattle.std.specs.Prelude.{◌≡◌, ◌↔◌, ◌+◌, ◌<◌, ◌≤◌, false, true, length, MatchOption, IfOk, OnErr, OnOk, IsTrue};
+ghost use Rattle.std.specs.Prelude.{◌≡◌, ◌<◌, ◌≤◌, false, length, MatchOption, IfOk, OnErr, OnOk};
 ghost use Rattle.hp_units.specs.Boot.{boot_memory};
 ghost use Rattle.hp_units.specs.History.{net_of};
 ghost use Rattle.hp_units.specs.LayoutParts.{IsLayout};
@@ -154,14 +154,6 @@ impl Course {
         self.journal.is_spent()
     }
 
-    /// Whether a serial is the next one.
-    pub fn expects(&self, serial: Serial) -> bool
-        ensures next { IsTrue result ↔ (serial ≡ last_serial self.now + 1) }
-        ensures free { result ≡ true → is_spent self.now ≡ false }
-    {
-        self.journal.expects(serial)
-    }
-
     /// The last serial so far, which is the number of all records, earlier ones included.
     pub fn last_serial(&self) -> u64
         ensures { result ≡ last_serial self.now }
@@ -181,18 +173,6 @@ impl Course {
         ensures { result.now ≡ record { layout = self.now.layout; memory = self.now.base } }
     {
         &self.base
-    }
-
-    /// The base state alone.
-    pub fn into_base(self) -> Image
-        ensures { result ≡ record { layout = self.layout; memory = self.base } }
-    {
-        let Course {
-            journal: _journal,
-            base,
-            history: _history,
-        } = self;
-        base
     }
 
     /// The present state, in layers.

@@ -46,9 +46,7 @@ pub fn replay(alloc: Global, layout: &Layout, records: &[Record]) -> Result<Imag
     ensures only { IfErr result (Refutes layout.now (boot_memory layout.now) 0 records.now) }
 {
     let mut journal = Journal::boot(alloc, layout)?;
-    followed(alloc, &mut journal, records)?;
-    let image = journal.image(alloc)?;
-    Ok(image)
+    image_after(alloc, &mut journal, records)
 }
 
 /// The state after the records, from a base state and the number of all earlier records on, if they
@@ -71,8 +69,31 @@ pub fn replay_from(
     ensures only { IfErr result (Refutes base.now.layout base.now.memory before records.now) }
 {
     let mut journal = Journal::from_image(alloc, base, before)?;
-    followed(alloc, &mut journal, records)?;
-    let image = journal.image(alloc)?;
+    image_after(alloc, &mut journal, records)
+}
+
+/// The state after the records, if they are a legal history over the base of a journal of none.
+fn image_after(
+    alloc: Global,
+    journal: &mut Journal,
+    records: &[Record],
+) -> Result<Image, ReplayFault>
+    requires { journal.old ≡ started journal.old.layout journal.old.base journal.old.before }
+    ensures legal { OnOk result
+        (IsLegal journal.old.layout journal.old.base journal.old.before records.now) }
+    ensures value { IfOk result (λ image. image ≡ record {
+      layout = journal.old.layout;
+      memory = value_of journal.old.layout journal.old.base records.now;
+    }) }
+    ensures placed { IfOk result (λ image. IsWellPlaced image.layout image.memory) }
+    ensures fault { IfErr result
+        (IsFault journal.old.layout journal.old.base journal.old.before records.now) }
+    ensures only { IfErr result (Refutes journal.old.layout journal.old.base journal.old.before records.now) }
+{
+    followed(alloc, journal, records)?;
+    let memory = journal.memory();
+    memory.is_placed();
+    let image = memory.image(alloc)?;
     Ok(image)
 }
 

@@ -1,14 +1,13 @@
 -- Worked states that the consequences of placement exclude: each breaks one of them, so none is well placed.
 use Rattle.std.proofs.Common.{◌≡◌, ◌≤◌, [], ◌∷◌, true, false, Some, None, refl, arith}
 use Rattle.std.specs.List.{list_all}
-use Rattle.hp_units.specs.declared.rows.Boot.TheVariants.{Offline as OfflineBoot, Normal as NormalBoot, Movable as MovableBoot}
 use Rattle.hp_units.specs.declared.rows.Class.TheVariants.{Nm, IsoM}
 use Rattle.hp_units.specs.declared.rows.Pool.TheVariants.{Nu as NuPool}
 use Rattle.hp_units.specs.declared.rows.State.TheVariants.{Going as GoingState}
 use Rattle.hp_units.specs.declared.rows.Wish.TheVariants.{Off as OffWish}
 use Rattle.hp_units.specs.declared.rows.Zone.{Zone}
 use Rattle.hp_units.specs.declared.rows.Zone.TheVariants.{Normal as NormalZone, Movable as MovableZone}
-use Rattle.hp_units.specs.LayoutParts.{IsLayout, LayoutParts}
+use Rattle.hp_units.specs.LayoutParts.{IsLayout}
 use Rattle.hp_units.specs.Boot.{boot_memory}
 use Rattle.hp_units.specs.Memory.{Memory, plain_kind, with_cached_list, with_free_list, with_kernel_order, with_kind}
 use Rattle.hp_units.specs.Pages.{map_page}
@@ -18,31 +17,14 @@ use Rattle.hp_units.specs.Rows.{going_blocks, online_block, with_areas, with_blo
 use Rattle.hp_units.specs.Step.{with_free, with_pages}
 use Rattle.hp_laws.proofs.ConsequencesCommits.{all_free-none}
 use Rattle.hp_laws.proofs.ConsequencesPlaces.{cached_zone, free_length, kernel_zone, page_plugged, plugged}
+use Rattle.hp_laws.proofs.SmallLayout.{small}
 
 -- opens every definition
 unfoldable everything : Unit {0}
 unfolding online_block boot_memory
 everything = tt
 
--- four blocks of one pageblock of four frames, in zones Normal, Normal and Movable and one offline,
--- and two processors
-abbrev small : LayoutParts
-small =
-    record {
-      order = 2;
-      pageblocks = 1;
-      blocks = 4;
-      cpus = 2;
-      batch = 2;
-      high = 2;
-      owners = 2;
-      pages = 8;
-      words = 2;
-      history = 1000;
-      boot = (NormalBoot ∷ NormalBoot ∷ MovableBoot ∷ OfflineBoot ∷ []);
-    }
-
--- it is within its limits
+-- the layout is within its limits
 small_layout : IsLayout small
 small_layout = record {
   order = omega arith;

@@ -1,5 +1,5 @@
 -- Each prefix of a net is the net of a beginning of the history, and an undo leads to it.
-use Rattle.std.proofs.Common.{◌≡◌, ℕ, zero, suc, ◌+◌, ◌-◌, ◌<◌, ◌≤◌, List, [], ◌∷◌, ◌++◌, length, take, Option, Some, None, slice_get, ap, sym, ◌∙◌, arith, inl, inr}
+use Rattle.std.proofs.Common.{◌≡◌, ℕ, zero, suc, ◌+◌, ◌-◌, ◌<◌, ◌≤◌, List, [], ◌∷◌, ◌++◌, length, take, Some, slice_get, ap, sym, ◌∙◌, arith, inl, inr}
 use Rattle.std.specs.Prelude.{◌⊎◌}
 use Rattle.std.proofs.lemmas.List.{take_all, take-take, take-append-le, length_push}
 use Rattle.std.proofs.lemmas.Option.{slice_get_within, same_Some}
@@ -128,15 +128,6 @@ rooted_net l base before h legal =
           | inl cut ↦ rw cut.2 (rooted_take before cut.0 g (net_of g) r ok.1)
           | inr adds ↦ rw adds (rooted_push before g r is ok.1)
         ])
-
--- the serial after which an undo keeps this many steps
-pub undo_serial : ℕ → List Record → ℕ → ℕ
-undo_serial before n zero = before
-undo_serial before n (suc k) = serial_or (slice_get n k)
-  where
-    serial_or : Option Record → ℕ
-    serial_or None = before
-    serial_or (Some r) = r.serial
 
 -- each prefix of the net is what some undo, that is not refused, keeps
 pub each_prefix : (before last : ℕ) (n : List Record) (k : ℕ) → before ≤ last → Numbered before last n

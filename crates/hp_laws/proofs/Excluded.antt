@@ -1,7 +1,6 @@
 -- Bad states and bad steps that the laws exclude, computed.
 use Rattle.std.proofs.Common.{◌≡◌, ◌≢◌, ℕ, ◌+◌, List, [], ◌∷◌, ◌++◌, length, Bool, true, false, Option, Some, None, refl, sym, ◌∙◌, ap, arith, ◌==◌}
 use Rattle.std.specs.List.{list_all}
-use Rattle.hp_units.specs.declared.rows.Boot.TheVariants.{Offline as OfflineBoot, Normal as NormalBoot, Movable as MovableBoot}
 use Rattle.hp_units.specs.declared.rows.Class.TheVariants.{Nm}
 use Rattle.hp_units.specs.declared.rows.Mobility.TheVariants.{Unmovable, Movable}
 use Rattle.hp_units.specs.declared.rows.Row.{Row}
@@ -9,7 +8,6 @@ use Rattle.hp_units.specs.declared.rows.State.TheVariants.{Offline as OfflineSta
 use Rattle.hp_units.specs.declared.rows.Wish.TheVariants.{Off as OffWish, Movable as MovableWish}
 use Rattle.hp_units.specs.declared.rows.Zone.TheVariants.{Movable as MovableZone}
 use Rattle.hp_laws.proofs.Names.{Item, Event, Record, Reply, Begin, Cancel, Commit, Done, DrainFor, GivesFrame, KernelAlloc, Map, Migrate, Moved, NotFree, Opened, Refused, Restored, UndoAfter, Undone, Write}
-use Rattle.hp_units.specs.LayoutParts.{LayoutParts}
 use Rattle.hp_units.specs.Arithmetic.{all_frames, block_of}
 use Rattle.hp_units.specs.Memory.{Memory, entry_of, kind_of, offline_row, row_of, with_free_list, with_kind}
 use Rattle.hp_units.specs.Boot.{boot_memory}
@@ -26,6 +24,7 @@ use Rattle.hp_units.specs.History.{IsLegal, count_above, net_of, net_with, reply
 use Rattle.hp_units.specs.Placement.{IsInOrder, IsWellPlaced, is_unplugged, places_of}
 use Rattle.hp_laws.specs.Operations.{RowsAre, wished_row}
 use Rattle.hp_laws.proofs.LawProofs.{last_follows}
+use Rattle.hp_laws.proofs.SmallLayout.{off, small}
 
 -- opens every definition
 unfoldable everything : Unit {0}
@@ -34,23 +33,6 @@ unfolding take_block give_block steal_block take_frames take_one put_one drain_l
     unmap_step migrate_step step sole_at steps_until count_above net_with net_of run value_of reply_of
     boot_memory
 everything = tt
-
--- four blocks of one pageblock of four frames: zones Normal, Normal and Movable, and one offline block
-abbrev small : LayoutParts
-small =
-    record {
-      order = 2;
-      pageblocks = 1;
-      blocks = 4;
-      cpus = 2;
-      batch = 2;
-      high = 2;
-      owners = 2;
-      pages = 8;
-      words = 2;
-      history = 1000;
-      boot = (NormalBoot ∷ NormalBoot ∷ MovableBoot ∷ OfflineBoot ∷ []);
-    }
 
 abbrev booted : Memory
 booted = boot_memory small
@@ -141,11 +123,8 @@ offline_handed : IsLegal small booted 0 (record_of [] 0 (KernelAlloc 0) (GivesFr
 offline_handed = wrong_reply [] 0 (KernelAlloc 0) (GivesFrame 12) (GivesFrame 0) first_frame (λ e. cc)
 
 -- a page is mapped to frame 8, and block 2 is to go
-abbrev off_2 : List Item
-off_2 = record { block = 2; wish = OffWish } ∷ []
-
 abbrev leaving : List Record
-leaving = with_call (with_call [] (0, Map 0 0, Done)) (0, Begin off_2, Opened 2)
+leaving = with_call (with_call [] (0, Map 0 0, Done)) (0, Begin (off 2), Opened 2)
 
 going_frame : is_going (row_of (value_of small booted leaving).blocks (block_of small 10)) ≡ true
 unfolding everything
@@ -164,7 +143,7 @@ moved_within = wrong_reply leaving 0 (Migrate 2) (Moved 8 10) (Moved 8 0) moved_
 abbrev written : List Record
 written =
     with_call (with_call (with_call [] (0, Map 0 0, Done)) (0, Write 0 0 1 5, Done))
-    (0, Begin off_2, Opened 3)
+    (0, Begin (off 2), Opened 3)
 
 abbrev migrated : List Record
 migrated = with_call written (0, Migrate 3, Moved 8 0)

@@ -50,7 +50,7 @@ pub mod Replays
 pub mod Rows
 pub mod SealedLaws
 pub mod SealedNets
-pub mod Sizes
+mod SmallLayout
 pub mod States
 pub mod Steals
 pub mod StepBlocks

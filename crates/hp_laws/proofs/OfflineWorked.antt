@@ -2,14 +2,11 @@
 -- condition that is missing.
 use Rattle.std.proofs.Common.{◌≡◌, ℕ, zero, suc, ◌<◌, List, [], ◌∷◌, ◌++◌, map, Some, true, refl, arith, ◌==◌}
 use Rattle.std.specs.List.{list_all, list_any}
-use Rattle.hp_units.specs.declared.plans.Item.{Item}
-use Rattle.hp_units.specs.declared.rows.Boot.TheVariants.{Offline as OfflineBoot, Normal as NormalBoot, Movable as MovableBoot}
 use Rattle.hp_units.specs.declared.rows.Class.TheVariants.{Nm}
 use Rattle.hp_units.specs.declared.rows.Mobility.TheVariants.{Unmovable}
 use Rattle.hp_units.specs.declared.rows.State.TheVariants.{Going as GoingState}
 use Rattle.hp_units.specs.declared.rows.Wish.TheVariants.{Off as OffWish}
 use Rattle.hp_units.specs.declared.rows.Zone.TheVariants.{Normal as NormalZone}
-use Rattle.hp_units.specs.LayoutParts.{LayoutParts}
 use Rattle.hp_units.specs.Arithmetic.{all_frames}
 use Rattle.hp_units.specs.Boot.{boot_memory}
 use Rattle.hp_units.specs.FreeAreas.{give_block, steal_block, take_block}
@@ -23,6 +20,7 @@ use Rattle.hp_units.specs.Step.{kernel_gives, kernel_takes, map_step, migrate_st
 use Rattle.hp_units.specs.Placement.{places_of}
 use Rattle.hp_laws.specs.Offline.{IsUndisturbed, drains_for}
 use Rattle.hp_laws.proofs.Names.{Begin, Commit, Done, DrainFor, GivesFrame, KernelAlloc, KernelFree, Map, NotFree, Opened, Record, Refused, Reply, Unmap}
+use Rattle.hp_laws.proofs.SmallLayout.{off, small}
 
 -- opens every definition
 unfoldable everything : Unit {0}
@@ -30,27 +28,6 @@ unfolding take_block give_block steal_block take_frames take_one put_one drain_l
     online_block begin_plan commit_blocks release_blocks refusal_of kernel_takes kernel_gives map_step
     unmap_step migrate_step step boot_memory run
 everything = tt
-
--- four blocks of one pageblock of four frames, and two processors
-abbrev small : LayoutParts
-small =
-    record {
-      order = 2;
-      pageblocks = 1;
-      blocks = 4;
-      cpus = 2;
-      batch = 2;
-      high = 2;
-      owners = 2;
-      pages = 8;
-      words = 2;
-      history = 1000;
-      boot = (NormalBoot ∷ NormalBoot ∷ MovableBoot ∷ OfflineBoot ∷ []);
-    }
-
--- a plan that wishes a block off
-abbrev off : ℕ → List Item
-off block = record { block = block; wish = OffWish } ∷ []
 
 -- the replies that the steps give, one after another, and that each record has its step's
 abbrev answers : Memory → List Record → List Reply

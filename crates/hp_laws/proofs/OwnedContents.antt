@@ -26,7 +26,7 @@ use Rattle.hp_units.specs.KernelBlocks.{kernel_block}
 use Rattle.hp_units.specs.Migrations.{migration_source, migration_target}
 use Rattle.hp_units.specs.Refusals.{event_refusals, refusal_of}
 use Rattle.hp_units.specs.Step.{Answered, done, kernel_takes, kernel_gives, give_back, map_step, unmap_step, migrate_step, auto_online, perform, answer, step}
-use Rattle.hp_units.specs.Contents.{contents_after, contents_of_net}
+use Rattle.hp_units.specs.Contents.{contents_after}
 use Rattle.hp_units.specs.History.{is_refused, run}
 
 abbrev pub Contents : Type 0
@@ -223,12 +223,3 @@ AllSucceed l s [] = Unit {0}
 AllSucceed l s (r ∷ rs) =
     (is_refused (step l s r.serial r.cpu r.event).reply ≡ false)
     × AllSucceed l (step l s r.serial r.cpu r.event).memory rs
-
--- so the contents after a run are those that its steps alone give
-pub run-contents : (l : LayoutParts) (s : Memory) (steps : List Record) → AllSucceed l s steps
-    → (run l s steps).pages.contents ≡ contents_of_net l s.pages.contents steps
-unfolding run
-run-contents l s [] h = refl
-run-contents l s (r ∷ rs) h =
-    run-contents l (step l s r.serial r.cpu r.event).memory rs h.1
-    ∙ ap (λ (c : Contents). contents_of_net l c rs) (step-contents l s r.serial r.cpu r.event h.0)

@@ -220,7 +220,8 @@ at_past l base h later count ge =
     ap (λ (b : Bool). cond b (value_of l base (take count h))
     (state_at l (value_of l base h) later (count - length h))) (le-ltb count (length h) ge)
 
-no_records : (l : LayoutParts) (base : Memory) (h : List Record) → length h ≡ 0 → value_of l base h ≡ base
+-- without records the state is the base
+pub no_records : (l : LayoutParts) (base : Memory) (h : List Record) → length h ≡ 0 → value_of l base h ≡ base
 unfolding value_of net_of run
 no_records l base [] none = refl
 no_records l base (r ∷ h) none = absurd cc

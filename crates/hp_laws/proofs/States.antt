@@ -1,5 +1,5 @@
 -- Events on whole states.
-use Rattle.std.proofs.Common.{◌≡◌, ℕ, ◌+◌, ◌*◌, ◌/◌, ◌^◌, ◌<◌, ◌≤◌, List, length, get_or, set, Bool, true, false, cond, Option, Some, None, refl, sym, ◌∙◌, ap, subst, arith, inl, inr, IfSome, length-set}
+use Rattle.std.proofs.Common.{◌≡◌, ℕ, ◌+◌, ◌*◌, ◌/◌, ◌^◌, ◌<◌, ◌≤◌, List, length, get_or, set, true, Option, Some, None, refl, sym, ◌∙◌, ap, subst, arith, inl, inr, IfSome, length-set}
 use Rattle.std.specs.Option.{option_map}
 use Rattle.std.proofs.lemmas.Bool.{cases_eq, cases_lt}
 use Rattle.std.proofs.lemmas.List.{get_or-set_other, get_or-set_same, get_or_past}
@@ -7,11 +7,9 @@ use Rattle.std.specs.Prelude.{unwrap_or}
 use Rattle.std.proofs.lemmas.Nat.{pow_pos, mul-le}
 use Rattle.std.proofs.Math.Nat.{div-div-eq-div-mul, lt-div-mul-add}
 use Rattle.hp_units.specs.declared.rows.Class.{Class}
-use Rattle.hp_units.specs.declared.rows.Class.TheVariants.{Nu}
 use Rattle.hp_units.specs.declared.rows.Auto.{Auto}
 use Rattle.hp_units.specs.declared.rows.Zone.{Zone}
-use Rattle.hp_units.specs.declared.rows.Zone.TheVariants.{Normal as NormalZone, Movable as MovableZone}
-use Rattle.hp_units.specs.declared.rows.Mobility.{Mobility}
+use Rattle.hp_units.specs.declared.rows.Zone.TheVariants.{Normal as NormalZone}
 use Rattle.hp_units.specs.declared.rows.Kind.{Kind}
 use Rattle.hp_units.specs.declared.rows.Row.{Row}
 use Rattle.hp_units.specs.declared.rows.Pool.{Pool}
@@ -19,14 +17,13 @@ use Rattle.hp_units.specs.declared.rows.Mobility.TheVariants.{Unmovable}
 use Rattle.hp_units.specs.Rows.{is_going, with_areas, zone_of}
 use Rattle.hp_units.specs.LayoutParts.{LayoutParts, IsLayout}
 use Rattle.hp_units.specs.Arithmetic.{pageblock_of, block_of, block_of_pageblock, frame_count}
-use Rattle.hp_units.specs.Memory.{FreeAreas, Memory, free_list, cached_list, kernel_order, with_kernel_order, offline_row, isolated_class, usable_class}
-use Rattle.hp_units.specs.FreeAreas.{Taken, is_on, give_block, class_of, class_of_kind}
+use Rattle.hp_units.specs.Memory.{FreeAreas, Memory, free_list, cached_list, kernel_order, with_kernel_order, offline_row}
+use Rattle.hp_units.specs.FreeAreas.{is_on, give_block, class_of, class_of_kind}
 use Rattle.hp_units.specs.Placement.{free_places, kernel_places, IsBlockOf, IsInOrder, IsWellPlaced, IsKernelAt, class_at, pool_at, row_at, kind_at, covered}
 use Rattle.hp_lemmas.proofs.Lists.{covered-self}
 use Rattle.hp_lemmas.proofs.Joins.{give_block-places}
 use Rattle.hp_laws.proofs.Ordered.{AreOrdered}
 use Rattle.hp_lemmas.proofs.Geometry.{aligned_ancestor}
-use Rattle.hp_laws.proofs.Takes.{TakesOrdered}
 use Rattle.hp_laws.proofs.Gives.{give_block-ordered, give_block-kinds}
 use Rattle.hp_lemmas.proofs.KernelBlocks.{kernel-places}
 
@@ -152,15 +149,6 @@ set_auto-placed l s auto p =
 
 -- ---- blocks of the kernel of an order above zero, straight from the areas and back
 
--- a class is of a zone, and a zone is in the layout
-nu_normal : (zone : Option Zone) (isolated : Bool) (mobility : Mobility)
-    → option_map (λ z. cond isolated (isolated_class z) (usable_class z mobility)) zone ≡ Some Nu
-    → zone ≡ Some NormalZone
-nu_normal None isolated mobility e = cc
-nu_normal (Some NormalZone) isolated mobility e = refl
-nu_normal (Some MovableZone) true mobility e = cc
-nu_normal (Some MovableZone) false mobility e = cc
-
 pub block_of-pageblock : (l : LayoutParts) (frame : ℕ)
     → block_of l frame ≡ block_of_pageblock l (pageblock_of l frame)
 block_of-pageblock l frame =
@@ -210,31 +198,6 @@ kernel_free l s first (Some order) e low none =
     let places = rw e at (kernel-places s first first None low) in
     let self : covered first order first ≡ 1 = covered-self order first in
     absurd (omega arith)
-
-pub kernel_take-placed : (l : LayoutParts) (s : Memory) (order : ℕ) (taken : Taken) → IsLayout l
-    → IsWellPlaced l s → order ≤ l.order
-    → TakesOrdered l (class_at l s.free.areas.kinds s.blocks.rows) s.free.areas Nu order taken
-    → IsWellPlaced l (with_kernel_order (with_areas s taken.areas) taken.frame (Some order))
-kernel_take-placed l s order taken layout p low t =
-    let zone : (row_at l s.blocks.rows (pageblock_of l taken.frame)).zone ≡ Some NormalZone =
-    nu_normal _ (kind_at s.free.areas.kinds (pageblock_of l taken.frame)).isolated
-    (kind_at s.free.areas.kinds (pageblock_of l taken.frame)).mobility t.block.class_agrees in
-    let within : taken.frame < frame_count l =
-    in_layout l s taken.frame NormalZone layout p.in_order.shape.rows zone in
-    let short : taken.frame < length s.kernel = omega (arith, p.in_order.shape.kernel) in
-    let gone : kernel_places s taken.frame ≡ 0 =
-    omega (arith, p.once taken.frame, t.places taken.frame, covered-self order taken.frame) in
-    let none : kernel_order s taken.frame ≡ None =
-    kernel_free l s taken.frame (kernel_order s taken.frame) refl short gone in
-    record {
-      in_order =
-          kernel-in_order l (with_areas s taken.areas) taken.frame (Some order)
-          (areas-in_order l s taken.areas p.in_order t.ordered t.kinds) within
-          (record { in_order = low; aligned = t.block.aligned; normal = zone });
-      once = λ frame.
-          let kernel = rw none at (kernel-places s taken.frame frame (Some order) short) in
-          omega (arith, p.once frame, t.places frame, kernel);
-    }
 
 -- the zone of a frame that has one
 pub zone_known : (l : LayoutParts) (s : Memory) (frame : ℕ) (zone : Zone)

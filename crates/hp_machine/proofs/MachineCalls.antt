@@ -76,22 +76,20 @@ cause_of old OutOfMemory tells = room_wanted (is_full old) tells
 
 -- what the calls that gave receipts and the one that left a fault made of the machine, of its name
 -- and of the processor
-pub calls_made : {S N : Type 0} (makes : S → List Receipt → S → Type 0) (leaves : S → CallFault → S → Type 0)
-    (name : S → N) (cpu : S → ℕ) (machine : S → MachineValue)
-    → ((p q : S) (gained : List Receipt) → makes p gained q
-    → (name q ≡ name p) × (cpu q ≡ cpu p) × AreCalls (machine p) (cpu p) gained (machine q))
-    → ((p q : S) (fault : CallFault) → leaves p fault q
-    → (name q ≡ name p) × (cpu q ≡ cpu p) × (machine q ≡ machine p) × HasCause (Some fault) (machine p))
-    → (old new : S) (gained : List Receipt) (fault : Option CallFault)
-    → AreMade makes leaves old gained fault new
+pub calls_made : {S N : Type 0} (old new : S) (name : S → N) (cpu : S → ℕ) (machine : S → MachineValue)
+    (gained : List Receipt) (fault : Option CallFault)
+    → AreMade
+    (λ (p : S) (rs : List Receipt) (q : S). (name q ≡ name p) × (cpu q ≡ cpu p)
+    × AreCalls (machine p) (cpu p) rs (machine q))
+    (λ (p : S) (left : CallFault) (q : S). (name q ≡ name p) × (cpu q ≡ cpu p)
+    × (machine q ≡ machine p) × HasCause (Some left) (machine p))
+    old gained fault new
     → (name new ≡ name old) × AreCalls (machine old) (cpu old) gained (machine new)
     × HasCause fault (machine new)
-calls_made makes leaves name cpu machine as_calls as_left old new gained None made =
-    let calls = as_calls old new gained made in
-    (calls.0, calls.2, tt)
-calls_made makes leaves name cpu machine as_calls as_left old new gained (Some fault) made =
-    let calls = as_calls old made.0 gained made.1 in
-    let left = as_left made.0 new fault made.2 in (
+calls_made old new name cpu machine gained None calls = (calls.0, calls.2, tt)
+calls_made old new name cpu machine gained (Some fault) made =
+    let calls = made.1 in
+    let left = made.2 in (
       left.0 ∙ calls.0,
       subst (λ (m : MachineValue). AreCalls (machine old) (cpu old) gained m) (sym left.2)
           calls.2,

@@ -19,7 +19,7 @@ use Rattle.hp_laws.proofs.Boots.{boot-placed}
 use Rattle.hp_laws.proofs.EventSteps.{value-placed}
 use Rattle.hp_laws.proofs.NetContents.{value-contents}
 use Rattle.hp_laws.proofs.OfflineClaims.{boot-claims, value-claims}
-use Rattle.hp_laws.proofs.SealedNets.{legal_up_to}
+use Rattle.hp_laws.proofs.SealedNets.{legal_up_to, no_records}
 use Rattle.hp_laws.proofs.OperationLaws.{claimed, commit_granted, commit_held, given_back, held}
 use Rattle.hp_history.specs.Course.{receipt_for}
 use Rattle.hp_machine.specs.Kept.{IsMachine}
@@ -115,11 +115,6 @@ sound m ok = record {
 }
 
 -- where no record is there to be sealed, the state is that at boot
-no_records : (l : LayoutParts) (base : Memory) (h : List Record) → length h ≡ 0 → value_of l base h ≡ base
-unfolding value_of net_of run
-no_records l base [] none = refl
-no_records l base (r ∷ h) none = absurd cc
-
 at_boot : (m : MachineValue) → IsMachine m → last_serial m ≡ 0 → m.state ≡ boot_memory m.layout
 at_boot m ok none =
     ok.history.state

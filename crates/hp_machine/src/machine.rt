@@ -10,9 +10,11 @@ ghost use Rattle.hp_history.specs.Course.{receipt_for};
 ghost use Rattle.hp_history.specs.Entries.{IsEntry};
 ghost use Rattle.hp_history.specs.Volumes.{volume_of};
 ghost use Rattle.hp_machine.specs.Machine.{IsCalled, IsHistory, IsSound, booted, is_full, last_serial, sealed};
+ghost use Rattle.hp_machine.specs.MachinePorts.{IsPlanRun};
 ghost use Rattle.hp_machine.specs.Operations.{KeepsOperations};
 ghost use Rattle.hp_machine.specs.Volumes.{KeepsOperationsAcrossSeals};
 
+use crate::machine_port::{Answers, carry_out};
 use hp_blocks::Blocks;
 use hp_buddy::Buddy;
 use hp_cpus::Cpus;
@@ -22,8 +24,8 @@ use hp_pages::Pages;
 use hp_plain::Image;
 use hp_tape::Delta;
 use hp_units::{
-    Auto, Block, CallFault, Class, Cpu, Event, Frame, Kind, Layout, Order, Owner, Page, Pageblock,
-    Receipt, Record, Reply, Row, Serial,
+    Auto, Block, CallFault, Class, Cpu, Event, Frame, Kind, Layout, OpEnd, Order, Owner, Page,
+    Pageblock, Plan, Receipt, Record, Reply, Row, Serial,
 };
 use std::alloc::{AllocError, Global};
 use std::marker::Model;
@@ -108,6 +110,15 @@ impl Machine {
             Ok(answer) => Ok(answer),
             Err(AllocError) => Err(CallFault::OutOfMemory),
         }
+    }
+
+    /// Carries out a plan as a processor, with at most `turns` migrations, and answers how its
+    /// operation ended: `run_plan` of hp_ops through the processor's port. Each call leaves a
+    /// record, but for one that ends the run as `Left`.
+    pub fn run_plan(&mut self, alloc: Global, cpu: Cpu, plan: Plan, turns: u32) -> OpEnd
+        ensures { IsPlanRun self.old cpu turns plan result self.new }
+    {
+        carry_out(alloc, self, cpu, plan, turns)
     }
 
     /// Makes room for so many further records, so that they need not be moved as more come. An
@@ -325,5 +336,22 @@ impl Machine {
     {
         self.course.history().len() as u64 >= self.course.memory().layout().history()
             || self.course.is_spent()
+    }
+}
+
+impl Answers for Machine {
+    ghost machine = { λ m. m };
+
+    fn cpus(&self) -> u32 {
+        self.layout().cpus()
+    }
+
+    fn answer(
+        &mut self,
+        alloc: Global,
+        cpu: Cpu,
+        event: &Event,
+    ) -> Result<(Serial, Reply), CallFault> {
+        Machine::answer(self, alloc, cpu, event)
     }
 }

@@ -1,26 +1,51 @@
 //! A port on a machine, and the run of a plan through it.
-ghost use Rattle.std.specs.Prelude.{◌≡◌, None};
+ghost use Rattle.std.specs.Prelude.{◌≡◌, ◌↔◌, Err, None, IfOk, OnErr, IsTrue};
+ghost use Rattle.hp_history.specs.Course.{receipt_for};
+ghost use Rattle.hp_machine.specs.Machine.{IsCalled, MachineValue, is_full};
 ghost use Rattle.hp_machine.specs.MachinePorts.{IsPlanRun};
 
-use crate::machine::Machine;
 use hp_ops::{Port, run_plan};
-use hp_units::{CallFault, Cpu, Event, OpEnd, Plan, Reply};
+use hp_units::{CallFault, Cpu, Event, OpEnd, Plan, Reply, Serial};
 use std::alloc::Global;
 
-/// A processor of a machine. It shows the processor's records of the machine as its receipts.
+/// A machine that answers calls, whether it keeps their records or not (own rule).
+pub trait Answers {
+    /// The machine's value.
+    ghost machine: { Self → MachineValue };
+
+    /// The number of processors.
+    fn cpus(&self) -> u32
+        ensures { result ≡ (machine self.now).layout.cpus };
+
+    /// One call, with the serial of its record and the reply. After an error, which is that of a
+    /// full history exactly where it is full, and else out of memory, all is as before.
+    fn answer(
+        &mut self,
+        alloc: Global,
+        cpu: Cpu,
+        event: &Event,
+    ) -> Result<(Serial, Reply), CallFault>
+        ensures full { (result ≡ Err CallFault.HistoryFull) ↔ IsTrue (is_full (machine self.old)) }
+        ensures err { OnErr result (machine self.new ≡ machine self.old) }
+        ensures ok { IfOk result (λ answer. IsCalled (machine self.old) cpu event.now
+            (receipt_for event.now answer) (machine self.new)) };
+}
+
+/// A processor of a machine. It shows the processor's records of the machine as its receipts; of a
+/// machine that keeps none it shows them in the proofs alone.
 #[derive(Drop)]
-pub struct MachinePort<'a> {
+pub struct MachinePort<'a, M: Answers> {
     /// The machine.
-    pub machine: &'a mut Machine,
+    pub machine: &'a mut M,
     /// The processor that calls.
     pub cpu: Cpu,
     /// The fault of the last call; none at first and after a receipt.
     pub fault: Option<CallFault>,
 }
 
-impl<'a> MachinePort<'a> {
+impl<'a, M: Answers> MachinePort<'a, M> {
     /// A processor's port, with no call made yet.
-    pub fn new(machine: &'a mut Machine, cpu: Cpu) -> MachinePort<'a>
+    pub fn new(machine: &'a mut M, cpu: Cpu) -> MachinePort<'a, M>
         ensures same_reference { result.machine.ghost_name ≡ machine.entry.ghost_name }
         ensures machine { result.machine.now ≡ machine.old }
         ensures cpu { result.cpu ≡ cpu }
@@ -34,21 +59,22 @@ impl<'a> MachinePort<'a> {
     }
 }
 
-impl<'a> Port for MachinePort<'a> {
+impl<'a, M: Answers> Port for MachinePort<'a, M> {
     ghost use Rattle.std.specs.Prelude.{◌≡◌, Some, refl};
     ghost use Rattle.std.proofs.Common.{◌∙◌};
     ghost use Rattle.hp_machine.specs.MachinePorts.{AreCalls, HasCause, makes_joined, port_value};
 
-    ghost shows = { λ p. port_value p.machine.now p.cpu p.fault };
+    ghost shows = { λ p. port_value (M.machine p.machine.now) p.cpu p.fault };
 
     ghost makes = { λ p gained q. (q.machine.ghost_name ≡ p.machine.ghost_name) × (q.cpu ≡ p.cpu)
-        × AreCalls p.machine.now p.cpu gained q.machine.now };
+        × AreCalls (M.machine p.machine.now) p.cpu gained (M.machine q.machine.now) };
 
     ghost leaves = { λ p fault q. (q.machine.ghost_name ≡ p.machine.ghost_name) × (q.cpu ≡ p.cpu)
-        × (q.machine.now ≡ p.machine.now) × HasCause (Some fault) p.machine.now };
+        × (M.machine q.machine.now ≡ M.machine p.machine.now)
+        × HasCause (Some fault) (M.machine p.machine.now) };
 
     fn cpus(&self) -> u32 {
-        self.machine.layout().cpus()
+        self.machine.cpus()
     }
 
     fn call(&mut self, alloc: Global, event: &Event) -> Result<Reply, CallFault> {
@@ -70,21 +96,24 @@ impl<'a> Port for MachinePort<'a> {
       b.0 ∙ a.0,
       b.1
           ∙ a.1,
-      makes_joined p.cpu q.cpu xs ys p.machine.now q.machine.now r.machine.now a.1 a.2 b.2,
+      makes_joined p.cpu q.cpu xs ys (M.machine p.machine.now) (M.machine q.machine.now)
+          (M.machine r.machine.now) a.1 a.2 b.2,
     ) };
 }
 
-impl Machine {
-    /// Carries out a plan as a processor, with at most `turns` migrations, and answers how its
-    /// operation ended: `run_plan` of hp_ops through the processor's port. Each call leaves a
-    /// record, but for one that ends the run as `Left`.
-    pub fn run_plan(&mut self, alloc: Global, cpu: Cpu, plan: Plan, turns: u32) -> OpEnd
-        ensures { IsPlanRun self.old cpu turns plan result self.new }
-    {
-        let mut port = MachinePort::new(self, cpu);
-        let end = run_plan(alloc, &mut port, plan, turns);
-        // No effect at run time: the proof reads what the machine holds from this use.
-        let _ = &*port.machine;
-        end
-    }
+/// Carries out a plan as a processor of a machine: `run_plan` of hp_ops through the processor's port.
+pub(crate) fn carry_out<M: Answers>(
+    alloc: Global,
+    machine: &mut M,
+    cpu: Cpu,
+    plan: Plan,
+    turns: u32,
+) -> OpEnd
+    ensures { IsPlanRun (M.machine machine.old) cpu turns plan result (M.machine machine.new) }
+{
+    let mut port = MachinePort::new(machine, cpu);
+    let end = run_plan(alloc, &mut port, plan, turns);
+    // No effect at run time: the proof reads what the machine holds from this use.
+    let _ = &*port.machine;
+    end
 }

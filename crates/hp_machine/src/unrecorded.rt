@@ -2,11 +2,13 @@
 ghost use Rattle.std.specs.Prelude.{◌≡◌, ◌↔◌, Err, IfOk, OnErr, IsTrue, length};
 ghost use Rattle.hp_history.specs.Course.{receipt_for};
 ghost use Rattle.hp_machine.specs.Machine.{IsCalled, booted, is_full, sealed};
+ghost use Rattle.hp_machine.specs.MachinePorts.{IsPlanRun};
 
+use crate::machine_port::{Answers, carry_out};
 use hp_history::Journal;
 use hp_memory::Memory;
 use hp_plain::Image;
-use hp_units::{CallFault, Cpu, Event, Layout, Reply, Serial};
+use hp_units::{CallFault, Cpu, Event, Layout, OpEnd, Plan, Reply, Serial};
 use std::alloc::{AllocError, Global};
 use std::marker::Model;
 
@@ -62,6 +64,15 @@ impl UnrecordedMachine {
         }
     }
 
+    /// Carries out a plan as a processor, with at most `turns` migrations, and answers how its
+    /// operation ended: `run_plan` of hp_ops through the processor's port. Each call counts as a
+    /// record, but for one that ends the run as `Left`.
+    pub fn run_plan(&mut self, alloc: Global, cpu: Cpu, plan: Plan, turns: u32) -> OpEnd
+        ensures { IsPlanRun self.old cpu turns plan result self.new }
+    {
+        carry_out(alloc, self, cpu, plan, turns)
+    }
+
     /// Makes room for so many further steps, so that they need not be moved as more come. An error
     /// is out of memory; the machine is as before, with or without it.
     pub fn reserve(&mut self, steps: usize) -> Result<(), AllocError>
@@ -107,5 +118,22 @@ impl UnrecordedMachine {
         ensures { result ≡ is_full self.now }
     {
         self.journal.len() >= self.journal.memory().layout().history() || self.journal.is_spent()
+    }
+}
+
+impl Answers for UnrecordedMachine {
+    ghost machine = { λ m. m };
+
+    fn cpus(&self) -> u32 {
+        self.layout().cpus()
+    }
+
+    fn answer(
+        &mut self,
+        alloc: Global,
+        cpu: Cpu,
+        event: &Event,
+    ) -> Result<(Serial, Reply), CallFault> {
+        UnrecordedMachine::answer(self, alloc, cpu, event)
     }
 }

@@ -1,6 +1,6 @@
 -- The records of volumes, volume by volume.
 use Rattle.std.proofs.Common.{◌≡◌, ℕ, ◌+◌, ◌<◌, ◌≤◌, List, [], ◌∷◌, ◌++◌, length, take, Option, Some, slice_get, refl, ap, sym, subst, ◌∙◌, arith, inl, inr}
-use Rattle.std.specs.Prelude.{◌⊎◌, ◌≢◌}
+use Rattle.std.specs.Prelude.{◌⊎◌}
 use Rattle.std.proofs.lemmas.Bool.{cases_lt}
 use Rattle.std.proofs.lemmas.List.{append_assoc, append-nil, length-append}
 use Rattle.std.proofs.lemmas.List.Sums.{sum_by-cons, sum_by-take-le}
@@ -13,8 +13,8 @@ use Rattle.hp_shared.specs.declared.marks.Mark.{Mark}
 use Rattle.hp_shared.specs.Comparing.{IsOutcome, StraysAt}
 use Rattle.hp_shared.specs.Marks.{AreMarks, AreSeated, lower}
 use Rattle.hp_shared.specs.Shared.{SeatValue}
-use Rattle.hp_shared.specs.Volumes.{AreCountedBefore, IsWrongAt, ReachSealed, all_records, sealed_records}
-use Rattle.hp_shared.proofs.Comparisons.{next_taken, same_item, strays_both, take_all}
+use Rattle.hp_shared.specs.Volumes.{AreCountedBefore, ReachSealed, all_records, sealed_records}
+use Rattle.hp_shared.proofs.Comparisons.{next_taken, same_item, strays_both}
 
 records_more : (vs : List Volume) (v : Volume)
     → sealed_records (vs ++ v ∷ []) ≡ sealed_records vs ++ v.records
@@ -126,24 +126,3 @@ counted_next vs at v get right counted k u less there = by_place (cases_lt k at)
         let same : v ≡ u =
         same_item (slice_get vs at) v u get (ap (λ (n : ℕ). slice_get vs n) (sym last) ∙ there) in
         ap (λ (x : Volume). x.before) (sym same) ∙ (right ∙ ap (λ (n : ℕ). records_in (take n vs)) (sym last))
-
--- all of them
-pub reached : (vs : List Volume) (at count sealed : ℕ) → length vs ≤ at → at ≤ length vs
-    → AreCountedBefore vs at → count ≡ records_in (take at vs) → sealed ≡ count → ReachSealed vs sealed
-reached vs at count sealed past within counted is same = record {
-  counted = let all : at ≡ length vs = omega (arith, past, within) in subst (AreCountedBefore vs) all counted;
-  sealed_all = sym (same ∙ (is ∙ ap (λ (us : List Volume). records_in us) (take_all at vs past)));
-}
-
-pub missed : (vs : List Volume) (at count sealed len : ℕ) → length vs ≤ at → at ≤ length vs → len ≡ length vs
-    → AreCountedBefore vs at → count ≡ records_in (take at vs) → sealed ≢ count → IsWrongAt vs sealed len
-missed vs at count sealed len past within whole counted is other = record {
-  counted =
-      let all : at ≡ len = omega (arith, past, within, whole) in subst (AreCountedBefore vs) all counted;
-  wrong =
-      inr (
-        whole,
-        λ same.
-            other (sym same ∙ sym (is ∙ ap (λ (us : List Volume). records_in us) (take_all at vs past))),
-      );
-}

@@ -178,15 +178,6 @@ sealed_on l old new was total shared is same =
         ∙ (ap (λ (s : Memory). value_of l s old.history) shared.sealed.3
         ∙ sym (state_more l volumes (volume_of old))))
 
--- and the receipt is that of its last record
-pub called_last : (old new : MachineValue) (cpu : ℕ) (event : Event) (r : Receipt)
-    → IsCalled old cpu event r new → IsLastOf new cpu r
-called_last old new cpu event r called = record {
-  earlier = old.history;
-  history = called.history;
-  serial = called.serial ∙ sym (called_serial old new cpu event r called);
-}
-
 -- the reply of a machine's last record is the one that the definitions give after some earlier records
 pub last_reply : (m : MachineValue) (cpu : ℕ) (r : Receipt) → IsHistory m → IsLastOf m cpu r
     → (earlier : List Record) × (r.reply ≡ reply_of m.layout m.base m.before earlier cpu r.event)

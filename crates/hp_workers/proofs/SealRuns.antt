@@ -1,7 +1,7 @@
 -- Seals: what one hands out, and how many volumes there can be.
-use Rattle.std.proofs.Common.{◌≡◌, ℕ, ◌+◌, ◌<◌, ◌≤◌, List, [], ◌∷◌, ◌++◌, length, take, get_or, Option, Some, slice_get, refl, sym, ap, subst, ◌∙◌, arith, add-one, is_ok, if◌then◌else◌, Result, Ok, Err, inl, inr}
+use Rattle.std.proofs.Common.{◌≡◌, ℕ, ◌+◌, ◌≤◌, List, [], ◌∷◌, ◌++◌, length, take, Option, Some, slice_get, refl, sym, ap, subst, ◌∙◌, arith, add-one, is_ok, if◌then◌else◌, Result, Ok, Err, inl, inr}
 use Rattle.std.specs.Prelude.{IsOk}
-use Rattle.std.proofs.lemmas.List.{length-append, take-take, take_more}
+use Rattle.std.proofs.lemmas.List.{length-append, take-take}
 use Rattle.std.specs.List.Sorted.{IsPermutation}
 use Rattle.std.proofs.lemmas.List.Elements.{All-append, All-cons}
 use Rattle.std.proofs.lemmas.List.Sorted.{length_permutation}
@@ -124,23 +124,6 @@ gathered l olds scripts news handed volumes lists fault workers same order few =
 }
 
 -- ---- one more
-
--- one more line, and one more script
-pub seals_more : (lines : List Line) (i : ℕ) (line : Line) (before count next : ℕ) → i < length lines
-    → line ≡ get_or lines i line → count ≡ before + seals_in (take i lines)
-    → next ≡ count + one_if (is_seal line.work) → next ≡ before + seals_in (take (i + 1) lines)
-seals_more lines i line before count next inside is so_far one =
-    let taken : take (i + 1) lines ≡ take i lines ++ line ∷ [] =
-    take_more lines i line inside ∙ ap (λ (x : Line). take i lines ++ x ∷ []) (sym is) in
-    omega (
-      arith,
-      so_far,
-      one,
-      ap seals_in taken,
-      sum_by-append (λ (x : Line). one_if (is_seal x.work))
-          (take i lines) (line ∷ []),
-      sum_by-cons (λ (x : Line). one_if (is_seal x.work)) line [],
-    )
 
 pub scripts_more : (scripts : List (List Line)) (i : ℕ) (script : List Line)
     → slice_get scripts i ≡ Some script

@@ -70,7 +70,6 @@ fn shows_two_steps(course: &Course) -> bool {
         && course.entry(1).is_some()
         && course.way_back(0).is_some()
         && course.history().len() == 2
-        && course.expects(Serial(3))
         && course.memory().layout().cpus() == 2
 }
 
@@ -84,17 +83,11 @@ fn seals_two(alloc: Global, course: &mut Course) -> Result<bool, AllocError> {
     Ok(shown && records.len() == 2 && course.before() == 2 && course.last_serial() == 2)
 }
 
-/// Whether the base of a course, handed out, is this state.
-fn hands_out(course: Course, image: &Image) -> bool {
-    course.into_base().same(image)
-}
-
-/// Whether a copy of a course is at its base, shown and handed out.
+/// Whether a copy of a course is at its base.
 fn is_at_its_base(alloc: Global, course: &Course) -> Result<bool, AllocError> {
     let image = course.image(alloc)?;
-    let is_shown = course.base().same(&image);
     let copy = course.copy(alloc)?;
-    Ok(hands_out(copy, &image) && is_shown)
+    Ok(copy.base().same(&image))
 }
 
 /// Whether both hold.

@@ -10,8 +10,10 @@ use hp_units::Layout;
 use std::alloc::Global;
 
 /// Lines whose records are sealed, and more lines.
-pub const CALLS: &str =
-    r#""0 map db 0","0 write db 0 1 7","0 kalloc 1","0 seal","0 begin off 2","0 drainfor 4 0","0 migrate 4","0 cancel 4","0 undo 3","0 seal","0 unmap db 0","0 kfree 0""#;
+pub const CALLS: &str = concat!(
+    r#""0 map db 0","0 write db 0 1 7","0 kalloc 1","0 seal","0 begin off 2","0 drainfor 4 0","#,
+    r#""0 migrate 4","0 cancel 4","0 undo 3","0 seal","0 unmap db 0","0 kfree 0""#,
+);
 
 /// Runs the lines of a scenario on a machine, and replays what they left.
 pub fn run(case: &mut Case<'_>, scenario: &Scenario) -> Outcome {

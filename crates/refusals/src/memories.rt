@@ -9,8 +9,12 @@ use hp_units::{Cpu, Event, Layout, Order, Reply, Serial};
 use std::alloc::{AllocError, Global};
 
 /// Lines of every event that a memory knows.
-pub const CALLS: &str =
-    r#""0 map db 0","0 write db 0 1 7","0 read db 0 1","0 kalloc 0","0 kalloc 1","0 kfree 0","0 map web 0","0 begin off 2 normal 3","0 drainfor 8 0","0 migrate 8","0 migrate 8","0 commit 8","0 unmap db 0","0 drain 0","0 begin off 3","0 cancel 15","0 online 2 movable","0 remove 2","0 kalloc 3""#;
+pub const CALLS: &str = concat!(
+    r#""0 map db 0","0 write db 0 1 7","0 read db 0 1","0 kalloc 0","0 kalloc 1","0 kfree 0","#,
+    r#""0 map web 0","0 begin off 2 normal 3","0 drainfor 8 0","0 migrate 8","0 migrate 8","#,
+    r#""0 commit 8","0 unmap db 0","0 drain 0","0 begin off 3","0 cancel 15","#,
+    r#""0 online 2 movable","0 remove 2","0 kalloc 3""#,
+);
 
 /// The serial of the step that is made of a value too.
 const LAST: Serial = Serial(100);

@@ -13,8 +13,11 @@ use std::alloc::Global;
 /// Lines of three steps, which may take memory, since the words of pages are made in them; and of
 /// steps that take none. A commit and a cancel are not among these: they make a list of their
 /// blocks.
-pub const STEPS: &str =
-    r#""0 map db 0","0 write db 0 1 7","0 map web 0","0 kalloc 0","0 kalloc 1","0 kfree 2","0 read db 0 1","0 write db 0 0 9","0 online 3 normal","0 begin off 2","0 drainfor 10 0","0 migrate 10","0 migrate 10","0 unmap db 0","0 drain 0","0 kalloc 3""#;
+pub const STEPS: &str = concat!(
+    r#""0 map db 0","0 write db 0 1 7","0 map web 0","0 kalloc 0","0 kalloc 1","0 kfree 2","#,
+    r#""0 read db 0 1","0 write db 0 0 9","0 online 3 normal","0 begin off 2","0 drainfor 10 0","#,
+    r#""0 migrate 10","0 migrate 10","0 unmap db 0","0 drain 0","0 kalloc 3""#,
+);
 
 /// How many steps may take memory.
 const FIRST: usize = 3;

@@ -17,8 +17,10 @@ use std::sync::Wait;
 use std::sync::ledger::Blank;
 
 /// Calls and seals of both seats.
-pub const CALLS: &str =
-    r#""0 map db 0","1 map web 0","0 begin off 2","0 seal","1 drainfor 3 0","0 migrate 3","1 seal","0 cancel 3""#;
+pub const CALLS: &str = concat!(
+    r#""0 map db 0","1 map web 0","0 begin off 2","0 seal","1 drainfor 3 0","0 migrate 3","#,
+    r#""1 seal","0 cancel 3""#,
+);
 
 /// Shares a machine, has its seats make the calls of a scenario, and closes it; another machine
 /// makes the same calls.

@@ -6,8 +6,10 @@ use hp_scenario::Scenario;
 use std::alloc::Global;
 
 /// Five memory blocks of one pageblock of four frames, and two processors.
-const LAYOUT: &str =
-    r#"{"order":2,"pageblocks":1,"blocks":5,"cpus":2,"batch":2,"high":2,"owners":2,"pages":8,"words":2,"history":100,"boot":["normal","normal","movable","offline","absent"]}"#;
+const LAYOUT: &str = concat!(
+    r#"{"order":2,"pageblocks":1,"blocks":5,"cpus":2,"batch":2,"high":2,"owners":2,"pages":8,"#,
+    r#""words":2,"history":100,"boot":["normal","normal","movable","offline","absent"]}"#,
+);
 
 /// The cases by name, with the lines of their scenarios. A case that has none makes what it needs itself.
 const CASES: &[(&str, &str)] = &[
@@ -85,7 +87,10 @@ const CASES: &[(&str, &str)] = &[
     ),
     (
         "cat",
-        r#""0 map db 0","0 cat memory2/state","0 cat memory2/valid_zones","0 cat block_size_bytes","0 cat buddyinfo""#,
+        concat!(
+            r#""0 map db 0","0 cat memory2/state","0 cat memory2/valid_zones","#,
+            r#""0 cat block_size_bytes","0 cat buddyinfo""#,
+        ),
     ),
     (
         "seal",
@@ -93,7 +98,10 @@ const CASES: &[(&str, &str)] = &[
     ),
     (
         "many-records",
-        r#""0 map db 0","0 unmap db 0","0 map db 0","0 unmap db 0","0 map db 0","0 unmap db 0","0 map db 0","0 unmap db 0","0 map db 0","0 unmap db 0""#,
+        concat!(
+            r#""0 map db 0","0 unmap db 0","0 map db 0","0 unmap db 0","0 map db 0","#,
+            r#""0 unmap db 0","0 map db 0","0 unmap db 0","0 map db 0","0 unmap db 0""#,
+        ),
     ),
 ];
 

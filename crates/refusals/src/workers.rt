@@ -20,8 +20,10 @@ use std::sync::ledger::Blank;
 use std::thread::Threads;
 
 /// Lines of both processors, whose answers do not depend on one another.
-const CALLS: &str =
-    r#""0 map db 0","0 write db 0 1 7","0 plan 8 off 2","0 read db 0 1","0 seal","1 echo online memory3/state","1 map web 0","1 write web 0 0 5","1 read web 0 0""#;
+const CALLS: &str = concat!(
+    r#""0 map db 0","0 write db 0 1 7","0 plan 8 off 2","0 read db 0 1","0 seal","#,
+    r#""1 echo online memory3/state","1 map web 0","1 write web 0 0 5","1 read web 0 0""#,
+);
 
 /// The end of a line that was done.
 const DONE: LineEnd = LineEnd::Reply(Reply::Done);

@@ -10,8 +10,11 @@ pub const LINES: u32 = 200;
 /// Where in each fourth script the plan stands.
 const PLAN_AT: u32 = 100;
 
-const LAYOUT: &str =
-    r#"{"order":3,"pageblocks":2,"blocks":8,"cpus":64,"batch":2,"high":2,"owners":4,"pages":8,"words":2,"history":1000000,"boot":["normal","normal","normal","movable","movable","movable","offline","absent"]}"#;
+const LAYOUT: &str = concat!(
+    r#"{"order":3,"pageblocks":2,"blocks":8,"cpus":64,"batch":2,"high":2,"owners":4,"pages":8,"#,
+    r#""words":2,"history":1000000,"boot":["normal","normal","normal","movable","movable","#,
+    r#""movable","offline","absent"]}"#,
+);
 
 /// Lines of every event, and texts for control files. A worker goes through them in turn, from a
 /// place of its own on.

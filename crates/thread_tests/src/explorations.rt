@@ -5,7 +5,7 @@ ghost use Rattle.std.specs.Prelude.{◌≡◌, IfOk, length};
 use hp_explore::{
     Answers, Ending, ExploreFault, Line, Part, Script, Silent, alike_places_go_on_alike,
     counts_are_unique, explore, explore_part, interleavings_are_counted, kept_counts_are_added,
-    play, schedules_are_interleavings,
+    play, schedules_are_interleavings, total_of,
 };
 use hp_machine::Machine;
 use hp_parts::{calls_for, explore_with_jobs, sum};
@@ -123,15 +123,6 @@ fn a_block_goes_to_the_first(rt: HostRuntime) -> Result<(), Fail> {
     Ok(())
 }
 
-/// How many schedules ends count.
-fn total(ends: &[Ending]) -> u64 {
-    let mut sum: u64 = 0;
-    for end in ends {
-        sum = sum.wrapping_add(end.count);
-    }
-    sum
-}
-
 /// Whether two schedules are the same.
 fn same_schedules(first: &[Cpu], other: &[Cpu]) -> bool {
     first == other
@@ -146,7 +137,7 @@ fn same_end(end: &Ending, other: &Ending) -> bool {
 
 /// Whether the same ends stand at the same places, of the 20 orders of three calls and three.
 fn same_ends(ends: &[Ending], others: &[Ending]) -> bool {
-    total(ends) == 20
+    total_of(ends) == 20
         && ends.len() == others.len()
         && ends
             .iter()

@@ -18,8 +18,10 @@ use std::sync::ledger::Blank;
 use std::test::Fail;
 use std::thread::Threads;
 
-const LAYOUT: &str =
-    r#"{"order":2,"pageblocks":1,"blocks":4,"cpus":2,"batch":2,"high":2,"owners":2,"pages":8,"words":2,"history":1000,"boot":["normal","normal","movable","offline"]}"#;
+const LAYOUT: &str = concat!(
+    r#"{"order":2,"pageblocks":1,"blocks":4,"cpus":2,"batch":2,"high":2,"owners":2,"pages":8,"#,
+    r#""words":2,"history":1000,"boot":["normal","normal","movable","offline"]}"#,
+);
 
 /// The end of a line that was done.
 const DONE: LineEnd = LineEnd::Reply(Reply::Done);

@@ -1,50 +1,44 @@
--- The journal begins at the base; that of all records shows the state that they lead to.
-use Rattle.std.proofs.Common.{◌∙◌, rules}
-use Rattle.std.proofs.lemmas.Result.{err_from_is_err_and}
-use Rattle.hp_history.specs.Replay.{IsCourseOf}
-use Rattle.hp_history.proofs.Replays.{course_again, fault_again, placed, refutes_again, shown, started_again}
+-- What is found of the records over the journal that begins at the base is found over the base.
+use Rattle.std.proofs.Common.{◌≡◌, rules, subst}
+use Rattle.std.specs.Prelude.{IfErr, IfOk, OnOk}
+use Rattle.hp_units.specs.History.{IsLegal, value_of}
+use Rattle.hp_history.specs.Course.{CourseValue}
+use Rattle.hp_history.specs.Kept.{pictured}
+use Rattle.hp_history.specs.Replay.{IsFault, Refutes}
+use Rattle.hp_history.proofs.Replays.{started_again}
 use Rattle.hp_history.proofs.replaying.replay_from.Goals as goal
-use Rattle.hp_history.proofs.replaying.replay_from.Goals.{After-image}
 
-pub followed-requires : goal.followed-requires
-followed-requires c =
+pub image_after-requires : goal.image_after-requires
+image_after-requires c =
     started_again c.args.base.now.layout c.args.base.now.memory c.args.before c.in_ok-journal.journal
     c.in_ok-journal.ensures
 
--- what was found of the records, by the base itself
-followed_so : (c : After-image)
-    → IsCourseOf c.args.base.now.layout c.args.base.now.memory c.args.before c.args.records.now
-    c.followed.new.journal
-followed_so c =
-    course_again c.args.base.now.layout c.args.base.now.memory c.args.before c.args.records.now
-    c.in_ok-journal.journal c.followed.new.journal c.in_ok-journal.ensures c.in_ok-followed.ensures.course
-
 pub returns-clause-legal : goal.returns-clause-legal
-returns-clause-legal c = (followed_so (goal.at.returns-clause-legal c).After-image).legal
+returns-clause-legal c =
+    subst (λ (j : CourseValue). OnOk c.image_after.result
+    (IsLegal j.layout j.base j.before c.args.records.now))
+    c.in_ok-journal.ensures c.image_after.ensures.legal
 
 pub returns-clause-value : goal.returns-clause-value
 returns-clause-value c =
-    c.in_ok-image.ensures ∙ shown c.args.base.now.layout c.args.base.now.memory c.args.before
-    c.args.records.now c.followed.new.journal (followed_so (goal.at.returns-clause-value c).After-image)
+    subst (λ (j : CourseValue). IfOk c.image_after.result
+    (λ image. image ≡ pictured j.layout (value_of j.layout j.base c.args.records.now)))
+    c.in_ok-journal.ensures c.image_after.ensures.value
+
+pub returns-clause-fault : goal.returns-clause-fault
+returns-clause-fault c =
+    subst (λ (j : CourseValue). IfErr c.image_after.result
+    (IsFault j.layout j.base j.before c.args.records.now))
+    c.in_ok-journal.ensures c.image_after.ensures.fault
+
+pub returns-clause-only : goal.returns-clause-only
+returns-clause-only c =
+    subst (λ (j : CourseValue). IfErr c.image_after.result
+    (Refutes j.layout j.base j.before c.args.records.now))
+    c.in_ok-journal.ensures c.image_after.ensures.only
 
 pub returns-clause-placed : goal.returns-clause-placed
-returns-clause-placed c =
-    placed c.args.base.now.layout c.args.base.now.memory c.args.before c.args.records.now c.in_ok-image.image
-    (returns-clause-value c) c.requires.limits c.requires.placed
-
-pub returns-in_err-followed-clause-fault : goal.returns-in_err-followed-clause-fault
-returns-in_err-followed-clause-fault c =
-    let p =
-    err_from_is_err_and c.from_residual-in_err-followed.result c.from_residual-in_err-followed.ensures.1 in
-    rw (p.1, p.2) (fault_again c.args.base.now.layout c.args.base.now.memory c.args.before c.args.records.now
-    c.in_ok-journal.journal _ c.in_ok-journal.ensures c.in_err-followed.ensures.fault)
-
-pub returns-in_err-followed-clause-only : goal.returns-in_err-followed-clause-only
-returns-in_err-followed-clause-only c =
-    let p =
-    err_from_is_err_and c.from_residual-in_err-followed.result c.from_residual-in_err-followed.ensures.1 in
-    rw (p.1, p.2) (refutes_again c.args.base.now.layout c.args.base.now.memory c.args.before
-    c.args.records.now c.in_ok-journal.journal _ c.in_ok-journal.ensures c.in_err-followed.ensures.only)
+returns-clause-placed c = c.image_after.ensures.placed
 
 pub returns-in_err-journal-clause-legal : goal.returns-in_err-journal-clause-legal
 returns-in_err-journal-clause-legal c = search rules
@@ -60,33 +54,3 @@ returns-in_err-journal-clause-fault c = search rules
 
 pub returns-in_err-journal-clause-only : goal.returns-in_err-journal-clause-only
 returns-in_err-journal-clause-only c = search rules
-
-pub returns-in_err-followed-clause-legal : goal.returns-in_err-followed-clause-legal
-returns-in_err-followed-clause-legal c = search rules
-
-pub returns-in_err-followed-clause-value : goal.returns-in_err-followed-clause-value
-returns-in_err-followed-clause-value c = search rules
-
-pub returns-in_err-followed-clause-placed : goal.returns-in_err-followed-clause-placed
-returns-in_err-followed-clause-placed c = search rules
-
-pub returns-in_err-image-clause-legal : goal.returns-in_err-image-clause-legal
-returns-in_err-image-clause-legal c = search rules
-
-pub returns-in_err-image-clause-value : goal.returns-in_err-image-clause-value
-returns-in_err-image-clause-value c = search rules
-
-pub returns-in_err-image-clause-placed : goal.returns-in_err-image-clause-placed
-returns-in_err-image-clause-placed c = search rules
-
-pub returns-in_err-image-clause-fault : goal.returns-in_err-image-clause-fault
-returns-in_err-image-clause-fault c = search rules
-
-pub returns-in_err-image-clause-only : goal.returns-in_err-image-clause-only
-returns-in_err-image-clause-only c = search rules
-
-pub returns-clause-fault : goal.returns-clause-fault
-returns-clause-fault c = search rules
-
-pub returns-clause-only : goal.returns-clause-only
-returns-clause-only c = search rules

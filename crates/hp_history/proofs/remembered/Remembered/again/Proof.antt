@@ -24,7 +24,7 @@ use denote.Triple.Clauses.{Clauses, Ended, closing}
 use denote.Triple.Entry.{alive}
 use denote.Triple.Spec.{Meets, triple_of}
 use denote.Triple.Table.{entered}
-use denote.Triple.Walked.{says, Stays, stay_dropped, walk_of, ends_at, walk_Meets, Goes-dropped}
+use denote.Triple.Walked.{says, Stays, stay_dropped, walk_of, ends_at, walk_Meets, Goes-dropped as goes}
 use Rattle.hp_history.proofs.Walks.{none, none_made}
 use Rattle.hp_history.specs.contracts.remembered.Remembered as Remembered
 use Rattle.hp_history.specs.contracts.remembered.Remembered.again as F
@@ -51,9 +51,6 @@ module _ {M : Type 1} {𝓤 : Ura M} (𝓛 : Logic 𝓤) (at_mem : Memory → SP
     abbrev Post : Val → SProp 𝓤
     Post = (walk_of 𝓛 ended stayed held).post z
 
-    abbrev toks : SProp 𝓤
-    toks = alive 𝓛 ended.signature z.0.0 z.0.1
-
     walks : ent 𝓤 ((walk_of 𝓛 ended stayed held).pre z)
         (WpFn 𝓤 H C Λ function ((walk_of 𝓛 ended stayed held).args z) Post)
     walks =
@@ -61,7 +58,8 @@ module _ {M : Type 1} {𝓤 : Ura M} (𝓛 : Logic 𝓤) (at_mem : Memory → SP
         let vss = z.0.4 in
         let u : Val = vptr a.0.ref_ptr.0 a.0.ref_ptr.1 in
         let made : (Remembered.the_row).Denot = a.0.now in
-        qed 𝓛 ((raw toks ⊛ ‵ (owns (types_at ended.signature.params z.0.0) a vss))
+        qed 𝓛 ((raw (alive 𝓛 ended.signature z.0.0 z.0.1)
+        ⊛ ‵ (owns (types_at ended.signature.params z.0.0) a vss))
         ∷ raw ((held z.0.0 a).requires z.1) ∷ []) ∵
         keep ! (0 ∷ []) $ split ! $ move ! (1 ∷ []) $
         fsplit ! $ fsplit ! $ feq_l ! (λ is0. drop ! $ drop ! $
@@ -76,8 +74,8 @@ module _ {M : Type 1} {𝓤 : Ura M} (𝓛 : Logic 𝓤) (at_mem : Memory → SP
   meets : (𝓣 : Tables 𝓤 H) → Meets 𝓛 ended.signature (WpFn 𝓤 H 𝓣.C 𝓣.Λ function) (closing 𝓛 ended held)
   meets 𝓣 =
       walk_Meets 𝓛 ended stayed
-      (Goes-dropped 𝓛 1 (RefOf (0 ∷ []) tt (plain (λ _. Remembered.the_row)) (λ _. tt)) yes (λ κs x f. refl), tt) held
-      (WpFn 𝓤 H 𝓣.C 𝓣.Λ function) (WpFn-mono 𝓤 H 𝓛.laws 𝓣 function) (walks 𝓣.C 𝓣.Λ)
+      (goes 𝓛 1 (RefOf (0 ∷ []) tt (plain (λ _. Remembered.the_row)) (λ _. tt)) yes (λ κs x f. refl), tt)
+      held (WpFn 𝓤 H 𝓣.C 𝓣.Λ function) (WpFn-mono 𝓤 H 𝓛.laws 𝓣 function) (walks 𝓣.C 𝓣.Λ)
 
 pub again_spec : {M : Type 1} → stated.statement M
 unfolding tables_of

@@ -24,7 +24,7 @@ use denote.Triple.Clauses.{Clauses, Ended, closing}
 use denote.Triple.Entry.{alive}
 use denote.Triple.Spec.{Meets, triple_of}
 use denote.Triple.Table.{entered}
-use denote.Triple.Walked.{says, Stays, stay_dropped, walk_of, ends_at, walk_Meets, Goes-dropped}
+use denote.Triple.Walked.{says, Stays, stay_dropped as stay, walk_of, ends_at, walk_Meets, Goes-dropped}
 use Rattle.hp_history.proofs.Walks.{none, none_made}
 use Rattle.hp_history.specs.contracts.remembered.Remembered as Remembered
 use Rattle.hp_units.specs.contracts.Cpu as Cpu
@@ -43,7 +43,7 @@ abbrev ended : Ended
 ended = F.ended
 
 abbrev stayed : Stays ended.signature.params ended.kept
-stayed = (stay_dropped _ yes, (stay_dropped _ yes, (stay_dropped _ yes, (stay_dropped _ yes, (stay_dropped _ yes, tt)))))
+stayed = (stay _ yes, (stay _ yes, (stay _ yes, (stay _ yes, (stay _ yes, tt)))))
 
 module _ {M : Type 1} {𝓤 : Ura M} (𝓛 : Logic 𝓤) (at_mem : Memory → SProp 𝓤) (run : Routine → Fun 𝓤) where
   open 𝓛 use {H}
@@ -54,9 +54,6 @@ module _ {M : Type 1} {𝓤 : Ura M} (𝓛 : Logic 𝓤) (at_mem : Memory → SP
   module _ (C : Calls 𝓤 H) (Λ : Loops 𝓤 H) (z : (walk_of 𝓛 ended stayed held).Ghost) where
     abbrev Post : Val → SProp 𝓤
     Post = (walk_of 𝓛 ended stayed held).post z
-
-    abbrev toks : SProp 𝓤
-    toks = alive 𝓛 ended.signature z.0.0 z.0.1
 
     walks : ent 𝓤 ((walk_of 𝓛 ended stayed held).pre z)
         (WpFn 𝓤 H C Λ function ((walk_of 𝓛 ended stayed held).args z) Post)
@@ -77,7 +74,8 @@ module _ {M : Type 1} {𝓤 : Ura M} (𝓛 : Logic 𝓤) (at_mem : Memory → SP
             reply = a.1.1.1.1.0.now;
           } ∷ [];
         } in
-        qed 𝓛 ((raw toks ⊛ ‵ (owns (types_at ended.signature.params z.0.0) a vss))
+        qed 𝓛 ((raw (alive 𝓛 ended.signature z.0.0 z.0.1)
+        ⊛ ‵ (owns (types_at ended.signature.params z.0.0) a vss))
         ∷ raw ((held z.0.0 a).requires z.1) ∷ []) ∵
         keep ! (0 ∷ []) $ split ! $ move ! (1 ∷ []) $
         fsplit ! $ fsplit ! $ feq_l ! (λ is0. drop ! $
@@ -117,7 +115,11 @@ module _ {M : Type 1} {𝓤 : Ura M} (𝓛 : Logic 𝓤) (at_mem : Memory → SP
             (
               Goes-dropped 𝓛 5 (RefOf (3 ∷ []) tt (plain (λ _. Event.the_row)) (λ _. tt)) yes
                   (λ κs x f. refl),
-              (Goes-dropped 𝓛 5 (RefOf (4 ∷ []) tt (plain (λ _. Reply.the_row)) (λ _. tt)) yes (λ κs x f. refl), tt),
+              (
+                Goes-dropped 𝓛 5 (RefOf (4 ∷ []) tt (plain (λ _. Reply.the_row)) (λ _. tt)) yes
+                    (λ κs x f. refl),
+                tt,
+              ),
             ),
           ),
         ),

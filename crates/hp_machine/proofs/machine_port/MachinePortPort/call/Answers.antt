@@ -5,39 +5,40 @@ use Rattle.hp_machine.proofs.MachineCalls.{called_is_given, called_once, cause_o
 use Rattle.hp_machine.proofs.machine_port.MachinePortPort.call.Goals as goal
 
 pub returns-in-Ok-clause-ok : goal.returns-in-Ok-clause-ok
-returns-in-Ok-clause-ok c =
+returns-in-Ok-clause-ok g c =
+    let value = g.M.Answers.machine in
     let answer : ℕ × Reply = (c.in-Ok.field-0-0, c.in-Ok.reply) in
     record {
       receipt = receipt_for c.args.event.now answer;
       replied = refl;
       given =
-          called_is_given c.args.self.now.machine.now c.answer.new.self c.args.self.now.cpu c.args.event.now
-          (receipt_for c.args.event.now answer) c.args.self.now.fault c.in-Ok.ensures.ok;
+          called_is_given (value c.args.self.now.machine.now) (value c.answer.new.self) c.args.self.now.cpu
+          c.args.event.now (receipt_for c.args.event.now answer) c.args.self.now.fault c.in-Ok.ensures.ok;
       made = (
         search rules,
         search rules,
-        called_once c.args.self.now.machine.now c.answer.new.self c.args.self.now.cpu
+        called_once (value c.args.self.now.machine.now) (value c.answer.new.self) c.args.self.now.cpu
             c.args.event.now (receipt_for c.args.event.now answer) answer c.in-Ok.ensures.full
             c.in-Ok.ensures.ok,
       );
     }
 
 pub returns-in-Err-clause-leaves : goal.returns-in-Err-clause-leaves
-returns-in-Err-clause-leaves c = (
+returns-in-Err-clause-leaves g c = (
   search rules,
   search rules,
   c.in-Err.ensures.err,
-  cause_of c.args.self.now.machine.now c.in-Err.fault c.in-Err.ensures.full,
+  cause_of (g.M.Answers.machine c.args.self.now.machine.now) c.in-Err.fault c.in-Err.ensures.full,
 )
 
 pub returns-in-Ok-clause-err : goal.returns-in-Ok-clause-err
-returns-in-Ok-clause-err c = search rules
+returns-in-Ok-clause-err g c = search rules
 
 pub returns-in-Ok-clause-leaves : goal.returns-in-Ok-clause-leaves
-returns-in-Ok-clause-leaves c = search rules
+returns-in-Ok-clause-leaves g c = search rules
 
 pub returns-in-Err-clause-ok : goal.returns-in-Err-clause-ok
-returns-in-Err-clause-ok c = search rules
+returns-in-Err-clause-ok g c = search rules
 
 pub returns-in-Err-clause-err : goal.returns-in-Err-clause-err
-returns-in-Err-clause-err c = search rules
+returns-in-Err-clause-err g c = search rules
