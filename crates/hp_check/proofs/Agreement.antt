@@ -83,7 +83,11 @@ unfolding repeats_in
 repeats_none input =
     sum_by-append (λ x. cond (is_fault x) 1 0) (flat_map (repeat_of input place.Whole) (keys_of place.Whole))
     (flat_map (repeat_of input place.Layout) (keys_of place.Layout))
-    ∙ omega (arith, keys_none input place.Whole (keys_of place.Whole), keys_none input place.Layout (keys_of place.Layout))
+    ∙ omega (
+      arith,
+      keys_none input place.Whole (keys_of place.Whole),
+      keys_none input place.Layout (keys_of place.Layout),
+    )
 
 all_none : (input : List ℕ) (l : LayoutParts) (setup : ℕ) (lines : List Line)
     → count_by is_fault (repeats_in input ++ warnings_of l setup lines) ≡ 0

@@ -1,5 +1,6 @@
 -- The first text of `calls` that is no line is the line that reading stops at.
 use Rattle.std.proofs.Common.{◌≡◌, ℕ, suc, ◌+◌, List, [], ◌∷◌, ◌++◌, codes, Option, Some, None, Result, Err, is_some, option_and_then, option_map, refl, sym, ap, subst, ◌∙◌, add-one}
+use Rattle.std.proofs.lemmas.Option.{same_Some}
 use Rattle.serde_json.specs.Data.{Data, Items, no_items, item}
 use Rattle.serde_json.specs.Find.{get, as_array, as_str}
 use Rattle.hp_scenario.specs.Form.{each_in, texts_at}
@@ -60,14 +61,11 @@ text_step n d script fault more texts None rest e t h go = absurd cc
 text_step n d script fault more texts (Some x) None e t h go = absurd cc
 text_step n d script fault more texts (Some x) (Some xs) e t h go =
     let here : lines_from n script (x ∷ xs) ≡ Err fault =
-    subst (λ (ts : List (List ℕ)). lines_from n script ts ≡ Err fault) (sym (some_same (x ∷ xs) texts t))
+    subst (λ (ts : List (List ℕ)). lines_from n script ts ≡ Err fault) (sym (same_Some (x ∷ xs) texts t))
     h in
     subst (λ (o : Option (List ℕ)). Begins fault (text_call_fault n o ++ more)) (sym e)
     (said_step n x xs script fault more (line_says x) refl (sym (first_line n x xs script) ∙ here)
     (λ next k. go next xs refl k))
-  where
-    some_same : (a b : List (List ℕ)) → Some a ≡ Some b → a ≡ b
-    some_same a b h = cc
 
 items_begin : (n : ℕ) (ds : Items) (script : Script) (fault : ScenarioFault) (texts : List (List ℕ))
     → each_in as_str ds ≡ Some texts → lines_from n script texts ≡ Err fault

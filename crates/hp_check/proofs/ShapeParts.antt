@@ -2,6 +2,7 @@
 use Rattle.std.proofs.Common.{◌≡◌, ℕ, Bool, true, false, cond, ◌&&◌, ◌==◌, List, [], ◌∷◌, ◌++◌, codes, length, Option, Some, None, is_some, option_and_then, refl, sym, subst}
 use Rattle.std.specs.List.{flat_map, list_all, list_any}
 use Rattle.std.specs.Str.{bytes_eq}
+use Rattle.std.proofs.lemmas.Bool.{and_from, and_parts}
 use Rattle.serde_json.specs.Data.{Data, Items, Members}
 use Rattle.serde_json.specs.Events.{members_len}
 use Rattle.serde_json.specs.Find.{get, as_number, as_u64, as_str, as_array}
@@ -20,16 +21,6 @@ use Rattle.hp_check.specs.declared.finding.Place.{Place}
 use Rattle.hp_check.specs.declared.finding.Shape.{Shape}
 use Rattle.hp_check.specs.declared.finding.Shape.TheVariants.{KeyCount, UnknownKey, MissingKey, NotNumber, NotBoot, NotText}
 use Rattle.hp_check.proofs.Fronts.{Says, all_flat, all_unless, begins_after, begins_left, begins_of_three, begins_right, both_empty, entries_fine, entries_lack, by_number, unless_not, unless_so}
-
-pub some_same : {A : Type 0} (x y : A) → Some x ≡ Some y → x ≡ y
-some_same x y h = cc
-
-pub both_true : (a b : Bool) → (a && b) ≡ true → (a ≡ true) × (b ≡ true)
-both_true false b h = absurd cc
-both_true true b h = (refl, h)
-
-pub and_both : (a b : Bool) → a ≡ true → b ≡ true → (a && b) ≡ true
-and_both a b h k = rw h k
 
 pub if_some : {A : Type 0} (b : Bool) (o : Option A) (x : A) → cond b o None ≡ Some x
     → (b ≡ true) × (o ≡ Some x)
@@ -94,13 +85,13 @@ key_faults_none p d ms h = rw h refl
 pub its_keys : (p : Place) (d : Data) (ms : Members) → has_its_keys p d ms ≡ true
     → ((members_len ms == length (keys_of p)) ≡ true) × (list_all (is_there d) (keys_of p) ≡ true)
 unfolding has_its_keys
-its_keys p d ms h = both_true (members_len ms == length (keys_of p)) (list_all (is_there d) (keys_of p)) h
+its_keys p d ms h = and_parts (members_len ms == length (keys_of p)) (list_all (is_there d) (keys_of p)) h
 
 pub its_keys_so : (p : Place) (d : Data) (ms : Members) → (members_len ms == length (keys_of p)) ≡ true
     → list_all (is_there d) (keys_of p) ≡ true → has_its_keys p d ms ≡ true
 unfolding has_its_keys
 its_keys_so p d ms h k =
-    and_both (members_len ms == length (keys_of p)) (list_all (is_there d) (keys_of p)) h k
+    and_from (members_len ms == length (keys_of p)) (list_all (is_there d) (keys_of p)) h k
 
 -- ---- numbers
 
@@ -147,11 +138,11 @@ pub numbers_fine : (d : Data) (ks : List Key) → list_all (is_number d) ks ≡ 
 unfolding number_at
 numbers_fine d [] h = (refl, refl)
 numbers_fine d (k ∷ ks) h =
-    let two = both_true (is_number_in (get (key_name k) d)) (list_all (is_number d) ks) h in
+    let two = and_parts (is_number_in (get (key_name k) d)) (list_all (is_number d) ks) h in
     let one = number_fine k (get (key_name k) d) two.0 in
     let rest = numbers_fine d ks two.1 in (
       both_empty (number_fault d k) (flat_map (number_fault d) ks) one.0 rest.0,
-      and_both (is_there d k) (list_all (is_there d) ks) one.1 rest.1,
+      and_from (is_there d k) (list_all (is_there d) ks) one.1 rest.1,
     )
 
 abbrev pub parts_made : (order pageblocks blocks cpus batch high owners pages words history : ℕ) → List Boot

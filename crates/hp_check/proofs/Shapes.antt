@@ -2,6 +2,8 @@
 use Rattle.std.proofs.Common.{◌≡◌, ℕ, Bool, true, false, cond, ◌&&◌, ◌==◌, List, [], ◌∷◌, ◌++◌, codes, Option, Some, None, is_some, option_and_then, refl, sym, ap, subst, ◌∙◌}
 use Rattle.std.specs.List.{flat_map, list_all}
 use Rattle.std.proofs.lemmas.List.Folds.{list_all-append}
+use Rattle.std.proofs.lemmas.Bool.{and_from, and_parts}
+use Rattle.std.proofs.lemmas.Option.{same_Some}
 use Rattle.serde_json.specs.Data.{Data, Members}
 use Rattle.serde_json.specs.Events.{members_len}
 use Rattle.serde_json.specs.Find.{get, as_object}
@@ -17,7 +19,7 @@ use Rattle.hp_check.specs.declared.finding.Finding.{Finding}
 use Rattle.hp_check.specs.declared.finding.Key.TheVariants as key
 use Rattle.hp_check.specs.declared.finding.Place.TheVariants as place
 use Rattle.hp_check.proofs.Fronts.{begins_after, begins_left, begins_of_three, both_empty, empty_of_three}
-use Rattle.hp_check.proofs.ShapeParts.{some_same, both_true, and_both, if_some, key_faults_begin, key_faults_none, its_keys, its_keys_so, is_number, numbers_lack, numbers_fine, parts_are_numbers, boots_lack, boots_fine, texts_lack, texts_fine}
+use Rattle.hp_check.proofs.ShapeParts.{if_some, key_faults_begin, key_faults_none, its_keys, its_keys_so, is_number, numbers_lack, numbers_fine, parts_are_numbers, boots_lack, boots_fine, texts_lack, texts_fine}
 
 -- ---- the layout
 
@@ -64,9 +66,9 @@ layout_keys_lack d ms false e k h =
 layout_keys_lack d ms true e k h =
     let keys = its_keys place.Layout d ms k in
     let there =
-    both_true (list_all (is_there d) number_keys) (is_there d key.Boot && true)
+    and_parts (list_all (is_there d) number_keys) (is_there d key.Boot && true)
     (sym (keys_there d) ∙ keys.1) in
-    let boot = both_true (is_there d key.Boot) true there.1 in
+    let boot = and_parts (is_there d key.Boot) true there.1 in
     let none : option_and_then (λ boot. parts_with boot d) (boots_at (codes "boot") d) ≡ None =
     subst (λ (b : Bool). cond b (option_and_then (λ boot. parts_with boot d) (boots_at (codes "boot") d)) None
     ≡ None) (right_count d ms 11 e ∙ keys.0) h in
@@ -109,8 +111,8 @@ layout_fine_of d (Some ms) p e k h =
     let boots = boots_fine d read.0 in
     let numbers = numbers_fine d number_keys read.1 in
     let there : list_all (is_there d) (keys_of place.Layout) ≡ true =
-    keys_there d ∙ and_both (list_all (is_there d) number_keys) (is_there d key.Boot && true) numbers.1
-    (and_both (is_there d key.Boot) true boots.1 refl) in
+    keys_there d ∙ and_from (list_all (is_there d) number_keys) (is_there d key.Boot && true) numbers.1
+    (and_from (is_there d key.Boot) true boots.1 refl) in
     let count : (members_len ms == 11) ≡ true = sym (right_count d ms 11 e) ∙ k in
     empty_of_three (key_faults place.Layout d ms) (flat_map (number_fault d) number_keys)
     (list_faults key.Boot boot_faults (get (codes "boot") d))
@@ -167,8 +169,8 @@ whole_keys_lack d ms false e k h =
     (key_faults_begin place.Whole d ms k)
 whole_keys_lack d ms true e k h =
     let keys = its_keys place.Whole d ms k in
-    let layout = both_true (is_there d key.Layout) (is_there d key.Calls && true) keys.1 in
-    let calls = both_true (is_there d key.Calls) true layout.1 in
+    let layout = and_parts (is_there d key.Layout) (is_there d key.Calls && true) keys.1 in
+    let calls = and_parts (is_there d key.Calls) true layout.1 in
     let none : made d (get (codes "layout") d) ≡ None =
     subst (λ (b : Bool). cond b (made d (get (codes "layout") d)) None ≡ None) (right_count d ms 2 e ∙ keys.0)
     h in
@@ -201,7 +203,7 @@ made_calls : (d l : Data) (p : LayoutParts) (o : Option (List (List ℕ))) (form
     → IsMade d (Some l) form
 made_calls d l p None form parts e h = absurd cc
 made_calls d l p (Some calls) form parts e h =
-    subst (IsMade d (Some l)) (some_same (form_made_of p calls) form h)
+    subst (IsMade d (Some l)) (same_Some (form_made_of p calls) form h)
     (record { value = l; there = refl; parts = parts; calls = e })
 
 made_parts : (d l : Data) (o : Option LayoutParts) (form : Form) → parts_of l ≡ o
@@ -229,8 +231,8 @@ whole_fine_of d (Some ms) form e k m =
     let layout : is_there d key.Layout ≡ true = ap is_some m.there in
     let count : (members_len ms == 2) ≡ true = sym (right_count d ms 2 e) ∙ k in
     let there : list_all (is_there d) (keys_of place.Whole) ≡ true =
-    and_both (is_there d key.Layout) (is_there d key.Calls && true) layout
-    (and_both (is_there d key.Calls) true texts.1 refl) in
+    and_from (is_there d key.Layout) (is_there d key.Calls && true) layout
+    (and_from (is_there d key.Calls) true texts.1 refl) in
     let fine : layout_faults (get (codes "layout") d) ≡ [] =
     ap layout_faults m.there ∙ layout_fine m.value form.parts m.parts in
     empty_of_three (key_faults place.Whole d ms) (layout_faults (get (codes "layout") d))

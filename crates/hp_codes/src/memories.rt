@@ -222,8 +222,8 @@ fn put_claim(code: &mut Code, claim: Option<Claim>) -> Result<(), AllocError>
     }
 }
 
-/// The number of a state.
-fn state_number(state: State) -> u8
+/// The number of a memory block's state, from 0 to 3.
+pub fn state_number(state: State) -> u8
     ensures { result ≡ state_number state }
 {
     match state {
@@ -234,8 +234,8 @@ fn state_number(state: State) -> u8
     }
 }
 
-/// The number of a zone, if there is one.
-fn zone_number(zone: Option<Zone>) -> u8
+/// The number of a memory block's zone: 0 where it has none, and else 1 or 2.
+pub fn zone_number(zone: Option<Zone>) -> u8
     ensures { result ≡ zone_number zone }
 {
     match zone {

@@ -1,5 +1,5 @@
 -- A machine whose volumes and history are read again.
-use Rattle.std.proofs.Common.{◌≡◌, ℕ, zero, suc, ◌⊎◌, inl, inr, Bool, true, false, List, [], ◌∷◌, ◌++◌, append_assoc, codes, Some, Result, Ok, slice_get, take, refl, sym, ap, subst, ◌∙◌, arith}
+use Rattle.std.proofs.Common.{◌≡◌, ℕ, zero, suc, inl, inr, Bool, true, false, List, [], ◌∷◌, ◌++◌, append_assoc, codes, Some, Result, Ok, slice_get, take, refl, sym, ap, subst, ◌∙◌, arith}
 use Rattle.std.specs.Prelude.{MatchBool, get_or}
 use Rattle.std.proofs.lemmas.List.Elements.{All-get_or}
 use Rattle.std.proofs.lemmas.List.Sorted.{All-permutation}
@@ -11,11 +11,9 @@ use Rattle.hp_units.specs.declared.replies.Record.{Record}
 use Rattle.hp_machine.specs.Machine.{MachineValue}
 use Rattle.hp_plain.specs.Image.{Pictured}
 use Rattle.hp_history.specs.Replay.{IsFault, Refutes}
-use Rattle.hp_history.specs.Volumes.{HasWrongRecords, IsChain, IsChainFault, RefutesChain, records_in, state_after}
+use Rattle.hp_history.specs.Volumes.{HasWrongRecords, IsChain, records_in, state_after}
 use Rattle.hp_history.specs.declared.replaying.ReplayFault.{ReplayFault}
 use Rattle.hp_history.specs.declared.replaying.ReplayFault.TheVariants as replaying
-use Rattle.hp_history.specs.declared.volumes.ChainFault.{ChainFault}
-use Rattle.hp_history.specs.declared.volumes.ChainFault.TheVariants as chain
 use Rattle.hp_history.specs.declared.volumes.Volume.{Volume}
 use Rattle.hp_history.proofs.Replays.{refutes}
 use Rattle.hp_scenario.specs.declared.fault.ScenarioFault.{ScenarioFault}
@@ -28,11 +26,11 @@ use Rattle.hp_text.specs.State.{newline}
 use Rattle.hp_workers.specs.Seals.{AreSealed}
 use Rattle.hp_workers.specs.declared.lines.LineEnd.{LineEnd}
 use Rattle.hp_commands.specs.Audits.{HasAuditFault, HasWrongRecord, IsAudited}
-use Rattle.hp_commands.specs.Faults.{IsAudit, IsFaultOf, IsRefuted, IsUnfinished, chain_fault_from, replay_fault_from}
+use Rattle.hp_commands.specs.Faults.{IsFaultOf, IsRefuted, replay_fault_from}
 use Rattle.hp_commands.specs.Runs.{IsRunOf, IsWorkedOff, SealsSome, records_line, scripts_in}
 use Rattle.hp_commands.specs.declared.fault.ProgramFault.{ProgramFault}
 use Rattle.hp_commands.specs.declared.fault.ProgramFault.TheVariants.{ReadFailed, TooLong, NotJson, BadShape, Layout, BadLine, NotForRun, OutOfMemory, NotStarted, SeatMissing, Mismatch, WrongReply, WrongSerial, AuditDiffers, WriteFailed, BrokenChain}
-use Rattle.hp_commands.specs.declared.commands.Command.TheVariants.{Run, Audit}
+use Rattle.hp_commands.specs.declared.commands.Command.TheVariants.{Audit}
 
 -- ---- the replay of volumes and of a machine's history
 
@@ -40,23 +38,6 @@ use Rattle.hp_commands.specs.declared.commands.Command.TheVariants.{Run, Audit}
 pub first_case : (b : Bool) (P Q : Type 0) → MatchBool b P Q → b ≡ true → P
 first_case true P Q h is = h
 first_case false P Q h is = absurd cc
-
-pub second_case : (b : Bool) (P Q : Type 0) → MatchBool b P Q → b ≡ false → Q
-second_case true P Q h is = absurd cc
-second_case false P Q h is = h
-
--- volumes are at fault
-pub chain_refused : (volumes : List Volume) (m : MachineValue) (fault : ChainFault)
-    → IsChainFault m.layout volumes fault → RefutesChain m.layout volumes fault
-    → HasAuditFault volumes m (chain_fault_from fault)
-chain_refused volumes m (chain.WrongCount at) here only = (inl here, λ sound. only sound.chain)
-chain_refused volumes m (chain.WrongBase at) here only = (inr here, λ sound. only sound.chain)
-chain_refused volumes m (chain.Replay at (replaying.WrongReply serial)) here only =
-    (inl (at, here), λ sound. only sound.chain)
-chain_refused volumes m (chain.Replay at (replaying.WrongSerial place)) here only =
-    (inl (at, here), λ sound. only sound.chain)
-chain_refused volumes m (chain.Replay at replaying.OutOfMemory) here only = tt
-chain_refused volumes m chain.OutOfMemory here only = tt
 
 -- a record of the history is at fault
 pub replay_refused : (volumes : List Volume) (m : MachineValue) (fault : ReplayFault)
@@ -102,28 +83,6 @@ replayed_memory m h base replayed records layout same is =
     ∙ ap (λ (b : Memory). value_of m.layout b h) same
     ∙ ap (λ (g : List Record). value_of m.layout m.base g) records
 
--- a volume is at fault
-pub volumes_refused : (volumes : List Volume) (m : MachineValue) (vs : List Volume) (l : LayoutParts)
-    (fault : ChainFault)
-    → vs ≡ volumes → l ≡ m.layout → IsChainFault l vs fault → RefutesChain l vs fault
-    → HasAuditFault volumes m (chain_fault_from fault)
-volumes_refused volumes m vs l fault same there here only =
-    chain_refused volumes m fault
-    (subst (λ (k : LayoutParts). IsChainFault k volumes fault) there
-    (subst (λ (xs : List Volume). IsChainFault l xs fault) same here))
-    (subst (λ (k : LayoutParts). RefutesChain k volumes fault) there
-    (subst (λ (xs : List Volume). RefutesChain l xs fault) same only))
-
--- the volumes lead to another state than the machine's base
-pub base_differs : (volumes : List Volume) (m : MachineValue) (vs : List Volume) (l : LayoutParts)
-    (base theirs : Pictured)
-    → vs ≡ volumes → l ≡ m.layout → theirs ≡ record { layout = m.layout; memory = m.base }
-    → base ≡ record { layout = l; memory = state_after l vs } → (base.memory ≡ theirs.memory → ⊥)
-    → IsAudited volumes m → ⊥
-base_differs volumes m vs l base theirs same there their_is is other sound =
-    other ((leads_to volumes m vs l base same there is).after ∙ sym sound.base
-    ∙ sym (ap (λ (p : Pictured). p.memory) their_is))
-
 -- a replay from that base finds the history at fault
 pub history_refused : (volumes : List Volume) (m : MachineValue) (vs : List Volume) (l : LayoutParts)
     (before : ℕ) (h : List Record) (base theirs : Pictured) (fault : ReplayFault)
@@ -143,21 +102,6 @@ history_refused volumes m vs l before h base theirs fault read is same here only
     (subst (λ (b : Memory). Refutes base.layout b m.before m.history fault) start
     (subst (λ (n : ℕ). Refutes base.layout base.memory n m.history fault) read.before_is
     (subst (λ (g : List Record). Refutes base.layout base.memory before g fault) read.history_is only))))
-
--- it leads to another state than the machine's
-pub state_differs : (volumes : List Volume) (m : MachineValue) (vs : List Volume) (l : LayoutParts)
-    (before : ℕ) (h : List Record) (base theirs replayed image : Pictured)
-    → IsReadOf volumes m vs l before theirs h → base ≡ record { layout = l; memory = state_after l vs }
-    → base.memory ≡ theirs.memory
-    → replayed ≡ record { layout = base.layout; memory = value_of base.layout base.memory h }
-    → image ≡ record { layout = m.layout; memory = m.state } → (replayed.memory ≡ image.memory → ⊥)
-    → IsAudited volumes m → ⊥
-state_differs volumes m vs l before h base theirs replayed image read is same replayed_is image_is other
-    sound =
-    let layout = (leads_to volumes m vs l base read.volumes_are read.layout_is is).layout in
-    let start : base.memory ≡ m.base = same ∙ ap (λ (p : Pictured). p.memory) read.base_is in
-    other (replayed_memory m h base replayed read.history_is layout start replayed_is ∙ sym sound.state
-    ∙ sym (ap (λ (p : Pictured). p.memory) image_is))
 
 -- all is as it should be
 pub audited : (volumes : List Volume) (m : MachineValue) (vs : List Volume) (l : LayoutParts) (before : ℕ)
@@ -299,32 +243,6 @@ audit_fails input ends volumes m count AuditDiffers ran h =
 audit_fails input ends volumes m count WriteFailed ran h = absurd h
 audit_fails input ends volumes m count (BrokenChain n) ran h =
     (tt, inr (tt, refuted input ends volumes m count (BrokenChain n) ran h))
-
--- what a run can fail of, an audit can
-broken_too : (input : List ℕ) (fault : ProgramFault)
-    → IsUnfinished input fault ⊎ (IsAudit Run × IsRefuted input fault)
-    → IsUnfinished input fault ⊎ (IsAudit Audit × IsRefuted input fault)
-broken_too input fault (inl h) = inl h
-broken_too input fault (inr h) = absurd h.0
-
-pub audit_too : (input : List ℕ) (fault : ProgramFault) → IsFaultOf Run (Some input) ⊥ ⊥ fault
-    → IsFaultOf Audit (Some input) ⊥ ⊥ fault
-audit_too input ReadFailed h = h
-audit_too input TooLong h = h
-audit_too input NotJson h = h
-audit_too input BadShape h = h
-audit_too input (Layout f) h = h
-audit_too input (BadLine n) h = h
-audit_too input (NotForRun n) h = h
-audit_too input OutOfMemory h = h
-audit_too input (NotStarted c) h = h
-audit_too input SeatMissing h = h
-audit_too input (Mismatch n) h = h
-audit_too input (WrongReply n) h = h
-audit_too input (WrongSerial n) h = h
-audit_too input AuditDiffers h = absurd h.0
-audit_too input WriteFailed h = h
-audit_too input (BrokenChain n) h = (tt, broken_too input (BrokenChain n) h.1)
 
 -- ---- the text of an audit
 

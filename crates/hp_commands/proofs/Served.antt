@@ -1,7 +1,6 @@
 -- From the parts to the whole: what was read, what was made of it, and what was written.
-use Rattle.std.proofs.Common.{◌≡◌, ℕ, ◌<◌, List, [], ◌++◌, length, OnOk, Option, Some, Result, Ok, Err, refl, sym, ap, subst, ◌∙◌}
-use Rattle.std.specs.Prelude.{◌⊎◌}
-use Rattle.std.specs.Io.KnownBytes.{Appends, Consumes, IsAtEnd}
+use Rattle.std.proofs.Common.{◌≡◌, ℕ, List, [], ◌++◌, OnOk, Option, Result, Ok, Err, refl, sym, ap, subst, ◌∙◌}
+use Rattle.std.specs.Io.KnownBytes.{Consumes, IsAtEnd}
 use Rattle.hp_units.specs.Memory.{Memory}
 use Rattle.hp_machine.specs.Machine.{MachineValue, booted}
 use Rattle.hp_plain.specs.Image.{Pictured}
@@ -10,20 +9,17 @@ use Rattle.hp_scenario.specs.declared.fault.ScenarioFault.{ScenarioFault}
 use Rattle.hp_scenario.specs.declared.fault.ScenarioFault.TheVariants as scenario
 use Rattle.hp_scenario.specs.Gives.{◌>>=◌, Fails}
 use Rattle.hp_scenario.specs.Scenario.{ScenarioValue, scenario_in}
-use Rattle.hp_streams.specs.Reading.{IsReadFault, limit}
+use Rattle.hp_streams.specs.Reading.{IsReadFault}
 use Rattle.hp_streams.proofs.Whole.{given}
 use Rattle.hp_streams.specs.declared.reading.ReadFault.{ReadFault}
 use Rattle.hp_streams.specs.declared.reading.ReadFault.TheVariants as reading
 use Rattle.hp_text.specs.State.{state_text}
 use Rattle.hp_commands.specs.Serial.{GrowsBy, IsWhole, LeavesImage, WritesLines, end_text, lines_text, scenario_text, serial_text}
 use Rattle.hp_commands.proofs.Lines.{AreDue, lines_due, run_is}
-use Rattle.hp_commands.specs.Runs.{IsAuditTextOf, IsRunTextOf, SealsSome, scripts_in}
-use Rattle.hp_commands.specs.Served.{IsTextOf, Serves, WritesTextOf}
-use Rattle.hp_commands.specs.Faults.{IsAudit, IsFaultOf, IsRefuted, IsUnfinished, fault_from, read_fault_from}
-use Rattle.hp_commands.specs.declared.fault.ProgramFault.{ProgramFault}
-use Rattle.hp_commands.specs.declared.fault.ProgramFault.TheVariants.{ReadFailed, TooLong, NotJson, BadShape, Layout, BadLine, NotForRun, OutOfMemory, NotStarted, SeatMissing, Mismatch, WrongReply, WrongSerial, AuditDiffers, WriteFailed, BrokenChain}
+use Rattle.hp_commands.specs.Served.{IsTextOf}
+use Rattle.hp_commands.specs.Faults.{IsFaultOf, fault_from, read_fault_from}
 use Rattle.hp_commands.specs.declared.commands.Command.{Command}
-use Rattle.hp_commands.specs.declared.commands.Command.TheVariants.{Serial, Run, Audit}
+use Rattle.hp_commands.specs.declared.commands.Command.TheVariants.{Serial}
 use Rattle.hp_commands.proofs.Unfit.{never_not_for_run}
 
 -- a fault of reading is one of the program
@@ -32,50 +28,6 @@ pub read_fault : (command : Command) (known : Option (List ℕ)) (read written :
 read_fault command known read written reading.ReadFailed h = h
 read_fault command known read written reading.TooLong h = h
 read_fault command known read written reading.OutOfMemory h = tt
-
--- a fault of the bytes is one of the reader that gave them all
-input_fault_of : (command : Command) (a b : Option (List ℕ)) (input : List ℕ) (read written : Type 0)
-    (fault : ProgramFault)
-    → Consumes a b input → IsAtEnd b → IsFaultOf command (Some input) ⊥ ⊥ fault
-    → IsFaultOf command a read written fault
-input_fault_of command a b input read written ReadFailed p end h = absurd h
-input_fault_of command a b input read written TooLong p end h =
-    given a b input p end (λ (i : List ℕ). limit < length i) h
-input_fault_of command a b input read written NotJson p end h =
-    given a b input p end (λ (i : List ℕ). scenario_in i ≡ Err scenario.NotJson) h
-input_fault_of command a b input read written BadShape p end h =
-    given a b input p end (λ (i : List ℕ). scenario_in i ≡ Err scenario.BadShape) h
-input_fault_of command a b input read written (Layout f) p end h =
-    given a b input p end (λ (i : List ℕ). scenario_in i ≡ Err (scenario.Layout f)) h
-input_fault_of command a b input read written (BadLine n) p end h =
-    given a b input p end (λ (i : List ℕ). scenario_in i ≡ Err (scenario.BadLine n)) h
-input_fault_of command a b input read written (NotForRun n) p end h =
-    (h.0, given a b input p end (λ (i : List ℕ). scripts_in i ≡ Err (scenario.NotForRun n)) h.1)
-input_fault_of command a b input read written OutOfMemory p end h = tt
-input_fault_of command a b input read written (NotStarted c) p end h =
-    (h.0, given a b input p end (λ (i : List ℕ). IsUnfinished i (NotStarted c)) h.1)
-input_fault_of command a b input read written SeatMissing p end h = absurd h
-input_fault_of command a b input read written (Mismatch n) p end h =
-    (h.0, given a b input p end (λ (i : List ℕ). IsUnfinished i (Mismatch n)) h.1)
-input_fault_of command a b input read written (WrongReply n) p end h = absurd h
-input_fault_of command a b input read written (WrongSerial n) p end h = absurd h
-input_fault_of command a b input read written AuditDiffers p end h =
-    (h.0, given a b input p end (λ (i : List ℕ). SealsSome i × IsRefuted i AuditDiffers) h.1)
-input_fault_of command a b input read written WriteFailed p end h = absurd h
-input_fault_of command a b input read written (BrokenChain n) p end h = (
-  h.0,
-  given a b input p end
-      (λ (i : List ℕ). IsUnfinished i (BrokenChain n) ⊎ (IsAudit command × IsRefuted i (BrokenChain n))) h.1,
-)
-
--- `seen` is the slice that was passed on
-pub input_fault : (command : Command) (a b : Option (List ℕ)) (input seen : List ℕ) (read written : Type 0)
-    (fault : ProgramFault)
-    → seen ≡ input → Consumes a b input → IsAtEnd b → IsFaultOf command (Some seen) ⊥ ⊥ fault
-    → IsFaultOf command a read written fault
-input_fault command a b input seen read written fault same p end h =
-    input_fault_of command a b input read written fault p end
-    (subst (λ (i : List ℕ). IsFaultOf command (Some i) ⊥ ⊥ fault) same h)
 
 -- only the scenario can be at fault
 refused : (r : Result ScenarioValue ScenarioFault) (fault : ScenarioFault) (f : ScenarioValue → List ℕ)
@@ -104,25 +56,6 @@ scenario_fault a b input read written (scenario.BadLine n) p end h =
 scenario_fault a b input read written (scenario.NotForRun n) p end h =
     absurd (never_not_for_run input n (no_scenario input _ h))
 scenario_fault a b input read written scenario.OutOfMemory p end h = tt
-
--- what was read, its text, and what was written
-pub all_written : (a b old new : Option (List ℕ)) (input text : List ℕ) → Consumes a b input → IsAtEnd b
-    → IsTextOf input text → Appends old new text → WritesTextOf a old new
-all_written a b old new input text p end h w =
-    given a b input p end (λ i. (t : List ℕ) × Appends old new t × IsTextOf i t) (text, w, h)
-
--- and that of a run and of an audit
-pub run_written : (a b old new : Option (List ℕ)) (input seen text : List ℕ) → seen ≡ input
-    → Consumes a b input → IsAtEnd b → IsRunTextOf seen text → Appends old new text → Serves Run a old new
-run_written a b old new input seen text same p end h w =
-    given a b input p end (λ i. (t : List ℕ) × Appends old new t × IsRunTextOf i t)
-    (text, w, subst (λ (i : List ℕ). IsRunTextOf i text) same h)
-
-pub audit_written : (a b old new : Option (List ℕ)) (input seen text : List ℕ) → seen ≡ input
-    → Consumes a b input → IsAtEnd b → IsAuditTextOf seen text → Appends old new text → Serves Audit a old new
-audit_written a b old new input seen text same p end h w =
-    given a b input p end (λ i. (t : List ℕ) × Appends old new t × IsAuditTextOf i t)
-    (text, w, subst (λ (i : List ℕ). IsAuditTextOf i text) same h)
 
 -- what reading answers, the whole answers
 fails_then : (fault : ScenarioFault) (r : Result ScenarioValue ScenarioFault) (f : ScenarioValue → List ℕ)

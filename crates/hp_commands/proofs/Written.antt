@@ -15,11 +15,6 @@ use Rattle.hp_text.specs.Plans.{plan_line}
 use Rattle.hp_commands.specs.Plans.{WritesPlan}
 use Rattle.hp_commands.specs.Serial.{GrowsBy}
 
--- a text of which more is known
-pub grows_as : (old new : List ℕ) (P Q : List ℕ → Type 0) → GrowsBy old new P
-    → ((text : List ℕ) → P text → Q text) → GrowsBy old new Q
-grows_as old new P Q g said = record { text = g.text; grown = g.grown; is = said g.text g.is }
-
 -- ---- a plan
 
 pub plan_written : (m new : MachineValue) (cpu turns : ℕ) (plan copied : List Item) (end : OpEnd)

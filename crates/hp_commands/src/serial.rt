@@ -80,7 +80,7 @@ fn write_end(
 {
     let end = machine.image(alloc)?;
     write_state(out, alloc, &end, calls.names())?;
-    // As the machine.
+    // Left to the end of the program, as the machine is.
     forget(end);
     Ok(())
 }
@@ -166,8 +166,7 @@ fn run_lines(
     let mut machine = boot(alloc, layout, lines.as_slice().len())?;
     write_lines(out, alloc, &mut machine, lines.as_slice())?;
     drop(lines);
-    let image = machine.image(alloc)?;
-    Ok(image)
+    machine.image(alloc)
 }
 
 /// The machine of a layout at its start, which keeps no records since no line shows one, with room for two

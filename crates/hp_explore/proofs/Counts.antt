@@ -4,7 +4,7 @@ use Rattle.std.specs.Prelude.{◌⊎◌, sum_by}
 use Rattle.std.proofs.lemmas.List.{length_push}
 use Rattle.std.proofs.lemmas.List.Sums.{sum_by_push, sum_by-set}
 use Rattle.std.proofs.lemmas.Option.{slice_get_within, get_or_from_slice_get, same_Some}
-use Rattle.std.proofs.lemmas.Bool.{cases_lt}
+use Rattle.std.proofs.lemmas.Bool.{cases_eq}
 use Rattle.hp_laws.proofs.Lists.{get_push_cases, get_end}
 use Rattle.hp_explore.specs.declared.tally.Ending.{Ending}
 use Rattle.hp_explore.specs.Ends.{AreCounted}
@@ -177,12 +177,20 @@ first_same E p f x y before first = record {
       [ inl e ↦ first.earliest t e | inr at ↦ inr (subst (IsBefore f) (sym at.0) (before f y first.holds)) ];
 }
 
--- two places are the same or not
-pub same_or_not : (k j : ℕ) → (k ≡ j) ⊎ (k ≡ j → ⊥)
-same_or_not k j =
-    elim (cases_lt k j) [
-      | inl less ↦ inr (λ e. omega arith)
-      | inr more ↦ elim (cases_lt j k) [ inl less ↦ inr (λ e. omega arith) | inr equal ↦ inl (omega arith) ]
+-- an outcome that an end has still has one where an end has another count
+pub end_stays : (old : List Ending) (at : ℕ) (entry more : Ending) → slice_get old at ≡ Some entry
+    → more.outcome ≡ entry.outcome → (k : ℕ) (e : Ending) (y : OutcomeValue) → slice_get old k ≡ Some e
+    → e.outcome ≡ y → (j : ℕ) × (f : Ending) × (slice_get (set old at more) j ≡ Some f) × (f.outcome ≡ y)
+end_stays old at entry more here same_outcome k e y h is =
+    elim (cases_eq k at) [
+      | inl same ↦ (
+        at,
+        more,
+        get_set_here old at more (slice_get_within old at entry here),
+        same_outcome ∙ (ap (λ (f : Ending). f.outcome)
+            (same_Some entry e (sym here ∙ (ap (slice_get old) (sym same) ∙ h))) ∙ is),
+      )
+      | inr other ↦ (k, e, get_set_other old at more k e other h, is)
     ]
 
 -- one schedule more, whose end is there
@@ -240,23 +248,10 @@ noted_again E p x old new ok before adds =
           | inr there ↦ (e, there.1, refl)
         ]
 
-    stays : (k : ℕ) (e : Ending) (y : OutcomeValue) → slice_get old k ≡ Some e → e.outcome ≡ y
-        → (j : ℕ) × (f : Ending) × (slice_get later j ≡ Some f) × (f.outcome ≡ y)
-    stays k e y h is =
-        elim (same_or_not k adds.at) [
-          | inl same ↦ (
-            adds.at,
-            adds.more,
-            get_set_here old adds.at adds.more (slice_get_within old adds.at adds.entry adds.here),
-            adds.outcome_is ∙ (ap (λ (f : Ending). f.outcome)
-                (same_Some adds.entry e (sym adds.here ∙ (ap (slice_get old) (sym same) ∙ h))) ∙ is),
-          )
-          | inr other ↦ (k, e, get_set_other old adds.at adds.more k e other h, is)
-        ]
-
     every : (s : List ℕ) (y : OutcomeValue) → With E p x s y
         → (k : ℕ) × (e : Ending) × (slice_get later k ≡ Some e) × (e.outcome ≡ y)
     every s y h =
+        let stays = end_stays old adds.at adds.entry adds.more adds.here adds.outcome_is in
         elim h [
           | inl old_one ↦ (let at = ok.every s y old_one in stays at.0 at.1 y at.2 at.3)
           | inr new_one ↦ stays adds.at adds.entry y adds.here (adds.same ∙ sym new_one.1)

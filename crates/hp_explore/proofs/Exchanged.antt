@@ -40,17 +40,6 @@ exchanges_other cpu h r off = by_owner (eqb r.cpu cpu) refl
 
 -- ---- a chain's entry
 
-pub chained_found : (chains : List (List Receipt)) (number below : ℕ) (x : Receipt) (e : Exchange)
-    → IsMadeOf exchange_below at_end chains number e → e.below ≡ below → exchange_of e ≡ x
-    → IsChained chains chains x below number
-chained_found chains number below x e at below_is is xs h =
-    at.2
-    ∙ (ap (λ (ys : List Receipt). Some (ys ++ exchange_of e ∷ [])) same
-    ∙ ap (λ (y : Receipt). Some (xs ++ y ∷ [])) is)
-  where
-    same : at.0 ≡ xs
-    same = same_Some at.0 xs (sym at.1 ∙ (ap (slice_get chains) below_is ∙ h))
-
 pub chained_added : (old new : List Exchange) (e : Exchange) (x : Receipt) (number : ℕ) → new ≡ old ++ e ∷ []
     → number ≡ length old + 1 → exchange_of e ≡ x
     → IsChained (chains_of old) (chains_of new) x e.below number
@@ -75,19 +64,6 @@ before_none chains number before none xs x h = absurd (no_end xs (none (xs ++ x 
     no_end (y ∷ ys) is = cc
 
 -- ---- all processors
-
-abbrev with_here : ExchangesValue → List (List Receipt) → List ℕ → ExchangesValue
-with_here x chains here = record { chains = chains; here = here }
-
-pub exchanged_kept : (g : Setting) (news : List Record) (old new : ExchangesValue)
-    → KeepNumbers old.chains new.chains → new.here ≡ old.here → AreExchanged g news old
-    → AreExchanged g news new
-exchanged_kept g news old new keep same are cpu within =
-    let at = are cpu within in (
-      at.0,
-      ap (λ (ns : List ℕ). slice_get ns cpu) same ∙ at.1,
-      keep at.0 (exchanges cpu news) at.2,
-    )
 
 -- a call of another processor than the scripts'
 pub exchanged_past : (g : Setting) (news : List Record) (r : Record) (x : ExchangesValue)
@@ -199,17 +175,9 @@ replicated zero k less = absurd (omega arith)
 replicated (suc n) zero less = refl
 replicated (suc n) (suc k) less = replicated n k (omega arith)
 
-all_zero : (n k m : ℕ) → slice_get {X = ℕ} (replicate n 0) k ≡ Some m → m ≡ 0
-all_zero zero k m h = absurd cc
-all_zero (suc n) zero m h = same_Some m 0 (sym h)
-all_zero (suc n) (suc k) m h = all_zero n k m h
-
 pub exchanged_begun : (g : Setting) (n : ℕ) → n ≡ length g.scripts
     → AreExchanged g [] (record { chains = [] ∷ []; here = replicate n 0 })
 exchanged_begun g n many cpu within = (0, replicated n cpu (omega (arith, within, many)), refl)
-
-pub among_begun : (n : ℕ) → AreAmong ([] ∷ []) (replicate n 0)
-among_begun n k m h = omega (arith, all_zero n k m h)
 
 -- ---- an entry of a record
 

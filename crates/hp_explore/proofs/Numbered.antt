@@ -91,21 +91,6 @@ pub front_added : (old new : List Entry) (e : Entry) (number : ℕ) → new ≡ 
 front_added old new e number is number_is os h =
     made_added entry_below in_front old new e number os is number_is h
 
-pub front_found : (lists : List (List NumberedOpening)) (number op state below : ℕ) (e : Entry)
-    → IsEntryOf lists number e → e.op ≡ op → e.below ≡ below → e.state ≡ state
-    → IsInFront lists lists op state below number
-front_found lists number op state below e at op_is below_is state_is os h =
-    at.2
-    ∙ (ap (λ (rest : List NumberedOpening). Some (opening_of e ∷ rest)) same
-    ∙ (ap (λ (o : ℕ). Some (numbered o e.state ∷ os)) op_is
-    ∙ ap (λ (s : ℕ). Some (numbered op s ∷ os)) state_is))
-  where
-    numbered : ℕ → ℕ → NumberedOpening
-    numbered o s = record { op = o; memory = s }
-
-    same : at.0 ≡ os
-    same = same_Some at.0 os (sym at.1 ∙ (ap (slice_get lists) below_is ∙ h))
-
 -- ---- what a call makes of a number
 
 -- where a list is empty, or another operation is the first, nothing is left

@@ -151,7 +151,3 @@ keep_long old new n keep less =
 pub none_weaker : {X : Type 0} {P Q : Type 0} → (P → Q) → (o : Option X) → IfNone o P → IfNone o Q
 none_weaker h None none = h none
 none_weaker h (Some x) none = tt
-
-pub nothing_left : {X : Type 0} (xs : List X) → length xs ≡ 0 → xs ≡ []
-nothing_left [] none = refl
-nothing_left (x ∷ xs) none = absurd (omega arith)

@@ -33,6 +33,12 @@ recorded serial cpu event reply = record { serial = serial; cpu = cpu; event = e
 
 -- ---- one call more
 
+-- its record is of the processor that makes it
+pub caller : (g : Setting) (news : List Record) (cpu : ℕ) (event : Event)
+    → (record_of_call g news cpu event).cpu ≡ cpu
+unfolding record_of_call
+caller g news cpu event = refl
+
 -- a longer schedule goes on from where the shorter one leads to
 pub plays_on : (g : Setting) (p q : List ℕ) → plays g (p ++ q) ≡ fold (play_one g) (plays g p) q
 unfolding plays

@@ -108,12 +108,6 @@ pub record AreSinceBelow (earlier : List ℕ) (ends : List Ending) (below : ℕ)
   pub each : (k : ℕ) (e : Ending) → k < below → slice_get ends k ≡ Some e
       → get_or earlier k 0 + amount_of shares k ≡ e.count
 
-pub since_none : (earlier : List ℕ) (ends : List Ending) (shares : List Share) → shares ≡ []
-    → AreSinceBelow earlier ends 0 shares
-since_none earlier ends shares none =
-    subst (AreSinceBelow earlier ends 0) (sym none)
-    (record { at_ends = λ i s h. absurd cc; each = λ k e less h. absurd (omega arith) })
-
 -- the next end counts no more
 pub since_same : (earlier : List ℕ) (ends : List Ending) (at was : ℕ) (e : Ending) (shares : List Share)
     → slice_get ends at ≡ Some e → AreNoMore earlier ends → was ≡ get_or earlier at 0 → e.count ≤ was
@@ -316,11 +310,6 @@ adds_more old mid new shares at s here so_far adds =
                 own_share s k (sym same),
               ),
             )
-
-pub adds_all : (old new : List Ending) (shares : List Share) (at : ℕ) → length shares ≤ at
-    → AddsBelow old shares at new → AddsShares old shares new
-adds_all old new shares at past so_far =
-    subst (λ (ss : List Share). AddsShares old ss new) (take_all at shares past) so_far.adds
 
 -- they are the counts that they tell
 pub adds_told : (old new : List Ending) (shares : List Share) (counts : List ℕ)

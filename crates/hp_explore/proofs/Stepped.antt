@@ -1,7 +1,7 @@
 -- A step of a call is what the schedule makes of it, where the event may not go back; and where a
 -- machine stands.
-use Rattle.std.proofs.Common.{◌≡◌, ℕ, ◌+◌, Bool, true, false, List, [], ◌∷◌, ◌++◌, length, Some, None, refl, ap, sym, subst, ◌∙◌, arith}
-use Rattle.std.proofs.lemmas.List.{append_assoc, length-map, length_push, map-append}
+use Rattle.std.proofs.Common.{◌≡◌, ℕ, ◌+◌, Bool, true, false, List, [], ◌∷◌, ◌++◌, length, Some, None, refl, ap, sym, subst, ◌∙◌}
+use Rattle.std.proofs.lemmas.List.{append_assoc, map-append}
 use Rattle.std.proofs.lemmas.Option.{none-some}
 use Rattle.hp_units.specs.History.{Effect, Looks, Undoes, Cancels, Acts, effect_of, effect_reply, is_refused, net_of, net_with, net_with_effect, reply_of, run, value_of}
 use Rattle.hp_units.specs.LayoutParts.{LayoutParts}
@@ -120,13 +120,6 @@ stepped_at g p n serial cpu mark event here asked goes is made = record {
         ∙ (plain_state g.layout g.base (g.start ++ p.records) made_record goes told
         ∙ ap (value_of g.layout g.base) (append_assoc g.start p.records (made_record ∷ [])))))
 
--- the schedule that led there
-pub stepped_place : (p n : StepsValue) (serial cpu mark : ℕ) (event : Event)
-    → IsStepped p serial cpu event mark n → schedule_of n.records ≡ schedule_of p.records ++ cpu ∷ []
-stepped_place p n serial cpu mark event made =
-    ap schedule_of made.later.records
-    ∙ map-append (λ (r : Record). r.cpu) p.records (record_of_step p.layout p.state serial cpu event ∷ [])
-
 -- ---- a machine
 
 -- where a machine stands that a schedule led to
@@ -146,15 +139,3 @@ pub leads_on : (g : Setting) (p : StepsValue) (cpu : ℕ) (event : Event) → Is
     → next_call g cpu p.records ≡ Some event → plays g (schedule_of p.records ++ cpu ∷ []) ≡ None → ⊥
 leads_on g p cpu event here asked none =
     none-some _ (sym none ∙ plays_push g (schedule_of p.records) p.records cpu event here.played asked)
-
--- one record more
-pub one_longer : (p n : StepsValue) (cpu : ℕ) → schedule_of n.records ≡ schedule_of p.records ++ cpu ∷ []
-    → length n.records ≡ length p.records + 1
-one_longer p n cpu is =
-    omega (
-      arith,
-      ap length is,
-      length_push (schedule_of p.records) cpu,
-      length-map p.records (λ (r : Record). r.cpu),
-      length-map n.records (λ (r : Record). r.cpu),
-    )

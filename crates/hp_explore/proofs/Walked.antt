@@ -1,7 +1,6 @@
 -- What a turn of the walk leaves, by what the path did.
-use Rattle.std.proofs.Common.{◌≡◌, ℕ, ◌+◌, ◌<◌, ◌≤◌, Bool, true, false, List, [], ◌∷◌, ◌++◌, length, Option, Some, None, refl, ap, sym, subst, ◌∙◌, arith, inl, inr}
-use Rattle.std.specs.Prelude.{◌||◌, nat_le}
-use Rattle.std.proofs.lemmas.Bool.{cases_lt, le-leb}
+use Rattle.std.proofs.Common.{◌≡◌, ℕ, ◌+◌, ◌<◌, ◌≤◌, Bool, true, false, List, [], ◌∷◌, ◌++◌, length, Option, Some, None, refl, ap, sym, subst, ◌∙◌, arith}
+use Rattle.std.proofs.lemmas.Bool.{leb-false, or_parts}
 use Rattle.std.proofs.lemmas.List.{length-append, length_push}
 use Rattle.hp_units.specs.declared.replies.Record.{Record}
 use Rattle.hp_units.specs.History.{effect_of}
@@ -89,21 +88,11 @@ pub way_stays : (p q : PathValue) (memo : MemoValue) → IsBack p None q → IsO
     → IsOnWay q.setting q.news memo
 way_stays p q memo back way = subst (λ (x : PathValue). IsOnWay x.setting x.news memo) (sym back.1) way
 
--- the history has room for it
-has_room : (g : Setting) (news : List Record) → is_full_after g news ≡ false
+-- the history has room for another record
+pub room_after : (g : Setting) (news : List Record) → is_full_after g news ≡ false
     → length (g.start ++ news) < g.layout.history
-has_room g news room =
-    elim (cases_lt (length (g.start ++ news)) g.layout.history) [
-      | inl less ↦ less
-      | inr past ↦ absurd (full (le-leb g.layout.history (length (g.start ++ news)) past) room)
-    ]
-  where
-    full : nat_le g.layout.history (length (g.start ++ news)) ≡ true → is_full_after g news ≡ false → ⊥
-    full all free =
-        let h : true ≡ false =
-        sym (ap (λ (b : Bool). b || nat_le 18446744073709551615 (g.before + length (g.start ++ news))) all)
-        ∙ free in
-        cc
+room_after g news not_full =
+    leb-false g.layout.history (length (g.start ++ news)) (or_parts _ _ not_full).0
 
 pub short_on : (p q : PathValue) (cpu : ℕ) → IsForth p cpu true q
     → length q.news ≤ q.setting.layout.history
@@ -111,7 +100,7 @@ short_on p q cpu forth =
     subst (λ (x : PathValue). length x.news ≤ x.setting.layout.history) (sym forth.3)
     (omega (
       arith,
-      has_room p.setting p.news forth.2,
+      room_after p.setting p.news forth.2,
       length-append p.setting.start p.news,
       length_push p.news (record_of_call p.setting p.news cpu forth.0),
     ))

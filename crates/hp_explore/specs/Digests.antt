@@ -1,15 +1,12 @@
 -- Digests of how schedules end. The same ends have the same digest, and no more is wanted of them.
-use Rattle.std.specs.Prelude.{ℕ, ◌+◌, ◌*◌, ◌%◌, ◌^◌, List, Option, Some, None, bit_xor, fold}
+use Rattle.std.specs.Prelude.{ℕ, ◌+◌, ◌*◌, ◌%◌, ◌^◌, List, bit_xor, fold}
 use Rattle.std.specs.Int.{w64, rotate_left}
 use Rattle.hp_units.specs.declared.replies.Refusal.{Refusal}
 use Rattle.hp_units.specs.declared.replies.Refusal.TheVariants.{NoOwner, NoPage, NoWord, AlreadyMapped, NotMapped, BadOrder, NoFrame, NoSuchFrame, NotKernel, NoCpu, NoBlock, EmptyPlan, Twice, Busy, NotOnline, NotOffline, Unmovable, NoOp, NothingToMove, NotFree, Gone, BadAddress, NotAbsent}
 use Rattle.hp_units.specs.declared.replies.Reply.{Reply}
 use Rattle.hp_units.specs.declared.replies.Reply.TheVariants.{Done, Frame, Word, Moved, Opened, Restored, Released, Undone, Refused}
 use Rattle.hp_units.specs.declared.rows.Row.{Row}
-use Rattle.hp_units.specs.declared.rows.State.{State}
-use Rattle.hp_units.specs.declared.rows.State.TheVariants.{Offline, Online, Going, Absent}
-use Rattle.hp_units.specs.declared.rows.Zone.{Zone}
-use Rattle.hp_units.specs.declared.rows.Zone.TheVariants.{Normal, Movable}
+use Rattle.hp_codes.specs.Parts.{state_number, zone_number}
 use Rattle.hp_explore.specs.Outcomes.{OutcomeValue}
 
 -- a digest with one number more (own rule)
@@ -52,17 +49,6 @@ reply_number (Moved from to) = mixed (mixed 6 from) to
 reply_number (Opened op) = mixed 7 op
 reply_number (Undone count) = mixed 8 count
 reply_number (Refused refusal) = mixed 9 (refusal_number refusal)
-
-abbrev pub state_number : State → ℕ
-state_number Offline = 0
-state_number Online = 1
-state_number Going = 2
-state_number Absent = 3
-
-abbrev pub zone_number : Option Zone → ℕ
-zone_number None = 1
-zone_number (Some Normal) = 2
-zone_number (Some Movable) = 3
 
 abbrev pub row_number : Row → ℕ
 row_number row = 4 * zone_number row.zone + state_number row.state

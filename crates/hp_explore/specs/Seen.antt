@@ -30,9 +30,6 @@ pub record IsSeen (g : Setting) (ends : List Ending) (seen : SeenValue) : Type 0
   pub every : (s : List ℕ) (x : OutcomeValue) → GoesOn g (schedule_of seen.news) x s
       → (k : ℕ) × (e : Ending) × (slice_get ends k ≡ Some e) × (e.outcome ≡ x)
 
-abbrev pub AllSeen : Setting → List Ending → List SeenValue → Type 0
-AllSeen g ends all = (i : ℕ) (seen : SeenValue) → slice_get all i ≡ Some seen → IsSeen g ends seen
-
 -- ends stay where they are, and count no less; those that come have other outcomes
 pub record Grow (old new : List Ending) : Type 0 where
   pub longer : length old ≤ length new

@@ -2,11 +2,12 @@
 //! the same have the same digest.
 ghost use Rattle.std.specs.Prelude.{◌≡◌, ℕ, OnOk, fold, nat_eq};
 ghost use Rattle.indexmap.specs.IndexMap.{ContainsKey};
-ghost use Rattle.hp_explore.specs.Digests.{digest_of, mixed, mixed_reply, refusal_number, replies_digest, reply_number, row_number, state_number, zone_number};
+ghost use Rattle.hp_explore.specs.Digests.{digest_of, mixed, mixed_reply, refusal_number, replies_digest, reply_number, row_number};
 ghost use Rattle.hp_explore.specs.Outcomes.{outcome_with, replies_below, replies_to};
 
 use crate::outcomes::told;
-use hp_units::{Cpu, Record, Refusal, Reply, Row, State, Zone};
+use hp_codes::{state_number, zone_number};
+use hp_units::{Cpu, Record, Refusal, Reply, Row};
 use indexmap::IndexMap;
 use std::alloc::AllocError;
 
@@ -134,28 +135,5 @@ fn refusal_number(refusal: &Refusal) -> u64
 pub(crate) fn row_number(row: &Row) -> u64
     ensures { result ≡ row_number row.now }
 {
-    4 * zone_number(row.zone) + state_number(row.state)
-}
-
-/// A number for a block's state.
-fn state_number(state: State) -> u64
-    ensures { result ≡ state_number state }
-{
-    match state {
-        State::Offline => 0,
-        State::Online => 1,
-        State::Going => 2,
-        State::Absent => 3,
-    }
-}
-
-/// A number for a block's zone.
-fn zone_number(zone: Option<Zone>) -> u64
-    ensures { result ≡ zone_number zone }
-{
-    match zone {
-        None => 1,
-        Some(Zone::Normal) => 2,
-        Some(Zone::Movable) => 3,
-    }
+    4 * u64::from(zone_number(row.zone)) + u64::from(state_number(row.state))
 }

@@ -47,5 +47,5 @@ pub use parts::Part;
 pub use path::Path;
 pub use playing::play;
 pub use scripts::{Line, Script, Work};
-pub use tally::Ending;
+pub use tally::{Ending, total_of};
 pub use watch::{Silent, Watch};

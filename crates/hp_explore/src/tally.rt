@@ -25,6 +25,17 @@ pub struct Ending {
     pub first: Vec<Cpu>,
 }
 
+/// The sum of the counts of ends: how many schedules lead to any of them.
+pub fn total_of(ends: &[Ending]) -> u128
+    ensures { result ≡ sum_by (λ e. e.count) ends.now }
+{
+    let mut total: u128 = 0;
+    for end in ends {
+        total += u128::from(end.count);
+    }
+    total
+}
+
 /// The processors of records, in order. An error is out of memory.
 pub(crate) fn schedule_of(alloc: Global, records: &[Record]) -> Result<Vec<Cpu>, AllocError>
     ensures { IfOk result (λ schedule. schedule.items ≡ schedule_of records.now) }

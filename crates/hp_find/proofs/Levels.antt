@@ -20,9 +20,6 @@ use Rattle.hp_find.specs.Wanted.{Meets}
 use Rattle.hp_find.specs.declared.fault.FindFault.TheVariants.{TooMany}
 use Rattle.hp_find.specs.declared.wanted.Wanted.{Wanted}
 
-pub needs_none : (g : Setting) (wanted : List Wanted) → NeedsChanges g wanted 0
-needs_none g wanted s reaches = omega arith
-
 -- the first that has no more changes than each needs
 pub nearest_found : (g : Setting) (wanted : List Wanted) (budget below : ℕ) (s : List ℕ)
     → NeedsChanges g wanted budget → budget < below → IsFirstWithin g wanted budget (Some s)

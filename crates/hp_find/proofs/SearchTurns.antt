@@ -1,8 +1,7 @@
 -- The turns of a search.
 use Rattle.std.proofs.Common.{◌≡◌, ℕ, ◌+◌, ◌<◌, ◌≤◌, Bool, false, List, [], ◌∷◌, ◌++◌, length, Option, Some, None, refl, ap, sym, subst, ◌∙◌, arith, inl, inr}
 use Rattle.std.specs.Prelude.{◌⊎◌, ◌↔◌, IsTrue}
-use Rattle.std.proofs.lemmas.Bool.{leb-false, or_parts}
-use Rattle.std.proofs.lemmas.List.{append-nil, length-append, length_push, map-append}
+use Rattle.std.proofs.lemmas.List.{append-nil, length-append, length-map, length_push}
 use Rattle.std.proofs.lemmas.Option.{none-some, same_Some}
 use Rattle.hp_units.specs.declared.events.Event.{Event}
 use Rattle.hp_units.specs.declared.replies.Record.{Record}
@@ -10,7 +9,9 @@ use Rattle.hp_explore.specs.Faults.{is_full_after}
 use Rattle.hp_explore.specs.Paths.{IsBack, PathValue, state_at}
 use Rattle.hp_explore.specs.Outcomes.{OutcomeValue, outcome}
 use Rattle.hp_explore.specs.Schedules.{Setting, next_call, outcome_after, play_one, plays, record_of_call, schedule_of}
-use Rattle.hp_explore.proofs.Plays.{asks_within, only_this, plays_on, plays_one}
+use Rattle.hp_explore.proofs.Framing.{longer_schedule}
+use Rattle.hp_explore.proofs.Plays.{asks_within, caller, only_this, plays_on, plays_one}
+use Rattle.hp_explore.proofs.Walked.{room_after}
 use Rattle.hp_find.specs.Changes.{changes}
 use Rattle.hp_find.specs.Reaching.{IsFirstWithin, NeedsChanges, Reaches}
 use Rattle.hp_find.specs.Searches.{IsCloser, IsDown, IsOver, IsPassed, IsSearching, IsTakenBack, IsTurned, IsUp, SearchValue, room_of, search_at}
@@ -24,19 +25,6 @@ use Rattle.hp_find.proofs.Rooms.{room_back, room_none, room_push}
 use Rattle.hp_find.proofs.Turns.{left_down, left_past, left_up}
 
 -- ---- schedules of records
-
-schedule_push : (news : List Record) (r : Record)
-    → schedule_of (news ++ r ∷ []) ≡ schedule_of news ++ r.cpu ∷ []
-schedule_push news r = map-append (λ (x : Record). x.cpu) news (r ∷ [])
-
-caller : (g : Setting) (news : List Record) (cpu : ℕ) (event : Event)
-    → (record_of_call g news cpu event).cpu ≡ cpu
-unfolding record_of_call
-caller g news cpu event = refl
-
-schedule_length : (news : List Record) → length (schedule_of news) ≡ length news
-schedule_length [] = refl
-schedule_length (r ∷ news) = omega (arith, schedule_length news)
 
 -- the last call is one of the scripts' processors
 last_within : (g : Setting) (p : List ℕ) (cpu : ℕ) (news : List Record) → plays g (p ++ cpu ∷ []) ≡ Some news
@@ -64,13 +52,7 @@ back_within p q cpu played back =
     last_within p.setting (schedule_of q.news) cpu p.news
     (subst (λ (s : List ℕ). plays p.setting s ≡ Some p.news)
     (ap (λ (x : PathValue). schedule_of x.news) back.2
-    ∙ (schedule_push q.news back.0 ∙ ap (λ (c : ℕ). schedule_of q.news ++ c ∷ []) back.1)) played)
-
--- the history has room for another record
-room_after : (g : Setting) (news : List Record) → is_full_after g news ≡ false
-    → length (g.start ++ news) < g.layout.history
-room_after g news not_full =
-    leb-false g.layout.history (length (g.start ++ news)) (or_parts _ _ not_full).0
+    ∙ (longer_schedule q.news back.0 ∙ ap (λ (c : ℕ). schedule_of q.news ++ c ∷ []) back.1)) played)
 
 -- ---- the start
 
@@ -100,7 +82,7 @@ made wanted budget v r less played here has_room cpu_is few = record {
     schedule =
         ap (λ (s : List ℕ). s ++ v.next ∷ []) here.schedule
         ∙ (ap (λ (c : ℕ). schedule_of v.path.news ++ c ∷ []) (sym cpu_is)
-        ∙ sym (schedule_push v.path.news r));
+        ∙ sym (longer_schedule v.path.news r));
     within = few;
     next = omega arith;
     room = omega (arith, length_push v.schedule v.next, shorter);
@@ -120,7 +102,7 @@ made wanted budget v r less played here has_room cpu_is few = record {
         ≡ length v.path.setting.start + length v.path.news =
         length-append v.path.setting.start v.path.news in
         let calls : length v.schedule ≡ length v.path.news =
-        ap (λ (s : List ℕ). length s) here.schedule ∙ schedule_length v.path.news in
+        ap (λ (s : List ℕ). length s) here.schedule ∙ length-map v.path.news (λ (r : Record). r.cpu) in
         omega (arith, all, calls, room_after v.path.setting v.path.news has_room)
 
 -- ---- the next processor
@@ -233,7 +215,7 @@ gone_back wanted budget v w all played no_end here back =
     schedule_is : v.schedule ≡ place
     schedule_is =
         here.schedule
-        ∙ (ap (λ (p : PathValue). schedule_of p.news) back.back.2 ∙ schedule_push back.path.news r)
+        ∙ (ap (λ (p : PathValue). schedule_of p.news) back.back.2 ∙ longer_schedule back.path.news r)
 
     parts : GoesBack wanted budget later v.next v.path v.schedule
     parts =

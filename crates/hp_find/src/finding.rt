@@ -1,5 +1,5 @@
 //! The search by rising number of changes.
-ghost use Rattle.std.specs.Prelude.{◌≡◌, ◌<◌, ◌≤◌, ◌^◌, IfErr, IfNone, IfOk, IfSome, length, option_map, sum_by};
+ghost use Rattle.std.specs.Prelude.{◌≡◌, ◌<◌, ◌≤◌, ◌^◌, IfErr, IfNone, IfOk, IfSome, length, option_map};
 ghost use Rattle.hp_explore.specs.Faults.{IsCause};
 ghost use Rattle.hp_explore.specs.Schedules.{setting};
 ghost use Rattle.hp_find.specs.Faults.{IsFindCause, IsRecorded, IsWithin, SparesHistory};
@@ -10,7 +10,7 @@ use crate::changes::changes_of;
 use crate::fault::FindFault;
 use crate::searching::first_within;
 use crate::wanted::{Wanted, are_met};
-use hp_explore::{Ending, ExploreFault, Script, Watch, explore};
+use hp_explore::{Ending, ExploreFault, Script, Watch, explore, total_of};
 use hp_machine::Machine;
 use hp_units::Cpu;
 use std::alloc::Global;
@@ -130,15 +130,4 @@ fn end_with<'a>(ends: &'a [Ending], wanted: &[Wanted]) -> Option<&'a Ending>
         }
     }
     None
-}
-
-/// The sum of the counts.
-fn total_of(ends: &[Ending]) -> u128
-    ensures { result ≡ sum_by (λ e. e.count) ends.now }
-{
-    let mut total: u128 = 0;
-    for end in ends {
-        total += u128::from(end.count);
-    }
-    total
 }

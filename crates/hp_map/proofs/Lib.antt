@@ -2,5 +2,4 @@ mod Bounds
 pub mod MarkLemmas
 pub mod PlaceLemmas
 mod PlacesTogether
-pub mod Texts
 pub mod Walks

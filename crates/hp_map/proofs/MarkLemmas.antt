@@ -1,5 +1,5 @@
 -- Marks, one after another.
-use Rattle.std.proofs.Common.{◌≡◌, ℕ, ◌+◌, ◌<◌, ◌≤◌, ◌==◌, ◌||◌, inl, inr, Bool, true, false, cond, List, [], ◌∷◌, ◌++◌, length, set, get_or, take, Option, Some, None, option_map, slice_get, refl, sym, ap, subst, ◌∙◌, add-one}
+use Rattle.std.proofs.Common.{◌≡◌, ℕ, ◌+◌, ◌<◌, ◌==◌, ◌||◌, inl, inr, Bool, true, false, cond, List, [], ◌∷◌, ◌++◌, length, set, get_or, take, Option, Some, None, option_map, slice_get, refl, sym, ap, subst, ◌∙◌, add-one}
 use Rattle.std.proofs.lemmas.Bool.{cases_eq, cases_lt, eq-eqb, ne_eqb}
 use Rattle.std.proofs.lemmas.List.{take_more, length-set, get_or-set_other}
 use Rattle.std.proofs.lemmas.List.Folds.{list_any-append}
@@ -46,16 +46,6 @@ set_marks xs i p lt = λ k. elim (cases_eq i k) [
   | inr other ↦
       get_other xs i k p (λ e. other (sym e))
       ∙ sym (map_same (at_frame i p k) (λ q. miss_is i k p q other) (slice_get xs k))
-]
-
--- there is no such frame
-pub past_marks : (xs : List Place) (i : ℕ) (p : Place) → length xs ≤ i → AreMarked (at_frame i p) xs xs
-past_marks xs i p past = λ k. elim (cases_eq i k) [
-  | inl same ↦
-      let none : slice_get xs k ≡ None =
-      subst (λ (n : ℕ). slice_get xs n ≡ None) same (slice_get_past xs i past) in
-      none ∙ sym (ap (option_map (at_frame i p k)) none)
-  | inr other ↦ sym (map_same (at_frame i p k) (λ q. miss_is i k p q other) (slice_get xs k))
 ]
 
 -- marks after marks

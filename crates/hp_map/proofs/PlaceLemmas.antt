@@ -1,9 +1,9 @@
 -- Frames that nothing has are in no place, and marked frames in theirs.
-use Rattle.std.proofs.Common.{◌≡◌, ℕ, zero, suc, ◌+◌, ◌-◌, zero-add, ◌*◌, ◌/◌, ◌%◌, ◌^◌, ◌<◌, ◌==◌, ◌||◌, ◌⊎◌, inl, inr, Bool, true, false, cond, List, [], ◌∷◌, length, get_or, Option, Some, None, slice_get, sum_by, count_by, refl, sym, ap, subst, ◌∙◌, arith}
-use Rattle.std.proofs.lemmas.Bool.{cases_eq, cases_lt, cases_Bool, eq-eqb, ne_eqb, eqb-true}
+use Rattle.std.proofs.Common.{◌≡◌, ℕ, zero, suc, ◌+◌, ◌-◌, zero-add, ◌*◌, ◌/◌, ◌%◌, ◌^◌, ◌<◌, ◌==◌, ◌⊎◌, inl, inr, Bool, true, false, cond, List, [], ◌∷◌, length, get_or, Option, Some, None, slice_get, sum_by, count_by, refl, sym, ap, subst, ◌∙◌, arith}
+use Rattle.std.proofs.lemmas.Bool.{cases_eq, cases_lt, cases_Bool, eq-eqb, ne_eqb, eqb-true, or_parts}
 use Rattle.std.proofs.lemmas.Bool.Decides.{nat_tests}
 use Rattle.std.proofs.lemmas.List.Sums.{sum_by-cons}
-use Rattle.std.proofs.lemmas.Option.{slice_get_within}
+use Rattle.std.proofs.lemmas.Option.{slice_get_within, get_or_from_slice_get, same_Some}
 use Rattle.std.specs.List.{enumerate_from}
 use Rattle.std.specs.Option.{option_map_or}
 use Rattle.hp_units.specs.FreeAreas.{is_on}
@@ -35,26 +35,16 @@ sum_none f (x ∷ xs) none =
     ∙ sum_none f xs (λ i y is. none (suc i) y is))
 
 -- an element by its place
-or_none : (a b : Bool) → (a || b) ≡ false → (a ≡ false) × (b ≡ false)
-or_none true b e = absurd cc
-or_none false b e = (refl, e)
-
 off_each : (k : ℕ) (frames : List ℕ) → is_on k frames ≡ false → (i x : ℕ) → slice_get frames i ≡ Some x
     → (x == k) ≡ false
 off_each k [] off i x is = absurd cc
 off_each k (y ∷ ys) off zero x is =
     let same : y ≡ x = grind arith in
-    subst (λ (n : ℕ). (n == k) ≡ false) same (or_none (y == k) (is_on k ys) off).0
-off_each k (y ∷ ys) off (suc i) x is = off_each k ys (or_none (y == k) (is_on k ys) off).1 i x is
+    subst (λ (n : ℕ). (n == k) ≡ false) same (or_parts (y == k) (is_on k ys) off).0
+off_each k (y ∷ ys) off (suc i) x is = off_each k ys (or_parts (y == k) (is_on k ys) off).1 i x is
 
 count_off : (k : ℕ) (frames : List ℕ) → is_on k frames ≡ false → count_by (λ other. other == k) frames ≡ 0
 count_off k frames off = count_none (λ other. other == k) frames (off_each k frames off)
-
--- an element that is read is that at its place
-or_read : {A : Type 0} (xs : List A) (i : ℕ) (x d : A) → slice_get xs i ≡ Some x → get_or xs i d ≡ x
-or_read [] i x d is = absurd cc
-or_read (y ∷ ys) zero x d is = grind arith
-or_read (y ∷ ys) (suc i) x d is = or_read ys i x d is
 
 -- a list's number has a processor and a pool
 pool_numbered : (n : ℕ) → (pool : Pool) × (n ≡ 3 * (n / 3) + pool_index pool)
@@ -77,7 +67,8 @@ cached_none fs cpus k size off = sum_none (λ frames. count_by (λ other. other 
         let number = pool_numbered i in
         let low : i < length fs.cached = slice_get_within fs.cached i frames is in
         let there : cached_list fs (i / 3) number.0 ≡ frames =
-        ap (λ (n : ℕ). get_or fs.cached n []) (sym number.1) ∙ or_read fs.cached i frames [] is in
+        ap (λ (n : ℕ). get_or fs.cached n []) (sym number.1)
+        ∙ get_or_from_slice_get fs.cached i frames [] is in
         count_off k frames (subst (λ (xs : List ℕ). is_on k xs ≡ false) there
         (off (i / 3) (omega (arith, low, size)) number.0))
 
@@ -90,9 +81,10 @@ mapped_none ps k off =
     each : (owner : ℕ) (row : List (Option ℕ)) → slice_get ps.table owner ≡ Some row
         → (page : ℕ) (entry : Option ℕ) → slice_get row page ≡ Some entry → holds k entry ≡ false
     each owner row is page entry there =
-        let of_row : get_or ps.table owner [] ≡ row = or_read ps.table owner row [] is in
+        let of_row : get_or ps.table owner [] ≡ row = get_or_from_slice_get ps.table owner row [] is in
         let of_page : frame_at ps owner page ≡ entry =
-        ap (λ (xs : List (Option ℕ)). get_or xs page None) of_row ∙ or_read row page entry None there in
+        ap (λ (xs : List (Option ℕ)). get_or xs page None) of_row
+        ∙ get_or_from_slice_get row page entry None there in
         subst (λ (e : Option ℕ). holds k e ≡ false) of_page (off owner page)
 
 enumerated : {A : Type 0} (n : ℕ) (xs : List A) (i : ℕ) (x : ℕ × A)
@@ -118,7 +110,7 @@ kernel_none s k off =
         let there = enumerated 0 s.kernel i x is in
         let first : x.0 ≡ i = there.0 ∙ omega arith in
         let entry : kernel_order s x.0 ≡ x.1 =
-        ap (λ (n : ℕ). kernel_order s n) first ∙ or_read s.kernel i x.1 None there.1 in
+        ap (λ (n : ℕ). kernel_order s n) first ∙ get_or_from_slice_get s.kernel i x.1 None there.1 in
         of_entry x.0 x.1 entry
       where
         of_entry : (first : ℕ) (entry : Option ℕ) → kernel_order s first ≡ entry
@@ -245,9 +237,6 @@ uncovered_by k order first none = elim (cases_lt k first) [
   ]
 ]
 
-some_same : (a b : ℕ) → Some a ≡ Some b → a ≡ b
-some_same a b e = grind arith
-
 block_has : (s : Memory) (k first : ℕ) (entry : Option ℕ) → kernel_order s first ≡ entry
     → (IsKernelFrom s k first × Sets (on_block first entry k) Kernel)
     ⊎ (IsNotKernelFrom s k first × Leaves (on_block first entry k))
@@ -260,7 +249,7 @@ block_has s k first (Some order) is =
     (λ n. IsNot k (first + n)) (at_has (λ n. Kernel) (λ n. first + n) k) (2 ^ order)) [
       | inl hit ↦ inl ((order, is, covered_by k order first hit.0 hit.1 hit.2), hit.3)
       | inr miss ↦ inr (
-        λ other there. subst (λ (o : ℕ). covers k o first ≡ false) (some_same order other (sym is ∙ there))
+        λ other there. subst (λ (o : ℕ). covers k o first ≡ false) (same_Some order other (sym is ∙ there))
             (uncovered_by k order first miss.0),
         miss.1,
       )

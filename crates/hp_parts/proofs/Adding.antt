@@ -1,14 +1,13 @@
 -- What ends say of the schedules of a kind after further ends are added.
-use Rattle.std.proofs.Common.{◌≡◌, ℕ, ◌+◌, List, [], ◌∷◌, ◌++◌, length, Some, slice_get, set, refl, ap, sym, subst, ◌∙◌, inl, inr}
+use Rattle.std.proofs.Common.{◌≡◌, ℕ, ◌+◌, List, [], ◌∷◌, ◌++◌, length, Some, slice_get, set, refl, sym, subst, ◌∙◌, inl, inr}
 use Rattle.std.specs.Prelude.{◌⊎◌, sum_by}
-use Rattle.std.proofs.lemmas.Option.{slice_get_within, same_Some}
 use Rattle.hp_laws.proofs.Lists.{get_push_cases, get_end}
 use Rattle.hp_explore.specs.declared.tally.Ending.{Ending}
 use Rattle.hp_explore.specs.Ends.{AreCounted}
 use Rattle.hp_explore.specs.Outcomes.{OutcomeValue}
 use Rattle.hp_explore.specs.Orders.{HasCount, IsBefore, IsFirst}
 use Rattle.hp_explore.proofs.Counting.{either_listed, get_longer, same_count}
-use Rattle.hp_explore.proofs.Counts.{get_set_cases, get_set_here, get_set_other, same_or_not}
+use Rattle.hp_explore.proofs.Counts.{end_stays, get_set_cases}
 use Rattle.hp_explore.proofs.Regions.{not_before_itself}
 use Rattle.hp_parts.specs.Adding.{AddsEnd, AddsMore, AddsOther, earlier}
 use Rattle.hp_parts.proofs.Added.{apart_more, apart_other, sum_more, sum_other}
@@ -155,23 +154,10 @@ added_more E P e old new besides many first ok adds =
               (ok.firsts k f there.1)
         ]
 
-    stays : (k : ℕ) (f : Ending) (y : OutcomeValue) → slice_get old k ≡ Some f → f.outcome ≡ y
-        → (j : ℕ) × (d : Ending) × (slice_get later j ≡ Some d) × (d.outcome ≡ y)
-    stays k f y h is =
-        elim (same_or_not k adds.at) [
-          | inl same ↦ (
-            adds.at,
-            adds.more,
-            get_set_here old adds.at adds.more (slice_get_within old adds.at adds.entry adds.here),
-            adds.outcome_is ∙ (ap (λ (d : Ending). d.outcome)
-                (same_Some adds.entry f (sym adds.here ∙ (ap (slice_get old) (sym same) ∙ h))) ∙ is),
-          )
-          | inr other ↦ (k, f, get_set_other old adds.at adds.more k f other h, is)
-        ]
-
     every : (s : List ℕ) (y : OutcomeValue) → WithAll E P e.outcome s y
         → (k : ℕ) × (f : Ending) × (slice_get later k ≡ Some f) × (f.outcome ≡ y)
     every s y h =
+        let stays = end_stays old adds.at adds.entry adds.more adds.here adds.outcome_is in
         elim h [
           | inl old_one ↦ (let at = ok.every s y old_one in stays at.0 at.1 y at.2 at.3)
           | inr new_one ↦ stays adds.at adds.entry y adds.here (adds.same ∙ sym new_one.1)

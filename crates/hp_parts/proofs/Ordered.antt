@@ -2,8 +2,7 @@
 use Rattle.std.proofs.Common.{◌≡◌, ℕ, ◌+◌, ◌<◌, ◌≤◌, List, [], ◌∷◌, length, get_or, drop, refl, ap, sym, ◌∙◌, add-one, drop-cons}
 use Rattle.std.specs.Cmp.Lexicographic.{slice_cmp}
 use Rattle.std.specs.Ordering.{nat_cmp, ordering_then}
-use Rattle.std.specs.declared.cmp.Ordering.{Ordering}
-use Rattle.std.specs.declared.cmp.Ordering.TheVariants.{Less, Equal, Greater}
+use Rattle.std.specs.declared.cmp.Ordering.TheVariants.{Less, Greater}
 use Rattle.std.proofs.lemmas.List.{drop_all}
 
 -- what is left of a list at a place
@@ -19,29 +18,6 @@ order_at xs ys i less more =
     ap (λ (zs : List ℕ). slice_cmp nat_cmp zs (drop i ys)) (rest_at xs i less)
     ∙ ap (λ (zs : List ℕ). slice_cmp nat_cmp (get_or xs i 0 ∷ drop (i + 1) xs) zs) (rest_at ys i more)
 
-pub order_more : (xs ys : List ℕ) (i : ℕ) → i < length xs → i < length ys
-    → nat_cmp (get_or xs i 0) (get_or ys i 0) ≡ Equal
-    → slice_cmp nat_cmp xs ys ≡ slice_cmp nat_cmp (drop i xs) (drop i ys)
-    → slice_cmp nat_cmp xs ys ≡ slice_cmp nat_cmp (drop (i + 1) xs) (drop (i + 1) ys)
-order_more xs ys i less more equal so_far =
-    so_far
-    ∙ (order_at xs ys i less more
-    ∙ ap (λ (r : Ordering). ordering_then r (slice_cmp nat_cmp (drop (i + 1) xs) (drop (i + 1) ys))) equal)
-
-pub decided : (xs ys : List ℕ) (i : ℕ) (r : Ordering) → i < length xs → i < length ys
-    → nat_cmp (get_or xs i 0) (get_or ys i 0) ≡ r → (r ≡ Equal → ⊥)
-    → slice_cmp nat_cmp xs ys ≡ slice_cmp nat_cmp (drop i xs) (drop i ys) → r ≡ slice_cmp nat_cmp xs ys
-decided xs ys i r less more is differs so_far =
-    sym (so_far
-    ∙ (order_at xs ys i less more
-    ∙ (ap (λ (o : Ordering). ordering_then o (slice_cmp nat_cmp (drop (i + 1) xs) (drop (i + 1) ys))) is
-    ∙ first r (slice_cmp nat_cmp (drop (i + 1) xs) (drop (i + 1) ys)) differs)))
-  where
-    first : (r o : Ordering) → (r ≡ Equal → ⊥) → ordering_then r o ≡ r
-    first Less o differs = refl
-    first Equal o differs = absurd (differs refl)
-    first Greater o differs = refl
-
 -- where one goes on from the other it stands after it
 pub longer : (xs ys : List ℕ) (i : ℕ) → i < length xs → length ys ≤ i
     → slice_cmp nat_cmp xs ys ≡ slice_cmp nat_cmp (drop i xs) (drop i ys) → Greater ≡ slice_cmp nat_cmp xs ys
@@ -56,10 +32,3 @@ shorter xs ys i past less so_far =
     sym (so_far
     ∙ (ap (λ (zs : List ℕ). slice_cmp nat_cmp zs (drop i ys)) (drop_all i xs past)
     ∙ ap (λ (zs : List ℕ). slice_cmp nat_cmp [] zs) (rest_at ys i less)))
-
-pub same_length : (xs ys : List ℕ) (i : ℕ) → length xs ≤ i → length ys ≤ i
-    → slice_cmp nat_cmp xs ys ≡ slice_cmp nat_cmp (drop i xs) (drop i ys) → Equal ≡ slice_cmp nat_cmp xs ys
-same_length xs ys i past gone so_far =
-    sym (so_far
-    ∙ (ap (λ (zs : List ℕ). slice_cmp nat_cmp zs (drop i ys)) (drop_all i xs past)
-    ∙ ap (λ (zs : List ℕ). slice_cmp nat_cmp [] zs) (drop_all i ys gone)))

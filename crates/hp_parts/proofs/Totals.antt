@@ -1,5 +1,5 @@
 -- Sums over lists, and what is left of a room for them.
-use Rattle.std.proofs.Common.{◌≡◌, ℕ, ◌+◌, ◌-◌, ◌<◌, ◌≤◌, List, [], ◌∷◌, ◌++◌, length, map, get_or, take, refl, ap, sym, subst, ◌∙◌, arith}
+use Rattle.std.proofs.Common.{◌≡◌, ℕ, ◌+◌, ◌-◌, ◌<◌, ◌≤◌, Global, List, Vec, [], ◌∷◌, ◌++◌, length, map, get_or, take, refl, ap, sym, subst, ◌∙◌, arith}
 use Rattle.std.specs.Prelude.{sum_by}
 use Rattle.std.proofs.lemmas.List.{map-append, take_all, take_more}
 use Rattle.std.proofs.lemmas.List.Sums.{sum_by-cons, sum_by_more, sum_by_more_le}
@@ -17,6 +17,10 @@ sum_mapped f g (x ∷ xs) =
       sum_by-cons (λ y. f (g y)) x xs,
       sum_mapped f g xs,
     )
+
+-- the ends that a vector holds
+abbrev pub items : Vec Ending Global → List Ending
+items v = v.items
 
 -- ---- a room
 

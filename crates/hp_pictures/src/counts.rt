@@ -13,8 +13,8 @@ pub const MARKS: &str = ".:- K0123456789abcdefghijklmnopqrstuvwxyz";
 /// The orders that a free block can have.
 const ORDERS: &[u32] = &[0, 1, 2, 3, 4, 5, 6, 7, 8, 9, 10];
 
-/// How many of the characters of cells are frames.
-fn frames_in(cells: &str) -> usize
+/// How many of the characters of cells are frames: all but the bars between pageblocks.
+pub fn frames_in(cells: &str) -> usize
     ensures { result ≡ frames_in cells.now }
 {
     cells

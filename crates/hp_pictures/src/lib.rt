@@ -10,5 +10,5 @@ mod counts;
 mod row_picture;
 
 pub use block_picture::{BlockPicture, FreeBlock};
-pub use counts::MARKS;
+pub use counts::{MARKS, frames_in};
 pub use row_picture::{Move, RowPicture};

@@ -2,6 +2,7 @@
 use Rattle.std.proofs.Common.{◌≡◌, ℕ, ◌^◌, ◌<◌, ◌≤◌, Bool, true, false, cond, List, [], ◌∷◌, codes, Option, Some, None, refl, sym, ap, subst, lit≤, option_map, option_and_then}
 use Rattle.std.specs.Fmt.{decimal}
 use Rattle.std.specs.Str.{bytes_eq}
+use Rattle.std.proofs.lemmas.Option.{same_Some}
 use Rattle.hp_units.specs.declared.events.Event.TheVariants.{KernelAlloc, KernelFree, Drain, Online, Begin, DrainFor, Migrate, Commit, Cancel, UndoAfter, Remove}
 use Rattle.hp_units.specs.declared.plans.Item.{Item}
 use Rattle.hp_units.specs.declared.rows.Wish.{Wish}
@@ -19,7 +20,7 @@ use Rattle.std.specs.Bool.{Decides}
 use Rattle.std.proofs.lemmas.Slice.Eq.{bytes_eq-Decides}
 use Rattle.hp_scenario.specs.declared.requests.Access.{Access}
 use Rattle.hp_scenario.proofs.WordsSpelled.{AreSpaceless}
-use Rattle.hp_scenario.proofs.SpelledParts.{IsSpelled, some_is, mapped, went_on, word32, word64, name_is, text_is, same1, same2, same3, same4, along}
+use Rattle.hp_scenario.proofs.SpelledParts.{IsSpelled, mapped, went_on, word32, word64, name_is, text_is, same1, same2, same3, same4, along}
 
 -- ---- verbs with one number
 
@@ -173,7 +174,7 @@ zone_is word z e =
     (bytes_eq-Decides word (codes "normal")) (bytes_eq-Decides word (codes "movable")) e
   where
     at_zone : (y : Zone) → word ≡ zone_word y → Some y ≡ Some z → word ≡ zone_word z
-    at_zone y is e = subst (λ (x : Zone). word ≡ zone_word x) (some_is y z e) is
+    at_zone y is e = subst (λ (x : Zone). word ≡ zone_word x) (same_Some y z e) is
 
     by_normal : (s t : Bool) → Decides s (word ≡ codes "normal") → Decides t (word ≡ codes "movable")
         → cond s (Some zone.Normal) (cond t (Some zone.Movable) None) ≡ Some z → word ≡ zone_word z
@@ -189,7 +190,7 @@ wish_is word w e =
     (bytes_eq-Decides word (codes "movable")) e
   where
     at_wish : (y : Wish) → word ≡ wish_word y → Some y ≡ Some w → word ≡ wish_word w
-    at_wish y is e = subst (λ (x : Wish). word ≡ wish_word x) (some_is y w e) is
+    at_wish y is e = subst (λ (x : Wish). word ≡ wish_word x) (same_Some y w e) is
 
     by_word : (s t u : Bool) → Decides s (word ≡ codes "off") → Decides t (word ≡ codes "normal")
         → Decides u (word ≡ codes "movable")
@@ -209,13 +210,13 @@ item_is wish block item e =
     let w = wish_is wish a.0 a.1 in
     let n = word32 block b.0 b.1 in
     subst (λ (x : Item). (wish ≡ wish_word x.wish) × (block ≡ decimal x.block) × (x.block < 2 ^ 32))
-    (some_is (record { block = b.0; wish = a.0 }) item b.2) (w, n.0, n.1)
+    (same_Some (record { block = b.0; wish = a.0 }) item b.2) (w, n.0, n.1)
 
 items_are : (words : List (List ℕ)) (items : List Item) → items_of words ≡ Some items
     → (words ≡ item_words items) × FitItems items
 unfolding items_of
 items_are [] items e =
-    subst (λ (xs : List Item). ([] ≡ item_words xs) × FitItems xs) (some_is [] items e) (refl, tt)
+    subst (λ (xs : List Item). ([] ≡ item_words xs) × FitItems xs) (same_Some [] items e) (refl, tt)
 items_are (wish ∷ []) items e = absurd cc
 items_are (wish ∷ block ∷ rest) items e =
     let a = went_on _ (item_of wish block) items e in
@@ -223,7 +224,7 @@ items_are (wish ∷ block ∷ rest) items e =
     let item = item_is wish block a.0 a.1 in
     let more = items_are rest b.0 b.1 in
     subst (λ (xs : List Item). (wish ∷ block ∷ rest ≡ item_words xs) × FitItems xs)
-    (some_is (a.0 ∷ b.0) items b.2) (both_words _ _ _ _ _ _ item.0 item.1 more.0, (item.2, more.1))
+    (same_Some (a.0 ∷ b.0) items b.2) (both_words _ _ _ _ _ _ item.0 item.1 more.0, (item.2, more.1))
   where
     both_words : (a b c d : List ℕ) (xs ys : List (List ℕ)) → a ≡ b → c ≡ d → xs ≡ ys
         → (a ∷ c ∷ xs) ≡ (b ∷ d ∷ ys)
@@ -368,7 +369,7 @@ said_spelled (cpu ∷ rest) said h e =
     let cpu_at = word32 cpu c.0 c.1 in
     let request_at = request_spelled rest q.0 h.1 q.1 in
     subst (λ (x : Said). (cpu ∷ rest ≡ decimal x.cpu ∷ request_words x.request) × CanBeSaid x)
-    (some_is (record { cpu = c.0; request = q.0 }) said q.2)
+    (same_Some (record { cpu = c.0; request = q.0 }) said q.2)
     (cons _ _ _ _ cpu_at.0 request_at.0, (cpu_at.1, request_at.1))
   where
     cons : (a b : List ℕ) (xs ys : List (List ℕ)) → a ≡ b → xs ≡ ys → (a ∷ xs) ≡ (b ∷ ys)

@@ -104,3 +104,6 @@ plain_fits bits word n h lt = sym (plain_number bits word n h ∙ rw (lt-ltb _ _
 pub plain_exceeds : (bits : ℕ) (word : List ℕ) (n : ℕ) → IsPlainNumber word n → 2 ^ bits ≤ n
     → None ≡ number_of bits word
 plain_exceeds bits word n h le = sym (plain_number bits word n h ∙ rw (le-ltb _ _ le) refl)
+
+-- what a number is that digits write, one more after another
+pub ruleset digits_read = (all_left, one_digit, none_left, short_number)

@@ -1,5 +1,5 @@
 -- Lines that are dealt to the scripts of their processors, one after another.
-use Rattle.std.proofs.Common.{◌≡◌, ◌≢◌, ◌==◌, ℕ, ◌<◌, ◌≤◌, Bool, true, false, not, ◌&&◌, List, [], ◌∷◌, ◌++◌, length, map, cond, eqb, get_or, set, reverse, refl, sym, ap, subst, ◌∙◌, arith, Some, None}
+use Rattle.std.proofs.Common.{◌≡◌, ◌≢◌, ◌==◌, ℕ, ◌<◌, ◌≤◌, Bool, true, false, not, List, [], ◌∷◌, ◌++◌, length, map, cond, eqb, get_or, set, reverse, refl, sym, ap, subst, ◌∙◌, arith, Some, None}
 use Rattle.std.specs.Bool.{nat_lt}
 use Rattle.std.specs.List.{All, list_all, position_or_len, range_with_len}
 use Rattle.std.proofs.lemmas.List.{append-nil, append_assoc, ext_get_or, get_or-set_other, length-set, reverse-append, reverse-reverse}
@@ -7,7 +7,7 @@ use Rattle.std.proofs.lemmas.List.Elements.{All-filter, All-map}
 use Rattle.std.proofs.lemmas.List.Folds.{list_all-append}
 use Rattle.std.proofs.lemmas.List.FromFn.{get_or-map-range_with_len, length-map-range_with_len}
 use Rattle.std.proofs.lemmas.List.Sums.{AllPass-from_list_all, fails_before_first, list_all-from_AllPass}
-use Rattle.std.proofs.lemmas.Bool.{eqb-false, eqb-true, ltb-false, ltb-true, ne_eqb}
+use Rattle.std.proofs.lemmas.Bool.{eqb-false, eqb-true, ltb-false, ltb-true, ne_eqb, and_from, and_parts, not-false}
 use Rattle.std.proofs.lemmas.Grind.{get_or-set_at}
 use Rattle.hp_scenario.specs.Asked.{is_cat}
 use Rattle.hp_scenario.specs.Scripts.{AreAllOf, AreForRun, IsForRun, first_unfit, is_for_run, script_of}
@@ -91,17 +91,12 @@ all_dealt lines left scripts cpus none count dealt =
     ∙ sym (get_or-map-range_with_len (script_of lines) 0 cpus cpu cpu [] (omega (arith, within, count))
     (omega arith)))))
 
-and_both : (s t : Bool) → (s && t) ≡ true → (s ≡ true) × (t ≡ true)
-and_both true true e = (refl, refl)
-and_both true false e = absurd cc
-and_both false t e = absurd cc
-
 -- the script of the processor whose all lines are
 own_script : (cpu : ℕ) (lines : List Line) → list_all (λ line. line.cpu == cpu) lines ≡ true
     → script_of lines cpu ≡ lines
 own_script cpu [] all = refl
 own_script cpu (line ∷ lines) all =
-    let both = and_both (eqb line.cpu cpu) (list_all (λ line. line.cpu == cpu) lines) all in
+    let both = and_parts (eqb line.cpu cpu) (list_all (λ line. line.cpu == cpu) lines) all in
     ap (λ (t : Bool). cond t (line ∷ script_of lines cpu) (script_of lines cpu)) both.0
     ∙ ap (λ (xs : List Line). line ∷ xs) (own_script cpu lines both.1)
 
@@ -110,7 +105,7 @@ other_script : (cpu other : ℕ) (lines : List Line) → other ≢ cpu
     → list_all (λ line. line.cpu == cpu) lines ≡ true → script_of lines other ≡ []
 other_script cpu other [] apart all = refl
 other_script cpu other (line ∷ lines) apart all =
-    let both = and_both (eqb line.cpu cpu) (list_all (λ line. line.cpu == cpu) lines) all in
+    let both = and_parts (eqb line.cpu cpu) (list_all (λ line. line.cpu == cpu) lines) all in
     ap (λ (t : Bool). cond t (line ∷ script_of lines other) (script_of lines other))
     (differs (eqb-true line.cpu cpu both.0))
     ∙ other_script cpu other lines apart both.1
@@ -125,10 +120,10 @@ one_within cpus cpu [] all fit = absurd (omega (arith, all.0))
 one_within cpus cpu (line ∷ lines) all fit =
     let same =
     eqb-true line.cpu cpu
-    (and_both (eqb line.cpu cpu) (list_all (λ line. line.cpu == cpu) lines) all.1).0 in
-    let first = and_both (is_for_run cpus line) (list_all (is_for_run cpus) lines) fit in
+    (and_parts (eqb line.cpu cpu) (list_all (λ line. line.cpu == cpu) lines) all.1).0 in
+    let first = and_parts (is_for_run cpus line) (list_all (is_for_run cpus) lines) fit in
     let within =
-    ltb-true line.cpu cpus (and_both (nat_lt line.cpu cpus) (not (is_cat line.work)) first.0).0 in
+    ltb-true line.cpu cpus (and_parts (nat_lt line.cpu cpus) (not (is_cat line.work)) first.0).0 in
     omega (arith, same, within)
 
 -- the scripts where all lines are one processor's
@@ -158,15 +153,6 @@ all_together cpus cpu lines bare bare_is all inside =
         ∙ (get_or-map-range_with_len (script_of []) 0 cpus at at [] room (omega arith)
         ∙ sym (other_script cpu at lines apart all.1)))
 
-both_and : (s t : Bool) → s ≡ true → t ≡ true → (s && t) ≡ true
-both_and true true first second = refl
-both_and true false first second = absurd cc
-both_and false t first second = absurd cc
-
-not_false : (t : Bool) → not t ≡ false → t ≡ true
-not_false true e = refl
-not_false false e = absurd cc
-
 -- the search comes to the end
 reached : (cpus : ℕ) (lines : List Line) → first_unfit cpus lines ≡ None
     → length lines ≤ position_or_len (λ line. not (is_for_run cpus line)) lines
@@ -183,7 +169,7 @@ reached cpus lines none =
 -- a line that may be run reads no control file
 reads_none : (cpus : ℕ) (line : Line) → is_for_run cpus line ≡ true → IsForRun line
 reads_none cpus line fits =
-    no_cat (is_cat line.work) (and_both (nat_lt line.cpu cpus) (not (is_cat line.work)) fits).1
+    no_cat (is_cat line.work) (and_parts (nat_lt line.cpu cpus) (not (is_cat line.work)) fits).1
   where
     no_cat : (t : Bool) → not t ≡ true → t ≡ false
     no_cat true e = absurd cc
@@ -194,28 +180,28 @@ pub all_but_last : (cpus : ℕ) (old left : List Line) (line : Line) → old ≡
     → list_all (is_for_run cpus) old ≡ true → (list_all (is_for_run cpus) left ≡ true) × (line.cpu < cpus)
 all_but_last cpus old left line old_is all =
     let both =
-    and_both (list_all (is_for_run cpus) left) (list_all (is_for_run
+    and_parts (list_all (is_for_run cpus) left) (list_all (is_for_run
     cpus) (line ∷ [])) (sym (list_all-append (is_for_run cpus) left (line ∷ [])) ∙ (ap
     (list_all (is_for_run cpus)) (sym old_is) ∙ all)) in
-    let last = and_both (is_for_run cpus line) true both.1 in
-    (both.0, ltb-true line.cpu cpus (and_both (nat_lt line.cpu cpus) (not (is_cat line.work)) last.0).0)
+    let last = and_parts (is_for_run cpus line) true both.1 in
+    (both.0, ltb-true line.cpu cpus (and_parts (nat_lt line.cpu cpus) (not (is_cat line.work)) last.0).0)
 
 -- lines that all may be run, in the other order
 pub all_reversed : (cpus : ℕ) (lines : List Line) → list_all (is_for_run cpus) lines ≡ true
     → list_all (is_for_run cpus) (reverse lines) ≡ true
 all_reversed cpus [] all = refl
 all_reversed cpus (line ∷ lines) all =
-    let parts = and_both (is_for_run cpus line) (list_all (is_for_run cpus) lines) all in
+    let parts = and_parts (is_for_run cpus line) (list_all (is_for_run cpus) lines) all in
     ap (list_all (is_for_run cpus)) (reverse-append (line ∷ []) lines)
     ∙ (list_all-append (is_for_run cpus) (reverse lines) (line ∷ [])
-    ∙ both_and (list_all (is_for_run cpus) (reverse lines)) (list_all (is_for_run cpus) (line ∷ []))
-    (all_reversed cpus lines parts.1) (both_and (is_for_run cpus line) true parts.0 refl))
+    ∙ and_from (list_all (is_for_run cpus) (reverse lines)) (list_all (is_for_run cpus) (line ∷ []))
+    (all_reversed cpus lines parts.1) (and_from (is_for_run cpus line) true parts.0 refl))
 
 -- where no line is found that no worker may run, all may be
 pub all_fit : (cpus : ℕ) (lines : List Line) → first_unfit cpus lines ≡ None
     → list_all (is_for_run cpus) lines ≡ true
 all_fit cpus lines none =
-    list_all-from_AllPass (is_for_run cpus) lines (λ k d within. not_false (is_for_run cpus
+    list_all-from_AllPass (is_for_run cpus) lines (λ k d within. not-false (is_for_run cpus
     (get_or lines k d)) (fails_before_first (λ line. not (is_for_run cpus line)) lines k d
     (omega (arith, within, reached cpus lines none))))
 

@@ -1,6 +1,7 @@
 -- The parts of a line: what each says where it is read as it is spelled.
 use Rattle.std.proofs.Common.{◌≡◌, ℕ, ◌^◌, ◌<◌, Bool, true, false, cond, List, [], ◌∷◌, Option, Some, None, refl, subst, arith, lit≤, option_map, option_and_then}
 use Rattle.std.specs.Fmt.{decimal}
+use Rattle.std.proofs.lemmas.Option.{same_Some}
 use Rattle.hp_scenario.specs.Lines.{Request, text_of}
 use Rattle.hp_scenario.specs.Spelling.{request_words, FitsRequest, IsText, is_spaceless}
 use Rattle.hp_numbers.specs.NumberWords.{number_of}
@@ -11,14 +12,11 @@ use Rattle.hp_numbers.proofs.NumbersSpelled.{is_spelled}
 abbrev pub IsSpelled : List (List ℕ) → Request → Type 0
 IsSpelled words r = (words ≡ request_words r) × FitsRequest r
 
-pub some_is : {A : Type 0} (x y : A) → Some x ≡ Some y → x ≡ y
-some_is x y e = cc
-
 -- where steps that may fail came through
 pub mapped : {A B : Type 0} (f : A → B) (o : Option A) (y : B) → option_map f o ≡ Some y
     → (x : A) × (o ≡ Some x) × (f x ≡ y)
 mapped f None y e = absurd cc
-mapped f (Some x) y e = (x, refl, some_is (f x) y e)
+mapped f (Some x) y e = (x, refl, same_Some (f x) y e)
 
 pub went_on : {A B : Type 0} (f : A → Option B) (o : Option A) (y : B) → option_and_then f o ≡ Some y
     → (x : A) × (o ≡ Some x) × (f x ≡ Some y)
@@ -37,7 +35,7 @@ name_is word name e = by_test (is_name word) refl e
     by_test : (t : Bool) → is_name word ≡ t → cond t (Some word) None ≡ Some name
         → (word ≡ name) × (is_name name ≡ true)
     by_test true is e =
-        let same : word ≡ name = some_is word name e in
+        let same : word ≡ name = same_Some word name e in
         (same, subst (λ (w : List ℕ). is_name w ≡ true) same is)
     by_test false is e = absurd cc
 
@@ -45,7 +43,7 @@ pub text_is : (word text : List ℕ) → is_spaceless word ≡ true → text_of 
     → (word ≡ text) × IsText text
 text_is [] text h e = absurd cc
 text_is (b ∷ bs) text h e =
-    let same : (b ∷ bs) ≡ text = some_is (b ∷ bs) text e in (same, subst IsText same (h, omega arith))
+    let same : (b ∷ bs) ≡ text = same_Some (b ∷ bs) text e in (same, subst IsText same (h, omega arith))
 
 -- words that are equal one by one
 pub same1 : (a b c : List ℕ) → b ≡ c → (a ∷ b ∷ []) ≡ (a ∷ c ∷ [])
@@ -63,4 +61,4 @@ same4 a b c d e f g h i p q r s = cc
 
 -- a request that words spell is the one that they are read as
 pub along : (words : List (List ℕ)) (q r : Request) → Some q ≡ Some r → IsSpelled words q → IsSpelled words r
-along words q r e h = subst (λ (x : Request). IsSpelled words x) (some_is q r e) h
+along words q r e h = subst (λ (x : Request). IsSpelled words x) (same_Some q r e) h

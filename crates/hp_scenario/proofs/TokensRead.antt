@@ -2,10 +2,10 @@
 use Rattle.std.proofs.Common.{◌≡◌, ℕ, ◌-◌, ◌<◌, ◌≤◌, List, [], ◌∷◌, length, Option, Some, None, option_map, option_and_then, refl, ap, ◌∙◌, arith}
 use Rattle.json.specs.Token.{Token}
 use Rattle.json.specs.Json as json
-use Rattle.json.specs.Json.{Parse, parse_map, items, members, value, if_last}
+use Rattle.json.specs.Json.{parse_map, items, members, value, if_last}
 use Rattle.json.specs.Lex.{tokens}
 use Rattle.json.proofs.Grammar.{items_end, items_more, members_end, members_more, value_is, value-begin_array, value-begin_object, skip_value-shorter, left}
-use Rattle.serde_json.specs.Data.{Num, number, unsigned, Data, array, object, Items, no_items, item, Members, no_members, put}
+use Rattle.serde_json.specs.Data.{Num, number, unsigned, Data, array, object, Items, item, Members, no_members, put}
 use Rattle.serde_json.specs.Data as value_of
 use Rattle.serde_json.specs.Read.{number_of, of_json, of_items, of_members, converted, read}
 use Rattle.hp_scenario.specs.Usual.{Reads, strings_then, AreTexts, texts_data, AreRows, put_rows}
@@ -63,10 +63,6 @@ pub shorter : (depth : ℕ) (d : Data) (old new : List Token) → Reads depth d 
 shorter depth d old new e =
     let j = converted_some of_json (value depth old) d new e in
     skip_value-shorter depth old new (ap left j.1)
-
-pub reads_string : (depth : ℕ) (s : List ℕ) (new : List Token)
-    → Reads depth (value_of.string s) (Token.string s ∷ new) new
-reads_string depth s new = ap (converted of_json) (value_is depth (Token.string s ∷ new))
 
 pub reads_number : (depth : ℕ) (s : List ℕ) (x : Num) (new : List Token) → number_of s ≡ Some x
     → Reads depth (number x) (Token.number s ∷ new) new

@@ -1,5 +1,5 @@
 -- The usual form of a scenario, and what it means.
-use Rattle.std.proofs.Common.{◌≡◌, ℕ, ◌+◌, List, [], ◌∷◌, ◌++◌, codes, Option, Some, None, Result, Ok, Err, option_map, option_and_then, refl, sym, ap, subst, ◌∙◌, arith}
+use Rattle.std.proofs.Common.{◌≡◌, ℕ, ◌+◌, List, [], ◌∷◌, ◌++◌, codes, Option, Some, None, Result, Ok, Err, option_and_then, refl, sym, ap, subst, ◌∙◌, arith}
 use Rattle.json.specs.Token.{Token}
 use Rattle.json.specs.Lex.{tokens}
 use Rattle.json.proofs.Grammar.{closed_array}
@@ -20,10 +20,7 @@ use Rattle.hp_scenario.specs.Usual.{Reads, strings_then, AreTexts, texts_data, A
 use Rattle.hp_scenario.specs.declared.lines.Line.{Line}
 use Rattle.std.specs.Prelude.{IfOk, IfSome}
 use Rattle.std.specs.declared.alloc.AllocError.{AllocError}
-use Rattle.hp_scenario.specs.Seen.{scenario_seen}
-use Rattle.hp_scenario.specs.declared.scenario.Scenario.{Scenario}
 use Rattle.hp_scenario.proofs.Json.{json_read}
-use Rattle.hp_scenario.proofs.LineLoop.{with_names}
 use Rattle.hp_scenario.proofs.TokensRead.{Adds, adds_none, adds_one, adds_rows, reads_all, reads_object, reads_texts}
 
 -- ---- one text more
@@ -122,7 +119,8 @@ layout_read n boot old start mid new opened rows ends sound =
     let d = object (put (codes "boot") list (put_rows (rows_of n) no_members)) in
     let whole : Reads 126 d (Token.begin_object ∷ start) new =
     reads_object 126 (λ ms. put (codes "boot") list (put_rows (rows_of n) ms)) start new (omega arith) all in
-    (d, subst (λ (ts : List Token). Reads 126 d ts new) (sym opened) whole, parts_read n words boot ends.2.2, sound)
+    let all_read = subst (λ (ts : List Token). Reads 126 d ts new) (sym opened) whole in
+    (d, all_read, parts_read n words boot ends.2.2, sound)
 
 -- a scenario's value
 of_form : (d : Data) (form : Form) (script : Script) → form_of d ≡ Some form → layout_fault form.parts ≡ None
@@ -204,17 +202,6 @@ pub no_lines : (names : List (List ℕ)) (lines : List Line) → names ≡ [] �
 unfolding lines_from
 no_lines names lines e h = rw (e, h) refl
 
-pub lines_grow : (texts : List (List ℕ)) (text : List ℕ) (script : Script) (o : Option Line) (line : Line)
-    (names : List (List ℕ)) (lines : List Line)
-    → lines_from 1 nothing texts ≡ Ok script → option_map (with_names names) o ≡ line_in script.names text
-    → o ≡ Some line → lines ≡ script.lines ++ line ∷ []
-    → lines_from 1 nothing (texts ++ text ∷ []) ≡ Ok (record { names = names; lines = lines })
-lines_grow texts text script o line names lines so_far says some grown =
-    let is : line_in script.names text ≡ Some (with_names names line) =
-    sym says ∙ ap (option_map (with_names names)) some in
-    one_more_line 1 nothing script texts text (with_names names line) so_far is
-    ∙ ap (λ (ls : List Line). Ok (record { names = names; lines = ls })) (sym grown)
-
 -- ---- what is found
 
 pub there : {A : Type 0} (o : Option A) (a : A) (P : A → Type 0) → o ≡ Some a → IfSome o P → P a
@@ -235,23 +222,3 @@ layout_found (Ok (Some l)) n boot blocks old start mid new opened rows ends same
     subst (λ (p : LayoutParts). layout_fault p ≡ None) is h.1 in
     subst (λ (p : LayoutParts). IsLayoutAt p old new) (sym is)
     (layout_read n blocks old start mid new opened rows ends sound)
-
--- its lines go into a scenario
-pub scenario_made : (layout : LayoutParts) (script : Script) (lines : List Line) (old a b e f g : List Token)
-    → lines ≡ script.lines
-    → old ≡ Token.begin_object ∷ a → a ≡ Token.key (codes "layout") ∷ b → IsLayoutAt layout b e
-    → e ≡ Token.key (codes "calls") ∷ Token.begin_array ∷ f → AreLines script f g → g ≡ Token.end_object ∷ []
-    → AreScenario (record { layout = layout; names = script.names; lines = lines }) old
-scenario_made layout script lines old a b e f g same opened named placed listed are over =
-    subst
-    (λ (ls : List Line). AreScenario (record { layout = layout; names = script.names; lines = ls }) old)
-    (sym same) (scenario_read layout script old a b e f g opened named placed listed are over)
-
--- a scenario that is found in a text is that of the bytes
-pub scenario_found : (r : Result (Option Scenario) AllocError) (bytes text : List ℕ) → IsUtf8 bytes
-    → text ≡ bytes
-    → IfOk r (λ o. IfSome o (λ s. AreScenario (scenario_seen s) (tokens text)))
-    → IfOk r (λ o. IfSome o (λ s. scenario_in bytes ≡ Ok (scenario_seen s)))
-scenario_found (Err e) bytes text utf same h = h
-scenario_found (Ok None) bytes text utf same h = h
-scenario_found (Ok (Some s)) bytes text utf same h = scenario_is bytes text (scenario_seen s) utf same h

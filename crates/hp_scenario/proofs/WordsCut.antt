@@ -36,9 +36,6 @@ after_space text end h utf8 =
     let f = space_found text end h in
     IsCharBoundary-after_ascii text end utf8 f.within (omega (arith, f.there))
 
-pub space_within : (text : List ℕ) (end : ℕ) → position is_space text ≡ Some end → end < length text
-space_within text end h = (space_found text end h).within
-
 pub first_word : (text : List ℕ) (end : ℕ) → position is_space text ≡ Some end
     → words_of text ≡ take end text ∷ words_of (drop (end + 1) text)
 first_word text end h =
@@ -79,3 +76,6 @@ last_word before after word left total grown last so_far =
     ap (λ (ws : List (Bor (List ℕ))). bytes_of ws) grown
     ∙ map-append (λ (w : Bor (List ℕ)). w.now) before (word ∷ [])
     ∙ ap (λ (ws : List (List ℕ)). bytes_of before ++ ws) (sym last) ∙ so_far
+
+-- what a space says, and what it says that there is none
+pub ruleset cut_at_spaces = (before_space, after_space, first_word, only_word)

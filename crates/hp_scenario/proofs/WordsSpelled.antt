@@ -3,7 +3,7 @@ use Rattle.std.proofs.Common.{◌≡◌, ℕ, ◌^◌, ◌<◌, Bool, true, fals
 use Rattle.std.specs.Fmt.{decimal}
 use Rattle.std.specs.List.{join_with_byte, slice_split, onto_first, list_all}
 use Rattle.std.specs.Str.{all_ascii_digits}
-use Rattle.std.proofs.lemmas.Bool.{and_parts, ne_eqb, leb-true, eqb-true}
+use Rattle.std.proofs.lemmas.Bool.{and_parts, ne_eqb, leb-true, eqb-true, and_from}
 use Rattle.std.proofs.lemmas.Fmt.{digits_decimal}
 use Rattle.hp_scenario.specs.Words.{is_name, is_name_byte}
 use Rattle.hp_scenario.specs.Spelling.{is_spaceless}
@@ -12,10 +12,6 @@ use Rattle.hp_numbers.proofs.NumbersSpelled.{own}
 -- a byte that is not a space
 abbrev pub is_no_space : ℕ → Bool
 is_no_space b = not (eqb b 32)
-
-both : (a b : Bool) → a ≡ true → b ≡ true → (a && b) ≡ true
-both true b p q = q
-both false b p q = absurd cc
 
 above_space : (b : ℕ) → 32 < b → is_no_space b ≡ true
 above_space b lt = let no : eqb b 32 ≡ false = ne_eqb _ _ (λ e. omega arith) in ap not no
@@ -28,7 +24,7 @@ pub digits_spaceless : (ds : List ℕ) → all_ascii_digits ds ≡ true → is_s
 digits_spaceless [] h = refl
 digits_spaceless (d ∷ ds) h =
     let p = and_parts (leb 48 d && leb d 57) (all_ascii_digits ds) h in
-    both (is_no_space d) (is_spaceless ds) (in_range 48 57 d (omega arith) p.0) (digits_spaceless ds p.1)
+    and_from (is_no_space d) (is_spaceless ds) (in_range 48 57 d (omega arith) p.0) (digits_spaceless ds p.1)
 
 pub decimal_spaceless : (n : ℕ) → n < 2 ^ 64 → is_spaceless (decimal n) ≡ true
 decimal_spaceless n small = digits_spaceless (decimal n) (digits_decimal own n small)
@@ -49,14 +45,14 @@ name_bytes : (bs : List ℕ) → list_all is_name_byte bs ≡ true → is_spacel
 name_bytes [] h = refl
 name_bytes (b ∷ bs) h =
     let p = and_parts (is_name_byte b) (list_all is_name_byte bs) h in
-    both (is_no_space b) (is_spaceless bs) (name_byte b p.0) (name_bytes bs p.1)
+    and_from (is_no_space b) (is_spaceless bs) (name_byte b p.0) (name_bytes bs p.1)
 
 pub name_spaceless : (word : List ℕ) → is_name word ≡ true → is_spaceless word ≡ true
 name_spaceless [] h = refl
 name_spaceless (b ∷ bs) h =
     let p = and_parts (leb 97 b && leb b 122) (ltb (length bs) 32 && list_all is_name_byte bs) h in
     let q = and_parts (ltb (length bs) 32) (list_all is_name_byte bs) p.1 in
-    both (is_no_space b) (is_spaceless bs) (in_range 97 122 b (omega arith) p.0) (name_bytes bs q.1)
+    and_from (is_no_space b) (is_spaceless bs) (in_range 97 122 b (omega arith) p.0) (name_bytes bs q.1)
 
 -- ---- a split at spaces
 
@@ -101,8 +97,8 @@ split_joined word (next ∷ words) h hs =
 -- the words of a split have no space
 onto_spaceless : (b : ℕ) (words : List (List ℕ)) → is_no_space b ≡ true → AreSpaceless words
     → AreSpaceless (onto_first b words)
-onto_spaceless b [] h hs = (both (is_no_space b) true h refl, tt)
-onto_spaceless b (word ∷ words) h hs = (both (is_no_space b) (is_spaceless word) h hs.0, hs.1)
+onto_spaceless b [] h hs = (and_from (is_no_space b) true h refl, tt)
+onto_spaceless b (word ∷ words) h hs = (and_from (is_no_space b) (is_spaceless word) h hs.0, hs.1)
 
 pub split_spaceless : (bs : List ℕ) → AreSpaceless (slice_split is_space bs)
 split_spaceless [] = (refl, tt)

@@ -9,11 +9,6 @@ use Rattle.hp_numbers.specs.NumberWords.{is_bare, is_digits}
 abbrev pub words_of : List ℕ → List (List ℕ)
 words_of text = slice_split (λ b. b == 32) text
 
--- the words of what is left, where something is
-abbrev pub words_left : Option (List ℕ) → List (List ℕ)
-words_left None = []
-words_left (Some text) = words_of text
-
 -- digits with no leading zero, and the number that they are
 abbrev pub IsPlainNumber : List ℕ → ℕ → Type 0
 IsPlainNumber word n = (is_bare word ≡ true) × (is_digits word ≡ true) × (digits_value 10 word ≡ n)

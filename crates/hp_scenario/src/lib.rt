@@ -33,3 +33,4 @@ pub use requests::is_line;
 pub use scenario::Scenario;
 pub use scripts::Script;
 pub use unfit::Unfit;
+pub use verbs::{only32, only64, zone_from};

@@ -79,7 +79,7 @@ fn is_bare(word: &[u8]) -> bool
 }
 
 /// The number that a few digits write; none where there is another byte.
-#[tactic(auto, using(crate::proofs::PlainNumbers::all_left, crate::proofs::PlainNumbers::one_digit, crate::proofs::PlainNumbers::none_left, crate::proofs::PlainNumbers::short_number))]
+#[tactic(auto, using(crate::proofs::PlainNumbers::digits_read))]
 fn digits_value(digits: &[u8]) -> Option<u64>
     requires { length digits.now ≤ 18 }
     ensures digits { IfSome result (λ n. all_ascii_digits digits.now ≡ true) }

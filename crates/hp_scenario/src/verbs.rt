@@ -36,18 +36,20 @@ pub(crate) fn event_from<'a>(verb: &str, args: &[&'a str]) -> Option<Request<'a>
     }
 }
 
-/// The number below 2^32 that the only word is.
+/// The number below 2^32 that the only word is, in decimal, with no sign and no leading zeros; None
+/// for any other word, and where there is no word or more than one.
 #[tactic(auto, unfolding(crate::specs::Lines::only_number))]
-fn only32(args: &[&str]) -> Option<u32>
+pub fn only32(args: &[&str]) -> Option<u32>
     ensures { result ≡ says.only_number 32 (map (λ w. w.now) args.now) }
 {
     let [word] = args else { return None };
     number32(word)
 }
 
-/// The number below 2^64 that the only word is.
+/// The number below 2^64 that the only word is, in decimal, with no sign and no leading zeros; None
+/// for any other word, and where there is no word or more than one.
 #[tactic(auto, unfolding(crate::specs::Lines::only_number))]
-fn only64(args: &[&str]) -> Option<u64>
+pub fn only64(args: &[&str]) -> Option<u64>
     ensures { result ≡ says.only_number 64 (map (λ w. w.now) args.now) }
 {
     let [word] = args else { return None };
@@ -158,9 +160,9 @@ fn online<'a>(args: &[&'a str]) -> Option<Request<'a>>
     Some(event(Event::Online { block, zone }))
 }
 
-/// The zone that a word names.
+/// The zone that a word names, `normal` or `movable`; None for any other word (own rule).
 #[tactic(auto, unfolding(crate::specs::Lines::zone_of))]
-fn zone_from(word: &str) -> Option<Zone>
+pub fn zone_from(word: &str) -> Option<Zone>
     ensures { result ≡ says.zone_of word.now }
 {
     match word {

@@ -21,7 +21,7 @@ pub(crate) fn split_words<'a>(words: &mut Vec<&'a str>, text: &'a str) -> Result
 }
 
 /// The first word, and what comes after the space that ends it; none where the text is one word.
-#[tactic(auto, using(crate::proofs::WordsCut::before_space, crate::proofs::WordsCut::after_space, crate::proofs::WordsCut::first_word, crate::proofs::WordsCut::only_word))]
+#[tactic(auto, using(crate::proofs::WordsCut::cut_at_spaces))]
 fn cut_word<'a>(text: &'a str) -> Option<(&'a str, &'a str)>
     ensures { MatchOption result (words_of text.now ≡ text.now ∷ [])
         (λ cut. words_of text.now ≡ cut.0.now ∷ words_of cut.1.now) }

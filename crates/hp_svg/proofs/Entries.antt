@@ -1,7 +1,7 @@
 -- Texts of entries with their places, one more after another.
-use Rattle.std.proofs.Common.{◌≡◌, ℕ, zero, suc, ◌+◌, ◌<◌, List, [], ◌∷◌, ◌++◌, flat_map, get_or, length, take, sym, ap, ◌∙◌, add-one, arith}
+use Rattle.std.proofs.Common.{◌≡◌, ℕ, ◌+◌, ◌<◌, List, [], ◌∷◌, ◌++◌, flat_map, get_or, length, take, sym, ap, ◌∙◌, arith}
 use Rattle.std.proofs.lemmas.List.{flat_map_more, length-take-le, take_more}
-use Rattle.std.specs.List.{enumerate_from, range_with_len}
+use Rattle.std.specs.List.{enumerate_from}
 
 enumerate_more : {A : Type 0} (n : ℕ) (xs : List A) (x : A)
     → enumerate_from n (xs ++ x ∷ []) ≡ enumerate_from n xs ++ (n + length xs, x) ∷ []
@@ -37,20 +37,3 @@ pub item_more : {A : Type 0} (f : ℕ × A → List ℕ) (xs : List A) (i : ℕ)
     → new ≡ old ++ flat_map f (enumerate_from 0 (take (i + 1) xs))
 item_more {A} f xs i x old now new lt at before written =
     entry_more f xs i x old now new lt before (written ∙ ap (λ (y : A). now ++ f (i, y)) at)
-
--- one more number
-range_more : (a n j : ℕ) → a + n ≡ j → range_with_len a (suc n) ≡ range_with_len a n ++ j ∷ []
-range_more a zero j e =
-    let same : a ≡ j = omega arith in
-    ap (λ (k : ℕ). k ∷ []) same
-range_more a (suc n) j e = ap (λ (xs : List ℕ). a ∷ xs) (range_more (a + 1) n j (omega arith))
-
-range_up : (n : ℕ) → range_with_len 0 (n + 1) ≡ range_with_len 0 n ++ n ∷ []
-range_up n = ap (λ (k : ℕ). range_with_len 0 k) (add-one n) ∙ range_more 0 n n (omega arith)
-
-pub number_more : (f : ℕ → List ℕ) (n : ℕ) (old now new : List ℕ)
-    → now ≡ old ++ flat_map f (range_with_len 0 n) → new ≡ now ++ f n
-    → new ≡ old ++ flat_map f (range_with_len 0 (n + 1))
-number_more f n old now new before written =
-    written ∙ ap (λ (b : List ℕ). b ++ f n) before ∙ flat_map_more f old (range_with_len 0 n) n
-    ∙ ap (λ (ns : List ℕ). old ++ flat_map f ns) (sym (range_up n))

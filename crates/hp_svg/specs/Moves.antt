@@ -34,7 +34,8 @@ moves_from s above top (row ∷ rows) =
 -- the head of an arrow
 unfoldable pub arrow : List ℕ
 arrow =
-    codes "<marker id='arrow' viewBox='0 0 6 6' refX='5' refY='3' markerWidth='5' markerHeight='5' orient='auto'><path d='M0 0L6 3L0 6Z' fill='#b91c1c'/></marker>"
+    codes "<marker id='arrow' viewBox='0 0 6 6' refX='5' refY='3' markerWidth='5' markerHeight='5' "
+    ++ codes "orient='auto'><path d='M0 0L6 3L0 6Z' fill='#b91c1c'/></marker>"
 
 unfoldable pub moves_opening : (top : ℕ) → List ℕ
 moves_opening top = codes "<defs><g id='moves' transform='translate(0 " ++ decimal top ++ codes ")'>"

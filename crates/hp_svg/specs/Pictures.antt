@@ -77,7 +77,9 @@ title = codes "<title>Trace of a memory</title><style>text{white-space:pre}</sty
 -- how isolated cells are hatched
 unfoldable pub hatching : List ℕ
 hatching =
-    codes "<pattern id='isolated' width='4' height='4' patternUnits='userSpaceOnUse'><rect width='4' height='4' fill='#eef5ee'/><path d='M-1 1L1 -1M0 4L4 0M3 5L5 3' stroke='#4f9d69'/></pattern>"
+    codes "<pattern id='isolated' width='4' height='4' patternUnits='userSpaceOnUse'>"
+    ++ codes "<rect width='4' height='4' fill='#eef5ee'/>"
+    ++ codes "<path d='M-1 1L1 -1M0 4L4 0M3 5L5 3' stroke='#4f9d69'/></pattern>"
 
 -- lines between the cells of a block, as its rows use them, where cells are wide enough: at both ends of
 -- each cell

@@ -1,6 +1,7 @@
 -- Where things stand in a picture (own rule). Lengths are in pixels.
-use Rattle.std.specs.Prelude.{ℕ, ◌+◌, ◌-◌, ◌*◌, ◌/◌, ◌%◌, ◌^◌, ◌==◌, not, Bool, true, false, List, [], ◌∷◌, count_by, length, max, min, nat_le, nat_lt, if◌then◌else◌}
+use Rattle.std.specs.Prelude.{ℕ, ◌+◌, ◌-◌, ◌*◌, ◌/◌, ◌%◌, ◌^◌, ◌==◌, Bool, true, false, List, [], ◌∷◌, length, max, min, nat_le, nat_lt, if◌then◌else◌}
 use Rattle.hp_pictures.specs.Blocks.{BlockValue}
+use Rattle.hp_pictures.specs.Counts.{frames_in}
 use Rattle.hp_pictures.specs.Rows.{RowValue}
 use Rattle.hp_svg.specs.declared.sheets.Sheet.{Sheet}
 
@@ -25,7 +26,7 @@ sheet_of rows cell =
     record {
       blocks = bounded (length (first_blocks rows));
       cells = bounded (length cells);
-      frames = bounded (count_by (λ byte. not (byte == 124)) cells);
+      frames = bounded (frames_in cells);
       cell = cell;
     }
 

@@ -65,7 +65,8 @@ fn write_moves_shown(out: &mut String) -> Result<(), AllocError>
     ensures { OnOk result (string_bytes out.new ≡ string_bytes out.old ++ moves_shown) }
 {
     out.push_str(
-        "</g></defs><use href='#moves' stroke='#ffffff' stroke-width='3' stroke-opacity='0.6'/><use href='#moves'",
+        "</g></defs><use href='#moves' stroke='#ffffff' stroke-width='3' stroke-opacity='0.6'/>\
+         <use href='#moves'",
     )?;
     write_move_look(out)
 }
@@ -81,7 +82,8 @@ pub(crate) fn write_all_moves(
     ensures { OnOk result (string_bytes out.new ≡ string_bytes out.old ++ moves_text sheet top rows.now) }
 {
     out.push_str(
-        "<marker id='arrow' viewBox='0 0 6 6' refX='5' refY='3' markerWidth='5' markerHeight='5' orient='auto'><path d='M0 0L6 3L0 6Z' fill='#b91c1c'/></marker>",
+        "<marker id='arrow' viewBox='0 0 6 6' refX='5' refY='3' markerWidth='5' markerHeight='5' \
+         orient='auto'><path d='M0 0L6 3L0 6Z' fill='#b91c1c'/></marker>",
     )?;
     write!(out, "<defs><g id='moves' transform='translate(0 {top})'>")?;
     write_moves(out, sheet, rows)?;

@@ -123,7 +123,9 @@ fn write_style(out: &mut String, sheet: Sheet) -> Result<(), AllocError>
 {
     out.push_str("<title>Trace of a memory</title><style>text{white-space:pre}</style>")?;
     out.push_str(
-        "<pattern id='isolated' width='4' height='4' patternUnits='userSpaceOnUse'><rect width='4' height='4' fill='#eef5ee'/><path d='M-1 1L1 -1M0 4L4 0M3 5L5 3' stroke='#4f9d69'/></pattern>",
+        "<pattern id='isolated' width='4' height='4' patternUnits='userSpaceOnUse'>\
+         <rect width='4' height='4' fill='#eef5ee'/>\
+         <path d='M-1 1L1 -1M0 4L4 0M3 5L5 3' stroke='#4f9d69'/></pattern>",
     )?;
     write_grid_lines(out, sheet)?;
     out.push_str("<rect width='100%' height='100%' fill='#ffffff'/>")?;

@@ -1,10 +1,10 @@
 //! Where things stand in a picture. Lengths are in pixels.
-ghost use Rattle.std.specs.Prelude.{◌≡◌, ◌+◌, ◌*◌, ◌<◌, ◌≤◌, ◌^◌, ◌==◌, count_by, not};
+ghost use Rattle.std.specs.Prelude.{◌≡◌, ◌+◌, ◌*◌, ◌<◌, ◌≤◌, ◌^◌};
 ghost use Rattle.hp_svg.specs.Sheets.{block_of, block_width, blocks_height, bounded, cells_at, cells_width, first_blocks, first_cells, first_frame, frame_left, frame_top, has_grid, head_at, height_of, legend_left, legend_top, lines_above, number_at, numbers_at, offset_of, pageblock_size, per_strip, place_of, row_height, rows_at, rows_height, sheet_of, strip_of, strip_top, strips, texts_height, width_of};
 
 use crate::elements::cells_of;
 use hp_numbers::Frame;
-use hp_pictures::{BlockPicture, RowPicture};
+use hp_pictures::{BlockPicture, RowPicture, frames_in};
 
 /// The characters that have room for what was asked, and for what was answered.
 pub(crate) const ASKED: u32 = 29;
@@ -48,17 +48,6 @@ fn first_cells(blocks: &[BlockPicture]) -> &str
     }
 }
 
-/// How many of a block's characters are frames.
-fn frames_of(cells: &str) -> usize
-    ensures { result ≡ count_by (λ byte. not (byte == 124)) cells.now }
-{
-    cells
-        .as_bytes()
-        .iter()
-        .filter(|byte| **byte != b'|')
-        .count()
-}
-
 impl Sheet {
     /// What the first row has, for cells of this width.
     #[tactic(auto, unfolding(crate::specs::Sheets::sheet_of))]
@@ -70,7 +59,7 @@ impl Sheet {
         Sheet {
             blocks: bounded(blocks.len()),
             cells: bounded(cells.len()),
-            frames: bounded(frames_of(cells)),
+            frames: bounded(frames_in(cells)),
             cell,
         }
     }

@@ -3,7 +3,7 @@ use crate::layouts::LAST_ABSENT;
 use crate::machines::{Look, finds_in_four_blocks};
 use hp_machine::Machine;
 use hp_map::{Place, picture_of, places_of};
-use hp_pictures::BlockPicture;
+use hp_pictures::{BlockPicture, frames_in};
 use std::alloc::{AllocError, Global};
 
 /// What a test looks for: the picture of four memory blocks, and a place for each frame.
@@ -56,4 +56,5 @@ fn starts_free(alloc: Global, machine: &Machine, count: usize) -> bool {
 #[test]
 fn memory_is_drawn(rt: HostRuntime) {
     assert!(rt; finds_in_four_blocks(rt.alloc(), LAST_ABSENT, &Drawn));
+    assert!(rt; frames_in("a1|::") == 4);
 }

@@ -9,8 +9,8 @@ use std::alloc::Global;
 use std::test::Fail;
 
 /// A layout of four memory blocks and two processors, as a scenario gives it.
-const LAYOUT: &str =
-    r#"{"order":2,"pageblocks":1,"blocks":4,"cpus":2,"batch":2,"high":2,"owners":2,"pages":8,"words":2,"history":1000,"boot":["normal","normal","movable","offline"]}"#;
+const LAYOUT: &str = r#"{"order":2,"pageblocks":1,"blocks":4,"cpus":2,"batch":2,"high":2,
+"owners":2,"pages":8,"words":2,"history":1000,"boot":["normal","normal","movable","offline"]}"#;
 
 /// A scenario's text.
 fn text_of(alloc: Global, layout: &str, calls: &str) -> Result<String, Fail> {

@@ -6,7 +6,9 @@ use std::test::Fail;
 
 /// A page, a plan that moves it, and a control file.
 const SCENARIO: &[u8] =
-    br#"{"layout":{"order":2,"pageblocks":1,"blocks":3,"cpus":1,"batch":2,"high":2,"owners":1,"pages":4,"words":1,"history":9,"boot":["normal","movable","offline"]},"calls":["0 map db 0","0 plan 4 off 1","0 cat memory1/state"]}"#;
+    br#"{"layout":{"order":2,"pageblocks":1,"blocks":3,"cpus":1,"batch":2,"high":2,
+"owners":1,"pages":4,"words":1,"history":9,"boot":["normal","movable","offline"]},
+"calls":["0 map db 0","0 plan 4 off 1","0 cat memory1/state"]}"#;
 
 const WHOLE: &str =
     "   0 boot                                               0:N[....] 1:M[....] 2:off[----]
@@ -24,7 +26,9 @@ offline
 
 /// A text that is long, looks like a memory block, and has characters that a terminal obeys.
 const HOSTILE: &[u8] =
-    br#"{"layout":{"order":2,"pageblocks":1,"blocks":3,"cpus":1,"batch":2,"high":2,"owners":1,"pages":4,"words":1,"history":9,"boot":["normal","movable","offline"]},"calls":["0 echo \u001b[31m\n\u009b]0:N[....] memory1/state"]}"#;
+    br#"{"layout":{"order":2,"pageblocks":1,"blocks":3,"cpus":1,"batch":2,"high":2,
+"owners":1,"pages":4,"words":1,"history":9,"boot":["normal","movable","offline"]},
+"calls":["0 echo \u001b[31m\n\u009b]0:N[....] memory1/state"]}"#;
 
 const ESCAPED: &str =
     "   0 boot                                               0:N[....] 1:M[....] 2:off[----]

@@ -1,7 +1,7 @@
 //! The readers of a layout's parts, and the test of a line.
 use super::LAYOUT;
-use hp_scenario::{boot_at, boots_at, is_line, parts_with};
-use hp_units::Boot;
+use hp_scenario::{boot_at, boots_at, is_line, only32, only64, parts_with, zone_from};
+use hp_units::{Boot, Zone};
 use serde_json::Value;
 use std::alloc::{AllocError, Global};
 use std::test::Fail;
@@ -46,5 +46,7 @@ fn are_lines_told(alloc: Global) -> Result<bool, AllocError> {
 #[test]
 fn lines_are_told(rt: HostRuntime) -> Result<(), Fail> {
     assert!(rt; are_lines_told(rt.alloc())?);
+    assert!(rt; only32(&["7"]) == Some(7) && only64(&["8"]) == Some(8));
+    assert!(rt; zone_from("movable") == Some(Zone::Movable));
     Ok(())
 }

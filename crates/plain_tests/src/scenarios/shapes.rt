@@ -6,6 +6,9 @@ use std::test::Fail;
 
 const CALLS: &str = r#""0 kalloc 1","0 kfree 0","0 undo 0""#;
 
+const PLANS_AND_FILES: &str =
+    r#""0 plan 5 off 2 movable 3","1 echo offline memory2/state","0 cat buddyinfo","0 remove 3","7 seal""#;
+
 /// Whether lines are three, of which the last undoes all.
 fn are_three_and_undo(lines: &[Line]) -> bool {
     match lines {
@@ -51,9 +54,7 @@ fn are_plans_and_files(lines: &[Line]) -> bool {
 
 #[test]
 fn reads_plans_and_files(rt: HostRuntime) -> Result<(), Fail> {
-    let calls =
-        r#""0 plan 5 off 2 movable 3","1 echo offline memory2/state","0 cat buddyinfo","0 remove 3","7 seal""#;
-    let scenario = scenario(rt.alloc(), calls)?;
+    let scenario = scenario(rt.alloc(), PLANS_AND_FILES)?;
     assert!(rt; are_plans_and_files(scenario.lines.as_slice()));
     Ok(())
 }

@@ -1,13 +1,10 @@
 -- What each thread found is the list at its place.
-use Rattle.std.proofs.Common.{◌≡◌, List, Vec, Global, None, length, arith}
+use Rattle.std.proofs.Common.{◌≡◌, None, length, arith}
 use Rattle.std.proofs.lemmas.Option.{IfSome_then}
 use Rattle.hp_explore.specs.Schedules.{setting}
-use Rattle.hp_explore.specs.declared.tally.Ending.{Ending}
 use Rattle.hp_parts.proofs.Searched.{parts_found, room_found}
+use Rattle.hp_parts.proofs.Totals.{items}
 use Rattle.hp_parts.proofs.jobs.ends_of_parts.Goals as goal
-
-abbrev items : Vec Ending Global → List Ending
-items v = v.items
 
 pub returns-in-Ok-clause-ends : goal.returns-in-Ok-clause-ends
 returns-in-Ok-clause-ends g c =

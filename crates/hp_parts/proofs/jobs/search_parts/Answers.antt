@@ -4,11 +4,9 @@ use Rattle.hp_explore.specs.Schedules.{setting}
 use Rattle.hp_explore.specs.declared.tally.Ending.{Ending}
 use Rattle.hp_parts.specs.Sums.{AreParts}
 use Rattle.hp_parts.proofs.Searched.{room_for_all}
+use Rattle.hp_parts.proofs.Totals.{items}
 use Rattle.hp_parts.proofs.jobs.search_parts.Goals as goal
 use Rattle.hp_parts.proofs.jobs.search_parts.Goals.{After-sum}
-
-abbrev items : Vec Ending Global → List Ending
-items v = v.items
 
 some : (g : _) (c : After-sum g) → 0 < length c.as_slice.result.now
 some g c =

@@ -1,5 +1,5 @@
 -- The ends of all lists are added to none, and sorted.
-use Rattle.std.proofs.Common.{◌<◌, [], List, Vec, Global, length, map, arith, subst}
+use Rattle.std.proofs.Common.{◌<◌, [], List, length, map, arith, subst}
 use Rattle.std.proofs.lemmas.List.{length-map}
 use Rattle.std.proofs.lemmas.List.Sorted.{sum_by-IsPermutation}
 use Rattle.hp_explore.specs.Ends.{AreCounted}
@@ -10,11 +10,9 @@ use Rattle.hp_parts.specs.Sums.{AreParts}
 use Rattle.hp_parts.proofs.Joining.{lists_apart, lists_sum}
 use Rattle.hp_parts.proofs.Moved.{apart_moved}
 use Rattle.hp_parts.proofs.Parts.{all_added, all_sorted, sorted_in_order}
+use Rattle.hp_parts.proofs.Totals.{items}
 use Rattle.hp_parts.proofs.summing.sum.Goals as goal
 use Rattle.hp_parts.proofs.summing.sum.Goals.{After-into_sorted}
-
-abbrev items : Vec Ending Global → List Ending
-items v = v.items
 
 added : (c : After-into_sorted) → AddsLists [] (map items c.args.parts.now) c.add_lists.new.self
 added c =

@@ -1,8 +1,8 @@
 -- The place before it on the way is known again.
 use Rattle.std.proofs.Common.{◌≡◌, ◌+◌, ◌∷◌, ◌++◌, [], MatchOption, Option, refl, subst, sym, vec_len, ◌∙◌}
+use Rattle.std.proofs.lemmas.List.{nil_from_length}
 use Rattle.hp_explore.specs.Standing.{IsStanding, StandingValue}
 use Rattle.hp_explore.specs.declared.standing.Stop.{Stop}
-use Rattle.hp_explore.proofs.Numberings.{nothing_left}
 use Rattle.hp_explore.proofs.Stood.{stood_back}
 use Rattle.hp_explore.proofs.standing.Standing.go_back.Goals as goal
 
@@ -29,5 +29,5 @@ returns-clause-back c =
     subst (λ (p : Option Stop). MatchOption p
     ((vec_len c.self.inside.before ≡ 0) × (vec_len c.pop.new.self ≡ 0))
     (λ _. vec_len c.pop.new.self + 1 ≡ vec_len c.self.inside.before)) none c.pop.ensures.cases in
-    nothing_left c.pop.new.self.items (sym c.pop.new.self.ok.0 ∙ empty.1))
+    nil_from_length c.pop.new.self.items (sym c.pop.new.self.ok.0 ∙ empty.1))
     c.known_of-here.ensures refl (c.go_back.ensures.back g news r whose was.exchanged) was

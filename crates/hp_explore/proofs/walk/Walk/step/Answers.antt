@@ -1,56 +1,42 @@
 -- The latest place makes its turn; where there is none all is walked.
-use Rattle.std.proofs.Common.{◌≡◌, ◌+◌, ◌<◌, ◌∷◌, ◌++◌, [], List, MatchOption, Option, arith, ℕ, sym, subst, vec_len, ◌∙◌}
-use Rattle.hp_explore.specs.Frames.{AreWalked, frames_of, left, left_of}
+use Rattle.std.proofs.Common.{◌≡◌, ◌+◌, ◌<◌, ◌∷◌, ◌++◌, [], Global, List, MatchOption, Option, Some, Vec, arith, option_to_list, reverse, ℕ, sym, subst, vec_len, ◌∙◌}
+use Rattle.hp_explore.specs.Frames.{AreWalked, IsWalking, frames_of, left, left_of}
 use Rattle.hp_explore.specs.Schedules.{schedule_of}
 use Rattle.hp_explore.specs.Walks.{IsPartWalkedBefore}
 use Rattle.hp_explore.specs.declared.frames.Frame.{Frame}
+use Rattle.hp_explore.specs.declared.walk.Walk.{Walk}
 use Rattle.hp_explore.proofs.Framing.{frames_popped, no_frames, none_left}
 use Rattle.hp_explore.proofs.walk.Walk.step.Goals as goal
 
+-- with the latest frame off the stack the walk is as before
+off_stack : (w : Walk) (rest : Vec Frame Global) (popped : Option Frame) (frame : Frame)
+    → w.frames.items ≡ rest.items ++ option_to_list popped → popped ≡ Some frame → IsWalking w (frames_of w)
+    → IsWalking (record w { frames = rest }) (frame ∷ reverse rest.items)
+off_stack w rest popped frame is some walking = record {
+  walked =
+      subst (AreWalked w.path.setting w.part w.tally.ends w.path.news)
+      (frames_popped w.frames.items rest.items popped frame is some) walking.walked;
+  memo = walking.memo;
+  way = walking.way;
+  processors = walking.processors;
+  few = walking.few;
+  short = walking.short;
+}
+
 pub go_on-requires-clause-kept : goal.go_on-requires-clause-kept
 go_on-requires-clause-kept o c =
-    let w = c.args.self.now in
-    record {
-      walked =
-          subst (AreWalked w.path.setting w.part w.tally.ends w.path.news)
-          (frames_popped w.frames.items c.pop.new.self.items c.pop.result c.in-Some.frame c.pop.ensures.items
-          c.in-Some.is) c.requires.walked;
-      memo = c.requires.memo;
-      way = c.requires.way;
-      processors = c.requires.processors;
-      few = c.requires.few;
-      short = c.requires.short;
-    }
+    off_stack c.args.self.now c.pop.new.self c.pop.result c.in-Some.frame c.pop.ensures.items c.in-Some.is
+    c.requires
 
 pub go_back-requires-clause-kept : goal.go_back-requires-clause-kept
 go_back-requires-clause-kept o c =
-    let w = c.args.self.now in
-    record {
-      walked =
-          subst (AreWalked w.path.setting w.part w.tally.ends w.path.news)
-          (frames_popped w.frames.items c.pop.new.self.items c.pop.result c.in-Some.frame c.pop.ensures.items
-          c.in-Some.is) c.requires.walked;
-      memo = c.requires.memo;
-      way = c.requires.way;
-      processors = c.requires.processors;
-      few = c.requires.few;
-      short = c.requires.short;
-    }
+    off_stack c.args.self.now c.pop.new.self c.pop.result c.in-Some.frame c.pop.ensures.items c.in-Some.is
+    c.requires
 
 pub is_end-is_end-requires-clause-kept : goal.is_end-is_end-requires-clause-kept
 is_end-is_end-requires-clause-kept o c =
-    let w = c.args.self.now in
-    record {
-      walked =
-          subst (AreWalked w.path.setting w.part w.tally.ends w.path.news)
-          (frames_popped w.frames.items c.pop.new.self.items c.pop.result c.in-Some.frame c.pop.ensures.items
-          c.in-Some.is) c.requires.walked;
-      memo = c.requires.memo;
-      way = c.requires.way;
-      processors = c.requires.processors;
-      few = c.requires.few;
-      short = c.requires.short;
-    }
+    off_stack c.args.self.now c.pop.new.self c.pop.result c.in-Some.frame c.pop.ensures.items c.in-Some.is
+    c.requires
 
 pub is_full-requires-clause-walked : goal.is_full-requires-clause-walked
 is_full-requires-clause-walked o c =

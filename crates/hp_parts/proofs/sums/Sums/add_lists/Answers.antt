@@ -1,13 +1,10 @@
 -- One list more.
-use Rattle.std.proofs.Common.{◌+◌, ◌<◌, ◌^◌, List, Vec, Global, subst, sym}
+use Rattle.std.proofs.Common.{◌+◌, ◌<◌, ◌^◌, List, subst, sym}
 use Rattle.std.specs.Prelude.{sum_by}
 use Rattle.hp_explore.specs.declared.tally.Ending.{Ending}
 use Rattle.hp_parts.specs.Adding.{AddsEnds}
-use Rattle.hp_parts.proofs.Totals.{lists_more, lists_room}
+use Rattle.hp_parts.proofs.Totals.{items, lists_more, lists_room}
 use Rattle.hp_parts.proofs.sums.Sums.add_lists.Goals as goal
-
-abbrev items : Vec Ending Global → List Ending
-items v = v.items
 
 pub add_ends-requires : goal.add_ends-requires
 add_ends-requires c =

@@ -1,6 +1,6 @@
 use Rattle.std.proofs.Common.{◌≡◌, ◌≤◌, ◌*◌, sum_by, take}
 use Rattle.hp_explore.specs.declared.tally.Ending.{Ending}
-use Rattle.hp_find.proofs.finding.total_of.Given as goal
+use Rattle.hp_explore.proofs.tally.total_of.Given as goal
 
 abbrev pub invariant-loop-end : goal.invariant-loop-end
 invariant-loop-end l =
