@@ -6,14 +6,14 @@ use Rattle.hp_check.specs.Findings.{is_fault}
 use Rattle.hp_check.specs.Reports.{IsReport}
 use Rattle.hp_check.specs.declared.finding.Finding.{Finding}
 use Rattle.hp_find.specs.declared.wanted.Wanted.{Wanted}
-use Rattle.hp_lab.specs.Counting.{IsCountTold}
+use Rattle.hp_scripts.specs.Counting.{IsCountTold}
 use Rattle.hp_lab.specs.Explorations.{IsExplorationOf, IsFaultOf, IsFindFaultOf, IsFindingOf}
 use Rattle.hp_lab.specs.declared.fault.LabFault.{LabFault}
 use Rattle.hp_lab.specs.declared.fault.LabFault.TheVariants.{OutOfMemory}
 use Rattle.hp_lab.specs.declared.forms.EndsForm.{EndsForm}
 use Rattle.hp_lab.specs.declared.forms.ScheduleForm.{ScheduleForm}
-use Rattle.hp_lab.specs.Unbegun.{unbegun_lines}
-use Rattle.hp_lab.specs.declared.unbegun.Unbegun.{Unbegun}
+use Rattle.hp_scripts.specs.Unbegun.{unbegun_lines}
+use Rattle.hp_scripts.specs.declared.unbegun.Unbegun.{Unbegun}
 use Rattle.hp_scenario.specs.Gives.{Fails}
 use Rattle.hp_scenario.specs.Scenario.{ScenarioValue, scenario_in}
 use Rattle.hp_scenario.specs.declared.fault.ScenarioFault.{ScenarioFault}

@@ -1,5 +1,3 @@
 pub mod Known
-pub mod Lists
 pub mod Played
-pub mod Scripted
 pub mod Written

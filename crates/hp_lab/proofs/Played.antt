@@ -1,6 +1,6 @@
 -- The calls that a schedule makes, read off the machine that it leads to.
-use Rattle.std.proofs.Common.{◌≡◌, ◌≤◌, ℕ, ◌-◌, List, [], ◌++◌, length, drop, take, Option, Some, None, sym, subst, ap, ◌∙◌, arith}
-use Rattle.std.proofs.lemmas.List.{append-nil, length-append, take_rest}
+use Rattle.std.proofs.Common.{◌≡◌, ◌≤◌, ℕ, List, [], ◌++◌, length, drop, Option, Some, None, sym, subst, ap, ◌∙◌, arith}
+use Rattle.std.proofs.lemmas.List.{append-nil, length-append}
 use Rattle.hp_units.specs.declared.replies.Record.{Record}
 use Rattle.hp_machine.specs.Machine.{MachineValue}
 use Rattle.hp_explore.specs.Schedules.{Setting, plays}
@@ -8,28 +8,20 @@ use Rattle.hp_explore.specs.Walks.{IsPlayed, news_in}
 
 -- the history begins with the records that were there
 pub has_start : (g : Setting) (schedule : List ℕ) (p : Option MachineValue) (n : MachineValue)
-    (start history : List Record)
-    → p ≡ Some n → IsPlayed g schedule p → start ≡ g.start → history ≡ n.history
-    → length start ≤ length history
-has_start g schedule p n start history is played from all =
+    → p ≡ Some n → IsPlayed g schedule p → length g.start ≤ length n.history
+has_start g schedule p n is played =
     let reached = subst (IsPlayed g schedule) is played in
-    let whole = ap (λ (rs : List Record). length rs) (all ∙ reached.0.history) in
-    let begun = ap (λ (rs : List Record). length rs) from in
-    omega (arith, whole, begun, length-append g.start (news_in g n))
+    let whole = ap (λ (rs : List Record). length rs) reached.0.history in
+    omega (arith, whole, length-append g.start (news_in g n))
 
 -- the calls are those after them; `write` is how they are written
 pub calls_written : (write : Option (List Record) → List ℕ) (g : Setting) (schedule : List ℕ)
-    (p : Option MachineValue) (n : MachineValue) (start history : List Record) (old new : List ℕ)
-    → p ≡ Some n → IsPlayed g schedule p → start ≡ g.start → history ≡ n.history
-    → new ≡ old ++ write (Some (take (length history - length start) (drop (length start) history)))
-    → new ≡ old ++ write (plays g schedule)
-calls_written write g schedule p n start history old new is played from all written =
+    (p : Option MachineValue) (n : MachineValue) (calls : List Record) (old new : List ℕ)
+    → p ≡ Some n → IsPlayed g schedule p → calls ≡ drop (length g.start) n.history
+    → new ≡ old ++ write (Some calls) → new ≡ old ++ write (plays g schedule)
+calls_written write g schedule p n calls old new is played after written =
     let reached = subst (IsPlayed g schedule) is played in
     let made : plays g schedule ≡ Some (news_in g n) = ap (plays g) (sym reached.1) ∙ reached.0.played in
-    let after : take (length history - length start) (drop (length start) history) ≡ news_in g n =
-    take_rest history (length start)
-    ∙ (ap (λ (rs : List Record). drop (length rs) history) from
-    ∙ ap (λ (rs : List Record). drop (length g.start) rs) all) in
     written ∙ ap (λ (o : Option (List Record)). old ++ write o)
     (ap (λ (rs : List Record). Some rs) after ∙ sym made)
 

@@ -1,8 +1,8 @@
 -- What is promised of an exploration and of a search, and when each fault comes.
-use Rattle.std.specs.Prelude.{◌≡◌, ◌⊎◌, ℕ, ◌+◌, ◌-◌, ◌^◌, ◌<◌, ◌≤◌, Bool, true, false, List, [], ◌++◌, length, take, drop, Option, Some, None, Ok, Err, slice_get, sum_by}
+use Rattle.std.specs.Prelude.{◌≡◌, ◌⊎◌, ℕ, ◌+◌, ◌-◌, ◌^◌, ◌<◌, ◌≤◌, Bool, true, false, List, length, take, drop, Option, Some, None, Ok, Err, slice_get, sum_by}
 use Rattle.std.specs.Option.{is_none}
 use Rattle.hp_units.specs.LayoutParts.{LayoutParts}
-use Rattle.hp_machine.specs.Machine.{MachineValue, booted}
+use Rattle.hp_machine.specs.Machine.{MachineValue}
 use Rattle.hp_explore.specs.declared.exploring.Exploration.{Exploration}
 use Rattle.hp_explore.specs.declared.multinomials.HowMany.{HowMany}
 use Rattle.hp_explore.specs.declared.scripts.Line.{Line as Step}
@@ -21,7 +21,6 @@ use Rattle.hp_find.specs.declared.finding.Found.TheVariants.{Nearest, Absent}
 use Rattle.hp_find.specs.declared.wanted.Wanted.{Wanted}
 use Rattle.hp_scenario.specs.declared.fault.ScenarioFault.{ScenarioFault}
 use Rattle.hp_scenario.specs.declared.lines.Line.{Line}
-use Rattle.hp_scenario.specs.declared.unfit.Unfit.{Unfit}
 use Rattle.hp_scenario.specs.Scenario.{ScenarioValue, scenario_in}
 use Rattle.hp_lab.specs.declared.answering.Ask.{Ask}
 use Rattle.hp_lab.specs.declared.answering.Ask.TheVariants.{Ends, Find}
@@ -31,12 +30,9 @@ use Rattle.hp_lab.specs.Objects.{all_objects_text}
 use Rattle.hp_lab.specs.declared.forms.ScheduleForm.{ScheduleForm}
 use Rattle.hp_lab.specs.declared.fault.LabFault.{LabFault}
 use Rattle.hp_lab.specs.declared.fault.LabFault.TheVariants.{NotJson, BadShape, Layout, BadLine, NotForScript, TooMany, HistoryFull, OutOfMemory}
-use Rattle.hp_lab.specs.Begins.{begins_in}
-use Rattle.hp_lab.specs.Checks.{AreFit, IsFirstUnfit}
-use Rattle.hp_lab.specs.declared.begins.Begin.{Begin}
+use Rattle.hp_scripts.specs.Checks.{AreFit}
 use Rattle.hp_lab.specs.Faults.{fault_from}
-use Rattle.hp_lab.specs.Scripts.{scripts_of}
-use Rattle.hp_lab.specs.Setup.{RunsLines}
+use Rattle.hp_scripts.specs.Starts.{IsStart, IsUnfitAfter}
 use Rattle.hp_lab.specs.Texts.{absent_told, counts_text, exploration_text, found_text, replay_text}
 
 -- ---- on a machine
@@ -142,9 +138,9 @@ IsAskCause (Find wanted form) limit g fault = IsFindCause g wanted.now limit fau
 -- lines after them, where 0 stands for the operation that a processor began last
 pub record HoldsAfter (P : Setting → Type 0) (l : LayoutParts) (before after : List Line) : Type 0 where
   pub start : MachineValue
-  pub sealed : List Begin
-  pub run : RunsLines (booted l) [] before start sealed
-  pub holds : P (setting start (scripts_of l.cpus (sealed ++ begins_in start.history) after))
+  pub scripts : List (List Step)
+  pub begun : IsStart l before after start scripts
+  pub holds : P (setting start scripts)
 
 -- the bytes are a scenario; its lines after the first so many can all stand in scripts, and it
 -- holds, with the scenario's names and those first lines, after them
@@ -196,11 +192,6 @@ IsUntold C limit g fault = ⊥
 -- the bytes are a scenario, of which this holds
 abbrev pub InScenario : (input : List ℕ) → (ScenarioValue → Type 0) → Type 0
 InScenario input P = (scenario : ScenarioValue) × (scenario_in input ≡ Ok scenario) × P scenario
-
--- a line after the setup cannot stand in a script, and it is the first
-abbrev pub IsUnfitAfter : (setup place : ℕ) → Unfit → ScenarioValue → Type 0
-IsUnfitAfter setup place why s =
-    IsFirstUnfit s.layout.cpus (length (take setup s.lines)) (drop setup s.lines) place why
 
 -- all of them can, and this holds after them
 abbrev pub IsStoppedAfter : (P : Setting → Type 0) → (setup : ℕ) → ScenarioValue → Type 0

@@ -1,8 +1,10 @@
 -- Where a fault comes from.
 use Rattle.hp_scenario.specs.declared.fault.ScenarioFault.{ScenarioFault}
 use Rattle.hp_scenario.specs.declared.fault.ScenarioFault.TheVariants as scenario
+use Rattle.hp_scripts.specs.declared.fault.StartFault.{StartFault}
+use Rattle.hp_scripts.specs.declared.fault.StartFault.TheVariants as start
 use Rattle.hp_lab.specs.declared.fault.LabFault.{LabFault}
-use Rattle.hp_lab.specs.declared.fault.LabFault.TheVariants.{NotJson, BadShape, Layout, BadLine, OutOfMemory}
+use Rattle.hp_lab.specs.declared.fault.LabFault.TheVariants.{NotJson, BadShape, Layout, BadLine, NotForScript, OutOfMemory}
 
 -- the fault of reading a scenario, which is never that a line is not for workers
 abbrev pub fault_from : ScenarioFault → LabFault
@@ -12,3 +14,8 @@ fault_from (scenario.Layout fault) = Layout fault
 fault_from (scenario.BadLine line) = BadLine line
 fault_from (scenario.NotForRun line) = BadLine line
 fault_from scenario.OutOfMemory = OutOfMemory
+
+-- that no search begins
+abbrev pub start_fault_from : StartFault → LabFault
+start_fault_from (start.NotForScript line why) = NotForScript line why
+start_fault_from start.OutOfMemory = OutOfMemory

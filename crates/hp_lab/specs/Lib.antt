@@ -1,13 +1,7 @@
-pub mod Begins
-pub mod Checks
-pub mod Counting
 pub mod Explorations
 pub mod Faults
 pub mod FaultText
 pub mod Objects
 pub mod Prepared
-pub mod Scripts
-pub mod Setup
 pub mod Texts
-pub mod Unbegun
 pub mod WantedLines

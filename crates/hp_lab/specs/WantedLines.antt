@@ -1,5 +1,5 @@
 -- A text as a line that an end is to have (own rule).
-use Rattle.std.specs.Prelude.{ℕ, ◌==◌, List, [], ◌∷◌, codes, Option, Some, None, if◌then◌else◌, option_map, option_and_then}
+use Rattle.std.specs.Prelude.{ℕ, ◌==◌, List, [], ◌∷◌, codes, Option, Some, None, if◌then◌else◌, option_map}
 use Rattle.std.specs.List.{slice_split}
 use Rattle.std.specs.Str.{bytes_eq}
 use Rattle.hp_numbers.specs.NumberWords.{number_of}
@@ -11,16 +11,12 @@ use Rattle.hp_units.specs.declared.rows.Row.{Row}
 use Rattle.hp_units.specs.declared.rows.State.{State}
 use Rattle.hp_units.specs.declared.rows.State.TheVariants.{Offline, Online, Going, Absent}
 use Rattle.hp_units.specs.declared.rows.Zone.{Zone}
-use Rattle.hp_units.specs.declared.rows.Zone.TheVariants as zone
+use Rattle.hp_scenario.specs.Lines.{◌>>=◌, only_number, zone_of}
 use Rattle.hp_scenario.specs.Words.{words_of}
 use Rattle.hp_find.specs.declared.wanted.Pattern.{Pattern}
 use Rattle.hp_find.specs.declared.wanted.Pattern.TheVariants.{Exactly, AnyOf}
 use Rattle.hp_find.specs.declared.wanted.Wanted.{Wanted}
 use Rattle.hp_find.specs.declared.wanted.Wanted.TheVariants.{Answer, Block}
-
-infixl 10 ◌>>=◌
-abbrev pub ◌>>=◌ : {A B : Type 0} → Option A → (A → Option B) → Option B
-o >>= f = option_and_then f o
 
 -- the parts between colons
 abbrev pub parts_of : List ℕ → List (List ℕ)
@@ -77,11 +73,6 @@ unfoldable pub bare_reply : Reply → List (List ℕ) → Option Pattern
 bare_reply reply [] = Some (Exactly reply)
 bare_reply reply _ = None
 
--- the number that the only word is
-unfoldable pub only_number : (bits : ℕ) → List (List ℕ) → Option ℕ
-only_number bits (word ∷ []) = number_of bits word
-only_number bits _ = None
-
 unfoldable pub moved_reply : List (List ℕ) → Option Pattern
 moved_reply (from ∷ to ∷ []) = do
   f ← number_of 32 from
@@ -121,12 +112,6 @@ bare_row state [] = Some (row_with state None)
 bare_row state _ = None
 
 -- of one that is online or going, in a zone
-unfoldable pub zone_of : List ℕ → Option Zone
-zone_of word =
-    if bytes_eq word (codes "normal") then Some zone.Normal
-    else (if bytes_eq word (codes "movable") then Some zone.Movable
-    else None)
-
 unfoldable pub zone_row : State → List (List ℕ) → Option Row
 zone_row state (word ∷ []) = option_map (λ z. row_with state (Some z)) (zone_of word)
 zone_row state _ = None

@@ -1,5 +1,5 @@
 //! What is asked of a scenario, answered on the machine after its setup.
-ghost use Rattle.std.specs.Prelude.{◌≡◌, ◌^◌, ◌<◌, IfErr, IfOk, drop, length, string_bytes, take};
+ghost use Rattle.std.specs.Prelude.{◌≡◌, ◌^◌, ◌<◌, IfErr, IfOk, length, string_bytes};
 ghost use Rattle.hp_explore.specs.Schedules.{setting};
 ghost use Rattle.hp_lab.specs.Explorations.{HoldsIn, IsAnsweredOn, IsAskCause, IsFaultWith, IsUntold};
 
@@ -54,28 +54,6 @@ pub(crate) fn answer_to<W: Watch>(
         ask,
         watch,
     )
-}
-
-/// The first lines, as many as there are up to a number.
-pub(crate) fn front_of(lines: &[Line], count: u64) -> &[Line]
-    ensures { result.now ≡ take count lines.now }
-{
-    if count < lines.len() as u64 {
-        &lines[..count as usize]
-    } else {
-        lines
-    }
-}
-
-/// The lines after the first so many.
-pub(crate) fn rest_of(lines: &[Line], count: u64) -> &[Line]
-    ensures { result.now ≡ drop count lines.now }
-{
-    if count < lines.len() as u64 {
-        &lines[count as usize..]
-    } else {
-        &lines[lines.len()..]
-    }
 }
 
 /// The answer of scripts on a machine, on which these lines were run first; or why there is none, with

@@ -1,5 +1,5 @@
 //! How the ends of an exploration are written.
-ghost use Rattle.std.specs.Prelude.{◌≡◌, ◌++◌, IfErr, OnOk, option_map, string_bytes, sum_by};
+ghost use Rattle.std.specs.Prelude.{◌≡◌, ◌++◌, IfErr, OnOk, option_map, string_bytes};
 ghost use Rattle.std.specs.List.{flat_map};
 ghost use Rattle.hp_text.specs.Answers.{bare_reply_line};
 ghost use Rattle.hp_text.specs.State.{block_line};
@@ -7,7 +7,8 @@ ghost use Rattle.hp_explore.specs.Faults.{IsCause};
 ghost use Rattle.hp_explore.specs.Schedules.{setting};
 ghost use Rattle.hp_lab.specs.Texts.{answers_text, blocks_text, counts_text, end_text, exploration_text, first_text, heading_text, listed_calls, many_text, outcome_text, processors_text, total_text};
 
-use hp_explore::{Answers, Ending, ExploreFault, HowMany, Outcome, Script, play};
+use crate::calls::calls_after;
+use hp_explore::{Answers, Ending, ExploreFault, HowMany, Outcome, Script, play, total_of};
 use hp_machine::Machine;
 use hp_spelling::write_calls;
 use hp_text::{write_reply, write_row};
@@ -74,17 +75,6 @@ fn write_many(out: &mut String, counted: u128, known: HowMany) -> Result<(), All
         HowMany::MoreThanLimit => write!(out, "more than {counted} interleavings"),
         HowMany::Unknown => write!(out, "more than {counted} interleavings"),
     }
-}
-
-/// The sum of the counts of ends.
-pub fn total_of(ends: &[Ending]) -> u128
-    ensures { result ≡ sum_by (λ e. e.count) ends.now }
-{
-    let mut total: u128 = 0;
-    for end in ends {
-        total += u128::from(end.count);
-    }
-    total
 }
 
 /// Writes the number of an end after an empty line.
@@ -193,8 +183,7 @@ pub(crate) fn write_first(
     ensures err { IfErr result (IsCause (setting machine.now scripts.now)) }
 {
     if let Some(played) = play(alloc, machine, scripts, schedule)? {
-        let start = machine.history().len();
-        write_listed(out, names, &played.history()[start..])?;
+        write_listed(out, names, calls_after(machine, &played))?;
     }
     Ok(())
 }

@@ -5,14 +5,14 @@ ghost use Rattle.hp_explore.specs.Schedules.{setting};
 ghost use Rattle.hp_lab.specs.Explorations.{AreEndsTold, HasNoEnd, IsEndTold, IsEndsCause, IsExplorationOf, IsExploredOn, IsFaultOf, IsMore, IsNumbered, IsTold};
 
 use crate::answering::{Ask, answer_to};
-use crate::ends::{total_of, write_counts, write_ends};
+use crate::ends::{write_counts, write_ends};
 use crate::fault::LabFault;
 use crate::finding::Finding;
 use crate::forms::EndsForm;
 use crate::objects::{write_more, write_objects};
 use crate::replays::replay_text;
 use hp_explore::{
-    Ending, Exploration, ExploreFault, HowMany, Script, Watch, explore, interleavings_of,
+    Ending, Exploration, ExploreFault, HowMany, Script, Watch, explore, interleavings_of, total_of,
 };
 use hp_find::FindFault;
 use hp_machine::Machine;

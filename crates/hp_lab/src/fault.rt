@@ -3,6 +3,7 @@ ghost use Rattle.std.specs.Prelude.{◌≡◌, Some};
 ghost use Rattle.hp_lab.specs.declared.fault.LabFault.TheVariants.{OutOfMemory};
 
 use hp_scenario::{ScenarioFault, Unfit};
+use hp_scripts::StartFault;
 use hp_units::LayoutFault;
 use std::alloc::AllocError;
 use std::error::Error;
@@ -86,6 +87,20 @@ impl From<ScenarioFault> for LabFault {
             ScenarioFault::BadLine { line } => LabFault::BadLine { line },
             ScenarioFault::NotForRun { line } => LabFault::BadLine { line },
             ScenarioFault::OutOfMemory => LabFault::OutOfMemory,
+        }
+    }
+}
+
+impl From<StartFault> for LabFault {
+    ghost use Rattle.std.specs.Prelude.{◌≡◌};
+    ghost use Rattle.hp_lab.specs.Faults.{start_fault_from};
+
+    ghost from_gives = { λ f e. e ≡ start_fault_from f };
+
+    fn from(fault: StartFault) -> LabFault {
+        match fault {
+            StartFault::NotForScript { line, why } => LabFault::NotForScript { line, why },
+            StartFault::OutOfMemory => LabFault::OutOfMemory,
         }
     }
 }

@@ -77,8 +77,7 @@ pub(crate) fn found_on<W: Watch>(
     ensures err { IfErr result (IsFindCause (setting machine.now scripts.now) wanted.now limit) }
 {
     let found = find(alloc, machine, scripts, wanted, limit, watch)?;
-    let finding = found_told(alloc, names, before, machine, scripts, &found, form)?;
-    Ok(finding)
+    Ok(found_told(alloc, names, before, machine, scripts, &found, form)?)
 }
 
 /// What a search found, in a form.

@@ -6,6 +6,7 @@ ghost use Rattle.hp_spelling.specs.Separated.{separated};
 ghost use Rattle.hp_text.specs.State.{state_words, zone_word};
 ghost use Rattle.hp_lab.specs.Objects.{absent_object, answer_list, answer_lists, block_list, block_string, call_list, counted_head, end_keys, end_object, first_head, first_object, found_object, known_number, more_object, objects_text, outcome_lists, played_list, reply_string};
 
+use crate::calls::calls_after;
 use hp_explore::{Answers, Ending, ExploreFault, HowMany, Outcome, Script, play};
 use hp_find::changes_of;
 use hp_machine::Machine;
@@ -288,8 +289,7 @@ fn write_played(
     ensures err { IfErr result (IsCause (setting machine.now scripts.now)) }
 {
     if let Some(played) = play(alloc, machine, scripts, schedule)? {
-        let start = machine.history().len();
-        write_calls(out, names, &played.history()[start..], BETWEEN)?;
+        write_calls(out, names, calls_after(machine, &played), BETWEEN)?;
     }
     Ok(())
 }

@@ -1,46 +1,21 @@
 //! A scenario made ready for a search: the machine after its setup, and the scripts of its later lines.
-ghost use Rattle.std.specs.Prelude.{◌≡◌, ◌++◌, ◌^◌, ◌<◌, IfErr, IfOk, OnOk, length, string_bytes, take};
+ghost use Rattle.std.specs.Prelude.{◌≡◌, ◌++◌, ◌^◌, ◌<◌, IfErr, IfOk, OnOk, length, string_bytes};
 ghost use Rattle.hp_explore.specs.Faults.{IsCause};
 ghost use Rattle.hp_lab.specs.Explorations.{AreEndsTold, IsMore, IsTold, IsToldAs};
 ghost use Rattle.hp_lab.specs.Objects.{end_keys};
-ghost use Rattle.hp_scenario.specs.Seen.{scenario_seen};
-ghost use Rattle.hp_lab.specs.Prepared.{HasNoStart, HasStart, IsPrepared, IsStart, IsUnprepared, before_of, names_of, setting_of};
+ghost use Rattle.hp_lab.specs.Prepared.{IsPrepared, IsUnprepared, before_of, names_of, setting_of};
 
-use crate::answering::{front_of, rest_of};
-use crate::begins::note_begins;
-use crate::checks::check_lines;
 use crate::exploring::{ends_told, exploration_told, more_than};
 use crate::fault::LabFault;
 use crate::finding::Finding;
 use crate::forms::EndsForm;
 use crate::objects::write_end_keys;
-use crate::scripts::scripts_of;
-use crate::setup::run_lines;
 use crate::telling::told_fault;
-use hp_explore::{Ending, Exploration, ExploreFault, HowMany, Script};
+use hp_explore::{Ending, Exploration, ExploreFault, HowMany};
 use hp_find::FindFault;
-use hp_machine::Machine;
 use hp_scenario::{Line, Scenario};
-use hp_units::Layout;
+use hp_scripts::{Start, front_of, start_of};
 use std::alloc::{AllocError, Global};
-
-/// Where a search begins.
-pub struct Start {
-    /// The machine after the setup.
-    pub machine: Machine,
-    /// The script of each processor, from 0 on.
-    pub scripts: Vec<Script>,
-}
-
-/// A function of its own, so that no proof of a caller takes the fields apart.
-impl Drop for Start {
-    fn drop(self) {
-        let Start {
-            machine: _machine,
-            scripts: _scripts,
-        } = self;
-    }
-}
 
 /// A scenario made ready for a search.
 pub struct Prepared {
@@ -81,43 +56,6 @@ pub fn prepare(alloc: Global, input: &[u8], setup: u64) -> Result<Prepared, LabF
         setup,
         start,
     })
-}
-
-/// Where a search of a scenario begins, whose first `setup` lines are run in order first. Errors:
-/// NotForScript with the first later line that cannot stand in a script; OutOfMemory.
-fn start_of(alloc: Global, scenario: &Scenario, setup: u64) -> Result<Start, LabFault>
-    ensures ok { IfOk result
-        (λ start. HasStart (scenario_seen scenario.now) setup start.machine start.scripts.items) }
-    ensures few { IfOk result (λ start. length start.scripts.items < 2 ^ 32) }
-    ensures err { IfErr result (HasNoStart (scenario_seen scenario.now) setup) }
-{
-    let cpus = scenario.layout.cpus();
-    let lines = scenario.lines.as_slice();
-    let before = front_of(lines, setup);
-    let after = rest_of(lines, setup);
-    check_lines(cpus, before.len() as u64, after)?;
-    let start = start_after(alloc, &scenario.layout, before, after)?;
-    Ok(start)
-}
-
-/// The machine after lines that are run first, and the scripts of the lines after them. An error is
-/// out of memory.
-fn start_after(
-    alloc: Global,
-    layout: &Layout,
-    before: &[Line],
-    after: &[Line],
-) -> Result<Start, AllocError>
-    ensures is { IfOk result
-        (λ start. IsStart layout.now before.now after.now start.machine start.scripts.items) }
-    ensures few { IfOk result (λ start. length start.scripts.items < 2 ^ 32) }
-{
-    let mut machine = Machine::boot(alloc, layout)?;
-    let mut begins = Vec::new(alloc);
-    run_lines(alloc, &mut machine, &mut begins, before)?;
-    note_begins(&mut begins, machine.history())?;
-    let scripts = scripts_of(alloc, layout.cpus(), &begins, after)?;
-    Ok(Start { machine, scripts })
 }
 
 impl Prepared {

@@ -4,6 +4,7 @@ ghost use Rattle.hp_explore.specs.Faults.{IsCause};
 ghost use Rattle.hp_explore.specs.Schedules.{setting};
 ghost use Rattle.hp_lab.specs.Texts.{replay_text};
 
+use crate::calls::calls_after;
 use hp_explore::{ExploreFault, Script, play};
 use hp_machine::Machine;
 use hp_scenario::Line;
@@ -46,8 +47,7 @@ fn write_replay(
     ensures err { IfErr result (IsCause (setting machine.now scripts.now)) }
 {
     if let Some(played) = play(alloc, machine, scripts, schedule)? {
-        let start = machine.history().len();
-        let calls = &played.history()[start..];
+        let calls = calls_after(machine, &played);
         write_scenario(out, machine.layout(), names, before, calls)?;
     }
     Ok(())

@@ -5,9 +5,8 @@ ghost use Rattle.hp_scenario.specs.Words.{words_of};
 ghost use Rattle.hp_lab.specs.WantedLines as says;
 
 use hp_find::{Pattern, Wanted};
-use hp_units::{
-    Block, Claim, Cpu, Frame, Refusal, Reply, Row, Serial, State, Zone, number32, number64,
-};
+use hp_scenario::{only32, only64, zone_from};
+use hp_units::{Block, Claim, Cpu, Frame, Refusal, Reply, Row, Serial, State, Zone, number32};
 use std::alloc::{AllocError, Global};
 
 /// The line of an end that a text is, as `explore` writes it (own rule): a reply, as `refused
@@ -164,24 +163,6 @@ fn bare_reply(reply: Reply, args: &[&str]) -> Option<Pattern>
     }
 }
 
-/// The number below 2^32 that the only word is.
-#[tactic(auto, unfolding(crate::specs::WantedLines::only_number))]
-fn only32(args: &[&str]) -> Option<u32>
-    ensures { result ≡ says.only_number 32 (map (λ w. w.now) args.now) }
-{
-    let [word] = args else { return None };
-    number32(word)
-}
-
-/// The number below 2^64 that the only word is.
-#[tactic(auto, unfolding(crate::specs::WantedLines::only_number))]
-fn only64(args: &[&str]) -> Option<u64>
-    ensures { result ≡ says.only_number 64 (map (λ w. w.now) args.now) }
-{
-    let [word] = args else { return None };
-    number64(word)
-}
-
 #[tactic(auto, unfolding(crate::specs::WantedLines::moved_reply))]
 fn moved(args: &[&str]) -> Option<Pattern>
     ensures { result ≡ says.moved_reply (map (λ w. w.now) args.now) }
@@ -319,16 +300,4 @@ fn zone_row(state: State, args: &[&str]) -> Option<Row>
         zone: Some(zone),
         claim,
     })
-}
-
-/// The zone that a word names.
-#[tactic(auto, unfolding(crate::specs::WantedLines::zone_of))]
-fn zone_from(word: &str) -> Option<Zone>
-    ensures { result ≡ says.zone_of word.now }
-{
-    match word {
-        "normal" => Some(Zone::Normal),
-        "movable" => Some(Zone::Movable),
-        _ => None,
-    }
 }

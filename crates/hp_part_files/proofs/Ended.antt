@@ -1,22 +1,16 @@
 -- How a schedule is followed, and how it ends.
-use Rattle.std.proofs.Common.{◌≡◌, ℕ, ◌+◌, ◌<◌, true, false, List, [], ◌∷◌, ◌++◌, length, get_or, take, drop, Some, None, refl, ap, sym, subst, ◌∙◌}
-use Rattle.std.proofs.lemmas.List.{map-append, take-append-drop, take_more}
-use Rattle.std.proofs.lemmas.Option.{none-some, same_Some}
-use Rattle.hp_units.specs.declared.events.Event.{Event}
+use Rattle.std.proofs.Common.{◌≡◌, ℕ, ◌+◌, ◌<◌, true, false, List, [], ◌∷◌, ◌++◌, length, get_or, take, drop, Some, None, ap, sym, subst, ◌∙◌}
+use Rattle.std.proofs.lemmas.List.{take-append-drop, take_more, drop_more}
+use Rattle.std.proofs.lemmas.Option.{same_Some}
 use Rattle.hp_units.specs.declared.replies.Record.{Record}
 use Rattle.hp_explore.specs.Outcomes.{OutcomeValue, outcome}
 use Rattle.hp_explore.specs.Paths.{IsForth, PathValue, state_at}
 use Rattle.hp_explore.specs.Schedules.{Setting, next_call, outcome_after, plays, record_of_call, schedule_of}
-use Rattle.hp_explore.proofs.Plays.{stops}
+use Rattle.hp_explore.proofs.Framing.{longer_schedule}
+use Rattle.hp_explore.proofs.Plays.{caller, stops}
 use Rattle.hp_find.specs.Searches.{IsOver}
 use Rattle.hp_explore.specs.Parts.{IsOfPart, PartValue}
 use Rattle.hp_part_files.specs.Ends.{IsEndOf}
-use Rattle.hp_part_files.proofs.Written.{drop_next}
-
-caller : (g : Setting) (news : List Record) (cpu : ℕ) (event : Event)
-    → (record_of_call g news cpu event).cpu ≡ cpu
-unfolding record_of_call
-caller g news cpu event = refl
 
 -- a call more of a schedule
 pub followed : (g : Setting) (schedule : List ℕ) (index cpu : ℕ) (p q : PathValue)
@@ -27,7 +21,7 @@ followed g schedule index cpu p q lt is here so_far forth =
     let r : Record = record_of_call p.setting p.news cpu forth.0 in (
       ap (λ (x : PathValue). x.setting) forth.3 ∙ here,
       ap (λ (x : PathValue). schedule_of x.news) forth.3
-          ∙ (map-append (λ (x : Record). x.cpu) p.news (r ∷ [])
+          ∙ (longer_schedule p.news r
           ∙ (ap (λ (l : List ℕ). l ++ r.cpu ∷ []) so_far
           ∙ (ap (λ (c : ℕ). take index schedule ++ c ∷ []) (caller p.setting p.news cpu forth.0 ∙ is)
           ∙ sym (take_more schedule index cpu lt)))),
@@ -41,23 +35,13 @@ pub unfollowed : (g : Setting) (schedule : List ℕ) (index cpu : ℕ) (p q : Pa
 unfollowed g schedule index cpu p q lt is here so_far played forth =
     let whole : take index schedule ++ cpu ∷ drop (index + 1) schedule ≡ schedule =
     ap (λ (l : List ℕ). take index schedule ++ l)
-    (ap (λ (c : ℕ). c ∷ drop (index + 1) schedule) is ∙ sym (drop_next schedule index cpu lt))
+    (ap (λ (c : ℕ). c ∷ drop (index + 1) schedule) is ∙ sym (drop_more schedule index cpu lt))
     ∙ take-append-drop index schedule in
     subst (λ (s : List ℕ). plays g s ≡ None) whole
     (stops g (take index schedule) (drop (index + 1) schedule) p.news cpu
     (subst (λ (s : List ℕ). plays g s ≡ Some p.news) so_far
     (subst (λ (h : Setting). plays h (schedule_of p.news) ≡ Some p.news) here played))
     (subst (λ (h : Setting). next_call h cpu p.news ≡ None) here forth.0))
-
--- a schedule that cannot be followed is not complete
-pub none_followed : (g : Setting) (part : PartValue) (schedule : List ℕ) → plays g schedule ≡ None
-    → IsEndOf g part schedule None
-none_followed g part schedule stopped = λ x ends. none-some ends.0.news (sym stopped ∙ ends.0.played)
-
--- nor one of another part
-pub none_there : (g : Setting) (part : PartValue) (schedule : List ℕ)
-    → (IsOfPart (length g.scripts) part schedule → ⊥) → IsEndOf g part schedule None
-none_there g part schedule other = λ x ends. other ends.1
 
 -- nor one after which a script goes on
 pub none_over : (part : PartValue) (p : PathValue) → plays p.setting (schedule_of p.news) ≡ Some p.news

@@ -52,15 +52,6 @@ none_missing of parts within placed d = elim (cases_lt of (length parts)) [
   | inr enough ↦ enough
 ]
 
--- and the last ones are missing
-pub end_missing : (of : ℕ) (parts : List PartEndsValue) → ArePlacedBelow (length parts) parts
-    → length parts < of → IsMissing parts of (length parts + 1)
-end_missing of parts placed less = (
-  omega arith,
-  omega (arith, less),
-  λ k d lt same. absurd (omega (arith, placed k d lt, same)),
-)
-
 -- all are there once
 pub all_placed : (of : ℕ) (parts : List PartEndsValue) → AreWithin of parts
     → ArePlacedBelow (length parts) parts → of ≤ length parts → AreInPlace of parts

@@ -1,5 +1,5 @@
 -- From what the search of a part says to what its text promises.
-use Rattle.std.proofs.Common.{◌≡◌, ℕ, ◌<◌, ◌≤◌, ◌*◌, ◌^◌, List, Option, Some, None, Result, Err, drop, length, take, refl, subst, ap}
+use Rattle.std.proofs.Common.{◌≡◌, ℕ, ◌<◌, ◌≤◌, ◌*◌, ◌^◌, List, Option, Some, None, Result, Err, drop, take, refl, subst, ap}
 use Rattle.std.specs.Str.{IsUtf8}
 use Rattle.hp_explore.specs.declared.exploring.Exploration.{Exploration}
 use Rattle.hp_explore.specs.declared.multinomials.HowMany.{HowMany}
@@ -8,22 +8,19 @@ use Rattle.hp_explore.specs.Faults.{HasMoreThan}
 use Rattle.hp_explore.specs.Fronts.{IfFirst, IfWhole}
 use Rattle.hp_explore.specs.Schedules.{Setting}
 use Rattle.hp_units.specs.LayoutParts.{LayoutParts}
-use Rattle.hp_find.specs.Faults.{find_fault_from}
-use Rattle.hp_explore.specs.declared.exploring.ExploreFault.{ExploreFault}
-use Rattle.hp_explore.specs.declared.exploring.ExploreFault.TheVariants as explore
 use Rattle.hp_lab.specs.Explorations.{HoldsAfter, InScenario, IsEndsCause, IsFaultOf, IsFaultWith, IsFull, IsMore, IsStoppedAfter}
 use Rattle.hp_lab.specs.declared.fault.LabFault.{LabFault}
 use Rattle.hp_scenario.specs.declared.lines.Line.{Line}
 use Rattle.hp_lab.specs.declared.fault.LabFault.TheVariants as lab
 use Rattle.hp_explore.specs.Fronts.{AreFirstInPart}
-use Rattle.hp_explore.specs.Parts.{EndsInPart, FillsPart, IsCausePart, IsCompleteInPart, PartValue}
+use Rattle.hp_explore.specs.Parts.{EndsInPart, FillsPart, IsCompleteInPart, PartValue}
 use Rattle.hp_scenario.specs.Gives.{◌>>=◌}
 use Rattle.hp_scenario.specs.Scenario.{scenario_in, scenario_of}
 use Rattle.hp_scenario.specs.declared.fault.ScenarioFault.{ScenarioFault}
 use Rattle.hp_scenario.specs.declared.fault.ScenarioFault.TheVariants.{NotJson}
 use Rattle.hp_scenario.proofs.Json.{json_refused}
 use Rattle.serde_json.specs.Data.{Data}
-use Rattle.hp_part_files.specs.Numbers.{NumberValue, part_by}
+use Rattle.hp_part_files.specs.Numbers.{NumberValue}
 use Rattle.hp_part_files.specs.Parts.{ArePartEnds, FillsPartOf, IsCallsFor, IsFullPart, IsPartCause}
 
 -- the ends are all of the part, or its first ones
@@ -55,7 +52,7 @@ refused input none =
 after_weaker : (P Q : Setting → Type 0) (l : LayoutParts) (before after : List Line)
     → ((g : Setting) → P g → Q g) → HoldsAfter P l before after → HoldsAfter Q l before after
 after_weaker P Q l before after f h =
-    record { start = h.start; sealed = h.sealed; run = h.run; holds = f _ h.holds }
+    record { start = h.start; scripts = h.scripts; begun = h.begun; holds = f _ h.holds }
 
 stopped_weaker : (P Q : Setting → Type 0) (input : List ℕ) (setup : ℕ) → ((g : Setting) → P g → Q g)
     → InScenario input (IsStoppedAfter P setup) → InScenario input (IsStoppedAfter Q setup)
@@ -91,13 +88,6 @@ full_part n input setup limit (lab.TooMany most) h = tt
 full_part n input setup limit (lab.HistoryFull needed) h =
     stopped_weaker (IsFull (IsPartCause n) needed) (FillsPartOf n) input setup (λ g x. x.0) h
 full_part n input setup limit lab.OutOfMemory h = tt
-
--- the cause of a fault of the part's search
-pub part_cause : (n : NumberValue) (g : Setting) (calls : ℕ) (fault : ExploreFault)
-    → IsCallsFor (length g.scripts) n.of calls → IsCausePart g (part_by n calls) fault
-    → IsPartCause n g (find_fault_from fault)
-part_cause n g calls explore.HistoryFull by h = (calls, by, h)
-part_cause n g calls explore.OutOfMemory by h = tt
 
 -- bytes that are no text are no scenario
 pub no_text : (input : List ℕ) (setup limit : ℕ) → (IsUtf8 input → ⊥)

@@ -2,12 +2,12 @@
 use Rattle.std.proofs.Common.{◌≡◌, ℕ, ◌+◌, ◌<◌, ◌≤◌, Option, Some, None, List, [], ◌∷◌, ◌++◌, length, take, drop, refl, ap, sym, subst, ◌∙◌, append_assoc, append-nil, arith, inl, inr}
 use Rattle.std.specs.List.{All}
 use Rattle.std.proofs.lemmas.List.{flat_map_more, length-append, length-take-le, take-append-drop, take-append-le, take_all}
-use Rattle.std.proofs.lemmas.List.Elements.{All-nil, All-push, All-weaker}
+use Rattle.std.proofs.lemmas.List.Elements.{All-nil, All-push}
 use Rattle.hp_explore.specs.declared.tally.Ending.{Ending}
 use Rattle.hp_explore.specs.Schedules.{Setting}
 use Rattle.hp_explore.specs.Parts.{EndsInPart}
 use Rattle.hp_text.specs.State.{newline}
-use Rattle.hp_part_files.specs.Gathered.{AreAll, AreOwn, AreWithin, GatheringValue, IsGathered, IsGathering, IsOwn, PartEndsValue, lines_of, lists_of, part_in}
+use Rattle.hp_part_files.specs.Gathered.{AreAll, GatheringValue, IsGathered, IsGathering, IsOwn, PartEndsValue, lines_of, lists_of, part_in}
 use Rattle.hp_explore.specs.Outcomes.{OutcomeValue}
 use Rattle.hp_part_files.specs.Ends.{IsEndOf}
 use Rattle.std.specs.Global.{Vec}
@@ -162,13 +162,6 @@ all_read names g s input place v parts past h whole are = record {
       subst (λ (ps : List PartEndsValue). All (IsOwn g s) ps) (sym are)
       (All-push (IsOwn g s) v.done v.last h.done h.last);
 }
-
--- their numbers are those of parts
-pub own_within : (g : Setting) (s : SearchValue) (parts : List PartEndsValue) → AreOwn g s parts
-    → AreWithin s.of parts
-own_within g s parts own =
-    All-weaker (IsOwn g s) (λ (p : PartEndsValue). (1 ≤ p.number) × (p.number ≤ s.of))
-    (λ p h. (h.some, h.within)) parts own
 
 -- what a schedule that was played ends with
 pub own_end : (g : Setting) (s : SearchValue) (v : GatheringValue) (number : ℕ) (schedule items : List ℕ)

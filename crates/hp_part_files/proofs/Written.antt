@@ -1,5 +1,6 @@
 -- The lines of parts, one more after another.
-use Rattle.std.proofs.Common.{◌≡◌, ℕ, ◌+◌, ◌<◌, List, [], ◌∷◌, ◌++◌, length, get_or, drop, ap, sym, ◌∙◌, append_assoc, append-nil, add-zero, arith, add-one, drop-cons}
+use Rattle.std.proofs.Common.{◌≡◌, ℕ, ◌+◌, ◌<◌, List, [], ◌∷◌, ◌++◌, length, get_or, drop, ap, sym, ◌∙◌, append_assoc, append-nil, add-zero, arith}
+use Rattle.std.proofs.lemmas.List.{drop_more}
 use Rattle.hp_explore.specs.declared.tally.Ending.{Ending}
 use Rattle.hp_explore.specs.Schedules.{Setting}
 use Rattle.hp_text.specs.State.{newline}
@@ -31,12 +32,6 @@ end_lines_push names g number (x ∷ ends) e =
     ∙ ap (λ (n : ℕ). (front ++ end_lines names g (number + 1) ends) ++ (end_line names g n e ++ newline))
     next)
 
--- a list from a place on
-pub drop_next : {X : Type 0} (xs : List X) (i : ℕ) (d : X) → i < length xs
-    → drop i xs ≡ get_or xs i d ∷ drop (i + 1) xs
-drop_next {X = X} xs i d lt =
-    drop-cons xs i d lt ∙ ap (λ (n : ℕ). get_or xs i d ∷ drop n xs) (sym (add-one i))
-
 -- an end is written, and others are still to be
 pub end_written : (names : List (List ℕ)) (g : Setting) (ends : List Ending) (index : ℕ) (e : Ending)
     (now new whole : List ℕ)
@@ -48,7 +43,7 @@ end_written names g ends index e now new whole lt is so_far more =
     let line : List ℕ = end_line names g (index + 1) e ++ newline in
     let rest : List ℕ = end_lines names g (index + 1 + 1) (drop (index + 1) ends) in
     let front : drop index ends ≡ e ∷ drop (index + 1) ends =
-    drop_next ends index e lt ∙ (ap (λ (x : Ending). x ∷ drop (index + 1) ends) (sym is)) in
+    drop_more ends index e lt ∙ (ap (λ (x : Ending). x ∷ drop (index + 1) ends) (sym is)) in
     ap (λ (l : List ℕ). l ++ rest) more
     ∙ (append_assoc now line rest
     ∙ (ap (λ (es : List Ending). now ++ end_lines names g (index + 1) es) (sym front) ∙ so_far))

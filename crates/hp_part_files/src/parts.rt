@@ -8,9 +8,9 @@ ghost use Rattle.hp_part_files.specs.Parts.{IsFullPart, IsPartCause, IsPartOf, I
 use crate::heads::Search;
 use crate::numbers::PartNumber;
 use crate::writing::write_part;
-use hp_explore::{Exploration, ExploreFault, Watch, explore_part};
+use hp_explore::{Exploration, ExploreFault, Watch, explore_part, total_of};
 use hp_find::FindFault;
-use hp_lab::{Finding, LabFault, Prepared, prepare, total_of, write_more};
+use hp_lab::{Finding, LabFault, Prepared, prepare, write_more};
 use hp_parts::calls_for;
 use simdutf8::basic::from_utf8;
 use std::alloc::Global;

@@ -1,7 +1,7 @@
-//! How many interleavings are known before any call.
+//! Where a search begins, and how many interleavings are known before any call.
 use super::explorations::scenario;
-use hp_lab::interleavings_line;
 use hp_scenario::Scenario;
+use hp_scripts::{front_of, interleavings_line, start_of};
 use std::alloc::{AllocError, Global};
 use std::test::Fail;
 
@@ -48,5 +48,31 @@ fn interleavings_are_known_before_any_call(rt: HostRuntime) -> Result<(), Fail> 
     for (lines, setup, text) in COUNTED {
         assert!(rt; says(rt.alloc(), lines, *setup, text)?, "{lines}");
     }
+    Ok(())
+}
+
+/// Whether a search after one line of setup begins with its record and two scripts.
+fn begins_after_one(alloc: Global, scenario: &Scenario) -> bool {
+    match start_of(alloc, scenario, 1) {
+        Ok(start) => start.machine.last_serial() == 1 && start.scripts.len() == 2,
+        Err(_fault) => false,
+    }
+}
+
+/// Whether this is so of a scenario of three lines, of which the first alone is the setup.
+fn has_one_line_of_setup(alloc: Global) -> Result<bool, AllocError> {
+    let bytes = scenario(alloc, 40, "0 drain 0;1 drain 0;0 drain 1")?;
+    match Scenario::read(alloc, bytes.as_bytes()) {
+        Ok(read) => {
+            let is_front = front_of(read.lines.as_slice(), 1).len() == 1;
+            Ok(is_front && begins_after_one(alloc, &read))
+        }
+        Err(_fault) => Ok(false),
+    }
+}
+
+#[test]
+fn searches_begin_after_the_setup(rt: HostRuntime) -> Result<(), Fail> {
+    assert!(rt; has_one_line_of_setup(rt.alloc())?);
     Ok(())
 }

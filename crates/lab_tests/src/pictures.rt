@@ -170,16 +170,21 @@ fn rows_are_drawn(rt: HostRuntime) -> Result<(), Fail> {
 }
 
 /// A word that a control file does not take.
-const PLAIN: &[u8] =
-    br#"{"layout":{"order":2,"pageblocks":1,"blocks":3,"cpus":1,"batch":2,"high":2,"owners":1,"pages":4,"words":1,"history":9,"boot":["normal","movable","offline"]},"calls":["0 echo word memory1/state"]}"#;
+const PLAIN: &[u8] = br#"{"layout":{"order":2,"pageblocks":1,"blocks":3,"cpus":1,"batch":2,"high":2,
+"owners":1,"pages":4,"words":1,"history":9,"boot":["normal","movable","offline"]},
+"calls":["0 echo word memory1/state"]}"#;
 
 /// Another, which looks like a memory block, and like the end of one with a space.
 const BRACKETS: &[u8] =
-    br#"{"layout":{"order":2,"pageblocks":1,"blocks":3,"cpus":1,"batch":2,"high":2,"owners":1,"pages":4,"words":1,"history":9,"boot":["normal","movable","offline"]},"calls":["0 echo 0:N[....]][\t1:M[aa] memory1/state"]}"#;
+    br#"{"layout":{"order":2,"pageblocks":1,"blocks":3,"cpus":1,"batch":2,"high":2,
+"owners":1,"pages":4,"words":1,"history":9,"boot":["normal","movable","offline"]},
+"calls":["0 echo 0:N[....]][\t1:M[aa] memory1/state"]}"#;
 
 /// Another, with what a terminal obeys, a line end and brackets.
 const HOSTILE: &[u8] =
-    br#"{"layout":{"order":2,"pageblocks":1,"blocks":3,"cpus":1,"batch":2,"high":2,"owners":1,"pages":4,"words":1,"history":9,"boot":["normal","movable","offline"]},"calls":["0 echo \u001b[31m\n\u009b]0:N[....] memory1/state"]}"#;
+    br#"{"layout":{"order":2,"pageblocks":1,"blocks":3,"cpus":1,"batch":2,"high":2,
+"owners":1,"pages":4,"words":1,"history":9,"boot":["normal","movable","offline"]},
+"calls":["0 echo \u001b[31m\n\u009b]0:N[....] memory1/state"]}"#;
 
 /// All lines, in rows that may take any width.
 const ALL: View = View {

@@ -1,29 +1,19 @@
-use Rattle.std.proofs.Common.{refl, rules}
+use Rattle.std.proofs.Common.{refl}
 use Rattle.hp_explore.specs.Schedules.{setting}
 use Rattle.hp_lab.specs.Objects.{played_list}
 use Rattle.hp_lab.proofs.Played.{calls_written, has_start, none_written}
 use Rattle.hp_lab.proofs.objects.write_played.Goals as goal
 
-pub slice_bounds-write_calls-count : goal.slice_bounds-write_calls-count
-slice_bounds-write_calls-count c =
+pub calls_after-requires : goal.calls_after-requires
+calls_after-requires c =
     has_start (setting c.args.machine.now c.args.scripts.now) c.args.schedule.now c.in_ok-played.field-0
-    c.in-Some.played c.history-start.result.now c.history.result.now c.in-Some.is c.in_ok-played.ensures.ok
-    c.history-start.ensures.records c.history.ensures.records
-
-pub slice_bounds-write_calls-start : goal.slice_bounds-write_calls-start
-slice_bounds-write_calls-start c =
-    let within =
-    has_start (setting c.args.machine.now c.args.scripts.now) c.args.schedule.now c.in_ok-played.field-0
-    c.in-Some.played c.history-start.result.now c.history.result.now c.in-Some.is c.in_ok-played.ensures.ok
-    c.history-start.ensures.records c.history.ensures.records in
-    search rules
+    c.in-Some.played c.in-Some.is c.in_ok-played.ensures.ok
 
 pub returns-in_ok-write_calls-clause-ok : goal.returns-in_ok-write_calls-clause-ok
 returns-in_ok-write_calls-clause-ok c =
     calls_written (played_list c.args.names.now.keys) (setting c.args.machine.now c.args.scripts.now)
-    c.args.schedule.now c.in_ok-played.field-0 c.in-Some.played c.history-start.result.now
-    c.history.result.now _ _ c.in-Some.is c.in_ok-played.ensures.ok c.history-start.ensures.records
-    c.history.ensures.records c.in_ok-write_calls.ensures
+    c.args.schedule.now c.in_ok-played.field-0 c.in-Some.played c.calls_after.result.now _ _ c.in-Some.is
+    c.in_ok-played.ensures.ok c.calls_after.ensures c.in_ok-write_calls.ensures
 
 pub returns-in_default-clause-ok : goal.returns-in_default-clause-ok
 returns-in_default-clause-ok c =

@@ -1,0 +1,65 @@
+-- The lines after the setup as scripts (own rule).
+use Rattle.std.specs.Prelude.{ℕ, ◌==◌, ◌||◌, Bool, false, if◌then◌else◌, List, [], ◌∷◌, ◌++◌, Option, Some, None, map}
+use Rattle.std.specs.List.{range_with_len}
+use Rattle.std.specs.Option.{option_map_or}
+use Rattle.hp_units.specs.declared.events.Event.{Event}
+use Rattle.hp_units.specs.declared.events.Event.TheVariants as event
+use Rattle.hp_explore.specs.Scripts.{work_of}
+use Rattle.hp_explore.specs.declared.scripts.Line as step
+use Rattle.hp_explore.specs.declared.scripts.Line.TheVariants.{Ask, Own, Carry}
+use Rattle.hp_explore.specs.declared.scripts.Work as own
+use Rattle.hp_explore.specs.declared.scripts.Work.TheVariants.{DrainFor, Migrate, Commit, Cancel}
+use Rattle.hp_scenario.specs.Asked as asks
+use Rattle.hp_scenario.specs.declared.lines.Line.{Line}
+use Rattle.hp_scripts.specs.Begins.{last_begun, line_begins}
+use Rattle.hp_scripts.specs.declared.begins.Begin.{Begin}
+
+-- work on an operation, where its number is 0
+abbrev pub own_if_last : (op : ℕ) → own.Work → Option own.Work
+own_if_last op w = if op == 0 then Some w else None
+
+abbrev pub own_work : Event → Option own.Work
+own_work (event.DrainFor op cpu) = own_if_last op (DrainFor cpu)
+own_work (event.Migrate op) = own_if_last op Migrate
+own_work (event.Commit op) = own_if_last op Commit
+own_work (event.Cancel op) = own_if_last op Cancel
+own_work e = None
+
+-- that stands for the operation which the processor began last: op, unless its script has begun one
+abbrev pub own_step : (op : ℕ) → (begun : Bool) → own.Work → step.Line
+own_step op begun w = if begun then Own w else Ask (work_of op w)
+
+-- an event as a step of a script
+abbrev pub called : (op : ℕ) → (begun : Bool) → Event → step.Line
+called op begun e = option_map_or (own_step op begun) (own_work e) (Ask e)
+
+-- what a line asks for as a step; reading a file, a seal, and a text that a file does not take make no call
+abbrev pub explored : (op : ℕ) → (begun : Bool) → asks.Meaning → Option step.Line
+explored op begun (asks.event e) = Some (called op begun e)
+explored op begun (asks.plan items turns) = Some (Carry items turns)
+explored op begun (asks.not_taken fault) = None
+explored op begun (asks.cat path) = None
+explored op begun asks.seal = None
+
+-- the step of a processor that a line is, if it is one
+abbrev pub steps_of : Option step.Line → List step.Line
+steps_of None = []
+steps_of (Some s) = s ∷ []
+
+abbrev pub line_for : (cpu : ℕ) → (op : ℕ) → (begun : Bool) → Line → List step.Line
+line_for cpu op begun line =
+    if line.cpu == cpu then steps_of (explored op begun (asks.asked_by line.work)) else []
+
+-- the steps of a processor that lines are
+abbrev pub steps_in : (cpu : ℕ) → (op : ℕ) → (begun : Bool) → List Line → List step.Line
+steps_in cpu op begun [] = []
+steps_in cpu op begun (line ∷ lines) =
+    line_for cpu op begun line ++ steps_in cpu op (begun || line_begins cpu line) lines
+
+-- a processor's script, after these Begins
+abbrev pub script_of : List Begin → List Line → (cpu : ℕ) → List step.Line
+script_of begins lines cpu = steps_in cpu (last_begun cpu begins) false lines
+
+-- the script of each processor, from 0 on
+abbrev pub scripts_of : (cpus : ℕ) → List Begin → List Line → List (List step.Line)
+scripts_of cpus begins lines = map (script_of begins lines) (range_with_len 0 cpus)

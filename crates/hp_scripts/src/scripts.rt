@@ -1,0 +1,149 @@
+//! The lines after the setup, as a script for each processor.
+ghost use Rattle.std.specs.Prelude.{◌≡◌, ◌++◌, IfOk, OnOk};
+ghost use Rattle.hp_explore.specs.Scripts.{work_of};
+ghost use Rattle.hp_scenario.specs.Asked.{asked_by};
+ghost use Rattle.hp_scripts.specs.Scripts.{called, explored, line_for, own_if_last, own_step, own_work, script_of, scripts_of};
+
+use crate::begins::{Begin, last_begun, line_begins};
+use hp_explore::{Line as Step, Script, Work as OwnWork};
+use hp_scenario::{Asked, Line, Work};
+use hp_units::{Cpu, Event, Plan, Serial};
+use std::alloc::{AllocError, Global};
+
+/// The script of each processor, from 0 on, after these Begins. A line that cannot stand in a
+/// script is left out. An error is out of memory.
+pub(crate) fn scripts_of(
+    alloc: Global,
+    cpus: u32,
+    begins: &[Begin],
+    lines: &[Line],
+) -> Result<Vec<Script>, AllocError>
+    ensures { IfOk result (λ scripts. scripts.items ≡ scripts_of cpus begins.now lines.now) }
+{
+    let mut scripts = Vec::new(alloc);
+    for cpu in 0..cpus {
+        scripts.reserve(1)?;
+        let script = script_of(alloc, Cpu(cpu), begins, lines)?;
+        scripts.push_reserved(script);
+    }
+    Ok(scripts)
+}
+
+/// The script of a processor: its lines in order. An error is out of memory.
+fn script_of(
+    alloc: Global,
+    cpu: Cpu,
+    begins: &[Begin],
+    lines: &[Line],
+) -> Result<Script, AllocError>
+    ensures { IfOk result (λ script. script ≡ script_of begins.now lines.now cpu) }
+{
+    let op = last_begun(cpu, begins);
+    let mut steps = Vec::new(alloc);
+    let mut has_begun = false;
+    for line in lines {
+        push_line(&mut steps, alloc, cpu, op, has_begun, line)?;
+        has_begun = has_begun || line_begins(cpu, line);
+    }
+    Ok(Script::new(steps))
+}
+
+/// Adds a line to the steps of a processor, if it is the processor's.
+fn push_line(
+    steps: &mut Vec<Step>,
+    alloc: Global,
+    cpu: Cpu,
+    op: Serial,
+    has_begun: bool,
+    line: &Line,
+) -> Result<(), AllocError>
+    ensures { OnOk result (steps.new.items ≡ steps.old.items ++ line_for cpu op has_begun line.now) }
+{
+    if line.cpu != cpu {
+        return Ok(());
+    }
+    if let Some(step) = explored(alloc, op, has_begun, &line.work)? {
+        steps.push(step)?;
+    }
+    Ok(())
+}
+
+/// What a line asks for as a step of a script, if it can stand in one. An error is out of memory.
+fn explored(
+    alloc: Global,
+    op: Serial,
+    has_begun: bool,
+    work: &Work,
+) -> Result<Option<Step>, AllocError>
+    ensures { IfOk result (λ step. step ≡ explored op has_begun (asked_by work.now)) }
+{
+    match work.asked() {
+        Asked::Event(event) => Ok(Some(called(alloc, op, has_begun, event)?)),
+        Asked::Plan { plan, turns } => Ok(Some(carried(alloc, plan, turns)?)),
+        Asked::NotTaken(_fault) => Ok(None),
+        Asked::Cat { path: _ } => Ok(None),
+        Asked::Seal => Ok(None),
+    }
+}
+
+/// An event as a step. Where it works on operation 0, that is the one that the processor began
+/// last. An error is out of memory.
+fn called(alloc: Global, op: Serial, has_begun: bool, event: &Event) -> Result<Step, AllocError>
+    ensures { IfOk result (λ step. step ≡ called op has_begun event.now) }
+{
+    match own_work(event) {
+        Some(work) => Ok(own_step(op, has_begun, work)),
+        None => Ok(Step::Ask(event.copy(alloc)?)),
+    }
+}
+
+/// Work on the operation that the processor began last: this one, unless its script has begun one.
+fn own_step(op: Serial, has_begun: bool, work: OwnWork) -> Step
+    ensures { result ≡ own_step op has_begun work }
+{
+    if has_begun {
+        Step::Own(work)
+    } else {
+        Step::Ask(work_on(op, work))
+    }
+}
+
+/// The event of work on an operation.
+fn work_on(op: Serial, work: OwnWork) -> Event
+    ensures { result ≡ work_of op work }
+{
+    match work {
+        OwnWork::DrainFor { cpu } => Event::DrainFor { op, cpu },
+        OwnWork::Migrate => Event::Migrate { op },
+        OwnWork::Commit => Event::Commit { op },
+        OwnWork::Cancel => Event::Cancel { op },
+    }
+}
+
+/// A plan as a step. An error is out of memory.
+fn carried(alloc: Global, plan: &Plan, turns: u32) -> Result<Step, AllocError>
+    ensures { IfOk result (λ step. step ≡ Step.Carry plan.now turns) }
+{
+    let plan = plan.copy(alloc)?;
+    Ok(Step::Carry { plan, turns })
+}
+
+/// What an event asks of operation 0, if it works on that.
+pub(crate) fn own_work(event: &Event) -> Option<OwnWork>
+    ensures { result ≡ own_work event.now }
+{
+    match event {
+        Event::DrainFor { op, cpu } => own_if_last(*op, OwnWork::DrainFor { cpu: *cpu }),
+        Event::Migrate { op } => own_if_last(*op, OwnWork::Migrate),
+        Event::Commit { op } => own_if_last(*op, OwnWork::Commit),
+        Event::Cancel { op } => own_if_last(*op, OwnWork::Cancel),
+        _ => None,
+    }
+}
+
+/// The work, where the operation's number is 0.
+fn own_if_last(op: Serial, work: OwnWork) -> Option<OwnWork>
+    ensures { result ≡ own_if_last op work }
+{
+    if op == Serial(0) { Some(work) } else { None }
+}

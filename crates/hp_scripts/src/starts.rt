@@ -1,0 +1,95 @@
+//! The machine after the setup of a scenario, and the scripts of its later lines.
+ghost use Rattle.std.specs.Prelude.{◌≡◌, ◌^◌, ◌<◌, IfErr, IfOk, drop, length, take};
+ghost use Rattle.hp_scenario.specs.Seen.{scenario_seen};
+ghost use Rattle.hp_scripts.specs.Starts.{HasNoStart, HasStart, IsStart};
+
+use crate::begins::note_begins;
+use crate::checks::check_lines;
+use crate::fault::StartFault;
+use crate::scripts::scripts_of;
+use crate::setup::run_lines;
+use hp_explore::Script;
+use hp_machine::Machine;
+use hp_scenario::{Line, Scenario};
+use hp_units::Layout;
+use std::alloc::{AllocError, Global};
+
+/// Where a search begins.
+pub struct Start {
+    /// The machine after the setup.
+    pub machine: Machine,
+    /// The script of each processor, from 0 on.
+    pub scripts: Vec<Script>,
+}
+
+/// A function of its own, so that no proof of a caller takes the fields apart.
+impl Drop for Start {
+    fn drop(self) {
+        let Start {
+            machine: _machine,
+            scripts: _scripts,
+        } = self;
+    }
+}
+
+/// Where a search of a scenario begins: its first `setup` lines are run in order on one machine, and
+/// each later line goes to the script of its processor, where 0 for the number of an operation stands
+/// for the one that this processor began last (own rule).
+///
+/// Errors: NotForScript with the first line after the setup that cannot stand in a script; OutOfMemory,
+/// which may come in place of any answer.
+pub fn start_of(alloc: Global, scenario: &Scenario, setup: u64) -> Result<Start, StartFault>
+    ensures ok { IfOk result
+        (λ start. HasStart (scenario_seen scenario.now) setup start.machine start.scripts.items) }
+    ensures few { IfOk result (λ start. length start.scripts.items < 2 ^ 32) }
+    ensures err { IfErr result (HasNoStart (scenario_seen scenario.now) setup) }
+{
+    let cpus = scenario.layout.cpus();
+    let lines = scenario.lines.as_slice();
+    let before = front_of(lines, setup);
+    let after = rest_of(lines, setup);
+    check_lines(cpus, before.len() as u64, after)?;
+    Ok(start_after(alloc, &scenario.layout, before, after)?)
+}
+
+/// The machine after lines that are run first, and the scripts of the lines after them. An error is
+/// out of memory.
+fn start_after(
+    alloc: Global,
+    layout: &Layout,
+    before: &[Line],
+    after: &[Line],
+) -> Result<Start, AllocError>
+    ensures is { IfOk result
+        (λ start. IsStart layout.now before.now after.now start.machine start.scripts.items) }
+    ensures few { IfOk result (λ start. length start.scripts.items < 2 ^ 32) }
+{
+    let mut machine = Machine::boot(alloc, layout)?;
+    let mut begins = Vec::new(alloc);
+    run_lines(alloc, &mut machine, &mut begins, before)?;
+    note_begins(&mut begins, machine.history())?;
+    let scripts = scripts_of(alloc, layout.cpus(), &begins, after)?;
+    Ok(Start { machine, scripts })
+}
+
+/// The first lines, as many as there are up to a number.
+pub fn front_of(lines: &[Line], count: u64) -> &[Line]
+    ensures { result.now ≡ take count lines.now }
+{
+    if count < lines.len() as u64 {
+        &lines[..count as usize]
+    } else {
+        lines
+    }
+}
+
+/// The lines after the first so many.
+pub(crate) fn rest_of(lines: &[Line], count: u64) -> &[Line]
+    ensures { result.now ≡ drop count lines.now }
+{
+    if count < lines.len() as u64 {
+        &lines[count as usize..]
+    } else {
+        &lines[lines.len()..]
+    }
+}

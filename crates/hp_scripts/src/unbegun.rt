@@ -1,0 +1,85 @@
+//! Scripts that work on operation 0 where their processor has begun none.
+ghost use Rattle.std.specs.Prelude.{◌≡◌, ◌++◌, IfOk, OnOk};
+ghost use Rattle.hp_scenario.specs.Asked.{asked_by};
+ghost use Rattle.hp_scripts.specs.Unbegun.{asked_names_last, line_names_last, unbegun_at, unbegun_lines, unbegun_of};
+
+use crate::begins::line_begins;
+use crate::scripts::own_work;
+use hp_scenario::{Asked, Line, Work};
+use hp_units::Cpu;
+use std::alloc::{AllocError, Global};
+
+/// A line of a script that works on operation 0, where no line of its processor before it begins an
+/// operation.
+#[derive(Clone, Copy, Drop)]
+pub struct Unbegun {
+    /// The processor.
+    pub cpu: Cpu,
+    /// The line; lines are counted from 1.
+    pub line: u64,
+}
+
+/// The first such line of each processor, by rising processors, where the first `setup` lines are the
+/// setup and the later ones stand in scripts (own rule). An error is out of memory.
+pub fn unbegun_lines(
+    alloc: Global,
+    cpus: u32,
+    setup: u64,
+    lines: &[Line],
+) -> Result<Vec<Unbegun>, AllocError>
+    ensures { IfOk result (λ found. found.items ≡ unbegun_lines cpus setup lines.now) }
+{
+    let mut found = Vec::new(alloc);
+    for cpu in 0..cpus {
+        push_unbegun(&mut found, Cpu(cpu), setup, lines)?;
+    }
+    Ok(found)
+}
+
+/// Adds the first such line of a processor, if there is one.
+fn push_unbegun(
+    found: &mut Vec<Unbegun>,
+    cpu: Cpu,
+    setup: u64,
+    lines: &[Line],
+) -> Result<(), AllocError>
+    ensures { OnOk result (found.new.items ≡ found.old.items ++ unbegun_of cpu setup lines.now) }
+{
+    if let Some(line) = unbegun_line(cpu, setup, lines) {
+        found.push(Unbegun { cpu, line })?;
+    }
+    Ok(())
+}
+
+/// The number of the first such line of a processor, if there is one.
+fn unbegun_line(cpu: Cpu, setup: u64, lines: &[Line]) -> Option<u64>
+    ensures { result ≡ unbegun_at cpu setup 0 lines.now }
+{
+    for index in 0..lines.len() {
+        let line = &lines[index];
+        if line_begins(cpu, line) {
+            return None;
+        }
+        if index as u64 >= setup && line_names_last(cpu, line) {
+            return Some(index as u64 + 1);
+        }
+    }
+    None
+}
+
+/// Whether a line is a processor's and works on operation 0.
+fn line_names_last(cpu: Cpu, line: &Line) -> bool
+    ensures { result ≡ line_names_last cpu line.now }
+{
+    line.cpu == cpu && work_names_last(&line.work)
+}
+
+/// Whether what a line asks for is work on operation 0.
+fn work_names_last(work: &Work) -> bool
+    ensures { result ≡ asked_names_last (asked_by work.now) }
+{
+    match work.asked() {
+        Asked::Event(event) => own_work(event).is_some(),
+        _ => false,
+    }
+}
