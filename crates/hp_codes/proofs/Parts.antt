@@ -18,7 +18,8 @@ use Rattle.hp_units.specs.declared.rows.Wish.TheVariants.{Off as OffWish, Normal
 use Rattle.hp_units.specs.declared.rows.Zone.{Zone}
 use Rattle.hp_units.specs.declared.rows.Zone.TheVariants.{Normal as NormalZone, Movable as MovableZone}
 use Rattle.hp_codes.specs.Numbers.{number_code, option_code}
-use Rattle.hp_codes.specs.Parts.{auto_number, claim_code, counted_code, kind_code, kind_number, row_code, state_number, wish_number, words_code, zone_number}
+use Rattle.hp_units.specs.Rows.{state_number, zone_number}
+use Rattle.hp_codes.specs.Parts.{auto_number, claim_code, counted_code, kind_code, kind_number, row_code, wish_number, words_code}
 use Rattle.hp_codes.specs.Codes.{state_code}
 use Rattle.hp_codes.proofs.Apart.{TellsApart, counted-apart, heads, many-apart, number-apart, option-apart, rows-apart, words-apart}
 

@@ -8,12 +8,9 @@ use Rattle.hp_units.specs.declared.rows.Kind.{Kind}
 use Rattle.hp_units.specs.declared.rows.Mobility.{Mobility}
 use Rattle.hp_units.specs.declared.rows.Mobility.TheVariants.{Unmovable, Movable}
 use Rattle.hp_units.specs.declared.rows.Row.{Row}
-use Rattle.hp_units.specs.declared.rows.State.{State}
-use Rattle.hp_units.specs.declared.rows.State.TheVariants.{Offline as OfflineState, Online as OnlineState, Going as GoingState, Absent as AbsentState}
 use Rattle.hp_units.specs.declared.rows.Wish.{Wish}
 use Rattle.hp_units.specs.declared.rows.Wish.TheVariants.{Off as OffWish, Normal as NormalWish, Movable as MovableWish}
-use Rattle.hp_units.specs.declared.rows.Zone.{Zone}
-use Rattle.hp_units.specs.declared.rows.Zone.TheVariants.{Normal as NormalZone, Movable as MovableZone}
+use Rattle.hp_units.specs.Rows.{state_number, zone_number}
 use Rattle.hp_codes.specs.Numbers.{number_code}
 
 -- numbers whose count the layout doesn't say, as a list of frames
@@ -36,17 +33,6 @@ abbrev pub kind_code : Kind → List ℕ
 kind_code kind = kind_number kind.mobility kind.isolated ∷ []
 
 -- the row of a memory block: its state, its zone and its claim
-abbrev pub state_number : State → ℕ
-state_number OfflineState = 0
-state_number OnlineState = 1
-state_number GoingState = 2
-state_number AbsentState = 3
-
-abbrev pub zone_number : Option Zone → ℕ
-zone_number None = 0
-zone_number (Some NormalZone) = 1
-zone_number (Some MovableZone) = 2
-
 abbrev pub wish_number : Wish → ℕ
 wish_number OffWish = 1
 wish_number NormalWish = 2

@@ -16,4 +16,3 @@ mod texts;
 
 pub use codes::Codes;
 pub use laws::codes_tell_states_apart;
-pub use memories::{state_number, zone_number};

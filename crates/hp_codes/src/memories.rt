@@ -6,13 +6,13 @@ ghost use Rattle.hp_units.specs.Pages.{words_at};
 ghost use Rattle.hp_units.specs.Placement.{IsShaped};
 ghost use Rattle.hp_codes.specs.Codes.{state_code};
 ghost use Rattle.hp_codes.specs.Numbers.{option_code};
-ghost use Rattle.hp_codes.specs.Parts.{auto_number, claim_code, counted_code, kind_code, kind_number, row_code, state_number, wish_number, words_code, zone_number};
+ghost use Rattle.hp_codes.specs.Parts.{auto_number, claim_code, counted_code, kind_code, kind_number, row_code, wish_number, words_code};
 
 use crate::code::Code;
 use hp_memory::Memory;
 use hp_units::{
     Auto, Block, Claim, Class, Cpu, Frame, Kind, Mobility, Order, Owner, Page, Pageblock, Pool,
-    Row, State, Wish, Zone,
+    Row, Wish,
 };
 use std::alloc::AllocError;
 
@@ -204,9 +204,10 @@ fn put_rows(code: &mut Code, memory: &Memory) -> Result<(), AllocError>
 fn put_row(code: &mut Code, row: Row) -> Result<(), AllocError>
     ensures { OnOk result (code.new ≡ code.old ++ row_code row) }
 {
-    code.byte(state_number(row.state))?;
-    code.byte(zone_number(row.zone))?;
-    put_claim(code, row.claim)
+    let claim = row.claim;
+    code.byte(row.state.number())?;
+    code.byte(row.zone_number())?;
+    put_claim(code, claim)
 }
 
 /// A claim, if there is one.
@@ -219,29 +220,6 @@ fn put_claim(code: &mut Code, claim: Option<Claim>) -> Result<(), AllocError>
             code.byte(wish_number(claim.wish))?;
             code.number(claim.op.0)
         }
-    }
-}
-
-/// The number of a memory block's state, from 0 to 3.
-pub fn state_number(state: State) -> u8
-    ensures { result ≡ state_number state }
-{
-    match state {
-        State::Offline => 0,
-        State::Online => 1,
-        State::Going => 2,
-        State::Absent => 3,
-    }
-}
-
-/// The number of a memory block's zone: 0 where it has none, and else 1 or 2.
-pub fn zone_number(zone: Option<Zone>) -> u8
-    ensures { result ≡ zone_number zone }
-{
-    match zone {
-        None => 0,
-        Some(Zone::Normal) => 1,
-        Some(Zone::Movable) => 2,
     }
 }
 

@@ -1,8 +1,9 @@
 -- Parts without a fault are within their limits.
-use Rattle.std.proofs.Common.{◌≡◌, ℕ, ◌≤◌, ◌*◌, ◌^◌, Bool, true, false, length, Option, Some, None, refl, arith, inl, inr}
+use Rattle.std.proofs.Common.{◌≡◌, ℕ, ◌≤◌, ◌<◌, ◌*◌, ◌^◌, Bool, true, false, length, Option, Some, None, refl, arith, inl, inr}
 use Rattle.std.specs.Prelude.{not, ◌⊎◌, ◌&&◌, ◌||◌, ◌==◌, nat_le}
 use Rattle.std.specs.Bool.{then_some}
 use Rattle.std.specs.Option.{option_or}
+use Rattle.std.proofs.Math.Pow.{pow_mono}
 use Rattle.std.proofs.lemmas.Bool.{leb-true, eqb-true, and_parts, false≢true}
 use Rattle.hp_units.specs.declared.layouts.LayoutFault.TheVariants.{BadOrder, BadPageblocks, BadBlocks, TooManyFrames, BadCpus, BadMarks, BadOwners, BadPages, BadWords, BadLimit, BadBoot}
 use Rattle.hp_units.specs.LayoutParts.{LayoutParts, IsLayout, layout_fault, frame_fault, processor_fault, owner_fault, is_within, is_pageblock_count}
@@ -116,3 +117,33 @@ within_limits l none =
       history = (within 1 (2 ^ 24) l.history history.0).1;
       boot = eqb-true (length l.boot) l.blocks boot.0;
     }
+
+-- all parts of a layout but its limit of records are numbers of 32 bits
+pub record AreShort (l : LayoutParts) : Type 0 where
+  pub order : l.order < 2 ^ 32
+  pub pageblocks : l.pageblocks < 2 ^ 32
+  pub blocks : l.blocks < 2 ^ 32
+  pub cpus : l.cpus < 2 ^ 32
+  pub batch : l.batch < 2 ^ 32
+  pub high : l.high < 2 ^ 32
+  pub owners : l.owners < 2 ^ 32
+  pub pages : l.pages < 2 ^ 32
+  pub words : l.words < 2 ^ 32
+
+short_of : (l : LayoutParts) → IsLayout l → AreShort l
+short_of l limits =
+    let power : 2 ^ limits.pageblocks.0 ≤ 2 ^ 6 = pow_mono limits.pageblocks.1 in
+    record {
+      order = omega (arith, limits.order);
+      pageblocks = omega (arith, power, limits.pageblocks.2);
+      blocks = omega (arith, limits.blocks);
+      cpus = omega (arith, limits.cpus);
+      batch = omega (arith, limits.batch, limits.high);
+      high = omega (arith, limits.high);
+      owners = omega (arith, limits.owners);
+      pages = omega (arith, limits.pages);
+      words = omega (arith, limits.words);
+    }
+
+pub short_within : (l : LayoutParts) → layout_fault l ≡ None → AreShort l
+short_within l none = short_of l (within_limits l none)

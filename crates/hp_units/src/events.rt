@@ -150,84 +150,104 @@ impl Event {
     pub fn same(&self, other: &Event) -> bool
         ensures { IsTrue result ↔ (self.now ≡ other.now) }
     {
-        match (self, other) {
-            (Event::KernelAlloc { order }, Event::KernelAlloc { order: other_order }) => order
-                == other_order,
-            (Event::KernelFree { frame }, Event::KernelFree { frame: other_frame }) => frame
-                == other_frame,
-            (
-                Event::Map { owner, page },
+        match self {
+            Event::Begin { plan } => match other {
+                Event::Begin { plan: other } => plan.same(other),
+                _ => false,
+            },
+            Event::KernelAlloc { order } => match other {
+                Event::KernelAlloc { order: other } => order == other,
+                _ => false,
+            },
+            Event::KernelFree { frame } => match other {
+                Event::KernelFree { frame: other } => frame == other,
+                _ => false,
+            },
+            Event::Map { owner, page } => match other {
                 Event::Map {
                     owner: other_owner,
                     page: other_page,
-                },
-            ) => owner == other_owner && page == other_page,
-            (
-                Event::Unmap { owner, page },
+                } => owner == other_owner && page == other_page,
+                _ => false,
+            },
+            Event::Unmap { owner, page } => match other {
                 Event::Unmap {
                     owner: other_owner,
                     page: other_page,
-                },
-            ) => owner == other_owner && page == other_page,
-            (
-                Event::Write {
-                    owner,
-                    page,
-                    index,
-                    value,
-                },
+                } => owner == other_owner && page == other_page,
+                _ => false,
+            },
+            Event::Write {
+                owner,
+                page,
+                index,
+                value,
+            } => match other {
                 Event::Write {
                     owner: other_owner,
                     page: other_page,
                     index: other_index,
                     value: other_value,
-                },
-            ) => owner == other_owner
-                && page == other_page
-                && index == other_index
-                && value == other_value,
-            (
-                Event::Read { owner, page, index },
+                } => owner == other_owner
+                    && page == other_page
+                    && index == other_index
+                    && value == other_value,
+                _ => false,
+            },
+            Event::Read { owner, page, index } => match other {
                 Event::Read {
                     owner: other_owner,
                     page: other_page,
                     index: other_index,
-                },
-            ) => owner == other_owner && page == other_page && index == other_index,
-            (Event::Drain { cpu }, Event::Drain { cpu: other_cpu }) => cpu == other_cpu,
-            (
-                Event::Online { block, zone },
+                } => owner == other_owner && page == other_page && index == other_index,
+                _ => false,
+            },
+            Event::Drain { cpu } => match other {
+                Event::Drain { cpu: other } => cpu == other,
+                _ => false,
+            },
+            Event::Online { block, zone } => match other {
                 Event::Online {
                     block: other_block,
                     zone: other_zone,
-                },
-            ) => block == other_block && zone == other_zone,
-            (
-                Event::DrainFor { op, cpu },
+                } => block == other_block && zone == other_zone,
+                _ => false,
+            },
+            Event::DrainFor { op, cpu } => match other {
                 Event::DrainFor {
                     op: other_op,
                     cpu: other_cpu,
-                },
-            ) => op == other_op && cpu == other_cpu,
-            (Event::Migrate { op }, Event::Migrate { op: other_op }) => op == other_op,
-            (Event::Commit { op }, Event::Commit { op: other_op }) => op == other_op,
-            (Event::Cancel { op }, Event::Cancel { op: other_op }) => op == other_op,
-            (
-                Event::UndoAfter { serial },
-                Event::UndoAfter {
-                    serial: other_serial,
-                },
-            ) => serial == other_serial,
-            (
-                Event::Probe { address },
-                Event::Probe {
-                    address: other_address,
-                },
-            ) => address == other_address,
-            (Event::Remove { block }, Event::Remove { block: other_block }) => block == other_block,
-            (Event::SetAuto { auto }, Event::SetAuto { auto: other_auto }) => auto == other_auto,
-            (Event::Begin { plan }, Event::Begin { plan: other_plan }) => plan.same(other_plan),
-            _ => false,
+                } => op == other_op && cpu == other_cpu,
+                _ => false,
+            },
+            Event::Migrate { op } => match other {
+                Event::Migrate { op: other } => op == other,
+                _ => false,
+            },
+            Event::Commit { op } => match other {
+                Event::Commit { op: other } => op == other,
+                _ => false,
+            },
+            Event::Cancel { op } => match other {
+                Event::Cancel { op: other } => op == other,
+                _ => false,
+            },
+            Event::UndoAfter { serial } => match other {
+                Event::UndoAfter { serial: other } => serial == other,
+                _ => false,
+            },
+            Event::Probe { address } => match other {
+                Event::Probe { address: other } => address == other,
+                _ => false,
+            },
+            Event::Remove { block } => match other {
+                Event::Remove { block: other } => block == other,
+                _ => false,
+            },
+            Event::SetAuto { auto } => match other {
+                Event::SetAuto { auto: other } => auto == other,
+                _ => false,
+            },
         }
     }
 }

@@ -2,7 +2,7 @@
 ghost use Rattle.std.specs.Prelude.{◌≡◌, ◌<◌, None, Some};
 ghost use Rattle.hp_units.specs.FreeAreas.{class_of_kind, other_mobility};
 ghost use Rattle.hp_units.specs.Memory.{class_index, class_numbered, class_of_pool, isolated_class, offline_row, plain_kind, pool_index, pool_of, usable_class, zone_of_pool};
-ghost use Rattle.hp_units.specs.Rows.{claimed_row, is_absent, is_claimed, is_claimed_by, is_going, is_off, is_offline, is_online};
+ghost use Rattle.hp_units.specs.Rows.{claimed_row, is_absent, is_claimed, is_claimed_by, is_going, is_off, is_offline, is_online, state_number, zone_number};
 ghost use Rattle.hp_units.specs.declared.rows.State.TheVariants.{Online as OnlineState};
 
 use hp_numbers::Serial;
@@ -205,6 +205,20 @@ pub enum State {
     Absent,
 }
 
+impl State {
+    /// Its number, from 0 to 3 (own rule).
+    pub fn number(self) -> u8
+        ensures { result ≡ state_number self }
+    {
+        match self {
+            State::Offline => 0,
+            State::Online => 1,
+            State::Going => 2,
+            State::Absent => 3,
+        }
+    }
+}
+
 /// What an operation makes of a memory block.
 #[derive(Clone, Copy, PartialEq, Eq, Drop)]
 pub enum Wish {
@@ -338,6 +352,17 @@ impl Row {
         ensures { result ≡ is_absent self }
     {
         matches!(self.state, State::Absent)
+    }
+
+    /// The number of its zone: 0 where it has none, and else 1 or 2 (own rule).
+    pub fn zone_number(self) -> u8
+        ensures { result ≡ zone_number self.zone }
+    {
+        match self.zone {
+            None => 0,
+            Some(Zone::Normal) => 1,
+            Some(Zone::Movable) => 2,
+        }
     }
 }
 

@@ -66,6 +66,8 @@ fn are_shown() -> bool {
         && !going().unclaimed().is_claimed()
         && Row::bare(State::Offline).is_offline()
         && Row::bare(State::Absent).is_absent()
+        && going().state.number() == 2
+        && going().zone_number() == 1
 }
 
 #[test]

@@ -1,9 +1,9 @@
 //! A step of a memory in layers that is taken back, and the numbers of the states.
 use crate::layouts::four_blocks;
-use hp_codes::{Codes, state_number, zone_number};
+use hp_codes::Codes;
 use hp_memory::Memory;
 use hp_tape::Tape;
-use hp_units::{Cpu, Event, Frame, Order, Reply, Serial, State, Zone};
+use hp_units::{Cpu, Event, Frame, Order, Reply, Serial};
 use std::alloc::{AllocError, Global};
 use std::test::Fail;
 
@@ -65,11 +65,5 @@ fn a_step_goes_back(rt: HostRuntime) -> Result<(), Fail> {
     let was_back = goes_back(rt.alloc(), &mut memory);
     drop(memory);
     assert!(rt; was_back?);
-    Ok(())
-}
-
-#[test]
-fn states_and_zones_have_numbers(rt: HostRuntime) -> Result<(), Fail> {
-    assert!(rt; state_number(State::Going) == 2 && zone_number(Some(Zone::Movable)) == 2);
     Ok(())
 }
