@@ -13,7 +13,7 @@ use Rattle.hp_units.specs.declared.replies.Receipt.{Receipt}
 use Rattle.hp_tape.specs.Bounds.{delta_bound}
 use Rattle.hp_tape.specs.declared.deltas.Delta.{Delta}
 use Rattle.hp_tape.specs.Deltas.{frame_view_of}
-use Rattle.hp_memory.specs.Layers.{AreNoted}
+use Rattle.hp_layers.specs.Layers.{AreNoted}
 use Rattle.hp_memory.specs.Memory.{MemoryValue}
 use Rattle.hp_laws.proofs.EventSteps.{value-placed}
 use Rattle.hp_laws.proofs.Net.{net-push, run-push, legal_push}

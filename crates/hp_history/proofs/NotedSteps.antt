@@ -10,7 +10,7 @@ use Rattle.hp_units.specs.declared.replies.Receipt.{Receipt}
 use Rattle.hp_tape.specs.Bounds.{delta_bound}
 use Rattle.hp_tape.specs.declared.deltas.Delta.{Delta}
 use Rattle.hp_tape.specs.Deltas.{FrameView, frame_view_of}
-use Rattle.hp_memory.specs.Layers.{AreNoted}
+use Rattle.hp_layers.specs.Layers.{AreNoted}
 use Rattle.hp_memory.specs.Memory.{LeadsBack, MemoryValue}
 use Rattle.hp_laws.proofs.EventSteps.{run-placed}
 use Rattle.hp_history.specs.declared.entries.Entry.{Entry}

@@ -1,5 +1,5 @@
 -- Images with one part changed.
-use Rattle.std.proofs.Common.{ℕ, ◌≡◌, ◌+◌, ◌*◌, ◌<◌, ◌≤◌, List, true, length, get_or, set, take, sym, ◌∙◌, ap, subst, arith}
+use Rattle.std.proofs.Common.{ℕ, ◌≡◌, ◌+◌, ◌*◌, ◌<◌, ◌≤◌, List, Option, true, length, get_or, set, take, sym, ◌∙◌, ap, subst, arith}
 use Rattle.hp_units.specs.declared.rows.Class.{Class}
 use Rattle.hp_units.specs.declared.rows.Kind.{Kind}
 use Rattle.hp_units.specs.declared.rows.Pool.{Pool}
@@ -34,6 +34,9 @@ with_cached i lists = record i { memory = record i.memory { free = record i.memo
 
 abbrev pub with_pages : Pictured → Pages → Pictured
 with_pages i pages = record i { memory = record i.memory { pages = pages } }
+
+abbrev pub with_kernel : Pictured → List (Option ℕ) → Pictured
+with_kernel i kernel = record i { memory = record i.memory { kernel = kernel } }
 
 abbrev pub with_one : Pictured → Part → Pictured
 with_one i part = record i { memory = with_part i.memory part }

@@ -11,10 +11,9 @@ use Rattle.hp_units.specs.Pages.{frame_at, page_from}
 use Rattle.hp_units.specs.Placement.{IsWellPlaced}
 use Rattle.hp_tape.specs.Deltas.{PageFrames, buffer_of, page_frames_of, with_buffer}
 use Rattle.hp_lemmas.proofs.Placed.{page-in_use}
-use Rattle.hp_pages.specs.Pages.{ArePageFramesOf, PagesValue, words_in, words_of}
+use Rattle.hp_pages.specs.Pages.{ArePageFramesOf, PagesValue, pages_of, words_in, words_of, words_row}
 use Rattle.hp_pages.proofs.PageParts.{no_pages_is}
 use Rattle.hp_pages.proofs.FrameViews.{buffer_by, buffer_is, page_buffer}
-use Rattle.hp_images.specs.Pages.{pages_of, words_row}
 use Rattle.hp_images.specs.Tables.{AreCopied}
 use Rattle.hp_images.proofs.Tables.{copied-all, copied-next, copied-none}
 

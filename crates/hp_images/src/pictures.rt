@@ -1,10 +1,12 @@
 //! An Image of the layers, part by part.
 mod areas;
+mod kernel;
 mod pages;
 mod processors;
 mod rows;
 
 pub use areas::put_areas;
+pub use kernel::put_kernel;
 pub use pages::put_pages;
 pub use processors::put_cpus;
 pub use rows::put_blocks;

@@ -13,23 +13,19 @@ use Rattle.hp_units.specs.Rows.{with_areas}
 use Rattle.hp_tape.specs.Deltas.{FrameView, PageFrames}
 use Rattle.hp_laws.proofs.Fitting.{placed-fits}
 use Rattle.hp_cpus.specs.Cpus.{list_of}
-use Rattle.hp_pages.specs.Pages.{ArePageFramesOf, AreSettled}
+use Rattle.hp_pages.specs.Pages.{ArePageFramesOf, AreSettled, pages_of}
 use Rattle.hp_pages.proofs.Views.{are_page_frames, settled_placed}
 use Rattle.hp_plain.specs.Image.{Pictured}
-use Rattle.hp_images.specs.Pages.{pages_of}
 use Rattle.hp_images.specs.Tables.{AreCopied}
-use Rattle.hp_images.proofs.Images.{with_cached, with_pages}
+use Rattle.hp_images.proofs.Images.{with_cached, with_kernel, with_pages}
 use Rattle.hp_images.proofs.Tables.{copied-none}
-use Rattle.hp_memory.specs.declared.layers.Layers.{Layers}
-use Rattle.hp_memory.specs.Layers.{ArePlaced, state_of}
+use Rattle.hp_layers.specs.declared.layers.Layers.{Layers}
+use Rattle.hp_layers.specs.Layers.{ArePlaced, state_of}
 
 -- ---- an Image with one part changed
 
 abbrev pub with_free_areas : Pictured → FreeAreas → Pictured
 with_free_areas i areas = record i { memory = with_areas i.memory areas }
-
-abbrev pub with_kernel : Pictured → List (Option ℕ) → Pictured
-with_kernel i kernel = record i { memory = record i.memory { kernel = kernel } }
 
 abbrev pub with_blocks : Pictured → Blocks → Pictured
 with_blocks i blocks = record i { memory = record i.memory { blocks = blocks } }

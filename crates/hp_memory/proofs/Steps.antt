@@ -1,69 +1,17 @@
--- A step of an event, by the answer of a processor that is in the layout.
-use Rattle.std.proofs.Common.{◌≡◌, ℕ, ◌<◌, ◌≤◌, List, drop, length, Result, IfOk, Bool, Option, Some, None, refl, sym, ◌∙◌, ap, subst}
+-- What a step noted leads back, and the layers after an undo.
+use Rattle.std.proofs.Common.{◌≡◌, ℕ, List, drop, length, sym, ◌∙◌, ap, subst}
 use Rattle.std.proofs.Math.Seq.{drop-append_seam}
-use Rattle.std.specs.Bool.{then_some}
 use Rattle.std.specs.List.{AllByRecursion}
-use Rattle.std.specs.Option.{option_or}
-use Rattle.std.proofs.lemmas.Bool.{le-leb, lt-leb}
-use Rattle.hp_units.specs.declared.events.Event.{Event}
-use Rattle.hp_units.specs.declared.replies.Reply.{Reply}
-use Rattle.hp_tape.specs.declared.deltas.Delta.{Delta}
-use Rattle.hp_memory.specs.declared.layers.Layers.{Layers}
-use Rattle.hp_tape.specs.Deltas.{Fits, IsDeltaOf, frame_view_of, undo}
-use Rattle.hp_tape.specs.Tapes.{LeadBack}
-use Rattle.hp_units.specs.Placement.{IsWellPlaced}
-use Rattle.hp_memory.specs.Layers.{AreNoted, IsAnswered, state_of}
-use Rattle.hp_memory.specs.Memory.{LeadsBack}
-use Rattle.hp_units.specs.declared.replies.Refusal.{Refusal}
-use Rattle.hp_units.specs.declared.replies.Refusal.TheVariants.{NoCpu}
-use Rattle.hp_units.specs.declared.replies.Reply.TheVariants.{Refused}
-use Rattle.hp_units.specs.Choices.{first_some}
 use Rattle.hp_units.specs.LayoutParts.{LayoutParts}
 use Rattle.hp_units.specs.Memory.{Memory}
-use Rattle.hp_units.specs.Refusals.{event_refusals, refusal_of}
-use Rattle.hp_units.specs.Step.{Answered, answer, perform, step}
-use Rattle.hp_plain.specs.Asked.{asked}
-
--- a processor that isn't in the layout
-pub step-no_cpu : (l : LayoutParts) (s : Memory) (serial cpu : ℕ) (event : Event) → l.cpus ≤ cpu
-    → step l s serial cpu event ≡ record { memory = s; reply = Refused NoCpu }
-unfolding step refusal_of
-step-no_cpu l s serial cpu event past = rw (le-leb l.cpus cpu past) refl
-
--- one that is
-pub step-in : (l : LayoutParts) (s : Memory) (serial cpu : ℕ) (event : Event) → cpu < l.cpus
-    → step l s serial cpu event ≡ answer l s serial cpu event (first_some (event_refusals l s cpu event))
-unfolding step refusal_of
-step-in l s serial cpu event below =
-    ap (λ (b : Bool). answer l s serial cpu event
-    (option_or (then_some b NoCpu) (first_some (event_refusals l s cpu event)))) (lt-leb l.cpus cpu below)
-
-answer-same : (l : LayoutParts) (s : Memory) (serial cpu other : ℕ) (event : Event) (refusal : Option Refusal)
-    → perform l s serial cpu event ≡ perform l s 0 other event
-    → answer l s serial cpu event refusal ≡ answer l s 0 other event refusal
-answer-same l s serial cpu other event None e = e
-answer-same l s serial cpu other event (Some refusal) e = refl
-
--- the answer of an event that doesn't read its serial
-pub step-asked : (l : LayoutParts) (s : Memory) (serial cpu other : ℕ) (event : Event) → cpu < l.cpus
-    → perform l s serial cpu event ≡ perform l s 0 other event
-    → event_refusals l s cpu event ≡ event_refusals l s other event
-    → step l s serial cpu event ≡ asked l s other event
-step-asked l s serial cpu other event below e refusals =
-    step-in l s serial cpu event below
-    ∙ (answer-same l s serial cpu other event (first_some (event_refusals l s cpu event)) e
-    ∙ ap (λ rs. answer l s 0 other event (first_some rs)) refusals)
-
--- the answer to an event as that of its step
-pub answered : (m new : Layers) (event other : Event) (serial cpu : ℕ) (a : Answered)
-    (before now : List Delta) {E : Type 0} (result : Result Reply E)
-    → event ≡ other
-    → step m.layout (state_of m) serial cpu other ≡ a → IfOk result (IsAnswered m other a new before now)
-    → IfOk result (IsAnswered m event (step m.layout (state_of m) serial cpu event) new before now)
-answered m new event other serial cpu a before now result is steps h =
-    subst (λ (e : Event).
-    IfOk result (IsAnswered m e (step m.layout (state_of m) serial cpu e) new before now)) (sym is)
-    (subst (λ (b : Answered). IfOk result (IsAnswered m other b new before now)) (sym steps) h)
+use Rattle.hp_units.specs.Placement.{IsWellPlaced}
+use Rattle.hp_tape.specs.declared.deltas.Delta.{Delta}
+use Rattle.hp_tape.specs.Deltas.{Fits, IsDeltaOf, frame_view_of, undo, undo_all}
+use Rattle.hp_tape.specs.Tapes.{LeadBack}
+use Rattle.hp_layers.specs.declared.layers.Layers.{Layers}
+use Rattle.hp_layers.specs.Layers.{AreNoted, AreOfOneLayout, ArePlaced, state_of, view_of}
+use Rattle.hp_layers.proofs.States.{are-placed}
+use Rattle.hp_memory.specs.Memory.{LeadsBack}
 
 -- what a step noted leads back
 pub noted-back : (l : LayoutParts) (most : ℕ) (was now : List Delta) (later earlier : Memory)
@@ -88,3 +36,16 @@ step-leads l k most mark was now later earlier placed n at same =
     subst (λ (m : LayoutParts). LeadsBack m (drop mark now) later earlier) (sym same)
     (subst (λ (i : ℕ). LeadsBack l (drop i now) later earlier) (sym at)
     (noted-back l most was now later earlier placed n))
+
+-- the layers after an undo
+pub led_back : (m new : Layers) (deltas : List Delta) (s : Memory) → ArePlaced m → AreOfOneLayout new
+    → new.layout ≡ m.layout → view_of new ≡ undo_all undo deltas (view_of m)
+    → LeadsBack m.layout deltas (state_of m) s → (ArePlaced new) × (state_of new ≡ s)
+led_back m new deltas s p one layout undone back =
+    are-placed m new s
+    (record {
+      one = one;
+      layout = layout;
+      view = undone ∙ (ap (undo_all undo deltas) p.view ∙ back.lead.back);
+    })
+    back.placed

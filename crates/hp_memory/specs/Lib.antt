@@ -1,9 +1,1 @@
-pub mod Commits
-pub mod Frames
-pub mod Kernel
-pub mod Layers
 pub mod Memory
-pub mod Migrations
-pub mod Operations
-pub mod Parts
-pub mod SingleBlocks

@@ -8,12 +8,13 @@ ghost use Rattle.hp_units.specs.Rows.{is_live};
 ghost use Rattle.hp_units.specs.Step.{step};
 ghost use Rattle.hp_tape.specs.Bounds.{delta_bound};
 ghost use Rattle.hp_tape.specs.Deltas.{frame_view_of};
-ghost use Rattle.hp_memory.specs.Layers.{AreNoted};
+ghost use Rattle.hp_layers.specs.Layers.{AreNoted};
 ghost use Rattle.hp_memory.specs.Memory.{LeadsBack};
 
 mod reads;
 
-use crate::layers::Layers;
+use crate::images::{image_of, layers_of};
+use hp_layers::Layers;
 use hp_plain::Image;
 use hp_tape::Tape;
 use hp_units::{Cpu, Event, Layout, Reply, Serial};
@@ -27,7 +28,7 @@ pub struct Memory {
 }
 
 impl Model for Memory {
-    ghost use Rattle.hp_memory.specs.Layers.{ArePlaced, state_of};
+    ghost use Rattle.hp_layers.specs.Layers.{ArePlaced, state_of};
     ghost use Rattle.hp_memory.specs.Memory.{MemoryValue};
 
     ghost Value = { MemoryValue };
@@ -54,7 +55,7 @@ impl Memory {
         ensures { IfOk result
             (λ memory. memory ≡ record { layout = image.now.layout; state = image.now.memory }) }
     {
-        let layers = Layers::from_image(alloc, image)?;
+        let layers = layers_of(alloc, image)?;
         Ok(Memory { layers })
     }
 
@@ -63,7 +64,7 @@ impl Memory {
         ensures { IfOk result
             (λ image. image ≡ record { layout = self.now.layout; memory = self.now.state }) }
     {
-        self.layers.image(alloc)
+        image_of(alloc, &self.layers)
     }
 
     /// An equal memory. An error is out of memory.

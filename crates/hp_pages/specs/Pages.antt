@@ -1,10 +1,10 @@
 -- What a contract sees of the layer of pages, and what its calls do to it.
-use Rattle.std.specs.Prelude.{◌≡◌, ℕ, ◌≤◌, ◌==◌, false, List, Option, Some, None, IfSome, length, option_map, slice_index_or, slice_set, unwrap_or, if◌then◌else◌}
+use Rattle.std.specs.Prelude.{◌≡◌, ℕ, ◌≤◌, ◌==◌, false, List, [], Option, Some, None, IfSome, length, map, option_map, slice_index_or, slice_set, unwrap_or, if◌then◌else◌}
 use Rattle.std.specs.List.{AllByRecursion}
 use Rattle.std.specs.Option.{option_and_then, option_map_or}
 use Rattle.hp_units.specs.LayoutParts.{LayoutParts}
 use Rattle.hp_units.specs.Arithmetic.{IsFrame, frame_count}
-use Rattle.hp_units.specs.Memory.{entry_of, with_entry}
+use Rattle.hp_units.specs.Memory.{Pages, entry_of, with_entry}
 use Rattle.hp_units.specs.Pages.{fresh_words, page_from}
 use Rattle.hp_tape.specs.declared.deltas.Delta.{Delta}
 use Rattle.hp_tape.specs.declared.deltas.Delta.TheVariants.{Emptied}
@@ -55,6 +55,14 @@ words_in l v frame = unwrap_or (buffer_of v frame) (fresh_words l)
 -- the words of a page: those in its frame
 abbrev pub words_of : LayoutParts → PageFrames → (owner page : ℕ) → Option (List ℕ)
 words_of l v owner page = option_map (words_in l v) (entry_of v.table owner page)
+
+-- the words of an owner's pages: those in their frames
+abbrev pub words_row : LayoutParts → PageFrames → (owner : ℕ) → List (Option (List ℕ))
+words_row l v owner = map (option_map (words_in l v)) (slice_index_or v.table owner [])
+
+-- the pages of a frame view: each has the words in its frame
+abbrev pub pages_of : LayoutParts → PageFrames → Pages
+pages_of l v = record { table = v.table; contents = map (λ row. map (option_map (words_in l v)) row) v.table }
 
 -- a page is mapped to a frame; it is unmapped, and the frame's buffer leaves
 abbrev pub map_frame : PageFrames → (owner page frame : ℕ) → PageFrames

@@ -7,7 +7,7 @@ use Rattle.hp_units.specs.declared.replies.Record.{Record}
 use Rattle.hp_units.specs.declared.replies.Reply.{Reply}
 use Rattle.hp_tape.specs.Deltas.{frame_view_of}
 use Rattle.hp_tape.specs.declared.deltas.Delta.{Delta}
-use Rattle.hp_memory.specs.Layers.{AreNoted}
+use Rattle.hp_layers.specs.Layers.{AreNoted}
 use Rattle.hp_memory.specs.Memory.{MemoryValue}
 use Rattle.hp_steps.specs.Steps.{IsStepped, StepsValue}
 

@@ -2,8 +2,7 @@
 ghost use Rattle.std.specs.Prelude.{◌≡◌, ◌<◌, [], None, OnOk, length, replicate, slice_index_or, slice_set};
 ghost use Rattle.hp_units.specs.LayoutParts.{IsLayout};
 ghost use Rattle.hp_units.specs.Memory.{entry_of, with_entry};
-ghost use Rattle.hp_pages.specs.Pages.{ArePageFramesOf, AreSettled, words_of};
-ghost use Rattle.hp_images.specs.Pages.{pages_of, words_row};
+ghost use Rattle.hp_pages.specs.Pages.{ArePageFramesOf, AreSettled, pages_of, words_of, words_row};
 ghost use Rattle.hp_images.specs.Tables.{AreCopied};
 
 use hp_pages::Pages;

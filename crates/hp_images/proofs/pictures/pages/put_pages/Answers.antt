@@ -1,5 +1,5 @@
 use Rattle.std.proofs.Common.{[], None, replicate, ◌∙◌, ap, arith}
-use Rattle.hp_images.specs.Pages.{pages_of}
+use Rattle.hp_pages.specs.Pages.{pages_of}
 use Rattle.hp_images.proofs.Images.{with_pages}
 use Rattle.hp_images.proofs.Pages.{contents-count, same_tables}
 use Rattle.hp_images.proofs.Tables.{copied-all}

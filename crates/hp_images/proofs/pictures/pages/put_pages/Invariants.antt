@@ -1,5 +1,5 @@
 use Rattle.std.proofs.Common.{◌≡◌, [], None, replicate}
-use Rattle.hp_images.specs.Pages.{pages_of}
+use Rattle.hp_pages.specs.Pages.{pages_of}
 use Rattle.hp_images.specs.Tables.{AreCopied}
 use Rattle.hp_images.proofs.pictures.pages.put_pages.Given as goal
 

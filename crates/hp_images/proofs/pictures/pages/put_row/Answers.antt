@@ -1,5 +1,5 @@
 use Rattle.std.proofs.Common.{[], get_or, refl, ◌∙◌, ap, arith}
-use Rattle.hp_images.specs.Pages.{words_row}
+use Rattle.hp_pages.specs.Pages.{words_row}
 use Rattle.hp_images.proofs.Images.{pages-kept, with_pages}
 use Rattle.hp_images.proofs.Pages.{entry-more, row-all, row-none, row-of, row-words, same_tables, words-entry}
 use Rattle.hp_images.proofs.pictures.pages.put_row.Goals as goal

@@ -1,5 +1,5 @@
 use Rattle.std.proofs.Common.{◌≡◌, [], None, get_or, set}
-use Rattle.hp_images.specs.Pages.{words_row}
+use Rattle.hp_pages.specs.Pages.{words_row}
 use Rattle.hp_images.specs.Tables.{AreCopied}
 use Rattle.hp_images.proofs.pictures.pages.put_row.Given as goal
 

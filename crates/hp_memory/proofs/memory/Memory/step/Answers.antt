@@ -3,9 +3,9 @@ use Rattle.std.proofs.lemmas.Result.{on_ok_weaker}
 use Rattle.hp_units.specs.Step.{step}
 use Rattle.hp_tape.specs.Bounds.{delta_bound}
 use Rattle.hp_tape.specs.Deltas.{frame_view_of}
-use Rattle.hp_memory.specs.Layers.{AreNoted, state_of}
+use Rattle.hp_layers.specs.Layers.{AreNoted, state_of}
 use Rattle.hp_memory.specs.Memory.{MemoryValue}
-use Rattle.hp_memory.proofs.States.{IsKept, kept_ok, kept_placed}
+use Rattle.hp_layers.proofs.States.{IsKept, kept_ok, kept_placed}
 use Rattle.hp_memory.proofs.memory.Memory.step.Goals as goal
 use Rattle.hp_memory.proofs.memory.Memory.step.Goals.{After-step}
 

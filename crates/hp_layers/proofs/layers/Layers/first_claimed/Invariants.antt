@@ -1,0 +1,13 @@
+use Rattle.std.proofs.Common.{◌≡◌, drop}
+use Rattle.std.specs.List.{find}
+use Rattle.std.specs.Option.{option_map}
+use Rattle.hp_units.specs.Memory.{row_of}
+use Rattle.hp_units.specs.Rows.{is_claimed}
+use Rattle.hp_layers.proofs.layers.Layers.first_claimed.Given as goal
+
+abbrev pub invariant-loop-item : goal.invariant-loop-item
+invariant-loop-item l =
+    option_map (λ item. item.block)
+    (find (λ item. is_claimed (row_of l.fn.self.blocks.blocks item.block)) l.plan)
+    ≡ option_map (λ item. item.block)
+    (find (λ item. is_claimed (row_of l.fn.self.blocks.blocks item.block)) (drop l.item-index l.plan))

@@ -1,0 +1,97 @@
+-- The free areas and the processors' lists together: what taking frames from them answers, changes and notes.
+use Rattle.std.specs.Prelude.{ℕ, zero, suc, ◌≡◌, ◌+◌, ◌%◌, ◌^◌, ◌<◌, ◌≤◌, Option, None, Some, IfSome}
+use Rattle.hp_units.specs.declared.rows.Pool.TheVariants.{Nu as NuPool, Nm as NmPool, Mm as MmPool}
+use Rattle.std.specs.Option.{option_or}
+use Rattle.hp_units.specs.declared.rows.Zone.{Zone}
+use Rattle.hp_units.specs.declared.rows.Mobility.TheVariants.{Movable}
+use Rattle.hp_units.specs.FreeAreas.{give_block, steal_block}
+use Rattle.hp_units.specs.LayoutParts.{LayoutParts}
+use Rattle.hp_units.specs.Arithmetic.{frame_count}
+use Rattle.hp_units.specs.Memory.{FreeFrames}
+use Rattle.hp_units.specs.ProcessorLists.{Handed, handed_from, put_one, take_one}
+use Rattle.hp_tape.specs.Bounds.{give_bound, put_one_bound, steal_bound, take_one_bound}
+use Rattle.hp_tape.specs.Tapes.{TapeValue, NotesFree}
+use Rattle.hp_units.specs.Placement.{covered}
+use Rattle.hp_cpus.specs.Cpus.{AreTogether, frames_of, places_among}
+use Rattle.hp_layers.specs.declared.frames.Frames.{Frames}
+
+-- the part of the state
+abbrev pub free_of : Frames → FreeFrames
+free_of f = frames_of f.buddy.areas f.cpus
+
+-- in how many free blocks and on how many processors' lists a frame is
+abbrev pub places_of : Frames → ℕ → ℕ
+places_of f frame = places_among f.buddy.areas f.cpus frame
+
+-- both layers are of one layout, and no frame is in two of their places
+abbrev pub IsTidy : Frames → Type 0
+IsTidy f = AreTogether f.cpus f.buddy
+
+-- ---- how many deltas a call may note in this state (own rule)
+
+-- a frame for the kernel, and one for a page: one delta where the processor's first list has a frame
+abbrev pub kernel_frame_bound : LayoutParts → FreeFrames → (cpu : ℕ) → ℕ
+kernel_frame_bound l fs cpu = take_one_bound l fs cpu NuPool
+
+abbrev pub page_frame_bound : LayoutParts → FreeFrames → (cpu : ℕ) → ℕ
+page_frame_bound l fs cpu = take_one_bound l fs cpu MmPool
+
+-- a block for the kernel
+abbrev pub kernel_block_bound : LayoutParts → FreeFrames → (cpu order : ℕ) → ℕ
+kernel_block_bound l fs cpu zero = kernel_frame_bound l fs cpu
+kernel_block_bound l fs cpu (suc below) = steal_bound l
+
+-- ---- what taking a block does
+
+-- a movable frame of zone Normal: from the list, and else stolen
+abbrev pub normal_frame : LayoutParts → FreeFrames → ℕ → Option Handed
+normal_frame l fs cpu =
+    option_or (take_one l fs cpu NmPool) (handed_from fs (steal_block l fs.areas Movable 0))
+
+-- the answer and the frames are those of the rule
+abbrev pub HandsOut : Option Handed → (old new : FreeFrames) → Option ℕ → Type 0
+HandsOut None old new answer = (answer ≡ None) × (new ≡ old)
+HandsOut (Some handed) old new answer = (answer ≡ Some handed.frame) × (new ≡ handed.free)
+
+-- a block of an order lies within the layout, and left the free blocks and the lists
+pub record HasLeft (old new : Frames) (order first : ℕ) : Type 0 where
+  pub within : first + 2 ^ order ≤ frame_count old.cpus.layout
+  pub places : (other : ℕ) → places_of old other ≡ places_of new other + covered other order first
+
+-- a block was handed out as a rule says, or none, and then nothing changed
+pub record IsTaken (wanted : Option Handed) (order most : ℕ) (old new : Frames) (was now : TapeValue)
+    (answer : Option ℕ) : Type 0 where
+  pub handed : HandsOut wanted (free_of old) (free_of new) answer
+  pub none : answer ≡ None → (new ≡ old) × (now ≡ was)
+  pub layout : new.cpus.layout ≡ old.cpus.layout
+  pub tidy : IsTidy new
+  pub block : IfSome answer (HasLeft old new order)
+  pub notes : NotesFree old.cpus.layout most was now (free_of new) (free_of old)
+
+-- ---- what giving a block back does (own rule)
+
+-- a block of an order that may come back: it lies within the layout at a multiple of its size, and
+-- none of its frames is free or on a list
+pub record MayReturn (f : Frames) (order first : ℕ) : Type 0 where
+  pub in_order : order ≤ f.cpus.layout.order
+  pub aligned : first % 2 ^ order ≡ 0
+  pub within : first + 2 ^ order ≤ frame_count f.cpus.layout
+  pub nowhere : (other : ℕ) → first ≤ other → other < first + 2 ^ order → places_of f other ≡ 0
+
+-- a single frame by the processor's list, any other block straight to the areas
+abbrev pub given_back : LayoutParts → FreeFrames → ℕ → Zone → (frame order : ℕ) → FreeFrames
+given_back l fs cpu zone frame zero = put_one l fs cpu zone frame
+given_back l fs cpu zone frame (suc below) =
+    record fs { areas = give_block l fs.areas zone frame (suc below) }
+
+-- how many deltas that may note in this state
+abbrev pub give_back_bound : LayoutParts → FreeFrames → (cpu : ℕ) → Zone → (frame order : ℕ) → ℕ
+give_back_bound l fs cpu zone frame zero = put_one_bound l fs cpu zone frame
+give_back_bound l fs cpu zone frame (suc below) = give_bound l
+
+-- a block came back as a rule says
+pub record IsGiven (wanted : FreeFrames) (most : ℕ) (old new : Frames) (was now : TapeValue) : Type 0 where
+  pub given : free_of new ≡ wanted
+  pub layout : new.cpus.layout ≡ old.cpus.layout
+  pub tidy : IsTidy new
+  pub notes : NotesFree old.cpus.layout most was now (free_of new) (free_of old)

@@ -1,0 +1,27 @@
+-- What operations on memory blocks do to the layers, and how much of it a plan asks for.
+use Rattle.std.specs.Prelude.{ℕ, zero, suc, ◌≡◌, ◌+◌, List, is_some, if◌then◌else◌}
+use Rattle.hp_units.specs.declared.plans.Item.{Item}
+use Rattle.hp_units.specs.Memory.{Memory}
+use Rattle.hp_units.specs.Rows.{wish_of}
+use Rattle.hp_tape.specs.Tapes.{TapeValue}
+use Rattle.hp_layers.specs.declared.layers.Layers.{Layers}
+use Rattle.hp_layers.specs.Frames.{IsTidy}
+use Rattle.hp_layers.specs.Layers.{AreOfOneLayout, NotesView, state_of, view_of}
+
+-- the free frames and the rows are those of a state now, and nothing else changed
+pub record IsReworked (m : Layers) (s : Memory) (most : ℕ) (new : Layers) (was now : TapeValue) : Type 0 where
+  pub one : AreOfOneLayout new
+  pub layout : new.layout ≡ m.layout
+  pub pages : new.pages ≡ m.pages
+  pub kernel : new.kernel ≡ m.kernel
+  pub tidy : IsTidy new.frames
+  pub state : state_of new ≡ s
+  pub notes : NotesView m.layout most was now (view_of new) (view_of m)
+
+-- 1 if a plan has a wish for a block, and how many of the blocks below one it has a wish for
+abbrev pub claimed_at : List Item → ℕ → ℕ
+claimed_at plan block = if is_some (wish_of plan block) then 1 else 0
+
+abbrev pub claimed_below : List Item → ℕ → ℕ
+claimed_below plan zero = 0
+claimed_below plan (suc block) = claimed_below plan block + claimed_at plan block

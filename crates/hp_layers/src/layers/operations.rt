@@ -1,0 +1,89 @@
+//! Operations on memory blocks.
+ghost use Rattle.std.specs.Prelude.{◌≡◌, ◌*◌, ◌<◌};
+ghost use Rattle.hp_units.specs.Rows.{begin_block, begin_plan, claim_block, zone_of_block};
+ghost use Rattle.hp_units.specs.declared.rows.Wish.TheVariants.{Off as OffWish};
+ghost use Rattle.hp_tape.specs.Bounds.{moved_block_bound};
+ghost use Rattle.hp_tape.specs.Tapes.{HasRoom};
+ghost use Rattle.hp_layers.specs.Frames.{IsTidy};
+ghost use Rattle.hp_layers.specs.Layers.{AreOfOneLayout, state_of};
+ghost use Rattle.hp_layers.specs.Operations.{IsReworked, claimed_at, claimed_below};
+
+use super::Layers;
+use hp_plain::wish_of;
+use hp_tape::Tape;
+use hp_units::{Block, Item, Serial, Wish, Zone};
+
+impl Layers {
+    /// An operation claims the blocks of its plan, by rising number (own rule).
+    #[tactic(auto, unfolding(hp_units::specs::Rows::begin_plan))]
+    pub(crate) fn begin_plan(&mut self, op: Serial, plan: &[Item], tape: &mut Tape)
+        requires one { AreOfOneLayout self.old }
+        requires tidy { IsTidy self.old.frames }
+        requires room { HasRoom tape.old
+            (claimed_below plan.now self.old.layout.blocks * moved_block_bound self.old.layout) }
+        ensures { IsReworked self.old (begin_plan self.old.layout (state_of self.old) op plan.now)
+            (claimed_below plan.now self.old.layout.blocks * moved_block_bound self.old.layout) self.new
+            tape.old tape.new }
+    {
+        for number in 0..self.layout.blocks() {
+            self.begin_block(op, plan, Block(number), tape);
+        }
+    }
+
+    /// An operation claims a block if its plan has a wish for it.
+    fn begin_block(&mut self, op: Serial, plan: &[Item], block: Block, tape: &mut Tape)
+        requires one { AreOfOneLayout self.old }
+        requires tidy { IsTidy self.old.frames }
+        requires block { block < self.old.layout.blocks }
+        requires room { HasRoom tape.old (claimed_at plan.now block * moved_block_bound self.old.layout) }
+        ensures { IsReworked self.old (begin_block self.old.layout op plan.now (state_of self.old) block)
+            (claimed_at plan.now block * moved_block_bound self.old.layout) self.new tape.old tape.new }
+    {
+        if let Some(wish) = wish_of(plan, block) {
+            self.claim_block(op, block, wish, tape);
+        }
+    }
+
+    /// An operation claims a block for a wish, and isolates one that is going (Linux, memory
+    /// hotplug: offlining; own rule).
+    fn claim_block(&mut self, op: Serial, block: Block, wish: Wish, tape: &mut Tape)
+        requires one { AreOfOneLayout self.old }
+        requires tidy { IsTidy self.old.frames }
+        requires block { block < self.old.layout.blocks }
+        requires room { HasRoom tape.old (moved_block_bound self.old.layout) }
+        ensures { IsReworked self.old (claim_block self.old.layout op (state_of self.old) block wish)
+            (moved_block_bound self.old.layout) self.new tape.old tape.new }
+    {
+        match wish {
+            Wish::Off => self.isolate_block(op, block, tape),
+            _ => self.blocks.claim(block, op, wish, tape),
+        }
+    }
+
+    /// An operation claims a block that is to go offline, and isolates it.
+    fn isolate_block(&mut self, op: Serial, block: Block, tape: &mut Tape)
+        requires one { AreOfOneLayout self.old }
+        requires tidy { IsTidy self.old.frames }
+        requires block { block < self.old.layout.blocks }
+        requires room { HasRoom tape.old (moved_block_bound self.old.layout) }
+        ensures { IsReworked self.old (claim_block self.old.layout op (state_of self.old) block OffWish)
+            (moved_block_bound self.old.layout) self.new tape.old tape.new }
+    {
+        let zone = self.zone_of_block(block);
+        self.frames
+            .move_block(&self.layout, zone, true, block, tape);
+        self.blocks.claim(block, op, Wish::Off, tape);
+    }
+
+    /// The zone of a memory block of the layout; Normal where it has none.
+    pub(crate) fn zone_of_block(&self, block: Block) -> Zone
+        requires block { block < self.now.layout.blocks }
+        requires one { AreOfOneLayout self.now }
+        ensures { result ≡ zone_of_block self.now.blocks.blocks block }
+    {
+        match self.blocks.row(block).zone {
+            Some(zone) => zone,
+            None => Zone::Normal,
+        }
+    }
+}

@@ -1,0 +1,147 @@
+//! The events of owners' pages, of a processor that is in the layout.
+ghost use Rattle.std.specs.Prelude.{◌≡◌, ◌<◌, List, IfOk, OnErr};
+ghost use Rattle.hp_units.specs.declared.events.Event.TheVariants.{Map, Read, Unmap, Write};
+ghost use Rattle.hp_tape.specs.declared.deltas.Delta.{Delta};
+ghost use Rattle.hp_plain.specs.Asked.{asked};
+ghost use Rattle.hp_layers.specs.Layers.{ArePlaced, IsAnswered, state_of};
+
+use super::Layers;
+use hp_tape::Tape;
+use hp_units::{Cpu, Order, Owner, Page, Refusal, Reply};
+use std::alloc::{AllocError, Global};
+
+impl Layers {
+    /// A page is mapped to a frame, with zeros in it. They take no memory.
+    #[tactic(auto, using(crate::proofs::Answers::refused, crate::proofs::Answers::refused_none))]
+    pub(crate) fn map(
+        &mut self,
+        cpu: Cpu,
+        owner: Owner,
+        page: Page,
+        tape: &mut Tape,
+    ) -> Result<Reply, AllocError>
+        requires cpu { cpu < self.old.layout.cpus }
+        requires placed { ArePlaced self.old }
+        ensures ok { IfOk result (IsAnswered self.old (Map owner page)
+            (asked self.old.layout (state_of self.old) cpu (Map owner page)) self.new tape.old.deltas
+            tape.new.deltas) }
+        ensures err { OnErr result (self.new ≡ self.old) }
+        ensures kept { OnErr result (tape.new ≡ tape.old) }
+    {
+        if owner.0 >= self.layout.owners() {
+            return Ok(Reply::Refused(Refusal::NoOwner));
+        }
+        if page.0 >= self.layout.pages() {
+            return Ok(Reply::Refused(Refusal::NoPage));
+        }
+        if self.pages.frame_at(owner, page).is_some() {
+            return Ok(Reply::Refused(Refusal::AlreadyMapped));
+        }
+        let room = self.frames.page_frame_room(&self.layout, cpu);
+        tape.reserve(room + 1)?;
+        match self.frames.page_frame(cpu, tape) {
+            Some(frame) => {
+                self.pages.map(owner, page, frame, tape);
+                Ok(Reply::Done)
+            }
+            None => Ok(Reply::Refused(Refusal::NoFrame)),
+        }
+    }
+
+    /// A page is unmapped, and its frame comes back.
+    #[tactic(auto, using(crate::proofs::Answers::refused))]
+    pub(crate) fn unmap(
+        &mut self,
+        cpu: Cpu,
+        owner: Owner,
+        page: Page,
+        tape: &mut Tape,
+    ) -> Result<Reply, AllocError>
+        requires cpu { cpu < self.old.layout.cpus }
+        requires placed { ArePlaced self.old }
+        ensures ok { IfOk result (IsAnswered self.old (Unmap owner page)
+            (asked self.old.layout (state_of self.old) cpu (Unmap owner page)) self.new tape.old.deltas
+            tape.new.deltas) }
+        ensures err { OnErr result (self.new ≡ self.old) }
+        ensures kept { OnErr result (tape.new ≡ tape.old) }
+    {
+        if owner.0 >= self.layout.owners() {
+            return Ok(Reply::Refused(Refusal::NoOwner));
+        }
+        if page.0 >= self.layout.pages() {
+            return Ok(Reply::Refused(Refusal::NoPage));
+        }
+        let Some(frame) = self.pages.frame_at(owner, page) else {
+            return Ok(Reply::Refused(Refusal::NotMapped));
+        };
+        let zone = self.zone_of(frame);
+        let order = Order(0);
+        let room = self
+            .frames
+            .give_back_room(&self.layout, cpu, zone, frame, order);
+        tape.reserve(room + 2)?;
+        let _ = self.pages.unmap(owner, page, tape);
+        self.frames.give_back(cpu, zone, frame, order, tape);
+        Ok(Reply::Done)
+    }
+
+    /// One word of a mapped page changes. The first that is not 0 takes memory for all words of the page.
+    #[tactic(auto, using(crate::proofs::Answers::refused))]
+    pub(crate) fn write(
+        &mut self,
+        alloc: Global,
+        owner: Owner,
+        page: Page,
+        index: u32,
+        value: u64,
+        tape: &mut Tape,
+    ) -> Result<Reply, AllocError>
+        requires placed { ArePlaced self.old }
+        ensures ok { IfOk result (IsAnswered self.old (Write owner page index value)
+            (asked self.old.layout (state_of self.old) 0 (Write owner page index value)) self.new
+            tape.old.deltas tape.new.deltas) }
+        ensures err { OnErr result (self.new ≡ self.old) }
+        ensures kept { OnErr result (tape.new ≡ tape.old) }
+    {
+        if owner.0 >= self.layout.owners() {
+            return Ok(Reply::Refused(Refusal::NoOwner));
+        }
+        if page.0 >= self.layout.pages() {
+            return Ok(Reply::Refused(Refusal::NoPage));
+        }
+        if index >= self.layout.words() {
+            return Ok(Reply::Refused(Refusal::NoWord));
+        }
+        let Some(_frame) = self.pages.frame_at(owner, page) else {
+            return Ok(Reply::Refused(Refusal::NotMapped));
+        };
+        let spare = self.pages.spare_for(alloc, owner, page, value)?;
+        tape.reserve(1)?;
+        self.pages.write(owner, page, index, value, spare, tape);
+        Ok(Reply::Done)
+    }
+
+    /// One word of a mapped page is read.
+    #[tactic(auto, using(crate::proofs::Answers::unchanged))]
+    pub(crate) fn read(&self, owner: Owner, page: Page, index: u32) -> Reply
+        requires placed { ArePlaced self.now }
+        ensures { (deltas : List Delta)
+            → IsAnswered self.now (Read owner page index)
+            (asked self.now.layout (state_of self.now) 0 (Read owner page index)) self.now deltas deltas
+            result }
+    {
+        if owner.0 >= self.layout.owners() {
+            return Reply::Refused(Refusal::NoOwner);
+        }
+        if page.0 >= self.layout.pages() {
+            return Reply::Refused(Refusal::NoPage);
+        }
+        if index >= self.layout.words() {
+            return Reply::Refused(Refusal::NoWord);
+        }
+        let Some(_frame) = self.pages.frame_at(owner, page) else {
+            return Reply::Refused(Refusal::NotMapped);
+        };
+        Reply::Word(self.pages.read(owner, page, index))
+    }
+}

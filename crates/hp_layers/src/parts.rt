@@ -1,0 +1,40 @@
+//! Which layer a delta is of.
+ghost use Rattle.std.specs.Prelude.{◌≡◌};
+ghost use Rattle.hp_layers.specs.Parts.{part_of};
+
+use hp_tape::{Delta, ListId};
+
+/// A layer, or the table of the kernel's blocks.
+#[derive(Clone, Copy, PartialEq, Eq, Drop)]
+pub(crate) enum Part {
+    /// The free areas.
+    Areas,
+    /// The processors' lists.
+    Lists,
+    /// The owners' pages.
+    Pages,
+    /// The kernel's blocks.
+    Kernel,
+    /// The rows of the memory blocks.
+    Blocks,
+}
+
+/// The layer that a delta is of.
+pub(crate) fn part_of(delta: &Delta) -> Part
+    ensures { result ≡ part_of delta.now }
+{
+    match delta {
+        Delta::Link { list, .. } | Delta::Unlink { list, .. } => match list {
+            ListId::Area { .. } => Part::Areas,
+            ListId::Cpu { .. } => Part::Lists,
+        },
+        Delta::Kind { .. } => Part::Areas,
+        Delta::Kernel { .. } => Part::Kernel,
+        Delta::Map { .. }
+        | Delta::Swap { .. }
+        | Delta::Word { .. }
+        | Delta::Filled { .. }
+        | Delta::Emptied { .. } => Part::Pages,
+        Delta::Row(_) | Delta::Auto { .. } => Part::Blocks,
+    }
+}

@@ -1,5 +1,0 @@
-use Rattle.hp_memory.proofs.Placed.{tidy-placed}
-use Rattle.hp_memory.proofs.layers.Layers.grant.Goals as goal
-
-pub offline_block-requires-clause-tidy : goal.offline_block-requires-clause-tidy
-offline_block-requires-clause-tidy c = tidy-placed c.args.self.now c.requires.placed
