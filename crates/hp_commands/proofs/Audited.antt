@@ -10,12 +10,13 @@ use Rattle.hp_units.specs.Memory.{Memory}
 use Rattle.hp_units.specs.declared.replies.Record.{Record}
 use Rattle.hp_machine.specs.Machine.{MachineValue}
 use Rattle.hp_plain.specs.Image.{Pictured}
-use Rattle.hp_history.specs.Replay.{IsFault, Refutes}
-use Rattle.hp_history.specs.Volumes.{HasWrongRecords, IsChain, records_in, state_after}
-use Rattle.hp_history.specs.declared.replaying.ReplayFault.{ReplayFault}
-use Rattle.hp_history.specs.declared.replaying.ReplayFault.TheVariants as replaying
+use Rattle.hp_replays.specs.Replaying.{IsFault, Refutes}
+use Rattle.hp_replays.specs.Chains.{HasWrongRecords}
+use Rattle.hp_history.specs.Volumes.{IsChain, records_in, state_after}
+use Rattle.hp_replays.specs.declared.replaying.ReplayFault.{ReplayFault}
+use Rattle.hp_replays.specs.declared.replaying.ReplayFault.TheVariants as replaying
 use Rattle.hp_history.specs.declared.volumes.Volume.{Volume}
-use Rattle.hp_history.proofs.Replays.{refutes}
+use Rattle.hp_replays.proofs.Replays.{refutes}
 use Rattle.hp_scenario.specs.declared.fault.ScenarioFault.{ScenarioFault}
 use Rattle.hp_scenario.specs.declared.lines.Line.{Line}
 use Rattle.hp_scenario.specs.Gives.{◌>>=◌}

@@ -3,10 +3,10 @@ use Rattle.std.specs.Prelude.{◌≡◌, ◌⊎◌, ℕ, ◌<◌, List, length, 
 use Rattle.hp_units.specs.LayoutParts.{LayoutParts}
 use Rattle.hp_machine.specs.Machine.{MachineValue}
 use Rattle.hp_history.specs.declared.volumes.Volume.{Volume}
-use Rattle.hp_history.specs.declared.replaying.ReplayFault.{ReplayFault}
-use Rattle.hp_history.specs.declared.replaying.ReplayFault.TheVariants as replaying
-use Rattle.hp_history.specs.declared.volumes.ChainFault.{ChainFault}
-use Rattle.hp_history.specs.declared.volumes.ChainFault.TheVariants as chain
+use Rattle.hp_replays.specs.declared.replaying.ReplayFault.{ReplayFault}
+use Rattle.hp_replays.specs.declared.replaying.ReplayFault.TheVariants as replaying
+use Rattle.hp_replays.specs.declared.chains.ChainFault.{ChainFault}
+use Rattle.hp_replays.specs.declared.chains.ChainFault.TheVariants as chain
 use Rattle.hp_scenario.specs.declared.fault.ScenarioFault.{ScenarioFault}
 use Rattle.hp_scenario.specs.declared.fault.ScenarioFault.TheVariants as scenario
 use Rattle.hp_scenario.specs.declared.lines.Line.{Line}

@@ -3,7 +3,7 @@
 ghost use Rattle.std.specs.Prelude.{◌≡◌, Some};
 ghost use Rattle.hp_commands.specs.declared.fault.ProgramFault.TheVariants.{OutOfMemory};
 
-use hp_history::{ChainFault, ReplayFault};
+use hp_replays::{ChainFault, ReplayFault};
 use hp_scenario::ScenarioFault;
 use hp_shared::CloseFault;
 use hp_streams::ReadFault;

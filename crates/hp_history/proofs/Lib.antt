@@ -6,7 +6,5 @@ pub mod Journals
 pub mod Names
 mod NotedSteps
 pub mod Places
-pub mod Replays
-mod SameLayouts
 pub mod Starts
 pub mod Walks

@@ -72,11 +72,7 @@ impl Journal {
 
     /// The journal of no records over a base state, after `before` earlier records. An error is out
     /// of memory.
-    pub(crate) fn from_image(
-        alloc: Global,
-        base: &Image,
-        before: u64,
-    ) -> Result<Journal, AllocError>
+    pub fn from_image(alloc: Global, base: &Image, before: u64) -> Result<Journal, AllocError>
         requires limits { IsLayout base.now.layout }
         requires placed { IsWellPlaced base.now.layout base.now.memory }
         ensures { IfOk result (λ journal. journal ≡ started base.now.layout base.now.memory before) }

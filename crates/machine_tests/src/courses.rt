@@ -1,7 +1,8 @@
 //! A course of a few records, and worked records that lead back to the state at boot.
 use crate::layouts::four_blocks;
-use hp_history::{Course, Records, Volume, audit_chain};
+use hp_history::{Course, Records, Volume};
 use hp_plain::Image;
+use hp_replays::audit_chain;
 use hp_units::{Cpu, Event, Frame, Layout, Order, Record, Reply, Serial};
 use std::alloc::{AllocError, Global};
 use std::test::Fail;
@@ -87,7 +88,7 @@ fn seals_two(alloc: Global, course: &mut Course) -> Result<bool, AllocError> {
 fn is_at_its_base(alloc: Global, course: &Course) -> Result<bool, AllocError> {
     let image = course.image(alloc)?;
     let copy = course.copy(alloc)?;
-    Ok(copy.base().same(&image))
+    Ok(course.base().same(&image) && copy.base().same(&image))
 }
 
 /// Whether both hold.

@@ -1,5 +1,5 @@
 //! Why a case did not end, and how often calls were out of memory.
-use hp_history::{ChainFault, ReplayFault};
+use hp_replays::{ChainFault, ReplayFault};
 use hp_requests::ControlFault;
 use hp_scenario::ScenarioFault;
 use hp_units::{CallFault, Serial};

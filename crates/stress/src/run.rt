@@ -4,8 +4,8 @@ ghost use Rattle.hp_scenario.specs.Scripts.{AreForRun};
 ghost use Rattle.hp_shared.specs.Shared.{IsFresh};
 
 use anyhow::Result;
-use hp_history::{audit_chain, replay_from};
 use hp_machine::Machine;
+use hp_replays::{audit_chain, replay_from};
 use hp_scenario::{Scenario, Script};
 use hp_shared::{Closed, Job, Seat, Shared, close};
 use hp_workers::{OpenGate, RunEnd, run_workers};

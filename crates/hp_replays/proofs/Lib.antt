@@ -1,0 +1,3 @@
+mod ChainEnds
+pub mod Replays
+mod SameLayouts

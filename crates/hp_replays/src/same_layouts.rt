@@ -1,0 +1,62 @@
+//! Whether two layouts are the same.
+ghost use Rattle.std.specs.Prelude.{◌≡◌, ◌≢◌, MatchBool};
+ghost use Rattle.hp_replays.specs.SameLayouts.{blocks_of, owners_of, processors_of};
+
+use hp_units::{Boot, Layout};
+
+/// Whether two layouts are the same.
+#[tactic(auto, using(crate::proofs::SameLayouts::same_parts))]
+pub(crate) fn same_layout(layout: &Layout, other: &Layout) -> bool
+    ensures { MatchBool result (layout.now ≡ other.now) (layout.now ≢ other.now) }
+{
+    same_blocks(layout, other)
+        && same_processors(layout, other)
+        && same_owners(layout, other)
+        && same_boot(layout.boot(), other.boot())
+}
+
+/// Whether two layouts have the same memory blocks.
+fn same_blocks(layout: &Layout, other: &Layout) -> bool
+    ensures { MatchBool result (blocks_of layout.now ≡ blocks_of other.now)
+        (blocks_of layout.now ≢ blocks_of other.now) }
+{
+    layout.order() == other.order()
+        && layout.pageblocks() == other.pageblocks()
+        && layout.blocks() == other.blocks()
+}
+
+/// Whether two layouts have the same processors.
+fn same_processors(layout: &Layout, other: &Layout) -> bool
+    ensures { MatchBool result (processors_of layout.now ≡ processors_of other.now)
+        (processors_of layout.now ≢ processors_of other.now) }
+{
+    layout.cpus() == other.cpus()
+        && layout.batch() == other.batch()
+        && layout.high() == other.high()
+}
+
+/// Whether two layouts have the same owners and the same limit of records.
+fn same_owners(layout: &Layout, other: &Layout) -> bool
+    ensures { MatchBool result (owners_of layout.now ≡ owners_of other.now)
+        (owners_of layout.now ≢ owners_of other.now) }
+{
+    layout.owners() == other.owners()
+        && layout.pages() == other.pages()
+        && layout.words() == other.words()
+        && layout.history() == other.history()
+}
+
+/// Whether memory blocks are the same at boot.
+fn same_boot(boot: &[Boot], others: &[Boot]) -> bool
+    ensures { MatchBool result (boot.now ≡ others.now) (boot.now ≢ others.now) }
+{
+    if boot.len() != others.len() {
+        return false;
+    }
+    for block in 0..boot.len() {
+        if boot[block] != others[block] {
+            return false;
+        }
+    }
+    true
+}
