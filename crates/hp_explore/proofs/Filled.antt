@@ -7,10 +7,10 @@ use Rattle.std.proofs.lemmas.Option.{none-some, same_Some}
 use Rattle.hp_units.specs.declared.events.Event.{Event}
 use Rattle.hp_units.specs.declared.replies.Record.{Record}
 use Rattle.hp_explore.specs.Faults.{FillsAlong, FillsHere, IsCause, IsCauseHere, is_full_after}
-use Rattle.hp_explore.specs.Schedules.{Setting, next_call, play_one, plays, record_of_call, schedule_of}
+use Rattle.hp_schedules.specs.Schedules.{Setting, next_call, play_one, plays, record_of_call, schedule_of}
 use Rattle.hp_explore.specs.declared.exploring.ExploreFault.{ExploreFault}
 use Rattle.hp_explore.specs.declared.exploring.ExploreFault.TheVariants.{HistoryFull, OutOfMemory}
-use Rattle.hp_explore.proofs.Plays.{from_news, plays_on, plays_one, plays_push, stays_none}
+use Rattle.hp_schedules.proofs.Plays.{from_news, plays_on, plays_one, plays_push, stays_none}
 
 -- what is played on from records has no fewer
 grows_by : (g : Setting) (cpu : ℕ) (s : List ℕ) (news later : List Record) (next : Option Event)

@@ -8,16 +8,17 @@ use Rattle.hp_units.specs.declared.replies.Record.{Record}
 use Rattle.hp_explore.specs.Faults.{is_full_after}
 use Rattle.hp_explore.specs.Frames.{AreBelow, AreWalked, IsAdded, IsEntered, IsEnteredWithin, IsFrame, IsFresh, kept_of, path_of}
 use Rattle.hp_explore.specs.declared.frames.Kept.{Kept}
-use Rattle.hp_explore.specs.Parts.{AllOfPart, ComesTo, IsOfPart, IsOn, NoneOfPart, PartValue}
+use Rattle.hp_schedules.specs.Parts.{AllOfPart, ComesTo, IsOfPart, IsOn, NoneOfPart, PartValue}
 use Rattle.hp_explore.specs.Paths.{IsBack, PathValue}
-use Rattle.hp_explore.specs.Schedules.{Setting, next_call, plays, record_of_call, schedule_of}
-use Rattle.hp_explore.specs.Seen.{AddsShares, Grow}
+use Rattle.hp_schedules.specs.Schedules.{Setting, next_call, plays, record_of_call, schedule_of}
+use Rattle.hp_explore.specs.Seen.{Grow}
+use Rattle.hp_schedules.specs.Shares.{AddsShares}
 use Rattle.hp_explore.specs.Walks.{IsOverBelow, IsPartWalkedBefore, IsPartWalkedThrough}
 use Rattle.hp_explore.specs.declared.frames.Entry.{Entry}
 use Rattle.hp_explore.specs.declared.frames.Entry.TheVariants.{Counted, Open}
 use Rattle.hp_explore.specs.declared.frames.Frame.{Frame}
-use Rattle.hp_explore.specs.declared.rows.Share.{Share}
-use Rattle.hp_explore.specs.declared.tally.Ending.{Ending}
+use Rattle.hp_schedules.specs.declared.rows.Share.{Share}
+use Rattle.hp_schedules.specs.declared.tally.Ending.{Ending}
 use Rattle.hp_explore.proofs.Grown.{grow_none, grow_twice}
 use Rattle.hp_explore.proofs.OfPart.{all_of, comes_on, none_of}
 use Rattle.hp_explore.proofs.Rooms.{done_apart, done_begins, done_down, done_over, done_past}

@@ -16,10 +16,11 @@ use Rattle.hp_laws.proofs.Net.{net-push}
 use Rattle.hp_laws.proofs.Replays.{net_bad}
 use Rattle.hp_machine.specs.Machine.{MachineValue}
 use Rattle.hp_steps.specs.Steps.{StepsValue}
-use Rattle.hp_explore.specs.Schedules.{Setting, next_call, plays, record_of_call, schedule_of, setting}
+use Rattle.hp_schedules.specs.Schedules.{Setting, next_call, plays, record_of_call, schedule_of}
+use Rattle.hp_explore.specs.Settings.{setting}
 use Rattle.hp_explore.specs.Walks.{IsAt, IsGone, IsNextSerial, LeadsTo, with_record}
-use Rattle.hp_explore.specs.declared.scripts.Line.{Line}
-use Rattle.hp_explore.proofs.Plays.{plays_push}
+use Rattle.hp_schedules.specs.declared.scripts.Line.{Line}
+use Rattle.hp_schedules.proofs.Plays.{plays_push}
 
 -- ---- its reply
 

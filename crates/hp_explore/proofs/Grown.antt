@@ -6,14 +6,15 @@ use Rattle.std.proofs.lemmas.List.{get_or_past, length_push, length-set, take_al
 use Rattle.std.proofs.lemmas.List.Sums.{sum_by_more}
 use Rattle.std.proofs.lemmas.Option.{get_or_from_slice_get, same_Some, slice_get_within}
 use Rattle.hp_laws.proofs.Lists.{get_push_cases, get_some}
-use Rattle.hp_explore.specs.Notes.{AddsEnd, AddsOne, HasNoEnd, IsNoted}
-use Rattle.hp_explore.specs.Orders.{HasCount}
-use Rattle.hp_explore.specs.Outcomes.{OutcomeValue}
-use Rattle.hp_explore.specs.Schedules.{EndsWith, Setting, outcome_after, schedule_of}
-use Rattle.hp_explore.specs.Seen.{AddsCounts, GoesOn, Grow, IsSeen, SeenValue}
-use Rattle.hp_explore.specs.declared.tally.Ending.{Ending}
-use Rattle.hp_explore.proofs.Counting.{either_listed, get_longer, none_listed, same_count}
-use Rattle.hp_explore.proofs.Counts.{get_set_cases}
+use Rattle.hp_schedules.specs.Notes.{AddsEnd, AddsOne, HasNoEnd, IsNoted}
+use Rattle.hp_schedules.specs.Orders.{HasCount}
+use Rattle.hp_schedules.specs.Outcomes.{OutcomeValue}
+use Rattle.hp_schedules.specs.Schedules.{EndsWith, Setting, outcome_after, schedule_of}
+use Rattle.hp_explore.specs.Seen.{GoesOn, Grow, IsSeen, SeenValue}
+use Rattle.hp_schedules.specs.Shares.{AddsCounts}
+use Rattle.hp_schedules.specs.declared.tally.Ending.{Ending}
+use Rattle.hp_schedules.proofs.Counting.{either_listed, get_longer, none_listed, same_count}
+use Rattle.hp_schedules.proofs.Counts.{get_set_cases}
 
 -- ---- growing
 

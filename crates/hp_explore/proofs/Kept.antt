@@ -8,21 +8,22 @@ use Rattle.std.proofs.lemmas.Option.{none-some, same_Some, slice_get_within}
 use Rattle.hp_laws.proofs.Lists.{get_push_cases, get_some}
 use Rattle.hp_units.specs.declared.replies.Record.{Record}
 use Rattle.hp_steps.specs.Steps.{StepsValue}
-use Rattle.hp_explore.specs.Alike.{AreAlike, UndoNothing}
-use Rattle.hp_explore.specs.Ends.{AreCounted}
-use Rattle.hp_explore.specs.Parts.{AllOfPart, PartValue}
-use Rattle.hp_explore.specs.Schedules.{Setting, plays, schedule_of}
-use Rattle.hp_explore.specs.Seen.{AddsCounts, AddsShares, AreAtEnds, AreNoMore, AreSamePlaces, AreSince, Grow, IsMemo, IsOnWay, IsRow, IsRowAmong, IsSeen, MemoValue, SeenValue, amount_of, key_in, width_of}
+use Rattle.hp_schedules.specs.Alike.{AreAlike, UndoNothing}
+use Rattle.hp_schedules.specs.Ends.{AreCounted}
+use Rattle.hp_schedules.specs.Parts.{AllOfPart, PartValue}
+use Rattle.hp_schedules.specs.Schedules.{Setting, plays, schedule_of}
+use Rattle.hp_explore.specs.Seen.{AreSamePlaces, Grow, IsMemo, IsOnWay, IsRow, IsRowAmong, IsSeen, MemoValue, SeenValue, key_in, width_of}
+use Rattle.hp_schedules.specs.Shares.{AddsCounts, AddsShares, AreAtEnds, AreNoMore, AreSince, amount_of}
 use Rattle.hp_explore.specs.Standing.{AreSameNumbers, IsKey, IsStanding, KeepMeanings, StandingValue}
 use Rattle.hp_explore.specs.Walks.{BeforeInPart, CountsBefore, CountsThrough, HasRoomFrom, IsAt, IsPartWalkedBefore, IsPartWalkedThrough, ThroughInPart}
-use Rattle.hp_explore.specs.declared.rows.Share.{Share}
-use Rattle.hp_explore.specs.declared.tally.Ending.{Ending}
+use Rattle.hp_schedules.specs.declared.rows.Share.{Share}
+use Rattle.hp_schedules.specs.declared.tally.Ending.{Ending}
 use Rattle.hp_explore.proofs.Grown.{grow_added, seen_grows}
-use Rattle.hp_explore.proofs.InRows.{last_range, range_same}
+use Rattle.hp_schedules.proofs.InRows.{last_range, range_same}
 use Rattle.hp_explore.proofs.Keys.{key_kept, keys_alike}
 use Rattle.hp_explore.proofs.Merges.{merged, walked_seen}
 use Rattle.hp_explore.proofs.Rooms.{ordered_added, room_alike}
-use Rattle.hp_explore.proofs.Shares.{adds_told, at_ends_more, counts_in, counts_long, counts_tell}
+use Rattle.hp_schedules.proofs.Shares.{adds_told, at_ends_more, counts_in, counts_long, counts_tell}
 use Rattle.hp_explore.proofs.Stood.{keep_none, keep_same_numbers}
 
 -- ---- counts that were read

@@ -11,16 +11,16 @@ use Rattle.hp_units.specs.Receipts.{receipts_of}
 use Rattle.hp_units.specs.declared.events.Event.{Event}
 use Rattle.hp_units.specs.declared.replies.Receipt.{Receipt}
 use Rattle.hp_units.specs.declared.replies.Record.{Record}
-use Rattle.hp_explore.specs.Alike.{AreAlike, exchanges}
-use Rattle.hp_explore.specs.Exchanges.{IsExchanged, exchange_in}
-use Rattle.hp_explore.specs.Numbers.{AreNamed, IsNumbered, IsStateAt}
-use Rattle.hp_explore.specs.Openings.{AreOpen, NumberedOpening}
-use Rattle.hp_explore.specs.Schedules.{Setting, next_call, play_one, plays, record_of_call, schedule_of}
-use Rattle.hp_explore.specs.Scripts.{own_operation}
+use Rattle.hp_schedules.specs.Alike.{AreAlike, exchanges}
+use Rattle.hp_schedules.specs.Exchanges.{IsExchanged, exchange_in}
+use Rattle.hp_explore.specs.Numbered.{AreNamed, IsNumbered, IsStateAt}
+use Rattle.hp_schedules.specs.Openings.{AreOpen, NumberedOpening}
+use Rattle.hp_schedules.specs.Schedules.{Setting, next_call, play_one, plays, record_of_call, schedule_of}
+use Rattle.hp_schedules.specs.Scripts.{own_operation}
 use Rattle.hp_explore.specs.Standing.{AddsParts, IsBegunKey, IsKey, IsPart, IsStanding, KeepMeanings, StandingValue}
-use Rattle.hp_explore.proofs.Exchanged.{exchanges_other, exchanges_own}
+use Rattle.hp_schedules.proofs.Exchanged.{exchanges_other, exchanges_own}
 use Rattle.hp_explore.proofs.Numbered.{named_once, number_kept, state_kept}
-use Rattle.hp_explore.proofs.Plays.{asks_within, from_news, plays_one, stays_none}
+use Rattle.hp_schedules.proofs.Plays.{asks_within, from_news, plays_one, stays_none}
 
 -- ---- as more numbers come
 

@@ -1,12 +1,11 @@
 -- A machine that is a call further than another, and the one where the scripts begin.
-use Rattle.std.proofs.Common.{◌≡◌, ℕ, ◌+◌, ◌≤◌, Bool, true, false, List, [], ◌∷◌, ◌++◌, length, drop, Option, Some, slice_get, refl, ap, sym, subst, ◌∙◌, arith}
-use Rattle.std.specs.Prelude.{◌||◌, Result, Ok, Err, IsTrue, nat_le, option_and_then}
+use Rattle.std.proofs.Common.{◌≡◌, ℕ, ◌+◌, ◌≤◌, Bool, true, false, List, [], ◌∷◌, ◌++◌, length, drop, Some, refl, ap, sym, subst, ◌∙◌, arith}
+use Rattle.std.specs.Prelude.{◌||◌, Result, Ok, Err, IsTrue, nat_le}
 use Rattle.std.proofs.lemmas.List.{append-nil, append_assoc, length-append, length_push, map-append}
 use Rattle.std.proofs.Math.Seq.{drop-length}
 use Rattle.hp_units.specs.LayoutParts.{LayoutParts}
 use Rattle.hp_units.specs.Memory.{Memory}
 use Rattle.hp_units.specs.History.{reply_of, value_of}
-use Rattle.hp_units.specs.Receipts.{receipts_of}
 use Rattle.hp_units.specs.declared.events.Event.{Event}
 use Rattle.hp_units.specs.declared.replies.CallFault.{CallFault}
 use Rattle.hp_units.specs.declared.replies.CallFault.TheVariants.{HistoryFull as CallFull, OutOfMemory as CallMemory}
@@ -16,22 +15,12 @@ use Rattle.hp_machine.specs.Machine.{IsCalled, IsHistory, MachineValue, is_full,
 use Rattle.hp_machine.proofs.Machines.{room}
 use Rattle.hp_steps.specs.Steps.{StepsValue}
 use Rattle.hp_explore.specs.declared.exploring.ExploreFault.TheVariants.{HistoryFull}
-use Rattle.hp_explore.specs.declared.scripts.Line.{Line}
-use Rattle.hp_explore.specs.Faults.{IsCause, is_full_after}
-use Rattle.hp_explore.specs.Notes.{fault_of}
-use Rattle.hp_explore.specs.Schedules.{Setting, next_call, plays, record_of_call, schedule_of, setting}
-use Rattle.hp_explore.specs.Scripts.{next_of}
+use Rattle.hp_schedules.specs.declared.scripts.Line.{Line}
+use Rattle.hp_explore.specs.Faults.{IsCause, fault_of, is_full_after}
+use Rattle.hp_schedules.specs.Schedules.{Setting, next_call, plays, record_of_call, schedule_of}
+use Rattle.hp_explore.specs.Settings.{setting}
 use Rattle.hp_explore.specs.Walks.{FillsAt, IsAt, IsFurther, IsReached, news_in, place_of}
-use Rattle.hp_explore.proofs.Plays.{plays_push, recorded}
-
--- the event that a processor's script asks for
-pub asked_is : (g : Setting) (news : List Record) (cpus cpu : ℕ) (lines : List Line) (next : Option Event)
-    → cpus ≡ g.layout.cpus → slice_get g.scripts cpu ≡ Some lines
-    → next ≡ next_of cpus lines (receipts_of cpu news) → next_call g cpu news ≡ next
-unfolding next_call
-asked_is g news cpus cpu lines next same here is =
-    ap (option_and_then (λ (xs : List Line). next_of g.layout.cpus xs (receipts_of cpu news))) here
-    ∙ (ap (λ (n : ℕ). next_of n lines (receipts_of cpu news)) (sym same) ∙ sym is)
+use Rattle.hp_schedules.proofs.Plays.{plays_push, recorded}
 
 -- what stands after the start
 after_start : (start news : List Record) → drop (length start) (start ++ news) ≡ news

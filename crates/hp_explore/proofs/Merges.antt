@@ -10,20 +10,21 @@ use Rattle.hp_units.specs.LayoutParts.{LayoutParts}
 use Rattle.hp_units.specs.Memory.{Memory}
 use Rattle.hp_units.specs.declared.replies.Record.{Record}
 use Rattle.hp_machine.specs.Machine.{MachineValue}
-use Rattle.hp_explore.specs.Alike.{AreAlike, UndoNothing}
-use Rattle.hp_explore.specs.Ends.{AreCounted}
-use Rattle.hp_explore.specs.Orders.{HasCount, IsBefore, IsFirst}
-use Rattle.hp_explore.specs.Outcomes.{OutcomeValue}
-use Rattle.hp_explore.specs.Parts.{AllOfPart, PartValue}
-use Rattle.hp_explore.specs.Schedules.{EndsWith, Setting, plays, schedule_of}
-use Rattle.hp_explore.specs.Seen.{AddsCounts, GoesOn, Grow, IsSeen, SeenValue}
+use Rattle.hp_schedules.specs.Alike.{AreAlike, UndoNothing}
+use Rattle.hp_schedules.specs.Ends.{AreCounted}
+use Rattle.hp_schedules.specs.Orders.{HasCount, IsBefore, IsFirst}
+use Rattle.hp_schedules.specs.Outcomes.{OutcomeValue}
+use Rattle.hp_schedules.specs.Parts.{AllOfPart, PartValue}
+use Rattle.hp_schedules.specs.Schedules.{EndsWith, Setting, plays, schedule_of}
+use Rattle.hp_explore.specs.Seen.{GoesOn, Grow, IsSeen, SeenValue}
+use Rattle.hp_schedules.specs.Shares.{AddsCounts}
 use Rattle.hp_explore.specs.Walks.{BeforeInPart, IsReached, ThroughInPart, news_in}
-use Rattle.hp_explore.specs.declared.tally.Ending.{Ending}
-use Rattle.hp_explore.proofs.Alike.{ends_alike}
-use Rattle.hp_explore.proofs.Counting.{either_listed, none_listed, same_count}
+use Rattle.hp_schedules.specs.declared.tally.Ending.{Ending}
+use Rattle.hp_schedules.proofs.Alike.{ends_alike}
+use Rattle.hp_schedules.proofs.Counting.{either_listed, none_listed, same_count}
 use Rattle.hp_explore.proofs.Grown.{counts_add_up, one_outcome}
-use Rattle.hp_explore.proofs.Apart.{difference, moved}
-use Rattle.hp_explore.proofs.Regions.{before_longer, not_before_longer}
+use Rattle.hp_schedules.proofs.Apart.{difference, moved}
+use Rattle.hp_schedules.proofs.Regions.{before_longer, not_before_longer}
 
 -- ---- a place that goes on like another
 

@@ -1,6 +1,6 @@
--- What numbers of openings mean, and those of the places on a walk's way.
-use Rattle.std.proofs.Common.{◌≡◌, ℕ, ◌+◌, ◌<◌, Bool, true, false, cond, List, [], ◌∷◌, ◌++◌, length, eqb, IfSome, Option, Some, None, slice_get, refl, ap, sym, subst, ◌∙◌, arith}
-use Rattle.std.proofs.lemmas.List.{append-nil, append_assoc, length_push, same_from_push}
+-- What numbers of openings mean.
+use Rattle.std.proofs.Common.{◌≡◌, ℕ, ◌+◌, ◌<◌, Bool, true, false, cond, List, [], ◌∷◌, ◌++◌, length, eqb, IfSome, Option, Some, None, slice_get, refl, ap, sym, subst, ◌∙◌}
+use Rattle.std.proofs.lemmas.List.{append_assoc}
 use Rattle.std.proofs.lemmas.Option.{same_Some, slice_get_within}
 use Rattle.hp_codes.specs.Codes.{IsCoded, KeepCodes}
 use Rattle.hp_codes.proofs.Coded.{coded_is_kept, coded_states_are_same}
@@ -9,16 +9,15 @@ use Rattle.hp_units.specs.LayoutParts.{LayoutParts}
 use Rattle.hp_units.specs.Memory.{Memory}
 use Rattle.hp_units.specs.declared.replies.Record.{Record}
 use Rattle.hp_laws.proofs.Net.{net-push}
-use Rattle.hp_explore.specs.Alike.{is_closed, leaves_steps}
-use Rattle.hp_explore.specs.Numbers.{AreNamed, AreStops, IsBegun, IsEntryOf, IsInFront, IsMadeBy, IsNumbered, IsStateAt, KeepNumbers, NumbersOn, entry_below, in_front, opening_of, openings_of}
-use Rattle.hp_explore.specs.Openings.{AreOpen, NumberedOpening, Opening, after_cancel, after_work, change_of, changed, openings_after}
-use Rattle.hp_explore.specs.Schedules.{Setting}
-use Rattle.hp_explore.specs.declared.openings.Change.TheVariants.{Stays, Begins, Works, Cancels, Ends}
+use Rattle.hp_schedules.specs.Alike.{leaves_steps}
+use Rattle.hp_schedules.specs.Numbers.{KeepNumbers}
+use Rattle.hp_explore.specs.Numbered.{AreNamed, IsBegun, IsEntryOf, IsInFront, IsMadeBy, IsNumbered, IsStateAt, NumbersOn, entry_below, in_front, opening_of, openings_of}
+use Rattle.hp_schedules.specs.Openings.{AreOpen, NumberedOpening, Opening, after_cancel, after_work, change_of, changed, openings_after}
+use Rattle.hp_schedules.specs.Schedules.{Setting}
+use Rattle.hp_schedules.specs.declared.changes.Change.TheVariants.{Stays, Begins, Works, Cancels, Ends}
 use Rattle.hp_explore.specs.declared.openings.Entry.{Entry}
-use Rattle.hp_explore.specs.declared.standing.Stop.{Stop}
-use Rattle.hp_explore.proofs.ClosedNets.{closed_none_sole}
-use Rattle.hp_explore.proofs.Numberings.{made_added}
-use Rattle.hp_explore.proofs.Opened.{none_after, open_more}
+use Rattle.hp_schedules.proofs.Numberings.{made_added}
+use Rattle.hp_schedules.proofs.Opened.{none_after, open_more}
 
 -- ---- openings that numbers name
 
@@ -241,7 +240,7 @@ ends_on lists from r was n is empty g codes news here leaves before = (
       (none_after g.layout g.base (net_of (g.start ++ news)) r leaves is),
 )
 
--- ---- the places of a walk
+-- ---- numbers that are kept
 
 pub number_kept : (g : Setting) (codes later : List (List ℕ)) (old new : List (List NumberedOpening))
     (news : List Record) (number : Option ℕ)
@@ -257,52 +256,8 @@ state_kept g codes later news None known is = tt
 state_kept g codes later news (Some n) known is =
     coded_is_kept g.layout codes later n (value_of g.layout g.base (g.start ++ news)) known is
 
-pub stops_kept : (g : Setting) (codes later : List (List ℕ)) (old new : List (List NumberedOpening))
-    (news : List Record) (stops : List Stop)
-    → KeepCodes codes later → KeepNumbers old new → AreStops g codes old news stops
-    → AreStops g later new news stops
-stops_kept g codes later old new news [] known keep are = tt
-stops_kept g codes later old new news (stop ∷ stops) known keep are = (
-  number_kept g codes later old new news stop.openings known keep are.0,
-  state_kept g codes later news stop.state known are.1,
-  λ before r is. stops_kept g codes later old new before stops known keep (are.2 before r is),
-)
-
 pub number_within : (g : Setting) (codes : List (List ℕ)) (lists : List (List NumberedOpening))
     (news : List Record) (number : Option ℕ)
     → IsNumbered g codes lists news number → IfSome number (λ n. n < length lists)
 number_within g codes lists news None is = tt
 number_within g codes lists news (Some n) is = slice_get_within lists n is.0 is.2
-
--- a call more
-pub stops_on : (g : Setting) (codes : List (List ℕ)) (old new : List (List NumberedOpening))
-    (news : List Record) (r : Record) (stops : List Stop) (number : Option ℕ)
-    → KeepNumbers old new → AreStops g codes old news stops → IsNumbered g codes new (news ++ r ∷ []) number
-    → AreStops g codes new (news ++ r ∷ []) (record { openings = number; state = None } ∷ stops)
-stops_on g codes old new news r stops number keep are one = (
-  one,
-  tt,
-  λ before s longer. subst (λ (h : List Record). AreStops g codes new h stops)
-      (same_from_push news before r s longer).0
-      (stops_kept g codes codes old new news stops (λ n c h. h) keep are),
-)
-
--- where a walk begins
-pub stop_begun : (g : Setting) (closed : Bool) → closed ≡ is_closed g.start
-    → AreStops g [] ([] ∷ []) [] (record { openings = cond closed (Some 0) None; state = None } ∷ [])
-stop_begun g closed told = (
-  by_test closed refl,
-  tt,
-  λ before r longer. absurd (omega (arith, length_push before r, ap length longer)),
-)
-  where
-    by_test : (b : Bool) → closed ≡ b → IsNumbered g [] ([] ∷ []) [] (cond b (Some 0) None)
-    by_test true set = (
-      [],
-      [],
-      refl,
-      tt,
-      subst (λ (h : List Record). AreOpen g.layout g.base (net_of h) [])
-          (sym (append-nil g.start)) (closed_none_sole g.start (sym told ∙ set)),
-    )
-    by_test false set = tt

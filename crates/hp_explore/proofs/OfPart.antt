@@ -1,19 +1,20 @@
 -- Which part schedules belong to, by what they begin with; and the only part of one.
 use Rattle.std.proofs.Common.{◌≡◌, ℕ, ◌≤◌, List, [], ◌∷◌, ◌++◌, Some, length, take, refl, ap, sym, ◌∙◌, arith, inl, inr}
 use Rattle.std.proofs.lemmas.List.{length-append, length_push, take-append-le}
-use Rattle.hp_explore.specs.Ends.{AreCounted}
-use Rattle.hp_explore.specs.Faults.{FillsHistory, HasMoreThan, IsCause, IsCauseHere}
+use Rattle.hp_schedules.specs.Ends.{AreCounted}
+use Rattle.hp_explore.specs.Faults.{FillsHistory, FillsPart, IsCause, IsCauseHere, IsCausePart}
+use Rattle.hp_schedules.specs.Orders.{Extends, HasMoreThan}
 use Rattle.hp_explore.specs.Fronts.{AreFirst, AreFirstInPart}
-use Rattle.hp_explore.specs.Orders.{Extends}
-use Rattle.hp_explore.specs.Parts.{AllOfPart, ComesTo, EndsInPart, FillsPart, IsCausePart, IsCompleteInPart, IsOfPart, IsOn, NoneOfPart, PartValue, part_number}
-use Rattle.hp_explore.specs.Schedules.{EndsWith, IsComplete, Setting, plays, schedule_of}
-use Rattle.hp_explore.specs.Alike.{AreAlike, UndoNothing}
-use Rattle.hp_explore.specs.Seen.{AddsCounts, IsSeen, SeenValue}
+use Rattle.hp_schedules.specs.Parts.{AllOfPart, ComesTo, EndsInPart, IsCompleteInPart, IsOfPart, IsOn, NoneOfPart, PartValue, part_number}
+use Rattle.hp_schedules.specs.Schedules.{EndsWith, IsComplete, Setting, plays, schedule_of}
+use Rattle.hp_schedules.specs.Alike.{AreAlike, UndoNothing}
+use Rattle.hp_explore.specs.Seen.{IsSeen, SeenValue}
+use Rattle.hp_schedules.specs.Shares.{AddsCounts}
 use Rattle.hp_explore.specs.Walks.{Before, BeforeInPart, Through, ThroughInPart}
 use Rattle.hp_explore.specs.declared.exploring.ExploreFault.{ExploreFault}
 use Rattle.hp_explore.specs.declared.exploring.ExploreFault.TheVariants.{HistoryFull, OutOfMemory}
-use Rattle.hp_explore.specs.declared.tally.Ending.{Ending}
-use Rattle.hp_explore.proofs.Counts.{same_counted}
+use Rattle.hp_schedules.specs.declared.tally.Ending.{Ending}
+use Rattle.hp_schedules.proofs.Counts.{same_counted}
 use Rattle.hp_units.specs.declared.replies.Record.{Record}
 use Rattle.hp_explore.proofs.Merges.{merged}
 

@@ -4,12 +4,12 @@ use Rattle.std.proofs.lemmas.List.{length_push, reverse-append}
 use Rattle.hp_units.specs.declared.events.Event.{Event}
 use Rattle.hp_units.specs.declared.replies.Record.{Record}
 use Rattle.hp_steps.specs.Steps.{StepsValue}
-use Rattle.hp_explore.specs.Cursors.{AreCursors}
+use Rattle.hp_schedules.specs.Cursors.{AreCursors}
 use Rattle.hp_explore.specs.Frames.{path_of}
 use Rattle.hp_explore.specs.Paths.{IsAdvanced, IsBack, IsForth, IsPath, IsTakenBack, IsTurned, IsWayBack, PathValue}
-use Rattle.hp_explore.specs.Schedules.{Setting, next_call, record_of_call}
+use Rattle.hp_schedules.specs.Schedules.{Setting, next_call, record_of_call}
 use Rattle.hp_explore.specs.Walks.{IsAt}
-use Rattle.hp_explore.specs.declared.cursors.Cursor.{Cursor}
+use Rattle.hp_schedules.specs.declared.cursors.Cursor.{Cursor}
 use Rattle.hp_explore.specs.declared.exploring.ExploreFault.{ExploreFault}
 use Rattle.hp_explore.specs.declared.ways.Turn.{Turn}
 use Rattle.hp_explore.specs.declared.ways.Way.{Way}

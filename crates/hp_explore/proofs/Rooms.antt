@@ -6,22 +6,23 @@ use Rattle.std.proofs.lemmas.Option.{none-some, same_Some, slice_get_within}
 use Rattle.hp_laws.proofs.Lists.{get_push_cases, get_some}
 use Rattle.hp_units.specs.declared.events.Event.{Event}
 use Rattle.hp_units.specs.declared.replies.Record.{Record}
-use Rattle.hp_explore.specs.Alike.{AreAlike, UndoNothing}
-use Rattle.hp_explore.specs.Ends.{AreCounted, AreInOrder}
-use Rattle.hp_explore.specs.Faults.{HasNoRoom, is_full_after}
-use Rattle.hp_explore.specs.Notes.{AddsEnd, AddsOne, IsNoted}
-use Rattle.hp_explore.specs.Orders.{Extends, IsBefore}
-use Rattle.hp_explore.specs.Outcomes.{OutcomeValue}
-use Rattle.hp_explore.specs.Parts.{ComesTo, FillsPart, NoneOfPart, PartValue}
-use Rattle.hp_explore.specs.Schedules.{Setting, next_call, play_one, plays, record_of_call}
-use Rattle.hp_explore.specs.Seen.{AddsCounts}
+use Rattle.hp_schedules.specs.Alike.{AreAlike, UndoNothing}
+use Rattle.hp_schedules.specs.Ends.{AreCounted, AreInOrder}
+use Rattle.hp_explore.specs.Faults.{FillsPart, HasNoRoom, is_full_after}
+use Rattle.hp_schedules.specs.Notes.{AddsEnd, AddsOne, IsNoted}
+use Rattle.hp_schedules.specs.Orders.{Extends, IsBefore}
+use Rattle.hp_schedules.specs.Outcomes.{OutcomeValue}
+use Rattle.hp_schedules.specs.Parts.{ComesTo, NoneOfPart, PartValue}
+use Rattle.hp_schedules.specs.Schedules.{Setting, next_call, play_one, plays, record_of_call}
+use Rattle.hp_schedules.specs.Shares.{AddsCounts}
 use Rattle.hp_explore.specs.Walks.{BeforeInPart, HasPartRoomBefore, HasPartRoomFrom, HasRoomFrom, IsPartWalkedBefore, IsPartWalkedThrough, ThroughInPart}
-use Rattle.hp_explore.specs.declared.tally.Ending.{Ending}
-use Rattle.hp_explore.proofs.Alike.{PlaysAlike, all_calls, call_same, played_alike}
-use Rattle.hp_explore.proofs.Counts.{get_set_cases, same_counted}
+use Rattle.hp_schedules.specs.declared.tally.Ending.{Ending}
+use Rattle.hp_schedules.proofs.Alike.{PlaysAlike, all_calls, call_same, played_alike}
+use Rattle.hp_schedules.proofs.Counts.{get_set_cases, same_counted}
 use Rattle.hp_explore.proofs.Merges.{turned}
-use Rattle.hp_explore.proofs.Plays.{asks_within, plays_on, plays_push, stops, walk_begins, walk_down, walk_over, walk_past}
-use Rattle.hp_explore.proofs.Regions.{before_first, before_longer, before_next, extends_before, extends_cons}
+use Rattle.hp_schedules.proofs.Plays.{asks_within, plays_on, plays_push, stops}
+use Rattle.hp_explore.proofs.Walks.{walk_begins, walk_down, walk_over, walk_past}
+use Rattle.hp_schedules.proofs.Regions.{before_first, before_longer, before_next, extends_before, extends_cons}
 
 -- ---- one call
 

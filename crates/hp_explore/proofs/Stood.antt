@@ -1,22 +1,71 @@
 -- What the numbers of where a walk stands mean, as it goes on and back.
-use Rattle.std.proofs.Common.{◌≡◌, ℕ, ◌<◌, Bool, List, [], ◌∷◌, ◌++◌, length, option_to_list, replicate, reverse, cond, Option, Some, None, get_or, slice_get, refl, ap, sym, subst, ◌∙◌, arith}
+use Rattle.std.proofs.Common.{◌≡◌, ℕ, ◌<◌, Bool, List, [], ◌∷◌, ◌++◌, length, option_to_list, replicate, reverse, cond, Option, Some, None, get_or, slice_get, refl, ap, sym, subst, ◌∙◌, arith, true, false}
 use Rattle.std.specs.Prelude.{unwrap_or}
-use Rattle.std.proofs.lemmas.List.{reverse-append}
+use Rattle.std.proofs.lemmas.List.{reverse-append, append-nil, length_push, same_from_push}
 use Rattle.std.proofs.lemmas.Option.{same_Some, slice_get-get_or, slice_get_within}
 use Rattle.hp_codes.specs.Codes.{IsCoded, KeepCodes}
 use Rattle.hp_memory.specs.Memory.{MemoryValue}
-use Rattle.hp_units.specs.History.{value_of}
+use Rattle.hp_units.specs.History.{value_of, net_of}
 use Rattle.hp_units.specs.declared.replies.Record.{Record}
-use Rattle.hp_explore.specs.Alike.{is_closed}
-use Rattle.hp_explore.specs.Exchanges.{AreExchanged, IsExchanged}
-use Rattle.hp_explore.specs.Numbers.{AreStops, IsNumbered, KeepNumbers}
-use Rattle.hp_explore.specs.Openings.{NumberedOpening}
-use Rattle.hp_explore.specs.Schedules.{Setting}
-use Rattle.hp_explore.specs.Standing.{AreSameNumbers, IsStanding, KeepMeanings, StandingValue}
+use Rattle.hp_schedules.specs.Alike.{is_closed}
+use Rattle.hp_schedules.specs.Exchanges.{AreExchanged, IsExchanged}
+use Rattle.hp_schedules.specs.Numbers.{KeepNumbers}
+use Rattle.hp_explore.specs.Numbered.{IsNumbered}
+use Rattle.hp_explore.specs.Standing.{AreSameNumbers, AreStops, IsStanding, KeepMeanings, StandingValue}
+use Rattle.hp_schedules.specs.Openings.{NumberedOpening, AreOpen}
+use Rattle.hp_schedules.specs.Schedules.{Setting}
 use Rattle.hp_explore.specs.declared.standing.Stop.{Stop}
-use Rattle.hp_explore.proofs.Exchanged.{exchanged_begun}
-use Rattle.hp_explore.proofs.Numbered.{stop_begun, stops_kept, stops_on}
-use Rattle.hp_explore.proofs.Numberings.{keep_same}
+use Rattle.hp_schedules.proofs.Exchanged.{exchanged_begun}
+use Rattle.hp_schedules.proofs.Numberings.{keep_same}
+use Rattle.hp_schedules.proofs.ClosedNets.{closed_none_sole}
+use Rattle.hp_explore.proofs.Numbered.{number_kept, state_kept}
+
+-- ---- the places of a way
+
+-- numbers that are kept
+pub stops_kept : (g : Setting) (codes later : List (List ℕ)) (old new : List (List NumberedOpening))
+    (news : List Record) (stops : List Stop)
+    → KeepCodes codes later → KeepNumbers old new → AreStops g codes old news stops
+    → AreStops g later new news stops
+stops_kept g codes later old new news [] known keep are = tt
+stops_kept g codes later old new news (stop ∷ stops) known keep are = (
+  number_kept g codes later old new news stop.openings known keep are.0,
+  state_kept g codes later news stop.state known are.1,
+  λ before r is. stops_kept g codes later old new before stops known keep (are.2 before r is),
+)
+
+-- a call more
+pub stops_on : (g : Setting) (codes : List (List ℕ)) (old new : List (List NumberedOpening))
+    (news : List Record) (r : Record) (stops : List Stop) (number : Option ℕ)
+    → KeepNumbers old new → AreStops g codes old news stops → IsNumbered g codes new (news ++ r ∷ []) number
+    → AreStops g codes new (news ++ r ∷ []) (record { openings = number; state = None } ∷ stops)
+stops_on g codes old new news r stops number keep are one = (
+  one,
+  tt,
+  λ before s longer. subst (λ (h : List Record). AreStops g codes new h stops)
+      (same_from_push news before r s longer).0
+      (stops_kept g codes codes old new news stops (λ n c h. h) keep are),
+)
+
+-- where a walk begins
+pub stop_begun : (g : Setting) (closed : Bool) → closed ≡ is_closed g.start
+    → AreStops g [] ([] ∷ []) [] (record { openings = cond closed (Some 0) None; state = None } ∷ [])
+stop_begun g closed told = (
+  by_test closed refl,
+  tt,
+  λ before r longer. absurd (omega (arith, length_push before r, ap length longer)),
+)
+  where
+    by_test : (b : Bool) → closed ≡ b → IsNumbered g [] ([] ∷ []) [] (cond b (Some 0) None)
+    by_test true set = (
+      [],
+      [],
+      refl,
+      tt,
+      subst (λ (h : List Record). AreOpen g.layout g.base (net_of h) [])
+          (sym (append-nil g.start)) (closed_none_sole g.start (sym told ∙ set)),
+    )
+    by_test false set = tt
 
 -- ---- numbers that mean what they meant
 

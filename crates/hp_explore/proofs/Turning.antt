@@ -7,11 +7,11 @@ use Rattle.hp_units.specs.declared.replies.Record.{Record}
 use Rattle.hp_steps.specs.Steps.{IsLater, IsStepped, StepsValue, record_of_step}
 use Rattle.hp_explore.specs.Faults.{is_full_after}
 use Rattle.hp_explore.specs.Paths.{IsTurned, IsWayOver}
-use Rattle.hp_explore.specs.Schedules.{Setting, next_call, plays, record_of_call, schedule_of}
+use Rattle.hp_schedules.specs.Schedules.{Setting, next_call, plays, record_of_call, schedule_of}
 use Rattle.hp_explore.specs.Walks.{IsAt, LeadsTo, may_go_back}
 use Rattle.hp_explore.specs.declared.ways.Way.{Way}
 use Rattle.hp_explore.specs.declared.ways.Way.TheVariants.{Mark}
-use Rattle.hp_explore.proofs.Plays.{plays_push}
+use Rattle.hp_schedules.proofs.Plays.{plays_push}
 use Rattle.hp_explore.proofs.Stepped.{step_recorded, stepped_at}
 
 -- a step is taken back by its mark
@@ -44,3 +44,11 @@ turned_kept g p n now cpu event way here asked leads room over now_is =
         same_Some n.records (p.records ++ record_of_call g p.records cpu event ∷ [])
         (sym leads.0.played ∙ (ap (plays g) leads.1
         ∙ plays_push g (schedule_of p.records) p.records cpu event here.played asked))
+
+-- ---- a record with a copy of its event
+
+abbrev pub with_event : Record → Event → Record
+with_event r event = record { serial = r.serial; cpu = r.cpu; event = event; reply = r.reply }
+
+pub same_event : (r : Record) (event : Event) → event ≡ r.event → with_event r event ≡ r
+same_event r event is = ap (with_event r) is

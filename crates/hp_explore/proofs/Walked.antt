@@ -5,17 +5,17 @@ use Rattle.std.proofs.lemmas.List.{length-append, length_push}
 use Rattle.hp_units.specs.declared.replies.Record.{Record}
 use Rattle.hp_units.specs.History.{effect_of}
 use Rattle.hp_units.specs.declared.events.Event.{Event}
-use Rattle.hp_explore.specs.Alike.{leaves_steps}
+use Rattle.hp_schedules.specs.Alike.{leaves_steps}
 use Rattle.hp_explore.specs.Faults.{is_full_after}
 use Rattle.hp_explore.specs.Frames.{AreBelow, AreWalked, path_of}
-use Rattle.hp_explore.specs.Parts.{IsOn, PartValue}
+use Rattle.hp_schedules.specs.Parts.{IsOn, PartValue}
 use Rattle.hp_explore.specs.Paths.{IsBack, IsForth, PathValue}
-use Rattle.hp_explore.specs.Schedules.{Setting, plays, record_of_call, schedule_of}
+use Rattle.hp_schedules.specs.Schedules.{Setting, plays, record_of_call, schedule_of}
 use Rattle.hp_explore.specs.Seen.{Grow, IsMemo, IsOnWay, MemoValue}
 use Rattle.hp_explore.specs.Walks.{IsPartWalkedBefore, IsPartWalkedThrough}
 use Rattle.hp_explore.specs.declared.frames.Frame.{Frame}
-use Rattle.hp_explore.proofs.Alike.{call_leaves, event_kept}
-use Rattle.hp_explore.specs.declared.tally.Ending.{Ending}
+use Rattle.hp_schedules.proofs.Alike.{call_leaves, event_kept}
+use Rattle.hp_schedules.specs.declared.tally.Ending.{Ending}
 use Rattle.hp_explore.proofs.Framing.{back_setting, back_shorter, walk_back, walk_leads, walk_passes}
 
 -- a processor asked for nothing

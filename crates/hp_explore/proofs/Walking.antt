@@ -6,20 +6,23 @@ use Rattle.std.proofs.lemmas.Option.{slice_get_read}
 use Rattle.std.specs.Prelude.{sum_by}
 use Rattle.hp_units.specs.declared.replies.Record.{Record}
 use Rattle.hp_machine.specs.Machine.{MachineValue}
-use Rattle.hp_explore.specs.declared.tally.Ending.{Ending}
+use Rattle.hp_schedules.specs.declared.tally.Ending.{Ending}
 use Rattle.hp_explore.specs.Frames.{path_of, standing}
-use Rattle.hp_explore.specs.Faults.{FillsAlong, HasMoreThan}
+use Rattle.hp_explore.specs.Faults.{FillsAlong}
+use Rattle.hp_schedules.specs.Orders.{HasMoreThan}
 use Rattle.hp_explore.specs.Fronts.{AreFirstInPart}
-use Rattle.hp_explore.specs.declared.scripts.Line.{Line}
-use Rattle.hp_explore.specs.Parts.{IsCompleteInPart, IsOfPart, PartValue}
-use Rattle.hp_explore.specs.Schedules.{Setting, next_call, outcome_after, plays, schedule_of, setting}
+use Rattle.hp_schedules.specs.declared.scripts.Line.{Line}
+use Rattle.hp_schedules.specs.Parts.{IsCompleteInPart, IsOfPart, PartValue}
+use Rattle.hp_schedules.specs.Schedules.{Setting, next_call, outcome_after, plays, schedule_of}
+use Rattle.hp_explore.specs.Settings.{setting}
 use Rattle.hp_explore.specs.Walks.{FillsAt, IsEndHere, IsEndNoted, IsFurther, IsNotedAtEnd, IsOverBelow, IsPartWalkedBefore, IsPartWalkedThrough, IsPlayed, IsReached, news_in, place_of}
 use Rattle.hp_laws.proofs.Replays.{take_one}
 use Rattle.hp_explore.specs.Seen.{Grow}
 use Rattle.hp_explore.proofs.Grown.{grow_none, grow_noted}
 use Rattle.hp_explore.proofs.Machines.{reached_start, start_place}
-use Rattle.hp_explore.proofs.Plays.{complete, over_all, stops, walk_apart, walk_exceeds, walk_here, walk_notes, walk_up}
-use Rattle.hp_explore.proofs.Regions.{before_longer}
+use Rattle.hp_schedules.proofs.Plays.{complete, stops}
+use Rattle.hp_explore.proofs.Walks.{over_all, walk_apart, walk_exceeds, walk_here, walk_notes, walk_up}
+use Rattle.hp_schedules.proofs.Regions.{before_longer}
 use Rattle.hp_explore.proofs.Rooms.{done_up, ordered_noted}
 
 -- what is known of the processors below the next one, where this one asks for nothing

@@ -1,19 +1,14 @@
 -- Why schedules were not counted.
-use Rattle.std.specs.Prelude.{◌≡◌, ℕ, ◌+◌, Bool, ◌||◌, true, List, [], ◌∷◌, ◌++◌, Some, length, nat_le, slice_get}
+use Rattle.std.specs.Prelude.{◌≡◌, ℕ, ◌+◌, Bool, ◌||◌, true, List, [], ◌∷◌, ◌++◌, Some, length, nat_le}
 use Rattle.hp_units.specs.declared.events.Event.{Event}
 use Rattle.hp_units.specs.declared.replies.Record.{Record}
 use Rattle.hp_explore.specs.declared.exploring.ExploreFault.{ExploreFault}
 use Rattle.hp_explore.specs.declared.exploring.ExploreFault.TheVariants.{HistoryFull, OutOfMemory}
-use Rattle.hp_explore.specs.Orders.{Extends}
-use Rattle.hp_explore.specs.Schedules.{Setting, next_call, plays}
-
--- there are more schedules of a kind than so many: a list of one more, each of the kind and each once
-pub record AreSome (P : List ℕ → Type 0) (all : List (List ℕ)) : Type 0 where
-  pub each : (i : ℕ) (s : List ℕ) → slice_get all i ≡ Some s → P s
-  pub once : (i j : ℕ) (s : List ℕ) → slice_get all i ≡ Some s → slice_get all j ≡ Some s → i ≡ j
-
-abbrev pub HasMoreThan : (List ℕ → Type 0) → ℕ → Type 0
-HasMoreThan P n = (all : List (List ℕ)) × AreSome P all × (length all ≡ n + 1)
+use Rattle.hp_schedules.specs.Orders.{Extends}
+use Rattle.hp_schedules.specs.Schedules.{Setting, next_call, plays}
+use Rattle.hp_units.specs.declared.replies.CallFault.{CallFault}
+use Rattle.hp_units.specs.declared.replies.CallFault.TheVariants.{HistoryFull as CallFull, OutOfMemory as CallMemory}
+use Rattle.hp_schedules.specs.Parts.{ComesTo, PartValue}
 
 -- after new records the history has no room for a further one, or there is no further serial
 abbrev pub is_full_after : Setting → List Record → Bool
@@ -51,3 +46,22 @@ IsCauseHere g news cpu OutOfMemory = Unit {0}
 abbrev pub IsCause : Setting → ExploreFault → Type 0
 IsCause g HistoryFull = FillsHistory g
 IsCause g OutOfMemory = Unit {0}
+
+-- ---- of one part
+
+-- where a schedule of a part's search leads to the history has no room for a call that a processor
+-- has to make
+abbrev pub FillsPart : Setting → PartValue → Type 0
+FillsPart g part = (s : List ℕ) × HasNoRoom g s × ComesTo (length g.scripts) part s
+
+-- the cause of a fault of a part's search
+abbrev pub IsCausePart : Setting → PartValue → ExploreFault → Type 0
+IsCausePart g part HistoryFull = FillsPart g part
+IsCausePart g part OutOfMemory = Unit {0}
+
+-- ---- of a call
+
+-- a call's fault as the exploration's
+abbrev pub fault_of : CallFault → ExploreFault
+fault_of CallFull = HistoryFull
+fault_of CallMemory = OutOfMemory

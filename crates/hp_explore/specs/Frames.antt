@@ -4,20 +4,21 @@ use Rattle.std.specs.declared.alloc.Global.{Global}
 use Rattle.hp_units.specs.declared.events.Event.{Event}
 use Rattle.hp_units.specs.declared.replies.Record.{Record}
 use Rattle.hp_steps.specs.Steps.{StepsValue}
-use Rattle.hp_explore.specs.Ends.{AreCounted}
+use Rattle.hp_schedules.specs.Ends.{AreCounted}
 use Rattle.hp_explore.specs.Faults.{is_full_after}
-use Rattle.hp_explore.specs.Parts.{AllOfPart, ComesTo, IsOn, PartValue}
+use Rattle.hp_schedules.specs.Parts.{AllOfPart, ComesTo, IsOn, PartValue}
 use Rattle.hp_explore.specs.Paths.{PathValue, state_at}
-use Rattle.hp_explore.specs.Schedules.{Setting, next_call, plays, schedule_of}
+use Rattle.hp_schedules.specs.Schedules.{Setting, next_call, plays, schedule_of}
 use Rattle.hp_explore.specs.Fronts.{AreFirstInPart}
-use Rattle.hp_explore.specs.Seen.{AddsShares, Grow, IsMemo, IsOnWay}
+use Rattle.hp_explore.specs.Seen.{Grow, IsMemo, IsOnWay}
+use Rattle.hp_schedules.specs.Shares.{AddsShares}
 use Rattle.hp_explore.specs.Walks.{BeforeInPart, IsOverBelow, IsPartWalkedBefore, IsPartWalkedThrough}
 use Rattle.hp_explore.specs.declared.frames.Entry.{Entry}
 use Rattle.hp_explore.specs.declared.frames.Entry.TheVariants.{Counted, Open}
 use Rattle.hp_explore.specs.declared.frames.Frame.{Frame}
 use Rattle.hp_explore.specs.declared.frames.Kept.{Kept}
-use Rattle.hp_explore.specs.declared.rows.Share.{Share}
-use Rattle.hp_explore.specs.declared.tally.Ending.{Ending}
+use Rattle.hp_schedules.specs.declared.rows.Share.{Share}
+use Rattle.hp_schedules.specs.declared.tally.Ending.{Ending}
 use Rattle.hp_explore.specs.declared.frames.Turned.{Turned}
 use Rattle.hp_explore.specs.declared.frames.Turned.TheVariants.{On, Over, Full}
 use Rattle.hp_explore.specs.declared.walk.Walk.{Walk}

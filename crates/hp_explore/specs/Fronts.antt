@@ -1,10 +1,10 @@
 -- An exploration that ends with the limit: the first schedules in the order of the walk.
 use Rattle.std.specs.Prelude.{◌≡◌, ℕ, true, false, List, sum_by}
-use Rattle.hp_explore.specs.Parts.{IsCompleteInPart, PartValue}
-use Rattle.hp_explore.specs.Schedules.{IsComplete, Setting}
+use Rattle.hp_schedules.specs.Parts.{IsCompleteInPart, PartValue}
+use Rattle.hp_schedules.specs.Schedules.{IsComplete, Setting}
 use Rattle.hp_explore.specs.Walks.{IsPartWalkedBefore, IsWalkedBefore}
 use Rattle.hp_explore.specs.declared.exploring.Exploration.{Exploration}
-use Rattle.hp_explore.specs.declared.tally.Ending.{Ending}
+use Rattle.hp_schedules.specs.declared.tally.Ending.{Ending}
 
 -- the ends are those of the schedules before a further one: all before it was walked, and they are as
 -- many as the limit

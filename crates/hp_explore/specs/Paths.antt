@@ -5,11 +5,11 @@ use Rattle.hp_units.specs.Memory.{Memory}
 use Rattle.hp_units.specs.declared.events.Event.{Event}
 use Rattle.hp_units.specs.declared.replies.Record.{Record}
 use Rattle.hp_steps.specs.Steps.{IsLater, StepsValue}
-use Rattle.hp_explore.specs.Cursors.{AreCursors}
+use Rattle.hp_schedules.specs.Cursors.{AreCursors}
 use Rattle.hp_explore.specs.Faults.{is_full_after}
-use Rattle.hp_explore.specs.Schedules.{Setting, next_call, record_of_call}
+use Rattle.hp_schedules.specs.Schedules.{Setting, next_call, record_of_call}
 use Rattle.hp_explore.specs.Walks.{IsAt}
-use Rattle.hp_explore.specs.declared.cursors.Cursor.{Cursor}
+use Rattle.hp_schedules.specs.declared.cursors.Cursor.{Cursor}
 use Rattle.hp_explore.specs.declared.ways.Turn.{Turn}
 use Rattle.hp_explore.specs.declared.ways.Way.{Way}
 use Rattle.hp_explore.specs.declared.ways.Way.TheVariants.{Mark, Kept}

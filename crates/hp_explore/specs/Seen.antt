@@ -1,15 +1,16 @@
 -- Places that were walked, and how many schedules go on from each.
-use Rattle.std.specs.Prelude.{◌≡◌, ℕ, ◌+◌, ◌*◌, ◌<◌, ◌≤◌, Bool, true, List, [], ◌∷◌, ◌++◌, Some, cond, length, nat_eq, slice_get, slice_index_or, slice_range, slice_set, sum, sum_by}
+use Rattle.std.specs.Prelude.{◌≡◌, ℕ, ◌+◌, ◌*◌, ◌≤◌, Bool, true, List, [], ◌∷◌, ◌++◌, Some, length, slice_get, slice_index_or, slice_range}
 use Rattle.hp_units.specs.declared.replies.Record.{Record}
-use Rattle.hp_explore.specs.Alike.{UndoNothing}
-use Rattle.hp_explore.specs.Notes.{HasNoEnd, TallyValue}
-use Rattle.hp_explore.specs.Orders.{Extends, HasCount}
-use Rattle.hp_explore.specs.Outcomes.{OutcomeValue}
-use Rattle.hp_explore.specs.Schedules.{EndsWith, Setting, plays, schedule_of}
+use Rattle.hp_schedules.specs.Alike.{UndoNothing}
+use Rattle.hp_schedules.specs.Notes.{HasNoEnd}
+use Rattle.hp_schedules.specs.Orders.{Extends, HasCount}
+use Rattle.hp_schedules.specs.Outcomes.{OutcomeValue}
+use Rattle.hp_schedules.specs.Schedules.{EndsWith, Setting, plays, schedule_of}
 use Rattle.hp_explore.specs.Standing.{IsKey, IsStanding, StandingValue}
 use Rattle.hp_explore.specs.Walks.{HasRoomFrom}
-use Rattle.hp_explore.specs.declared.rows.Share.{Share}
-use Rattle.hp_explore.specs.declared.tally.Ending.{Ending}
+use Rattle.hp_schedules.specs.declared.rows.Share.{Share}
+use Rattle.hp_schedules.specs.declared.tally.Ending.{Ending}
+use Rattle.hp_schedules.specs.Shares.{AreAtEnds, AreSince, amount_of}
 
 -- a place: the new records that lead there, and how many complete schedules go on from there to each
 -- end, by the end's place; none where the list has no number
@@ -36,34 +37,6 @@ pub record Grow (old new : List Ending) : Type 0 where
   pub kept : (k : ℕ) (e f : Ending) → slice_get old k ≡ Some e → slice_get new k ≡ Some f
       → (f.outcome ≡ e.outcome) × (e.count ≤ f.count)
   pub fresh : (k : ℕ) (f : Ending) → slice_get new k ≡ Some f → length old ≤ k → HasNoEnd old f.outcome
-
--- each end counts so many more
-pub record AddsCounts (old : List Ending) (counts : List ℕ) (new : List Ending) : Type 0 where
-  pub as_many : length new ≡ length old
-  pub more : (k : ℕ) (e f : Ending) → slice_get old k ≡ Some e → slice_get new k ≡ Some f
-      → (f.outcome ≡ e.outcome) × (f.first.items ≡ e.first.items)
-      × (f.count ≡ e.count + slice_index_or counts k 0)
-
--- ---- shares: only the ends that a place leads to have one
-
--- how many schedules of a share go to an end
-abbrev pub count_for : (end : ℕ) → Share → ℕ
-count_for end s = cond (nat_eq s.end end) s.count 0
-
--- how many of all shares do
-abbrev pub amount_of : List Share → (end : ℕ) → ℕ
-amount_of shares end = sum_by (count_for end) shares
-
--- each share is that of one of so many ends
-abbrev pub AreAtEnds : (many : ℕ) → List Share → Type 0
-AreAtEnds many shares = (i : ℕ) (s : Share) → slice_get shares i ≡ Some s → s.end < many
-
--- each end counts its share more
-pub record AddsShares (old : List Ending) (shares : List Share) (new : List Ending) : Type 0 where
-  pub as_many : length new ≡ length old
-  pub more : (k : ℕ) (e f : Ending) → slice_get old k ≡ Some e → slice_get new k ≡ Some f
-      → (f.outcome ≡ e.outcome) × (f.first.items ≡ e.first.items)
-      × (f.count ≡ e.count + amount_of shares k)
 
 -- ---- the places that are kept
 
@@ -100,33 +73,6 @@ abbrev pub IsRowAmong : (keys : List ℕ) → (rows : List (List Share)) → (ke
     → (shares : List Share) → Type 0
 IsRowAmong keys rows key shares =
     (i : ℕ) × (slice_get rows i ≡ Some shares) × (key_in keys (length key) i ≡ key)
-
--- ends count no less than they did, and more by so many
-abbrev pub AreNoMore : List ℕ → List Ending → Type 0
-AreNoMore earlier ends =
-    (k : ℕ) (e : Ending) → slice_get ends k ≡ Some e → slice_index_or earlier k 0 ≤ e.count
-
-pub record AreSince (earlier : List ℕ) (ends : List Ending) (shares : List Share) : Type 0 where
-  pub at_ends : AreAtEnds (length ends) shares
-  pub each : (k : ℕ) (e : Ending) → slice_get ends k ≡ Some e
-      → slice_index_or earlier k 0 + amount_of shares k ≡ e.count
-
--- the end at a place counts so many more
-pub record AddsAt (old : List Ending) (at count : ℕ) (new : List Ending) : Type 0 where
-  pub entry : Ending
-  pub more : Ending
-  pub here : slice_get old at ≡ Some entry
-  pub outcome_is : more.outcome ≡ entry.outcome
-  pub count_is : more.count ≡ entry.count + count
-  pub first : more.first.items ≡ entry.first.items
-  pub new_is : new ≡ slice_set old at more
-
--- so many schedules more may be counted
-abbrev pub HasRoomFor : TallyValue → List ℕ → Type 0
-HasRoomFor t counts = sum_by (λ e. e.count) t.ends + sum counts ≤ t.limit
-
-abbrev pub HasRoomForShares : TallyValue → List Share → Type 0
-HasRoomForShares t shares = sum_by (λ e. e.count) t.ends + sum_by (λ s. s.count) shares ≤ t.limit
 
 -- the places that are kept, where the ends are these; and where any are to be kept no script undoes
 -- steps by their serials

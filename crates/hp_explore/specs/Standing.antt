@@ -1,13 +1,14 @@
 -- Where a walk stands, in numbers.
-use Rattle.std.specs.Prelude.{◌≡◌, ℕ, ◌+◌, ◌*◌, ◌<◌, List, ◌∷◌, Some, length, reverse, slice_get}
+use Rattle.std.specs.Prelude.{◌≡◌, ℕ, ◌+◌, ◌*◌, ◌<◌, List, ◌∷◌, Some, length, reverse, slice_get, [], ◌++◌}
 use Rattle.hp_codes.specs.Codes.{KeepCodes}
 use Rattle.hp_units.specs.Receipts.{receipts_of}
 use Rattle.hp_units.specs.declared.replies.Record.{Record}
-use Rattle.hp_explore.specs.Exchanges.{AreExchanged, ExchangesValue, IsExchanged}
-use Rattle.hp_explore.specs.Numbers.{AreStops, IsNumbered, IsStateAt, KeepNumbers}
-use Rattle.hp_explore.specs.Openings.{NumberedOpening}
-use Rattle.hp_explore.specs.Schedules.{Setting}
-use Rattle.hp_explore.specs.Scripts.{own_operation}
+use Rattle.hp_schedules.specs.Exchanges.{AreExchanged, ExchangesValue, IsExchanged}
+use Rattle.hp_schedules.specs.Numbers.{KeepNumbers}
+use Rattle.hp_explore.specs.Numbered.{IsNumbered, IsStateAt}
+use Rattle.hp_schedules.specs.Openings.{NumberedOpening}
+use Rattle.hp_schedules.specs.Schedules.{Setting}
+use Rattle.hp_schedules.specs.Scripts.{own_operation}
 use Rattle.hp_explore.specs.declared.standing.Stop.{Stop}
 
 -- what each number of a state, of openings and of exchanges means; the number that each processor's
@@ -18,6 +19,14 @@ pub record StandingValue : Type 0 where
   pub exchanged : ExchangesValue
   pub here : Stop
   pub before : List Stop
+
+-- these are the numbers of the places on a way, the latest first
+abbrev pub AreStops : Setting → (codes : List (List ℕ)) → List (List NumberedOpening) → (news : List Record)
+    → List Stop → Type 0
+AreStops g codes lists news [] = Unit {0}
+AreStops g codes lists news (stop ∷ stops) =
+    IsNumbered g codes lists news stop.openings × IsStateAt g codes news stop.state
+    × ((before : List Record) (r : Record) → news ≡ before ++ r ∷ [] → AreStops g codes lists before stops)
 
 -- the numbers are those of the place after new records
 pub record IsStanding (g : Setting) (news : List Record) (s : StandingValue) : Type 0 where

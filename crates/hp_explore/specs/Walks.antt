@@ -6,14 +6,14 @@ use Rattle.hp_units.specs.declared.events.Event.TheVariants.{UndoAfter}
 use Rattle.hp_units.specs.declared.replies.Record.{Record}
 use Rattle.hp_machine.specs.Machine.{MachineValue}
 use Rattle.hp_steps.specs.Steps.{StepsValue}
-use Rattle.hp_explore.specs.declared.tally.Ending.{Ending}
-use Rattle.hp_explore.specs.Ends.{AreCounted, AreInOrder}
+use Rattle.hp_schedules.specs.declared.tally.Ending.{Ending}
+use Rattle.hp_schedules.specs.Ends.{AreCounted, AreInOrder}
 use Rattle.hp_explore.specs.Faults.{HasNoRoom}
-use Rattle.hp_explore.specs.Notes.{IsNoted}
-use Rattle.hp_explore.specs.Orders.{Extends, IsBefore}
-use Rattle.hp_explore.specs.Outcomes.{OutcomeValue, outcome}
-use Rattle.hp_explore.specs.Parts.{ComesTo, EndsInPart, IsOfPart, PartValue}
-use Rattle.hp_explore.specs.Schedules.{EndsWith, Setting, next_call, plays, schedule_of}
+use Rattle.hp_schedules.specs.Notes.{IsNoted}
+use Rattle.hp_schedules.specs.Orders.{Extends, IsBefore}
+use Rattle.hp_schedules.specs.Outcomes.{OutcomeValue, outcome}
+use Rattle.hp_schedules.specs.Parts.{ComesTo, EndsInPart, IsOfPart, PartValue}
+use Rattle.hp_schedules.specs.Schedules.{EndsWith, Setting, next_call, plays, schedule_of}
 
 -- the records of a machine since another, and since the scripts began; and the schedule that the
 -- latter came from

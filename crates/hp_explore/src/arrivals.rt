@@ -1,21 +1,20 @@
 //! What a place is that a walk comes to, and what is kept of it when the walk leaves it.
 ghost use Rattle.std.specs.Prelude.{◌≡◌, ◌<◌, IfOk, List, OnOk, length, true};
 ghost use Rattle.hp_explore.specs.Frames.{IsAdded, IsEntered, IsEnteredWithin, IsFrame, IsFresh, IsPlaceWalked, standing};
-ghost use Rattle.hp_explore.specs.Notes.{HasRoom};
-ghost use Rattle.hp_explore.specs.Parts.{IsOn};
-ghost use Rattle.hp_explore.specs.Schedules.{schedule_of};
-ghost use Rattle.hp_explore.specs.Seen.{AreAtEnds, IsMemo, IsOnWay};
+ghost use Rattle.hp_schedules.specs.Notes.{HasRoom};
+ghost use Rattle.hp_schedules.specs.Parts.{IsOn};
+ghost use Rattle.hp_schedules.specs.Schedules.{schedule_of};
+ghost use Rattle.hp_explore.specs.Seen.{IsMemo, IsOnWay};
+ghost use Rattle.hp_schedules.specs.Shares.{AreAtEnds};
 ghost use Rattle.hp_explore.specs.Walks.{IsEndNoted, IsNotedAtEnd, IsPartWalkedBefore, IsPartWalkedThrough};
-ghost use Rattle.hp_explore.specs.declared.tally.Ending.{Ending};
+ghost use Rattle.hp_schedules.specs.declared.tally.Ending.{Ending};
 
+use crate::ends::ended_rows;
 use crate::frames::{Entry, Frame, Kept};
 use crate::memo::Memo;
-use crate::outcomes::ended_rows;
-use crate::parts::Part;
 use crate::path::Path;
-use crate::rows::Share;
-use crate::tally::{Tally, fit_in};
 use crate::watch::Watch;
+use hp_schedules::{Part, Share, Tally, fit_in};
 use std::alloc::{AllocError, Global};
 
 /// What a place that the walk comes to is, for a part: another part's is left at once. One with fewer

@@ -1,17 +1,18 @@
 //! The exploration of scripts on a machine.
 ghost use Rattle.std.specs.Prelude.{◌^◌, ◌<◌, ◌≤◌, IfErr, IfOk, length, sum_by};
-ghost use Rattle.hp_explore.specs.Ends.{AreCounted, AreEnds, AreInOrder};
-ghost use Rattle.hp_explore.specs.Faults.{FillsHistory, HasMoreThan, IsCause};
+ghost use Rattle.hp_schedules.specs.Ends.{AreCounted, AreEnds, AreInOrder};
+ghost use Rattle.hp_explore.specs.Faults.{FillsHistory, FillsPart, IsCause, IsCausePart};
+ghost use Rattle.hp_schedules.specs.Interleavings.{IsRoomNeeded};
+ghost use Rattle.hp_schedules.specs.Orders.{HasMoreThan};
 ghost use Rattle.hp_explore.specs.Fronts.{AreFirst, AreFirstInPart, IfFirst, IfWhole};
-ghost use Rattle.hp_explore.specs.Parts.{EndsInPart, FillsPart, IsCausePart, IsCompleteInPart};
-ghost use Rattle.hp_explore.specs.Schedules.{IsComplete, setting};
+ghost use Rattle.hp_schedules.specs.Parts.{EndsInPart, IsCompleteInPart};
+ghost use Rattle.hp_schedules.specs.Schedules.{IsComplete};
+ghost use Rattle.hp_explore.specs.Settings.{setting};
 
-use crate::parts::Part;
-use crate::scripts::Script;
-use crate::tally::Ending;
 use crate::walk::Walk;
 use crate::watch::Watch;
 use hp_machine::Machine;
+use hp_schedules::{Ending, Part, Script, call_count};
 use hp_units::CallFault;
 use std::alloc::{AllocError, Global};
 use thiserror::Error;
@@ -50,7 +51,7 @@ impl From<AllocError> for ExploreFault {
 
 impl From<CallFault> for ExploreFault {
     ghost use Rattle.std.specs.Prelude.{◌≡◌};
-    ghost use Rattle.hp_explore.specs.Notes.{fault_of};
+    ghost use Rattle.hp_explore.specs.Faults.{fault_of};
 
     ghost from_gives = { λ fault e. e ≡ fault_of fault };
 
@@ -138,4 +139,20 @@ pub fn explore_part<W: Watch>(
         ends: walk.into_ends(),
         is_whole,
     })
+}
+
+/// How many records the history needs room for, so that it has room for each call of each schedule:
+/// those that it has, and one for each line of the scripts. None where a script holds a plan, whose
+/// calls only a search counts, or where the number is 2^64 or more. An error is out of memory.
+pub fn room_needed(
+    alloc: Global,
+    machine: &Machine,
+    scripts: &[Script],
+) -> Result<Option<u64>, AllocError>
+    ensures { IfOk result (IsRoomNeeded (setting machine.now scripts.now)) }
+{
+    match call_count(alloc, scripts)? {
+        Some(calls) => Ok(calls.checked_add(machine.history().len() as u64)),
+        None => Ok(None),
+    }
 }

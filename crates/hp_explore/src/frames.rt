@@ -2,7 +2,7 @@
 ghost use Rattle.std.specs.Prelude.{◌≡◌, ◌+◌, ◌-◌, ◌^◌, ◌<◌, IfOk, true, false};
 ghost use Rattle.hp_explore.specs.Frames.{IsFresh};
 
-use crate::tally::Tally;
+use hp_schedules::Tally;
 use std::alloc::{AllocError, Global};
 
 /// What is kept of a place until all that go on from it are counted: how much each end counted when

@@ -2,17 +2,16 @@
 ghost use Rattle.std.specs.Prelude.{◌≡◌, ◌++◌, ◌∷◌, [], IfOk, IfSome, IsTrue, List, None, OnOk, Some, cond, length, replicate, true};
 ghost use Rattle.hp_units.specs.History.{effect_of};
 ghost use Rattle.hp_units.specs.declared.replies.Record.{Record as NewRecord};
-ghost use Rattle.hp_explore.specs.Alike.{leaves_steps};
-ghost use Rattle.hp_explore.specs.Schedules.{Setting};
-ghost use Rattle.hp_explore.specs.Seen.{AreNoMore, AreSamePlaces, IsKeptMore, IsMemo, IsOnWay, IsRowAmong, key_in};
+ghost use Rattle.hp_schedules.specs.Alike.{leaves_steps};
+ghost use Rattle.hp_schedules.specs.Schedules.{Setting};
+ghost use Rattle.hp_explore.specs.Seen.{AreSamePlaces, IsKeptMore, IsMemo, IsOnWay, IsRowAmong, key_in};
+ghost use Rattle.hp_schedules.specs.Shares.{AreNoMore};
 ghost use Rattle.hp_explore.specs.Standing.{AreSameNumbers, IsKey, KeepMeanings};
-ghost use Rattle.hp_explore.specs.declared.tally.Ending.{Ending};
+ghost use Rattle.hp_schedules.specs.declared.tally.Ending.{Ending};
 
-use crate::digests::{key_digest, learn};
 use crate::path::Path;
-use crate::rows::{Rows, Share};
 use crate::standing::Standing;
-use crate::tally::Tally;
+use hp_schedules::{Rows, Share, Tally, key_digest, learn};
 use hp_units::{Cpu, Record};
 use indexmap::IndexMap;
 use std::alloc::{AllocError, Global};

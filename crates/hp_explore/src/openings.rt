@@ -1,29 +1,15 @@
 //! The operations that Cancels can take back whole at a place, with the states that they lead back to.
 //! Equal lists of them have one number each, mostly, so that places are compared by numbers.
 ghost use Rattle.std.specs.Prelude.{◌≡◌, ◌∷◌, ◌<◌, ◌≤◌, [], IfNone, IfOk, IfSome, List, Some, length, slice_get};
-ghost use Rattle.hp_explore.specs.Numbers.{IsBegun, IsEntryOf, IsInFront, IsMadeBy, KeepNumbers, NumbersOn};
-ghost use Rattle.hp_explore.specs.Openings.{NumberedOpening, after_cancel, after_work, change_by, change_of};
+ghost use Rattle.hp_schedules.specs.Numbers.{KeepNumbers};
+ghost use Rattle.hp_explore.specs.Numbered.{IsBegun, IsEntryOf, IsInFront, IsMadeBy, NumbersOn};
+ghost use Rattle.hp_schedules.specs.Openings.{NumberedOpening, after_cancel, after_work};
 
-use crate::digests::{learn, mixed};
-use hp_units::{Event, Record, Reply, Serial};
+use hp_schedules::{Change, change_of, learn, mixed};
+use hp_units::{Record, Serial};
 use indexmap::IndexMap;
 use std::alloc::{AllocError, Global};
 use std::marker::Model;
-
-/// What a call does to the operations that Cancels can take back whole.
-#[derive(Clone, Copy, Drop)]
-pub(crate) enum Change {
-    /// Nothing: it was refused, or reads.
-    Stays,
-    /// It begins an operation.
-    Begins,
-    /// It is an operation's own work.
-    Works { op: Serial },
-    /// It cancels an operation.
-    Cancels { op: Serial },
-    /// It is another step, after which no Cancel takes an earlier one back.
-    Ends,
-}
 
 /// An operation in front of an earlier list, with the number of the state from before its Begin.
 #[derive(Clone, Copy, Drop)]
@@ -43,8 +29,9 @@ pub(crate) struct Openings {
 
 impl Model for Openings {
     ghost use Rattle.std.specs.Prelude.{List};
-    ghost use Rattle.hp_explore.specs.Numbers.{StandOnEarlier, entry_below, openings_of};
-    ghost use Rattle.hp_explore.specs.Openings.{NumberedOpening};
+    ghost use Rattle.hp_schedules.specs.Numbers.{StandOnEarlier};
+    ghost use Rattle.hp_explore.specs.Numbered.{entry_below, openings_of};
+    ghost use Rattle.hp_schedules.specs.Openings.{NumberedOpening};
 
     ghost Value = { List (List NumberedOpening) };
 
@@ -214,28 +201,4 @@ fn entry_at(entries: &[Entry], place: usize) -> Option<&Entry>
     ensures none { IfNone result (length entries.now ≤ place) }
 {
     entries.get(place)
-}
-
-/// What a call does.
-fn change_of(latest: &Record) -> Change
-    ensures { result ≡ change_of latest.now }
-{
-    match latest.reply {
-        Reply::Refused(_) => Change::Stays,
-        _ => change_by(&latest.event),
-    }
-}
-
-/// What an event that was not refused does.
-fn change_by(event: &Event) -> Change
-    ensures { result ≡ change_by event.now }
-{
-    match event {
-        Event::Read { .. } => Change::Stays,
-        Event::Begin { .. } => Change::Begins,
-        Event::DrainFor { op, .. } => Change::Works { op: *op },
-        Event::Migrate { op } => Change::Works { op: *op },
-        Event::Cancel { op } => Change::Cancels { op: *op },
-        _ => Change::Ends,
-    }
 }

@@ -2,19 +2,19 @@
 ghost use Rattle.std.specs.Prelude.{◌≡◌, ◌<◌, [], Some, IfErr, IfOk, OnErr, length};
 ghost use Rattle.hp_units.specs.Receipts.{receipts_of};
 ghost use Rattle.hp_explore.specs.Faults.{IsCauseHere};
-ghost use Rattle.hp_explore.specs.Outcomes.{outcome};
+ghost use Rattle.hp_schedules.specs.Outcomes.{outcome};
 ghost use Rattle.hp_explore.specs.Paths.{IsBack, IsForth, state_at};
-ghost use Rattle.hp_explore.specs.Schedules.{next_call, plays, schedule_of, setting};
-ghost use Rattle.hp_explore.specs.Scripts.{own_operation};
+ghost use Rattle.hp_schedules.specs.Schedules.{next_call, plays, schedule_of};
+ghost use Rattle.hp_explore.specs.Settings.{setting};
+ghost use Rattle.hp_schedules.specs.Scripts.{own_operation};
 
+use crate::ends::outcome_at;
 use crate::exploring::ExploreFault;
-use crate::outcomes::{Outcome, outcome_at};
-use crate::positions::Positions;
-use crate::scripts::Script;
 use crate::turns::{advance, step_back, steps_of};
 use crate::ways::Turn;
 use hp_machine::Machine;
 use hp_memory::Memory;
+use hp_schedules::{Outcome, Positions, Script};
 use hp_steps::Steps;
 use hp_units::{Cpu, Event, Record, Serial};
 use std::alloc::{AllocError, Global};
@@ -33,7 +33,7 @@ pub struct Path<'a> {
 
 impl<'a> Model for Path<'a> {
     ghost use Rattle.hp_explore.specs.Paths.{IsPath, PathValue};
-    ghost use Rattle.hp_explore.specs.Schedules.{setting};
+    ghost use Rattle.hp_explore.specs.Settings.{setting};
 
     ghost Value = { PathValue };
 

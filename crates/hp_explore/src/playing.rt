@@ -1,16 +1,15 @@
 //! A schedule played: each call in turn on a copy of the machine.
 ghost use Rattle.std.specs.Prelude.{◌≡◌, ◌≤◌, IfErr, IfOk, OnOk, drop, length};
-ghost use Rattle.hp_explore.specs.Cursors.{AreCursors};
+ghost use Rattle.hp_schedules.specs.Cursors.{AreCursors};
 ghost use Rattle.hp_explore.specs.Faults.{FillsAlong, IsCause};
-ghost use Rattle.hp_explore.specs.Schedules.{setting};
+ghost use Rattle.hp_explore.specs.Settings.{setting};
 ghost use Rattle.hp_explore.specs.Walks.{FillsAt, IsMade, IsPlayed, IsReached, news_in};
 ghost use Rattle.hp_explore.specs.declared.exploring.ExploreFault.TheVariants.{HistoryFull};
 
 use crate::exploring::ExploreFault;
-use crate::positions::Positions;
-use crate::scripts::Script;
 use crate::turns::latest;
 use hp_machine::Machine;
+use hp_schedules::{Positions, Script};
 use hp_units::{Cpu, Record};
 use std::alloc::Global;
 

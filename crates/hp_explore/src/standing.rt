@@ -4,15 +4,15 @@ ghost use Rattle.std.specs.Prelude.{◌≡◌, ◌++◌, ◌∷◌, [], IfOk, Li
 ghost use Rattle.hp_memory.specs.Memory.{MemoryValue};
 ghost use Rattle.hp_units.specs.History.{effect_of, value_of};
 ghost use Rattle.hp_units.specs.declared.replies.Record.{Record as NewRecord};
-ghost use Rattle.hp_explore.specs.Alike.{leaves_steps};
-ghost use Rattle.hp_explore.specs.Schedules.{Setting};
+ghost use Rattle.hp_schedules.specs.Alike.{leaves_steps};
+ghost use Rattle.hp_schedules.specs.Schedules.{Setting};
 ghost use Rattle.hp_explore.specs.Standing.{AddsParts, AreSameNumbers, IsKey, IsStanding, KeepMeanings};
 
-use crate::exchanges::Exchanges;
 use crate::openings::Openings;
 use crate::path::Path;
 use hp_codes::Codes;
 use hp_memory::Memory;
+use hp_schedules::Exchanges;
 use hp_units::{Cpu, Record};
 use std::alloc::{AllocError, Global};
 use std::marker::Model;

@@ -1,29 +1,27 @@
 //! The walk over all schedules, depth first and processor 0 first, on a stack of its own.
 ghost use Rattle.std.specs.Prelude.{◌≡◌, ◌∷◌, ◌++◌, [], ◌<◌, ◌≤◌, ◌^◌, ℕ, List, Option, true, false, IfErr, IfOk, IsTrue, OnOk, length, sum_by};
-ghost use Rattle.hp_explore.specs.Alike.{UndoNothing};
+ghost use Rattle.hp_schedules.specs.Alike.{UndoNothing};
 ghost use Rattle.hp_explore.specs.Frames.{IsComing, IsDone, IsSameWalk, IsTurnedTo, IsWalking, frames_of, left, left_before};
 ghost use Rattle.hp_explore.specs.Fronts.{AreFirstInPart};
-ghost use Rattle.hp_explore.specs.Notes.{HasRoom};
-ghost use Rattle.hp_explore.specs.Parts.{IsCausePart};
+ghost use Rattle.hp_schedules.specs.Notes.{HasRoom};
+ghost use Rattle.hp_explore.specs.Faults.{IsCausePart};
 ghost use Rattle.hp_explore.specs.Paths.{IsBack};
-ghost use Rattle.hp_explore.specs.Schedules.{schedule_of, setting};
+ghost use Rattle.hp_schedules.specs.Schedules.{schedule_of};
+ghost use Rattle.hp_explore.specs.Settings.{setting};
 ghost use Rattle.hp_explore.specs.Seen.{AreSamePlaces, IsMemo, IsOnWay};
 ghost use Rattle.hp_explore.specs.Standing.{AreSameNumbers};
 ghost use Rattle.hp_explore.specs.Walks.{IsEndHere, IsPartWalkedBefore};
-ghost use Rattle.hp_explore.specs.declared.tally.Ending.{Ending};
+ghost use Rattle.hp_schedules.specs.declared.tally.Ending.{Ending};
 
 use crate::arrivals::{arrive, leave, note};
-use crate::closed::is_closed;
 use crate::exploring::ExploreFault;
 use crate::frames::{Entry, Frame, Turned};
 use crate::memo::Memo;
-use crate::parts::Part;
 use crate::path::Path;
-use crate::scripts::{Script, undo_nothing};
-use crate::tally::{Ending, Tally};
 use crate::turns::latest;
 use crate::watch::Watch;
 use hp_machine::Machine;
+use hp_schedules::{Ending, Part, Script, Tally, is_closed, undo_nothing};
 use std::alloc::{AllocError, Global};
 
 /// A walk over the schedules of scripts that belong to a part, and what it counted so far.

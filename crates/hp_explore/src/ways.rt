@@ -4,7 +4,7 @@ ghost use Rattle.hp_units.specs.declared.replies.Record.{Record as NewRecord};
 ghost use Rattle.hp_steps.specs.Steps.{StepsValue};
 ghost use Rattle.hp_explore.specs.Paths.{IsWayOver};
 
-use crate::cursors::Cursor;
+use hp_schedules::Cursor;
 use hp_steps::Steps;
 use std::alloc::{AllocError, Global};
 use std::mem::swap;

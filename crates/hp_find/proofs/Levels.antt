@@ -1,17 +1,17 @@
 -- From level to level of a search, and what all ends say.
 use Rattle.std.proofs.Common.{◌≡◌, ℕ, ◌<◌, ◌≤◌, Bool, true, false, List, Option, Some, sum_by, refl, sym, subst, arith, inl, inr}
 use Rattle.std.specs.Prelude.{◌⊎◌, option_map}
-use Rattle.hp_explore.specs.Ends.{AreEnds}
-use Rattle.hp_explore.specs.Faults.{FillsHistory, HasMoreThan, IsCause}
+use Rattle.hp_schedules.specs.Ends.{AreEnds}
+use Rattle.hp_explore.specs.Faults.{FillsHistory, IsCause}
+use Rattle.hp_schedules.specs.Orders.{HasCount, HasMoreThan}
 use Rattle.hp_explore.specs.Fronts.{AreFirst, IfFirst, IfWhole}
-use Rattle.hp_explore.specs.Orders.{HasCount}
-use Rattle.hp_explore.specs.Outcomes.{OutcomeValue}
-use Rattle.hp_explore.specs.Schedules.{IsComplete, Setting}
+use Rattle.hp_schedules.specs.Outcomes.{OutcomeValue}
+use Rattle.hp_schedules.specs.Schedules.{IsComplete, Setting}
 use Rattle.hp_explore.specs.Walks.{Before}
 use Rattle.hp_explore.specs.declared.exploring.Exploration.{Exploration}
 use Rattle.hp_explore.specs.declared.exploring.ExploreFault.{ExploreFault}
 use Rattle.hp_explore.specs.declared.exploring.ExploreFault.TheVariants.{HistoryFull, OutOfMemory}
-use Rattle.hp_explore.specs.declared.tally.Ending.{Ending}
+use Rattle.hp_schedules.specs.declared.tally.Ending.{Ending}
 use Rattle.hp_find.specs.Changes.{changes}
 use Rattle.hp_find.specs.Ends.{HasNoSuchEnd, IsSuchEnd}
 use Rattle.hp_find.specs.Faults.{IsFindCause, few_changes, find_fault_from}

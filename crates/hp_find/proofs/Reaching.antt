@@ -4,10 +4,10 @@ use Rattle.std.proofs.lemmas.List.{append_assoc, append-nil}
 use Rattle.std.proofs.lemmas.Option.{none-some}
 use Rattle.hp_units.specs.declared.events.Event.{Event}
 use Rattle.hp_units.specs.declared.replies.Record.{Record}
-use Rattle.hp_explore.specs.Orders.{Extends}
-use Rattle.hp_explore.specs.Schedules.{Setting, next_call, plays}
-use Rattle.hp_explore.proofs.Plays.{asks_within, none_through, stops}
-use Rattle.hp_explore.proofs.Regions.{before_first, before_longer, before_next, extends_before}
+use Rattle.hp_schedules.specs.Orders.{Extends}
+use Rattle.hp_schedules.specs.Schedules.{Setting, next_call, plays}
+use Rattle.hp_schedules.proofs.Plays.{asks_within, none_through, stops}
+use Rattle.hp_schedules.proofs.Regions.{before_first, before_longer, before_next, extends_before}
 use Rattle.hp_find.specs.Changes.{changes}
 use Rattle.hp_find.specs.Reaching.{NeedsChanges, Reaches}
 use Rattle.hp_find.specs.Searches.{IsPassed}

@@ -3,7 +3,7 @@ use Rattle.std.proofs.Common.{◌≡◌, ℕ, ◌+◌, false, List, [], ◌∷�
 use Rattle.std.proofs.lemmas.List.{append_assoc, length-append, length_push, same_from_push}
 use Rattle.hp_units.specs.declared.replies.Record.{Record}
 use Rattle.hp_explore.specs.Faults.{is_full_after}
-use Rattle.hp_explore.specs.Schedules.{Setting, plays}
+use Rattle.hp_schedules.specs.Schedules.{Setting, plays}
 use Rattle.hp_explore.proofs.Rooms.{push_extends, was_room}
 use Rattle.hp_find.specs.Reaching.{HasRoomAlong}
 

@@ -7,10 +7,10 @@ use Rattle.hp_units.specs.declared.events.Event.{Event}
 use Rattle.hp_units.specs.declared.replies.Record.{Record}
 use Rattle.hp_explore.specs.Faults.{is_full_after}
 use Rattle.hp_explore.specs.Paths.{IsBack, PathValue, state_at}
-use Rattle.hp_explore.specs.Outcomes.{OutcomeValue, outcome}
-use Rattle.hp_explore.specs.Schedules.{Setting, next_call, outcome_after, play_one, plays, record_of_call, schedule_of}
+use Rattle.hp_schedules.specs.Outcomes.{OutcomeValue, outcome}
+use Rattle.hp_schedules.specs.Schedules.{Setting, next_call, outcome_after, play_one, plays, record_of_call, schedule_of}
 use Rattle.hp_explore.proofs.Framing.{longer_schedule}
-use Rattle.hp_explore.proofs.Plays.{asks_within, caller, only_this, plays_on, plays_one}
+use Rattle.hp_schedules.proofs.Plays.{asks_within, caller, only_this, plays_on, plays_one}
 use Rattle.hp_explore.proofs.Walked.{room_after}
 use Rattle.hp_find.specs.Changes.{changes}
 use Rattle.hp_find.specs.Reaching.{IsFirstWithin, NeedsChanges, Reaches}

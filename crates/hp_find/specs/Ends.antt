@@ -1,6 +1,6 @@
 -- Which ends have the wanted lines.
 use Rattle.std.specs.Prelude.{◌≡◌, ℕ, List, Some, slice_get}
-use Rattle.hp_explore.specs.declared.tally.Ending.{Ending}
+use Rattle.hp_schedules.specs.declared.tally.Ending.{Ending}
 use Rattle.hp_find.specs.Wanted.{Meets}
 use Rattle.hp_find.specs.declared.wanted.Wanted.{Wanted}
 

@@ -1,7 +1,8 @@
 -- Why nothing was found, and what an answer excludes.
 use Rattle.std.specs.Prelude.{ℕ, ◌<◌, ◌≤◌, ◌⊎◌, List}
-use Rattle.hp_explore.specs.Faults.{FillsHistory, HasMoreThan}
-use Rattle.hp_explore.specs.Schedules.{IsComplete, Setting}
+use Rattle.hp_explore.specs.Faults.{FillsHistory}
+use Rattle.hp_schedules.specs.Orders.{HasMoreThan}
+use Rattle.hp_schedules.specs.Schedules.{IsComplete, Setting}
 use Rattle.hp_explore.specs.declared.exploring.ExploreFault.{ExploreFault}
 use Rattle.hp_explore.specs.declared.exploring.ExploreFault.TheVariants as explore
 use Rattle.hp_find.specs.Changes.{changes}

@@ -1,9 +1,9 @@
 -- Which schedules end as is wanted, and what is said of the nearest.
 use Rattle.std.specs.Prelude.{ℕ, ◌+◌, ◌<◌, ◌≤◌, List, Option, Some, None}
 use Rattle.hp_explore.specs.Faults.{FillsAlong}
-use Rattle.hp_explore.specs.Orders.{HasCount, IsBefore}
-use Rattle.hp_explore.specs.Outcomes.{OutcomeValue}
-use Rattle.hp_explore.specs.Schedules.{EndsWith, IsComplete, Setting}
+use Rattle.hp_schedules.specs.Orders.{HasCount, IsBefore}
+use Rattle.hp_schedules.specs.Outcomes.{OutcomeValue}
+use Rattle.hp_schedules.specs.Schedules.{EndsWith, IsComplete, Setting}
 use Rattle.hp_explore.specs.Walks.{Before}
 use Rattle.hp_find.specs.Changes.{changes}
 use Rattle.hp_find.specs.Wanted.{Meets}

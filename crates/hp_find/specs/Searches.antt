@@ -1,8 +1,8 @@
 -- How far a search is that may change the processor only so often.
 use Rattle.std.specs.Prelude.{◌≡◌, ◌⊎◌, ℕ, zero, suc, ◌+◌, ◌-◌, ◌*◌, ◌<◌, ◌≤◌, true, List, [], ◌∷◌, ◌++◌, None, Some, length}
-use Rattle.hp_explore.specs.Orders.{IsBefore}
+use Rattle.hp_schedules.specs.Orders.{IsBefore}
 use Rattle.hp_explore.specs.Paths.{IsBack, IsForth, PathValue}
-use Rattle.hp_explore.specs.Schedules.{Setting, next_call, schedule_of}
+use Rattle.hp_schedules.specs.Schedules.{Setting, next_call, schedule_of}
 use Rattle.hp_find.specs.Changes.{changes}
 use Rattle.hp_find.specs.Reaching.{HasRoomAlong, NeedsChanges, Reaches}
 use Rattle.hp_find.specs.declared.searching.Turn.{Turn}

@@ -4,7 +4,7 @@ use Rattle.hp_units.specs.declared.replies.Refusal.{Refusal}
 use Rattle.hp_units.specs.declared.replies.Refusal.TheVariants.{Twice, Busy, NotOnline, NotOffline, Unmovable, NotFree, NotAbsent}
 use Rattle.hp_units.specs.declared.replies.Reply.{Reply}
 use Rattle.hp_units.specs.declared.replies.Reply.TheVariants.{Refused}
-use Rattle.hp_explore.specs.Outcomes.{OutcomeValue}
+use Rattle.hp_schedules.specs.Outcomes.{OutcomeValue}
 use Rattle.hp_find.specs.declared.wanted.Pattern.{Pattern}
 use Rattle.hp_find.specs.declared.wanted.Pattern.TheVariants.{Exactly, AnyOf}
 use Rattle.hp_find.specs.declared.wanted.Wanted.{Wanted}

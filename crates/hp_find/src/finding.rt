@@ -1,7 +1,7 @@
 //! The search by rising number of changes.
 ghost use Rattle.std.specs.Prelude.{◌≡◌, ◌<◌, ◌≤◌, ◌^◌, IfErr, IfNone, IfOk, IfSome, length, option_map};
 ghost use Rattle.hp_explore.specs.Faults.{IsCause};
-ghost use Rattle.hp_explore.specs.Schedules.{setting};
+ghost use Rattle.hp_explore.specs.Settings.{setting};
 ghost use Rattle.hp_find.specs.Faults.{IsFindCause, IsRecorded, IsWithin, SparesHistory};
 ghost use Rattle.hp_find.specs.Ends.{HasNoSuchEnd, IsSuchEnd};
 ghost use Rattle.hp_find.specs.Reaching.{IsFound, IsNearest, IsNearestBelow, NeedsChanges, Reaches};
@@ -10,8 +10,9 @@ use crate::changes::changes_of;
 use crate::fault::FindFault;
 use crate::searching::first_within;
 use crate::wanted::{Wanted, are_met};
-use hp_explore::{Ending, ExploreFault, Script, Watch, explore, total_of};
+use hp_explore::{ExploreFault, Watch, explore};
 use hp_machine::Machine;
+use hp_schedules::{Ending, Script, total_of};
 use hp_units::Cpu;
 use std::alloc::Global;
 

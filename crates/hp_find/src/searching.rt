@@ -2,15 +2,17 @@
 //! first.
 ghost use Rattle.std.specs.Prelude.{◌≡◌, ◌<◌, ◌+◌, ◌^◌, ◌↔◌, [], IfErr, IfOk, IsTrue, OnOk, option_map, length};
 ghost use Rattle.hp_explore.specs.Faults.{IsCause, IsCauseHere};
-ghost use Rattle.hp_explore.specs.Schedules.{schedule_of, setting};
+ghost use Rattle.hp_schedules.specs.Schedules.{schedule_of};
+ghost use Rattle.hp_explore.specs.Settings.{setting};
 ghost use Rattle.hp_find.specs.Reaching.{IsFirstWithin, Reaches};
 ghost use Rattle.hp_find.specs.Searches.{IsDown, IsSearching, IsTurned, IsUp};
 
 use crate::changes::changes_with;
 use crate::over::is_over;
 use crate::wanted::{Wanted, are_met};
-use hp_explore::{ExploreFault, Path, Script};
+use hp_explore::{ExploreFault, Path};
 use hp_machine::Machine;
+use hp_schedules::Script;
 use hp_units::Cpu;
 use std::alloc::{AllocError, Global};
 use std::marker::Model;

@@ -2,7 +2,7 @@
 ghost use Rattle.std.specs.Prelude.{◌≡◌, ◌↔◌, IsTrue, None, Some, slice_get};
 ghost use Rattle.hp_find.specs.Wanted.{HasAnswer, HasLine, HasReply, IsAsWanted, IsKindOf, Meets, kind_of};
 
-use hp_explore::{Answers, Outcome};
+use hp_schedules::{Answers, Outcome};
 use hp_units::{Block, Cpu, Frame, Refusal, Reply, Row};
 
 /// What a reply is to be.

@@ -4,8 +4,8 @@ use Rattle.std.specs.Prelude.{sum_by}
 use Rattle.std.proofs.lemmas.List.Sums.{sum_by_push, sum_by-set}
 use Rattle.std.proofs.lemmas.Option.{slice_get_within, get_or_from_slice_get}
 use Rattle.hp_laws.proofs.Lists.{get_push_cases}
-use Rattle.hp_explore.specs.declared.tally.Ending.{Ending}
-use Rattle.hp_explore.proofs.Counts.{get_set_cases}
+use Rattle.hp_schedules.specs.declared.tally.Ending.{Ending}
+use Rattle.hp_schedules.proofs.Counts.{get_set_cases}
 use Rattle.hp_parts.specs.Adding.{AddsEnd, AddsMore, AddsOther}
 use Rattle.hp_parts.specs.Sums.{AreApart}
 

@@ -2,13 +2,13 @@
 use Rattle.std.proofs.Common.{◌≡◌, ℕ, ◌+◌, List, [], ◌∷◌, ◌++◌, length, Some, slice_get, set, refl, sym, subst, ◌∙◌, inl, inr}
 use Rattle.std.specs.Prelude.{◌⊎◌, sum_by}
 use Rattle.hp_laws.proofs.Lists.{get_push_cases, get_end}
-use Rattle.hp_explore.specs.declared.tally.Ending.{Ending}
-use Rattle.hp_explore.specs.Ends.{AreCounted}
-use Rattle.hp_explore.specs.Outcomes.{OutcomeValue}
-use Rattle.hp_explore.specs.Orders.{HasCount, IsBefore, IsFirst}
-use Rattle.hp_explore.proofs.Counting.{either_listed, get_longer, same_count}
-use Rattle.hp_explore.proofs.Counts.{end_stays, get_set_cases}
-use Rattle.hp_explore.proofs.Regions.{not_before_itself}
+use Rattle.hp_schedules.specs.declared.tally.Ending.{Ending}
+use Rattle.hp_schedules.specs.Ends.{AreCounted}
+use Rattle.hp_schedules.specs.Outcomes.{OutcomeValue}
+use Rattle.hp_schedules.specs.Orders.{HasCount, IsBefore, IsFirst}
+use Rattle.hp_schedules.proofs.Counting.{either_listed, get_longer, same_count}
+use Rattle.hp_schedules.proofs.Counts.{end_stays, get_set_cases}
+use Rattle.hp_schedules.proofs.Regions.{not_before_itself}
 use Rattle.hp_parts.specs.Adding.{AddsEnd, AddsMore, AddsOther, earlier}
 use Rattle.hp_parts.proofs.Added.{apart_more, apart_other, sum_more, sum_other}
 use Rattle.hp_parts.proofs.Orders.{before_before, earlier_of}

@@ -1,10 +1,10 @@
 -- Complete schedules do not go on from one another.
 use Rattle.std.proofs.Common.{◌≡◌, ℕ, List, sym, ◌∙◌, inl, inr}
 use Rattle.std.specs.Prelude.{◌⊎◌}
-use Rattle.hp_explore.specs.Orders.{IsBefore}
-use Rattle.hp_explore.specs.Outcomes.{OutcomeValue}
-use Rattle.hp_explore.specs.Schedules.{EndsWith, Setting}
-use Rattle.hp_explore.proofs.Plays.{only_this}
+use Rattle.hp_schedules.specs.Orders.{IsBefore}
+use Rattle.hp_schedules.specs.Outcomes.{OutcomeValue}
+use Rattle.hp_schedules.specs.Schedules.{EndsWith, Setting}
+use Rattle.hp_schedules.proofs.Plays.{only_this}
 use Rattle.hp_parts.proofs.Orders.{sides}
 
 -- two of them are one, with one outcome, or one stands before the other

@@ -2,11 +2,11 @@
 use Rattle.std.proofs.Common.{◌≡◌, ℕ, zero, suc, ◌+◌, List, [], ◌∷◌, ◌++◌, Some, slice_get, refl, ap, sym, subst, ◌∙◌, arith, inl, inr}
 use Rattle.std.specs.Prelude.{◌⊎◌, sum_by}
 use Rattle.std.proofs.lemmas.List.Sums.{sum_by-cons}
-use Rattle.hp_explore.specs.declared.tally.Ending.{Ending}
-use Rattle.hp_explore.specs.Ends.{AreCounted}
-use Rattle.hp_explore.specs.Outcomes.{OutcomeValue}
-use Rattle.hp_explore.specs.Orders.{HasCount, IsBefore, IsFirst}
-use Rattle.hp_explore.proofs.Counts.{same_counted}
+use Rattle.hp_schedules.specs.declared.tally.Ending.{Ending}
+use Rattle.hp_schedules.specs.Ends.{AreCounted}
+use Rattle.hp_schedules.specs.Outcomes.{OutcomeValue}
+use Rattle.hp_schedules.specs.Orders.{HasCount, IsBefore, IsFirst}
+use Rattle.hp_schedules.proofs.Counts.{same_counted}
 use Rattle.hp_parts.specs.Adding.{AddsEnd, AddsEnds, AddsLists, counted_by}
 use Rattle.hp_parts.specs.Sums.{AreApart}
 use Rattle.hp_parts.proofs.Added.{apart_added, sum_added}

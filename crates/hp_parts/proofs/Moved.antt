@@ -5,11 +5,11 @@ use Rattle.std.specs.List.{swap}
 use Rattle.std.specs.List.Sorted.{IsPermutation}
 use Rattle.std.proofs.lemmas.List.Sorted.{IsPermutation-keeps, IsPermutation-sym, sum_by-IsPermutation}
 use Rattle.std.proofs.lemmas.Option.{slice_get-get_or}
-use Rattle.hp_explore.specs.declared.tally.Ending.{Ending}
-use Rattle.hp_explore.specs.Ends.{AreCounted}
-use Rattle.hp_explore.specs.Outcomes.{OutcomeValue}
-use Rattle.hp_explore.specs.Orders.{HasCount}
-use Rattle.hp_explore.proofs.Counts.{get_set_cases}
+use Rattle.hp_schedules.specs.declared.tally.Ending.{Ending}
+use Rattle.hp_schedules.specs.Ends.{AreCounted}
+use Rattle.hp_schedules.specs.Outcomes.{OutcomeValue}
+use Rattle.hp_schedules.specs.Orders.{HasCount}
+use Rattle.hp_schedules.proofs.Counts.{get_set_cases}
 use Rattle.hp_parts.specs.Sums.{AreApart}
 
 -- what stood at a place stands at another after two were swapped

@@ -7,8 +7,8 @@ use Rattle.std.specs.Ordering.{is_lt, nat_cmp, ordering_reverse, ordering_then}
 use Rattle.std.specs.declared.cmp.Ordering.{Ordering}
 use Rattle.std.specs.declared.cmp.Ordering.TheVariants.{Less, Equal, Greater}
 use Rattle.std.proofs.lemmas.Bool.{cases_lt}
-use Rattle.hp_explore.specs.Orders.{Extends, IsBefore}
-use Rattle.hp_explore.proofs.Regions.{extends_cons}
+use Rattle.hp_schedules.specs.Orders.{Extends, IsBefore}
+use Rattle.hp_schedules.proofs.Regions.{extends_cons}
 use Rattle.hp_parts.specs.Adding.{earlier}
 
 -- one number is the same as itself

@@ -6,13 +6,13 @@ use Rattle.std.specs.Ordering.{is_lt, nat_cmp}
 use Rattle.std.proofs.lemmas.Bool.{cases_lt}
 use Rattle.std.proofs.lemmas.List.Sorted.{ranks_by, sorted_far}
 use Rattle.std.proofs.lemmas.Option.{get_or_from_slice_get, slice_get_within}
-use Rattle.hp_explore.specs.declared.tally.Ending.{Ending}
-use Rattle.hp_explore.specs.Ends.{AreCounted, AreInOrder}
-use Rattle.hp_explore.specs.Orders.{IsBefore}
-use Rattle.hp_explore.specs.Outcomes.{OutcomeValue}
-use Rattle.hp_explore.specs.Parts.{EndsInPart, part_number}
-use Rattle.hp_explore.specs.Schedules.{EndsWith, Setting}
-use Rattle.hp_explore.proofs.Counts.{none_counted, same_counted}
+use Rattle.hp_schedules.specs.declared.tally.Ending.{Ending}
+use Rattle.hp_schedules.specs.Ends.{AreCounted, AreInOrder}
+use Rattle.hp_schedules.specs.Orders.{IsBefore}
+use Rattle.hp_schedules.specs.Outcomes.{OutcomeValue}
+use Rattle.hp_schedules.specs.Parts.{EndsInPart, part_number}
+use Rattle.hp_schedules.specs.Schedules.{EndsWith, Setting}
+use Rattle.hp_schedules.proofs.Counts.{none_counted, same_counted}
 use Rattle.hp_parts.specs.Adding.{AddsEnds, AddsLists, AreSorted}
 use Rattle.hp_parts.specs.Sums.{AreParts, EndsBelow}
 use Rattle.hp_parts.proofs.Complete.{compared}

@@ -4,11 +4,11 @@ use Rattle.std.specs.Prelude.{IfSome, option_map}
 use Rattle.std.proofs.lemmas.List.{length-map}
 use Rattle.std.proofs.lemmas.Option.{get_or_from_slice_get, same_Some, slice_get-map, slice_get_within}
 use Rattle.hp_laws.proofs.Lists.{get_some}
-use Rattle.hp_explore.specs.declared.tally.Ending.{Ending}
-use Rattle.hp_explore.specs.Ends.{AreCounted}
-use Rattle.hp_explore.specs.Faults.{FillsHistory}
-use Rattle.hp_explore.specs.Parts.{EndsInPart, FillsPart, part_number}
-use Rattle.hp_explore.specs.Schedules.{Setting}
+use Rattle.hp_schedules.specs.declared.tally.Ending.{Ending}
+use Rattle.hp_schedules.specs.Ends.{AreCounted}
+use Rattle.hp_explore.specs.Faults.{FillsHistory, FillsPart}
+use Rattle.hp_schedules.specs.Parts.{EndsInPart, part_number}
+use Rattle.hp_schedules.specs.Schedules.{Setting}
 use Rattle.hp_parts.specs.Sums.{AreParts, HaveRoom, part}
 use Rattle.hp_parts.proofs.Parts.{number_below}
 

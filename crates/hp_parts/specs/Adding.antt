@@ -3,8 +3,8 @@ use Rattle.std.specs.Prelude.{◌≡◌, ℕ, ◌+◌, ◌⊎◌, List, [], ◌�
 use Rattle.std.specs.Cmp.Lexicographic.{slice_cmp}
 use Rattle.std.specs.List.Sorted.{IsPermutation, IsSortedBy}
 use Rattle.std.specs.Ordering.{is_lt, nat_cmp}
-use Rattle.hp_explore.specs.Notes.{HasNoEnd}
-use Rattle.hp_explore.specs.declared.tally.Ending.{Ending}
+use Rattle.hp_schedules.specs.Notes.{HasNoEnd}
+use Rattle.hp_schedules.specs.declared.tally.Ending.{Ending}
 
 -- the earlier of two schedules: the one with the lower processor at the first place where they differ
 abbrev pub earlier : List ℕ → List ℕ → List ℕ

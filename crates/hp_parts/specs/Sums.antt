@@ -1,10 +1,11 @@
 -- The ends of all parts of a search.
 use Rattle.std.specs.Prelude.{◌≡◌, ℕ, ◌<◌, List, Some, length, slice_get, take}
-use Rattle.hp_explore.specs.Ends.{AreCounted}
-use Rattle.hp_explore.specs.Outcomes.{OutcomeValue}
-use Rattle.hp_explore.specs.Parts.{EndsInPart, FillsPart, PartValue, part_number}
-use Rattle.hp_explore.specs.Schedules.{EndsWith, Setting}
-use Rattle.hp_explore.specs.declared.tally.Ending.{Ending}
+use Rattle.hp_schedules.specs.Ends.{AreCounted}
+use Rattle.hp_schedules.specs.Outcomes.{OutcomeValue}
+use Rattle.hp_schedules.specs.Parts.{EndsInPart, PartValue, part_number}
+use Rattle.hp_explore.specs.Faults.{FillsPart}
+use Rattle.hp_schedules.specs.Schedules.{EndsWith, Setting}
+use Rattle.hp_schedules.specs.declared.tally.Ending.{Ending}
 
 -- the part with an index of so many, which go by so many first calls
 abbrev pub part : (of calls index : ℕ) → PartValue

@@ -1,19 +1,20 @@
 //! A search of all schedules in threads.
 ghost use Rattle.std.specs.Prelude.{◌≡◌, ◌^◌, ◌<◌, ◌≤◌, IfErr, IfOk, IfSome, Some, length, map, sum_by};
-ghost use Rattle.hp_explore.specs.Ends.{AreCounted, AreEnds, AreInOrder};
-ghost use Rattle.hp_explore.specs.Faults.{FillsHistory, HasMoreThan, IsCause};
+ghost use Rattle.hp_schedules.specs.Ends.{AreCounted, AreEnds, AreInOrder};
+ghost use Rattle.hp_explore.specs.Faults.{FillsHistory, FillsPart, IsCause};
+ghost use Rattle.hp_schedules.specs.Orders.{HasMoreThan};
 ghost use Rattle.hp_explore.specs.Fronts.{AreFirst, IfFirst, IfWhole};
-ghost use Rattle.hp_explore.specs.Parts.{EndsInPart, FillsPart};
-ghost use Rattle.hp_explore.specs.Schedules.{IsComplete, setting};
+ghost use Rattle.hp_schedules.specs.Parts.{EndsInPart};
+ghost use Rattle.hp_schedules.specs.Schedules.{IsComplete};
+ghost use Rattle.hp_explore.specs.Settings.{setting};
 ghost use Rattle.hp_parts.specs.Sums.{AreParts, HaveRoom, part};
 
 use crate::calls::calls_for;
 use crate::rooms::left_after;
 use crate::summing::sum;
-use hp_explore::{
-    Ending, Exploration, ExploreFault, Part, Script, Silent, Watch, explore, explore_part,
-};
+use hp_explore::{Exploration, ExploreFault, Silent, Watch, explore, explore_part};
 use hp_machine::Machine;
+use hp_schedules::{Ending, Part, Script};
 use std::alloc::Global;
 use std::thread;
 use std::thread::Threads;

@@ -2,7 +2,7 @@
 ghost use Rattle.std.specs.Prelude.{◌≡◌, ◌↔◌, ◌+◌, ◌<◌, ◌≤◌, IfNone, IfSome, IsTrue, map, sum_by};
 ghost use Rattle.hp_parts.specs.Adding.{counted_by};
 
-use hp_explore::Ending;
+use hp_schedules::Ending;
 
 /// Whether all lists of ends together count no more schedules than there is room for.
 pub(crate) fn fit_in(lists: &[Vec<Ending>], room: u64) -> bool

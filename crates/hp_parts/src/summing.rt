@@ -1,14 +1,14 @@
 //! The sum of all parts of a search.
 ghost use Rattle.std.specs.Prelude.{◌≡◌, ◌↔◌, ℕ, ◌<◌, ◌≤◌, ◌^◌, Err, IfOk, length, map, sum_by};
-ghost use Rattle.hp_explore.specs.Ends.{AreEnds, AreInOrder};
-ghost use Rattle.hp_explore.specs.Schedules.{Setting};
+ghost use Rattle.hp_schedules.specs.Ends.{AreEnds, AreInOrder};
+ghost use Rattle.hp_schedules.specs.Schedules.{Setting};
 ghost use Rattle.hp_parts.specs.Adding.{AreAdded, counted_by};
 ghost use Rattle.hp_parts.specs.Sums.{AreApart, AreParts};
 ghost use Rattle.hp_parts.specs.declared.summing.SumFault.TheVariants.{TooMany};
 
 use crate::rooms::fit_in;
 use crate::sums::Sums;
-use hp_explore::Ending;
+use hp_schedules::Ending;
 use std::alloc::{AllocError, Global};
 use thiserror::Error;
 

@@ -1,14 +1,13 @@
 //! Ends that are added up.
-ghost use Rattle.std.specs.Prelude.{◌≡◌, ◌↔◌, ℕ, ◌+◌, ◌<◌, ◌^◌, [], IfNone, IfOk, IfSome, IsTrue, OnErr, OnOk, map, nat_eq, sum_by};
+ghost use Rattle.std.specs.Prelude.{◌≡◌, ◌↔◌, ◌+◌, ◌<◌, ◌^◌, [], IfNone, IfOk, IfSome, IsTrue, OnErr, OnOk, map, sum_by};
 ghost use Rattle.std.specs.Cmp.Lexicographic.{slice_cmp};
 ghost use Rattle.std.specs.Ordering.{nat_cmp};
-ghost use Rattle.indexmap.specs.IndexMap.{ContainsKey};
-ghost use Rattle.hp_explore.specs.Digests.{digest_of};
-ghost use Rattle.hp_explore.specs.Notes.{AreKnown, HasEndAt, HasNoEnd};
+ghost use Rattle.hp_schedules.specs.Digests.{digest_of};
+ghost use Rattle.hp_schedules.specs.Notes.{AreKnown, HasEndAt, HasNoEnd};
 ghost use Rattle.hp_parts.specs.Adding.{AddsEnd, AddsEnds, AddsLists, AddsMore, AddsOther, AreSorted, counted_by};
 
 use crate::earlier::{keep_earlier, order_of};
-use hp_explore::{Ending, Outcome};
+use hp_schedules::{Ending, Outcome, learn};
 use hp_units::Cpu;
 use indexmap::IndexMap;
 use std::alloc::{AllocError, Global};
@@ -25,8 +24,8 @@ pub(crate) struct Sums {
 
 impl Model for Sums {
     ghost use Rattle.std.specs.Prelude.{◌≡◌, List, sum_by};
-    ghost use Rattle.hp_explore.specs.Notes.{AreKnown};
-    ghost use Rattle.hp_explore.specs.declared.tally.Ending.{Ending};
+    ghost use Rattle.hp_schedules.specs.Notes.{AreKnown};
+    ghost use Rattle.hp_schedules.specs.declared.tally.Ending.{Ending};
 
     ghost Value = { List Ending };
 
@@ -167,17 +166,6 @@ fn copy_of(alloc: Global, end: &Ending) -> Result<Ending, AllocError>
         count: end.count,
         first,
     })
-}
-
-/// Notes the place of an outcome under its digest. An error is out of memory; what was known stays known.
-fn learn(latest: &mut IndexMap<u64, usize>, digest: u64, place: usize) -> Result<(), AllocError>
-    ensures kept { (d : ℕ) → ContainsKey nat_eq latest.old d → ContainsKey nat_eq latest.new d }
-    ensures ok { OnOk result (ContainsKey nat_eq latest.new digest) }
-{
-    match latest.insert(digest, place) {
-        Ok(_earlier) => Ok(()),
-        Err(_failed) => Err(AllocError),
-    }
 }
 
 /// The place of the end that has an outcome. It is mostly the latest with its digest; where it is

@@ -6,13 +6,13 @@ use Rattle.std.specs.Option.{option_map_or}
 use Rattle.std.proofs.lemmas.List.{length-map, map-append}
 use Rattle.std.proofs.lemmas.Option.{none-some, slice_get_within}
 use Rattle.hp_units.specs.declared.events.Event.{Event}
-use Rattle.hp_explore.specs.Interleavings.{IsKnown, holds_no_plan, is_one_call, script_lengths}
-use Rattle.hp_explore.specs.Multinomials.{IsMultinomial, sum}
-use Rattle.hp_explore.specs.declared.multinomials.HowMany.{HowMany}
-use Rattle.hp_explore.specs.declared.multinomials.HowMany.TheVariants.{Exactly, MoreThanLimit, Unknown}
-use Rattle.hp_explore.specs.declared.scripts.Line.{Line as Step}
-use Rattle.hp_explore.specs.declared.scripts.Line.TheVariants.{Ask}
-use Rattle.hp_explore.specs.declared.scripts.Work as own
+use Rattle.hp_schedules.specs.Interleavings.{IsKnown, holds_no_plan, is_one_call, script_lengths}
+use Rattle.hp_schedules.specs.Multinomials.{IsMultinomial, sum}
+use Rattle.hp_schedules.specs.declared.multinomials.HowMany.{HowMany}
+use Rattle.hp_schedules.specs.declared.multinomials.HowMany.TheVariants.{Exactly, MoreThanLimit, Unknown}
+use Rattle.hp_schedules.specs.declared.scripts.Line.{Line as Step}
+use Rattle.hp_schedules.specs.declared.scripts.Line.TheVariants.{Ask}
+use Rattle.hp_schedules.specs.declared.scripts.Work as own
 use Rattle.hp_scenario.specs.Asked as asks
 use Rattle.hp_scenario.specs.declared.lines.Line.{Line}
 use Rattle.hp_scripts.specs.Begins.{last_begun, line_begins}

@@ -2,9 +2,9 @@
 use Rattle.std.specs.Prelude.{◌≡◌, ℕ, List, [], ◌++◌, codes, drop, length, Option, Some, None}
 use Rattle.std.specs.Fmt.{decimal}
 use Rattle.hp_text.specs.State.{newline}
-use Rattle.hp_explore.specs.Interleavings.{IsKnown}
-use Rattle.hp_explore.specs.declared.multinomials.HowMany.{HowMany}
-use Rattle.hp_explore.specs.declared.multinomials.HowMany.TheVariants.{Exactly, MoreThanLimit, Unknown}
+use Rattle.hp_schedules.specs.Interleavings.{IsKnown}
+use Rattle.hp_schedules.specs.declared.multinomials.HowMany.{HowMany}
+use Rattle.hp_schedules.specs.declared.multinomials.HowMany.TheVariants.{Exactly, MoreThanLimit, Unknown}
 use Rattle.hp_scenario.specs.declared.lines.Line.{Line}
 use Rattle.hp_scripts.specs.Checks.{AreFit}
 use Rattle.hp_scripts.specs.Scripts.{scripts_of}

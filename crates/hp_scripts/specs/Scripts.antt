@@ -4,11 +4,11 @@ use Rattle.std.specs.List.{range_with_len}
 use Rattle.std.specs.Option.{option_map_or}
 use Rattle.hp_units.specs.declared.events.Event.{Event}
 use Rattle.hp_units.specs.declared.events.Event.TheVariants as event
-use Rattle.hp_explore.specs.Scripts.{work_of}
-use Rattle.hp_explore.specs.declared.scripts.Line as step
-use Rattle.hp_explore.specs.declared.scripts.Line.TheVariants.{Ask, Own, Carry}
-use Rattle.hp_explore.specs.declared.scripts.Work as own
-use Rattle.hp_explore.specs.declared.scripts.Work.TheVariants.{DrainFor, Migrate, Commit, Cancel}
+use Rattle.hp_schedules.specs.Scripts.{work_of}
+use Rattle.hp_schedules.specs.declared.scripts.Line as step
+use Rattle.hp_schedules.specs.declared.scripts.Line.TheVariants.{Ask, Own, Carry}
+use Rattle.hp_schedules.specs.declared.scripts.Work as own
+use Rattle.hp_schedules.specs.declared.scripts.Work.TheVariants.{DrainFor, Migrate, Commit, Cancel}
 use Rattle.hp_scenario.specs.Asked as asks
 use Rattle.hp_scenario.specs.declared.lines.Line.{Line}
 use Rattle.hp_scripts.specs.Begins.{last_begun, line_begins}

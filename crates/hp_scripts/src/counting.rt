@@ -5,8 +5,8 @@ ghost use Rattle.hp_scripts.specs.Counting.{AreKnownAs, IsCountTold, IsKnownAfte
 use crate::checks::check_lines;
 use crate::scripts::scripts_of;
 use crate::starts::{front_of, rest_of};
-use hp_explore::{HowMany, interleavings_of};
 use hp_scenario::Line;
+use hp_schedules::{HowMany, interleavings_of};
 use std::alloc::{AllocError, Global};
 
 /// A line that says how many interleavings the scripts of the lines after the first `setup` have, at

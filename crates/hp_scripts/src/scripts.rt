@@ -1,12 +1,12 @@
 //! The lines after the setup, as a script for each processor.
 ghost use Rattle.std.specs.Prelude.{◌≡◌, ◌++◌, IfOk, OnOk};
-ghost use Rattle.hp_explore.specs.Scripts.{work_of};
+ghost use Rattle.hp_schedules.specs.Scripts.{work_of};
 ghost use Rattle.hp_scenario.specs.Asked.{asked_by};
 ghost use Rattle.hp_scripts.specs.Scripts.{called, explored, line_for, own_if_last, own_step, own_work, script_of, scripts_of};
 
 use crate::begins::{Begin, last_begun, line_begins};
-use hp_explore::{Line as Step, Script, Work as OwnWork};
 use hp_scenario::{Asked, Line, Work};
+use hp_schedules::{Line as Step, Script, Work as OwnWork};
 use hp_units::{Cpu, Event, Plan, Serial};
 use std::alloc::{AllocError, Global};
 

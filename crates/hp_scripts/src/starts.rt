@@ -8,9 +8,9 @@ use crate::checks::check_lines;
 use crate::fault::StartFault;
 use crate::scripts::scripts_of;
 use crate::setup::run_lines;
-use hp_explore::Script;
 use hp_machine::Machine;
 use hp_scenario::{Line, Scenario};
+use hp_schedules::Script;
 use hp_units::Layout;
 use std::alloc::{AllocError, Global};
 

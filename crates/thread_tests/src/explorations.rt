@@ -2,13 +2,13 @@
 //! is compared with every order of random scripts by docs/check_find.py.
 ghost use Rattle.std.specs.Prelude.{◌≡◌, IfOk, length};
 
-use hp_explore::{
-    Answers, Ending, ExploreFault, Line, Part, Script, Silent, alike_places_go_on_alike,
-    counts_are_unique, explore, explore_part, interleavings_are_counted, kept_counts_are_added,
-    play, schedules_are_interleavings, total_of,
-};
+use hp_explore::{ExploreFault, Silent, explore, explore_part, kept_counts_are_added, play};
 use hp_machine::Machine;
 use hp_parts::{calls_for, explore_with_jobs, sum};
+use hp_schedules::{
+    Answers, Ending, Line, Part, Script, alike_places_go_on_alike, counts_are_unique,
+    interleavings_are_counted, schedules_are_interleavings, total_of,
+};
 use hp_units::{Boot, Cpu, Event, Frame, Layout, Order, Parts, Refusal, Reply};
 use std::alloc::{AllocError, Global};
 use std::test::Fail;

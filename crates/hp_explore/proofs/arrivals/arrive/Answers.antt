@@ -4,8 +4,8 @@ use Rattle.std.proofs.lemmas.List.{length-map}
 use Rattle.std.proofs.lemmas.Result.{IfOk-weaker}
 use Rattle.hp_units.specs.declared.replies.Record.{Record}
 use Rattle.hp_explore.specs.Frames.{IsEntered, IsEnteredWithin}
-use Rattle.hp_explore.specs.Parts.{IsOn}
-use Rattle.hp_explore.specs.Schedules.{schedule_of}
+use Rattle.hp_schedules.specs.Parts.{IsOn}
+use Rattle.hp_schedules.specs.Schedules.{schedule_of}
 use Rattle.hp_explore.proofs.Framing.{entered_fresh, left_out, let_in}
 use Rattle.hp_explore.proofs.arrivals.arrive.Goals as goal
 

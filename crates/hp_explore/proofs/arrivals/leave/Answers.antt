@@ -5,7 +5,7 @@ use Rattle.std.specs.Prelude.{option_map}
 use Rattle.std.specs.declared.alloc.Global.{Global}
 use Rattle.hp_units.specs.declared.replies.Record.{Record}
 use Rattle.hp_explore.specs.Frames.{IsPlaceKept}
-use Rattle.hp_explore.specs.Schedules.{schedule_of}
+use Rattle.hp_schedules.specs.Schedules.{schedule_of}
 use Rattle.hp_explore.specs.declared.frames.Kept.{Kept}
 use Rattle.hp_explore.proofs.OfPart.{comes_all}
 use Rattle.hp_explore.proofs.arrivals.leave.Goals as goal

@@ -2,17 +2,19 @@
 use Rattle.std.proofs.Common.{[], ◌≡◌, ℕ, Bool, true, false, List, ap, sym, subst, ◌∙◌, arith}
 use Rattle.std.specs.Prelude.{sum_by}
 use Rattle.std.proofs.lemmas.Result.{err_from_is_err_and}
-use Rattle.hp_explore.specs.Ends.{AreCounted, AreInOrder}
-use Rattle.hp_explore.specs.Parts.{EndsInPart, IsCausePart, IsCompleteInPart, PartValue}
+use Rattle.hp_schedules.specs.Ends.{AreCounted, AreInOrder}
+use Rattle.hp_schedules.specs.Parts.{EndsInPart, IsCompleteInPart, PartValue}
+use Rattle.hp_explore.specs.Faults.{IsCausePart}
 use Rattle.hp_explore.specs.Frames.{IsDone}
 use Rattle.hp_explore.specs.Fronts.{AreFirstInPart}
-use Rattle.hp_explore.specs.Schedules.{Setting, setting}
+use Rattle.hp_schedules.specs.Schedules.{Setting}
+use Rattle.hp_explore.specs.Settings.{setting}
 use Rattle.hp_explore.specs.Walks.{IsPartWalkedThrough}
-use Rattle.hp_explore.specs.declared.tally.Ending.{Ending}
+use Rattle.hp_schedules.specs.declared.tally.Ending.{Ending}
 use Rattle.hp_explore.specs.declared.walk.Walk.{Walk}
-use Rattle.hp_explore.proofs.Plays.{walk_ends}
+use Rattle.hp_explore.proofs.Walks.{walk_ends}
 use Rattle.hp_explore.proofs.Rooms.{none_fills}
-use Rattle.hp_explore.proofs.Uniqueness.{no_more}
+use Rattle.hp_schedules.proofs.Uniqueness.{no_more}
 use Rattle.hp_explore.proofs.Walking.{first_exceed}
 use Rattle.hp_explore.proofs.exploring.explore_part.Goals as goal
 

@@ -1,4 +1,4 @@
-use Rattle.hp_explore.proofs.ClosedNets.{closed_told}
+use Rattle.hp_schedules.proofs.ClosedNets.{closed_told}
 use Rattle.hp_explore.proofs.OfPart.{merged_all}
 use Rattle.hp_explore.proofs.laws.kept_counts_are_added.Goals as goal
 

@@ -4,12 +4,13 @@ use Rattle.hp_units.specs.LayoutParts.{LayoutParts}
 use Rattle.hp_units.specs.declared.replies.CallFault.{CallFault}
 use Rattle.hp_units.specs.declared.replies.CallFault.TheVariants.{HistoryFull}
 use Rattle.hp_units.specs.declared.replies.Record.{Record}
-use Rattle.hp_explore.specs.Cursors.{AreCursors, IsCalledFor}
+use Rattle.hp_schedules.specs.Cursors.{AreCursors, IsCalledFor}
 use Rattle.hp_explore.specs.Faults.{IsCause}
-use Rattle.hp_explore.specs.Schedules.{next_call, setting}
+use Rattle.hp_schedules.specs.Schedules.{next_call}
+use Rattle.hp_explore.specs.Settings.{setting}
 use Rattle.hp_explore.specs.Walks.{news_in}
 use Rattle.hp_explore.proofs.Machines.{call_cause, call_full, call_latest, fills_here, further, had_room}
-use Rattle.hp_explore.proofs.Placed.{called_within}
+use Rattle.hp_schedules.proofs.Placed.{called_within}
 use Rattle.hp_explore.proofs.playing.make_call.Goals as goal
 use Rattle.hp_explore.proofs.playing.make_call.Goals.{After-latest, In-Some}
 

@@ -1,12 +1,12 @@
 -- One call more in each turn of the loop, or one that is not asked for.
-use Rattle.hp_explore.specs.Schedules.{setting}
+use Rattle.hp_explore.specs.Settings.{setting}
 use Rattle.hp_explore.specs.Walks.{IsMade, news_in}
 use Rattle.std.proofs.Common.{◌≡◌, ◌∙◌, [], Bool, List, ap, arith, drop, length, refl, subst, sym}
 use Rattle.std.proofs.Math.Seq.{drop-length}
 use Rattle.hp_machine.specs.Machine.{MachineValue}
 use Rattle.hp_units.specs.LayoutParts.{LayoutParts}
 use Rattle.hp_units.specs.declared.replies.Record.{Record}
-use Rattle.hp_explore.specs.Cursors.{AreCursors}
+use Rattle.hp_schedules.specs.Cursors.{AreCursors}
 use Rattle.std.proofs.lemmas.Result.{err_from_is_err_and}
 use Rattle.hp_explore.proofs.Walking.{filled_along, played_all, played_more, played_none, played_over}
 use Rattle.hp_explore.proofs.playing.play.Goals as goal
@@ -20,7 +20,7 @@ loop-cpu-init c =
           c.in_ok-played.ensures,
       subst (λ (h : List Record). AreCursors (setting c.args.machine.now c.args.scripts.now) h
           c.in_ok-positions.positions.cursors.items) (sym none)
-          (c.in_ok-positions.ensures (setting c.args.machine.now c.args.scripts.now) refl
+          (c.in_ok-positions.ensures.begun (setting c.args.machine.now c.args.scripts.now) refl
           (sym (c.cpus.ensures.is ∙ ap (λ (l : LayoutParts). l.cpus) c.layout.ensures))),
     )
 

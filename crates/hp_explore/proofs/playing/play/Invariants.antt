@@ -1,7 +1,7 @@
 -- What is played so far leads to the machine, and the cursors are where the scripts are then.
 use Rattle.std.proofs.Common.{take}
-use Rattle.hp_explore.specs.Cursors.{AreCursors}
-use Rattle.hp_explore.specs.Schedules.{setting}
+use Rattle.hp_schedules.specs.Cursors.{AreCursors}
+use Rattle.hp_explore.specs.Settings.{setting}
 use Rattle.hp_explore.specs.Walks.{news_in}
 use Rattle.hp_explore.proofs.Walking.{ArePlayed}
 use Rattle.hp_explore.proofs.playing.play.Given as goal

@@ -2,11 +2,12 @@
 use Rattle.std.proofs.Common.{◌≡◌, ◌∷◌, ◌++◌, ◌<◌, ◌∙◌, [], List, Some, ap, arith, length, refl, subst, sym}
 use Rattle.std.proofs.lemmas.List.{length_push}
 use Rattle.hp_units.specs.LayoutParts.{LayoutParts}
-use Rattle.hp_explore.specs.Cursors.{IsCalledFor}
-use Rattle.hp_explore.specs.Schedules.{record_of_call, setting}
+use Rattle.hp_schedules.specs.Cursors.{IsCalledFor}
+use Rattle.hp_schedules.specs.Schedules.{record_of_call}
+use Rattle.hp_explore.specs.Settings.{setting}
 use Rattle.hp_explore.specs.declared.ways.Turn.{Turn}
 use Rattle.hp_explore.proofs.Paths.{advanced, turned_latest}
-use Rattle.hp_explore.proofs.Placed.{called_within}
+use Rattle.hp_schedules.proofs.Placed.{called_within}
 use Rattle.hp_explore.proofs.turns.advance.Goals as goal
 use Rattle.hp_explore.proofs.turns.advance.Goals.{In-Some, After-latest}
 

@@ -1,5 +1,6 @@
 -- One record more.
-use Rattle.hp_explore.proofs.Copied.{copied_more, same_event, with_event}
+use Rattle.hp_schedules.proofs.Copied.{copied_more}
+use Rattle.hp_explore.proofs.Turning.{same_event, with_event}
 use Rattle.hp_explore.proofs.turns.copies.Goals as goal
 
 pub loop-record-preserved : goal.loop-record-preserved

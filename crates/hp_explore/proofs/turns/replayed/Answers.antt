@@ -2,7 +2,8 @@
 use Rattle.std.proofs.Common.{◌≡◌, ◌++◌, ◌∷◌, [], List, ℕ, Some, ap, subst, ◌∙◌}
 use Rattle.std.proofs.lemmas.Result.{err_from_is_err_and}
 use Rattle.hp_explore.specs.Faults.{FillsAlong}
-use Rattle.hp_explore.specs.Schedules.{schedule_of, setting}
+use Rattle.hp_schedules.specs.Schedules.{schedule_of}
+use Rattle.hp_explore.specs.Settings.{setting}
 use Rattle.hp_explore.specs.Walks.{IsPlayed}
 use Rattle.hp_steps.specs.Steps.{StepsValue}
 use Rattle.hp_explore.proofs.Machines.{at_machine, no_fewer}

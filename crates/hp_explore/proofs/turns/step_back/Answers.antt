@@ -2,7 +2,7 @@
 use Rattle.std.proofs.Common.{◌≡◌, ◌+◌, ◌∷◌, ◌++◌, [], List, Option, MatchOption, length, vec_len, ap, arith, sym, subst, ◌∙◌, option_to_list, reverse, refl}
 use Rattle.hp_units.specs.declared.replies.Record.{Record}
 use Rattle.hp_explore.specs.Paths.{IsPath, IsWayBack}
-use Rattle.hp_explore.specs.Schedules.{Setting}
+use Rattle.hp_schedules.specs.Schedules.{Setting}
 use Rattle.hp_explore.specs.declared.ways.Turn.{Turn}
 use Rattle.hp_explore.proofs.Paths.{latest_some, latest_turn, latest_within, none_made, taken_back}
 use Rattle.hp_explore.proofs.turns.step_back.Goals as goal

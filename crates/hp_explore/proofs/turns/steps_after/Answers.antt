@@ -5,7 +5,8 @@ use Rattle.hp_units.specs.declared.replies.Record.{Record}
 use Rattle.hp_units.specs.declared.replies.Refusal.TheVariants.{Gone}
 use Rattle.hp_units.specs.declared.replies.Reply.TheVariants.{Refused}
 use Rattle.hp_explore.specs.Faults.{FillsAlong}
-use Rattle.hp_explore.specs.Schedules.{schedule_of, setting}
+use Rattle.hp_schedules.specs.Schedules.{schedule_of}
+use Rattle.hp_explore.specs.Settings.{setting}
 use Rattle.hp_explore.proofs.Filled.{cause_along}
 use Rattle.hp_explore.proofs.Gone.{gone_leads}
 use Rattle.hp_explore.proofs.turns.steps_after.Goals as goal

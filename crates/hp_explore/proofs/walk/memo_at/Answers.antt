@@ -1,7 +1,7 @@
 -- The walk stands where the scripts begin.
 use Rattle.std.proofs.Common.{ap, length, refl, sym, ◌∙◌}
-use Rattle.hp_explore.specs.Alike.{is_closed}
-use Rattle.hp_explore.specs.Schedules.{setting}
+use Rattle.hp_schedules.specs.Alike.{is_closed}
+use Rattle.hp_explore.specs.Settings.{setting}
 use Rattle.hp_explore.proofs.Kept.{memo_begun}
 use Rattle.hp_explore.proofs.Stood.{stood_begun}
 use Rattle.hp_explore.proofs.walk.memo_at.Goals as goal

@@ -1,6 +1,6 @@
 -- One end more that has not the lines; else it is the one.
 use Rattle.std.proofs.Common.{get_or, subst, sym, ◌∙◌}
-use Rattle.hp_explore.specs.declared.tally.Ending.{Ending}
+use Rattle.hp_schedules.specs.declared.tally.Ending.{Ending}
 use Rattle.hp_find.specs.Wanted.{Meets}
 use Rattle.hp_find.proofs.Below.{below_all, none_more, read_here, read_twice, told_same}
 use Rattle.hp_find.proofs.finding.end_with.Goals as goal

@@ -1,5 +1,5 @@
 -- No end so far has the lines.
-use Rattle.hp_explore.specs.declared.tally.Ending.{Ending}
+use Rattle.hp_schedules.specs.declared.tally.Ending.{Ending}
 use Rattle.hp_find.specs.Wanted.{Meets}
 use Rattle.hp_find.proofs.Below.{Below}
 use Rattle.hp_find.proofs.finding.end_with.Given as goal

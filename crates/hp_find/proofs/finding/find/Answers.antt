@@ -1,8 +1,8 @@
 -- The first end with the lines is reached; where there is none, no schedule reaches one.
 use Rattle.std.proofs.Common.{Global, List, None, Some, Vec, ap, sum_by, sym, subst, ◌∙◌}
 use Rattle.hp_units.specs.declared.Cpu.{Cpu}
-use Rattle.hp_explore.specs.Schedules.{setting}
-use Rattle.hp_explore.specs.declared.tally.Ending.{Ending}
+use Rattle.hp_explore.specs.Settings.{setting}
+use Rattle.hp_schedules.specs.declared.tally.Ending.{Ending}
 use Rattle.hp_find.specs.Ends.{HasNoSuchEnd, IsSuchEnd}
 use Rattle.hp_find.specs.Faults.{few_changes}
 use Rattle.hp_find.specs.Reaching.{IsAbsent, NeedsChanges, Reaches}

@@ -1,5 +1,5 @@
 -- No schedule that ends as is wanted has fewer changes.
-use Rattle.hp_explore.specs.Schedules.{setting}
+use Rattle.hp_explore.specs.Settings.{setting}
 use Rattle.hp_find.specs.Reaching.{NeedsChanges}
 use Rattle.hp_find.proofs.finding.nearest_below.Given as goal
 

@@ -1,7 +1,7 @@
 -- The scripts of all processors are over.
 use Rattle.std.proofs.Common.{◌≡◌, ℕ, true, length, refl, subst, arith}
 use Rattle.hp_explore.specs.Walks.{IsOverBelow}
-use Rattle.hp_explore.proofs.Plays.{over_all}
+use Rattle.hp_explore.proofs.Walks.{over_all}
 use Rattle.hp_find.proofs.over.is_over.Goals as goal
 
 pub returns : goal.returns

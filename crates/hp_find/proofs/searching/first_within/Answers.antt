@@ -1,6 +1,6 @@
 -- The search begins before any call; where it found a schedule, that is one.
 use Rattle.std.proofs.Common.{ap, sym, subst, ◌∙◌}
-use Rattle.hp_explore.specs.Schedules.{setting}
+use Rattle.hp_explore.specs.Settings.{setting}
 use Rattle.hp_find.specs.Searches.{IsCloser, IsSearching, IsTurned, SearchValue}
 use Rattle.hp_find.proofs.SearchTurns.{found_here, started}
 use Rattle.hp_find.proofs.searching.first_within.Goals as goal

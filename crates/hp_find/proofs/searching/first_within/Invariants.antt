@@ -1,6 +1,6 @@
 -- The search keeps within its budget, and has fewer turns left after each.
 use Rattle.std.proofs.Common.{◌≡◌}
-use Rattle.hp_explore.specs.Schedules.{setting}
+use Rattle.hp_explore.specs.Settings.{setting}
 use Rattle.hp_find.specs.Searches.{IsSearching, turns_of}
 use Rattle.hp_find.proofs.searching.first_within.Given as goal
 

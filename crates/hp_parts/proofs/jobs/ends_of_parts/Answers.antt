@@ -1,7 +1,7 @@
 -- What each thread found is the list at its place.
 use Rattle.std.proofs.Common.{◌≡◌, None, length, arith}
 use Rattle.std.proofs.lemmas.Option.{IfSome_then}
-use Rattle.hp_explore.specs.Schedules.{setting}
+use Rattle.hp_explore.specs.Settings.{setting}
 use Rattle.hp_parts.proofs.Searched.{parts_found, room_found}
 use Rattle.hp_parts.proofs.Totals.{items}
 use Rattle.hp_parts.proofs.jobs.ends_of_parts.Goals as goal

@@ -1,8 +1,9 @@
 -- All parts together are all schedules.
 use Rattle.std.specs.Prelude.{sum_by}
-use Rattle.hp_explore.specs.declared.tally.Ending.{Ending}
-use Rattle.hp_explore.specs.Schedules.{IsComplete, setting}
-use Rattle.hp_explore.proofs.Uniqueness.{no_more}
+use Rattle.hp_schedules.specs.declared.tally.Ending.{Ending}
+use Rattle.hp_schedules.specs.Schedules.{IsComplete}
+use Rattle.hp_explore.specs.Settings.{setting}
+use Rattle.hp_schedules.proofs.Uniqueness.{no_more}
 use Rattle.hp_parts.proofs.jobs.explore_with_jobs.Goals as goal
 
 pub returns-in-Some-clause-few : goal.returns-in-Some-clause-few

@@ -1,7 +1,7 @@
 -- The lists are those of all parts.
 use Rattle.std.proofs.Common.{◌<◌, List, Vec, Global, length, map, arith, subst, sym}
-use Rattle.hp_explore.specs.Schedules.{setting}
-use Rattle.hp_explore.specs.declared.tally.Ending.{Ending}
+use Rattle.hp_explore.specs.Settings.{setting}
+use Rattle.hp_schedules.specs.declared.tally.Ending.{Ending}
 use Rattle.hp_parts.specs.Sums.{AreParts}
 use Rattle.hp_parts.proofs.Searched.{room_for_all}
 use Rattle.hp_parts.proofs.Totals.{items}

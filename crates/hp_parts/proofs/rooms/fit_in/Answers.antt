@@ -1,7 +1,7 @@
 -- All of them are taken from the room, or one is more than what is left.
 use Rattle.std.proofs.Common.{◌≡◌, ◌+◌, ◌<◌, List, subst, arith}
 use Rattle.std.specs.Prelude.{sum_by}
-use Rattle.hp_explore.specs.declared.tally.Ending.{Ending}
+use Rattle.hp_schedules.specs.declared.tally.Ending.{Ending}
 use Rattle.hp_parts.proofs.Totals.{counted_in, counted_mapped, items, left_more, none_left}
 use Rattle.hp_parts.proofs.rooms.fit_in.Goals as goal
 

@@ -1,5 +1,5 @@
 -- All of them are taken from the room, or one is more than what is left.
-use Rattle.hp_explore.specs.declared.tally.Ending.{Ending}
+use Rattle.hp_schedules.specs.declared.tally.Ending.{Ending}
 use Rattle.hp_parts.proofs.Totals.{all_left, left_more, none_left}
 use Rattle.hp_parts.proofs.rooms.left_after.Goals as goal
 

@@ -2,9 +2,9 @@
 use Rattle.std.proofs.Common.{◌<◌, [], List, length, map, arith, subst}
 use Rattle.std.proofs.lemmas.List.{length-map}
 use Rattle.std.proofs.lemmas.List.Sorted.{sum_by-IsPermutation}
-use Rattle.hp_explore.specs.Ends.{AreCounted}
-use Rattle.hp_explore.specs.Schedules.{EndsWith, Setting}
-use Rattle.hp_explore.specs.declared.tally.Ending.{Ending}
+use Rattle.hp_schedules.specs.Ends.{AreCounted}
+use Rattle.hp_schedules.specs.Schedules.{EndsWith, Setting}
+use Rattle.hp_schedules.specs.declared.tally.Ending.{Ending}
 use Rattle.hp_parts.specs.Adding.{AddsLists}
 use Rattle.hp_parts.specs.Sums.{AreParts}
 use Rattle.hp_parts.proofs.Joining.{lists_apart, lists_sum}

@@ -2,7 +2,7 @@
 use Rattle.std.proofs.Common.{length, refl}
 use Rattle.std.proofs.lemmas.Option.{slice_get_read}
 use Rattle.std.proofs.lemmas.Bool.{iff_false}
-use Rattle.hp_explore.proofs.Places.{none_all, none_more}
+use Rattle.hp_schedules.proofs.Places.{none_all, none_more}
 use Rattle.hp_parts.proofs.sums.first_place_of.Goals as goal
 
 pub returns-then-same-clause-some : goal.returns-then-same-clause-some

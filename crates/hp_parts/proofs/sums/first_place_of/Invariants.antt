@@ -1,6 +1,6 @@
 -- No end so far has the outcome.
 use Rattle.std.proofs.Common.{take}
-use Rattle.hp_explore.specs.Notes.{HasNoEnd}
+use Rattle.hp_schedules.specs.Notes.{HasNoEnd}
 use Rattle.hp_parts.proofs.sums.first_place_of.Given as goal
 
 abbrev pub invariant-loop-place : goal.invariant-loop-place

@@ -1,6 +1,6 @@
 -- Where the digest has no place, no end has the outcome.
 use Rattle.std.proofs.Common.{rules}
-use Rattle.hp_explore.proofs.Known.{unknown}
+use Rattle.hp_schedules.proofs.Known.{unknown}
 use Rattle.hp_parts.proofs.sums.place_of.Goals as goal
 
 pub returns-in_default-clause-none : goal.returns-in_default-clause-none

@@ -1,8 +1,8 @@
 -- It is the same after any operations.
 use Rattle.std.proofs.Common.{List, subst, ◌∙◌}
 use Rattle.std.proofs.lemmas.Result.{IfOk-weaker}
-use Rattle.hp_explore.specs.Interleavings.{IsKnown}
-use Rattle.hp_explore.specs.declared.scripts.Line.{Line}
+use Rattle.hp_schedules.specs.Interleavings.{IsKnown}
+use Rattle.hp_schedules.specs.declared.scripts.Line.{Line}
 use Rattle.hp_scripts.proofs.Scripted.{known_after_any}
 use Rattle.hp_scripts.proofs.counting.known_of.Goals as goal
 

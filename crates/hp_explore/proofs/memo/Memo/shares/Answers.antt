@@ -1,7 +1,7 @@
 -- The row is that of the place where the key stands.
 use Rattle.std.proofs.Common.{Bor, IfSome, List, subst}
 use Rattle.hp_explore.specs.Seen.{IsRowAmong, MemoValue}
-use Rattle.hp_explore.specs.declared.rows.Share.{Share}
+use Rattle.hp_schedules.specs.declared.rows.Share.{Share}
 use Rattle.hp_explore.proofs.Kept.{row_among}
 use Rattle.hp_explore.proofs.memo.Memo.shares.Goals as goal
 

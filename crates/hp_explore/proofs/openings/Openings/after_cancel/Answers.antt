@@ -1,7 +1,7 @@
 -- The earlier list is left where the operation is the first.
 use Rattle.std.proofs.Common.{◌≡◌, [], Bor, IfNone, IfSome, List, Option, Some, refl, slice_get, subst, sym, ◌∙◌}
-use Rattle.hp_explore.specs.Numbers.{IsEntryOf}
-use Rattle.hp_explore.specs.Openings.{NumberedOpening, after_cancel}
+use Rattle.hp_explore.specs.Numbered.{IsEntryOf}
+use Rattle.hp_schedules.specs.Openings.{NumberedOpening, after_cancel}
 use Rattle.hp_explore.specs.declared.openings.Entry.{Entry}
 use Rattle.hp_explore.proofs.Numbered.{made_empty, other_cancel, same_cancel}
 use Rattle.hp_explore.proofs.openings.Openings.after_cancel.Goals as goal

@@ -1,7 +1,7 @@
 -- Where another operation is the first, or the list is empty, nothing is left.
 use Rattle.std.proofs.Common.{◌≡◌, [], Bor, IfNone, IfSome, List, Option, Some, refl, slice_get, subst, sym, ◌∙◌}
-use Rattle.hp_explore.specs.Numbers.{IsEntryOf}
-use Rattle.hp_explore.specs.Openings.{NumberedOpening, after_work}
+use Rattle.hp_explore.specs.Numbered.{IsEntryOf}
+use Rattle.hp_schedules.specs.Openings.{NumberedOpening, after_work}
 use Rattle.hp_explore.specs.declared.openings.Entry.{Entry}
 use Rattle.hp_explore.proofs.Numbered.{made_empty, other_work, same_work}
 use Rattle.hp_explore.proofs.openings.Openings.after_work.Goals as goal

@@ -1,10 +1,10 @@
 -- The list of a number was made by the entry before it.
 use Rattle.std.proofs.Common.{◌≡◌, ◌-◌, Bor, List, Some, ap, arith, length, slice_get, subst, sym}
 use Rattle.hp_laws.proofs.Options.{some_weaker}
-use Rattle.hp_explore.specs.Numbers.{IsEntryOf, entry_below, in_front}
-use Rattle.hp_explore.specs.Openings.{NumberedOpening}
+use Rattle.hp_explore.specs.Numbered.{IsEntryOf, entry_below, in_front}
+use Rattle.hp_schedules.specs.Openings.{NumberedOpening}
 use Rattle.hp_explore.specs.declared.openings.Entry.{Entry}
-use Rattle.hp_explore.proofs.Numberings.{first_empty, made_read, none_past, none_weaker}
+use Rattle.hp_schedules.proofs.Numberings.{first_empty, made_read, none_past, none_weaker}
 use Rattle.hp_explore.proofs.openings.Openings.entry.Goals as goal
 
 pub returns-then-number-eq0-clause-none : goal.returns-then-number-eq0-clause-none

@@ -1,5 +1,5 @@
 -- The latest turn leads back over the latest record.
-use Rattle.hp_explore.specs.Schedules.{setting}
+use Rattle.hp_explore.specs.Settings.{setting}
 use Rattle.hp_explore.proofs.Paths.{back_shown, path_taken}
 use Rattle.hp_explore.proofs.path.Path.back.Goals as goal
 

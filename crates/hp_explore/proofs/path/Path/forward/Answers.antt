@@ -3,7 +3,7 @@ use Rattle.std.proofs.Common.{subst}
 use Rattle.std.proofs.lemmas.Result.{IfErr-weaker, IfOk-weaker}
 use Rattle.hp_explore.specs.Faults.{IsCauseHere}
 use Rattle.hp_explore.specs.Paths.{PathValue}
-use Rattle.hp_explore.specs.Schedules.{setting}
+use Rattle.hp_explore.specs.Settings.{setting}
 use Rattle.hp_explore.proofs.Paths.{forth_shown, path_advanced}
 use Rattle.hp_explore.proofs.path.Path.forward.Goals as goal
 

@@ -1,9 +1,10 @@
 -- It is what the processor's script asks for from its cursor.
 use Rattle.std.proofs.Common.{◌≡◌, ◌∙◌, None, Some, ap, refl, subst, sym}
 use Rattle.hp_units.specs.LayoutParts.{LayoutParts}
-use Rattle.hp_explore.specs.Cursors.{IsCalledFor}
+use Rattle.hp_schedules.specs.Cursors.{IsCalledFor}
 use Rattle.hp_explore.specs.Paths.{PathValue}
-use Rattle.hp_explore.specs.Schedules.{next_call, setting}
+use Rattle.hp_schedules.specs.Schedules.{next_call}
+use Rattle.hp_explore.specs.Settings.{setting}
 use Rattle.hp_explore.proofs.path.Path.next_call.Goals as goal
 
 pub request-requires : goal.request-requires

@@ -3,7 +3,7 @@ use Rattle.std.proofs.Common.{◌≡◌, [], ap, refl, sym, ◌∙◌}
 use Rattle.std.proofs.Math.Seq.{drop-length}
 use Rattle.hp_units.specs.LayoutParts.{LayoutParts}
 use Rattle.hp_steps.specs.Steps.{StepsValue}
-use Rattle.hp_explore.specs.Schedules.{setting}
+use Rattle.hp_explore.specs.Settings.{setting}
 use Rattle.hp_explore.proofs.Machines.{reached_start}
 use Rattle.hp_explore.specs.Frames.{path_of}
 use Rattle.hp_explore.proofs.Paths.{path_begins}
@@ -25,7 +25,7 @@ invariant_of-result c =
     (ap (λ (p : StepsValue). p.state) c.in_ok-here.ensures.value)
     (ap (λ (p : StepsValue). p.records) c.in_ok-here.ensures.value))
     (none_yet (goal.at.invariant_of-result c).In_ok-here)
-    (c.in_ok-positions.ensures (setting c.args.machine.now c.args.scripts.now) refl
+    (c.in_ok-positions.ensures.begun (setting c.args.machine.now c.args.scripts.now) refl
     (sym (c.cpus.ensures.is ∙ ap (λ (l : LayoutParts). l.cpus) c.layout.ensures)))
     c.new.ensures.items
 

@@ -1,11 +1,11 @@
 -- The place is left at once, or gets its frame.
 use Rattle.std.proofs.Common.{◌+◌, ◌*◌, ◌-◌, ◌^◌, ◌<◌, List, length, reverse, ap, refl, sym, subst, arith}
 use Rattle.hp_explore.specs.Frames.{AreBelow, AreWalked, IsEntered, digits, frames_of, left_of}
-use Rattle.hp_explore.specs.Schedules.{Setting, schedule_of}
+use Rattle.hp_schedules.specs.Schedules.{Setting, schedule_of}
 use Rattle.hp_explore.specs.Seen.{IsMemo}
 use Rattle.hp_explore.specs.Walks.{IsPartWalkedBefore}
 use Rattle.hp_explore.specs.declared.frames.Frame.{Frame}
-use Rattle.hp_explore.specs.declared.tally.Ending.{Ending}
+use Rattle.hp_schedules.specs.declared.tally.Ending.{Ending}
 use Rattle.hp_explore.proofs.Framing.{back_setting, below_many, frames_pushed, walk_opens}
 use Rattle.hp_explore.proofs.Kept.{memo_added, memo_same}
 use Rattle.hp_explore.proofs.Walked.{gone_back}

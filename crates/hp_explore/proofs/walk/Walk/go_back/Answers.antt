@@ -1,7 +1,7 @@
 -- The place is counted, and the walk stands at the one before it.
 use Rattle.std.proofs.Common.{◌≡◌, ◌<◌, ◌∷◌, ◌++◌, [], ℕ, refl, sym, subst, arith}
 use Rattle.hp_explore.specs.Frames.{frames_of, left_of}
-use Rattle.hp_explore.specs.Schedules.{Setting, schedule_of}
+use Rattle.hp_schedules.specs.Schedules.{Setting, schedule_of}
 use Rattle.hp_explore.specs.Seen.{Grow}
 use Rattle.hp_explore.specs.Walks.{IsPartWalkedBefore, IsPartWalkedThrough}
 use Rattle.hp_explore.proofs.Framing.{back_setting, below_many, frame_grows}

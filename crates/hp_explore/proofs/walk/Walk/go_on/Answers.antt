@@ -2,7 +2,7 @@
 use Rattle.std.proofs.Common.{◌<◌, ◌≤◌, ◌∷◌, Bool, true, false, List, length, reverse, ap, refl, sym, subst, ◌∙◌, arith}
 use Rattle.hp_explore.specs.Frames.{frames_of, left_of}
 use Rattle.hp_explore.specs.Paths.{IsForth, PathValue}
-use Rattle.hp_explore.specs.Schedules.{Setting}
+use Rattle.hp_schedules.specs.Schedules.{Setting}
 use Rattle.hp_explore.specs.Seen.{IsMemo, IsOnWay}
 use Rattle.hp_explore.specs.declared.frames.Frame.{Frame}
 use Rattle.hp_explore.proofs.Framing.{frames_pushed}

@@ -1,7 +1,7 @@
 -- No call was made.
 use Rattle.std.proofs.Common.{List, length, reverse, ap, sym, subst, arith}
 use Rattle.hp_explore.specs.Frames.{AreBelow}
-use Rattle.hp_explore.specs.Notes.{TallyValue}
+use Rattle.hp_schedules.specs.Notes.{TallyValue}
 use Rattle.hp_explore.specs.Paths.{PathValue}
 use Rattle.hp_explore.specs.Seen.{IsMemo, IsOnWay}
 use Rattle.hp_explore.specs.declared.frames.Frame.{Frame}

@@ -1,7 +1,7 @@
 -- The latest place makes its turn; where there is none all is walked.
 use Rattle.std.proofs.Common.{◌≡◌, ◌+◌, ◌<◌, ◌∷◌, ◌++◌, [], Global, List, MatchOption, Option, Some, Vec, arith, option_to_list, reverse, ℕ, sym, subst, vec_len, ◌∙◌}
 use Rattle.hp_explore.specs.Frames.{AreWalked, IsWalking, frames_of, left, left_of}
-use Rattle.hp_explore.specs.Schedules.{schedule_of}
+use Rattle.hp_schedules.specs.Schedules.{schedule_of}
 use Rattle.hp_explore.specs.Walks.{IsPartWalkedBefore}
 use Rattle.hp_explore.specs.declared.frames.Frame.{Frame}
 use Rattle.hp_explore.specs.declared.walk.Walk.{Walk}

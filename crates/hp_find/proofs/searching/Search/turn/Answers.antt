@@ -2,7 +2,7 @@
 use Rattle.std.proofs.Common.{◌≡◌, ◌<◌, Some, length, ap, subst, arith}
 use Rattle.std.proofs.lemmas.Bool.{iff_false}
 use Rattle.std.proofs.lemmas.Result.{err_from_is_err_and}
-use Rattle.hp_explore.specs.Schedules.{plays, schedule_of}
+use Rattle.hp_schedules.specs.Schedules.{plays, schedule_of}
 use Rattle.hp_explore.proofs.Filled.{cause_of_call}
 use Rattle.hp_find.specs.Searches.{SearchValue}
 use Rattle.hp_find.proofs.SearchTurns.{gone_down, gone_up}

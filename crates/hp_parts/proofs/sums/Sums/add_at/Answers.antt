@@ -4,10 +4,10 @@ use Rattle.std.specs.Prelude.{OnErr, sum_by}
 use Rattle.std.proofs.lemmas.List.{set-get_or}
 use Rattle.std.proofs.lemmas.List.Sums.{get_or-le-sum_by, sum_by-set}
 use Rattle.std.proofs.lemmas.Option.{get_or_from_slice_get, slice_get_within}
-use Rattle.hp_explore.specs.Notes.{AreKnown, HasEndAt}
-use Rattle.hp_explore.specs.Outcomes.{OutcomeValue}
-use Rattle.hp_explore.specs.declared.tally.Ending.{Ending}
-use Rattle.hp_explore.proofs.Known.{known_set}
+use Rattle.hp_schedules.specs.Notes.{AreKnown, HasEndAt}
+use Rattle.hp_schedules.specs.Outcomes.{OutcomeValue}
+use Rattle.hp_schedules.specs.declared.tally.Ending.{Ending}
+use Rattle.hp_schedules.proofs.Known.{known_set}
 use Rattle.hp_parts.specs.Adding.{earlier}
 use Rattle.hp_parts.proofs.sums.Sums.add_at.Goals as goal
 

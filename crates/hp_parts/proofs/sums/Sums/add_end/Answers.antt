@@ -1,7 +1,7 @@
 -- The place is that of the end with the outcome.
 use Rattle.std.proofs.Common.{List, subst, ◌∙◌}
-use Rattle.hp_explore.specs.Notes.{HasEndAt}
-use Rattle.hp_explore.specs.declared.tally.Ending.{Ending}
+use Rattle.hp_schedules.specs.Notes.{HasEndAt}
+use Rattle.hp_schedules.specs.declared.tally.Ending.{Ending}
 use Rattle.hp_parts.proofs.sums.Sums.add_end.Goals as goal
 
 pub add_at-requires-clause-at : goal.add_at-requires-clause-at

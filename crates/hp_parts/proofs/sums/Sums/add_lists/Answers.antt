@@ -1,7 +1,7 @@
 -- One list more.
 use Rattle.std.proofs.Common.{◌+◌, ◌<◌, ◌^◌, List, subst, sym}
 use Rattle.std.specs.Prelude.{sum_by}
-use Rattle.hp_explore.specs.declared.tally.Ending.{Ending}
+use Rattle.hp_schedules.specs.declared.tally.Ending.{Ending}
 use Rattle.hp_parts.specs.Adding.{AddsEnds}
 use Rattle.hp_parts.proofs.Totals.{items, lists_more, lists_room}
 use Rattle.hp_parts.proofs.sums.Sums.add_lists.Goals as goal

@@ -2,8 +2,8 @@
 use Rattle.std.proofs.Common.{◌∷◌, ◌++◌, [], List, ap, arith, ◌∙◌}
 use Rattle.std.specs.Prelude.{sum_by}
 use Rattle.std.proofs.lemmas.List.Sums.{sum_by_push}
-use Rattle.hp_explore.specs.declared.tally.Ending.{Ending}
-use Rattle.hp_explore.proofs.Known.{known_first}
+use Rattle.hp_schedules.specs.declared.tally.Ending.{Ending}
+use Rattle.hp_schedules.proofs.Known.{known_first}
 use Rattle.hp_parts.proofs.sums.Sums.push.Goals as goal
 
 pub invariant_of-self-2 : goal.invariant_of-self-2

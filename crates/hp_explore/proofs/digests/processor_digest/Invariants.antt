@@ -1,9 +1,0 @@
--- The digest of the replies so far.
-use Rattle.std.proofs.Common.{◌≡◌, take}
-use Rattle.std.specs.Prelude.{fold}
-use Rattle.hp_explore.specs.Digests.{mixed_reply}
-use Rattle.hp_explore.specs.Outcomes.{replies_to}
-use Rattle.hp_explore.proofs.digests.processor_digest.Given as goal
-
-abbrev pub invariant-loop-record : goal.invariant-loop-record
-invariant-loop-record l = l.digest ≡ fold mixed_reply 0 (replies_to l.cpu (take l.record-index l.records))

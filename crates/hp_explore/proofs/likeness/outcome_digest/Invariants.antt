@@ -1,9 +1,0 @@
--- The digest of the rows so far.
-use Rattle.std.proofs.Common.{◌≡◌, take}
-use Rattle.std.specs.Prelude.{fold}
-use Rattle.hp_explore.specs.Digests.{mixed_row, replies_digest}
-use Rattle.hp_explore.proofs.likeness.outcome_digest.Given as goal
-
-abbrev pub invariant-loop-row : goal.invariant-loop-row
-invariant-loop-row l =
-    l.digest ≡ fold mixed_row (replies_digest l.outcome.replies) (take l.row-index l.row-items)

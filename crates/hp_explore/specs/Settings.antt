@@ -1,0 +1,10 @@
+-- Where scripts begin on a machine.
+use Rattle.std.specs.Prelude.{List}
+use Rattle.hp_machine.specs.Machine.{MachineValue}
+use Rattle.hp_schedules.specs.Schedules.{Setting}
+use Rattle.hp_schedules.specs.declared.scripts.Line.{Line}
+
+-- the scripts on a machine as it is
+abbrev pub setting : MachineValue → List (List Line) → Setting
+setting m scripts =
+    record { layout = m.layout; base = m.base; before = m.before; start = m.history; scripts = scripts }

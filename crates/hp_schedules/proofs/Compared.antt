@@ -1,0 +1,103 @@
+-- Replies that are compared with what records tell, one by one.
+use Rattle.std.proofs.Common.{◌≡◌, ℕ, zero, suc, ◌+◌, ◌<◌, ◌≤◌, Bool, true, false, cond, List, [], ◌∷◌, ◌++◌, length, map, filter, take, get_or, eqb, Some, slice_get, refl, ap, sym, ◌∙◌, arith}
+use Rattle.std.proofs.lemmas.List.{append-nil, length-take-le, map-append}
+use Rattle.std.proofs.lemmas.List.Elements.{filter-append}
+use Rattle.std.proofs.lemmas.Option.{same_Some}
+use Rattle.hp_laws.proofs.Replays.{take_one}
+use Rattle.hp_units.specs.declared.replies.Record.{Record}
+use Rattle.hp_units.specs.declared.replies.Reply.{Reply}
+use Rattle.std.proofs.lemmas.List.FromFn.{get_or-map-range_with_len, length-map-range_with_len}
+use Rattle.hp_schedules.specs.Outcomes.{replies_below, replies_to, told}
+use Rattle.hp_schedules.proofs.Places.{replies_more}
+
+-- what a processor is told by one record more
+told_push : (cpu : ℕ) (h : List Record) (r : Record) (own : Bool) → eqb r.cpu cpu ≡ own
+    → replies_to cpu (h ++ r ∷ []) ≡ replies_to cpu h ++ cond own (told r.reply ∷ []) []
+told_push cpu h r own is =
+    ap (map (λ (q : Record). told q.reply)) (filter-append (λ (q : Record). eqb q.cpu cpu) h (r ∷ []))
+    ∙ (map-append (λ (q : Record). told q.reply) (filter (λ (q : Record). eqb q.cpu cpu) h)
+    (filter (λ (q : Record). eqb q.cpu cpu) (r ∷ [])) ∙ ap (λ (xs : List Reply). replies_to cpu h ++ xs)
+    (one own is))
+  where
+    one : (b : Bool) → eqb r.cpu cpu ≡ b
+        → map (λ (q : Record). told q.reply) (filter (λ (q : Record). eqb q.cpu cpu) (r ∷ []))
+        ≡ cond b (told r.reply ∷ []) []
+    one true e = rw e refl
+    one false e = rw e refl
+
+-- the record at a place tells the reply after those that its processor was told before
+told_at : (cpu : ℕ) (news : List Record) (k : ℕ) (r : Record) → slice_get news k ≡ Some r
+    → eqb r.cpu cpu ≡ true
+    → slice_get (replies_to cpu news) (length (replies_to cpu (take k news))) ≡ Some (told r.reply)
+told_at cpu [] k r here own = absurd cc
+told_at cpu (x ∷ news) zero r here own =
+    rw (ap (λ (q : Record). eqb q.cpu cpu) (same_Some x r here) ∙ own)
+    (ap (λ (q : Record). Some (told q.reply)) (same_Some x r here))
+told_at cpu (x ∷ news) (suc k) r here own = by_owner (eqb x.cpu cpu) refl (told_at cpu news k r here own)
+  where
+    by_owner : (b : Bool) → eqb x.cpu cpu ≡ b
+        → slice_get (replies_to cpu news) (length (replies_to cpu (take k news))) ≡ Some (told r.reply)
+        → slice_get (replies_to cpu (x ∷ news)) (length (replies_to cpu (take (suc k) (x ∷ news))))
+        ≡ Some (told r.reply)
+    by_owner true e later = rw e later
+    by_owner false e later = rw e later
+
+-- ---- as they are compared
+
+-- another processor's record tells nothing
+pub told_past : (cpu : ℕ) (replies : List Reply) (news : List Record) (n k : ℕ) (r : Record)
+    → slice_get news k ≡ Some r → eqb r.cpu cpu ≡ false → take n replies ≡ replies_to cpu (take k news)
+    → take n replies ≡ replies_to cpu (take (k + 1) news)
+told_past cpu replies news n k r here other so_far =
+    so_far
+    ∙ (sym (append-nil (replies_to cpu (take k news)))
+    ∙ (sym (told_push cpu (take k news) r false other)
+    ∙ ap (replies_to cpu) (sym (take_one news k r here))))
+
+-- its own tells the next one
+pub told_more : (cpu : ℕ) (replies : List Reply) (news : List Record) (n k : ℕ) (r : Record)
+    → slice_get news k ≡ Some r → eqb r.cpu cpu ≡ true → slice_get replies n ≡ Some (told r.reply)
+    → take n replies ≡ replies_to cpu (take k news)
+    → take (n + 1) replies ≡ replies_to cpu (take (k + 1) news)
+told_more cpu replies news n k r here own is so_far =
+    take_one replies n (told r.reply) is
+    ∙ (ap (λ (xs : List Reply). xs ++ told r.reply ∷ []) so_far
+    ∙ (sym (told_push cpu (take k news) r true own)
+    ∙ ap (replies_to cpu) (sym (take_one news k r here))))
+
+-- where it tells another, the replies are others
+pub told_here : (cpu : ℕ) (replies : List Reply) (news : List Record) (n k : ℕ) (r : Record)
+    → slice_get news k ≡ Some r → eqb r.cpu cpu ≡ true → n ≤ length replies
+    → take n replies ≡ replies_to cpu (take k news) → replies ≡ replies_to cpu news
+    → slice_get replies n ≡ Some (told r.reply)
+told_here cpu replies news n k r here own within so_far is =
+    ap (slice_get replies) (sym (length-take-le n replies within) ∙ ap length so_far)
+    ∙ (ap (λ (xs : List Reply). slice_get xs (length (replies_to cpu (take k news)))) is
+    ∙ told_at cpu news k r here own)
+
+-- ---- all processors
+
+-- there are as many processors' replies as processors
+pub answered_length : (answers : List (List Reply)) (news : List Record) (processors : ℕ)
+    → answers ≡ replies_below processors news → length answers ≡ processors
+answered_length answers news processors is =
+    ap (λ (xs : List (List Reply)). length xs) is
+    ∙ length-map-range_with_len (λ (c : ℕ). replies_to c news) 0 processors
+
+-- the list at a place is that of its processor
+pub answered_at : (answers : List (List Reply)) (news : List Record) (processors cpu : ℕ)
+    (replies : List Reply)
+    → cpu < processors → replies ≡ get_or answers cpu replies → answers ≡ replies_below processors news
+    → replies ≡ replies_to cpu news
+answered_at answers news processors cpu replies within here is =
+    here
+    ∙ (ap (λ (xs : List (List Reply)). get_or xs cpu replies) is
+    ∙ get_or-map-range_with_len (λ (c : ℕ). replies_to c news) 0 processors cpu cpu replies within
+    (omega arith))
+
+-- one list more
+pub answered_more : (answers : List (List Reply)) (news : List Record) (cpu : ℕ) (replies : List Reply)
+    → slice_get answers cpu ≡ Some replies → replies ≡ replies_to cpu news
+    → take cpu answers ≡ replies_below cpu news → take (cpu + 1) answers ≡ replies_below (cpu + 1) news
+answered_more answers news cpu replies here is so_far =
+    take_one answers cpu replies here ∙ replies_more (take cpu answers) replies news cpu so_far is

@@ -1,0 +1,272 @@
+-- Schedules of scripts whose lines are one call each.
+use Rattle.std.proofs.Common.{◌≡◌, ℕ, zero, suc, ◌+◌, ◌<◌, ◌≤◌, Bool, true, false, cond, List, [], ◌∷◌, ◌++◌, length, Option, Some, None, IfSome, eqb, get_or, slice_get, refl, ap, sym, subst, ◌∙◌, arith, inl, inr}
+use Rattle.std.specs.Prelude.{◌↔◌, IfNone, fold, option_and_then}
+use Rattle.std.specs.List.{list_all}
+use Rattle.std.specs.Option.{SomeIff, option_map_or}
+use Rattle.std.proofs.lemmas.Bool.{and_parts, cases_lt, eq-eqb, eqb-true}
+use Rattle.std.proofs.lemmas.List.{append-nil, length_push}
+use Rattle.std.proofs.lemmas.Option.{none-some, same_Some}
+use Rattle.hp_units.specs.Receipts.{receipt_of, receipts_of}
+use Rattle.hp_units.specs.declared.events.Event.{Event}
+use Rattle.hp_units.specs.declared.replies.Record.{Record}
+use Rattle.hp_units.specs.declared.replies.Receipt.{Receipt}
+use Rattle.hp_schedules.specs.declared.scripts.Line.{Line}
+use Rattle.hp_schedules.specs.Interleavings.{AreOneCalls, IsCallCount, IsInterleaving, IsRoomNeeded, holds_no_plan, script_length, script_lengths}
+use Rattle.hp_schedules.specs.Multinomials.{IsMultinomial, sum, turns_of}
+use Rattle.hp_schedules.specs.Orders.{HasCount}
+use Rattle.hp_schedules.specs.Schedules.{IsComplete, Setting, outcome_after, next_call, play_one, plays, record_of_call}
+use Rattle.hp_schedules.specs.Scripts.{next_in, next_of, own_operation}
+use Rattle.hp_schedules.proofs.Coefficients.{only_one}
+use Rattle.hp_schedules.proofs.Counting.{same_count}
+use Rattle.hp_schedules.proofs.Interleaved.{HasTurns, interleaved, turns_cons}
+use Rattle.hp_schedules.proofs.OneCalls.{asks_once, skips, stays}
+use Rattle.hp_schedules.proofs.Plays.{from_news, plays_one, stays_none}
+use Rattle.hp_schedules.proofs.Steps.{receipts_push}
+use Rattle.hp_schedules.proofs.Uniqueness.{only_count}
+
+-- ---- lines
+
+abbrev AllOne : List Line → Type 0
+AllOne lines = holds_no_plan lines ≡ true
+
+-- a script of such scripts is one
+one_script : (scripts : List (List Line)) (cpu : ℕ) (lines : List Line) → AreOneCalls scripts
+    → slice_get scripts cpu ≡ Some lines → AllOne lines
+one_script [] cpu lines all here = absurd cc
+one_script (first ∷ scripts) zero lines all here =
+    subst AllOne (same_Some first lines here) (and_parts _ _ all).0
+one_script (first ∷ scripts) (suc cpu) lines all here =
+    one_script scripts cpu lines (and_parts _ _ all).1 here
+
+-- lines ask for something where there are fewer receipts than lines
+asks : (cpus op : ℕ) (lines : List Line) (rs : List Receipt) → AllOne lines → length rs < length lines
+    → (e : Event) × (next_in cpus op lines rs ≡ Some e)
+asks cpus op [] rs all less = absurd (omega arith)
+asks cpus op (line ∷ lines) [] all less =
+    let first = asks_once cpus op line (and_parts _ _ all).0 in
+    (first.0, stays cpus op line lines (and_parts _ _ all).0 ∙ first.1)
+asks cpus op (line ∷ lines) (r ∷ rs) all less =
+    let later = asks cpus op lines rs (and_parts _ _ all).1 (omega arith) in
+    (later.0, skips cpus op line lines r rs (and_parts _ _ all).0 ∙ later.1)
+
+-- and for nothing where there are as many
+asks_none : (cpus op : ℕ) (lines : List Line) (rs : List Receipt) → AllOne lines → length lines ≤ length rs
+    → next_in cpus op lines rs ≡ None
+asks_none cpus op [] rs all le = refl
+asks_none cpus op (line ∷ lines) [] all le = absurd (omega arith)
+asks_none cpus op (line ∷ lines) (r ∷ rs) all le =
+    skips cpus op line lines r rs (and_parts _ _ all).0
+    ∙ asks_none cpus op lines rs (and_parts _ _ all).1 (omega arith)
+
+-- ---- scripts
+
+-- how many calls a processor has made
+abbrev made : (cpu : ℕ) → List Record → ℕ
+made cpu news = length (receipts_of cpu news)
+
+-- a processor asks where it has made fewer calls than its script has lines
+call_asks : (g : Setting) (cpu : ℕ) (news : List Record) → AreOneCalls g.scripts
+    → made cpu news < script_length g.scripts cpu → (e : Event) × (next_call g cpu news ≡ Some e)
+unfolding next_call
+call_asks g cpu news all less = by_script (slice_get g.scripts cpu) refl less
+  where
+    by_script : (o : Option (List Line)) → slice_get g.scripts cpu ≡ o
+        → made cpu news < option_map_or (λ lines. length lines) o 0
+        → (e : Event) × (option_and_then (λ lines. next_of g.layout.cpus lines (receipts_of cpu news))
+        (slice_get g.scripts cpu) ≡ Some e)
+    by_script None is h = absurd (omega arith)
+    by_script (Some lines) is h =
+        let e =
+        asks g.layout.cpus (own_operation (receipts_of cpu news)) lines (receipts_of cpu news)
+        (one_script g.scripts cpu lines all is) h in (
+          e.0,
+          ap (option_and_then (λ (ls : List Line). next_of g.layout.cpus ls (receipts_of cpu news))) is
+              ∙ e.1,
+        )
+
+call_none : (g : Setting) (cpu : ℕ) (news : List Record) → AreOneCalls g.scripts
+    → script_length g.scripts cpu ≤ made cpu news → next_call g cpu news ≡ None
+unfolding next_call
+call_none g cpu news all le = by_script (slice_get g.scripts cpu) refl le
+  where
+    by_script : (o : Option (List Line)) → slice_get g.scripts cpu ≡ o
+        → option_map_or (λ lines. length lines) o 0 ≤ made cpu news
+        → option_and_then (λ lines. next_of g.layout.cpus lines (receipts_of cpu news))
+        (slice_get g.scripts cpu) ≡ None
+    by_script None is h =
+        ap (option_and_then (λ (ls : List Line). next_of g.layout.cpus ls (receipts_of cpu news))) is
+    by_script (Some lines) is h =
+        ap (option_and_then (λ (ls : List Line). next_of g.layout.cpus ls (receipts_of cpu news))) is
+        ∙ asks_none g.layout.cpus (own_operation (receipts_of cpu news)) lines (receipts_of cpu news)
+        (one_script g.scripts cpu lines all is) h
+
+-- a processor's call is one more of its own
+made_more : (g : Setting) (cpu c : ℕ) (news : List Record) (e : Event) (own : Bool) → eqb c cpu ≡ own
+    → made cpu (news ++ record_of_call g news c e ∷ []) ≡ made cpu news + cond own 1 0
+unfolding record_of_call
+made_more g cpu c news e true own =
+    ap length (receipts_push cpu news (record_of_call g news c e) true own)
+    ∙ length_push (receipts_of cpu news) (receipt_of (record_of_call g news c e))
+made_more g cpu c news e false own =
+    ap length (receipts_push cpu news (record_of_call g news c e) false own)
+    ∙ (ap length (append-nil (receipts_of cpu news)) ∙ omega arith)
+
+-- ---- schedules
+
+-- each processor has made the calls of its turns, and no more than its script has
+turns_made : (g : Setting) (cpu : ℕ) (s : List ℕ) (news end : List Record) → AreOneCalls g.scripts
+    → from_news g news s ≡ Some end → made cpu news ≤ script_length g.scripts cpu
+    → (made cpu end ≡ made cpu news + turns_of cpu s) × (made cpu end ≤ script_length g.scripts cpu)
+turns_made g cpu [] news end all is le =
+    let same : news ≡ end = same_Some news end is in (
+      ap (made cpu) (sym same)
+          ∙ omega arith,
+      subst (λ (h : List Record). made cpu h ≤ script_length g.scripts cpu) same le,
+    )
+turns_made g cpu (c ∷ s) news end all is le =
+    by_next (next_call g c news) refl (eqb c cpu) refl
+    (λ later on few. turns_made g cpu s later end all on few)
+  where
+    by_next : (o : Option Event) → next_call g c news ≡ o → (own : Bool) → eqb c cpu ≡ own
+        → ((later : List Record) → from_news g later s ≡ Some end
+        → made cpu later ≤ script_length g.scripts cpu
+        → (made cpu end ≡ made cpu later + turns_of cpu s) × (made cpu end ≤ script_length g.scripts cpu))
+        → (made cpu end ≡ made cpu news + turns_of cpu (c ∷ s)) × (made cpu end ≤ script_length g.scripts cpu)
+    by_next None next own which rest =
+        absurd (none-some end
+        (sym (ap (λ (x : Option (List Record)). fold (play_one g) x s) (plays_one g news c None next)
+        ∙ stays_none g s) ∙ is))
+    by_next (Some e) next own which rest =
+        let more = made_more g cpu c news e own which in
+        let on : from_news g (news ++ record_of_call g news c e ∷ []) s ≡ Some end =
+        sym (ap (λ (x : Option (List Record)). fold (play_one g) x s) (plays_one g news c (Some e) next))
+        ∙ is in
+        let later = rest (news ++ record_of_call g news c e ∷ []) on (room own which more) in
+        (omega (arith, later.0, more, turns_cons cpu c s own which), later.1)
+      where
+        room : (own : Bool) → eqb c cpu ≡ own
+            → made cpu (news ++ record_of_call g news c e ∷ []) ≡ made cpu news + cond own 1 0
+            → made cpu (news ++ record_of_call g news c e ∷ []) ≤ script_length g.scripts cpu
+        room false which more = omega (arith, more, le)
+        room true which more =
+            let same : c ≡ cpu = eqb-true c cpu which in
+            elim (cases_lt (made cpu news) (script_length g.scripts cpu)) [
+              | inl less ↦ omega (arith, more, less)
+              | inr past ↦
+                  absurd (none-some e (sym
+                  (subst (λ (d : ℕ). next_call g d news ≡ None) (sym same) (call_none g cpu news all past))
+                  ∙ next))
+            ]
+
+-- a schedule in which each processor stands as often as its script has lines can be played
+turns_play : (g : Setting) (s : List ℕ) (news : List Record) → AreOneCalls g.scripts
+    → ((cpu : ℕ) → made cpu news + turns_of cpu s ≡ script_length g.scripts cpu)
+    → (end : List Record) × (from_news g news s ≡ Some end)
+turns_play g [] news all counts = (news, refl)
+turns_play g (c ∷ s) news all counts =
+    let asked = call_asks g c news all (omega (arith, counts c, turns_cons c c s true (eq-eqb c c refl))) in
+    let later =
+    turns_play g s (news ++ record_of_call g news c asked.0 ∷ []) all
+    (λ cpu. by_owner cpu (eqb c cpu) refl asked.0) in (
+      later.0,
+      ap (λ (x : Option (List Record)). fold (play_one g) x s)
+          (plays_one g news c (Some asked.0) asked.1) ∙ later.1,
+    )
+  where
+    by_owner : (cpu : ℕ) (own : Bool) → eqb c cpu ≡ own → (e : Event)
+        → made cpu (news ++ record_of_call g news c e ∷ []) + turns_of cpu s ≡ script_length g.scripts cpu
+    by_owner cpu own which e =
+        omega (arith, counts cpu, turns_cons cpu c s own which, made_more g cpu c news e own which)
+
+-- the complete schedules of such scripts are those in which each processor stands as often as its
+-- script has lines
+pub complete_schedules : (g : Setting) (s : List ℕ) → AreOneCalls g.scripts
+    → IsComplete g s ↔ IsInterleaving g.scripts s
+unfolding plays
+complete_schedules g s all = (to, from)
+  where
+    to : IsComplete g s → (cpu : ℕ) → turns_of cpu s ≡ script_length g.scripts cpu
+    to h cpu =
+        let made_all = turns_made g cpu s [] h.1.news all h.1.played (omega arith) in
+        elim (cases_lt (made cpu h.1.news) (script_length g.scripts cpu)) [
+          | inl less ↦
+              absurd (let e = call_asks g cpu h.1.news all less in none-some e.0 (sym (h.1.over cpu) ∙ e.1))
+          | inr past ↦ omega (arith, made_all.0, made_all.1, past)
+        ]
+
+    from : ((cpu : ℕ) → turns_of cpu s ≡ script_length g.scripts cpu) → IsComplete g s
+    from counts =
+        let end = turns_play g s [] all (λ cpu. omega (arith, counts cpu)) in (
+          outcome_after g end.0,
+          record {
+            news = end.0;
+            played = end.1;
+            over =
+                λ cpu.
+                call_none g cpu end.0 all (let m = turns_made g cpu s [] end.0 all end.1 (omega arith) in
+                omega (arith, m.0, counts cpu));
+            ends = refl;
+          },
+        )
+
+-- ---- how many there are
+
+-- the length of a processor's script
+length_at : (scripts : List (List Line)) (cpu : ℕ)
+    → get_or (script_lengths scripts) cpu 0 ≡ script_length scripts cpu
+length_at [] cpu = refl
+length_at (lines ∷ scripts) zero = refl
+length_at (lines ∷ scripts) (suc cpu) = length_at scripts cpu
+
+-- as many as the multinomial coefficient of the scripts' lengths
+complete_counted : (g : Setting) → AreOneCalls g.scripts
+    → (m : ℕ) × HasCount (IsComplete g) m × IsMultinomial (script_lengths g.scripts) m
+complete_counted g all =
+    let counted = interleaved (sum (script_lengths g.scripts)) (script_lengths g.scripts) refl in (
+      counted.0,
+      same_count (HasTurns (script_lengths g.scripts)) (IsComplete g) counted.0 to from counted.1,
+      counted.2,
+    )
+  where
+    to : (s : List ℕ) → HasTurns (script_lengths g.scripts) s → IsComplete g s
+    to s h = (complete_schedules g s all).1 (λ cpu. h cpu ∙ length_at g.scripts cpu)
+
+    from : (s : List ℕ) → IsComplete g s → HasTurns (script_lengths g.scripts) s
+    from s h cpu = (complete_schedules g s all).0 h cpu ∙ sym (length_at g.scripts cpu)
+
+pub counted_by_lengths : (g : Setting) (m : ℕ) → AreOneCalls g.scripts → HasCount (IsComplete g) m
+    → IsMultinomial (script_lengths g.scripts) m
+counted_by_lengths g m all counted =
+    let one = complete_counted g all in
+    subst (IsMultinomial (script_lengths g.scripts)) (only_count (IsComplete g) one.0 m one.1 counted) one.2
+
+pub lengths_count : (g : Setting) (m : ℕ) → AreOneCalls g.scripts
+    → IsMultinomial (script_lengths g.scripts) m → HasCount (IsComplete g) m
+lengths_count g m all is =
+    let one = complete_counted g all in
+    subst (HasCount (IsComplete g)) (only_one (script_lengths g.scripts) one.0 m one.2 is) one.1
+
+-- ---- how many calls there are, and the room that they need
+
+pub calls_told : (scripts : List (List Line)) (lengths : List ℕ) (calls : Option ℕ) → AreOneCalls scripts
+    → lengths ≡ script_lengths scripts
+    → IfSome calls (λ n. (n ≡ sum lengths) × (sum lengths < 18446744073709551616))
+    → IfNone calls (18446744073709551616 ≤ sum lengths) → IsCallCount scripts calls
+calls_told scripts lengths None one are some none =
+    λ _. subst (λ (ns : List ℕ). 18446744073709551616 ≤ sum ns) are none
+calls_told scripts lengths (Some n) one are some none = (one, some.0 ∙ ap sum are)
+
+pub room_told : (g : Setting) (lines records : ℕ) (needed : Option ℕ) → AreOneCalls g.scripts
+    → lines ≡ sum (script_lengths g.scripts) → records ≡ length g.start
+    → SomeIff needed (lines + records < 18446744073709551616) (lines + records) → IsRoomNeeded g needed
+room_told g lines records None one all are over =
+    elim (cases_lt (lines + records) 18446744073709551616) [
+      | inl fits ↦ absurd (over fits)
+      | inr past ↦ λ _. omega (arith, past, all, are)
+    ]
+room_told g lines records (Some needed) one all are is = (one, omega (arith, is.1, all, are))
+
+-- a script that holds a plan
+pub with_plan : (scripts : List (List Line)) (none : Bool) → none ≡ list_all holds_no_plan scripts
+    → none ≡ false → AreOneCalls scripts → ⊥
+with_plan scripts none is unset one = let both : true ≡ false = sym one ∙ (sym is ∙ unset) in cc

@@ -1,0 +1,318 @@
+-- What one record more makes of the operations that Cancels can take back whole.
+use Rattle.std.proofs.Common.{◌≡◌, ℕ, suc, ◌<◌, Bool, true, false, cond, eqb, List, [], ◌∷◌, ◌++◌, length, map, take, Option, Some, None, refl, ap, sym, subst, ◌∙◌, arith}
+use Rattle.std.specs.Prelude.{◌&&◌, option_map}
+use Rattle.std.proofs.lemmas.Bool.{eq-eqb, eqb-true}
+use Rattle.std.proofs.lemmas.List.{length-map, map-append, take-append-le, take_all}
+use Rattle.std.proofs.lemmas.Option.{slice_get_within}
+use Rattle.hp_units.specs.History.{Effect, Looks, Undoes, Cancels, Acts, cancel_reply, cut_or_add, effect_of, is_refused, net_with, net_with_effect, run}
+use Rattle.hp_units.specs.LayoutParts.{LayoutParts}
+use Rattle.hp_units.specs.Marks.{begins, holds_only_own_work, is_opening, is_work_of, mark_of, sole_at, tag_of}
+use Rattle.hp_units.specs.Memory.{Memory}
+use Rattle.hp_units.specs.Step.{step}
+use Rattle.hp_units.specs.declared.events.Event.{Event}
+use Rattle.hp_units.specs.declared.events.Event.TheVariants.{Read, Begin, DrainFor, Migrate, Cancel, UndoAfter}
+use Rattle.hp_units.specs.declared.marks.Mark.{Mark}
+use Rattle.hp_units.specs.declared.marks.Mark.TheVariants.{Opens, Works, Other}
+use Rattle.hp_units.specs.declared.marks.Tag.{Tag}
+use Rattle.hp_units.specs.declared.replies.Record.{Record}
+use Rattle.hp_units.specs.declared.replies.Reply.{Reply}
+use Rattle.hp_laws.proofs.Net.{run-push}
+use Rattle.hp_laws.proofs.Records.{with_good}
+use Rattle.hp_laws.proofs.Replays.{net_bad}
+use Rattle.hp_laws.proofs.Undo.{sole_sound}
+use Rattle.hp_schedules.specs.Alike.{AreJoined, leaves_steps}
+use Rattle.hp_schedules.specs.Openings.{AreOpen, Opening, after_cancel, after_work, change_by, change_of, changed, openings_after}
+use Rattle.hp_schedules.specs.declared.changes.Change.TheVariants.{Stays, Ends}
+
+-- ---- where an operation is sole
+
+and_true : (b : Bool) → (b && true) ≡ b
+and_true true = refl
+and_true false = refl
+
+only_push : (op : ℕ) (ts : List Tag) (t : Tag)
+    → holds_only_own_work op (ts ++ t ∷ []) ≡ (holds_only_own_work op ts && is_work_of op t.mark)
+only_push op [] t = and_true (is_work_of op t.mark)
+only_push op (u ∷ ts) t =
+    ap (λ (b : Bool). is_work_of op u.mark && b) (only_push op ts t)
+    ∙ grouped (is_work_of op u.mark) (holds_only_own_work op ts) (is_work_of op t.mark)
+  where
+    grouped : (a b c : Bool) → (a && (b && c)) ≡ ((a && b) && c)
+    grouped true b c = refl
+    grouped false b c = refl
+
+-- no Begin is an operation's own work
+begins_no_work : (op : ℕ) (m : Mark) (b : Bool) → (is_opening m && b) ≡ true → is_work_of op m ≡ false
+begins_no_work op Opens b h = refl
+begins_no_work op (Works other) b h = absurd cc
+begins_no_work op Other b h = absurd cc
+
+-- one step more: it begins the operation, or it is its own work and the operation was sole
+pub sole_push : (op : ℕ) (ts : List Tag) (t : Tag)
+    → sole_at op (ts ++ t ∷ [])
+    ≡ cond (begins op t) (Some (length ts)) (cond (is_work_of op t.mark) (sole_at op ts) None)
+unfolding sole_at
+sole_push op [] t = by_tests (begins op t) (is_work_of op t.mark)
+  where
+    by_tests : (b w : Bool)
+        → cond (b && true) (Some 0) (option_map suc None) ≡ cond b (Some 0) (cond w None None)
+    by_tests true w = refl
+    by_tests false true = refl
+    by_tests false false = refl
+sole_push op (u ∷ ts) t =
+    ap (λ (o : Option ℕ).
+    cond (begins op u && holds_only_own_work op (ts ++ t ∷ [])) (Some 0) (option_map suc o))
+    (sole_push op ts t)
+    ∙ (ap (λ (b : Bool). cond (begins op u && b) (Some 0) (option_map suc
+    (cond (begins op t) (Some (length ts)) (cond (is_work_of op t.mark) (sole_at op ts) None))))
+    (only_push op ts t)
+    ∙ by_tests (begins op t) (is_work_of op t.mark) (begins op u) (holds_only_own_work op ts) (length ts)
+    (sole_at op ts) (begins_no_work op t.mark (eqb t.serial op)))
+  where
+    by_tests : (b w u o : Bool) (n : ℕ) (s : Option ℕ) → (b ≡ true → w ≡ false)
+        → cond (u && (o && w)) (Some 0) (option_map suc (cond b (Some n) (cond w s None)))
+        ≡ cond b (Some (suc n)) (cond w (cond (u && o) (Some 0) (option_map suc s)) None)
+    by_tests true true u o n s apart = absurd (let h : true ≡ false = apart refl in cc)
+    by_tests true false true true n s apart = refl
+    by_tests true false true false n s apart = refl
+    by_tests true false false o n s apart = refl
+    by_tests false true true true n s apart = refl
+    by_tests false true true false n s apart = refl
+    by_tests false true false o n s apart = refl
+    by_tests false false true true n s apart = refl
+    by_tests false false true false n s apart = refl
+    by_tests false false false o n s apart = refl
+
+-- the same of records
+sole_more : (op : ℕ) (net : List Record) (r : Record) (m : Mark) → mark_of r.event ≡ m
+    → sole_at op (map tag_of (net ++ r ∷ []))
+    ≡ cond (is_opening m && eqb r.serial op) (Some (length net))
+    (cond (is_work_of op m) (sole_at op (map tag_of net)) None)
+sole_more op net r m is =
+    ap (sole_at op) (map-append tag_of net (r ∷ []))
+    ∙ (sole_push op (map tag_of net) (tag_of r)
+    ∙ (ap (λ (n : Mark). cond (is_opening n && eqb r.serial op) (Some (length (map tag_of net)))
+    (cond (is_work_of op n) (sole_at op (map tag_of net)) None)) is
+    ∙ ap (λ (k : ℕ). cond (is_opening m && eqb r.serial op) (Some k)
+    (cond (is_work_of op m) (sole_at op (map tag_of net)) None)) (length-map net tag_of)))
+
+-- the steps before a sole operation's Begin are the same with one step more
+before_place : (op : ℕ) (net : List Record) (r : Record) (place : ℕ)
+    → sole_at op (map tag_of net) ≡ Some place → take place (net ++ r ∷ []) ≡ take place net
+before_place op net r place sole =
+    let found = sole_sound op (map tag_of net) place sole in
+    let within : place < length (map tag_of net) =
+    slice_get_within (map tag_of net) place found.tag found.here in
+    take-append-le place net (r ∷ []) (omega (arith, within, length-map net tag_of))
+
+-- ---- what is open
+
+-- a Begin
+begun : (l : LayoutParts) (base : Memory) (net : List Record) (was : List Opening) (r : Record)
+    → mark_of r.event ≡ Opens → AreOpen l base net was
+    → AreOpen l base (net ++ r ∷ []) (record { op = r.serial; memory = run l base net } ∷ was)
+begun l base net was r is open_before = (
+  length net,
+  λ op. sole_more op net r Opens is,
+  ap (run l base) (sym front),
+  subst (λ (steps : List Record). AreOpen l base steps was) (sym front) open_before,
+)
+  where
+    front : take (length net) (net ++ r ∷ []) ≡ net
+    front =
+        take-append-le (length net) net (r ∷ []) (omega arith) ∙ take_all (length net) net (omega arith)
+
+-- a step of no operation
+none_open : (l : LayoutParts) (base : Memory) (net : List Record) (r : Record) → mark_of r.event ≡ Other
+    → AreOpen l base (net ++ r ∷ []) []
+none_open l base net r is = λ op. sole_more op net r Other is
+
+-- an operation's own work
+worked : (l : LayoutParts) (base : Memory) (net : List Record) (was : List Opening) (r : Record) (op : ℕ)
+    → mark_of r.event ≡ Works op → AreOpen l base net was → AreOpen l base (net ++ r ∷ []) (after_work op was)
+worked l base net [] r op is nothing =
+    λ other. sole_more other net r (Works op) is
+    ∙ by_test (eqb op other) (sole_at other (map tag_of net)) (nothing other)
+  where
+    by_test : (b : Bool) (o : Option ℕ) → o ≡ None → cond b o None ≡ None
+    by_test true o none = none
+    by_test false o none = refl
+worked l base net (o ∷ os) r op is some = by_first (eqb o.op op) refl
+  where
+    sole : (other : ℕ) → sole_at other (map tag_of (net ++ r ∷ []))
+        ≡ cond (eqb op other) (cond (eqb o.op other) (Some some.0) None) None
+    sole other =
+        sole_more other net r (Works op) is
+        ∙ ap (λ (found : Option ℕ). cond (eqb op other) found None) (some.1 other)
+
+    front : take some.0 (net ++ r ∷ []) ≡ take some.0 net
+    front =
+        before_place o.op net r some.0
+        (some.1 o.op ∙ ap (λ (b : Bool). cond b (Some some.0) None) (eq-eqb o.op o.op refl))
+
+    twice : (b : Bool) → cond b (cond b (Some some.0) None) None ≡ cond b (Some some.0) None
+    twice true = refl
+    twice false = refl
+
+    kept : o.op ≡ op → AreOpen l base (net ++ r ∷ []) (o ∷ os)
+    kept same = (
+      some.0,
+      λ other. sole other
+          ∙ (ap (λ (n : ℕ). cond (eqb n other) (cond (eqb o.op other) (Some some.0) None) None) (sym same)
+          ∙ twice (eqb o.op other)),
+      some.2 ∙ ap (run l base) (sym front),
+      subst (λ (steps : List Record). AreOpen l base steps os) (sym front) some.3,
+    )
+
+    apart : eqb o.op op ≡ false → (other : ℕ) → (b : Bool) → eqb op other ≡ b
+        → cond b (cond (eqb o.op other) (Some some.0) None) None ≡ None
+    apart differ other true same =
+        ap (λ (n : ℕ). cond (eqb o.op n) (Some some.0) None) (sym (eqb-true op other same))
+        ∙ ap (λ (b : Bool). cond b (Some some.0) None) differ
+    apart differ other false same = refl
+
+    by_first : (b : Bool) → eqb o.op op ≡ b → AreOpen l base (net ++ r ∷ []) (cond b (o ∷ os) [])
+    by_first true same = kept (eqb-true o.op op same)
+    by_first false differ = λ other. sole other ∙ apart differ other (eqb op other) refl
+
+-- a Cancel
+cancelled : (l : LayoutParts) (base : Memory) (net : List Record) (was : List Opening) (r : Record) (op : ℕ)
+    → mark_of r.event ≡ Other → AreOpen l base net was
+    → AreOpen l base (cut_or_add net r (sole_at op (map tag_of net))) (after_cancel op was)
+cancelled l base net [] r op is nothing =
+    subst (λ (found : Option ℕ). AreOpen l base (cut_or_add net r found) []) (sym (nothing op))
+    (none_open l base net r is)
+cancelled l base net (o ∷ os) r op is some =
+    subst (λ (found : Option ℕ). AreOpen l base (cut_or_add net r found) (after_cancel op (o ∷ os)))
+    (sym (some.1 op)) (by_first (eqb o.op op))
+  where
+    by_first : (b : Bool)
+        → AreOpen l base (cut_or_add net r (cond b (Some some.0) None)) (cond b os [])
+    by_first true = some.3
+    by_first false = none_open l base net r is
+
+-- one record more
+pub open_more : (l : LayoutParts) (base : Memory) (net : List Record) (was : List Opening) (r : Record)
+    → leaves_steps (effect_of r.event) ≡ true → AreOpen l base net was
+    → AreOpen l base (net_with net r) (openings_after (run l base net) was r)
+open_more l base net was r leaves h = by_reply (is_refused r.reply) refl
+  where
+    by_event : (e : Event) → r.event ≡ e → leaves_steps (effect_of e) ≡ true
+        → AreOpen l base (net_with_effect net r (effect_of e))
+        (changed (run l base net) r.serial was (change_by e))
+    by_event (Read owner page index) same left = h
+    by_event (Begin plan) same left = begun l base net was r (ap mark_of same) h
+    by_event (DrainFor op cpu) same left = worked l base net was r op (ap mark_of same) h
+    by_event (Migrate op) same left = worked l base net was r op (ap mark_of same) h
+    by_event (Cancel op) same left = cancelled l base net was r op (ap mark_of same) h
+    by_event (UndoAfter serial) same left = absurd cc
+    by_event e same left = none_open l base net r (ap mark_of same)
+
+    by_reply : (refused : Bool) → is_refused r.reply ≡ refused
+        → AreOpen l base (net_with net r)
+        (changed (run l base net) r.serial was (cond refused Stays (change_by r.event)))
+    by_reply true is = subst (λ (steps : List Record). AreOpen l base steps was) (net_bad net r is) h
+    by_reply false is =
+        subst (λ (steps : List Record).
+        AreOpen l base steps (changed (run l base net) r.serial was (change_by r.event)))
+        (sym (with_good net r is)) (by_event r.event refl leaves)
+
+-- after a step of no operation nothing is open, whatever was
+pub none_after : (l : LayoutParts) (base : Memory) (net : List Record) (r : Record)
+    → leaves_steps (effect_of r.event) ≡ true → change_of r ≡ Ends → AreOpen l base (net_with net r) []
+none_after l base net r leaves ends = by_reply (is_refused r.reply) refl ends
+  where
+    by_event : (e : Event) → r.event ≡ e → leaves_steps (effect_of e) ≡ true → change_by e ≡ Ends
+        → AreOpen l base (net_with_effect net r (effect_of e)) []
+    by_event (Read owner page index) same left is = absurd cc
+    by_event (Begin plan) same left is = absurd cc
+    by_event (DrainFor op cpu) same left is = absurd cc
+    by_event (Migrate op) same left is = absurd cc
+    by_event (Cancel op) same left is = absurd cc
+    by_event (UndoAfter serial) same left is = absurd cc
+    by_event e same left is = none_open l base net r (ap mark_of same)
+
+    by_reply : (refused : Bool) → is_refused r.reply ≡ refused
+        → cond refused Stays (change_by r.event) ≡ Ends → AreOpen l base (net_with net r) []
+    by_reply true is told = absurd cc
+    by_reply false is told =
+        subst (λ (steps : List Record). AreOpen l base steps []) (sym (with_good net r is))
+        (by_event r.event refl leaves told)
+
+-- ---- nets that lead to the same states
+
+-- a Cancel has the same reply
+pub cancelled_same : (l : LayoutParts) (base : Memory) (a b : List Record) (op : ℕ) (reply : Reply)
+    → AreJoined l base a b
+    → cancel_reply reply (sole_at op (map tag_of a)) ≡ cancel_reply reply (sole_at op (map tag_of b))
+cancelled_same l base a b op reply j = by_openings j.openings j.first_open j.second_open
+  where
+    by_openings : (os : List Opening) → AreOpen l base a os → AreOpen l base b os
+        → cancel_reply reply (sole_at op (map tag_of a)) ≡ cancel_reply reply (sole_at op (map tag_of b))
+    by_openings [] first second = ap (cancel_reply reply) (first op ∙ sym (second op))
+    by_openings (o ∷ os) first second =
+        ap (cancel_reply reply) (first.1 op)
+        ∙ (by_first (eqb o.op op) ∙ sym (ap (cancel_reply reply) (second.1 op)))
+      where
+        by_first : (b : Bool) → cancel_reply reply (cond b (Some first.0) None)
+            ≡ cancel_reply reply (cond b (Some second.0) None)
+        by_first true = refl
+        by_first false = refl
+
+pushed_same : (l : LayoutParts) (base : Memory) (a b : List Record) (r : Record)
+    → run l base a ≡ run l base b → run l base (a ++ r ∷ []) ≡ run l base (b ++ r ∷ [])
+pushed_same l base a b r same =
+    run-push l base a r
+    ∙ (ap (λ (s : Memory). (step l s r.serial r.cpu r.event).memory) same ∙ sym (run-push l base b r))
+
+-- a Cancel leads to the same state
+cut_same : (l : LayoutParts) (base : Memory) (a b : List Record) (r : Record) (op : ℕ) → AreJoined l base a b
+    → run l base (cut_or_add a r (sole_at op (map tag_of a)))
+    ≡ run l base (cut_or_add b r (sole_at op (map tag_of b)))
+cut_same l base a b r op j = by_openings j.openings j.first_open j.second_open
+  where
+    added : run l base (a ++ r ∷ []) ≡ run l base (b ++ r ∷ [])
+    added = pushed_same l base a b r j.state
+
+    by_openings : (os : List Opening) → AreOpen l base a os → AreOpen l base b os
+        → run l base (cut_or_add a r (sole_at op (map tag_of a)))
+        ≡ run l base (cut_or_add b r (sole_at op (map tag_of b)))
+    by_openings [] first second =
+        ap (λ (found : Option ℕ). run l base (cut_or_add a r found)) (first op)
+        ∙ (added ∙ sym (ap (λ (found : Option ℕ). run l base (cut_or_add b r found)) (second op)))
+    by_openings (o ∷ os) first second =
+        ap (λ (found : Option ℕ). run l base (cut_or_add a r found)) (first.1 op)
+        ∙ (by_first (eqb o.op op)
+        ∙ sym (ap (λ (found : Option ℕ). run l base (cut_or_add b r found)) (second.1 op)))
+      where
+        by_first : (c : Bool) → run l base (cut_or_add a r (cond c (Some first.0) None))
+            ≡ run l base (cut_or_add b r (cond c (Some second.0) None))
+        by_first true = sym first.2 ∙ second.2
+        by_first false = added
+
+-- and so does one record more
+pub joined_more : (l : LayoutParts) (base : Memory) (a b : List Record) (r : Record)
+    → leaves_steps (effect_of r.event) ≡ true → AreJoined l base a b
+    → AreJoined l base (net_with a r) (net_with b r)
+joined_more l base a b r leaves j = record {
+  openings = openings_after (run l base a) j.openings r;
+  first_open = open_more l base a j.openings r leaves j.first_open;
+  second_open =
+      subst (λ (s : Memory). AreOpen l base (net_with b r) (openings_after s j.openings r)) (sym j.state)
+      (open_more l base b j.openings r leaves j.second_open);
+  state = by_reply (is_refused r.reply) refl;
+}
+  where
+    by_effect : (effect : Effect) → leaves_steps effect ≡ true
+        → run l base (net_with_effect a r effect) ≡ run l base (net_with_effect b r effect)
+    by_effect Looks is = j.state
+    by_effect (Undoes serial) is = absurd cc
+    by_effect (Cancels op) is = cut_same l base a b r op j
+    by_effect Acts is = pushed_same l base a b r j.state
+
+    by_reply : (refused : Bool) → is_refused r.reply ≡ refused
+        → run l base (net_with a r) ≡ run l base (net_with b r)
+    by_reply true is = sym (ap (run l base) (net_bad a r is)) ∙ (j.state ∙ ap (run l base) (net_bad b r is))
+    by_reply false is =
+        ap (run l base) (with_good a r is)
+        ∙ (by_effect (effect_of r.event) leaves ∙ sym (ap (run l base) (with_good b r is)))

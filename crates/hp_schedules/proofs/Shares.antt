@@ -1,0 +1,360 @@
+-- Shares of ends, and what they add up to.
+use Rattle.std.proofs.Common.{◌≡◌, ℕ, zero, suc, ◌+◌, ◌-◌, ◌<◌, ◌≤◌, Bool, List, [], ◌∷◌, ◌++◌, length, take, get_or, set, cond, Some, slice_get, refl, ap, sym, subst, ◌∙◌, arith, inl, inr}
+use Rattle.std.specs.Prelude.{sum_by}
+use Rattle.std.proofs.lemmas.Bool.{cases_lt, eq-eqb, ne_eqb}
+use Rattle.std.proofs.lemmas.List.{get_or_append_left, get_or_past, get_or_push, length_push, take_all, length-set}
+use Rattle.std.proofs.lemmas.List.Sums.{sum_by-cons, sum_by_more, sum_by_more_le, sum_by_push, sum_by-set}
+use Rattle.std.proofs.lemmas.Option.{get_or_from_slice_get, same_Some, slice_get_read, slice_get_within}
+use Rattle.hp_laws.proofs.Lists.{get_push_cases}
+use Rattle.hp_schedules.specs.Notes.{TallyValue}
+use Rattle.hp_schedules.specs.Shares.{AddsAt, AddsCounts, AddsShares, AreAtEnds, AreNoMore, AreSince, HasRoomFor, HasRoomForShares, amount_of, count_for}
+use Rattle.hp_schedules.specs.declared.rows.Share.{Share}
+use Rattle.hp_schedules.specs.declared.tally.Ending.{Ending}
+use Rattle.hp_schedules.proofs.Counts.{get_set_cases}
+
+abbrev pub counted : List Ending → ℕ
+counted ends = sum_by (λ (e : Ending). e.count) ends
+
+abbrev pub shared : List Share → ℕ
+shared shares = sum_by (λ (s : Share). s.count) shares
+
+-- ---- one share
+
+-- one of nothing, for where a list has none
+abbrev pub nothing : Share
+nothing = record { end = 0; count = 0 }
+
+other_share : (s : Share) (k : ℕ) → (s.end ≡ k → ⊥) → count_for k s ≡ 0
+other_share s k other = ap (λ (b : Bool). cond b s.count 0) (ne_eqb s.end k other)
+
+own_share : (s : Share) (k : ℕ) → s.end ≡ k → count_for k s ≡ s.count
+own_share s k same = ap (λ (b : Bool). cond b s.count 0) (eq-eqb s.end k same)
+
+-- ---- what they add up to
+
+-- those of the ends below one have nothing for it
+pub amount_past : (shares : List Share) (many k : ℕ) → AreAtEnds many shares → many ≤ k
+    → amount_of shares k ≡ 0
+amount_past [] many k at past = refl
+amount_past (s ∷ shares) many k at past =
+    let less = at 0 s refl in
+    omega (
+      arith,
+      sum_by-cons (count_for k) s shares,
+      other_share s k (λ same. omega (arith, same, less, past)),
+      amount_past shares many k (λ i t h. at (suc i) t h) past,
+    )
+
+pub amount_push : (shares : List Share) (s : Share) (k : ℕ)
+    → amount_of (shares ++ s ∷ []) k ≡ amount_of shares k + count_for k s
+amount_push shares s k = sum_by_push (count_for k) shares s
+
+pub at_ends_more : (shares : List Share) (many more : ℕ) → many ≤ more → AreAtEnds many shares
+    → AreAtEnds more shares
+at_ends_more shares many more le at i s h = let less = at i s h in omega (arith, less, le)
+
+pub at_ends_push : (shares : List Share) (s : Share) (many : ℕ) → s.end < many → AreAtEnds many shares
+    → AreAtEnds many (shares ++ s ∷ [])
+at_ends_push shares s many within at i t h =
+    elim (get_push_cases shares s t i h) [
+      | inl there ↦ at i t there
+      | inr here ↦ subst (λ (u : Share). u.end < many) here.1 within
+    ]
+
+-- ---- as counts by the places of ends
+
+-- so many counts, those of the first ends
+abbrev pub counts_in : List Share → (many : ℕ) → List ℕ
+counts_in shares zero = []
+counts_in shares (suc n) = counts_in shares n ++ amount_of shares n ∷ []
+
+pub counts_long : (shares : List Share) (many : ℕ) → length (counts_in shares many) ≡ many
+counts_long shares zero = refl
+counts_long shares (suc n) =
+    let longer = length_push (counts_in shares n) (amount_of shares n) in
+    omega (arith, longer, counts_long shares n)
+
+counts_below : (shares : List Share) (many k : ℕ) → k < many
+    → get_or (counts_in shares many) k 0 ≡ amount_of shares k
+counts_below shares zero k less = absurd (omega arith)
+counts_below shares (suc n) k less =
+    elim (cases_lt k n) [
+      | inl below ↦
+          get_or_append_left (counts_in shares n) (amount_of shares n ∷ []) 0 k
+          (omega (arith, below, counts_long shares n))
+          ∙ counts_below shares n k below
+      | inr past ↦ (let same : k ≡ n = omega (arith, less, past) in
+          ap (λ (i : ℕ). get_or (counts_in shares n ++ amount_of shares n ∷ []) i 0) same
+          ∙ (get_or_push (counts_in shares n) (amount_of shares n) 0 n (counts_long shares n)
+          ∙ ap (amount_of shares) (sym same)))
+    ]
+
+pub counts_tell : (shares : List Share) (many : ℕ) → AreAtEnds many shares → (k : ℕ)
+    → amount_of shares k ≡ get_or (counts_in shares many) k 0
+counts_tell shares many at k =
+    elim (cases_lt k many) [
+      | inl below ↦ sym (counts_below shares many k below)
+      | inr past ↦
+          amount_past shares many k at past
+          ∙ sym (get_or_past (counts_in shares many) k 0 (omega (arith, past, counts_long shares many)))
+    ]
+
+-- ---- what each end counts more than it did
+
+-- as far as a place
+pub record AreSinceBelow (earlier : List ℕ) (ends : List Ending) (below : ℕ)
+    (shares : List Share) : Type 0 where
+  pub at_ends : AreAtEnds below shares
+  pub each : (k : ℕ) (e : Ending) → k < below → slice_get ends k ≡ Some e
+      → get_or earlier k 0 + amount_of shares k ≡ e.count
+
+-- the next end counts no more
+pub since_same : (earlier : List ℕ) (ends : List Ending) (at was : ℕ) (e : Ending) (shares : List Share)
+    → slice_get ends at ≡ Some e → AreNoMore earlier ends → was ≡ get_or earlier at 0 → e.count ≤ was
+    → AreSinceBelow earlier ends at shares → AreSinceBelow earlier ends (at + 1) shares
+since_same earlier ends at was e shares here no_more was_is same so_far = record {
+  at_ends = at_ends_more shares at (at + 1) (omega arith) so_far.at_ends;
+  each = each;
+}
+  where
+    each : (k : ℕ) (f : Ending) → k < at + 1 → slice_get ends k ≡ Some f
+        → get_or earlier k 0 + amount_of shares k ≡ f.count
+    each k f less h =
+        elim (cases_lt k at) [
+          | inl below ↦ so_far.each k f below h
+          | inr past ↦ (let is : k ≡ at = omega (arith, less, past) in
+              let end : e ≡ f = same_Some e f (sym here ∙ (ap (slice_get ends) (sym is) ∙ h)) in
+              omega (
+                arith,
+                same,
+                was_is,
+                no_more at e here,
+                amount_past shares at k so_far.at_ends past,
+                ap (λ (y : Ending). y.count) end,
+                ap (λ (n : ℕ). get_or earlier n 0) is,
+              ))
+        ]
+
+-- or it counts more, and has a share
+pub since_more : (earlier : List ℕ) (ends : List Ending) (at was : ℕ) (e : Ending)
+    (shares later : List Share)
+    → slice_get ends at ≡ Some e → was ≡ get_or earlier at 0 → was < e.count
+    → later ≡ shares ++ record { end = at; count = e.count - was } ∷ []
+    → AreSinceBelow earlier ends at shares → AreSinceBelow earlier ends (at + 1) later
+since_more earlier ends at was e shares later here was_is more later_is so_far =
+    subst (AreSinceBelow earlier ends (at + 1)) (sym later_is) (record {
+      at_ends =
+          at_ends_push shares one (at + 1) (omega arith)
+          (at_ends_more shares at (at + 1) (omega arith) so_far.at_ends);
+      each = each;
+    })
+  where
+    one : Share
+    one = record { end = at; count = e.count - was }
+
+    each : (k : ℕ) (f : Ending) → k < at + 1 → slice_get ends k ≡ Some f
+        → get_or earlier k 0 + amount_of (shares ++ one ∷ []) k ≡ f.count
+    each k f less h =
+        elim (cases_lt k at) [
+          | inl below ↦
+              omega (
+                arith,
+                so_far.each k f below h,
+                amount_push shares one k,
+                other_share one k (λ same. omega (arith, same, below)),
+              )
+          | inr past ↦ (let is : k ≡ at = omega (arith, less, past) in
+              let end : e ≡ f = same_Some e f (sym here ∙ (ap (slice_get ends) (sym is) ∙ h)) in
+              omega (
+                arith,
+                more,
+                was_is,
+                amount_push shares one k,
+                own_share one k (sym is),
+                amount_past shares at k so_far.at_ends past,
+                ap (λ (y : Ending). y.count) end,
+                ap (λ (n : ℕ). get_or earlier n 0) is,
+              ))
+        ]
+
+pub since_all : (earlier : List ℕ) (ends : List Ending) (at : ℕ) (shares : List Share) → at ≡ length ends
+    → AreSinceBelow earlier ends at shares → AreSince earlier ends shares
+since_all earlier ends at shares all so_far = record {
+  at_ends = at_ends_more shares at (length ends) (omega (arith, all)) so_far.at_ends;
+  each =
+      λ k e h. so_far.each k e (let less = slice_get_within ends k e h in omega (arith, less, all)) h;
+}
+
+-- ---- what is added to an end
+
+pub put_at : (ends : List Ending) (at count : ℕ) (e : Ending) → at < length ends → e ≡ get_or ends at e
+    → AddsAt ends at count
+    (set ends at (record { outcome = e.outcome; count = e.count + count; first = e.first }))
+put_at ends at count e within read = record {
+  entry = e;
+  more = record { outcome = e.outcome; count = e.count + count; first = e.first };
+  here = slice_get_read ends (length ends) at e refl within read;
+  outcome_is = refl;
+  count_is = refl;
+  first = refl;
+  new_is = refl;
+}
+
+-- ---- shares that are added to the ends, one after another
+
+-- as far as a place, with the total
+pub record AddsBelow (old : List Ending) (shares : List Share) (below : ℕ) (new : List Ending) : Type 0 where
+  pub adds : AddsShares old (take below shares) new
+  pub total : counted new ≡ counted old + shared (take below shares)
+
+pub adds_none : (ends : List Ending) (shares : List Share) → AddsBelow ends shares 0 ends
+adds_none ends shares = record {
+  adds = record {
+    as_many = refl;
+    more =
+        λ k e f h i. let same : e ≡ f = same_Some e f (sym h ∙ i) in (
+          ap (λ (y : Ending). y.outcome) (sym same),
+          ap (λ (y : Ending). y.first.items) (sym same),
+          no_more e f same,
+        );
+  };
+  total = omega arith;
+}
+  where
+    no_more : (e f : Ending) → e ≡ f → f.count ≡ e.count + 0
+    no_more e f same = omega (arith, ap (λ (y : Ending). y.count) same)
+
+-- the end of the next share is there, and there is room for it
+pub next_end : (old new : List Ending) (shares : List Share) (at : ℕ) (s : Share)
+    → slice_get shares at ≡ Some s → AreAtEnds (length old) shares → AddsBelow old shares at new
+    → s.end < length new
+next_end old new shares at s here ends so_far =
+    let less = ends at s here in
+    omega (arith, less, so_far.adds.as_many)
+
+pub next_room : (old mid : TallyValue) (shares : List Share) (at : ℕ) (s : Share)
+    → slice_get shares at ≡ Some s → mid.limit ≡ old.limit
+    → HasRoomForShares old shares → AddsBelow old.ends shares at mid.ends → HasRoomFor mid (s.count ∷ [])
+next_room old mid shares at s here limit room so_far =
+    let within = slice_get_within shares at s here in
+    let read = get_or_from_slice_get shares at s s here in
+    omega (
+      arith,
+      room,
+      limit,
+      so_far.total,
+      sum_by_more_le (λ (t : Share). t.count) shares at s within,
+      ap (λ (t : Share). t.count) read,
+      sum_by-cons (λ (n : ℕ). n) s.count [],
+    )
+
+-- its end counts so many more
+pub adds_more : (old mid new : List Ending) (shares : List Share) (at : ℕ) (s : Share)
+    → slice_get shares at ≡ Some s → AddsBelow old shares at mid
+    → AddsAt mid s.end s.count new → AddsBelow old shares (at + 1) new
+adds_more old mid new shares at s here so_far adds =
+    subst (AddsBelow old shares (at + 1)) (sym adds.new_is) (record {
+      adds = record {
+        as_many = length-set mid s.end adds.more ∙ so_far.adds.as_many;
+        more = more;
+      };
+      total =
+          omega (
+            arith,
+            so_far.total,
+            sum_by_more (λ (t : Share). t.count) shares at s within,
+            ap (λ (t : Share). t.count) read,
+            sum_by-set (λ (y : Ending). y.count) mid s.end adds.more adds.entry
+                (slice_get_within mid s.end adds.entry adds.here),
+            ap (λ (y : Ending). y.count) entry_read,
+            adds.count_is,
+          );
+    })
+  where
+    within : at < length shares
+    within = slice_get_within shares at s here
+
+    read : get_or shares at s ≡ s
+    read = get_or_from_slice_get shares at s s here
+
+    entry_read : get_or mid s.end adds.entry ≡ adds.entry
+    entry_read = get_or_from_slice_get mid s.end adds.entry adds.entry adds.here
+
+    step : (k : ℕ) → amount_of (take (at + 1) shares) k ≡ amount_of (take at shares) k + count_for k s
+    step k = sum_by_more (count_for k) shares at s within ∙ ap (λ (t : Share). amount_of (take at shares) k
+        + count_for k t) read
+
+    more : (k : ℕ) (e f : Ending) → slice_get old k ≡ Some e → slice_get (set mid s.end adds.more) k ≡ Some f
+        → (f.outcome ≡ e.outcome) × (f.first.items ≡ e.first.items)
+        × (f.count ≡ e.count + amount_of (take (at + 1) shares) k)
+    more k e f h i =
+        elim (get_set_cases mid s.end adds.more k f i) [
+          | inl x ↦ own x.0 x.1
+          | inr x ↦ (let m = so_far.adds.more k e f h x.1 in
+              (m.0, m.1, omega (arith, m.2, step k, other_share s k (λ same. x.0 (sym same)))))
+        ]
+      where
+        own : k ≡ s.end → adds.more ≡ f
+            → (f.outcome ≡ e.outcome) × (f.first.items ≡ e.first.items)
+            × (f.count ≡ e.count + amount_of (take (at + 1) shares) k)
+        own same is =
+            let m = so_far.adds.more k e adds.entry h (ap (slice_get mid) same ∙ adds.here) in (
+              ap (λ (y : Ending). y.outcome) (sym is) ∙ (adds.outcome_is ∙ m.0),
+              ap (λ (y : Ending). y.first.items) (sym is) ∙ (adds.first ∙ m.1),
+              omega (
+                arith,
+                ap (λ (y : Ending). y.count) is,
+                adds.count_is,
+                m.2,
+                step k,
+                own_share s k (sym same),
+              ),
+            )
+
+-- they are the counts that they tell
+pub adds_told : (old new : List Ending) (shares : List Share) (counts : List ℕ)
+    → ((k : ℕ) → amount_of shares k ≡ get_or counts k 0) → AddsShares old shares new
+    → AddsCounts old counts new
+adds_told old new shares counts told adds = record {
+  as_many = adds.as_many;
+  more = λ k e f h i. let m = adds.more k e f h i in (m.0, m.1, omega (arith, m.2, told k));
+}
+
+-- ---- room for them
+
+-- the shares so far leave so much of it
+pub left_more : (shares : List Share) (room left less at : ℕ) (s : Share) → slice_get shares at ≡ Some s
+    → left + shared (take at shares) ≡ room → s.count ≤ left → less ≡ left - s.count
+    → less + shared (take (at + 1) shares) ≡ room
+left_more shares room left less at s here so_far fits is =
+    let within = slice_get_within shares at s here in
+    let read = get_or_from_slice_get shares at s s here in
+    omega (
+      arith,
+      so_far,
+      fits,
+      is,
+      sum_by_more (λ (t : Share). t.count) shares at s within,
+      ap (λ (t : Share). t.count) read,
+    )
+
+-- one that is too great is one of all
+pub none_left : (shares : List Share) (room left at : ℕ) (s : Share) → slice_get shares at ≡ Some s
+    → left + shared (take at shares) ≡ room → (s.count ≤ left → ⊥)
+    → shared shares ≤ room → ⊥
+none_left shares room left at s here so_far over fits =
+    let within = slice_get_within shares at s here in
+    let read = get_or_from_slice_get shares at s s here in
+    over (omega (
+      arith,
+      so_far,
+      fits,
+      sum_by_more_le (λ (t : Share). t.count) shares at s within,
+      ap (λ (t : Share). t.count) read,
+    ))
+
+-- and all of them leave some
+pub all_left : (shares : List Share) (room left at : ℕ) → length shares ≤ at
+    → left + shared (take at shares) ≡ room → shared shares ≤ room
+all_left shares room left at past so_far =
+    omega (arith, so_far, ap shared (take_all at shares past))

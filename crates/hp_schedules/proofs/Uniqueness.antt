@@ -1,0 +1,110 @@
+-- There is only one number of schedules of a kind.
+use Rattle.std.proofs.Common.{◌≡◌, ℕ, zero, suc, ◌<◌, ◌≤◌, List, length, Option, Some, None, slice_get, refl, ap, sym, ◌∙◌, arith, inl, inr}
+use Rattle.std.specs.Prelude.{◌⊎◌}
+use Rattle.std.proofs.lemmas.Bool.{cases_lt, cases_eq}
+use Rattle.std.proofs.lemmas.Option.{same_Some, slice_get_within}
+use Rattle.hp_laws.proofs.Lists.{get_some}
+use Rattle.hp_schedules.specs.Orders.{AreSome, HasCount, HasMoreThan, Lists}
+
+-- ---- no more places than numbers below a bound, if no two have the same number
+
+abbrev choose : {P Q : Type 0} → P ⊎ Q → ℕ → ℕ → ℕ
+choose (inl p) a b = a
+choose (inr q) a b = b
+
+places_below : (m n : ℕ) (f : ℕ → ℕ) → ((i : ℕ) → i < n → f i < m)
+    → ((i j : ℕ) → i < n → j < n → f i ≡ f j → i ≡ j) → n ≤ m
+places_below m zero f low apart = omega arith
+places_below zero (suc n) f low apart = absurd (none (low 0 (omega arith)))
+  where
+    none : f 0 < 0 → ⊥
+    none h = omega arith
+places_below (suc m) (suc n) f low apart = next (places_below m n g low_g apart_g)
+  where
+    next : n ≤ m → suc n ≤ suc m
+    next h = omega arith
+
+    g : ℕ → ℕ
+    g i = choose (cases_eq (f i) m) (f n) (f i)
+
+    last_low : (i : ℕ) → i < n → f i ≡ m → f n < m
+    last_low i less same =
+        elim (cases_eq (f n) m) [
+          | inl at ↦
+              absurd (let e : i ≡ n = apart i n (omega arith) (omega arith) (same ∙ sym at) in omega arith)
+          | inr off ↦ (let h : f n < suc m = low n (omega arith) in below (f n) m h off)
+        ]
+      where
+        below : (a b : ℕ) → a < suc b → (a ≡ b → ⊥) → a < b
+        below a b h off = elim (cases_lt a b) [ inl l ↦ l | inr le ↦ absurd (off (omega arith)) ]
+
+    low_g : (i : ℕ) → i < n → g i < m
+    low_g i less = by_case (cases_eq (f i) m)
+      where
+        below : (a b : ℕ) → a < suc b → (a ≡ b → ⊥) → a < b
+        below a b h off = elim (cases_lt a b) [ inl l ↦ l | inr le ↦ absurd (off (omega arith)) ]
+
+        by_case : (d : (f i ≡ m) ⊎ (f i ≡ m → ⊥)) → choose d (f n) (f i) < m
+        by_case (inl same) = last_low i less same
+        by_case (inr off) = below (f i) m (low i (omega arith)) off
+
+    apart_g : (i j : ℕ) → i < n → j < n → g i ≡ g j → i ≡ j
+    apart_g i j li lj = by_case (cases_eq (f i) m) (cases_eq (f j) m)
+      where
+        by_case : (d : (f i ≡ m) ⊎ (f i ≡ m → ⊥)) (e : (f j ≡ m) ⊎ (f j ≡ m → ⊥))
+            → choose d (f n) (f i) ≡ choose e (f n) (f j) → i ≡ j
+        by_case (inl a) (inl b) h = apart i j (omega arith) (omega arith) (a ∙ sym b)
+        by_case (inl a) (inr b) h =
+            absurd (let e : n ≡ j = apart n j (omega arith) (omega arith) h in omega arith)
+        by_case (inr a) (inl b) h =
+            absurd (let e : i ≡ n = apart i n (omega arith) (omega arith) h in omega arith)
+        by_case (inr a) (inr b) h = apart i j (omega arith) (omega arith) h
+
+-- ---- two lists of the same schedules
+
+-- the place in the one list of what stands at a place of the other
+abbrev place_in : (P : List ℕ → Type 0) (xs ys : List (List ℕ)) → AreSome P xs → Lists P ys
+    → (i : ℕ) (o : Option (List ℕ)) → slice_get xs i ≡ o → ℕ
+place_in P xs ys a b i None e = 0
+place_in P xs ys a b i (Some s) e = (b.every s (a.each i s e)).0
+
+place_is : (P : List ℕ → Type 0) (xs ys : List (List ℕ)) (a : AreSome P xs) (b : Lists P ys) (i : ℕ)
+    (o : Option (List ℕ)) (e : slice_get xs i ≡ o) (s : List ℕ)
+    → o ≡ Some s → slice_get ys (place_in P xs ys a b i o e) ≡ Some s
+place_is P xs ys a b i None e s is = absurd cc
+place_is P xs ys a b i (Some t) e s is = (b.every t (a.each i t e)).1 ∙ is
+
+no_longer : (P : List ℕ → Type 0) (xs ys : List (List ℕ)) → AreSome P xs → Lists P ys → length xs ≤ length ys
+no_longer P xs ys a b = places_below (length ys) (length xs) f low apart
+  where
+    f : ℕ → ℕ
+    f i = place_in P xs ys a b i (slice_get xs i) refl
+
+    there : (i : ℕ) (s : List ℕ) → slice_get xs i ≡ Some s → slice_get ys (f i) ≡ Some s
+    there i s is = place_is P xs ys a b i (slice_get xs i) refl s is
+
+    low : (i : ℕ) → i < length xs → f i < length ys
+    low i less = let s = get_some xs i less in slice_get_within ys (f i) s.0 (there i s.0 s.1)
+
+    apart : (i j : ℕ) → i < length xs → j < length xs → f i ≡ f j → i ≡ j
+    apart i j li lj same =
+        let s = get_some xs i li in
+        let t = get_some xs j lj in
+        let both : s.0 ≡ t.0 =
+        same_Some s.0 t.0 (sym (there i s.0 s.1) ∙ (ap (slice_get ys) same ∙ there j t.0 t.1)) in
+        a.once i j t.0 (s.1 ∙ ap Some both) t.1
+
+pub only_count : (P : List ℕ → Type 0) (m n : ℕ) → HasCount P m → HasCount P n → m ≡ n
+only_count P m n a b =
+    omega (
+      arith,
+      a.2,
+      b.2,
+      no_longer P a.0 b.0 (record { each = a.1.each; once = a.1.once }) b.1,
+      no_longer P b.0 a.0 (record { each = b.1.each; once = b.1.once }) a.1,
+    )
+
+-- where there are no more than a limit, there are not more
+pub no_more : (P : List ℕ → Type 0) (m limit : ℕ) → m ≤ limit → HasCount P m → HasMoreThan P limit → ⊥
+no_more P m limit within counted more =
+    omega (arith, within, counted.2, more.2, no_longer P more.0 counted.0 more.1 counted.1)

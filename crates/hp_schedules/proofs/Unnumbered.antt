@@ -1,0 +1,204 @@
+-- What a script asks for does not depend on its receipts' numbers, but for that of its last Begin.
+use Rattle.std.proofs.Common.{◌≡◌, ℕ, ◌+◌, true, false, cond, ltb, List, [], ◌∷◌, ◌++◌, map, Option, Some, None, refl, ap, sym, subst, ◌∙◌}
+use Rattle.std.specs.Prelude.{option_map}
+use Rattle.std.specs.List.{last_or, list_all}
+use Rattle.std.specs.Option.{option_map_or}
+use Rattle.std.proofs.lemmas.Bool.{and_parts}
+use Rattle.std.proofs.lemmas.List.{map-append}
+use Rattle.std.proofs.lemmas.List.Sums.{sum_by-cons}
+use Rattle.hp_units.specs.Driver.{is_migrate, migrate_or_cancel, next_after, next_drain, next_event, tried}
+use Rattle.hp_units.specs.History.{effect_of}
+use Rattle.hp_units.specs.declared.events.Event.{Event}
+use Rattle.hp_units.specs.declared.events.Event.TheVariants.{Begin, DrainFor, Migrate, Commit, Cancel}
+use Rattle.hp_units.specs.declared.plans.Item.{Item}
+use Rattle.hp_units.specs.declared.replies.Receipt.{Receipt}
+use Rattle.hp_units.specs.declared.replies.Refusal.TheVariants.{NoFrame, NothingToMove, NotFree}
+use Rattle.hp_units.specs.declared.replies.Reply.{Reply}
+use Rattle.hp_units.specs.declared.replies.Reply.TheVariants.{Done, Moved, Opened, Refused}
+use Rattle.hp_schedules.specs.Alike.{leaves_lines, leaves_steps, unnumbered}
+use Rattle.hp_schedules.specs.Scripts.{after_line, line_next, next_in, once, work_of}
+use Rattle.hp_schedules.specs.declared.scripts.Line.{Line}
+use Rattle.hp_schedules.specs.declared.scripts.Line.TheVariants.{Ask, Own, Carry}
+use Rattle.hp_schedules.specs.declared.scripts.Work.{Work}
+use Rattle.hp_schedules.specs.declared.scripts.Work.TheVariants as work
+
+-- ---- the driver
+
+abbrev plain : List Receipt → List Receipt
+plain rs = map unnumbered rs
+
+-- as many migrations were tried
+tried_same : (rs : List Receipt) → tried (plain rs) ≡ tried rs
+tried_same [] = refl
+tried_same (r ∷ rs) =
+    sum_by-cons (λ (q : Receipt). cond (is_migrate q.event) 1 0) (unnumbered r) (plain rs)
+    ∙ (ap (λ (n : ℕ). cond (is_migrate r.event) 1 0 + n) (tried_same rs)
+    ∙ sym (sum_by-cons (λ (q : Receipt). cond (is_migrate q.event) 1 0) r rs))
+
+-- so a turn is the same
+turn_same : (turns op : ℕ) (xs ys : List Receipt) → tried xs ≡ tried ys
+    → migrate_or_cancel turns op xs ≡ migrate_or_cancel turns op ys
+turn_same turns op xs ys same = ap (λ (n : ℕ). cond (ltb n turns) (Migrate op) (Cancel op)) same
+
+drain_same : (cpus turns op cpu : ℕ) (xs ys : List Receipt) → tried xs ≡ tried ys
+    → next_drain cpus turns op cpu xs ≡ next_drain cpus turns op cpu ys
+drain_same cpus turns op cpu xs ys same =
+    ap (λ (e : Event). cond (ltb cpu cpus) (DrainFor op cpu) e) (turn_same turns op xs ys same)
+
+-- and what follows an answer
+after_same : (cpus turns : ℕ) (xs ys : List Receipt) → tried xs ≡ tried ys → (e : Event) (reply : Reply)
+    → next_after cpus turns xs e reply ≡ next_after cpus turns ys e reply
+after_same cpus turns xs ys same (Begin plan) (Opened op) = ap Some (drain_same cpus turns op 0 xs ys same)
+after_same cpus turns xs ys same (DrainFor op cpu) Done =
+    ap Some (drain_same cpus turns op (cpu + 1) xs ys same)
+after_same cpus turns xs ys same (Migrate op) (Moved from to) = ap Some (turn_same turns op xs ys same)
+after_same cpus turns xs ys same (Migrate op) (Refused NoFrame) =
+    ap Some (drain_same cpus turns op 0 xs ys same)
+after_same cpus turns xs ys same (Migrate op) (Refused NothingToMove) = refl
+after_same cpus turns xs ys same (Commit op) (Refused (NotFree frame)) =
+    ap Some (drain_same cpus turns op 0 xs ys same)
+after_same cpus turns xs ys same e reply = refl
+
+last_same : (rs : List Receipt) (o : Option Receipt)
+    → last_or (option_map unnumbered o) (plain rs) ≡ option_map unnumbered (last_or o rs)
+last_same [] o = refl
+last_same (r ∷ rs) o = last_same rs (Some r)
+
+driver_same : (cpus turns : ℕ) (plan : List Item) (rs : List Receipt)
+    → next_event cpus turns plan (plain rs) ≡ next_event cpus turns plan rs
+driver_same cpus turns plan rs =
+    ap (λ (o : Option Receipt). option_map_or (λ r. next_after cpus turns (plain rs) r.event r.reply) o
+    (Some (Begin plan))) (last_same rs None)
+    ∙ by_last (last_or None rs)
+  where
+    by_last : (o : Option Receipt)
+        → option_map_or (λ r. next_after cpus turns (plain rs) r.event r.reply) (option_map unnumbered o)
+        (Some (Begin plan)) ≡ option_map_or (λ r. next_after cpus turns rs r.event r.reply) o
+        (Some (Begin plan))
+    by_last None = refl
+    by_last (Some r) = after_same cpus turns (plain rs) rs (tried_same rs) r.event r.reply
+
+-- ---- lines
+
+once_same : (e : Event) (rs : List Receipt) → once e (plain rs) ≡ once e rs
+once_same e [] = refl
+once_same e (r ∷ rs) = refl
+
+line_same : (cpus op : ℕ) (line : Line) (rs : List Receipt)
+    → line_next cpus op line (plain rs) ≡ line_next cpus op line rs
+line_same cpus op (Ask event) rs = once_same event rs
+line_same cpus op (Own work) rs = once_same (work_of op work) rs
+line_same cpus op (Carry plan turns) rs = driver_same cpus turns plan rs
+
+-- what a line leaves of the receipts
+rest_same : (cpus op : ℕ) (line : Line) (earlier later : List Receipt)
+    → after_line cpus op line (plain earlier) (plain later)
+    ≡ option_map plain (after_line cpus op line earlier later)
+rest_same cpus op line earlier [] =
+    ap (λ (o : Option Event). option_map_or (λ event. None) o (Some [])) (line_same cpus op line earlier)
+    ∙ by_next (line_next cpus op line earlier)
+  where
+    by_next : (o : Option Event)
+        → option_map_or (λ event. None) o (Some [])
+        ≡ option_map plain (option_map_or (λ event. None) o (Some []))
+    by_next None = refl
+    by_next (Some e) = refl
+rest_same cpus op line earlier (r ∷ rs) =
+    ap (λ (o : Option Event). option_map_or
+    (λ event. after_line cpus op line (plain earlier ++ unnumbered r ∷ []) (plain rs)) o
+    (Some (plain (r ∷ rs)))) (line_same cpus op line earlier)
+    ∙ by_next (line_next cpus op line earlier) (ap
+    (λ (xs : List Receipt). after_line cpus op line xs (plain rs))
+    (sym (map-append unnumbered earlier (r ∷ []))) ∙ rest_same cpus op line (earlier ++ r ∷ []) rs)
+  where
+    by_next : (o : Option Event)
+        → after_line cpus op line (plain earlier ++ unnumbered r ∷ []) (plain rs)
+        ≡ option_map plain (after_line cpus op line (earlier ++ r ∷ []) rs)
+        → option_map_or (λ event. after_line cpus op line (plain earlier ++ unnumbered r ∷ []) (plain rs)) o
+        (Some (plain (r ∷ rs))) ≡ option_map plain
+        (option_map_or (λ event. after_line cpus op line (earlier ++ r ∷ []) rs) o (Some (r ∷ rs)))
+    by_next None longer = refl
+    by_next (Some e) longer = longer
+
+-- what lines ask for
+pub next_plain : (cpus op : ℕ) (lines : List Line) (rs : List Receipt)
+    → next_in cpus op lines (map unnumbered rs) ≡ next_in cpus op lines rs
+next_plain cpus op [] rs = refl
+next_plain cpus op (line ∷ lines) rs =
+    ap (λ (o : Option (List Receipt)). option_map_or (λ rest. next_in cpus op lines rest) o
+    (line_next cpus op line (plain rs))) (rest_same cpus op line [] rs)
+    ∙ (ap (λ (o : Option Event). option_map_or (λ rest. next_in cpus op lines rest)
+    (option_map plain (after_line cpus op line [] rs)) o) (line_same cpus op line rs)
+    ∙ by_rest (after_line cpus op line [] rs) (λ rest. next_plain cpus op lines rest))
+  where
+    by_rest : (o : Option (List Receipt))
+        → ((rest : List Receipt) → next_in cpus op lines (plain rest) ≡ next_in cpus op lines rest)
+        → option_map_or (λ rest. next_in cpus op lines rest) (option_map plain o) (line_next cpus op line rs)
+        ≡ option_map_or (λ rest. next_in cpus op lines rest) o (line_next cpus op line rs)
+    by_rest None same = refl
+    by_rest (Some rest) same = same rest
+
+-- ---- no line undoes anything by serials
+
+abbrev Leaves : Option Event → Type 0
+Leaves None = Unit {0}
+Leaves (Some e) = leaves_steps (effect_of e) ≡ true
+
+turn_leaves : (turns op : ℕ) (rs : List Receipt)
+    → leaves_steps (effect_of (migrate_or_cancel turns op rs)) ≡ true
+turn_leaves turns op rs =
+    elim (ltb (tried rs) turns) as (λ b. leaves_steps (effect_of (cond b (Migrate op) (Cancel op))) ≡ true)
+    [ true ↦ refl | false ↦ refl ]
+
+drain_leaves : (cpus turns op cpu : ℕ) (rs : List Receipt)
+    → leaves_steps (effect_of (next_drain cpus turns op cpu rs)) ≡ true
+drain_leaves cpus turns op cpu rs =
+    elim (ltb cpu cpus) as
+    (λ b. leaves_steps (effect_of (cond b (DrainFor op cpu) (migrate_or_cancel turns op rs))) ≡ true)
+    [ true ↦ refl | false ↦ turn_leaves turns op rs ]
+
+after_leaves : (cpus turns : ℕ) (rs : List Receipt) (e : Event) (reply : Reply)
+    → Leaves (next_after cpus turns rs e reply)
+after_leaves cpus turns rs (Begin plan) (Opened op) = drain_leaves cpus turns op 0 rs
+after_leaves cpus turns rs (DrainFor op cpu) Done = drain_leaves cpus turns op (cpu + 1) rs
+after_leaves cpus turns rs (Migrate op) (Moved from to) = turn_leaves turns op rs
+after_leaves cpus turns rs (Migrate op) (Refused NoFrame) = drain_leaves cpus turns op 0 rs
+after_leaves cpus turns rs (Migrate op) (Refused NothingToMove) = refl
+after_leaves cpus turns rs (Commit op) (Refused (NotFree frame)) = drain_leaves cpus turns op 0 rs
+after_leaves cpus turns rs e reply = tt
+
+work_leaves : (op : ℕ) (work : Work) → leaves_steps (effect_of (work_of op work)) ≡ true
+work_leaves op (work.DrainFor cpu) = refl
+work_leaves op work.Migrate = refl
+work_leaves op work.Commit = refl
+work_leaves op work.Cancel = refl
+
+once_leaves : (e : Event) (rs : List Receipt) → leaves_steps (effect_of e) ≡ true → Leaves (once e rs)
+once_leaves e [] leaves = leaves
+once_leaves e (r ∷ rs) leaves = tt
+
+line_leaves : (cpus op : ℕ) (line : Line) (rs : List Receipt) → leaves_lines line ≡ true
+    → Leaves (line_next cpus op line rs)
+line_leaves cpus op (Ask event) rs leaves = once_leaves event rs leaves
+line_leaves cpus op (Own work) rs leaves = once_leaves (work_of op work) rs (work_leaves op work)
+line_leaves cpus op (Carry plan turns) rs leaves = by_last (last_or None rs)
+  where
+    by_last : (o : Option Receipt)
+        → Leaves (option_map_or (λ r. next_after cpus turns rs r.event r.reply) o (Some (Begin plan)))
+    by_last None = refl
+    by_last (Some r) = after_leaves cpus turns rs r.event r.reply
+
+pub lines_leave : (cpus op : ℕ) (lines : List Line) (rs : List Receipt) (e : Event)
+    → list_all leaves_lines lines ≡ true → next_in cpus op lines rs ≡ Some e
+    → leaves_steps (effect_of e) ≡ true
+lines_leave cpus op [] rs e all is = absurd cc
+lines_leave cpus op (line ∷ lines) rs e all is =
+    by_rest (after_line cpus op line [] rs) is
+    (λ rest. lines_leave cpus op lines rest e (and_parts _ _ all).1)
+  where
+    by_rest : (o : Option (List Receipt))
+        → option_map_or (λ rest. next_in cpus op lines rest) o (line_next cpus op line rs) ≡ Some e
+        → ((rest : List Receipt) → next_in cpus op lines rest ≡ Some e → leaves_steps (effect_of e) ≡ true)
+        → leaves_steps (effect_of e) ≡ true
+    by_rest None h later = subst Leaves h (line_leaves cpus op line rs (and_parts _ _ all).0)
+    by_rest (Some rest) h later = later rest h

@@ -1,0 +1,17 @@
+-- The entry stands on the exchanges before its last.
+use Rattle.std.proofs.lemmas.Option.{slice_get_within}
+use Rattle.hp_schedules.proofs.Exchanged.{before_entry, before_none}
+use Rattle.hp_schedules.proofs.exchanges.Chains.before.Goals as goal
+
+pub returns-in-Some-clause-before : goal.returns-in-Some-clause-before
+returns-in-Some-clause-before c =
+    before_entry c.args.self.now c.args.number c.in-Some.entry.now c.in-Some.ensures.some
+
+pub returns-in-Some-clause-within : goal.returns-in-Some-clause-within
+returns-in-Some-clause-within c =
+    slice_get_within c.args.self.now c.in-Some.entry.now.below c.in-Some.ensures.some.0
+    c.in-Some.ensures.some.1
+
+pub returns-in-None-clause-before : goal.returns-in-None-clause-before
+returns-in-None-clause-before c =
+    before_none c.args.self.now c.args.number c.empty.result c.in-None.ensures.none

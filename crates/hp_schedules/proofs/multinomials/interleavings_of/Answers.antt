@@ -1,0 +1,8 @@
+-- Where each line is one call and the lengths fit, the coefficient is the number.
+use Rattle.hp_schedules.proofs.Interleavings.{with_plan}
+use Rattle.hp_schedules.proofs.multinomials.interleavings_of.Goals as goal
+
+pub returns-then-not-hold_no_plan : goal.returns-then-not-hold_no_plan
+returns-then-not-hold_no_plan c =
+    λ one. absurd (with_plan c.args.scripts.now c.hold_no_plan.result c.hold_no_plan.ensures
+    c.if-not-hold_no_plan.true one)

@@ -1,0 +1,29 @@
+-- The part's number is that of the first records.
+use Rattle.std.proofs.Common.{◌≡◌, ℕ, List, ap, sym, subst, take, ◌∙◌}
+use Rattle.std.proofs.lemmas.Bool.{eq-eqb, eqb-true}
+use Rattle.std.proofs.lemmas.List.{take-map}
+use Rattle.hp_units.specs.declared.replies.Record.{Record}
+use Rattle.hp_schedules.specs.Parts.{PartValue, part_number}
+use Rattle.hp_schedules.specs.Schedules.{schedule_of}
+use Rattle.hp_schedules.proofs.parts.Part.is_of.Goals as goal
+
+numbered : (n index of calls number : ℕ) (first records : List Record) (part : PartValue)
+    → record { index = index; of = of; calls = calls } ≡ part → first ≡ take calls records
+    → number ≡ part_number n of (schedule_of first)
+    → part_number n part.of (take part.calls (schedule_of records)) ≡ number
+numbered n index of calls number first records part view first_is number_is =
+    subst (λ (p : PartValue). part_number n p.of (take p.calls (schedule_of records)) ≡ number) view
+    (ap (λ (s : List ℕ). part_number n of s)
+    (take-map (λ (r : Record). r.cpu) calls records ∙ ap schedule_of (sym first_is)) ∙ sym number_is)
+
+pub returns : goal.returns
+returns c =
+    let p = c.self.inside in
+    let here =
+    numbered c.args.processors p.index p.of p.calls c.number_of.result c.first_records-first.result.now
+    c.args.records.now c.args.self.now c.self.view_is c.first_records-first.ensures c.number_of.ensures in
+    let index : c.from.result ≡ c.args.self.now.index =
+    c.from.ensures ∙ ap (λ (q : PartValue). q.index) c.self.view_is in (
+      λ told. here ∙ (eqb-true c.number_of.result c.from.result told ∙ index),
+      λ of. eq-eqb c.number_of.result c.from.result (sym here ∙ (of ∙ sym index)),
+    )

@@ -1,0 +1,26 @@
+-- What the processor's script asks for from its cursor.
+use Rattle.std.proofs.Common.{length, refl, arith}
+use Rattle.std.proofs.lemmas.Option.{slice_get_read}
+use Rattle.std.proofs.lemmas.Result.{IfOk-weaker}
+use Rattle.hp_schedules.proofs.Placed.{requested_at, requested_past}
+use Rattle.hp_schedules.proofs.positions.Positions.request.Goals as goal
+
+pub returns-then-place-scripts : goal.returns-then-place-scripts
+returns-then-place-scripts c =
+    λ g news scripts cpus all. requested_past g news c.args.cpu c.args.scripts.now scripts (omega arith)
+
+pub returns : goal.returns
+returns c =
+    IfOk-weaker c.request.result _ _
+    (λ q asks g news scripts cpus all. requested_at g news c.args.cpus c.args.cpu c.args.scripts.now
+    c.index-scripts-place.result c.lines.result.now c.args.self.now.cursors.items
+    c.index.result.now q scripts cpus
+    (slice_get_read c.args.scripts.now (length c.args.scripts.now) c.args.cpu c.index-scripts-place.result
+    refl
+    (omega (arith, c.if-place-scripts.false)) c.index-scripts-place.is)
+    c.lines.ensures
+    (slice_get_read c.args.self.now.cursors.items (length c.args.self.now.cursors.items) c.args.cpu
+    c.index.result.now refl (omega (arith, c.requires, c.if-place-scripts.false))
+    c.index.ensures)
+    all asks)
+    c.request.ensures

@@ -1,0 +1,12 @@
+-- Each cursor is where its script begins.
+use Rattle.hp_schedules.proofs.Placed.{all_begun, many_begun}
+use Rattle.hp_schedules.proofs.positions.Positions.start.Goals as goal
+
+pub returns-clause-many : goal.returns-clause-many
+returns-clause-many c =
+    many_begun c.args.cpus c.args.scripts.now c.in_ok-cursors.cursors.items c.in_ok-cursors.ensures
+
+pub returns-clause-begun : goal.returns-clause-begun
+returns-clause-begun c =
+    λ g scripts cpus. all_begun g c.args.cpus c.args.scripts.now c.in_ok-cursors.cursors.items scripts cpus
+    c.in_ok-cursors.ensures

@@ -1,0 +1,84 @@
+-- Schedules after which everything goes on alike.
+use Rattle.std.specs.Prelude.{◌≡◌, ℕ, ◌+◌, ◌<◌, Bool, true, false, if◌then◌else◌, List, ◌++◌, length, map, fold, option_map}
+use Rattle.std.specs.List.{list_all}
+use Rattle.hp_units.specs.History.{Effect, Looks, Undoes, Cancels, Acts, effect_of, is_refused, net_of, run}
+use Rattle.hp_units.specs.LayoutParts.{LayoutParts}
+use Rattle.hp_units.specs.Marks.{sole_at, tag_of}
+use Rattle.hp_units.specs.Memory.{Memory}
+use Rattle.hp_units.specs.Receipts.{receipts_of}
+use Rattle.hp_units.specs.declared.events.Event.{Event}
+use Rattle.hp_units.specs.declared.events.Event.TheVariants.{Read, Begin, DrainFor, Migrate, Cancel, UndoAfter}
+use Rattle.hp_units.specs.declared.replies.Receipt.{Receipt}
+use Rattle.hp_units.specs.declared.replies.Record.{Record}
+use Rattle.hp_schedules.specs.Openings.{AreOpen, Opening}
+use Rattle.hp_schedules.specs.Schedules.{Setting}
+use Rattle.hp_schedules.specs.Scripts.{own_operation}
+use Rattle.hp_schedules.specs.declared.scripts.Line.{Line}
+use Rattle.hp_schedules.specs.declared.scripts.Line.TheVariants.{Ask, Own, Carry}
+
+-- whether an event leaves earlier steps, but for a Cancel its own operation's
+abbrev pub leaves_steps : Effect → Bool
+leaves_steps Looks = true
+leaves_steps (Undoes serial) = false
+leaves_steps (Cancels op) = true
+leaves_steps Acts = true
+
+-- no line of the scripts undoes steps by their serials
+abbrev pub leaves_lines : Line → Bool
+leaves_lines (Ask event) = leaves_steps (effect_of event)
+leaves_lines (Own work) = true
+leaves_lines (Carry plan turns) = true
+
+abbrev pub leaves_script : List Line → Bool
+leaves_script lines = list_all leaves_lines lines
+
+abbrev pub UndoNothing : List (List Line) → Type 0
+UndoNothing scripts = list_all leaves_script scripts ≡ true
+
+-- a receipt but for its number, and those of a processor among records
+abbrev pub unnumbered : Receipt → Receipt
+unnumbered r = record { serial = 0; event = r.event; reply = r.reply }
+
+abbrev pub exchanges : (cpu : ℕ) → List Record → List Receipt
+exchanges cpu news = map unnumbered (receipts_of cpu news)
+
+-- no later Cancel can drop any of these steps: where one is sole, it is sole among the steps after them
+abbrev pub IsClosed : List Record → Type 0
+IsClosed steps =
+    (op : ℕ) (tail : List Record)
+    → sole_at op (map tag_of (steps ++ tail))
+    ≡ option_map (λ place. length steps + place) (sole_at op (map tag_of tail))
+
+-- two nets lead to the same state, and Cancels lead back from them to the same states
+pub record AreJoined (l : LayoutParts) (base : Memory) (first second : List Record) : Type 0 where
+  pub openings : List Opening
+  pub first_open : AreOpen l base first openings
+  pub second_open : AreOpen l base second openings
+  pub state : run l base first ≡ run l base second
+
+-- after as many new records each of the scripts' processors had the same answers to the same
+-- requests, and began its last operation with the same number; and the steps that count join
+pub record AreAlike (g : Setting) (h k : List Record) : Type 0 where
+  pub calls : length h ≡ length k
+  pub exchanged : (cpu : ℕ) → cpu < length g.scripts → exchanges cpu h ≡ exchanges cpu k
+  pub begun : (cpu : ℕ) → cpu < length g.scripts
+      → own_operation (receipts_of cpu h) ≡ own_operation (receipts_of cpu k)
+  pub nets : AreJoined g.layout g.base (net_of (g.start ++ h)) (net_of (g.start ++ k))
+
+-- whether no Cancel can drop the steps so far: so it is after a step that neither begins an
+-- operation nor is an operation's own work, and it stays so as long as no operation begins and none
+-- is cancelled (own rule)
+abbrev pub closed_by : (was : Bool) → Event → Bool
+closed_by was (Read owner page index) = was
+closed_by was (DrainFor op cpu) = was
+closed_by was (Migrate op) = was
+closed_by was (Begin plan) = false
+closed_by was (Cancel op) = false
+closed_by was (UndoAfter serial) = false
+closed_by was event = true
+
+abbrev pub closed_after : (was : Bool) → Record → Bool
+closed_after was r = if is_refused r.reply then was else closed_by was r.event
+
+abbrev pub is_closed : List Record → Bool
+is_closed history = fold closed_after true history

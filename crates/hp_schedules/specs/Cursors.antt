@@ -1,0 +1,96 @@
+-- Where each processor is in its script.
+use Rattle.std.specs.Prelude.{◌≡◌, ℕ, List, [], ◌∷◌, ◌++◌, Option, Some, None, length, drop, slice_get, option_and_then}
+use Rattle.hp_ops.specs.Stages.{IsAfter, event_in}
+use Rattle.hp_ops.specs.declared.stages.Driver.{Driver}
+use Rattle.hp_ops.specs.declared.stages.Stage.TheVariants.{Begin as Begins}
+use Rattle.std.specs.Option.{option_map_or}
+use Rattle.hp_units.specs.Receipts.{receipts_of}
+use Rattle.hp_units.specs.declared.events.Event.{Event}
+use Rattle.hp_units.specs.declared.replies.Receipt.{Receipt}
+use Rattle.hp_units.specs.declared.replies.Record.{Record}
+use Rattle.hp_schedules.specs.Schedules.{Setting, next_call}
+use Rattle.hp_schedules.specs.Scripts.{after_line, next_in, next_of, own_operation, work_of}
+use Rattle.hp_schedules.specs.declared.cursors.Cursor.{Cursor}
+use Rattle.hp_schedules.specs.declared.cursors.Request.{Request}
+use Rattle.hp_schedules.specs.declared.scripts.Line.{Line}
+use Rattle.hp_schedules.specs.declared.scripts.Line.TheVariants.{Ask, Own, Carry}
+
+-- the event that a line asks for at a cursor, and the one that the cursor's own line does; None
+-- where that is over, or there is none
+abbrev pub asks : Cursor → Line → Option Event
+asks c (Ask event) = Some event
+asks c (Own work) = Some (work_of c.op work)
+asks c (Carry plan turns) = event_in plan c.driver.stage
+
+abbrev pub asks_at : Cursor → List Line → Option Event
+asks_at c lines = option_and_then (asks c) (slice_get lines c.line)
+
+-- a line has these receipts so far, and its plan this driver
+abbrev pub IsIn : (cpus : ℕ) → Line → List Receipt → Driver → Type 0
+IsIn cpus (Ask event) own d = own ≡ []
+IsIn cpus (Own work) own d = own ≡ []
+IsIn cpus (Carry plan turns) own d = IsAfter cpus turns own d
+
+-- the first of lines has these receipts so far, and was not over before the last of them
+abbrev pub IsInFirst : (cpus : ℕ) → List Line → List Receipt → Driver → Type 0
+IsInFirst cpus [] own d = Unit {0}
+IsInFirst cpus (line ∷ lines) own d =
+    IsIn cpus line own d × ((op : ℕ) (later : List Receipt)
+    → after_line cpus op line [] (own ++ later) ≡ after_line cpus op line own later)
+
+-- a cursor is where a script is after its processor's receipts: what it asks for after these and
+-- any later ones, the lines from there on ask for
+pub record IsCursor (cpus : ℕ) (lines : List Line) (receipts : List Receipt) (c : Cursor) : Type 0 where
+  pub own : List Receipt
+  pub begun : c.op ≡ own_operation receipts
+  pub ahead : (op : ℕ) (later : List Receipt)
+      → next_in cpus op lines (receipts ++ later) ≡ next_in cpus op (drop c.line lines) (own ++ later)
+  pub here : IsInFirst cpus (drop c.line lines) own c.driver
+
+-- the driver of a plan before its first call, that of a line where it begins, and a cursor there
+abbrev pub driver_before : (cpus turns : ℕ) → Driver
+driver_before cpus turns = record { cpus = cpus; left = turns; why = None; stage = Begins }
+
+abbrev pub first_driver : (cpus : ℕ) → Line → Driver
+first_driver cpus (Ask event) = driver_before cpus 0
+first_driver cpus (Own work) = driver_before cpus 0
+first_driver cpus (Carry plan turns) = driver_before cpus turns
+
+abbrev pub cursor_at : (cpus : ℕ) → List Line → (line op : ℕ) → Cursor
+cursor_at cpus lines line op = record {
+  line = line;
+  op = op;
+  driver = option_map_or (first_driver cpus) (slice_get lines line) (driver_before cpus 0);
+}
+
+-- what a cursor's own line asks for, from there
+abbrev pub IsAsked : Cursor → List Line → Option Request → Type 0
+IsAsked c lines None = asks_at c lines ≡ None
+IsAsked c lines (Some q) = (asks_at c lines ≡ Some q.event) × (q.from ≡ c)
+
+abbrev pub IsAskedBy : Cursor → Line → Option Request → Type 0
+IsAskedBy c line None = asks c line ≡ None
+IsAskedBy c line (Some q) = (asks c line ≡ Some q.event) × (q.from ≡ c)
+
+-- what a script asks for after receipts, from where its line is
+abbrev pub IsRequested : (cpus : ℕ) → List Line → List Receipt → Option Request → Type 0
+IsRequested cpus lines receipts None = next_of cpus lines receipts ≡ None
+IsRequested cpus lines receipts (Some q) =
+    (next_of cpus lines receipts ≡ Some q.event) × IsCursor cpus lines receipts q.from
+    × (asks_at q.from lines ≡ Some q.event)
+
+-- ---- all processors
+
+-- each processor's cursor is where its script is after the new records
+pub record AreCursors (g : Setting) (news : List Record) (cursors : List Cursor) : Type 0 where
+  pub many : length cursors ≡ length g.scripts
+  pub each : (cpu : ℕ) (lines : List Line) (c : Cursor)
+      → slice_get g.scripts cpu ≡ Some lines → slice_get cursors cpu ≡ Some c
+      → IsCursor g.layout.cpus lines (receipts_of cpu news) c
+
+-- what a processor's script asks for after the new records, from where its line is
+abbrev pub IsCalledFor : Setting → (cpu : ℕ) → List Record → Option Request → Type 0
+IsCalledFor g cpu news None = next_call g cpu news ≡ None
+IsCalledFor g cpu news (Some q) =
+    (next_call g cpu news ≡ Some q.event) × ((lines : List Line) → slice_get g.scripts cpu ≡ Some lines
+    → IsCursor g.layout.cpus lines (receipts_of cpu news) q.from × (asks_at q.from lines ≡ Some q.event))

@@ -1,0 +1,17 @@
+pub mod Alike
+pub mod Cursors
+pub mod Digests
+pub mod Ends
+pub mod Exchanges
+pub mod Interleavings
+pub mod Multinomials
+pub mod Notes
+pub mod Numbers
+pub mod Openings
+pub mod Orders
+pub mod Outcomes
+pub mod Parts
+pub mod Rows
+pub mod Schedules
+pub mod Scripts
+pub mod Shares

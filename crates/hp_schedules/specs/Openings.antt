@@ -1,0 +1,65 @@
+-- The operations that Cancels can take back whole.
+use Rattle.std.specs.Prelude.{◌≡◌, ℕ, ◌==◌, if◌then◌else◌, List, [], ◌∷◌, Some, None, map, take}
+use Rattle.hp_units.specs.History.{is_refused, run}
+use Rattle.hp_units.specs.LayoutParts.{LayoutParts}
+use Rattle.hp_units.specs.Marks.{sole_at, tag_of}
+use Rattle.hp_units.specs.Memory.{Memory}
+use Rattle.hp_units.specs.declared.events.Event.{Event}
+use Rattle.hp_units.specs.declared.events.Event.TheVariants.{Read, Begin, DrainFor, Migrate, Cancel}
+use Rattle.hp_units.specs.declared.replies.Record.{Record}
+use Rattle.hp_schedules.specs.declared.changes.Change.{Change}
+use Rattle.hp_schedules.specs.declared.changes.Change.TheVariants.{Stays, Begins, Works, Cancels, Ends}
+
+-- an operation, with what tells the state from before its Begin
+pub record OpeningWith (S : Type 0) : Type 0 where
+  pub op : ℕ
+  pub memory : S
+
+-- the state itself, or the number of its code
+abbrev pub Opening : Type 0
+Opening = OpeningWith Memory
+
+abbrev pub NumberedOpening : Type 0
+NumberedOpening = OpeningWith ℕ
+
+-- the operations that Cancels can take back whole, latest first: the first is the only sole one; its
+-- Cancel leads back to the state from before its Begin, where the others are so (own rule)
+abbrev pub AreOpen : LayoutParts → Memory → (net : List Record) → List Opening → Type 0
+AreOpen l base net [] = (op : ℕ) → sole_at op (map tag_of net) ≡ None
+AreOpen l base net (o ∷ os) =
+    (place : ℕ)
+    × ((op : ℕ) → sole_at op (map tag_of net) ≡ (if o.op == op then Some place else None))
+    × (o.memory ≡ run l base (take place net)) × AreOpen l base (take place net) os
+
+-- those that are left after an operation's own work, and after its Cancel: none where another is first
+abbrev pub after_work : {S : Type 0} → (op : ℕ) → List (OpeningWith S) → List (OpeningWith S)
+after_work op [] = []
+after_work op (o ∷ os) = if o.op == op then o ∷ os else []
+
+abbrev pub after_cancel : {S : Type 0} → (op : ℕ) → List (OpeningWith S) → List (OpeningWith S)
+after_cancel op [] = []
+after_cancel op (o ∷ os) = if o.op == op then os else []
+
+-- what a record does to them: no refusal and no read does anything, and what is no work of an operation
+-- ends all
+abbrev pub change_by : Event → Change
+change_by (Read owner page index) = Stays
+change_by (Begin plan) = Begins
+change_by (DrainFor op cpu) = Works op
+change_by (Migrate op) = Works op
+change_by (Cancel op) = Cancels op
+change_by event = Ends
+
+abbrev pub change_of : Record → Change
+change_of r = if is_refused r.reply then Stays else change_by r.event
+
+-- those after a record with this serial, by what it does in a state
+abbrev pub changed : (here : Memory) (serial : ℕ) → List Opening → Change → List Opening
+changed here serial was Stays = was
+changed here serial was Begins = record { op = serial; memory = here } ∷ was
+changed here serial was (Works op) = after_work op was
+changed here serial was (Cancels op) = after_cancel op was
+changed here serial was Ends = []
+
+abbrev pub openings_after : (here : Memory) → List Opening → Record → List Opening
+openings_after here was r = changed here r.serial was (change_of r)

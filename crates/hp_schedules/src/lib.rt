@@ -1,0 +1,42 @@
+//! Scripts, their schedules, and how these end: what is known without a machine.
+//!
+//! A script is what one processor asks for, line after line. A schedule says whose call comes next;
+//! it is complete when all scripts are over. The crate owns scripts and where processors are in
+//! them, the parts of all schedules, outcomes and the ends with their counts, how many
+//! interleavings there are, the numbers by which a walk tells what processors were answered, and
+//! which schedules go on alike. It makes no call: hp_explore walks the schedules.
+//!
+//! Read specs/Scripts first, then specs/Schedules, specs/Outcomes and specs/Ends.
+#![tactic(auto)]
+
+mod changes;
+mod closed;
+mod cursors;
+mod digests;
+mod exchanges;
+mod laws;
+mod likeness;
+mod multinomials;
+mod outcomes;
+mod parts;
+mod positions;
+mod rows;
+mod scripts;
+mod tally;
+
+pub use changes::{Change, change_of};
+pub use closed::is_closed;
+pub use cursors::{Cursor, Request};
+pub use digests::{key_digest, learn, mixed};
+pub use exchanges::Exchanges;
+pub use laws::{
+    alike_places_go_on_alike, counts_are_unique, interleavings_are_counted,
+    schedules_are_interleavings,
+};
+pub use multinomials::{HowMany, call_count, interleavings_of};
+pub use outcomes::{Answers, Outcome, all_answers};
+pub use parts::Part;
+pub use positions::Positions;
+pub use rows::{Rows, Share};
+pub use scripts::{Line, Script, Work, undo_nothing};
+pub use tally::{Ending, Tally, fit_in, schedule_of, total_of};

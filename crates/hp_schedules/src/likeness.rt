@@ -1,0 +1,93 @@
+//! Whether outcomes are the same, their digests, and copies of their replies.
+ghost use Rattle.std.specs.Prelude.{◌≡◌, ◌↔◌, IfOk, IsTrue, fold};
+ghost use Rattle.hp_schedules.specs.Digests.{digest_of, mixed_reply, replies_digest};
+
+use crate::digests::{mixed, reply_number, row_number};
+use crate::outcomes::{Answers, Outcome};
+use hp_units::Reply;
+use std::alloc::{AllocError, Global};
+
+/// Whether all processors have the same replies.
+pub(crate) fn same_answers(all: &[Answers], others: &[Answers]) -> bool
+    ensures { IsTrue result ↔ (all.now ≡ others.now) }
+{
+    if all.len() != others.len() {
+        return false;
+    }
+    for place in 0..all.len() {
+        if !same_replies(all[place].as_slice(), others[place].as_slice()) {
+            return false;
+        }
+    }
+    true
+}
+
+/// Whether the replies are the same.
+fn same_replies(replies: &[Reply], others: &[Reply]) -> bool
+    ensures { IsTrue result ↔ (replies.now ≡ others.now) }
+{
+    if replies.len() != others.len() {
+        return false;
+    }
+    for place in 0..replies.len() {
+        if !replies[place].same(&others[place]) {
+            return false;
+        }
+    }
+    true
+}
+
+/// Copies of each processor's replies. An error is out of memory.
+pub(crate) fn copies_of(alloc: Global, all: &[Answers]) -> Result<Vec<Answers>, AllocError>
+    ensures { IfOk result (λ copies. copies.items ≡ all.now) }
+{
+    let mut copies = Vec::new(alloc);
+    for answers in all {
+        copies.reserve(1)?;
+        let copy = copy_of(alloc, answers)?;
+        copies.push_reserved(copy);
+    }
+    Ok(copies)
+}
+
+/// A copy of a processor's replies. An error is out of memory.
+fn copy_of(alloc: Global, answers: &Answers) -> Result<Answers, AllocError>
+    ensures { IfOk result (λ copy. copy ≡ answers.now) }
+{
+    let replies = answers.as_slice().iter().copied().collect(alloc)?;
+    Ok(Answers::new(replies))
+}
+
+/// A digest of how a schedule ends: of the processors' replies, and of the blocks' rows.
+#[tactic(auto, unfolding(crate::specs::Digests::digest_of))]
+pub(crate) fn outcome_digest(outcome: &Outcome) -> u64
+    ensures { result ≡ digest_of outcome.now }
+{
+    let mut digest = answers_digest(outcome.replies());
+    for row in outcome.blocks() {
+        digest = mixed(digest, row_number(row));
+    }
+    digest
+}
+
+/// A digest of the processors' replies.
+fn answers_digest(all: &[Answers]) -> u64
+    ensures { result ≡ replies_digest all.now }
+{
+    let mut digest = 0;
+    for answers in all {
+        digest = mixed(digest, replies_digest(answers.as_slice()));
+    }
+    digest
+}
+
+/// A digest of a processor's replies.
+fn replies_digest(replies: &[Reply]) -> u64
+    ensures { result ≡ fold mixed_reply 0 replies.now }
+{
+    let mut digest = 0;
+    for reply in replies {
+        digest = mixed(digest, reply_number(reply));
+    }
+    digest
+}

@@ -1,0 +1,130 @@
+//! The parts of all schedules of scripts, by their first calls: each can be searched on its own.
+ghost use Rattle.std.specs.Prelude.{◌≡◌, ◌↔◌, ◌<◌, ◌≤◌, ◌+◌, ◌*◌, ◌%◌, IfSome, IsSome, IsTrue, false, length, take};
+ghost use Rattle.hp_schedules.specs.Parts.{IsOfPart, IsOn, part_number};
+ghost use Rattle.hp_schedules.specs.Schedules.{schedule_of};
+
+use hp_units::Record;
+use std::marker::Model;
+
+/// One of so many parts of all schedules of scripts (own rule). The processors of a schedule's first
+/// calls, as many as the parts go by, are the digits of a number, first the highest; what is left of
+/// it modulo the number of parts is the index of the schedule's part.
+#[derive(Clone, Copy, Drop)]
+pub struct Part {
+    index: u32,
+    of: u32,
+    calls: u32,
+}
+
+impl Model for Part {
+    ghost use Rattle.std.specs.Prelude.{◌<◌};
+    ghost use Rattle.hp_schedules.specs.Parts.{PartValue};
+
+    ghost Value = { PartValue };
+
+    ghost view = { λ p. record { index = p.index; of = p.of; calls = p.calls } };
+
+    ghost invariant = { λ p. p.index < p.of };
+
+    ghost inverse = { λ v. record { index = v.index; of = v.of; calls = v.calls } };
+}
+
+impl Part {
+    /// The only part of one: all schedules.
+    pub fn whole() -> Part
+        ensures { result ≡ record { index = 0; of = 1; calls = 0 } }
+    {
+        Part {
+            index: 0,
+            of: 1,
+            calls: 0,
+        }
+    }
+
+    /// One of so many parts, its index from 0 on, where the parts go by so many first calls; None where
+    /// there is no such part.
+    pub fn new(index: u32, of: u32, calls: u32) -> Option<Part>
+        ensures some { IsSome result ↔ (index < of) }
+        ensures is { IfSome result (λ part. part ≡ record { index = index; of = of; calls = calls }) }
+    {
+        if index < of {
+            Some(Part { index, of, calls })
+        } else {
+            None
+        }
+    }
+
+    /// Its index, from 0 on.
+    pub fn index(&self) -> u32
+        ensures is { result ≡ self.now.index }
+        ensures below { result < self.now.of }
+    {
+        self.index
+    }
+
+    /// How many parts there are.
+    pub fn of(&self) -> u32
+        ensures { result ≡ self.now.of }
+    {
+        self.of
+    }
+
+    /// How many first calls the parts go by.
+    pub fn calls(&self) -> u32
+        ensures { result ≡ self.now.calls }
+    {
+        self.calls
+    }
+
+    /// Whether the schedule that records came from belongs to it, for so many processors.
+    pub fn is_of(&self, processors: u32, records: &[Record]) -> bool
+        ensures { IsTrue result ↔ IsOfPart processors self.now (schedule_of records.now) }
+    {
+        let first = first_records(records, self.calls);
+        number_of(first, processors, self.of) == u64::from(self.index)
+    }
+
+    /// Whether a place that a walk has come to by a call is another part's, where it has no fewer calls
+    /// than the parts go by. One with more is not, since the walk goes on from none of another part.
+    pub fn leaves_out(&self, processors: u32, records: &[Record]) -> bool
+        requires long { self.now.calls ≤ length records.now }
+        requires on { IsOn processors self.now (schedule_of records.now) }
+        ensures out { IsTrue result → IsOfPart processors self.now (schedule_of records.now) → ⊥ }
+        ensures within { result ≡ false → IsOfPart processors self.now (schedule_of records.now) }
+    {
+        if records.len() > self.calls() as usize {
+            return false;
+        }
+        !self.is_of(processors, records)
+    }
+}
+
+/// The first of records, at most so many.
+fn first_records(records: &[Record], calls: u32) -> &[Record]
+    ensures { result.now ≡ take calls records.now }
+{
+    &records[..records.len().min(calls as usize)]
+}
+
+/// The part of so many that the processors of first records belong to, where there are so many
+/// processors.
+fn number_of(first: &[Record], processors: u32, of: u32) -> u64
+    requires { 0 < of }
+    ensures { result ≡ part_number processors of (schedule_of first.now) }
+{
+    let mut number = 0;
+    for record in first {
+        number = with_digit(number, processors, record.cpu.0, of);
+    }
+    number
+}
+
+/// A number with a digit more at its end, modulo the number of parts.
+fn with_digit(number: u64, base: u32, digit: u32, of: u32) -> u64
+    requires some { 0 < of }
+    requires below { number < of }
+    ensures is { result ≡ (number * base + digit) % of }
+    ensures below { result < of }
+{
+    (number * u64::from(base) + u64::from(digit)) % u64::from(of)
+}

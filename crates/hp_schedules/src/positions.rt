@@ -1,0 +1,105 @@
+//! Where all processors are in their scripts.
+ghost use Rattle.std.specs.Prelude.{◌≡◌, ◌<◌, ◌++◌, ◌∷◌, [], IfOk, List, Some, length, map, slice_set};
+ghost use Rattle.hp_units.specs.Receipts.{receipts_of};
+ghost use Rattle.hp_units.specs.declared.replies.Record.{Record as NewRecord};
+ghost use Rattle.hp_schedules.specs.Cursors.{AreCursors, IsCalledFor, cursor_at};
+ghost use Rattle.hp_schedules.specs.Schedules.{Setting};
+ghost use Rattle.hp_schedules.specs.Scripts.{own_operation};
+
+use crate::cursors::{Cursor, Request};
+use crate::scripts::Script;
+use hp_units::{Cpu, Record, Serial};
+use std::alloc::{AllocError, Global};
+
+/// Where each processor is in its script, from processor 0 on.
+#[derive(Drop)]
+pub struct Positions {
+    cursors: Vec<Cursor>,
+}
+
+impl Positions {
+    /// Where the scripts begin. An error is out of memory.
+    pub fn start(alloc: Global, cpus: u32, scripts: &[Script]) -> Result<Positions, AllocError>
+        ensures many { IfOk result (λ positions. length positions.cursors.items ≡ length scripts.now) }
+        ensures begun { IfOk result (λ positions. (g : Setting) → g.scripts ≡ scripts.now → g.layout.cpus ≡ cpus
+            → AreCursors g [] positions.cursors.items) }
+    {
+        let cursors = begun(alloc, cpus, scripts)?;
+        Ok(Positions { cursors })
+    }
+
+    /// The call that a processor's script asks for next; none where it has no script, or at its end.
+    /// An error is out of memory.
+    pub fn request(
+        &self,
+        alloc: Global,
+        cpus: u32,
+        scripts: &[Script],
+        cpu: u32,
+    ) -> Result<Option<Request>, AllocError>
+        requires { length self.now.cursors.items ≡ length scripts.now }
+        ensures { IfOk result (λ request. (g : Setting) (news : List NewRecord) → g.scripts ≡ scripts.now
+            → g.layout.cpus ≡ cpus → AreCursors g news self.now.cursors.items
+            → IsCalledFor g cpu news request) }
+    {
+        let place = cpu as usize;
+        if place >= scripts.len() {
+            return Ok(None);
+        }
+        self.cursors[place].request(alloc, cpus, scripts[place].lines())
+    }
+
+    /// The operation that a processor began last, and 0 where it began none.
+    pub fn operation(&self, cpu: u32) -> Serial
+        requires { cpu < length self.now.cursors.items }
+        ensures { (g : Setting) (news : List NewRecord) → AreCursors g news self.now.cursors.items
+            → result ≡ own_operation (receipts_of cpu news) }
+    {
+        let cursor = &self.cursors[cpu as usize];
+        cursor.operation()
+    }
+
+    /// Goes on by the call that a processor's script asked for, with its record, and answers where
+    /// the script was before.
+    pub fn go_on(
+        &mut self,
+        cpus: u32,
+        scripts: &[Script],
+        cpu: u32,
+        request: &Request,
+        latest: &Record,
+    ) -> Cursor
+        requires whose { latest.now.cpu ≡ cpu }
+        requires scripts { cpu < length scripts.now }
+        requires cursors { cpu < length self.old.cursors.items }
+        ensures back { slice_set self.new.cursors.items cpu result ≡ self.old.cursors.items }
+        ensures many { length self.new.cursors.items ≡ length self.old.cursors.items }
+        ensures later { (g : Setting) (news : List NewRecord) → g.scripts ≡ scripts.now → g.layout.cpus ≡ cpus
+            → AreCursors g news self.old.cursors.items → IsCalledFor g cpu news (Some request.now)
+            → AreCursors g (news ++ latest.now ∷ []) self.new.cursors.items }
+    {
+        let place = cpu as usize;
+        let later = request.from.after(cpus, scripts[place].lines(), latest);
+        let former = self.cursors[place];
+        self.cursors[place] = later;
+        former
+    }
+
+    /// Goes back over a processor's latest call to where its script was before.
+    pub fn go_back(&mut self, cpu: Cpu, former: Cursor)
+        requires { cpu < length self.old.cursors.items }
+        ensures { self.new.cursors.items ≡ slice_set self.old.cursors.items cpu former }
+    {
+        self.cursors[cpu.0 as usize] = former;
+    }
+}
+
+/// A cursor for each script, where it begins. An error is out of memory.
+fn begun(alloc: Global, cpus: u32, scripts: &[Script]) -> Result<Vec<Cursor>, AllocError>
+    ensures { IfOk result (λ cursors. cursors.items ≡ map (λ lines. cursor_at cpus lines 0 0) scripts.now) }
+{
+    scripts
+        .iter()
+        .map(|script| Cursor::start(cpus, script))
+        .collect(alloc)
+}

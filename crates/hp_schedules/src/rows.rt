@@ -1,0 +1,92 @@
+//! Rows of shares, kept one after another.
+ghost use Rattle.std.specs.Prelude.{◌≡◌, ◌<◌, ◌++◌, ◌∷◌, [], IfSome, OnErr, OnOk, Some, length, slice_get};
+ghost use Rattle.hp_schedules.specs.Rows.{start_in};
+
+use std::alloc::{AllocError, Global};
+use std::marker::Model;
+
+/// How many schedules go on from a place to an end, by the end's place.
+#[derive(Clone, Copy, Drop)]
+pub struct Share {
+    /// The end's place among the ends, from 0 on.
+    pub end: usize,
+    /// How many schedules go on to it.
+    pub count: u64,
+}
+
+/// Rows of shares by their places, from 0 on; the value is the rows.
+pub struct Rows {
+    shares: Vec<Share>,
+    ends: Vec<usize>,
+}
+
+impl Model for Rows {
+    ghost use Rattle.std.specs.Prelude.{List};
+    ghost use Rattle.hp_schedules.specs.declared.rows.Share.{Share};
+    ghost use Rattle.hp_schedules.specs.Rows.{FillUp, rows_from};
+
+    ghost Value = { List (List Share) };
+
+    ghost view = { λ r. rows_from 0 r.shares.items r.ends.items };
+
+    ghost invariant = { λ r. FillUp 0 r.shares.items r.ends.items };
+}
+
+/// A function of its own, so that no proof of a caller takes the fields apart.
+impl Drop for Rows {
+    fn drop(self) {
+        let Rows { shares: _, ends: _ } = self;
+    }
+}
+
+impl Rows {
+    /// No row.
+    pub fn new(alloc: Global) -> Rows
+        ensures { result ≡ [] }
+    {
+        Rows {
+            shares: Vec::new(alloc),
+            ends: Vec::new(alloc),
+        }
+    }
+
+    /// How many rows there are.
+    pub fn len(&self) -> usize
+        ensures { result ≡ length self.now }
+    {
+        self.ends.len()
+    }
+
+    /// The row at a place; none where there is none.
+    pub fn row(&self, place: usize) -> Option<&[Share]>
+        ensures { IfSome result (λ row. slice_get self.now place ≡ Some row.now) }
+    {
+        let ends = self.ends.as_slice();
+        if place >= ends.len() {
+            return None;
+        }
+        let start = start_of(ends, place);
+        let shares = self.shares.as_slice();
+        shares.get(start..ends[place])
+    }
+
+    /// One row more. An error is out of memory; then there is none more.
+    pub fn push(&mut self, row: &[Share]) -> Result<(), AllocError>
+        ensures ok { OnOk result (self.new ≡ self.old ++ row.now ∷ []) }
+        ensures err { OnErr result (self.new ≡ self.old) }
+    {
+        self.ends.reserve(1)?;
+        self.shares.extend_from_slice(row)?;
+        let end = self.shares.len();
+        self.ends.push_reserved(end);
+        Ok(())
+    }
+}
+
+/// Where the row at a place begins, by where the rows end.
+fn start_of(ends: &[usize], place: usize) -> usize
+    requires { place < length ends.now }
+    ensures { result ≡ start_in 0 ends.now place }
+{
+    if place == 0 { 0 } else { ends[place - 1] }
+}

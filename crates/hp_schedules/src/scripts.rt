@@ -1,0 +1,147 @@
+//! Scripts: what each processor asks for, one line after another.
+ghost use Rattle.std.specs.Prelude.{◌≡◌, cond, length};
+ghost use Rattle.std.specs.List.{list_all};
+ghost use Rattle.hp_units.specs.History.{effect_of};
+ghost use Rattle.hp_units.specs.Marks.{is_opening, mark_of};
+ghost use Rattle.hp_schedules.specs.Alike.{leaves_lines, leaves_script, leaves_steps};
+ghost use Rattle.hp_schedules.specs.Interleavings.{holds_no_plan, is_one_call};
+ghost use Rattle.hp_schedules.specs.Scripts.{work_of};
+
+use hp_units::{Cpu, Event, Plan, Serial, mark_of};
+use std::marker::Model;
+
+/// What is asked of the operation that the processor itself began last.
+#[derive(Clone, Copy, PartialEq, Eq, Drop)]
+pub enum Work {
+    /// Drains a processor's lists.
+    DrainFor { cpu: Cpu },
+    /// Moves one page.
+    Migrate,
+    /// Commits the operation.
+    Commit,
+    /// Cancels the operation.
+    Cancel,
+}
+
+/// One line of a script.
+#[derive(Drop)]
+pub enum Line {
+    /// The processor asks for an event.
+    Ask(Event),
+    /// It asks for work on the operation that it began last.
+    Own(Work),
+    /// It lets the driver carry a plan out, with at most so many migrations; the driver's calls are
+    /// the processor's.
+    Carry { plan: Plan, turns: u32 },
+}
+
+/// What a processor asks for, in this order. A contract sees it as the list of its lines.
+#[derive(Drop)]
+pub struct Script {
+    lines: Vec<Line>,
+}
+
+impl Model for Script {
+    ghost use Rattle.std.specs.Prelude.{List};
+    ghost use Rattle.hp_schedules.specs.declared.scripts.Line.{Line};
+
+    ghost Value = { List Line };
+
+    ghost view = { λ s. s.lines.items };
+}
+
+impl Work {
+    /// The event of the work on an operation.
+    pub(crate) fn event(self, op: Serial) -> Event
+        ensures { result ≡ work_of op self }
+    {
+        match self {
+            Work::DrainFor { cpu } => Event::DrainFor { op, cpu },
+            Work::Migrate => Event::Migrate { op },
+            Work::Commit => Event::Commit { op },
+            Work::Cancel => Event::Cancel { op },
+        }
+    }
+}
+
+impl Line {
+    /// Whether the line is one call.
+    pub(crate) fn is_one_call(&self) -> bool
+        ensures { result ≡ is_one_call self.now }
+    {
+        !matches!(self, Line::Carry { .. })
+    }
+
+    /// Whether the line undoes no steps by their serials.
+    fn leaves_steps(&self) -> bool
+        ensures { result ≡ leaves_lines self.now }
+    {
+        match self {
+            Line::Ask(event) => leaves_steps(event),
+            _ => true,
+        }
+    }
+}
+
+impl Script {
+    /// The script of these lines, with no memory taken.
+    pub fn new(lines: Vec<Line>) -> Self
+        ensures { result ≡ lines.items }
+    {
+        Script { lines }
+    }
+
+    /// The lines in order.
+    pub(crate) fn lines(&self) -> &[Line]
+        ensures { result.now ≡ self.now }
+    {
+        let lines = &self.lines;
+        lines.as_slice()
+    }
+
+    /// The number of lines.
+    pub(crate) fn len(&self) -> usize
+        ensures { result ≡ length self.now }
+    {
+        self.lines.len()
+    }
+
+    /// Whether each line is one call.
+    pub(crate) fn holds_no_plan(&self) -> bool
+        ensures { result ≡ holds_no_plan self.now }
+    {
+        self.lines.iter().all(|line| line.is_one_call())
+    }
+
+    /// Whether no line undoes steps by their serials.
+    fn leaves_steps(&self) -> bool
+        ensures { result ≡ leaves_script self.now }
+    {
+        self.lines.iter().all(|line| line.leaves_steps())
+    }
+}
+
+/// The operation that a processor began last, after a call with this serial more.
+pub(crate) fn later_operation(op: Serial, serial: Serial, event: &Event) -> Serial
+    ensures { result ≡ cond (is_opening (mark_of event.now)) serial op }
+{
+    if mark_of(event).is_opening() {
+        serial
+    } else {
+        op
+    }
+}
+
+/// Whether scripts undo no steps by their serials.
+pub fn undo_nothing(scripts: &[Script]) -> bool
+    ensures { result ≡ list_all leaves_script scripts.now }
+{
+    scripts.iter().all(|script| script.leaves_steps())
+}
+
+/// Whether an event undoes no steps by their serials.
+fn leaves_steps(event: &Event) -> bool
+    ensures { result ≡ leaves_steps (effect_of event.now) }
+{
+    !matches!(event, Event::UndoAfter { .. })
+}

@@ -1,0 +1,314 @@
+//! The ends so far, with their counts.
+ghost use Rattle.std.specs.Prelude.{◌≡◌, ◌↔◌, ◌<◌, ◌≤◌, ◌+◌, [], ◌∷◌, IfOk, IfSome, IfNone, IsTrue, OnOk, length, map, slice_index_or, sum_by};
+ghost use Rattle.hp_schedules.specs.Digests.{digest_of};
+ghost use Rattle.hp_schedules.specs.Notes.{AddsEnd, HasEndAt, HasNoEnd, HasRoom, IsNoted};
+ghost use Rattle.hp_schedules.specs.Outcomes.{outcome_with};
+ghost use Rattle.hp_schedules.specs.Schedules.{schedule_of};
+ghost use Rattle.hp_schedules.specs.Shares.{AddsAt, AddsShares, AreAtEnds, AreNoMore, AreSince, HasRoomFor, HasRoomForShares};
+
+use crate::digests::{digest_of, learn};
+use crate::outcomes::{Outcome, all_answers};
+use crate::rows::Share;
+use hp_units::{Cpu, Record, Row};
+use indexmap::IndexMap;
+use std::alloc::{AllocError, Global};
+use std::marker::Model;
+
+/// An end, and the schedules that lead to it.
+#[derive(Drop)]
+pub struct Ending {
+    /// How they end.
+    pub outcome: Outcome,
+    /// How many schedules end so.
+    pub count: u64,
+    /// The first of them: the processors in the order of their calls.
+    pub first: Vec<Cpu>,
+}
+
+/// The sum of the counts of ends: how many schedules lead to any of them.
+pub fn total_of(ends: &[Ending]) -> u128
+    ensures { result ≡ sum_by (λ e. e.count) ends.now }
+{
+    let mut total: u128 = 0;
+    for end in ends {
+        total += u128::from(end.count);
+    }
+    total
+}
+
+/// The processors of records, in order. An error is out of memory.
+pub fn schedule_of(alloc: Global, records: &[Record]) -> Result<Vec<Cpu>, AllocError>
+    ensures { IfOk result (λ schedule. schedule.items ≡ schedule_of records.now) }
+{
+    records.iter().map(|r| r.cpu).collect(alloc)
+}
+
+/// How many ends there may be for a place's counts to be kept (own rule).
+const FEW: usize = 1024;
+
+/// The ends so far, by a digest of an end the latest place of one that has it, and the limit of how
+/// many schedules may be counted.
+#[derive(Drop)]
+pub struct Tally {
+    limit: u64,
+    total: u64,
+    ends: Vec<Ending>,
+    latest: IndexMap<u64, usize>,
+}
+
+impl Model for Tally {
+    ghost use Rattle.std.specs.Prelude.{◌≡◌, ◌≤◌, sum_by};
+    ghost use Rattle.hp_schedules.specs.Notes.{AreKnown, TallyValue};
+
+    ghost Value = { TallyValue };
+
+    ghost view = { λ t. record { limit = t.limit; ends = t.ends.items } };
+
+    ghost invariant = { λ t.
+        (t.total ≡ sum_by (λ e. e.count) t.ends.items) × (t.total ≤ t.limit)
+        × AreKnown t.ends.items t.latest };
+}
+
+impl Tally {
+    /// No schedule is counted yet.
+    pub fn new(alloc: Global, limit: u64) -> Tally
+        ensures { result ≡ record { limit = limit; ends = [] } }
+    {
+        Tally {
+            limit,
+            total: 0,
+            ends: Vec::new(alloc),
+            latest: IndexMap::new(alloc),
+        }
+    }
+
+    /// Counts the schedule that records came from under its end: that of so many processors'
+    /// replies, with these rows. An error is out of memory; then nothing is counted.
+    pub fn note(
+        &mut self,
+        alloc: Global,
+        processors: u32,
+        records: &[Record],
+        blocks: Vec<Row>,
+    ) -> Result<(), AllocError>
+        requires { HasRoom self.old }
+        ensures ok { OnOk result (IsNoted self.old.ends (outcome_with processors records.now blocks.items)
+            (schedule_of records.now) self.new.ends) }
+        ensures limit { self.new.limit ≡ self.old.limit }
+    {
+        let digest = digest_of(processors, records, blocks.as_slice());
+        match self.place_of(digest, processors, records, blocks.as_slice()) {
+            Some(place) => {
+                self.add_at(place, 1);
+                Ok(())
+            }
+            None => self.add_end(alloc, digest, processors, records, blocks),
+        }
+    }
+
+    /// The place of the end that is the outcome of records, for so many processors, with these
+    /// rows. It is mostly the latest with its digest; where it is not, all ends are compared.
+    fn place_of(
+        &self,
+        digest: u64,
+        processors: u32,
+        records: &[Record],
+        blocks: &[Row],
+    ) -> Option<usize>
+        requires { digest ≡ digest_of (outcome_with processors records.now blocks.now) }
+        ensures some { IfSome result
+            (HasEndAt self.now.ends (outcome_with processors records.now blocks.now)) }
+        ensures none { IfNone result
+            (HasNoEnd self.now.ends (outcome_with processors records.now blocks.now)) }
+    {
+        let ends = self.ends.as_slice();
+        let Some(place) = self.latest.get(&digest) else {
+            return None;
+        };
+        if is_end_at(ends, *place, processors, records, blocks) {
+            return Some(*place);
+        }
+        first_place_of(ends, processors, records, blocks)
+    }
+
+    /// Counts the schedule that records came from under an end of its own, which there is not yet.
+    /// An error is out of memory; then nothing is counted.
+    fn add_end(
+        &mut self,
+        alloc: Global,
+        digest: u64,
+        processors: u32,
+        records: &[Record],
+        blocks: Vec<Row>,
+    ) -> Result<(), AllocError>
+        requires room { HasRoom self.old }
+        requires none { HasNoEnd self.old.ends (outcome_with processors records.now blocks.items) }
+        requires digest { digest ≡ digest_of (outcome_with processors records.now blocks.items) }
+        ensures ok { OnOk result (AddsEnd self.old.ends (outcome_with processors records.now blocks.items)
+            (schedule_of records.now) self.new.ends) }
+        ensures limit { self.new.limit ≡ self.old.limit }
+    {
+        self.ends.reserve(1)?;
+        learn(&mut self.latest, digest, self.ends.len())?;
+        let entry = new_end(alloc, processors, records, blocks)?;
+        self.ends.push_reserved(entry);
+        self.total += 1;
+        Ok(())
+    }
+
+    /// How many schedules are counted.
+    pub fn total(&self) -> u64
+        ensures { result ≡ sum_by (λ e. e.count) self.now.ends }
+    {
+        self.total
+    }
+
+    /// How many more may be counted.
+    pub fn room(&self) -> u64
+        ensures { sum_by (λ e. e.count) self.now.ends + result ≡ self.now.limit }
+    {
+        self.limit - self.total
+    }
+
+    /// Whether there are too many ends for a place's counts to be kept.
+    pub fn has_many_ends(&self) -> bool
+        ensures { IsTrue result ↔ FEW < length self.now.ends }
+    {
+        self.ends.len() > FEW
+    }
+
+    /// The count of each end, by its place. An error is out of memory.
+    pub fn counts(&self, alloc: Global) -> Result<Vec<u64>, AllocError>
+        ensures { IfOk result (λ counts. counts.items ≡ map (λ e. e.count) self.now.ends) }
+    {
+        self.ends.iter().map(|e| e.count).collect(alloc)
+    }
+
+    /// Writes what each end counts more than it did, in place of what was there; an end that was not
+    /// there did not count. An error is out of memory.
+    pub fn since(&self, earlier: &[u64], shares: &mut Vec<Share>) -> Result<(), AllocError>
+        requires { AreNoMore earlier.now self.now.ends }
+        ensures { OnOk result (AreSince earlier.now self.now.ends shares.new.items) }
+    {
+        shares.clear();
+        for (place, end) in self.ends.iter().enumerate() {
+            let was = count_at(earlier, place);
+            if end.count <= was {
+                continue;
+            }
+            let count = end.count - was;
+            shares.push(Share { end: place, count })?;
+        }
+        Ok(())
+    }
+
+    /// Counts so many schedules more under each end that has a share.
+    pub fn add(&mut self, shares: &[Share])
+        requires ends { AreAtEnds (length self.old.ends) shares.now }
+        requires room { HasRoomForShares self.old shares.now }
+        ensures added { AddsShares self.old.ends shares.now self.new.ends }
+        ensures limit { self.new.limit ≡ self.old.limit }
+    {
+        for share in shares {
+            self.add_at(share.end, share.count);
+        }
+    }
+
+    /// Counts so many schedules more under the end at a place.
+    fn add_at(&mut self, place: usize, count: u64)
+        requires place { place < length self.old.ends }
+        requires room { HasRoomFor self.old (count ∷ []) }
+        ensures added { AddsAt self.old.ends place count self.new.ends }
+        ensures limit { self.new.limit ≡ self.old.limit }
+    {
+        let end = &mut self.ends[place];
+        end.count += count;
+        self.total += count;
+    }
+
+    /// The ends with their counts.
+    pub fn into_ends(self) -> Vec<Ending>
+        ensures is { result.items ≡ self.ends }
+        ensures within { sum_by (λ e. e.count) self.ends ≤ self.limit }
+    {
+        let Tally { ends, .. } = self;
+        ends
+    }
+}
+
+/// The end of the one schedule that records came from: that of so many processors' replies, with
+/// these rows. An error is out of memory.
+fn new_end(
+    alloc: Global,
+    processors: u32,
+    records: &[Record],
+    blocks: Vec<Row>,
+) -> Result<Ending, AllocError>
+    ensures outcome { IfOk result
+        (λ end. end.outcome ≡ outcome_with processors records.now blocks.items) }
+    ensures count { IfOk result (λ end. end.count ≡ 1) }
+    ensures first { IfOk result (λ end. end.first.items ≡ schedule_of records.now) }
+{
+    let replies = all_answers(alloc, processors, records)?;
+    let first = schedule_of(alloc, records)?;
+    Ok(Ending {
+        outcome: Outcome::new(replies, blocks),
+        count: 1,
+        first,
+    })
+}
+
+/// Whether the sum of shares is no more than what there is room for.
+pub fn fit_in(shares: &[Share], room: u64) -> bool
+    ensures { IsTrue result ↔ (sum_by (λ s. s.count) shares.now ≤ room) }
+{
+    let mut left = room;
+    for share in shares {
+        match left.checked_sub(share.count) {
+            Some(less) => left = less,
+            None => return false,
+        }
+    }
+    true
+}
+
+/// The count at a place, and 0 where there is none.
+fn count_at(counts: &[u64], place: usize) -> u64
+    ensures { result ≡ slice_index_or counts.now place 0 }
+{
+    counts.get(place).copied().unwrap_or(0)
+}
+
+/// Whether the end at a place is this outcome.
+fn is_end_at(
+    ends: &[Ending],
+    place: usize,
+    processors: u32,
+    records: &[Record],
+    blocks: &[Row],
+) -> bool
+    ensures { IsTrue result → HasEndAt ends.now (outcome_with processors records.now blocks.now) place }
+{
+    match ends.get(place) {
+        Some(end) => end.outcome.is_of(processors, records, blocks),
+        None => false,
+    }
+}
+
+/// The place of the first end that is this outcome.
+fn first_place_of(
+    ends: &[Ending],
+    processors: u32,
+    records: &[Record],
+    blocks: &[Row],
+) -> Option<usize>
+    ensures some { IfSome result (HasEndAt ends.now (outcome_with processors records.now blocks.now)) }
+    ensures none { IfNone result (HasNoEnd ends.now (outcome_with processors records.now blocks.now)) }
+{
+    for (place, end) in ends.iter().enumerate() {
+        if end.outcome.is_of(processors, records, blocks) {
+            return Some(place);
+        }
+    }
+    None
+}
