@@ -7,12 +7,13 @@ use Rattle.hp_scenario.specs.Seen.{scenario_seen}
 use Rattle.hp_explore.specs.declared.exploring.Exploration.{Exploration}
 use Rattle.hp_explore.specs.declared.exploring.ExploreFault.{ExploreFault}
 use Rattle.hp_explore.specs.declared.exploring.ExploreFault.TheVariants as explore
-use Rattle.hp_explore.specs.declared.multinomials.HowMany.{HowMany}
-use Rattle.hp_explore.specs.declared.tally.Ending.{Ending}
-use Rattle.hp_explore.specs.Ends.{AreEnds}
-use Rattle.hp_explore.specs.Faults.{FillsHistory, HasMoreThan, IsCause}
+use Rattle.hp_schedules.specs.declared.multinomials.HowMany.{HowMany}
+use Rattle.hp_schedules.specs.declared.tally.Ending.{Ending}
+use Rattle.hp_schedules.specs.Ends.{AreEnds}
+use Rattle.hp_explore.specs.Faults.{FillsHistory, IsCause}
+use Rattle.hp_schedules.specs.Orders.{HasMoreThan}
 use Rattle.hp_explore.specs.Fronts.{AreFirst, IfFirst, IfWhole}
-use Rattle.hp_explore.specs.Schedules.{IsComplete, Setting}
+use Rattle.hp_schedules.specs.Schedules.{IsComplete, Setting}
 use Rattle.hp_find.specs.Faults.{find_fault_from}
 use Rattle.hp_find.specs.declared.fault.FindFault.{FindFault}
 use Rattle.hp_find.specs.declared.fault.FindFault.TheVariants as search
@@ -139,5 +140,3 @@ numbered_at ends number e some within is = record {
   counted = omega (arith, some);
   here = slice_get_read ends (length ends) (number - 1) e refl (omega (arith, some, within)) is;
 }
-
--- ---- the number of scripts

@@ -4,14 +4,16 @@ use Rattle.std.specs.Option.{is_none}
 use Rattle.hp_units.specs.LayoutParts.{LayoutParts}
 use Rattle.hp_machine.specs.Machine.{MachineValue}
 use Rattle.hp_explore.specs.declared.exploring.Exploration.{Exploration}
-use Rattle.hp_explore.specs.declared.multinomials.HowMany.{HowMany}
-use Rattle.hp_explore.specs.declared.scripts.Line.{Line as Step}
-use Rattle.hp_explore.specs.declared.tally.Ending.{Ending}
-use Rattle.hp_explore.specs.Ends.{AreEnds, AreInOrder}
-use Rattle.hp_explore.specs.Faults.{FillsHistory, HasMoreThan}
+use Rattle.hp_schedules.specs.declared.multinomials.HowMany.{HowMany}
+use Rattle.hp_schedules.specs.declared.scripts.Line.{Line as Step}
+use Rattle.hp_schedules.specs.declared.tally.Ending.{Ending}
+use Rattle.hp_schedules.specs.Ends.{AreEnds, AreInOrder}
+use Rattle.hp_explore.specs.Faults.{FillsHistory}
+use Rattle.hp_schedules.specs.Orders.{HasMoreThan}
 use Rattle.hp_explore.specs.Fronts.{AreFirst}
-use Rattle.hp_explore.specs.Interleavings.{IsKnown, IsRoomNeeded}
-use Rattle.hp_explore.specs.Schedules.{IsComplete, Setting, setting}
+use Rattle.hp_schedules.specs.Interleavings.{IsKnown, IsRoomNeeded}
+use Rattle.hp_schedules.specs.Schedules.{IsComplete, Setting}
+use Rattle.hp_explore.specs.Settings.{setting}
 use Rattle.hp_find.specs.Faults.{IsFindCause, IsRecorded, IsWithin, SparesHistory}
 use Rattle.hp_find.specs.Reaching.{IsFound}
 use Rattle.hp_find.specs.declared.fault.FindFault.{FindFault}
@@ -22,18 +24,16 @@ use Rattle.hp_find.specs.declared.wanted.Wanted.{Wanted}
 use Rattle.hp_scenario.specs.declared.fault.ScenarioFault.{ScenarioFault}
 use Rattle.hp_scenario.specs.declared.lines.Line.{Line}
 use Rattle.hp_scenario.specs.Scenario.{ScenarioValue, scenario_in}
-use Rattle.hp_lab.specs.declared.answering.Ask.{Ask}
-use Rattle.hp_lab.specs.declared.answering.Ask.TheVariants.{Ends, Find}
+use Rattle.hp_ends.specs.Words.{counts_text}
 use Rattle.hp_lab.specs.declared.forms.EndsForm.{EndsForm}
 use Rattle.hp_lab.specs.declared.forms.EndsForm.TheVariants.{Words, Objects, Scenario}
-use Rattle.hp_lab.specs.Objects.{all_objects_text}
 use Rattle.hp_lab.specs.declared.forms.ScheduleForm.{ScheduleForm}
 use Rattle.hp_lab.specs.declared.fault.LabFault.{LabFault}
 use Rattle.hp_lab.specs.declared.fault.LabFault.TheVariants.{NotJson, BadShape, Layout, BadLine, NotForScript, TooMany, HistoryFull, OutOfMemory}
 use Rattle.hp_scripts.specs.Checks.{AreFit}
 use Rattle.hp_lab.specs.Faults.{fault_from}
 use Rattle.hp_scripts.specs.Starts.{IsStart, IsUnfitAfter}
-use Rattle.hp_lab.specs.Texts.{absent_told, counts_text, exploration_text, found_text, replay_text}
+use Rattle.hp_lab.specs.Texts.{absent_told, all_objects_text, exploration_text, found_text, replay_text}
 
 -- ---- on a machine
 
@@ -115,22 +115,11 @@ pub record IsFoundOn (form : ScheduleForm) (names : List (List ℕ)) (before : L
   pub along : IsRecorded g limit what
   pub told : IsFoundTold form names before g what text found
 
--- what is asked: all ends, or one with lines
-abbrev pub IsAnsweredOn : Ask → (limit : ℕ) → (text : List ℕ) → (found : Bool) → (names : List (List ℕ))
-    → (before : List Line) → Setting → Type 0
-IsAnsweredOn (Ends form) limit text found names before g = IsExploredOn form names before g limit text found
-IsAnsweredOn (Find wanted form) limit text found names before g =
-    IsFoundOn form names before g wanted.now limit text found
-
 -- why there is no answer: the ends are told whatever the limit
 abbrev pub IsEndsCause : Setting → FindFault → Type 0
 IsEndsCause g search.TooMany = ⊥
 IsEndsCause g search.HistoryFull = FillsHistory g
 IsEndsCause g search.OutOfMemory = Unit {0}
-
-abbrev pub IsAskCause : Ask → (limit : ℕ) → Setting → FindFault → Type 0
-IsAskCause (Ends form) limit g fault = IsEndsCause g fault
-IsAskCause (Find wanted form) limit g fault = IsFindCause g wanted.now limit fault
 
 -- ---- in a scenario
 

@@ -1,6 +1,9 @@
 -- A scenario made ready for a search: the machine after its setup, and the scripts of the lines after it.
-use Rattle.std.specs.Prelude.{◌≡◌, ℕ, List, length, take, drop, Ok}
-use Rattle.hp_explore.specs.Schedules.{Setting, setting}
+use Rattle.std.specs.Prelude.{◌≡◌, ◌≤◌, ℕ, List, length, take, drop, Option, Some, None, option_map, Ok}
+use Rattle.hp_units.specs.declared.replies.Record.{Record}
+use Rattle.hp_machine.specs.Machine.{MachineValue}
+use Rattle.hp_schedules.specs.Schedules.{Setting}
+use Rattle.hp_explore.specs.Settings.{setting}
 use Rattle.hp_scenario.specs.declared.lines.Line.{Line}
 use Rattle.hp_scenario.specs.Scenario.{scenario_in}
 use Rattle.hp_scenario.specs.Seen.{scenario_seen}
@@ -33,3 +36,12 @@ pub record IsPrepared (input : List ℕ) (setup : ℕ) (p : Prepared) : Type 0 w
 -- the setup; or out of memory
 abbrev pub IsUnprepared : (input : List ℕ) → (setup : ℕ) → LabFault → Type 0
 IsUnprepared input setup fault = IsFaultWith (λ g f. ⊥) input setup 0 fault
+
+-- the calls of a machine that a schedule led to, and that it has at least the records that were
+-- there; no machine where the schedule cannot be played
+abbrev pub calls_in : Setting → Option MachineValue → Option (List Record)
+calls_in g played = option_map (λ m. drop (length g.start) m.history) played
+
+abbrev pub GoesOn : Setting → Option MachineValue → Type 0
+GoesOn g None = Unit {0}
+GoesOn g (Some m) = length g.start ≤ length m.history

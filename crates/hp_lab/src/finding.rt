@@ -1,23 +1,18 @@
 //! A scenario searched for an end.
-ghost use Rattle.std.specs.Prelude.{◌≡◌, ◌++◌, ◌^◌, ◌<◌, IfErr, IfOk, OnOk, length, string_bytes};
+ghost use Rattle.std.specs.Prelude.{◌≡◌, ◌^◌, ◌<◌, IfErr, IfOk, length, option_map, string_bytes};
 ghost use Rattle.hp_explore.specs.Faults.{IsCause};
-ghost use Rattle.hp_explore.specs.Schedules.{setting};
 ghost use Rattle.hp_find.specs.Faults.{IsFindCause};
 ghost use Rattle.hp_lab.specs.Explorations.{IsFindFaultOf, IsFindingOf, IsFoundOn, IsFoundTold};
-ghost use Rattle.hp_lab.specs.Texts.{absent_text, absent_told, found_text, nearest_text};
+ghost use Rattle.hp_lab.specs.Prepared.{before_of, names_of, setting_of};
+ghost use Rattle.hp_lab.specs.Texts.{absent_told, found_text, schedule_text};
 
-use crate::answering::{Ask, answer_to};
-use crate::ends::write_first;
 use crate::fault::LabFault;
 use crate::forms::ScheduleForm;
-use crate::objects::{absent_object, found_object};
-use crate::replays::replay_text;
-use hp_explore::{ExploreFault, Script, Watch};
+use crate::prepared::{Prepared, prepare};
+use hp_ends::{absent_object, absent_text, found_object, nearest_text, replay_text};
+use hp_explore::{ExploreFault, Watch};
 use hp_find::{FindFault, Found, Wanted, changes_of, find};
-use hp_machine::Machine;
-use hp_scenario::Line;
-use hp_units::{Cpu, Text};
-use indexmap::IndexSet;
+use hp_units::{Cpu, Record};
 use std::alloc::{AllocError, Global};
 
 /// What an exploration or a search says, and whether it found what was asked for.
@@ -55,102 +50,108 @@ pub fn find_text<W: Watch>(
         IsFindingOf form input.now setup limit wanted.now (string_bytes f.text) f.is_found) }
     ensures err { IfErr result (IsFindFaultOf input.now setup limit wanted.now) }
 {
-    let ask = Ask::Find { wanted, form };
-    answer_to(alloc, input, setup, limit, ask, watch)
-}
-
-/// A search of scripts on a machine, on which these lines were run first.
-pub(crate) fn found_on<W: Watch>(
-    alloc: Global,
-    names: &IndexSet<Text>,
-    before: &[Line],
-    machine: &Machine,
-    scripts: &[Script],
-    wanted: &[Wanted],
-    form: ScheduleForm,
-    limit: u64,
-    watch: &mut W,
-) -> Result<Finding, FindFault>
-    requires { length scripts.now < 2 ^ 32 }
-    ensures ok { IfOk result (λ f. IsFoundOn form names.now.keys before.now
-        (setting machine.now scripts.now) wanted.now limit (string_bytes f.text) f.is_found) }
-    ensures err { IfErr result (IsFindCause (setting machine.now scripts.now) wanted.now limit) }
-{
-    let found = find(alloc, machine, scripts, wanted, limit, watch)?;
-    Ok(found_told(alloc, names, before, machine, scripts, &found, form)?)
-}
-
-/// What a search found, in a form.
-fn found_told(
-    alloc: Global,
-    names: &IndexSet<Text>,
-    before: &[Line],
-    machine: &Machine,
-    scripts: &[Script],
-    found: &Found,
-    form: ScheduleForm,
-) -> Result<Finding, ExploreFault>
-    ensures ok { IfOk result (λ f. IsFoundTold form names.now.keys before.now
-        (setting machine.now scripts.now) found.now (string_bytes f.text) f.is_found) }
-    ensures err { IfErr result (IsCause (setting machine.now scripts.now)) }
-{
-    match found {
-        Found::Nearest(schedule) => {
-            let schedule = schedule.as_slice();
-            let text = found_text(alloc, names, before, machine, scripts, schedule, form)?;
-            Ok(Finding {
-                text,
-                is_found: true,
-            })
-        }
-        Found::Absent(schedules) => {
-            let text = absent_told(alloc, *schedules, form)?;
-            Ok(Finding {
-                text,
-                is_found: false,
-            })
-        }
+    let prepared = prepare(alloc, input, setup)?;
+    match prepared.found(alloc, wanted, form, limit, watch) {
+        Ok(finding) => Ok(finding),
+        Err(fault) => Err(prepared.told_fault(alloc, limit, fault)),
     }
 }
 
-/// A schedule in a form.
-fn found_text(
-    alloc: Global,
-    names: &IndexSet<Text>,
-    before: &[Line],
-    machine: &Machine,
-    scripts: &[Script],
-    schedule: &[Cpu],
-    form: ScheduleForm,
-) -> Result<String, ExploreFault>
-    ensures ok { IfOk result (λ text. string_bytes text
-        ≡ found_text form names.now.keys before.now (setting machine.now scripts.now) schedule.now) }
-    ensures err { IfErr result (IsCause (setting machine.now scripts.now)) }
-{
-    match form {
-        ScheduleForm::Words => nearest_text(alloc, names, machine, scripts, schedule),
-        ScheduleForm::Object => found_object(alloc, names, machine, scripts, schedule),
-        ScheduleForm::Scenario => replay_text(alloc, names, before, machine, scripts, schedule),
+impl Prepared {
+    /// A search of the scripts for an end with each of the wanted lines, in a form.
+    fn found<W: Watch>(
+        &self,
+        alloc: Global,
+        wanted: &[Wanted],
+        form: ScheduleForm,
+        limit: u64,
+        watch: &mut W,
+    ) -> Result<Finding, FindFault>
+        requires { length self.now.start.scripts.items < 2 ^ 32 }
+        ensures ok { IfOk result (λ f. IsFoundOn form (names_of self.now) (before_of self.now)
+            (setting_of self.now) wanted.now limit (string_bytes f.text) f.is_found) }
+        ensures err { IfErr result (IsFindCause (setting_of self.now) wanted.now limit) }
+    {
+        let machine = &self.start.machine;
+        let scripts = self.start.scripts.as_slice();
+        let found = find(alloc, machine, scripts, wanted, limit, watch)?;
+        let finding = self.found_told(alloc, &found, form)?;
+        Ok(finding)
     }
-}
 
-/// How often a schedule changes the processor, and its calls.
-fn nearest_text(
-    alloc: Global,
-    names: &IndexSet<Text>,
-    machine: &Machine,
-    scripts: &[Script],
-    schedule: &[Cpu],
-) -> Result<String, ExploreFault>
-    ensures ok { IfOk result (λ text.
-        string_bytes text ≡ nearest_text names.now.keys (setting machine.now scripts.now) schedule.now) }
-    ensures err { IfErr result (IsCause (setting machine.now scripts.now)) }
-{
-    let mut text = String::new(alloc);
-    let changes = changes_of(schedule);
-    writeln!(&mut text, "changes: {changes}\nfirst:")?;
-    write_first(&mut text, alloc, names, machine, scripts, schedule)?;
-    Ok(text)
+    /// What a search found, in a form.
+    fn found_told(
+        &self,
+        alloc: Global,
+        found: &Found,
+        form: ScheduleForm,
+    ) -> Result<Finding, ExploreFault>
+        ensures ok { IfOk result
+            (λ f. IsFoundTold form (names_of self.now) (before_of self.now) (setting_of self.now) found.now
+            (string_bytes f.text) f.is_found) }
+        ensures err { IfErr result (IsCause (setting_of self.now)) }
+    {
+        match found {
+            Found::Nearest(schedule) => {
+                let text = self.schedule_told(alloc, schedule.as_slice(), form)?;
+                Ok(Finding {
+                    text,
+                    is_found: true,
+                })
+            }
+            Found::Absent(schedules) => {
+                let text = absent_told(alloc, *schedules, form)?;
+                Ok(Finding {
+                    text,
+                    is_found: false,
+                })
+            }
+        }
+    }
+
+    /// A schedule of the scripts in a form. A fault is that of a call: it is played once more.
+    pub(crate) fn schedule_told(
+        &self,
+        alloc: Global,
+        schedule: &[Cpu],
+        form: ScheduleForm,
+    ) -> Result<String, ExploreFault>
+        ensures ok { IfOk result (λ text. string_bytes text
+            ≡ found_text form (names_of self.now) (before_of self.now) (setting_of self.now) schedule.now) }
+        ensures err { IfErr result (IsCause (setting_of self.now)) }
+    {
+        let played = self.played(alloc, schedule)?;
+        let text = self.text_of(alloc, schedule, self.calls_of(&played), form)?;
+        Ok(text)
+    }
+
+    /// A schedule with its calls in a form.
+    fn text_of(
+        &self,
+        alloc: Global,
+        schedule: &[Cpu],
+        calls: Option<&[Record]>,
+        form: ScheduleForm,
+    ) -> Result<String, AllocError>
+        ensures { IfOk result (λ text. string_bytes text
+            ≡ schedule_text form (names_of self.now) (before_of self.now) (setting_of self.now).layout
+            schedule.now (option_map (λ c. c.now) calls.entry)) }
+    {
+        let names = &self.scenario.names;
+        match form {
+            ScheduleForm::Words => nearest_text(alloc, names, changes_of(schedule), calls),
+            ScheduleForm::Object => found_object(alloc, names, changes_of(schedule), calls),
+            ScheduleForm::Scenario => {
+                replay_text(
+                    alloc,
+                    names,
+                    self.before(),
+                    self.start.machine.layout(),
+                    calls,
+                )
+            }
+        }
+    }
 }
 
 /// That no schedule ends so, and of how many, in a form.
@@ -162,13 +163,4 @@ fn absent_told(alloc: Global, schedules: u128, form: ScheduleForm) -> Result<Str
         ScheduleForm::Object => absent_object(alloc, schedules),
         ScheduleForm::Scenario => absent_text(alloc, schedules),
     }
-}
-
-/// That no schedule ends so, and of how many.
-fn absent_text(alloc: Global, schedules: u128) -> Result<String, AllocError>
-    ensures { IfOk result (λ text. string_bytes text ≡ absent_text schedules) }
-{
-    let mut text = String::new(alloc);
-    writeln!(&mut text, "interleavings: {schedules}\nends so: 0")?;
-    Ok(text)
 }

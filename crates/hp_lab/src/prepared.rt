@@ -1,20 +1,18 @@
 //! A scenario made ready for a search: the machine after its setup, and the scripts of its later lines.
-ghost use Rattle.std.specs.Prelude.{◌≡◌, ◌++◌, ◌^◌, ◌<◌, IfErr, IfOk, OnOk, length, string_bytes};
+ghost use Rattle.std.specs.Prelude.{◌≡◌, ◌^◌, ◌<◌, IfErr, IfOk, length, option_map};
 ghost use Rattle.hp_explore.specs.Faults.{IsCause};
-ghost use Rattle.hp_lab.specs.Explorations.{AreEndsTold, IsMore, IsTold, IsToldAs};
-ghost use Rattle.hp_lab.specs.Objects.{end_keys};
-ghost use Rattle.hp_lab.specs.Prepared.{IsPrepared, IsUnprepared, before_of, names_of, setting_of};
+ghost use Rattle.hp_schedules.specs.Schedules.{plays};
+ghost use Rattle.hp_lab.specs.Explorations.{IsMore, IsToldAs};
+ghost use Rattle.hp_lab.specs.Prepared.{GoesOn, IsPrepared, IsUnprepared, before_of, calls_in, setting_of};
 
-use crate::exploring::{ends_told, exploration_told, more_than};
 use crate::fault::LabFault;
-use crate::finding::Finding;
-use crate::forms::EndsForm;
-use crate::objects::write_end_keys;
-use crate::telling::told_fault;
-use hp_explore::{Ending, Exploration, ExploreFault, HowMany};
+use hp_explore::{ExploreFault, play, room_needed};
 use hp_find::FindFault;
+use hp_machine::Machine;
 use hp_scenario::{Line, Scenario};
+use hp_schedules::{HowMany, interleavings_of};
 use hp_scripts::{Start, front_of, start_of};
+use hp_units::{Cpu, Record};
 use std::alloc::{AllocError, Global};
 
 /// A scenario made ready for a search.
@@ -66,55 +64,30 @@ impl Prepared {
         front_of(self.scenario.lines.as_slice(), self.setup)
     }
 
-    /// An exploration of the scripts, as `explore_text` tells it. A fault is that of a call: the first
-    /// interleaving of each end is played once more.
-    pub fn exploration_told(
+    /// The machine that a schedule of the scripts leads to; none where it cannot be played.
+    pub(crate) fn played(
         &self,
         alloc: Global,
-        explored: &Exploration,
-        form: EndsForm,
-    ) -> Result<Finding, ExploreFault>
-        ensures ok { IfOk result
-            (λ f. IsTold form (names_of self.now) (before_of self.now) (setting_of self.now) explored.now
-            (string_bytes f.text) f.is_found) }
+        schedule: &[Cpu],
+    ) -> Result<Option<Machine>, ExploreFault>
+        ensures calls { IfOk result
+            (λ p. calls_in (setting_of self.now) p ≡ plays (setting_of self.now) schedule.now) }
+        ensures on { IfOk result (GoesOn (setting_of self.now)) }
         ensures err { IfErr result (IsCause (setting_of self.now)) }
     {
-        exploration_told(
-            alloc,
-            &self.scenario.names,
-            self.before(),
-            &self.start.machine,
-            &self.start.scripts,
-            explored,
-            form,
-        )
+        play(alloc, &self.start.machine, &self.start.scripts, schedule)
     }
 
-    /// Ends of interleavings of the scripts in a form, as `explore_text` tells them; where they are
-    /// not those of all interleavings, with what is known of how many there are. A fault is that of
-    /// a call: the first interleaving of each end is played once more.
-    pub fn ends_told(
-        &self,
-        alloc: Global,
-        ends: &[Ending],
-        more: Option<HowMany>,
-        form: EndsForm,
-    ) -> Result<Finding, ExploreFault>
-        ensures ok { IfOk result
-            (λ f. AreEndsTold form (names_of self.now) (before_of self.now) (setting_of self.now)
-            ends.now more (string_bytes f.text) f.is_found) }
-        ensures err { IfErr result (IsCause (setting_of self.now)) }
+    /// The calls that a machine made since the search began.
+    pub(crate) fn calls_of<'a>(&self, played: &'a Option<Machine>) -> Option<&'a [Record]>
+        requires { GoesOn (setting_of self.now) played.now }
+        ensures { option_map (λ c. c.now) result ≡ calls_in (setting_of self.now) played.now }
     {
-        ends_told(
-            alloc,
-            &self.scenario.names,
-            self.before(),
-            &self.start.machine,
-            &self.start.scripts,
-            ends,
-            more,
-            form,
-        )
+        let start = self.start.machine.history().len();
+        match played {
+            Some(played) => Some(&played.history()[start..]),
+            None => None,
+        }
     }
 
     /// What is known of how many interleavings the scripts have, where not all were counted; none where
@@ -122,44 +95,26 @@ impl Prepared {
     pub fn more_than(&self, alloc: Global, is_whole: bool) -> Result<Option<HowMany>, AllocError>
         ensures { IfOk result (IsMore self.now.start.scripts.items is_whole) }
     {
-        more_than(alloc, &self.start.scripts, is_whole)
-    }
-
-    /// Writes the object of an end up to the bracket at its end: its number, how many interleavings
-    /// lead to it, what the processors were answered, what became of the memory blocks, and the calls
-    /// of the first interleaving. A fault is that of a call: this is played once more.
-    pub fn write_end_keys(
-        &self,
-        out: &mut String,
-        alloc: Global,
-        number: usize,
-        end: &Ending,
-    ) -> Result<(), ExploreFault>
-        ensures ok { OnOk result (string_bytes out.new
-            ≡ string_bytes out.old ++ end_keys (names_of self.now) (setting_of self.now) number end.now) }
-        ensures err { IfErr result (IsCause (setting_of self.now)) }
-    {
-        write_end_keys(
-            out,
-            alloc,
-            &self.scenario.names,
-            &self.start.machine,
-            &self.start.scripts,
-            number,
-            end,
-        )
+        if is_whole {
+            return Ok(None);
+        }
+        let known = interleavings_of(alloc, &self.start.scripts, u64::MAX)?;
+        Ok(Some(known))
     }
 
     /// The fault of a search of the scripts, with what is known of it.
     pub fn told_fault(&self, alloc: Global, limit: u64, fault: FindFault) -> LabFault
         ensures { IsToldAs limit (setting_of self.now) fault result }
     {
-        told_fault(
-            alloc,
-            &self.start.machine,
-            &self.start.scripts,
-            limit,
-            fault,
-        )
+        match fault {
+            FindFault::TooMany => LabFault::TooMany { limit },
+            FindFault::HistoryFull => {
+                match room_needed(alloc, &self.start.machine, &self.start.scripts) {
+                    Ok(needed) => LabFault::HistoryFull { needed },
+                    Err(AllocError) => LabFault::OutOfMemory,
+                }
+            }
+            FindFault::OutOfMemory => LabFault::OutOfMemory,
+        }
     }
 }

@@ -1,0 +1,12 @@
+-- A schedule as a scenario.
+use Rattle.std.specs.Prelude.{ℕ, List, [], Option, Some, None}
+use Rattle.hp_units.specs.LayoutParts.{LayoutParts}
+use Rattle.hp_units.specs.declared.replies.Record.{Record}
+use Rattle.hp_scenario.specs.declared.lines.Line.{Line}
+use Rattle.hp_spelling.specs.Scenarios.{scenario_text}
+
+-- if it can be played: the lines that were run first, and then its calls
+abbrev pub replayed_text : (names : List (List ℕ)) → (before : List Line) → LayoutParts
+    → (calls : Option (List Record)) → List ℕ
+replayed_text names before l None = []
+replayed_text names before l (Some calls) = scenario_text l names before calls

@@ -1,0 +1,91 @@
+-- How ends, and a schedule that was found, are written as words.
+use Rattle.std.specs.Prelude.{ℕ, List, [], ◌∷◌, ◌++◌, codes, Option, Some, None, length, slice_get, sum_by}
+use Rattle.std.specs.Fmt.{decimal}
+use Rattle.std.specs.List.{flat_map}
+use Rattle.hp_units.specs.LayoutParts.{LayoutParts}
+use Rattle.hp_units.specs.declared.replies.Record.{Record}
+use Rattle.hp_units.specs.declared.replies.Reply.{Reply}
+use Rattle.hp_units.specs.declared.rows.Row.{Row}
+use Rattle.hp_text.specs.Answers.{bare_reply_line}
+use Rattle.hp_text.specs.State.{block_line, newline, texts_below}
+use Rattle.hp_schedules.specs.declared.multinomials.HowMany.{HowMany}
+use Rattle.hp_schedules.specs.declared.multinomials.HowMany.TheVariants.{Exactly, MoreThanLimit, Unknown}
+use Rattle.hp_schedules.specs.declared.tally.Ending.{Ending}
+use Rattle.hp_schedules.specs.Outcomes.{OutcomeValue}
+use Rattle.hp_spelling.specs.Entries.{calls_text}
+
+-- ---- how it ends
+
+-- what a processor was answered
+abbrev pub answers_text : (cpu : ℕ) → Option (List Reply) → List ℕ
+answers_text cpu None = []
+answers_text cpu (Some replies) = codes "cpu " ++ decimal cpu ++ newline ++ flat_map bare_reply_line replies
+
+abbrev pub processors_text : (cpus : ℕ) → List (List Reply) → List ℕ
+processors_text cpus replies = texts_below (λ cpu. answers_text cpu (slice_get replies cpu)) cpus
+
+-- what became of the memory blocks
+abbrev pub blocks_text : (blocks : ℕ) → List Row → List ℕ
+blocks_text blocks rows = texts_below (λ block. block_line block (slice_get rows block)) blocks
+
+abbrev pub outcome_text : LayoutParts → OutcomeValue → List ℕ
+outcome_text l x = processors_text l.cpus x.replies ++ blocks_text l.blocks x.blocks
+
+-- ---- the calls
+
+-- the calls as texts of a scenario's `calls`, one a line, with a comma between two
+abbrev pub listed_calls : (names : List (List ℕ)) → List Record → List ℕ
+listed_calls names [] = []
+listed_calls names (r ∷ rs) = calls_text (codes ",\n") names (r ∷ rs) ++ newline
+
+-- those of a schedule, if it can be played
+abbrev pub played_text : (names : List (List ℕ)) → (calls : Option (List Record)) → List ℕ
+played_text names None = []
+played_text names (Some calls) = listed_calls names calls
+
+-- ---- an end
+
+-- its number, after an empty line
+abbrev pub heading_text : (number : ℕ) → List ℕ
+heading_text number = codes "\nend " ++ decimal number ++ newline
+
+-- how many interleavings lead to it, the outcome, and the calls of the first
+abbrev pub told_text : (names : List (List ℕ)) → LayoutParts → Ending → (calls : Option (List Record))
+    → List ℕ
+told_text names l e calls =
+    codes "interleavings: " ++ decimal e.count ++ newline ++ outcome_text l e.outcome ++ codes "first:\n"
+    ++ played_text names calls
+
+abbrev pub end_text : (names : List (List ℕ)) → LayoutParts → (number : ℕ) → Ending
+    → (calls : Option (List Record)) → List ℕ
+end_text names l number e calls = heading_text number ++ told_text names l e calls
+
+-- ---- how many there are
+
+-- how many interleavings there are, where not all were counted
+abbrev pub many_text : (counted : ℕ) → HowMany → List ℕ
+many_text counted (Exactly count) = decimal count ++ codes " interleavings"
+many_text counted MoreThanLimit = codes "more than " ++ decimal counted ++ codes " interleavings"
+many_text counted Unknown = codes "more than " ++ decimal counted ++ codes " interleavings"
+
+-- so many were counted: all there are, or the first of more
+abbrev pub total_text : (counted : ℕ) → Option HowMany → List ℕ
+total_text counted None = codes "interleavings: " ++ decimal counted
+total_text counted (Some known) =
+    many_text counted known ++ codes "; these are the first " ++ decimal counted
+
+-- how many interleavings and ends there are
+abbrev pub counts_text : List Ending → Option HowMany → List ℕ
+counts_text ends more =
+    total_text (sum_by (λ e. e.count) ends) more ++ codes "\nends: " ++ decimal (length ends) ++ newline
+
+-- ---- a search
+
+-- a schedule that was found: how often it changes the processor, and its calls
+abbrev pub nearest_text : (names : List (List ℕ)) → (changes : ℕ) → (calls : Option (List Record)) → List ℕ
+nearest_text names changes calls =
+    codes "changes: " ++ decimal changes ++ codes "\nfirst:\n" ++ played_text names calls
+
+-- no schedule ends so, and there are so many
+abbrev pub absent_text : (schedules : ℕ) → List ℕ
+absent_text schedules = codes "interleavings: " ++ decimal schedules ++ codes "\nends so: 0\n"

@@ -1,0 +1,216 @@
+//! How ends, and a schedule that was found, are written as words.
+ghost use Rattle.std.specs.Prelude.{◌≡◌, ◌++◌, IfOk, OnOk, option_map, string_bytes};
+ghost use Rattle.std.specs.List.{flat_map};
+ghost use Rattle.hp_text.specs.Answers.{bare_reply_line};
+ghost use Rattle.hp_text.specs.State.{block_line};
+ghost use Rattle.hp_ends.specs.Words.{absent_text, answers_text, blocks_text, counts_text, end_text, heading_text, listed_calls, many_text, nearest_text, outcome_text, played_text, processors_text, told_text, total_text};
+
+use hp_schedules::{Answers, Ending, HowMany, Outcome, total_of};
+use hp_spelling::write_calls;
+use hp_text::{write_reply, write_row};
+use hp_units::{Block, Cpu, Layout, Record, Reply, Row, Text};
+use indexmap::IndexSet;
+use std::alloc::{AllocError, Global};
+
+/// Writes how many interleavings and ends there are. Where not all interleavings were counted it is
+/// given what is known of how many there are. An error is out of memory.
+pub fn write_counts(
+    out: &mut String,
+    ends: &[Ending],
+    more: Option<HowMany>,
+) -> Result<(), AllocError>
+    ensures { OnOk result (string_bytes out.new ≡ string_bytes out.old ++ counts_text ends.now more) }
+{
+    let count = ends.len();
+    write_total(out, total_of(ends), more)?;
+    writeln!(out, "\nends: {count}")
+}
+
+/// Writes how many interleavings there are, and how many of them were counted, where not all were.
+fn write_total(out: &mut String, counted: u128, more: Option<HowMany>) -> Result<(), AllocError>
+    ensures { OnOk result (string_bytes out.new ≡ string_bytes out.old ++ total_text counted more) }
+{
+    match more {
+        Some(known) => {
+            write_many(out, counted, known)?;
+            write!(out, "; these are the first {counted}")
+        }
+        None => write!(out, "interleavings: {counted}"),
+    }
+}
+
+/// Writes how many interleavings there are, where so many were counted and not all.
+fn write_many(out: &mut String, counted: u128, known: HowMany) -> Result<(), AllocError>
+    ensures { OnOk result (string_bytes out.new ≡ string_bytes out.old ++ many_text counted known) }
+{
+    match known {
+        HowMany::Exactly(count) => write!(out, "{count} interleavings"),
+        HowMany::MoreThanLimit => write!(out, "more than {counted} interleavings"),
+        HowMany::Unknown => write!(out, "more than {counted} interleavings"),
+    }
+}
+
+/// Writes an end on a machine of this layout: its number after an empty line, how many
+/// interleavings lead to it, what the processors were answered, what became of the memory blocks,
+/// and the calls of the first interleaving, if it can be played. Owners are written by their names.
+/// An error is out of memory.
+pub fn write_end(
+    out: &mut String,
+    names: &IndexSet<Text>,
+    layout: &Layout,
+    number: usize,
+    end: &Ending,
+    calls: Option<&[Record]>,
+) -> Result<(), AllocError>
+    ensures { OnOk result (string_bytes out.new ≡ string_bytes out.old
+        ++ end_text names.now.keys layout.now number end.now (option_map (λ c. c.now) calls.entry)) }
+{
+    write_heading(out, number)?;
+    write_told(out, names, layout, end, calls)
+}
+
+/// Writes the number of an end after an empty line.
+fn write_heading(out: &mut String, number: usize) -> Result<(), AllocError>
+    ensures { OnOk result (string_bytes out.new ≡ string_bytes out.old ++ heading_text number) }
+{
+    writeln!(out, "\nend {number}")
+}
+
+/// Writes an end after its number.
+fn write_told(
+    out: &mut String,
+    names: &IndexSet<Text>,
+    layout: &Layout,
+    end: &Ending,
+    calls: Option<&[Record]>,
+) -> Result<(), AllocError>
+    ensures { OnOk result (string_bytes out.new ≡ string_bytes out.old
+        ++ told_text names.now.keys layout.now end.now (option_map (λ c. c.now) calls.entry)) }
+{
+    let count = end.count;
+    writeln!(out, "interleavings: {count}")?;
+    write_outcome(out, layout, &end.outcome)?;
+    out.push_str("first:\n")?;
+    write_first(out, names, calls)
+}
+
+/// Writes what the processors were answered, and what became of the memory blocks.
+fn write_outcome(out: &mut String, layout: &Layout, outcome: &Outcome) -> Result<(), AllocError>
+    ensures { OnOk result
+        (string_bytes out.new ≡ string_bytes out.old ++ outcome_text layout.now outcome.now) }
+{
+    write_processors(out, layout.cpus(), outcome.replies())?;
+    write_blocks(out, layout.blocks(), outcome.blocks())
+}
+
+/// Writes what each processor was answered, from processor 0 on.
+fn write_processors(out: &mut String, cpus: u32, replies: &[Answers]) -> Result<(), AllocError>
+    ensures { OnOk result (string_bytes out.new ≡ string_bytes out.old ++ processors_text cpus replies.now) }
+{
+    for number in 0..cpus {
+        write_answers(out, Cpu(number), replies.get(number as usize))?;
+    }
+    Ok(())
+}
+
+/// Writes a processor's number and what it was answered.
+fn write_answers(out: &mut String, cpu: Cpu, answers: Option<&Answers>) -> Result<(), AllocError>
+    ensures { OnOk result (string_bytes out.new
+        ≡ string_bytes out.old ++ answers_text cpu (option_map (λ a. a.now) answers.entry)) }
+{
+    match answers {
+        Some(answers) => {
+            writeln!(out, "cpu {cpu}")?;
+            write_replies(out, answers.as_slice())
+        }
+        None => Ok(()),
+    }
+}
+
+/// Writes replies without their serials.
+fn write_replies(out: &mut String, replies: &[Reply]) -> Result<(), AllocError>
+    ensures { OnOk result
+        (string_bytes out.new ≡ string_bytes out.old ++ flat_map bare_reply_line replies.now) }
+{
+    for reply in replies {
+        write_reply(out, *reply)?;
+    }
+    Ok(())
+}
+
+/// Writes what became of each memory block, from block 0 on.
+fn write_blocks(out: &mut String, blocks: u32, rows: &[Row]) -> Result<(), AllocError>
+    ensures { OnOk result (string_bytes out.new ≡ string_bytes out.old ++ blocks_text blocks rows.now) }
+{
+    for number in 0..blocks {
+        write_block(out, Block(number), rows.get(number as usize).copied())?;
+    }
+    Ok(())
+}
+
+/// Writes what became of a memory block.
+fn write_block(out: &mut String, block: Block, row: Option<Row>) -> Result<(), AllocError>
+    ensures { OnOk result (string_bytes out.new ≡ string_bytes out.old ++ block_line block row) }
+{
+    match row {
+        Some(row) => write_row(out, block, row),
+        None => Ok(()),
+    }
+}
+
+/// Writes the calls of a schedule, if it can be played.
+fn write_first(
+    out: &mut String,
+    names: &IndexSet<Text>,
+    calls: Option<&[Record]>,
+) -> Result<(), AllocError>
+    ensures { OnOk result (string_bytes out.new
+        ≡ string_bytes out.old ++ played_text names.now.keys (option_map (λ c. c.now) calls.entry)) }
+{
+    match calls {
+        Some(calls) => write_listed(out, names, calls),
+        None => Ok(()),
+    }
+}
+
+/// Writes calls as texts of a scenario's `calls`, one a line, with a comma between two.
+fn write_listed(
+    out: &mut String,
+    names: &IndexSet<Text>,
+    calls: &[Record],
+) -> Result<(), AllocError>
+    ensures { OnOk result
+        (string_bytes out.new ≡ string_bytes out.old ++ listed_calls names.now.keys calls.now) }
+{
+    if calls.is_empty() {
+        return Ok(());
+    }
+    write_calls(out, names, calls, ",\n")?;
+    out.push('\n')
+}
+
+/// A schedule that was found: how often it changes the processor, and its calls, if it can be
+/// played. Owners are written by their names. An error is out of memory.
+pub fn nearest_text(
+    alloc: Global,
+    names: &IndexSet<Text>,
+    changes: usize,
+    calls: Option<&[Record]>,
+) -> Result<String, AllocError>
+    ensures { IfOk result (λ text. string_bytes text
+        ≡ nearest_text names.now.keys changes (option_map (λ c. c.now) calls.entry)) }
+{
+    let mut text = String::new(alloc);
+    writeln!(&mut text, "changes: {changes}\nfirst:")?;
+    write_first(&mut text, names, calls)?;
+    Ok(text)
+}
+
+/// That no schedule ends so, and of how many. An error is out of memory.
+pub fn absent_text(alloc: Global, schedules: u128) -> Result<String, AllocError>
+    ensures { IfOk result (λ text. string_bytes text ≡ absent_text schedules) }
+{
+    let mut text = String::new(alloc);
+    writeln!(&mut text, "interleavings: {schedules}\nends so: 0")?;
+    Ok(text)
+}
