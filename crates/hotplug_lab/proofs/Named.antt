@@ -5,8 +5,8 @@ use Rattle.hp_scenario.specs.Scenario.{scenario_in}
 use Rattle.hotplug_lab.specs.Words.{HasLines, IsLabCause, IsPast, IsUnanswered, count_of, has_line, last_named}
 use Rattle.hotplug_lab.specs.declared.fault.ProgramFault.{ProgramFault}
 use Rattle.hotplug_lab.specs.declared.fault.ProgramFault.TheVariants.{Lab, NoPart, NotOpened, Parts, PastEnd, ReadFailed, Scenario, TooLong, WriteFailed}
-use Rattle.hotplug_lab.specs.declared.words.Word.{Word}
-use Rattle.hotplug_lab.specs.declared.words.Word.TheVariants.{Check, Explore, Find, Never, Part, Picture, Sum, Trace}
+use Rattle.hp_lab_words.specs.declared.words.Word.{Word}
+use Rattle.hp_lab_words.specs.declared.words.Word.TheVariants.{Check, Explore, Find, Never, Part, Picture, Sum, Trace}
 
 any_has : (count : Option ℕ) → has_line 0 count ≡ true
 any_has None = refl

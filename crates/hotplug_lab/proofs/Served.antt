@@ -9,7 +9,7 @@ use Rattle.hotplug_lab.specs.Faults.{read_fault_from}
 use Rattle.hotplug_lab.specs.Words.{Answers, IsLabCause, IsPartCause, IsPastEnd, IsScenarioCause, IsServeFault, IsUnanswered, Serves}
 use Rattle.hotplug_lab.specs.declared.fault.ProgramFault.{ProgramFault}
 use Rattle.hotplug_lab.specs.declared.fault.ProgramFault.TheVariants.{Lab, NoPart, NotOpened, Parts, PastEnd, ReadFailed, Scenario, TooLong, WriteFailed}
-use Rattle.hotplug_lab.specs.declared.words.Word.{Word}
+use Rattle.hp_lab_words.specs.declared.words.Word.{Word}
 
 -- a fault of reading is one of the program
 pub read_fault : (word : Word) (known : Option (List ℕ)) (read written : Type 0) (fault : ReadFault)

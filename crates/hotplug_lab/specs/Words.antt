@@ -28,10 +28,10 @@ use Rattle.hp_trace.specs.Traces.{AreRowsOf, IsTraceOf}
 use Rattle.hp_trace.specs.declared.view.View.{View}
 use Rattle.hotplug_lab.specs.declared.fault.ProgramFault.{ProgramFault}
 use Rattle.hotplug_lab.specs.declared.fault.ProgramFault.TheVariants.{Lab, NoPart, NotOpened, Parts, PastEnd, ReadFailed, Scenario, TooLong, WriteFailed}
-use Rattle.hotplug_lab.specs.declared.words.Drawing.{Drawing}
-use Rattle.hotplug_lab.specs.declared.words.Exploration.{Exploration}
-use Rattle.hotplug_lab.specs.declared.words.Word.{Word}
-use Rattle.hotplug_lab.specs.declared.words.Word.TheVariants.{Check, Explore, Find, Never, Part, Picture, Sum, Trace}
+use Rattle.hp_lab_words.specs.declared.words.Drawing.{Drawing}
+use Rattle.hp_lab_words.specs.declared.words.Exploration.{Exploration}
+use Rattle.hp_lab_words.specs.declared.words.Word.{Word}
+use Rattle.hp_lab_words.specs.declared.words.Word.TheVariants.{Check, Explore, Find, Never, Part, Picture, Sum, Trace}
 
 -- the interleavings that are counted where no limit is given, the most
 abbrev pub usual_limit : ℕ

@@ -4,15 +4,16 @@ ghost use Rattle.std.specs.Prelude.{◌≡◌, ◌≢◌, ◌-◌, ◌^◌, ◌=
 ghost use Rattle.hotplug_lab.specs.Words.{IsAddedOf, IsAnswerOf, IsCheckOf, IsCountIn, IsCountOf, IsDrawnWith, IsExploringOf, IsPartialOf, IsPictureOf, IsSearchOf, IsUnanswered};
 ghost use Rattle.hp_scenario.specs.Scenario.{scenario_in};
 ghost use Rattle.hp_trace.specs.Traces.{IsTraceOf};
-ghost use Rattle.hotplug_lab.specs.declared.words.Word.TheVariants.{Check, Explore, Find, Never, Part, Picture, Sum, Trace};
+ghost use Rattle.hp_lab_words.specs.declared.words.Word.TheVariants.{Check, Explore, Find, Never, Part, Picture, Sum, Trace};
 
 use crate::fault::ProgramFault;
-use crate::words::{ALL, Drawing, Exploration, LIMIT, Word};
 use hp_check::{check, fault_count, write_report};
 use hp_explore::Watch;
 use hp_find::Wanted;
 use hp_lab::{EndsForm, Finding, ScheduleForm, find_text};
-use hp_part_files::{PartNumber, explore_text_with_jobs, part_text, sum_text};
+use hp_lab_words::{ALL, Drawing, Exploration, LIMIT, Word};
+use hp_part_files::{explore_text_with_jobs, part_text, sum_text};
+use hp_part_lines::PartNumber;
 use hp_scenario::{Scenario, ScenarioFault};
 use hp_scripts::interleavings_line;
 use hp_svg::picture_of;

@@ -15,7 +15,6 @@ mod fault;
 mod files;
 mod progress;
 mod serving;
-mod words;
 
 use clap::ArgMatches;
 use clap::error::ErrorKind;
@@ -23,10 +22,13 @@ use fault::ProgramFault;
 use files::bytes_of;
 use hp_escapes::{Brackets, write_escaped};
 use hp_find::Wanted;
-use hp_lab::wanted_line;
 use hp_lab_command::lab_command;
+use hp_lab_words::{
+    Request, Word, contradiction, is_no_part, is_past_the_found, request_from, texts_from,
+};
 use hp_scripts::Unbegun;
 use hp_streams::Counted;
+use hp_wanted::wanted_line;
 use progress::{Progress, Shown};
 use serving::serve;
 use std::alloc::{AllocError, Global};
@@ -34,9 +36,6 @@ use std::io::{IsTerminal, Read};
 use std::process::ExitCode;
 use std::thread::Threads;
 use std::{env, fs, io};
-use words::{
-    Request, Word, contradiction, is_no_part, is_past_the_found, request_from, texts_from,
-};
 
 /// Does a word on the files that are named, or else on standard input, and answers the exit status.
 fn serve_request<T: Threads + Sync>(

@@ -8,8 +8,8 @@ ghost use Rattle.hp_scenario.specs.Scenario.{scenario_in};
 
 use crate::answering::{Answer, answer_to};
 use crate::fault::ProgramFault;
-use crate::words::{ALL, Word};
 use hp_explore::Watch;
+use hp_lab_words::{ALL, Word};
 use hp_scenario::{Scenario, ScenarioFault};
 use hp_scripts::{Unbegun, unbegun_lines};
 use hp_streams::{Failed, Sink, Source, read_all, write_all};

@@ -2,25 +2,25 @@
 use Rattle.std.proofs.Common.{◌≡◌, ℕ, ◌<◌, ◌≤◌, ◌*◌, ◌^◌, List, Option, Some, None, Result, Err, drop, take, refl, subst, ap}
 use Rattle.std.specs.Str.{IsUtf8}
 use Rattle.hp_explore.specs.declared.exploring.Exploration.{Exploration}
-use Rattle.hp_explore.specs.declared.multinomials.HowMany.{HowMany}
-use Rattle.hp_explore.specs.Ends.{AreCounted}
-use Rattle.hp_explore.specs.Faults.{HasMoreThan}
-use Rattle.hp_explore.specs.Fronts.{IfFirst, IfWhole}
-use Rattle.hp_explore.specs.Schedules.{Setting}
+use Rattle.hp_schedules.specs.declared.multinomials.HowMany.{HowMany}
+use Rattle.hp_schedules.specs.Ends.{AreCounted}
+use Rattle.hp_schedules.specs.Orders.{HasMoreThan}
+use Rattle.hp_explore.specs.Fronts.{AreFirstInPart, IfFirst, IfWhole}
+use Rattle.hp_schedules.specs.Schedules.{Setting}
 use Rattle.hp_units.specs.LayoutParts.{LayoutParts}
 use Rattle.hp_lab.specs.Explorations.{HoldsAfter, InScenario, IsEndsCause, IsFaultOf, IsFaultWith, IsFull, IsMore, IsStoppedAfter}
 use Rattle.hp_lab.specs.declared.fault.LabFault.{LabFault}
 use Rattle.hp_scenario.specs.declared.lines.Line.{Line}
 use Rattle.hp_lab.specs.declared.fault.LabFault.TheVariants as lab
-use Rattle.hp_explore.specs.Fronts.{AreFirstInPart}
-use Rattle.hp_explore.specs.Parts.{EndsInPart, FillsPart, IsCompleteInPart, PartValue}
+use Rattle.hp_schedules.specs.Parts.{EndsInPart, IsCompleteInPart, PartValue}
+use Rattle.hp_explore.specs.Faults.{FillsPart}
 use Rattle.hp_scenario.specs.Gives.{◌>>=◌}
 use Rattle.hp_scenario.specs.Scenario.{scenario_in, scenario_of}
 use Rattle.hp_scenario.specs.declared.fault.ScenarioFault.{ScenarioFault}
 use Rattle.hp_scenario.specs.declared.fault.ScenarioFault.TheVariants.{NotJson}
 use Rattle.hp_scenario.proofs.Json.{json_refused}
 use Rattle.serde_json.specs.Data.{Data}
-use Rattle.hp_part_files.specs.Numbers.{NumberValue}
+use Rattle.hp_part_lines.specs.Numbers.{NumberValue}
 use Rattle.hp_part_files.specs.Parts.{ArePartEnds, FillsPartOf, IsCallsFor, IsFullPart, IsPartCause}
 
 -- the ends are all of the part, or its first ones

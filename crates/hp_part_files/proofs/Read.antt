@@ -3,29 +3,34 @@ use Rattle.std.proofs.Common.{◌≡◌, ℕ, ◌+◌, ◌<◌, ◌≤◌, Optio
 use Rattle.std.specs.List.{All}
 use Rattle.std.proofs.lemmas.List.{flat_map_more, length-append, length-take-le, take-append-drop, take-append-le, take_all}
 use Rattle.std.proofs.lemmas.List.Elements.{All-nil, All-push}
-use Rattle.hp_explore.specs.declared.tally.Ending.{Ending}
-use Rattle.hp_explore.specs.Schedules.{Setting}
-use Rattle.hp_explore.specs.Parts.{EndsInPart}
+use Rattle.hp_schedules.specs.declared.tally.Ending.{Ending}
+use Rattle.hp_schedules.specs.Schedules.{Setting}
+use Rattle.hp_schedules.specs.Parts.{EndsInPart}
 use Rattle.hp_text.specs.State.{newline}
-use Rattle.hp_part_files.specs.Gathered.{AreAll, GatheringValue, IsGathered, IsGathering, IsOwn, PartEndsValue, lines_of, lists_of, part_in}
-use Rattle.hp_explore.specs.Outcomes.{OutcomeValue}
-use Rattle.hp_part_files.specs.Ends.{IsEndOf}
+use Rattle.hp_schedules.specs.Outcomes.{OutcomeValue}
+use Rattle.hp_part_lines.specs.Cuts.{IsLineAt, line_number}
+use Rattle.hp_part_lines.specs.Ends.{IsEndOf}
+use Rattle.hp_part_lines.specs.Gathering.{GatheringValue, PartEndsValue}
+use Rattle.hp_part_lines.specs.Heads.{HeadValue, IsNumber, SearchValue, head_line, part_in}
+use Rattle.hp_part_lines.specs.Ordering.{AreAll, IsOrderFault, lists_of}
+use Rattle.hp_part_lines.specs.Reading.{IsLine}
+use Rattle.hp_part_lines.specs.declared.ordering.OrderFault.{OrderFault}
+use Rattle.hp_part_lines.specs.declared.ordering.OrderFault.TheVariants as order
+use Rattle.hp_part_lines.specs.declared.reading.PartLine.TheVariants.{End}
+use Rattle.hp_part_files.specs.Gathered.{IsGathered, IsGathering, IsOwn, lines_of}
 use Rattle.std.specs.Global.{Vec}
 use Rattle.hp_lab.specs.Explorations.{IsEndsCause, IsUntold}
 use Rattle.hp_lab.specs.Prepared.{IsPrepared, names_of, setting_of}
 use Rattle.hp_lab.specs.declared.fault.LabFault.{LabFault}
 use Rattle.hp_lab.specs.declared.prepared.Prepared.{Prepared}
 use Rattle.hp_lab.proofs.Known.{held_in, untold_in}
-use Rattle.hp_part_files.specs.Faults.{IsLineFault, IsOrderFault, IsTooMany, IsUnpushed, IsUnsummedIn, IsUntoldEnds, IsUntoldSum, fault_of_line}
+use Rattle.hp_part_files.specs.Faults.{IsLineFault, IsTooMany, IsUnpushed, IsUnsummedIn, IsUntoldEnds, IsUntoldSum, fault_of_line, fault_of_order}
 use Rattle.hp_part_files.specs.declared.fault.PartFault.{PartFault}
 use Rattle.hp_part_files.specs.declared.fault.PartFault.TheVariants as part
-use Rattle.hp_part_files.specs.Lines.{IsLineAt, line_number}
-use Rattle.hp_part_files.specs.Reading.{HeadValue, IsLine}
 use Rattle.hp_part_files.specs.declared.line_fault.LineFault.{LineFault}
 use Rattle.hp_part_files.specs.declared.line_fault.LineFault.TheVariants.{NotPart, OtherSearch, NotOfPart, Changed, Stopped, OtherCount, Lab}
-use Rattle.hp_part_files.specs.declared.reading.PartLine.TheVariants.{End}
-use Rattle.hp_part_files.specs.Taking.{HasRead, IsNumber, IsPushed, IsTaken}
-use Rattle.hp_part_files.specs.Texts.{SearchValue, begun_lines, head_line, part_lines}
+use Rattle.hp_part_files.specs.Taking.{HasRead, IsPushed, IsTaken}
+use Rattle.hp_part_files.specs.Texts.{begun_lines, part_lines}
 use Rattle.hp_part_files.proofs.Written.{begun_lines_push}
 
 -- a part more
@@ -229,21 +234,14 @@ unread input names g s place n text v cause fault is at here so_far h =
 
 -- the parts are not all there once
 pub misplaced : (input : List ℕ) (names : List (List ℕ)) (g : Setting) (s : SearchValue)
-    (parts : List PartEndsValue) (fault : PartFault)
-    → IsGathered names g s input parts → IsOrderFault parts s.of fault → IsUntoldSum input names g s fault
-misplaced input names g s parts (part.NotPart n) read h = absurd h.2
-misplaced input names g s parts (part.OtherSearch n) read h = absurd h.2
-misplaced input names g s parts (part.NotOfPart n) read h = absurd h.2
-misplaced input names g s parts (part.Changed n) read h = absurd h.2
-misplaced input names g s parts (part.Stopped n) read h = absurd h.2
-misplaced input names g s parts (part.OtherCount n) read h = absurd h.2
-misplaced input names g s parts (part.Missing n) read h =
-    inr (inr (inr (record { parts = parts; read = read; cause = inl h })))
-misplaced input names g s parts (part.Twice n) read h =
-    inr (inr (inr (record { parts = parts; read = read; cause = inl h })))
-misplaced input names g s parts part.TooMany read h = absurd h.2
-misplaced input names g s parts (part.Lab fault) read h =
-    subst (λ (f : LabFault). IsUntold IsEndsCause 0 g f) (sym h) tt
+    (parts : List PartEndsValue) (why : OrderFault)
+    → IsGathered names g s input parts → IsOrderFault parts s.of why
+    → IsUntoldSum input names g s (fault_of_order why)
+misplaced input names g s parts (order.Missing n) read h =
+    inr (inr (inr (record { parts = parts; read = read; cause = inl (order.Missing n, refl, h) })))
+misplaced input names g s parts (order.Twice n) read h =
+    inr (inr (inr (record { parts = parts; read = read; cause = inl (order.Twice n, refl, h) })))
+misplaced input names g s parts order.OutOfMemory read h = tt
 
 -- the sum of all parts is not told
 pub untold_ends : (input : List ℕ) (names : List (List ℕ)) (g : Setting) (s : SearchValue) (fault : PartFault)

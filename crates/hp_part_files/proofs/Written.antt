@@ -1,20 +1,11 @@
 -- The lines of parts, one more after another.
 use Rattle.std.proofs.Common.{◌≡◌, ℕ, ◌+◌, ◌<◌, List, [], ◌∷◌, ◌++◌, length, get_or, drop, ap, sym, ◌∙◌, append_assoc, append-nil, add-zero, arith}
 use Rattle.std.proofs.lemmas.List.{drop_more}
-use Rattle.hp_explore.specs.declared.tally.Ending.{Ending}
-use Rattle.hp_explore.specs.Schedules.{Setting}
+use Rattle.hp_schedules.specs.declared.tally.Ending.{Ending}
+use Rattle.hp_schedules.specs.Schedules.{Setting}
 use Rattle.hp_text.specs.State.{newline}
-use Rattle.hp_part_files.specs.Texts.{SearchValue, begun_lines, end_line, end_lines, head_line}
-
--- four texts one after another
-pub four_written : (old a b c d one two three four : List ℕ) → one ≡ old ++ a → two ≡ one ++ b
-    → three ≡ two ++ c → four ≡ three ++ d → four ≡ old ++ (a ++ b ++ c ++ d)
-four_written old a b c d one two three four at_one at_two at_three at_four =
-    let first : two ≡ old ++ (a ++ b) =
-    at_two ∙ (ap (λ (l : List ℕ). l ++ b) at_one ∙ append_assoc old a b) in
-    let second : three ≡ old ++ (a ++ b ++ c) =
-    at_three ∙ (ap (λ (l : List ℕ). l ++ c) first ∙ append_assoc old (a ++ b) c) in
-    at_four ∙ (ap (λ (l : List ℕ). l ++ d) second ∙ append_assoc old (a ++ b ++ c) d)
+use Rattle.hp_part_lines.specs.Heads.{SearchValue, head_line}
+use Rattle.hp_part_files.specs.Texts.{begun_lines, end_line, end_lines}
 
 -- an end more after others
 pub end_lines_push : (names : List (List ℕ)) (g : Setting) (number : ℕ) (ends : List Ending) (e : Ending)

@@ -1,23 +1,26 @@
 -- Why parts have no sum: each fault only where it has this cause.
-use Rattle.std.specs.Prelude.{◌≡◌, ◌⊎◌, ℕ, ◌+◌, ◌≤◌, ◌<◌, ◌^◌, List, length, slice_index_or, take}
-use Rattle.std.specs.List.{All}
-use Rattle.std.specs.List.Sorted.{IsPermutation}
-use Rattle.hp_explore.specs.declared.tally.Ending.{Ending}
-use Rattle.hp_explore.specs.Outcomes.{OutcomeValue}
-use Rattle.hp_explore.specs.Schedules.{Setting}
+use Rattle.std.specs.Prelude.{◌≡◌, ◌⊎◌, ℕ, ◌+◌, ◌≤◌, ◌^◌, List, length, take}
+use Rattle.hp_schedules.specs.declared.tally.Ending.{Ending}
+use Rattle.hp_schedules.specs.Outcomes.{OutcomeValue}
+use Rattle.hp_schedules.specs.Schedules.{Setting}
 use Rattle.hp_lab.specs.Explorations.{HoldsIn, IsEndsCause, IsFaultOf, IsUntold}
 use Rattle.hp_lab.specs.declared.fault.LabFault.TheVariants.{OutOfMemory}
-use Rattle.hp_explore.specs.Parts.{EndsInPart}
+use Rattle.hp_schedules.specs.Parts.{EndsInPart}
 use Rattle.hp_parts.specs.Adding.{counted_by}
-use Rattle.hp_part_files.specs.Gathered.{AreAll, GatheringValue, IsGathered, IsGathering, IsLastOther, PartEndsValue, part_in}
-use Rattle.hp_part_files.specs.Lines.{HasNoNewline, IsLineAt, line_number}
-use Rattle.hp_part_files.specs.Reading.{HeadValue, IsHead, IsLine}
-use Rattle.hp_part_files.specs.Texts.{SearchValue, end_line, head_line}
+use Rattle.hp_part_lines.specs.Cuts.{HasNoNewline, IsLineAt, line_number}
+use Rattle.hp_part_lines.specs.Gathering.{GatheringValue, PartEndsValue}
+use Rattle.hp_part_lines.specs.Heads.{HeadValue, IsHead, SearchValue, head_line, part_in}
+use Rattle.hp_part_lines.specs.Ordering.{AreAll, IsOrderFault}
+use Rattle.hp_part_lines.specs.Reading.{IsLine}
+use Rattle.hp_part_lines.specs.declared.ordering.OrderFault.{OrderFault}
+use Rattle.hp_part_lines.specs.declared.ordering.OrderFault.TheVariants as order
+use Rattle.hp_part_lines.specs.declared.reading.PartLine.TheVariants.{Head, End, Stop, Other}
+use Rattle.hp_part_files.specs.Gathered.{IsGathered, IsGathering, IsLastOther}
+use Rattle.hp_part_files.specs.Texts.{end_line}
 use Rattle.hp_part_files.specs.declared.fault.PartFault.{PartFault}
 use Rattle.hp_part_files.specs.declared.fault.PartFault.TheVariants as part
 use Rattle.hp_part_files.specs.declared.line_fault.LineFault.{LineFault}
 use Rattle.hp_part_files.specs.declared.line_fault.LineFault.TheVariants.{NotPart, OtherSearch, NotOfPart, Changed, Stopped, OtherCount, Lab}
-use Rattle.hp_part_files.specs.declared.reading.PartLine.TheVariants.{Head, End, Stop, Other}
 use Rattle.std.specs.Global.{Vec}
 
 -- ---- a line
@@ -86,29 +89,10 @@ IsLineFault names g s v text (Lab fault) = IsUntold IsEndsCause 0 g fault
 
 -- ---- the parts
 
-abbrev pub IsMissing : List PartEndsValue → (of number : ℕ) → Type 0
-IsMissing parts of number =
-    (1 ≤ number) × (number ≤ of)
-    × All (λ p. p.number ≡ number → ⊥) parts
-
-pub record IsTwice (parts : List PartEndsValue) (number : ℕ) : Type 0 where
-  pub i : ℕ
-  pub j : ℕ
-  pub apart : i < j
-  pub within : j < length parts
-  pub one : (d : PartEndsValue) → (slice_index_or parts i d).number ≡ number
-  pub other : (d : PartEndsValue) → (slice_index_or parts j d).number ≡ number
-
-abbrev pub IsMisplaced : List PartEndsValue → (of : ℕ) → PartFault → Type 0
-IsMisplaced parts of (part.Missing number) = IsMissing parts of number
-IsMisplaced parts of (part.Twice number) = IsTwice parts number
-IsMisplaced parts of fault = ⊥
-
--- in another order
-abbrev pub IsOrderFault : List PartEndsValue → (of : ℕ) → PartFault → Type 0
-IsOrderFault parts of (part.Lab fault) = fault ≡ OutOfMemory
-IsOrderFault parts of fault =
-    (ordered : List PartEndsValue) × IsPermutation parts ordered × IsMisplaced ordered of fault
+abbrev pub fault_of_order : OrderFault → PartFault
+fault_of_order (order.Missing number) = part.Missing number
+fault_of_order (order.Twice number) = part.Twice number
+fault_of_order order.OutOfMemory = part.Lab OutOfMemory
 
 -- ---- the whole
 
@@ -147,7 +131,7 @@ pub record IsUnsummed (input : List ℕ) (names : List (List ℕ)) (g : Setting)
     (fault : PartFault) : Type 0 where
   pub parts : List PartEndsValue
   pub read : IsGathered names g s input parts
-  pub cause : IsOrderFault parts s.of fault
+  pub cause : ((why : OrderFault) × (fault ≡ fault_of_order why) × IsOrderFault parts s.of why)
       ⊎ ((lists : List (List Ending)) × AreAll parts s.of lists × IsTooMany lists fault)
 
 -- after a first head, the parts of a search of a scenario that was made ready have no sum

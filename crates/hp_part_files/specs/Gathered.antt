@@ -1,28 +1,11 @@
--- The parts that a text has, as they were read.
-use Rattle.std.specs.Prelude.{◌≡◌, ℕ, ◌+◌, ◌≤◌, ◌<◌, List, ◌++◌, length, map, slice_index_or}
-use Rattle.std.specs.Global.{Vec}
+-- The parts that a text has: that it is theirs, and that their ends are their own.
+use Rattle.std.specs.Prelude.{◌≡◌, ℕ, ◌≤◌, List, ◌++◌, length}
 use Rattle.std.specs.List.{All, flat_map}
-use Rattle.std.specs.List.Sorted.{IsNonDecreasingBy, IsPermutation}
-use Rattle.hp_explore.specs.declared.tally.Ending.{Ending}
-use Rattle.hp_explore.specs.Schedules.{Setting}
-use Rattle.hp_explore.specs.Parts.{EndsInPart, PartValue}
-use Rattle.hp_part_files.specs.Numbers.{part_by}
-use Rattle.hp_part_files.specs.Texts.{SearchValue, begun_lines, part_lines}
-
--- a part: its number, from 1 on, and the ends that its lines name
-pub record PartEndsValue : Type 0 where
-  pub number : ℕ
-  pub ends : List Ending
-
--- parts, of which the last is not known to be over; its head names so many ends
-pub record GatheringValue : Type 0 where
-  pub done : List PartEndsValue
-  pub last : PartEndsValue
-  pub named : ℕ
-
--- which part of the search it is
-abbrev pub part_in : SearchValue → (number : ℕ) → PartValue
-part_in s number = part_by (record { number = number; of = s.of }) s.calls
+use Rattle.hp_schedules.specs.Schedules.{Setting}
+use Rattle.hp_schedules.specs.Parts.{EndsInPart}
+use Rattle.hp_part_lines.specs.Gathering.{GatheringValue, PartEndsValue}
+use Rattle.hp_part_lines.specs.Heads.{SearchValue, part_in}
+use Rattle.hp_part_files.specs.Texts.{begun_lines, part_lines}
 
 -- there is such a part, and each of its ends is that of the end's first schedule, which is complete
 -- and the part's
@@ -54,31 +37,3 @@ pub record IsGathered (names : List (List ℕ)) (g : Setting) (s : SearchValue) 
     (parts : List PartEndsValue) : Type 0 where
   pub is : text ≡ lines_of names g s parts
   pub own : AreOwn g s parts
-
--- the ends of lists
-abbrev pub lists_of : List (Vec Ending) → List (List Ending)
-lists_of lists = map (λ l. l.items) lists
-
--- their numbers are from 1 to how many there are
-abbrev pub AreWithin : (of : ℕ) → List PartEndsValue → Type 0
-AreWithin of parts = All (λ p. (1 ≤ p.number) × (p.number ≤ of)) parts
-
--- and rise
-abbrev pub AreRising : List PartEndsValue → Type 0
-AreRising parts = IsNonDecreasingBy (λ p. p.number) parts
-
--- the first so many have the numbers of their places, from 1 on
-abbrev pub ArePlacedBelow : (below : ℕ) → List PartEndsValue → Type 0
-ArePlacedBelow below parts =
-    (k : ℕ) (d : PartEndsValue) → k < below → (slice_index_or parts k d).number ≡ k + 1
-
--- each part is there once: in another order they have the numbers from 1 to how many there are
-pub record AreInPlace (of : ℕ) (ordered : List PartEndsValue) : Type 0 where
-  pub count : length ordered ≡ of
-  pub numbers : ArePlacedBelow of ordered
-
-pub record AreAll (parts : List PartEndsValue) (of : ℕ) (lists : List (List Ending)) : Type 0 where
-  pub ordered : List PartEndsValue
-  pub moved : IsPermutation parts ordered
-  pub placed : AreInPlace of ordered
-  pub are : lists ≡ map (λ p. p.ends) ordered

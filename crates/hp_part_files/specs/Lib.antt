@@ -1,10 +1,6 @@
-pub mod Ends
 pub mod Faults
 pub mod Gathered
-pub mod Lines
-pub mod Numbers
 pub mod Parts
-pub mod Reading
 pub mod Sums
 pub mod Taking
 pub mod Texts

@@ -2,21 +2,23 @@
 use Rattle.std.specs.Prelude.{◌≡◌, ℕ, ◌-◌, ◌*◌, ◌<◌, ◌≤◌, ◌^◌, Bool, List, Option, Some, None, length, sum_by}
 use Rattle.std.specs.Option.{is_none}
 use Rattle.hp_explore.specs.declared.exploring.Exploration.{Exploration}
-use Rattle.hp_explore.specs.declared.multinomials.HowMany.{HowMany}
-use Rattle.hp_explore.specs.declared.tally.Ending.{Ending}
-use Rattle.hp_explore.specs.Ends.{AreCounted, AreInOrder}
-use Rattle.hp_explore.specs.Faults.{HasMoreThan}
-use Rattle.hp_explore.specs.Interleavings.{IsKnown}
-use Rattle.hp_explore.specs.Schedules.{Setting}
+use Rattle.hp_schedules.specs.declared.multinomials.HowMany.{HowMany}
+use Rattle.hp_schedules.specs.declared.tally.Ending.{Ending}
+use Rattle.hp_schedules.specs.Ends.{AreCounted, AreInOrder}
+use Rattle.hp_schedules.specs.Orders.{HasMoreThan}
+use Rattle.hp_schedules.specs.Interleavings.{IsKnown}
+use Rattle.hp_schedules.specs.Schedules.{Setting}
 use Rattle.hp_find.specs.declared.fault.FindFault.{FindFault}
 use Rattle.hp_find.specs.declared.fault.FindFault.TheVariants as search
 use Rattle.hp_lab.specs.Explorations.{HoldsIn, InScenario, IsMore, IsStoppedAfter}
 use Rattle.hp_lab.specs.declared.fault.LabFault.{LabFault}
 use Rattle.hp_lab.specs.declared.fault.LabFault.TheVariants.{HistoryFull}
 use Rattle.hp_explore.specs.Fronts.{AreFirstInPart}
-use Rattle.hp_explore.specs.Parts.{EndsInPart, FillsPart, IsCompleteInPart, PartValue}
-use Rattle.hp_part_files.specs.Numbers.{NumberValue, part_by}
-use Rattle.hp_part_files.specs.Texts.{SearchValue, part_text}
+use Rattle.hp_schedules.specs.Parts.{EndsInPart, IsCompleteInPart, PartValue}
+use Rattle.hp_explore.specs.Faults.{FillsPart}
+use Rattle.hp_part_lines.specs.Numbers.{NumberValue, part_by}
+use Rattle.hp_part_lines.specs.Heads.{SearchValue}
+use Rattle.hp_part_files.specs.Texts.{part_text}
 
 -- the ends are those of all complete schedules of a part, which are no more than the limit, and none
 -- of which fills the history; or of its first ones, which are as many as the limit, and it has more

@@ -1,17 +1,18 @@
 -- What is promised of the sum of parts.
 use Rattle.std.specs.Prelude.{◌≡◌, ℕ, ◌<◌, Bool, List, None, length, sum_by}
-use Rattle.hp_explore.specs.declared.tally.Ending.{Ending}
-use Rattle.hp_explore.specs.Ends.{AreEnds, AreInOrder}
-use Rattle.hp_explore.specs.Schedules.{Setting}
+use Rattle.hp_schedules.specs.declared.tally.Ending.{Ending}
+use Rattle.hp_schedules.specs.Ends.{AreEnds, AreInOrder}
+use Rattle.hp_schedules.specs.Schedules.{Setting}
 use Rattle.hp_lab.specs.Explorations.{AreEndsTold, HoldsIn}
 use Rattle.hp_lab.specs.declared.forms.EndsForm.{EndsForm}
 use Rattle.hp_parts.specs.Adding.{AreAdded, counted_by}
 use Rattle.hp_parts.specs.Sums.{AreApart, AreParts}
 use Rattle.hp_scenario.specs.declared.lines.Line.{Line}
+use Rattle.hp_part_lines.specs.Ordering.{AreAll}
+use Rattle.hp_part_lines.specs.Gathering.{PartEndsValue}
+use Rattle.hp_part_lines.specs.Heads.{HeadValue, SearchValue}
 use Rattle.hp_part_files.specs.Faults.{BeginsWith}
-use Rattle.hp_part_files.specs.Gathered.{AreAll, IsGathered, PartEndsValue}
-use Rattle.hp_part_files.specs.Reading.{HeadValue}
-use Rattle.hp_part_files.specs.Texts.{SearchValue}
+use Rattle.hp_part_files.specs.Gathered.{IsGathered}
 
 -- what adding ends up promises (hp_parts): where the lists are those of all parts of a search, the ends
 -- are those of the whole, in the order of their first schedules; and whatever they are, the ends are

@@ -1,11 +1,12 @@
 -- What taking a line does.
 use Rattle.std.specs.Prelude.{◌≡◌, ℕ, ◌+◌, ◌≤◌, List, [], ◌∷◌, ◌++◌, length, take}
-use Rattle.hp_explore.specs.declared.tally.Ending.{Ending}
-use Rattle.hp_explore.specs.Schedules.{Setting}
+use Rattle.hp_schedules.specs.declared.tally.Ending.{Ending}
+use Rattle.hp_schedules.specs.Schedules.{Setting}
 use Rattle.hp_text.specs.State.{newline}
-use Rattle.hp_part_files.specs.Gathered.{GatheringValue, IsGathering}
-use Rattle.hp_part_files.specs.Reading.{HeadValue}
-use Rattle.hp_part_files.specs.Texts.{SearchValue, end_line}
+use Rattle.hp_part_lines.specs.Gathering.{GatheringValue}
+use Rattle.hp_part_lines.specs.Heads.{HeadValue, SearchValue}
+use Rattle.hp_part_files.specs.Gathered.{IsGathering}
+use Rattle.hp_part_files.specs.Texts.{end_line}
 
 -- a line was taken after the lines before it, and a newline
 abbrev pub IsTaken : (names : List (List ℕ)) → Setting → SearchValue → (old : GatheringValue)
@@ -24,10 +25,6 @@ pub record IsPushed (names : List (List ℕ)) (g : Setting) (old : GatheringValu
         last = record { number = old.last.number; ends = old.last.ends ++ end ∷ [] };
         named = old.named;
       }
-
--- there is such a part
-abbrev pub IsNumber : SearchValue → (number : ℕ) → Type 0
-IsNumber s number = (1 ≤ number) × (number ≤ s.of)
 
 -- so many bytes are the head of a part
 abbrev pub HasRead : (names : List (List ℕ)) → Setting → HeadValue → (input : List ℕ) → (start : ℕ) → Type 0

@@ -1,9 +1,11 @@
 //! Why parts have no sum.
 ghost use Rattle.std.specs.Prelude.{◌≡◌};
 ghost use Rattle.hp_lab.specs.declared.fault.LabFault.TheVariants.{OutOfMemory};
+ghost use Rattle.hp_part_files.specs.Faults.{fault_of_order};
 ghost use Rattle.hp_part_files.specs.declared.fault.PartFault.TheVariants.{Lab};
 
 use hp_lab::LabFault;
+use hp_part_lines::OrderFault;
 use std::alloc::AllocError;
 use std::error::Error;
 use std::fmt;
@@ -80,5 +82,17 @@ impl From<LabFault> for PartFault {
 
     fn from(fault: LabFault) -> PartFault {
         PartFault::Lab(fault)
+    }
+}
+
+impl From<OrderFault> for PartFault {
+    ghost from_gives = { λ fault e. e ≡ fault_of_order fault };
+
+    fn from(fault: OrderFault) -> PartFault {
+        match fault {
+            OrderFault::Missing { part } => PartFault::Missing { part },
+            OrderFault::Twice { part } => PartFault::Twice { part },
+            OrderFault::OutOfMemory => PartFault::Lab(LabFault::OutOfMemory),
+        }
     }
 }

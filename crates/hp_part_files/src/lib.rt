@@ -11,17 +11,9 @@
 //! does; and specs/Faults.
 #![tactic(auto)]
 
-mod cuts;
-mod ends;
 mod fault;
-mod gathering;
-mod heads;
 mod line_fault;
-mod lines;
-mod numbers;
-mod ordering;
 mod parts;
-mod reading;
 mod summing;
 mod taking;
 mod telling;
@@ -29,7 +21,6 @@ mod threads;
 mod writing;
 
 pub use fault::PartFault;
-pub use numbers::PartNumber;
 pub use parts::part_text;
 pub use summing::sum_text;
 pub use threads::explore_text_with_jobs;

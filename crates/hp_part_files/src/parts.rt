@@ -5,13 +5,14 @@ ghost use Rattle.hp_lab.specs.Explorations.{IsFaultOf};
 ghost use Rattle.hp_lab.specs.Prepared.{names_of, setting_of};
 ghost use Rattle.hp_part_files.specs.Parts.{IsFullPart, IsPartCause, IsPartOf, IsPartOn, IsToldPart};
 
-use crate::heads::Search;
-use crate::numbers::PartNumber;
 use crate::writing::write_part;
-use hp_explore::{Exploration, ExploreFault, Watch, explore_part, total_of};
+use hp_ends::write_more;
+use hp_explore::{Exploration, ExploreFault, Watch, explore_part};
 use hp_find::FindFault;
-use hp_lab::{Finding, LabFault, Prepared, prepare, write_more};
+use hp_lab::{Finding, LabFault, Prepared, prepare};
+use hp_part_lines::{PartNumber, Search};
 use hp_parts::calls_for;
+use hp_schedules::total_of;
 use simdutf8::basic::from_utf8;
 use std::alloc::Global;
 

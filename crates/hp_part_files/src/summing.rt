@@ -2,23 +2,20 @@
 ghost use Rattle.std.specs.Prelude.{◌≡◌, ◌+◌, ◌^◌, ◌<◌, IfErr, IfOk, length, string_bytes};
 ghost use Rattle.hp_lab.specs.Explorations.{AreEndsTold, HoldsIn};
 ghost use Rattle.hp_lab.specs.Prepared.{before_of, names_of, setting_of};
+ghost use Rattle.hp_part_lines.specs.Cuts.{IsLineAt};
+ghost use Rattle.hp_part_lines.specs.Heads.{IsNumber, head_line};
+ghost use Rattle.hp_part_lines.specs.Ordering.{lists_of};
 ghost use Rattle.hp_part_files.specs.Faults.{IsSumFault, IsTooMany, IsUnsummedIn, IsUntoldEnds, IsUntoldSum};
-ghost use Rattle.hp_part_files.specs.Gathered.{lists_of};
-ghost use Rattle.hp_part_files.specs.Lines.{IsLineAt};
 ghost use Rattle.hp_part_files.specs.Sums.{IsSum, IsSumOf, IsSumOn};
-ghost use Rattle.hp_part_files.specs.Taking.{HasRead, IsNumber};
-ghost use Rattle.hp_part_files.specs.Texts.{head_line};
+ghost use Rattle.hp_part_files.specs.Taking.{HasRead};
 
-use crate::cuts::line_at;
 use crate::fault::PartFault;
-use crate::heads::{Head, head_from, is_head};
-use crate::ordering::ends_by_number;
-use crate::reading::json_in;
 use crate::taking::gather;
 use crate::telling::told_fault;
-use hp_explore::Ending;
 use hp_lab::{EndsForm, Finding, LabFault, Prepared, prepare};
+use hp_part_lines::{Head, ends_by_number, head_from, is_head, json_in, line_at};
 use hp_parts::{SumFault, sum};
+use hp_schedules::Ending;
 use std::alloc::Global;
 
 /// The whole exploration that parts add up to, as `explore_text` tells it. The bytes are the text of

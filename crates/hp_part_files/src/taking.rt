@@ -1,26 +1,25 @@
 //! The lines of parts, one after another.
 ghost use Rattle.std.specs.Prelude.{◌≡◌, ◌↔◌, ◌^◌, ◌<◌, IfErr, IfOk, IsTrue, OnOk, length};
 ghost use Rattle.hp_lab.specs.Prepared.{names_of, setting_of};
+ghost use Rattle.hp_part_lines.specs.Ends.{IsEndOf};
+ghost use Rattle.hp_part_lines.specs.Heads.{IsNumber, part_in};
+ghost use Rattle.hp_part_lines.specs.Reading.{IsLine};
+ghost use Rattle.hp_part_lines.specs.declared.reading.PartLine.TheVariants as line;
 ghost use Rattle.hp_part_files.specs.Faults.{IsLineFault, IsUnplayed, IsUnpushed, IsUntoldSum};
-ghost use Rattle.hp_part_files.specs.Gathered.{IsGathered, IsGathering, part_in};
-ghost use Rattle.hp_part_files.specs.Ends.{IsEndOf};
-ghost use Rattle.hp_part_files.specs.Reading.{IsLine};
-ghost use Rattle.hp_part_files.specs.declared.reading.PartLine.TheVariants as line;
-ghost use Rattle.hp_part_files.specs.Taking.{HasRead, IsNumber, IsPushed, IsTaken};
+ghost use Rattle.hp_part_files.specs.Gathered.{IsGathered, IsGathering};
+ghost use Rattle.hp_part_files.specs.Taking.{HasRead, IsPushed, IsTaken};
 ghost use Rattle.hp_part_files.specs.Texts.{end_line};
 
-use crate::cuts::{line_at, line_number};
-use crate::ends::end_of;
 use crate::fault::PartFault;
-use crate::gathering::{Gathering, PartEnds};
-use crate::heads::{Head, Search, is_head};
 use crate::line_fault::LineFault;
-use crate::lines::write_end;
-use crate::numbers::PartNumber;
-use crate::reading::{PartLine, line_in};
 use crate::telling::told_fault;
-use hp_explore::{Ending, Outcome, Part};
+use crate::writing::write_end;
 use hp_lab::Prepared;
+use hp_part_lines::{
+    Gathering, Head, PartEnds, PartLine, PartNumber, Search, end_of, is_head, line_at, line_in,
+    line_number,
+};
+use hp_schedules::{Ending, Outcome};
 use hp_units::Cpu;
 use std::alloc::Global;
 
@@ -166,21 +165,17 @@ fn outcome_of(
     ensures ok { IfOk result (IsEndOf (setting_of prepared.now) (part_in search.now number) schedule.now) }
     ensures err { IfErr result (IsUnplayed (setting_of prepared.now)) }
 {
-    let part = part_in(search, number);
-    match end_of(alloc, prepared, part, schedule) {
+    let part = search.part(number);
+    let start = &prepared.start;
+    match end_of(
+        alloc,
+        &start.machine,
+        start.scripts.as_slice(),
+        part,
+        schedule,
+    ) {
         Ok(outcome) => Ok(outcome),
         Err(fault) => Err(LineFault::Lab(told_fault(alloc, prepared, fault))),
-    }
-}
-
-/// The part of a search with a number.
-fn part_in(search: &Search<'_>, number: u32) -> Part
-    requires { IsNumber search.now number }
-    ensures { result ≡ part_in search.now number }
-{
-    match Part::new(number - 1, search.of, search.calls) {
-        Some(part) => part,
-        None => unreachable!(),
     }
 }
 

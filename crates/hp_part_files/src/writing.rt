@@ -3,12 +3,14 @@ ghost use Rattle.std.specs.Prelude.{◌≡◌, ◌++◌, IfErr, OnOk, string_byt
 ghost use Rattle.hp_explore.specs.Faults.{IsCause};
 ghost use Rattle.hp_lab.specs.Prepared.{names_of, setting_of};
 ghost use Rattle.hp_text.specs.State.{newline};
-ghost use Rattle.hp_part_files.specs.Texts.{end_line, end_lines, head_line, part_lines};
+ghost use Rattle.hp_part_lines.specs.Heads.{head_line};
+ghost use Rattle.hp_part_lines.specs.Processors.{processor_list};
+ghost use Rattle.hp_part_files.specs.Texts.{end_line, end_lines, part_lines};
 
-use crate::heads::{Search, write_head};
-use crate::lines::write_end;
-use hp_explore::{Ending, ExploreFault};
+use hp_explore::ExploreFault;
 use hp_lab::Prepared;
+use hp_part_lines::{Search, write_head, write_schedule};
+use hp_schedules::Ending;
 use std::alloc::{AllocError, Global};
 
 /// Writes the head and the ends of the part with a number, from 1 on. A fault is that of a call: the
@@ -74,5 +76,23 @@ fn write_end_line(
 {
     write_end(out, alloc, prepared, number, end)?;
     out.push('\n')?;
+    Ok(())
+}
+
+/// Writes the line of the end with a number. A fault is that of a call: the first schedule of the end
+/// is played once more.
+pub(crate) fn write_end(
+    out: &mut String,
+    alloc: Global,
+    prepared: &Prepared,
+    number: usize,
+    end: &Ending,
+) -> Result<(), ExploreFault>
+    ensures ok { OnOk result (string_bytes out.new ≡ string_bytes out.old
+        ++ end_line (names_of prepared.now) (setting_of prepared.now) number end.now) }
+    ensures err { IfErr result (IsCause (setting_of prepared.now)) }
+{
+    prepared.write_end_keys(out, alloc, number, end)?;
+    write_schedule(out, end.first.as_slice())?;
     Ok(())
 }

@@ -2,7 +2,8 @@
 use crate::explorations::scenario;
 use hp_explore::Silent;
 use hp_lab::{EndsForm, explore_text};
-use hp_part_files::{PartFault, PartNumber, part_text, sum_text};
+use hp_part_files::{PartFault, part_text, sum_text};
+use hp_part_lines::PartNumber;
 use std::alloc::{AllocError, Global};
 use std::test::Fail;
 

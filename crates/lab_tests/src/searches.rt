@@ -2,7 +2,8 @@
 use super::explorations::scenario;
 use hp_explore::Silent;
 use hp_find::Wanted;
-use hp_lab::{ScheduleForm, find_text, wanted_line};
+use hp_lab::{ScheduleForm, find_text};
+use hp_wanted::wanted_line;
 use std::alloc::{AllocError, Global};
 use std::test::Fail;
 

@@ -1,14 +1,13 @@
 use Rattle.std.proofs.Common.{ℕ, List, None, ap, string_bytes, subst, ◌∙◌}
 use Rattle.std.proofs.lemmas.Result.{IfErr-weaker, IfOk-weaker, err_from_is_err_and}
 use Rattle.std.specs.Global.{Vec}
-use Rattle.hp_explore.specs.declared.tally.Ending.{Ending}
+use Rattle.hp_schedules.specs.declared.tally.Ending.{Ending}
 use Rattle.hp_lab.specs.Explorations.{AreEndsTold}
 use Rattle.hp_lab.specs.Prepared.{before_of, names_of, setting_of}
-use Rattle.hp_part_files.specs.Faults.{IsOrderFault, IsTooMany}
-use Rattle.hp_part_files.specs.Gathered.{AreAll, lists_of}
-use Rattle.hp_part_files.specs.Reading.{HeadValue}
+use Rattle.hp_part_lines.specs.Ordering.{AreAll, IsOrderFault, lists_of}
+use Rattle.hp_part_lines.specs.Heads.{HeadValue, SearchValue}
+use Rattle.hp_part_files.specs.Faults.{IsTooMany}
 use Rattle.hp_part_files.specs.Sums.{IsSum}
-use Rattle.hp_part_files.specs.Texts.{SearchValue}
 use Rattle.hp_part_files.proofs.Read.{misplaced, too_many, untold_ends}
 use Rattle.hp_part_files.proofs.summing.sum_on.Goals as goal
 

@@ -1,9 +1,8 @@
 use Rattle.std.proofs.Common.{◌≡◌, ◌+◌, ℕ, List, length, ap, inr, subst}
 use Rattle.std.proofs.lemmas.Result.{IfErr-weaker, IfOk-weaker}
-use Rattle.hp_part_files.specs.Lines.{IsLineAt}
-use Rattle.hp_part_files.specs.Reading.{HeadValue}
-use Rattle.hp_part_files.specs.Texts.{head_line}
-use Rattle.hp_part_files.proofs.Texts.{head_known}
+use Rattle.hp_part_lines.specs.Cuts.{IsLineAt}
+use Rattle.hp_part_lines.specs.Heads.{HeadValue, head_line}
+use Rattle.hp_part_lines.proofs.Values.{head_known}
 use Rattle.hp_part_files.proofs.summing.sum_text.Goals as goal
 
 pub sum_after-requires : goal.sum_after-requires

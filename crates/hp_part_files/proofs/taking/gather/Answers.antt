@@ -1,9 +1,8 @@
 use Rattle.std.proofs.Common.{◌≡◌, List, false, true, ℕ, take, ap, arith, inl, inr, subst, sym, ◌∙◌}
 use Rattle.hp_lab.specs.Prepared.{names_of, setting_of}
+use Rattle.hp_part_lines.specs.Heads.{HeadValue, SearchValue}
 use Rattle.hp_part_files.specs.Gathered.{IsGathering}
-use Rattle.hp_part_files.specs.Reading.{HeadValue}
 use Rattle.hp_part_files.specs.Taking.{IsTaken}
-use Rattle.hp_part_files.specs.Texts.{SearchValue}
 use Rattle.hp_part_files.specs.Faults.{IsLineFault}
 use Rattle.hp_part_files.specs.declared.fault.PartFault.TheVariants as part
 use Rattle.hp_part_files.proofs.Read.{all_read, last_cut, line_passed, unread}

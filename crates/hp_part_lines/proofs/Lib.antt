@@ -1,0 +1,4 @@
+pub mod Ended
+pub mod Ordered
+pub mod Values
+pub mod Written

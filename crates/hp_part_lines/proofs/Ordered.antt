@@ -1,0 +1,67 @@
+-- The numbers of parts that rise, one place after another.
+use Rattle.std.proofs.Common.{◌≡◌, ℕ, ◌+◌, ◌-◌, ◌<◌, ◌≤◌, List, [], ◌∷◌, length, get_or, ap, sym, subst, ◌∙◌, arith, inl, inr}
+use Rattle.std.proofs.lemmas.Bool.{cases_lt}
+use Rattle.std.proofs.lemmas.List.{get_or_default}
+use Rattle.hp_part_lines.specs.Ordering.{AreInPlace, ArePlacedBelow, AreRising, AreWithin, IsMissing, IsTwice}
+use Rattle.hp_part_lines.specs.Gathering.{PartEndsValue}
+
+-- the number at a place is that of a place before it
+pub comes_twice : (of : ℕ) (parts : List PartEndsValue) (index number : ℕ) (p : PartEndsValue)
+    → index < length parts → p ≡ get_or parts index p → number ≡ p.number → AreWithin of parts
+    → ArePlacedBelow index parts → number < index + 1 → IsTwice parts number
+comes_twice of parts index number p lt here is within placed less =
+    let at : (d : PartEndsValue) → (get_or parts index d).number ≡ number =
+    λ d. ap (λ (q : PartEndsValue). q.number) (same d) ∙ sym is in
+    let some : 1 ≤ number = subst (λ (n : ℕ). 1 ≤ n) (at p) (within index p lt).0 in
+    record {
+      i = number - 1;
+      j = index;
+      apart = omega (arith, some, less);
+      within = lt;
+      one = λ d. placed (number - 1) d (omega (arith, some, less)) ∙ omega (arith, some);
+      other = at;
+    }
+  where
+    same : (d : PartEndsValue) → get_or parts index d ≡ p
+    same d = get_or_default parts index d p lt ∙ sym here
+
+-- a number is passed over
+pub is_missing : (of : ℕ) (parts : List PartEndsValue) (index number : ℕ) (p : PartEndsValue)
+    → index < length parts → p ≡ get_or parts index p → number ≡ p.number → AreWithin of parts
+    → AreRising parts → ArePlacedBelow index parts → index + 1 < number → IsMissing parts of (index + 1)
+is_missing of parts index number p lt here is within rising placed more = (
+  omega arith,
+  within_of,
+  λ k d less same. elim (cases_lt k index) [
+    | inl before ↦ absurd (omega (arith, placed k d before, same))
+    | inr after ↦ absurd (omega (arith, rising index k d after less, same, at d, more))
+  ],
+)
+  where
+    at : (d : PartEndsValue) → (get_or parts index d).number ≡ number
+    at d = ap (λ (q : PartEndsValue). q.number) (get_or_default parts index d p lt ∙ sym here) ∙ sym is
+
+    within_of : index + 1 ≤ of
+    within_of = omega (arith, (within index p lt).1, at p, more)
+
+-- all places have theirs
+pub none_missing : (of : ℕ) (parts : List PartEndsValue) → AreWithin of parts
+    → ArePlacedBelow (length parts) parts → (d : PartEndsValue) → length parts ≤ of
+none_missing of parts within placed d = elim (cases_lt of (length parts)) [
+  | inl less ↦ absurd (omega (arith, placed of d less, (within of d less).1))
+  | inr enough ↦ enough
+]
+
+-- all are there once
+pub all_placed : (of : ℕ) (parts : List PartEndsValue) → AreWithin of parts
+    → ArePlacedBelow (length parts) parts → of ≤ length parts → AreInPlace of parts
+all_placed of parts within placed enough =
+    let count : length parts ≡ of = omega (arith, few parts within placed, enough) in
+    record {
+      count = count;
+      numbers = subst (λ (n : ℕ). ArePlacedBelow n parts) count placed;
+    }
+  where
+    few : (ps : List PartEndsValue) → AreWithin of ps → ArePlacedBelow (length ps) ps → length ps ≤ of
+    few [] within placed = omega arith
+    few (p ∷ ps) within placed = none_missing of (p ∷ ps) within placed p

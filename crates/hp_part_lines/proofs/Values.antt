@@ -1,0 +1,38 @@
+-- What a line is, by the value that its text is.
+use Rattle.std.proofs.Common.{◌≡◌, ℕ, List, Option, Some, None, Ok, Err, option_map, refl, sym, subst, ap, ◌∙◌}
+use Rattle.std.specs.Prelude.{option_and_then}
+use Rattle.serde_json.specs.View.{view}
+use Rattle.serde_json.specs.declared.value.Value.{Value}
+use Rattle.serde_json.specs.Data.{Data}
+use Rattle.hp_scenario.specs.Gives.{or_fault}
+use Rattle.hp_scenario.specs.Scenario.{json_of}
+use Rattle.hp_scenario.specs.declared.fault.ScenarioFault.{ScenarioFault}
+use Rattle.hp_part_lines.specs.Heads.{HeadValue, head_from}
+use Rattle.hp_part_lines.specs.Reading.{IsLine, IsLineIn, IsLineOf}
+use Rattle.hp_part_lines.specs.declared.reading.PartLine.{PartLine}
+use Rattle.hp_part_lines.specs.declared.reading.PartLine.TheVariants.{Other}
+
+-- the text is a value, or it is none
+pub in_value : (text : List ℕ) (d : Data) (line : PartLine) → Some d ≡ json_of text → IsLineOf d line
+    → IsLine text line
+in_value text d line is h = subst (λ (o : Option Data). IsLineIn o line) is h
+
+pub in_none : (text : List ℕ) → None ≡ json_of text → IsLine text Other
+in_none text is = subst (λ (o : Option Data). IsLineIn o Other) is tt
+
+-- what is given, or a fault
+pub none_of : {A : Type 0} (fault : ScenarioFault) (o : Option A) → or_fault fault o ≡ Err fault → None ≡ o
+none_of fault None is = refl
+none_of fault (Some x) is = cc
+
+pub some_of : {A : Type 0} (fault : ScenarioFault) (o : Option A) (x : A) → or_fault fault o ≡ Ok x
+    → Some x ≡ o
+some_of fault None x is = cc
+some_of fault (Some y) x is = cc
+
+-- the head that a text is
+pub head_known : (text : List ℕ) (o : Option Value) (v : Value) (h : HeadValue)
+    → option_map (λ (w : Value). view w) o ≡ json_of text → o ≡ Some v → Some h ≡ head_from (view v)
+    → option_and_then head_from (json_of text) ≡ Some h
+head_known text o v h json is head =
+    ap (option_and_then head_from) (sym json ∙ ap (option_map (λ (w : Value). view w)) is) ∙ sym head

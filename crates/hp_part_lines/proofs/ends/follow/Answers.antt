@@ -1,0 +1,23 @@
+use Rattle.std.proofs.Common.{ℕ, Bool, true, false, subst}
+use Rattle.hp_explore.specs.Paths.{IsForth}
+use Rattle.hp_part_lines.proofs.Ended.{followed, unfollowed}
+use Rattle.hp_part_lines.proofs.ends.follow.Goals as goal
+
+pub returns-then-not-branch-clause-ok : goal.returns-then-not-branch-clause-ok
+returns-then-not-branch-clause-ok c =
+    unfollowed c.args.path.now.setting c.args.schedule.now c.loop-cpu.cpu-index c.cpu-item.result
+    c.loop-cpu.path
+    c.forward.new.self c.loop-cpu-test.true c.cpu-item.is c.loop-cpu.invariant.0 c.loop-cpu.invariant.1
+    c.is_played.ensures
+    (subst (λ (n : ℕ). IsForth c.loop-cpu.path n false c.forward.new.self) c.cpu.view_is
+    (subst (λ (b : Bool). IsForth c.loop-cpu.path c.cpu.inside.0 b c.forward.new.self) c.if-not-branch.true
+    c.in_ok-forward.ensures.ok))
+
+pub loop-cpu-preserved : goal.loop-cpu-preserved
+loop-cpu-preserved c =
+    followed c.args.path.now.setting c.args.schedule.now c.loop-cpu.cpu-index c.cpu-item.result
+    c.loop-cpu.path
+    c.forward.new.self c.loop-cpu-test.true c.cpu-item.is c.loop-cpu.invariant.0 c.loop-cpu.invariant.1
+    (subst (λ (n : ℕ). IsForth c.loop-cpu.path n true c.forward.new.self) c.cpu.view_is
+    (subst (λ (b : Bool). IsForth c.loop-cpu.path c.cpu.inside.0 b c.forward.new.self) c.if-not-branch.false
+    c.in_ok-forward.ensures.ok))

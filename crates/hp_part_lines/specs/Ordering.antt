@@ -1,0 +1,63 @@
+-- All parts by their numbers, and why they are not all there once.
+use Rattle.std.specs.Prelude.{◌≡◌, ℕ, ◌+◌, ◌≤◌, ◌<◌, List, length, map, slice_index_or}
+use Rattle.std.specs.Global.{Vec}
+use Rattle.std.specs.List.{All}
+use Rattle.std.specs.List.Sorted.{IsNonDecreasingBy, IsPermutation}
+use Rattle.hp_schedules.specs.declared.tally.Ending.{Ending}
+use Rattle.hp_part_lines.specs.Gathering.{PartEndsValue}
+use Rattle.hp_part_lines.specs.declared.ordering.OrderFault.{OrderFault}
+use Rattle.hp_part_lines.specs.declared.ordering.OrderFault.TheVariants.{Missing, Twice, OutOfMemory}
+
+-- the ends of lists
+abbrev pub lists_of : List (Vec Ending) → List (List Ending)
+lists_of lists = map (λ l. l.items) lists
+
+-- their numbers are from 1 to how many there are
+abbrev pub AreWithin : (of : ℕ) → List PartEndsValue → Type 0
+AreWithin of parts = All (λ p. (1 ≤ p.number) × (p.number ≤ of)) parts
+
+-- and rise
+abbrev pub AreRising : List PartEndsValue → Type 0
+AreRising parts = IsNonDecreasingBy (λ p. p.number) parts
+
+-- the first so many have the numbers of their places, from 1 on
+abbrev pub ArePlacedBelow : (below : ℕ) → List PartEndsValue → Type 0
+ArePlacedBelow below parts =
+    (k : ℕ) (d : PartEndsValue) → k < below → (slice_index_or parts k d).number ≡ k + 1
+
+-- each part is there once: in another order they have the numbers from 1 to how many there are
+pub record AreInPlace (of : ℕ) (ordered : List PartEndsValue) : Type 0 where
+  pub count : length ordered ≡ of
+  pub numbers : ArePlacedBelow of ordered
+
+pub record AreAll (parts : List PartEndsValue) (of : ℕ) (lists : List (List Ending)) : Type 0 where
+  pub ordered : List PartEndsValue
+  pub moved : IsPermutation parts ordered
+  pub placed : AreInPlace of ordered
+  pub are : lists ≡ map (λ p. p.ends) ordered
+
+-- ---- why they are not
+
+abbrev pub IsMissing : List PartEndsValue → (of number : ℕ) → Type 0
+IsMissing parts of number =
+    (1 ≤ number) × (number ≤ of)
+    × All (λ p. p.number ≡ number → ⊥) parts
+
+pub record IsTwice (parts : List PartEndsValue) (number : ℕ) : Type 0 where
+  pub i : ℕ
+  pub j : ℕ
+  pub apart : i < j
+  pub within : j < length parts
+  pub one : (d : PartEndsValue) → (slice_index_or parts i d).number ≡ number
+  pub other : (d : PartEndsValue) → (slice_index_or parts j d).number ≡ number
+
+abbrev pub IsMisplaced : List PartEndsValue → (of : ℕ) → OrderFault → Type 0
+IsMisplaced parts of (Missing number) = IsMissing parts of number
+IsMisplaced parts of (Twice number) = IsTwice parts number
+IsMisplaced parts of OutOfMemory = ⊥
+
+-- in another order
+abbrev pub IsOrderFault : List PartEndsValue → (of : ℕ) → OrderFault → Type 0
+IsOrderFault parts of OutOfMemory = Unit {0}
+IsOrderFault parts of fault =
+    (ordered : List PartEndsValue) × IsPermutation parts ordered × IsMisplaced ordered of fault

@@ -1,0 +1,70 @@
+//! The numbers of parts.
+ghost use Rattle.std.specs.Prelude.{◌≡◌, ◌↔◌, ◌≤◌, IfSome, IsSome};
+ghost use Rattle.hp_part_lines.specs.Numbers.{part_by};
+
+use hp_schedules::Part;
+use std::marker::Model;
+
+/// The most parts of a search (own rule).
+const MOST: u64 = 1_000_000;
+
+/// One of so many parts of a search: its number, from 1 on, and how many there are, at most 1,000,000.
+#[derive(Clone, Copy, Debug, PartialEq, Eq, Drop)]
+pub struct PartNumber {
+    number: u32,
+    of: u32,
+}
+
+impl Model for PartNumber {
+    ghost use Rattle.std.specs.Prelude.{◌≤◌};
+    ghost use Rattle.hp_part_lines.specs.Numbers.{NumberValue};
+
+    ghost Value = { NumberValue };
+
+    ghost view = { λ n. record { number = n.number; of = n.of } };
+
+    ghost invariant = { λ n. (1 ≤ n.number) × (n.number ≤ n.of) };
+
+    ghost inverse = { λ v. record { number = v.number; of = v.of } };
+}
+
+impl PartNumber {
+    /// The part with a number, from 1 on, of so many; None where there is no such part, and where
+    /// there are more than 1,000,000.
+    pub fn new(number: u64, of: u64) -> Option<PartNumber>
+        ensures some { IsSome result ↔ ((1 ≤ number) × (number ≤ of) × (of ≤ 1000000)) }
+        ensures is { IfSome result (λ part. part ≡ record { number = number; of = of }) }
+    {
+        if number < 1 || number > of || of > MOST {
+            return None;
+        }
+        Some(PartNumber {
+            number: number as u32,
+            of: of as u32,
+        })
+    }
+
+    /// How many parts there are.
+    pub fn of(&self) -> u32
+        ensures { result ≡ self.now.of }
+    {
+        self.of
+    }
+
+    /// The number, from 1 on.
+    pub fn number(&self) -> u32
+        ensures { result ≡ self.now.number }
+    {
+        self.number
+    }
+
+    /// The part, where the parts go by so many first calls.
+    pub fn part(&self, calls: u32) -> Part
+        ensures { result ≡ part_by self.now calls }
+    {
+        match Part::new(self.number - 1, self.of, calls) {
+            Some(part) => part,
+            None => unreachable!(),
+        }
+    }
+}
