@@ -5,3 +5,4 @@ mod Worked
 mod WorkedBlocks
 mod WorkedHistories
 mod WorkedRuns
+mod DerivedEq

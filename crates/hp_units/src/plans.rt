@@ -69,13 +69,15 @@ impl Plan {
 fn are_same(items: &[Item], others: &[Item]) -> bool
     ensures { IsTrue result ↔ (items.now ≡ others.now) }
 {
-    match (items, others) {
-        ([], []) => true,
-        ([item, items @ ..], [other, others @ ..]) => {
-            is_same(item, other) && are_same(items, others)
-        }
-        _ => false,
+    if items.len() != others.len() {
+        return false;
     }
+    for (place, item) in items.iter().enumerate() {
+        if !is_same(item, &others[place]) {
+            return false;
+        }
+    }
+    true
 }
 
 /// Whether the items are the same.

@@ -93,24 +93,7 @@ impl Reply {
     pub fn same(&self, other: &Reply) -> bool
         ensures { IsTrue result ↔ (self.now ≡ other.now) }
     {
-        match (self, other) {
-            (Reply::Done, Reply::Done)
-            | (Reply::Restored, Reply::Restored)
-            | (Reply::Released, Reply::Released) => true,
-            (Reply::Frame(frame), Reply::Frame(other)) => frame == other,
-            (Reply::Word(word), Reply::Word(other)) => word == other,
-            (
-                Reply::Moved { from, to },
-                Reply::Moved {
-                    from: start,
-                    to: end,
-                },
-            ) => from == start && to == end,
-            (Reply::Opened { op }, Reply::Opened { op: other }) => op == other,
-            (Reply::Undone { count }, Reply::Undone { count: other }) => count == other,
-            (Reply::Refused(refusal), Reply::Refused(other)) => refusal.same(*other),
-            _ => false,
-        }
+        *self == *other
     }
 }
 
