@@ -210,16 +210,28 @@ impl Cpus {
             → frames_of areas self.new ≡ cached_undo delta (frames_of areas self.old) }
         ensures layout { self.new.layout ≡ self.old.layout }
     {
-        match &delta {
+        self.back_by(&delta);
+    }
+
+    /// The same by a delta that the caller owns, so that here none is dropped at each exit.
+    #[inline(always)]
+    fn back_by(&mut self, delta: &Delta)
+        requires fits { (areas : FreeAreas) × FitsCached delta.now (frames_of areas self.old) }
+        requires numbers { IsDeltaOf self.old.layout delta.now }
+        ensures back { (areas : FreeAreas)
+            → frames_of areas self.new ≡ cached_undo delta.now (frames_of areas self.old) }
+        ensures layout { self.new.layout ≡ self.old.layout }
+    {
+        match *delta {
             Delta::Link { list, frame, .. } => {
                 if let ListId::Cpu { .. } = list {
-                    let _ = self.links.unlink(*frame);
+                    let _ = self.links.unlink(frame);
                 }
             }
             Delta::Unlink { list, frame, after } => {
                 if let ListId::Cpu { pool, cpu } = list {
-                    let number = list_number(Cpu(u32::from(*cpu)), *pool);
-                    self.links.relink_after(number, *frame, *after);
+                    let number = list_number(Cpu(u32::from(cpu)), pool);
+                    self.links.relink_after(number, frame, after);
                 }
             }
             _ => {}

@@ -1,11 +1,23 @@
 -- The rest of one more free block is passed.
-use Rattle.std.proofs.Common.{ℕ, ◌≡◌, ◌+◌, ◌-◌, ◌*◌, Bool, not, ◌∙◌, ap, arith}
+use Rattle.std.proofs.Common.{ℕ, suc, ◌≡◌, ◌+◌, ◌-◌, ◌*◌, Bool, Some, cond, not, sym, ◌∙◌, ap, arith}
 use Rattle.std.specs.List.{find, range_with_len}
 use Rattle.hp_layers.specs.Commits.{is_in_use}
 use Rattle.hp_layers.specs.Layers.{state_of}
 use Rattle.hp_layers.proofs.FreeRuns.{find-range_past}
 use Rattle.hp_layers.proofs.Migrated.{block-last}
 use Rattle.hp_layers.proofs.layers.Layers.lowest_in_use.Goals as goal
+
+pub loop-number-init : goal.loop-number-init
+loop-number-init c =
+    let l = c.args.self.now.layout in
+    let p : ℕ → Bool = is_in_use l (state_of c.args.self.now) in
+    let size : ℕ = c.block_size-size.result in
+    let at : c.block.inside.0 * size ≡ c.block.inside.0 * size + 0 = omega arith in
+    let all : size ≡ size - 0 = omega arith in
+    ap (λ (n : ℕ). find p (range_with_len (c.args.block * n) n)) (sym c.block_size-size.ensures.is)
+    ∙ ap (λ (n : ℕ). find p (range_with_len (n * size) size)) (sym c.block.view_is)
+    ∙ ap (λ (n : ℕ). find p (range_with_len n size)) at
+    ∙ ap (λ (n : ℕ). find p (range_with_len (c.block.inside.0 * size + 0) n)) all
 
 pub loop-number-preserved : goal.loop-number-preserved
 loop-number-preserved c =
@@ -28,3 +40,25 @@ free_from-free-requires-clause-frame c =
       block-last c.args.self.now.layout c.requires.block c.block.view_is c.block_size-size.ensures.is,
       c.loop-number-test.true,
     )
+
+pub returns-then-free-eq0 : goal.returns-then-free-eq0
+returns-then-free-eq0 c =
+    let size : ℕ = c.block_size-size.result in
+    let number : ℕ = c.loop-number.number in
+    let at : ℕ = c.block.inside.0 * size + number in
+    let p : ℕ → Bool = is_in_use c.args.self.now.layout (state_of c.args.self.now) in
+    let rest : ℕ = size - number - 1 in
+    let left : size - number ≡ suc rest = omega (arith, c.loop-number-test.true) in
+    sym (c.loop-number.invariant
+    ∙ ap (λ (n : ℕ). find p (range_with_len at n)) left
+    ∙ ap (λ (on : Bool). cond (not on) (Some at) (find p (range_with_len (at + 1) rest)))
+    (c.free_from-free.ensures.used c.if-free-eq0.true))
+
+pub returns : goal.returns
+returns c =
+    let size : ℕ = c.block_size-size.result in
+    let number : ℕ = c.loop-number.number in
+    let p : ℕ → Bool = is_in_use c.args.self.now.layout (state_of c.args.self.now) in
+    let none : size - number ≡ 0 = omega (arith, c.loop-number-test.false) in
+    sym (c.loop-number.invariant
+    ∙ ap (λ (n : ℕ). find p (range_with_len (c.block.inside.0 * size + number) n)) none)

@@ -9,21 +9,22 @@ use Rattle.hp_tape.specs.Deltas.{areas_undo}
 use Rattle.hp_buddy.specs.Buddy.{BuddyValue}
 use Rattle.hp_buddy.proofs.Notes.{kept-off, kept-with, seen-listed}
 use Rattle.hp_buddy.proofs.Backs.{linked-on, link-undone, unlinked-after, unlink-undone}
-use Rattle.hp_buddy.proofs.buddy.Buddy.back.Goals as goal
+use Rattle.hp_buddy.proofs.buddy.Buddy.back_by.Goals as goal
 
 pub unlink-requires : goal.unlink-requires
 unlink-requires c =
     let b = c.self.inside in
     seen-listed c.args.self.now b.layout b.links b.kinds.items c.in-Area.class c.in-Area.order c.in-Link.frame
     (record { is = c.self.view_is; kept = c.self.invariant })
-    (linked-on c.args.self.now.areas c.args.delta c.in-Link.list c.in-Area.class c.in-Area.order
+    (linked-on c.args.self.now.areas c.args.delta.now c.in-Link.list c.in-Area.class c.in-Area.order
     c.in-Link.frame c.in-Link.after c.in-Link.is c.in-Area.is c.requires.fits)
 
 pub returns-in-Area-clause-back : goal.returns-in-Area-clause-back
 returns-in-Area-clause-back c =
     let b = c.self.inside in
     let u = c.unlink.ensures in
-    link-undone c.args.self.now b.layout b.links c.unlink.new.self b.kinds.items c.args.delta c.in-Link.list
+    link-undone c.args.self.now b.layout b.links c.unlink.new.self b.kinds.items c.args.delta.now
+    c.in-Link.list
     c.in-Area.class c.in-Area.order c.in-Link.frame c.in-Link.after c.unlink.result
     (record { is = c.self.view_is; kept = c.self.invariant }) c.in-Link.is c.in-Area.is c.requires.fits
     c.requires.numbers
@@ -32,7 +33,7 @@ returns-in-Area-clause-back c =
 pub relink_after-requires-clause-after_on : goal.relink_after-requires-clause-after_on
 relink_after-requires-clause-after_on c =
     let b = c.self.inside in
-    unlinked-after c.args.self.now b.layout b.links b.kinds.items c.args.delta c.in-Unlink.list
+    unlinked-after c.args.self.now b.layout b.links b.kinds.items c.args.delta.now c.in-Unlink.list
     c.in-Area-list.class c.in-Area-list.order c.in-Unlink.frame c.list_number-number.result
     c.in-Unlink.after
     (record { is = c.self.view_is; kept = c.self.invariant }) c.in-Unlink.is c.in-Area-list.is c.requires.fits
@@ -42,7 +43,7 @@ relink_after-requires-clause-after_on c =
 pub returns-in-Area-list-clause-back : goal.returns-in-Area-list-clause-back
 returns-in-Area-list-clause-back c =
     let b = c.self.inside in
-    unlink-undone c.args.self.now b.layout b.links c.relink_after.new.self b.kinds.items c.args.delta
+    unlink-undone c.args.self.now b.layout b.links c.relink_after.new.self b.kinds.items c.args.delta.now
     c.in-Unlink.list c.in-Area-list.class c.in-Area-list.order c.in-Unlink.frame c.list_number-number.result
     c.in-Unlink.after
     (record { is = c.self.view_is; kept = c.self.invariant }) c.in-Unlink.is c.in-Area-list.is
@@ -55,8 +56,8 @@ invariant_of-self c = kept-off _ c.self.invariant c.unlink.ensures.links
 pub returns-in-Area-clause-layout : goal.returns-in-Area-clause-layout
 returns-in-Area-clause-layout c = ap (λ (v : BuddyValue). v.layout) c.self.view_is
 
-pub returns-in-Link-clause-back : goal.returns-in-Link-clause-back
-returns-in-Link-clause-back c =
+pub returns-in_default-list-clause-back : goal.returns-in_default-list-clause-back
+returns-in_default-list-clause-back c =
     ap (λ (d : Delta). areas_undo d c.args.self.now.areas) (sym (c.in-Link.is
     ∙ ap (λ (k : ListId). Link k c.in-Link.frame c.in-Link.after) c.in_default-list.is))
 
@@ -66,8 +67,8 @@ returns-in-Area-list-clause-layout c = ap (λ (v : BuddyValue). v.layout) c.self
 pub invariant_of-self-in-Area-list : goal.invariant_of-self-in-Area-list
 invariant_of-self-in-Area-list c = kept-with _ _ c.self.invariant c.relink_after.ensures
 
-pub returns-in-Unlink-clause-back : goal.returns-in-Unlink-clause-back
-returns-in-Unlink-clause-back c =
+pub returns-in_default-list-2-clause-back : goal.returns-in_default-list-2-clause-back
+returns-in_default-list-2-clause-back c =
     ap (λ (d : Delta). areas_undo d c.args.self.now.areas) (sym (c.in-Unlink.is
     ∙ ap (λ (k : ListId). Unlink k c.in-Unlink.frame c.in-Unlink.after) c.in_default-list-2.is))
 
