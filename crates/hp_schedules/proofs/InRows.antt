@@ -1,7 +1,7 @@
 -- Rows that stand one after another.
-use Rattle.std.proofs.Common.{◌≡◌, ℕ, zero, suc, ◌-◌, ◌<◌, ◌≤◌, List, [], ◌∷◌, ◌++◌, length, get_or, take, drop, Option, None, Some, slice_get, refl, ap, sym, ◌∙◌, arith, length-append}
+use Rattle.std.proofs.Common.{◌≡◌, ◌⊎◌, inl, inr, ℕ, zero, suc, ◌-◌, ◌<◌, ◌≤◌, List, [], ◌∷◌, ◌++◌, length, get_or, take, drop, Option, None, Some, slice_get, refl, ap, sym, subst, ◌∙◌, arith, length-append}
 use Rattle.std.specs.List.{PartBy, slice_range}
-use Rattle.std.specs.Option.{IfSome}
+use Rattle.std.specs.Option.{IfNone, IfSome}
 use Rattle.std.proofs.lemmas.List.{drop-append-le, take-append-le, take_all, length-drop}
 use Rattle.hp_schedules.specs.Rows.{FillUp, rows_from, start_in}
 
@@ -35,6 +35,37 @@ row_shown {X} now (Some row) rows place start all numbers ends shown rows_are fi
     (sym all_is)
     ∙ (ap (λ (n : ℕ). Some (slice_range numbers n (get_or shown place 0))) (sym start_is)
     ∙ ap Some (sym part.0.2)))))
+
+-- a row lies within the list
+row_within : {X : Type 0} (start : ℕ) (all : List X) (ends : List ℕ) (place : ℕ) → FillUp start all ends
+    → place < length ends
+    → (start_in start ends place ≤ get_or ends place 0) × (get_or ends place 0 ≤ length all)
+row_within start all [] place fill within = absurd (omega arith)
+row_within start all (end ∷ ends) zero fill within = (fill.0, fill.1)
+row_within start all (end ∷ ends) (suc zero) fill within = row_within end all ends zero fill.2 (omega arith)
+row_within start all (end ∷ ends) (suc (suc place)) fill within =
+    row_within end all ends (suc place) fill.2 (omega arith)
+
+-- so there is such a part
+pub row_there : {X R : Type 0} (now : R → List X) (o : Option R) (rows : List (List X)) (place start : ℕ)
+    (all numbers : List X) (ends shown : List ℕ)
+    → FillUp 0 all ends → numbers ≡ all → shown ≡ ends → place < length shown
+    → start ≡ start_in 0 shown place → PartBy now numbers start (get_or shown place 0) o
+    → IfNone o (length rows ≤ place)
+row_there now (Some row) rows place start all numbers ends shown fill all_is ends_are within start_is
+    part =
+    tt
+row_there {X} now None rows place start all numbers ends shown fill all_is ends_are within start_is part =
+    absurd (outside part.0)
+  where
+    lies : (start ≤ get_or shown place 0) × (get_or shown place 0 ≤ length numbers)
+    lies =
+        rw (start_is, all_is)
+        (row_within 0 all shown place (subst (FillUp 0 all) (sym ends_are) fill) within)
+
+    outside : (get_or shown place 0 < start) ⊎ (length numbers < get_or shown place 0) → ⊥
+    outside (inl back) = omega (arith, lies.0)
+    outside (inr past) = omega (arith, lies.1)
 
 -- ---- one row more
 

@@ -21,8 +21,8 @@ impl Positions {
     /// Where the scripts begin. An error is out of memory.
     pub fn start(alloc: Global, cpus: u32, scripts: &[Script]) -> Result<Positions, AllocError>
         ensures many { IfOk result (λ positions. length positions.cursors.items ≡ length scripts.now) }
-        ensures begun { IfOk result (λ positions. (g : Setting) → g.scripts ≡ scripts.now → g.layout.cpus ≡ cpus
-            → AreCursors g [] positions.cursors.items) }
+        ensures begun { IfOk result (λ positions. (g : Setting) → g.scripts ≡ scripts.now
+            → g.layout.cpus ≡ cpus → AreCursors g [] positions.cursors.items) }
     {
         let cursors = begun(alloc, cpus, scripts)?;
         Ok(Positions { cursors })

@@ -1,5 +1,5 @@
 //! Rows of shares, kept one after another.
-ghost use Rattle.std.specs.Prelude.{◌≡◌, ◌<◌, ◌++◌, ◌∷◌, [], IfSome, OnErr, OnOk, Some, length, slice_get};
+ghost use Rattle.std.specs.Prelude.{◌≡◌, ◌<◌, ◌≤◌, ◌++◌, ◌∷◌, [], IfNone, IfSome, OnErr, OnOk, Some, length, slice_get};
 ghost use Rattle.hp_schedules.specs.Rows.{start_in};
 
 use std::alloc::{AllocError, Global};
@@ -59,7 +59,8 @@ impl Rows {
 
     /// The row at a place; none where there is none.
     pub fn row(&self, place: usize) -> Option<&[Share]>
-        ensures { IfSome result (λ row. slice_get self.now place ≡ Some row.now) }
+        ensures some { IfSome result (λ row. slice_get self.now place ≡ Some row.now) }
+        ensures none { IfNone result (length self.now ≤ place) }
     {
         let ends = self.ends.as_slice();
         if place >= ends.len() {
