@@ -1,43 +1,24 @@
 -- The turns of a walk: what each does to what is known of the places.
-use Rattle.std.proofs.Common.{◌≡◌, ℕ, ◌+◌, ◌<◌, ◌≤◌, Bool, true, false, List, [], ◌∷◌, ◌++◌, length, map, option_to_list, reverse, Option, Some, None, Box, refl, ap, sym, subst, ◌∙◌, arith, inr}
-use Rattle.std.proofs.lemmas.List.{append-nil, length-map, length_push, map-append, reverse-append, same_from_push}
-use Rattle.std.proofs.lemmas.Option.{none-some, same_Some}
-use Rattle.std.specs.declared.alloc.Global.{Global}
+use Rattle.std.proofs.Common.{◌≡◌, ℕ, ◌+◌, ◌<◌, ◌≤◌, Bool, true, false, List, [], ◌∷◌, ◌++◌, length, option_to_list, reverse, Option, Some, None, refl, ap, sym, subst, ◌∙◌, arith}
+use Rattle.std.proofs.lemmas.List.{append-nil, length_push, map-append, reverse-append, same_from_push}
 use Rattle.hp_units.specs.declared.events.Event.{Event}
 use Rattle.hp_units.specs.declared.replies.Record.{Record}
-use Rattle.hp_explore.specs.Faults.{is_full_after}
-use Rattle.hp_explore.specs.Frames.{AreBelow, AreWalked, IsAdded, IsEntered, IsEnteredWithin, IsFrame, IsFresh, kept_of, path_of}
-use Rattle.hp_explore.specs.declared.frames.Kept.{Kept}
-use Rattle.hp_schedules.specs.Parts.{AllOfPart, ComesTo, IsOfPart, IsOn, NoneOfPart, PartValue}
+use Rattle.hp_places.specs.Rooms.{is_full_after}
+use Rattle.hp_explore.specs.Frames.{AreBelow, AreWalked, path_of}
+use Rattle.hp_places.specs.Frames.{IsFrame}
+use Rattle.hp_schedules.specs.Parts.{IsOn, PartValue}
 use Rattle.hp_explore.specs.Paths.{IsBack, PathValue}
 use Rattle.hp_schedules.specs.Schedules.{Setting, next_call, plays, record_of_call, schedule_of}
-use Rattle.hp_explore.specs.Seen.{Grow}
-use Rattle.hp_schedules.specs.Shares.{AddsShares}
-use Rattle.hp_explore.specs.Walks.{IsOverBelow, IsPartWalkedBefore, IsPartWalkedThrough}
-use Rattle.hp_explore.specs.declared.frames.Entry.{Entry}
-use Rattle.hp_explore.specs.declared.frames.Entry.TheVariants.{Counted, Open}
-use Rattle.hp_explore.specs.declared.frames.Frame.{Frame}
-use Rattle.hp_schedules.specs.declared.rows.Share.{Share}
+use Rattle.hp_places.specs.Seen.{Grow}
+use Rattle.hp_places.specs.Walks.{IsOverBelow, IsPartWalkedBefore, IsPartWalkedThrough}
+use Rattle.hp_places.specs.declared.frames.Frame.{Frame}
 use Rattle.hp_schedules.specs.declared.tally.Ending.{Ending}
-use Rattle.hp_explore.proofs.Grown.{grow_none, grow_twice}
-use Rattle.hp_explore.proofs.OfPart.{all_of, comes_on, none_of}
-use Rattle.hp_explore.proofs.Rooms.{done_apart, done_begins, done_down, done_over, done_past}
-use Rattle.hp_explore.proofs.Walking.{over_next}
+use Rattle.hp_places.proofs.OfPart.{comes_on}
+use Rattle.hp_places.proofs.Entered.{frame_grows}
+use Rattle.hp_places.proofs.Rooms.{done_begins, done_down, done_over, done_past}
+use Rattle.hp_places.proofs.Noting.{over_next}
 
 -- ---- as the ends grow
-
-pub frame_grows : (g : Setting) (part : PartValue) (old new : List Ending) (news : List Record)
-    (frame : Frame)
-    → Grow old new → IsFrame g part news old frame → IsFrame g part news new frame
-frame_grows g part old new news frame grow is = record {
-  comes = is.comes;
-  kept = λ k here. let p = is.kept k here in record {
-    old = p.old;
-    earlier = p.earlier;
-    before = p.before;
-    grown = grow_twice p.old old new p.grown grow;
-  };
-}
 
 pub below_grows : (g : Setting) (part : PartValue) (old new : List Ending) (news : List Record)
     (frames : List Frame)
@@ -133,94 +114,6 @@ walk_opens g part ends news frame frames zero over is walked below = (
   is,
   below,
 )
-
--- ---- a place that the walk comes to
-
--- it is walked, and this is kept of it
-fresh_frame : (p : PathValue) (part : PartValue) (ends : List Ending) (frame : Frame)
-    → ComesTo (length p.setting.scripts) part (schedule_of p.news)
-    → IsPartWalkedBefore p.setting part (schedule_of p.news) ends → IsFresh ends frame
-    → IsFrame p.setting part p.news ends frame
-fresh_frame p part ends frame comes walked fresh = record {
-  comes = comes;
-  kept = λ k here. record {
-    old = ends;
-    earlier = fresh.2 k here;
-    before = walked.counted;
-    grown = grow_none ends;
-  };
-}
-
-pub entered_fresh : (p : PathValue) (part : PartValue) (ends : List Ending) (frame : Frame)
-    → ComesTo (length p.setting.scripts) part (schedule_of p.news)
-    → IsPartWalkedBefore p.setting part (schedule_of p.news) ends → IsFresh ends frame
-    → IsEntered p part ends ends (Open frame)
-entered_fresh p part ends frame comes walked fresh =
-    (refl, fresh.0, fresh.1, fresh_frame p part ends frame comes walked fresh)
-
--- where all that go on from there belong to the part
-pub entered_within : (p : PathValue) (ends : List Ending) (frame : Frame) → IsFresh ends frame
-    → IsEnteredWithin p ends ends (Open frame)
-entered_within p ends frame fresh part all walked =
-    entered_fresh p part ends frame
-    (inr (all (schedule_of p.news) ([], sym (append-nil (schedule_of p.news))))) walked fresh
-
--- it is another part's, as was found out of its records
-pub left_out : (g : Setting) (part : PartValue) (news records : List Record) (n : ℕ) (ends : List Ending)
-    → records ≡ news → n ≡ length g.scripts → part.calls ≤ length records
-    → (IsOfPart n part (schedule_of records) → ⊥) → IsPartWalkedBefore g part (schedule_of news) ends
-    → IsPartWalkedThrough g part (schedule_of news) ends × Grow ends ends
-left_out g part news records n ends is many long apart walked = (
-  done_apart g part (schedule_of news) ends
-      (subst (λ (h : List Record). NoneOfPart (length g.scripts) part (schedule_of h)) is
-      (none_of (length g.scripts) part (schedule_of records)
-      (omega (arith, long, length-map records (λ (r : Record). r.cpu)))
-      (λ of. apart (subst (λ (k : ℕ). IsOfPart k part (schedule_of records)) (sym many) of)))) walked,
-  grow_none ends,
-)
-
--- or all that go on from there do
-pub let_in : (p : PathValue) (part : PartValue) (records : List Record) (n : ℕ) (old new : List Ending)
-    (entry : Entry)
-    → records ≡ p.news → n ≡ length p.setting.scripts → part.calls ≤ length records
-    → IsOfPart n part (schedule_of records) → IsPartWalkedBefore p.setting part (schedule_of p.news) old
-    → IsEnteredWithin p old new entry → IsEntered p part old new entry
-let_in p part records n old new entry is many long of walked within =
-    within part
-    (subst (λ (h : List Record). AllOfPart (length p.setting.scripts) part (schedule_of h)) is
-    (all_of (length p.setting.scripts) part (schedule_of records)
-    (omega (arith, long, length-map records (λ (r : Record). r.cpu)))
-    (subst (λ (k : ℕ). IsOfPart k part (schedule_of records)) many of)))
-    walked
-
--- or nothing is
-pub bare_fresh : (ends : List Ending) (frame : Frame)
-    → frame ≡ record { next = 0; is_over = true; kept = None } → IsFresh ends frame
-bare_fresh ends frame is = (
-  ap (λ (f : Frame). f.next) is,
-  ap (λ (f : Frame). f.is_over) is,
-  λ k here. absurd (none-some k (sym (ap kept_of is) ∙ here)),
-)
-
-pub kept_fresh : (ends : List Ending) (frame : Frame) (boxed : Box Kept Global) (kept : Kept)
-    → frame ≡ record { next = 0; is_over = true; kept = Some boxed } → boxed.value ≡ kept
-    → kept.earlier.items ≡ map (λ (e : Ending). e.count) ends
-    → IsFresh ends frame
-kept_fresh ends frame boxed kept is same counted = (
-  ap (λ (f : Frame). f.next) is,
-  ap (λ (f : Frame). f.is_over) is,
-  λ k found. subst (λ (x : Kept). x.earlier.items ≡ map (λ (e : Ending). e.count) ends)
-      (sym same ∙ same_Some boxed.value k (sym (ap kept_of is) ∙ found)) counted,
-)
-
--- or what was counted from another place is counted once more, as far as there is room
-pub entered_added : (p : PathValue) (old new : List Ending) (shares : List Share) (entry : Entry)
-    → (AddsShares old shares new → IsEnteredWithin p old new Counted) → IsAdded old shares new entry
-    → IsEnteredWithin p old new entry
-entered_added p old new shares Counted walked added = walked added
-entered_added p old new shares (Open frame) walked added =
-    subst (λ (ends : List Ending). IsEnteredWithin p old ends (Open frame)) (sym added.0)
-    (entered_within p old frame (bare_fresh old frame added.1))
 
 -- ---- the stack
 

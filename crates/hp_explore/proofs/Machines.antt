@@ -16,10 +16,12 @@ use Rattle.hp_machine.proofs.Machines.{room}
 use Rattle.hp_steps.specs.Steps.{StepsValue}
 use Rattle.hp_explore.specs.declared.exploring.ExploreFault.TheVariants.{HistoryFull}
 use Rattle.hp_schedules.specs.declared.scripts.Line.{Line}
-use Rattle.hp_explore.specs.Faults.{IsCause, fault_of, is_full_after}
+use Rattle.hp_explore.specs.Faults.{IsCause, fault_of}
+use Rattle.hp_places.specs.Rooms.{is_full_after}
 use Rattle.hp_schedules.specs.Schedules.{Setting, next_call, plays, record_of_call, schedule_of}
 use Rattle.hp_explore.specs.Settings.{setting}
-use Rattle.hp_explore.specs.Walks.{FillsAt, IsAt, IsFurther, IsReached, news_in, place_of}
+use Rattle.hp_explore.specs.Walks.{FillsAt, IsFurther, IsReached, news_in, place_of}
+use Rattle.hp_places.specs.Walks.{IsAt}
 use Rattle.hp_schedules.proofs.Plays.{plays_push, recorded}
 
 -- what stands after the start
@@ -129,6 +131,16 @@ reached_start m scripts = record {
 -- a machine where a schedule leads to has no fewer records than the one where the scripts begin
 pub no_fewer : (g : Setting) (m : MachineValue) → IsReached g m → length g.start ≤ length m.history
 no_fewer g m here = omega (arith, ap length here.history, length-append g.start (news_in g m))
+
+-- the machine's state is that of its place
+pub state_here : (g : Setting) (m : MachineValue) → IsReached g m
+    → m.state ≡ value_of m.layout m.base m.history
+    → m.state ≡ value_of g.layout g.base (g.start ++ news_in g m)
+state_here g m here state =
+    state
+    ∙ (ap (λ (l : LayoutParts). value_of l m.base m.history) here.layout
+    ∙ (ap (λ (s : Memory). value_of g.layout s m.history) here.base
+    ∙ ap (λ (h : List Record). value_of g.layout g.base h) here.history))
 
 -- and steps from it are there
 pub at_machine : (g : Setting) (m : MachineValue) (steps : StepsValue) → IsReached g m → IsHistory m

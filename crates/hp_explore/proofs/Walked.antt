@@ -6,14 +6,19 @@ use Rattle.hp_units.specs.declared.replies.Record.{Record}
 use Rattle.hp_units.specs.History.{effect_of}
 use Rattle.hp_units.specs.declared.events.Event.{Event}
 use Rattle.hp_schedules.specs.Alike.{leaves_steps}
-use Rattle.hp_explore.specs.Faults.{is_full_after}
+use Rattle.hp_places.specs.Rooms.{is_full_after}
 use Rattle.hp_explore.specs.Frames.{AreBelow, AreWalked, path_of}
+use Rattle.hp_memory.specs.Memory.{MemoryValue}
+use Rattle.hp_places.specs.Frames.{IsArrival, IsFrame, IsLeaving}
+use Rattle.hp_places.specs.Places.{memory_at}
+use Rattle.hp_schedules.specs.Cursors.{AreCursors}
+use Rattle.hp_schedules.specs.declared.cursors.Cursor.{Cursor}
 use Rattle.hp_schedules.specs.Parts.{IsOn, PartValue}
 use Rattle.hp_explore.specs.Paths.{IsBack, IsForth, PathValue}
 use Rattle.hp_schedules.specs.Schedules.{Setting, plays, record_of_call, schedule_of}
-use Rattle.hp_explore.specs.Seen.{Grow, IsMemo, IsOnWay, MemoValue}
-use Rattle.hp_explore.specs.Walks.{IsPartWalkedBefore, IsPartWalkedThrough}
-use Rattle.hp_explore.specs.declared.frames.Frame.{Frame}
+use Rattle.hp_places.specs.Seen.{Grow, IsMemo, IsOnWay, MemoValue}
+use Rattle.hp_places.specs.Walks.{IsPartWalkedBefore, IsPartWalkedThrough}
+use Rattle.hp_places.specs.declared.frames.Frame.{Frame}
 use Rattle.hp_schedules.proofs.Alike.{call_leaves, event_kept}
 use Rattle.hp_schedules.specs.declared.tally.Ending.{Ending}
 use Rattle.hp_explore.proofs.Framing.{back_setting, back_shorter, walk_back, walk_leads, walk_passes}
@@ -139,3 +144,40 @@ gone_back g part old ends news frames all cpu q memo n all_is grow below walked 
   where
     same : q.setting ≡ g
     same = back_setting g news cpu (path_of g news) q refl back
+
+-- ---- a place that the walk comes to, and leaves
+
+-- as the path shows it
+pub arrival : (p : PathValue) (part : PartValue) (records : List Record) (memory : MemoryValue)
+    (cursors : List Cursor) (ends : List Ending) (memo : MemoValue)
+    → records ≡ p.news → memory ≡ memory_at p.setting p.news → AreCursors p.setting p.news cursors
+    → plays p.setting (schedule_of p.news) ≡ Some p.news
+    → IsPartWalkedBefore p.setting part (schedule_of p.news) ends
+    → IsOn (length p.setting.scripts) part (schedule_of p.news) → IsMemo p.setting ends memo
+    → IsOnWay p.setting p.news memo → IsArrival p.setting part records memory cursors ends memo
+arrival p part records memory cursors ends memo is memory_is at played walked on kept way =
+    subst (λ (h : List Record). IsArrival p.setting part h memory cursors ends memo) (sym is) (record {
+      stood = record {
+        place = record { played = played; memory_is = memory_is; cursors_are = at };
+        memo_is = kept;
+        way = way;
+      };
+      walked = walked;
+      on = on;
+    })
+
+pub leaving : (p : PathValue) (part : PartValue) (records : List Record) (cursors : List Cursor)
+    (ends : List Ending) (memo : MemoValue) (frame : Frame)
+    → records ≡ p.news → AreCursors p.setting p.news cursors
+    → plays p.setting (schedule_of p.news) ≡ Some p.news → IsFrame p.setting part p.news ends frame
+    → IsPartWalkedThrough p.setting part (schedule_of p.news) ends → IsMemo p.setting ends memo
+    → IsOnWay p.setting p.news memo → IsLeaving p.setting part records cursors ends memo frame
+leaving p part records cursors ends memo frame is at played frame_is through kept way =
+    subst (λ (h : List Record). IsLeaving p.setting part h cursors ends memo frame) (sym is) (record {
+      played = played;
+      cursors_are = at;
+      frame_is = frame_is;
+      through = through;
+      memo_is = kept;
+      way = way;
+    })

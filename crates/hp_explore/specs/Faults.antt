@@ -1,30 +1,17 @@
 -- Why schedules were not counted.
-use Rattle.std.specs.Prelude.{◌≡◌, ℕ, ◌+◌, Bool, ◌||◌, true, List, [], ◌∷◌, ◌++◌, Some, length, nat_le}
+use Rattle.std.specs.Prelude.{◌≡◌, ℕ, ◌+◌, true, List, [], ◌∷◌, ◌++◌, Some, length}
 use Rattle.hp_units.specs.declared.events.Event.{Event}
 use Rattle.hp_units.specs.declared.replies.Record.{Record}
 use Rattle.hp_explore.specs.declared.exploring.ExploreFault.{ExploreFault}
 use Rattle.hp_explore.specs.declared.exploring.ExploreFault.TheVariants.{HistoryFull, OutOfMemory}
+use Rattle.hp_places.specs.Rooms.{HasNoRoom, is_full_after}
 use Rattle.hp_schedules.specs.Orders.{Extends}
-use Rattle.hp_schedules.specs.Schedules.{Setting, next_call, plays}
+use Rattle.hp_schedules.specs.Schedules.{Setting, next_call}
 use Rattle.hp_units.specs.declared.replies.CallFault.{CallFault}
 use Rattle.hp_units.specs.declared.replies.CallFault.TheVariants.{HistoryFull as CallFull, OutOfMemory as CallMemory}
 use Rattle.hp_schedules.specs.Parts.{ComesTo, PartValue}
 
--- after new records the history has no room for a further one, or there is no further serial
-abbrev pub is_full_after : Setting → List Record → Bool
-is_full_after g news =
-    nat_le g.layout.history (length (g.start ++ news))
-    || nat_le 18446744073709551615 (g.before + length (g.start ++ news))
-
--- where a schedule leads to the history has no room for a call that a processor has to make
-pub record HasNoRoom (g : Setting) (s : List ℕ) : Type 0 where
-  pub news : List Record
-  pub cpu : ℕ
-  pub event : Event
-  pub played : plays g s ≡ Some news
-  pub asked : next_call g cpu news ≡ Some event
-  pub full : is_full_after g news ≡ true
-
+-- where some schedule leads to the history has no room for a call that a processor has to make
 abbrev pub FillsHistory : Setting → Type 0
 FillsHistory g = (s : List ℕ) × HasNoRoom g s
 

@@ -1,65 +1,23 @@
 -- The stack of a walk: what it knows of each place between where the scripts begin and where it stands.
-use Rattle.std.specs.Prelude.{◌≡◌, ℕ, ◌+◌, ◌-◌, ◌*◌, ◌^◌, ◌<◌, ◌≤◌, Bool, true, false, List, [], ◌∷◌, ◌++◌, Option, None, Some, length, map, option_map, reverse, Box}
-use Rattle.std.specs.declared.alloc.Global.{Global}
+use Rattle.std.specs.Prelude.{◌≡◌, ℕ, ◌+◌, ◌-◌, ◌*◌, ◌^◌, ◌<◌, ◌≤◌, Bool, true, false, List, [], ◌∷◌, ◌++◌, Some, length, reverse}
 use Rattle.hp_units.specs.declared.events.Event.{Event}
 use Rattle.hp_units.specs.declared.replies.Record.{Record}
-use Rattle.hp_steps.specs.Steps.{StepsValue}
-use Rattle.hp_schedules.specs.Ends.{AreCounted}
-use Rattle.hp_explore.specs.Faults.{is_full_after}
-use Rattle.hp_schedules.specs.Parts.{AllOfPart, ComesTo, IsOn, PartValue}
-use Rattle.hp_explore.specs.Paths.{PathValue, state_at}
+use Rattle.hp_places.specs.Rooms.{is_full_after}
+use Rattle.hp_places.specs.Frames.{IsFrame}
+use Rattle.hp_schedules.specs.Parts.{IsOn, PartValue}
+use Rattle.hp_explore.specs.Paths.{PathValue}
 use Rattle.hp_schedules.specs.Schedules.{Setting, next_call, plays, schedule_of}
 use Rattle.hp_explore.specs.Fronts.{AreFirstInPart}
-use Rattle.hp_explore.specs.Seen.{Grow, IsMemo, IsOnWay}
-use Rattle.hp_schedules.specs.Shares.{AddsShares}
-use Rattle.hp_explore.specs.Walks.{BeforeInPart, IsOverBelow, IsPartWalkedBefore, IsPartWalkedThrough}
-use Rattle.hp_explore.specs.declared.frames.Entry.{Entry}
-use Rattle.hp_explore.specs.declared.frames.Entry.TheVariants.{Counted, Open}
-use Rattle.hp_explore.specs.declared.frames.Frame.{Frame}
-use Rattle.hp_explore.specs.declared.frames.Kept.{Kept}
-use Rattle.hp_schedules.specs.declared.rows.Share.{Share}
+use Rattle.hp_places.specs.Seen.{IsMemo, IsOnWay}
+use Rattle.hp_places.specs.Walks.{IsOverBelow, IsPartWalkedBefore, IsPartWalkedThrough}
+use Rattle.hp_places.specs.declared.frames.Frame.{Frame}
 use Rattle.hp_schedules.specs.declared.tally.Ending.{Ending}
-use Rattle.hp_explore.specs.declared.frames.Turned.{Turned}
-use Rattle.hp_explore.specs.declared.frames.Turned.TheVariants.{On, Over, Full}
+use Rattle.hp_explore.specs.declared.walk.Turned.{Turned}
+use Rattle.hp_explore.specs.declared.walk.Turned.TheVariants.{On, Over, Full}
 use Rattle.hp_explore.specs.declared.walk.Walk.{Walk}
-
--- steps of where a path stands
-abbrev pub standing : PathValue → StepsValue
-standing p = record { layout = p.setting.layout; state = state_at p; deltas = []; records = p.news }
 
 abbrev pub path_of : Setting → List Record → PathValue
 path_of g news = record { setting = g; news = news }
-
--- what is kept of a place until all that go on from it are counted: how much each end counted when the
--- walk came there
-pub record IsPlaceKept (g : Setting) (part : PartValue) (news : List Record) (ends : List Ending)
-    (kept : Kept) : Type 0 where
-  pub old : List Ending
-  pub earlier : kept.earlier.items ≡ map (λ e. e.count) old
-  pub before : AreCounted (BeforeInPart g part (schedule_of news)) old
-  pub grown : Grow old ends
-
-abbrev pub kept_of : Frame → Option Kept
-kept_of frame = option_map (λ (boxed : Box Kept Global). boxed.value) frame.kept
-
--- a frame whose turns are all to come; what it keeps is how much each end counts
-abbrev pub IsFresh : List Ending → Frame → Type 0
-IsFresh ends frame =
-    (frame.next ≡ 0) × (frame.is_over ≡ true)
-    × ((k : Kept) → kept_of frame ≡ Some k → k.earlier.items ≡ map (λ e. e.count) ends)
-
--- the frame of a place that the search of a part has come to
-pub record IsFrame (g : Setting) (part : PartValue) (news : List Record) (ends : List Ending)
-    (frame : Frame) : Type 0 where
-  pub comes : ComesTo (length g.scripts) part (schedule_of news)
-  pub kept : (k : Kept) → kept_of frame ≡ Some k → IsPlaceKept g part news ends k
-
--- all that goes on from a place belongs to a part and was walked, and this is kept of it
-pub record IsPlaceWalked (g : Setting) (news : List Record) (ends : List Ending) (kept : Kept) : Type 0 where
-  pub part : PartValue
-  pub all : AllOfPart (length g.scripts) part (schedule_of news)
-  pub place : IsPlaceKept g part news ends kept
-  pub through : IsPartWalkedThrough g part (schedule_of news) ends
 
 -- the turns of a place whose next processor is this: all before it was walked, and whether a script
 -- asked for anything so far is known
@@ -134,13 +92,6 @@ pub record IsComing (w : Walk) (frames : List Frame) : Type 0 where
   pub few : w.processors < 2 ^ 32
   pub short : length w.path.news ≤ w.path.setting.layout.history
 
--- its share more was counted under each end, or the place is to be walked since there is no room for
--- all of them
-abbrev pub IsAdded : (old : List Ending) → (shares : List Share) → (new : List Ending) → Entry → Type 0
-IsAdded old shares new Counted = AddsShares old shares new
-IsAdded old shares new (Open frame) =
-    (new ≡ old) × (frame ≡ record { next = 0; is_over = true; kept = None })
-
 -- what a turn of a walk came to: less of it is left; all is walked; or as many schedules are counted
 -- as the limit says, and there is a further one
 abbrev pub IsTurnedTo : (old new : Walk) → Turned → Type 0
@@ -153,17 +104,3 @@ IsTurnedTo old new Full = AreFirstInPart new.path.setting new.part new.tally.lim
 abbrev pub IsDone : Walk → (is_whole : Bool) → Type 0
 IsDone w true = IsPartWalkedThrough w.path.setting w.part [] w.tally.ends
 IsDone w false = AreFirstInPart w.path.setting w.part w.tally.limit w.tally.ends
-
--- what was done at a place for the search of a part: what goes on from there was counted, or it has a
--- frame with all to come
-abbrev pub IsEntered : PathValue → PartValue → (old new : List Ending) → Entry → Type 0
-IsEntered p part old new Counted =
-    IsPartWalkedThrough p.setting part (schedule_of p.news) new × Grow old new
-IsEntered p part old new (Open frame) =
-    (new ≡ old) × (frame.next ≡ 0) × (frame.is_over ≡ true) × IsFrame p.setting part p.news new frame
-
--- for each part to which all belong that go on from there, where all of it before the place was walked
-abbrev pub IsEnteredWithin : PathValue → (old new : List Ending) → Entry → Type 0
-IsEnteredWithin p old new entry =
-    (part : PartValue) → AllOfPart (length p.setting.scripts) part (schedule_of p.news)
-    → IsPartWalkedBefore p.setting part (schedule_of p.news) old → IsEntered p part old new entry

@@ -1,9 +1,6 @@
 pub mod Faults
 pub mod Frames
 pub mod Fronts
-pub mod Numbered
 pub mod Paths
-pub mod Seen
 pub mod Settings
-pub mod Standing
 pub mod Walks

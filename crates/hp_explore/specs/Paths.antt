@@ -6,9 +6,9 @@ use Rattle.hp_units.specs.declared.events.Event.{Event}
 use Rattle.hp_units.specs.declared.replies.Record.{Record}
 use Rattle.hp_steps.specs.Steps.{IsLater, StepsValue}
 use Rattle.hp_schedules.specs.Cursors.{AreCursors}
-use Rattle.hp_explore.specs.Faults.{is_full_after}
+use Rattle.hp_places.specs.Rooms.{is_full_after}
 use Rattle.hp_schedules.specs.Schedules.{Setting, next_call, record_of_call}
-use Rattle.hp_explore.specs.Walks.{IsAt}
+use Rattle.hp_places.specs.Walks.{IsAt}
 use Rattle.hp_schedules.specs.declared.cursors.Cursor.{Cursor}
 use Rattle.hp_explore.specs.declared.ways.Turn.{Turn}
 use Rattle.hp_explore.specs.declared.ways.Way.{Way}
@@ -36,6 +36,10 @@ abbrev pub IsBack : PathValue → Option ℕ → PathValue → Type 0
 IsBack p None q = (p.news ≡ []) × (q ≡ p)
 IsBack p (Some cpu) q =
     (r : Record) × (r.cpu ≡ cpu) × (p ≡ record { setting = q.setting; news = q.news ++ r ∷ [] })
+
+-- all scripts are over
+abbrev pub IsOver : PathValue → Type 0
+IsOver p = (cpu : ℕ) → next_call p.setting cpu p.news ≡ None
 
 -- ---- what a path keeps
 

@@ -1,19 +1,14 @@
 -- How far the walk over all schedules is.
-use Rattle.std.specs.Prelude.{◌≡◌, ℕ, ◌+◌, ◌<◌, ◌≤◌, ◌⊎◌, Bool, true, false, List, [], ◌∷◌, ◌++◌, Option, Some, None, length, drop}
-use Rattle.hp_units.specs.History.{Effect, Looks, Undoes, Cancels, Acts, value_of}
+use Rattle.std.specs.Prelude.{◌≡◌, ℕ, ◌+◌, ◌<◌, ◌≤◌, Bool, true, false, List, [], ◌∷◌, ◌++◌, Option, Some, None, length, drop}
+use Rattle.hp_units.specs.History.{Effect, Looks, Undoes, Cancels, Acts}
 use Rattle.hp_units.specs.declared.events.Event.{Event}
 use Rattle.hp_units.specs.declared.events.Event.TheVariants.{UndoAfter}
 use Rattle.hp_units.specs.declared.replies.Record.{Record}
 use Rattle.hp_machine.specs.Machine.{MachineValue}
 use Rattle.hp_steps.specs.Steps.{StepsValue}
-use Rattle.hp_schedules.specs.declared.tally.Ending.{Ending}
-use Rattle.hp_schedules.specs.Ends.{AreCounted, AreInOrder}
-use Rattle.hp_explore.specs.Faults.{HasNoRoom}
-use Rattle.hp_schedules.specs.Notes.{IsNoted}
-use Rattle.hp_schedules.specs.Orders.{Extends, IsBefore}
-use Rattle.hp_schedules.specs.Outcomes.{OutcomeValue, outcome}
-use Rattle.hp_schedules.specs.Parts.{ComesTo, EndsInPart, IsOfPart, PartValue}
-use Rattle.hp_schedules.specs.Schedules.{EndsWith, Setting, next_call, plays, schedule_of}
+use Rattle.hp_places.specs.Rooms.{HasNoRoom}
+use Rattle.hp_places.specs.Walks.{IsAt}
+use Rattle.hp_schedules.specs.Schedules.{Setting, next_call, plays, schedule_of}
 
 -- the records of a machine since another, and since the scripts began; and the schedule that the
 -- latter came from
@@ -25,12 +20,6 @@ news_in g m = drop (length g.start) m.history
 
 abbrev pub place_of : Setting → MachineValue → List ℕ
 place_of g m = schedule_of (news_in g m)
-
--- steps are where a schedule of the scripts leads to: their records are the new ones
-pub record IsAt (g : Setting) (p : StepsValue) : Type 0 where
-  pub layout : p.layout ≡ g.layout
-  pub played : plays g (schedule_of p.records) ≡ Some p.records
-  pub state : p.state ≡ value_of g.layout g.base (g.start ++ p.records)
 
 -- where a schedule leads to; none where it can't be played
 abbrev pub LeadsTo : Setting → List ℕ → Option StepsValue → Type 0
@@ -63,80 +52,6 @@ IsMade g m cpu false n = (next_call g cpu (news_in g m) ≡ None) × (n ≡ m)
 abbrev pub FillsAt : Setting → MachineValue → (cpu : ℕ) → Type 0
 FillsAt g m cpu = (h : HasNoRoom g (place_of g m)) × (h.cpu ≡ cpu)
 
--- the complete schedules that stand before a place of the walk, and those up to its last continuation
-abbrev pub Before : Setting → List ℕ → List ℕ → OutcomeValue → Type 0
-Before g place s x = IsBefore s place × EndsWith g s x
-
-abbrev pub Through : Setting → List ℕ → List ℕ → OutcomeValue → Type 0
-Through g place s x = (IsBefore s place ⊎ Extends s place) × EndsWith g s x
-
--- the history has room for each call that stands before a place, and for each that is made there or later
-abbrev pub HasRoomBefore : Setting → List ℕ → Type 0
-HasRoomBefore g place = (s : List ℕ) (h : HasNoRoom g s) → IsBefore (s ++ h.cpu ∷ []) place → ⊥
-
-abbrev pub HasRoomFrom : Setting → List ℕ → Type 0
-HasRoomFrom g place = (s : List ℕ) → HasNoRoom g s → Extends s place → ⊥
-
--- all before a place was walked: the schedules are counted, the ends in the order of their first
--- ones, and the history has room for each call
-pub record IsWalkedBefore (g : Setting) (place : List ℕ) (ends : List Ending) : Type 0 where
-  pub counted : AreCounted (Before g place) ends
-  pub ordered : AreInOrder ends
-  pub room : HasRoomBefore g place
-
--- ---- of one part
-
--- its complete schedules that stand before a place of the walk, and those up to its last continuation
-abbrev pub BeforeInPart : Setting → PartValue → List ℕ → List ℕ → OutcomeValue → Type 0
-BeforeInPart g part place s x = IsBefore s place × EndsInPart g part s x
-
-abbrev pub ThroughInPart : Setting → PartValue → List ℕ → List ℕ → OutcomeValue → Type 0
-ThroughInPart g part place s x = (IsBefore s place ⊎ Extends s place) × EndsInPart g part s x
-
--- the history has room for each call of its search that stands before a place, and for each that is
--- made there or later
-abbrev pub HasPartRoomBefore : Setting → PartValue → List ℕ → Type 0
-HasPartRoomBefore g part place =
-    (s : List ℕ) (h : HasNoRoom g s) → ComesTo (length g.scripts) part s
-    → IsBefore (s ++ h.cpu ∷ []) place → ⊥
-
-abbrev pub HasPartRoomFrom : Setting → PartValue → List ℕ → Type 0
-HasPartRoomFrom g part place =
-    (s : List ℕ) → HasNoRoom g s → ComesTo (length g.scripts) part s → Extends s place → ⊥
-
--- all of it before a place was walked
-pub record IsPartWalkedBefore (g : Setting) (part : PartValue) (place : List ℕ)
-    (ends : List Ending) : Type 0 where
-  pub counted : AreCounted (BeforeInPart g part place) ends
-  pub ordered : AreInOrder ends
-  pub room : HasPartRoomBefore g part place
-
--- and all that goes on from there
-pub record IsPartWalkedThrough (g : Setting) (part : PartValue) (place : List ℕ)
-    (ends : List Ending) : Type 0 where
-  pub counted : AreCounted (ThroughInPart g part place) ends
-  pub ordered : AreInOrder ends
-  pub room : HasPartRoomBefore g part place
-  pub onward : HasPartRoomFrom g part place
-
--- the ends are those of its schedules before where the walk stands, and up to the last one that goes
--- on from there
-abbrev pub CountsBefore : Setting → PartValue → StepsValue → List Ending → Type 0
-CountsBefore g part p ends = AreCounted (BeforeInPart g part (schedule_of p.records)) ends
-
-abbrev pub CountsThrough : Setting → PartValue → StepsValue → List Ending → Type 0
-CountsThrough g part p ends = AreCounted (ThroughInPart g part (schedule_of p.records)) ends
-
--- the schedule that led to where the walk stands is noted, with the outcome there for so many processors
-abbrev pub IsEndNoted : (processors : ℕ) → StepsValue → List Ending → List Ending → Type 0
-IsEndNoted processors p old new =
-    IsNoted old (outcome processors p.records p.layout p.state) (schedule_of p.records) new
-
--- where it ends there; else the ends stay
-abbrev pub IsNotedAtEnd : (is_end : Bool) → (processors : ℕ) → StepsValue → List Ending → List Ending → Type 0
-IsNotedAtEnd true processors p old new = IsEndNoted processors p old new
-IsNotedAtEnd false processors p old new = new ≡ old
-
 -- the serial of the next record after the new ones of a machine, whose history has room for it
 abbrev pub IsNextSerial : (start : MachineValue) → List Record → (serial : ℕ) → Type 0
 IsNextSerial start news serial =
@@ -159,22 +74,6 @@ may_go_back Looks = false
 may_go_back (Undoes serial) = true
 may_go_back (Cancels op) = true
 may_go_back Acts = false
-
--- whether the scripts of the processors so far ask for nothing after the new records, or one asks
--- for an event
-abbrev pub IsOverBelow : Setting → List Record → (below : ℕ) → Bool → Type 0
-IsOverBelow g news below true = (cpu : ℕ) → cpu < below → next_call g cpu news ≡ None
-IsOverBelow g news below false = (cpu : ℕ) × (event : Event) × (next_call g cpu news ≡ Some event)
-
--- whether a schedule of a part ends after the new records; else a script asks for an event there, or
--- the schedule is another part's
-abbrev pub IsEndHere : Setting → PartValue → List Record → (is_end : Bool) → Type 0
-IsEndHere g part news true =
-    IsOverBelow g news (length g.scripts) true × IsOfPart (length g.scripts) part (schedule_of news)
-IsEndHere g part news false =
-    IsOverBelow g news (length g.scripts) false
-    ⊎ (IsOverBelow g news (length g.scripts) true
-    × (IsOfPart (length g.scripts) part (schedule_of news) → ⊥))
 
 -- where a schedule leads to
 abbrev pub IsPlayed : Setting → List ℕ → Option MachineValue → Type 0

@@ -10,8 +10,8 @@ ghost use Rattle.hp_schedules.specs.Schedules.{IsComplete};
 ghost use Rattle.hp_explore.specs.Settings.{setting};
 
 use crate::walk::Walk;
-use crate::watch::Watch;
 use hp_machine::Machine;
+use hp_places::Watch;
 use hp_schedules::{Ending, Part, Script, call_count};
 use hp_units::CallFault;
 use std::alloc::{AllocError, Global};

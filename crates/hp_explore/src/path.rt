@@ -1,22 +1,21 @@
 //! Where a walk over the schedules stands, with its way back.
-ghost use Rattle.std.specs.Prelude.{◌≡◌, ◌<◌, [], Some, IfErr, IfOk, OnErr, length};
-ghost use Rattle.hp_units.specs.Receipts.{receipts_of};
+ghost use Rattle.std.specs.Prelude.{◌≡◌, [], Some, IfErr, IfOk, OnErr};
 ghost use Rattle.hp_explore.specs.Faults.{IsCauseHere};
+ghost use Rattle.hp_schedules.specs.Cursors.{AreCursors};
 ghost use Rattle.hp_schedules.specs.Outcomes.{outcome};
 ghost use Rattle.hp_explore.specs.Paths.{IsBack, IsForth, state_at};
 ghost use Rattle.hp_schedules.specs.Schedules.{next_call, plays, schedule_of};
 ghost use Rattle.hp_explore.specs.Settings.{setting};
-ghost use Rattle.hp_schedules.specs.Scripts.{own_operation};
 
-use crate::ends::outcome_at;
 use crate::exploring::ExploreFault;
 use crate::turns::{advance, step_back, steps_of};
 use crate::ways::Turn;
 use hp_machine::Machine;
 use hp_memory::Memory;
+use hp_places::outcome_at;
 use hp_schedules::{Outcome, Positions, Script};
 use hp_steps::Steps;
-use hp_units::{Cpu, Event, Record, Serial};
+use hp_units::{Cpu, Event, Record};
 use std::alloc::{AllocError, Global};
 use std::marker::Model;
 
@@ -112,12 +111,11 @@ impl<'a> Path<'a> {
         }
     }
 
-    /// The operation that a processor began last among the new records, and 0 where it began none.
-    pub(crate) fn operation(&self, cpu: u32) -> Serial
-        requires { cpu < length self.now.setting.scripts }
-        ensures { result ≡ own_operation (receipts_of cpu self.now.news) }
+    /// Where each processor is in its script here.
+    pub(crate) fn positions(&self) -> &Positions
+        ensures { AreCursors self.now.setting self.now.news result.now.cursors.items }
     {
-        self.positions.operation(cpu)
+        &self.positions
     }
 
     /// How the schedule ends here, if it is complete, for so many processors. An error is out of memory.

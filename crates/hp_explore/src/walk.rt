@@ -8,21 +8,29 @@ ghost use Rattle.hp_explore.specs.Faults.{IsCausePart};
 ghost use Rattle.hp_explore.specs.Paths.{IsBack};
 ghost use Rattle.hp_schedules.specs.Schedules.{schedule_of};
 ghost use Rattle.hp_explore.specs.Settings.{setting};
-ghost use Rattle.hp_explore.specs.Seen.{AreSamePlaces, IsMemo, IsOnWay};
-ghost use Rattle.hp_explore.specs.Standing.{AreSameNumbers};
-ghost use Rattle.hp_explore.specs.Walks.{IsEndHere, IsPartWalkedBefore};
+ghost use Rattle.hp_places.specs.Seen.{AreSamePlaces, IsMemo, IsOnWay};
+ghost use Rattle.hp_places.specs.Standing.{AreSameNumbers};
+ghost use Rattle.hp_places.specs.Walks.{IsEndHere, IsPartWalkedBefore};
 ghost use Rattle.hp_schedules.specs.declared.tally.Ending.{Ending};
 
-use crate::arrivals::{arrive, leave, note};
 use crate::exploring::ExploreFault;
-use crate::frames::{Entry, Frame, Turned};
-use crate::memo::Memo;
 use crate::path::Path;
 use crate::turns::latest;
-use crate::watch::Watch;
 use hp_machine::Machine;
+use hp_places::{Entry, Frame, Memo, Watch, arrive, leave, note};
 use hp_schedules::{Ending, Part, Script, Tally, is_closed, undo_nothing};
 use std::alloc::{AllocError, Global};
+
+/// What a turn of a walk came to.
+#[derive(Clone, Copy, Drop)]
+pub(crate) enum Turned {
+    /// It goes on.
+    On,
+    /// All schedules are counted.
+    Over,
+    /// As many are counted as the limit says, and there is a further one.
+    Full,
+}
 
 /// A walk over the schedules of scripts that belong to a part, and what it counted so far.
 pub(crate) struct Walk<'a> {
@@ -63,9 +71,9 @@ impl<'a> Walk<'a> {
         ensures part { IfOk result (λ walk. walk.part ≡ part) }
         ensures limit { IfOk result (λ walk. walk.tally.limit ≡ limit) }
     {
+        let memo = memo_at(alloc, machine, scripts)?;
         let path = Path::start(alloc, machine, scripts)?;
         let tally = Tally::new(alloc, limit);
-        let memo = memo_at(alloc, machine, scripts)?;
         Ok(Walk {
             path,
             processors: scripts.len() as u32,
@@ -187,9 +195,12 @@ impl<'a> Walk<'a> {
             (left self.new (frames_of self.new) < left_before self.old (frames_of self.old)) }
     {
         self.frames.reserve(1)?;
+        self.path.is_played();
         let entry = arrive(
             alloc,
-            &self.path,
+            self.path.records(),
+            self.path.memory(),
+            self.path.positions(),
             self.part,
             self.processors,
             &mut self.tally,
@@ -225,14 +236,16 @@ impl<'a> Walk<'a> {
         self.path.is_played();
         note(
             alloc,
-            &self.path,
+            self.path.records(),
+            self.path.memory(),
             self.processors,
             is_end,
             &mut self.tally,
             watch,
         )?;
         leave(
-            &self.path,
+            self.path.records(),
+            self.path.positions(),
             self.part,
             self.processors,
             frame,

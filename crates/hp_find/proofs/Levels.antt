@@ -7,18 +7,18 @@ use Rattle.hp_schedules.specs.Orders.{HasCount, HasMoreThan}
 use Rattle.hp_explore.specs.Fronts.{AreFirst, IfFirst, IfWhole}
 use Rattle.hp_schedules.specs.Outcomes.{OutcomeValue}
 use Rattle.hp_schedules.specs.Schedules.{IsComplete, Setting}
-use Rattle.hp_explore.specs.Walks.{Before}
+use Rattle.hp_places.specs.Walks.{Before}
 use Rattle.hp_explore.specs.declared.exploring.Exploration.{Exploration}
 use Rattle.hp_explore.specs.declared.exploring.ExploreFault.{ExploreFault}
 use Rattle.hp_explore.specs.declared.exploring.ExploreFault.TheVariants.{HistoryFull, OutOfMemory}
 use Rattle.hp_schedules.specs.declared.tally.Ending.{Ending}
 use Rattle.hp_find.specs.Changes.{changes}
-use Rattle.hp_find.specs.Ends.{HasNoSuchEnd, IsSuchEnd}
+use Rattle.hp_wanted.specs.Ends.{HasNoSuchEnd, IsSuchEnd}
 use Rattle.hp_find.specs.Faults.{IsFindCause, few_changes, find_fault_from}
 use Rattle.hp_find.specs.Reaching.{HasRoomAlong, IsAbsent, IsAbsentAmongFirst, IsFirstWithin, IsMetAmongFirst, IsNearestBelow, NeedsChanges, Reaches}
-use Rattle.hp_find.specs.Wanted.{Meets}
+use Rattle.hp_wanted.specs.Wanted.{Meets}
 use Rattle.hp_find.specs.declared.fault.FindFault.TheVariants.{TooMany}
-use Rattle.hp_find.specs.declared.wanted.Wanted.{Wanted}
+use Rattle.hp_wanted.specs.declared.wanted.Wanted.{Wanted}
 
 -- the first that has no more changes than each needs
 pub nearest_found : (g : Setting) (wanted : List Wanted) (budget below : ℕ) (s : List ℕ)

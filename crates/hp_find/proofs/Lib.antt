@@ -1,4 +1,3 @@
-pub mod Below
 pub mod Growing
 pub mod Levels
 pub mod Reaching

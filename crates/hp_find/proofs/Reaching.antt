@@ -11,7 +11,7 @@ use Rattle.hp_schedules.proofs.Regions.{before_first, before_longer, before_next
 use Rattle.hp_find.specs.Changes.{changes}
 use Rattle.hp_find.specs.Reaching.{NeedsChanges, Reaches}
 use Rattle.hp_find.specs.Searches.{IsPassed}
-use Rattle.hp_find.specs.declared.wanted.Wanted.{Wanted}
+use Rattle.hp_wanted.specs.declared.wanted.Wanted.{Wanted}
 use Rattle.hp_find.proofs.Growing.{changes_longer}
 
 -- at the start nothing is

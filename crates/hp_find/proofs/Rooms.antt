@@ -2,9 +2,9 @@
 use Rattle.std.proofs.Common.{◌≡◌, ℕ, ◌+◌, false, List, [], ◌∷◌, ◌++◌, length, Some, ap, sym, ◌∙◌, arith, inl, inr}
 use Rattle.std.proofs.lemmas.List.{append_assoc, length-append, length_push, same_from_push}
 use Rattle.hp_units.specs.declared.replies.Record.{Record}
-use Rattle.hp_explore.specs.Faults.{is_full_after}
+use Rattle.hp_places.specs.Rooms.{is_full_after}
 use Rattle.hp_schedules.specs.Schedules.{Setting, plays}
-use Rattle.hp_explore.proofs.Rooms.{push_extends, was_room}
+use Rattle.hp_places.proofs.Rooms.{push_extends, was_room}
 use Rattle.hp_find.specs.Reaching.{HasRoomAlong}
 
 -- no call has room

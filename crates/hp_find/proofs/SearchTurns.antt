@@ -5,8 +5,8 @@ use Rattle.std.proofs.lemmas.List.{append-nil, length-append, length-map, length
 use Rattle.std.proofs.lemmas.Option.{none-some, same_Some}
 use Rattle.hp_units.specs.declared.events.Event.{Event}
 use Rattle.hp_units.specs.declared.replies.Record.{Record}
-use Rattle.hp_explore.specs.Faults.{is_full_after}
-use Rattle.hp_explore.specs.Paths.{IsBack, PathValue, state_at}
+use Rattle.hp_places.specs.Rooms.{is_full_after}
+use Rattle.hp_explore.specs.Paths.{IsBack, IsOver, PathValue, state_at}
 use Rattle.hp_schedules.specs.Outcomes.{OutcomeValue, outcome}
 use Rattle.hp_schedules.specs.Schedules.{Setting, next_call, outcome_after, play_one, plays, record_of_call, schedule_of}
 use Rattle.hp_explore.proofs.Framing.{longer_schedule}
@@ -14,11 +14,11 @@ use Rattle.hp_schedules.proofs.Plays.{asks_within, caller, only_this, plays_on, 
 use Rattle.hp_explore.proofs.Walked.{room_after}
 use Rattle.hp_find.specs.Changes.{changes}
 use Rattle.hp_find.specs.Reaching.{IsFirstWithin, NeedsChanges, Reaches}
-use Rattle.hp_find.specs.Searches.{IsCloser, IsDown, IsOver, IsPassed, IsSearching, IsTakenBack, IsTurned, IsUp, SearchValue, room_of, search_at}
-use Rattle.hp_find.specs.Wanted.{Meets}
+use Rattle.hp_find.specs.Searches.{IsCloser, IsDown, IsPassed, IsSearching, IsTakenBack, IsTurned, IsUp, SearchValue, room_of, search_at}
+use Rattle.hp_wanted.specs.Wanted.{Meets}
 use Rattle.hp_find.specs.declared.searching.Turn.{Turn}
 use Rattle.hp_find.specs.declared.searching.Turn.TheVariants.{On, Found, Over}
-use Rattle.hp_find.specs.declared.wanted.Wanted.{Wanted}
+use Rattle.hp_wanted.specs.declared.wanted.Wanted.{Wanted}
 use Rattle.hp_find.proofs.Growing.{changes_longer}
 use Rattle.hp_find.proofs.Reaching.{passed_down, passed_far, passed_none, passed_over, passed_up, passed_whole}
 use Rattle.hp_find.proofs.Rooms.{room_back, room_none, room_push}

@@ -11,7 +11,7 @@ use Rattle.hp_find.specs.declared.fault.FindFault.{FindFault}
 use Rattle.hp_find.specs.declared.fault.FindFault.TheVariants.{TooMany, HistoryFull, OutOfMemory}
 use Rattle.hp_find.specs.declared.finding.Found.{Found}
 use Rattle.hp_find.specs.declared.finding.Found.TheVariants.{Nearest, Absent}
-use Rattle.hp_find.specs.declared.wanted.Wanted.{Wanted}
+use Rattle.hp_wanted.specs.declared.wanted.Wanted.{Wanted}
 
 -- the schedules with fewer changes than this are searched before all are counted (own rule)
 abbrev pub few_changes : ℕ

@@ -4,12 +4,12 @@ use Rattle.hp_explore.specs.Faults.{FillsAlong}
 use Rattle.hp_schedules.specs.Orders.{HasCount, IsBefore}
 use Rattle.hp_schedules.specs.Outcomes.{OutcomeValue}
 use Rattle.hp_schedules.specs.Schedules.{EndsWith, IsComplete, Setting}
-use Rattle.hp_explore.specs.Walks.{Before}
+use Rattle.hp_places.specs.Walks.{Before}
 use Rattle.hp_find.specs.Changes.{changes}
-use Rattle.hp_find.specs.Wanted.{Meets}
+use Rattle.hp_wanted.specs.Wanted.{Meets}
 use Rattle.hp_find.specs.declared.finding.Found.{Found}
 use Rattle.hp_find.specs.declared.finding.Found.TheVariants.{Nearest, Absent}
-use Rattle.hp_find.specs.declared.wanted.Wanted.{Wanted}
+use Rattle.hp_wanted.specs.declared.wanted.Wanted.{Wanted}
 
 -- a complete schedule of the scripts whose end has each of the wanted lines
 abbrev pub Reaches : Setting → List Wanted → List ℕ → Type 0

@@ -7,7 +7,7 @@ use Rattle.hp_find.specs.Changes.{changes}
 use Rattle.hp_find.specs.Reaching.{HasRoomAlong, NeedsChanges, Reaches}
 use Rattle.hp_find.specs.declared.searching.Turn.{Turn}
 use Rattle.hp_find.specs.declared.searching.Turn.TheVariants.{On, Found, Over}
-use Rattle.hp_find.specs.declared.wanted.Wanted.{Wanted}
+use Rattle.hp_wanted.specs.declared.wanted.Wanted.{Wanted}
 
 -- each schedule before a place that ends as is wanted has more changes than the budget
 abbrev pub IsPassed : Setting → List Wanted → (budget : ℕ) → (place : List ℕ) → Type 0
@@ -39,10 +39,6 @@ pub record SearchValue : Type 0 where
   pub path : PathValue
   pub schedule : List ℕ
   pub next : ℕ
-
--- all scripts are over
-abbrev pub IsOver : PathValue → Type 0
-IsOver p = (cpu : ℕ) → next_call p.setting cpu p.news ≡ None
 
 abbrev pub search_at : (path : PathValue) → (schedule : List ℕ) → (next : ℕ) → SearchValue
 search_at path schedule next = record { path = path; schedule = schedule; next = next }

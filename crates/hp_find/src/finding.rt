@@ -1,19 +1,18 @@
 //! The search by rising number of changes.
-ghost use Rattle.std.specs.Prelude.{◌≡◌, ◌<◌, ◌≤◌, ◌^◌, IfErr, IfNone, IfOk, IfSome, length, option_map};
+ghost use Rattle.std.specs.Prelude.{◌≡◌, ◌<◌, ◌≤◌, ◌^◌, IfErr, IfOk, length, option_map};
 ghost use Rattle.hp_explore.specs.Faults.{IsCause};
 ghost use Rattle.hp_explore.specs.Settings.{setting};
 ghost use Rattle.hp_find.specs.Faults.{IsFindCause, IsRecorded, IsWithin, SparesHistory};
-ghost use Rattle.hp_find.specs.Ends.{HasNoSuchEnd, IsSuchEnd};
 ghost use Rattle.hp_find.specs.Reaching.{IsFound, IsNearest, IsNearestBelow, NeedsChanges, Reaches};
 
 use crate::changes::changes_of;
 use crate::fault::FindFault;
 use crate::searching::first_within;
-use crate::wanted::{Wanted, are_met};
 use hp_explore::{ExploreFault, Watch, explore};
 use hp_machine::Machine;
-use hp_schedules::{Ending, Script, total_of};
+use hp_schedules::{Script, total_of};
 use hp_units::Cpu;
+use hp_wanted::{Wanted, end_with};
 use std::alloc::Global;
 
 /// The schedules with fewer changes than this are searched before all schedules are counted (own rule).
@@ -118,17 +117,4 @@ fn nearest_below(
         }
     }
     Ok(None)
-}
-
-/// The first end that has each of the lines.
-fn end_with<'a>(ends: &'a [Ending], wanted: &[Wanted]) -> Option<&'a Ending>
-    ensures some { IfSome result (λ end. IsSuchEnd ends.now wanted.now end.now) }
-    ensures none { IfNone result (HasNoSuchEnd ends.now wanted.now) }
-{
-    for index in 0..ends.len() {
-        if are_met(wanted, &ends[index].outcome) {
-            return Some(&ends[index]);
-        }
-    }
-    None
 }

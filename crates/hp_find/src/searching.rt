@@ -8,12 +8,11 @@ ghost use Rattle.hp_find.specs.Reaching.{IsFirstWithin, Reaches};
 ghost use Rattle.hp_find.specs.Searches.{IsDown, IsSearching, IsTurned, IsUp};
 
 use crate::changes::changes_with;
-use crate::over::is_over;
-use crate::wanted::{Wanted, are_met};
-use hp_explore::{ExploreFault, Path};
+use hp_explore::{ExploreFault, Path, is_over};
 use hp_machine::Machine;
 use hp_schedules::Script;
 use hp_units::Cpu;
+use hp_wanted::{Wanted, are_met};
 use std::alloc::{AllocError, Global};
 use std::marker::Model;
 

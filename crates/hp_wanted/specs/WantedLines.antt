@@ -13,10 +13,10 @@ use Rattle.hp_units.specs.declared.rows.State.TheVariants.{Offline, Online, Goin
 use Rattle.hp_units.specs.declared.rows.Zone.{Zone}
 use Rattle.hp_scenario.specs.Lines.{◌>>=◌, only_number, zone_of}
 use Rattle.hp_scenario.specs.Words.{words_of}
-use Rattle.hp_find.specs.declared.wanted.Pattern.{Pattern}
-use Rattle.hp_find.specs.declared.wanted.Pattern.TheVariants.{Exactly, AnyOf}
-use Rattle.hp_find.specs.declared.wanted.Wanted.{Wanted}
-use Rattle.hp_find.specs.declared.wanted.Wanted.TheVariants.{Answer, Block}
+use Rattle.hp_wanted.specs.declared.wanted.Pattern.{Pattern}
+use Rattle.hp_wanted.specs.declared.wanted.Pattern.TheVariants.{Exactly, AnyOf}
+use Rattle.hp_wanted.specs.declared.wanted.Wanted.{Wanted}
+use Rattle.hp_wanted.specs.declared.wanted.Wanted.TheVariants.{Answer, Block}
 
 -- the parts between colons
 abbrev pub parts_of : List ℕ → List (List ℕ)

@@ -1,10 +1,15 @@
-//! Lines of an end as they are asked for: a text read as a reply, or as a memory block's row.
+//! Lines of an end as they are asked for: what each is, which ends have them, and a text read as one.
 //!
-//! A search of hp_find looks for an end with such lines. The crate owns how a text is read as one,
-//! in the words in which an end is written; it searches nothing, and writes nothing. Read
-//! specs/WantedLines first.
+//! A line is a reply that a processor had, or what became of a memory block. A search of hp_find looks
+//! for an end with such lines. The crate owns what an end has to have, and how a text is read as a line,
+//! in the words in which an end is written; it searches nothing, and writes nothing. It knows no machine,
+//! and so is proved beside hp_explore. Read specs/Wanted first, then specs/Ends and specs/WantedLines.
 #![tactic(auto)]
 
+mod ends;
+mod wanted;
 mod wanted_lines;
 
+pub use ends::end_with;
+pub use wanted::{Pattern, Wanted, are_met};
 pub use wanted_lines::wanted_line;

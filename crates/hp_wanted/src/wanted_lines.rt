@@ -1,10 +1,10 @@
 //! A text as a line that an end is to have.
 ghost use Rattle.std.specs.Prelude.{◌≡◌, IfOk, OnOk, Some, map, option_map};
-ghost use Rattle.hp_find.specs.declared.wanted.Wanted.TheVariants.{Answer};
+ghost use Rattle.hp_wanted.specs.declared.wanted.Wanted.TheVariants.{Answer};
 ghost use Rattle.hp_scenario.specs.Words.{words_of};
 ghost use Rattle.hp_wanted.specs.WantedLines as says;
 
-use hp_find::{Pattern, Wanted};
+use crate::wanted::{Pattern, Wanted};
 use hp_scenario::{only32, only64, zone_from};
 use hp_units::{Block, Claim, Cpu, Frame, Refusal, Reply, Row, Serial, State, Zone, number32};
 use std::alloc::{AllocError, Global};

@@ -3,7 +3,7 @@ use Rattle.std.proofs.Common.{Global, List, None, Some, Vec, ap, sum_by, sym, su
 use Rattle.hp_units.specs.declared.Cpu.{Cpu}
 use Rattle.hp_explore.specs.Settings.{setting}
 use Rattle.hp_schedules.specs.declared.tally.Ending.{Ending}
-use Rattle.hp_find.specs.Ends.{HasNoSuchEnd, IsSuchEnd}
+use Rattle.hp_wanted.specs.Ends.{HasNoSuchEnd, IsSuchEnd}
 use Rattle.hp_find.specs.Faults.{few_changes}
 use Rattle.hp_find.specs.Reaching.{IsAbsent, NeedsChanges, Reaches}
 use Rattle.hp_find.proofs.Levels.{first_cause, found_recorded, met_within, nearest_at, none_reaches, such_reaches}

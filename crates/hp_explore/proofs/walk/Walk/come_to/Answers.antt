@@ -1,23 +1,63 @@
 -- The place is left at once, or gets its frame.
-use Rattle.std.proofs.Common.{◌+◌, ◌*◌, ◌-◌, ◌^◌, ◌<◌, List, length, reverse, ap, refl, sym, subst, arith}
-use Rattle.hp_explore.specs.Frames.{AreBelow, AreWalked, IsEntered, digits, frames_of, left_of}
+use Rattle.std.proofs.Common.{◌+◌, ◌*◌, ◌-◌, ◌^◌, ◌<◌, List, length, reverse, ap, refl, sym, subst, ◌∙◌, arith}
+use Rattle.hp_explore.specs.Frames.{AreBelow, AreWalked, digits, frames_of, left_of}
+use Rattle.hp_places.specs.Frames.{IsEntered}
 use Rattle.hp_schedules.specs.Schedules.{Setting, schedule_of}
-use Rattle.hp_explore.specs.Seen.{IsMemo}
-use Rattle.hp_explore.specs.Walks.{IsPartWalkedBefore}
-use Rattle.hp_explore.specs.declared.frames.Frame.{Frame}
+use Rattle.hp_places.specs.Places.{memory_at}
+use Rattle.hp_places.specs.Seen.{IsMemo, IsOnWay}
+use Rattle.hp_units.specs.declared.replies.Record.{Record}
+use Rattle.hp_places.specs.Walks.{IsPartWalkedBefore}
+use Rattle.hp_places.specs.declared.frames.Frame.{Frame}
 use Rattle.hp_schedules.specs.declared.tally.Ending.{Ending}
 use Rattle.hp_explore.proofs.Framing.{back_setting, below_many, frames_pushed, walk_opens}
-use Rattle.hp_explore.proofs.Kept.{memo_added, memo_same}
-use Rattle.hp_explore.proofs.Walked.{gone_back}
+use Rattle.hp_places.proofs.Keeping.{memo_added, memo_same}
+use Rattle.hp_explore.proofs.Walked.{arrival, gone_back}
 use Rattle.hp_explore.proofs.Weights.{left_counted, left_opened}
+use Rattle.hp_explore.proofs.walk.Walk.come_to.Given.{Over}
 use Rattle.hp_explore.proofs.walk.Walk.come_to.Goals as goal
+use Rattle.hp_explore.proofs.walk.Walk.come_to.Goals.{In_ok-entry}
+
+-- what the place is, by the path's records
+entered_here : (o : Over) (c : In_ok-entry o)
+    → IsEntered c.args.self.now.path.setting c.args.self.now.path.news c.args.self.now.part
+    c.args.self.now.tally.ends c.arrive.new.tally.ends c.in_ok-entry.entry
+entered_here o c =
+    let w = c.args.self.now in
+    subst (λ (h : List Record). IsEntered w.path.setting h w.part w.tally.ends c.arrive.new.tally.ends
+    c.in_ok-entry.entry) c.records.ensures
+    (c.in_ok-entry.ensures.ok w.path.setting
+    (arrival w.path w.part c.records.result.now c.memory.result.now c.positions.result.now.cursors.items
+    w.tally.ends w.memo c.records.ensures c.memory.ensures c.positions.ensures c.is_played.ensures
+    c.requires.walked c.requires.on c.requires.memo c.requires.way))
+
+way_here : (o : Over) (c : In_ok-entry o)
+    → IsOnWay c.args.self.now.path.setting c.args.self.now.path.news c.arrive.new.memo
+way_here o c =
+    let p = c.args.self.now.path in
+    subst (λ (h : List Record). IsOnWay p.setting h c.arrive.new.memo) c.records.ensures
+    (c.arrive.ensures.way p.setting
+    (c.memory.ensures ∙ ap (memory_at p.setting) (sym c.records.ensures))
+    (subst (λ (h : List Record). IsOnWay p.setting h c.args.self.now.memo) (sym c.records.ensures)
+    c.requires.way))
+
+pub arrive-requires-clause-processors : goal.arrive-requires-clause-processors
+arrive-requires-clause-processors o c = c.requires.processors ∙ sym c.positions.ensures.many
+
+pub arrive-requires-clause-arrival : goal.arrive-requires-clause-arrival
+arrive-requires-clause-arrival o c =
+    let w = c.args.self.now in (
+      w.path.setting,
+      arrival w.path w.part c.records.result.now c.memory.result.now c.positions.result.now.cursors.items
+          w.tally.ends w.memo c.records.ensures c.memory.ensures c.positions.ensures c.is_played.ensures
+          c.requires.walked c.requires.on c.requires.memo c.requires.way,
+    )
 
 pub returns-in-Counted-clause-kept : goal.returns-in-Counted-clause-kept
 returns-in-Counted-clause-kept o c =
     let w = c.args.self.now in
     let entered =
-    subst (IsEntered w.path w.part w.tally.ends c.arrive.new.tally.ends) c.in-Counted.is
-    c.in_ok-entry.ensures.ok in
+    subst (IsEntered w.path.setting w.path.news w.part w.tally.ends c.arrive.new.tally.ends) c.in-Counted.is
+    (entered_here o (goal.at.returns-in-Counted-clause-kept o c).In_ok-entry) in
     let all =
     gone_back w.path.setting w.part w.tally.ends c.arrive.new.tally.ends w.path.news (frames_of w)
     (reverse c.reserve.new.self.items) c.take_back.ensures.back.0 c.take_back.new.path c.take_back.new.memo
@@ -26,12 +66,12 @@ returns-in-Counted-clause-kept o c =
     (memo_same w.path.setting c.arrive.new.tally.ends c.arrive.new.memo c.take_back.new.memo
     c.take_back.ensures.same
     (memo_added w.path.setting w.tally.ends c.arrive.new.tally.ends c.arrive.new.memo entered.1
-    c.arrive.ensures.memo))
+    (c.arrive.ensures.memo w.path.setting w.tally.ends c.requires.memo)))
     c.requires.processors c.requires.short in
     record {
       walked = all.0;
       memo = all.1;
-      way = c.take_back.ensures.way c.arrive.ensures.way;
+      way = c.take_back.ensures.way (way_here o (goal.at.returns-in-Counted-clause-kept o c).In_ok-entry);
       processors = all.2;
       few = c.requires.few;
       short = all.3;
@@ -66,7 +106,8 @@ returns-in-Open-clause-kept o c =
     let g = w.path.setting in
     let ends = c.arrive.new.tally.ends in
     let entered =
-    subst (IsEntered w.path w.part w.tally.ends ends) c.in-Open.is c.in_ok-entry.ensures.ok in
+    subst (IsEntered g w.path.news w.part w.tally.ends ends) c.in-Open.is
+    (entered_here o (goal.at.returns-in-Open-clause-kept o c).In_ok-entry) in
     let pushed =
     frames_pushed w.frames.items c.reserve.new.self.items c.push_reserved.new.self.items c.in-Open.frame
     c.in_ok-reserve.ensures.items c.push_reserved.ensures.items in
@@ -78,8 +119,8 @@ returns-in-Open-clause-kept o c =
           (subst (λ (es : List Ending). AreBelow g w.part es w.path.news (frames_of w)) (sym entered.0)
           c.requires.below));
       memo = subst (λ (es : List Ending). IsMemo g es c.arrive.new.memo)
-          (sym entered.0) c.arrive.ensures.memo;
-      way = c.arrive.ensures.way;
+          (sym entered.0) (c.arrive.ensures.memo w.path.setting w.tally.ends c.requires.memo);
+      way = (way_here o (goal.at.returns-in-Open-clause-kept o c).In_ok-entry);
       processors = c.requires.processors;
       few = c.requires.few;
       short = c.requires.short;
@@ -89,8 +130,8 @@ pub returns-in-Open-clause-less : goal.returns-in-Open-clause-less
 returns-in-Open-clause-less o c =
     let w = c.args.self.now in
     let entered =
-    subst (IsEntered w.path w.part w.tally.ends c.arrive.new.tally.ends) c.in-Open.is
-    c.in_ok-entry.ensures.ok in
+    subst (IsEntered w.path.setting w.path.news w.part w.tally.ends c.arrive.new.tally.ends) c.in-Open.is
+    (entered_here o (goal.at.returns-in-Open-clause-less o c).In_ok-entry) in
     let pushed =
     frames_pushed w.frames.items c.reserve.new.self.items c.push_reserved.new.self.items c.in-Open.frame
     c.in_ok-reserve.ensures.items c.push_reserved.ensures.items in

@@ -1,17 +1,35 @@
 -- The place is counted, and the walk stands at the one before it.
-use Rattle.std.proofs.Common.{◌≡◌, ◌<◌, ◌∷◌, ◌++◌, [], ℕ, refl, sym, subst, arith}
+use Rattle.std.proofs.Common.{◌≡◌, ◌<◌, ◌∷◌, ◌++◌, [], List, ℕ, ap, refl, sym, subst, ◌∙◌, arith}
 use Rattle.hp_explore.specs.Frames.{frames_of, left_of}
 use Rattle.hp_schedules.specs.Schedules.{Setting, schedule_of}
-use Rattle.hp_explore.specs.Seen.{Grow}
-use Rattle.hp_explore.specs.Walks.{IsPartWalkedBefore, IsPartWalkedThrough}
-use Rattle.hp_explore.proofs.Framing.{back_setting, below_many, frame_grows}
-use Rattle.hp_explore.proofs.Kept.{memo_added, memo_same, way_same}
-use Rattle.hp_explore.proofs.Walked.{gone_back}
-use Rattle.hp_explore.proofs.Walking.{noted_grows, walked_on}
+use Rattle.hp_units.specs.declared.replies.Record.{Record}
+use Rattle.hp_schedules.specs.Cursors.{AreCursors}
+use Rattle.hp_schedules.specs.declared.cursors.Cursor.{Cursor}
+use Rattle.hp_places.specs.Frames.{IsLeaving}
+use Rattle.hp_places.specs.Places.{memory_at, standing}
+use Rattle.hp_places.specs.Seen.{Grow}
+use Rattle.hp_places.specs.Walks.{IsNotedAtEnd, IsPartWalkedBefore, IsPartWalkedThrough}
+use Rattle.hp_explore.proofs.Framing.{back_setting, below_many}
+use Rattle.hp_places.proofs.Entered.{frame_grows}
+use Rattle.hp_places.proofs.Keeping.{memo_added, memo_same, way_same}
+use Rattle.hp_explore.proofs.Walked.{gone_back, leaving}
+use Rattle.hp_places.proofs.Noting.{noted_grows, walked_on}
 use Rattle.hp_explore.proofs.Weights.{left_back}
 use Rattle.hp_explore.proofs.walk.Walk.go_back.Given.{Over}
 use Rattle.hp_explore.proofs.walk.Walk.go_back.Goals as goal
 use Rattle.hp_explore.proofs.walk.Walk.go_back.Goals.{In_ok-note}
+
+-- what is noted, by the path's records
+noted_here : (o : Over) (c : In_ok-note o)
+    → IsNotedAtEnd c.args.is_end c.args.self.now.processors
+    (standing c.args.self.now.path.setting c.args.self.now.path.news) c.args.self.now.tally.ends
+    c.note.new.tally.ends
+noted_here o c =
+    let w = c.args.self.now in
+    subst (λ (h : List Record). IsNotedAtEnd c.args.is_end w.processors (standing w.path.setting h)
+    w.tally.ends c.note.new.tally.ends) c.records.ensures
+    (c.in_ok-note.ensures.ok w.path.setting
+    (c.memory.ensures ∙ ap (memory_at w.path.setting) (sym c.records.ensures)))
 
 -- the ends are those through the place
 through : (o : Over) (c : In_ok-note o)
@@ -26,28 +44,38 @@ through o c =
     c.requires.kept.processors c.is_played.ensures c.requires.end
     (subst (λ (n : ℕ). IsPartWalkedBefore w.path.setting w.part (schedule_of w.path.news ++ n ∷ [])
     w.tally.ends) same turns.walked)
-    c.in_ok-note.ensures.ok
+    (noted_here o c)
 
 grown : (o : Over) (c : In_ok-note o) → Grow c.args.self.now.tally.ends c.note.new.tally.ends
 grown o c =
     let w = c.args.self.now in
     noted_grows w.processors w.path.news w.path.setting c.args.is_end w.tally.ends c.note.new.tally.ends
-    c.in_ok-note.ensures.ok
+    (noted_here o c)
 
-pub leave-requires-clause-frame : goal.leave-requires-clause-frame
-leave-requires-clause-frame o c =
+leaves : (o : Over) (c : In_ok-note o) (records : List Record) (cursors : List Cursor)
+    → records ≡ c.args.self.now.path.news
+    → AreCursors c.args.self.now.path.setting c.args.self.now.path.news cursors
+    → IsLeaving c.args.self.now.path.setting c.args.self.now.part records cursors c.note.new.tally.ends
+    c.args.self.now.memo c.args.frame
+leaves o c records cursors is at =
     let w = c.args.self.now in
-    frame_grows w.path.setting w.part w.tally.ends c.note.new.tally.ends w.path.news c.args.frame
-    (grown o (goal.at.leave-requires-clause-frame o c).In_ok-note) c.requires.kept.walked.1
+    leaving w.path w.part records cursors c.note.new.tally.ends w.memo c.args.frame is at
+    c.is_played.ensures
+    (frame_grows w.path.setting w.part w.tally.ends c.note.new.tally.ends w.path.news c.args.frame
+    (grown o c) c.requires.kept.walked.1)
+    (through o c)
+    (memo_added w.path.setting w.tally.ends c.note.new.tally.ends w.memo (grown o c) c.requires.kept.memo)
+    c.requires.kept.way
 
-pub leave-requires-clause-through : goal.leave-requires-clause-through
-leave-requires-clause-through o c = through o (goal.at.leave-requires-clause-through o c).In_ok-note
+pub leave-requires-clause-processors : goal.leave-requires-clause-processors
+leave-requires-clause-processors o c = c.requires.kept.processors ∙ sym c.positions.ensures.many
 
-pub leave-requires-clause-memo : goal.leave-requires-clause-memo
-leave-requires-clause-memo o c =
-    let w = c.args.self.now in
-    memo_added w.path.setting w.tally.ends c.note.new.tally.ends w.memo
-    (grown o (goal.at.leave-requires-clause-memo o c).In_ok-note) c.requires.kept.memo
+pub leave-requires-clause-leaving : goal.leave-requires-clause-leaving
+leave-requires-clause-leaving o c = (
+  c.args.self.now.path.setting,
+  leaves o (goal.at.leave-requires-clause-leaving o c).In_ok-note c.records-2.result.now
+      c.positions.result.now.cursors.items c.records-2.ensures c.positions.ensures,
+)
 
 pub returns-clause-kept : goal.returns-clause-kept
 returns-clause-kept o c =
@@ -58,7 +86,10 @@ returns-clause-kept o c =
     c.take_back.ensures.back.0 c.take_back.new.path c.take_back.new.memo w.processors refl
     (grown o here) c.requires.kept.walked.2 (through o here) c.take_back.ensures.back.1
     (memo_same w.path.setting c.note.new.tally.ends c.leave.new.memo c.take_back.new.memo
-    c.take_back.ensures.same c.in_ok-leave.ensures.memo)
+    c.take_back.ensures.same
+    (c.in_ok-leave.ensures.memo w.path.setting
+    (leaves o here c.records-2.result.now c.positions.result.now.cursors.items c.records-2.ensures
+    c.positions.ensures)))
     c.requires.kept.processors c.requires.kept.short in
     record {
       walked = all.0;

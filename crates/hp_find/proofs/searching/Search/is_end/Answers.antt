@@ -1,9 +1,9 @@
 -- Where all scripts are over, the place is such an end just where its outcome has the lines.
 use Rattle.std.proofs.Common.{◌≡◌, Some, ap, subst}
 use Rattle.hp_schedules.specs.Outcomes.{outcome}
-use Rattle.hp_explore.specs.Paths.{PathValue, state_at}
+use Rattle.hp_explore.specs.Paths.{IsOver, PathValue, state_at}
 use Rattle.hp_schedules.specs.Schedules.{plays, schedule_of}
-use Rattle.hp_find.specs.Searches.{IsOver, SearchValue}
+use Rattle.hp_find.specs.Searches.{SearchValue}
 use Rattle.hp_find.proofs.SearchTurns.{end_told}
 use Rattle.hp_find.proofs.searching.Search.is_end.Goals as goal
 

@@ -1,0 +1,12 @@
+pub mod Ended
+pub mod Entered
+pub mod Grown
+pub mod Keeping
+pub mod Keys
+pub mod Merges
+pub mod Noting
+pub mod Numbered
+pub mod OfPart
+pub mod Rooms
+pub mod Stood
+pub mod Walks

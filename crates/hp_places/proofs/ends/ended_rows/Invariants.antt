@@ -1,0 +1,7 @@
+-- The rows of the blocks so far.
+use Rattle.std.proofs.Common.{◌≡◌}
+use Rattle.hp_schedules.specs.Outcomes.{ended_rows_below}
+use Rattle.hp_places.proofs.ends.ended_rows.Given as goal
+
+abbrev pub invariant-loop-block : goal.invariant-loop-block
+invariant-loop-block l = l.rows.items ≡ ended_rows_below l.block l.memory.state

@@ -1,0 +1,29 @@
+-- The places of a walk: where the schedules of scripts lead to.
+use Rattle.std.specs.Prelude.{◌≡◌, List, [], ◌++◌, Some}
+use Rattle.hp_units.specs.History.{value_of}
+use Rattle.hp_units.specs.declared.replies.Record.{Record}
+use Rattle.hp_memory.specs.Memory.{MemoryValue}
+use Rattle.hp_steps.specs.Steps.{StepsValue}
+use Rattle.hp_schedules.specs.Cursors.{AreCursors}
+use Rattle.hp_schedules.specs.Schedules.{Setting, plays, schedule_of}
+use Rattle.hp_schedules.specs.declared.cursors.Cursor.{Cursor}
+
+-- the memory of the place after new records, and steps that stand there
+abbrev pub memory_at : Setting → List Record → MemoryValue
+memory_at g news =
+    record { layout = g.layout; state = value_of g.layout g.base (g.start ++ news) }
+
+abbrev pub standing : Setting → List Record → StepsValue
+standing g news = record {
+  layout = g.layout;
+  state = value_of g.layout g.base (g.start ++ news);
+  deltas = [];
+  records = news;
+}
+
+-- a schedule leads to the place after new records, where this is the memory, and the scripts are here
+pub record IsPlace (g : Setting) (news : List Record) (memory : MemoryValue) (cursors : List Cursor)
+    : Type 0 where
+  pub played : plays g (schedule_of news) ≡ Some news
+  pub memory_is : memory ≡ memory_at g news
+  pub cursors_are : AreCursors g news cursors

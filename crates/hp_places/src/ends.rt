@@ -1,0 +1,49 @@
+//! How a schedule ends where steps stand.
+ghost use Rattle.std.specs.Prelude.{◌≡◌, IfOk, None};
+ghost use Rattle.hp_schedules.specs.Outcomes.{ended_row, ended_rows_below, outcome};
+
+use hp_memory::Memory;
+use hp_schedules::{Outcome, all_answers};
+use hp_steps::Steps;
+use hp_units::{Block, Claim, Row, State};
+use std::alloc::{AllocError, Global};
+
+/// A block's row with another claim in place of its own; that of an offline block where there is no row.
+fn claimed_row(row: Option<Row>, claim: Option<Claim>) -> Row
+    ensures { claim ≡ None → result ≡ ended_row row }
+{
+    match row {
+        Some(row) => Row {
+            state: row.state,
+            zone: row.zone,
+            claim,
+        },
+        None => Row {
+            state: State::Offline,
+            zone: None,
+            claim,
+        },
+    }
+}
+
+/// Each memory block's row, without the operation that may hold it. An error is out of memory.
+pub(crate) fn ended_rows(alloc: Global, memory: &Memory) -> Result<Vec<Row>, AllocError>
+    ensures { IfOk result (λ rows. rows.items ≡ ended_rows_below memory.now.layout.blocks memory.now.state) }
+{
+    let mut rows = Vec::new(alloc);
+    for block in 0..memory.layout().blocks() {
+        rows.reserve(1)?;
+        let unclaimed: Option<Claim> = None;
+        rows.push_reserved(claimed_row(memory.row(Block(block)), unclaimed));
+    }
+    Ok(rows)
+}
+
+/// How a schedule ends where steps stand, for so many processors. An error is out of memory.
+pub fn outcome_at(alloc: Global, processors: u32, here: &Steps) -> Result<Outcome, AllocError>
+    ensures { IfOk result (λ x. x ≡ outcome processors here.now.records here.now.layout here.now.state) }
+{
+    let replies = all_answers(alloc, processors, here.records())?;
+    let blocks = ended_rows(alloc, here.memory())?;
+    Ok(Outcome::new(replies, blocks))
+}

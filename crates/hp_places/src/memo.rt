@@ -1,0 +1,224 @@
+//! The places that were walked so far, and how many schedules went on from each to each end.
+ghost use Rattle.std.specs.Prelude.{◌≡◌, ◌++◌, ◌∷◌, [], IfOk, IfSome, IsTrue, List, None, OnOk, Some, cond, length, replicate, true};
+ghost use Rattle.hp_units.specs.History.{effect_of};
+ghost use Rattle.hp_units.specs.declared.replies.Record.{Record as NewRecord};
+ghost use Rattle.hp_schedules.specs.Alike.{leaves_steps};
+ghost use Rattle.hp_schedules.specs.Cursors.{AreCursors};
+ghost use Rattle.hp_schedules.specs.Schedules.{Setting};
+ghost use Rattle.hp_places.specs.Seen.{AreSamePlaces, IsKeptMore, IsMemo, IsOnWay, IsRowAmong, key_in};
+ghost use Rattle.hp_schedules.specs.Shares.{AreNoMore};
+ghost use Rattle.hp_places.specs.Standing.{AreSameNumbers, IsKey, KeepMeanings};
+ghost use Rattle.hp_places.specs.Places.{IsPlace, memory_at};
+ghost use Rattle.hp_schedules.specs.declared.tally.Ending.{Ending};
+
+use crate::standing::Standing;
+use hp_memory::Memory;
+use hp_schedules::{Positions, Rows, Share, Tally, key_digest, learn};
+use hp_units::{Cpu, Record};
+use indexmap::IndexMap;
+use std::alloc::{AllocError, Global};
+use std::marker::Model;
+
+/// The places that were walked: the key of each, one after another, and a row of how many schedules go
+/// on from there to each end that they lead to; by a digest of a key the latest place that has it; the
+/// key that was written last; and where the walk stands.
+pub struct Memo {
+    is_on: bool,
+    keys: Vec<u32>,
+    rows: Rows,
+    latest: IndexMap<u64, usize>,
+    key: Vec<u32>,
+    shares: Vec<Share>,
+    standing: Standing,
+}
+
+impl Model for Memo {
+    ghost use Rattle.hp_places.specs.Seen.{MemoValue};
+
+    ghost Value = { MemoValue };
+
+    ghost view = { λ m. record {
+      is_on = m.is_on;
+      keys = m.keys.items;
+      rows = m.rows;
+      key = m.key.items;
+      standing = m.standing;
+    } };
+}
+
+/// A function of its own, so that no proof of a caller takes the fields apart.
+impl Drop for Memo {
+    fn drop(self) {
+        let Memo {
+            is_on: _,
+            keys: _,
+            rows: _rows,
+            latest: _,
+            key: _,
+            shares: _,
+            standing: _standing,
+        } = self;
+    }
+}
+
+impl Memo {
+    /// No place is kept yet, and the walk stands where the scripts of so many processors begin: whether
+    /// any is to be kept, and whether no Cancel can drop a step that led there. An error is out of memory.
+    pub fn start(
+        alloc: Global,
+        is_on: bool,
+        processors: usize,
+        is_closed: bool,
+    ) -> Result<Memo, AllocError>
+        ensures on { IfOk result (λ memo. memo.is_on ≡ is_on) }
+        ensures rows { IfOk result (λ memo. (memo.keys ≡ []) × (memo.rows ≡ [])) }
+        ensures standing { IfOk result (λ memo. memo.standing ≡ record {
+          codes = [];
+          lists = [] ∷ [];
+          exchanged = record { chains = [] ∷ []; here = replicate processors 0 };
+          here = record { openings = cond is_closed (Some 0) None; state = None };
+          before = [];
+        }) }
+    {
+        let standing = Standing::start(alloc, processors, is_closed)?;
+        Ok(Memo {
+            is_on,
+            keys: Vec::new(alloc),
+            rows: Rows::new(alloc),
+            latest: IndexMap::new(alloc),
+            key: Vec::new(alloc),
+            shares: Vec::new(alloc),
+            standing,
+        })
+    }
+
+    /// Goes on by a call. An error is out of memory.
+    pub fn go_on(&mut self, alloc: Global, latest: &Record) -> Result<(), AllocError>
+        requires { (g : Setting) × (news : List NewRecord) × IsOnWay g news self.old }
+        ensures kept { KeepMeanings self.old.standing self.new.standing }
+        ensures same { AreSamePlaces self.old self.new }
+        ensures ok { OnOk result ((g : Setting) (news : List NewRecord) → IsOnWay g news self.old
+            → (self.old.is_on ≡ true → leaves_steps (effect_of latest.now.event) ≡ true)
+            → IsOnWay g (news ++ latest.now ∷ []) self.new) }
+    {
+        if !self.is_on {
+            return Ok(());
+        }
+        self.standing.go_on(alloc, latest)
+    }
+
+    /// Goes back over a processor's latest call.
+    pub fn go_back(&mut self, cpu: Cpu)
+        ensures same { AreSamePlaces self.old self.new
+            × AreSameNumbers self.old.standing self.new.standing }
+        ensures back { (g : Setting) (news : List NewRecord) (r : NewRecord) → r.cpu ≡ cpu
+            → IsOnWay g (news ++ r ∷ []) self.old → IsOnWay g news self.new }
+    {
+        if self.is_on {
+            self.standing.go_back(cpu);
+        }
+    }
+
+    /// Comes to a place, by its memory and the positions of so many processors there, writes its key, and
+    /// says whether it has one: it has none where no places are kept, or it is not known what Cancels can
+    /// take back there. An error is out of memory.
+    pub(crate) fn come_to(
+        &mut self,
+        alloc: Global,
+        memory: &Memory,
+        positions: &Positions,
+        processors: u32,
+    ) -> Result<bool, AllocError>
+        requires processors { processors ≡ length positions.now.cursors.items }
+        requires way { (g : Setting) × (news : List NewRecord)
+            × IsPlace g news memory.now positions.now.cursors.items × IsOnWay g news self.old }
+        ensures kept { KeepMeanings self.old.standing self.new.standing }
+        ensures same { AreSamePlaces self.old self.new }
+        ensures memo { (g : Setting) (ends : List Ending) → IsMemo g ends self.old → IsMemo g ends self.new }
+        ensures way { (g : Setting) (news : List NewRecord) → memory.now ≡ memory_at g news
+            → IsOnWay g news self.old → IsOnWay g news self.new }
+        ensures on { IfOk result (λ has. has ≡ true → self.old.is_on ≡ true) }
+        ensures ok { IfOk result (λ has. has ≡ true → (g : Setting) (news : List NewRecord)
+            → IsPlace g news memory.now positions.now.cursors.items → IsOnWay g news self.old
+            → IsKey g self.new.standing news self.new.key) }
+    {
+        if !self.is_on {
+            return Ok(false);
+        }
+        self.standing.number_state(alloc, memory)?;
+        self.standing.key(positions, processors, &mut self.key)
+    }
+
+    /// Writes the key of where the walk stands, once it has come there, with the positions of so many
+    /// processors there, and says whether it has one. An error is out of memory.
+    pub(crate) fn write_key(
+        &mut self,
+        positions: &Positions,
+        processors: u32,
+    ) -> Result<bool, AllocError>
+        requires processors { processors ≡ length positions.now.cursors.items }
+        requires way { (g : Setting) × (news : List NewRecord)
+            × AreCursors g news positions.now.cursors.items × IsOnWay g news self.old }
+        ensures same { AreSamePlaces self.old self.new × (self.new.standing ≡ self.old.standing) }
+        ensures ok { IfOk result (λ has. has ≡ true → (g : Setting) (news : List NewRecord)
+            → AreCursors g news positions.now.cursors.items → IsOnWay g news self.old
+            → IsKey g self.new.standing news self.new.key) }
+    {
+        if !self.is_on {
+            return Ok(false);
+        }
+        self.standing.key(positions, processors, &mut self.key)
+    }
+
+    /// The shares of a place with the key that was written last, where the latest place of its digest is one.
+    pub(crate) fn shares(&self) -> Option<&[Share]>
+        ensures { IfSome result (λ shares. IsRowAmong self.now.keys self.now.rows self.now.key shares.now) }
+    {
+        let key = self.key.as_slice();
+        let Some(place) = self.latest.get(&key_digest(key)) else {
+            return None;
+        };
+        if !is_key_at(self.keys.as_slice(), *place, key) {
+            return None;
+        }
+        self.rows.row(*place)
+    }
+
+    /// One place more, with the key that was written last: its shares are what each end counts more than
+    /// it did. An error is out of memory.
+    pub(crate) fn keep(&mut self, earlier: &[u64], tally: &Tally) -> Result<(), AllocError>
+        requires { AreNoMore earlier.now tally.now.ends }
+        ensures same { (self.new.is_on ≡ self.old.is_on) × (self.new.standing ≡ self.old.standing) }
+        ensures ok { OnOk result (IsKeptMore earlier.now tally.now.ends self.old self.new) }
+    {
+        tally.since(earlier, &mut self.shares)?;
+        let digest = key_digest(self.key.as_slice());
+        let place = self.rows.len();
+        self.keys.extend_from_slice(self.key.as_slice())?;
+        self.rows.push(self.shares.as_slice())?;
+        learn(&mut self.latest, digest, place)
+    }
+}
+
+/// Whether a key is the one at a place, where keys as long as it stand one after another.
+fn is_key_at(keys: &[u32], place: usize, key: &[u32]) -> bool
+    ensures { IsTrue result → key_in keys.now (length key.now) place ≡ key.now }
+{
+    match key_at(keys, place, key.len()) {
+        Some(there) => there == key,
+        None => false,
+    }
+}
+
+/// The key at a place, where keys of so many numbers stand one after another.
+fn key_at(keys: &[u32], place: usize, width: usize) -> Option<&[u32]>
+    ensures { IfSome result (λ key. key.now ≡ key_in keys.now width place) }
+{
+    let Some(start) = place.checked_mul(width) else {
+        return None;
+    };
+    let Some(end) = start.checked_add(width) else {
+        return None;
+    };
+    keys.get(start..end)
+}

@@ -1,0 +1,140 @@
+//! What is wanted of the end of a schedule, line by line.
+ghost use Rattle.std.specs.Prelude.{◌≡◌, ◌↔◌, IsTrue, None, Some, slice_get};
+ghost use Rattle.hp_wanted.specs.Wanted.{HasAnswer, HasLine, HasReply, IsAsWanted, IsKindOf, Meets, kind_of};
+
+use hp_schedules::{Answers, Outcome};
+use hp_units::{Block, Cpu, Frame, Refusal, Reply, Row};
+
+/// What a reply is to be.
+#[derive(Clone, Copy, PartialEq, Eq, Drop)]
+pub enum Pattern {
+    /// This very reply.
+    Exactly(Reply),
+    /// A refusal for the same reason, whatever frame or block it names.
+    AnyOf(Refusal),
+}
+
+/// A line that an end is to have.
+#[derive(Clone, Copy, PartialEq, Eq, Drop)]
+pub enum Wanted {
+    /// A processor was answered so at some time; any processor, where none is named.
+    Answer { cpu: Option<Cpu>, reply: Pattern },
+    /// A memory block has this row in the end, where no operation's hold counts.
+    Block { block: Block, row: Row },
+}
+
+impl Pattern {
+    /// Whether a reply is as wanted.
+    fn is_met_by(&self, reply: &Reply) -> bool
+        ensures { IsTrue result ↔ IsAsWanted self.now reply.now }
+    {
+        match self {
+            Pattern::Exactly(wanted) => reply.same(wanted),
+            Pattern::AnyOf(wanted) => is_of_kind(*wanted, reply),
+        }
+    }
+
+    /// Whether one of the replies is as wanted.
+    fn is_among(&self, replies: &[Reply]) -> bool
+        ensures { IsTrue result ↔ HasReply self.now replies.now }
+    {
+        for index in 0..replies.len() {
+            if self.is_met_by(&replies[index]) {
+                return true;
+            }
+        }
+        false
+    }
+
+    /// Whether one of the replies of any processor is as wanted.
+    fn is_among_all(&self, all: &[Answers]) -> bool
+        ensures { IsTrue result ↔ HasAnswer self.now all.now None }
+    {
+        for index in 0..all.len() {
+            if self.is_among(all[index].as_slice()) {
+                return true;
+            }
+        }
+        false
+    }
+
+    /// Whether one of a processor's replies is as wanted; of any processor's, where none is named.
+    fn is_answered(&self, all: &[Answers], cpu: Option<Cpu>) -> bool
+        ensures { IsTrue result ↔ HasAnswer self.now all.now cpu }
+    {
+        match cpu {
+            Some(cpu) => match all.get(cpu.0 as usize) {
+                Some(answers) => self.is_among(answers.as_slice()),
+                None => false,
+            },
+            None => self.is_among_all(all),
+        }
+    }
+}
+
+impl Wanted {
+    /// Whether an end has the line.
+    fn is_in(&self, outcome: &Outcome) -> bool
+        ensures { IsTrue result ↔ HasLine outcome.now self.now }
+    {
+        match self {
+            Wanted::Answer { cpu, reply } => reply.is_answered(outcome.replies(), *cpu),
+            Wanted::Block { block, row } => has_row(outcome.blocks(), *block, row),
+        }
+    }
+}
+
+/// Whether an end has each of the lines.
+pub fn are_met(wanted: &[Wanted], outcome: &Outcome) -> bool
+    ensures { IsTrue result ↔ Meets wanted.now outcome.now }
+{
+    for index in 0..wanted.len() {
+        if !wanted[index].is_in(outcome) {
+            return false;
+        }
+    }
+    true
+}
+
+/// Whether a memory block has a row among the rows of all.
+fn has_row(rows: &[Row], block: Block, row: &Row) -> bool
+    ensures { IsTrue result ↔ (slice_get rows.now block ≡ Some row.now) }
+{
+    match rows.get(block.0 as usize) {
+        Some(found) => same_row(found, row),
+        None => false,
+    }
+}
+
+/// Whether the rows are the same.
+fn same_row(row: &Row, other: &Row) -> bool
+    ensures { IsTrue result ↔ (row.now ≡ other.now) }
+{
+    *row == *other
+}
+
+/// Whether a reply is a refusal for the reason of another.
+fn is_of_kind(wanted: Refusal, reply: &Reply) -> bool
+    ensures { IsTrue result ↔ IsKindOf wanted reply.now }
+{
+    match reply {
+        Reply::Refused(refusal) => kind_of(*refusal).same(kind_of(wanted)),
+        _ => false,
+    }
+}
+
+/// A refusal but for the frame or block that it names: 0 stands in its place.
+fn kind_of(refusal: Refusal) -> Refusal
+    ensures { result ≡ kind_of refusal }
+{
+    match refusal {
+        Refusal::Twice { .. } => Refusal::Twice { block: Block(0) },
+        Refusal::Busy { .. } => Refusal::Busy { block: Block(0) },
+        Refusal::NotOnline { .. } => Refusal::NotOnline { block: Block(0) },
+        Refusal::NotOffline { .. } => Refusal::NotOffline { block: Block(0) },
+        Refusal::Unmovable { .. } => Refusal::Unmovable { frame: Frame(0) },
+        Refusal::NotFree { .. } => Refusal::NotFree { frame: Frame(0) },
+        Refusal::NotAbsent { .. } => Refusal::NotAbsent { block: Block(0) },
+        _ => refusal,
+    }
+}
