@@ -1,16 +1,25 @@
 -- How a schedule is followed, and how it ends.
-use Rattle.std.proofs.Common.{◌≡◌, ℕ, ◌+◌, ◌<◌, true, false, List, [], ◌∷◌, ◌++◌, length, get_or, take, drop, Some, None, ap, sym, subst, ◌∙◌}
+use Rattle.std.proofs.Common.{◌≡◌, ℕ, ◌+◌, ◌<◌, true, false, List, [], ◌∷◌, ◌++◌, length, get_or, take, drop, Some, None, ap, sym, subst, ◌∙◌, append_assoc}
 use Rattle.std.proofs.lemmas.List.{take-append-drop, take_more, drop_more}
 use Rattle.std.proofs.lemmas.Option.{same_Some}
 use Rattle.hp_units.specs.declared.replies.Record.{Record}
 use Rattle.hp_schedules.specs.Outcomes.{OutcomeValue, outcome}
-use Rattle.hp_explore.specs.Paths.{IsForth, PathValue, state_at}
+use Rattle.hp_explore.specs.Faults.{FillsAlong, FillsHere}
+use Rattle.hp_places.specs.Rooms.{is_full_after}
+use Rattle.hp_explore.specs.Paths.{IsForth, IsOver, PathValue, state_at}
 use Rattle.hp_schedules.specs.Schedules.{Setting, next_call, outcome_after, plays, record_of_call, schedule_of}
 use Rattle.hp_explore.proofs.Framing.{longer_schedule}
 use Rattle.hp_schedules.proofs.Plays.{caller, stops}
-use Rattle.hp_find.specs.Searches.{IsOver}
 use Rattle.hp_schedules.specs.Parts.{IsOfPart, PartValue}
 use Rattle.hp_part_lines.specs.Ends.{IsEndOf}
+
+-- a schedule by the calls before one, that one, and those after it
+whole : (schedule : List ℕ) (index cpu : ℕ) → index < length schedule → cpu ≡ get_or schedule index cpu
+    → take index schedule ++ cpu ∷ drop (index + 1) schedule ≡ schedule
+whole schedule index cpu lt is =
+    ap (λ (l : List ℕ). take index schedule ++ l)
+    (ap (λ (c : ℕ). c ∷ drop (index + 1) schedule) is ∙ sym (drop_more schedule index cpu lt))
+    ∙ take-append-drop index schedule
 
 -- a call more of a schedule
 pub followed : (g : Setting) (schedule : List ℕ) (index cpu : ℕ) (p q : PathValue)
@@ -33,15 +42,34 @@ pub unfollowed : (g : Setting) (schedule : List ℕ) (index cpu : ℕ) (p q : Pa
     → schedule_of p.news ≡ take index schedule → plays p.setting (schedule_of p.news) ≡ Some p.news
     → IsForth p cpu false q → plays g schedule ≡ None
 unfollowed g schedule index cpu p q lt is here so_far played forth =
-    let whole : take index schedule ++ cpu ∷ drop (index + 1) schedule ≡ schedule =
-    ap (λ (l : List ℕ). take index schedule ++ l)
-    (ap (λ (c : ℕ). c ∷ drop (index + 1) schedule) is ∙ sym (drop_more schedule index cpu lt))
-    ∙ take-append-drop index schedule in
-    subst (λ (s : List ℕ). plays g s ≡ None) whole
+    subst (λ (s : List ℕ). plays g s ≡ None) (whole schedule index cpu lt is)
     (stops g (take index schedule) (drop (index + 1) schedule) p.news cpu
     (subst (λ (s : List ℕ). plays g s ≡ Some p.news) so_far
     (subst (λ (h : Setting). plays h (schedule_of p.news) ≡ Some p.news) here played))
     (subst (λ (h : Setting). next_call h cpu p.news ≡ None) here forth.0))
+
+-- or the history has no room for it
+pub filled : (g : Setting) (schedule : List ℕ) (index cpu : ℕ) (p : PathValue)
+    → index < length schedule → cpu ≡ get_or schedule index cpu → p.setting ≡ g
+    → schedule_of p.news ≡ take index schedule → plays p.setting (schedule_of p.news) ≡ Some p.news
+    → FillsHere p.setting p.news cpu → FillsAlong g schedule
+filled g schedule index cpu p lt is here so_far played full = (
+  take index schedule,
+  record {
+    news = p.news;
+    cpu = cpu;
+    event = full.0;
+    played = subst (λ (s : List ℕ). plays g s ≡ Some p.news) so_far
+        (subst (λ (h : Setting). plays h (schedule_of p.news) ≡ Some p.news) here played);
+    asked = subst (λ (h : Setting). next_call h cpu p.news ≡ Some full.0) here full.1;
+    full = subst (λ (h : Setting). is_full_after h p.news ≡ true) here full.2;
+  },
+  (
+    drop (index + 1) schedule,
+    sym (append_assoc (take index schedule) (cpu ∷ []) (drop (index + 1) schedule)
+        ∙ whole schedule index cpu lt is),
+  ),
+)
 
 -- nor one after which a script goes on
 pub none_over : (part : PartValue) (p : PathValue) → plays p.setting (schedule_of p.news) ≡ Some p.news

@@ -1,12 +1,12 @@
 //! How one schedule ends.
 ghost use Rattle.std.specs.Prelude.{◌≡◌, ◌^◌, ◌<◌, [], IfErr, IfOk, length};
-ghost use Rattle.hp_explore.specs.Faults.{IsCause};
+ghost use Rattle.hp_explore.specs.Faults.{FillsAlong, IsCause};
 ghost use Rattle.hp_schedules.specs.Schedules.{schedule_of};
 ghost use Rattle.hp_explore.specs.Settings.{setting};
+ghost use Rattle.hp_explore.specs.declared.exploring.ExploreFault.TheVariants.{HistoryFull};
 ghost use Rattle.hp_part_lines.specs.Ends.{IsEndOf, IsFollowed};
 
-use hp_explore::{ExploreFault, Path};
-use hp_find::is_over;
+use hp_explore::{ExploreFault, Path, is_over};
 use hp_machine::Machine;
 use hp_schedules::{Outcome, Part, Script};
 use hp_units::Cpu;
@@ -14,7 +14,7 @@ use std::alloc::{AllocError, Global};
 
 /// How a schedule of a part of a search ends, where each processor has a script, from 0 on, and the
 /// calls are made on a machine from where it is; none where it is no complete schedule of the part. An
-/// error is `HistoryFull` where the layout's history has no room for one of its calls, or
+/// error is `HistoryFull` where the layout's history has no room for one of this schedule's calls, or
 /// `OutOfMemory`.
 pub fn end_of(
     alloc: Global,
@@ -26,6 +26,8 @@ pub fn end_of(
     requires { length scripts.now < 2 ^ 32 }
     ensures ok { IfOk result (IsEndOf (setting machine.now scripts.now) part schedule.now) }
     ensures err { IfErr result (IsCause (setting machine.now scripts.now)) }
+    ensures along { IfErr result (λ fault. fault ≡ HistoryFull
+        → FillsAlong (setting machine.now scripts.now) schedule.now) }
 {
     let processors = scripts.len() as u32;
     let mut path = Path::start(alloc, machine, scripts)?;
@@ -42,6 +44,7 @@ fn follow(alloc: Global, path: &mut Path<'_>, schedule: &[Cpu]) -> Result<bool, 
     requires { path.old.news ≡ [] }
     ensures ok { IfOk result (λ led. IsFollowed path.old.setting schedule.now led path.new) }
     ensures err { IfErr result (IsCause path.old.setting) }
+    ensures along { IfErr result (λ fault. fault ≡ HistoryFull → FillsAlong path.old.setting schedule.now) }
 {
     for cpu in schedule {
         path.is_played();

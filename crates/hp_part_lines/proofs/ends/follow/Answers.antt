@@ -1,6 +1,8 @@
 use Rattle.std.proofs.Common.{ℕ, Bool, true, false, subst}
+use Rattle.std.proofs.lemmas.Result.{err_from_is_err_and}
+use Rattle.hp_explore.specs.Faults.{FillsHere, IsCauseHere}
 use Rattle.hp_explore.specs.Paths.{IsForth}
-use Rattle.hp_part_lines.proofs.Ended.{followed, unfollowed}
+use Rattle.hp_part_lines.proofs.Ended.{filled, followed, unfollowed}
 use Rattle.hp_part_lines.proofs.ends.follow.Goals as goal
 
 pub returns-then-not-branch-clause-ok : goal.returns-then-not-branch-clause-ok
@@ -21,3 +23,15 @@ loop-cpu-preserved c =
     (subst (λ (n : ℕ). IsForth c.loop-cpu.path n true c.forward.new.self) c.cpu.view_is
     (subst (λ (b : Bool). IsForth c.loop-cpu.path c.cpu.inside.0 b c.forward.new.self) c.if-not-branch.false
     c.in_ok-forward.ensures.ok))
+
+pub returns-in_err-forward-clause-along : goal.returns-in_err-forward-clause-along
+returns-in_err-forward-clause-along c =
+    let p =
+    err_from_is_err_and c.from_residual.result c.from_residual.ensures.1 in
+    rw (p.1, p.2)
+    (λ full.
+    filled c.args.path.now.setting c.args.schedule.now c.loop-cpu.cpu-index c.cpu-item.result c.loop-cpu.path
+    c.loop-cpu-test.true c.cpu-item.is c.loop-cpu.invariant.0 c.loop-cpu.invariant.1 c.is_played.ensures
+    (subst (λ (n : ℕ). FillsHere c.loop-cpu.path.setting c.loop-cpu.path.news n) c.cpu.view_is
+    (subst (IsCauseHere c.loop-cpu.path.setting c.loop-cpu.path.news c.cpu.inside.0) full
+    c.in_err-forward.ensures.cause)))
