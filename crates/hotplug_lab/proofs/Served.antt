@@ -5,10 +5,11 @@ use Rattle.hp_streams.specs.Reading.{IsReadFault}
 use Rattle.hp_streams.specs.declared.reading.ReadFault.{ReadFault}
 use Rattle.hp_streams.specs.declared.reading.ReadFault.TheVariants as reading
 use Rattle.hp_streams.proofs.Whole.{given}
-use Rattle.hotplug_lab.specs.Faults.{read_fault_from}
-use Rattle.hotplug_lab.specs.Words.{Answers, IsLabCause, IsPartCause, IsPastEnd, IsScenarioCause, IsServeFault, IsUnanswered, Serves}
-use Rattle.hotplug_lab.specs.declared.fault.ProgramFault.{ProgramFault}
-use Rattle.hotplug_lab.specs.declared.fault.ProgramFault.TheVariants.{Lab, NoPart, NotOpened, Parts, PastEnd, ReadFailed, Scenario, TooLong, WriteFailed}
+use Rattle.hp_lab_faults.specs.Faults.{read_fault_from}
+use Rattle.hp_lab_shell.specs.Needs.{IsPastEnd}
+use Rattle.hotplug_lab.specs.Words.{Answers, IsLabCause, IsPartCause, IsScenarioCause, IsServeFault, IsUnanswered, Serves}
+use Rattle.hp_lab_faults.specs.declared.program_fault.ProgramFault.{ProgramFault}
+use Rattle.hp_lab_faults.specs.declared.program_fault.ProgramFault.TheVariants.{Lab, NoPart, NotOpened, Parts, PastEnd, ReadFailed, Scenario, TooLong, WriteFailed}
 use Rattle.hp_lab_words.specs.declared.words.Word.{Word}
 
 -- a fault of reading is one of the program

@@ -1,76 +1,31 @@
 -- What a word writes of the bytes of a scenario, the exit status, and when each fault comes.
-use Rattle.std.specs.Prelude.{◌≡◌, ◌⊎◌, ℕ, ◌-◌, ◌^◌, ◌<◌, ◌≤◌, ◌==◌, Bool, true, false, List, [], ◌++◌, length, Option, Some, None, Result, Ok, Err, IfSome, count_by, nat_le, if◌then◌else◌}
+use Rattle.std.specs.Prelude.{◌≡◌, ◌⊎◌, ℕ, ◌<◌, ◌≤◌, Bool, List, length, Option, IfSome, if◌then◌else◌}
 use Rattle.std.specs.Io.KnownBytes.{Appends}
-use Rattle.hp_check.specs.Checking.{AreFindings}
-use Rattle.hp_check.specs.Findings.{is_fault}
-use Rattle.hp_check.specs.Reports.{IsReport}
-use Rattle.hp_check.specs.declared.finding.Finding.{Finding}
-use Rattle.hp_find.specs.declared.wanted.Wanted.{Wanted}
-use Rattle.hp_scripts.specs.Counting.{IsCountTold}
-use Rattle.hp_lab.specs.Explorations.{IsExplorationOf, IsFaultOf, IsFindFaultOf, IsFindingOf}
-use Rattle.hp_lab.specs.declared.fault.LabFault.{LabFault}
-use Rattle.hp_lab.specs.declared.fault.LabFault.TheVariants.{OutOfMemory}
-use Rattle.hp_lab.specs.declared.forms.EndsForm.{EndsForm}
-use Rattle.hp_lab.specs.declared.forms.ScheduleForm.{ScheduleForm}
-use Rattle.hp_scripts.specs.Unbegun.{unbegun_lines}
-use Rattle.hp_scripts.specs.declared.unbegun.Unbegun.{Unbegun}
+use Rattle.hp_wanted.specs.declared.wanted.Wanted.{Wanted}
+use Rattle.hp_lab.specs.Explorations.{IsExplorationOf}
+use Rattle.hp_lab.specs.Findings.{IsFindFaultOf, IsFindingOf}
+use Rattle.hp_prepared.specs.Faults.{IsFaultOf}
+use Rattle.hp_ends.specs.declared.forms.EndsForm.{EndsForm}
+use Rattle.hp_ends.specs.declared.forms.ScheduleForm.{ScheduleForm}
 use Rattle.hp_scenario.specs.Gives.{Fails}
-use Rattle.hp_scenario.specs.Scenario.{ScenarioValue, scenario_in}
+use Rattle.hp_scenario.specs.Scenario.{scenario_in}
 use Rattle.hp_scenario.specs.declared.fault.ScenarioFault.{ScenarioFault}
 use Rattle.hp_streams.specs.Reading.{limit}
 use Rattle.hp_part_files.specs.Faults.{IsSumFault}
 use Rattle.hp_part_files.specs.Parts.{IsPartOf}
 use Rattle.hp_part_files.specs.Sums.{IsSumOf}
-use Rattle.hp_part_files.specs.declared.fault.PartFault.{PartFault}
-use Rattle.hp_pictures.specs.Rows.{RowValue}
-use Rattle.hp_svg.specs.Pictures.{picture_of}
-use Rattle.hp_trace.specs.Traces.{AreRowsOf, IsTraceOf}
-use Rattle.hp_trace.specs.declared.view.View.{View}
-use Rattle.hotplug_lab.specs.declared.fault.ProgramFault.{ProgramFault}
-use Rattle.hotplug_lab.specs.declared.fault.ProgramFault.TheVariants.{Lab, NoPart, NotOpened, Parts, PastEnd, ReadFailed, Scenario, TooLong, WriteFailed}
-use Rattle.hp_lab_words.specs.declared.words.Drawing.{Drawing}
+use Rattle.hp_shown.specs.Checks.{IsCheckOf}
+use Rattle.hp_shown.specs.Pictures.{IsPictureOf}
+use Rattle.hp_trace.specs.Traces.{IsTraceOf}
+use Rattle.hp_lab_faults.specs.declared.fault.LabFault.{LabFault}
+use Rattle.hp_lab_faults.specs.declared.fault.LabFault.TheVariants.{OutOfMemory}
+use Rattle.hp_lab_faults.specs.declared.part_fault.PartFault.{PartFault}
+use Rattle.hp_lab_faults.specs.declared.program_fault.ProgramFault.{ProgramFault}
+use Rattle.hp_lab_faults.specs.declared.program_fault.ProgramFault.TheVariants.{Lab, NoPart, NotOpened, Parts, PastEnd, ReadFailed, Scenario, TooLong, WriteFailed}
 use Rattle.hp_lab_words.specs.declared.words.Exploration.{Exploration}
 use Rattle.hp_lab_words.specs.declared.words.Word.{Word}
 use Rattle.hp_lab_words.specs.declared.words.Word.TheVariants.{Check, Explore, Find, Never, Part, Picture, Sum, Trace}
-
--- the interleavings that are counted where no limit is given, the most
-abbrev pub usual_limit : ℕ
-usual_limit = 10000000
-
--- how many the scripts after the setup have: nothing is said where the bytes are no scenario, and
--- where all lines are the setup
-abbrev pub IsCountIn : (setup : ℕ) → Result ScenarioValue ScenarioFault → (text : List ℕ) → Type 0
-IsCountIn setup (Ok s) text = IsCountTold s.layout.cpus setup s.lines usual_limit text
-IsCountIn setup (Err fault) text = text ≡ []
-
-abbrev pub IsCountOf : (all : Bool) → (setup : ℕ) → (input text : List ℕ) → Type 0
-IsCountOf true setup input text = text ≡ []
-IsCountOf false setup input text = IsCountIn setup (scenario_in input) text
-
--- the report of all findings, and how many interleavings the scripts have; the status is 0 where no
--- finding is a fault
-pub record IsCheckOf (setup : ℕ) (input text : List ℕ) (status : ℕ) : Type 0 where
-  pub found : List Finding
-  pub reported : List ℕ
-  pub counted : List ℕ
-  pub are : AreFindings input setup found
-  pub report : IsReport input found [] reported
-  pub count : IsCountOf (setup == 2 ^ 64 - 1) setup input counted
-  pub is : text ≡ reported ++ counted
-  pub judged : status ≡ (if count_by is_fault found == 0 then 0 else 1)
-
--- the picture of a trace's rows, with the names of the scenario's owners
-pub record IsPictureOf (drawing : Drawing) (input text : List ℕ) : Type 0 where
-  pub scenario : ScenarioValue
-  pub read : scenario_in input ≡ Ok scenario
-  pub rows : List RowValue
-  pub traced : AreRowsOf drawing.view input rows
-  pub drawn : text ≡ picture_of scenario.names drawing.cell rows
-
--- the same of these names
-abbrev pub IsDrawnWith : (names : List (List ℕ)) → (drawing : Drawing) → (input text : List ℕ) → Type 0
-IsDrawnWith names drawing input text =
-    (rows : List RowValue) × AreRowsOf drawing.view input rows × (text ≡ picture_of names drawing.cell rows)
+use Rattle.hp_lab_shell.specs.Needs.{HasLines, IsPastEnd}
 
 -- the text of an exploration; the status is 0 where what is asked for is found, and 3 where it is not
 abbrev pub IsExploringOf : Exploration → EndsForm → (input text : List ℕ) → (status : ℕ) → Type 0
@@ -104,69 +59,12 @@ IsAnswerOf (Find asked wanted form) input text status = IsSearchOf asked wanted.
 IsAnswerOf (Never asked wanted form) input text status =
     IsSearchOf asked wanted.now form 3 0 input text status
 IsAnswerOf (Trace view) input text status = IsTraceOf view input text × (status ≡ 0)
-IsAnswerOf (Picture drawing) input text status = IsPictureOf drawing input text × (status ≡ 0)
-
--- the lines of scripts that work on operation 0 where their processor has begun none
-abbrev pub unbegun_in : (setup : ℕ) → Result ScenarioValue ScenarioFault → List Unbegun
-unbegun_in setup (Ok s) = unbegun_lines s.layout.cpus setup s.lines
-unbegun_in setup (Err fault) = []
-
--- of the scripts that a word searches
-abbrev pub unbegun_of : Word → Result ScenarioValue ScenarioFault → List Unbegun
-unbegun_of (Check setup) read = []
-unbegun_of (Explore asked form jobs) read = unbegun_in asked.setup read
-unbegun_of (Part asked number of) read = unbegun_in asked.setup read
-unbegun_of (Sum form) read = []
-unbegun_of (Find asked wanted form) read = unbegun_in asked.setup read
-unbegun_of (Never asked wanted form) read = unbegun_in asked.setup read
-unbegun_of (Trace view) read = []
-unbegun_of (Picture drawing) read = []
-
--- the last line, counted from 1, that a scenario needs for a word; 0 where it needs none
-abbrev pub first_shown : View → ℕ
-first_shown view = if nat_le view.from 1 then 0 else view.from
-
--- the setup of a check, unless it is all of the scenario
-abbrev pub setup_named : (setup : ℕ) → ℕ
-setup_named setup = if setup == 2 ^ 64 - 1 then 0 else setup
-
-abbrev pub last_named : Word → ℕ
-last_named (Check setup) = setup_named setup
-last_named (Explore asked form jobs) = asked.setup
-last_named (Part asked number of) = asked.setup
-last_named (Sum form) = 0
-last_named (Find asked wanted form) = asked.setup
-last_named (Never asked wanted form) = asked.setup
-last_named (Trace view) = first_shown view
-last_named (Picture drawing) = first_shown drawing.view
-
--- how many lines the scenario has; none where the bytes are no scenario
-abbrev pub count_of : Result ScenarioValue ScenarioFault → Option ℕ
-count_of (Ok s) = Some (length s.lines)
-count_of (Err fault) = None
-
--- there is a line of this number, where it is known how many there are
-abbrev pub has_line : (asked : ℕ) → (count : Option ℕ) → Bool
-has_line asked None = true
-has_line asked (Some lines) = nat_le asked lines
-
--- the scenario, where the bytes are one, has the line that the word names
-abbrev pub HasLines : Word → (input : List ℕ) → Type 0
-HasLines word input = has_line (last_named word) (count_of (scenario_in input)) ≡ true
+IsAnswerOf (Picture drawing) input text status =
+    IsPictureOf drawing.view drawing.cell input text × (status ≡ 0)
 
 -- the answer of a word to a scenario that has the lines that the word names
 abbrev pub Answers : Word → (input text : List ℕ) → (status : ℕ) → Type 0
 Answers word input text status = HasLines word input × IsAnswerOf word input text status
-
--- the scenario has only so many lines, and the word names a later one
-abbrev pub IsPastEnd : Word → (input : List ℕ) → (asked lines : ℕ) → Type 0
-IsPastEnd word input asked lines =
-    (asked ≡ last_named word) × (count_of (scenario_in input) ≡ Some lines) × (lines < asked)
-
--- a fault that says so of such a number
-abbrev pub IsPast : (asked : ℕ) → (count : Option ℕ) → ProgramFault → Type 0
-IsPast asked count (PastEnd number lines) = (number ≡ asked) × (count ≡ Some lines) × (lines < asked)
-IsPast asked count fault = ⊥
 
 -- why a word has no answer: the fault of the exploration or the search, or of the scenario that is
 -- to be traced; else out of memory alone

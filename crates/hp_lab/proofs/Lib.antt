@@ -1,2 +1,2 @@
-pub mod Known
-pub mod Played
+pub mod Explorations
+pub mod Findings

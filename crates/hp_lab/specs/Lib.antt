@@ -1,5 +1,3 @@
 pub mod Explorations
-pub mod Faults
-pub mod FaultText
-pub mod Prepared
+pub mod Findings
 pub mod Texts

@@ -2,27 +2,18 @@
 ghost use Rattle.std.specs.Prelude.{◌≡◌, ◌^◌, ◌<◌, IfErr, IfOk, length, option_map, string_bytes};
 ghost use Rattle.hp_explore.specs.Faults.{IsCause};
 ghost use Rattle.hp_find.specs.Faults.{IsFindCause};
-ghost use Rattle.hp_lab.specs.Explorations.{IsFindFaultOf, IsFindingOf, IsFoundOn, IsFoundTold};
-ghost use Rattle.hp_lab.specs.Prepared.{before_of, names_of, setting_of};
+ghost use Rattle.hp_prepared.specs.Prepared.{before_of, names_of, setting_of};
+ghost use Rattle.hp_lab.specs.Findings.{IsFindFaultOf, IsFindTold, IsFindingOf, IsFoundOn, IsFoundTold};
 ghost use Rattle.hp_lab.specs.Texts.{absent_told, found_text, schedule_text};
 
-use crate::fault::LabFault;
-use crate::forms::ScheduleForm;
-use crate::prepared::{Prepared, prepare};
-use hp_ends::{absent_object, absent_text, found_object, nearest_text, replay_text};
+use hp_ends::{ScheduleForm, absent_object, absent_text, found_object, nearest_text};
 use hp_explore::{ExploreFault, Watch};
-use hp_find::{FindFault, Found, Wanted, changes_of, find};
+use hp_find::{FindFault, Found, changes_of, find};
+use hp_lab_faults::LabFault;
+use hp_prepared::{Finding, Prepared, prepare};
 use hp_units::{Cpu, Record};
+use hp_wanted::Wanted;
 use std::alloc::{AllocError, Global};
-
-/// What an exploration or a search says, and whether it found what was asked for.
-#[derive(Drop)]
-pub struct Finding {
-    /// The ends or the schedule, or that there is none.
-    pub text: String,
-    /// Whether there is what was asked for.
-    pub is_found: bool,
-}
 
 /// The text of a search in the scenario that the bytes are, for an interleaving whose end has each
 /// of the wanted lines. The first `setup` lines are run in order; each later line goes to the
@@ -51,106 +42,106 @@ pub fn find_text<W: Watch>(
     ensures err { IfErr result (IsFindFaultOf input.now setup limit wanted.now) }
 {
     let prepared = prepare(alloc, input, setup)?;
-    match prepared.found(alloc, wanted, form, limit, watch) {
+    match found(alloc, &prepared, wanted, form, limit, watch) {
         Ok(finding) => Ok(finding),
-        Err(fault) => Err(prepared.told_fault(alloc, limit, fault)),
+        Err(fault) => Err(told_fault(alloc, &prepared, limit, fault)),
     }
 }
 
-impl Prepared {
-    /// A search of the scripts for an end with each of the wanted lines, in a form.
-    fn found<W: Watch>(
-        &self,
-        alloc: Global,
-        wanted: &[Wanted],
-        form: ScheduleForm,
-        limit: u64,
-        watch: &mut W,
-    ) -> Result<Finding, FindFault>
-        requires { length self.now.start.scripts.items < 2 ^ 32 }
-        ensures ok { IfOk result (λ f. IsFoundOn form (names_of self.now) (before_of self.now)
-            (setting_of self.now) wanted.now limit (string_bytes f.text) f.is_found) }
-        ensures err { IfErr result (IsFindCause (setting_of self.now) wanted.now limit) }
-    {
-        let machine = &self.start.machine;
-        let scripts = self.start.scripts.as_slice();
-        let found = find(alloc, machine, scripts, wanted, limit, watch)?;
-        let finding = self.found_told(alloc, &found, form)?;
-        Ok(finding)
-    }
+/// A search for an end with each of the wanted lines, in a scenario that was made ready, in a form.
+fn found<W: Watch>(
+    alloc: Global,
+    prepared: &Prepared,
+    wanted: &[Wanted],
+    form: ScheduleForm,
+    limit: u64,
+    watch: &mut W,
+) -> Result<Finding, FindFault>
+    requires { length prepared.now.start.scripts.items < 2 ^ 32 }
+    ensures ok { IfOk result (λ f. IsFoundOn form (names_of prepared.now) (before_of prepared.now)
+        (setting_of prepared.now) wanted.now limit (string_bytes f.text) f.is_found) }
+    ensures err { IfErr result (IsFindCause (setting_of prepared.now) wanted.now limit) }
+{
+    let machine = &prepared.start.machine;
+    let scripts = prepared.start.scripts.as_slice();
+    let found = find(alloc, machine, scripts, wanted, limit, watch)?;
+    let finding = found_told(alloc, prepared, &found, form)?;
+    Ok(finding)
+}
 
-    /// What a search found, in a form.
-    fn found_told(
-        &self,
-        alloc: Global,
-        found: &Found,
-        form: ScheduleForm,
-    ) -> Result<Finding, ExploreFault>
-        ensures ok { IfOk result
-            (λ f. IsFoundTold form (names_of self.now) (before_of self.now) (setting_of self.now) found.now
-            (string_bytes f.text) f.is_found) }
-        ensures err { IfErr result (IsCause (setting_of self.now)) }
-    {
-        match found {
-            Found::Nearest(schedule) => {
-                let text = self.schedule_told(alloc, schedule.as_slice(), form)?;
-                Ok(Finding {
-                    text,
-                    is_found: true,
-                })
-            }
-            Found::Absent(schedules) => {
-                let text = absent_told(alloc, *schedules, form)?;
-                Ok(Finding {
-                    text,
-                    is_found: false,
-                })
-            }
+/// The fault of a search, with what is known of it.
+fn told_fault(alloc: Global, prepared: &Prepared, limit: u64, fault: FindFault) -> LabFault
+    ensures { IsFindTold limit (setting_of prepared.now) fault result }
+{
+    match fault {
+        FindFault::TooMany => LabFault::TooMany { limit },
+        FindFault::HistoryFull => prepared.told_fault(alloc, ExploreFault::HistoryFull),
+        FindFault::OutOfMemory => LabFault::OutOfMemory,
+    }
+}
+
+/// What a search found, in a form. A fault is that of a call: what it found is played once more.
+fn found_told(
+    alloc: Global,
+    prepared: &Prepared,
+    found: &Found,
+    form: ScheduleForm,
+) -> Result<Finding, ExploreFault>
+    ensures ok { IfOk result (λ f. IsFoundTold form (names_of prepared.now) (before_of prepared.now)
+        (setting_of prepared.now) found.now (string_bytes f.text) f.is_found) }
+    ensures err { IfErr result (IsCause (setting_of prepared.now)) }
+{
+    match found {
+        Found::Nearest(schedule) => {
+            let text = schedule_told(alloc, prepared, schedule.as_slice(), form)?;
+            Ok(Finding {
+                text,
+                is_found: true,
+            })
+        }
+        Found::Absent(schedules) => {
+            let text = absent_told(alloc, *schedules, form)?;
+            Ok(Finding {
+                text,
+                is_found: false,
+            })
         }
     }
+}
 
-    /// A schedule of the scripts in a form. A fault is that of a call: it is played once more.
-    pub(crate) fn schedule_told(
-        &self,
-        alloc: Global,
-        schedule: &[Cpu],
-        form: ScheduleForm,
-    ) -> Result<String, ExploreFault>
-        ensures ok { IfOk result (λ text. string_bytes text
-            ≡ found_text form (names_of self.now) (before_of self.now) (setting_of self.now) schedule.now) }
-        ensures err { IfErr result (IsCause (setting_of self.now)) }
-    {
-        let played = self.played(alloc, schedule)?;
-        let text = self.text_of(alloc, schedule, self.calls_of(&played), form)?;
-        Ok(text)
-    }
+/// A schedule of the scripts in a form. A fault is that of a call: it is played once more.
+fn schedule_told(
+    alloc: Global,
+    prepared: &Prepared,
+    schedule: &[Cpu],
+    form: ScheduleForm,
+) -> Result<String, ExploreFault>
+    ensures ok { IfOk result (λ text. string_bytes text ≡ found_text form (names_of prepared.now)
+        (before_of prepared.now) (setting_of prepared.now) schedule.now) }
+    ensures err { IfErr result (IsCause (setting_of prepared.now)) }
+{
+    let played = prepared.played(alloc, schedule)?;
+    let text = text_of(alloc, prepared, schedule, prepared.calls_of(&played), form)?;
+    Ok(text)
+}
 
-    /// A schedule with its calls in a form.
-    fn text_of(
-        &self,
-        alloc: Global,
-        schedule: &[Cpu],
-        calls: Option<&[Record]>,
-        form: ScheduleForm,
-    ) -> Result<String, AllocError>
-        ensures { IfOk result (λ text. string_bytes text
-            ≡ schedule_text form (names_of self.now) (before_of self.now) (setting_of self.now).layout
-            schedule.now (option_map (λ c. c.now) calls.entry)) }
-    {
-        let names = &self.scenario.names;
-        match form {
-            ScheduleForm::Words => nearest_text(alloc, names, changes_of(schedule), calls),
-            ScheduleForm::Object => found_object(alloc, names, changes_of(schedule), calls),
-            ScheduleForm::Scenario => {
-                replay_text(
-                    alloc,
-                    names,
-                    self.before(),
-                    self.start.machine.layout(),
-                    calls,
-                )
-            }
-        }
+/// A schedule with its calls in a form.
+fn text_of(
+    alloc: Global,
+    prepared: &Prepared,
+    schedule: &[Cpu],
+    calls: Option<&[Record]>,
+    form: ScheduleForm,
+) -> Result<String, AllocError>
+    ensures { IfOk result (λ text. string_bytes text
+        ≡ schedule_text form (names_of prepared.now) (before_of prepared.now)
+        (setting_of prepared.now).layout schedule.now (option_map (λ c. c.now) calls.entry)) }
+{
+    let names = &prepared.scenario.names;
+    match form {
+        ScheduleForm::Words => nearest_text(alloc, names, changes_of(schedule), calls),
+        ScheduleForm::Object => found_object(alloc, names, changes_of(schedule), calls),
+        ScheduleForm::Scenario => prepared.replay_of(alloc, calls),
     }
 }
 

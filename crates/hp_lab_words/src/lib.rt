@@ -10,6 +10,5 @@
 mod words;
 
 pub use words::{
-    ALL, Drawing, Exploration, LIMIT, Request, Word, contradiction, is_no_part, is_past_the_found,
-    request_from, texts_from,
+    Drawing, Exploration, Request, Word, contradiction, is_past_the_found, request_from, texts_from,
 };

@@ -1,17 +1,11 @@
 //! The words that the program is called with.
 
 use clap::ArgMatches;
-use hp_find::Wanted;
-use hp_lab::{EndsForm, ScheduleForm};
+use hp_ends::{EndsForm, ScheduleForm};
 use hp_lab_command::{FILE, FIND, JOBS, JSON, NEVER, PART, PROGRESS, SCENARIO};
-use hp_part_lines::PartNumber;
+use hp_shown::{ALL, LIMIT};
 use hp_trace::View;
-
-/// The most interleavings that are counted where no limit is given.
-pub const LIMIT: u64 = 10_000_000;
-
-/// The lines of a setup that is all of a scenario.
-pub const ALL: u64 = u64::MAX;
+use hp_wanted::Wanted;
 
 /// The pixels of a cell where no number is given, and the most there may be.
 const CELL: u64 = 8;
@@ -54,7 +48,7 @@ pub enum Word<'a> {
         form: EndsForm,
         jobs: u32,
     },
-    /// One part of these, by its number, of so many.
+    /// One part of these, by its number, of so many; part 0 of 0 where the words name none.
     Part {
         asked: Exploration,
         number: u64,
@@ -105,30 +99,16 @@ pub fn is_past_the_found(matches: &ArgMatches<'_>) -> bool {
     texts_from(matches).is_some() && words.get_one::<u64>(SCENARIO).unwrap_or(1) != 1
 }
 
-/// Whether parsed words ask for a part, and there is no such part.
-pub fn is_no_part(matches: &ArgMatches<'_>) -> bool {
-    let Some((_name, words)) = matches.subcommand() else {
-        return false;
-    };
-    words.get_str(PART).is_some() && part_from(words).is_none()
-}
-
-/// The part that is asked for as `I/N`.
-fn part_from(words: &ArgMatches<'_>) -> Option<PartNumber> {
+/// The number of the part that is asked for as `I/N`, and how many there are.
+fn part_from(words: &ArgMatches<'_>) -> Option<(u64, u64)> {
     let (number, of) = words.get_str(PART)?.split_once('/')?;
-    let number = number64(number)?;
-    let of = number64(of)?;
-    PartNumber::new(number, of)
+    Some((number64(number)?, number64(of)?))
 }
 
 /// The word that asks for it.
-fn part_word<'a>(asked: Exploration, words: &ArgMatches<'_>) -> Option<Word<'a>> {
-    let part = part_from(words)?;
-    Some(Word::Part {
-        asked,
-        number: u64::from(part.number()),
-        of: u64::from(part.of()),
-    })
+fn part_word<'a>(asked: Exploration, words: &ArgMatches<'_>) -> Word<'a> {
+    let (number, of) = part_from(words).unwrap_or((0, 0));
+    Word::Part { asked, number, of }
 }
 
 /// The names of files; none where no file is named.
@@ -199,7 +179,7 @@ fn word_from<'a>(name: &str, words: &ArgMatches<'_>, wanted: &'a [Wanted]) -> Op
             wanted,
             form: schedule_form_from(words),
         }),
-        "explore" if words.get_str(PART).is_some() => part_word(asked, words),
+        "explore" if words.get_str(PART).is_some() => Some(part_word(asked, words)),
         "explore" => Some(Word::Explore {
             asked,
             form: ends_form_from(words),

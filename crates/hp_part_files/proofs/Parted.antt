@@ -8,12 +8,14 @@ use Rattle.hp_schedules.specs.Orders.{HasMoreThan}
 use Rattle.hp_explore.specs.Fronts.{AreFirstInPart, IfFirst, IfWhole}
 use Rattle.hp_schedules.specs.Schedules.{Setting}
 use Rattle.hp_units.specs.LayoutParts.{LayoutParts}
-use Rattle.hp_lab.specs.Explorations.{HoldsAfter, InScenario, IsEndsCause, IsFaultOf, IsFaultWith, IsFull, IsMore, IsStoppedAfter}
-use Rattle.hp_lab.specs.declared.fault.LabFault.{LabFault}
+use Rattle.hp_explore.specs.Faults.{FillsPart, IsCause}
+use Rattle.hp_prepared.specs.Ends.{IsMore}
+use Rattle.hp_prepared.specs.Faults.{IsFaultOf, IsFaultWith, IsFull}
+use Rattle.hp_prepared.specs.Holding.{HoldsAfter, InScenario, IsStoppedAfter}
+use Rattle.hp_lab_faults.specs.declared.fault.LabFault.{LabFault}
 use Rattle.hp_scenario.specs.declared.lines.Line.{Line}
-use Rattle.hp_lab.specs.declared.fault.LabFault.TheVariants as lab
+use Rattle.hp_lab_faults.specs.declared.fault.LabFault.TheVariants as lab
 use Rattle.hp_schedules.specs.Parts.{EndsInPart, IsCompleteInPart, PartValue}
-use Rattle.hp_explore.specs.Faults.{FillsPart}
 use Rattle.hp_scenario.specs.Gives.{◌>>=◌}
 use Rattle.hp_scenario.specs.Scenario.{scenario_in, scenario_of}
 use Rattle.hp_scenario.specs.declared.fault.ScenarioFault.{ScenarioFault}
@@ -64,7 +66,7 @@ stopped_weaker P Q input setup f h = (
 
 -- what fills the history in a part's search fills it in that of all
 pub part_fault : (n : NumberValue) (input : List ℕ) (setup limit : ℕ) (fault : LabFault)
-    → IsFaultWith (IsPartCause n) input setup limit fault → IsFaultOf input setup limit fault
+    → IsFaultWith (λ g. ⊥) (IsPartCause n) input setup limit fault → IsFaultOf input setup limit fault
 part_fault n input setup limit lab.NotJson h = h
 part_fault n input setup limit lab.BadShape h = h
 part_fault n input setup limit (lab.Layout f) h = h
@@ -72,13 +74,13 @@ part_fault n input setup limit (lab.BadLine line) h = h
 part_fault n input setup limit (lab.NotForScript line why) h = h
 part_fault n input setup limit (lab.TooMany most) h = absurd (h.1.2.1.holds)
 part_fault n input setup limit (lab.HistoryFull needed) h =
-    stopped_weaker (IsFull (IsPartCause n) needed) (IsFull IsEndsCause needed) input setup
+    stopped_weaker (IsFull (IsPartCause n) needed) (IsFull IsCause needed) input setup
     (λ g x. ((x.0.2.0, x.0.2.1), x.1)) h
 part_fault n input setup limit lab.OutOfMemory h = tt
 
 -- and a schedule of the part does
 pub full_part : (n : NumberValue) (input : List ℕ) (setup limit : ℕ) (fault : LabFault)
-    → IsFaultWith (IsPartCause n) input setup limit fault → IsFullPart n input setup fault
+    → IsFaultWith (λ g. ⊥) (IsPartCause n) input setup limit fault → IsFullPart n input setup fault
 full_part n input setup limit lab.NotJson h = tt
 full_part n input setup limit lab.BadShape h = tt
 full_part n input setup limit (lab.Layout f) h = tt

@@ -19,14 +19,15 @@ use Rattle.hp_part_lines.specs.declared.ordering.OrderFault.TheVariants as order
 use Rattle.hp_part_lines.specs.declared.reading.PartLine.TheVariants.{End}
 use Rattle.hp_part_files.specs.Gathered.{IsGathered, IsGathering, IsOwn, lines_of}
 use Rattle.std.specs.Global.{Vec}
-use Rattle.hp_lab.specs.Explorations.{IsEndsCause, IsUntold}
-use Rattle.hp_lab.specs.Prepared.{IsPrepared, names_of, setting_of}
-use Rattle.hp_lab.specs.declared.fault.LabFault.{LabFault}
-use Rattle.hp_lab.specs.declared.prepared.Prepared.{Prepared}
-use Rattle.hp_lab.proofs.Known.{held_in, untold_in}
-use Rattle.hp_part_files.specs.Faults.{IsLineFault, IsTooMany, IsUnpushed, IsUnsummedIn, IsUntoldEnds, IsUntoldSum, fault_of_line, fault_of_order}
-use Rattle.hp_part_files.specs.declared.fault.PartFault.{PartFault}
-use Rattle.hp_part_files.specs.declared.fault.PartFault.TheVariants as part
+use Rattle.hp_explore.specs.Faults.{IsCause}
+use Rattle.hp_prepared.specs.Faults.{IsUntold}
+use Rattle.hp_prepared.specs.Prepared.{IsPrepared, names_of, setting_of}
+use Rattle.hp_lab_faults.specs.declared.fault.LabFault.{LabFault}
+use Rattle.hp_prepared.specs.declared.prepared.Prepared.{Prepared}
+use Rattle.hp_prepared.proofs.Known.{held_in, untold_in}
+use Rattle.hp_part_files.specs.Faults.{IsLineFault, IsMisplaced, IsTooMany, IsUnpushed, IsUnsummedIn, IsUntoldEnds, IsUntoldSum, fault_of_line, fault_of_order}
+use Rattle.hp_lab_faults.specs.declared.part_fault.PartFault.{PartFault}
+use Rattle.hp_lab_faults.specs.declared.part_fault.PartFault.TheVariants as part
 use Rattle.hp_part_files.specs.declared.line_fault.LineFault.{LineFault}
 use Rattle.hp_part_files.specs.declared.line_fault.LineFault.TheVariants.{NotPart, OtherSearch, NotOfPart, Changed, Stopped, OtherCount, Lab}
 use Rattle.hp_part_files.specs.Taking.{HasRead, IsPushed, IsTaken}
@@ -234,14 +235,18 @@ unread input names g s place n text v cause fault is at here so_far h =
 
 -- the parts are not all there once
 pub misplaced : (input : List ℕ) (names : List (List ℕ)) (g : Setting) (s : SearchValue)
-    (parts : List PartEndsValue) (why : OrderFault)
-    → IsGathered names g s input parts → IsOrderFault parts s.of why
-    → IsUntoldSum input names g s (fault_of_order why)
-misplaced input names g s parts (order.Missing n) read h =
-    inr (inr (inr (record { parts = parts; read = read; cause = inl (order.Missing n, refl, h) })))
-misplaced input names g s parts (order.Twice n) read h =
-    inr (inr (inr (record { parts = parts; read = read; cause = inl (order.Twice n, refl, h) })))
-misplaced input names g s parts order.OutOfMemory read h = tt
+    (parts : List PartEndsValue) (fault : PartFault)
+    → IsGathered names g s input parts → IsMisplaced parts s.of fault → IsUntoldSum input names g s fault
+misplaced input names g s parts fault read h =
+    subst (IsUntoldSum input names g s) (sym h.1) (by_cause h.0 h.2)
+  where
+    by_cause : (why : OrderFault) → IsOrderFault parts s.of why
+        → IsUntoldSum input names g s (fault_of_order why)
+    by_cause (order.Missing n) h =
+        inr (inr (inr (record { parts = parts; read = read; cause = inl (order.Missing n, refl, h) })))
+    by_cause (order.Twice n) h =
+        inr (inr (inr (record { parts = parts; read = read; cause = inl (order.Twice n, refl, h) })))
+    by_cause order.OutOfMemory h = tt
 
 -- the sum of all parts is not told
 pub untold_ends : (input : List ℕ) (names : List (List ℕ)) (g : Setting) (s : SearchValue) (fault : PartFault)
@@ -283,7 +288,7 @@ too_many input names g s parts lists (part.Twice n) read all h = absurd h
 too_many input names g s parts lists part.TooMany read all h =
     inr (inr (inr (record { parts = parts; read = read; cause = inr (lists, all, h) })))
 too_many input names g s parts lists (part.Lab fault) read all h =
-    subst (λ (f : LabFault). IsUntold IsEndsCause 0 g f) (sym h) tt
+    subst (λ (f : LabFault). IsUntold IsCause g f) (sym h) tt
 
 -- the sum has no answer after a scenario was made ready
 pub unsummed_in : (input : List ℕ) (s : SearchValue) (p : Prepared) (fault : PartFault)
@@ -308,4 +313,4 @@ unsummed_in input s p (part.Twice n) ready h =
 unsummed_in input s p part.TooMany ready h =
     held_in (λ names before g. IsUntoldSum input names g s part.TooMany) s.scenario s.setup p ready h
 unsummed_in input s p (part.Lab fault) ready h =
-    untold_in IsEndsCause s.scenario s.setup 0 p fault ready h
+    untold_in (λ (g : Setting). ⊥) IsCause s.scenario s.setup 0 p fault ready h

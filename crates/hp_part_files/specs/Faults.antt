@@ -3,8 +3,10 @@ use Rattle.std.specs.Prelude.{◌≡◌, ◌⊎◌, ℕ, ◌+◌, ◌≤◌, ◌
 use Rattle.hp_schedules.specs.declared.tally.Ending.{Ending}
 use Rattle.hp_schedules.specs.Outcomes.{OutcomeValue}
 use Rattle.hp_schedules.specs.Schedules.{Setting}
-use Rattle.hp_lab.specs.Explorations.{HoldsIn, IsEndsCause, IsFaultOf, IsUntold}
-use Rattle.hp_lab.specs.declared.fault.LabFault.TheVariants.{OutOfMemory}
+use Rattle.hp_explore.specs.Faults.{IsCause}
+use Rattle.hp_prepared.specs.Faults.{IsFaultOf, IsUntold}
+use Rattle.hp_prepared.specs.Holding.{HoldsIn}
+use Rattle.hp_lab_faults.specs.declared.fault.LabFault.TheVariants.{OutOfMemory}
 use Rattle.hp_schedules.specs.Parts.{EndsInPart}
 use Rattle.hp_parts.specs.Adding.{counted_by}
 use Rattle.hp_part_lines.specs.Cuts.{HasNoNewline, IsLineAt, line_number}
@@ -17,8 +19,8 @@ use Rattle.hp_part_lines.specs.declared.ordering.OrderFault.TheVariants as order
 use Rattle.hp_part_lines.specs.declared.reading.PartLine.TheVariants.{Head, End, Stop, Other}
 use Rattle.hp_part_files.specs.Gathered.{IsGathered, IsGathering, IsLastOther}
 use Rattle.hp_part_files.specs.Texts.{end_line}
-use Rattle.hp_part_files.specs.declared.fault.PartFault.{PartFault}
-use Rattle.hp_part_files.specs.declared.fault.PartFault.TheVariants as part
+use Rattle.hp_lab_faults.specs.declared.part_fault.PartFault.{PartFault}
+use Rattle.hp_lab_faults.specs.declared.part_fault.PartFault.TheVariants as part
 use Rattle.hp_part_files.specs.declared.line_fault.LineFault.{LineFault}
 use Rattle.hp_part_files.specs.declared.line_fault.LineFault.TheVariants.{NotPart, OtherSearch, NotOfPart, Changed, Stopped, OtherCount, Lab}
 use Rattle.std.specs.Global.{Vec}
@@ -67,7 +69,7 @@ pub record IsChanged (names : List (List ℕ)) (g : Setting) (s : SearchValue) (
 
 -- its schedule is not played
 abbrev pub IsUnplayed : Setting → LineFault → Type 0
-IsUnplayed g (Lab fault) = IsUntold IsEndsCause 0 g fault
+IsUnplayed g (Lab fault) = IsUntold IsCause g fault
 IsUnplayed g fault = ⊥
 
 -- an end is not added to a part
@@ -85,7 +87,7 @@ IsLineFault names g s v text NotOfPart = IsOfNoPart g s v text
 IsLineFault names g s v text Changed = IsChanged names g s v text
 IsLineFault names g s v text Stopped = IsLine text Stop
 IsLineFault names g s v text (OtherCount number) = IsAfterOther s v text number
-IsLineFault names g s v text (Lab fault) = IsUntold IsEndsCause 0 g fault
+IsLineFault names g s v text (Lab fault) = IsUntold IsCause g fault
 
 -- ---- the parts
 
@@ -93,6 +95,10 @@ abbrev pub fault_of_order : OrderFault → PartFault
 fault_of_order (order.Missing number) = part.Missing number
 fault_of_order (order.Twice number) = part.Twice number
 fault_of_order order.OutOfMemory = part.Lab OutOfMemory
+
+-- the parts are not all there once
+abbrev pub IsMisplaced : List PartEndsValue → (of : ℕ) → PartFault → Type 0
+IsMisplaced parts of fault = (why : OrderFault) × (fault ≡ fault_of_order why) × IsOrderFault parts of why
 
 -- ---- the whole
 
@@ -123,7 +129,7 @@ IsTooMany lists fault = ⊥
 
 -- the ends of all parts are not told
 abbrev pub IsUntoldEnds : Setting → PartFault → Type 0
-IsUntoldEnds g (part.Lab fault) = IsUntold IsEndsCause 0 g fault
+IsUntoldEnds g (part.Lab fault) = IsUntold IsCause g fault
 IsUntoldEnds g fault = ⊥
 
 -- the parts of a text are not all there once, or there are too many interleavings
@@ -131,13 +137,13 @@ pub record IsUnsummed (input : List ℕ) (names : List (List ℕ)) (g : Setting)
     (fault : PartFault) : Type 0 where
   pub parts : List PartEndsValue
   pub read : IsGathered names g s input parts
-  pub cause : ((why : OrderFault) × (fault ≡ fault_of_order why) × IsOrderFault parts s.of why)
+  pub cause : IsMisplaced parts s.of fault
       ⊎ ((lists : List (List Ending)) × AreAll parts s.of lists × IsTooMany lists fault)
 
 -- after a first head, the parts of a search of a scenario that was made ready have no sum
 abbrev pub IsUntoldSum : (input : List ℕ) → (names : List (List ℕ)) → Setting → SearchValue → PartFault
     → Type 0
-IsUntoldSum input names g s (part.Lab fault) = IsUntold IsEndsCause 0 g fault
+IsUntoldSum input names g s (part.Lab fault) = IsUntold IsCause g fault
 IsUntoldSum input names g s fault =
     IsUnread input names g s fault
     ⊎ (IsUnended input fault ⊎ (IsLastCut input names g s fault ⊎ IsUnsummed input names g s fault))

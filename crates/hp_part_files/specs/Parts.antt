@@ -8,11 +8,12 @@ use Rattle.hp_schedules.specs.Ends.{AreCounted, AreInOrder}
 use Rattle.hp_schedules.specs.Orders.{HasMoreThan}
 use Rattle.hp_schedules.specs.Interleavings.{IsKnown}
 use Rattle.hp_schedules.specs.Schedules.{Setting}
-use Rattle.hp_find.specs.declared.fault.FindFault.{FindFault}
-use Rattle.hp_find.specs.declared.fault.FindFault.TheVariants as search
-use Rattle.hp_lab.specs.Explorations.{HoldsIn, InScenario, IsMore, IsStoppedAfter}
-use Rattle.hp_lab.specs.declared.fault.LabFault.{LabFault}
-use Rattle.hp_lab.specs.declared.fault.LabFault.TheVariants.{HistoryFull}
+use Rattle.hp_explore.specs.declared.exploring.ExploreFault.{ExploreFault}
+use Rattle.hp_explore.specs.declared.exploring.ExploreFault.TheVariants as explore
+use Rattle.hp_prepared.specs.Ends.{IsMore}
+use Rattle.hp_prepared.specs.Holding.{HoldsIn, InScenario, IsStoppedAfter}
+use Rattle.hp_lab_faults.specs.declared.fault.LabFault.{LabFault}
+use Rattle.hp_lab_faults.specs.declared.fault.LabFault.TheVariants.{HistoryFull}
 use Rattle.hp_explore.specs.Fronts.{AreFirstInPart}
 use Rattle.hp_schedules.specs.Parts.{EndsInPart, IsCompleteInPart, PartValue}
 use Rattle.hp_explore.specs.Faults.{FillsPart}
@@ -68,10 +69,9 @@ abbrev pub FillsPartOf : NumberValue → Setting → Type 0
 FillsPartOf n g = (calls : ℕ) × IsCallsFor (length g.scripts) n.of calls × FillsPart g (part_by n calls)
 
 -- why a part is not told
-abbrev pub IsPartCause : NumberValue → Setting → FindFault → Type 0
-IsPartCause n g search.TooMany = ⊥
-IsPartCause n g search.HistoryFull = FillsPartOf n g
-IsPartCause n g search.OutOfMemory = Unit {0}
+abbrev pub IsPartCause : NumberValue → Setting → ExploreFault → Type 0
+IsPartCause n g explore.HistoryFull = FillsPartOf n g
+IsPartCause n g explore.OutOfMemory = Unit {0}
 
 -- in a scenario
 abbrev pub IsPartOf : NumberValue → (input : List ℕ) → (setup limit : ℕ) → (text : List ℕ) → (found : Bool)

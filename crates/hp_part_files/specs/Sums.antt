@@ -3,8 +3,9 @@ use Rattle.std.specs.Prelude.{◌≡◌, ℕ, ◌<◌, Bool, List, None, length,
 use Rattle.hp_schedules.specs.declared.tally.Ending.{Ending}
 use Rattle.hp_schedules.specs.Ends.{AreEnds, AreInOrder}
 use Rattle.hp_schedules.specs.Schedules.{Setting}
-use Rattle.hp_lab.specs.Explorations.{AreEndsTold, HoldsIn}
-use Rattle.hp_lab.specs.declared.forms.EndsForm.{EndsForm}
+use Rattle.hp_prepared.specs.Ends.{AreEndsTold}
+use Rattle.hp_prepared.specs.Holding.{HoldsIn}
+use Rattle.hp_ends.specs.declared.forms.EndsForm.{EndsForm}
 use Rattle.hp_parts.specs.Adding.{AreAdded, counted_by}
 use Rattle.hp_parts.specs.Sums.{AreApart, AreParts}
 use Rattle.hp_scenario.specs.declared.lines.Line.{Line}

@@ -2,12 +2,11 @@
 ghost use Rattle.std.specs.Prelude.{◌≡◌};
 ghost use Rattle.hp_part_files.specs.Faults.{fault_of_line};
 
-use crate::fault::PartFault;
-use hp_lab::LabFault;
+use hp_lab_faults::{LabFault, PartFault};
 use std::alloc::AllocError;
 
 /// Why a line is not taken after the lines before it.
-#[derive(Clone, Copy, Debug, PartialEq, Eq, Drop)]
+#[derive(Drop)]
 pub(crate) enum LineFault {
     /// It is none of a part.
     NotPart,
@@ -44,7 +43,7 @@ impl LineFault {
 
 impl From<AllocError> for LineFault {
     ghost use Rattle.std.specs.Prelude.{◌≡◌};
-    ghost use Rattle.hp_lab.specs.declared.fault.LabFault.TheVariants.{OutOfMemory};
+    ghost use Rattle.hp_lab_faults.specs.declared.fault.LabFault.TheVariants.{OutOfMemory};
     ghost use Rattle.hp_part_files.specs.declared.line_fault.LineFault.TheVariants.{Lab};
 
     ghost from_gives = { λ _ e. e ≡ Lab OutOfMemory };

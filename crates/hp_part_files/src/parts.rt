@@ -1,17 +1,17 @@
 //! A search of one part.
 ghost use Rattle.std.specs.Prelude.{◌≡◌, ◌^◌, ◌<◌, IfErr, IfOk, length, string_bytes};
 ghost use Rattle.hp_explore.specs.Faults.{IsCause};
-ghost use Rattle.hp_lab.specs.Explorations.{IsFaultOf};
-ghost use Rattle.hp_lab.specs.Prepared.{names_of, setting_of};
+ghost use Rattle.hp_prepared.specs.Faults.{IsFaultOf};
+ghost use Rattle.hp_prepared.specs.Prepared.{names_of, setting_of};
 ghost use Rattle.hp_part_files.specs.Parts.{IsFullPart, IsPartCause, IsPartOf, IsPartOn, IsToldPart};
 
 use crate::writing::write_part;
 use hp_ends::write_more;
 use hp_explore::{Exploration, ExploreFault, Watch, explore_part};
-use hp_find::FindFault;
-use hp_lab::{Finding, LabFault, Prepared, prepare};
+use hp_lab_faults::LabFault;
 use hp_part_lines::{PartNumber, Search};
 use hp_parts::calls_for;
+use hp_prepared::{Finding, Prepared, prepare};
 use hp_schedules::total_of;
 use simdutf8::basic::from_utf8;
 use std::alloc::Global;
@@ -46,7 +46,7 @@ pub fn part_text<W: Watch>(
     let prepared = prepare(alloc, input, setup)?;
     match part_on(alloc, &prepared, scenario, number, limit, watch) {
         Ok(finding) => Ok(finding),
-        Err(fault) => Err(prepared.told_fault(alloc, limit, fault)),
+        Err(fault) => Err(prepared.told_fault(alloc, fault)),
     }
 }
 
@@ -58,7 +58,7 @@ fn part_on<W: Watch>(
     number: PartNumber,
     limit: u64,
     watch: &mut W,
-) -> Result<Finding, FindFault>
+) -> Result<Finding, ExploreFault>
     requires { length prepared.now.start.scripts.items < 2 ^ 32 }
     ensures ok { IfOk result (λ f. IsPartOn number prepared.now.setup scenario.now limit
         (string_bytes f.text) f.is_found (names_of prepared.now) (setting_of prepared.now)) }
@@ -76,7 +76,7 @@ fn part_on<W: Watch>(
     };
     // The search has made the calls of each first interleaving, so that only memory can be lacking.
     let Ok(finding) = told(alloc, prepared, &search, number.number(), &explored) else {
-        return Err(FindFault::OutOfMemory);
+        return Err(ExploreFault::OutOfMemory);
     };
     Ok(finding)
 }

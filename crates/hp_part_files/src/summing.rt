@@ -1,20 +1,24 @@
 //! The sum of parts.
 ghost use Rattle.std.specs.Prelude.{◌≡◌, ◌+◌, ◌^◌, ◌<◌, IfErr, IfOk, length, string_bytes};
-ghost use Rattle.hp_lab.specs.Explorations.{AreEndsTold, HoldsIn};
-ghost use Rattle.hp_lab.specs.Prepared.{before_of, names_of, setting_of};
+ghost use Rattle.hp_prepared.specs.Ends.{AreEndsTold};
+ghost use Rattle.hp_prepared.specs.Holding.{HoldsIn};
+ghost use Rattle.hp_prepared.specs.Prepared.{before_of, names_of, setting_of};
 ghost use Rattle.hp_part_lines.specs.Cuts.{IsLineAt};
 ghost use Rattle.hp_part_lines.specs.Heads.{IsNumber, head_line};
-ghost use Rattle.hp_part_lines.specs.Ordering.{lists_of};
-ghost use Rattle.hp_part_files.specs.Faults.{IsSumFault, IsTooMany, IsUnsummedIn, IsUntoldEnds, IsUntoldSum};
+ghost use Rattle.hp_part_lines.specs.Ordering.{AreAll, AreWithin, lists_of};
+ghost use Rattle.hp_part_files.specs.Faults.{IsMisplaced, IsSumFault, IsTooMany, IsUnsummedIn, IsUntoldEnds, IsUntoldSum, fault_of_order};
 ghost use Rattle.hp_part_files.specs.Sums.{IsSum, IsSumOf, IsSumOn};
 ghost use Rattle.hp_part_files.specs.Taking.{HasRead};
 
-use crate::fault::PartFault;
 use crate::taking::gather;
 use crate::telling::told_fault;
-use hp_lab::{EndsForm, Finding, LabFault, Prepared, prepare};
-use hp_part_lines::{Head, ends_by_number, head_from, is_head, json_in, line_at};
+use hp_ends::EndsForm;
+use hp_lab_faults::{LabFault, PartFault};
+use hp_part_lines::{
+    Head, OrderFault, PartEnds, ends_by_number, head_from, is_head, json_in, line_at,
+};
 use hp_parts::{SumFault, sum};
+use hp_prepared::{Finding, Prepared, prepare};
 use hp_schedules::Ending;
 use std::alloc::Global;
 
@@ -90,9 +94,32 @@ fn sum_on(
 {
     let parts = gather(alloc, input, prepared, head, start)?;
     let search = &head.search;
-    let lists = ends_by_number(alloc, parts, search.of)?;
+    let lists = lists_of(alloc, parts, search.of)?;
     let ends = summed(alloc, &lists)?;
     told(alloc, prepared, &ends, form)
+}
+
+/// The ends of each part, by its number. An error is that a part is missing or comes twice, or out of memory.
+fn lists_of(alloc: Global, parts: Vec<PartEnds>, of: u32) -> Result<Vec<Vec<Ending>>, PartFault>
+    requires { AreWithin of parts.items }
+    ensures ok { IfOk result (λ lists. AreAll parts.items of (lists_of lists.items)) }
+    ensures err { IfErr result (IsMisplaced parts.items of) }
+{
+    match ends_by_number(alloc, parts, of) {
+        Ok(lists) => Ok(lists),
+        Err(fault) => Err(fault_of_order(fault)),
+    }
+}
+
+/// The fault of parts that are not all there once.
+fn fault_of_order(fault: OrderFault) -> PartFault
+    ensures { result ≡ fault_of_order fault }
+{
+    match fault {
+        OrderFault::Missing { part } => PartFault::Missing { part },
+        OrderFault::Twice { part } => PartFault::Twice { part },
+        OrderFault::OutOfMemory => PartFault::Lab(LabFault::OutOfMemory),
+    }
 }
 
 /// The sum of the ends of all parts. An error is TooMany, or out of memory.

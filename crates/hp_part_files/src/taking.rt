@@ -1,6 +1,6 @@
 //! The lines of parts, one after another.
 ghost use Rattle.std.specs.Prelude.{◌≡◌, ◌↔◌, ◌^◌, ◌<◌, IfErr, IfOk, IsTrue, OnOk, length};
-ghost use Rattle.hp_lab.specs.Prepared.{names_of, setting_of};
+ghost use Rattle.hp_prepared.specs.Prepared.{names_of, setting_of};
 ghost use Rattle.hp_part_lines.specs.Ends.{IsEndOf};
 ghost use Rattle.hp_part_lines.specs.Heads.{IsNumber, part_in};
 ghost use Rattle.hp_part_lines.specs.Reading.{IsLine};
@@ -10,15 +10,15 @@ ghost use Rattle.hp_part_files.specs.Gathered.{IsGathered, IsGathering};
 ghost use Rattle.hp_part_files.specs.Taking.{HasRead, IsPushed, IsTaken};
 ghost use Rattle.hp_part_files.specs.Texts.{end_line};
 
-use crate::fault::PartFault;
 use crate::line_fault::LineFault;
 use crate::telling::told_fault;
 use crate::writing::write_end;
-use hp_lab::Prepared;
+use hp_lab_faults::PartFault;
 use hp_part_lines::{
     Gathering, Head, PartEnds, PartLine, PartNumber, Search, end_of, is_head, line_at, line_in,
     line_number,
 };
+use hp_prepared::Prepared;
 use hp_schedules::{Ending, Outcome};
 use hp_units::Cpu;
 use std::alloc::Global;

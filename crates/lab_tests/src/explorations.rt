@@ -1,6 +1,7 @@
 //! Explorations and their text.
+use hp_ends::EndsForm;
 use hp_explore::Silent;
-use hp_lab::{EndsForm, explore_text};
+use hp_lab::explore_text;
 use std::alloc::{AllocError, Global};
 use std::test::Fail;
 

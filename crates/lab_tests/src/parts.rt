@@ -1,8 +1,10 @@
 //! Parts of explorations, and their sums.
 use crate::explorations::scenario;
+use hp_ends::EndsForm;
 use hp_explore::Silent;
-use hp_lab::{EndsForm, explore_text};
-use hp_part_files::{PartFault, part_text, sum_text};
+use hp_lab::explore_text;
+use hp_lab_faults::PartFault;
+use hp_part_files::{part_text, sum_text};
 use hp_part_lines::PartNumber;
 use std::alloc::{AllocError, Global};
 use std::test::Fail;

@@ -1,7 +1,9 @@
 //! Scenarios that are not explored, and why.
 use super::explorations::scenario;
+use hp_ends::EndsForm;
 use hp_explore::Silent;
-use hp_lab::{EndsForm, LabFault, explore_text};
+use hp_lab::explore_text;
+use hp_lab_faults::LabFault;
 use hp_requests::ControlFault;
 use hp_scenario::Unfit;
 use std::alloc::{AllocError, Global};

@@ -1,9 +1,9 @@
 //! Searches for an end, and their text.
 use super::explorations::scenario;
+use hp_ends::ScheduleForm;
 use hp_explore::Silent;
-use hp_find::Wanted;
-use hp_lab::{ScheduleForm, find_text};
-use hp_wanted::wanted_line;
+use hp_lab::find_text;
+use hp_wanted::{Wanted, wanted_line};
 use std::alloc::{AllocError, Global};
 use std::test::Fail;
 

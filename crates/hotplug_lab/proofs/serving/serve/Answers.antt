@@ -3,7 +3,8 @@ use Rattle.std.proofs.Common.{◌≡◌, List, ℕ, ap, inl, refl, string_bytes,
 use Rattle.std.proofs.lemmas.Result.{err_from_is_err_and}
 use Rattle.hp_scenario.specs.Scenario.{scenario_in}
 use Rattle.hp_streams.proofs.Whole.{given}
-use Rattle.hotplug_lab.specs.Words.{Answers, unbegun_of}
+use Rattle.hp_lab_shell.specs.Needs.{unbegun_of}
+use Rattle.hotplug_lab.specs.Words.{Answers}
 use Rattle.hotplug_lab.proofs.Served.{all_served, read_fault, unanswered}
 use Rattle.hotplug_lab.proofs.serving.serve.Goals as goal
 

@@ -1,11 +1,10 @@
 -- What holds on the machine where the search begins holds in the scenario.
 use Rattle.std.proofs.Common.{string_bytes}
 use Rattle.std.proofs.lemmas.Result.{err_from_is_err_and}
-use Rattle.hp_schedules.specs.Schedules.{Setting}
-use Rattle.hp_find.specs.Faults.{IsFindCause}
-use Rattle.hp_lab.specs.Explorations.{IsFoundOn}
-use Rattle.hp_lab.specs.Prepared.{setting_of}
-use Rattle.hp_lab.proofs.Known.{held_in, unprepared_known, untold, untold_in}
+use Rattle.hp_explore.specs.Faults.{IsCause}
+use Rattle.hp_prepared.proofs.Known.{held_in, unprepared_known}
+use Rattle.hp_lab.specs.Findings.{IsFoundOn, IsTooMany}
+use Rattle.hp_lab.proofs.Findings.{not_found}
 use Rattle.hp_lab.proofs.finding.find_text.Goals as goal
 
 pub returns-in_err-prepared-clause-err : goal.returns-in_err-prepared-clause-err
@@ -13,8 +12,8 @@ returns-in_err-prepared-clause-err g c =
     let p =
     err_from_is_err_and c.from_residual.result c.from_residual.ensures.1 in
     rw (p.1, p.2)
-    (unprepared_known (λ (s : Setting). IsFindCause s c.args.wanted.now c.args.limit) c.args.input.now
-    c.args.setup c.args.limit _ c.in_err-prepared.ensures.err)
+    (unprepared_known (IsTooMany c.args.wanted.now c.args.limit) IsCause c.args.input.now c.args.setup
+    c.args.limit _ c.in_err-prepared.ensures.err)
 
 pub returns-in-Ok-clause-ok : goal.returns-in-Ok-clause-ok
 returns-in-Ok-clause-ok g c =
@@ -26,8 +25,5 @@ returns-in-Ok-clause-ok g c =
 
 pub returns-clause-err : goal.returns-clause-err
 returns-clause-err g c =
-    let C = λ (s : Setting). IsFindCause s c.args.wanted.now c.args.limit in
-    let p = c.in_ok-prepared.prepared in
-    let told = c.told_fault.result in
-    untold_in C c.args.input.now c.args.setup c.args.limit p told c.in_ok-prepared.ensures.ok
-    (untold C c.args.limit (setting_of p) c.in-Err.fault told c.told_fault.ensures c.in-Err.ensures.err)
+    not_found c.args.input.now c.args.setup c.args.limit c.args.wanted.now c.in_ok-prepared.prepared
+    c.in-Err.fault c.told_fault.result c.in_ok-prepared.ensures.ok c.told_fault.ensures c.in-Err.ensures.err

@@ -1,8 +1,8 @@
 use Rattle.std.proofs.Common.{ℕ, List, length, ap, sym, subst, ◌∙◌}
 use Rattle.hp_schedules.specs.declared.scripts.Line.{Line as Step}
 use Rattle.hp_explore.specs.Settings.{setting}
-use Rattle.hp_lab.specs.Explorations.{IsMore}
-use Rattle.hp_lab.specs.Prepared.{names_of, setting_of}
+use Rattle.hp_prepared.specs.Ends.{IsMore}
+use Rattle.hp_prepared.specs.Prepared.{names_of, setting_of}
 use Rattle.hp_schedules.specs.Parts.{PartValue}
 use Rattle.hp_part_files.specs.Parts.{ArePartEnds, search_of}
 use Rattle.hp_part_files.specs.Texts.{part_text}

@@ -1,9 +1,10 @@
 -- What holds on the machine where the search begins holds in the scenario.
 use Rattle.std.proofs.Common.{List, string_bytes, subst, ℕ}
 use Rattle.std.proofs.lemmas.Result.{err_from_is_err_and}
-use Rattle.hp_lab.specs.Explorations.{IsEndsCause}
-use Rattle.hp_lab.specs.Prepared.{names_of, setting_of}
-use Rattle.hp_lab.proofs.Known.{held_in, unprepared_known, untold, untold_in}
+use Rattle.hp_explore.specs.Faults.{IsCause}
+use Rattle.hp_schedules.specs.Schedules.{Setting}
+use Rattle.hp_prepared.specs.Prepared.{names_of, setting_of}
+use Rattle.hp_prepared.proofs.Known.{held_in, unprepared_known, untold, untold_in}
 use Rattle.hp_part_files.specs.Parts.{IsPartCause, IsPartOn}
 use Rattle.hp_part_files.proofs.Parted.{full_part, no_text, part_fault}
 use Rattle.hp_part_files.proofs.parts.part_text.Goals as goal
@@ -16,7 +17,7 @@ returns-in_err-prepared-clause-err g c =
     let p =
     err_from_is_err_and c.from_residual.result c.from_residual.ensures.1 in
     rw (p.1, p.2)
-    (unprepared_known IsEndsCause c.args.input.now c.args.setup c.args.limit _ c.in_err-prepared.ensures.err)
+    (unprepared_known (λ (s : Setting). ⊥) IsCause c.args.input.now c.args.setup c.args.limit _ c.in_err-prepared.ensures.err)
 
 pub returns-in_err-prepared-clause-full : goal.returns-in_err-prepared-clause-full
 returns-in_err-prepared-clause-full g c =
@@ -24,7 +25,7 @@ returns-in_err-prepared-clause-full g c =
     err_from_is_err_and c.from_residual.result c.from_residual.ensures.1 in
     rw (p.1, p.2)
     (full_part c.args.number c.args.input.now c.args.setup c.args.limit _
-    (unprepared_known (IsPartCause c.args.number) c.args.input.now c.args.setup c.args.limit _
+    (unprepared_known (λ (s : Setting). ⊥) (IsPartCause c.args.number) c.args.input.now c.args.setup c.args.limit _
     c.in_err-prepared.ensures.err))
 
 pub returns-in-Ok-part_on-clause-ok : goal.returns-in-Ok-part_on-clause-ok
@@ -47,9 +48,9 @@ returns-clause-err g c =
     let p = c.in_ok-prepared.prepared in
     let told = c.told_fault.result in
     part_fault n c.args.input.now c.args.setup c.args.limit told
-    (untold_in (IsPartCause n) c.args.input.now c.args.setup c.args.limit p told
+    (untold_in (λ (s : Setting). ⊥) (IsPartCause n) c.args.input.now c.args.setup c.args.limit p told
     c.in_ok-prepared.ensures.ok
-    (untold (IsPartCause n) c.args.limit (setting_of p) c.in-Err.fault told c.told_fault.ensures
+    (untold (IsPartCause n) (setting_of p) c.in-Err.fault told c.told_fault.ensures
     c.in-Err.ensures.err))
 
 pub returns-clause-full : goal.returns-clause-full
@@ -58,7 +59,7 @@ returns-clause-full g c =
     let p = c.in_ok-prepared.prepared in
     let told = c.told_fault.result in
     full_part n c.args.input.now c.args.setup c.args.limit told
-    (untold_in (IsPartCause n) c.args.input.now c.args.setup c.args.limit p told
+    (untold_in (λ (s : Setting). ⊥) (IsPartCause n) c.args.input.now c.args.setup c.args.limit p told
     c.in_ok-prepared.ensures.ok
-    (untold (IsPartCause n) c.args.limit (setting_of p) c.in-Err.fault told c.told_fault.ensures
+    (untold (IsPartCause n) (setting_of p) c.in-Err.fault told c.told_fault.ensures
     c.in-Err.ensures.err))

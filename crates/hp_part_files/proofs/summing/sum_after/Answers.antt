@@ -1,7 +1,7 @@
 use Rattle.std.proofs.Common.{ℕ, List, ap, arith, subst, string_bytes, ◌∙◌}
 use Rattle.std.proofs.lemmas.Result.{IfErr-weaker, IfOk-weaker}
-use Rattle.hp_lab.specs.Prepared.{IsPrepared, names_of, setting_of}
-use Rattle.hp_lab.proofs.Known.{held_in}
+use Rattle.hp_prepared.specs.Prepared.{IsPrepared, names_of, setting_of}
+use Rattle.hp_prepared.proofs.Known.{held_in}
 use Rattle.hp_part_lines.specs.Heads.{HeadValue, SearchValue, head_line}
 use Rattle.hp_part_files.specs.Sums.{IsSumOn}
 use Rattle.hp_part_files.proofs.Read.{head_read, line_within, unsummed_in}

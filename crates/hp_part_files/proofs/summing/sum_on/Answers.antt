@@ -2,11 +2,11 @@ use Rattle.std.proofs.Common.{ℕ, List, None, ap, string_bytes, subst, ◌∙�
 use Rattle.std.proofs.lemmas.Result.{IfErr-weaker, IfOk-weaker, err_from_is_err_and}
 use Rattle.std.specs.Global.{Vec}
 use Rattle.hp_schedules.specs.declared.tally.Ending.{Ending}
-use Rattle.hp_lab.specs.Explorations.{AreEndsTold}
-use Rattle.hp_lab.specs.Prepared.{before_of, names_of, setting_of}
-use Rattle.hp_part_lines.specs.Ordering.{AreAll, IsOrderFault, lists_of}
+use Rattle.hp_prepared.specs.Ends.{AreEndsTold}
+use Rattle.hp_prepared.specs.Prepared.{before_of, names_of, setting_of}
+use Rattle.hp_part_lines.specs.Ordering.{AreAll, lists_of}
 use Rattle.hp_part_lines.specs.Heads.{HeadValue, SearchValue}
-use Rattle.hp_part_files.specs.Faults.{IsTooMany}
+use Rattle.hp_part_files.specs.Faults.{IsMisplaced, IsTooMany}
 use Rattle.hp_part_files.specs.Sums.{IsSum}
 use Rattle.hp_part_files.proofs.Read.{misplaced, too_many, untold_ends}
 use Rattle.hp_part_files.proofs.summing.sum_on.Goals as goal
@@ -35,7 +35,7 @@ returns-in_err-lists-clause-err c =
     let parts = c.in_ok-parts.parts.items in
     rw (p.1, p.2)
     (misplaced c.args.input.now names g s parts _ c.in_ok-parts.ensures.ok
-    (subst (λ (n : ℕ). IsOrderFault parts n c.in_err-lists.field-0.0)
+    (subst (λ (n : ℕ). IsMisplaced parts n c.in_err-lists.field-0.0)
     (ap (λ (s : SearchValue). s.of) c.search.view_is ∙ ap (λ (h : HeadValue). h.search.of) c.head.view_is)
     c.in_err-lists.ensures.err))
 

@@ -1,10 +1,10 @@
 use Rattle.std.proofs.Common.{◌≡◌, List, false, true, ℕ, take, ap, arith, inl, inr, subst, sym, ◌∙◌}
-use Rattle.hp_lab.specs.Prepared.{names_of, setting_of}
+use Rattle.hp_prepared.specs.Prepared.{names_of, setting_of}
 use Rattle.hp_part_lines.specs.Heads.{HeadValue, SearchValue}
 use Rattle.hp_part_files.specs.Gathered.{IsGathering}
 use Rattle.hp_part_files.specs.Taking.{IsTaken}
 use Rattle.hp_part_files.specs.Faults.{IsLineFault}
-use Rattle.hp_part_files.specs.declared.fault.PartFault.TheVariants as part
+use Rattle.hp_lab_faults.specs.declared.part_fault.PartFault.TheVariants as part
 use Rattle.hp_part_files.proofs.Read.{all_read, last_cut, line_passed, unread}
 use Rattle.hp_part_files.proofs.taking.gather.Goals as goal
 

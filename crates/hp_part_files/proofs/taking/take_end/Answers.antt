@@ -1,5 +1,5 @@
 use Rattle.std.proofs.lemmas.Result.{IfErr-weaker, on_ok_weaker}
-use Rattle.hp_lab.specs.Prepared.{names_of, setting_of}
+use Rattle.hp_prepared.specs.Prepared.{names_of, setting_of}
 use Rattle.hp_part_files.proofs.Read.{end_taken, no_end, not_pushed, own_end}
 use Rattle.hp_part_files.proofs.taking.take_end.Goals as goal
 

@@ -1,0 +1,62 @@
+-- What is promised of a search, and when each fault comes.
+use Rattle.std.specs.Prelude.{◌≡◌, ℕ, Bool, true, false, List}
+use Rattle.hp_schedules.specs.Schedules.{Setting}
+use Rattle.hp_explore.specs.Faults.{IsCause}
+use Rattle.hp_find.specs.Faults.{IsFindCause, IsRecorded, IsWithin, SparesHistory}
+use Rattle.hp_find.specs.Reaching.{IsFound}
+use Rattle.hp_find.specs.declared.fault.FindFault.{FindFault}
+use Rattle.hp_find.specs.declared.fault.FindFault.TheVariants as search
+use Rattle.hp_find.specs.declared.finding.Found.{Found}
+use Rattle.hp_find.specs.declared.finding.Found.TheVariants.{Nearest, Absent}
+use Rattle.hp_wanted.specs.declared.wanted.Wanted.{Wanted}
+use Rattle.hp_scenario.specs.declared.lines.Line.{Line}
+use Rattle.hp_ends.specs.declared.forms.ScheduleForm.{ScheduleForm}
+use Rattle.hp_lab_faults.specs.declared.fault.LabFault.{LabFault}
+use Rattle.hp_lab_faults.specs.declared.fault.LabFault.TheVariants.{TooMany, OutOfMemory}
+use Rattle.hp_prepared.specs.Faults.{IsFaultWith, IsFullTold}
+use Rattle.hp_prepared.specs.Holding.{HoldsIn}
+use Rattle.hp_lab.specs.Texts.{absent_told, found_text}
+
+-- ---- on a machine
+
+-- the text is that of a schedule that was found, in a form; or that none ends so, and of how many
+abbrev pub IsFoundTold : ScheduleForm → (names : List (List ℕ)) → (before : List Line) → Setting → Found
+    → (text : List ℕ) → (found : Bool) → Type 0
+IsFoundTold form names before g (Nearest schedule) text found =
+    (text ≡ found_text form names before g schedule.items) × (found ≡ true)
+IsFoundTold form names before g (Absent schedules) text found =
+    (text ≡ absent_told form schedules) × (found ≡ false)
+
+-- of one whose end has each of the wanted lines, with the fewest changes of processor, or of none;
+-- as far as the limit and the history allow it to be told
+pub record IsFoundOn (form : ScheduleForm) (names : List (List ℕ)) (before : List Line) (g : Setting)
+    (wanted : List Wanted) (limit : ℕ) (text : List ℕ) (found : Bool) : Type 0 where
+  pub what : Found
+  pub is : IsFound g wanted what
+  pub few : IsWithin g wanted limit what
+  pub room : SparesHistory g what
+  pub along : IsRecorded g limit what
+  pub told : IsFoundTold form names before g what text found
+
+-- a fault of a search is told so
+abbrev pub IsFindTold : (limit : ℕ) → Setting → FindFault → LabFault → Type 0
+IsFindTold limit g search.TooMany fault = fault ≡ TooMany limit
+IsFindTold limit g search.HistoryFull fault = IsFullTold g fault
+IsFindTold limit g search.OutOfMemory fault = fault ≡ OutOfMemory
+
+-- ---- in a scenario
+
+-- the text is that of the search for an end
+abbrev pub IsFindingOf : ScheduleForm → (input : List ℕ) → (setup limit : ℕ) → List Wanted
+    → (text : List ℕ) → (found : Bool) → Type 0
+IsFindingOf form input setup limit wanted text found =
+    HoldsIn (λ names before g. IsFoundOn form names before g wanted limit text found) input setup
+
+-- the cause of too many interleavings
+abbrev pub IsTooMany : List Wanted → (limit : ℕ) → Setting → Type 0
+IsTooMany wanted limit g = IsFindCause g wanted limit search.TooMany
+
+-- when each fault comes
+abbrev pub IsFindFaultOf : (input : List ℕ) → (setup limit : ℕ) → List Wanted → LabFault → Type 0
+IsFindFaultOf input setup limit wanted fault =
+    IsFaultWith (IsTooMany wanted limit) IsCause input setup limit fault

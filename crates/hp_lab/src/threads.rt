@@ -1,0 +1,61 @@
+//! A scenario explored in threads.
+ghost use Rattle.std.specs.Prelude.{◌≡◌, ◌^◌, ◌<◌, IfErr, IfOk, length, string_bytes};
+ghost use Rattle.hp_explore.specs.Faults.{IsCause};
+ghost use Rattle.hp_prepared.specs.Faults.{IsFaultOf};
+ghost use Rattle.hp_prepared.specs.Prepared.{before_of, names_of, setting_of};
+ghost use Rattle.hp_lab.specs.Explorations.{IsExplorationOf, IsExploredOn};
+
+use hp_ends::EndsForm;
+use hp_explore::{ExploreFault, Watch};
+use hp_lab_faults::LabFault;
+use hp_parts::explore_with_jobs;
+use hp_prepared::{Finding, Prepared, prepare};
+use std::alloc::Global;
+use std::thread::Threads;
+
+/// The same as `explore_text`, by so many threads.
+///
+/// The watch is told what it can be told of several searches side by side.
+///
+/// Errors: those of `explore_text`.
+pub fn explore_text_with_jobs<W: Watch>(
+    rt: &(impl Threads + Sync),
+    alloc: Global,
+    input: &[u8],
+    setup: u64,
+    limit: u64,
+    form: EndsForm,
+    jobs: u32,
+    watch: &mut W,
+) -> Result<Finding, LabFault>
+    ensures ok { IfOk result (λ f.
+        IsExplorationOf form input.now setup limit (string_bytes f.text) f.is_found) }
+    ensures err { IfErr result (IsFaultOf input.now setup limit) }
+{
+    let prepared = prepare(alloc, input, setup)?;
+    match explored(rt, alloc, &prepared, limit, form, jobs, watch) {
+        Ok(finding) => Ok(finding),
+        Err(fault) => Err(prepared.told_fault(alloc, fault)),
+    }
+}
+
+/// The exploration of a scenario that was made ready.
+fn explored<W: Watch>(
+    rt: &(impl Threads + Sync),
+    alloc: Global,
+    prepared: &Prepared,
+    limit: u64,
+    form: EndsForm,
+    jobs: u32,
+    watch: &mut W,
+) -> Result<Finding, ExploreFault>
+    requires { length prepared.now.start.scripts.items < 2 ^ 32 }
+    ensures ok { IfOk result (λ f. IsExploredOn form (names_of prepared.now) (before_of prepared.now)
+        (setting_of prepared.now) limit (string_bytes f.text) f.is_found) }
+    ensures err { IfErr result (IsCause (setting_of prepared.now)) }
+{
+    let machine = &prepared.start.machine;
+    let scripts = prepared.start.scripts.as_slice();
+    let explored = explore_with_jobs(rt, alloc, machine, scripts, limit, jobs, watch)?;
+    prepared.exploration_told(alloc, &explored, form)
+}

@@ -1,0 +1,31 @@
+-- What the faults of the crates below are to the laboratory and to its program.
+use Rattle.hp_scenario.specs.declared.fault.ScenarioFault.{ScenarioFault}
+use Rattle.hp_scenario.specs.declared.fault.ScenarioFault.TheVariants as scenario
+use Rattle.hp_scripts.specs.declared.fault.StartFault.{StartFault}
+use Rattle.hp_scripts.specs.declared.fault.StartFault.TheVariants as start
+use Rattle.hp_streams.specs.declared.reading.ReadFault.{ReadFault}
+use Rattle.hp_streams.specs.declared.reading.ReadFault.TheVariants as reading
+use Rattle.hp_lab_faults.specs.declared.fault.LabFault.{LabFault}
+use Rattle.hp_lab_faults.specs.declared.fault.LabFault.TheVariants.{NotJson, BadShape, Layout, BadLine, NotForScript, OutOfMemory}
+use Rattle.hp_lab_faults.specs.declared.program_fault.ProgramFault.{ProgramFault}
+use Rattle.hp_lab_faults.specs.declared.program_fault.ProgramFault.TheVariants.{Lab, ReadFailed, TooLong}
+
+-- the fault of reading a scenario, which is never that a line is not for workers
+abbrev pub fault_from : ScenarioFault → LabFault
+fault_from scenario.NotJson = NotJson
+fault_from scenario.BadShape = BadShape
+fault_from (scenario.Layout fault) = Layout fault
+fault_from (scenario.BadLine line) = BadLine line
+fault_from (scenario.NotForRun line) = BadLine line
+fault_from scenario.OutOfMemory = OutOfMemory
+
+-- that no search begins
+abbrev pub start_fault_from : StartFault → LabFault
+start_fault_from (start.NotForScript line why) = NotForScript line why
+start_fault_from start.OutOfMemory = OutOfMemory
+
+-- that the input was not read
+abbrev pub read_fault_from : ReadFault → ProgramFault
+read_fault_from reading.ReadFailed = ReadFailed
+read_fault_from reading.TooLong = TooLong
+read_fault_from reading.OutOfMemory = Lab OutOfMemory

@@ -1,0 +1,84 @@
+//! Why parts have no sum.
+ghost use Rattle.std.specs.Prelude.{◌≡◌};
+ghost use Rattle.hp_lab_faults.specs.declared.fault.LabFault.TheVariants.{OutOfMemory};
+ghost use Rattle.hp_lab_faults.specs.declared.part_fault.PartFault.TheVariants.{Lab};
+
+use crate::fault::LabFault;
+use std::alloc::AllocError;
+use std::error::Error;
+use std::fmt;
+
+/// Why parts have no sum. Lines are counted from 1, and so are parts.
+#[derive(Clone, Copy, Debug, PartialEq, Eq, Drop)]
+pub enum PartFault {
+    /// The line is none of a part; or the input is empty.
+    NotPart { line: u64 },
+    /// The line is the head of a part of another search than the first: of another scenario or setup,
+    /// of another number of parts, or by another number of first calls.
+    OtherSearch { line: u64 },
+    /// The processors of the line are no complete interleaving of its part.
+    NotOfPart { line: u64 },
+    /// The line is not what the search writes of its interleaving: something in it was changed.
+    Changed { line: u64 },
+    /// A part stopped at its limit, as the line says.
+    Stopped { line: u64 },
+    /// A part has another number of ends than its head names: its file was cut off, or has lines too many.
+    OtherCount { part: u32 },
+    /// A part is missing.
+    Missing { part: u64 },
+    /// A part comes twice.
+    Twice { part: u64 },
+    /// There are 2^64 interleavings or more.
+    TooMany,
+    /// The scenario that the heads name is not explored.
+    Lab(LabFault),
+}
+
+impl fmt::Display for PartFault {
+    fn fmt<W: fmt::Write>(&self, f: &mut fmt::Formatter<W>) -> fmt::Result {
+        match self {
+            PartFault::NotPart { line } => write!(f, "line {line} is none of a part"),
+            PartFault::OtherSearch { line } => {
+                write!(f, "line {line} begins a part of another search")
+            }
+            PartFault::NotOfPart { line } => {
+                write!(
+                    f,
+                    "line {line}: its processors are no interleaving of its part"
+                )
+            }
+            PartFault::Changed { line } => {
+                write!(f, "line {line} is not what its interleaving leads to")
+            }
+            PartFault::Stopped { line } => write!(f, "line {line}: the part stopped at its limit"),
+            PartFault::OtherCount { part } => {
+                write!(
+                    f,
+                    "part {part} has another number of ends than its first line says"
+                )
+            }
+            PartFault::Missing { part } => write!(f, "part {part} is missing"),
+            PartFault::Twice { part } => write!(f, "part {part} comes twice"),
+            PartFault::TooMany => write!(f, "more than 2^64-1 interleavings"),
+            PartFault::Lab(fault) => write!(f, "{fault}"),
+        }
+    }
+}
+
+impl Error for PartFault {}
+
+impl From<AllocError> for PartFault {
+    ghost from_gives = { λ _ e. e ≡ Lab OutOfMemory };
+
+    fn from(_e: AllocError) -> PartFault {
+        PartFault::Lab(LabFault::OutOfMemory)
+    }
+}
+
+impl From<LabFault> for PartFault {
+    ghost from_gives = { λ fault e. e ≡ Lab fault };
+
+    fn from(fault: LabFault) -> PartFault {
+        PartFault::Lab(fault)
+    }
+}

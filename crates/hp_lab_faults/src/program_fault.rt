@@ -1,0 +1,131 @@
+//! Why the program failed.
+ghost use Rattle.std.specs.Prelude.{◌≡◌};
+ghost use Rattle.hp_lab_faults.specs.declared.fault.LabFault.TheVariants.{OutOfMemory};
+ghost use Rattle.hp_lab_faults.specs.Faults.{read_fault_from};
+ghost use Rattle.hp_lab_faults.specs.declared.program_fault.ProgramFault.TheVariants.{Lab, Parts, Scenario};
+
+use crate::fault::LabFault;
+use crate::part_fault::PartFault;
+use hp_scenario::ScenarioFault;
+use hp_streams::ReadFault;
+use std::alloc::AllocError;
+use std::error::Error;
+use std::fmt;
+
+/// Why the program failed. But for `WriteFailed`, after which some of the text may be out, nothing
+/// was written.
+#[derive(Clone, Copy, Debug, Drop)]
+pub enum ProgramFault {
+    /// The file could not be opened.
+    NotOpened,
+    /// The reader failed.
+    ReadFailed,
+    /// There are more than 16,777,216 bytes of input.
+    TooLong,
+    /// The exploration failed.
+    Lab(LabFault),
+    /// There is no part with the number, or there are more than 1,000,000.
+    NoPart,
+    /// The parts have no sum.
+    Parts(PartFault),
+    /// The scenario is none.
+    Scenario(ScenarioFault),
+    /// A line was asked for by its number, counted from 1, and the scenario has only so many.
+    PastEnd { asked: u64, lines: u64 },
+    /// The writer failed.
+    WriteFailed,
+}
+
+impl ProgramFault {
+    /// Whether it says that the input was not read.
+    pub fn is_of_input(&self) -> bool {
+        matches!(
+            self,
+            ProgramFault::NotOpened | ProgramFault::ReadFailed | ProgramFault::TooLong
+        )
+    }
+
+    /// Whether it says that the input is no scenario, of which `check` says more.
+    pub fn is_of_scenario(&self) -> bool {
+        match self {
+            ProgramFault::Scenario(fault) => !matches!(fault, ScenarioFault::OutOfMemory),
+            ProgramFault::Lab(fault) => is_of_text(*fault),
+            _ => false,
+        }
+    }
+}
+
+/// Whether an exploration failed because the input is no scenario.
+fn is_of_text(fault: LabFault) -> bool {
+    match fault {
+        LabFault::NotJson => true,
+        LabFault::BadShape => true,
+        LabFault::Layout(_) => true,
+        LabFault::BadLine { line: _ } => true,
+        _ => false,
+    }
+}
+
+impl fmt::Display for ProgramFault {
+    fn fmt<W: fmt::Write>(&self, f: &mut fmt::Formatter<W>) -> fmt::Result {
+        match self {
+            ProgramFault::NotOpened => write!(f, "file not opened"),
+            ProgramFault::ReadFailed => write!(f, "reading failed"),
+            ProgramFault::TooLong => write!(f, "input too long"),
+            ProgramFault::Lab(fault) => write!(f, "{fault}"),
+            ProgramFault::NoPart => write!(f, "there is no such part"),
+            ProgramFault::Parts(fault) => write!(f, "{fault}"),
+            ProgramFault::Scenario(fault) => write!(f, "{fault}"),
+            ProgramFault::PastEnd { asked, lines } => {
+                write!(f, "{asked} is past the last line, {lines}")
+            }
+            ProgramFault::WriteFailed => write!(f, "writing failed"),
+        }
+    }
+}
+
+impl Error for ProgramFault {}
+
+impl From<AllocError> for ProgramFault {
+    ghost from_gives = { λ _ e. e ≡ Lab OutOfMemory };
+
+    fn from(_e: AllocError) -> ProgramFault {
+        ProgramFault::Lab(LabFault::OutOfMemory)
+    }
+}
+
+impl From<ReadFault> for ProgramFault {
+    ghost from_gives = { λ fault e. e ≡ read_fault_from fault };
+
+    fn from(fault: ReadFault) -> ProgramFault {
+        match fault {
+            ReadFault::ReadFailed => ProgramFault::ReadFailed,
+            ReadFault::TooLong => ProgramFault::TooLong,
+            ReadFault::OutOfMemory => ProgramFault::Lab(LabFault::OutOfMemory),
+        }
+    }
+}
+
+impl From<LabFault> for ProgramFault {
+    ghost from_gives = { λ fault e. e ≡ Lab fault };
+
+    fn from(fault: LabFault) -> ProgramFault {
+        ProgramFault::Lab(fault)
+    }
+}
+
+impl From<PartFault> for ProgramFault {
+    ghost from_gives = { λ fault e. e ≡ Parts fault };
+
+    fn from(fault: PartFault) -> ProgramFault {
+        ProgramFault::Parts(fault)
+    }
+}
+
+impl From<ScenarioFault> for ProgramFault {
+    ghost from_gives = { λ fault e. e ≡ Scenario fault };
+
+    fn from(fault: ScenarioFault) -> ProgramFault {
+        ProgramFault::Scenario(fault)
+    }
+}

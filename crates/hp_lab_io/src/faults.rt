@@ -1,0 +1,57 @@
+//! What standard error has of faults and warnings.
+
+use hp_escapes::{Brackets, write_escaped};
+use hp_lab_faults::ProgramFault;
+use hp_scripts::Unbegun;
+use std::alloc::{AllocError, Global};
+
+/// Says on standard error which lines of scripts work on no operation.
+pub fn say_unbegun(rt: &HostRuntime, unbegun: &[Unbegun]) {
+    for lost in unbegun {
+        let (cpu, line) = (lost.cpu, lost.line);
+        let _ = eprintln!(rt;
+            "hotplug_lab: line {line}: 0 is no operation: processor {cpu} has begun none"
+        );
+    }
+}
+
+/// The name of the file where only one is named, and it is not standard input.
+pub fn only_name<'a>(names: &[&'a str]) -> Option<&'a str> {
+    match names {
+        [name] if *name != "-" => Some(name),
+        _ => None,
+    }
+}
+
+/// Says on standard error what failed, by the name of the file where that was not read, and what says
+/// more where the input is no scenario.
+pub fn say_fault(rt: &HostRuntime, file: Option<&str>, fault: ProgramFault) {
+    let _ = match unread_name(rt.alloc(), file, fault) {
+        Some(name) => eprintln!(rt; "hotplug_lab: {name}: {fault}"),
+        None => eprintln!(rt; "hotplug_lab: {fault}"),
+    };
+    if fault.is_of_scenario() {
+        let _ = eprintln!(rt; "hotplug_lab: `hotplug_lab check` says what is wrong, and where");
+    }
+}
+
+/// The name of the file that was not read, as JSON has it; none where there is no memory for it.
+fn unread_name(alloc: Global, file: Option<&str>, fault: ProgramFault) -> Option<String> {
+    if !fault.is_of_input() {
+        return None;
+    }
+    let mut name = String::new(alloc);
+    match write_escaped(&mut name, file?, Brackets::Kept) {
+        Ok(()) => Some(name),
+        Err(AllocError) => None,
+    }
+}
+
+/// Says what the words may be, or what the program is, and answers the exit status.
+pub fn say_words(rt: &HostRuntime, error: &clap::Error) -> Result<u8, ProgramFault> {
+    let status = error.exit_code() as u8;
+    match error.print(rt) {
+        Err(_) if status == 0 => Err(ProgramFault::WriteFailed),
+        _ => Ok(status),
+    }
+}

@@ -1,0 +1,39 @@
+//! Several files as one text.
+
+use hp_lab_faults::ProgramFault;
+use hp_streams::{Counted, read_all};
+use std::alloc::Global;
+use std::fs;
+use std::io::Read;
+
+/// The bytes of files, one after another; `-` names standard input.
+pub fn bytes_of(rt: &HostRuntime, names: &[&str]) -> Result<Vec<u8>, ProgramFault> {
+    let mut bytes = Vec::new(rt.alloc());
+    for name in names {
+        push_file(rt, &mut bytes, name)?;
+    }
+    Ok(bytes)
+}
+
+/// Adds the bytes of a file.
+fn push_file(rt: &HostRuntime, bytes: &mut Vec<u8>, name: &str) -> Result<(), ProgramFault> {
+    if name == "-" {
+        return push_input(rt.alloc(), bytes, rt.stdin());
+    }
+    match fs::open(rt, name) {
+        Ok(input) => push_input(rt.alloc(), bytes, input),
+        Err(_) => Err(ProgramFault::NotOpened),
+    }
+}
+
+/// Adds the bytes of an input.
+fn push_input<R: Read + Drop>(
+    alloc: Global,
+    bytes: &mut Vec<u8>,
+    input: R,
+) -> Result<(), ProgramFault> {
+    let mut reader = Counted::new(input);
+    let more = read_all(alloc, &mut reader)?;
+    bytes.extend_from_slice(&more)?;
+    Ok(())
+}

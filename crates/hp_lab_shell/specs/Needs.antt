@@ -1,0 +1,68 @@
+-- What a word needs of a scenario, and what is worth a warning.
+use Rattle.std.specs.Prelude.{◌≡◌, ℕ, ◌-◌, ◌^◌, ◌<◌, ◌==◌, Bool, true, List, [], Option, Some, None, Result, nat_le, if◌then◌else◌}
+use Rattle.hp_scenario.specs.Scenario.{ScenarioValue, scenario_in}
+use Rattle.hp_scenario.specs.declared.fault.ScenarioFault.{ScenarioFault}
+use Rattle.hp_scripts.specs.declared.unbegun.Unbegun.{Unbegun}
+use Rattle.hp_trace.specs.declared.view.View.{View}
+use Rattle.hp_shown.specs.Scripts.{count_of, unbegun_in}
+use Rattle.hp_lab_faults.specs.declared.fault.LabFault.TheVariants.{OutOfMemory}
+use Rattle.hp_lab_faults.specs.declared.program_fault.ProgramFault.{ProgramFault}
+use Rattle.hp_lab_faults.specs.declared.program_fault.ProgramFault.TheVariants.{Lab, PastEnd}
+use Rattle.hp_lab_words.specs.declared.words.Word.{Word}
+use Rattle.hp_lab_words.specs.declared.words.Word.TheVariants.{Check, Explore, Find, Never, Part, Picture, Sum, Trace}
+
+-- the lines that work on operation 0 where their processor has begun none, of the scripts that a word
+-- searches
+abbrev pub unbegun_of : Word → Result ScenarioValue ScenarioFault → List Unbegun
+unbegun_of (Check setup) read = []
+unbegun_of (Explore asked form jobs) read = unbegun_in asked.setup read
+unbegun_of (Part asked number of) read = unbegun_in asked.setup read
+unbegun_of (Sum form) read = []
+unbegun_of (Find asked wanted form) read = unbegun_in asked.setup read
+unbegun_of (Never asked wanted form) read = unbegun_in asked.setup read
+unbegun_of (Trace view) read = []
+unbegun_of (Picture drawing) read = []
+
+-- the first line that is shown, where one is asked for by its number
+abbrev pub first_shown : View → ℕ
+first_shown view = if nat_le view.from 1 then 0 else view.from
+
+-- the setup of a check, unless it is all of the scenario
+abbrev pub setup_named : (setup : ℕ) → ℕ
+setup_named setup = if setup == 2 ^ 64 - 1 then 0 else setup
+
+-- the last line, counted from 1, that a scenario needs for a word; 0 where it needs none
+abbrev pub last_named : Word → ℕ
+last_named (Check setup) = setup_named setup
+last_named (Explore asked form jobs) = asked.setup
+last_named (Part asked number of) = asked.setup
+last_named (Sum form) = 0
+last_named (Find asked wanted form) = asked.setup
+last_named (Never asked wanted form) = asked.setup
+last_named (Trace view) = first_shown view
+last_named (Picture drawing) = first_shown drawing.view
+
+-- there is a line of this number, where it is known how many there are
+abbrev pub has_line : (asked : ℕ) → (count : Option ℕ) → Bool
+has_line asked None = true
+has_line asked (Some lines) = nat_le asked lines
+
+-- the scenario, where the bytes are one, has the line that the word names
+abbrev pub HasLines : Word → (input : List ℕ) → Type 0
+HasLines word input = has_line (last_named word) (count_of (scenario_in input)) ≡ true
+
+-- the scenario has only so many lines, and the word names a later one
+abbrev pub IsPastEnd : Word → (input : List ℕ) → (asked lines : ℕ) → Type 0
+IsPastEnd word input asked lines =
+    (asked ≡ last_named word) × (count_of (scenario_in input) ≡ Some lines) × (lines < asked)
+
+-- a fault that says so of such a number
+abbrev pub IsPast : (asked : ℕ) → (count : Option ℕ) → ProgramFault → Type 0
+IsPast asked count (PastEnd number lines) = (number ≡ asked) × (count ≡ Some lines) × (lines < asked)
+IsPast asked count fault = ⊥
+
+-- the fault of a word for which the scenario is too short; or memory is out
+abbrev pub IsLineFault : Word → (input : List ℕ) → ProgramFault → Type 0
+IsLineFault word input (Lab fault) = fault ≡ OutOfMemory
+IsLineFault word input (PastEnd asked lines) = IsPastEnd word input asked lines
+IsLineFault word input fault = ⊥

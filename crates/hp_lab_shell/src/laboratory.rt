@@ -1,0 +1,38 @@
+//! Whatever answers the words of the program.
+ghost use Rattle.std.specs.Prelude.{◌<◌, ◌-◌, ◌^◌};
+ghost use Rattle.std.specs.Thread.{IsSync};
+
+use hp_lab_faults::ProgramFault;
+use hp_lab_words::Word;
+use hp_places::Watch;
+use hp_scripts::Unbegun;
+use hp_streams::{Sink, Source};
+use std::alloc::Global;
+use std::thread::Threads;
+
+/// What a word came to: the exit status, and what is worth a warning.
+#[derive(Drop)]
+pub struct Served {
+    /// The exit status.
+    pub status: u8,
+    /// The lines of scripts that work on operation 0 where their processor has begun none.
+    pub unbegun: Vec<Unbegun>,
+}
+
+/// Whatever answers the words of the program.
+pub trait Laboratory {
+    /// Does a word on what the reader gives, some of them in threads, writes its text, and answers what
+    /// it came to. The watch is told how far a search has come.
+    fn serve<T: Threads + Sync, R: Source, W: Sink, P: Watch + Drop>(
+        &self,
+        threads: &T,
+        alloc: Global,
+        word: Word<'_>,
+        reader: &mut R,
+        writer: &mut W,
+        watch: P,
+    ) -> Result<Served, ProgramFault>
+        requires threads { IsSync T.row }
+        requires reader { R.failures reader.old < 2 ^ 64 - 1 }
+        requires writer { W.failures writer.old < 2 ^ 64 - 1 };
+}

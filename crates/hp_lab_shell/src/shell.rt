@@ -1,0 +1,222 @@
+//! The command line, from its words to the exit status.
+
+use crate::laboratory::Laboratory;
+use clap::ArgMatches;
+use clap::error::ErrorKind;
+use hp_lab_command::lab_command;
+use hp_lab_faults::ProgramFault;
+use hp_lab_io::{
+    Progress, Shown, bytes_of, only_name, say_fault, say_unbegun, say_words, shown_on,
+};
+use hp_lab_words::{Request, Word, contradiction, is_past_the_found, request_from, texts_from};
+use hp_part_lines::PartNumber;
+use hp_streams::Counted;
+use hp_wanted::{Wanted, wanted_line};
+use std::alloc::{AllocError, Global};
+use std::io::{IsTerminal, Read};
+use std::process::ExitCode;
+use std::thread::Threads;
+use std::{env, fs, io};
+
+/// Does a word on the files that are named, or else on standard input, and answers the exit status.
+fn serve_request<L: Laboratory, T: Threads + Sync>(
+    rt: &HostRuntime,
+    lab: &L,
+    threads: &T,
+    request: Request<'_, '_, '_>,
+) -> Result<u8, ProgramFault> {
+    let shown = shown_on(rt.stderr().is_terminal(), request.progress);
+    match request.files {
+        [] => serve_input(rt, lab, threads, request.word, rt.stdin(), shown),
+        [name] => serve_file(rt, lab, threads, request.word, name, shown),
+        names => {
+            let bytes = bytes_of(rt, names)?;
+            serve_input(rt, lab, threads, request.word, bytes.as_slice(), shown)
+        }
+    }
+}
+
+/// Does a word on the file with a name; `-` names standard input.
+fn serve_file<L: Laboratory, T: Threads + Sync>(
+    rt: &HostRuntime,
+    lab: &L,
+    threads: &T,
+    word: Word<'_>,
+    name: &str,
+    shown: Shown,
+) -> Result<u8, ProgramFault> {
+    if name == "-" {
+        return serve_input(rt, lab, threads, word, rt.stdin(), shown);
+    }
+    match fs::open(rt, name) {
+        Ok(input) => serve_input(rt, lab, threads, word, input, shown),
+        Err(_) => Err(ProgramFault::NotOpened),
+    }
+}
+
+/// Does a word on what the input has, and writes to standard output.
+fn serve_input<L: Laboratory, T: Threads + Sync, R: Read + Drop>(
+    rt: &HostRuntime,
+    lab: &L,
+    threads: &T,
+    word: Word<'_>,
+    input: R,
+    shown: Shown,
+) -> Result<u8, ProgramFault> {
+    let mut reader = Counted::new(input);
+    let mut writer = Counted::new(rt.stdout());
+    let progress = Progress::new(rt.stderr(), shown);
+    let served = lab.serve(
+        threads,
+        rt.alloc(),
+        word,
+        &mut reader,
+        &mut writer,
+        progress,
+    )?;
+    say_unbegun(rt, &served.unbegun);
+    Ok(served.status)
+}
+
+/// The lines that parsed words want of an end; none where a text is no line of any end, which
+/// standard error says.
+fn wanted_from(
+    rt: &HostRuntime,
+    matches: &ArgMatches<'_>,
+) -> Result<Option<Vec<Wanted>>, ProgramFault> {
+    let mut wanted = Vec::new(rt.alloc());
+    let Some(texts) = texts_from(matches) else {
+        return Ok(Some(wanted));
+    };
+    for text in texts {
+        if !push_line(rt.alloc(), &mut wanted, text)? {
+            let _ = eprintln!(rt; "hotplug_lab: no end has the line `{text}`");
+            return Ok(None);
+        }
+    }
+    Ok(Some(wanted))
+}
+
+/// Adds the line of an end that a text is, and says whether it is one. An error is out of memory.
+fn push_line(alloc: Global, wanted: &mut Vec<Wanted>, text: &str) -> Result<bool, AllocError> {
+    match wanted_line(alloc, text) {
+        Ok(Some(line)) => {
+            wanted.push(line)?;
+            Ok(true)
+        }
+        Ok(None) => Ok(false),
+        Err(error) => Err(error),
+    }
+}
+
+/// Does what parsed words ask for, and answers the exit status.
+fn serve_matches<L: Laboratory, T: Threads + Sync>(
+    rt: &HostRuntime,
+    lab: &L,
+    threads: &T,
+    matches: &ArgMatches<'_>,
+) -> Result<u8, ProgramFault> {
+    if is_past_the_found(matches) {
+        let _ = eprintln!(rt; "hotplug_lab: a search tells one interleaving: --scenario 1");
+        return Ok(2);
+    }
+    let Some(wanted) = wanted_from(rt, matches)? else {
+        return Ok(2);
+    };
+    Ok(answered(rt, lab, threads, request_from(matches, &wanted)))
+}
+
+/// Does what a request asks for, or says what failed, and answers the exit status.
+fn status_of<L: Laboratory, T: Threads + Sync>(
+    rt: &HostRuntime,
+    lab: &L,
+    threads: &T,
+    request: Request<'_, '_, '_>,
+) -> u8 {
+    match serve_request(rt, lab, threads, request) {
+        Ok(status) => status,
+        Err(fault) => {
+            say_fault(rt, only_name(request.files), fault);
+            1
+        }
+    }
+}
+
+/// Does what the words ask for, or says what they may be, and answers the exit status.
+fn run<L: Laboratory, T: Threads + Sync>(
+    rt: &HostRuntime,
+    lab: &L,
+    threads: &T,
+    words: &[String],
+) -> Result<u8, ProgramFault> {
+    let command = lab_command(rt.alloc())?;
+    match command.try_get_matches_from(words) {
+        Ok(matches) => serve_matches(rt, lab, threads, &matches),
+        Err(error) if error.kind() == ErrorKind::OutOfMemory => Err(ProgramFault::from(AllocError)),
+        Err(error) => say_words(rt, &error),
+    }
+}
+
+/// Why a word asks for nothing, whatever the scenario.
+fn refusal(word: Word<'_>) -> Option<&'static str> {
+    match word {
+        Word::Part { number, of, .. } if PartNumber::new(number, of).is_none() => {
+            Some("--part may be I/N, with I from 1 to N, and N at most 1000000")
+        }
+        _ => contradiction(word),
+    }
+}
+
+/// Does what the words ask for, where they ask for something and do not contradict one another.
+fn answered<L: Laboratory, T: Threads + Sync>(
+    rt: &HostRuntime,
+    lab: &L,
+    threads: &T,
+    request: Option<Request<'_, '_, '_>>,
+) -> u8 {
+    let Some(request) = request else {
+        return 2;
+    };
+    match refusal(request.word) {
+        Some(text) => {
+            let _ = eprintln!(rt; "hotplug_lab: {text}");
+            2
+        }
+        None => status_of(rt, lab, threads, request),
+    }
+}
+
+/// Reads the words that the program was called with, and does what they ask for.
+fn run_words<L: Laboratory, T: Threads + Sync>(
+    rt: &HostRuntime,
+    lab: &L,
+    threads: &T,
+) -> Result<u8, ProgramFault> {
+    match env::args(rt) {
+        Ok(arguments) => {
+            let words: Vec<String> = arguments.collect(rt.alloc())?;
+            run(rt, lab, threads, &words)
+        }
+        Err(error) if error.kind() == io::ErrorKind::OutOfMemory => {
+            Err(ProgramFault::from(AllocError))
+        }
+        Err(_) => Ok(2),
+    }
+}
+
+/// Does what the program was called for, and answers the exit status: 0; or 1 after a fault, which
+/// standard error names, and where a check finds one; or 2 where the words are wrong; or 3 where a
+/// search does not find what was asked for.
+pub fn run_program<L: Laboratory, T: Threads + Sync>(
+    rt: &HostRuntime,
+    lab: &L,
+    threads: &T,
+) -> ExitCode {
+    match run_words(rt, lab, threads) {
+        Ok(status) => ExitCode::from(status),
+        Err(fault) => {
+            say_fault(rt, None, fault);
+            ExitCode::from(1)
+        }
+    }
+}

@@ -1,0 +1,18 @@
+-- What is told is of the ends that were passed on.
+use Rattle.std.proofs.Common.{List, string_bytes, subst}
+use Rattle.std.proofs.lemmas.Result.{IfOk-weaker}
+use Rattle.hp_schedules.specs.declared.tally.Ending.{Ending}
+use Rattle.hp_prepared.specs.Ends.{AreEndsTold}
+use Rattle.hp_prepared.specs.Prepared.{before_of, names_of, setting_of}
+use Rattle.hp_prepared.proofs.prepared.Prepared.exploration_told.Goals as goal
+
+pub returns-clause-ok : goal.returns-clause-ok
+returns-clause-ok c =
+    let p = c.args.self.now in
+    IfOk-weaker c.ends_told.result _ _
+    (λ f h. (
+      c.in_ok-more.more,
+      c.in_ok-more.ensures,
+      subst (λ (ends : List Ending). AreEndsTold c.args.form (names_of p) (before_of p) (setting_of p) ends
+          c.in_ok-more.more (string_bytes f.text) f.is_found) c.deref.ensures.value h,
+    )) c.ends_told.ensures.ok

@@ -1,0 +1,27 @@
+use Rattle.std.proofs.Common.{List, Option, subst}
+use Rattle.std.proofs.lemmas.Result.{IfOk-weaker}
+use Rattle.hp_machine.specs.Machine.{MachineValue}
+use Rattle.hp_schedules.specs.declared.scripts.Line.{Line as Step}
+use Rattle.hp_explore.specs.Settings.{setting}
+use Rattle.hp_explore.specs.Walks.{IsPlayed}
+use Rattle.hp_prepared.specs.Prepared.{setting_of}
+use Rattle.hp_prepared.proofs.Played.{calls_are, goes_on}
+use Rattle.hp_prepared.proofs.prepared.Prepared.played.Goals as goal
+
+pub returns-clause-calls : goal.returns-clause-calls
+returns-clause-calls c =
+    let p = c.args.self.now in
+    let s = c.args.schedule.now in
+    IfOk-weaker c.play.result _ _
+    (λ (n : Option MachineValue) h. calls_are (setting_of p) s n
+    (subst (λ (ss : List (List Step)). IsPlayed (setting p.start.machine ss) s n) c.deref.ensures.value h))
+    c.play.ensures.ok
+
+pub returns-clause-on : goal.returns-clause-on
+returns-clause-on c =
+    let p = c.args.self.now in
+    let s = c.args.schedule.now in
+    IfOk-weaker c.play.result _ _
+    (λ (n : Option MachineValue) h. goes_on (setting_of p) s n
+    (subst (λ (ss : List (List Step)). IsPlayed (setting p.start.machine ss) s n) c.deref.ensures.value h))
+    c.play.ensures.ok

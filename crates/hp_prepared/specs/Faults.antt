@@ -1,0 +1,62 @@
+-- When each fault comes, and how that of a call is told.
+use Rattle.std.specs.Prelude.{◌≡◌, ℕ, List, Option, Err}
+use Rattle.hp_schedules.specs.Interleavings.{IsRoomNeeded}
+use Rattle.hp_schedules.specs.Schedules.{Setting}
+use Rattle.hp_explore.specs.Faults.{IsCause}
+use Rattle.hp_explore.specs.declared.exploring.ExploreFault.{ExploreFault}
+use Rattle.hp_explore.specs.declared.exploring.ExploreFault.TheVariants as explore
+use Rattle.hp_scenario.specs.declared.fault.ScenarioFault.{ScenarioFault}
+use Rattle.hp_scenario.specs.Scenario.{scenario_in}
+use Rattle.hp_scripts.specs.Starts.{IsUnfitAfter}
+use Rattle.hp_lab_faults.specs.Faults.{fault_from}
+use Rattle.hp_lab_faults.specs.declared.fault.LabFault.{LabFault}
+use Rattle.hp_lab_faults.specs.declared.fault.LabFault.TheVariants.{NotJson, BadShape, Layout, BadLine, NotForScript, TooMany, HistoryFull, OutOfMemory}
+use Rattle.hp_prepared.specs.Holding.{InScenario, IsStoppedAfter}
+
+-- ---- on a machine
+
+-- `C` says which causes the fault of a call has; a full history is told with how much room it
+-- needs, where that is known
+abbrev pub IsFull : (C : Setting → ExploreFault → Type 0) → (needed : Option ℕ) → Setting → Type 0
+IsFull C needed g = C g explore.HistoryFull × IsRoomNeeded g needed
+
+-- the fault of a call is told so: a full history with how much room it needs, unless memory is out
+abbrev pub IsFullTold : Setting → LabFault → Type 0
+IsFullTold g (HistoryFull needed) = IsRoomNeeded g needed
+IsFullTold g OutOfMemory = Unit {0}
+IsFullTold g fault = ⊥
+
+abbrev pub IsToldAs : Setting → ExploreFault → LabFault → Type 0
+IsToldAs g explore.HistoryFull fault = IsFullTold g fault
+IsToldAs g explore.OutOfMemory fault = fault ≡ OutOfMemory
+
+-- why a call is not made, as it is told; out of memory may come in place of any
+abbrev pub IsUntold : (C : Setting → ExploreFault → Type 0) → Setting → LabFault → Type 0
+IsUntold C g (HistoryFull needed) = IsFull C needed g
+IsUntold C g OutOfMemory = Unit {0}
+IsUntold C g fault = ⊥
+
+-- ---- in a scenario
+
+-- the bytes are no scenario, and this is said of why
+abbrev pub IsUnread : (input : List ℕ) → LabFault → Type 0
+IsUnread input fault = (why : ScenarioFault) × (scenario_in input ≡ Err why) × (fault ≡ fault_from why)
+
+-- when each fault comes, where `Many` says when there are too many interleavings
+abbrev pub IsFaultWith : (Many : Setting → Type 0) → (C : Setting → ExploreFault → Type 0) → (input : List ℕ)
+    → (setup limit : ℕ) → LabFault → Type 0
+IsFaultWith Many C input setup limit NotJson = IsUnread input NotJson
+IsFaultWith Many C input setup limit BadShape = IsUnread input BadShape
+IsFaultWith Many C input setup limit (Layout fault) = IsUnread input (Layout fault)
+IsFaultWith Many C input setup limit (BadLine line) = IsUnread input (BadLine line)
+IsFaultWith Many C input setup limit (NotForScript line why) =
+    InScenario input (IsUnfitAfter setup line why)
+IsFaultWith Many C input setup limit (TooMany most) =
+    (most ≡ limit) × InScenario input (IsStoppedAfter Many setup)
+IsFaultWith Many C input setup limit (HistoryFull needed) =
+    InScenario input (IsStoppedAfter (IsFull C needed) setup)
+IsFaultWith Many C input setup limit OutOfMemory = Unit {0}
+
+-- of an exploration: its ends are told whatever the limit
+abbrev pub IsFaultOf : (input : List ℕ) → (setup limit : ℕ) → LabFault → Type 0
+IsFaultOf input setup limit fault = IsFaultWith (λ g. ⊥) IsCause input setup limit fault

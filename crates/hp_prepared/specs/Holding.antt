@@ -1,0 +1,39 @@
+-- What holds of the scenario that bytes are, once it is made ready for a search.
+use Rattle.std.specs.Prelude.{◌≡◌, ℕ, List, length, take, drop, Ok}
+use Rattle.hp_units.specs.LayoutParts.{LayoutParts}
+use Rattle.hp_machine.specs.Machine.{MachineValue}
+use Rattle.hp_schedules.specs.declared.scripts.Line.{Line as Step}
+use Rattle.hp_schedules.specs.Schedules.{Setting}
+use Rattle.hp_explore.specs.Settings.{setting}
+use Rattle.hp_scenario.specs.declared.lines.Line.{Line}
+use Rattle.hp_scenario.specs.Scenario.{ScenarioValue, scenario_in}
+use Rattle.hp_scripts.specs.Checks.{AreFit}
+use Rattle.hp_scripts.specs.Starts.{IsStart}
+
+-- it holds on the machine after lines that were run in order from boot on, with the scripts of the
+-- lines after them, where 0 stands for the operation that a processor began last
+pub record HoldsAfter (P : Setting → Type 0) (l : LayoutParts) (before after : List Line) : Type 0 where
+  pub start : MachineValue
+  pub scripts : List (List Step)
+  pub begun : IsStart l before after start scripts
+  pub holds : P (setting start scripts)
+
+-- the bytes are a scenario; its lines after the first so many can all stand in scripts, and it
+-- holds, with the scenario's names and those first lines, after them
+pub record HoldsIn (P : (names : List (List ℕ)) → (before : List Line) → Setting → Type 0) (input : List ℕ)
+    (setup : ℕ) : Type 0 where
+  pub scenario : ScenarioValue
+  pub read : scenario_in input ≡ Ok scenario
+  pub fit : AreFit scenario.layout.cpus (drop setup scenario.lines) (length (drop setup scenario.lines))
+  pub after : HoldsAfter (P scenario.names (take setup scenario.lines)) scenario.layout
+      (take setup scenario.lines) (drop setup scenario.lines)
+
+-- the bytes are a scenario, of which this holds
+abbrev pub InScenario : (input : List ℕ) → (ScenarioValue → Type 0) → Type 0
+InScenario input P = (scenario : ScenarioValue) × (scenario_in input ≡ Ok scenario) × P scenario
+
+-- the lines after the setup can all stand in scripts, and this holds after them
+abbrev pub IsStoppedAfter : (P : Setting → Type 0) → (setup : ℕ) → ScenarioValue → Type 0
+IsStoppedAfter P setup s =
+    AreFit s.layout.cpus (drop setup s.lines) (length (drop setup s.lines))
+    × HoldsAfter P s.layout (take setup s.lines) (drop setup s.lines)

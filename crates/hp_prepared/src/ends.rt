@@ -1,0 +1,202 @@
+//! Ends of interleavings in each form.
+ghost use Rattle.std.specs.Prelude.{◌≡◌, ◌++◌, IfErr, IfNone, IfOk, IfSome, OnOk, string_bytes, Some};
+ghost use Rattle.hp_explore.specs.Faults.{IsCause};
+ghost use Rattle.hp_prepared.specs.Ends.{AreEndsTold, HasNoEnd, IsEndTold, IsNumbered, IsTold};
+ghost use Rattle.hp_prepared.specs.Prepared.{before_of, names_of, setting_of};
+ghost use Rattle.hp_prepared.specs.Texts.{end_keys, exploration_text, numbered_text, objects_text, replay_text};
+
+use crate::finding::Finding;
+use crate::prepared::Prepared;
+use hp_ends::{EndsForm, write_counts, write_end, write_keys, write_more};
+use hp_explore::{Exploration, ExploreFault};
+use hp_schedules::{Ending, HowMany, total_of};
+use hp_units::Cpu;
+use std::alloc::Global;
+
+impl Prepared {
+    /// An exploration of the scripts in a form, as hp_lab's `explore_text` tells it. A fault is that of a call: the first
+    /// interleaving of each end is played once more.
+    pub fn exploration_told(
+        &self,
+        alloc: Global,
+        explored: &Exploration,
+        form: EndsForm,
+    ) -> Result<Finding, ExploreFault>
+        ensures ok { IfOk result
+            (λ f. IsTold form (names_of self.now) (before_of self.now) (setting_of self.now) explored.now
+            (string_bytes f.text) f.is_found) }
+        ensures err { IfErr result (IsCause (setting_of self.now)) }
+    {
+        let more = self.more_than(alloc, explored.is_whole)?;
+        self.ends_told(alloc, &explored.ends, more, form)
+    }
+
+    /// Ends of interleavings of the scripts in a form, as `explore_text` tells them; where they are
+    /// not those of all interleavings, with what is known of how many there are. A fault is that of
+    /// a call: the first interleaving of each end is played once more.
+    pub fn ends_told(
+        &self,
+        alloc: Global,
+        ends: &[Ending],
+        more: Option<HowMany>,
+        form: EndsForm,
+    ) -> Result<Finding, ExploreFault>
+        ensures ok { IfOk result
+            (λ f. AreEndsTold form (names_of self.now) (before_of self.now) (setting_of self.now)
+            ends.now more (string_bytes f.text) f.is_found) }
+        ensures err { IfErr result (IsCause (setting_of self.now)) }
+    {
+        match form {
+            EndsForm::Words => {
+                let mut text = String::new(alloc);
+                self.write_words(&mut text, alloc, ends, more)?;
+                Ok(Finding {
+                    text,
+                    is_found: more.is_none(),
+                })
+            }
+            EndsForm::Objects => {
+                let mut text = String::new(alloc);
+                self.write_objects(&mut text, alloc, ends)?;
+                write_more(&mut text, total_of(ends), more)?;
+                Ok(Finding {
+                    text,
+                    is_found: more.is_none(),
+                })
+            }
+            EndsForm::Scenario(number) => self.end_told(alloc, ends, more, number),
+        }
+    }
+
+    /// Writes how many interleavings and ends there are, and then each end, as words.
+    fn write_words(
+        &self,
+        out: &mut String,
+        alloc: Global,
+        ends: &[Ending],
+        more: Option<HowMany>,
+    ) -> Result<(), ExploreFault>
+        ensures ok { OnOk result (string_bytes out.new ≡ string_bytes out.old
+            ++ exploration_text (names_of self.now) (setting_of self.now) ends.now more) }
+        ensures err { IfErr result (IsCause (setting_of self.now)) }
+    {
+        write_counts(out, ends, more)?;
+        for index in 0..ends.len() {
+            self.write_end(out, alloc, index + 1, &ends[index])?;
+        }
+        Ok(())
+    }
+
+    /// Writes an end as words.
+    fn write_end(
+        &self,
+        out: &mut String,
+        alloc: Global,
+        number: usize,
+        end: &Ending,
+    ) -> Result<(), ExploreFault>
+        ensures ok { OnOk result (string_bytes out.new ≡ string_bytes out.old
+            ++ numbered_text (names_of self.now) (setting_of self.now) number (Some end.now)) }
+        ensures err { IfErr result (IsCause (setting_of self.now)) }
+    {
+        let played = self.played(alloc, end.first.as_slice())?;
+        let calls = self.calls_of(&played);
+        let layout = self.start.machine.layout();
+        write_end(out, &self.scenario.names, layout, number, end, calls)?;
+        Ok(())
+    }
+
+    /// Writes an object for each end, in their order.
+    fn write_objects(
+        &self,
+        out: &mut String,
+        alloc: Global,
+        ends: &[Ending],
+    ) -> Result<(), ExploreFault>
+        ensures ok { OnOk result (string_bytes out.new ≡ string_bytes out.old
+            ++ objects_text (names_of self.now) (setting_of self.now) ends.now) }
+        ensures err { IfErr result (IsCause (setting_of self.now)) }
+    {
+        for index in 0..ends.len() {
+            self.write_end_keys(out, alloc, index + 1, &ends[index])?;
+            out.push_str("}\n")?;
+        }
+        Ok(())
+    }
+
+    /// Writes the object of an end up to the bracket at its end: its number, how many interleavings
+    /// lead to it, what the processors were answered, what became of the memory blocks, and the calls
+    /// of the first interleaving. A fault is that of a call: this is played once more.
+    pub fn write_end_keys(
+        &self,
+        out: &mut String,
+        alloc: Global,
+        number: usize,
+        end: &Ending,
+    ) -> Result<(), ExploreFault>
+        ensures ok { OnOk result (string_bytes out.new
+            ≡ string_bytes out.old ++ end_keys (names_of self.now) (setting_of self.now) number end.now) }
+        ensures err { IfErr result (IsCause (setting_of self.now)) }
+    {
+        let played = self.played(alloc, end.first.as_slice())?;
+        let calls = self.calls_of(&played);
+        write_keys(out, &self.scenario.names, number, end, calls)?;
+        Ok(())
+    }
+
+    /// A schedule of the scripts as a scenario. A fault is that of a call: it is played once more.
+    fn replay_told(&self, alloc: Global, schedule: &[Cpu]) -> Result<String, ExploreFault>
+        ensures ok { IfOk result (λ text. string_bytes text
+            ≡ replay_text (names_of self.now) (before_of self.now) (setting_of self.now) schedule.now) }
+        ensures err { IfErr result (IsCause (setting_of self.now)) }
+    {
+        let played = self.played(alloc, schedule)?;
+        let text = self.replay_of(alloc, self.calls_of(&played))?;
+        Ok(text)
+    }
+
+    /// The scenario of the end with a number; or how many ends there are, where none has it.
+    fn end_told(
+        &self,
+        alloc: Global,
+        ends: &[Ending],
+        more: Option<HowMany>,
+        number: u64,
+    ) -> Result<Finding, ExploreFault>
+        ensures ok { IfOk result
+            (λ f. IsEndTold (names_of self.now) (before_of self.now) (setting_of self.now) ends.now more
+            number (string_bytes f.text) f.is_found) }
+        ensures err { IfErr result (IsCause (setting_of self.now)) }
+    {
+        match numbered_end(ends, number) {
+            Some(end) => {
+                let schedule = end.first.as_slice();
+                let text = self.replay_told(alloc, schedule)?;
+                Ok(Finding {
+                    text,
+                    is_found: true,
+                })
+            }
+            None => {
+                let mut text = String::new(alloc);
+                write_counts(&mut text, ends, more)?;
+                Ok(Finding {
+                    text,
+                    is_found: false,
+                })
+            }
+        }
+    }
+}
+
+/// The end with a number; ends are counted from 1.
+#[tactic(auto, using(crate::proofs::Known::numbered_at))]
+fn numbered_end(ends: &[Ending], number: u64) -> Option<&Ending>
+    ensures some { IfSome result (λ end. IsNumbered ends.now number end.now) }
+    ensures none { IfNone result (HasNoEnd ends.now number) }
+{
+    if number == 0 || number > ends.len() as u64 {
+        return None;
+    }
+    Some(&ends[(number - 1) as usize])
+}

@@ -1,0 +1,71 @@
+//! What is wrong with a scenario, and how many interleavings it has.
+ghost use Rattle.std.specs.Prelude.{◌≡◌, ◌≢◌, ◌-◌, ◌^◌, ◌==◌, [], IfErr, IfOk, OnOk, string_bytes};
+ghost use Rattle.hp_scenario.specs.Scenario.{scenario_in};
+ghost use Rattle.hp_lab_faults.specs.declared.fault.LabFault.TheVariants.{OutOfMemory};
+ghost use Rattle.hp_lab_faults.specs.declared.program_fault.ProgramFault.TheVariants.{Lab};
+ghost use Rattle.hp_shown.specs.Checks.{IsCheckOf, IsCountIn, IsCountOf};
+
+use crate::answer::Answer;
+use hp_check::{check, fault_count, write_report};
+use hp_lab_faults::ProgramFault;
+use hp_scenario::{Scenario, ScenarioFault};
+use hp_scripts::interleavings_line;
+use std::alloc::{AllocError, Global};
+
+/// The most interleavings that are counted where no limit is given.
+pub const LIMIT: u64 = 10_000_000;
+
+/// The lines of a setup that is all of a scenario.
+pub const ALL: u64 = u64::MAX;
+
+/// What is wrong with the scenario that the bytes are to be, of whose lines so many are the setup, and
+/// how many interleavings the scripts after it have. The status is 0 where nothing is wrong but
+/// warnings, and else 1. An error is out of memory.
+pub fn checked(alloc: Global, input: &[u8], setup: u64) -> Result<Answer, ProgramFault>
+    ensures ok { IfOk result (λ answer. IsCheckOf setup input.now (string_bytes answer.text) answer.status) }
+    ensures err { IfErr result (λ fault. fault ≡ Lab OutOfMemory) }
+{
+    let found = check(alloc, input, setup)?;
+    let mut text = String::new(alloc);
+    write_report(&mut text, alloc, input, &found)?;
+    let counted = count_line(alloc, input, setup)?;
+    text.push_str(&counted)?;
+    let status = if fault_count(&found) == 0 { 0 } else { 1 };
+    Ok(Answer { text, status })
+}
+
+/// The line that says how many interleavings the scripts after so many lines of setup have; none
+/// where all lines are the setup, and where the bytes are no scenario. An error is out of memory.
+#[tactic(auto, using(crate::proofs::Counted::none_asked, crate::proofs::Counted::some_asked))]
+fn count_line(alloc: Global, input: &[u8], setup: u64) -> Result<String, AllocError>
+    ensures { IfOk result (λ text. IsCountOf (setup == 2 ^ 64 - 1) setup input.now (string_bytes text)) }
+{
+    if setup == ALL {
+        return Ok(String::new(alloc));
+    }
+    count_in(alloc, input, setup)
+}
+
+/// The same, where not all lines are the setup.
+fn count_in(alloc: Global, input: &[u8], setup: u64) -> Result<String, AllocError>
+    ensures { IfOk result (λ text. IsCountIn setup (scenario_in input.now) (string_bytes text)) }
+{
+    match Scenario::read(alloc, input) {
+        Ok(scenario) => {
+            let cpus = scenario.layout.cpus();
+            interleavings_line(alloc, cpus, setup, scenario.lines.as_slice(), LIMIT)
+        }
+        Err(fault) => no_count(alloc, fault),
+    }
+}
+
+/// No line, where the bytes are no scenario. An error is out of memory.
+fn no_count(alloc: Global, fault: ScenarioFault) -> Result<String, AllocError>
+    ensures none { IfOk result (λ text. string_bytes text ≡ []) }
+    ensures read { OnOk result (fault ≢ ScenarioFault.OutOfMemory) }
+{
+    match fault {
+        ScenarioFault::OutOfMemory => Err(AllocError),
+        _ => Ok(String::new(alloc)),
+    }
+}
