@@ -1,6 +1,7 @@
 mod Agreement
 mod CallsAgree
 mod Each
+mod Found
 mod Fronts
 mod Json
 mod Pieces

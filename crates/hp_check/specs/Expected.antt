@@ -1,49 +1,48 @@
 -- What was expected of a text that is no line (own rule).
-use Rattle.std.specs.Prelude.{ℕ, ◌-◌, ◌==◌, ◌++◌, List, [], codes, length, slice_get, Bool, false, Option, Some, None, if◌then◌else◌}
-use Rattle.std.specs.Str.{bytes_eq}
+use Rattle.std.specs.Prelude.{ℕ, ◌-◌, ◌==◌, ◌++◌, List, [], ◌∷◌, codes, length, slice_get, Bool, false, Option, Some, None, if◌then◌else◌}
 use Rattle.hp_numbers.specs.NumberWords.{number_of}
 use Rattle.hp_check.specs.Cuts.{first_word, halves_of}
-use Rattle.hp_check.specs.Slips.{slip_text}
+use Rattle.hp_check.specs.Slips.{found_at, slip_text}
 
--- the form of each verb; words that are likely to be meant for one
-unfoldable pub rarer_form_of : List ℕ → List ℕ
-rarer_form_of verb =
-    if bytes_eq verb (codes "undo") then codes "wanted: C undo SERIAL"
-    else (if bytes_eq verb (codes "plan") then codes
-    "wanted: C plan TURNS ITEM .., where an ITEM is off BLOCK, normal BLOCK or movable BLOCK"
-    else (if bytes_eq verb (codes "echo") then codes "wanted: C echo TEXT PATH"
-    else (if bytes_eq verb (codes "cat") then codes "wanted: C cat PATH"
-    else (if bytes_eq verb (codes "seal") then codes "wanted: C seal"
-    else (if bytes_eq verb (codes "offline") then codes
-    "its second word is no verb; perhaps C plan TURNS off BLOCK, or C echo offline memoryN/state"
-    else (if bytes_eq verb (codes "probe") then codes
-    "its second word is no verb; perhaps C echo 0xADDRESS probe"
-    else (if bytes_eq verb (codes "alloc") then codes "its second word is no verb; perhaps C kalloc ORDER"
-    else (if bytes_eq verb (codes "free") then codes "its second word is no verb; perhaps C kfree FRAME"
-    else (if bytes_eq verb (codes "abort") then codes "its second word is no verb; perhaps C cancel OP"
-    else (if bytes_eq verb [] then codes "its second word is no verb; perhaps it has a space too many"
-    else (if bytes_eq verb (codes "rollback") then codes "its second word is no verb; perhaps C undo SERIAL"
-    else codes "its second word is no verb")))))))))))
+-- each verb with the form of its line; then words that are likely to be meant for one
+unfoldable pub forms : List (List ℕ × List ℕ)
+forms =
+    (codes "kalloc", codes "wanted: C kalloc ORDER") ∷
+    (codes "kfree", codes "wanted: C kfree FRAME") ∷
+    (codes "map", codes "wanted: C map NAME PAGE") ∷
+    (codes "unmap", codes "wanted: C unmap NAME PAGE") ∷
+    (codes "write", codes "wanted: C write NAME PAGE INDEX VALUE") ∷
+    (codes "read", codes "wanted: C read NAME PAGE INDEX") ∷
+    (codes "drain", codes "wanted: C drain CPU") ∷
+    (codes "online", codes "wanted: C online BLOCK ZONE, where ZONE is normal or movable") ∷
+    (codes "remove", codes "wanted: C remove BLOCK") ∷ (
+      codes "begin",
+      codes "wanted: C begin ITEM .., where an ITEM is off BLOCK, normal BLOCK or movable BLOCK",
+    ) ∷
+    (codes "drainfor", codes "wanted: C drainfor OP CPU") ∷
+    (codes "migrate", codes "wanted: C migrate OP") ∷
+    (codes "commit", codes "wanted: C commit OP") ∷
+    (codes "cancel", codes "wanted: C cancel OP") ∷
+    (codes "undo", codes "wanted: C undo SERIAL") ∷ (
+      codes "plan",
+      codes "wanted: C plan TURNS ITEM .., where an ITEM is off BLOCK, normal BLOCK or movable BLOCK",
+    ) ∷
+    (codes "echo", codes "wanted: C echo TEXT PATH") ∷
+    (codes "cat", codes "wanted: C cat PATH") ∷
+    (codes "seal", codes "wanted: C seal") ∷ (
+      codes "offline",
+      codes "its second word is no verb; perhaps C plan TURNS off BLOCK, or C echo offline memoryN/state",
+    ) ∷
+    (codes "probe", codes "its second word is no verb; perhaps C echo 0xADDRESS probe") ∷
+    (codes "alloc", codes "its second word is no verb; perhaps C kalloc ORDER") ∷
+    (codes "free", codes "its second word is no verb; perhaps C kfree FRAME") ∷
+    (codes "abort", codes "its second word is no verb; perhaps C cancel OP") ∷
+    ([], codes "its second word is no verb; perhaps it has a space too many") ∷
+    (codes "rollback", codes "its second word is no verb; perhaps C undo SERIAL") ∷
+    []
 
 unfoldable pub form_of : List ℕ → List ℕ
-form_of verb =
-    if bytes_eq verb (codes "kalloc") then codes "wanted: C kalloc ORDER"
-    else (if bytes_eq verb (codes "kfree") then codes "wanted: C kfree FRAME"
-    else (if bytes_eq verb (codes "map") then codes "wanted: C map NAME PAGE"
-    else (if bytes_eq verb (codes "unmap") then codes "wanted: C unmap NAME PAGE"
-    else (if bytes_eq verb (codes "write") then codes "wanted: C write NAME PAGE INDEX VALUE"
-    else (if bytes_eq verb (codes "read") then codes "wanted: C read NAME PAGE INDEX"
-    else (if bytes_eq verb (codes "drain") then codes "wanted: C drain CPU"
-    else (if bytes_eq verb (codes "online") then codes
-    "wanted: C online BLOCK ZONE, where ZONE is normal or movable"
-    else (if bytes_eq verb (codes "remove") then codes "wanted: C remove BLOCK"
-    else (if bytes_eq verb (codes "begin") then codes
-    "wanted: C begin ITEM .., where an ITEM is off BLOCK, normal BLOCK or movable BLOCK"
-    else (if bytes_eq verb (codes "drainfor") then codes "wanted: C drainfor OP CPU"
-    else (if bytes_eq verb (codes "migrate") then codes "wanted: C migrate OP"
-    else (if bytes_eq verb (codes "commit") then codes "wanted: C commit OP"
-    else (if bytes_eq verb (codes "cancel") then codes "wanted: C cancel OP"
-    else rarer_form_of verb)))))))))))))
+form_of verb = found_at (codes "its second word is no verb") verb forms
 
 -- the number of a processor, a verb, or what comes after the verb
 abbrev pub of_verb : (cpu : Option ℕ) → List ℕ → List ℕ

@@ -60,30 +60,34 @@ unfoldable pub first_slip : List Kind → List ℕ → Option (List ℕ × Why)
 first_slip [] text = None
 first_slip (kind ∷ kinds) text = slip_or_later kind text (λ rest. first_slip kinds rest) (halves_of text)
 
--- what the words after a verb are, up to the last that is a number or a name
-unfoldable pub rarer_kinds_of : List ℕ → List Kind
-rarer_kinds_of verb =
-    if bytes_eq verb (codes "drainfor") then Wide ∷ Narrow ∷ []
-    else (if bytes_eq verb (codes "migrate") then Wide ∷ []
-    else (if bytes_eq verb (codes "commit") then Wide ∷ []
-    else (if bytes_eq verb (codes "cancel") then Wide ∷ []
-    else (if bytes_eq verb (codes "undo") then Wide ∷ []
-    else (if bytes_eq verb (codes "plan") then Narrow ∷ Word ∷ Narrow ∷ []
-    else [])))))
+-- what stands at a word in rows of words and values
+unfoldable pub found_at : {B : Type 0} → (other : B) → (word : List ℕ) → List (List ℕ × B) → B
+found_at other word [] = other
+found_at other word (row ∷ rows) = if bytes_eq word row.0 then row.1 else found_at other word rows
+
+-- the verbs, each with what the words after it are, up to the last that is a number or a name
+unfoldable pub kinds : List (List ℕ × List Kind)
+kinds =
+    (codes "kalloc", Narrow ∷ []) ∷
+    (codes "kfree", Narrow ∷ []) ∷
+    (codes "map", Name ∷ Narrow ∷ []) ∷
+    (codes "unmap", Name ∷ Narrow ∷ []) ∷
+    (codes "write", Name ∷ Narrow ∷ Narrow ∷ Wide ∷ []) ∷
+    (codes "read", Name ∷ Narrow ∷ Narrow ∷ []) ∷
+    (codes "drain", Narrow ∷ []) ∷
+    (codes "online", Narrow ∷ Word ∷ []) ∷
+    (codes "remove", Narrow ∷ []) ∷
+    (codes "begin", Word ∷ Narrow ∷ []) ∷
+    (codes "drainfor", Wide ∷ Narrow ∷ []) ∷
+    (codes "migrate", Wide ∷ []) ∷
+    (codes "commit", Wide ∷ []) ∷
+    (codes "cancel", Wide ∷ []) ∷
+    (codes "undo", Wide ∷ []) ∷
+    (codes "plan", Narrow ∷ Word ∷ Narrow ∷ []) ∷
+    []
 
 unfoldable pub kinds_of : List ℕ → List Kind
-kinds_of verb =
-    if bytes_eq verb (codes "kalloc") then Narrow ∷ []
-    else (if bytes_eq verb (codes "kfree") then Narrow ∷ []
-    else (if bytes_eq verb (codes "map") then Name ∷ Narrow ∷ []
-    else (if bytes_eq verb (codes "unmap") then Name ∷ Narrow ∷ []
-    else (if bytes_eq verb (codes "write") then Name ∷ Narrow ∷ Narrow ∷ Wide ∷ []
-    else (if bytes_eq verb (codes "read") then Name ∷ Narrow ∷ Narrow ∷ []
-    else (if bytes_eq verb (codes "drain") then Narrow ∷ []
-    else (if bytes_eq verb (codes "online") then Narrow ∷ Word ∷ []
-    else (if bytes_eq verb (codes "remove") then Narrow ∷ []
-    else (if bytes_eq verb (codes "begin") then Word ∷ Narrow ∷ []
-    else rarer_kinds_of verb)))))))))
+kinds_of verb = found_at [] verb kinds
 
 -- from the verb on
 abbrev pub verb_slip_of : List ℕ → Option (List ℕ × List ℕ) → Option (List ℕ × Why)

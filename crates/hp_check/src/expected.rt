@@ -1,5 +1,5 @@
 //! What was expected of a text that is no line.
-ghost use Rattle.std.specs.Prelude.{◌≡◌, ◌++◌, OnOk, string_bytes};
+ghost use Rattle.std.specs.Prelude.{◌≡◌, ◌++◌, OnOk, map, string_bytes};
 ghost use Rattle.hp_check.specs.Expected as means;
 
 use crate::cuts::{first_word, halves};
@@ -68,51 +68,74 @@ fn wanted(text: &str) -> &'static str
     }
 }
 
+/// Each verb with the form of its line; then words that are likely to be meant for one.
+#[tactic(auto, unfolding(crate::specs::Expected::forms))]
+fn forms() -> &'static [(&'static str, &'static str)]
+    ensures { map (λ row. (row.0.now, row.1.now)) result.now ≡ means.forms }
+{
+    &[
+        ("kalloc", "wanted: C kalloc ORDER"),
+        ("kfree", "wanted: C kfree FRAME"),
+        ("map", "wanted: C map NAME PAGE"),
+        ("unmap", "wanted: C unmap NAME PAGE"),
+        ("write", "wanted: C write NAME PAGE INDEX VALUE"),
+        ("read", "wanted: C read NAME PAGE INDEX"),
+        ("drain", "wanted: C drain CPU"),
+        (
+            "online",
+            "wanted: C online BLOCK ZONE, where ZONE is normal or movable",
+        ),
+        ("remove", "wanted: C remove BLOCK"),
+        (
+            "begin",
+            "wanted: C begin ITEM .., where an ITEM is off BLOCK, normal BLOCK or movable BLOCK",
+        ),
+        ("drainfor", "wanted: C drainfor OP CPU"),
+        ("migrate", "wanted: C migrate OP"),
+        ("commit", "wanted: C commit OP"),
+        ("cancel", "wanted: C cancel OP"),
+        ("undo", "wanted: C undo SERIAL"),
+        (
+            "plan",
+            "wanted: C plan TURNS ITEM .., where an ITEM is off BLOCK, normal BLOCK or movable BLOCK",
+        ),
+        ("echo", "wanted: C echo TEXT PATH"),
+        ("cat", "wanted: C cat PATH"),
+        ("seal", "wanted: C seal"),
+        (
+            "offline",
+            "its second word is no verb; perhaps C plan TURNS off BLOCK, or C echo offline memoryN/state",
+        ),
+        (
+            "probe",
+            "its second word is no verb; perhaps C echo 0xADDRESS probe",
+        ),
+        (
+            "alloc",
+            "its second word is no verb; perhaps C kalloc ORDER",
+        ),
+        ("free", "its second word is no verb; perhaps C kfree FRAME"),
+        ("abort", "its second word is no verb; perhaps C cancel OP"),
+        (
+            "",
+            "its second word is no verb; perhaps it has a space too many",
+        ),
+        (
+            "rollback",
+            "its second word is no verb; perhaps C undo SERIAL",
+        ),
+    ]
+}
+
 /// What was expected of a line with this verb.
-#[tactic(auto, unfolding(crate::specs::Expected::form_of))]
 fn expected_of_verb(verb: &str) -> &'static str
     ensures { result.now ≡ means.form_of verb.now }
 {
-    match verb {
-        "kalloc" => "wanted: C kalloc ORDER",
-        "kfree" => "wanted: C kfree FRAME",
-        "map" => "wanted: C map NAME PAGE",
-        "unmap" => "wanted: C unmap NAME PAGE",
-        "write" => "wanted: C write NAME PAGE INDEX VALUE",
-        "read" => "wanted: C read NAME PAGE INDEX",
-        "drain" => "wanted: C drain CPU",
-        "online" => "wanted: C online BLOCK ZONE, where ZONE is normal or movable",
-        "remove" => "wanted: C remove BLOCK",
-        "begin" =>
-            "wanted: C begin ITEM .., where an ITEM is off BLOCK, normal BLOCK or movable BLOCK",
-        "drainfor" => "wanted: C drainfor OP CPU",
-        "migrate" => "wanted: C migrate OP",
-        "commit" => "wanted: C commit OP",
-        "cancel" => "wanted: C cancel OP",
-        _ => expected_of_rarer(verb),
+    let rows = forms();
+    for row in rows {
+        if verb == row.0 {
+            return row.1;
+        }
     }
-}
-
-/// The same of the other verbs, and of words that are likely to be meant for one.
-#[tactic(auto, unfolding(crate::specs::Expected::rarer_form_of))]
-fn expected_of_rarer(verb: &str) -> &'static str
-    ensures { result.now ≡ means.rarer_form_of verb.now }
-{
-    match verb {
-        "undo" => "wanted: C undo SERIAL",
-        "plan" =>
-            "wanted: C plan TURNS ITEM .., where an ITEM is off BLOCK, normal BLOCK or movable BLOCK",
-        "echo" => "wanted: C echo TEXT PATH",
-        "cat" => "wanted: C cat PATH",
-        "seal" => "wanted: C seal",
-        "offline" =>
-            "its second word is no verb; perhaps C plan TURNS off BLOCK, or C echo offline memoryN/state",
-        "probe" => "its second word is no verb; perhaps C echo 0xADDRESS probe",
-        "alloc" => "its second word is no verb; perhaps C kalloc ORDER",
-        "free" => "its second word is no verb; perhaps C kfree FRAME",
-        "abort" => "its second word is no verb; perhaps C cancel OP",
-        "" => "its second word is no verb; perhaps it has a space too many",
-        "rollback" => "its second word is no verb; perhaps C undo SERIAL",
-        _ => "its second word is no verb",
-    }
+    "its second word is no verb"
 }

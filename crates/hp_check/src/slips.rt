@@ -1,5 +1,5 @@
 //! Words of a text that is no line that cannot stand at their places.
-ghost use Rattle.std.specs.Prelude.{◌≡◌, ◌++◌, OnOk, option_map, string_bytes};
+ghost use Rattle.std.specs.Prelude.{◌≡◌, ◌++◌, OnOk, map, option_map, string_bytes};
 ghost use Rattle.std.specs.List.{list_all, list_any};
 ghost use Rattle.std.specs.Int.{is_in_range};
 ghost use Rattle.hp_check.specs.Slips as means;
@@ -128,40 +128,45 @@ fn first_slip<'a>(kinds: &[Kind], text: &'a str) -> Option<(&'a str, Why)>
     None
 }
 
+/// The verbs, each with what the words after it are, up to the last that is a number or a name.
+#[tactic(auto, unfolding(crate::specs::Slips::kinds))]
+fn kinds() -> &'static [(&'static str, &'static [Kind])]
+    ensures { map (λ row. (row.0.now, row.1.now)) result.now ≡ means.kinds }
+{
+    &[
+        ("kalloc", &[Kind::Narrow]),
+        ("kfree", &[Kind::Narrow]),
+        ("map", &[Kind::Name, Kind::Narrow]),
+        ("unmap", &[Kind::Name, Kind::Narrow]),
+        (
+            "write",
+            &[Kind::Name, Kind::Narrow, Kind::Narrow, Kind::Wide],
+        ),
+        ("read", &[Kind::Name, Kind::Narrow, Kind::Narrow]),
+        ("drain", &[Kind::Narrow]),
+        ("online", &[Kind::Narrow, Kind::Word]),
+        ("remove", &[Kind::Narrow]),
+        ("begin", &[Kind::Word, Kind::Narrow]),
+        ("drainfor", &[Kind::Wide, Kind::Narrow]),
+        ("migrate", &[Kind::Wide]),
+        ("commit", &[Kind::Wide]),
+        ("cancel", &[Kind::Wide]),
+        ("undo", &[Kind::Wide]),
+        ("plan", &[Kind::Narrow, Kind::Word, Kind::Narrow]),
+    ]
+}
+
 /// What the words after a verb are, up to the last that is a number or a name.
-#[tactic(auto, unfolding(crate::specs::Slips::kinds_of))]
 fn kinds_of(verb: &str) -> &'static [Kind]
     ensures { result.now ≡ means.kinds_of verb.now }
 {
-    match verb {
-        "kalloc" => &[Kind::Narrow],
-        "kfree" => &[Kind::Narrow],
-        "map" => &[Kind::Name, Kind::Narrow],
-        "unmap" => &[Kind::Name, Kind::Narrow],
-        "write" => &[Kind::Name, Kind::Narrow, Kind::Narrow, Kind::Wide],
-        "read" => &[Kind::Name, Kind::Narrow, Kind::Narrow],
-        "drain" => &[Kind::Narrow],
-        "online" => &[Kind::Narrow, Kind::Word],
-        "remove" => &[Kind::Narrow],
-        "begin" => &[Kind::Word, Kind::Narrow],
-        _ => kinds_of_rarer(verb),
+    let rows = kinds();
+    for row in rows {
+        if verb == row.0 {
+            return row.1;
+        }
     }
-}
-
-/// The same of the other verbs.
-#[tactic(auto, unfolding(crate::specs::Slips::rarer_kinds_of))]
-fn kinds_of_rarer(verb: &str) -> &'static [Kind]
-    ensures { result.now ≡ means.rarer_kinds_of verb.now }
-{
-    match verb {
-        "drainfor" => &[Kind::Wide, Kind::Narrow],
-        "migrate" => &[Kind::Wide],
-        "commit" => &[Kind::Wide],
-        "cancel" => &[Kind::Wide],
-        "undo" => &[Kind::Wide],
-        "plan" => &[Kind::Narrow, Kind::Word, Kind::Narrow],
-        _ => &[],
-    }
+    &[]
 }
 
 /// The first of the words from the verb on that is not of its kind, and why.

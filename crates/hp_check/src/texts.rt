@@ -1,5 +1,6 @@
 //! The names of what a finding speaks of.
-ghost use Rattle.std.specs.Prelude.{Some};
+ghost use Rattle.std.specs.Prelude.{◌≡◌, Some};
+ghost use Rattle.hp_check.specs.Texts.{what_text};
 
 use crate::finding::{Place, What};
 use std::fmt;
@@ -23,14 +24,22 @@ impl fmt::Display for What {
     ghost output = { λ w. Some (what_text w) };
 
     fn fmt<W: fmt::Write>(&self, f: &mut fmt::Formatter<W>) -> fmt::Result {
-        match self {
-            What::Processor => write!(f, "processor"),
-            What::Owner => write!(f, "owner"),
-            What::Page => write!(f, "page"),
-            What::Word => write!(f, "word"),
-            What::Order => write!(f, "order"),
-            What::Frame => write!(f, "frame"),
-            What::Block => write!(f, "block"),
-        }
+        let name = name_of(*self);
+        write!(f, "{name}")
+    }
+}
+
+/// The name of what a layout has a number of.
+fn name_of(what: What) -> &'static str
+    ensures { result.now ≡ what_text what }
+{
+    match what {
+        What::Processor => "processor",
+        What::Owner => "owner",
+        What::Page => "page",
+        What::Word => "word",
+        What::Order => "order",
+        What::Frame => "frame",
+        What::Block => "block",
     }
 }

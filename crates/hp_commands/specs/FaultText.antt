@@ -1,9 +1,11 @@
 -- What the program says of a fault.
-use Rattle.std.specs.Prelude.{ℕ, List, ◌++◌, codes}
+use Rattle.std.specs.Prelude.{ℕ, List, [], ◌++◌, codes}
 use Rattle.std.specs.Fmt.{decimal}
 use Rattle.hp_units.specs.Texts.{layout_fault_text}
 use Rattle.hp_commands.specs.declared.fault.ProgramFault.{ProgramFault}
 use Rattle.hp_commands.specs.declared.fault.ProgramFault.TheVariants.{ReadFailed, TooLong, NotJson, BadShape, Layout, BadLine, NotForRun, OutOfMemory, NotStarted, SeatMissing, Mismatch, WrongReply, WrongSerial, AuditDiffers, WriteFailed, BrokenChain}
+use Rattle.hp_commands.specs.declared.fault.Said.{Said}
+use Rattle.hp_commands.specs.declared.fault.Said.TheVariants.{Nothing, Number, Layout as OfLayout}
 
 abbrev pub fault_text : ProgramFault → List ℕ
 fault_text ReadFailed = codes "hotplug: reading failed"
@@ -22,3 +24,9 @@ fault_text (WrongSerial at) = codes "hotplug: audit fault at position " ++ decim
 fault_text AuditDiffers = codes "hotplug: audit differs"
 fault_text WriteFailed = codes "hotplug: writing failed"
 fault_text (BrokenChain at) = codes "hotplug: volume " ++ decimal at ++ codes " does not follow"
+
+-- what a fault says between two texts
+abbrev pub said_text : Said → List ℕ
+said_text Nothing = []
+said_text (Number number) = decimal number
+said_text (OfLayout fault) = layout_fault_text fault

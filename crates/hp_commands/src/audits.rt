@@ -1,8 +1,9 @@
 //! A run whose records are read again.
-ghost use Rattle.std.specs.Prelude.{Some, IfErr, IfOk, OnOk, string_bytes};
+ghost use Rattle.std.specs.Prelude.{◌≡◌, ◌++◌, Some, IfErr, IfOk, OnOk, codes, string_bytes};
+ghost use Rattle.hp_text.specs.State.{newline};
 ghost use Rattle.hp_commands.specs.Audits.{HasAuditFault, IsAudited};
 ghost use Rattle.hp_commands.specs.Faults.{IsFaultOf};
-ghost use Rattle.hp_commands.specs.Runs.{IsAuditTextOf};
+ghost use Rattle.hp_commands.specs.Runs.{IsAuditTextOf, records_line};
 ghost use Rattle.hp_commands.specs.declared.commands.Command.TheVariants.{Audit};
 
 use crate::fault::ProgramFault;
@@ -10,6 +11,7 @@ use crate::runs::{work_off, write_records};
 use hp_history::Volume;
 use hp_machine::Machine;
 use hp_replays::{audit_chain, replay_from};
+use hp_shared::Closed;
 use std::alloc::Global;
 use std::mem::forget;
 use std::sync::Wait;
@@ -26,12 +28,22 @@ pub fn audit<R: Threads + Wait + Sync>(
     ensures err { IfErr result (IsFaultOf Audit (Some input.now) ⊥ ⊥) }
 {
     let worked = work_off(rt, alloc, input)?;
-    check_records(alloc, &worked.closed.volumes, &worked.closed.machine)?;
-    let mut out = String::new(alloc);
-    write_records(&mut out, worked.closed.records)?;
-    out.push_str("audit ok\n")?;
+    let text = audited_text(alloc, &worked.closed);
     // The program ends after this text, as in `run`.
     forget(worked);
+    text
+}
+
+/// The text of an audit of a closed machine, whose records are replayed first.
+fn audited_text(alloc: Global, closed: &Closed) -> Result<String, ProgramFault>
+    ensures ok { IfOk result (λ out. IsAudited closed.now.volumes.items closed.now.machine
+        × (string_bytes out ≡ records_line closed.now.records ++ codes "audit ok" ++ newline)) }
+    ensures err { IfErr result (HasAuditFault closed.now.volumes.items closed.now.machine) }
+{
+    check_records(alloc, &closed.volumes, &closed.machine)?;
+    let mut out = String::new(alloc);
+    write_records(&mut out, closed.records)?;
+    out.push_str("audit ok\n")?;
     Ok(out)
 }
 

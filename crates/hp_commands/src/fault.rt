@@ -1,6 +1,7 @@
 //! Why the program failed.
 
-ghost use Rattle.std.specs.Prelude.{◌≡◌, Some};
+ghost use Rattle.std.specs.Prelude.{◌≡◌, ◌++◌, Some, codes};
+ghost use Rattle.hp_commands.specs.FaultText.{fault_text, said_text};
 ghost use Rattle.hp_commands.specs.declared.fault.ProgramFault.TheVariants.{OutOfMemory};
 
 use hp_replays::{ChainFault, ReplayFault};
@@ -58,28 +59,60 @@ impl fmt::Display for ProgramFault {
     ghost output = { λ f. Some (fault_text f) };
 
     fn fmt<W: fmt::Write>(&self, f: &mut fmt::Formatter<W>) -> fmt::Result {
+        let (before, said, after) = said_of(*self);
+        write!(f, "hotplug: {before}{said}{after}")
+    }
+}
+
+/// What a fault says between two texts.
+#[derive(Clone, Copy)]
+enum Said {
+    Nothing,
+    Number(u64),
+    Layout(LayoutFault),
+}
+
+impl fmt::Display for Said {
+    ghost use Rattle.hp_commands.specs.FaultText.{said_text};
+
+    ghost output = { λ said. Some (said_text said) };
+
+    fn fmt<W: fmt::Write>(&self, f: &mut fmt::Formatter<W>) -> fmt::Result {
         match self {
-            ProgramFault::ReadFailed => write!(f, "hotplug: reading failed"),
-            ProgramFault::TooLong => write!(f, "hotplug: input too long"),
-            ProgramFault::NotJson => write!(f, "hotplug: not JSON"),
-            ProgramFault::BadShape => write!(f, "hotplug: wrong shape"),
-            ProgramFault::Layout(fault) => write!(f, "hotplug: layout fault {fault}"),
-            ProgramFault::BadLine { line } => write!(f, "hotplug: line {line} not understood"),
-            ProgramFault::NotForRun { line } => write!(f, "hotplug: line {line} not for run"),
-            ProgramFault::OutOfMemory => write!(f, "hotplug: out of memory"),
-            ProgramFault::NotStarted { cpu } => write!(f, "hotplug: worker {cpu} not started"),
-            ProgramFault::SeatMissing => write!(f, "hotplug: seat missing"),
-            ProgramFault::Mismatch { serial } => {
-                write!(f, "hotplug: record {serial} does not match")
-            }
-            ProgramFault::WrongReply { serial } => {
-                write!(f, "hotplug: audit fault at record {serial}")
-            }
-            ProgramFault::WrongSerial { at } => write!(f, "hotplug: audit fault at position {at}"),
-            ProgramFault::AuditDiffers => write!(f, "hotplug: audit differs"),
-            ProgramFault::WriteFailed => write!(f, "hotplug: writing failed"),
-            ProgramFault::BrokenChain { at } => write!(f, "hotplug: volume {at} does not follow"),
+            Said::Nothing => Ok(()),
+            Said::Number(number) => write!(f, "{number}"),
+            Said::Layout(fault) => write!(f, "{fault}"),
         }
+    }
+}
+
+/// What is said of a fault: a text, what comes after it, and the end.
+fn said_of(fault: ProgramFault) -> (&'static str, Said, &'static str)
+    ensures { codes "hotplug: " ++ result.0.now ++ said_text result.1 ++ result.2.now ≡ fault_text fault }
+{
+    match fault {
+        ProgramFault::ReadFailed => ("reading failed", Said::Nothing, ""),
+        ProgramFault::TooLong => ("input too long", Said::Nothing, ""),
+        ProgramFault::NotJson => ("not JSON", Said::Nothing, ""),
+        ProgramFault::BadShape => ("wrong shape", Said::Nothing, ""),
+        ProgramFault::Layout(fault) => ("layout fault ", Said::Layout(fault), ""),
+        ProgramFault::BadLine { line } => ("line ", Said::Number(line), " not understood"),
+        ProgramFault::NotForRun { line } => ("line ", Said::Number(line), " not for run"),
+        ProgramFault::OutOfMemory => ("out of memory", Said::Nothing, ""),
+        ProgramFault::NotStarted { cpu } => {
+            ("worker ", Said::Number(u64::from(cpu.0)), " not started")
+        }
+        ProgramFault::SeatMissing => ("seat missing", Said::Nothing, ""),
+        ProgramFault::Mismatch { serial } => {
+            ("record ", Said::Number(serial.0), " does not match")
+        }
+        ProgramFault::WrongReply { serial } => {
+            ("audit fault at record ", Said::Number(serial.0), "")
+        }
+        ProgramFault::WrongSerial { at } => ("audit fault at position ", Said::Number(at), ""),
+        ProgramFault::AuditDiffers => ("audit differs", Said::Nothing, ""),
+        ProgramFault::WriteFailed => ("writing failed", Said::Nothing, ""),
+        ProgramFault::BrokenChain { at } => ("volume ", Said::Number(at), " does not follow"),
     }
 }
 

@@ -1,4 +1,5 @@
 //! A scenario.
+ghost use Rattle.std.specs.Prelude.{◌≡◌, ◌≤◌, [], length, vec_capacity};
 ghost use Rattle.serde_json.specs.View.{view};
 ghost use Rattle.hp_units.specs.LayoutParts.{layout_fault};
 ghost use Rattle.hp_units.specs.PartsSeen.{parts_seen};
@@ -126,15 +127,32 @@ fn layout_from(alloc: Global, parts: &Parts<'_>) -> Result<Layout, ScenarioFault
 fn read_lines(alloc: Global, texts: &Texts<'_>) -> Result<Script, ScenarioFault>
     ensures { Gives script_seen result (lines_from 1 nothing texts.now) }
 {
-    let mut names = IndexSet::new(alloc);
     let mut lines = Vec::with_capacity(alloc, texts.len())?;
+    let mut names = IndexSet::new(alloc);
+    add_lines(alloc, &mut names, &mut lines, texts)?;
+    Ok(Script { names, lines })
+}
+
+/// Adds the lines of the texts, for which there is room, and their names.
+fn add_lines(
+    alloc: Global,
+    names: &mut IndexSet<Text>,
+    lines: &mut Vec<Line>,
+    texts: &Texts<'_>,
+) -> Result<(), ScenarioFault>
+    requires names { names.old.keys ≡ [] }
+    requires lines { lines.old.items ≡ [] }
+    requires room { length texts.now ≤ vec_capacity lines.old }
+    ensures { Gives (λ _. record { names = names.new.keys; lines = lines.new.items }) result
+        (lines_from 1 nothing texts.now) }
+{
     let mut words = Vec::new(alloc);
     for index in 0..texts.len() {
-        let Some(line) = line_from(alloc, &mut names, &mut words, texts.at(index))? else {
+        let Some(line) = line_from(alloc, names, &mut words, texts.at(index))? else {
             let line = index as u64 + 1;
             return Err(ScenarioFault::BadLine { line });
         };
         lines.push_reserved(line);
     }
-    Ok(Script { names, lines })
+    Ok(())
 }

@@ -62,8 +62,15 @@ impl Scenario {
         ensures count { IfOk result (λ scripts. length scripts.items ≡ (scenario_seen self).layout.cpus) }
         ensures run { IfOk result (λ scripts. AreForRun scripts.items) }
     {
-        let cpus = self.layout.cpus();
-        let lines = self.lines.into_vec();
+        let Scenario {
+            layout,
+            names,
+            lines,
+        } = self;
+        let cpus = layout.cpus();
+        drop(layout);
+        drop(names);
+        let lines = lines.into_vec();
         if let Some(index) = first_unfit(&lines, cpus) {
             let line = index as u64 + 1;
             return Err(ScenarioFault::NotForRun { line });

@@ -260,14 +260,20 @@ pub(crate) fn echo<'a>(alloc: Global, args: &[&'a str]) -> Result<Option<Request
     let [word, path] = args else {
         return Ok(None);
     };
-    let Some(word) = text_from(alloc, word)? else {
+    if word.is_empty() || path.is_empty() {
         return Ok(None);
-    };
-    let Some(path) = text_from(alloc, path)? else {
-        return Ok(None);
-    };
-    let echo = Echo::new(alloc, path, word)?;
+    }
+    let echo = echo_from(alloc, word, path)?;
     Ok(Some(Request::Plain(Work::Echo(echo))))
+}
+
+/// A word that is written to the control file at a path.
+fn echo_from(alloc: Global, word: &str, path: &str) -> Result<Echo, AllocError>
+    ensures { IfOk result (λ echo. echo ≡ record { path = path.now; word = word.now }) }
+{
+    let path = Text::new(String::from_str(alloc, path)?);
+    let word = Text::new(String::from_str(alloc, word)?);
+    Echo::new(alloc, path, word)
 }
 
 #[tactic(auto, unfolding(crate::specs::Lines::cat_of))]

@@ -24,3 +24,11 @@ numbered (Ok x) old new words text n m h same is =
     h ∙ ap (λ (k : ℕ). old ++ words ++ decimal k) same ∙ append_assoc old words (decimal m)
     ∙ ap (λ (t : List ℕ). old ++ t) (sym is)
 numbered (Err x) old new words text n m h same is = tt
+
+-- the line of a mapped page, written piece by piece
+pub page_written : (old s t u v w x new head name space at colon words end : List ℕ) (p f page frame : ℕ)
+    → s ≡ old ++ head → t ≡ s ++ name → u ≡ t ++ (space ++ decimal p) → v ≡ u ++ at ++ decimal f
+    → w ≡ v ++ colon → x ≡ w ++ words → new ≡ x ++ end → p ≡ page → f ≡ frame
+    → new ≡ old ++ (head ++ name ++ space ++ decimal page ++ at ++ decimal frame ++ colon ++ words ++ end)
+page_written old s t u v w x new head name space at colon words end p f page frame a b c d e g h i j =
+    rw (h, g, e, d, c, b, a, i, j) (simp append_assoc)

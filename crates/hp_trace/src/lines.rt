@@ -50,8 +50,7 @@ fn rows_of(alloc: Global, input: &[u8], view: View, form: Form) -> Result<Rows, 
     ensures err { IfErr result (λ fault. Fails fault (scenario_in input.now)) }
 {
     let scenario = Scenario::read(alloc, input)?;
-    let rows = trace_scenario(alloc, &scenario, view, form)?;
-    Ok(rows)
+    trace_scenario(alloc, &scenario, view, form)
 }
 
 /// The rows of a scenario, in a form. An error is out of memory.
@@ -60,8 +59,9 @@ fn trace_scenario(
     scenario: &Scenario,
     view: View,
     form: Form,
-) -> Result<Rows, AllocError>
-    ensures { IfOk result (λ rows. IsScenarioTraced form view (scenario_seen scenario.now) rows) }
+) -> Result<Rows, ScenarioFault>
+    ensures ok { IfOk result (λ rows. IsScenarioTraced form view (scenario_seen scenario.now) rows) }
+    ensures err { IfErr result (λ fault. fault ≡ ScenarioFault.OutOfMemory) }
 {
     let mut machine = Machine::boot(alloc, &scenario.layout)?;
     let mut rows = start(alloc, &machine, view, form)?;

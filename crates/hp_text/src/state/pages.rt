@@ -93,9 +93,9 @@ fn write_page_line(
     out.push_str(name)?;
     write_word(out, u64::from(page.0))?;
     write_numbered(out, " at ", u64::from(frame.0))?;
-    out.push(':')?;
+    out.push_str(":")?;
     write_words(out, words)?;
-    out.push('\n')?;
+    out.push_str("\n")?;
     Ok(())
 }
 

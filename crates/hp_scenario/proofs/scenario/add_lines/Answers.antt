@@ -1,6 +1,6 @@
 use Rattle.std.proofs.Common.{arith, rules}
 use Rattle.hp_scenario.proofs.LineLoop.{line_goes_on, line_stops, lines_done}
-use Rattle.hp_scenario.proofs.scenario.read_lines.Goals as goal
+use Rattle.hp_scenario.proofs.scenario.add_lines.Goals as goal
 
 pub returns-in_default : goal.returns-in_default
 returns-in_default c =
@@ -23,10 +23,7 @@ pub returns : goal.returns
 returns c =
     lines_done c.args.texts.now c.loop-index.index
     (record { names = c.loop-index.names.keys; lines = c.loop-index.lines.items }) _
-    (omega (arith, c.loop-index-test.false, c.len.ensures)) c.loop-index.invariant.0
-
-pub returns-in_err-lines : goal.returns-in_err-lines
-returns-in_err-lines c = search rules
+    (omega (arith, c.loop-index-test.false, c.len-index-end.ensures)) c.loop-index.invariant.0
 
 pub returns-in_err-line : goal.returns-in_err-line
 returns-in_err-line c = search rules

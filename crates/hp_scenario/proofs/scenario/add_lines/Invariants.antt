@@ -1,6 +1,6 @@
 use Rattle.std.proofs.Common.{◌≡◌, ◌+◌, ◌≤◌, drop, length, vec_len, vec_capacity}
 use Rattle.hp_scenario.specs.Scenario.{nothing, lines_from}
-use Rattle.hp_scenario.proofs.scenario.read_lines.Given as goal
+use Rattle.hp_scenario.proofs.scenario.add_lines.Given as goal
 
 abbrev pub invariant-loop-index : goal.invariant-loop-index
 invariant-loop-index l =
