@@ -1,44 +1,75 @@
 -- From level to level of a search, and what all ends say.
-use Rattle.std.proofs.Common.{◌≡◌, ℕ, ◌<◌, ◌≤◌, Bool, true, false, List, Option, Some, sum_by, refl, sym, subst, arith, inl, inr}
+use Rattle.std.proofs.Common.{◌≡◌, ℕ, ◌<◌, ◌≤◌, Bool, true, false, List, Option, Some, None, sum_by, refl, sym, subst, arith, inl, inr}
 use Rattle.std.specs.Prelude.{◌⊎◌, option_map}
-use Rattle.hp_schedules.specs.Ends.{AreEnds}
+use Rattle.hp_schedules.specs.Ends.{AreEnds, AreInOrder}
 use Rattle.hp_explore.specs.Faults.{FillsHistory, IsCause}
 use Rattle.hp_schedules.specs.Orders.{HasCount, HasMoreThan}
 use Rattle.hp_explore.specs.Fronts.{AreFirst, IfFirst, IfWhole}
 use Rattle.hp_schedules.specs.Outcomes.{OutcomeValue}
-use Rattle.hp_schedules.specs.Schedules.{IsComplete, Setting}
+use Rattle.hp_schedules.specs.Schedules.{EndsWith, IsComplete, Setting}
 use Rattle.hp_places.specs.Walks.{Before}
 use Rattle.hp_explore.specs.declared.exploring.Exploration.{Exploration}
 use Rattle.hp_explore.specs.declared.exploring.ExploreFault.{ExploreFault}
 use Rattle.hp_explore.specs.declared.exploring.ExploreFault.TheVariants.{HistoryFull, OutOfMemory}
 use Rattle.hp_schedules.specs.declared.tally.Ending.{Ending}
 use Rattle.hp_find.specs.Changes.{changes}
-use Rattle.hp_wanted.specs.Ends.{HasNoSuchEnd, IsSuchEnd}
+use Rattle.hp_wanted.specs.Ends.{HasNoSuchEnd, IsFirstSuchEnd}
 use Rattle.hp_find.specs.Faults.{IsFindCause, few_changes, find_fault_from}
-use Rattle.hp_find.specs.Reaching.{HasRoomAlong, IsAbsent, IsAbsentAmongFirst, IsFirstWithin, IsMetAmongFirst, IsNearestBelow, NeedsChanges, Reaches}
+use Rattle.hp_find.specs.Reaching.{HasRoomAlong, IsAbsent, IsAbsentAmongFirst, IsFirstWithin, IsMetAmongFirst, IsNearest, IsNearestBelow, NeedsChanges, Reaches, ReachesFirst}
 use Rattle.hp_wanted.specs.Wanted.{Meets}
 use Rattle.hp_find.specs.declared.fault.FindFault.TheVariants.{TooMany}
 use Rattle.hp_wanted.specs.declared.wanted.Wanted.{Wanted}
+use Rattle.hp_find.proofs.Firsts.{before_before, none_before}
 
 -- the first that has no more changes than each needs
 pub nearest_found : (g : Setting) (wanted : List Wanted) (budget below : ℕ) (s : List ℕ)
     → NeedsChanges g wanted budget → budget < below → IsFirstWithin g wanted budget (Some s)
     → IsNearestBelow g wanted below (Some s)
 nearest_found g wanted budget below s needs less found = (
-  (found.0, λ t reaches. let more : budget ≤ changes t = needs t reaches in omega (arith, more, found.1)),
+  (
+    found.0,
+    λ t reaches. let more : budget ≤ changes t = needs t reaches in omega (arith, more, found.1),
+    λ t reaches before.
+        let more : budget < changes t = found.2 t reaches before in omega (arith, more, found.1),
+  ),
   omega (arith, found.1, less),
-  found.2,
+  found.3,
 )
 
--- the first schedule of an end with the lines, where all schedules are counted, and where the first ones are
+-- the first that ends so, where each has as many changes or more
+pub known_nearest : (g : Setting) (wanted : List Wanted) (below : ℕ) (known : List ℕ)
+    → ReachesFirst g wanted known → below ≡ changes known → IsNearestBelow g wanted below None
+    → IsNearest g wanted known
+known_nearest g wanted below known reaches is needs = (
+  reaches.0,
+  subst (NeedsChanges g wanted) is needs,
+  λ t ends before. absurd (reaches.1 t ends before),
+)
+
+-- the first schedule of the first end with the lines, where all schedules are counted, and where the
+-- first ones are
 pub such_reaches : (g : Setting) (wanted : List Wanted) (limit : ℕ) (x : Exploration) (e : Ending)
-    → IfWhole x (AreEnds g) → IfFirst x (AreFirst g limit) → IsSuchEnd x.ends.items wanted e
-    → Reaches g wanted e.first.items
-such_reaches g wanted limit x e whole first such = by_kind x.is_whole refl
+    → IfWhole x (AreEnds g) → IfFirst x (AreFirst g limit) → AreInOrder x.ends.items
+    → IsFirstSuchEnd x.ends.items wanted e → ReachesFirst g wanted e.first.items
+such_reaches g wanted limit x e whole first ordered such = by_kind x.is_whole refl
   where
-    by_kind : (is_whole : Bool) → x.is_whole ≡ is_whole → Reaches g wanted e.first.items
-    by_kind true is = (e.outcome, ((whole is).firsts such.0 e such.1).holds, such.2)
-    by_kind false is = (e.outcome, ((first is).walked.counted.firsts such.0 e such.1).holds.1, such.2)
+    of_first : AreFirst g limit x.ends.items → ReachesFirst g wanted e.first.items
+    of_first ends =
+        let holds = (ends.walked.counted.firsts such.0 e such.1).holds in (
+          (e.outcome, holds.1, such.2),
+          λ t reaches before.
+              none_before (Before g ends.place) x.ends.items wanted e ends.walked.counted ordered such t
+              reaches.0 (before_before t e.first.items ends.place before holds.0, reaches.1) reaches.2 before,
+        )
+
+    by_kind : (is_whole : Bool) → x.is_whole ≡ is_whole → ReachesFirst g wanted e.first.items
+    by_kind true is = (
+      (e.outcome, ((whole is).firsts such.0 e such.1).holds, such.2),
+      λ t reaches before.
+          none_before (EndsWith g) x.ends.items wanted e (whole is) ordered such t reaches.0 reaches.1
+          reaches.2 before,
+    )
+    by_kind false is = of_first (first is)
 
 -- where no end of all has them no schedule does
 pub none_reaches : (g : Setting) (wanted : List Wanted) (ends : List Ending) → AreEnds g ends
@@ -66,7 +97,8 @@ none_first g wanted limit ends first none = (
 -- where there are more schedules than the limit, an end with the lines is one of the first ones
 pub met_within : (g : Setting) (wanted : List Wanted) (limit : ℕ) (x : Exploration) (e : Ending)
     → IfWhole x (λ ends. HasMoreThan (IsComplete g) limit → ⊥) → IfFirst x (AreFirst g limit)
-    → IsSuchEnd x.ends.items wanted e → HasMoreThan (IsComplete g) limit → IsMetAmongFirst g wanted limit
+    → IsFirstSuchEnd x.ends.items wanted e → HasMoreThan (IsComplete g) limit
+    → IsMetAmongFirst g wanted limit
 met_within g wanted limit x e few first such more = by_kind x.is_whole refl
   where
     by_kind : (is_whole : Bool) → x.is_whole ≡ is_whole → IsMetAmongFirst g wanted limit
@@ -90,7 +122,17 @@ pub nearest_at : {A : Type 0} (items : A → List ℕ) (g : Setting) (wanted : L
 nearest_at {A} items g wanted below found told is near =
     subst (λ (o : Option A). IsNearestBelow g wanted below (option_map items o)) is near
 
--- a schedule of more changes has room for its calls, where there are no more schedules than the limit
+-- no schedule fills the history, where there are no more than the limit
+pub none_fills : (g : Setting) (limit : ℕ) (x : Exploration) → IfWhole x (λ ends. FillsHistory g → ⊥)
+    → IfFirst x (λ ends. HasMoreThan (IsComplete g) limit) → (HasMoreThan (IsComplete g) limit → ⊥)
+    → FillsHistory g → ⊥
+none_fills g limit x room many none fills = by_kind x.is_whole refl
+  where
+    by_kind : (is_whole : Bool) → x.is_whole ≡ is_whole → ⊥
+    by_kind true is = room is fills
+    by_kind false is = none (many is)
+
+-- so a schedule of more changes has room for its calls
 pub found_recorded : (g : Setting) (limit : ℕ) (x : Exploration) (s : List ℕ)
     → IfWhole x (λ ends. FillsHistory g → ⊥) → IfFirst x (λ ends. HasMoreThan (IsComplete g) limit)
     → few_changes ≤ changes s → (changes s < few_changes) ⊎ (HasMoreThan (IsComplete g) limit → ⊥)
@@ -98,12 +140,8 @@ pub found_recorded : (g : Setting) (limit : ℕ) (x : Exploration) (s : List ℕ
 found_recorded g limit x s room many few cause fills =
     elim cause [
       | inl less ↦ omega (arith, few, less)
-      | inr none ↦ by_kind none x.is_whole refl
+      | inr none ↦ none_fills g limit x room many none (fills.0, fills.1)
     ]
-  where
-    by_kind : (HasMoreThan (IsComplete g) limit → ⊥) → (is_whole : Bool) → x.is_whole ≡ is_whole → ⊥
-    by_kind none true is = room is (fills.0, fills.1)
-    by_kind none false is = none (many is)
 
 -- ---- faults
 

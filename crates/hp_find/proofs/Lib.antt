@@ -1,3 +1,4 @@
+pub mod Firsts
 pub mod Growing
 pub mod Levels
 pub mod Reaching

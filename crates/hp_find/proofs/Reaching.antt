@@ -9,8 +9,7 @@ use Rattle.hp_schedules.specs.Schedules.{Setting, next_call, plays}
 use Rattle.hp_schedules.proofs.Plays.{asks_within, none_through, stops}
 use Rattle.hp_schedules.proofs.Regions.{before_first, before_longer, before_next, extends_before}
 use Rattle.hp_find.specs.Changes.{changes}
-use Rattle.hp_find.specs.Reaching.{NeedsChanges, Reaches}
-use Rattle.hp_find.specs.Searches.{IsPassed}
+use Rattle.hp_find.specs.Reaching.{IsPassed, NeedsChanges, Reaches}
 use Rattle.hp_wanted.specs.declared.wanted.Wanted.{Wanted}
 use Rattle.hp_find.proofs.Growing.{changes_longer}
 

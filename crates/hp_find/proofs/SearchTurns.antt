@@ -11,10 +11,11 @@ use Rattle.hp_schedules.specs.Outcomes.{OutcomeValue, outcome}
 use Rattle.hp_schedules.specs.Schedules.{Setting, next_call, outcome_after, play_one, plays, record_of_call, schedule_of}
 use Rattle.hp_explore.proofs.Framing.{longer_schedule}
 use Rattle.hp_schedules.proofs.Plays.{asks_within, caller, only_this, plays_on, plays_one}
+use Rattle.hp_schedules.proofs.Regions.{before_longer}
 use Rattle.hp_explore.proofs.Walked.{room_after}
 use Rattle.hp_find.specs.Changes.{changes}
-use Rattle.hp_find.specs.Reaching.{IsFirstWithin, NeedsChanges, Reaches}
-use Rattle.hp_find.specs.Searches.{IsCloser, IsDown, IsPassed, IsSearching, IsTakenBack, IsTurned, IsUp, SearchValue, room_of, search_at}
+use Rattle.hp_find.specs.Reaching.{IsFirstWithin, IsPassed, NeedsChanges, Reaches}
+use Rattle.hp_find.specs.Searches.{IsCloser, IsDown, IsSearching, IsTakenBack, IsTurned, IsUp, SearchValue, room_of, search_at}
 use Rattle.hp_wanted.specs.Wanted.{Meets}
 use Rattle.hp_find.specs.declared.searching.Turn.{Turn}
 use Rattle.hp_find.specs.declared.searching.Turn.TheVariants.{On, Found, Over}
@@ -242,6 +243,16 @@ gone_up wanted budget v w Over all played no_end here up =
         passed_whole v.path.setting wanted budget [] played no_end
         (subst (λ (n : ℕ). IsPassed v.path.setting wanted budget (n ∷ [])) all
         (subst (λ (s : List ℕ). IsPassed v.path.setting wanted budget (s ++ v.next ∷ [])) none here.passed))
+
+-- a search that stands at one: all before it is passed by
+pub found_at : (wanted : List Wanted) (budget : ℕ) (v : SearchValue) → IsSearching wanted budget v
+    → Reaches v.path.setting wanted (schedule_of v.path.news) → IsTurned wanted budget v v Found
+found_at wanted budget v here reaches = (
+  subst (Reaches v.path.setting wanted) (sym here.schedule) reaches,
+  here.within,
+  λ s ends before. here.passed s ends (before_longer s v.schedule (v.next ∷ []) before),
+  here.along,
+)
 
 -- a search that found one
 pub found_here : (g : Setting) (wanted : List Wanted) (budget : ℕ) (v w : SearchValue) (turn : Turn)

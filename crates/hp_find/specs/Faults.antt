@@ -32,10 +32,12 @@ IsWithin g wanted limit (Nearest schedule) =
     few_changes ≤ changes schedule.items → HasMoreThan (IsComplete g) limit → IsMetAmongFirst g wanted limit
 IsWithin g wanted limit (Absent schedules) = HasMoreThan (IsComplete g) limit → ⊥
 
--- none is told as absent where a schedule fills the history
-abbrev pub SparesHistory : Setting → Found → Type 0
-SparesHistory g (Nearest schedule) = Unit {0}
-SparesHistory g (Absent schedules) = FillsHistory g → ⊥
+-- no schedule fills the history where none is told to end so, nor where one with more changes is and
+-- there are no more schedules than the limit
+abbrev pub SparesHistory : Setting → (limit : ℕ) → Found → Type 0
+SparesHistory g limit (Nearest schedule) =
+    few_changes ≤ changes schedule.items → (HasMoreThan (IsComplete g) limit → ⊥) → FillsHistory g → ⊥
+SparesHistory g limit (Absent schedules) = FillsHistory g → ⊥
 
 -- the history has room for each call of the schedule that was found, if it has few changes, or there
 -- are no more schedules than the limit

@@ -19,9 +19,18 @@ Reaches g wanted s = (x : OutcomeValue) × EndsWith g s x × Meets wanted x
 abbrev pub NeedsChanges : Setting → List Wanted → (least : ℕ) → Type 0
 NeedsChanges g wanted least = (s : List ℕ) → Reaches g wanted s → least ≤ changes s
 
--- a schedule does, and none does with fewer changes of processor
+-- each that does and stands before a place has more changes than a budget
+abbrev pub IsPassed : Setting → List Wanted → (budget : ℕ) → (place : List ℕ) → Type 0
+IsPassed g wanted budget place = (s : List ℕ) → Reaches g wanted s → IsBefore s place → budget < changes s
+
+-- a schedule does, none with fewer changes of processor does, and none before it with as many
 abbrev pub IsNearest : Setting → List Wanted → List ℕ → Type 0
-IsNearest g wanted s = Reaches g wanted s × NeedsChanges g wanted (changes s)
+IsNearest g wanted s =
+    Reaches g wanted s × NeedsChanges g wanted (changes s) × IsPassed g wanted (changes s) s
+
+-- a schedule does, and none that stands before it
+abbrev pub ReachesFirst : Setting → List Wanted → List ℕ → Type 0
+ReachesFirst g wanted s = Reaches g wanted s × ((t : List ℕ) → Reaches g wanted t → IsBefore t s → ⊥)
 
 -- none does, and there are so many complete schedules
 abbrev pub IsAbsent : Setting → List Wanted → ℕ → Type 0
@@ -48,13 +57,14 @@ abbrev pub IsFound : Setting → List Wanted → Found → Type 0
 IsFound g wanted (Nearest schedule) = IsNearest g wanted schedule.items
 IsFound g wanted (Absent schedules) = IsAbsent g wanted schedules
 
--- the first that was found from some number of changes on is a nearest one, with fewer than so
--- many, and can be recorded; where there is none, each has so many changes or more
+-- what was found from some number of changes on is the nearest, with fewer than so many, and can be
+-- recorded; where there is none, each has so many changes or more
 abbrev pub IsNearestBelow : Setting → List Wanted → (below : ℕ) → Option (List ℕ) → Type 0
 IsNearestBelow g wanted below None = NeedsChanges g wanted below
 IsNearestBelow g wanted below (Some s) = IsNearest g wanted s × (changes s < below) × HasRoomAlong g s
 
--- one that has at most so many changes and can be recorded; where there is none, each has more
+-- the first that has at most so many changes, and can be recorded; where none has, each has more
 abbrev pub IsFirstWithin : Setting → List Wanted → (budget : ℕ) → Option (List ℕ) → Type 0
 IsFirstWithin g wanted budget None = NeedsChanges g wanted (budget + 1)
-IsFirstWithin g wanted budget (Some s) = Reaches g wanted s × (changes s ≤ budget) × HasRoomAlong g s
+IsFirstWithin g wanted budget (Some s) =
+    Reaches g wanted s × (changes s ≤ budget) × IsPassed g wanted budget s × HasRoomAlong g s

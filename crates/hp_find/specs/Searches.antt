@@ -1,17 +1,12 @@
 -- How far a search is that may change the processor only so often.
 use Rattle.std.specs.Prelude.{◌≡◌, ◌⊎◌, ℕ, zero, suc, ◌+◌, ◌-◌, ◌*◌, ◌<◌, ◌≤◌, true, List, [], ◌∷◌, ◌++◌, None, Some, length}
-use Rattle.hp_schedules.specs.Orders.{IsBefore}
 use Rattle.hp_explore.specs.Paths.{IsBack, IsForth, PathValue}
 use Rattle.hp_schedules.specs.Schedules.{Setting, next_call, schedule_of}
 use Rattle.hp_find.specs.Changes.{changes}
-use Rattle.hp_find.specs.Reaching.{HasRoomAlong, NeedsChanges, Reaches}
+use Rattle.hp_find.specs.Reaching.{HasRoomAlong, IsFirstWithin, IsPassed}
 use Rattle.hp_find.specs.declared.searching.Turn.{Turn}
 use Rattle.hp_find.specs.declared.searching.Turn.TheVariants.{On, Found, Over}
 use Rattle.hp_wanted.specs.declared.wanted.Wanted.{Wanted}
-
--- each schedule before a place that ends as is wanted has more changes than the budget
-abbrev pub IsPassed : Setting → List Wanted → (budget : ℕ) → (place : List ℕ) → Type 0
-IsPassed g wanted budget place = (s : List ℕ) → Reaches g wanted s → IsBefore s place → budget < changes s
 
 -- ---- how many turns are left
 
@@ -93,7 +88,5 @@ pub record IsCloser (wanted : List Wanted) (budget : ℕ) (v w : SearchValue) : 
 -- what a turn came to
 abbrev pub IsTurned : List Wanted → (budget : ℕ) → SearchValue → SearchValue → Turn → Type 0
 IsTurned wanted budget v w On = IsCloser wanted budget v w
-IsTurned wanted budget v w Found =
-    Reaches v.path.setting wanted w.schedule × (changes w.schedule ≤ budget)
-    × HasRoomAlong v.path.setting w.schedule
-IsTurned wanted budget v w Over = NeedsChanges v.path.setting wanted (budget + 1)
+IsTurned wanted budget v w Found = IsFirstWithin v.path.setting wanted budget (Some w.schedule)
+IsTurned wanted budget v w Over = IsFirstWithin v.path.setting wanted budget None

@@ -3,7 +3,7 @@ ghost use Rattle.std.specs.Prelude.{◌≡◌, ◌<◌, ◌≤◌, ◌^◌, IfEr
 ghost use Rattle.hp_explore.specs.Faults.{IsCause};
 ghost use Rattle.hp_explore.specs.Settings.{setting};
 ghost use Rattle.hp_find.specs.Faults.{IsFindCause, IsRecorded, IsWithin, SparesHistory};
-ghost use Rattle.hp_find.specs.Reaching.{IsFound, IsNearest, IsNearestBelow, NeedsChanges, Reaches};
+ghost use Rattle.hp_find.specs.Reaching.{IsFound, IsNearest, IsNearestBelow, NeedsChanges, ReachesFirst};
 
 use crate::changes::changes_of;
 use crate::fault::FindFault;
@@ -21,17 +21,18 @@ const FEW: u64 = 3;
 /// What a search found.
 #[derive(Drop)]
 pub enum Found {
-    /// A schedule that ends as is wanted, with the fewest changes of processor: the processors in
-    /// the order of their calls.
+    /// The first schedule that ends as is wanted with the fewest changes of processor: the processors
+    /// in the order of their calls.
     Nearest(Vec<Cpu>),
     /// None ends so, and there are so many complete schedules.
     Absent(u128),
 }
 
 /// A complete schedule of the processors' scripts on a machine as it stands whose end has each of
-/// the wanted lines, with the fewest changes of processor; or that there is none, and how many
-/// schedules there are (own rule). Script k is that of processor k. The machine stays as it is. The
-/// watch is told how far the count of all schedules has come.
+/// the wanted lines, with the fewest changes of processor, the first of these in the order of
+/// `explore`; or that there is none, and how many schedules there are (own rule). Script k is that
+/// of processor k. The machine stays as it is. The watch is told how far the count of all schedules
+/// has come.
 ///
 /// An error is `HistoryFull` where the layout's history has no room for all calls of a schedule,
 /// `OutOfMemory`, or `TooMany` where there are more schedules than the limit, and none with fewer
@@ -49,7 +50,7 @@ pub fn find<W: Watch>(
     requires { length scripts.now < 2 ^ 32 }
     ensures ok { IfOk result (IsFound (setting machine.now scripts.now) wanted.now) }
     ensures few { IfOk result (IsWithin (setting machine.now scripts.now) wanted.now limit) }
-    ensures room { IfOk result (SparesHistory (setting machine.now scripts.now)) }
+    ensures room { IfOk result (SparesHistory (setting machine.now scripts.now) limit) }
     ensures along { IfOk result (IsRecorded (setting machine.now scripts.now) limit) }
     ensures err { IfErr result (IsFindCause (setting machine.now scripts.now) wanted.now limit) }
 {
@@ -72,7 +73,9 @@ pub fn find<W: Watch>(
     }
 }
 
-/// A schedule with the fewest changes, where one is known and none has fewer than `FEW`.
+/// The first schedule with the fewest changes, where the first of all that end so is known and none
+/// has fewer than `FEW`.
+#[tactic(auto, using(crate::proofs::Levels::known_nearest))]
 fn nearest_to(
     alloc: Global,
     machine: &Machine,
@@ -81,7 +84,7 @@ fn nearest_to(
     known: &[Cpu],
 ) -> Result<Vec<Cpu>, ExploreFault>
     requires few { length scripts.now < 2 ^ 32 }
-    requires known { Reaches (setting machine.now scripts.now) wanted.now known.now }
+    requires known { ReachesFirst (setting machine.now scripts.now) wanted.now known.now }
     requires from { NeedsChanges (setting machine.now scripts.now) wanted.now FEW }
     ensures ok { IfOk result (λ s. IsNearest (setting machine.now scripts.now) wanted.now s.items) }
     ensures err { IfErr result (IsCause (setting machine.now scripts.now)) }
@@ -93,7 +96,7 @@ fn nearest_to(
     }
 }
 
-/// A schedule with the fewest changes, where none has fewer than the first number, and one has
+/// The first schedule with the fewest changes, where none has fewer than the first number, if any has
 /// fewer than the second.
 #[tactic(auto, using(crate::proofs::Levels::nearest_found))]
 fn nearest_below(

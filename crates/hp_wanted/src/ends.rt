@@ -1,13 +1,13 @@
 //! Which of an exploration's ends are as wanted.
 ghost use Rattle.std.specs.Prelude.{IfNone, IfSome};
-ghost use Rattle.hp_wanted.specs.Ends.{HasNoSuchEnd, IsSuchEnd};
+ghost use Rattle.hp_wanted.specs.Ends.{HasNoSuchEnd, IsFirstSuchEnd};
 
 use crate::wanted::{Wanted, are_met};
 use hp_schedules::Ending;
 
 /// The first end that has each of the lines.
 pub fn end_with<'a>(ends: &'a [Ending], wanted: &[Wanted]) -> Option<&'a Ending>
-    ensures some { IfSome result (λ end. IsSuchEnd ends.now wanted.now end.now) }
+    ensures some { IfSome result (λ end. IsFirstSuchEnd ends.now wanted.now end.now) }
     ensures none { IfNone result (HasNoSuchEnd ends.now wanted.now) }
 {
     for index in 0..ends.len() {

@@ -25,6 +25,7 @@ returns-then-are_met-clause-some c = (
       c.index-ends-index-then-are_met.result c.loop-index-test.true c.index-ends-index.is
       c.index-ends-index-then-are_met.is)
       (c.are_met.ensures.0 c.if-are_met.true),
+  c.loop-index.invariant.none,
 )
 
 pub returns-clause-none : goal.returns-clause-none

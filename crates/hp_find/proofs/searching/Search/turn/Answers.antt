@@ -5,7 +5,7 @@ use Rattle.std.proofs.lemmas.Result.{err_from_is_err_and}
 use Rattle.hp_schedules.specs.Schedules.{plays, schedule_of}
 use Rattle.hp_explore.proofs.Filled.{cause_of_call}
 use Rattle.hp_find.specs.Searches.{SearchValue}
-use Rattle.hp_find.proofs.SearchTurns.{gone_down, gone_up}
+use Rattle.hp_find.proofs.SearchTurns.{found_at, gone_down, gone_up}
 use Rattle.hp_find.proofs.searching.Search.turn.Goals as goal
 
 pub returns-then-self-processors-clause-ok : goal.returns-then-self-processors-clause-ok
@@ -22,6 +22,11 @@ returns-then-self-processors-clause-ok c =
     (subst (λ (w : SearchValue). plays w.path.setting (schedule_of w.path.news) ≡ Some w.path.news)
     c.self.view_is c.is_played.ensures)
     c.requires.searching c.in_ok-down.ensures.ok
+
+pub returns-then-branch-clause-ok : goal.returns-then-branch-clause-ok
+returns-then-branch-clause-ok c =
+    found_at c.args.wanted.now c.args.budget c.args.self.now c.requires.searching
+    (c.in_ok-is_end.ensures.0 c.if-branch.true)
 
 pub returns-clause-ok : goal.returns-clause-ok
 returns-clause-ok c =
