@@ -1,29 +1,50 @@
 -- The causes of faults of a part's search; and the search of the only part of one.
-use Rattle.std.proofs.Common.{◌≡◌, ℕ, List, [], Some, length, refl, inr}
+use Rattle.std.proofs.Common.{◌≡◌, ℕ, ◌≤◌, List, [], ◌∷◌, ◌++◌, Some, length, refl, sym, inr}
+use Rattle.std.specs.Prelude.{sum_by}
 use Rattle.hp_schedules.specs.Ends.{AreCounted}
-use Rattle.hp_explore.specs.Faults.{FillsHistory, FillsPart, IsCause, IsCauseHere, IsCausePart}
+use Rattle.hp_explore.specs.Faults.{FillsHistory, FillsPart, IsCause, IsCauseHere, IsCausePart, IsCausePartWithin, IsCauseWithin}
 use Rattle.hp_schedules.specs.Orders.{HasMoreThan}
 use Rattle.hp_explore.specs.Fronts.{AreFirst, AreFirstInPart}
+use Rattle.hp_schedules.specs.Outcomes.{OutcomeValue}
 use Rattle.hp_schedules.specs.Parts.{ComesTo, EndsInPart, IsCompleteInPart, PartValue}
 use Rattle.hp_schedules.specs.Schedules.{EndsWith, IsComplete, Setting, plays, schedule_of}
-use Rattle.hp_places.specs.Walks.{Before, BeforeInPart, IsPartWalkedThrough}
+use Rattle.hp_places.specs.Walks.{Before, BeforeInPart, IsPartWalkedBefore, IsPartWalkedThrough}
 use Rattle.hp_explore.specs.declared.exploring.ExploreFault.{ExploreFault}
 use Rattle.hp_explore.specs.declared.exploring.ExploreFault.TheVariants.{HistoryFull, OutOfMemory}
 use Rattle.hp_schedules.specs.declared.tally.Ending.{Ending}
 use Rattle.hp_schedules.proofs.Counts.{same_counted}
+use Rattle.hp_schedules.proofs.Uniqueness.{no_more}
 use Rattle.hp_units.specs.declared.replies.Record.{Record}
 use Rattle.hp_places.proofs.OfPart.{whole}
 
--- the cause of a fault of a call that the search makes
-pub cause_part : (g : Setting) (part : PartValue) (news : List Record) (cpu : ℕ) (fault : ExploreFault)
+-- the cause of a fault of a call that the search makes, where all before it was walked
+pub cause_within : (g : Setting) (part : PartValue) (news : List Record) (cpu : ℕ) (ends : List Ending)
+    (limit : ℕ) (fault : ExploreFault)
     → plays g (schedule_of news) ≡ Some news → ComesTo (length g.scripts) part (schedule_of news)
-    → IsCauseHere g news cpu fault → IsCausePart g part fault
-cause_part g part news cpu HistoryFull played comes full = (
-  schedule_of news,
-  record { news = news; cpu = cpu; event = full.0; played = played; asked = full.1; full = full.2 },
-  comes,
-)
-cause_part g part news cpu OutOfMemory played comes any = tt
+    → IsPartWalkedBefore g part (schedule_of news ++ cpu ∷ []) ends
+    → sum_by (λ (e : Ending). e.count) ends ≤ limit → IsCauseHere g news cpu fault
+    → IsCausePartWithin g part limit fault
+cause_within g part news cpu ends limit HistoryFull played comes walked within full = record {
+  place = schedule_of news;
+  call = record { news = news; cpu = cpu; event = full.0; played = played; asked = full.1; full = full.2 };
+  comes = comes;
+  first = walked.room;
+  few =
+      no_more (λ s. (x : OutcomeValue) × BeforeInPart g part (schedule_of news ++ cpu ∷ []) s x)
+      (sum_by (λ (e : Ending). e.count) ends) limit within walked.counted.total;
+}
+cause_within g part news cpu ends limit OutOfMemory played comes walked within any = tt
+
+-- by a setting, a part and a limit that are the same
+pub cause_here : (g h : Setting) (part own : PartValue) (limit most : ℕ) (fault : ExploreFault) → g ≡ h
+    → part ≡ own → limit ≡ most → IsCausePartWithin g part limit fault → IsCausePartWithin h own most fault
+cause_here g h part own limit most fault same this most_is cause = rw (sym same, sym this, sym most_is) cause
+
+-- it is one of the part's search, whatever the limit
+pub cause_part : (g : Setting) (part : PartValue) (limit : ℕ) (fault : ExploreFault)
+    → IsCausePartWithin g part limit fault → IsCausePart g part fault
+cause_part g part limit HistoryFull cause = (cause.place, cause.call, cause.comes)
+cause_part g part limit OutOfMemory any = tt
 
 -- after all no call of a part fills the history
 pub none_fills : (g : Setting) (part : PartValue) (ends : List Ending) → IsPartWalkedThrough g part [] ends
@@ -74,3 +95,25 @@ fills_whole g fills = (fills.0, fills.1, inr refl)
 pub cause_whole : (g : Setting) (fault : ExploreFault) → IsCausePart g whole fault → IsCause g fault
 cause_whole g HistoryFull cause = (cause.0, cause.1)
 cause_whole g OutOfMemory cause = tt
+
+pub within_whole : (g : Setting) (limit : ℕ) (fault : ExploreFault) → IsCausePartWithin g whole limit fault
+    → IsCauseWithin g limit fault
+within_whole g limit HistoryFull cause = record {
+  place = cause.place;
+  call = cause.call;
+  first = λ s h b. cause.first s h (inr refl) b;
+  few =
+      λ more. cause.few (
+        more.0,
+        record {
+          each =
+              λ i s h. (
+                (more.1.each i s h).0,
+                ((more.1.each i s h).1.0, ((more.1.each i s h).1.1, refl)),
+              );
+          once = more.1.once;
+        },
+        more.2,
+      );
+}
+within_whole g limit OutOfMemory any = tt

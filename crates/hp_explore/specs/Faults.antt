@@ -5,7 +5,9 @@ use Rattle.hp_units.specs.declared.replies.Record.{Record}
 use Rattle.hp_explore.specs.declared.exploring.ExploreFault.{ExploreFault}
 use Rattle.hp_explore.specs.declared.exploring.ExploreFault.TheVariants.{HistoryFull, OutOfMemory}
 use Rattle.hp_places.specs.Rooms.{HasNoRoom, is_full_after}
-use Rattle.hp_schedules.specs.Orders.{Extends}
+use Rattle.hp_places.specs.Walks.{Before, BeforeInPart, HasPartRoomBefore, HasRoomBefore}
+use Rattle.hp_schedules.specs.Orders.{Extends, HasMoreThan}
+use Rattle.hp_schedules.specs.Outcomes.{OutcomeValue}
 use Rattle.hp_schedules.specs.Schedules.{Setting, next_call}
 use Rattle.hp_units.specs.declared.replies.CallFault.{CallFault}
 use Rattle.hp_units.specs.declared.replies.CallFault.TheVariants.{HistoryFull as CallFull, OutOfMemory as CallMemory}
@@ -45,6 +47,34 @@ FillsPart g part = (s : List ℕ) × HasNoRoom g s × ComesTo (length g.scripts)
 abbrev pub IsCausePart : Setting → PartValue → ExploreFault → Type 0
 IsCausePart g part HistoryFull = FillsPart g part
 IsCausePart g part OutOfMemory = Unit {0}
+
+-- ---- in a search with a limit
+
+-- it comes to a call for which the history has no room: the first such in the order of the walk,
+-- before which there are no more complete schedules than the limit
+pub record FillsWithin (g : Setting) (limit : ℕ) : Type 0 where
+  pub place : List ℕ
+  pub call : HasNoRoom g place
+  pub first : HasRoomBefore g (place ++ call.cpu ∷ [])
+  pub few : HasMoreThan (λ s. (x : OutcomeValue) × Before g (place ++ call.cpu ∷ []) s x) limit → ⊥
+
+-- the same of a part's search, and of its schedules
+pub record FillsPartWithin (g : Setting) (part : PartValue) (limit : ℕ) : Type 0 where
+  pub place : List ℕ
+  pub call : HasNoRoom g place
+  pub comes : ComesTo (length g.scripts) part place
+  pub first : HasPartRoomBefore g part (place ++ call.cpu ∷ [])
+  pub few :
+      HasMoreThan (λ s. (x : OutcomeValue) × BeforeInPart g part (place ++ call.cpu ∷ []) s x) limit → ⊥
+
+-- the causes of their faults
+abbrev pub IsCauseWithin : Setting → (limit : ℕ) → ExploreFault → Type 0
+IsCauseWithin g limit HistoryFull = FillsWithin g limit
+IsCauseWithin g limit OutOfMemory = Unit {0}
+
+abbrev pub IsCausePartWithin : Setting → PartValue → (limit : ℕ) → ExploreFault → Type 0
+IsCausePartWithin g part limit HistoryFull = FillsPartWithin g part limit
+IsCausePartWithin g part limit OutOfMemory = Unit {0}
 
 -- ---- of a call
 

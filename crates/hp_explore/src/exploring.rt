@@ -1,7 +1,7 @@
 //! The exploration of scripts on a machine.
 ghost use Rattle.std.specs.Prelude.{◌^◌, ◌<◌, ◌≤◌, IfErr, IfOk, length, sum_by};
 ghost use Rattle.hp_schedules.specs.Ends.{AreCounted, AreEnds, AreInOrder};
-ghost use Rattle.hp_explore.specs.Faults.{FillsHistory, FillsPart, IsCause, IsCausePart};
+ghost use Rattle.hp_explore.specs.Faults.{FillsHistory, FillsPart, IsCause, IsCausePart, IsCausePartWithin, IsCauseWithin};
 ghost use Rattle.hp_schedules.specs.Interleavings.{IsRoomNeeded};
 ghost use Rattle.hp_schedules.specs.Orders.{HasMoreThan};
 ghost use Rattle.hp_explore.specs.Fronts.{AreFirst, AreFirstInPart, IfFirst, IfWhole};
@@ -70,8 +70,9 @@ impl From<CallFault> for ExploreFault {
 /// many as the limit. Script k is that of processor k. The machine stays as it is. The watch is told
 /// how far the search has come.
 ///
-/// An error is `HistoryFull` where a schedule leads to a call for which the layout's history has no
-/// room, or `OutOfMemory`. Where neither holds, there is no error.
+/// An error is `HistoryFull` where the walk comes to a call for which the layout's history has no
+/// room, before it comes to more schedules than the limit; or `OutOfMemory`. Where neither holds,
+/// there is no error.
 pub fn explore<W: Watch>(
     alloc: Global,
     machine: &Machine,
@@ -95,6 +96,7 @@ pub fn explore<W: Watch>(
     ensures within { IfOk result (λ x. sum_by (λ e. e.count) x.ends.items ≤ limit) }
     ensures ordered { IfOk result (λ x. AreInOrder x.ends.items) }
     ensures err { IfErr result (IsCause (setting machine.now scripts.now)) }
+    ensures full { IfErr result (IsCauseWithin (setting machine.now scripts.now) limit) }
 {
     explore_part(alloc, machine, scripts, Part::whole(), limit, watch)
 }
@@ -104,8 +106,9 @@ pub fn explore<W: Watch>(
 /// more schedules belong to the part than the limit, they are the ends of the first of these.
 ///
 /// An error is `HistoryFull` where the search of the part comes to a call for which the layout's
-/// history has no room: that of a schedule with fewer calls than the parts go by, or of one that
-/// belongs to the part; or `OutOfMemory`. Where neither holds, there is no error.
+/// history has no room, before it comes to more of its schedules than the limit: that of a schedule
+/// with fewer calls than the parts go by, or of one that belongs to the part; or `OutOfMemory`. Where
+/// neither holds, there is no error.
 pub fn explore_part<W: Watch>(
     alloc: Global,
     machine: &Machine,
@@ -132,6 +135,7 @@ pub fn explore_part<W: Watch>(
     ensures within { IfOk result (λ x. sum_by (λ e. e.count) x.ends.items ≤ limit) }
     ensures ordered { IfOk result (λ x. AreInOrder x.ends.items) }
     ensures err { IfErr result (IsCausePart (setting machine.now scripts.now) part) }
+    ensures full { IfErr result (IsCausePartWithin (setting machine.now scripts.now) part limit) }
 {
     let mut walk = Walk::start(alloc, machine, scripts, part, limit)?;
     let is_whole = walk.run(alloc, watch)?;

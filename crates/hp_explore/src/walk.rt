@@ -4,7 +4,7 @@ ghost use Rattle.hp_schedules.specs.Alike.{UndoNothing};
 ghost use Rattle.hp_explore.specs.Frames.{IsComing, IsDone, IsSameWalk, IsTurnedTo, IsWalking, frames_of, left, left_before};
 ghost use Rattle.hp_explore.specs.Fronts.{AreFirstInPart};
 ghost use Rattle.hp_schedules.specs.Notes.{HasRoom};
-ghost use Rattle.hp_explore.specs.Faults.{IsCausePart};
+ghost use Rattle.hp_explore.specs.Faults.{IsCausePartWithin};
 ghost use Rattle.hp_explore.specs.Paths.{IsBack};
 ghost use Rattle.hp_schedules.specs.Schedules.{schedule_of};
 ghost use Rattle.hp_explore.specs.Settings.{setting};
@@ -94,7 +94,8 @@ impl<'a> Walk<'a> {
         requires { IsComing self.old (frames_of self.old) }
         ensures same { OnOk result (IsSameWalk self.old self.new) }
         ensures done { IfOk result (IsDone self.new) }
-        ensures err { IfErr result (IsCausePart self.old.path.setting self.old.part) }
+        ensures err { IfErr result
+            (IsCausePartWithin self.old.path.setting self.old.part self.old.tally.limit) }
     {
         self.come_to(alloc, watch)?;
         'turns: loop {
@@ -111,7 +112,8 @@ impl<'a> Walk<'a> {
         requires { IsWalking self.old (frames_of self.old) }
         ensures same { OnOk result (IsSameWalk self.old self.new) }
         ensures ok { IfOk result (IsTurnedTo self.old self.new) }
-        ensures err { IfErr result (IsCausePart self.old.path.setting self.old.part) }
+        ensures err { IfErr result
+            (IsCausePartWithin self.old.path.setting self.old.part self.old.tally.limit) }
     {
         let Some(frame) = self.frames.pop() else {
             return Ok(Turned::Over);
@@ -171,10 +173,12 @@ impl<'a> Walk<'a> {
         ensures same { OnOk result (IsSameWalk self.old self.new) }
         ensures less { OnOk result
             (left self.new (frames_of self.new) < left self.old (frame ∷ frames_of self.old)) }
-        ensures err { IfErr result (IsCausePart self.old.path.setting self.old.part) }
+        ensures err { IfErr result
+            (IsCausePartWithin self.old.path.setting self.old.part self.old.tally.limit) }
     {
         self.frames.reserve(1)?;
         self.path.is_played();
+        self.is_within();
         if !self.path.forward(alloc, frame.next)? {
             self.frames.push_reserved(frame.passed());
             return Ok(());
@@ -183,6 +187,13 @@ impl<'a> Walk<'a> {
         self.memo.go_on(alloc, latest(self.path.records()))?;
         self.come_to(alloc, watch)?;
         Ok(())
+    }
+
+    /// No more schedules are counted than the limit says.
+    fn is_within(&self)
+        ensures { sum_by (λ e. e.count) self.now.tally.ends ≤ self.now.tally.limit }
+    {
+        let _ = self.tally.room();
     }
 
     /// Comes to a place by a call, or begins: the place gets a frame of its own, or is left at once

@@ -3,7 +3,9 @@ use Rattle.std.proofs.Common.{ℕ, ◌≤◌, Bool, List, Option, Some, None, su
 use Rattle.hp_explore.specs.declared.exploring.Exploration.{Exploration}
 use Rattle.hp_schedules.specs.declared.multinomials.HowMany.{HowMany}
 use Rattle.hp_schedules.specs.Ends.{AreEnds, AreInOrder}
-use Rattle.hp_explore.specs.Faults.{FillsHistory}
+use Rattle.hp_explore.specs.Faults.{FillsHistory, IsCause, IsCauseWithin}
+use Rattle.hp_explore.specs.declared.exploring.ExploreFault.{ExploreFault}
+use Rattle.hp_explore.specs.declared.exploring.ExploreFault.TheVariants.{HistoryFull, OutOfMemory}
 use Rattle.hp_schedules.specs.Orders.{HasMoreThan}
 use Rattle.hp_explore.specs.Fronts.{AreFirst, IfFirst, IfWhole}
 use Rattle.hp_schedules.specs.Schedules.{IsComplete, Setting}
@@ -37,3 +39,9 @@ is_explored form names before g limit x text found whole few room first many ord
   within = within;
   told = told.2;
 }
+
+-- a call to which the search comes is one of all
+pub cause_known : (g : Setting) (limit : ℕ) (fault : ExploreFault) → IsCauseWithin g limit fault
+    → IsCause g fault
+cause_known g limit HistoryFull cause = (cause.place, cause.call)
+cause_known g limit OutOfMemory cause = tt

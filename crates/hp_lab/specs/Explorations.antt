@@ -6,11 +6,13 @@ use Rattle.hp_schedules.specs.Ends.{AreEnds, AreInOrder}
 use Rattle.hp_schedules.specs.Interleavings.{IsKnown}
 use Rattle.hp_schedules.specs.Orders.{HasMoreThan}
 use Rattle.hp_schedules.specs.Schedules.{IsComplete, Setting}
-use Rattle.hp_explore.specs.Faults.{FillsHistory}
+use Rattle.hp_explore.specs.Faults.{FillsHistory, IsCauseWithin}
 use Rattle.hp_explore.specs.Fronts.{AreFirst}
 use Rattle.hp_scenario.specs.declared.lines.Line.{Line}
 use Rattle.hp_ends.specs.declared.forms.EndsForm.{EndsForm}
+use Rattle.hp_lab_faults.specs.declared.fault.LabFault.{LabFault}
 use Rattle.hp_prepared.specs.Ends.{AreEndsTold}
+use Rattle.hp_prepared.specs.Faults.{IsFaultWith}
 use Rattle.hp_prepared.specs.Holding.{HoldsIn}
 
 -- ---- on a machine
@@ -41,3 +43,8 @@ abbrev pub IsExplorationOf : EndsForm → (input : List ℕ) → (setup limit : 
     → Type 0
 IsExplorationOf form input setup limit text found =
     HoldsIn (λ names before g. IsExploredOn form names before g limit text found) input setup
+
+-- when each fault comes: a full history only by a call to which the search comes within its limit
+abbrev pub IsFaultWithin : (input : List ℕ) → (setup limit : ℕ) → LabFault → Type 0
+IsFaultWithin input setup limit fault =
+    IsFaultWith (λ g. ⊥) (λ g. IsCauseWithin g limit) input setup limit fault

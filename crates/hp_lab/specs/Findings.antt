@@ -27,14 +27,14 @@ IsFoundTold form names before g (Nearest schedule) text found =
 IsFoundTold form names before g (Absent schedules) text found =
     (text ≡ absent_told form schedules) × (found ≡ false)
 
--- of one whose end has each of the wanted lines, with the fewest changes of processor, or of none;
--- as far as the limit and the history allow it to be told
+-- of the first whose end has each of the wanted lines with the fewest changes of processor, or of
+-- none; as far as the limit and the history allow it to be told
 pub record IsFoundOn (form : ScheduleForm) (names : List (List ℕ)) (before : List Line) (g : Setting)
     (wanted : List Wanted) (limit : ℕ) (text : List ℕ) (found : Bool) : Type 0 where
   pub what : Found
   pub is : IsFound g wanted what
   pub few : IsWithin g wanted limit what
-  pub room : SparesHistory g what
+  pub room : SparesHistory g limit what
   pub along : IsRecorded g limit what
   pub told : IsFoundTold form names before g what text found
 

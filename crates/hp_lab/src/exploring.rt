@@ -1,9 +1,9 @@
 //! A scenario explored.
 ghost use Rattle.std.specs.Prelude.{◌≡◌, ◌^◌, ◌<◌, IfErr, IfOk, length, string_bytes};
-ghost use Rattle.hp_explore.specs.Faults.{IsCause};
+ghost use Rattle.hp_explore.specs.Faults.{IsCauseWithin};
 ghost use Rattle.hp_prepared.specs.Faults.{IsFaultOf};
 ghost use Rattle.hp_prepared.specs.Prepared.{before_of, names_of, setting_of};
-ghost use Rattle.hp_lab.specs.Explorations.{IsExplorationOf, IsExploredOn};
+ghost use Rattle.hp_lab.specs.Explorations.{IsExplorationOf, IsExploredOn, IsFaultWithin};
 
 use hp_ends::EndsForm;
 use hp_explore::{ExploreFault, Watch, explore};
@@ -27,7 +27,9 @@ use std::alloc::Global;
 /// The watch is told while the search runs how many interleavings are counted so far.
 ///
 /// Errors: those of reading the scenario; NotForScript with the first line after the setup that
-/// cannot stand in a script; HistoryFull; OutOfMemory, which may come in place of any answer.
+/// cannot stand in a script; HistoryFull where the search comes to a call for which the history has
+/// no room, before it comes to more interleavings than the limit; OutOfMemory, which may come in place
+/// of any answer.
 pub fn explore_text<W: Watch>(
     alloc: Global,
     input: &[u8],
@@ -39,6 +41,7 @@ pub fn explore_text<W: Watch>(
     ensures ok { IfOk result (λ f.
         IsExplorationOf form input.now setup limit (string_bytes f.text) f.is_found) }
     ensures err { IfErr result (IsFaultOf input.now setup limit) }
+    ensures full { IfErr result (IsFaultWithin input.now setup limit) }
 {
     let prepared = prepare(alloc, input, setup)?;
     match explored(alloc, &prepared, form, limit, watch) {
@@ -58,10 +61,14 @@ fn explored<W: Watch>(
     requires { length prepared.now.start.scripts.items < 2 ^ 32 }
     ensures ok { IfOk result (λ f. IsExploredOn form (names_of prepared.now) (before_of prepared.now)
         (setting_of prepared.now) limit (string_bytes f.text) f.is_found) }
-    ensures err { IfErr result (IsCause (setting_of prepared.now)) }
+    ensures err { IfErr result (IsCauseWithin (setting_of prepared.now) limit) }
 {
     let machine = &prepared.start.machine;
     let scripts = prepared.start.scripts.as_slice();
     let explored = explore(alloc, machine, scripts, limit, watch)?;
-    prepared.exploration_told(alloc, &explored, form)
+    // The search has made the calls of each first interleaving, so that only memory can be lacking.
+    let Ok(finding) = prepared.exploration_told(alloc, &explored, form) else {
+        return Err(ExploreFault::OutOfMemory);
+    };
+    Ok(finding)
 }

@@ -1,7 +1,7 @@
 //! A search of all schedules in threads.
 ghost use Rattle.std.specs.Prelude.{◌≡◌, ◌^◌, ◌<◌, ◌≤◌, IfErr, IfOk, IfSome, Some, length, map, sum_by};
 ghost use Rattle.hp_schedules.specs.Ends.{AreCounted, AreEnds, AreInOrder};
-ghost use Rattle.hp_explore.specs.Faults.{FillsHistory, FillsPart, IsCause};
+ghost use Rattle.hp_explore.specs.Faults.{FillsHistory, FillsPart, IsCause, IsCauseWithin};
 ghost use Rattle.hp_schedules.specs.Orders.{HasMoreThan};
 ghost use Rattle.hp_explore.specs.Fronts.{AreFirst, IfFirst, IfWhole};
 ghost use Rattle.hp_schedules.specs.Parts.{EndsInPart};
@@ -53,6 +53,7 @@ pub fn explore_with_jobs<R: Threads + Sync, W: Watch>(
     ensures within { IfOk result (λ x. sum_by (λ e. e.count) x.ends.items ≤ limit) }
     ensures ordered { IfOk result (λ x. AreInOrder x.ends.items) }
     ensures err { IfErr result (IsCause (setting machine.now scripts.now)) }
+    ensures full { IfErr result (IsCauseWithin (setting machine.now scripts.now) limit) }
 {
     let parts = jobs.min(MOST_JOBS);
     if parts < 2 {

@@ -4,7 +4,7 @@ use Rattle.std.specs.Prelude.{sum_by}
 use Rattle.std.proofs.lemmas.Result.{err_from_is_err_and}
 use Rattle.hp_schedules.specs.Ends.{AreCounted, AreInOrder}
 use Rattle.hp_schedules.specs.Parts.{EndsInPart, IsCompleteInPart, PartValue}
-use Rattle.hp_explore.specs.Faults.{IsCausePart}
+use Rattle.hp_explore.specs.Faults.{IsCausePartWithin}
 use Rattle.hp_explore.specs.Frames.{IsDone}
 use Rattle.hp_explore.specs.Fronts.{AreFirstInPart}
 use Rattle.hp_schedules.specs.Schedules.{Setting}
@@ -13,10 +13,12 @@ use Rattle.hp_places.specs.Walks.{IsPartWalkedThrough}
 use Rattle.hp_schedules.specs.declared.tally.Ending.{Ending}
 use Rattle.hp_explore.specs.declared.walk.Walk.{Walk}
 use Rattle.hp_places.proofs.Walks.{walk_ends}
-use Rattle.hp_explore.proofs.OfPart.{none_fills}
+use Rattle.hp_explore.proofs.OfPart.{cause_here, cause_part, none_fills}
 use Rattle.hp_schedules.proofs.Uniqueness.{no_more}
 use Rattle.hp_explore.proofs.Walking.{first_exceed}
+use Rattle.hp_explore.proofs.exploring.explore_part.Given.{Over}
 use Rattle.hp_explore.proofs.exploring.explore_part.Goals as goal
+use Rattle.hp_explore.proofs.exploring.explore_part.Goals.{In_err-is_whole}
 
 -- all is walked, from where the machine stands
 whole : (w : Walk) (g : Setting) (part : PartValue) (is_whole : Bool) → w.path.setting ≡ g → w.part ≡ part
@@ -102,12 +104,27 @@ returns-clause-ordered o c =
     subst AreInOrder (sym c.into_ends.ensures.is)
     (ordered c.run.new.self c.in_ok-is_whole.is_whole c.in_ok-is_whole.ensures.done)
 
+-- the walk began with the machine, the scripts, the part and the limit
+cause : (o : Over) (c : In_err-is_whole o)
+    → IsCausePartWithin (setting c.args.machine.now c.args.scripts.now) c.args.part c.args.limit
+    c.in_err-is_whole.field-0.0
+cause o c =
+    let w = c.in_ok-walk.walk in
+    cause_here w.path.setting (setting c.args.machine.now c.args.scripts.now) w.part c.args.part w.tally.limit
+    c.args.limit c.in_err-is_whole.field-0.0 c.in_ok-walk.ensures.setting c.in_ok-walk.ensures.part
+    c.in_ok-walk.ensures.limit c.in_err-is_whole.ensures.err
+
 pub returns-in_err-is_whole-clause-err : goal.returns-in_err-is_whole-clause-err
 returns-in_err-is_whole-clause-err o c =
     let p =
     err_from_is_err_and c.from_residual-in_err-is_whole.result c.from_residual-in_err-is_whole.ensures.1 in
     rw (p.1, p.2)
-    (subst (λ (part : PartValue). IsCausePart (setting c.args.machine.now c.args.scripts.now) part
-    c.in_err-is_whole.field-0.0) c.in_ok-walk.ensures.part
-    (subst (λ (g : Setting). IsCausePart g c.in_ok-walk.walk.part c.in_err-is_whole.field-0.0)
-    c.in_ok-walk.ensures.setting c.in_err-is_whole.ensures.err))
+    (cause_part (setting c.args.machine.now c.args.scripts.now) c.args.part c.args.limit
+    c.in_err-is_whole.field-0.0
+    (cause o (goal.at.returns-in_err-is_whole-clause-err o c).In_err-is_whole))
+
+pub returns-in_err-is_whole-clause-full : goal.returns-in_err-is_whole-clause-full
+returns-in_err-is_whole-clause-full o c =
+    let p =
+    err_from_is_err_and c.from_residual-in_err-is_whole.result c.from_residual-in_err-is_whole.ensures.1 in
+    rw (p.1, p.2) (cause o (goal.at.returns-in_err-is_whole-clause-full o c).In_err-is_whole)

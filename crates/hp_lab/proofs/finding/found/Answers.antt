@@ -31,4 +31,5 @@ returns-in_err-finding-clause-err g c =
     let p =
     err_from_is_err_and c.from_residual-in_err-finding.result c.from_residual-in_err-finding.ensures.1 in
     rw (p.1, p.2)
-    (find_cause (setting_of c.args.prepared.now) c.args.wanted.now c.args.limit _ c.in_err-finding.ensures.err)
+    (find_cause (setting_of c.args.prepared.now) c.args.wanted.now c.args.limit _
+    c.in_err-finding.ensures.err)

@@ -8,7 +8,7 @@ use Rattle.hp_places.specs.declared.frames.Frame.{Frame}
 use Rattle.hp_explore.proofs.Framing.{frames_pushed}
 use Rattle.hp_places.proofs.Keeping.{memo_extended}
 use Rattle.std.proofs.lemmas.Result.{err_from_is_err_and}
-use Rattle.hp_explore.proofs.OfPart.{cause_part}
+use Rattle.hp_explore.proofs.OfPart.{cause_within}
 use Rattle.hp_explore.proofs.Walked.{forth_setting, led_on, passed_on, short_on, some_news, way_on}
 use Rattle.hp_explore.proofs.Weights.{left_led, left_passed}
 use Rattle.hp_explore.proofs.walk.Walk.go_on.Goals as goal
@@ -151,5 +151,6 @@ returns-in_err-forward-clause-err o c =
     let p =
     err_from_is_err_and c.from_residual-in_err-forward.result c.from_residual-in_err-forward.ensures.1 in
     rw (p.1, p.2)
-    (cause_part w.path.setting w.part w.path.news c.args.frame.next c.in_err-forward.field-0.0
-    c.is_played.ensures c.requires.kept.walked.1.comes c.in_err-forward.ensures.cause)
+    (cause_within w.path.setting w.part w.path.news c.args.frame.next w.tally.ends w.tally.limit
+    c.in_err-forward.field-0.0 c.is_played.ensures c.requires.kept.walked.1.comes
+    c.requires.kept.walked.0.walked c.is_within.ensures c.in_err-forward.ensures.cause)
